@@ -15,7 +15,7 @@ ghost use Rattle.c104_label.specs.Images.{IsImageOf};
 use crate::discarding::discarding_rows;
 use crate::mending::{mended, row_change};
 use crate::range_changes::range_change;
-use crate::texts::{port_text, terminal_name};
+use crate::texts::port_text;
 use c104_check::{CheckFault, Mend, Misstep, Shown, SwitchPort, WalkKind, find_mend, find_misstep};
 use c104_interval::Select;
 use c104_plan::{Image, Plan, Port, header_values};
@@ -83,8 +83,8 @@ fn overlap_advice(
 ) -> Result<String, NoMemory>
     ensures { IfOk result (λ text. TellsOverlap plan.now terminal other (string_bytes text)) }
 {
-    let name = terminal_name(plan, terminal);
-    let other_name = terminal_name(plan, other);
+    let name = plan.terminal_name(terminal);
+    let other_name = plan.terminal_name(other);
     let label = first_label(plan, terminal).max(first_label(plan, other));
     let change = range_change(alloc, plan, other)?;
     let change = change.as_str();
@@ -111,7 +111,7 @@ fn large_text(
     ensures { IfOk result (λ text.
         string_bytes text ≡ large_text plan.now terminal change.now) }
 {
-    let name = terminal_name(plan, terminal);
+    let name = plan.terminal_name(terminal);
     let last = last_header(plan);
     let label = large_label(plan, terminal);
     format!(in alloc; "label {label} of {name} is no header: headers are 0 to {last}\n{change}")
@@ -247,7 +247,7 @@ fn due_text(
 ) -> Result<String, AllocError>
     ensures { IfOk result (λ text. string_bytes text ≡ due_text plan.now terminal owner kind) }
 {
-    let name = terminal_name(plan, terminal);
+    let name = plan.terminal_name(terminal);
     let owner = owner_text(plan, owner);
     match kind {
         WalkKind::Own => format!(in alloc; " belongs to {owner}, but "),
@@ -271,7 +271,7 @@ fn owner_text(plan: &Plan, owner: Option<usize>) -> &str
     ensures { result.now ≡ owner_text plan.now owner }
 {
     match owner {
-        Some(owner) => terminal_name(plan, owner),
+        Some(owner) => plan.terminal_name(owner),
         None => "no terminal",
     }
 }
@@ -338,7 +338,7 @@ fn terminal_text(
 ) -> Result<String, AllocError>
     ensures { IfOk result (λ text. string_bytes text ≡ terminal_text plan.now kind terminal) }
 {
-    let name = terminal_name(plan, terminal);
+    let name = plan.terminal_name(terminal);
     match kind {
         WalkKind::Random(_) => format!(in alloc; " to terminal {name}, which takes packets"),
         WalkKind::Own | WalkKind::Behind(_) => format!(in alloc; " to {name}"),

@@ -4,7 +4,6 @@ ghost use Rattle.std.specs.String.{string_bytes};
 ghost use Rattle.c104_plan.specs.PortTexts.{switch_name, terminal_name};
 ghost use Rattle.c104_commands.specs.ImageTexts.{image_text, range_line, range_lines, switch_lines, value_line, value_lines};
 
-use crate::texts::{switch_name, terminal_name};
 use c104_plan::{Image, Plan};
 use c104_token::NoMemory;
 use std::alloc::{AllocError, Global};
@@ -50,7 +49,7 @@ fn range_line(
     let Some((first, count)) = range else {
         return Ok(String::new(alloc));
     };
-    let name = terminal_name(plan, terminal);
+    let name = plan.terminal_name(terminal);
     format!(in alloc; "range {name} {first} {count}\n")
 }
 
@@ -84,7 +83,7 @@ fn add_values(
     let Some(values) = image.values(switch) else {
         return Ok(());
     };
-    let name = switch_name(plan, switch);
+    let name = plan.switch_name(switch);
     for value in values {
         let line = value_line(alloc, name, *value)?;
         text.push_str(line.as_str())?;

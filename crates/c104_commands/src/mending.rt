@@ -3,14 +3,13 @@ ghost use Rattle.std.specs.Prelude.{◌≡◌, ◌⊎◌, ◌<◌, ◌≤◌, If
 ghost use Rattle.std.specs.String.{string_bytes};
 ghost use Rattle.c104_commands.specs.RowChanges.{NoneBegins, TellsSelect, row_lines, row_text};
 ghost use Rattle.c104_commands.specs.RowSteps.{EndsAt, change_text, new_rows, rows_if};
-ghost use Rattle.c104_plan.specs.PortTexts.{select_text};
 ghost use Rattle.c104_plan.specs.Plans.{label_count};
 
 use crate::row_changes::{Change, NewRows, RowChange, find_row_change};
 use crate::texts::port_text;
 use c104_check::{Mend, SwitchPort, WalkKind};
 use c104_interval::{Row, Select};
-use c104_plan::{Plan, header_values};
+use c104_plan::{Plan, header_values, select_text};
 use std::alloc::{AllocError, Global};
 
 /// The change by which a header selects at an input what mends its walk of this kind. Where it is sunk, those above
@@ -158,15 +157,4 @@ fn row_text(
     let port = port_text(alloc, plan, at)?;
     let select = select_text(alloc, select)?;
     format!(in alloc; "{word}: row {port} {limit} {select}\n")
-}
-
-/// What a row selects.
-fn select_text(alloc: Global, select: Select) -> Result<String, AllocError>
-    ensures { IfOk result (λ text. string_bytes text ≡ select_text select) }
-{
-    match select {
-        Select::Link(link) => format!(in alloc; "{link}"),
-        Select::Discard => format!(in alloc; "discard"),
-        Select::Sink => format!(in alloc; "sink"),
-    }
 }

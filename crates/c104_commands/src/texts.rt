@@ -3,10 +3,10 @@ ghost use Rattle.std.specs.Prelude.{◌≡◌, IfOk};
 ghost use Rattle.std.specs.String.{string_bytes};
 ghost use Rattle.c104_check.specs.Routes.{to_port};
 ghost use Rattle.c104_commands.specs.CheckTexts.{check_fault_place, check_fault_text, shown_text};
-ghost use Rattle.c104_plan.specs.PortTexts.{port_text, switch_name, terminal_name};
+ghost use Rattle.c104_plan.specs.PortTexts.{port_text};
 
 use c104_check::{CheckFault, Shown, SwitchPort};
-use c104_plan::Plan;
+use c104_plan::{Plan, Port};
 use c104_token::NoMemory;
 use std::alloc::{AllocError, Global};
 
@@ -28,12 +28,12 @@ fn place_text(alloc: Global, plan: &Plan, fault: &CheckFault) -> Result<String, 
 {
     match fault {
         CheckFault::RangesOverlap(terminal, other) => {
-            let terminal = terminal_name(plan, *terminal);
-            let other = terminal_name(plan, *other);
+            let terminal = plan.terminal_name(*terminal);
+            let other = plan.terminal_name(*other);
             format!(in alloc; "{terminal} {other}")
         }
         CheckFault::LabelTooLarge(terminal) => {
-            let terminal = terminal_name(plan, *terminal);
+            let terminal = plan.terminal_name(*terminal);
             format!(in alloc; "{terminal}")
         }
         CheckFault::MixedHeaders(port) => port_text(alloc, plan, *port),
@@ -51,7 +51,7 @@ fn place_text(alloc: Global, plan: &Plan, fault: &CheckFault) -> Result<String, 
 fn shown_text(alloc: Global, plan: &Plan, shown: &Shown) -> Result<String, AllocError>
     ensures { IfOk result (λ text. string_bytes text ≡ shown_text plan.now shown.now) }
 {
-    let terminal = terminal_name(plan, shown.entry);
+    let terminal = plan.terminal_name(shown.entry);
     let header = shown.header;
     let mut text = format!(in alloc; "from {terminal} header {header} walk")?;
     for port in shown.walk.as_slice() {
@@ -66,27 +66,5 @@ fn shown_text(alloc: Global, plan: &Plan, shown: &Shown) -> Result<String, Alloc
 pub(crate) fn port_text(alloc: Global, plan: &Plan, port: SwitchPort) -> Result<String, AllocError>
     ensures { IfOk result (λ text. string_bytes text ≡ port_text plan.now (to_port port)) }
 {
-    let name = switch_name(plan, port.switch);
-    let link = port.link;
-    format!(in alloc; "{name}.{link}")
-}
-
-/// The name of a switch; where there is none, nothing.
-pub(crate) fn switch_name(plan: &Plan, number: usize) -> &str
-    ensures { result.now ≡ switch_name plan.now number }
-{
-    match plan.switches().get(number) {
-        Some(name) => name.as_str(),
-        None => "",
-    }
-}
-
-/// The name of a terminal; where there is none, nothing.
-pub(crate) fn terminal_name(plan: &Plan, number: usize) -> &str
-    ensures { result.now ≡ terminal_name plan.now number }
-{
-    match plan.terminals().get(number) {
-        Some(terminal) => terminal.name.as_str(),
-        None => "",
-    }
+    plan.port_text(alloc, Port::Switch(port.switch, port.link))
 }

@@ -4,14 +4,12 @@ ghost use Rattle.std.specs.String.{string_bytes};
 ghost use Rattle.c104_plan.specs.declared.plans.Shape.TheVariants.{Hand};
 ghost use Rattle.c104_describe.specs.PlanPrint.{buffer_words, counted_words, header_words, label_words, labelled_lines, labeller, network_lines, plan_text, sentence};
 ghost use Rattle.c104_describe.specs.PlanPrint.{switch_words, text_of};
-ghost use Rattle.c104_plan.specs.PortTexts.{port_text, select_text, switch_name, terminal_name};
 ghost use Rattle.c104_describe.specs.PlanPrint.{terminal_words, wire_words, continue_words, delete_words, base_words, random_words};
 ghost use Rattle.c104_describe.specs.PlanPrint.{row_words};
 ghost use Rattle.c104_describe.specs.PlanText.{read_description};
 ghost use Rattle.c104_plan.specs.TextCut.{most_bytes};
 
-use c104_interval::Select;
-use c104_plan::{Plan, PlanRandom, PlanRow, Port, Shape, Terminal};
+use c104_plan::{Plan, PlanRandom, PlanRow, Shape, Terminal, select_text};
 use c104_token::NoMemory;
 use std::alloc::{AllocError, Global};
 
@@ -111,7 +109,7 @@ fn add_root(
         string_bytes text.old ++ text_of (label_words plan.now up_down root ∷ [])) }
 {
     let style = labeller(up_down);
-    let name = switch_name(plan, root);
+    let name = plan.switch_name(root);
     let line = format!(in alloc; "label {style} {name}\n")?;
     text.push_str(line.as_str())
 }
@@ -158,7 +156,7 @@ fn add_terminal(
         string_bytes text.old ++ (sentence (terminal_words plan.now terminal.now) ++ 0x0a ∷ [])) }
 {
     let name = terminal.name.as_str();
-    let port = port_text(alloc, plan, terminal.host_port())?;
+    let port = plan.port_text(alloc, terminal.host_port())?;
     let count = terminal.count;
     let first = terminal.first;
     let line = format!(in alloc; "terminal {name} {port} labels {count} from {first}\n")?;
@@ -187,7 +185,7 @@ fn add_counted_terminal(
         string_bytes text.old ++ (sentence (counted_words plan.now terminal.now) ++ 0x0a ∷ [])) }
 {
     let name = terminal.name.as_str();
-    let port = port_text(alloc, plan, terminal.host_port())?;
+    let port = plan.port_text(alloc, terminal.host_port())?;
     let count = terminal.count;
     let line = format!(in alloc; "terminal {name} {port} labels {count}\n")?;
     text.push_str(line.as_str())
@@ -199,8 +197,8 @@ fn add_wires(alloc: Global, text: &mut String, plan: &Plan) -> Result<(), AllocE
         string_bytes text.old ++ text_of (map (wire_words plan.now) plan.now.wires)) }
 {
     for wire in plan.wires() {
-        let here = port_text(alloc, plan, wire.here)?;
-        let there = port_text(alloc, plan, wire.there)?;
+        let here = plan.port_text(alloc, wire.here)?;
+        let there = plan.port_text(alloc, wire.there)?;
         let line = format!(in alloc; "wire {here} {there}\n")?;
         text.push_str(line.as_str())?;
     }
@@ -213,7 +211,7 @@ fn add_continues(alloc: Global, text: &mut String, plan: &Plan) -> Result<(), Al
         string_bytes text.old ++ text_of (map (continue_words plan.now) plan.now.continues)) }
 {
     for port in plan.continues() {
-        let port = port_text(alloc, plan, *port)?;
+        let port = plan.port_text(alloc, *port)?;
         let line = format!(in alloc; "continue {port}\n")?;
         text.push_str(line.as_str())?;
     }
@@ -226,7 +224,7 @@ fn add_deletes(alloc: Global, text: &mut String, plan: &Plan) -> Result<(), Allo
         string_bytes text.old ++ text_of (map (delete_words plan.now) plan.now.deletes)) }
 {
     for terminal in plan.deletes() {
-        let name = terminal_name(plan, *terminal);
+        let name = plan.terminal_name(*terminal);
         let line = format!(in alloc; "delete {name}\n")?;
         text.push_str(line.as_str())?;
     }
@@ -239,7 +237,7 @@ fn add_bases(alloc: Global, text: &mut String, plan: &Plan) -> Result<(), AllocE
         string_bytes text.old ++ text_of (map (base_words plan.now) plan.now.bases)) }
 {
     for base in plan.bases() {
-        let port = port_text(alloc, plan, base.port)?;
+        let port = plan.port_text(alloc, base.port)?;
         let first = base.base;
         let line = format!(in alloc; "base {port} {first}\n")?;
         text.push_str(line.as_str())?;
@@ -263,7 +261,7 @@ fn add_row(alloc: Global, text: &mut String, plan: &Plan, row: &PlanRow) -> Resu
     ensures { OnOk result (string_bytes text.new ≡
         string_bytes text.old ++ (sentence (row_words plan.now row.now) ++ 0x0a ∷ [])) }
 {
-    let port = port_text(alloc, plan, row.port)?;
+    let port = plan.port_text(alloc, row.port)?;
     let limit = row.limit;
     let select = select_text(alloc, row.select)?;
     let line = format!(in alloc; "row {port} {limit} {select}\n")?;
@@ -291,56 +289,9 @@ fn add_random(
     ensures { OnOk result (string_bytes text.new ≡
         string_bytes text.old ++ (sentence (random_words plan.now random.now) ++ 0x0a ∷ [])) }
 {
-    let port = port_text(alloc, plan, random.port)?;
+    let port = plan.port_text(alloc, random.port)?;
     let base = random.base;
     let range = random.range;
     let line = format!(in alloc; "random {port} {base} {range}\n")?;
     text.push_str(line.as_str())
-}
-
-/// A port as a line names it.
-fn port_text(alloc: Global, plan: &Plan, port: Port) -> Result<String, AllocError>
-    ensures { IfOk result (λ text. string_bytes text ≡ port_text plan.now port) }
-{
-    match port {
-        Port::Switch(switch, link) => {
-            let name = switch_name(plan, switch);
-            format!(in alloc; "{name}.{link}")
-        }
-        Port::Terminal(terminal) => {
-            let name = terminal_name(plan, terminal);
-            format!(in alloc; "{name}")
-        }
-    }
-}
-
-/// What a row selects.
-fn select_text(alloc: Global, select: Select) -> Result<String, AllocError>
-    ensures { IfOk result (λ text. string_bytes text ≡ select_text select) }
-{
-    match select {
-        Select::Link(link) => format!(in alloc; "{link}"),
-        Select::Discard => format!(in alloc; "discard"),
-        Select::Sink => format!(in alloc; "sink"),
-    }
-}
-
-/// The name of a switch; where there is none, nothing.
-fn switch_name(plan: &Plan, number: usize) -> &str
-    ensures { result.now ≡ switch_name plan.now number }
-{
-    match plan.switches().get(number) {
-        Some(name) => name.as_str(),
-        None => "",
-    }
-}
-
-/// The name of a terminal; where there is none, nothing.
-fn terminal_name(plan: &Plan, number: usize) -> &str
-    ensures { result.now ≡ terminal_name plan.now number }
-{
-    match plan.terminals().get(number) {
-        Some(terminal) => terminal.name.as_str(),
-        None => "",
-    }
 }

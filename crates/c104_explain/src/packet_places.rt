@@ -2,7 +2,7 @@
 
 use crate::buffers::{BUFFER_LIMIT, Buffer, Run, buffer_after, find_end, last_run};
 use crate::leftovers::{unfinished_tokens, waiting};
-use crate::reasons::{add_port, port_text};
+use crate::reasons::add_port;
 use crate::waiting::add_line;
 use c104_mistakes::{
     Mistake, ScriptMistake, counted, has_dot, name_of, names_switch, names_terminal,
@@ -65,7 +65,9 @@ fn name_mistake<'a>(plan: &'a Plan, name: &'a [u8]) -> Mistake<'a> {
 
 /// That a terminal hasn't sent a packet yet.
 fn unsent_text(alloc: Global, net: &TracedNet, packet: Origin) -> Result<String, AllocError> {
-    let name = port_text(alloc, net.plan(), Port::Terminal(packet.terminal))?;
+    let name = net
+        .plan()
+        .port_text(alloc, Port::Terminal(packet.terminal))?;
     let count = count_sent(net, packet);
     if count == 0 {
         return format!(in alloc; "{name} has sent no packet");
@@ -91,7 +93,9 @@ fn sent_text(
     packet: Origin,
     size: usize,
 ) -> Result<String, AllocError> {
-    let name = port_text(alloc, net.plan(), Port::Terminal(packet.terminal))?;
+    let name = net
+        .plan()
+        .port_text(alloc, Port::Terminal(packet.terminal))?;
     let places = places_text(alloc, net, packet, size)?;
     let number = packet.number;
     format!(in alloc; "packet {number} of {name}: {places}")
@@ -340,7 +344,7 @@ fn add_arrived(
 fn arrival_text(alloc: Global, net: &TracedNet, packet: Origin) -> Result<String, AllocError> {
     match find_arrival(alloc, net, packet)? {
         Some(terminal) => {
-            let name = port_text(alloc, net.plan(), Port::Terminal(terminal))?;
+            let name = net.plan().port_text(alloc, Port::Terminal(terminal))?;
             format!(in alloc; "it arrived at {name}")
         }
         None => format!(in alloc; "{GONE}"),

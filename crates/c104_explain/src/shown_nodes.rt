@@ -3,7 +3,7 @@ ghost use Rattle.std.specs.Prelude.{◌<◌};
 
 use crate::leftovers::waiting;
 use crate::random_inputs::puts_random;
-use crate::reasons::{add_port, port_text};
+use crate::reasons::add_port;
 use crate::standstill::dropped_at;
 use crate::waiting::stopped_line;
 use c104_mistakes::counted;
@@ -163,7 +163,7 @@ pub(crate) fn terminal_text(
 ) -> Result<String, AllocError> {
     let plan = net.plan();
     let port = Port::Terminal(terminal);
-    let mut text = port_text(alloc, plan, port)?;
+    let mut text = plan.port_text(alloc, port)?;
     if let Some(view) = net.view_terminal(terminal) {
         text.push_str(", on a wire to ")?;
         if let Some(other) = plan.peer(port) {

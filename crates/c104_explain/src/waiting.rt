@@ -1,6 +1,5 @@
 //! Which inputs of a network have a packet on its way, and what each of these waits for, in words.
 
-use crate::reasons::port_text;
 use c104_event::Event;
 use c104_mistakes::counted;
 use c104_net::{Reason, TracedNet};
@@ -88,7 +87,7 @@ fn add_unwired(
         return Ok(());
     }
     let tokens = counted(alloc, view.output_level, "token")?;
-    let output = port_text(alloc, plan, output)?;
+    let output = plan.port_text(alloc, output)?;
     let line = format!(in alloc; "{output}, which has no wire, holds {tokens}")?;
     add_line(text, line.as_str())
 }
@@ -124,8 +123,8 @@ fn add_held(
     } else {
         ""
     };
-    let own = port_text(alloc, plan, input.beside(input.link))?;
-    let output = port_text(alloc, plan, output)?;
+    let own = plan.port_text(alloc, input.beside(input.link))?;
+    let output = plan.port_text(alloc, output)?;
     let line = format!(in alloc; "{own} holds {output}, which {end}{full}")?;
     add_line(text, line.as_str())
 }
@@ -135,7 +134,7 @@ fn end_text(alloc: Global, plan: &Plan, output: Port) -> Result<String, AllocErr
     let Some(other) = plan.peer(output) else {
         return format!(in alloc; "has no wire");
     };
-    let end = port_text(alloc, plan, other)?;
+    let end = plan.port_text(alloc, other)?;
     format!(in alloc; "leads to {end}")
 }
 
@@ -182,8 +181,8 @@ fn add_wish(
         return Ok(());
     };
     let plan = net.plan();
-    let own = port_text(alloc, plan, input.beside(input.link))?;
-    let output = port_text(alloc, plan, input.beside(output))?;
+    let own = plan.port_text(alloc, input.beside(input.link))?;
+    let output = plan.port_text(alloc, input.beside(output))?;
     let line = format!(in alloc; "{own} wants {output} for the header {header}, {state}")?;
     add_line(text, line.as_str())
 }
@@ -203,7 +202,7 @@ fn state_text(
                 ..
             },
         ) => {
-            let owner = port_text(alloc, net.plan(), input.beside(owner))?;
+            let owner = net.plan().port_text(alloc, input.beside(owner))?;
             format!(in alloc; "and {owner} holds it")?
         }
         Some(

@@ -25,6 +25,7 @@ mod name_index;
 mod names;
 mod parts;
 mod plans;
+mod port_texts;
 mod ports;
 mod row_list;
 mod row_plan;
@@ -39,11 +40,13 @@ pub use hand::hand_image;
 pub use image::Image;
 pub use image_faults::ImageFault;
 pub use limits::{
-    LABELS, MAX_DESCRIPTION, MAX_HEADER_BYTES, MAX_SWITCHES, MAX_TERMINALS, header_values, is_buffer_size,
+    LABELS, MAX_DESCRIPTION, MAX_HEADER_BYTES, MAX_SWITCHES, MAX_TERMINALS, header_values,
+    is_buffer_size,
 };
 pub use names::Name;
 pub use parts::{Network, Parts};
 pub use plans::{Plan, PlanBase, PlanRandom, PlanRow, Shape, Terminal};
+pub use port_texts::select_text;
 pub use ports::{Port, Wire};
 pub use row_list::RowList;
 pub use switch_image::SwitchImage;
