@@ -1,7 +1,6 @@
 //! What moves tokens on that wait somewhere, or else what holds them there.
 
-use crate::reason_sentences::reason_sentence;
-use crate::reasons::{port_text, reason_text};
+use crate::reasons::{add_reason, reason_text};
 use c104_event::Event;
 use c104_net::{Reason, TracedNet};
 use c104_plan::Port;
@@ -65,7 +64,7 @@ pub(crate) fn after_input(
                 ..
             },
         ) => {
-            let output = port_text(alloc, net.plan(), Port::Switch(switch, output))?;
+            let output = net.plan().port_text(alloc, Port::Switch(switch, output))?;
             format!(in alloc; "output {output} is full")
         }
         Some(reason) => held_text(alloc, net, Port::Switch(switch, link), reason),
@@ -135,17 +134,17 @@ fn moved_text(alloc: Global, events: &str, count: usize) -> Result<String, Alloc
     format!(in alloc; "{events} or more `rounds` move {them} on")
 }
 
-/// The reason that holds tokens at a port.
+/// The reason that holds tokens at a port: without its name where the reason is about it.
 fn held_text(
     alloc: Global,
     net: &TracedNet,
     here: Port,
     reason: Reason,
 ) -> Result<String, AllocError> {
-    let Reason { port, unready } = reason;
-    if port.is_same(here) {
-        let sentence = reason_sentence(unready);
-        return format!(in alloc; "{sentence}");
+    if !reason.port.is_same(here) {
+        return reason_text(alloc, net.plan(), reason);
     }
-    reason_text(alloc, net.plan(), reason)
+    let mut text = String::new(alloc);
+    add_reason(alloc, net.plan(), reason, &mut text)?;
+    Ok(text)
 }

@@ -1,14 +1,9 @@
 //! The sentences about events that aren't ready.
-ghost use Rattle.std.specs.Prelude.{◌≡◌};
-ghost use Rattle.c104_explain.specs.Reasons.{reason_sentence};
-
 use c104_switch::Unready;
 
 /// The sentence that tells why an event isn't ready. Of a network three of them never come: a link that isn't there
 /// is refused, and at the two ends of a wire the credit of the one is what the other has granted.
-pub(crate) fn reason_sentence(unready: Unready) -> &'static str
-    ensures { result.now ≡ reason_sentence unready }
-{
+pub(crate) fn reason_sentence(unready: Unready) -> &'static str {
     match unready {
         Unready::NoLink => "there is no such link",
         Unready::NotStarted => "the switch is not started; `control` with the byte 01 starts it",
@@ -33,8 +28,7 @@ pub(crate) fn reason_sentence(unready: Unready) -> &'static str
              one there"
         }
         Unready::OutsideGroup(_) => "the header goes to another output, of the group of this link",
-        // What goes before it names the output, and the input that the packet comes from.
-        Unready::Owned(_) => "'s packet until its terminator passes",
+        Unready::Owned(_) => "the output belongs to a packet until its terminator passes",
         Unready::NoRoomForHeader => {
             "the output has no room for the header; `cross` takes a token out of it"
         }

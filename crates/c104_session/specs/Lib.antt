@@ -5,7 +5,6 @@ pub mod Leavings
 pub mod Resets
 pub mod Driven
 pub mod Runs
-pub mod Told
 pub mod Counted
 pub mod CountedRuns
 pub mod Keepers

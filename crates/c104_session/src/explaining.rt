@@ -1,9 +1,6 @@
 //! Messages about a script, behind the answers.
-ghost use Rattle.std.specs.Prelude.{◌≡◌, [], true, IfSome, OnOk, OnErr};
-ghost use Rattle.std.specs.String.{string_bytes};
+ghost use Rattle.std.specs.Prelude.{◌≡◌, [], OnOk, OnErr};
 ghost use Rattle.c104_stream.specs.Writing.{AppendsAndKeeps, AppendsPrefix};
-ghost use Rattle.c104_mistakes.specs.Refusals.{is_refusal};
-ghost use Rattle.c104_session.specs.Told.{MayTell, TellsReason};
 
 use crate::answering::Answered;
 use crate::questions::explain_fault;
@@ -87,9 +84,7 @@ fn explain_answer<W: Write, M: Messages>(
 }
 
 /// What is told of a line that was answered so. None where there is nothing to tell, and out of memory.
-fn answer_message(alloc: Global, session: &Session, line: &[u8], answer: &Answer) -> Option<String>
-    ensures { IfSome result (λ text. MayTell session.now line.now answer.now (string_bytes text)) }
-{
+fn answer_message(alloc: Global, session: &Session, line: &[u8], answer: &Answer) -> Option<String> {
     match answer {
         Answer::Refused(fault) => refusal_message(alloc, session.net.plan(), line, *fault),
         Answer::Found(Finding::Refused(fault)) => register_message(alloc, line, *fault),
@@ -102,9 +97,7 @@ fn answer_message(alloc: Global, session: &Session, line: &[u8], answer: &Answer
 }
 
 /// What is told of a line that a switch answered by this reply: where that is a refusal, why.
-fn refused_message(alloc: Global, line: &[u8], reply: &[u8]) -> Option<String>
-    ensures { IfSome result (λ _. is_refusal reply.now ≡ true) }
-{
+fn refused_message(alloc: Global, line: &[u8], reply: &[u8]) -> Option<String> {
     if !is_refusal(reply) {
         return None;
     }
@@ -121,9 +114,7 @@ fn is_refused(answer: &Answer) -> bool {
 
 /// Why what a line asks isn't ready. Where that was its answer, the network is as it was when the line came. None
 /// where the line asks nothing, or what it asks is ready or refused, and out of memory.
-fn unready_message(alloc: Global, session: &Session, line: &[u8]) -> Option<String>
-    ensures { IfSome result (λ text. TellsReason session.now line.now (string_bytes text)) }
-{
+fn unready_message(alloc: Global, session: &Session, line: &[u8]) -> Option<String> {
     let plan = session.net.plan();
     let Ok(Some(Request::Asked(event))) = read_line(alloc, plan, line) else {
         return None;
