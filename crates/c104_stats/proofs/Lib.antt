@@ -1,9 +1,5 @@
-mod LinkLaws
 mod RowSteps
 pub mod SenderSteps
 pub mod TakenCounts
 pub mod NumberSteps
 mod WiredSteps
-mod ConservedParts
-mod ConservedEvents
-mod LevelSums

@@ -7,7 +7,5 @@ pub mod Columns
 pub mod Cells
 pub mod Tables
 pub mod Summaries
-pub mod Conservation
 pub mod Sights
-pub mod LevelLaws
 pub mod Metering

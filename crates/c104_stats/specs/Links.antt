@@ -1,7 +1,6 @@
 -- What is counted of a link, by the tokens that cross at its port, one after the other.
 --     link_after row x      what is counted after one token more
---     LinkLaw      what that comes to after any of them, in words
-use Rattle.std.specs.Prelude.{ℕ, ◌+◌, ◌-◌, ◌≡◌, ◌||◌, Bool, true, false, List, [], ◌∷◌, Option, Some, None, if◌then◌else◌, length, max, nat_eq}
+use Rattle.std.specs.Prelude.{ℕ, ◌+◌, ◌-◌, ◌||◌, Bool, true, false, Option, Some, None, if◌then◌else◌, max, nat_eq}
 use Rattle.c104_stats.specs.Numbers.{few, told}
 pub use Rattle.c104_stats.specs.declared.links.Crossing.{Crossing}
 pub use Rattle.c104_stats.specs.declared.links.Holder.{Holder}
@@ -68,40 +67,7 @@ link_after row x = record {
   holder = if x.ends then None else Some (holder_after row x.round);
 }
 
--- a link after tokens that cross, one after the other
-abbrev pub link_after_all : LinkRow → List Crossing → LinkRow
-link_after_all row [] = row
-link_after_all row (x ∷ xs) = link_after_all (link_after row x) xs
-
--- how many tokens crossed in another round than the one before, of those that crossed in a round
-abbrev pub changes : Option ℕ → List Crossing → ℕ
-changes last [] = 0
-changes last (x ∷ xs) = (if is_in last x.round || nat_eq x.round 0 then 0 else 1) + changes (Some x.round) xs
-
--- how many of them end a packet
-abbrev pub count_ends : List Crossing → ℕ
-count_ends [] = 0
-count_ends (x ∷ xs) = (if x.ends then 1 else 0) + count_ends xs
-
 -- the round of a packet's first token: one that crossed before, or this one
 abbrev pub first_of : Option ℕ → ℕ → ℕ
 first_of None round = round
 first_of (Some first) round = first
-
--- the most rounds from a packet's first token to its terminator, both counted; a packet may have begun before
-abbrev pub longest_span : Option ℕ → List Crossing → ℕ
-longest_span first [] = 0
-longest_span first (x ∷ xs) =
-    if x.ends then max ((x.round - first_of first x.round) + 1) (longest_span None xs)
-    else longest_span (Some (first_of first x.round)) xs
-
--- what is counted of a link over which these crossed
-pub record AreCounted (xs : List Crossing) (row : LinkRow) : Type 0 where
-  pub tokens : row.tokens ≡ told (length xs)
-  pub busy : row.busy ≡ told (changes None xs)
-  pub packets : row.packets ≡ told (count_ends xs)
-  pub longest : row.longest ≡ longest_span None xs
-
--- whatever crosses, that is counted
-unfoldable pub LinkLaw : Type 0
-LinkLaw = (xs : List Crossing) → AreCounted xs (link_after_all new_link xs)

@@ -9,7 +9,6 @@
 
 mod cells;
 mod columns;
-mod conservation;
 mod endings;
 mod finding;
 mod formats;
@@ -29,11 +28,10 @@ mod tops;
 
 pub use cells::{Cell, add_names, add_row};
 pub use columns::Column;
-pub use conservation::{conservation_law, levels_law};
 pub use endings::Ending;
 pub use formats::{Format, What};
 pub use link_rows::{add_port_name, links_text};
-pub use links::{Crossing, Holder, LinkRow, link_law};
+pub use links::{Crossing, Holder, LinkRow};
 pub use packets::{Arrival, PacketRow, Sender};
 pub use rounds::{Levels, RoundRow};
 pub use stats::Stats;

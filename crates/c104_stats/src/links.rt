@@ -1,6 +1,6 @@
 //! What is counted of a link: of the wire at one port, and the tokens that cross from there.
 ghost use Rattle.std.specs.Prelude.{◌≡◌, false, true};
-ghost use Rattle.c104_stats.specs.Links.{LinkLaw, busy_after, holder_after, is_in, link_after, link_cut, link_idle};
+ghost use Rattle.c104_stats.specs.Links.{busy_after, holder_after, is_in, link_after, link_cut, link_idle};
 ghost use Rattle.c104_stats.specs.Links.{link_level, link_span, longest_at, new_link, span};
 
 use crate::numbers::{larger, one_more, one_round_more};
@@ -194,10 +194,3 @@ impl Holder {
         u64::from(round.saturating_sub(self.since)) + 1
     }
 }
-
-/// What is counted of a link, in words: after any tokens that crossed there, one after the other. This is a law: nothing
-/// is done.
-#[tactic(auto, using(crate::proofs::LinkLaws::link_law))]
-pub fn link_law()
-    ensures { LinkLaw }
-{}
