@@ -1,3 +1,1 @@
 mod Lengths
-mod LaneSteps
-mod LaneLaws

@@ -1,5 +1,4 @@
 pub mod Lanes
-pub mod LaneLaws
 pub mod Timelines
 pub mod Metering
 pub mod Closing

@@ -1,7 +1,6 @@
 //! What crossed one wire, one way.
 ghost use Rattle.std.specs.Prelude.{◌≡◌, ◌++◌, nat_lt, OnOk};
 ghost use Rattle.std.specs.Option.{option_to_list};
-ghost use Rattle.c104_timeline.specs.LaneLaws.{LaneLaw};
 ghost use Rattle.c104_timeline.specs.Lanes.{as_ended, first_stretch, goes_on, held_since, is_open, lane_closed, lane_crossed, lane_cut};
 ghost use Rattle.c104_timeline.specs.Lanes.{lane_settled, name_if, new_lane, next_round, packet_of, rest_of, step_by, step_of};
 
@@ -270,10 +269,3 @@ fn push_ended(packets: &mut Vec<Option<Origin>>, packet: Option<Origin>) -> Resu
     }
     Ok(())
 }
-
-/// What is drawn of the wire at a port, from there, in words: at the end of a run, whatever tokens crossed one after the
-/// other. This is a law: nothing is done.
-#[tactic(auto, using(crate::proofs::LaneLaws::lane_law))]
-pub fn lane_law()
-    ensures { LaneLaw }
-{}

@@ -25,7 +25,6 @@ mod time_pictures;
 mod timelines;
 
 pub use bars::bars_text;
-pub use lanes::lane_law;
 pub use periods::{Asked, Period};
 pub use time_pictures::{TIME_TEXT_LIMIT, TimeFault, time_picture};
 pub use timelines::Timeline;
