@@ -1,10 +1,11 @@
 -- What `traffic` prints of a network: a script, or why the network can't have the pattern; and how it ends.
 --     PrintsTraffic name target traffic plan image text refused
-use Rattle.std.specs.Prelude.{ℕ, ◌≡◌, ◌≢◌, ◌<◌, Bool, true, false, List, count_by, length, Option}
+use Rattle.std.specs.Prelude.{ℕ, ◌≡◌, ◌≢◌, ◌<◌, Bool, true, false, List, length, Option}
 use Rattle.std.specs.Io.KnownBytes.{Appends, Keeps}
 use Rattle.c104_plan.specs.Plans.{Plan}
 use Rattle.c104_plan.specs.PlanImage.{Image}
 use Rattle.c104_stream.specs.Writing.{AppendsPrefix}
+use Rattle.c104_traffic.specs.Directions.{AreDirected}
 use Rattle.c104_traffic.specs.Faults.{IsTrafficFault, traffic_fault_text}
 use Rattle.c104_traffic.specs.declared.faults.TrafficFault.{TrafficFault}
 use Rattle.c104_traffic.specs.declared.faults.TrafficFault.TheVariants as fault
@@ -12,7 +13,6 @@ use Rattle.c104_traffic.specs.declared.amounts.Traffic.{Traffic}
 use Rattle.c104_traffic.specs.Patterns.{IsPatternOf}
 use Rattle.c104_traffic.specs.declared.patterns.Pattern.{Pattern}
 use Rattle.c104_traffic.specs.declared.patterns.PatternName.{PatternName}
-use Rattle.c104_traffic.specs.Requests.{AreDirected, IsReadAs, is_send, traffic_requests}
 use Rattle.c104_traffic.specs.Schedules.{AreLabelled}
 use Rattle.c104_traffic.specs.Targets.{senders_of}
 use Rattle.c104_traffic.specs.Texts.{traffic_text}
@@ -20,16 +20,13 @@ use Rattle.c104_commands.specs.declared.status.Status.{Status}
 use Rattle.c104_commands.specs.declared.status.Status.TheVariants as status
 
 -- the script of traffic of a network that can have the pattern of this name: some terminal sends by it, and each has a
--- header that leads to it. A script's reader reads just these packets of it, and each goes from a terminal to a terminal,
--- by a label that this owns
+-- header that leads to it. Each packet goes from a terminal to a terminal, by a label that this owns
 pub record IsScript (name : PatternName) (target : List ℕ) (traffic : Traffic) (plan : Plan) (image : Image) (text : List ℕ) : Type 0 where
   pub pattern : Pattern
   pub named : IsPatternOf plan name target pattern
   pub some : 0 < length (senders_of pattern traffic.own (length plan.terminals))
   pub labels : AreLabelled plan image
   pub is : text ≡ traffic_text plan image pattern traffic
-  pub read : IsReadAs plan text (traffic_requests plan image pattern traffic)
-  pub sends : count_by is_send (traffic_requests plan image pattern traffic) ≡ traffic.packets
   pub directed : AreDirected plan image pattern traffic
 
 -- the line that tells why a network can't have it

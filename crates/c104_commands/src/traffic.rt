@@ -1,11 +1,11 @@
 //! The command that writes a script of traffic for a description's network.
-ghost use Rattle.std.specs.Prelude.{◌≡◌, true, false, Ok, Result, count_by};
+ghost use Rattle.std.specs.Prelude.{◌≡◌, true, false, Ok, Result};
 ghost use Rattle.c104_plan.specs.Plans.{Plan as ThePlan};
 ghost use Rattle.c104_plan.specs.PlanImage.{Fits};
 ghost use Rattle.c104_describe.specs.declared.faults.PlanFault.{PlanFault as ThePlanFault};
 ghost use Rattle.c104_traffic.specs.declared.faults.TrafficFault.TheVariants as the_fault;
+ghost use Rattle.c104_traffic.specs.Directions.{AreDirected};
 ghost use Rattle.c104_traffic.specs.Packets.{IsTraffic};
-ghost use Rattle.c104_traffic.specs.Requests.{AreDirected, IsReadAs, is_send, traffic_requests};
 ghost use Rattle.c104_traffic.specs.Schedules.{IsSchedule};
 ghost use Rattle.c104_traffic.specs.Texts.{traffic_text};
 ghost use Rattle.c104_commands.specs.Endings.{CommandEnds, CommandRuns};
@@ -92,10 +92,6 @@ fn write_schedule<W: Write>(
     requires fits { Fits setup.now.image setup.now.plan }
     ensures ends { ScriptEnds (traffic_text setup.now.plan setup.now.image schedule.now.pattern traffic)
         (W.contents writer.old) (W.contents writer.new) result }
-    ensures read { IsReadAs setup.now.plan (traffic_text setup.now.plan setup.now.image schedule.now.pattern traffic)
-        (traffic_requests setup.now.plan setup.now.image schedule.now.pattern traffic) }
-    ensures sends { count_by is_send (traffic_requests setup.now.plan setup.now.image schedule.now.pattern traffic)
-        ≡ traffic.packets }
     ensures directed { AreDirected setup.now.plan setup.now.image schedule.now.pattern traffic }
 {
     match write_traffic(alloc, &setup.plan, &setup.image, traffic, schedule, writer) {

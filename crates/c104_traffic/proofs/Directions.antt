@@ -4,6 +4,7 @@ use Rattle.std.specs.List.{range_with_len}
 use Rattle.std.proofs.lemmas.Bool.{cases_lt}
 use Rattle.std.proofs.lemmas.Bool.Decides.{nat_tests}
 use Rattle.std.proofs.lemmas.List.Elements.{filter_passes}
+use Rattle.std.proofs.lemmas.List.FromFn.{length-map-range_with_len}
 use Rattle.std.proofs.lemmas.Nat.{mod_below}
 use Rattle.std.proofs.lemmas.Option.{slice_get-get_or, unwrap_or-slice_get}
 use Rattle.std.specs.Option.{option_map_or}
@@ -14,11 +15,10 @@ use Rattle.c104_check.specs.Routes.{Owns, has_label, routes_of}
 use Rattle.c104_check.proofs.RangeLemmas.{is_has}
 use Rattle.c104_traffic.specs.Packets.{Traffic, byte_at, first_label, packet_of, packet_word, sender_at, target_at}
 use Rattle.c104_traffic.specs.Patterns.{IsPatternFor, Pattern}
-use Rattle.c104_traffic.specs.Requests.{AreDirected}
+use Rattle.c104_traffic.specs.Directions.{AreDirected}
 use Rattle.c104_traffic.specs.Schedules.{AreLabelled, HaveRanges}
 use Rattle.c104_traffic.specs.Targets.{behind, choices, is_sender, pick, senders_of, target_of}
 use Rattle.c104_traffic.specs.declared.patterns.Pattern.TheVariants as pattern
-use Rattle.c104_traffic.proofs.SentReads.{packet_size}
 use Rattle.c104_traffic.proofs.Senders.{sender_inside}
 use Rattle.c104_traffic.proofs.Squares.{reversed_below, transposed_inside}
 
@@ -85,6 +85,9 @@ header_is (suc (suc zero)) bytes label number some few small =
     let longer : 2 + bytes ≡ suc (suc bytes) = omega arith in
     ap (λ n. header_number (take 2 (map (byte_at 2 label number) (range_with_len 0 n)))) longer ∙ omega arith
 header_is (suc (suc (suc header))) bytes label number some few small = absurd (omega arith)
+
+packet_size : (plan : Plan) (bytes label number : ℕ) → length (packet_of plan bytes label number).bytes ≡ plan.header + bytes
+packet_size plan bytes label number = length-map-range_with_len (byte_at plan.header label number) 0 (plan.header + bytes)
 
 -- a terminal owns its first label, where the image has a range for it
 owns_first : (plan : Plan) (image : Image) (t : ℕ) → HaveRanges plan image → Fits image plan → t < length plan.terminals → Owns (routes_of plan image) t (first_label image t)

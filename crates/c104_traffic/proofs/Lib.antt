@@ -3,11 +3,4 @@ mod Numbered
 mod Joining
 mod Senders
 mod SendLines
-mod Rounds
-mod TerminalNames
-mod ScriptNumbers
-mod ScriptLines
-mod SentReads
-mod ScriptCut
 mod Directions
-mod Scripts

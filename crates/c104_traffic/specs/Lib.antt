@@ -5,4 +5,4 @@ pub mod Faults
 pub mod Schedules
 pub mod Texts
 pub mod Writing
-pub mod Requests
+pub mod Directions

@@ -1,11 +1,11 @@
 //! The script of traffic, written packet by packet.
-ghost use Rattle.std.specs.Prelude.{◌≡◌, ◌≤◌, ◌+◌, ◌++◌, count_by, flat_map, MatchResult, OnErr, OnOk};
+ghost use Rattle.std.specs.Prelude.{◌≡◌, ◌≤◌, ◌+◌, ◌++◌, flat_map, MatchResult, OnErr, OnOk};
 ghost use Rattle.std.specs.List.{range_with_len};
 ghost use Rattle.std.specs.Io.KnownBytes.{Appends};
 ghost use Rattle.c104_plan.specs.PlanImage.{Fits};
 ghost use Rattle.c104_stream.specs.Writing.{AppendsAndKeeps, AppendsPrefix};
+ghost use Rattle.c104_traffic.specs.Directions.{AreDirected};
 ghost use Rattle.c104_traffic.specs.Packets.{IsTraffic, byte_at, packet_of};
-ghost use Rattle.c104_traffic.specs.Requests.{AreDirected, IsReadAs, is_send, traffic_requests};
 ghost use Rattle.c104_traffic.specs.Schedules.{IsSchedule};
 ghost use Rattle.c104_traffic.specs.Texts.{hex_word, rounds_text, send_text, sent_text, traffic_text};
 ghost use Rattle.c104_traffic.specs.Writing.{StopsWriting};
@@ -46,11 +46,7 @@ pub fn write_traffic<W: Write>(
         (λ halt. StopsWriting (W.contents writer.old) (W.contents writer.new)
         (traffic_text plan.now image.now schedule.now.pattern traffic) halt) }
 
-    // What a script's reader reads of that text, and where its packets go.
-    ensures read { IsReadAs plan.now (traffic_text plan.now image.now schedule.now.pattern traffic)
-        (traffic_requests plan.now image.now schedule.now.pattern traffic) }
-    ensures sends { count_by is_send (traffic_requests plan.now image.now schedule.now.pattern traffic)
-        ≡ traffic.packets }
+    // Where its packets go.
     ensures directed { AreDirected plan.now image.now schedule.now.pattern traffic }
 {
     write_script(alloc, plan, image, traffic, schedule, writer)

@@ -15,8 +15,6 @@ returns-in-Ok g c due comes =
       some = subst (λ (senders : List ℕ). 0 < length senders) c.in-Ok.ensures.schedule.senders c.in-Ok.ensures.schedule.some;
       labels = c.in-Ok.ensures.schedule.labels;
       is = refl;
-      read = c.write_schedule.ensures.read;
-      sends = c.write_schedule.ensures.sends;
       directed = c.write_schedule.ensures.directed;
     })
     c.write_schedule.ensures.ends

@@ -1,15 +1,6 @@
 use Rattle.std.proofs.Common.{◌<◌, length, subst}
 use Rattle.c104_traffic.proofs.Directions.{are_directed}
-use Rattle.c104_traffic.proofs.Scripts.{script_read, sends_all}
 use Rattle.c104_traffic.proofs.writing.write_traffic.Goals as goal
-
-pub returns-clause-read : goal.returns-clause-read
-returns-clause-read g c =
-    script_read c.args.plan.now c.args.image.now c.args.schedule.now.pattern c.args.traffic c.requires.schedule.kept c.requires.traffic
-    (subst (λ senders. 0 < length senders) c.requires.schedule.senders c.requires.schedule.some)
-
-pub returns-clause-sends : goal.returns-clause-sends
-returns-clause-sends g c = sends_all c.args.plan.now c.args.image.now c.args.schedule.now.pattern c.args.traffic
 
 pub returns-clause-directed : goal.returns-clause-directed
 returns-clause-directed g c =
