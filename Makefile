@@ -9,6 +9,8 @@
 #                             none is named; it needs Graphviz
 # make check                  proves what has changed, over kept work, and runs the cases over the program, or those of
 #                             some kinds, as kinds=runs
+# make pages                  writes what the crates say of themselves into build/pages: each contract, each definition that
+#                             one rests on, what a refused call leaves, and the lemmas that other crates use
 # make slow                   lists the functions that took long in the last checks
 # make edits CRATE=c104_link  tries the edits of one crate that the prover must refuse
 # make test                   runs every proof, test, edit and case, from nothing but what passed before on this
@@ -26,7 +28,7 @@ sources := $(shell find crates crates.txt -path '*/out' -prune -o -type f -print
 PREFIX ?= /usr/local
 installed := $(DESTDIR)$(PREFIX)
 
-.PHONY: all run install try page check slow edits test storms fuzz bench
+.PHONY: all run install try page pages check slow edits test storms fuzz bench
 
 all: $(program)
 
@@ -67,6 +69,9 @@ check:
 	@tests/slow_functions --since build/check-begun
 	@$(MAKE) --no-print-directory all
 	@tests/run_cases $(program) $(kinds)
+
+pages:
+	@tests/write_pages
 
 slow:
 	@tests/slow_functions

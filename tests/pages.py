@@ -1,21 +1,18 @@
-"""The written parts of docs/DEFINITIONS.md and docs/PROMISES.md, from the comments of specs/ and of the sources; of
-docs/REFUSALS.md, from contracts; and the list of shared lemmas in docs/ARCHITECTURE.md.
+"""The pages that are written from the crates: DEFINITIONS.md and PROMISES.md, from the comments of specs/ and of the
+sources, REFUSALS.md, from contracts, and SHARED.md, the list of shared lemmas.
 
-A page begins with a part by hand, which ends in the line MARK; all below it is written from the crates.
+None of them is kept in the repository: tests/write_pages writes them into build/pages.
 """
 
 import os
 import re
 
-import toolchain
 from modules import files_of
-from refusals import refusals_text
+from refusals import HEAD_OF_REFUSALS, refusals_text
 from sources import HEAD, blank, blocks_of, contract_end, past_bracket, read_text
 from specs import Scope, exported, files_below, public_definitions, type_of
 
-DEFINITIONS, PROMISES, REFUSALS, MAP = (os.path.join('docs', it + '.md')
-                                        for it in ('DEFINITIONS', 'PROMISES', 'REFUSALS', 'ARCHITECTURE'))
-MARK = '<!-- From here on tests/write_pages writes this page, from what stands in crates/. -->'
+DEFINITIONS, PROMISES, REFUSALS, SHARED = 'DEFINITIONS.md', 'PROMISES.md', 'REFUSALS.md', 'SHARED.md'
 LEMMAS = re.compile(r'\bRattle\.(c104\w*)\.proofs\.(\w+(?:\.[a-z]\w*)*)')
 CLAUSE = re.compile(r'\b(requires|ensures)\b\s*(\w*)\s*\{')
 GHOST = re.compile(r'\bghost (\w+)\s*[=:]\s*(?=[{(\[])')
@@ -198,7 +195,7 @@ def promises_text(crates, specs, wanted):
     return '\n'.join(lines) + '\n'
 
 
-# ARCHITECTURE.md
+# SHARED.md
 
 def lemmas_used(crates):
     """Which crates use a module of another crate's proofs/, by its crate and name."""
@@ -225,17 +222,40 @@ def lemmas_text(crates):
 
 # The pages
 
-def front_of(page):
-    """What is written by hand of a page."""
-    front, mark, _ = read_text(toolchain.TOP, page).partition(MARK + '\n')
-    if not mark:
-        raise SystemExit('%s has no line %s' % (page, MARK))
-    return front
+HEADS = {
+    DEFINITIONS: """# All definitions
+
+Each definition that a public contract rests on, by crate, lowest first, and by file of the crate's `specs/`, with the
+comment that stands above it there, and in brackets those of its parts. One without a comment stands beside the one
+above it, and a comment such as "the same of all" goes on from the line above. Definitions that private contracts alone
+cite are not here. `docs/WORDS.md` has by hand those that a reader meets first.
+""",
+    PROMISES: """# All contracts
+
+Each public type, function and constant, by crate: the first sentence of its comment, and its contract by clauses, each
+with its name, if it has one, and the definitions of this repository that it cites. A clause that cites none speaks of
+plain values alone. What no contract says stands in `docs/WORDS.md`.
+
+- **Ensures** stands before what the call promises, and **Requires** before what its caller has to see to.
+- **Ghost** stands before what a type or a trait is in contracts: its *Value*, that plain value as which
+  contracts speak of it; its *invariant*, what every value of it keeps; and of a trait what each type that
+  implements it has to say and keep.
+- A call `name`, `as_slice`, `clone` or the like without a clause of this repository's definitions answers
+  what its sentence says, as plain values.
+- A definition behind a point has the name of its file before it, since another file has one of that name.
+""",
+    REFUSALS: HEAD_OF_REFUSALS,
+    SHARED: """# Lemmas that other crates use
+
+Changing a lemma in one of these modules of `proofs/` proves the crates beside it again. All other modules of
+`proofs/` are a crate's own.
+""",
+}
 
 
 def written_pages(crates):
-    """What each page should be; with the definitions that public contracts rest on."""
+    """What each page is, by its name; with the definitions that public contracts rest on."""
     specs, wanted = public_definitions(crates)
     texts = {DEFINITIONS: definitions_text(crates, specs, wanted), PROMISES: promises_text(crates, specs, wanted),
-             REFUSALS: refusals_text(crates, specs), MAP: lemmas_text(crates)}
-    return {page: front_of(page) + MARK + '\n' + text for page, text in texts.items()}, specs, wanted
+             REFUSALS: refusals_text(crates, specs), SHARED: lemmas_text(crates)}
+    return {page: HEADS[page] + text for page, text in texts.items()}, specs, wanted

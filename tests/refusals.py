@@ -1,4 +1,4 @@
-"""The written part of docs/REFUSALS.md: of each public call that may refuse what it is asked, the clauses of its contract
+"""The page REFUSALS.md: of each public call that may refuse what it is asked, the clauses of its contract
 that say what a refusal leaves, and where the tests of refused growths make it.
 
 A clause says so of what was lent by `&mut` if it speaks of it after the call, and isn't of success alone: by itself, where
@@ -101,6 +101,25 @@ GIVEN_BACK = {'Fabric::new': 'handed'}
 OF_FAULTS = {('load', 'loaded')}
 # Calls that share the type of their faults with others, and are never out of memory.
 TAKE_NONE = {'acts_of', 'Wires::ends', 'Fabric::place', 'Ahead::next_byte', 'Image::set_range'}
+
+HEAD_OF_REFUSALS = """# What a refused call leaves
+
+Each public call that may refuse what it is asked, by crate, with the clauses of its contract that say what a refusal
+leaves of what was lent to it, and the tests that refuse it memory.
+
+- **Refuses by**: the error's type, or the answer that is no success. A call that answers `false`, `None` or `NotReady` and
+  lends nothing by `&mut` is a question, and stands here only if it takes memory.
+- **What a refusal leaves**: the clauses that speak of what was lent as it is after the call, by their text or by a definition
+  of the first table. Where nothing was lent by `&mut`, nothing can have changed, but for what the call took as its own and
+  drops. *Nothing is said* stands where something was lent and no clause tells how an error leaves it: a list to which parts
+  were added, room that was made, or a list that is sorted.
+- **Growths**: the modules of `crates/c104_tests_growths` that make the call with its first growth of memory refused, then its
+  second, until it succeeds, and look at what is left. *Takes none* stands where a call takes no memory, with the modules
+  that make it with every growth refused. *Not by itself* stands where only other calls of this page make it there.
+
+What can't be dropped, a claim, a switch, a node or a network, is never lost by a refusal: code that drops one doesn't
+build. So a refused `Net::new` has retired its switches, which no contract says.
+"""
 
 
 def parts_of(text):

@@ -30,6 +30,7 @@ RUN = {
     'make': 'make',
     'make try SCRIPT=FILE': 'make try SCRIPT=examples/first-network.txt',
     'make slow': 'make slow',
+    'make pages': 'make pages && test -f build/pages/PROMISES.md',
     'make check': 'make check kinds=runs',
     'make edits CRATE=c104_crossbar': 'make edits CRATE=c104_crossbar',
     'build/c104 --help': 'build/c104 --help',
