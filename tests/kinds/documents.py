@@ -3,7 +3,8 @@
 A block ```console has commands behind `$ `, and below each what it prints, where a line `...` stands for any
 lines; a command with nothing below it has to end with status 0. A block ```text FILE is a file that commands
 find. A block .EX of the manual page is the same: a file where a comment `file: FILE` stands before it, else commands.
-A command of this repository that a page only names has to be one that is run here, or to stand in NOT_RUN.
+A command of this repository that a page only names has to be one that is run here, or to stand in NOT_RUN. Links
+and files that pages name have to be there, and README.md and all pages together are no longer than they may be.
 
 All is run in a copy of the repository with this program as what was built there, and the pages but README.md
 with what `make install` installed. What has been proved already is not proved again: in the place of `rt` stands
@@ -23,7 +24,8 @@ from case_runner import TOP
 README, MANUAL = 'README.md', 'docs/c104.1'
 PAGES = [README, *sorted('docs/' + os.path.basename(it) for it in glob.glob(os.path.join(TOP, 'docs', '*.md')))]
 SECONDS = 600
-MOST_WORDS = 1000
+# Of README.md, and of all pages together.
+MOST_WORDS, MOST_OF_ALL = 1000, 40_000
 
 # Commands that a page may name, and how each is run where one does.
 RUN = {
@@ -48,6 +50,12 @@ NOT_RUN = {'make test': 'it is what runs this', 'make install': 'it would be out
 NAMED = re.compile(r'`((?:make|build/c104)(?: [^`]*)?)`|^    ((?:make|build/c104)(?: \S+)*)(?:  |$)', re.MULTILINE)
 # A path of the repository in a page's text.
 PATH = re.compile(r'`((?:docs|examples|tests|crates)/[\w./]*\w|Makefile|README\.md)`')
+
+# A file of some crate.
+OF_A_CRATE = re.compile(r'`((?:proofs|specs|src)/[\w/]+\.(?:antt|rt))`')
+# A link of a page to a file or a heading, and a heading.
+LINK = re.compile(r'\]\((?!https?:)([^()\s]*)\)')
+HEADING = re.compile(r'^#+ (.*)$', re.MULTILINE)
 
 # In the place of rt: what would prove is done, and everything else is rt's. Scripts load it as they load rt.
 STAND_IN = '''#!{python}
@@ -209,15 +217,31 @@ def commands_named(page):
     return {' '.join((inline or block).split()) for inline, block in NAMED.findall(read(page))}
 
 
+def anchors_of(page):
+    """The names by which links lead to the headings of a page."""
+    return {re.sub(r'[^\w\- ]', '', it.lower()).replace(' ', '-') for it in HEADING.findall(read(page))}
+
+
+def is_there(page, link):
+    """Whether a link of a page leads to a file, and to a heading of it where it names one."""
+    file, _, anchor = link.partition('#')
+    path = os.path.normpath(os.path.join(os.path.dirname(page), file)) if file else page
+    return os.path.exists(os.path.join(TOP, path)) and (not anchor or anchor in anchors_of(path))
+
+
 def judge_names(runner):
-    """Judges the commands and the paths that pages name, the length of README.md, and the manual page."""
+    """Judges the commands, the paths and the links that pages have, their length, and the manual page."""
     for page in PAGES:
         unknown = sorted(commands_named(page) - {*RUN} - {*NOT_RUN} - {'build/c104'})
         runner.judge('commands of ' + page, unknown and 'not run: %s' % ', '.join(unknown) or None)
         absent = sorted(it for it in {*PATH.findall(read(page))} if not os.path.exists(os.path.join(TOP, it)))
+        absent += sorted(it for it in {*OF_A_CRATE.findall(read(page))} if not glob.glob(os.path.join(TOP, 'crates', '*', it)))
         runner.judge('paths of ' + page, absent and 'not there: %s' % ', '.join(absent) or None)
-    words = len(read(README).split())
-    runner.judge('length of README.md', None if words <= MOST_WORDS else 'it has %d words' % words)
+        broken = sorted(it for it in {*LINK.findall(read(page))} if not is_there(page, it))
+        runner.judge('links of ' + page, broken and 'they lead nowhere: %s' % ', '.join(broken) or None)
+    words = {page: len(read(page).split()) for page in PAGES}
+    for name, count, most in ((README, words[README], MOST_WORDS), ('all pages', sum(words.values()), MOST_OF_ALL)):
+        runner.judge('length of ' + name, None if count <= most else 'it has %d words' % count)
     judge_manual(runner)
 
 
