@@ -84,7 +84,12 @@ fn explain_answer<W: Write, M: Messages>(
 }
 
 /// What is told of a line that was answered so. None where there is nothing to tell, and out of memory.
-fn answer_message(alloc: Global, session: &Session, line: &[u8], answer: &Answer) -> Option<String> {
+fn answer_message(
+    alloc: Global,
+    session: &Session,
+    line: &[u8],
+    answer: &Answer,
+) -> Option<String> {
     match answer {
         Answer::Refused(fault) => refusal_message(alloc, session.net.plan(), line, *fault),
         Answer::Found(Finding::Refused(fault)) => register_message(alloc, line, *fault),
