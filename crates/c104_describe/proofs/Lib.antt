@@ -15,15 +15,6 @@ pub mod FaultSteps
 pub mod MixedLast
 pub mod LineFaultLaws
 pub mod PlanDue
-mod ClashSteps
-mod ClashKept
-pub mod ClashLaw
-mod LineMakes
-mod SaidPlaces
-mod SaidKept
-mod SaidLines
-mod SaidRead
-pub mod SaidLaw
 mod LineWords
 mod PrintedSteps
 mod PrintedParts

@@ -4,6 +4,4 @@ pub mod PlanDrafts
 pub mod PlanLines
 pub mod LineFaults
 pub mod PlanText
-pub mod EarlierLines
-pub mod RepeatedLines
 pub mod PlanPrint

@@ -5,8 +5,6 @@ ghost use Rattle.c104_describe.specs.PlanFaults.{fault_at};
 ghost use Rattle.c104_describe.specs.PlanText.{read_description, empty_draft, read_plan_lines};
 ghost use Rattle.c104_plan.specs.TextCut.{most_bytes, lines};
 ghost use Rattle.c104_describe.specs.PlanText.{AreFaultless, GivesDraftOrNoMemory, GivesPlanOrNoMemory, IsDue, ReadsLines};
-ghost use Rattle.c104_describe.specs.EarlierLines.{AreMixedByClash};
-ghost use Rattle.c104_describe.specs.RepeatedLines.{AreTwiceByTexts};
 ghost use Rattle.c104_describe.specs.PlanDrafts.{draft_of};
 ghost use Rattle.c104_plan.specs.Plans.{IsPlan};
 
@@ -34,12 +32,6 @@ pub fn read_description(alloc: Global, text: &[u8]) -> Result<Plan, PlanFault>
     // plan is answered no line has a fault.
     ensures due { IfErr result (IsDue text.now) }
     ensures faultless { IfOk result (λ _. AreFaultless (lines text.now)) }
-
-    // Which lines are of a mixed style, by the texts alone.
-    ensures mixed { AreMixedByClash }
-
-    // Which lines say again what may be said once, by the texts alone.
-    ensures twice { AreTwiceByTexts }
 {
     if text.len() > MAX_DESCRIPTION {
         return Err(fault_at(0, PlanFaultKind::TooLong));

@@ -3,11 +3,9 @@ use Rattle.std.proofs.Common.{◌≡◌, Ok, rules, sym, subst}
 use Rattle.c104_plan.specs.Plans.{IsPlan}
 use Rattle.c104_plan.specs.TextCut.{lines}
 use Rattle.c104_describe.specs.PlanText.{read_description, empty_draft, read_plan_lines, GivesPlanOrNoMemory}
-use Rattle.c104_describe.proofs.ClashLaw.{clash_law}
 use Rattle.c104_describe.proofs.PlanDue.{due, faultless_lines}
 use Rattle.c104_describe.proofs.DraftsKept.{empty-kept, read_lines-kept}
 use Rattle.c104_describe.proofs.PlanReading.{texts}
-use Rattle.c104_describe.proofs.SaidLaw.{said_law}
 use Rattle.c104_describe.proofs.description.read_description.Goals as goal
 
 pub finish-requires : goal.finish-requires
@@ -27,28 +25,3 @@ pub returns-clause-faultless : goal.returns-clause-faultless
 returns-clause-faultless c =
     let read : read_plan_lines 1 (lines c.args.text.now) empty_draft ≡ Ok (draft_of c.in_ok-draft.draft) = search rules in
     faultless_lines (lines c.args.text.now) (draft_of c.in_ok-draft.draft) read
-
--- laws of the texts alone, whatever is answered
-pub returns-then-text-gt-MAX_DESCRIPTION-clause-mixed : goal.returns-then-text-gt-MAX_DESCRIPTION-clause-mixed
-returns-then-text-gt-MAX_DESCRIPTION-clause-mixed c = clash_law
-
-pub returns-then-text-gt-MAX_DESCRIPTION-clause-twice : goal.returns-then-text-gt-MAX_DESCRIPTION-clause-twice
-returns-then-text-gt-MAX_DESCRIPTION-clause-twice c = said_law
-
-pub returns-in_err-lines-clause-mixed : goal.returns-in_err-lines-clause-mixed
-returns-in_err-lines-clause-mixed c = clash_law
-
-pub returns-in_err-lines-clause-twice : goal.returns-in_err-lines-clause-twice
-returns-in_err-lines-clause-twice c = said_law
-
-pub returns-in_err-draft-clause-mixed : goal.returns-in_err-draft-clause-mixed
-returns-in_err-draft-clause-mixed c = clash_law
-
-pub returns-in_err-draft-clause-twice : goal.returns-in_err-draft-clause-twice
-returns-in_err-draft-clause-twice c = said_law
-
-pub returns-clause-mixed : goal.returns-clause-mixed
-returns-clause-mixed c = clash_law
-
-pub returns-clause-twice : goal.returns-clause-twice
-returns-clause-twice c = said_law
