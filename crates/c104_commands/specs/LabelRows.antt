@@ -1,5 +1,5 @@
 -- What `label --rows` prints of a network: the description of the plan by hand that has the image.
-use Rattle.std.specs.Prelude.{ℕ, ◌≡◌, ◌≤◌, Bool, false, List, length, Ok}
+use Rattle.std.specs.Prelude.{ℕ, ◌≡◌, ◌≢◌, ◌≤◌, Bool, true, false, List, codes, length, Ok}
 use Rattle.c104_plan.specs.Plans.{Plan}
 use Rattle.c104_plan.specs.PlanImage.{Image, hand_image}
 use Rattle.c104_describe.specs.PlanPrint.{plan_text}
@@ -18,7 +18,11 @@ IsReadBack plan image =
     × (length (plan_text (row_plan plan image)) ≤ most_bytes →
     read_description (plan_text (row_plan plan image)) ≡ Ok (row_plan plan image))
 
--- what it prints, which isn't refused
+-- the line where `row` lines can't say the labels
+abbrev pub unsayable_text : List ℕ
+unsayable_text = codes "rows 1 NotSayable\n"
+
+-- what it prints: that description, or, refused, that `row` lines can't say the labels, where they give another image
 abbrev pub PrintsRows : Plan → Image → List ℕ → Bool → Type 0
-PrintsRows plan image text refused =
-    (text ≡ plan_text (row_plan plan image)) × (refused ≡ false) × IsReadBack plan image
+PrintsRows plan image text false = (text ≡ plan_text (row_plan plan image)) × IsReadBack plan image
+PrintsRows plan image text true = (text ≡ unsayable_text) × (hand_image (row_plan plan image) ≢ image)

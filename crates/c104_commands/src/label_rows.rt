@@ -1,30 +1,32 @@
 //! The labelling of a description by `row` lines.
-ghost use Rattle.std.specs.Prelude.{◌≡◌, Ok, Result, IfOk};
+ghost use Rattle.std.specs.Prelude.{◌≡◌, ◌↔◌, Ok, Result, is_some, IfOk, IfSome, IsTrue};
 ghost use Rattle.std.specs.String.{string_bytes};
-ghost use Rattle.c104_plan.specs.PlanImage.{Fits};
+ghost use Rattle.c104_plan.specs.PlanImage.{Fits, hand_image};
 ghost use Rattle.c104_describe.specs.PlanPrint.{plan_text};
 ghost use Rattle.c104_plan.specs.Plans.{Plan as ThePlan};
 ghost use Rattle.c104_plan.specs.RowPlans.{row_plan};
 ghost use Rattle.c104_describe.specs.declared.faults.PlanFault.{PlanFault as ThePlanFault};
-ghost use Rattle.c104_label.specs.Images.{IsImageOf};
 ghost use Rattle.c104_commands.specs.Endings.{CommandEnds, CommandRuns};
-ghost use Rattle.c104_commands.specs.LabelRows.{IsReadBack, PrintsRows};
+ghost use Rattle.c104_commands.specs.LabelRows.{IsReadBack, PrintsRows, unsayable_text};
 ghost use Rattle.c104_commands.specs.Setups.{ComesTo};
 
 use crate::setups::{Setup, read_setup};
 use crate::status::Status;
 use c104_describe::print_plan;
-use c104_label::label_row_plan;
-use c104_mistakes::Messages;
+use c104_mistakes::{About, Messages};
 use c104_plan::{Image, Plan};
 use c104_stream::write_whole;
 use c104_token::NoMemory;
-use std::alloc::Global;
+use std::alloc::{AllocError, Global};
 use std::io::{Read, Write};
 
+/// What people are told of labels that `row` lines can't say.
+const UNSAYABLE: &str = "these labels can't be said by row lines";
+
 /// Reads a description and labels its network; writes a description of the same network whose `base`, `row`, `continue`,
-/// `delete` and `random` lines set all that the labels do, or why the network isn't labelled, or the first fault of the
-/// description. Read again, what is written has the same labels and the same registers, if it has at most 1 MiB.
+/// `delete` and `random` lines set all that the labels do, or that such lines can't say them, or why the network isn't
+/// labelled, or the first fault of the description. Read again, what is written has the same labels and the same
+/// registers, if it has at most 1 MiB.
 ///
 /// Reading ends at 1 MiB, whatever the reader. Each error of the reader or the writer is a fault at once. People are
 /// told why the description or its labels are refused; what is written and how it ends are the same whatever takes the
@@ -40,35 +42,81 @@ pub fn label_rows_command<D: Read, W: Write, M: Messages>(
         (W.contents writer.old) (W.contents writer.new) result }
 {
     match read_setup(alloc, description, writer, messages) {
-        Ok(setup) => show_rows(alloc, &setup, writer),
+        Ok(setup) => show_rows(alloc, &setup, writer, messages),
         Err(status) => status,
     }
 }
 
-/// Writes the description by `row` lines of a network with its labels.
-fn show_rows<W: Write>(alloc: Global, setup: &Setup, writer: &mut W) -> Status
-    requires fits { Fits setup.now.image setup.now.plan }
-    requires own { IsImageOf setup.now.plan setup.now.image }
+/// Writes the description by `row` lines of a network with its labels, or that such lines can't say them.
+fn show_rows<W: Write, M: Messages>(
+    alloc: Global,
+    setup: &Setup,
+    writer: &mut W,
+    messages: &mut M,
+) -> Status
+    requires { Fits setup.now.image setup.now.plan }
     ensures { (due : Result ThePlan ThePlanFault) → ComesTo due (Ok (setup.now.plan, setup.now.image))
         → CommandEnds PrintsRows due (W.contents writer.old) (W.contents writer.new) result }
 {
-    let Ok(text) = rows_text(alloc, &setup.plan, &setup.image) else {
+    let Ok(shown) = shown_rows(alloc, &setup.plan, &setup.image) else {
         return Status::NoMemory;
     };
-    match write_whole(writer, text.as_bytes()) {
-        Ok(()) => Status::Done,
-        Err(_) => Status::CannotWrite,
+    let Ok(()) = write_whole(writer, shown.text.as_bytes()) else {
+        return Status::CannotWrite;
+    };
+    if shown.refused {
+        messages.tell(About::Description, UNSAYABLE);
+        Status::Refused
+    } else {
+        Status::Done
     }
 }
 
-/// The description by `row` lines that has an image, which is that of a plan's labels, over the plan's network. The
-/// only error is out of memory.
-pub fn rows_text(alloc: Global, plan: &Plan, image: &Image) -> Result<String, NoMemory>
-    requires fits { Fits image.now plan.now }
-    requires own { IsImageOf plan.now image.now }
-    ensures text { IfOk result (λ text. string_bytes text ≡ plan_text (row_plan plan.now image.now)) }
-    ensures read_back { IfOk result (λ _. IsReadBack plan.now image.now) }
+/// What is printed of a network, and whether that refuses its labels.
+#[derive(Drop)]
+struct Shown {
+    text: String,
+    refused: bool,
+}
+
+/// What is printed of a network with its labels.
+fn shown_rows(alloc: Global, plan: &Plan, image: &Image) -> Result<Shown, NoMemory>
+    requires { Fits image.now plan.now }
+    ensures { IfOk result (λ shown. PrintsRows plan.now image.now (string_bytes shown.text) shown.refused) }
 {
-    let rows = label_row_plan(alloc, plan, image)?;
-    print_plan(alloc, &rows)
+    match rows_text(alloc, plan, image)? {
+        Some(text) => Ok(Shown {
+            text,
+            refused: false,
+        }),
+        None => {
+            let text = unsayable_text(alloc)?;
+            Ok(Shown {
+                text,
+                refused: true,
+            })
+        }
+    }
+}
+
+/// The description by `row` lines that has an image, over a plan's network; none where such lines give another image. The
+/// only error is out of memory.
+pub fn rows_text(alloc: Global, plan: &Plan, image: &Image) -> Result<Option<String>, NoMemory>
+    requires { Fits image.now plan.now }
+    ensures made { IfOk result (λ made. IsTrue (is_some made) ↔ (hand_image (row_plan plan.now image.now) ≡ image.now)) }
+    ensures text { IfOk result (λ made. IfSome made (λ text. string_bytes text ≡ plan_text (row_plan plan.now image.now))) }
+    ensures read_back { IfOk result (λ made. IfSome made (λ _. IsReadBack plan.now image.now)) }
+{
+    let Some(rows) = image.row_plan(alloc, plan)? else {
+        return Ok(None);
+    };
+    let text = print_plan(alloc, &rows)?;
+    Ok(Some(text))
+}
+
+/// The line where `row` lines can't say the labels.
+fn unsayable_text(alloc: Global) -> Result<String, AllocError>
+    ensures { IfOk result (λ text. string_bytes text ≡ unsayable_text) }
+{
+    format!(in alloc; "rows 1 NotSayable\n")
 }

@@ -5,7 +5,7 @@
 //! `image_of` that of a plan of any. The tables of `label_up_down` aren't proved to be right: they are checked, and where
 //! the check refuses them, the tree's take their place. `mesh_tables` and `cube_tables` are the tables of a mesh's and a
 //! cube's switches, `spanning_tree` the depth-first tree of a plan's switches, a `Forest` below its root.
-//! `label_row_plan` gives the plan by hand that has such an image. A `LabelFault` is why a network isn't labelled.
+//! A `LabelFault` is why a network isn't labelled.
 #![tactic(auto)]
 
 mod cubes;
@@ -15,7 +15,6 @@ mod images;
 mod meshes;
 mod numbers;
 mod places;
-mod row_plans;
 mod rows;
 mod trees;
 mod up_down;
@@ -27,4 +26,3 @@ pub use faults::LabelFault;
 pub use forests::{Forest, spanning_tree};
 pub use images::{image_of, label_cube, label_mesh, label_tree, label_up_down};
 pub use meshes::{is_mesh, mesh_tables};
-pub use row_plans::label_row_plan;

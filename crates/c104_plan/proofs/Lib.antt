@@ -26,9 +26,3 @@ pub mod LabelledSettings
 pub mod SameSettings
 pub mod RowPlanSteps
 pub mod RowPlanKept
-pub mod PortLines
-pub mod RowNumbers
-pub mod ImageLines
-pub mod DeleteLines
-pub mod RowPlanBack
-pub mod Sayable

@@ -157,28 +157,6 @@ pub record IsOfNetwork (plan : Plan) (other : Plan) : Type 0 where
   pub hosts : map host_port other.terminals ≡ map host_port plan.terminals
   pub wires : other.wires ≡ plan.wires
 
--- lines can say these settings of link l of switch s of a plan: its headers have two bytes exactly where the plan has such
--- and the link is wired, headers are deleted only on the way to a terminal, the first link continues no group, and
--- without random headers their numbers are 0
-pub record IsSayable (plan : Plan) (s l : ℕ) (settings : Settings) : Type 0 where
-  pub two_byte : settings.two_byte ≡ (plan.header == 2 && is_some (peer plan (port.Switch s l)))
-  pub deletes : settings.delete_header ≡ true → is_any_at host_port plan.terminals (port.Switch s l) ≡ true
-  pub continues : settings.continue_group ≡ true → 0 < l
-  pub randoms : settings.randomize ≡ false → (settings.random_base ≡ 0) × (settings.random_range ≡ 0)
-
--- what an image has at link l of switch s
-abbrev pub settings_at : Image → ℕ → ℕ → Settings
-settings_at image s l = slice_index_or (settings_in image.settings s) l reset_settings
-
--- lines can say what an image has at each link of a plan's switches
-abbrev pub IsSayableImage : Plan → Image → Type 0
-IsSayableImage plan image =
-    (s l : ℕ) → s < length plan.switches → l < LINKS → IsSayable plan s l (settings_at image s l)
-
--- no plan of the network has this image
-abbrev pub NoPlanHas : Plan → Image → Type 0
-NoPlanHas plan image = (other : Plan) → IsPlan other → IsOfNetwork plan other → hand_image other ≢ image
-
 -- whether two bits are the same
 abbrev pub is_bit : Bool → Bool → Bool
 is_bit true b = b

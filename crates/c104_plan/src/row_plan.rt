@@ -1,15 +1,13 @@
 //! The plan by hand that has an image.
-ghost use Rattle.std.specs.Prelude.{◌≡◌, ◌↔◌, ◌<◌, ◌≤◌, ℕ, List, length, true, IfOk, IsTrue, OnOk};
-ghost use Rattle.c104_interval.specs.declared.intervals.Table.{Table as TheTable};
+ghost use Rattle.std.specs.Prelude.{◌≡◌, ◌↔◌, ◌<◌, ◌≤◌, length, true, IfOk, IsTrue, OnOk};
 ghost use Rattle.c104_regs.specs.declared.registers.TheConstants.{LINKS as link_count};
 ghost use Rattle.c104_plan.specs.declared.ports.Port.TheVariants as port_kind;
 ghost use Rattle.c104_plan.specs.Ports.{IsSwitchPort};
-ghost use Rattle.c104_plan.specs.Plans.{Plan as ThePlan, IsPlan, most_switches};
-ghost use Rattle.c104_plan.specs.LabelledImages.{port_labelled_image};
+ghost use Rattle.c104_plan.specs.Plans.{IsPlan, most_switches};
 ghost use Rattle.c104_plan.specs.PlanImage.{AreSettings, Fits, IsImage, hand_image};
 ghost use Rattle.c104_plan.specs.PlanParts.{plan_of};
 ghost use Rattle.c104_plan.specs.declared.plans.Shape.TheVariants.{Hand as by_hand};
-ghost use Rattle.c104_plan.specs.RowPlans.{IsOfNetwork, IsSayableImage, base_given, continue_given, delete_given, deletes_given};
+ghost use Rattle.c104_plan.specs.RowPlans.{IsOfNetwork, base_given, continue_given, delete_given, deletes_given};
 ghost use Rattle.c104_plan.specs.RowPlans.{is_deleting, is_plan_select, is_reset_row, link_given, links_given, random_given};
 ghost use Rattle.c104_plan.specs.RowPlans.{row_given, row_plan, rows_given, switches_given, unset_plan, used_rows};
 
@@ -27,33 +25,25 @@ use c104_token::NoMemory;
 use std::alloc::{AllocError, Global};
 
 impl Image {
-    ghost use Rattle.std.specs.Prelude.{◌≡◌, ◌↔◌, ℕ, List, None, is_some, IfOk, IfSome, IsTrue};
-    ghost use Rattle.c104_interval.specs.declared.intervals.Table.{Table as TheTable};
-    ghost use Rattle.c104_plan.specs.LabelledImages.{port_labelled_image};
+    ghost use Rattle.std.specs.Prelude.{◌≡◌, ◌↔◌, is_some, IfOk, IfSome, IsTrue};
     ghost use Rattle.c104_plan.specs.PlanImage.{Fits, hand_image};
     ghost use Rattle.c104_plan.specs.declared.plans.Shape.TheVariants.{Hand as by_hand};
-    ghost use Rattle.c104_plan.specs.RowPlans.{IsOfNetwork, IsSayableImage, NoPlanHas, row_plan};
+    ghost use Rattle.c104_plan.specs.RowPlans.{IsOfNetwork, row_plan};
 
     /// The plan whose own lines give this image over the network of a plan that the image fits: it has that
     /// plan's headers, buffers, switches, terminals and wires, the image's ranges, and `continue`, `delete`, `base`, `row`
     /// and `random` lines. Rows past the last that isn't as after a reset have no line.
     ///
-    /// None where no such lines give the image: a link has headers of another length than the plan says of it, a link that
-    /// no terminal is on deletes headers, a link 0 continues a group, or the numbers of random headers are set and there
-    /// are none. So labels, and the lines of a plan, always have such a plan. The only error is out of memory.
+    /// None where those lines don't give the image, by a comparison of the two: a link has headers of another length than
+    /// the plan says of it, a link that no terminal is on deletes headers, a link 0 continues a group, or the numbers of
+    /// random headers are set and there are none. The only error is out of memory.
     pub fn row_plan(&self, alloc: Global, plan: &Plan) -> Result<Option<Plan>, NoMemory>
         requires { Fits self.now plan.now }
+        ensures made { IfOk result (λ made. IsTrue (is_some made) ↔ (hand_image (row_plan plan.now self.now) ≡ self.now)) }
         ensures rows { IfOk result (λ made. IfSome made (λ rows. rows ≡ row_plan plan.now self.now)) }
         ensures image { IfOk result (λ made. IfSome made (λ rows. hand_image rows ≡ self.now)) }
         ensures network { IfOk result (λ made. IfSome made (IsOfNetwork plan.now)) }
         ensures hand { IfOk result (λ made. IfSome made (λ rows. rows.shape ≡ by_hand)) }
-
-        // There is one exactly where lines can say the image, and else no plan of the network has it.
-        ensures sayable { IfOk result (λ made. IsTrue (is_some made) ↔ IsSayableImage plan.now self.now) }
-        ensures none { IfOk result (λ made. made ≡ None → NoPlanHas plan.now self.now) }
-        ensures own { IfOk result (λ made. self.now ≡ hand_image plan.now → IsTrue (is_some made)) }
-        ensures labels { IfOk result (λ made. (ranges : List (ℕ × ℕ)) (tables : ℕ → ℕ → TheTable) →
-            self.now ≡ port_labelled_image plan.now ranges tables → IsTrue (is_some made)) }
     {
         let rows = row_plan(alloc, self, plan)?;
         if has_image(alloc, &rows, self)? {
@@ -78,12 +68,6 @@ fn row_plan(alloc: Global, image: &Image, plan: &Plan) -> Result<Plan, AllocErro
     ensures rows { IfOk result (λ rows. rows ≡ row_plan plan.now image.now) }
     ensures network { IfOk result (IsOfNetwork plan.now) }
     ensures hand { IfOk result (λ rows. rows.shape ≡ by_hand) }
-    ensures sayable { IfOk result (λ rows. IsSayableImage plan.now image.now ↔ (hand_image rows ≡ image.now)) }
-    ensures others { IfOk result (λ rows. (other : ThePlan) → IsPlan other → IsOfNetwork plan.now other →
-        hand_image other ≡ image.now → hand_image rows ≡ image.now) }
-    ensures own { IfOk result (λ rows. image.now ≡ hand_image plan.now → hand_image rows ≡ image.now) }
-    ensures labels { IfOk result (λ rows. (ranges : List (ℕ × ℕ)) (tables : ℕ → ℕ → TheTable) →
-        image.now ≡ port_labelled_image plan.now ranges tables → hand_image rows ≡ image.now) }
 {
     let parts = row_parts(alloc, image, plan)?;
     Ok(Plan { parts })

@@ -38,7 +38,10 @@ impl Growing for Telling<'_> {
         refusal.begin(alloc);
         let found = match self.1 {
             Text::Image => Outcome::of(image_text(alloc, self.0, &image)),
-            Text::Rows => Outcome::of(rows_text(alloc, self.0, &image)),
+            Text::Rows => match rows_text(alloc, self.0, &image) {
+                Ok(None) => Outcome::Wrong,
+                found => Outcome::of(found),
+            },
             Text::Cycles => Outcome::of(cycle_advice(alloc, self.0, &image)),
         };
         refusal.end(alloc);

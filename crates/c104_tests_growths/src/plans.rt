@@ -6,7 +6,6 @@ use crate::outcomes::{Fault, Outcome};
 use c104_describe::{
     PlanFault, PlanFaultKind, cut_lines, cut_words, description_text, print_plan, read_description,
 };
-use c104_label::{image_of, label_row_plan};
 use c104_plan::{Image, Plan, hand_image};
 use std::alloc::Global;
 
@@ -153,22 +152,6 @@ fn dropped<F: Fault + Drop>(made: Result<Plan, F>) -> Outcome {
     }
 }
 
-/// The plan by hand of a plan's labels.
-#[derive(Drop)]
-struct MakingLabelRows<'a>(&'a Plan);
-
-impl Growing for MakingLabelRows<'_> {
-    fn call(&self, alloc: Global, refusal: Refusal) -> Outcome {
-        let Ok(image) = image_of(alloc, self.0) else {
-            return Outcome::Wrong;
-        };
-        refusal.begin(alloc);
-        let result = label_row_plan(alloc, self.0, &image);
-        refusal.end(alloc);
-        dropped(result)
-    }
-}
-
 #[test]
 fn texts(rt: HostRuntime) {
     assert!(rt; is_right(&rt, "read_description", &Reading(PLAN)));
@@ -197,18 +180,7 @@ impl Suite for PlanCalls {
     }
 }
 
-/// What is made of a plan that is labelled.
-#[derive(Drop)]
-struct LabelledPlanCalls;
-
-impl Suite for LabelledPlanCalls {
-    fn is_right(&self, rt: &HostRuntime, ground: Ground<'_>) -> bool {
-        is_right(rt, "label_row_plan", &MakingLabelRows(ground.plan))
-    }
-}
-
 #[test]
 fn plans(rt: HostRuntime) {
     assert!(rt; is_right_on(&rt, PLAN, &PlanCalls));
-    assert!(rt; is_right_on(&rt, MESH, &LabelledPlanCalls));
 }
