@@ -68,10 +68,10 @@ first_passes test xs k x at passes None is = absurd (none_passes test xs k x is 
 first_passes test xs k x at passes (Some j) is = (j, is)
 
 -- there are as many headers as labels may be
-many_by : (plan : Plan) (n : ℕ) → n ≡ plan_bytes plan → most_labels plan ≤ 256 * (if nat_lt 1 n then 256 else 1)
-many_by plan n is = subst (λ m. most_labels plan ≤ 256 * (if nat_lt 1 m then 256 else 1)) (sym is) (by (plan.header == 2))
+many_by : (plan : Plan) (n : ℕ) → n ≡ plan_bytes plan → most_labels plan ≤ (if nat_lt 1 n then 65536 else 256)
+many_by plan n is = subst (λ m. most_labels plan ≤ (if nat_lt 1 m then 65536 else 256)) (sym is) (by (plan.header == 2))
   where
-    by : (b : Bool) → (if b then 65536 else 256) ≤ 256 * (if nat_lt 1 (if b then 2 else 1) then 256 else 1)
+    by : (b : Bool) → (if b then 65536 else 256) ≤ (if nat_lt 1 (if b then 2 else 1) then 65536 else 256)
     by true = omega arith
     by false = omega arith
 

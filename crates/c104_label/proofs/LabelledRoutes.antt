@@ -49,7 +49,7 @@ group_alone continue g o none = elim (cases_Bool (nat_le g o)) [
 pub headers_many : (routes : Routes) → 256 ≤ header_count routes
 headers_many routes = many (nat_lt 1 routes.header)
   where
-    many : (b : Bool) → 256 ≤ 256 * (if b then 256 else 1)
+    many : (b : Bool) → 256 ≤ (if b then 65536 else 256)
     many true = omega arith
     many false = omega arith
 
