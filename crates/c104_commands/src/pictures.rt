@@ -1,18 +1,18 @@
-//! The texts of pictures, by what is marked in them.
+//! Pictures of a description's network, by what is marked in them.
 ghost use Rattle.std.specs.Prelude.{◌≡◌, ◌≢◌, IfOk};
-ghost use Rattle.std.specs.String.{string_bytes};
 ghost use Rattle.c104_check.specs.Checks.{IsCause};
 ghost use Rattle.c104_check.specs.Routes.{IsAccepted, routes_of};
 ghost use Rattle.c104_check.specs.declared.faults.CheckFault.TheVariants as check_fault;
 ghost use Rattle.c104_plan.specs.PlanImage.{Fits};
-ghost use Rattle.c104_commands.specs.Pictures.{IsAcceptedPicture, IsHeaderPicture, IsMarkedPicture, IsPicture, IsPlainPicture};
-ghost use Rattle.c104_commands.specs.Pictures.{IsRefusedPicture, cycle_inputs, header_line};
+ghost use Rattle.c104_draw.specs.CycleDrawings.{IsCycleDrawing};
+ghost use Rattle.c104_commands.specs.Pictures.{IsAcceptedPicture, IsHeaderPicture, IsPicture, IsPlainPicture, IsRefusedPicture, cycle_inputs};
 
 use crate::cycle_texts::cycle_text;
 use crate::texts::check_fault_text;
 use c104_check::{ChannelDependency, CheckFault, RanksOrCycle, SwitchPort, check, find_cycle};
-use c104_draw::{draw, draw_cycle, draw_header, drawing_text};
+use c104_draw::{Drawing, HeaderDrawing, draw, draw_cycle, draw_header};
 use c104_plan::{Image, Plan};
+use c104_print::drawing_text;
 use c104_token::NoMemory;
 use std::alloc::{AllocError, Global};
 
@@ -28,6 +28,13 @@ pub enum Marks {
     Cycle,
 }
 
+/// A picture and its title.
+#[derive(Drop)]
+struct Picture {
+    drawing: Drawing,
+    title: String,
+}
+
 /// The text of a network's picture.
 pub(crate) fn picture_text(
     alloc: Global,
@@ -36,95 +43,99 @@ pub(crate) fn picture_text(
     marks: Marks,
 ) -> Result<String, NoMemory>
     requires { Fits image.now plan.now }
-    ensures { IfOk result (λ text. IsPicture plan.now image.now marks (string_bytes text)) }
+{
+    let picture = marked_picture(alloc, plan, image, marks)?;
+    let title = picture.title.as_str().trim_end();
+    drawing_text(alloc, plan, image, &picture.drawing, title)
+}
+
+/// A network's picture.
+fn marked_picture(
+    alloc: Global,
+    plan: &Plan,
+    image: &Image,
+    marks: Marks,
+) -> Result<Picture, NoMemory>
+    requires { Fits image.now plan.now }
+    ensures { IfOk result (λ picture. IsPicture plan.now image.now marks picture.drawing) }
 {
     match marks {
-        Marks::Nothing => plain_text(alloc, plan, image, ""),
-        Marks::Header(header) => header_text(alloc, plan, image, header),
-        Marks::Cycle => cyclic_text(alloc, plan, image),
+        Marks::Nothing => plain_picture(alloc, plan, image, String::new(alloc)),
+        Marks::Header(header) => header_picture(alloc, plan, image, header),
+        Marks::Cycle => cyclic_picture(alloc, plan, image),
     }
 }
 
 /// The same where nothing is marked, with a title.
-fn plain_text(alloc: Global, plan: &Plan, image: &Image, title: &str) -> Result<String, NoMemory>
-    ensures { IfOk result (λ text.
-        IsPlainPicture plan.now image.now title.now (string_bytes text)) }
-{
-    let drawing = draw(alloc, plan, image)?;
-    drawing_text(alloc, plan, image, &drawing, title)
-}
-
-/// The same with the ways of a header.
-fn header_text(alloc: Global, plan: &Plan, image: &Image, header: u32) -> Result<String, NoMemory>
-    requires { Fits image.now plan.now }
-    ensures { IfOk result (λ text.
-        IsHeaderPicture plan.now image.now header (string_bytes text)) }
-{
-    let drawn = draw_header(alloc, plan, image, header)?;
-    let title = header_line(alloc, plan, header, &drawn.fault)?;
-    drawing_text(
-        alloc,
-        plan,
-        image,
-        &drawn.drawing,
-        title.as_str().trim_end(),
-    )
-}
-
-/// The title of a header's picture: its number, or the line of its fault, if it is refused.
-fn header_line(
+fn plain_picture(
     alloc: Global,
     plan: &Plan,
-    header: u32,
-    fault: &Option<CheckFault>,
-) -> Result<String, NoMemory>
-    ensures { IfOk result (λ text. string_bytes text ≡ header_line plan.now header fault.now) }
+    image: &Image,
+    title: String,
+) -> Result<Picture, NoMemory>
+    ensures { IfOk result (λ picture. IsPlainPicture plan.now image.now picture.drawing) }
 {
-    match fault {
-        Some(fault) => check_fault_text(alloc, plan, fault),
-        None => Ok(format!(in alloc; "header {header}")?),
-    }
+    let drawing = draw(alloc, plan, image)?;
+    Ok(Picture { drawing, title })
+}
+
+/// The same with the ways of a header. The title is its number, or the line of its fault, if it is refused.
+fn header_picture(
+    alloc: Global,
+    plan: &Plan,
+    image: &Image,
+    header: u32,
+) -> Result<Picture, NoMemory>
+    requires { Fits image.now plan.now }
+    ensures { IfOk result (λ picture. IsHeaderPicture plan.now image.now header picture.drawing) }
+{
+    let HeaderDrawing { drawing, fault } = draw_header(alloc, plan, image, header)?;
+    let title = match &fault {
+        Some(fault) => check_fault_text(alloc, plan, fault)?,
+        None => format!(in alloc; "header {header}")?,
+    };
+    Ok(Picture { drawing, title })
 }
 
 /// The same with a cycle of channel dependencies, if there is one. Where the labels are refused the title tells the
 /// fault.
-fn cyclic_text(alloc: Global, plan: &Plan, image: &Image) -> Result<String, NoMemory>
+fn cyclic_picture(alloc: Global, plan: &Plan, image: &Image) -> Result<Picture, NoMemory>
     requires { Fits image.now plan.now }
-    ensures { IfOk result (λ text.
-        IsPicture plan.now image.now Marks.Cycle (string_bytes text)) }
+    ensures { IfOk result (λ picture.
+        IsPicture plan.now image.now Marks.Cycle picture.drawing) }
 {
     match check(alloc, plan, image) {
-        Ok(_) => accepted_text(alloc, plan, image),
+        Ok(_) => accepted_picture(alloc, plan, image),
         Err(CheckFault::NoMemory) => Err(NoMemory),
-        Err(fault) => refused_text(alloc, plan, image, &fault),
+        Err(fault) => refused_picture(alloc, plan, image, &fault),
     }
 }
 
 /// The same of a network whose labels are refused.
-fn refused_text(
+fn refused_picture(
     alloc: Global,
     plan: &Plan,
     image: &Image,
     fault: &CheckFault,
-) -> Result<String, NoMemory>
+) -> Result<Picture, NoMemory>
     requires cause { IsCause (routes_of plan.now image.now) fault.now }
     requires told { fault.now ≢ check_fault.NoMemory }
-    ensures { IfOk result (λ text. IsRefusedPicture plan.now image.now (string_bytes text)) }
+    ensures { IfOk result (λ picture. IsRefusedPicture plan.now image.now picture.drawing) }
 {
     let title = check_fault_text(alloc, plan, fault)?;
-    plain_text(alloc, plan, image, title.as_str().trim_end())
+    plain_picture(alloc, plan, image, title)
 }
 
 /// The same of a network whose labels are accepted.
-fn accepted_text(alloc: Global, plan: &Plan, image: &Image) -> Result<String, NoMemory>
+fn accepted_picture(alloc: Global, plan: &Plan, image: &Image) -> Result<Picture, NoMemory>
     requires fits { Fits image.now plan.now }
     requires accepted { IsAccepted (routes_of plan.now image.now) }
-    ensures { IfOk result (λ text. IsAcceptedPicture plan.now image.now (string_bytes text)) }
+    ensures { IfOk result (λ picture. IsAcceptedPicture plan.now image.now picture.drawing) }
 {
     let found = find_cycle(alloc, plan, image)?;
     match found {
-        RanksOrCycle::Ranks(_ranks) => plain_text(alloc, plan, image, ""),
-        RanksOrCycle::Cycle(cycle) => marked_text(
+        RanksOrCycle::Ranks(_ranks) => plain_picture(alloc, plan, image, String::new(alloc)),
+        RanksOrCycle::Cycle(cycle) => cycle_picture(
             alloc,
             plan,
             image,
@@ -133,20 +144,20 @@ fn accepted_text(alloc: Global, plan: &Plan, image: &Image) -> Result<String, No
     }
 }
 
-/// The same with this cycle.
-fn marked_text(
+/// The same with this cycle, which the title tells.
+fn cycle_picture(
     alloc: Global,
     plan: &Plan,
     image: &Image,
     cycle: &[ChannelDependency],
-) -> Result<String, NoMemory>
-    ensures { IfOk result (λ text.
-        IsMarkedPicture plan.now image.now cycle.now (string_bytes text)) }
+) -> Result<Picture, NoMemory>
+    ensures { IfOk result (λ picture.
+        IsCycleDrawing plan.now image.now (cycle_inputs cycle.now) picture.drawing) }
 {
     let title = cycle_text(alloc, plan, cycle)?;
     let inputs = inputs_of(alloc, cycle)?;
     let drawing = draw_cycle(alloc, plan, image, inputs.as_slice())?;
-    drawing_text(alloc, plan, image, &drawing, title.as_str().trim_end())
+    Ok(Picture { drawing, title })
 }
 
 /// The inputs of a cycle.

@@ -1,4 +1,3 @@
 pub mod ListLemmas
 pub mod EdgeLemmas
 pub mod BesideLemmas
-pub mod DotLemmas

@@ -2,5 +2,4 @@ pub mod Senders
 pub mod Holders
 pub mod Waits
 pub mod States
-pub mod StateTexts
-pub mod Pictures
+pub mod PacketTexts

@@ -1,4 +1,4 @@
--- The picture of a network after a script: what is drawn by the answers of the script, and how it ends where nothing is.
+-- The picture of a network after a script: whether the script is refused, and how it ends where nothing is drawn.
 use Rattle.std.proofs.Common.{◌≡◌, ◌≢◌, ◌||◌, ℕ, Bool, List, Option, None, Some, Result, Ok, Err, inl, inr, refl, ap, subst, sym, ◌∙◌}
 use Rattle.std.proofs.KnownBytes.{Keeps-refl}
 use Rattle.c104_plan.specs.Plans.{Plan}
@@ -7,12 +7,11 @@ use Rattle.c104_stream.specs.declared.halt.Halt.{Halt}
 use Rattle.c104_stream.specs.declared.halt.Halt.TheVariants as halt
 use Rattle.c104_stream.specs.ScriptLines.{is_long}
 use Rattle.c104_stream.specs.Scripts.{AnswersScript}
-use Rattle.c104_session.specs.AskedPictures.{IsPictureOf}
 use Rattle.c104_session.specs.Shown.{line_outcome, new_session}
 use Rattle.c104_session.specs.declared.session.Session.{Session}
 use Rattle.c104_commands.specs.Statuses.{halt_status}
 use Rattle.c104_commands.specs.Endings.{IsSetup}
-use Rattle.c104_run_commands.specs.StatePictures.{IsDrawnAfter, IsUndrawn, StateEnds, StateRuns}
+use Rattle.c104_run_commands.specs.StatePictures.{IsRefusedAfter, IsUndrawn, StateEnds, StateRuns}
 use Rattle.c104_commands.specs.declared.status.Status.{Status}
 
 pub undrawn : {X : Type 0} (kind : Halt) → ◌≢◌ {A = Result X Halt} (Err kind) (Err halt.CannotWrite) → IsUndrawn (halt_status kind 1)
@@ -28,12 +27,10 @@ pub state_ends : (description script held now holds : Option (List ℕ)) (plan :
 state_ends description script held now holds plan image ended setup same runs =
     inr (plan, image, setup, subst (λ h. StateRuns plan image script h holds ended) (sym same) runs)
 
--- a picture of the session as it is answered is that after the script
-pub drawn_after : (plan : Plan) (image : Image) (script left held holds : Option (List ℕ)) (session after : Session) (long refused : Bool) (text : List ℕ) → session ≡ new_session plan image → AnswersScript line_outcome session script left held holds after (Ok long) → IsPictureOf after text → refused ≡ (long || after.faulty) → IsDrawnAfter plan image script text refused
-drawn_after plan image None left held holds session after long refused text is answered drawn told = tt
-drawn_after plan image (Some script) left held holds session after long refused text is answered drawn told =
+-- what the session tells as it is answered is told of the script
+pub refused_after : (plan : Plan) (image : Image) (script left held holds : Option (List ℕ)) (session after : Session) (long refused : Bool) → session ≡ new_session plan image → AnswersScript line_outcome session script left held holds after (Ok long) → refused ≡ (long || after.faulty) → IsRefusedAfter plan image script refused
+refused_after plan image None left held holds session after long refused is answered told = tt
+refused_after plan image (Some script) left held holds session after long refused is answered told =
     let of_plan : AnswersScript line_outcome (new_session plan image) (Some script) left held holds after (Ok long) =
-    subst (λ s. AnswersScript line_outcome s (Some script) left held holds after (Ok long)) is answered in (
-      subst (λ (s : Session). IsPictureOf s text) of_plan.1 drawn,
-      told ∙ ap (λ l. l || after.faulty) of_plan.0 ∙ ap (λ (s : Session). is_long script || s.faulty) of_plan.1,
-    )
+    subst (λ s. AnswersScript line_outcome s (Some script) left held holds after (Ok long)) is answered in
+    told ∙ ap (λ l. l || after.faulty) of_plan.0 ∙ ap (λ (s : Session). is_long script || s.faulty) of_plan.1

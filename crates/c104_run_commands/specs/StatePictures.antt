@@ -1,7 +1,7 @@
 -- How `draw` ends where it draws a network as it stands after a script, and what it has written then, where its readers
 -- and its writer tell their bytes.
 --     StateEnds description script held holds status      of what the two readers have left
---     IsPictureAfter plan image script text      a text is that of the picture after a script's lines
+--     is_refused_script plan image script      whether the script is refused
 use Rattle.std.specs.Prelude.{ℕ, ◌≡◌, ◌⊎◌, ◌||◌, ⊤, Bool, true, false, List, Option, Some, None, Ok}
 use Rattle.std.specs.Io.KnownBytes.{Appends, Keeps}
 use Rattle.c104_plan.specs.Plans.{Plan}
@@ -9,7 +9,6 @@ use Rattle.c104_plan.specs.PlanImage.{Image}
 use Rattle.c104_stream.specs.ScriptLines.{is_long}
 use Rattle.c104_stream.specs.Scripts.{script_outcome}
 use Rattle.c104_stream.specs.Writing.{AppendsPrefix}
-use Rattle.c104_session.specs.AskedPictures.{IsPictureOf}
 use Rattle.c104_session.specs.Shown.{line_outcome, new_session}
 use Rattle.c104_session.specs.declared.session.Session.{Session}
 use Rattle.c104_commands.specs.Endings.{EndsBefore, IsSetup}
@@ -20,19 +19,14 @@ use Rattle.c104_commands.specs.declared.status.Status.TheVariants as status
 abbrev pub after_script : Plan → Image → List ℕ → Session
 after_script plan image script = (script_outcome line_outcome (new_session plan image) script).1
 
-abbrev pub IsPictureAfter : Plan → Image → List ℕ → List ℕ → Type 0
-IsPictureAfter plan image script text = IsPictureOf (after_script plan image script) text
-
 -- whether the script is refused: for its length or for one of its lines
 abbrev pub is_refused_script : Plan → Image → List ℕ → Bool
 is_refused_script plan image script = is_long script || (after_script plan image script).faulty
 
--- a text is that of the picture after what a reader has left, and this tells whether that is refused, where the reader
--- tells its bytes
-abbrev pub IsDrawnAfter : Plan → Image → Option (List ℕ) → List ℕ → Bool → Type 0
-IsDrawnAfter plan image None text refused = ⊤
-IsDrawnAfter plan image (Some script) text refused =
-    IsPictureAfter plan image script text × (refused ≡ is_refused_script plan image script)
+-- this tells whether what a reader has left is refused, where the reader tells its bytes
+abbrev pub IsRefusedAfter : Plan → Image → Option (List ℕ) → Bool → Type 0
+IsRefusedAfter plan image None refused = ⊤
+IsRefusedAfter plan image (Some script) refused = refused ≡ is_refused_script plan image script
 
 -- the picture is written, and the status tells whether the script is refused; or a prefix of it where the writer failed
 abbrev pub WritesDrawn : List ℕ → Bool → Option (List ℕ) → Option (List ℕ) → Status → Type 0
@@ -51,11 +45,11 @@ IsUndrawn (status.CannotRead n) = n ≡ 1
 IsUndrawn status.CannotWrite = ⊥
 IsUndrawn status.NoMemory = ⊤
 
--- what is written where a script was run on the network of a plan with an image: the picture or a prefix of it, or
--- nothing
+-- what is written where a script was run on the network of a plan with an image: a text, which is the picture's, or a
+-- prefix of it, or nothing
 abbrev pub StateRuns : Plan → Image → Option (List ℕ) → Option (List ℕ) → Option (List ℕ) → Status → Type 0
 StateRuns plan image script held holds ended = (IsUndrawn ended × Keeps held holds)
-    ⊎ ((text : List ℕ) × (refused : Bool) × IsDrawnAfter plan image script text refused × WritesDrawn text refused held holds ended)
+    ⊎ ((text : List ℕ) × (refused : Bool) × IsRefusedAfter plan image script refused × WritesDrawn text refused held holds ended)
 
 -- as any command that got no network, or else as a picture of the network that there is
 abbrev pub StateEnds : Option (List ℕ) → Option (List ℕ) → Option (List ℕ) → Option (List ℕ) → Status → Type 0

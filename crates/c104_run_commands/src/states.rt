@@ -1,19 +1,17 @@
 //! The drawing of a description's network as it stands after a script.
 ghost use Rattle.std.specs.Prelude.{ℕ, ◌≡◌, ◌≢◌, ◌||◌, Bool, Err, IfOk, Ok};
 ghost use Rattle.std.specs.Io.KnownBytes.{prepend_known};
-ghost use Rattle.std.specs.String.{string_bytes};
 ghost use Rattle.c104_plan.specs.PlanImage.{Fits, Image as TheImage};
 ghost use Rattle.c104_plan.specs.Plans.{Plan as ThePlan};
-ghost use Rattle.c104_session.specs.AskedPictures.{IsPictureOf};
 ghost use Rattle.c104_stream.specs.declared.halt.Halt.TheVariants as halt;
 ghost use Rattle.c104_session.specs.Shown.{new_session};
-ghost use Rattle.c104_run_commands.specs.StatePictures.{IsDrawnAfter, StateEnds, StateRuns, WritesDrawn};
+ghost use Rattle.c104_run_commands.specs.StatePictures.{IsRefusedAfter, StateEnds, StateRuns, WritesDrawn};
 ghost use Rattle.c104_commands.specs.declared.status.Status.TheVariants as status;
 
 use c104_commands::{Setup, Status, read_setup};
 use c104_mistakes::Messages;
-use c104_picture::state_text;
 use c104_plan::{Image, Plan};
+use c104_print::state_text;
 use c104_session::{Session, answer_script};
 use c104_stream::{Ahead, Halt, write_whole};
 use std::alloc::Global;
@@ -103,8 +101,8 @@ fn drawn_after<S: Read, M: Messages>(
     messages: &mut M,
 ) -> Result<Drawn, Halt>
     requires { Fits image plan.now }
-    ensures drawn { IfOk result (λ drawn.
-        IsDrawnAfter plan.now image (S.remaining script.old) (string_bytes drawn.text) drawn.refused) }
+    ensures refused { IfOk result (λ drawn.
+        IsRefusedAfter plan.now image (S.remaining script.old) drawn.refused) }
     ensures unwritten { result ≢ Err halt.CannotWrite }
 {
     let mut ahead = Ahead::new(alloc)?;
@@ -113,7 +111,7 @@ fn drawn_after<S: Read, M: Messages>(
 }
 
 /// The same on a network that is before the script's first line.
-#[tactic(auto, using(crate::proofs::StateLemmas::drawn_after))]
+#[tactic(auto, using(crate::proofs::StateLemmas::refused_after))]
 fn drawn_session<S: Read, M: Messages>(
     alloc: Global,
     session: Session,
@@ -121,9 +119,9 @@ fn drawn_session<S: Read, M: Messages>(
     script: &mut S,
     messages: &mut M,
 ) -> Result<Drawn, Halt>
-    ensures drawn { (plan : ThePlan) (image : TheImage) → session ≡ new_session plan image →
-        IfOk result (λ drawn. IsDrawnAfter plan image (prepend_known ahead.old (S.remaining script.old))
-        (string_bytes drawn.text) drawn.refused) }
+    ensures refused { (plan : ThePlan) (image : TheImage) → session ≡ new_session plan image →
+        IfOk result (λ drawn. IsRefusedAfter plan image (prepend_known ahead.old (S.remaining script.old))
+        drawn.refused) }
     ensures unwritten { result ≢ Err halt.CannotWrite }
 {
     let mut session = session;
@@ -142,8 +140,8 @@ fn drawn_session<S: Read, M: Messages>(
 
 /// The same of a network on which a script was answered so.
 fn drawn_of(alloc: Global, session: &Session, answered: Result<bool, Halt>) -> Result<Drawn, Halt>
-    ensures drawn { IfOk result (λ drawn. (long : Bool) × (answered ≡ Ok long)
-        × IsPictureOf session.now (string_bytes drawn.text) × (drawn.refused ≡ (long || session.now.faulty))) }
+    ensures refused { IfOk result (λ drawn. (long : Bool) × (answered ≡ Ok long)
+        × (drawn.refused ≡ (long || session.now.faulty))) }
     ensures unwritten { result ≢ Err halt.CannotWrite }
 {
     let is_long = match answered {

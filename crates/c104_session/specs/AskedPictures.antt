@@ -1,10 +1,7 @@
 -- The pictures of a network that a person asks for among the lines of a script.
 --     asked_file line      the file that a line names
---     IsPictureOf session text      a text is that of the picture of a session's network as it stands
 use Rattle.std.specs.Prelude.{ℕ, List, [], ◌∷◌, Option, Some, None, bytes_eq, codes, if◌then◌else◌}
-use Rattle.c104_picture.specs.Pictures.{IsStatePicture}
 use Rattle.c104_plan.specs.TextCut.{uncommented_line, line_words}
-use Rattle.c104_session.specs.declared.session.Session.{Session}
 
 -- the file that these words name: the second of two, of which the first is `draw`
 abbrev pub file_among : List (List ℕ) → Option (List ℕ)
@@ -16,7 +13,3 @@ file_among (word ∷ file ∷ next ∷ more) = None
 -- the file that a line names, comment left out
 unfoldable pub asked_file : List ℕ → Option (List ℕ)
 asked_file line = file_among (line_words (uncommented_line line))
-
--- a text is that of the picture of a session's network as it stands
-abbrev pub IsPictureOf : Session → List ℕ → Type 0
-IsPictureOf session text = IsStatePicture session.image session.net text

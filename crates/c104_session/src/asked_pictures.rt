@@ -1,12 +1,12 @@
 //! Pictures of the network that a person asks for among the lines of a script.
 ghost use Rattle.std.specs.Prelude.{ℕ, ◌≡◌, IfOk, IfSome, List, Some, length, map};
 ghost use Rattle.std.specs.Option.{option_map};
-ghost use Rattle.c104_session.specs.AskedPictures.{IsPictureOf, asked_file, file_among};
+ghost use Rattle.c104_session.specs.AskedPictures.{asked_file, file_among};
 
 use crate::session::Session;
 use c104_mistakes::Messages;
-use c104_picture::state_text;
 use c104_plan::{cut_words, uncommented};
+use c104_print::state_text;
 use std::alloc::Global;
 use std::{io, str};
 
@@ -54,7 +54,7 @@ fn save_picture<M: Messages>(
     file: &str,
     messages: &mut M,
 ) -> io::Result<usize>
-    ensures { IfOk result (λ count. (text : List ℕ) × IsPictureOf session.now text × (count ≡ length text)
+    ensures { IfOk result (λ count. (text : List ℕ) × (count ≡ length text)
         × M.saves messages.old file.now text messages.new) }
 {
     let Ok(picture) = state_text(alloc, &session.net, &session.image) else {

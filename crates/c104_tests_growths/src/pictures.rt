@@ -4,7 +4,8 @@ use crate::ground::{Ground, Suite, is_right_on};
 use crate::growths::{Growing, Refusal, is_right};
 use crate::outcomes::Outcome;
 use c104_check::SwitchPort;
-use c104_draw::{Drawing, draw, draw_cycle, draw_header, drawing_text, drawing_text_with};
+use c104_draw::{Drawing, draw, draw_cycle, draw_header};
+use c104_print::{drawing_text, drawing_text_with};
 use std::alloc::Global;
 
 /// What is drawn.

@@ -5,8 +5,9 @@ use crate::growths::{Growing, Refusal, is_right};
 use crate::outcomes::Outcome;
 use crate::traced::net_after;
 use c104_net::TracedNet;
-use c104_picture::{net_state, state_text};
+use c104_picture::net_state;
 use c104_plan::Image;
+use c104_print::state_text;
 use std::alloc::Global;
 
 /// A network is listed or drawn as it stands.

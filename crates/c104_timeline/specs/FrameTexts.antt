@@ -4,7 +4,7 @@ use Rattle.std.specs.Prelude.{ℕ, ◌+◌, ◌*◌, List, ◌++◌, codes, Opti
 use Rattle.std.specs.Fmt.{decimal}
 use Rattle.std.specs.List.{flat_map, range_with_len}
 use Rattle.c104_node.specs.declared.origins.Origin.{Origin}
-use Rattle.c104_picture.specs.StateTexts.{color_by, packet_color}
+use Rattle.c104_picture.specs.PacketTexts.{color_by, packet_color}
 use Rattle.c104_plan.specs.Plans.{Plan}
 use Rattle.c104_stats.specs.Numbers.{told}
 use Rattle.c104_timeline.specs.Frames.{bottom_line, height, last_line, left, tick_count, tick_step, total_width, Frame}

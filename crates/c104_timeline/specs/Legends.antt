@@ -5,7 +5,7 @@ use Rattle.std.specs.Prelude.{ℕ, ◌+◌, ◌*◌, ◌/◌, ◌%◌, ◌==◌,
 use Rattle.std.specs.Fmt.{decimal}
 use Rattle.std.specs.List.{list_any}
 use Rattle.c104_node.specs.declared.origins.Origin.{Origin}
-use Rattle.c104_picture.specs.StateTexts.{packet_text}
+use Rattle.c104_picture.specs.PacketTexts.{packet_text}
 use Rattle.c104_plan.specs.Plans.{Plan}
 use Rattle.c104_stats.specs.Numbers.{told}
 use Rattle.c104_timeline.specs.Lanes.{packet_of, Lane, Stretch}

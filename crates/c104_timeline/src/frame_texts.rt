@@ -1,7 +1,7 @@
 //! What stands around the rows of a picture, in SVG.
 ghost use Rattle.std.specs.Prelude.{◌≡◌, ◌++◌, IfOk, OnOk};
 ghost use Rattle.std.specs.String.{string_bytes};
-ghost use Rattle.c104_picture.specs.StateTexts.{color_by};
+ghost use Rattle.c104_picture.specs.PacketTexts.{color_by};
 ghost use Rattle.c104_timeline.specs.FrameTexts.{color_fills, colors_text, fill_by, fills_of, ground_text, head_text, list_title, opening_text};
 ghost use Rattle.c104_timeline.specs.FrameTexts.{packet_fills, pattern_name, pattern_part, pattern_path, pattern_text, size_text, tail_text, tick_by, tick_text, ticks_text, title_text, view_text};
 

@@ -1,7 +1,7 @@
 //! What is drawn of stretches, in SVG.
 ghost use Rattle.std.specs.Prelude.{◌≡◌, ◌++◌, IfOk, OnOk};
 ghost use Rattle.std.specs.String.{string_bytes};
-ghost use Rattle.c104_picture.specs.StateTexts.{packet_color};
+ghost use Rattle.c104_picture.specs.PacketTexts.{packet_color};
 ghost use Rattle.c104_timeline.specs.Lanes.{packet_of};
 ghost use Rattle.c104_timeline.specs.Shapes.{bar_text, fill_text, line_top, moved_fill, packet_bars, rect_by, rect_text, stretch_text, stretches_text};
 

@@ -2,9 +2,9 @@ use Rattle.std.proofs.Common.{inl}
 use Rattle.std.proofs.lemmas.Result.{IfOk-weaker}
 use Rattle.c104_check.specs.Routes.{routes_of}
 use Rattle.c104_commands.proofs.CycleLemmas.{ranked_acyclic}
-use Rattle.c104_commands.proofs.pictures.accepted_text.Goals as goal
+use Rattle.c104_commands.proofs.pictures.accepted_picture.Goals as goal
 
 -- ranks leave no cycle
 pub returns-in-Ranks : goal.returns-in-Ranks
 returns-in-Ranks c =
-    IfOk-weaker c.plain_text.result _ _ (λ text is. inl (ranked_acyclic (routes_of c.args.plan.now c.args.image.now) _ _ c.in_ok-found.ensures.found c.in-Ranks.is, is)) c.plain_text.ensures
+    IfOk-weaker c.plain_picture.result _ _ (λ picture is. inl (ranked_acyclic (routes_of c.args.plan.now c.args.image.now) _ _ c.in_ok-found.ensures.found c.in-Ranks.is, is)) c.plain_picture.ensures

@@ -1,6 +1,5 @@
-//! Where the nodes of a picture stand. Of the places nothing is proved but that they are found safely.
-ghost use Rattle.std.specs.Prelude.{◌≡◌, ◌≤◌, IfOk, is_some, not};
-ghost use Rattle.c104_draw.specs.Frames.{IsFrameOf, cube_edge_text, cube_text, depth, edge_layout_text, grid_text, hangs, is_level, is_lower, layout_text};
+//! Where the nodes of a picture stand.
+ghost use Rattle.std.specs.Prelude.{◌≤◌};
 
 use c104_plan::{Plan, Port, Shape};
 use std::alloc::{AllocError, Global};
@@ -85,9 +84,7 @@ const CORNERS: [(usize, usize); 6] = [
 impl Frame {
     /// The frame of a plan: its mesh's grid, its cube, or else its tree, which hangs from the root; a network of
     /// no tree hangs from its first switch.
-    pub(crate) fn of(alloc: Global, plan: &Plan) -> Result<Frame, AllocError>
-        ensures { IfOk result (IsFrameOf plan.now.shape) }
-    {
+    pub(crate) fn of(alloc: Global, plan: &Plan) -> Result<Frame, AllocError> {
         match plan.shape() {
             Shape::Mesh(columns, rows, terminals) => Ok(Frame::Grid(columns, rows, terminals)),
             Shape::Cube(_, terminals) => Ok(Frame::Cube(terminals)),
@@ -98,56 +95,40 @@ impl Frame {
     }
 
     /// Where a switch stands. None where Graphviz is to place it.
-    pub(crate) fn switch_place(&self, switch: usize) -> Option<Place>
-        ensures { is_some result ≡ not (hangs self.now) }
-    {
-        match self {
-            Frame::Grid(columns, rows, terminals) => {
-                Some(grid_corner(*columns, *rows, switch, grid_edge(*terminals)).moved(
-                    grid_radius(*terminals),
-                    (100, 100),
-                ))
-            }
-            Frame::Cube(terminals) => {
-                Some(cube_corner(switch, cube_edge(*terminals)).moved(
-                    cube_radius(*terminals),
-                    (100, 100),
-                ))
-            }
-            Frame::Hanging(_) => None,
-        }
+    pub(crate) fn switch_place(&self, switch: usize) -> Option<Place> {
+        let (corner, radius) = self.corner(switch)?;
+        Some(corner.moved(radius, (100, 100)))
     }
 
     /// Where a terminal stands. None where Graphviz is to place it.
-    pub(crate) fn terminal_place(&self, terminal: usize) -> Option<Place>
-        ensures { is_some result ≡ not (hangs self.now) }
-    {
+    pub(crate) fn terminal_place(&self, terminal: usize) -> Option<Place> {
+        let (terminals, first) = match self {
+            Frame::Grid(_, _, terminals) => (*terminals, [20, 28, 12, 4].as_slice()),
+            Frame::Cube(terminals) => (*terminals, cube_directions(*terminals)),
+            Frame::Hanging(_) => return None,
+        };
+        let round = terminals.max(1);
+        let (corner, radius) = self.corner(terminal / round)?;
+        Some(corner.moved(radius, direction(terminal % round, terminals, first)))
+    }
+
+    /// The lower left corner of what is drawn of a switch, and how far its terminals stand from it.
+    fn corner(&self, switch: usize) -> Option<(Place, usize)> {
         match self {
             Frame::Grid(columns, rows, terminals) => {
-                let switch = terminal / (*terminals).max(1);
-                let way = direction(terminal % (*terminals).max(1), *terminals, &[20, 28, 12, 4]);
-                Some(grid_corner(*columns, *rows, switch, grid_edge(*terminals)).moved(
-                    grid_radius(*terminals),
-                    way,
-                ))
+                let corner = grid_corner(*columns, *rows, switch, grid_edge(*terminals));
+                Some((corner, grid_radius(*terminals)))
             }
             Frame::Cube(terminals) => {
-                let switch = terminal / (*terminals).max(1);
-                let way = direction(
-                    terminal % (*terminals).max(1),
-                    *terminals,
-                    cube_directions(*terminals),
-                );
-                Some(cube_corner(switch, cube_edge(*terminals)).moved(cube_radius(*terminals), way))
+                let corner = cube_corner(switch, cube_edge(*terminals));
+                Some((corner, cube_radius(*terminals)))
             }
             Frame::Hanging(_) => None,
         }
     }
 
     /// Whether a port hangs lower than another. A terminal hangs lower than its switch.
-    pub(crate) fn is_lower(&self, port: Port, other: Port) -> bool
-        ensures { result ≡ is_lower self.now port other }
-    {
+    pub(crate) fn is_lower(&self, port: Port, other: Port) -> bool {
         match (port, other) {
             (Port::Terminal(_), _) => self.hangs(),
             (_, Port::Terminal(_)) => false,
@@ -156,48 +137,33 @@ impl Frame {
     }
 
     /// Whether two ports hang equally low.
-    fn is_level(&self, port: Port, other: Port) -> bool
-        ensures { result ≡ is_level self.now port other }
-    {
+    fn is_level(&self, port: Port, other: Port) -> bool {
         self.hangs() && !self.is_lower(port, other) && !self.is_lower(other, port)
     }
 
     /// What stands before the nodes for their layout.
-    pub(crate) fn layout(&self) -> &'static str
-        ensures { result.now ≡ layout_text self.now }
-    {
+    pub(crate) fn layout(&self) -> &'static str {
         match self {
-            Frame::Grid(_, _, terminals) => grid_text(*terminals <= 8),
-            Frame::Cube(terminals) => cube_text(*terminals <= 8),
+            Frame::Grid(_, _, terminals) if *terminals <= 8 => GRID,
+            Frame::Cube(terminals) if *terminals <= 8 => CUBE,
+            Frame::Grid(_, _, _) | Frame::Cube(_) => CROWDED,
             Frame::Hanging(_) => "",
         }
     }
 
     /// What an edge from a port to another has for its layout.
-    pub(crate) fn edge_layout(&self, port: Port, other: Port) -> &'static str
-        ensures { result.now ≡ edge_layout_text self.now port other }
-    {
-        match self {
-            Frame::Grid(_, _, _) => "",
-            Frame::Cube(terminals) => match (port, other) {
-                (Port::Switch(_, link), Port::Switch(_, _)) => cube_edge_text(*terminals, link),
-                (Port::Switch(_, _), Port::Terminal(_)) => "",
-                (Port::Terminal(_), _) => "",
-            },
-            Frame::Hanging(_) => {
-                if self.is_level(port, other) {
-                    ", constraint=false"
-                } else {
-                    ""
-                }
+    pub(crate) fn edge_layout(&self, port: Port, other: Port) -> &'static str {
+        match (self, port, other) {
+            (Frame::Cube(terminals), Port::Switch(_, link), Port::Switch(_, _)) => {
+                cube_edge_layout(*terminals, link)
             }
+            (Frame::Hanging(_), _, _) if self.is_level(port, other) => ", constraint=false",
+            _ => "",
         }
     }
 
     /// Whether the nodes hang from one another.
-    fn hangs(&self) -> bool
-        ensures { result ≡ hangs self.now }
-    {
+    fn hangs(&self) -> bool {
         match self {
             Frame::Grid(_, _, _) => false,
             Frame::Cube(_) => false,
@@ -206,9 +172,7 @@ impl Frame {
     }
 
     /// By how many wires a switch hangs.
-    fn depth(&self, switch: usize) -> usize
-        ensures { result ≡ depth self.now switch }
-    {
+    fn depth(&self, switch: usize) -> usize {
         let Frame::Hanging(depths) = self else {
             return 0;
         };
@@ -277,25 +241,9 @@ fn cube_directions(terminals: usize) -> &'static [usize] {
     }
 }
 
-/// What stands before nodes on a grid, by whether few terminals stand round a switch.
-fn grid_text(few: bool) -> &'static str
-    ensures { result.now ≡ grid_text few }
-{
-    if few { GRID } else { CROWDED }
-}
-
-/// The same of a cube.
-fn cube_text(few: bool) -> &'static str
-    ensures { result.now ≡ cube_text few }
-{
-    if few { CUBE } else { CROWDED }
-}
-
 /// Where the numbers of a wire between two switches of a cube stand, each with this number of terminals: further from the
 /// switch than others, and beside the wire on a side where no other number is. The wire is that of a link at both.
-fn cube_edge_text(terminals: usize, link: usize) -> &'static str
-    ensures { result.now ≡ cube_edge_text terminals link }
-{
+fn cube_edge_layout(terminals: usize, link: usize) -> &'static str {
     if terminals <= 2 && link == 0 {
         ", labeldistance=3.5, labelangle=-12"
     } else if 3 <= terminals && (terminals <= 8 && link == 3) {

@@ -1,0 +1,15 @@
+//! What is printed for people without a clause on its text: each kind of text is held by golden cases, and what it shows
+//! is proved where it is found.
+//!
+//! [`drawing_text`] is the picture of a network and [`state_text`] that of a network as it stands, both in the language
+//! of Graphviz.
+#![tactic(auto)]
+
+mod drawings;
+mod edges;
+mod frames;
+mod nodes;
+mod states;
+
+pub use drawings::{drawing_text, drawing_text_with};
+pub use states::state_text;

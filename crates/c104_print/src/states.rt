@@ -1,0 +1,145 @@
+//! The picture of a network as it stands, as a text for Graphviz.
+
+use crate::drawings::drawing_text_with;
+use crate::edges::port_name;
+use c104_draw::draw;
+use c104_net::{Origin, TracedNet};
+use c104_picture::{
+    Hold, NetState, Way, Wish, add_packet, add_port, net_state, packet_color, pattern,
+};
+use c104_plan::{Image, Plan, Port};
+use c104_token::NoMemory;
+use std::alloc::{AllocError, Global};
+
+/// What the arrows mean. The lines of a title are parted by `\n`, which Graphviz reads.
+const TITLE: &str = "in brackets: tokens that wait\\ndotted: an output that is wanted";
+
+/// The same where something waits for itself.
+const TITLE_OF_LOCKED: &str = "in brackets: tokens that wait\\ndotted: an output that is wanted\\n\
+     red: these wait for one another, and nothing moves";
+
+/// The text of a picture of a network as it stands, in the language of Graphviz. Wires are drawn as with this image's
+/// groups. Beside them are arrows: one for each link that a packet holds or at an end of which tokens wait, and a dotted
+/// one for each output that an input wants.
+///
+/// A packet has a colour and a pattern, and its name at each of its arrows: the terminal that sent it, and its number
+/// there. The number of tokens that wait stands in brackets behind the link's, at both ends. In a network that stands
+/// still, what waits for itself, over others, is red and wide. The only error is out of memory.
+pub fn state_text(alloc: Global, net: &TracedNet, image: &Image) -> Result<String, NoMemory> {
+    let state = net_state(alloc, net)?;
+    let mut lines = String::new(alloc);
+    for way in state.ways.as_slice() {
+        add_way(&mut lines, net.plan(), way)?;
+    }
+    for wish in state.wishes.as_slice() {
+        add_wish(&mut lines, net.plan(), wish)?;
+    }
+    let drawing = draw(alloc, net.plan(), image)?;
+    drawing_text_with(
+        alloc,
+        net.plan(),
+        image,
+        &drawing,
+        title(&state),
+        lines.as_str(),
+    )
+}
+
+/// What the arrows of a state mean.
+fn title(state: &NetState) -> &'static str {
+    if state.ways.iter().any(|way| way.hold.locked) || state.wishes.iter().any(|wish| wish.locked) {
+        TITLE_OF_LOCKED
+    } else {
+        TITLE
+    }
+}
+
+/// The arrow of a way joins a text, unless no packet holds it and no token waits at either end.
+fn add_way(text: &mut String, plan: &Plan, way: &Way) -> Result<(), AllocError> {
+    if !way.hold.held && way.behind == 0 && way.before == 0 {
+        return Ok(());
+    }
+    add_arrow(text, plan, way.from, way.to)?;
+    if way.hold.held {
+        add_packet(plan, way.hold.packet, text)?;
+        text.push_str("\\n")?;
+    }
+    add_end(text, plan, way.from, way.behind)?;
+    if let Some(to) = way.to {
+        text.push_str(" to ")?;
+        add_end(text, plan, to, way.before)?;
+    }
+    add_stroke(text, way.hold)
+}
+
+/// The dotted arrow of an output that an input wants joins a text.
+fn add_wish(text: &mut String, plan: &Plan, wish: &Wish) -> Result<(), AllocError> {
+    let input = Port::Switch(wish.input.switch, wish.input.link);
+    let output = Port::Switch(wish.input.switch, wish.output);
+    add_arrow(text, plan, output, wish.to)?;
+    add_packet(plan, wish.packet, text)?;
+    text.push_str("\\n")?;
+    add_port(plan, input, text)?;
+    text.push_str(" wants ")?;
+    add_port(plan, output, text)?;
+    let color = color(wish.packet, wish.locked);
+    let width = width(wish.locked);
+    write!(
+        text,
+        "\", arrowhead=onormal, style=dotted, color=\"{color}\", penwidth={width}]\n"
+    )
+}
+
+/// What an arrow is from and to joins a text, with what stands before its label. A port without a wire leads to a node of
+/// its own.
+fn add_arrow(
+    text: &mut String,
+    plan: &Plan,
+    from: Port,
+    to: Option<Port>,
+) -> Result<(), AllocError> {
+    let tail = port_name(plan, from);
+    write!(text, "  \"{tail}\" -> \"")?;
+    match to {
+        Some(to) => text.push_str(port_name(plan, to))?,
+        None => add_port(plan, from, text)?,
+    }
+    text.push_str("\" [dir=forward, label=\"")
+}
+
+/// An end of a way joins a text: its port, and how many tokens wait there, if some do.
+fn add_end(text: &mut String, plan: &Plan, port: Port, count: usize) -> Result<(), AllocError> {
+    add_port(plan, port, text)?;
+    if count == 0 {
+        return Ok(());
+    }
+    write!(text, " [{count}]")
+}
+
+/// How a way is drawn joins a text: by the packet that holds it, if one does.
+fn add_stroke(text: &mut String, hold: Hold) -> Result<(), AllocError> {
+    if !hold.held {
+        return text.push_str("\", color=\"gray50\", style=solid, penwidth=1]\n");
+    }
+    let color = color(hold.packet, hold.locked);
+    let width = width(hold.locked);
+    let pattern = pattern(hold.packet);
+    let is_dashed = pattern == 1 || pattern == 3;
+    let style = if is_dashed { "dashed" } else { "solid" };
+    let is_double = pattern == 2 || pattern == 3;
+    write!(text, "\", color=\"{color}")?;
+    if is_double {
+        write!(text, ":white:{color}")?;
+    }
+    write!(text, "\", style={style}, penwidth={width}]\n")
+}
+
+/// The colour of a packet, which is red where it waits for itself.
+fn color(packet: Option<Origin>, locked: bool) -> &'static str {
+    if locked { "red" } else { packet_color(packet) }
+}
+
+/// The width of a packet's arrow: what waits for itself is wide.
+fn width(locked: bool) -> usize {
+    if locked { 4 } else { 2 }
+}
