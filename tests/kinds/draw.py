@@ -1,6 +1,7 @@
 """Runs a program's drawing over descriptions.
 
-A picture is read as a list of nodes and a list of edges, each a line, and compared with what the network has.
+A picture is read as a list of nodes and a list of edges, each a line, and compared with what the network has. Every byte of
+one, with all that nodes, edges and a title may have, is held by the cases that are folders.
 """
 
 import os
@@ -34,6 +35,10 @@ CROWD = b'switch A\n' + b''.join(b'terminal t%d A.%d\n' % (it, it) for it in ran
 # From A depth first: C hangs from B, so the wire from A to C carries nothing, nor does the second one from A to B.
 RING = (b'switch A\nswitch B\nswitch C\nwire A.1 B.1\nwire A.2 C.2\nwire B.2 C.1\nwire A.4 B.4\nterminal a A.0\n'
     b'terminal c C.0\nlabel tree A\n')
+
+# Where the corner of each dimension of a cube stands, where each has a terminal.
+CORNERS = {'s0': (50, 50), 's1': (270, 50), 's2': (50, 270), 's4': (105, 127), 's8': (567, 204), 's16': (204, 644),
+           's32': (1128, 776)}
 
 
 class Picture:
@@ -250,6 +255,10 @@ def places(runner):
             places = picture.places() if picture else {}
             is_whole = picture and len(places) == len(picture.nodes) and len(set(places.values())) == len(places)
             runner.judge(name, None if is_whole else 'found %s' % places)
+    if runner.wanted('corners'):
+        picture = picture_of(runner, ['draw', '-'], b'cube 6 1\n')
+        places = picture.places() if picture else {}
+        runner.judge('corners', compared({name: places.get(name) for name in CORNERS}, CORNERS))
     if runner.wanted('a grid'):
         picture = picture_of(runner, ['draw', '-'], b'mesh 3 2 1\n')
         places = picture.places() if picture else {}
