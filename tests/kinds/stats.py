@@ -1,7 +1,8 @@
 """Runs a program's `stats` over descriptions and scripts, and what it prints.
 
 The numbers are worked out by hand, round by round, from docs/FORMATS.md. What programs read is read by Python's own readers
-of CSV and of JSON, and has to be what the table for people says.
+of CSV and of JSON, and has to be what the table for people says. Of each run the tables are read once more, by conservation.py:
+no token and no packet is lost in them.
 """
 
 import csv
@@ -12,7 +13,8 @@ import re
 import subprocess
 import tempfile
 
-from case_runner import CANNOT_WRITE, EXAMPLES, PLAN, SCRIPT_LIMIT, comments
+from case_runner import CANNOT_WRITE, EXAMPLE_FILES, EXAMPLES, PLAN, SCRIPT_LIMIT, SCRIPT_LINE, comments
+from conservation import wrong_of
 from random_networks import chance_of, network_of, packets_of
 
 # In rounds 1 to 3 a's tokens cross to A.0, in 2 to 4 from A.1 to b, and each arrives in the round in which it crosses. 5 is
@@ -70,6 +72,10 @@ SUMMARIES = {
     'lost packets': (NO_ROWS, b'send a 01 68 eop\nsend b eop\nrounds 9\n', '3 2 0 2 - - - - 1.333 a 1.000 b 0.333 - -'),
 }
 
+# Of runs that a Reset cuts, how many tokens are gone. 01 has come to b, and 68 is cleared. The terminator that comes behind it
+# waits in A, or once A is started is dropped there as a packet without a header.
+GONE = {'a Reset ends how long links were held': 1, 'a packet behind a Reset': 2}
+
 STILL = b'stands still after round 3\nA.7, which has no wire, holds 3 tokens\n'
 
 SWEEP = os.path.join(EXAMPLES, 'sweep')
@@ -114,16 +120,26 @@ def csv_text(columns, rows):
 
 
 def value_of(column, cell):
-    """What JSON has for a cell: words are those of names, of ports and of endings."""
+    """What JSON has for a cell: words are those of names, of ports, of endings and of states."""
     if cell == '-':
         return None
-    if column in ('sender', 'receiver', 'ending', 'port', 'busiest', 'second', 'third'):
+    if column in ('sender', 'receiver', 'ending', 'port', 'to', 'state', 'busiest', 'second', 'third'):
         return cell
     return float(cell) if '.' in cell else int(cell)
 
 
 def objects_of(columns, rows):
     return [{name: value_of(name, it) for name, it in zip(columns, line)} for line in cells_of(rows)]
+
+
+def json_text(columns, rows):
+    """Objects, each a line of its own. A share has its three places, as in the table."""
+    lines = []
+    for line in cells_of(rows):
+        values = ['null' if it == '-' else '"%s"' % it if isinstance(value_of(name, it), str) else it
+                  for name, it in zip(columns, line)]
+        lines.append('{%s}' % ', '.join('"%s": %s' % pair for pair in zip(columns, values)))
+    return ('[' + ','.join('\n' + it for it in lines) + '\n]\n').encode()
 
 
 def by_hand(runner):
@@ -133,7 +149,8 @@ def by_hand(runner):
             still = STILL if description == STUCK else b''
             runner.case(name, table_text(columns, rows) + still, words=words_of(path, what), data=script)
             runner.case(name + ': csv', csv_text(columns, rows), words=words_of(path, what, 'csv'), data=script)
-            read(runner, name + ': json', words_of(path, what, 'json'), script, objects_of(columns, rows))
+            runner.case(name + ': json', json_text(columns, rows), words=words_of(path, what, 'json'), data=script)
+            read(runner, name + ': json, read', words_of(path, what, 'json'), script, objects_of(columns, rows))
 
 
 def summaries(runner):
@@ -143,7 +160,8 @@ def summaries(runner):
         with Files(description) as path:
             runner.case(title, lines, words=words_of(path), data=script)
             runner.case(title + ': csv', csv_text(SUMMARY, [values]), words=words_of(path, form='csv'), data=script)
-            read(runner, title + ': json', words_of(path, form='json'), script, objects_of(SUMMARY, [values]))
+            runner.case(title + ': json', json_text(SUMMARY, [values]), words=words_of(path, form='json'), data=script)
+            read(runner, title + ': json, read', words_of(path, form='json'), script, objects_of(SUMMARY, [values]))
 
 
 def read(runner, name, words, script, due):
@@ -214,17 +232,36 @@ def random(runner, seed):
         arrived = len(re.findall(rb' from \S+ \d+$', out, re.MULTILINE))
         if arrived != sum(row[-1] == 'arrived' for row in tables['packets']):
             wrong = 'other packets arrived'
-        sent = sum(int(row[3]) + 1 for row in tables['packets'])
-        came = sum(int(row[4]) for row in tables['rounds'])
-        last = tables['rounds'][-1]
-        if not sent >= came + int(last[1]) + int(last[2]):
-            wrong = 'more tokens than were sent'
+        wrong = wrong or wrong_of(lambda what: runner.run(words=words_of(path, what, 'csv'), data=script)[1],
+                                  network.description, script)
         runner.judge(name, wrong)
 
 
 def randoms(runner):
     for seed in SEEDS:
         random(runner, seed)
+
+
+def runs_of_examples():
+    """The examples that are a description and a script in one text, and the ring with its packets."""
+    found = {}
+    for name in EXAMPLE_FILES:
+        with open(os.path.join(EXAMPLES, name), 'rb') as file:
+            found[name] = SCRIPT_LINE.split(file.read(), 1)
+    found['ring.txt'] += found['ring-packets.txt']
+    return {name: parts for name, parts in found.items() if len(parts) == 2}
+
+
+def conserved(runner):
+    """No token and no packet is lost in what is told of the runs above, and of the examples."""
+    by_hand = {name: it[:2] for name, it in [*BY_HAND.items(), *SUMMARIES.items()]}
+    for name, (description, script) in {**by_hand, **runs_of_examples()}.items():
+        if not runner.wanted('conservation of ' + name):
+            continue
+        with Files(description) as path:
+            wrong = wrong_of(lambda what: runner.run(words=words_of(path, what, 'csv'), data=script)[1],
+                             description, script, GONE.get(name))
+        runner.judge('conservation of ' + name, wrong)
 
 
 def usage(runner):
@@ -265,4 +302,4 @@ def sweep(runner):
     runner.judge(name, None if found == due else '%.400r' % found)
 
 
-PARTS = [by_hand, summaries, standing, randoms, usage, failures, sweep]
+PARTS = [by_hand, summaries, standing, randoms, conserved, usage, failures, sweep]
