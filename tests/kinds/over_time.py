@@ -1,7 +1,8 @@
 """Runs a program's drawing of runs over their rounds.
 
 A picture is read by Python's reader of XML: its rows with the rectangles in them, as rounds, and its list of packets. What
-they are is worked out by hand, round by round, from docs/FORMATS.md.
+they are is worked out by hand, round by round, from docs/FORMATS.md. Every byte of a picture is held by the cases that are
+folders and by the pictures of runs of docs/PICTURES.md, which were looked at; and every byte of a table by its rows.
 """
 
 import csv
@@ -11,14 +12,16 @@ import os
 import re
 import xml.etree.ElementTree as xml
 
-from case_runner import CANNOT_WRITE, EXAMPLES, MIB, PLAN, SCRIPT_LIMIT, comments
+from case_runner import CANNOT_WRITE, EXAMPLES, MIB, PLAN, SCRIPT_LIMIT, SCRIPT_LINE, TOP, comments
 from kinds.states import LINE
-from kinds.stats import FIRST, Files
+from kinds.stats import FIRST, Files, csv_text, json_text, table_text
 
 SVG = '{http://www.w3.org/2000/svg}'
 TITLE = re.compile(r'rounds (\d+) to (\d+); hatched: a packet holds the wire, and nothing crosses')
 FITS = re.compile(rb'draw 1 TooLarge: --from (\d+) --to (\d+) fits\n')
 CELL, ROW, FIRST_ROW = 8, 14, 2
+COLUMNS = ('port', 'to', 'sender', 'number', 'first', 'last', 'state')
+TEXT_OF = {'table': table_text, 'csv': csv_text, 'json': json_text}
 
 # The fills of the packets 0 and 1 of a, and of 0 of b, and of one that has no name; those in which nothing crosses are hatched.
 A_0, A_1, B_0, UNNAMED = 'blue', 'url(#blue-1)', 'url(#darkorange-1)', 'black'
@@ -73,6 +76,26 @@ DRAWN = {
         ['A', ('A.0 to a', ('b 0', B_0, 2, 3)), ('b to A.1', ('b 0', B_0, 1, 2))]),
 }
 
+# Pictures of docs/pictures, with the example that each is of, and the script where that isn't in the same text.
+LONG = bytes(range(1, 32)).hex(' ').encode() + b' eop\n'
+PICTURED = {
+    'all-to-all': ('mesh-all-to-all.txt', None),
+    'commands': ('configured-by-commands.txt', None),
+    'cube-corners': ('cube-corners.txt', None),
+    'many-labels': ('many-labels.txt', None),
+    'mended-table': ('mended-table.txt', None),
+    'universal-routing': ('universal-routing.txt', None),
+    'round': ('labels-that-loop.txt', b'send a 01 eop\nrounds 40\n'),
+    'astray': ('label-without-a-way.txt', b'send a 02 11 eop\nrounds 12\nsend a 02 22 eop\ncross a\ninput A.0\n'
+        b'claim A 0 2\nrounds 12\n'),
+}
+TURNS = b'send b 02 ' + LONG + b'rounds 2\nsend a 02 ' + LONG + b'rounds 16\nrounds 60\n'
+
+
+def example(name):
+    with open(os.path.join(EXAMPLES, name), 'rb') as file:
+        return file.read()
+
 
 def rows_of(picture):
     """The rows, and what stands in each: the packet, its fill, and the first and the last round."""
@@ -126,21 +149,44 @@ def drawn(runner):
         runner.judge(name, wrong)
 
 
+def cells_of(picture):
+    """The cells of the table that has the rectangles of a picture, in its order."""
+    found = []
+    for row in rows_of(picture)[2]:
+        if not isinstance(row, str):
+            for packet, fill, first, last in row[1:]:
+                name = '- -' if packet == '?' else packet
+                state = 'holds' if fill.endswith('-idle)') else 'moves'
+                found.append('%s %s %d %d %s' % (row[0].replace(' to ', ' '), name, first, last, state))
+    return found
+
+
 def tabled(runner):
-    """A table has the rectangles of the picture, in its order; both tables for programs have the same cells."""
+    """A table has the rectangles of the picture, in its order, whatever its format; Python's readers find the same cells in
+    those for programs."""
     for name, (description, script, words, *_) in DRAWN.items():
         if not runner.wanted('a table of ' + name):
             continue
-        picture = pictured(runner, description, script, words)[2]
-        due = [(row[0], packet, fill.endswith('-idle)'), first, last)
-               for row in rows_of(picture)[2] if not isinstance(row, str) for packet, fill, first, last in row[1:]]
-        objects = json.loads(pictured(runner, description, script, [*words, '--format', 'json'])[1])
-        found = [('%s to %s' % (it['port'], it['to']), '?' if it['sender'] is None else '%s %d' % (it['sender'], it['number']),
-                  it['state'] == 'holds', it['first'], it['last']) for it in objects]
-        text = pictured(runner, description, script, [*words, '--format', 'csv'])[1].decode()
-        cells = [['' if it is None else str(it) for it in row.values()] for row in objects]
-        good = found == due and list(csv.reader(io.StringIO(text)))[1:] == cells
-        runner.judge('a table of ' + name, None if good else 'wanted %s, found %s and %s' % (due, found, text))
+        rows = cells_of(pictured(runner, description, script, words)[2])
+        texts = {form: pictured(runner, description, script, [*words, '--format', form])[1] for form in TEXT_OF}
+        wrong = next(('%s: %s' % (form, text) for form, text in texts.items() if text != TEXT_OF[form](COLUMNS, rows)), None)
+        objects = [['' if it is None else str(it) for it in row.values()] for row in json.loads(texts['json'])]
+        if wrong is None and list(csv.reader(io.StringIO(texts['csv'].decode())))[1:] != objects:
+            wrong = 'the readers find other cells: %s' % objects
+        runner.judge('a table of ' + name, wrong)
+
+
+def pictures(runner):
+    """The pictures of runs of the page are what the program writes."""
+    runs = {'turns': (LINE, TURNS), 'ring-rounds': (example('ring.txt'), example('ring-packets.txt'))}
+    for name, (file, script) in PICTURED.items():
+        runs[name] = (example(file), script) if script else SCRIPT_LINE.split(example(file), 1)
+    for name, (description, script) in runs.items():
+        if runner.wanted('the picture ' + name):
+            with open(os.path.join(TOP, 'docs', 'pictures', name + '.svg'), 'rb') as file:
+                due = file.read()
+            found = pictured(runner, description, script)[1]
+            runner.judge('the picture ' + name, None if found == due else 'it differs: %.400r' % found)
 
 
 def blocked(runner):
@@ -161,11 +207,7 @@ def ring(runner):
     name = 'a ring that is locked'
     if not runner.wanted(name):
         return
-    with open(os.path.join(EXAMPLES, 'ring.txt'), 'rb') as file:
-        description = file.read()
-    with open(os.path.join(EXAMPLES, 'ring-packets.txt'), 'rb') as file:
-        script = file.read()
-    status, _, picture = pictured(runner, description, script)
+    status, _, picture = pictured(runner, example('ring.txt'), example('ring-packets.txt'))
     _, last, rows = rows_of(picture)
     ends = {row[0]: row[-1] for row in rows if isinstance(row, tuple)}
     held = {name: (packet, to) for name, (packet, fill, _, to) in ends.items() if fill.endswith('-idle)')}
@@ -192,6 +234,17 @@ def large(runner):
     more = pictured(runner, PLAN, script, ['--from', str(start), '--to', str(end + 1)])
     good = fits[0] == 0 and len(fits[1]) <= MIB and more[0] == 1 and more[1] == out
     runner.judge(name, None if good else 'found %d of %d bytes, %d %.200r' % (fits[0], len(fits[1]), more[0], more[1]))
+
+
+def too_large_at_once(runner):
+    """Where the first round alone would be too large, no rounds are told. More packets than fit cross before it, and A drops
+    each."""
+    name = 'a first round that is too large'
+    crossed = b'cross a\ninput A.0\n'
+    script = b''.join(b'send a 05 eop\n' + b'credit A.0\n' * (k % 4 == 0) + crossed * 2 for k in range(6000))
+    if runner.wanted(name):
+        status, out, _ = pictured(runner, PLAN, script)
+        runner.judge(name, None if (status, out) == (1, b'draw 1 TooLarge\n') else 'found %d %.200r' % (status, out))
 
 
 def refused(runner):
@@ -228,4 +281,4 @@ def devices(runner):
                     stdout=full)
 
 
-PARTS = [drawn, tabled, blocked, ring, large, refused, words, devices]
+PARTS = [drawn, tabled, pictures, blocked, ring, large, too_large_at_once, refused, words, devices]
