@@ -4,6 +4,22 @@ help and the version.
 
 from case_runner import FIRST_TEXT, difference
 
+SENT = ('traffic', '-', '--packets', '1', '--bytes', '1', '--seed', '1', '--pattern')
+COUNT_WORDS = b'error: the formats are table, csv and json, and the tables packets, links and rounds\n'
+HOT_SPOT = b'error: a hot-spot wants --target T, its terminal, and no other pattern does\n'
+
+# Words whose fault the program itself tells, and what it tells; nothing is read then.
+TOLD = [
+    (('stats', 'a', 'b', '--format', 'svg'), COUNT_WORDS),
+    (('stats', 'a', 'b', '--what', 'tokens'), COUNT_WORDS),
+    (('draw', 'a', 'b', '--over-time', '--format', 'xml'), b'error: the formats are svg, table, csv and json\n'),
+    (('draw', 'a', 'b', '--over-time', '--from', '2', '--to', '1'), b'error: --from comes after --to, so no round is shown\n'),
+    ((*SENT, 'frob'), b'error: the patterns are uniform, transpose, reverse, neighbour, hot-spot and all-to-all: frob\n'),
+    ((*SENT, 'hot-spot'), HOT_SPOT),
+    ((*SENT, 'uniform', '--target', 'a'), HOT_SPOT),
+    ((b'\xff',), b"error: a word isn't UTF-8\n\nFor more information, try '--help'.\n"),
+]
+
 
 def usage(runner):
     """Words are refused with a message on standard error, and nothing else is written."""
@@ -21,6 +37,12 @@ def usage(runner):
         runner.judge(name, wrong)
 
 
+def told(runner):
+    """A word that the program itself refuses."""
+    for words, errors in TOLD:
+        runner.case('told of %.60r' % (words,), b'', 2, errors, words=list(words))
+
+
 def other_words_for_help(runner):
     """Help and the version have several words, which do the same."""
     for words, long in ((['help'], ['--help']), (['-h'], ['--help']), (['help', 'run'], ['run', '--help']),
@@ -31,4 +53,4 @@ def other_words_for_help(runner):
             runner.case(name, out, status, errors, words=words)
 
 
-PARTS = [usage, other_words_for_help]
+PARTS = [usage, told, other_words_for_help]
