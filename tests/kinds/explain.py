@@ -476,16 +476,20 @@ def standstills(runner, seen):
         runner.judge('standstill of a ring: all of it', None if found == wanted else '%r' % found)
 
 
+def with_a_later_clock(program, folder):
+    """The program with a preloaded clock, a library in this folder, that is a second later each time that it is read."""
+    library = os.path.join(folder, 'clock.so')
+    compiler = shlex.split(os.environ.get('CC') or 'cc')
+    subprocess.run(compiler + ['-shared', '-fPIC', '-o', library, CLOCK], check=True)
+    return ['env', 'LD_PRELOAD=' + library] + program
+
+
 def progress(runner):
-    """How far rounds are is told each second on a terminal, and there alone. A preloaded clock is a second later each
-    time that it is read."""
+    """How far rounds are is told each second on a terminal, and there alone."""
     if not runner.wanted('progress'):
         return
     with tempfile.TemporaryDirectory() as folder:
-        library = os.path.join(folder, 'clock.so')
-        compiler = shlex.split(os.environ.get('CC') or 'cc')
-        subprocess.run(compiler + ['-shared', '-fPIC', '-o', library, CLOCK], check=True)
-        clocked = ['env', 'LD_PRELOAD=' + library] + runner.program
+        clocked = with_a_later_clock(runner.program, folder)
         plain = run_plain(clocked, [], TOP, RING)
         explained = run_plain(clocked, [EXPLAIN], TOP, RING)
         shown = run_on_terminal(clocked, [], TOP, RING)

@@ -1,0 +1,175 @@
+"""Runs a program with `--explain`, and compares all that it tells on standard error, byte by byte.
+
+The kind `explain` sees that each sentence of the tables is told, and that nothing else changes; here stand whole texts, with
+the sentences that are put together of parts: of labels, of what didn't arrive, of a storm, and of questions at a terminal.
+"""
+
+import tempfile
+
+from case_runner import PLAN, TOP
+from kinds.check import A_ROWS, B_ROWS, WIRE
+from kinds.cycles import ROUND
+from kinds.debug import END_OF_INPUT, asked_by_person
+from kinds.explain import STANDS, run_on_terminal, with_a_later_clock
+from kinds.storm import CROWD, STUCK, Files
+
+RANDOM_AT_A = ('header %d is a random one, put before packets of a at A.0, and every way of it has to end at an input that '
+    'discards it, but ')
+
+# A description, what `check` prints, and what it tells.
+CHECKS = {
+    'a label of two terminals': (b'switch A\nterminal a A.0 labels 2\nterminal b A.1 from 1\n', 'refused 1 RangesOverlap: a b',
+        ['label 1 belongs to a and to b', 'replace: terminal b A.1 labels 1 from 1', 'by: terminal b A.1 labels 1 from 2']),
+    'a label that is no header': (b'switch A\nterminal a A.0\nterminal b A.1 labels 2 from 255\n', 'refused 2 LabelTooLarge: b',
+        ['label 256 of b is no header: headers are 0 to 255', 'replace: terminal b A.1 labels 2 from 255',
+         'by: terminal b A.1 labels 2 from 1']),
+    'labels for which no others are free': (b'header 2\nswitch A\nterminal a A.0 labels 40000\nterminal b A.1 labels 40000 from 9\n',
+        'refused 1 RangesOverlap: a b', ['label 9 belongs to a and to b']),
+    'random headers at a link without a terminal': (PLAN + b'random A.31 2 1\n', 'refused 10 RandomInside: A.31',
+        ['no terminal is on A.31, but random headers are put before packets there']),
+    'a wrong terminal': (PLAN.replace(b'row A.1 1 0', b'row A.1 1 1'), 'refused 5 WrongEnd: from b header 0 walk A.1',
+        ['header 0 belongs to a, but A.1 may send it by link 1 to b', 'replace: row A.1 1 1', 'by: row A.1 1 0']),
+    'a link without a wire': (b'switch A\nterminal a A.0\nrow A.0 1 1\n', 'refused 6 DeadEnd: from a header 0 walk A.0',
+        ['header 0 belongs to a, but A.0 may send it by link 1, which has no wire', 'replace: row A.0 1 1', 'by: row A.0 1 0']),
+    'a loop': (WIRE + A_ROWS + b'row B.1 2 1\nrow B.0 1 1\nrow B.0 2 0\n', 'refused 7 Loop: from a header 1 walk A.0 B.1 A.1 B.1',
+        ['header 1 belongs to b, but A.1 may send it by link 1 to B.1, where it has been', 'replace: row B.1 2 1',
+         'by: row B.1 1 1', 'by: row B.1 2 0']),
+    'a row that stands between others': (PLAN.replace(b'row A.0 2 1', b'row A.0 9 1'), 'refused 8 Stray: from a header 2 walk A.0',
+        ['header 2 belongs to no terminal, but A.0 may send it by link 1 to b', 'replace: row A.0 9 1', 'by: row A.0 2 1',
+         'by: row A.0 9 sink']),
+    'a random header that comes to a terminal': (PLAN + b'random A.0 1 1\n', 'refused 5 WrongEnd: from a header 1 walk A.0',
+        [RANDOM_AT_A % 1 + 'A.0 may send it by link 1 to terminal b, which takes packets']),
+    'a random header that is sunk': (PLAN + b'random A.0 2 1\nrow A.0 3 sink\n', 'refused 6 DeadEnd: from a header 2 walk A.0',
+        [RANDOM_AT_A % 2 + 'A.0 neither discards it nor selects a link for it', 'replace: row A.0 3 sink', 'by: row A.0 3 discard']),
+    'a cycle that no row breaks': (ROUND, 'accepted',
+        ['packets can wait for one another forever, though with groups of links they need not: cycle B.2(3) C.2(3) D.2(1) A.2(2)',
+         'no single row was found that breaks it']),
+    'no cycle': (WIRE + A_ROWS + B_ROWS, 'accepted', ['no cycle of channel dependencies: under rounds every packet with a whole '
+        'header that a terminal owns arrives, as long as no inbox or trace is full and nothing is reset or set']),
+    'a switch without a way': (b'switch A\nswitch B\nlabel tree A\n', 'label 1 NotConnected',
+        ['wires do not lead from the root to each switch']),
+    'more labels than headers': (b'switch A\nterminal a A.0 labels 257\nlabel tree A\n', 'label 2 TooManyLabels',
+        ['there are more labels than headers']),
+}
+
+# A description, a script, and what is told of its last line, and then of what didn't arrive.
+RUNS = {
+    'packets that are dropped behind a random header': (PLAN + b'random A.0 2 1\n', b'send a 01 eop\nsend a 00 eop\nrounds 9\n', [],
+        ['input A.0 has dropped 2 packets, since no row covers the random header that it put before them, or their own after it, '
+         'or a row sinks one of these']),
+    'a switch that is not started': (STANDS, b'control B 02\nsend a 01 02 eop\nrounds 20\n',
+        ['stands still: 3 tokens wait', 'B is not started; `control B 01` starts it'],
+        ['3 tokens wait at output A.1; B.1: the switch is not started; `control` with the byte 01 starts it']),
+    'an output that has no room': (PLAN, b'poke A 0181 7\nsend a 01 aa aa aa aa aa aa eop\nsend a 01 eop\nrounds 20\n',
+        ['stands still: 10 tokens wait in 2 packets', 'A.0 wants A.7 for the header 1, which has no room for it',
+         'A.7, which has no wire, holds 8 tokens'],
+        ['1 token waits at input A.0; A.7: the output has no room for the header; `cross` takes a token out of it',
+         '8 tokens wait at output A.7; no wire leads on from there']),
+    'an output that has no wire': (PLAN, b'poke A 0181 7\nsend a 01' + b' aa' * 9 + b' eop\nrounds 20\n',
+        ['stands still: 11 tokens wait in 1 packet', 'A.0 holds A.7, which has no wire and is full'],
+        ['3 tokens wait at input A.0; output A.7 is full', '8 tokens wait at output A.7; no wire leads on from there']),
+}
+
+# Standard error of a storm in which more comes to a terminal than it takes. Worker 1 has the terminal.
+INBOX_FULL = 'the worker stopped: a terminal has received 262144 tokens, and has no room for more'
+
+# What a storm tells on a terminal of a packet that goes to a link without a wire. The first 64 turns do all that can be done.
+TURNS_DONE = ['64 of 262144 turns are done', 'stands still: 3 tokens wait in 1 packet', 'A.7, which has no wire, holds 3 tokens',
+              '3 tokens wait at output A.7; no wire leads on from there']
+
+# Descriptions, and lines typed on them, each with what a question is told.
+RANDOM_AT_B = PLAN + b'random A.1 2 1\n'
+TYPED = {
+    'an input that puts random headers': (RANDOM_AT_B, [
+        (b'show A.1', b'A.1, on a wire to b\n  input: holds 0 tokens, may take 0 more, waits for a packet, before which it puts a '
+            b'random header\n  output: holds 0 tokens, may send 0, no input owns it\n'),
+        (b'send b 00 eop', None), (b'rounds 9', None),
+        (b'show A.1', b'A.1, on a wire to b\n  input: holds 0 tokens, may take 14 more, waits for a packet, before which it puts a '
+            b'random header\n  output: holds 0 tokens, may send 16, no input owns it\n  dropped: 1 packet\n'),
+    ]),
+    'a switch that is not started': (PLAN, [
+        (b'control A 02', None),
+        (b'show waiting', b'A is not started; `control A 01` starts it\n'),
+        (b'show A', b'A is not started; `control A 01` starts it\nA.0, on a wire to a\n  input: holds 0 tokens, may take 0 more, '
+            b'waits for a packet\n  output: holds 0 tokens, may send 0, no input owns it\nA.1, on a wire to b\n  input: holds 0 '
+            b'tokens, may take 0 more, waits for a packet\n  output: holds 0 tokens, may send 0, no input owns it\n'),
+    ]),
+    'tokens at an output without a wire': (PLAN, [
+        (b'poke A 0181 7', None), (b'send a 01 aa eop', None), (b'rounds 9', None),
+        (b'where a 0', b'packet 0 of a: 3 tokens at output A.7, which has no wire\n'),
+        (b'show waiting', b'A.7, which has no wire, holds 3 tokens\n'),
+    ]),
+    'tokens that wait to arrive': (PLAN, [
+        (b'send a 01 eop', None), (b'credit A.0', None), *[(b'cross a', None)] * 2, (b'input A.0', None), (b'claim A 0 1', None),
+        (b'input A.0', None), (b'credit b', None), *[(b'cross A.1', None)] * 2,
+        (b'where a 0', b'packet 0 of a: 2 tokens came in at b and wait to arrive\n'),
+    ]),
+}
+
+
+def text_of(begin, lines):
+    return ''.join('c104: %s%s\n' % (begin, it) for it in lines).encode()
+
+
+def checks(runner):
+    for name, (description, printed, told) in CHECKS.items():
+        runner.case('check of ' + name, printed.encode() + b'\n', 0 if printed == 'accepted' else 1, text_of('-: ', told),
+                    words=['--explain', 'check', '-'], data=description)
+
+
+def runs(runner):
+    for name, (description, script, last, left) in RUNS.items():
+        errors = text_of('-:%d: ' % script.count(b'\n'), last) + text_of('', left)
+        with Files(description) as path:
+            runner.case('run of ' + name, None, 0, errors, words=['--explain', 'run', path, '-'], data=script)
+
+
+def storms(runner):
+    """A worker stops where a terminal takes no more."""
+    name = 'a full inbox stops worker 1'
+    if not runner.wanted(name):
+        return
+    with Files(CROWD[0]) as path:
+        found = runner.run(words=['--explain', 'storm', path, '-', '--workers', '2'], data=CROWD[1])
+    good = (found is not None and found[0] == 1 and found[1].endswith(b'\nworker 1 6 InboxFull\n')
+            and found[2].startswith(text_of('', [INBOX_FULL])))
+    runner.judge(name, None if good else '%.200r' % (found and (found[0], found[1][-80:], found[2]),))
+
+
+def storm_progress(runner):
+    """How many turns are done is told each second, and a preloaded clock is a second later each time that it is read."""
+    name = 'progress of a storm'
+    if not runner.wanted(name):
+        return
+    with Files(STUCK) as path, tempfile.TemporaryDirectory() as folder:
+        clocked = with_a_later_clock(runner.program, folder)
+        found = run_on_terminal(clocked, ['storm', path, '-'], TOP, b'send a 01 68 eop\n')
+    due = (1, b'1: done\nnot quiet\n', text_of('', TURNS_DONE))
+    runner.judge(name, None if found == due else 'wanted %r, found %r' % (due, found))
+
+
+def wrong_of_typed(runner, path, lines):
+    """What is wrong with what a person is told who types these lines, or None."""
+    asked = asked_by_person(runner.program + ['debug', path], False)
+    asked.read(asked.errors, b'1> ')
+    wrong = None
+    for number, (line, told) in enumerate(lines, 1):
+        asked.send(line + b'\n')
+        prompt = b'%d> ' % (number + 1)
+        found = asked.read(asked.errors, prompt)
+        if told is not None and found != told + prompt:
+            wrong = wrong or 'line %d: wanted %r, found %r' % (number, told + prompt, found)
+    asked.send(END_OF_INPUT)
+    asked.read(asked.output, None)
+    asked.end()
+    return wrong
+
+
+def questions(runner):
+    for name, (description, lines) in TYPED.items():
+        if runner.wanted('questions on ' + name):
+            with Files(description) as path:
+                runner.judge('questions on ' + name, wrong_of_typed(runner, path, lines))
+
+
+PARTS = [checks, runs, storms, storm_progress, questions]
