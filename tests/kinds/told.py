@@ -52,8 +52,15 @@ CHECKS = {
         ['there are more labels than headers']),
 }
 
+# a's packet holds the link to b, and one that comes in there wants to go back by it.
+BACK = (b'send a 01 aa eop\ncredit A.0\ncross a\ninput A.0\nclaim A 0 1\n'
+        b'send b 01 eop\ncredit A.1\ncross b\ncross b\ninput A.1\n')
 # A description, a script, and what is told of its last line, and then of what didn't arrive.
 RUNS = {
+    'a header that goes back by its own link': (PLAN, BACK, [],
+        ['1 token waits at input A.1; output A.1 belongs to A.0\'s packet until its terminator passes',
+         '1 token waits at output A.1; `credit` and `cross` or more `rounds` move it on',
+         '2 tokens wait at a; `cross` or more `rounds` move them on']),
     'packets that are dropped behind a random header': (PLAN + b'random A.0 2 1\n', b'send a 01 eop\nsend a 00 eop\nrounds 9\n', [],
         ['input A.0 has dropped 2 packets, since no row covers the random header that it put before them, or their own after it, '
          'or a row sinks one of these']),
