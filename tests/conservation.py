@@ -1,7 +1,8 @@
 """Whether no token and no packet is lost or counted twice in what `stats` prints of a run, read by Python's own reader of CSV.
 
 Each token that was sent has arrived, is in the network, or is gone: its header was deleted, an input dropped it, or a Reset
-cleared it. Each row of packets says which of these holds of its packet, so the three tables have to tell the same.
+cleared it. Each row of packets says which of these holds of its packet, so the three tables have to tell the same, and where
+each round was over too.
 """
 
 import csv
@@ -52,6 +53,25 @@ class Gone:
         self.least, self.most = self.least + least, self.most + most
 
 
+def gains_a_token(network, packets, rounds):
+    """Whether at the end of a round fewer tokens are gone than before, as if some had come from nowhere."""
+    came = gone = 0
+    for row in rounds:
+        came += row['arrived']
+        sent = sum(it['bytes'] + 1 for it in packets if it['sent'] <= row['round'])
+        before, gone = gone, sent - came - row['waiting'] - row['inside']
+        if gone < before and not network.puts_random:
+            return True
+    return False
+
+
+def ranks(packets):
+    """The latencies that a summary tells, by their names, each by its nearest rank; none where nothing arrived."""
+    found = sorted(it['latency'] for it in packets if 'latency' in it)
+    shares = {'latency_least': 0, 'latency_median': 50, 'latency_95': 95, 'latency_most': 100}
+    return {name: found[max(-(-len(found) * share // 100), 1) - 1] for name, share in shares.items()} if found else {}
+
+
 def wrong_counts(network, tables, summary, has_reset, gone):
     """What doesn't agree in the tables and the summary of a run, or None. `gone` is how many tokens are gone, where that is
     known by hand."""
@@ -72,7 +92,9 @@ def wrong_counts(network, tables, summary, has_reset, gone):
         'tokens that crossed': moved == sum(it['tokens'] for it in links),
         'terminators that crossed': sum(it['packets'] for it in links) == sum(it['wires'] for it in packets),
         'latencies': all(it['latency'] == it['arrived'] - it['sent'] for it in packets if 'latency' in it),
+        'tokens of each round': not gains_a_token(network, packets, rounds),
         'packets of the summary': all(summary[name] == it for name, it in counted.items()),
+        'latencies of the summary': ranks(packets) == {name: it for name, it in summary.items() if name.startswith('latency')},
     }
     return next((name for name, holds in checks.items() if not holds), None)
 
