@@ -1,6 +1,7 @@
 """Runs a program's drawing of networks as they stand after a script.
 
-Of a picture the arrows are read that show the state, each a line, and compared with what is known by hand.
+Of a picture the arrows are read that show the state, each a line, and compared with what is known by hand. Every byte of
+one is held by the cases that are folders.
 """
 
 import os
@@ -43,6 +44,8 @@ DRAWN = {
     'packets of two terminals': (PLAN, b'send b 00 aa eop\ncredit A.1\ncross b\n' + SENT,
         [('a', 'A', r'a 0\na [1] to A.0 [3]', A_0), ('b', 'A', r'b 0\nb [2] to A.1 [1]', B_0)]),
     'an output that leads nowhere': (NOWHERE, b'send a 00 aa eop\nrounds 9\n', [('A', 'A.5', 'A.5 [3]', GRAY)]),
+    'a header that wants an output that leads nowhere': (NOWHERE, b'send a 00 aa eop\ncredit A.0\ncross a\ninput A.0\n',
+        [('a', 'A', r'a 0\na [2] to A.0 [1]', A_0), ('A', 'A.5', r'a 0\nA.0 wants A.5', ('blue', 'dotted', '2'))]),
     'a packet that holds an output that leads nowhere': (NOWHERE, b'send a 00 aa eop\ncredit A.0\ncross a\ncross a\n'
         b'input A.0\nclaim A 0 5\n', [('A', 'A.5', r'a 0\nA.5 [1]', A_0), ('a', 'A', r'a 0\na [1] to A.0 [1]', A_0)]),
 }
