@@ -11,7 +11,7 @@ from kinds.check import A_ROWS, B_ROWS, WIRE
 from kinds.cycles import ROUND
 from kinds.debug import END_OF_INPUT, asked_by_person
 from kinds.explain import STANDS, run_on_terminal, with_a_later_clock
-from kinds.storm import CROWD, STUCK, Files
+from kinds.storm import STUCK, Files
 
 RANDOM_AT_A = ('header %d is a random one, put before packets of a at A.0, and every way of it has to end at an input that '
     'discards it, but ')
@@ -77,9 +77,6 @@ RUNS = {
         ['3 tokens wait at input A.0; output A.7 is full', '8 tokens wait at output A.7; no wire leads on from there']),
 }
 
-# Standard error of a storm in which more comes to a terminal than it takes. Worker 1 has the terminal.
-INBOX_FULL = 'the worker stopped: a terminal has received 262144 tokens, and has no room for more'
-
 # What a storm tells on a terminal of a packet that goes to a link without a wire. The first 64 turns do all that can be done.
 TURNS_DONE = ['64 of 262144 turns are done', 'stands still: 3 tokens wait in 1 packet', 'A.7, which has no wire, holds 3 tokens',
               '3 tokens wait at output A.7; no wire leads on from there']
@@ -131,18 +128,6 @@ def runs(runner):
             runner.case('run of ' + name, None, 0, errors, words=['--explain', 'run', path, '-'], data=script)
 
 
-def storms(runner):
-    """A worker stops where a terminal takes no more."""
-    name = 'a full inbox stops worker 1'
-    if not runner.wanted(name):
-        return
-    with Files(CROWD[0]) as path:
-        found = runner.run(words=['--explain', 'storm', path, '-', '--workers', '2'], data=CROWD[1])
-    good = (found is not None and found[0] == 1 and found[1].endswith(b'\nworker 1 6 InboxFull\n')
-            and found[2].startswith(text_of('', [INBOX_FULL])))
-    runner.judge(name, None if good else '%.200r' % (found and (found[0], found[1][-80:], found[2]),))
-
-
 def storm_progress(runner):
     """How many turns are done is told each second, and a preloaded clock is a second later each time that it is read."""
     name = 'progress of a storm'
@@ -179,4 +164,4 @@ def questions(runner):
                 runner.judge('questions on ' + name, wrong_of_typed(runner, path, lines))
 
 
-PARTS = [checks, runs, storms, storm_progress, questions]
+PARTS = [checks, runs, storm_progress, questions]
