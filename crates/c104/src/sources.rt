@@ -1,4 +1,6 @@
 //! What a path of the command line stands for: a file, or standard input.
+//!
+//! A file and standard input are one type, so each command is compiled once.
 ghost use Rattle.c104.specs.Sources.{source_remaining};
 
 use c104_words::STANDARD_INPUT;

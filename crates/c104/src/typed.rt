@@ -1,4 +1,10 @@
 //! A script that is typed at a terminal.
+//!
+//! `quit` and `exit` are at the end of the input, as Ctrl-D is, and no line of the script: so the exit status is that of
+//! `run` of the lines before. A line that is sent in parts isn't recognized; it is an unknown word then. At the end of
+//! its input a reader isn't asked again, since a terminal would go on behind it. An editor of our own would need a
+//! terminal's raw mode, which no handle gives: `rlwrap` serves. Ctrl-C ends the program as it ends any other, without a
+//! summary, since no handle gives signals.
 ghost use Rattle.std.specs.Prelude.{None};
 
 use c104_plan::{first_word, uncommented};

@@ -1,4 +1,7 @@
 //! What nodes and seats kept, as plain data.
+//!
+//! Starts are kept as they are, and wired links as 32 marks: two starts are equal where the values are, and a node tells
+//! its links one by one.
 
 use crate::calls::Call;
 use c104_node::{Entry, NodeStart};

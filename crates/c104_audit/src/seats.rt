@@ -1,4 +1,7 @@
 //! Whether each seat's list is what the entries tell that carry its number.
+//!
+//! All seats' calls are compared in one walk over the entries that lead, with a count for each seat's list: so it takes
+//! memory for a number of each seat, and reads no entry once for each of them.
 ghost use Rattle.std.specs.Prelude.{◌≡◌, ◌↔◌, ◌<◌, Some, length, slice_get, IfOk, IsTrue};
 ghost use Rattle.c104_audit.specs.AuditFaults.{Everywhere};
 ghost use Rattle.c104_audit.specs.Audits.{AgreeAtEnds, AreLists, IsCalled};

@@ -1,4 +1,8 @@
 //! What would mend a refused walk.
+//!
+//! Only the last input of the walk from which some group leads to the owner is mended, by one row, and no other header's
+//! way is changed but those without an owner that follow one which is to be sunk. Where a group would have to be another,
+//! or a link to be wired, nothing is advised.
 ghost use Rattle.std.specs.Prelude.{◌≡◌, true, false, IfOk, MatchOption};
 ghost use Rattle.c104_plan.specs.PlanImage.{Fits};
 ghost use Rattle.c104_check.specs.Distances.{IsNearestMend};

@@ -1,4 +1,9 @@
 //! Random headers.
+//!
+//! A random header that a terminal owns walks twice: as a random one at an entry, and as an owned one from portals. One
+//! that nobody owns may do what it likes from a portal, and must be sunk at an entry without random headers. Portals come
+//! after all random headers of their entry, each once, in the order in which they are first met; one that an entry before
+//! has met is walked from there alone.
 ghost use Rattle.std.specs.Prelude.{◌≡◌, ◌<◌};
 ghost use Rattle.c104_check.specs.Portals.{is_random};
 ghost use Rattle.c104_check.specs.Routes.{random_count};

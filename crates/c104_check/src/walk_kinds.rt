@@ -1,4 +1,8 @@
 //! Which headers refused walks are of.
+//!
+//! Where random headers are put before a terminal's packets, its input may be a portal too. A walk from there is a random
+//! header's exactly where the header is one and comes to no portal by some choice: what begins at a portal is told only
+//! once all random headers come to one.
 ghost use Rattle.std.specs.Prelude.{◌≡◌, option_map};
 ghost use Rattle.c104_check.specs.Walks.{is_port};
 ghost use Rattle.c104_check.specs.declared.walks.Goal.TheVariants.{Owner};

@@ -1,4 +1,7 @@
 //! What people are told of labels that are refused: what is wrong, and what mends it.
+//!
+//! An advice is told line by line, each a message of its own, so that every line of standard error begins with the
+//! program's name and the file. A line that is to be added or replaced comes after one word and a colon.
 ghost use Rattle.std.specs.Prelude.{◌≡◌, ◌-◌, ◌<◌, max, IfOk};
 ghost use Rattle.std.specs.String.{string_bytes};
 ghost use Rattle.c104_check.specs.Routes.{routes_of};

@@ -1,5 +1,8 @@
 //! Rows by which a random header is discarded. That the labels are accepted with them isn't proved, but tried by the
 //! check.
+//!
+//! An input that discards one header is a portal for all others: so a row is told only where the labels are accepted with
+//! it, and the random headers of the terminal that follow are discarded with it.
 ghost use Rattle.std.specs.Prelude.{◌≡◌, ◌⊎◌, ◌+◌, ◌-◌, ◌^◌, ◌<◌, min, None, Some, IfOk};
 ghost use Rattle.std.specs.String.{string_bytes};
 ghost use Rattle.c104_commands.specs.RowChanges.{NoneBegins, TellsDiscard};

@@ -66,6 +66,8 @@ impl Crossbar {
 
     /// Gives an output back: just that of the claim is free afterwards. This crossbar must count
     /// it as taken, which it does where it made the claim.
+    // A claim doesn't say which crossbar made it. So this asks that the crossbar counts its output as taken; whoever has
+    // several crossbars keeps their claims apart.
     pub fn release(&mut self, claim: Claim)
         requires { is_free self.old claim ≡ false }
         ensures released { self.new ≡ crossbar_release self.old claim }

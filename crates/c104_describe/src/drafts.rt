@@ -1,4 +1,7 @@
 //! What the lines of a description have said so far.
+//!
+//! Beside `label` ranges run on while lines are read, as if they were to be kept: so labels past 65535 are TooMany
+//! whichever of the lines comes first.
 ghost use Rattle.std.specs.Prelude.{◌≡◌, IfOk, map};
 ghost use Rattle.c104_describe.specs.PlanDrafts.{finished, is_mixed, says_from, draft_of};
 ghost use Rattle.c104_plan.specs.PlanParts.{plan_of};
@@ -39,6 +42,8 @@ impl Draft {
     }
 
     /// Whether a line, by what its first word says and the words after it, doesn't go with the lines before.
+    // It is asked at the later line, after all that is wrong with that line by itself: after `mesh 8 8 1` a 65th switch is
+    // TooMany, and a second `mesh` is MixedStyle.
     pub(crate) fn is_mixed(&self, keyword: Keyword, rest: &[&[u8]]) -> bool
         ensures { result ≡ is_mixed (draft_of self.now) keyword (map (λ word. word.now) rest.now) }
     {

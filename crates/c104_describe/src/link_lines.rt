@@ -1,4 +1,7 @@
 //! The lines of a description that set something at a link.
+//!
+//! A row may be of a link with no wire: a header can't come in there, so it says nothing. Such a link may continue a
+//! group too. A packet that claims it stays there, as one does that selects it by a row.
 ghost use Rattle.std.specs.Prelude.{◌≡◌, [], ◌∷◌, ◌++◌, OnOk};
 ghost use Rattle.c104_describe.specs.PlanLines.{base_line, continue_line, random_line, row_line};
 ghost use Rattle.c104_plan.specs.PlanParts.{plan_of};

@@ -1,4 +1,7 @@
 //! The words of a description's line.
+//!
+//! A name that is no name is BadName also where it is used, since it can't have been given. A wrong byte in a line's
+//! first word is UnknownWord, since that is the lesser number.
 ghost use Rattle.std.specs.Prelude.{◌≡◌, ◌+◌, ◌≤◌, ◌&&◌, Err, IfOk, MatchResult, Ok, bytes_eq, codes, map, option_map};
 ghost use Rattle.std.specs.Map.{lookup};
 ghost use Rattle.c104_plan.specs.Plans.{label_count, last_link};

@@ -1,4 +1,8 @@
 //! Which wires of a picture are drawn as one edge.
+//!
+//! An edge is a number beside each wire, that of the first wire which is drawn with it: so each wire is in the list once
+//! whatever edges there are. Wires are one edge only where their links are of one group at both ends and their ways are
+//! drawn alike, so that a bold edge is bold for all its links.
 ghost use Rattle.std.specs.Prelude.{◌≡◌, ◌<◌, map, slice_get, Some, IfOk};
 ghost use Rattle.c104_crossbar.specs.Groups.{group_contains};
 ghost use Rattle.c104_regs.specs.Groups.{continues_at};

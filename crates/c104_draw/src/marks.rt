@@ -1,4 +1,9 @@
 //! What of a picture is marked.
+//!
+//! The walk of the header that is drawn is looked for at all terminals, and not taken from the check, which tells the
+//! first refused header alone. Of a terminal with several portals the picture may tell another than `check`: its portals
+//! are found by going on from the entry, and not by walks, so that they are there also where a random header doesn't come
+//! to one by some choice.
 ghost use Rattle.std.specs.Prelude.{◌≡◌, ◌↔◌, map, [], Some, None, IfOk, IsTrue};
 ghost use Rattle.std.specs.List.{AllByRecursion};
 ghost use Rattle.c104_check.specs.Walks.{is_met};

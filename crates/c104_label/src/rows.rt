@@ -1,4 +1,8 @@
 //! The rows of a switch's table.
+//!
+//! A switch's rows are its labels in order: those before its subtree's, its own, those of the subtrees below it, those
+//! past its subtree's. Rows of empty intervals are among them until they are added, so the root is no case of its own:
+//! its link to a parent that it hasn't is 0, and no label lies behind it.
 ghost use Rattle.std.specs.Prelude.{◌≡◌, ◌≤◌, length, IfOk};
 ghost use Rattle.c104_interval.specs.declared.intervals.TheConstants.{ROWS as MOST_ROWS};
 ghost use Rattle.c104_label.specs.LabelRows.{label_row, label_table, last_limit, with_row};

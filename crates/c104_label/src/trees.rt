@@ -1,4 +1,7 @@
 //! The labels of a plan's tree.
+//!
+//! A labeller of one shape asks for that first, before any memory: a plan of another shape is WrongShape, whatever else
+//! is wrong with it. The program labels each plan by its own shape and so never says it.
 ghost use Rattle.std.specs.Prelude.{◌≡◌, ◌≤◌, ◌<◌, ◌+◌, length, map, IfErr, IfOk};
 ghost use Rattle.std.specs.List.{range_with_len};
 ghost use Rattle.c104_plan.specs.PlanImage.{Fits};

@@ -1,4 +1,8 @@
 //! Labels by which packets go up towards a root and then down, over any of the wires.
+//!
+//! What is up is told by the visit of the tree, and not by how far a switch is from the root: so the tree's ways are
+//! among those that go up and then down, and neighbouring labels more often share a row. What came down may only go down,
+//! so each input has a table of its own.
 ghost use Rattle.std.specs.Prelude.{◌≡◌, ◌<◌, ◌≤◌, IfErr, IfOk, IfSome, true};
 ghost use Rattle.c104_regs.specs.Ranges.{IsTableInRange};
 ghost use Rattle.c104_regs.specs.declared.registers.TheConstants.{LINKS as LINK_COUNT};

@@ -1,4 +1,7 @@
 //! In which order the packets of a set come to their inputs, none past one that stands.
+//!
+//! Each packet fills the buffers of one wire, and so is nowhere else; what can come to its place past all the others
+//! comes last. An order is found so if there is one.
 
 use crate::paths::{Path, find_path};
 use crate::sets::{WaitSet, count_of, header_at};

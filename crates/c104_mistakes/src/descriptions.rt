@@ -1,4 +1,7 @@
 //! What is told of a faulty description.
+//!
+//! The names that a description has so far are those of the lines before, which have no fault: they are read again as a
+//! description of their own.
 
 use crate::description_mistakes::DescriptionMistake;
 use crate::nearest::{

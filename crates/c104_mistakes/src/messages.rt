@@ -1,4 +1,7 @@
 //! Where messages for people go, and the pictures that they ask for.
+//!
+//! A message is made in memory of its own, and left out where there is none. What is kept of the answers is written
+//! before it, so on a terminal it is behind its answer.
 ghost use Rattle.std.specs.Prelude.{ℕ, List, OnOk};
 
 use std::io;

@@ -2,6 +2,10 @@
 //!
 //! Each event is told by the entry that leads in it. Those entries are gathered, one node after the other, and sorted by
 //! ticket (`sorted_leads`, by `sort_leads`); then each tells its event (`event_of`).
+//!
+//! A table by ticket would want tickets without gaps, and a search for the least next ticket would look at every node for
+//! each event. The sort takes three words an event. Of events with the same ticket, which only made lists have, the one
+//! whose leading node has the lower place comes first.
 ghost use Rattle.std.specs.Prelude.{◌≡◌, ◌++◌, ℕ, List, Some, map, slice_get, IfOk, OnOk};
 ghost use Rattle.c104_net.specs.Leading.{act_event, action_event, led_events, leads};
 ghost use Rattle.c104_net.specs.Merges.{by_ticket};

@@ -6,6 +6,10 @@
 //! types that have one: its length to the count (`IsCounted`), and the histories of all nodes to one run of events that
 //! leads from their starts to the nodes as they stand (`IsRecordedNet`). So only this crate has the type, and the proofs
 //! of the two functions that make one are written by hand.
+//!
+//! The prover finds what a value is by the code that makes it, and no code makes an erased field: so these two proofs say
+//! what it is. Their form is that in which the toolchain's libraries keep logs for contracts (`serde_json`,
+//! `http_server`).
 ghost use Rattle.std.specs.Prelude.{List};
 ghost use Rattle.c104_node.specs.declared.acts.Entry.{Entry as TheEntry};
 ghost use Rattle.c104_node.specs.declared.starts.NodeStart.{NodeStart as TheStart};

@@ -29,6 +29,8 @@ pub const TRACE_LIMIT: usize = 1_048_576;
 /// network, so that it can be lent or moved to a thread by itself.
 ///
 /// Its type keeps that its trace is a run from its start to its state, over wired links alone and within all limits.
+// It is one value with all that it knows and nothing of its network, so it can be lent, or moved to a thread, and its
+// type keeps by itself what is proved of it.
 pub struct Node {
     core: NodeOf<Token>,
     start: NodeStart,

@@ -1,4 +1,7 @@
 //! Where the nodes of a run start: nodes at which no token stands, over any kind of token.
+//!
+//! A start holds its registers, so that what is set stays in range, a switch over any kind of token is made from it, and
+//! another start is written in its place without memory.
 ghost use Rattle.std.specs.Prelude.{◌↔◌, All, IsTrue};
 ghost use Rattle.c104_node.specs.Starts.{IsStartedStart};
 

@@ -1,4 +1,6 @@
 //! The packet that an input is at: by the first terminator of it or behind it, up to the terminal that sends it.
+//!
+//! Only terminators tell where they came from, and the packet that an input is at is the first to end there.
 ghost use Rattle.std.specs.Prelude.{◌≡◌};
 ghost use Rattle.c104_token.specs.Tokens.{is_end};
 ghost use Rattle.c104_node.specs.Tagged.{tagged_origin};

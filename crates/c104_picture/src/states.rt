@@ -1,4 +1,7 @@
 //! What is drawn of a network as it stands: each port from which something goes out, and each output that an input wants.
+//!
+//! A packet's name is at each of its arrows, beside a colour by its terminal and a pattern by terminal and number, so
+//! that a picture needs no list of packets, and can be read in grey.
 ghost use Rattle.std.specs.Prelude.{◌≡◌, ◌≤◌, ◌++◌, ◌*◌, ◌&&◌, IfOk, OnOk, length, map};
 ghost use Rattle.std.specs.List.{range_with_len};
 ghost use Rattle.c104_check.specs.Routes.{port_at};

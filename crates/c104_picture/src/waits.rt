@@ -1,4 +1,7 @@
 //! What inputs wait for.
+//!
+//! What is red is found by one successor for each input; where a group is wanted, its first output tells. A network that
+//! is deadlocked has such a way from each input that waits, to a cycle or to where nothing leads on.
 ghost use Rattle.std.specs.Prelude.{◌≡◌};
 ghost use Rattle.c104_check.specs.Walks.{is_port};
 ghost use Rattle.c104_picture.specs.Waits.{blocker, blocker_by, claim_blocker, far_input, input_of, is_locked, phase_blocker, wait_by, wait_of};

@@ -122,6 +122,8 @@ impl Register {
     }
 
     /// Whether a register that can be written may be set to this value.
+    // A row may name a link past the last in the code's type, and its number could then be that of the sink. So the range
+    // asks besides that a row selects what its number stands for.
     pub fn takes(self, value: u32) -> bool
         requires { IsTrue (register_properties self).is_writable }
         ensures { result ≡ register_takes self value }

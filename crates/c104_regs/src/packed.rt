@@ -22,6 +22,7 @@ pub(crate) const LIMITS: u32 = 0x2_0000;
 
 /// What is set at one link, within the ranges of its registers, as a switch keeps it: in 152 bytes.
 /// To a reader it is as `Settings` are.
+// The links that continue a group are kept as a word besides, since each claim asks it.
 #[derive(Clone, Copy)]
 pub struct PackedSettings {
     // Where the first row's interval begins in bits 0 to 15, and the random headers in 16 to 31.

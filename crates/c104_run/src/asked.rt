@@ -1,4 +1,8 @@
 //! What an event asks of the nodes of a network, by the plan's ports alone.
+//!
+//! A port says which kind of node is there. In a network of bare nodes that has a terminal at a switch's place, what
+//! would cross a wire there is NotReady; no network with a record has such nodes. The far act is made from what the near
+//! one answered, so a token and a grant are one case.
 ghost use Rattle.std.specs.Prelude.{◌≡◌, None, Some, IfOk, MatchResult};
 ghost use Rattle.c104_plan.specs.Wiring.{peer};
 ghost use Rattle.c104_event.specs.declared.events.Event.TheVariants as event;

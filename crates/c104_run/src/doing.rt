@@ -1,4 +1,7 @@
 //! The acts of an event, done at the places of nodes.
+//!
+//! Whether a trace is full is tested right before the first growth, the copy of a packet among them, and so before memory
+//! runs out. Room is made before the first act, so that of the two acts of a wire the second can't be refused.
 ghost use Rattle.std.specs.Prelude.{◌≡◌, ◌-◌, ◌<◌, None, MatchOption, false, true, is_some, length, map, slice_get, unwrap_or};
 ghost use Rattle.c104_node.specs.Acts.{IsWithinLimits, nodes_act};
 ghost use Rattle.c104_run.specs.AskedActs.{AreEnds, acts_asked};

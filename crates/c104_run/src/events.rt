@@ -19,6 +19,8 @@ use c104_token::TokenKind;
 
 /// Does an event at these places, which stand for the nodes of a network of this plan: the acts that it asks, or none.
 /// Its entries bear the stamp.
+// The kinds of events are told apart before their acts are asked, in arms that are alike: so the compiler knows in each
+// what is asked, which saves a control command some 70 instructions.
 #[inline(always)]
 pub fn happen<T: TokenKind, P: Place<T>>(
     wires: &Wires,

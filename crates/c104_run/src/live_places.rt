@@ -1,4 +1,7 @@
 //! Which places of a network may begin something of a round.
+//!
+//! The set lasts from round to round, so that rounds done one by one walk no more places than `rounds` does. Any other
+//! change of the network puts all places back.
 ghost use Rattle.std.specs.Prelude.{◌≡◌, ◌≢◌, ◌<◌, ◌≤◌, ℕ, false, true, unwrap_or, IfSome};
 ghost use Rattle.c104_run.specs.LivePlaces.{is_live, told_places};
 

@@ -1,4 +1,8 @@
 //! Who is told of the tokens that cross the wires of a network, and of those that arrive.
+//!
+//! That a token crossed a wire isn't in the state after it, and nodes know neither rounds nor other nodes. So the meter
+//! is beside the stage in the state of a run, and the proofs of the loops, which hold of any state and step, are the same
+//! with and without.
 ghost use Rattle.std.specs.Prelude.{◌≡◌};
 ghost use Rattle.c104_event.specs.declared.events.Event.TheVariants as event;
 ghost use Rattle.c104_run.specs.EventActs.{crossing_event};

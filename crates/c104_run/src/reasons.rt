@@ -1,4 +1,9 @@
 //! Why an event isn't ready, over any places.
+//!
+//! Of several conditions that don't hold the first is told, of a wire those of the end that is named before the other's.
+//! Of a claim it is whether the switch is started, then what the input wants, and then what is in the way at the output.
+//! A reason is told at the port where something has to be done, with the number of the other link where there is one: so
+//! a sentence needs the reason alone.
 ghost use Rattle.std.specs.Prelude.{◌≡◌, map};
 ghost use Rattle.c104_plan.specs.Plans.{Plan as ThePlan};
 ghost use Rattle.c104_switch.specs.Reasons.{why_at};

@@ -1,4 +1,7 @@
 //! A run of a network whose nodes kept what they did.
+//!
+//! What the type keeps is said of the run alone (`IsFinishedRecord`), and not of the network that left it: so nodes that
+//! were gathered from elsewhere make a run too. Room for its lists is made with the network, so `finish` takes no memory.
 ghost use Rattle.std.specs.Prelude.{◌≡◌, slice_get};
 ghost use Rattle.std.specs.Option.{option_copied};
 ghost use Rattle.c104_run.specs.Finished.{run_arrived};

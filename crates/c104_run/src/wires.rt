@@ -1,4 +1,7 @@
 //! The wires of a plan, by port.
+//!
+//! It lies beside the nodes, with the plan that it is made from, so it can be asked with no node at hand, and no node
+//! keeps which links are wired.
 ghost use Rattle.std.specs.Prelude.{◌≡◌, ◌≢◌, ◌<◌, ◌+◌, ℕ, Some, None, true, length, IfOk, MatchResult};
 ghost use Rattle.c104_crossbar.specs.Groups.{has_bit};
 ghost use Rattle.c104_plan.specs.declared.ports.Port.TheVariants as port;

@@ -1,4 +1,8 @@
 //! Names in what is printed.
+//!
+//! A terminal is named without a link, an input with one, and the kind of the node is looked at first: `input a.0` with a
+//! terminal a is NoNode, `cross a.0` is NoLink. A name that couldn't be one is no fault in a script: nothing has it, so
+//! the answer is NoNode.
 ghost use Rattle.std.specs.Prelude.{◌≡◌, ◌++◌, OnOk};
 ghost use Rattle.c104_plan.specs.PortTexts.{terminal_name};
 

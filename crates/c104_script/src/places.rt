@@ -1,4 +1,7 @@
 //! What the names of a script's line stand for.
+//!
+//! A second dot is BadShape only in the word for a node or a port; in a number's place it is BadNumber. `input` takes a
+//! word of 1 to 7 digits also where no random headers are put before packets, and nothing depends on it.
 ghost use Rattle.std.specs.Prelude.{◌≡◌};
 ghost use Rattle.c104_script.specs.Script.{input_at, node_with, port_at, switch_at, terminal_at};
 

@@ -1,4 +1,7 @@
 //! The network of a run that has ended.
+//!
+//! The summary is read off the network itself, which is disposed of after that: in contracts that network is what is left
+//! of its run.
 ghost use Rattle.std.specs.Prelude.{◌≡◌, map, option_map, IfOk};
 ghost use Rattle.std.specs.Global.{Vec as Kept};
 ghost use Rattle.c104_run.specs.Finished.{run_arrived};

@@ -1,4 +1,8 @@
 //! What is told of a faulty line, which of a person may be a question.
+//!
+//! Questions are answered where standard input and standard error are terminals. Through a pipe they are explained as
+//! other unknown words, since a program that sends them has mistaken what it talks to; so no script writes a file by
+//! `draw FILE`.
 ghost use Rattle.std.specs.Prelude.{◌≡◌, [], OnOk, OnErr};
 ghost use Rattle.c104_stream.specs.Writing.{AppendsAndKeeps, AppendsPrefix};
 

@@ -1,4 +1,6 @@
 //! What the lines of a run have done, as far as messages tell of it.
+//!
+//! It is counted by the lines that send packets, and only where anyone reads messages; the network itself keeps no entry.
 
 use crate::resets::is_reset;
 use c104_event::Event;

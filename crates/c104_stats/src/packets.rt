@@ -1,4 +1,7 @@
 //! What is counted of packets, and the packets of a terminal.
+//!
+//! A packet is counted before it is sent, when there may be no memory for its row, and taken back where it isn't sent.
+//! Percentiles are nearest ranks: each is the latency of some packet.
 ghost use Rattle.std.specs.Prelude.{◌≡◌, ◌++◌, ◌∷◌, [], OnErr, OnOk};
 ghost use Rattle.c104_stats.specs.Links.{first_of};
 ghost use Rattle.c104_stats.specs.Packets.{all_but_last, arrived_packet, change_at, crossed_packet, inside_packet, latency};

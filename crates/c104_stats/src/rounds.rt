@@ -1,4 +1,8 @@
 //! What is counted of rounds.
+//!
+//! Levels are those where a round is over: within a round they depend on the order of its events, which is this
+//! emulator's. No more of a network is looked at than is printed, since a look at each port after each round costs more
+//! than the round.
 ghost use Rattle.std.specs.Prelude.{◌≡◌};
 ghost use Rattle.c104_stats.specs.Rounds.{arrived_round, ended_round, later_round, moved_round, new_round, no_levels};
 

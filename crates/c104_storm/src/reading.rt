@@ -1,4 +1,7 @@
 //! The script of a storm, read and answered line by line.
+//!
+//! A line other than `send` is an unknown word, also one that a run would refuse or find another fault in, but for one
+//! that is too long.
 ghost use Rattle.std.specs.Prelude.{◌≡◌, [], MatchResult, OnOk};
 ghost use Rattle.std.specs.Io.KnownBytes.{prepend_known};
 ghost use Rattle.c104_stream.specs.Scripts.{AnswersLine, AnswersLines, AnswersScript, LineStops};

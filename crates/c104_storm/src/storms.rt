@@ -1,4 +1,6 @@
 //! A storm, on the network of a plan.
+//!
+//! The network is placed, where a run's is loaded: that both come to the same network is proved of the load.
 ghost use Rattle.std.specs.Prelude.{◌≡◌, ◌≤◌, length};
 ghost use Rattle.c104_plan.specs.PlanImage.{Fits};
 ghost use Rattle.c104_plan.specs.Plans.{Plan as ThePlan};

@@ -1,4 +1,8 @@
 //! The workers of a storm: turns until all is quiet.
+//!
+//! A storm in which 64 turns did nothing isn't quiet, and no further turns are done: each event of a round was asked then
+//! in the state in which all the others were, so none of them will ever be ready. Turns are reported as the progress of
+//! line 0, which no script has.
 ghost use Rattle.std.specs.Prelude.{◌≤◌, length};
 ghost use Rattle.c104_workers.specs.Fabrics.{AreSeatsOf};
 

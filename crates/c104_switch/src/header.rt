@@ -52,6 +52,8 @@ impl HeaderBytes {
 
 /// The tokens of a header that an input has read. Room for two is kept, so that reading takes no
 /// memory.
+// The tokens lie beside a phase of nothing (`Phase<()>`): a phase that held them would have a size that depends on the
+// token's type, and such a value can't be lent. Contracts see both as one, `Phase (List A)`.
 #[derive(Drop)]
 pub struct HeaderOf<T: TokenKind> {
     tokens: Vec<T>,

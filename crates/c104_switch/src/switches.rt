@@ -34,6 +34,8 @@ use std::marker::Model;
 ///
 /// An action answers false or None where it isn't ready, and then nothing has changed. No action
 /// takes memory. A switch can't be dropped while its inputs hold claims: `retire` spends them.
+// The registers lie on the heap: they are 5.4 KB, and a node is a switch or a terminal, so a terminal would pay for them
+// too.
 pub struct SwitchOf<T: TokenKind> {
     // On the heap, so that a node of a network that is a terminal doesn't take the size of these.
     registers: Box<Registers>,

@@ -4,7 +4,7 @@
 //! it stands, what is left of a run is done with it, and comes out as ever. Of calls that are made of events or of lines
 //! those that were done stand. Each call tells how many growths it has; those that take no memory are made with every
 //! growth refused. What `rt ci` runs refuses nothing; `tests/refused_growths` runs the same program with growths refused.
-//! `docs/REFUSALS.md` says of each public call in which of these modules it is made.
+//! REFUSALS.md, which `make pages` writes, says of each public call in which of these modules it is made.
 #![tactic(auto)]
 
 #[cfg(test)]

@@ -1,4 +1,10 @@
 //! The rule of the table that is a word of tickets, and what its steps do to views.
+//!
+//! The number of seats that are to be made is a part of the key, and by the rule no more are made: so a pass with that
+//! many has all, and `close` needs no more to say that each ticket was drawn. The first ticket and that number are in
+//! each view too, since what a step tells its caller is said of the view and can't read the key. A view has two lists, of
+//! seats and of tickets, and the rule counts in the lists of all views: so that each ticket was drawn once is one
+//! equation.
 
 use crate::views::{Terms, View};
 use atomic_table::{Join, Play, Split, TableRule};

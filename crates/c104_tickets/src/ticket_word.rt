@@ -1,4 +1,8 @@
 //! The word of tickets, and the passes to it.
+//!
+//! A step of a seat that changes what it knows is a step on the word, since views change at no other. So `split` and
+//! `join` load it once, of which nothing is told. The first seat alone makes others, since it alone knows how many were
+//! made; once its pass was taken in by another, no more are made.
 ghost use Rattle.std.specs.Prelude.{◌≡◌, ◌<◌, ◌≤◌, ◌*◌, All, length, IfOk};
 ghost use Rattle.c104_tickets.specs.declared.TheConstants.{FIRST_LIMIT, SEAT_LIMIT, TICKET_LIMIT};
 ghost use Rattle.c104_tickets.specs.Tickets.{AreNoneTwice, AreOnce, after_draw, after_join, after_split, first_view, new_seat};
@@ -48,6 +52,7 @@ impl Model for Pass {
 impl TicketWord {
     /// A word at the first ticket, which is 335,544,320 at most, and the pass of its first seat, the one that makes all
     /// others. At least one seat is to be made, and at most 64. It fails only when out of memory.
+    // It answers `AllocError`, and not `NoMemory`: that is of a crate above this one.
     pub fn new(alloc: Global, terms: Terms) -> Result<(TicketWord, Pass), AllocError>
         requires first { terms.first ≤ FIRST_LIMIT }
         requires seats { (1 ≤ terms.seats) × (terms.seats ≤ SEAT_LIMIT) }

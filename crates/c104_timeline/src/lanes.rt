@@ -1,4 +1,7 @@
 //! What crossed one wire, one way.
+//!
+//! A token that crosses is part of a stretch only when the next round begins: then there may be no memory, which a meter
+//! has no way to say. A packet's name is known at its end, so a stretch has the packet's number among those of its wire.
 ghost use Rattle.std.specs.Prelude.{◌≡◌, ◌++◌, nat_lt, OnOk};
 ghost use Rattle.std.specs.Option.{option_to_list};
 ghost use Rattle.c104_timeline.specs.Lanes.{as_ended, first_stretch, goes_on, held_since, is_open, lane_closed, lane_crossed, lane_cut};

@@ -5,6 +5,8 @@ use std::marker::Model;
 
 /// A list in a field of a public type. It is made from a `Vec` and gives it back, neither of
 /// which takes memory, and a contract sees it as the list.
+// A plain `Vec` shows its capacity and its place in memory to contracts, and then two equal packets need not be equal
+// values.
 #[derive(Debug, Drop)]
 pub struct Items<T> {
     items: Vec<T>,

@@ -1,4 +1,7 @@
 //! One command through a port, and what its reply tells.
+//!
+//! A reply is judged by its command's line of the table: a refusal whose number that command can't meet, as any refusal
+//! of a reset, is no answer to it, and so a BadReply.
 ghost use Rattle.std.specs.Prelude.{◌≡◌, [], ◌∷◌, ◌++◌, MatchResult};
 ghost use Rattle.c104_tools.specs.Outcomes.{IsTold};
 ghost use Rattle.c104_tools.specs.Ports.{CameBy};

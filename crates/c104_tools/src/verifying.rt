@@ -1,4 +1,7 @@
 //! The comparison of switches with an image.
+//!
+//! A comparison reads every register that can be written, and not those alone that the image keeps: else a stale row
+//! would stay unseen.
 ghost use Rattle.std.specs.Prelude.{◌≡◌, ◌≢◌, ◌↔◌, Err, length};
 ghost use Rattle.c104_tools.specs.declared.faults.LoadFault.TheVariants as fault;
 ghost use Rattle.c104_tools.specs.Loads.{due_entry, due_value, peeks, steps_from, switch_peeks, verify_list};

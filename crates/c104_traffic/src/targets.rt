@@ -1,4 +1,8 @@
 //! Which terminals send by a pattern, and where their packets go.
+//!
+//! Only terminals with a target send, in turn: in a transpose those on the diagonal have none but themselves. So N
+//! packets are N `send` lines, and a load is the same for all that send. A terminal's packets are labelled by its first
+//! label, so a network in which one has none that is a header has no traffic.
 ghost use Rattle.std.specs.Prelude.{◌≡◌, ◌*◌, ◌^◌, ◌<◌, ◌≤◌};
 ghost use Rattle.c104_traffic.specs.Patterns.{IsPatternFor};
 ghost use Rattle.c104_traffic.specs.Targets.{behind, choices, is_sender, pick, reversed_onto, target_of, transposed};

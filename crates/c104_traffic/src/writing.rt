@@ -1,4 +1,7 @@
 //! The script of traffic, written packet by packet.
+//!
+//! The bytes of a packet count on from its number, and aren't picked: who reads what arrived sees which packet it was,
+//! and where a token is in it. Each packet takes one word of the generator, whatever the pattern.
 ghost use Rattle.std.specs.Prelude.{◌≡◌, ◌≤◌, ◌+◌, ◌++◌, flat_map, MatchResult, OnErr, OnOk};
 ghost use Rattle.std.specs.List.{range_with_len};
 ghost use Rattle.std.specs.Io.KnownBytes.{Appends};

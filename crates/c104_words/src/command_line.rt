@@ -1,4 +1,7 @@
 //! The command line: its words, and what they ask for.
+//!
+//! No contract speaks of the command line: the cases do. A word that isn't UTF-8 is wrong usage, since paths are text
+//! here. Out of memory in `clap` ends the program with status 4, though `clap` counts it among the errors of usage.
 ghost use Rattle.std.specs.Prelude.{◌≤◌};
 
 use crate::count_words::{CountWords, with_counts};

@@ -1,4 +1,7 @@
 //! A fabric of a network, with its seats.
+//!
+//! The network is taken apart last, when all memory is there: so one that is refused is given back itself. A copy of
+//! where its nodes started, and of what they had done, stays with the fabric.
 ghost use Rattle.std.specs.Prelude.{◌≡◌, ◌≤◌, [], length, map, IfOk, MatchResult};
 ghost use Rattle.std.specs.Vec.{vec_capacity};
 ghost use Rattle.c104_node.specs.Records.{node_start, node_trace};

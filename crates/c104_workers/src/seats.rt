@@ -1,4 +1,7 @@
 //! A seat: through it events are done, and it keeps a call of each.
+//!
+//! A full list of a seat is TraceFull, as a full trace is: an event that is ready has both to be kept in. A worker's seat
+//! keeps why it stopped, since threads of std's forks hand back what they wrote, and no result.
 ghost use Rattle.std.specs.Prelude.{◌≡◌, ◌<◌, ◌++◌, ◌∷◌, None, [], true, false, is_some, length, OnOk};
 ghost use Rattle.std.specs.Vec.{vec_capacity};
 ghost use Rattle.c104_node.specs.Acts.{IsWithinLimits};

@@ -1,4 +1,7 @@
 //! Workers: threads that do the parts of rounds, each through a seat of its own.
+//!
+//! The fault that is answered is looked up in the seats, and is that of the lowest worker, whichever stopped first. One
+//! that is out of memory between events stops with NoMemory, as at an event.
 ghost use Rattle.std.specs.Prelude.{◌≡◌, ◌≢◌, ◌%◌, ◌<◌, ◌≤◌, All, ℕ, IfOk, MatchBool, length, slice_index_or};
 ghost use Rattle.c104_workers.specs.Calls.{SeatView};
 ghost use Rattle.c104_workers.specs.Fabrics.{AreSeatsOf};

@@ -1,4 +1,8 @@
 //! What a node by itself does.
+//!
+//! Memory for an act by itself is set aside beside the node (`SpareOf`), in lists that take the place of its own when
+//! these are full: so `act` after `room` can't fail. A network doesn't use it: its acts may run out of memory before
+//! anything has changed.
 ghost use Rattle.std.specs.Prelude.{◌≡◌, ◌<◌, ◌≤◌, None, Some, length, true, is_some, OnOk};
 ghost use Rattle.c104_node.specs.declared.acts.ActOf.TheVariants as act;
 ghost use Rattle.c104_node.specs.Acts.{IsWithinLimits};

@@ -1,4 +1,7 @@
 //! The registers of a switch.
+//!
+//! A peek and a poke are told the status of one link alone, that of the address: what the address reads, and whether it
+//! may be set, depends on no other link. No status is kept in step with the state.
 ghost use Rattle.std.specs.Prelude.{◌≡◌};
 ghost use Rattle.c104_switch.specs.Peeks.{link_status, switch_peek};
 
