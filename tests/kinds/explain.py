@@ -297,12 +297,13 @@ RING = (b'switch A\nswitch B\nwire A.0 B.0\nwire A.1 B.1\nterminal a A.2\n'
 TOLD_FIRST = b'c104: -:11: 128 of 1000 rounds are done\n'
 PROGRESS = re.compile(rb'c104: -:11: \d+ of 1000 rounds are done\n')
 
-# Reasons that a switch by itself has and none in a network: a link that it hasn't is refused there, and at the two ends
-# of a wire the credit of the one is what the other has granted.
+# Reasons that a switch by itself has and none in a network: a link that it hasn't is refused there, at the two ends of a
+# wire the credit of the one is what the other has granted, and whose packet an output belongs to is always known.
 OF_NO_NETWORK = [
     'there is no such link',
     'no token may come in, since none is granted; `credit` grants some',
     'credit for 64 tokens, the most, is already there',
+    'the output belongs to a packet until its terminator passes',
 ]
 
 # What is told at a terminal alone, where `debug` is asked.
@@ -370,10 +371,13 @@ def compare(program, words, folder, data):
 
 
 def all_cases(runner):
+    """Each case, but for those whose own words ask for the messages."""
     for kind in sorted(os.listdir(CASES)):
         for name in sorted(os.listdir(os.path.join(CASES, kind))):
             if runner.wanted('%s/%s' % (kind, name)):
                 with CopiedCase(os.path.join(CASES, kind, name)) as case:
+                    if EXPLAIN in case.words:
+                        continue
                     runner.judge('%s/%s' % (kind, name), compare(runner.program, case.words, case.folder, case.input))
 
 
