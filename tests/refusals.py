@@ -58,11 +58,8 @@ SAYS = {
         'record_begun_if': 'answered `false`, the network is as it was',
     },
     'c104_tools': {
-        'CarriedOut': 'the commands before the one that failed were answered, and with it no more were sent',
-        'Compared': 'the peeks before the one that failed were answered, and with it no more were sent',
-        'AreRead': 'the peeks before the one that failed were answered, and with it no more were sent',
-        'IsTableRead': 'the peeks before the one that failed were answered, and with it no more were sent',
-        'Outcome': 'the port went on by what each answered command gives, and by nothing else',
+        'Outcome': 'the commands before the one that failed were answered, and with it no more were sent: the port went on by '
+                   'what each of them gives, and by nothing else',
     },
     'c104_workers': {
         'CallsLent': 'not done, the seat and the lent nodes are as they were',

@@ -1,12 +1,10 @@
 -- A load of a new network of a plan never meets a full trace: all its steps are fewer than a trace holds.
-use Rattle.std.proofs.Common.{◌≡◌, ◌<◌, ◌≤◌, ◌+◌, ◌*◌, ◌++◌, ℕ, zero, suc, Bool, true, false, Option, Some, None, Result, Ok, Err, MatchResult, inl, inr, List, [], ◌∷◌, if◌then◌else◌, length, map, nat_eq, nat_le, nat_lt, slice_get, slice_set, refl, sym, ap, subst, arith}
+use Rattle.std.proofs.Common.{◌≡◌, ◌<◌, ◌≤◌, ◌+◌, ◌*◌, ◌++◌, ℕ, zero, suc, Bool, true, false, Option, Some, None, Result, Ok, Err, MatchResult, inl, inr, List, [], ◌∷◌, length, map, nat_eq, nat_le, nat_lt, slice_get, slice_set, refl, sym, ap, subst, arith}
 use Rattle.std.proofs.lemmas.Bool.Decides.{nat_tests}
 use Rattle.std.proofs.lemmas.List.{length-append, length-map}
 use Rattle.std.specs.List.{cons_option, filter_map, range_with_len}
 use Rattle.c104_control.specs.declared.commands.Command.{Command}
 use Rattle.c104_control.specs.declared.commands.Command.TheVariants.{Start, Reset, CPoke}
-use Rattle.c104_control.specs.declared.replies.Answer.{Answer}
-use Rattle.c104_control.specs.declared.replies.Answer.TheVariants.{Started, WasReset, Identity, Value, Poked, Refused}
 use Rattle.c104_control.specs.Reading.{read_reply}
 use Rattle.c104_control.specs.Table.{command_bytes}
 use Rattle.c104_plan.specs.PlanImage.{Fits, Image}
@@ -35,7 +33,7 @@ use Rattle.c104_switch.specs.declared.actions.ActionOf.TheVariants as action
 use Rattle.c104_switch.specs.declared.actions.ReplyOf.TheVariants as reply
 use Rattle.c104_token.specs.declared.tokens.Token.{Token}
 use Rattle.c104_token.specs.Kinds.{plain_kind}
-use Rattle.c104_tools.proofs.LoadSteps.{StepsBelow, below_load}
+use Rattle.c104_tools.proofs.LoadSteps.{IsReplied, StepsBelow, below_load, judged_replied}
 use Rattle.c104_tools.proofs.NetLoads.{command_keeps, still_placed}
 use Rattle.c104_tools.proofs.NetSwitches.{stands_at}
 use Rattle.c104_tools.specs.declared.faults.LoadFault.{LoadFault}
@@ -43,67 +41,21 @@ use Rattle.c104_tools.specs.declared.faults.LoadFault.TheVariants as fault
 use Rattle.c104_tools.specs.Loaded.{IsUnansweredFault}
 use Rattle.c104_tools.specs.Loads.{for_each, load_list, order, steps_from, switch_pokes}
 use Rattle.c104_tools.specs.NetOutcomes.{EndsSo, control_given, net_command, net_load}
-use Rattle.c104_tools.specs.Outcomes.{and_then, any_value, nothing_made, run_steps, step_result, told, unless_failed, with_value}
-use Rattle.c104_tools.specs.Steps.{Step, judged, may_refuse, named_address, told_value, value_or_bad}
+use Rattle.c104_tools.specs.Outcomes.{and_then, any_value, nothing_made, run_steps, step_result, unless_failed, with_value}
+use Rattle.c104_tools.specs.Steps.{Step}
 
--- the port gave a reply to each command
-abbrev pub IsReplied : {X : Type 0} → Result X LoadFault → Type 0
-IsReplied (Ok x) = Unit {0}
-IsReplied (Err (fault.Refused s a n)) = Unit {0}
-IsReplied (Err (fault.Differs s a n)) = Unit {0}
-IsReplied (Err fault.NoSwitch) = Unit {0}
-IsReplied (Err (fault.Port e)) = ⊥
-IsReplied (Err (fault.BadReply s)) = Unit {0}
-
--- so where a reply is judged
-value_replied : (switch : ℕ) (o : Option ℕ) → IsReplied (value_or_bad switch o)
-value_replied switch None = tt
-value_replied switch (Some v) = tt
-
-refused_replied : (switch a n : ℕ) (may : Bool) → IsReplied {X = ℕ} (if may then Err (fault.Refused switch a n) else Err (fault.BadReply switch))
-refused_replied switch a n true = tt
-refused_replied switch a n false = tt
-
-judged_replied : (switch : ℕ) (c : Command) (o : Option Answer) → IsReplied (judged switch c o)
-judged_replied switch c None = tt
-judged_replied switch c (Some (Refused n)) = refused_replied switch (named_address c) n (may_refuse c n)
-judged_replied switch c (Some Started) = value_replied switch (told_value c Started)
-judged_replied switch c (Some WasReset) = value_replied switch (told_value c WasReset)
-judged_replied switch c (Some (Identity n)) = value_replied switch (told_value c (Identity n))
-judged_replied switch c (Some (Value v)) = value_replied switch (told_value c (Value v))
-judged_replied switch c (Some Poked) = value_replied switch (told_value c Poked)
-
-then_replied : (t : Step) (x : Result ℕ LoadFault) → IsReplied x → IsReplied (and_then x (any_value t))
-then_replied t (Ok v) is = tt
-then_replied t (Err (fault.Refused s a n)) is = tt
-then_replied t (Err (fault.Differs s a n)) is = tt
-then_replied t (Err fault.NoSwitch) is = tt
-then_replied t (Err (fault.Port e)) is = is
-then_replied t (Err (fault.BadReply s)) is = tt
-
+-- a reply to each command of a run is one to the run
 with_replied : (v : ℕ) (rest : Result (List ℕ) LoadFault) → IsReplied rest → IsReplied (with_value v rest)
 with_replied v (Ok values) is = tt
-with_replied v (Err (fault.Refused s a n)) is = tt
-with_replied v (Err (fault.Differs s a n)) is = tt
-with_replied v (Err fault.NoSwitch) is = tt
-with_replied v (Err (fault.Port e)) is = is
-with_replied v (Err (fault.BadReply s)) is = tt
+with_replied v (Err f) is = is
 
 made_replied : (read : Result (List ℕ) LoadFault) → IsReplied read → IsReplied (and_then read nothing_made)
 made_replied (Ok values) is = tt
-made_replied (Err (fault.Refused s a n)) is = tt
-made_replied (Err (fault.Differs s a n)) is = tt
-made_replied (Err fault.NoSwitch) is = tt
-made_replied (Err (fault.Port e)) is = is
-made_replied (Err (fault.BadReply s)) is = tt
+made_replied (Err f) is = is
 
 goes_replied : (x : Result ℕ LoadFault) (s : NetRecord) (f : NetRecord → Result (List ℕ) LoadFault × NetRecord) → IsReplied x → IsReplied (f s).0 → IsReplied (unless_failed x s f).0
 goes_replied (Ok v) s f is rest = with_replied v (f s).0 rest
-goes_replied (Err (fault.Refused a b c)) s f is rest = tt
-goes_replied (Err (fault.Differs a b c)) s f is rest = tt
-goes_replied (Err fault.NoSwitch) s f is rest = tt
-goes_replied (Err (fault.Port e)) s f is rest = is
-goes_replied (Err (fault.BadReply a)) s f is rest = tt
+goes_replied (Err e) s f is rest = is
 
 -- traces have no more than n entries
 abbrev AreShort : ℕ → List (List Entry) → Type 0
@@ -172,8 +124,7 @@ module _ (r : NetRecord) (k : ℕ) (bytes : List ℕ) (are : AreInPlace r.networ
 -- so a run of such steps, of few enough, is replied to throughout
 told_replied : (t : Step) (given : Result (List ℕ) EventFault) (bytes : List ℕ) → given ≡ Ok bytes → IsReplied (step_result any_value t given)
 told_replied t given bytes is =
-    subst (λ (g : Result (List ℕ) EventFault). IsReplied (step_result any_value t g)) (sym is)
-    (then_replied t (judged t.switch t.command (read_reply bytes)) (judged_replied t.switch t.command (read_reply bytes)))
+    subst (λ (g : Result (List ℕ) EventFault). IsReplied (step_result any_value t g)) (sym is) (judged_replied t (read_reply bytes))
 
 run_replied : (steps : List Step) (r : NetRecord) (n : ℕ) → AreInPlace r.network.plan r.network.nodes → AreShort n r.traces → n + length steps ≤ trace_limit → StepsBelow (length r.network.plan.switches) steps → IsReplied (run_steps net_command any_value r steps).0
 run_replied [] r n are short room below = tt
@@ -221,8 +172,8 @@ few_steps image few =
     let one = length_each Reset 0 c in
     let two = few_from 0 image in
     let three = length_each Start 0 c in
-    let both = length-append (for_each c Reset) (steps_from switch_pokes 0 image) in
-    let all = length-append (for_each c Reset ++ steps_from switch_pokes 0 image) (for_each c Start) in
+    let both = length-append (steps_from switch_pokes 0 image) (for_each c Start) in
+    let all = length-append (for_each c Reset) (steps_from switch_pokes 0 image ++ for_each c Start) in
     omega (arith, few, one, two, three, both, all)
 
 module _ (plan : Plan) (image : Image) (is_plan : IsPlan plan) (fits : Fits image plan) (in_place : AreInPlace plan (new_network {A = Token} plan).nodes) where
@@ -243,8 +194,5 @@ module _ (plan : Plan) (image : Image) (is_plan : IsPlan plan) (fits : Fits imag
   fresh_load (Ok u) after (inl due) answered = due
   fresh_load (Ok u) after (inr none) answered = absurd (cc none)
   fresh_load (Err f) after (inr none) answered = let same : f ≡ fault.Port event_fault.NoMemory = cc in same
-  fresh_load (Err (fault.Port e)) after (inl due) answered = absurd (subst IsReplied (sym (ap (λ (x : Result (Unit {0}) LoadFault × NetRecord). x.0) due)) fresh_replied)
-  fresh_load (Err (fault.Refused s a n)) after (inl due) answered = absurd answered
-  fresh_load (Err (fault.Differs s a n)) after (inl due) answered = absurd answered
-  fresh_load (Err fault.NoSwitch) after (inl due) answered = absurd answered
-  fresh_load (Err (fault.BadReply s)) after (inl due) answered = absurd answered
+  fresh_load (Err (fault.Port e)) after (inl due) answered = absurd (subst IsReplied (sym (ap (λ (x : Result (Unit {0}) LoadFault × NetRecord). x.0) due)) fresh_replied e refl)
+  fresh_load (Err f) after (inl due) answered = absurd answered

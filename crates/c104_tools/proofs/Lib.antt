@@ -1,15 +1,11 @@
 pub mod Replies
-pub mod Progress
 pub mod Rests
-pub mod Passing
-pub mod LoadParts
+pub mod Asking
 pub mod LoadSteps
-pub mod Runs
+pub mod KnownCommands
 pub mod ResetSwitches
-pub mod DoneSteps
 pub mod LoadedSwitches
 pub mod ShownLoads
-pub mod TableReads
 pub mod Readings
 pub mod SeenValues
 pub mod NetSwitches

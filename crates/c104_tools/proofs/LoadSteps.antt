@@ -1,18 +1,18 @@
--- The steps of a load name switches of its image, so where a port leaves one of them unanswered, it has that switch.
-use Rattle.std.proofs.Common.{◌≡◌, ◌<◌, ◌≤◌, ◌+◌, ◌++◌, ℕ, zero, suc, IfErr, Result, Ok, Err, List, [], ◌∷◌, length, map, subst, ◌∙◌, arith}
+-- The steps of a load name switches of its image. And what is told of a reply is no fault of the port.
+use Rattle.std.proofs.Common.{◌≡◌, ◌≢◌, ◌<◌, ◌≤◌, ◌+◌, ◌++◌, ℕ, zero, suc, Bool, true, false, IfErr, Option, Some, None, Result, Err, if◌then◌else◌, List, [], ◌∷◌, length, map, sym, ap, ◌∙◌, arith}
 use Rattle.std.specs.List.{range_with_len}
 use Rattle.c104_control.specs.declared.commands.Command.{Command}
 use Rattle.c104_control.specs.declared.commands.Command.TheVariants.{Start, Reset}
-use Rattle.c104_control.specs.Table.{command_bytes}
+use Rattle.c104_control.specs.declared.replies.Answer.{Answer}
+use Rattle.c104_control.specs.declared.replies.Answer.TheVariants.{Refused}
 use Rattle.c104_event.specs.declared.faults.EventFault.{EventFault}
 use Rattle.c104_regs.specs.declared.settings.Settings.{Settings}
 use Rattle.c104_regs.specs.KeptValues.{kept_values}
 use Rattle.c104_tools.specs.declared.faults.LoadFault.{LoadFault}
 use Rattle.c104_tools.specs.declared.faults.LoadFault.TheVariants as fault
-use Rattle.c104_tools.specs.declared.ports.Asked.{Asked}
-use Rattle.c104_tools.specs.Loaded.{IsLeftBySwitch}
 use Rattle.c104_tools.specs.Loads.{for_each, load_list, order, pokes, steps_from, switch_pokes}
-use Rattle.c104_tools.specs.Steps.{IsUnanswered, Performed, Step, StopsAt, command_fails}
+use Rattle.c104_tools.specs.Outcomes.{and_then, any_value}
+use Rattle.c104_tools.specs.Steps.{Step, judged, may_refuse, named_address, told_value, value_or_bad}
 
 -- steps name switches below a number
 abbrev pub StepsBelow : ℕ → List Step → Type 0
@@ -42,30 +42,27 @@ pub below_load : (image : List (List Settings)) → StepsBelow (length image) (l
 below_load image =
     let c = length image in
     let all : 0 + c ≤ c = omega arith in
-    below_on c (for_each c Reset ++ steps_from switch_pokes 0 image) (for_each c Start)
-    (below_on c (for_each c Reset) (steps_from switch_pokes 0 image) (below_each Reset c 0 c all) (below_from c 0 image all))
-    (below_each Start c 0 c all)
+    below_on c (for_each c Reset) (steps_from switch_pokes 0 image ++ for_each c Start) (below_each Reset c 0 c all)
+    (below_on c (steps_from switch_pokes 0 image) (for_each c Start) (below_from c 0 image all) (below_each Start c 0 c all))
 
-below_at : (m : ℕ) (front : List Step) (t : Step) (back : List Step) → StepsBelow m (front ++ t ∷ back) → t.switch < m
-below_at m [] t back all = all.0
-below_at m (u ∷ front) t back all = below_at m front t back all.1
+-- they are in three parts
+pub load_parts : (count : ℕ) (kept image : List (List Settings)) → count ≡ length image → kept ≡ image → load_list image ≡ for_each count Reset ++ (steps_from switch_pokes 0 kept ++ for_each count Start)
+load_parts count kept image many same = sym (ap (λ n. for_each n Reset ++ (steps_from switch_pokes 0 kept ++ for_each n Start)) many ∙ ap (λ xs. for_each (length image) Reset ++ (steps_from switch_pokes 0 xs ++ for_each (length image) Start)) same)
 
-module _ {P : Type 0} (commands : P → List Asked) (switch_count : P → ℕ) (unanswered : P → ℕ → List ℕ → EventFault → Type 0) (image : List (List Settings)) (old : List Asked) (new : P) (as_many : switch_count new ≡ length image) where
-  left_by : (f : LoadFault) → StopsAt (command_fails (IsUnanswered commands switch_count unanswered new)) old (commands new) (load_list image) f → IsLeftBySwitch switch_count unanswered (length image) f
-  left_by (fault.Port e) stop =
-      let left = stop.fault.1 in (
-        left.0,
-        stop.step.switch,
-        command_bytes stop.step.command,
-        left.2 ∙ as_many,
-        below_at (length image) stop.front stop.step stop.back (subst (StepsBelow (length image)) stop.cut (below_load image)),
-        left.3,
-      )
-  left_by (fault.Refused s a n) stop = tt
-  left_by (fault.Differs s a n) stop = tt
-  left_by fault.NoSwitch stop = tt
-  left_by (fault.BadReply s) stop = tt
+-- the port gave a reply to each command
+abbrev pub IsReplied : {X : Type 0} → Result X LoadFault → Type 0
+IsReplied x = IfErr x (λ f. (e : EventFault) → f ≢ fault.Port e)
 
-  pub left_open : (result : Result (Unit {0}) LoadFault) → Performed (command_fails (IsUnanswered commands switch_count unanswered new)) old (commands new) (load_list image) result → IfErr result (IsLeftBySwitch switch_count unanswered (length image))
-  left_open (Ok u) performed = tt
-  left_open (Err f) stop = left_by f stop
+value_replied : (t : Step) (o : Option ℕ) → IsReplied (and_then (value_or_bad t.switch o) (any_value t))
+value_replied t None = λ e same. cc
+value_replied t (Some v) = tt
+
+refused_replied : (t : Step) (a n : ℕ) (may : Bool) → IsReplied {X = ℕ} (and_then (if may then Err (fault.Refused t.switch a n) else Err (fault.BadReply t.switch)) (any_value t))
+refused_replied t a n true = λ e same. cc
+refused_replied t a n false = λ e same. cc
+
+-- so where a reply is judged
+pub judged_replied : (t : Step) (o : Option Answer) → IsReplied (and_then (judged t.switch t.command o) (any_value t))
+judged_replied t None = λ e same. cc
+judged_replied t (Some (Refused n)) = refused_replied t (named_address t.command) n (may_refuse t.command n)
+judged_replied t (Some a) = value_replied t (told_value t.command a)

@@ -1,8 +1,8 @@
 -- Switches do the steps of a load, each answered as it is to be.
-use Rattle.std.proofs.Common.{◌≡◌, ℕ, zero, suc, ◌+◌, ◌^◌, ◌<◌, Some, List, [], ◌∷◌, ◌++◌, append_assoc, length, map, slice_get, slice_set, refl, sym, ap, ◌∙◌, subst, arith}
+use Rattle.std.proofs.Common.{◌≡◌, ℕ, zero, suc, ◌+◌, ◌^◌, ◌<◌, Ok, Some, List, [], ◌∷◌, ◌++◌, append_assoc, length, map, slice_get, slice_set, refl, sym, ap, ◌∙◌, subst, arith}
 use Rattle.std.proofs.Math.Seq.{set-append_seam}
 use Rattle.std.specs.List.{range_with_len}
-use Rattle.c104_control.specs.declared.commands.Command.TheVariants.{Start, Reset}
+use Rattle.c104_control.specs.declared.commands.Command.TheVariants.{Start, Reset, CPoke}
 use Rattle.c104_regs.proofs.KeptPokes.{AreKept, AreSettable, kept_settable, with_values}
 use Rattle.c104_regs.proofs.SameSettings.{kept_back}
 use Rattle.c104_regs.proofs.PlacedPokes.{settable_below}
@@ -14,9 +14,10 @@ use Rattle.c104_switch.specs.Switch.{Switch}
 use Rattle.c104_token.specs.declared.tokens.Token.{Token}
 use Rattle.c104_tools.specs.Loaded.{each_with, loaded, reset_with}
 use Rattle.c104_tools.specs.Loads.{for_each, load_list, order, pokes, steps_from, switch_pokes}
+use Rattle.c104_tools.specs.Outcomes.{any_value, step_result}
 use Rattle.c104_tools.specs.Ports.{Switches}
 use Rattle.c104_tools.specs.Steps.{Step}
-use Rattle.c104_tools.proofs.DoneSteps.{AreDone, done_on}
+use Rattle.c104_tools.proofs.KnownCommands.{AreDone, done_on}
 use Rattle.c104_tools.proofs.ResetSwitches.{poke_obeyed, settable_small}
 
 -- the switch behind others
@@ -67,7 +68,7 @@ values_done front rest s settings (x ∷ values) n is (may, more) =
     let obeyed = poke_obeyed s settings x.0 x.1 may low (settable_small x.0 x.1 may) in (
       now,
       at_seam front rest now n is,
-      ap (λ (r : List ℕ × Switch Token). r.0) obeyed,
+      ap (λ (r : List ℕ × Switch Token). step_result any_value (order n (CPoke x.0 x.1)) (Ok r.0)) obeyed,
       moved _ _ _ _ (pokes n values)
           (ap (λ (r : List ℕ × Switch Token). slice_set (front ++ now ∷ rest) n r.1) obeyed ∙ set_seam front rest now next n is) refl
           (values_done front rest s (bank_poke (placed_bank settings) x.0 x.1).1.settings values n is more),
@@ -76,8 +77,6 @@ values_done front rest s settings (x ∷ values) n is (may, more) =
 -- the same of every switch of an image
 image_done : (front switches : Switches) (image : List (List Settings)) (n : ℕ) → n ≡ length front → length image ≡ length switches → AreLoadable image → AreDone (front ++ map switch_reset switches) (steps_from switch_pokes n image) (front ++ each_with reset_with switches image)
 image_done front [] [] n is same may = refl
-image_done front [] (settings ∷ image) n is same may = absurd (omega arith)
-image_done front (s ∷ switches) [] n is same may = absurd (omega arith)
 image_done front (s ∷ switches) (settings ∷ image) n is same (may, more) =
     let t = reset_with s settings in
     let as_many : length image ≡ length switches = omega arith in
@@ -87,12 +86,11 @@ image_done front (s ∷ switches) (settings ∷ image) n is same (may, more) =
     (moved _ _ _ _ (steps_from switch_pokes (n + 1) image)
     (sym (append_assoc front (t ∷ []) (map switch_reset switches))) (append_assoc front (t ∷ []) (each_with reset_with switches image))
     (image_done (front ++ t ∷ []) switches image (n + 1) (longer front t n is) as_many more))
+image_done front switches image n is same may = absurd (omega arith)
 
 -- and every switch is started
 starts_done : (front switches : Switches) (image : List (List Settings)) (n : ℕ) → n ≡ length front → length image ≡ length switches → AreDone (front ++ each_with reset_with switches image) (map (λ switch. order switch Start) (range_with_len n (length image))) (front ++ each_with loaded switches image)
 starts_done front [] [] n is same = refl
-starts_done front [] (settings ∷ image) n is same = absurd (omega arith)
-starts_done front (s ∷ switches) [] n is same = absurd (omega arith)
 starts_done front (s ∷ switches) (settings ∷ image) n is same =
     let now = reset_with s settings in
     let t = loaded s settings in
@@ -104,12 +102,13 @@ starts_done front (s ∷ switches) (settings ∷ image) n is same =
           (set_seam front (each_with reset_with switches image) now t n is ∙ sym (append_assoc front (t ∷ []) (each_with reset_with switches image))) (append_assoc front (t ∷ []) (each_with loaded switches image))
           (starts_done (front ++ t ∷ []) switches image (n + 1) (longer front t n is) as_many),
     )
+starts_done front switches image n is same = absurd (omega arith)
 
 -- so an image is loaded
 pub load_done : (switches : Switches) (image : List (List Settings)) → length image ≡ length switches → AreLoadable image → AreDone switches (load_list image) (each_with loaded switches image)
 load_done switches image same may =
-    done_on switches (for_each (length image) Reset ++ steps_from switch_pokes 0 image) (for_each (length image) Start) (each_with reset_with switches image) _
-    (done_on switches (for_each (length image) Reset) (steps_from switch_pokes 0 image) (map switch_reset switches) _
+    done_on switches (for_each (length image) Reset) (steps_from switch_pokes 0 image ++ for_each (length image) Start) (map switch_reset switches) _
     (subst (λ n. AreDone switches (for_each n Reset) (map switch_reset switches)) (sym same) (resets_done [] switches 0 refl))
-    (image_done [] switches image 0 refl same may))
-    (starts_done [] switches image 0 refl same)
+    (done_on (map switch_reset switches) (steps_from switch_pokes 0 image) (for_each (length image) Start) (each_with reset_with switches image) _
+    (image_done [] switches image 0 refl same may)
+    (starts_done [] switches image 0 refl same))

@@ -16,6 +16,7 @@ use Rattle.c104_run.specs.Balance.{AreInPlace}
 use Rattle.c104_node.specs.Nodes.{is_switch, Node}
 use Rattle.c104_run.specs.NetRecords.{NetRecord, fresh_record, record_begun_if}
 use Rattle.c104_run.proofs.EventSteps.{control_applied}
+use Rattle.c104_run.proofs.FirstRecords.{map_twice}
 use Rattle.c104_run.specs.Network.{Network, network_apply, network_of, new_network, new_switch_nodes, placed_network, switch_nodes, terminal_nodes, with_nodes}
 use Rattle.c104_node.specs.Quiet.{IsQuietInput, IsQuietNode, IsQuietOutput, IsQuietSwitch, node_begin}
 use Rattle.c104_run.specs.QuietNets.{IsQuiet, network_begin}
@@ -45,22 +46,20 @@ terminals_of (node.Terminal t ∷ nodes) = t ∷ terminals_of nodes
 -- nodes in their places are the switches, and then the terminals
 only_terminals : (b : ℕ) (nodes : List (Node Token)) → map is_switch nodes ≡ replicate b false → (switches_of nodes ≡ []) × (nodes ≡ map node.Terminal (terminals_of nodes))
 only_terminals b [] are = (refl, refl)
-only_terminals zero (n ∷ nodes) are = absurd (cc are)
-only_terminals (suc b) (node.Switch s ∷ nodes) are = absurd (cc are)
 only_terminals (suc b) (node.Terminal t ∷ nodes) are =
     let rest : map is_switch nodes ≡ replicate b false = cc in
     let more = only_terminals b nodes rest in
     (more.0, ap (λ ns. node.Terminal t ∷ ns) more.1)
+only_terminals b nodes are = absurd (cc are)
 
 nodes_are : (a b : ℕ) (nodes : List (Node Token)) → map is_switch nodes ≡ replicate a true ++ replicate b false → nodes ≡ map node.Switch (switches_of nodes) ++ map node.Terminal (terminals_of nodes)
 nodes_are zero b nodes are =
     let all = only_terminals b nodes are in
     all.1 ∙ ap (λ (ss : Switches). map node.Switch ss ++ map node.Terminal (terminals_of nodes)) (sym all.0)
-nodes_are (suc a) b [] are = absurd (cc are)
-nodes_are (suc a) b (node.Terminal t ∷ nodes) are = absurd (cc are)
 nodes_are (suc a) b (node.Switch s ∷ nodes) are =
     let rest : map is_switch nodes ≡ replicate a true ++ replicate b false = cc in
     ap (λ ns. node.Switch s ∷ ns) (nodes_are a b nodes rest)
+nodes_are a b nodes are = absurd (cc are)
 
 -- what a command keeps of a network: all but its switches
 pub record Keeps (old new : Network Token) : Type 0 where
@@ -141,13 +140,8 @@ module _ (cap : ℕ) where
 
   each_loaded : (names : List (List ℕ)) (image : List (List Settings)) → length image ≡ length names → each_with loaded (map (λ name. new_switch cap) names) image ≡ map (λ settings. new_switch_with cap settings true) image
   each_loaded [] [] same = refl
-  each_loaded [] (settings ∷ image) same = absurd (omega arith)
-  each_loaded (name ∷ names) [] same = absurd (omega arith)
   each_loaded (name ∷ names) (settings ∷ image) same = ap (λ (s : Switch Token). s ∷ each_with loaded (map (λ name. new_switch cap) names) image) (loaded_new settings) ∙ ap (λ (ss : Switches). new_switch_with cap settings true ∷ ss) (each_loaded names image (omega arith))
-
-  mapped_twice : {X Y Z : Type 0} (f : Y → Z) (g : X → Y) (xs : List X) → map f (map g xs) ≡ map (λ x. f (g x)) xs
-  mapped_twice f g [] = refl
-  mapped_twice f g (x ∷ xs) = ap (λ ys. f (g x) ∷ ys) (mapped_twice f g xs)
+  each_loaded names image same = absurd (omega arith)
 
   -- a placed network is quiet, and begins as it is
   all_same : {X : Type 0} (P : X → Type 0) (n : ℕ) (x : X) → P x → All P (replicate n x)
@@ -196,8 +190,8 @@ module _ (plan : Plan) (image : Image) (fits : Fits image plan) (in_place : AreI
       nodes_are (length plan.switches) (length plan.terminals) after.network.nodes (kept.kinds ∙ in_place)
       ∙ ap (λ (ss : Switches). map node.Switch ss ++ map node.Terminal (terminals_of after.network.nodes)) switches
       ∙ ap (λ (ts : List (Terminal Token)). map node.Switch (map (λ settings. new_switch_with plan.cap settings true) image.settings) ++ map node.Terminal ts) terminals
-      ∙ ap (λ (ns : List (Node Token)). ns ++ map node.Terminal (map (λ (t : PlanTerminal). new_terminal plan.cap) plan.terminals)) (mapped_twice plan.cap node.Switch (λ settings. new_switch_with plan.cap settings true) image.settings)
-      ∙ ap (λ (ns : List (Node Token)). switch_nodes plan.cap image.settings ++ ns) (mapped_twice plan.cap node.Terminal (λ (t : PlanTerminal). new_terminal plan.cap) plan.terminals)
+      ∙ ap (λ (ns : List (Node Token)). ns ++ map node.Terminal (map (λ (t : PlanTerminal). new_terminal plan.cap) plan.terminals)) (map_twice node.Switch (λ settings. new_switch_with plan.cap settings true) image.settings)
+      ∙ ap (λ (ns : List (Node Token)). switch_nodes plan.cap image.settings ++ ns) (map_twice node.Terminal (λ (t : PlanTerminal). new_terminal plan.cap) plan.terminals)
     where
       some_same : {X : Type 0} {x y : X} → ◌≡◌ {A = Option X} (Some x) (Some y) → x ≡ y
       some_same is = cc

@@ -1,5 +1,5 @@
 -- What comes of steps on a network with its record is what its record tells, unless memory runs out.
-use Rattle.std.proofs.Common.{◌≡◌, ◌≢◌, ◌↔◌, ◌⊎◌, ◌<◌, ◌≤◌, ℕ, Bool, true, false, List, [], ◌∷◌, Result, Ok, Err, if◌then◌else◌, inl, inr, length, nat_eq, nat_lt, refl, sym, ap, ◌∙◌, subst, arith}
+use Rattle.std.proofs.Common.{◌≡◌, ◌≢◌, ◌↔◌, ◌<◌, ◌≤◌, ℕ, Bool, true, false, List, [], ◌∷◌, Result, Ok, Err, if◌then◌else◌, inl, inr, length, nat_eq, nat_lt, refl, sym, ap, ◌∙◌, subst, arith}
 use Rattle.std.proofs.lemmas.Bool.Decides.{nat_tests}
 use Rattle.c104_control.specs.Table.{command_bytes}
 use Rattle.c104_plan.specs.PlanImage.{Image}
@@ -27,38 +27,31 @@ may_give r after k bytes answer given is (inr (none, wanted, same)) = inr (sym i
 abbrev Read : Type 0
 Read = Result (List ℕ) LoadFault
 
-abbrev out_of_memory : {X : Type 0} → Result X LoadFault
-out_of_memory = Err (fault.Port event_fault.NoMemory)
-
--- an end that is due, or short of it
-abbrev Follows : {X : Type 0} → Result X LoadFault × NetRecord → Result X LoadFault → NetRecord → Type 0
-Follows {X} due result after = (◌≡◌ {A = Result X LoadFault × NetRecord} (result, after) due) ⊎ (result ≡ out_of_memory)
-
 module _ (judge : Judge) where
   -- one step, and those after it
-  module _ (next after : NetRecord) (more : NetRecord → Read → Type 0) (f : NetRecord → Read × NetRecord) (each : (rest : Read) → more next rest → Follows (f next) rest after) where
-    value_follows : (v : ℕ) (rest result : Read) → result ≡ with_value v rest → Follows (f next) rest after → Follows (with_value v (f next).0, (f next).1) result after
+  module _ (next after : NetRecord) (more : NetRecord → Read → Type 0) (f : NetRecord → Read × NetRecord) (each : (rest : Read) → more next rest → EndsSo (f next) rest after) where
+    value_follows : (v : ℕ) (rest result : Read) → result ≡ with_value v rest → EndsSo (f next) rest after → EndsSo (with_value v (f next).0, (f next).1) result after
     value_follows v rest result is (inl due) = inl (ap (λ (x : Read). (x, after)) is ∙ ap (λ (x : Read × NetRecord). (with_value v x.0, x.1)) due)
     value_follows v rest result is (inr none) = inr (is ∙ ap (with_value v) none)
 
-    goes_so : (x : Result ℕ LoadFault) (result : Read) → GoesOn x next result after more → Follows (unless_failed x next f) result after
+    goes_so : (x : Result ℕ LoadFault) (result : Read) → GoesOn x next result after more → EndsSo (unless_failed x next f) result after
     goes_so (Ok v) result (rest, is, came) = value_follows v rest result is (each rest came)
     goes_so (Err e) result (is, same) = inl (ap (λ (x : Read). (x, after)) is ∙ ap (λ (x : NetRecord). (Err e, x)) same)
 
-  pub net_follows : (steps : List Step) (r : NetRecord) (result : Read) (after : NetRecord) → ComesTo MayGive judge r steps result after → Follows (run_steps net_command judge r steps) result after
+  pub net_follows : (steps : List Step) (r : NetRecord) (result : Read) (after : NetRecord) → ComesTo MayGive judge r steps result after → EndsSo (run_steps net_command judge r steps) result after
   net_follows [] r result after (is, same) = inl (ap (λ (x : Read). (x, after)) is ∙ ap (λ (x : NetRecord). (Ok [], x)) same)
   net_follows (t ∷ steps) r result after (given, next, gave, goes) = by_given (λ rest came. net_follows steps next rest after came) gave
     where
-      by_given : ((rest : Read) → ComesTo MayGive judge next steps rest after → Follows (run_steps net_command judge next steps) rest after) → MayGive r t.switch (command_bytes t.command) given next → Follows (run_steps net_command judge r (t ∷ steps)) result after
+      by_given : ((rest : Read) → ComesTo MayGive judge next steps rest after → EndsSo (run_steps net_command judge next steps) rest after) → MayGive r t.switch (command_bytes t.command) given next → EndsSo (run_steps net_command judge r (t ∷ steps)) result after
       by_given each (inl due) =
-          subst (λ (x : Given × NetRecord). Follows (unless_failed (step_result judge t x.0) x.1 (λ s. run_steps net_command judge s steps)) result after) due
+          subst (λ (x : Given × NetRecord). EndsSo (unless_failed (step_result judge t x.0) x.1 (λ s. run_steps net_command judge s steps)) result after) due
           (goes_so next after (λ s rest. ComesTo MayGive judge s steps rest after) (λ s. run_steps net_command judge s steps) each (step_result judge t given) result goes)
       by_given each (inr (none, wanted, same)) =
           let stopped : GoesOn {P = NetRecord} (step_result judge t (Err event_fault.NoMemory)) next result after (λ s rest. ComesTo MayGive judge s steps rest after) = subst (λ (g : Given). GoesOn (step_result judge t g) next result after (λ s rest. ComesTo MayGive judge s steps rest after)) none goes in
           inr stopped.0
 
   module _ {X : Type 0} (make : List ℕ → Result X LoadFault) (r after : NetRecord) (steps : List Step) (result : Result X LoadFault) where
-    made_so : (read : Read) → result ≡ and_then read make → Follows (run_steps net_command judge r steps) read after → EndsSo (net_outcome judge make r steps) result after
+    made_so : (read : Read) → result ≡ and_then read make → EndsSo (run_steps net_command judge r steps) read after → EndsSo (net_outcome judge make r steps) result after
     made_so read is (inl due) = inl (ap (λ (x : Result X LoadFault). (x, after)) is ∙ ap (λ (x : Read × NetRecord). (and_then x.0 make, x.1)) due)
     made_so read is (inr none) = inr (is ∙ ap (λ (x : Read). and_then x make) none)
 

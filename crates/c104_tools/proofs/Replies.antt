@@ -1,17 +1,14 @@
--- What comes of a reply: the command was done, or its fault is that of the reply.
-use Rattle.std.proofs.Common.{◌≡◌, ◌≢◌, ◌↔◌, ℕ, inl, inr, ◌==◌, Bool, true, false, IsTrue, List, [], ◌∷◌, ◌++◌, Option, Some, None, Result, Err, MatchResult, if◌then◌else◌, refl, sym, ap, ◌∙◌, subst, arith}
+-- What a reply tells is what the table of commands has it say.
+use Rattle.std.proofs.Common.{◌≡◌, ◌≢◌, ◌↔◌, ℕ, inl, inr, ◌==◌, Bool, true, false, IsTrue, List, Option, Some, None, Result, Err, if◌then◌else◌, refl, sym, ap, ◌∙◌, subst, arith}
 use Rattle.std.proofs.lemmas.Bool.Decides.{nat_tests}
 use Rattle.c104_control.specs.declared.commands.Command.{Command}
 use Rattle.c104_control.specs.declared.commands.Command.TheVariants.{Start, Reset, Identify, CPeek, CPoke}
 use Rattle.c104_control.specs.declared.replies.Answer.{Answer}
 use Rattle.c104_control.specs.declared.replies.Answer.TheVariants.{Started, WasReset, Identity, Value, Poked, Refused}
-use Rattle.c104_control.specs.Table.{IsAnswer, IsAnswerTo, command_bytes, command_format, device_id, reply_bytes}
-use Rattle.c104_event.specs.declared.faults.EventFault.{EventFault}
+use Rattle.c104_control.specs.Table.{IsAnswer, IsAnswerTo, command_format, device_id, reply_bytes}
 use Rattle.c104_tools.specs.declared.faults.LoadFault.{LoadFault}
 use Rattle.c104_tools.specs.declared.faults.LoadFault.TheVariants as fault
-use Rattle.c104_tools.specs.declared.ports.Asked.{Asked}
-use Rattle.c104_tools.specs.Ports.{command_asked}
-use Rattle.c104_tools.specs.Steps.{IsFaultOf, done, judged, may_refuse, named_address, told_value, value_or_bad}
+use Rattle.c104_tools.specs.Steps.{IsMeant, judged, may_refuse, named_address, told_value, value_or_bad}
 
 -- an answer by which a command was done
 identity_by : (n v : ℕ) (is : Bool) → (n == device_id) ≡ is → (if is then Some 0 else None) ≡ Some v → Identity n ≡ Identity device_id
@@ -20,43 +17,20 @@ identity_by n v false same told = cc
 
 done_by : (c : Command) (a : Answer) (v : ℕ) → told_value c a ≡ Some v → a ≡ (command_format c).answer v
 done_by Start Started v told = refl
-done_by Start WasReset v told = cc
-done_by Start (Identity n) v told = cc
-done_by Start (Value n) v told = cc
-done_by Start Poked v told = cc
-done_by Start (Refused n) v told = cc
-done_by Reset Started v told = cc
 done_by Reset WasReset v told = refl
-done_by Reset (Identity n) v told = cc
-done_by Reset (Value n) v told = cc
-done_by Reset Poked v told = cc
-done_by Reset (Refused n) v told = cc
-done_by Identify Started v told = cc
-done_by Identify WasReset v told = cc
 done_by Identify (Identity n) v told = identity_by n v (n == device_id) refl told
-done_by Identify (Value n) v told = cc
-done_by Identify Poked v told = cc
-done_by Identify (Refused n) v told = cc
-done_by (CPeek a) Started v told = cc
-done_by (CPeek a) WasReset v told = cc
-done_by (CPeek a) (Identity n) v told = cc
 done_by (CPeek a) (Value n) v told = let same : n ≡ v = cc in ap Value same
-done_by (CPeek a) Poked v told = cc
-done_by (CPeek a) (Refused n) v told = cc
-done_by (CPoke a w) Started v told = cc
-done_by (CPoke a w) WasReset v told = cc
-done_by (CPoke a w) (Identity n) v told = cc
-done_by (CPoke a w) (Value n) v told = cc
 done_by (CPoke a w) Poked v told = refl
-done_by (CPoke a w) (Refused n) v told = cc
+done_by c a v told = cc
 
--- what a command that was done is answered is told
+-- what a command that was done is answered tells something, and is no refusal
 told_done : (c : Command) (v : ℕ) → told_value c ((command_format c).answer v) ≢ None
 told_done Start v differs = cc
-told_done Reset v differs = cc
-told_done Identify v differs = cc
-told_done (CPeek a) v differs = cc
-told_done (CPoke a w) v differs = cc
+told_done c v differs = cc
+
+not_refused : (c : Command) (v n : ℕ) → (command_format c).answer v ≢ Refused n
+not_refused Start v n differs = cc
+not_refused c v n differs = cc
 
 -- an answer to a command is an answer
 one_of_all : (c : Command) (a : Answer) → IsAnswerTo c a → IsAnswer a
@@ -66,51 +40,32 @@ one_of_all Identify a is = inl (Identify, tt, is)
 one_of_all (CPeek p) a is = inl (CPeek 0, omega arith, is)
 one_of_all (CPoke p w) a is = inl (CPoke 0 0, (omega arith, omega arith), is)
 
-module _ (unanswered : ℕ → List ℕ → EventFault → Type 0) (before after : List Asked) (switch : ℕ) (c : Command) (reply : List ℕ) (asked : after ≡ before ++ command_asked switch (command_bytes c) reply ∷ []) where
-  -- what is to come of it
-  abbrev Comes : Result ℕ LoadFault → Type 0
-  Comes result = MatchResult result (λ v. after ≡ before ++ done switch c v ∷ []) (λ f. IsFaultOf unanswered before after switch c f)
+module _ (switch : ℕ) (c : Command) (reply : List ℕ) (o : Option Answer) (table : (a : Answer) → (o ≡ Some a) ↔ (IsAnswer a × (reply_bytes a ≡ reply))) where
+  -- no other answer has these bytes
+  one_answer : (a b : Answer) → o ≡ Some a → IsAnswerTo c b → reply_bytes b ≡ reply → b ≡ a
+  one_answer a b is answers same = let other = (table b).1 (one_of_all c b answers, same) in cc
 
-  module _ (o : Option Answer) (table : (a : Answer) → (o ≡ Some a) ↔ (IsAnswer a × (reply_bytes a ≡ reply))) where
-    -- no other answer has these bytes
-    one_answer : (a b : Answer) → o ≡ Some a → IsAnswerTo c b → reply_bytes b ≡ reply → b ≡ a
-    one_answer a b is answers same = let other = (table b).1 (one_of_all c b answers, same) in cc
+  -- an answer other than a refusal
+  answered_so : (a : Answer) → ((n : ℕ) → a ≢ Refused n) → o ≡ Some a → (told : Option ℕ) → told_value c a ≡ told → IsMeant switch c reply (value_or_bad switch told)
+  answered_so a may is (Some v) told = sym ((table a).0 is).1 ∙ ap reply_bytes (done_by c a v told)
+  answered_so a may is None told = (refl, λ b answers same. none b answers (one_answer a b is answers same))
+    where
+      none : (b : Answer) → IsAnswerTo c b → b ≡ a → ⊥
+      none b (inl (v, fits, is_done)) same = told_done c v (ap (told_value c) (sym is_done ∙ same) ∙ told)
+      none b (inr (n, refuses, refused)) same = may n (sym same ∙ refused)
 
-    -- an answer other than a refusal
-    answered_so : (a : Answer) → ((n : ℕ) → a ≢ Refused n) → o ≡ Some a → (told : Option ℕ) → told_value c a ≡ told → Comes (value_or_bad switch told)
-    answered_so a may is (Some v) told = asked ∙ ap (λ r. before ++ command_asked switch (command_bytes c) r ∷ []) (sym ((table a).0 is).1 ∙ ap reply_bytes (done_by c a v told))
-    answered_so a may is None told = (refl, record { reply = reply; asked = asked; no_answer = λ b answers same. none b answers (one_answer a b is answers same) })
-      where
-        none : (b : Answer) → IsAnswerTo c b → b ≡ a → ⊥
-        none b (inl (v, fits, is_done)) same = told_done c v (ap (told_value c) (sym is_done ∙ same) ∙ told)
-        none b (inr (n, refuses, refused)) same = may n (sym same ∙ refused)
+  refused_so : (n : ℕ) → o ≡ Some (Refused n) → (may : Bool) → may_refuse c n ≡ may → IsMeant switch c reply (if may then Err (fault.Refused switch (named_address c) n) else Err (fault.BadReply switch))
+  refused_so n is true may = (refl, refl, may, sym ((table (Refused n)).0 is).1)
+  refused_so n is false may = (refl, λ b answers same. none b answers (one_answer (Refused n) b is answers same))
+    where
+      none : (b : Answer) → IsAnswerTo c b → b ≡ Refused n → ⊥
+      none b (inl (v, fits, is_done)) same = not_refused c v n (sym is_done ∙ same)
+      none b (inr (m, refuses, refused)) same = let one : m ≡ n = cc in let yes = subst (λ k. IsTrue (may_refuse c k)) one refuses in cc
 
-    refused_so : (n : ℕ) → o ≡ Some (Refused n) → (may : Bool) → may_refuse c n ≡ may → Comes (if may then Err (fault.Refused switch (named_address c) n) else Err (fault.BadReply switch))
-    refused_so n is true may = (refl, refl, record { asked = asked ∙ ap (λ r. before ++ command_asked switch (command_bytes c) r ∷ []) (sym ((table (Refused n)).0 is).1); may = may })
-    refused_so n is false may = (refl, record { reply = reply; asked = asked; no_answer = λ b answers same. none b answers (one_answer (Refused n) b is answers same) })
-      where
-        none : (b : Answer) → IsAnswerTo c b → b ≡ Refused n → ⊥
-        none b (inl (v, fits, is_done)) same = not_refused c v (sym is_done ∙ same)
-          where
-            not_refused : (c : Command) (v : ℕ) → (command_format c).answer v ≢ Refused n
-            not_refused Start v differs = cc
-            not_refused Reset v differs = cc
-            not_refused Identify v differs = cc
-            not_refused (CPeek p) v differs = cc
-            not_refused (CPoke p w) v differs = cc
-        none b (inr (m, refuses, refused)) same = let one : m ≡ n = cc in let yes = subst (λ k. IsTrue (may_refuse c k)) one refuses in cc
+  by_answer : (p : Option Answer) → o ≡ p → IsMeant switch c reply (judged switch c p)
+  by_answer None is = (refl, λ b answers same. (let there = (table b).1 (one_of_all c b answers, same) in cc))
+  by_answer (Some (Refused n)) is = refused_so n is (may_refuse c n) refl
+  by_answer (Some a) is = answered_so a (λ n same. cc) is (told_value c a) refl
 
-    by_answer : (p : Option Answer) → o ≡ p → Comes (judged switch c p)
-    by_answer (Some Started) is = answered_so Started (λ n same. cc) is (told_value c Started) refl
-    by_answer (Some WasReset) is = answered_so WasReset (λ n same. cc) is (told_value c WasReset) refl
-    by_answer (Some (Identity m)) is = answered_so (Identity m) (λ n same. cc) is (told_value c (Identity m)) refl
-    by_answer (Some (Value v)) is = answered_so (Value v) (λ n same. cc) is (told_value c (Value v)) refl
-    by_answer (Some Poked) is = answered_so Poked (λ n same. cc) is (told_value c Poked) refl
-    by_answer (Some (Refused n)) is = refused_so n is (may_refuse c n) refl
-    by_answer None is = none
-      where
-        none : Comes (Err (fault.BadReply switch))
-        none = (refl, record { reply = reply; asked = asked; no_answer = λ b answers same. let there = (table b).1 (one_of_all c b answers, same) in cc })
-
-    pub comes_of_reply : (result : Result ℕ LoadFault) → result ≡ judged switch c o → MatchResult result (λ v. after ≡ before ++ done switch c v ∷ []) (λ f. IsFaultOf unanswered before after switch c f)
-    comes_of_reply result is = subst (λ r. MatchResult r (λ v. after ≡ before ++ done switch c v ∷ []) (λ f. IsFaultOf unanswered before after switch c f)) (sym is) (by_answer o refl)
+  pub is_meant : (result : Result ℕ LoadFault) → result ≡ judged switch c o → IsMeant switch c reply result
+  is_meant result is = subst (IsMeant switch c reply) (sym is) (by_answer o refl)

@@ -10,7 +10,7 @@ use Rattle.c104_control.specs.declared.replies.Answer.TheVariants.{Poked}
 use Rattle.c104_control.specs.Table.{command_bytes, reply_bytes}
 use Rattle.c104_link.specs.Buffers.{Outgoing}
 use Rattle.c104_regs.specs.declared.addresses.Register.{Register}
-use Rattle.c104_regs.specs.declared.addresses.Register.TheVariants.{Mode, RandomBase, RandomRange, Sunk, Short, InputLevel, OutputLevel, Credit, Granted, Owner, Base, Limit, Select}
+use Rattle.c104_regs.specs.declared.addresses.Register.TheVariants.{Mode}
 use Rattle.c104_regs.specs.declared.addresses.Address.{Address}
 use Rattle.c104_regs.specs.declared.addresses.Address.TheVariants.{DeviceId, Started, AtLink}
 use Rattle.c104_regs.specs.Addresses.{address_of, register_properties, register_takes}
@@ -92,18 +92,7 @@ module _ (s : Switch Token) (settings : List Settings) where
 -- a value that may be set is a small one
 small_by : (r : Register) (v : ℕ) → IsTrue (register_takes r v) → v < 4294967296
 small_by Mode v takes = grind (arith, nat_tests)
-small_by RandomBase v takes = grind (arith, nat_tests)
-small_by RandomRange v takes = grind (arith, nat_tests)
-small_by Sunk v takes = grind (arith, nat_tests)
-small_by Short v takes = grind (arith, nat_tests)
-small_by InputLevel v takes = grind (arith, nat_tests)
-small_by OutputLevel v takes = grind (arith, nat_tests)
-small_by Credit v takes = grind (arith, nat_tests)
-small_by Granted v takes = grind (arith, nat_tests)
-small_by Owner v takes = grind (arith, nat_tests)
-small_by Base v takes = grind (arith, nat_tests)
-small_by (Limit k) v takes = grind (arith, nat_tests)
-small_by (Select k) v takes = grind (arith, nat_tests)
+small_by r v takes = grind (arith, nat_tests)
 
 module _ (a v : ℕ) where
   taken_by : (l : ℕ) (r : Register) (writable fits : Bool) → register_takes r v ≡ fits → (register_properties r).is_writable ≡ writable → address_of a ≡ Some (AtLink l r) → settable a v ≡ Ok tt → v < 4294967296

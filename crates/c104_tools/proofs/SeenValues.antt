@@ -1,112 +1,124 @@
 -- What is read of a port that shows its switches is what the registers of the switch have.
-use Rattle.std.proofs.Common.{◌≡◌, ℕ, ◌+◌, ◌*◌, ◌<◌, ◌≤◌, ◌^◌, Option, Some, None, Result, Ok, Err, List, [], ◌∷◌, ◌++◌, length, map, get_or, slice_get, slice_set, refl, sym, ap, ◌∙◌, subst, arith}
-use Rattle.std.proofs.lemmas.List.{append_cancel_left}
-use Rattle.std.specs.List.{AllByRecursion}
+use Rattle.std.proofs.Common.{◌≡◌, ℕ, zero, suc, ◌+◌, ◌*◌, ◌<◌, ◌≤◌, ◌^◌, Option, Some, None, Result, Ok, Err, List, [], ◌∷◌, ◌++◌, get_or, slice_get, slice_set, refl, sym, ap, ◌∙◌, subst, arith}
+use Rattle.std.proofs.lemmas.Nat.{le_bytes_4}
+use Rattle.std.specs.Int.{from_le_bytes, to_le_bytes, w32}
+use Rattle.std.specs.List.{AllByRecursion, range_with_len, zip}
 use Rattle.c104_control.proofs.ReadCommands.{read_back}
-use Rattle.c104_control.specs.declared.faults.CommandFault.{CommandFault}
-use Rattle.c104_control.specs.Table.{command_bytes, reply_bytes}
 use Rattle.c104_control.specs.declared.commands.Command.{Command}
 use Rattle.c104_control.specs.declared.commands.Command.TheVariants.{CPeek}
+use Rattle.c104_control.specs.declared.faults.CommandFault.{CommandFault}
 use Rattle.c104_control.specs.declared.replies.Answer.TheVariants.{Value}
+use Rattle.c104_control.specs.Table.{command_bytes, reply_bytes}
+use Rattle.c104_event.specs.declared.faults.EventFault.{EventFault}
 use Rattle.c104_node.proofs.WireEnds.{get_set_same}
 use Rattle.c104_regs.specs.Addresses.{address_number}
-use Rattle.c104_regs.specs.Faults.{register_fault_number}
 use Rattle.c104_regs.specs.declared.addresses.Address.TheVariants.{AtLink}
 use Rattle.c104_regs.specs.declared.addresses.Register.TheVariants as register
 use Rattle.c104_regs.specs.declared.faults.RegFault.{RegFault}
+use Rattle.c104_regs.specs.declared.faults.RegFault.TheVariants.{NoRegister, ReadOnly, OutOfRange, Busy}
 use Rattle.c104_regs.specs.declared.registers.TheConstants.{LINKS}
 use Rattle.c104_switch.specs.Control.{peek_answer, switch_control, switch_obey_if_read}
 use Rattle.c104_switch.specs.Peeks.{switch_peek}
 use Rattle.c104_switch.specs.Switch.{Switch}
 use Rattle.c104_token.specs.declared.tokens.Token.{Token}
-use Rattle.c104_tools.proofs.DoneSteps.{one_there}
-use Rattle.c104_tools.proofs.Runs.{read_seven}
-use Rattle.c104_tools.proofs.ShownLoads.{not_refused}
-use Rattle.c104_tools.specs.Loads.{peeks}
-use Rattle.c104_tools.specs.Ports.{Obeyed, Switches, Went}
-use Rattle.c104_tools.specs.Reads.{AreSeen, HasValue, numbered}
-use Rattle.c104_tools.specs.Steps.{step_done}
-use Rattle.c104_tools.specs.Tables.{table_entries}
+use Rattle.c104_tools.specs.declared.faults.LoadFault.{LoadFault}
 use Rattle.c104_tools.specs.declared.ports.Asked.{Asked}
+use Rattle.c104_tools.specs.Loads.{order}
+use Rattle.c104_tools.specs.Outcomes.{ComesTo, GoesOn, any_value, peeks_at, step_result}
+use Rattle.c104_tools.specs.Ports.{Commanded, Switches}
+use Rattle.c104_tools.specs.Reads.{AreSeen, HasValue, link_addresses}
+use Rattle.c104_tools.specs.Steps.{Given}
+use Rattle.c104_tools.specs.Tables.{table_addresses}
+use Rattle.c104_tools.proofs.KnownCommands.{obeyed_one}
 
 -- an address that a command can name
-abbrev pub IsNamed : ℕ × ℕ → Type 0
-IsNamed x = x.0 < 2 ^ 16
+abbrev pub IsNamed : ℕ → Type 0
+IsNamed a = a < 2 ^ 16
 
-module _ (s : Switch Token) (a : ℕ) (low : a < 2 ^ 16) where
-  -- a peek changes nothing
-  peek_rests : (switch_control s (command_bytes (CPeek a))).1 ≡ s
-  peek_rests = ap (λ (r : Result Command CommandFault). (switch_obey_if_read s r).1) (read_back (CPeek a) low)
+-- a value is read back in the 32 bits of a reply
+value_bytes : (w i : ℕ) → get_or (to_le_bytes w32 w) i 0 < 256
+value_bytes w zero = omega arith
+value_bytes w (suc zero) = omega arith
+value_bytes w (suc (suc zero)) = omega arith
+value_bytes w (suc (suc (suc zero))) = omega arith
+value_bytes w (suc (suc (suc (suc i)))) = omega arith
 
-  -- and what it is answered is what the register has
-  peek_seen : (v : ℕ) → reply_bytes (Value v) ≡ (switch_control s (command_bytes (CPeek a))).0 → HasValue s a v
-  peek_seen v is = by_result (switch_peek s a) refl (is ∙ ap (λ (r : Result Command CommandFault). reply_bytes (switch_obey_if_read s r).0) (read_back (CPeek a) low))
+same_bytes : (w : ℕ) → reply_bytes (Value w) ≡ reply_bytes (Value (from_le_bytes w32 (to_le_bytes w32 w)))
+same_bytes w = ap (λ (bytes : List ℕ). 132 ∷ bytes) (sym (le_bytes_4 (to_le_bytes w32 w) (from_le_bytes w32 (to_le_bytes w32 w)) refl (value_bytes w) refl))
+
+abbrev value_of : Result ℕ LoadFault → ℕ
+value_of (Ok v) = v
+value_of (Err f) = 0
+
+module _ (s : Switch Token) (switch a : ℕ) where
+  -- what a peek tells is what the register has
+  told_seen : (o : Result ℕ RegFault) → switch_peek s a ≡ o → (v : ℕ) → step_result any_value (order switch (CPeek a)) (Ok (reply_bytes (peek_answer o))) ≡ Ok v → HasValue s (a, v)
+  told_seen (Ok w) at v told =
+      (w, at, same_bytes w ∙ ap (λ (r : Result ℕ LoadFault). reply_bytes (Value (value_of r))) told)
+  told_seen (Err NoRegister) at v told = absurd (cc told)
+  told_seen (Err ReadOnly) at v told = absurd (cc told)
+  told_seen (Err OutOfRange) at v told = absurd (cc told)
+  told_seen (Err Busy) at v told = absurd (cc told)
+
+module _ {P : Type 0} (commands : P → List Asked) (switch_count : P → ℕ) (shown : P → Option Switches) (unanswered : P → ℕ → List ℕ → EventFault → Type 0) (due : P → ℕ → List ℕ → Given → P → Type 0) (switch : ℕ) (s : Switch Token) where
+  abbrev Known : P → ℕ → List ℕ → Given → P → Type 0
+  Known = Commanded commands switch_count shown unanswered due
+
+  -- values that were read one after the other of the switch
+  abbrev Have : List ℕ → List ℕ → Type 0
+  Have addresses values = AllByRecursion (HasValue s) (zip addresses values)
+
+  values_seen : (addresses : List ℕ) (p q : P) (values : List ℕ) (before : Switches) → AllByRecursion IsNamed addresses → shown p ≡ Some before → slice_get before switch ≡ Some s → ComesTo Known any_value p (peeks_at switch addresses) (Ok values) q → Have addresses values
+  values_seen [] p q values before named is at came = tt
+  values_seen (a ∷ addresses) p q values before (low, named) is at (given, next, gave, goes) = by_given given gave goes (λ rest. values_seen addresses next q rest (slice_set before switch s) named)
     where
-      by_result : (o : Result ℕ RegFault) → switch_peek s a ≡ o → reply_bytes (Value v) ≡ reply_bytes (peek_answer o) → HasValue s a v
-      by_result (Ok w) at told = (w, at, sym told)
-      by_result (Err e) at told = absurd (not_refused (CPeek a) v (register_fault_number e) (sym told))
+      control : switch_control s (command_bytes (CPeek a)) ≡ (reply_bytes (peek_answer (switch_peek s a)), s)
+      control = ap (λ (r : Result Command CommandFault). (reply_bytes (switch_obey_if_read s r).0, (switch_obey_if_read s r).1)) (read_back (CPeek a) low)
 
--- values that were read one after the other of a switch
-values_seen : (switch : ℕ) (s : Switch Token) (after : Option Switches) (values : List (ℕ × ℕ)) (before : Switches) → AllByRecursion IsNamed values → slice_get before switch ≡ Some s → Obeyed (Some before) (map step_done (peeks switch values)) after → AllByRecursion (λ (x : ℕ × ℕ). HasValue s x.0 x.1) values
-values_seen switch s after [] before named at obeyed = tt
-values_seen switch s after (x ∷ values) before (low, named) at (y, there, replied, obeyed) =
-    let same : y ≡ s = one_there before switch y s there at in
-    let reply : reply_bytes (Value x.1) ≡ (switch_control s (command_bytes (CPeek x.0))).0 = replied ∙ ap (λ (z : Switch Token). (switch_control z (command_bytes (CPeek x.0))).0) same in
-    let rests : (switch_control y (command_bytes (CPeek x.0))).1 ≡ s = ap (λ (z : Switch Token). (switch_control z (command_bytes (CPeek x.0))).1) same ∙ peek_rests s x.0 low in (
-      peek_seen s x.0 low x.1 reply,
-      values_seen switch s after values (slice_set before switch s) named (get_set_same before switch s s at)
-          (subst (λ (z : Switch Token). Obeyed (Some (slice_set before switch z)) (map step_done (peeks switch values)) after) rests obeyed),
-    )
+      by_result : (x : Result ℕ LoadFault) → ((v : ℕ) → x ≡ Ok v → HasValue s (a, v)) → GoesOn x next (Ok values) q (λ s rest. ComesTo Known any_value s (peeks_at switch addresses) rest q) → ((rest : List ℕ) → ComesTo Known any_value next (peeks_at switch addresses) (Ok rest) q → Have addresses rest) → Have (a ∷ addresses) values
+      by_result (Ok v) seen (Ok rest, is, more) each =
+          let same : v ∷ rest ≡ values = cc in
+          subst (Have (a ∷ addresses)) same (seen v refl, each rest more)
+      by_result (Ok v) seen (Err f, is, more) each = absurd (cc is)
+      by_result (Err f) seen (is, same) each = absurd (cc is)
 
-seen_of : (old new : List Asked) (before after : Option Switches) (switch : ℕ) (values : List (ℕ × ℕ)) → AllByRecursion IsNamed values → new ≡ old ++ map step_done (peeks switch values) → Went old new before after → AreSeen before switch values
-seen_of old new None after switch values named grown went = tt
-seen_of old new (Some before) after switch values named grown went = λ s at.
-    let asked : went.asked ≡ map step_done (peeks switch values) = append_cancel_left old _ _ (sym went.grown ∙ grown) in
-    values_seen switch s after values before named at (subst (λ xs. Obeyed (Some before) xs after) asked went.obeyed)
+      by_given : (given : Given) → Known p switch (command_bytes (CPeek a)) given next → GoesOn (step_result any_value (order switch (CPeek a)) given) next (Ok values) q (λ s rest. ComesTo Known any_value s (peeks_at switch addresses) rest q)
+          → ((rest : List ℕ) → shown next ≡ Some (slice_set before switch s) → slice_get (slice_set before switch s) switch ≡ Some s → ComesTo Known any_value next (peeks_at switch addresses) (Ok rest) q → Have addresses rest) → Have (a ∷ addresses) values
+      by_given (Err e) gave (failed, same) each = absurd (cc failed)
+      by_given (Ok reply) gave goes each =
+          let (given_so, left) = obeyed_one before (shown p) (shown next) switch (command_bytes (CPeek a)) reply s at is gave.replied.1 in
+          let reply_is : reply ≡ reply_bytes (peek_answer (switch_peek s a)) = given_so ∙ ap (λ (r : List ℕ × Switch Token). r.0) control in
+          by_result (step_result any_value (order switch (CPeek a)) (Ok reply))
+          (λ v told. told_seen s switch a (switch_peek s a) refl v (ap (λ (bytes : List ℕ). step_result any_value (order switch (CPeek a)) (Ok bytes)) (sym reply_is) ∙ told)) goes
+          (λ rest more. each rest (left ∙ ap (λ (r : List ℕ × Switch Token). Some (slice_set before switch r.1)) control) (get_set_same before switch s s at) more)
 
 -- the addresses of a link and of a table can be named
-numbered_below : (a : ℕ) (values : List ℕ) → a + length values ≤ 65536 → AllByRecursion IsNamed (numbered a values)
-numbered_below a [] fits = tt
-numbered_below a (v ∷ values) fits = let low : a < 65536 = omega arith in (low, numbered_below (a + 1) values (omega arith))
+range_named : (a n : ℕ) → a + n ≤ 65536 → AllByRecursion IsNamed (range_with_len a n)
+range_named a zero fits = tt
+range_named a (suc n) fits = let low : a < 65536 = omega arith in (low, range_named (a + 1) n (omega arith))
 
-named_on : (first second : List (ℕ × ℕ)) → AllByRecursion IsNamed first → AllByRecursion IsNamed second → AllByRecursion IsNamed (first ++ second)
+named_on : (first second : List ℕ) → AllByRecursion IsNamed first → AllByRecursion IsNamed second → AllByRecursion IsNamed (first ++ second)
 named_on [] second one other = other
-named_on (x ∷ first) second (low, one) other = (low, named_on first second one other)
+named_on (a ∷ first) second (low, one) other = (low, named_on first second one other)
 
-link_low : (link : ℕ) → link < LINKS → address_number (AtLink link register.Sunk) + 7 ≤ 65536
-link_low link inside =
+pub link_named : (link : ℕ) → link < LINKS → AllByRecursion IsNamed (link_addresses link)
+link_named link inside =
     let low : link < 32 = inside in
     let is : address_number (AtLink link register.Sunk) ≡ 256 * (link + 1) + 3 = refl in
-    omega (arith, low, is)
+    range_named (address_number (AtLink link register.Sunk)) 7 (omega (arith, low, is))
 
-base_low : (link n : ℕ) → link < LINKS → n ≤ 37 → address_number (AtLink link register.Base) + n ≤ 65536
-base_low link n inside few =
+pub table_named : (link : ℕ) → link < LINKS → AllByRecursion IsNamed (table_addresses link)
+table_named link inside =
     let low : link < 32 = inside in
-    let is : address_number (AtLink link register.Base) ≡ 256 * (link + 1) + 63 = refl in
-    omega (arith, low, is, few)
+    let first : address_number (AtLink link register.Base) ≡ 256 * (link + 1) + 63 = refl in
+    let second : address_number (AtLink link (register.Select 0)) ≡ 256 * (link + 1) + 128 = refl in
+    named_on (range_with_len (address_number (AtLink link register.Base)) 37) (range_with_len (address_number (AtLink link (register.Select 0))) 36)
+    (range_named (address_number (AtLink link register.Base)) 37 (omega (arith, low, first)))
+    (range_named (address_number (AtLink link (register.Select 0))) 36 (omega (arith, low, second)))
 
-selects_low : (link n : ℕ) → link < LINKS → n ≤ 36 → address_number (AtLink link (register.Select 0)) + n ≤ 65536
-selects_low link n inside few =
-    let low : link < 32 = inside in
-    let is : address_number (AtLink link (register.Select 0)) ≡ 256 * (link + 1) + 128 = refl in
-    omega (arith, low, is, few)
-
-table_low : (link : ℕ) (limits codes : List ℕ) → link < LINKS → length limits ≤ 37 → length codes ≤ 36 → AllByRecursion IsNamed (table_entries link limits codes)
-table_low link limits codes inside few_limits few_codes =
-    named_on (numbered (address_number (AtLink link register.Base)) limits) (numbered (address_number (AtLink link (register.Select 0))) codes)
-    (numbered_below (address_number (AtLink link register.Base)) limits (base_low link (length limits) inside few_limits))
-    (numbered_below (address_number (AtLink link (register.Select 0))) codes (selects_low link (length codes) inside few_codes))
-
--- the numbers of a link, as seven peeks read them
-pub link_seen : (old new : List Asked) (before after : Option Switches) (switch first link : ℕ) (values : List ℕ) → link < LINKS → first ≡ address_number (AtLink link register.Sunk) → length values ≡ 7 → new ≡ old ++ map step_done (peeks switch (numbered first values)) → Went old new before after → AreSeen before switch (numbered (address_number (AtLink link register.Sunk)) (get_or values 0 0 ∷ get_or values 1 0 ∷ get_or values 2 0 ∷ get_or values 3 0 ∷ get_or values 4 0 ∷ get_or values 5 0 ∷ get_or values 6 0 ∷ []))
-link_seen old new before after switch first link values inside is seven grown went =
-    let told : List ℕ = get_or values 0 0 ∷ get_or values 1 0 ∷ get_or values 2 0 ∷ get_or values 3 0 ∷ get_or values 4 0 ∷ get_or values 5 0 ∷ get_or values 6 0 ∷ [] in
-    seen_of old new before after switch (numbered (address_number (AtLink link register.Sunk)) told)
-    (numbered_below (address_number (AtLink link register.Sunk)) told (link_low link inside))
-    (read_seven old new switch first (address_number (AtLink link register.Sunk)) values is seven grown) went
-
--- the registers of a table
-pub table_seen : (old new : List Asked) (before after : Option Switches) (switch link : ℕ) (limits codes : List ℕ) → link < LINKS → length limits ≡ 37 → length codes ≡ 36 → new ≡ old ++ map step_done (peeks switch (table_entries link limits codes)) → Went old new before after → AreSeen before switch (table_entries link limits codes)
-table_seen old new before after switch link limits codes inside limits_many codes_many grown went =
-    seen_of old new before after switch (table_entries link limits codes)
-    (table_low link limits codes inside (omega (arith, limits_many)) (omega (arith, codes_many))) grown went
+pub are_seen : {P : Type 0} (commands : P → List Asked) (switch_count : P → ℕ) (shown : P → Option Switches) (unanswered : P → ℕ → List ℕ → EventFault → Type 0) (due : P → ℕ → List ℕ → Given → P → Type 0) (switch : ℕ) (addresses values told : List ℕ) (p q : P) → AllByRecursion IsNamed addresses → ComesTo (Commanded commands switch_count shown unanswered due) any_value p (peeks_at switch addresses) (Ok values) q → values ≡ told → AreSeen (shown p) switch addresses told
+are_seen commands switch_count shown unanswered due switch addresses values told p q named came same = by_shown (shown p) refl
+  where
+    by_shown : (o : Option Switches) → shown p ≡ o → AreSeen o switch addresses told
+    by_shown None is = tt
+    by_shown (Some before) is = λ s at. subst (λ xs. AllByRecursion (HasValue s) (zip addresses xs)) same (values_seen commands switch_count shown unanswered due switch s addresses p q values before named is at came)

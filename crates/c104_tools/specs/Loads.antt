@@ -35,7 +35,7 @@ switch_pokes switch settings = pokes switch (kept_values settings)
 -- and each switch is started
 abbrev pub load_list : List (List Settings) → List Step
 load_list image =
-    for_each (length image) Reset ++ steps_from switch_pokes 0 image ++ for_each (length image) Start
+    for_each (length image) Reset ++ (steps_from switch_pokes 0 image ++ for_each (length image) Start)
 
 -- what an address is to read, where it can be written, at a switch that is loaded with these settings
 abbrev pub due_value : List Settings → ℕ → Option ℕ

@@ -1,37 +1,25 @@
 -- What comes of steps that are asked through a port: of each in turn, up to the first fault.
 use Rattle.std.specs.Prelude.{◌≡◌, ℕ, ◌==◌, List, [], ◌∷◌, Result, Ok, Err, drop, get_or, if◌then◌else◌, map, not, take}
-use Rattle.std.specs.List.{list_any, range_with_len}
-use Rattle.c104_control.specs.Reading.{read_reply}
+use Rattle.std.specs.List.{list_any}
 use Rattle.c104_control.specs.Table.{command_bytes}
 use Rattle.c104_control.specs.declared.commands.Command.{Command}
 use Rattle.c104_control.specs.declared.commands.Command.TheVariants.{CPeek}
-use Rattle.c104_event.specs.declared.faults.EventFault.{EventFault}
 use Rattle.c104_interval.specs.declared.intervals.Row.{Row}
 use Rattle.c104_interval.specs.declared.intervals.Table.{Table}
-use Rattle.c104_regs.specs.Addresses.{address_number}
-use Rattle.c104_regs.specs.declared.addresses.Address.TheVariants.{AtLink}
-use Rattle.c104_regs.specs.declared.addresses.Register.TheVariants.{Sunk}
 use Rattle.c104_regs.specs.Values.{select_of}
 use Rattle.c104_tools.specs.declared.faults.LoadFault.{LoadFault}
 use Rattle.c104_tools.specs.declared.faults.LoadFault.TheVariants as fault
 use Rattle.c104_tools.specs.declared.reading.LinkNumbers.{LinkNumbers}
 use Rattle.c104_tools.specs.Loads.{order}
-use Rattle.c104_tools.specs.Steps.{Step, judged, named_address}
+use Rattle.c104_tools.specs.Reads.{link_addresses}
+pub use Rattle.c104_tools.specs.Steps.{Given}
+use Rattle.c104_tools.specs.Steps.{Step, named_address, told}
 use Rattle.c104_tools.specs.Tables.{is_select, table_addresses}
 
 -- what is made of what was read, unless that failed
 abbrev pub and_then : {X Y : Type 0} → Result X LoadFault → (X → Result Y LoadFault) → Result Y LoadFault
 and_then (Ok x) make = make x
 and_then (Err f) make = Err f
-
--- what a port gave for a command: the bytes of a reply, or no reply
-abbrev pub Given : Type 0
-Given = Result (List ℕ) EventFault
-
--- what that tells of a command of a switch: the value that it read, or 0; or why it failed
-abbrev pub told : ℕ → Command → Given → Result ℕ LoadFault
-told switch c (Ok bytes) = judged switch c (read_reply bytes)
-told switch c (Err e) = Err (fault.Port e)
 
 -- a command was asked of a switch through a port, of which it is known what a command may be given, and this
 -- was told of it
@@ -103,7 +91,7 @@ peeks_at switch addresses = map (λ a. order switch (CPeek a)) addresses
 
 -- peeks of what a link tells of itself
 abbrev pub link_peeks : ℕ → ℕ → List Step
-link_peeks switch link = peeks_at switch (range_with_len (address_number (AtLink link Sunk)) 7)
+link_peeks switch link = peeks_at switch (link_addresses link)
 
 -- the numbers of a link, by the values of its registers
 abbrev pub link_made : List ℕ → Result LinkNumbers LoadFault

@@ -1,8 +1,10 @@
 -- Control commands that were asked through a port, and what they come to at switches.
-use Rattle.std.specs.Prelude.{◌≡◌, ℕ, List, [], ◌∷◌, ◌++◌, Option, Some, None, slice_get, slice_set}
+use Rattle.std.specs.Prelude.{◌≡◌, ℕ, List, [], ◌∷◌, ◌++◌, MatchResult, Option, Some, None, slice_get, slice_set}
+use Rattle.c104_event.specs.declared.faults.EventFault.{EventFault}
 use Rattle.c104_token.specs.declared.tokens.Token.{Token}
 use Rattle.c104_switch.specs.Control.{switch_control}
 use Rattle.c104_switch.specs.Switch.{Switch}
+use Rattle.c104_tools.specs.Steps.{Given}
 pub use Rattle.c104_tools.specs.declared.ports.Asked.{Asked}
 
 -- the switches of a network, in order
@@ -24,13 +26,13 @@ Obeyed (Some before) (a ∷ asked) after =
     × (a.reply ≡ (switch_control s a.command).0)
     × Obeyed (Some (slice_set before a.switch (switch_control s a.command).1)) asked after
 
--- how a port came from one state to another, by its commands and the switches that it shows: its list grew
--- by commands that those obeyed
-pub record Went (old new : List Asked) (before after : Option Switches) : Type 0 where
-  pub asked : List Asked
-  pub grown : new ≡ old ++ asked
-  pub obeyed : Obeyed before asked after
-
--- the same of two states of a port
-abbrev pub CameBy : {P : Type 0} → (P → List Asked) → (P → Option Switches) → P → P → Type 0
-CameBy commands shown old new = Went (commands old) (commands new) (shown old) (shown new)
+-- a command was handed to a switch through a port, which gave a reply or none: all that is known of the port after it.
+-- Its list grew by just this command with its reply, which the switches that it shows obeyed; or nothing was asked, and
+-- it is one that the port may leave unanswered so. It has as many switches as before
+pub record Commanded {P : Type 0} (commands : P → List Asked) (switch_count : P → ℕ) (shown : P → Option Switches) (unanswered : P → ℕ → List ℕ → EventFault → Type 0) (due : P → ℕ → List ℕ → Given → P → Type 0) (old : P) (switch : ℕ) (command : List ℕ) (given : Given) (new : P) : Type 0 where
+  pub replied : MatchResult given
+      (λ reply. (commands new ≡ commands old ++ command_asked switch command reply ∷ [])
+      × Obeyed (shown old) (command_asked switch command reply ∷ []) (shown new))
+      (λ e. (commands new ≡ commands old) × (shown new ≡ shown old) × unanswered old switch command e)
+  pub came : due old switch command given new
+  pub count : switch_count new ≡ switch_count old

@@ -2,10 +2,11 @@
 //!
 //! A reply is judged by its command's line of the table: a refusal whose number that command can't meet, as any refusal
 //! of a reset, is no answer to it, and so a BadReply.
-ghost use Rattle.std.specs.Prelude.{◌≡◌, [], ◌∷◌, ◌++◌, MatchResult};
+ghost use Rattle.std.specs.Prelude.{◌≡◌, ◌≢◌, Err, Ok};
+ghost use Rattle.c104_tools.specs.declared.faults.LoadFault.TheVariants as fault;
 ghost use Rattle.c104_tools.specs.Outcomes.{IsTold};
-ghost use Rattle.c104_tools.specs.Ports.{CameBy};
-ghost use Rattle.c104_tools.specs.Steps.{IsFaultOf, IsUnanswered, done, judged, may_refuse, named_address};
+ghost use Rattle.c104_tools.specs.Ports.{Commanded};
+ghost use Rattle.c104_tools.specs.Steps.{IsMeant, judged, may_refuse, named_address, told};
 
 use crate::faults::LoadFault;
 use crate::ports::ControlPort;
@@ -17,15 +18,19 @@ pub(crate) fn ask<P: ControlPort>(
     switch: usize,
     command: Command,
 ) -> Result<u32, LoadFault>
-    ensures answer { MatchResult result
-        (λ v. P.commands port.new ≡ P.commands port.old ++ done switch command v ∷ [])
-        (λ f. IsFaultOf (IsUnanswered P.commands P.switch_count P.unanswered port.new) (P.commands port.old) (P.commands port.new) switch command f) }
-    ensures due { IsTold P.due port.old switch command result port.new }
-    ensures went { CameBy P.commands P.shown port.old port.new }
-    ensures count { P.switch_count port.new ≡ P.switch_count port.old }
+    ensures asked { IsTold (Commanded P.commands P.switch_count P.shown P.unanswered P.due) port.old switch command result port.new }
+    ensures known { result ≢ Err fault.NoSwitch }
 {
     let reply = port.command(switch, &write_command(&command))?;
-    judge(switch, command, read_reply(reply.as_slice()))
+    told(switch, command, reply.as_slice())
+}
+
+/// What a reply tells of a command of a switch.
+fn told(switch: usize, command: Command, reply: &[u8]) -> Result<u32, LoadFault>
+    ensures told { result ≡ told switch command (Ok reply.now) }
+    ensures meant { IsMeant switch command reply.now result }
+{
+    judge(switch, command, read_reply(reply))
 }
 
 /// What comes of what a switch answered to a command, if it was an answer.

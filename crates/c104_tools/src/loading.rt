@@ -1,11 +1,10 @@
 //! The loader.
-ghost use Rattle.std.specs.Prelude.{◌≡◌, ◌≢◌, ◌↔◌, true, Err, IfErr, MatchResult, Some, length};
+ghost use Rattle.std.specs.Prelude.{◌≡◌, ◌≢◌, ◌↔◌, Err, IfErr, MatchResult, Some, length};
 ghost use Rattle.c104_tools.specs.declared.faults.LoadFault.TheVariants as fault;
 ghost use Rattle.c104_tools.specs.Loads.{for_each, load_list, pokes, steps_from, switch_pokes};
 ghost use Rattle.c104_tools.specs.Loaded.{IsLeftBySwitch, IsUnansweredFault, each_with, loaded};
 ghost use Rattle.c104_tools.specs.Outcomes.{Outcome, any_value, nothing_made};
-ghost use Rattle.c104_tools.specs.Ports.{CameBy, Switches};
-ghost use Rattle.c104_tools.specs.Steps.{CarriedOut, reads_nothing};
+ghost use Rattle.c104_tools.specs.Ports.{Commanded, Switches};
 
 use crate::commands::ask;
 use crate::faults::LoadFault;
@@ -15,11 +14,9 @@ use c104_plan::{Image, SwitchImage};
 
 /// Asks a command that reads nothing of each of `count` switches, in order.
 fn ask_each<P: ControlPort>(port: &mut P, count: usize, command: Command) -> Result<(), LoadFault>
-    requires { reads_nothing command ≡ true }
-    ensures performed { CarriedOut P.commands P.switch_count P.unanswered port.old port.new (for_each count command) result }
-    ensures due { Outcome P.due any_value nothing_made port.old (for_each count command) result port.new }
-    ensures went { CameBy P.commands P.shown port.old port.new }
-    ensures count { P.switch_count port.new ≡ P.switch_count port.old }
+    ensures asked { Outcome (Commanded P.commands P.switch_count P.shown P.unanswered P.due) any_value nothing_made port.old
+        (for_each count command) result port.new }
+    ensures known { result ≢ Err fault.NoSwitch }
 {
     for switch in 0..count {
         ask(port, switch, command)?;
@@ -33,10 +30,9 @@ fn poke_values<P: ControlPort>(
     switch: usize,
     values: &[(u16, u32)],
 ) -> Result<(), LoadFault>
-    ensures performed { CarriedOut P.commands P.switch_count P.unanswered port.old port.new (pokes switch values.now) result }
-    ensures due { Outcome P.due any_value nothing_made port.old (pokes switch values.now) result port.new }
-    ensures went { CameBy P.commands P.shown port.old port.new }
-    ensures count { P.switch_count port.new ≡ P.switch_count port.old }
+    ensures asked { Outcome (Commanded P.commands P.switch_count P.shown P.unanswered P.due) any_value nothing_made port.old
+        (pokes switch values.now) result port.new }
+    ensures known { result ≢ Err fault.NoSwitch }
 {
     for entry in values {
         ask(port, switch, Command::CPoke(entry.0, entry.1))?;
@@ -46,10 +42,9 @@ fn poke_values<P: ControlPort>(
 
 /// Pokes what an image keeps into each of its switches.
 fn poke_all<P: ControlPort>(port: &mut P, image: &[SwitchImage]) -> Result<(), LoadFault>
-    ensures performed { CarriedOut P.commands P.switch_count P.unanswered port.old port.new (steps_from switch_pokes 0 image.now) result }
-    ensures due { Outcome P.due any_value nothing_made port.old (steps_from switch_pokes 0 image.now) result port.new }
-    ensures went { CameBy P.commands P.shown port.old port.new }
-    ensures count { P.switch_count port.new ≡ P.switch_count port.old }
+    ensures asked { Outcome (Commanded P.commands P.switch_count P.shown P.unanswered P.due) any_value nothing_made port.old
+        (steps_from switch_pokes 0 image.now) result port.new }
+    ensures known { result ≢ Err fault.NoSwitch }
 {
     for (switch, kept) in image.iter().enumerate() {
         poke_values(port, switch, kept.values())?;
@@ -66,9 +61,9 @@ fn poke_all<P: ControlPort>(port: &mut P, image: &[SwitchImage]) -> Result<(), L
 pub fn load<P: ControlPort>(port: &mut P, image: &Image) -> Result<(), LoadFault>
     ensures unfitting { (result ≡ Err fault.NoSwitch) ↔ (P.switch_count port.old ≢ length image.now.settings) }
     ensures not_asked { P.switch_count port.old ≢ length image.now.settings → port.new ≡ port.old }
-    ensures performed { P.switch_count port.old ≡ length image.now.settings →
-        CarriedOut P.commands P.switch_count P.unanswered port.old port.new (load_list image.now.settings) result }
-    ensures went { CameBy P.commands P.shown port.old port.new }
+    ensures asked { P.switch_count port.old ≡ length image.now.settings →
+        Outcome (Commanded P.commands P.switch_count P.shown P.unanswered P.due) any_value nothing_made port.old
+        (load_list image.now.settings) result port.new }
 
     // So where it is known what is given for each command, it is known what comes of all.
     ensures due { P.switch_count port.old ≡ length image.now.settings →

@@ -2,8 +2,8 @@
 ghost use Rattle.std.specs.Prelude.{◌≡◌, ℕ, List, [], ◌∷◌, ◌++◌, Option, MatchOption, MatchResult, length};
 ghost use Rattle.c104_event.specs.declared.faults.EventFault.{EventFault as TheFault};
 ghost use Rattle.c104_tools.specs.declared.ports.Asked.{Asked as TheAsked};
-ghost use Rattle.c104_tools.specs.Outcomes.{Given};
 ghost use Rattle.c104_tools.specs.Ports.{Obeyed, Switches, command_asked};
+ghost use Rattle.c104_tools.specs.Steps.{Given};
 
 use c104_control::ControlBytes;
 use c104_event::EventFault;

@@ -1,13 +1,10 @@
 //! What the debugger reads.
 ghost use Rattle.std.specs.List.{range_with_len};
-ghost use Rattle.std.specs.Prelude.{◌≡◌, ◌↔◌, ◌+◌, ◌<◌, ◌≤◌, Err, IfOk, Ok, length};
-ghost use Rattle.c104_regs.specs.declared.addresses.Address.TheVariants.{AtLink};
-ghost use Rattle.c104_regs.specs.declared.addresses.Register.TheVariants.{Sunk};
-ghost use Rattle.c104_regs.specs.Addresses.{address_number};
+ghost use Rattle.std.specs.Prelude.{◌≡◌, ◌≢◌, ◌↔◌, ◌+◌, ◌<◌, ◌≤◌, Err, IfOk, Ok, length};
 ghost use Rattle.c104_tools.specs.declared.faults.LoadFault.TheVariants as fault;
 ghost use Rattle.c104_tools.specs.Outcomes.{ComesTo, Outcome, and_then, any_value, link_made, link_peeks, peeks_at};
-ghost use Rattle.c104_tools.specs.Ports.{CameBy};
-ghost use Rattle.c104_tools.specs.Reads.{AreRead, AreSeen, HaveRead, link_values, numbered};
+ghost use Rattle.c104_tools.specs.Ports.{Commanded};
+ghost use Rattle.c104_tools.specs.Reads.{AreSeen, link_addresses, link_values};
 
 use crate::commands::ask;
 use crate::faults::LoadFault;
@@ -43,11 +40,10 @@ pub(crate) fn read_run<P: ControlPort>(
     values: &mut [u32],
 ) -> Result<(), LoadFault>
     requires { first + length values.old ≤ 0x10000 }
-    ensures read { HaveRead P.commands P.switch_count P.unanswered port.old port.new switch first values.new result }
-    ensures due { ComesTo P.due any_value port.old (peeks_at switch (range_with_len first (length values.new)))
+    ensures asked { ComesTo (Commanded P.commands P.switch_count P.shown P.unanswered P.due) any_value port.old
+        (peeks_at switch (range_with_len first (length values.new)))
         (and_then result (λ _. Ok values.new)) port.new }
-    ensures came { CameBy P.commands P.shown port.old port.new }
-    ensures count { P.switch_count port.new ≡ P.switch_count port.old }
+    ensures known { result ≢ Err fault.NoSwitch }
 {
     for i in 0..values.len() {
         let value = ask(port, switch, Command::CPeek(first + i as u16))?;
@@ -69,13 +65,13 @@ pub fn read_link<P: ControlPort>(
     requires { link < LINKS }
     ensures unknown { (result ≡ Err fault.NoSwitch) ↔ (P.switch_count port.old ≤ switch) }
     ensures not_asked { P.switch_count port.old ≤ switch → port.new ≡ port.old }
-    ensures read { switch < P.switch_count port.old →
-        AreRead P.commands P.switch_count P.unanswered port.old port.new switch (address_number (AtLink link Sunk)) 7 link_values result }
-    ensures seen { switch < P.switch_count port.old → IfOk result (λ numbers.
-        AreSeen (P.shown port.old) switch (numbered (address_number (AtLink link Sunk)) (link_values numbers))) }
+    ensures asked { switch < P.switch_count port.old →
+        Outcome (Commanded P.commands P.switch_count P.shown P.unanswered P.due) any_value link_made port.old
+        (link_peeks switch link) result port.new }
     ensures due { switch < P.switch_count port.old →
         Outcome P.due any_value link_made port.old (link_peeks switch link) result port.new }
-    ensures came { CameBy P.commands P.shown port.old port.new }
+    ensures seen { switch < P.switch_count port.old → IfOk result (λ numbers.
+        AreSeen (P.shown port.old) switch (link_addresses link) (link_values numbers)) }
 {
     if switch >= port.switches() {
         return Err(LoadFault::NoSwitch);

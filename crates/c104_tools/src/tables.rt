@@ -1,12 +1,12 @@
 //! An input's table, as the debugger reads it.
-ghost use Rattle.std.specs.Prelude.{◌≡◌, ◌↔◌, ◌<◌, ◌≤◌, ◌∷◌, not, false, true, Err, IfOk, IfSome, IsTrue, MatchOption, length, map};
+ghost use Rattle.std.specs.Prelude.{◌≡◌, ◌↔◌, ◌<◌, ◌≤◌, not, false, true, Err, IfOk, IfSome, IsTrue, MatchOption, length, map};
 ghost use Rattle.std.specs.List.{list_any};
 ghost use Rattle.c104_regs.specs.Values.{select_code, select_of};
 ghost use Rattle.c104_tools.specs.declared.faults.LoadFault.TheVariants as fault;
 ghost use Rattle.c104_tools.specs.Outcomes.{Outcome, any_value, rows_with, table_made, table_peeks};
-ghost use Rattle.c104_tools.specs.Ports.{CameBy};
+ghost use Rattle.c104_tools.specs.Ports.{Commanded};
 ghost use Rattle.c104_tools.specs.Reads.{AreSeen};
-ghost use Rattle.c104_tools.specs.Tables.{IsTableRead, is_select, row_codes, row_limits, table_entries};
+ghost use Rattle.c104_tools.specs.Tables.{is_select, row_codes, row_limits, table_addresses, table_values};
 
 use crate::faults::LoadFault;
 use crate::ports::ControlPort;
@@ -64,14 +64,13 @@ pub fn read_table<P: ControlPort>(
     requires { link < LINKS }
     ensures unknown { (result ≡ Err fault.NoSwitch) ↔ (P.switch_count port.old ≤ switch) }
     ensures not_asked { P.switch_count port.old ≤ switch → port.new ≡ port.old }
-    ensures read { switch < P.switch_count port.old →
-        IsTableRead P.commands P.switch_count P.unanswered port.old port.new switch link result }
-    ensures seen { switch < P.switch_count port.old → IfOk result (λ table.
-        AreSeen (P.shown port.old) switch
-        (table_entries link (table.base ∷ map row_limits table.rows) (map row_codes table.rows))) }
+    ensures asked { switch < P.switch_count port.old →
+        Outcome (Commanded P.commands P.switch_count P.shown P.unanswered P.due) any_value (table_made switch) port.old
+        (table_peeks switch link) result port.new }
     ensures due { switch < P.switch_count port.old →
         Outcome P.due any_value (table_made switch) port.old (table_peeks switch link) result port.new }
-    ensures came { CameBy P.commands P.shown port.old port.new }
+    ensures seen { switch < P.switch_count port.old → IfOk result (λ table.
+        AreSeen (P.shown port.old) switch (table_addresses link) (table_values table)) }
 {
     if switch >= port.switches() {
         return Err(LoadFault::NoSwitch);

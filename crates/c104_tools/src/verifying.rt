@@ -6,8 +6,7 @@ ghost use Rattle.std.specs.Prelude.{◌≡◌, ◌≢◌, ◌↔◌, Err, length
 ghost use Rattle.c104_tools.specs.declared.faults.LoadFault.TheVariants as fault;
 ghost use Rattle.c104_tools.specs.Loads.{due_entry, due_value, peeks, steps_from, switch_peeks, verify_list};
 ghost use Rattle.c104_tools.specs.Outcomes.{Outcome, due_value_only, nothing_made};
-ghost use Rattle.c104_tools.specs.Ports.{CameBy};
-ghost use Rattle.c104_tools.specs.Steps.{Compared};
+ghost use Rattle.c104_tools.specs.Ports.{Commanded};
 
 use crate::commands::ask;
 use crate::faults::LoadFault;
@@ -33,10 +32,9 @@ fn verify_switch<P: ControlPort>(
     switch: usize,
     kept: &SwitchImage,
 ) -> Result<(), LoadFault>
-    ensures performed { Compared P.commands P.switch_count P.unanswered port.old port.new (switch_peeks switch kept.now) result }
-    ensures due { Outcome P.due due_value_only nothing_made port.old (switch_peeks switch kept.now) result port.new }
-    ensures went { CameBy P.commands P.shown port.old port.new }
-    ensures count { P.switch_count port.new ≡ P.switch_count port.old }
+    ensures asked { Outcome (Commanded P.commands P.switch_count P.shown P.unanswered P.due) due_value_only nothing_made port.old
+        (switch_peeks switch kept.now) result port.new }
+    ensures known { result ≢ Err fault.NoSwitch }
 {
     for addr in 0..ADDRESS_END {
         compare(port, switch, addr, due_value(kept, addr))?;
@@ -51,10 +49,9 @@ fn compare<P: ControlPort>(
     addr: u16,
     due: Option<u32>,
 ) -> Result<(), LoadFault>
-    ensures performed { Compared P.commands P.switch_count P.unanswered port.old port.new (peeks switch (due_entry addr due)) result }
-    ensures due { Outcome P.due due_value_only nothing_made port.old (peeks switch (due_entry addr due)) result port.new }
-    ensures went { CameBy P.commands P.shown port.old port.new }
-    ensures count { P.switch_count port.new ≡ P.switch_count port.old }
+    ensures asked { Outcome (Commanded P.commands P.switch_count P.shown P.unanswered P.due) due_value_only nothing_made port.old
+        (peeks switch (due_entry addr due)) result port.new }
+    ensures known { result ≢ Err fault.NoSwitch }
 {
     let Some(due) = due else {
         return Ok(());
@@ -75,11 +72,11 @@ fn compare<P: ControlPort>(
 pub fn verify<P: ControlPort>(port: &mut P, image: &Image) -> Result<(), LoadFault>
     ensures unfitting { (result ≡ Err fault.NoSwitch) ↔ (P.switch_count port.old ≢ length image.now.settings) }
     ensures not_asked { P.switch_count port.old ≢ length image.now.settings → port.new ≡ port.old }
-    ensures performed { P.switch_count port.old ≡ length image.now.settings →
-        Compared P.commands P.switch_count P.unanswered port.old port.new (verify_list image.now.settings) result }
+    ensures asked { P.switch_count port.old ≡ length image.now.settings →
+        Outcome (Commanded P.commands P.switch_count P.shown P.unanswered P.due) due_value_only nothing_made port.old
+        (verify_list image.now.settings) result port.new }
     ensures due { P.switch_count port.old ≡ length image.now.settings →
         Outcome P.due due_value_only nothing_made port.old (verify_list image.now.settings) result port.new }
-    ensures went { CameBy P.commands P.shown port.old port.new }
 {
     let kept = image.switches();
     if port.switches() != kept.len() {
@@ -90,9 +87,9 @@ pub fn verify<P: ControlPort>(port: &mut P, image: &Image) -> Result<(), LoadFau
 
 /// The same of these switches of an image.
 fn verify_all<P: ControlPort>(port: &mut P, image: &[SwitchImage]) -> Result<(), LoadFault>
-    ensures performed { Compared P.commands P.switch_count P.unanswered port.old port.new (steps_from switch_peeks 0 image.now) result }
-    ensures due { Outcome P.due due_value_only nothing_made port.old (steps_from switch_peeks 0 image.now) result port.new }
-    ensures went { CameBy P.commands P.shown port.old port.new }
+    ensures asked { Outcome (Commanded P.commands P.switch_count P.shown P.unanswered P.due) due_value_only nothing_made port.old
+        (steps_from switch_peeks 0 image.now) result port.new }
+    ensures known { result ≢ Err fault.NoSwitch }
 {
     for (switch, kept) in image.iter().enumerate() {
         verify_switch(port, switch, kept)?;

@@ -1,11 +1,9 @@
 //! Setting a register.
-ghost use Rattle.std.specs.Prelude.{◌≡◌, ◌↔◌, ◌≤◌, ◌<◌, Err};
+ghost use Rattle.std.specs.Prelude.{◌≡◌, ◌↔◌, ◌≤◌, ◌<◌, [], ◌∷◌, Err};
 ghost use Rattle.c104_tools.specs.declared.faults.LoadFault.TheVariants as fault;
 ghost use Rattle.c104_tools.specs.Loads.{pokes};
 ghost use Rattle.c104_tools.specs.Outcomes.{Outcome, any_value, nothing_made};
-ghost use Rattle.c104_tools.specs.Ports.{CameBy};
-ghost use Rattle.c104_tools.specs.Steps.{CarriedOut};
-ghost use Rattle.std.specs.Prelude.{[], ◌∷◌};
+ghost use Rattle.c104_tools.specs.Ports.{Commanded};
 
 use crate::commands::ask;
 use crate::faults::LoadFault;
@@ -24,11 +22,11 @@ pub fn write_register<P: ControlPort>(
 ) -> Result<(), LoadFault>
     ensures unknown { (result ≡ Err fault.NoSwitch) ↔ (P.switch_count port.old ≤ switch) }
     ensures not_asked { P.switch_count port.old ≤ switch → port.new ≡ port.old }
-    ensures performed { switch < P.switch_count port.old →
-        CarriedOut P.commands P.switch_count P.unanswered port.old port.new (pokes switch ((addr, value) ∷ [])) result }
+    ensures asked { switch < P.switch_count port.old →
+        Outcome (Commanded P.commands P.switch_count P.shown P.unanswered P.due) any_value nothing_made port.old
+        (pokes switch ((addr, value) ∷ [])) result port.new }
     ensures due { switch < P.switch_count port.old →
         Outcome P.due any_value nothing_made port.old (pokes switch ((addr, value) ∷ [])) result port.new }
-    ensures went { CameBy P.commands P.shown port.old port.new }
 {
     if switch >= port.switches() {
         return Err(LoadFault::NoSwitch);

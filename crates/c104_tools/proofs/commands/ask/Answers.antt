@@ -1,16 +1,27 @@
-use Rattle.std.proofs.Common.{◌≡◌, ◌∷◌, [], ◌++◌, ◌↔◌, Some, ap, subst, ◌∙◌}
-use Rattle.c104_control.specs.declared.replies.Answer.{Answer}
-use Rattle.c104_control.specs.Table.{IsAnswer, reply_bytes}
-use Rattle.c104_tools.proofs.Replies.{comes_of_reply}
-use Rattle.c104_tools.specs.Ports.{command_asked}
-use Rattle.c104_tools.specs.Steps.{IsUnanswered}
+use Rattle.std.proofs.Common.{◌≡◌, Err, Ok, subst}
+use Rattle.c104_tools.specs.declared.faults.LoadFault.TheVariants as fault
+use Rattle.c104_tools.specs.Ports.{Commanded}
+use Rattle.c104_tools.specs.Steps.{IsMeant, told}
+use Rattle.c104_tools.proofs.Asking.{err_is}
 use Rattle.c104_tools.proofs.commands.ask.Goals as goal
 
-pub returns-clause-answer : goal.returns-clause-answer
-returns-clause-answer g c =
-    let asked = g.P.ControlPort.commands in
-    let same = ap (λ bytes. asked c.args.port.now ++ command_asked c.args.switch bytes c.in_ok-reply.reply ∷ []) c.write_command.ensures.bytes in
-    comes_of_reply (IsUnanswered asked g.P.ControlPort.switch_count g.P.ControlPort.unanswered c.command.new.self) _ _ c.args.switch c.args.command c.in_ok-reply.reply
-    (c.in_ok-reply.ensures.commands ∙ same) c.read_reply.result
-    (subst (λ bytes. (a : Answer) → (c.read_reply.result ≡ Some a) ↔ (IsAnswer a × (reply_bytes a ≡ bytes))) c.as_slice.ensures.value c.read_reply.ensures.table)
-    c.judge.result c.judge.ensures
+pub returns-clause-asked : goal.returns-clause-asked
+returns-clause-asked g c =
+    let reply = c.in_ok-reply.reply in (
+      Ok reply,
+      subst (λ bytes. Commanded g.P.ControlPort.commands g.P.ControlPort.switch_count g.P.ControlPort.shown g.P.ControlPort.unanswered g.P.ControlPort.due c.args.port.now c.args.switch bytes (Ok reply) c.command.new.self) c.write_command.ensures.bytes
+          (record { replied = (c.in_ok-reply.ensures.commands, c.in_ok-reply.ensures.shown); came = c.in_ok-reply.ensures.due; count = c.in_ok-reply.ensures.count }),
+      subst (λ bytes. c.told.result ≡ told c.args.switch c.args.command (Ok bytes)) c.as_slice.ensures.value c.told.ensures.told,
+    )
+
+pub returns-in_err-reply-clause-asked : goal.returns-in_err-reply-clause-asked
+returns-in_err-reply-clause-asked g c =
+    let e = c.in_err-reply.field-0.0 in (
+      Err e,
+      subst (λ bytes. Commanded g.P.ControlPort.commands g.P.ControlPort.switch_count g.P.ControlPort.shown g.P.ControlPort.unanswered g.P.ControlPort.due c.args.port.now c.args.switch bytes (Err e) c.command.new.self) c.write_command.ensures.bytes
+          (record { replied = (c.in_err-reply.ensures.commands, c.in_err-reply.ensures.shown, c.in_err-reply.ensures.fault); came = c.in_err-reply.ensures.due; count = c.in_err-reply.ensures.count }),
+      err_is c.from_residual.result (fault.Port e) c.from_residual.ensures,
+    )
+
+pub returns-clause-known : goal.returns-clause-known
+returns-clause-known g c = λ same. subst (IsMeant _ _ _) same c.told.ensures.meant

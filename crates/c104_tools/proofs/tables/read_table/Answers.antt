@@ -1,82 +1,72 @@
-use Rattle.std.proofs.Common.{◌≡◌, ◌+◌, ◌*◌, ◌∷◌, List, [], ℕ, ap, get_or, length, map, inl, inr, arith, refl}
-use Rattle.c104_tools.proofs.Passing.{failed}
-use Rattle.c104_tools.proofs.Progress.{err_is, went_on}
-use Rattle.c104_tools.proofs.Readings.{answered_so, table_bad, table_came, table_first_fault, table_is, table_second_fault}
-use Rattle.c104_tools.proofs.SeenValues.{table_seen}
-use Rattle.c104_tools.proofs.TableReads.{bad_table, first_of, first_stops, second_stops, table_read}
+use Rattle.std.proofs.Common.{◌≡◌, ◌∙◌, ◌∷◌, ◌++◌, Err, Ok, ap, get_or, length, map, refl, sym, arith}
+use Rattle.c104_regs.specs.Addresses.{address_number}
+use Rattle.c104_regs.specs.declared.addresses.Address.TheVariants.{AtLink}
+use Rattle.c104_regs.specs.declared.addresses.Register.TheVariants.{Select}
 use Rattle.c104_tools.specs.Outcomes.{any_value, table_made}
-use Rattle.c104_tools.specs.Steps.{IsUnanswered}
-use Rattle.c104_tools.specs.Tables.{row_codes, row_limits}
+use Rattle.c104_tools.specs.Ports.{Commanded}
+use Rattle.c104_tools.specs.Tables.{row_codes, row_limits, table_addresses}
+use Rattle.c104_tools.proofs.Asking.{err_is}
+use Rattle.c104_tools.proofs.KnownCommands.{outcome_due}
+use Rattle.c104_tools.proofs.Readings.{cut_again, first_of, table_bad, table_came, table_first_fault, table_is}
+use Rattle.c104_tools.proofs.SeenValues.{are_seen, table_named}
 use Rattle.c104_tools.proofs.tables.read_table.Goals as goal
 
-pub returns-in_err-read_run-clause-read : goal.returns-in_err-read_run-clause-read
-returns-in_err-read_run-clause-read g c below =
-    let asked = g.P.ControlPort.commands in
+pub returns-in_err-read_run-clause-asked : goal.returns-in_err-read_run-clause-asked
+returns-in_err-read_run-clause-asked g c below =
     let f = c.in_err-read_run.field-0.0 in
-    rw (err_is c.from_residual.result f c.from_residual.ensures)
-    (inl (first_stops c.args.switch c.args.link c.number-first.result (256 * (c.args.link + 1) + 128) c.read_run.new.values [] c.number-first.ensures refl (IsUnanswered asked g.P.ControlPort.switch_count g.P.ControlPort.unanswered c.read_run.new.port) _ [] _ f (omega (arith, c.read_run.auto.values)) c.in_err-read_run.ensures.read))
+    record {
+      read = Err f;
+      came = table_first_fault (Commanded g.P.ControlPort.commands g.P.ControlPort.switch_count g.P.ControlPort.shown g.P.ControlPort.unanswered g.P.ControlPort.due) c.args.switch c.args.link c.number-first.result _ (address_number (AtLink c.args.link (Select 0))) 36 (omega (arith, c.read_run.auto.values)) refl c.number-first.ensures refl _ _ f c.in_err-read_run.ensures.asked;
+      made = err_is c.from_residual.result f c.from_residual.ensures;
+    }
 
-pub returns-in_err-read_run-2-clause-read : goal.returns-in_err-read_run-2-clause-read
-returns-in_err-read_run-2-clause-read g c below =
-    let asked = g.P.ControlPort.commands in
+pub returns-in_err-read_run-2-clause-asked : goal.returns-in_err-read_run-2-clause-asked
+returns-in_err-read_run-2-clause-asked g c below =
     let f = c.in_err-read_run-2.field-0.0 in
-    rw (err_is c.from_residual-in_err-read_run-2.result f c.from_residual-in_err-read_run-2.ensures)
-    (inl (second_stops c.args.switch c.args.link c.number-first.result c.number-second.result c.read_run.new.values c.read_run-2.new.values c.number-first.ensures c.number-second.ensures (IsUnanswered asked g.P.ControlPort.switch_count g.P.ControlPort.unanswered c.read_run-2.new.port) _ _ _ f (omega (arith, c.read_run.auto.values)) (omega (arith, c.read_run-2.auto.values)) c.in_ok-read_run.ensures.read c.in_err-read_run-2.ensures.read))
+    record {
+      read = Err f;
+      came = table_came (Commanded g.P.ControlPort.commands g.P.ControlPort.switch_count g.P.ControlPort.shown g.P.ControlPort.unanswered g.P.ControlPort.due) c.args.switch c.args.link c.number-first.result _ c.number-second.result _ (omega (arith, c.read_run.auto.values)) (omega (arith, c.read_run-2.auto.values)) c.number-first.ensures c.number-second.ensures _ _ _ c.read_run.new.values (Err f) c.in_ok-read_run.ensures.asked c.in_err-read_run-2.ensures.asked;
+      made = err_is c.from_residual-in_err-read_run-2.result f c.from_residual-in_err-read_run-2.ensures;
+    }
 
-pub returns-in_err-read_run-2-clause-came : goal.returns-in_err-read_run-2-clause-came
-returns-in_err-read_run-2-clause-came g c = went_on _ _ _ _ _ _ c.in_ok-read_run.ensures.came c.in_err-read_run-2.ensures.came
-
-pub returns-in-Some-clause-read : goal.returns-in-Some-clause-read
-returns-in-Some-clause-read g c below =
-    table_read c.args.switch c.args.link c.number-first.result c.number-second.result c.read_run.new.values c.read_run-2.new.values c.number-first.ensures c.number-second.ensures _ _ _ c.in_ok-read_run.ensures.read c.in_ok-read_run-2.ensures.read c.in-Some.rows (first_of c.read_run.new.values _ (omega (arith, c.read_run.auto.values)) c.in-Some.ensures.read.0) c.in-Some.ensures.read.1
-
-pub returns-in-Some-clause-came : goal.returns-in-Some-clause-came
-returns-in-Some-clause-came g c = went_on _ _ _ _ _ _ c.in_ok-read_run.ensures.came c.in_ok-read_run-2.ensures.came
-
-pub returns-in-None-clause-read : goal.returns-in-None-clause-read
-returns-in-None-clause-read g c below =
-    inr (refl, bad_table c.args.switch c.args.link c.number-first.result c.number-second.result c.read_run.new.values c.read_run-2.new.values c.number-first.ensures c.number-second.ensures _ _ _ c.in_ok-read_run.ensures.read c.in_ok-read_run-2.ensures.read c.in-None.ensures.read)
-
-pub returns-in-None-clause-came : goal.returns-in-None-clause-came
-returns-in-None-clause-came g c = went_on _ _ _ _ _ _ c.in_ok-read_run.ensures.came c.in_ok-read_run-2.ensures.came
-
-pub returns-in_err-read_run-clause-due : goal.returns-in_err-read_run-clause-due
-returns-in_err-read_run-clause-due g c below =
-    let due = g.P.ControlPort.due in
-    let f = c.in_err-read_run.field-0.0 in
-    failed due any_value _ _ _ (table_made c.args.switch) c.from_residual.result f (err_is _ f c.from_residual.ensures)
-    (table_first_fault due c.args.switch c.args.link c.number-first.result (256 * (c.args.link + 1) + 128) c.read_run.new.values [] c.number-first.ensures refl (omega (arith, c.read_run.auto.values)) _ _ f c.in_err-read_run.ensures.due)
-
-pub returns-in_err-read_run-2-clause-due : goal.returns-in_err-read_run-2-clause-due
-returns-in_err-read_run-2-clause-due g c below =
-    let due = g.P.ControlPort.due in
-    let f = c.in_err-read_run-2.field-0.0 in
-    failed due any_value _ _ _ (table_made c.args.switch) c.from_residual-in_err-read_run-2.result f (err_is _ f c.from_residual-in_err-read_run-2.ensures)
-    (table_second_fault due c.args.switch c.args.link c.number-first.result c.number-second.result c.read_run.new.values c.read_run-2.new.values c.number-first.ensures c.number-second.ensures (omega (arith, c.read_run.auto.values)) (omega (arith, c.read_run-2.auto.values)) _ _ _ c.in_ok-read_run.ensures.due f c.in_err-read_run-2.ensures.due)
-
-pub returns-in-Some-clause-due : goal.returns-in-Some-clause-due
-returns-in-Some-clause-due g c below =
+pub returns-in-Some-clause-asked : goal.returns-in-Some-clause-asked
+returns-in-Some-clause-asked g c below =
     let limits = c.read_run.new.values in
+    let codes = c.read_run-2.new.values in
     let many : length limits ≡ 37 = omega (arith, c.read_run.auto.values) in
-    let is = table_is c.args.switch limits c.read_run-2.new.values _ c.in-Some.rows many refl c.in-Some.ensures.made c.in-Some.ensures.good in
-    answered_so g.P.ControlPort.due c.args.switch c.args.link _ _ _ _ is
-    (table_came g.P.ControlPort.due c.args.switch c.args.link c.number-first.result c.number-second.result limits c.read_run-2.new.values c.number-first.ensures c.number-second.ensures many (omega (arith, c.read_run-2.auto.values)) _ _ _ c.in_ok-read_run.ensures.due c.in_ok-read_run-2.ensures.due)
+    record {
+      read = Ok (limits ++ codes);
+      came = table_came (Commanded g.P.ControlPort.commands g.P.ControlPort.switch_count g.P.ControlPort.shown g.P.ControlPort.unanswered g.P.ControlPort.due) c.args.switch c.args.link c.number-first.result _ c.number-second.result _ (omega (arith, c.read_run.auto.values)) (omega (arith, c.read_run-2.auto.values)) c.number-first.ensures c.number-second.ensures _ _ _ limits (Ok codes) c.in_ok-read_run.ensures.asked c.in_ok-read_run-2.ensures.asked;
+      made = sym (table_is c.args.switch limits codes _ c.in-Some.rows many refl c.in-Some.ensures.made c.in-Some.ensures.good) ∙ cut_again c.args.switch limits codes many;
+    }
 
-pub returns-in-None-clause-due : goal.returns-in-None-clause-due
-returns-in-None-clause-due g c below =
+pub returns-in-None-clause-asked : goal.returns-in-None-clause-asked
+returns-in-None-clause-asked g c below =
     let limits = c.read_run.new.values in
-    let is = table_bad c.args.switch limits c.read_run-2.new.values c.in-None.ensures.read in
-    answered_so g.P.ControlPort.due c.args.switch c.args.link _ _ _ _ is
-    (table_came g.P.ControlPort.due c.args.switch c.args.link c.number-first.result c.number-second.result limits c.read_run-2.new.values c.number-first.ensures c.number-second.ensures (omega (arith, c.read_run.auto.values)) (omega (arith, c.read_run-2.auto.values)) _ _ _ c.in_ok-read_run.ensures.due c.in_ok-read_run-2.ensures.due)
+    let codes = c.read_run-2.new.values in
+    record {
+      read = Ok (limits ++ codes);
+      came = table_came (Commanded g.P.ControlPort.commands g.P.ControlPort.switch_count g.P.ControlPort.shown g.P.ControlPort.unanswered g.P.ControlPort.due) c.args.switch c.args.link c.number-first.result _ c.number-second.result _ (omega (arith, c.read_run.auto.values)) (omega (arith, c.read_run-2.auto.values)) c.number-first.ensures c.number-second.ensures _ _ _ limits (Ok codes) c.in_ok-read_run.ensures.asked c.in_ok-read_run-2.ensures.asked;
+      made = sym (table_bad c.args.switch limits codes c.in-None.ensures.read) ∙ cut_again c.args.switch limits codes (omega (arith, c.read_run.auto.values));
+    }
 
 pub returns-in-Some-clause-seen : goal.returns-in-Some-clause-seen
 returns-in-Some-clause-seen g c below =
-    let limits : List ℕ = get_or c.read_run.new.values 0 0 ∷ map row_limits c.in-Some.rows in
-    let codes : List ℕ = map row_codes c.in-Some.rows in
-    let limits_are : limits ≡ c.read_run.new.values = first_of c.read_run.new.values (map row_limits c.in-Some.rows) (omega (arith, c.read_run.auto.values)) c.in-Some.ensures.read.0 in
-    let codes_are : codes ≡ c.read_run-2.new.values = c.in-Some.ensures.read.1 in
-    let limits_many : length limits ≡ length c.read_run.new.values = ap (length {A = ℕ}) limits_are in
-    let codes_many : length codes ≡ length c.read_run-2.new.values = ap (length {A = ℕ}) codes_are in
-    table_seen _ _ _ _ c.args.switch c.args.link limits codes c.requires (omega (arith, limits_many, c.read_run.auto.values)) (omega (arith, codes_many, c.read_run-2.auto.values))
-    (table_read c.args.switch c.args.link c.number-first.result c.number-second.result c.read_run.new.values c.read_run-2.new.values c.number-first.ensures c.number-second.ensures _ _ _ c.in_ok-read_run.ensures.read c.in_ok-read_run-2.ensures.read c.in-Some.rows limits_are codes_are)
-    (went_on _ _ _ _ _ _ c.in_ok-read_run.ensures.came c.in_ok-read_run-2.ensures.came)
+    let limits = c.read_run.new.values in
+    let codes = c.read_run-2.new.values in
+    let limits_are : get_or limits 0 0 ∷ map row_limits c.in-Some.rows ≡ limits = first_of limits (map row_limits c.in-Some.rows) (omega (arith, c.read_run.auto.values)) c.in-Some.ensures.read.0 in
+    are_seen g.P.ControlPort.commands g.P.ControlPort.switch_count g.P.ControlPort.shown g.P.ControlPort.unanswered g.P.ControlPort.due c.args.switch (table_addresses c.args.link) (limits ++ codes) _ _ _ (table_named c.args.link c.requires)
+    (table_came (Commanded g.P.ControlPort.commands g.P.ControlPort.switch_count g.P.ControlPort.shown g.P.ControlPort.unanswered g.P.ControlPort.due) c.args.switch c.args.link c.number-first.result _ c.number-second.result _ (omega (arith, c.read_run.auto.values)) (omega (arith, c.read_run-2.auto.values)) c.number-first.ensures c.number-second.ensures _ _ _ limits (Ok codes) c.in_ok-read_run.ensures.asked c.in_ok-read_run-2.ensures.asked)
+    (sym (ap (λ xs. xs ++ map row_codes c.in-Some.rows) limits_are ∙ ap (λ xs. limits ++ xs) c.in-Some.ensures.read.1))
+
+pub returns-in_err-read_run-clause-due : goal.returns-in_err-read_run-clause-due
+returns-in_err-read_run-clause-due g c below = outcome_due g.P.ControlPort.commands g.P.ControlPort.switch_count g.P.ControlPort.shown g.P.ControlPort.unanswered g.P.ControlPort.due any_value (table_made c.args.switch) _ _ _ _ (returns-in_err-read_run-clause-asked g c below)
+
+pub returns-in_err-read_run-2-clause-due : goal.returns-in_err-read_run-2-clause-due
+returns-in_err-read_run-2-clause-due g c below = outcome_due g.P.ControlPort.commands g.P.ControlPort.switch_count g.P.ControlPort.shown g.P.ControlPort.unanswered g.P.ControlPort.due any_value (table_made c.args.switch) _ _ _ _ (returns-in_err-read_run-2-clause-asked g c below)
+
+pub returns-in-Some-clause-due : goal.returns-in-Some-clause-due
+returns-in-Some-clause-due g c below = outcome_due g.P.ControlPort.commands g.P.ControlPort.switch_count g.P.ControlPort.shown g.P.ControlPort.unanswered g.P.ControlPort.due any_value (table_made c.args.switch) _ _ _ _ (returns-in-Some-clause-asked g c below)
+
+pub returns-in-None-clause-due : goal.returns-in-None-clause-due
+returns-in-None-clause-due g c below = outcome_due g.P.ControlPort.commands g.P.ControlPort.switch_count g.P.ControlPort.shown g.P.ControlPort.unanswered g.P.ControlPort.due any_value (table_made c.args.switch) _ _ _ _ (returns-in-None-clause-asked g c below)

@@ -1,57 +1,40 @@
-use Rattle.std.proofs.Common.{[], ◌∷◌, Err, Ok, inl, inr, refl}
+use Rattle.std.proofs.Common.{◌≡◌, ◌≢◌, ◌==◌, ℕ, true, false, Err, Ok, refl, arith}
+use Rattle.std.proofs.lemmas.Bool.Decides.{nat_tests}
 use Rattle.c104_control.specs.declared.commands.Command.TheVariants.{CPeek}
-use Rattle.c104_tools.proofs.Passing.{failed, other_value, same_value, told_fault_comes, told_value_fails, value_passed}
-use Rattle.c104_tools.proofs.Progress.{err_is, performed_stops, stops_there}
 use Rattle.c104_tools.specs.declared.faults.LoadFault.TheVariants as fault
-use Rattle.c104_tools.specs.Outcomes.{due_value_only, nothing_made}
-use Rattle.c104_tools.specs.Steps.{IsUnanswered, Step, comparison_fails}
+use Rattle.c104_tools.specs.Outcomes.{due_value_only}
+use Rattle.c104_tools.specs.Steps.{Step}
+use Rattle.c104_tools.proofs.Asking.{err_is, none_left, one_differs, one_done, one_fails}
 use Rattle.c104_tools.proofs.verifying.compare.Goals as goal
 
-pub returns-in_err-found-clause-performed : goal.returns-in_err-found-clause-performed
-returns-in_err-found-clause-performed g c =
-    let asked = g.P.ControlPort.commands in
-    let fails = comparison_fails (IsUnanswered asked g.P.ControlPort.switch_count g.P.ControlPort.unanswered c.ask.new.port) in
+-- whether a value is that of the step
+module _ (switch addr due : ℕ) where
+  abbrev step : Step
+  step = record { switch = switch; command = CPeek addr; value = due }
+
+  other_value : (v : ℕ) → v ≢ due → due_value_only step v ≡ Err (fault.Differs switch addr v)
+  other_value v differs = let no : (v == due) ≡ false = grind (arith, nat_tests) in rw no refl
+
+  same_value : (v : ℕ) → v ≡ due → due_value_only step v ≡ Ok v
+  same_value v same = let yes : (v == due) ≡ true = grind (arith, nat_tests) in rw yes refl
+
+pub returns-in_err-found-clause-asked : goal.returns-in_err-found-clause-asked
+returns-in_err-found-clause-asked g c =
     let f = c.in_err-found.field-0.0 in
-    let step : Step = record { switch = c.args.switch; command = CPeek c.args.addr; value = c.in-Some.due } in
-    rw c.in-Some.is
-    (performed_stops fails _ _ _ f c.from_residual.result c.from_residual.ensures
-    (stops_there fails _ _ step f (inl c.in_err-found.ensures.answer)))
+    rw (c.in-Some.is, err_is c.from_residual.result f c.from_residual.ensures)
+    (one_fails _ due_value_only (step c.args.switch c.args.addr c.in-Some.due) _ _ f c.in_err-found.ensures.asked)
 
-pub returns-then-found-due-clause-performed : goal.returns-then-found-due-clause-performed
-returns-then-found-due-clause-performed g c =
-    let asked = g.P.ControlPort.commands in
-    let fails = comparison_fails (IsUnanswered asked g.P.ControlPort.switch_count g.P.ControlPort.unanswered c.ask.new.port) in
-    let step : Step = record { switch = c.args.switch; command = CPeek c.args.addr; value = c.in-Some.due } in
-    rw c.in-Some.is
-    (stops_there fails (asked c.args.port.now) (asked c.ask.new.port) step (fault.Differs c.args.switch c.args.addr c.in_ok-found.found)
-    (inr (refl, refl, c.if-found-due.true, c.in_ok-found.ensures.answer)))
-
-pub returns-in_err-found-clause-due : goal.returns-in_err-found-clause-due
-returns-in_err-found-clause-due g c =
-    let due = g.P.ControlPort.due in
-    let f = c.in_err-found.field-0.0 in
-    let step : Step = record { switch = c.args.switch; command = CPeek c.args.addr; value = c.in-Some.due } in
-    rw c.in-Some.is
-    (failed due due_value_only _ _ (step ∷ []) nothing_made c.from_residual.result f (err_is _ f c.from_residual.ensures)
-    (told_fault_comes due due_value_only step _ _ f c.in_err-found.ensures.due))
-
-pub returns-then-found-due-clause-due : goal.returns-then-found-due-clause-due
-returns-then-found-due-clause-due g c =
-    let due = g.P.ControlPort.due in
+pub returns-then-found-due-clause-asked : goal.returns-then-found-due-clause-asked
+returns-then-found-due-clause-asked g c =
     let v = c.in_ok-found.found in
-    let step : Step = record { switch = c.args.switch; command = CPeek c.args.addr; value = c.in-Some.due } in
-    let f = fault.Differs c.args.switch c.args.addr v in
     rw c.in-Some.is
-    (failed due due_value_only _ _ (step ∷ []) nothing_made (Err f) f refl
-    (told_value_fails due due_value_only step _ _ v f c.in_ok-found.ensures.due (other_value step v c.if-found-due.true)))
+    (one_differs _ due_value_only (step c.args.switch c.args.addr c.in-Some.due) _ _ v _ c.in_ok-found.ensures.asked (other_value c.args.switch c.args.addr c.in-Some.due v c.if-found-due.true))
 
-pub returns-clause-due : goal.returns-clause-due
-returns-clause-due g c =
-    let due = g.P.ControlPort.due in
+pub returns-clause-asked : goal.returns-clause-asked
+returns-clause-asked g c =
     let v = c.in_ok-found.found in
-    let step : Step = record { switch = c.args.switch; command = CPeek c.args.addr; value = c.in-Some.due } in
     rw c.in-Some.is
-    (value_passed due due_value_only step _ _ v v c.in_ok-found.ensures.due (same_value step v c.if-found-due.false))
+    (one_done _ due_value_only (step c.args.switch c.args.addr c.in-Some.due) _ _ v v c.in_ok-found.ensures.asked (same_value c.args.switch c.args.addr c.in-Some.due v c.if-found-due.false))
 
-pub returns-in_default-clause-due : goal.returns-in_default-clause-due
-returns-in_default-clause-due g c = rw c.in_default.is (record { read = Ok []; came = (refl, refl); made = refl })
+pub returns-in_default-clause-asked : goal.returns-in_default-clause-asked
+returns-in_default-clause-asked g c = rw c.in_default.is (none_left _ due_value_only _)

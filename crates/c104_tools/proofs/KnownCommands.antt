@@ -1,0 +1,114 @@
+-- What is known of each command that is asked through a port, of all of them.
+use Rattle.std.proofs.Common.{◌≡◌, ◌++◌, ℕ, List, [], ◌∷◌, MatchResult, Option, Some, Result, Ok, Err, slice_get, slice_set, refl, sym, ap, ◌∙◌, subst}
+use Rattle.c104_control.specs.Table.{command_bytes}
+use Rattle.c104_control.specs.Reading.{read_reply}
+use Rattle.c104_event.specs.declared.faults.EventFault.{EventFault}
+use Rattle.c104_switch.specs.Control.{switch_control}
+use Rattle.c104_switch.specs.Switch.{Switch}
+use Rattle.c104_token.specs.declared.tokens.Token.{Token}
+use Rattle.c104_tools.specs.declared.faults.LoadFault.{LoadFault}
+use Rattle.c104_tools.specs.declared.faults.LoadFault.TheVariants as fault
+use Rattle.c104_tools.specs.declared.ports.Asked.{Asked}
+use Rattle.c104_tools.specs.Loaded.{IsLeftBySwitch, IsUnansweredFault}
+use Rattle.c104_tools.specs.Outcomes.{ComesTo, GoesOn, Judge, Outcome, and_then, any_value, nothing_made, step_result, with_value}
+use Rattle.c104_tools.specs.Ports.{Commanded, Obeyed, Switches, command_asked}
+use Rattle.c104_tools.specs.Steps.{Given, Step}
+use Rattle.c104_tools.proofs.Asking.{Read}
+use Rattle.c104_tools.proofs.LoadSteps.{IsReplied, StepsBelow, judged_replied}
+
+-- these switches do steps in order, each as it is to be done, and those are the switches after it
+abbrev pub AreDone : Switches → List Step → Switches → Type 0
+AreDone before [] after = before ≡ after
+AreDone before (t ∷ steps) after =
+    (s : Switch Token) × (slice_get before t.switch ≡ Some s)
+    × (step_result any_value t (Ok (switch_control s (command_bytes t.command)).0) ≡ Ok 0)
+    × AreDone (slice_set before t.switch (switch_control s (command_bytes t.command)).1) steps after
+
+pub done_on : (before : Switches) (first second : List Step) (middle after : Switches) → AreDone before first middle → AreDone middle second after → AreDone before (first ++ second) after
+done_on before [] second middle after one other = subst (λ ss. AreDone ss second after) (sym one) other
+done_on before (t ∷ first) second middle after (s, at, told, rest) other = (s, at, told, done_on (slice_set before t.switch (switch_control s (command_bytes t.command)).1) first second middle after rest other)
+
+-- one switch stands at a place
+one_there : (before : Switches) (k : ℕ) (s t : Switch Token) → slice_get before k ≡ Some s → slice_get before k ≡ Some t → s ≡ t
+one_there before k s t one other = cc
+
+-- a command that was obeyed, by the switch that stands there
+pub obeyed_one : (before : Switches) (first after : Option Switches) (k : ℕ) (command reply : List ℕ) (s : Switch Token) → slice_get before k ≡ Some s → first ≡ Some before → Obeyed first (command_asked k command reply ∷ []) after → (reply ≡ (switch_control s command).0) × (after ≡ Some (slice_set before k (switch_control s command).1))
+obeyed_one before first after k command reply s there is obeyed =
+    let (x, found, replied, left) = subst (λ (o : Option Switches). Obeyed o (command_asked k command reply ∷ []) after) is obeyed in
+    let same : x ≡ s = one_there before k x s found there in (
+      replied ∙ ap (λ (y : Switch Token). (switch_control y command).0) same,
+      left ∙ ap (λ (y : Switch Token). Some (slice_set before k (switch_control y command).1)) same,
+    )
+
+-- what is said of values and of faults, however many values were read
+of_more : (A : Type 0) (B : LoadFault → Type 0) (v : ℕ) (rest read : Read) → read ≡ with_value v rest → MatchResult rest (λ values. A) B → MatchResult read (λ values. A) B
+of_more A B v (Ok values) read is known = subst (λ (r : Read). MatchResult r (λ values. A) B) (sym is) known
+of_more A B v (Err f) read is known = subst (λ (r : Read). MatchResult r (λ values. A) B) (sym is) known
+
+of_made : (A : Type 0) (B : LoadFault → Type 0) (read : Read) (result : Result (Unit {0}) LoadFault) → result ≡ and_then read nothing_made → MatchResult read (λ values. A) B → MatchResult result (λ u. A) B
+of_made A B (Ok values) result is known = subst (λ (r : Result (Unit {0}) LoadFault). MatchResult r (λ u. A) B) (sym is) known
+of_made A B (Err f) result is known = subst (λ (r : Result (Unit {0}) LoadFault). MatchResult r (λ u. A) B) (sym is) known
+
+module _ {P : Type 0} (commands : P → List Asked) (switch_count : P → ℕ) (shown : P → Option Switches) (unanswered : P → ℕ → List ℕ → EventFault → Type 0) (due : P → ℕ → List ℕ → Given → P → Type 0) where
+  abbrev Known : P → ℕ → List ℕ → Given → P → Type 0
+  Known = Commanded commands switch_count shown unanswered due
+
+  -- what may be given for each
+  module _ (judge : Judge) where
+    comes_due : (steps : List Step) (p q : P) (read : Read) → ComesTo Known judge p steps read q → ComesTo due judge p steps read q
+    comes_due [] p q read came = came
+    comes_due (t ∷ steps) p q read (given, next, gave, goes) = (given, next, gave.came, by_result (step_result judge t given) goes (comes_due steps next q))
+      where
+        by_result : (x : Result ℕ LoadFault) → GoesOn x next read q (λ s rest. ComesTo Known judge s steps rest q) → ((rest : Read) → ComesTo Known judge next steps rest q → ComesTo due judge next steps rest q) → GoesOn x next read q (λ s rest. ComesTo due judge s steps rest q)
+        by_result (Ok v) (rest, is, more) each = (rest, is, each rest more)
+        by_result (Err f) failed each = failed
+
+    pub outcome_due : {X : Type 0} (make : List ℕ → Result X LoadFault) (p q : P) (steps : List Step) (result : Result X LoadFault) → Outcome Known judge make p steps result q → Outcome due judge make p steps result q
+    outcome_due make p q steps result out = record { read = out.read; came = comes_due steps p q out.read out.came; made = out.made }
+
+  -- the switch of one that the port leaves unanswered
+  left_fault : (n : ℕ) (f : LoadFault) → IsReplied {X = ℕ} (Err f) → IsLeftBySwitch switch_count unanswered n f
+  left_fault n (fault.Port e) replied = absurd (replied e refl)
+  left_fault n f replied = tt
+
+  module _ (n : ℕ) where
+    abbrev Left : Read → Type 0
+    Left read = MatchResult read (λ values. Unit {0}) (IsLeftBySwitch switch_count unanswered n)
+
+    left_by : (steps : List Step) (p q : P) (read : Read) → StepsBelow n steps → switch_count p ≡ n → ComesTo Known any_value p steps read q → Left read
+    left_by [] p q read below many (is, same) = subst Left (sym is) tt
+    left_by (t ∷ steps) p q read below many (given, next, gave, goes) = by_given given gave goes (left_by steps next q)
+      where
+        by_result : (x : Result ℕ LoadFault) → IsReplied x → GoesOn x next read q (λ s rest. ComesTo Known any_value s steps rest q) → ((rest : Read) → ComesTo Known any_value next steps rest q → Left rest) → Left read
+        by_result (Ok v) replied (rest, is, more) each = of_more (Unit {0}) (IsLeftBySwitch switch_count unanswered n) v rest read is (each rest more)
+        by_result (Err f) replied (is, same) each = subst Left (sym is) (left_fault n f replied)
+
+        by_given : (given : Given) → Known p t.switch (command_bytes t.command) given next → GoesOn (step_result any_value t given) next read q (λ s rest. ComesTo Known any_value s steps rest q) → ((rest : Read) → StepsBelow n steps → switch_count next ≡ n → ComesTo Known any_value next steps rest q → Left rest) → Left read
+        by_given (Ok reply) gave goes each = by_result (step_result any_value t (Ok reply)) (judged_replied t (read_reply reply)) goes (λ rest more. each rest below.1 (gave.count ∙ many) more)
+        by_given (Err e) gave (is, same) each = subst Left (sym is) (p, t.switch, command_bytes t.command, many, below.0, gave.replied.2)
+
+    pub left_open : (steps : List Step) (p q : P) (result : Result (Unit {0}) LoadFault) → StepsBelow n steps → switch_count p ≡ n → Outcome Known any_value nothing_made p steps result q → MatchResult result (λ u. Unit {0}) (IsLeftBySwitch switch_count unanswered n)
+    left_open steps p q result below many out = of_made (Unit {0}) (IsLeftBySwitch switch_count unanswered n) out.read result out.made (left_by steps p q out.read below many out.came)
+
+  -- the switches that are shown, where they do the steps
+  module _ (end : Switches) where
+    abbrev Shown : P → Read → Type 0
+    Shown q read = MatchResult read (λ values. shown q ≡ Some end) IsUnansweredFault
+
+    done_shown : (steps : List Step) (p q : P) (read : Read) (before : Switches) → AreDone before steps end → shown p ≡ Some before → ComesTo Known any_value p steps read q → Shown q read
+    done_shown [] p q read before done at (is, same) = subst (Shown q) (sym is) (ap shown same ∙ at ∙ ap Some done)
+    done_shown (t ∷ steps) p q read before (s, there, told, done) at (given, next, gave, goes) = by_given given gave goes (λ rest. done_shown steps next q rest (slice_set before t.switch (switch_control s (command_bytes t.command)).1) done)
+      where
+        by_given : (given : Given) → Known p t.switch (command_bytes t.command) given next → GoesOn (step_result any_value t given) next read q (λ s rest. ComesTo Known any_value s steps rest q)
+            → ((rest : Read) → shown next ≡ Some (slice_set before t.switch (switch_control s (command_bytes t.command)).1) → ComesTo Known any_value next steps rest q → Shown q rest) → Shown q read
+        by_given (Err e) gave (is, same) each = subst (Shown q) (sym is) tt
+        by_given (Ok reply) gave goes each =
+            let (given_so, left) = obeyed_one before (shown p) (shown next) t.switch (command_bytes t.command) reply s there at gave.replied.1 in
+            let value : step_result any_value t (Ok reply) ≡ Ok 0 = ap (λ (r : List ℕ). step_result any_value t (Ok r)) given_so ∙ told in
+            let (rest, is, more) = subst (λ (y : Result ℕ LoadFault). GoesOn y next read q (λ s rest. ComesTo Known any_value s steps rest q)) value goes in
+            of_more (shown q ≡ Some end) IsUnansweredFault 0 rest read is
+            (each rest left more)
+
+    pub outcome_shown : (steps : List Step) (p q : P) (result : Result (Unit {0}) LoadFault) (before : Switches) → AreDone before steps end → shown p ≡ Some before → Outcome Known any_value nothing_made p steps result q → MatchResult result (λ u. shown q ≡ Some end) IsUnansweredFault
+    outcome_shown steps p q result before done at out = of_made (shown q ≡ Some end) IsUnansweredFault out.read result out.made (done_shown steps p q out.read before done at out.came)
