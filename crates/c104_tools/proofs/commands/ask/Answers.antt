@@ -1,7 +1,7 @@
 use Rattle.std.proofs.Common.{◌≡◌, Err, Ok, subst}
 use Rattle.c104_tools.specs.declared.faults.LoadFault.TheVariants as fault
 use Rattle.c104_tools.specs.Ports.{Commanded}
-use Rattle.c104_tools.specs.Steps.{IsMeant, told}
+use Rattle.c104_tools.specs.Steps.{told}
 use Rattle.c104_tools.proofs.Asking.{err_is}
 use Rattle.c104_tools.proofs.commands.ask.Goals as goal
 
@@ -22,6 +22,3 @@ returns-in_err-reply-clause-asked g c =
           (record { replied = (c.in_err-reply.ensures.commands, c.in_err-reply.ensures.shown, c.in_err-reply.ensures.fault); came = c.in_err-reply.ensures.due; count = c.in_err-reply.ensures.count }),
       err_is c.from_residual.result (fault.Port e) c.from_residual.ensures,
     )
-
-pub returns-clause-known : goal.returns-clause-known
-returns-clause-known g c = λ same. subst (IsMeant _ _ _) same c.told.ensures.meant

@@ -1,10 +1,5 @@
-use Rattle.std.proofs.Common.{◌∙◌, ap}
-use Rattle.c104_tools.specs.Steps.{judged}
 use Rattle.c104_tools.proofs.Replies.{is_meant}
 use Rattle.c104_tools.proofs.commands.told.Goals as goal
-
-pub returns-clause-told : goal.returns-clause-told
-returns-clause-told c = c.judge.ensures ∙ ap (judged c.args.switch c.args.command) c.read_reply.ensures.read
 
 pub returns-clause-meant : goal.returns-clause-meant
 returns-clause-meant c = is_meant c.args.switch c.args.command c.args.reply.now c.read_reply.result c.read_reply.ensures.table c.judge.result c.judge.ensures

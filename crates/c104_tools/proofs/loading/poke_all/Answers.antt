@@ -1,13 +1,10 @@
-use Rattle.std.proofs.Common.{◌+◌, Err, Ok, subst, drop, refl, arith}
+use Rattle.std.proofs.Common.{◌+◌, Err, Ok, subst, drop, arith}
 use Rattle.c104_tools.specs.Loads.{pokes, steps_from, switch_pokes}
 use Rattle.c104_tools.specs.Outcomes.{Outcome, any_value, nothing_made}
 use Rattle.c104_tools.specs.Ports.{Commanded}
-use Rattle.c104_tools.proofs.Asking.{err_is, leaves_all, leaves_none, leaves_on, leaves_stop}
+use Rattle.c104_tools.proofs.Asking.{err_is, leaves_none, leaves_on, leaves_stop}
 use Rattle.c104_tools.proofs.Rests.{switches_next, switches_none}
 use Rattle.c104_tools.proofs.loading.poke_all.Goals as goal
-
-pub loop-switch-init : goal.loop-switch-init
-loop-switch-init g c = leaves_all _ any_value _ _ _ refl
 
 pub loop-switch-preserved : goal.loop-switch-preserved
 loop-switch-preserved g c =

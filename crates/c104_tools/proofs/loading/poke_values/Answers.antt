@@ -2,12 +2,9 @@ use Rattle.std.proofs.Common.{ℕ, ◌+◌, [], ◌∷◌, drop, get_or, refl, a
 use Rattle.c104_control.specs.declared.commands.Command.TheVariants.{CPoke}
 use Rattle.c104_tools.specs.Loads.{order, pokes}
 use Rattle.c104_tools.specs.Outcomes.{any_value}
-use Rattle.c104_tools.proofs.Asking.{err_is, leaves_all, leaves_none, leaves_on, leaves_stop, one_done, one_fails}
+use Rattle.c104_tools.proofs.Asking.{err_is, leaves_none, leaves_on, leaves_stop, one_done, one_fails}
 use Rattle.c104_tools.proofs.Rests.{mapped_next, mapped_none}
 use Rattle.c104_tools.proofs.loading.poke_values.Goals as goal
-
-pub loop-entry-init : goal.loop-entry-init
-loop-entry-init g c = leaves_all _ any_value _ _ _ refl
 
 pub loop-entry-preserved : goal.loop-entry-preserved
 loop-entry-preserved g c =

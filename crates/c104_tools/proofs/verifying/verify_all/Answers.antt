@@ -1,12 +1,9 @@
-use Rattle.std.proofs.Common.{◌+◌, drop, refl, arith}
+use Rattle.std.proofs.Common.{◌+◌, drop, arith}
 use Rattle.c104_tools.specs.Loads.{steps_from, switch_peeks}
 use Rattle.c104_tools.specs.Outcomes.{due_value_only}
-use Rattle.c104_tools.proofs.Asking.{err_is, leaves_all, leaves_none, leaves_on, leaves_stop}
+use Rattle.c104_tools.proofs.Asking.{err_is, leaves_none, leaves_on, leaves_stop}
 use Rattle.c104_tools.proofs.Rests.{switches_next, switches_none}
 use Rattle.c104_tools.proofs.verifying.verify_all.Goals as goal
-
-pub loop-switch-init : goal.loop-switch-init
-loop-switch-init g c = leaves_all _ due_value_only _ _ _ refl
 
 pub loop-switch-preserved : goal.loop-switch-preserved
 loop-switch-preserved g c =
