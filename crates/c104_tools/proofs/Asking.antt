@@ -24,8 +24,7 @@ joined_none (Err f) = refl
 
 joined_value : (v : ℕ) (read more : Read) → joined (with_value v read) more ≡ with_value v (joined read more)
 joined_value v (Ok values) (Ok others) = refl
-joined_value v (Ok values) (Err f) = refl
-joined_value v (Err f) more = refl
+joined_value v read more = refl
 
 joined_made : (values : List ℕ) (more : Read) → and_then more nothing_made ≡ and_then (joined (Ok values) more) nothing_made
 joined_made values (Ok others) = refl

@@ -15,7 +15,7 @@ use Rattle.c104_regs.specs.Addresses.{address_number}
 use Rattle.c104_regs.specs.declared.addresses.Address.TheVariants.{AtLink}
 use Rattle.c104_regs.specs.declared.addresses.Register.TheVariants as register
 use Rattle.c104_regs.specs.declared.faults.RegFault.{RegFault}
-use Rattle.c104_regs.specs.declared.faults.RegFault.TheVariants.{NoRegister, ReadOnly, OutOfRange, Busy}
+use Rattle.c104_regs.specs.declared.faults.RegFault.TheVariants.{NoRegister}
 use Rattle.c104_regs.specs.declared.registers.TheConstants.{LINKS}
 use Rattle.c104_switch.specs.Control.{peek_answer, switch_control, switch_obey_if_read}
 use Rattle.c104_switch.specs.Peeks.{switch_peek}
@@ -37,11 +37,8 @@ IsNamed a = a < 2 ^ 16
 
 -- a value is read back in the 32 bits of a reply
 value_bytes : (w i : ℕ) → get_or (to_le_bytes w32 w) i 0 < 256
-value_bytes w zero = omega arith
-value_bytes w (suc zero) = omega arith
-value_bytes w (suc (suc zero)) = omega arith
-value_bytes w (suc (suc (suc zero))) = omega arith
 value_bytes w (suc (suc (suc (suc i)))) = omega arith
+value_bytes w i = omega arith
 
 same_bytes : (w : ℕ) → reply_bytes (Value w) ≡ reply_bytes (Value (from_le_bytes w32 (to_le_bytes w32 w)))
 same_bytes w = ap (λ (bytes : List ℕ). 132 ∷ bytes) (sym (le_bytes_4 (to_le_bytes w32 w) (from_le_bytes w32 (to_le_bytes w32 w)) refl (value_bytes w) refl))
@@ -56,9 +53,7 @@ module _ (s : Switch Token) (switch a : ℕ) where
   told_seen (Ok w) at v told =
       (w, at, same_bytes w ∙ ap (λ (r : Result ℕ LoadFault). reply_bytes (Value (value_of r))) told)
   told_seen (Err NoRegister) at v told = absurd (cc told)
-  told_seen (Err ReadOnly) at v told = absurd (cc told)
-  told_seen (Err OutOfRange) at v told = absurd (cc told)
-  told_seen (Err Busy) at v told = absurd (cc told)
+  told_seen (Err e) at v told = absurd (cc told)
 
 module _ {P : Type 0} (commands : P → List Asked) (switch_count : P → ℕ) (shown : P → Option Switches) (unanswered : P → ℕ → List ℕ → EventFault → Type 0) (due : P → ℕ → List ℕ → Given → P → Type 0) (switch : ℕ) (s : Switch Token) where
   abbrev Known : P → ℕ → List ℕ → Given → P → Type 0
