@@ -75,9 +75,6 @@ left_next all every ps qs rest more gone c first second below next other left = 
       | inr has ↦ apart_in rest more apart x y here has
     ]
 
-never : {A : Type 0} → IsTrue false → A
-never is = absurd (let not_so : false ≡ true = is in cc)
-
 -- those that were skipped so far
 pub record AreSkipped (calls : List Call) (from at t : ℕ) : Type 0 where
   pub gone : List Call

@@ -1,7 +1,9 @@
 -- Nodes whose lists audit well tell one run of their network. It begins with what was handed over, and then the seats'
 -- calls stand and nothing else.
 use Rattle.c104_audit.proofs.AuditRuns.{IsSure, far_of, lead_event, lead_pair, lead_stamps, order_sure, run_sure, stamp_or}
-use Rattle.c104_audit.proofs.GatheredNodes.{first_state, entries_legal, entries_rise, from_map, gathered_match, node_of, starting_is, starts_ready, whole_at}
+use Rattle.c104_net.proofs.SureOrigins.{mapped}
+use Rattle.c104_node.proofs.Waiting.{get_before}
+use Rattle.c104_audit.proofs.GatheredNodes.{first_state, entries_legal, entries_rise, gathered_match, node_of, starting_is, starts_ready, whole_at}
 use Rattle.c104_audit.proofs.KeptLeads.{IsEarly, kept, leading_kept, same_leading, split_kept}
 use Rattle.c104_audit.proofs.Matches.{IsLegal, legal_event}
 use Rattle.c104_audit.proofs.Matching.{AreLeading, all_deeds, at_place}
@@ -59,11 +61,6 @@ same_gets (x ∷ xs) [] same = absurd (let first = same 0 in cc)
 same_gets (x ∷ xs) (y ∷ ys) same =
     let heads : x ≡ y = (let first = same 0 in cc) in
     ap (λ z. z ∷ xs) heads ∙ ap (λ zs. y ∷ zs) (same_gets xs ys (λ k. same (suc k)))
-
-get_front : {X : Type 0} (xs ys : List X) (i : ℕ) (x : X) → slice_get xs i ≡ Some x → slice_get (xs ++ ys) i ≡ Some x
-get_front [] ys i x at = absurd (cc)
-get_front (y ∷ xs) ys zero x at = at
-get_front (y ∷ xs) ys (suc i) x at = get_front xs ys i x at
 
 get_back : {X : Type 0} (xs ys : List X) (i : ℕ) → slice_get (xs ++ ys) (length xs + i) ≡ slice_get ys i
 get_back [] ys i = ap (slice_get ys) (let same : 0 + i ≡ i = omega arith in same)
@@ -128,8 +125,8 @@ module _ (plan : Plan) (is_plan : IsPlan plan) (nodes : List (NodeRecord × Node
 
   parts : RunParts plan is_plan Wired Starts Ends Leads
   parts k n m at end_at =
-      let start = from_map first_state nodes k n at in
-      let end = from_map node_state nodes k m end_at in
+      let start = mapped first_state nodes k n at in
+      let end = mapped node_state nodes k m end_at in
       let same : end.0 ≡ start.0 = (let both : Some end.0 ≡ Some start.0 = sym end.1 ∙ start.1 in cc) in
       let is : m ≡ start.0.0.state = sym end.2 ∙ ap node_state same in
       let trace : list_at Traces k ≡ start.0.0.trace = ap (λ o. unwrap_or o []) (slice_get-map node_trace nodes k ∙ ap (option_map node_trace) start.1) in
@@ -284,7 +281,7 @@ module _ (plan : Plan) (is_plan : IsPlan plan) (nodes : List (NodeRecord × Node
     first_numbered : AreNumbered plan Stamps 0 Before
     first_numbered i m at =
         let same : 0 + i ≡ i = omega arith in
-        ap Stamps same ∙ ap (λ ms. stamp_or plan (slice_get ms i)) split ∙ ap (stamp_or plan) (get_front Before After i m at)
+        ap Stamps same ∙ ap (λ ms. stamp_or plan (slice_get ms i)) split ∙ ap (stamp_or plan) (get_before Before After i m at)
 
     last_numbered : AreNumbered plan Stamps (length events) After
     last_numbered i m at =

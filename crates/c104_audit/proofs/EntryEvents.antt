@@ -4,6 +4,7 @@ use Rattle.c104_audit.specs.Audits.{entry_event, is_link_wired, is_of_kind}
 use Rattle.c104_event.specs.declared.events.Event.TheVariants as event
 use Rattle.c104_event.specs.declared.events.Event.{Event}
 use Rattle.c104_net.specs.Leading.{act_event}
+use Rattle.c104_node.proofs.IdleNodes.{opposite}
 use Rattle.c104_node.specs.ActLinks.{on_links}
 use Rattle.c104_node.specs.Acts.{IsWithinLimits, node_act}
 use Rattle.c104_node.specs.Nodes.{Node}
@@ -75,12 +76,8 @@ module _ (plan : Plan) where
       by_tests true kind false linked = absurd (let none : plan_event k a ≡ None = rw (kind, linked) refl in let no : false ≡ true = sym (ap is_some none) ∙ leads in cc)
       by_tests false kind c linked = absurd (let none : plan_event k a ≡ None = rw kind refl in let no : false ≡ true = sym (ap is_some none) ∙ leads in cc)
 
-  no_switch : (b : Bool) → not b ≡ true → b ≡ false
-  no_switch true is = absurd (cc)
-  no_switch false is = refl
-
   pub terminal_there : (k : ℕ) → not (nat_lt k (length plan.switches)) ≡ true → (nat_lt k (length plan.switches) ≡ false) × (terminal_place plan (k - length plan.switches) ≡ k)
-  terminal_there k is = let past : nat_lt k (length plan.switches) ≡ false = no_switch (nat_lt k (length plan.switches)) is in (past, grind (arith, nat_tests))
+  terminal_there k is = let past : nat_lt k (length plan.switches) ≡ false = opposite (nat_lt k (length plan.switches)) is in (past, grind (arith, nat_tests))
 
   below : (k count : ℕ) → k < count → nat_lt k count ≡ true
   below k count less = grind (arith, nat_tests)

@@ -61,29 +61,23 @@ credit_is q a at is = absurd (let kinds = at.kind in cc)
 
 -- what comes in at a port is the far act of what went out
 pub in_is : (crossing : Crossing) (p q : Port) (a : ActOf Token) (r : Reply) (c : Carried) → IsAnswerOf crossing r → carried_out (near_act crossing p) r ≡ Some c → IsAtPort q a → carried_in a ≡ Some c → a ≡ far_act q r
-in_is TokenCrossing p q a reply.Done c answer out at is = absurd answer
-in_is TokenCrossing p q a reply.NotReady c answer out at is = absurd answer
 in_is TokenCrossing p q a (reply.Token x) c answer out at is = by_port p out
   where
     by_port : (p : Port) → carried_out (near_act TokenCrossing p) (reply.Token x) ≡ Some c → a ≡ port_enter x q
     by_port (port.Switch s l) out = let same : carried.Token x ≡ c = cc in enter_is q a x at (is ∙ ap Some (sym same))
     by_port (port.Terminal t) out = let same : carried.Token x ≡ c = cc in enter_is q a x at (is ∙ ap Some (sym same))
-in_is TokenCrossing p q a (reply.Control bytes) c answer out at is = absurd answer
 in_is Grant p q a reply.Done c answer out at is = by_port p out
   where
     by_port : (p : Port) → carried_out (near_act Grant p) reply.Done ≡ Some c → a ≡ port_credit_in q
     by_port (port.Switch s l) out = let same : carried.Grant ≡ c = cc in credit_is q a at (is ∙ ap Some (sym same))
     by_port (port.Terminal t) out = let same : carried.Grant ≡ c = cc in credit_is q a at (is ∙ ap Some (sym same))
-in_is Grant p q a reply.NotReady c answer out at is = absurd answer
-in_is Grant p q a (reply.Token x) c answer out at is = absurd answer
-in_is Grant p q a (reply.Control bytes) c answer out at is = absurd answer
+in_is crossing p q a r c answer out at is = absurd answer
 
 -- what goes out takes nothing in, and the other way round
 pub near_takes : (crossing : Crossing) (p : Port) (c : Carried) → carried_in (near_act crossing p) ≡ Some c → ⊥
 near_takes TokenCrossing (port.Switch s l) c is = cc
-near_takes TokenCrossing (port.Terminal t) c is = cc
 near_takes Grant (port.Switch s l) c is = cc
-near_takes Grant (port.Terminal t) c is = cc
+near_takes crossing p c is = cc
 
 pub near_at : (crossing : Crossing) (p : Port) → IsAtPort p (near_act crossing p)
 near_at TokenCrossing (port.Switch s l) = record { kind = refl; link = refl }

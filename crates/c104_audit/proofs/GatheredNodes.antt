@@ -5,7 +5,8 @@ use Rattle.c104_audit.proofs.EntryHalves.{both_true}
 use Rattle.c104_audit.proofs.KeptLeads.{kept}
 use Rattle.c104_audit.proofs.Matches.{IsLegal, traces_match}
 use Rattle.c104_audit.proofs.Matching.{AreMatched}
-use Rattle.c104_audit.proofs.NetworkRuns.{AreReady, there}
+use Rattle.c104_audit.proofs.NetworkRuns.{AreReady}
+use Rattle.c104_net.proofs.SureOrigins.{mapped}
 use Rattle.c104_audit.proofs.WideNodes.{IsWide}
 use Rattle.c104_audit.specs.AuditedRuns.{AreGathered, IsKeptStart, IsWholeNode, node_shape}
 use Rattle.c104_audit.specs.Audits.{HasShape, IsAudited, is_leading, is_link_wired, is_of_kind}
@@ -81,14 +82,6 @@ in_place_by (n ∷ nodes) (suc a) b long kinds =
     let rest : map is_switch nodes ≡ replicate a true ++ replicate b false = in_place_by nodes a b (omega (arith, long)) (λ k m at. kinds (suc k) m at ∙ (let same : nat_lt (suc k) (suc a) ≡ nat_lt k a = grind (arith, nat_tests) in same)) in
     ap (λ c. c ∷ map is_switch nodes) first ∙ ap (λ cs. true ∷ cs) rest
 
--- what is mapped comes of what was there
-pub from_map : {X Y : Type 0} (f : X → Y) (xs : List X) (k : ℕ) (y : Y) → slice_get (map f xs) k ≡ Some y → (x : X) × (slice_get xs k ≡ Some x) × (f x ≡ y)
-from_map {X} {Y} f xs k y at = by_place (slice_get xs k) (sym (slice_get-map f xs k) ∙ at)
-  where
-    by_place : (o : Option X) → option_map f o ≡ Some y → (x : X) × (o ≡ Some x) × (f x ≡ y)
-    by_place None is = absurd (cc)
-    by_place (Some x) is = (x, refl, cc)
-
 -- tests that say the same of all links say the same of each
 same_link : (p q : ℕ → Bool) → map p link_numbers ≡ map q link_numbers → (l : ℕ) → l < LINKS → p l ≡ q l
 unfolding link_numbers
@@ -134,8 +127,8 @@ module _ (plan : Plan) (is_plan : IsPlan plan) (nodes : List (NodeRecord × Node
   -- the nodes at their starts stand at their places, with all their links
   pub starts_ready : AreReady plan is_plan (map first_state nodes)
   starts_ready = record {
-    placed = in_place_by (map first_state nodes) (length plan.switches) (length plan.terminals) (length-map nodes first_state ∙ gathered.counted) (λ k m at. let found = from_map first_state nodes k m at in ap is_switch (sym found.2) ∙ start_kind k found.0 found.1);
-    wide = λ k m at. let found = from_map first_state nodes k m at in subst IsWide found.2 (wide_start found.0.0.start (whole_at k found.0 found.1).started);
+    placed = in_place_by (map first_state nodes) (length plan.switches) (length plan.terminals) (length-map nodes first_state ∙ gathered.counted) (λ k m at. let found = mapped first_state nodes k m at in ap is_switch (sym found.2) ∙ start_kind k found.0 found.1);
+    wide = λ k m at. let found = mapped first_state nodes k m at in subst IsWide found.2 (wide_start found.0.0.start (whole_at k found.0 found.1).started);
   }
 
   -- each entry is legal

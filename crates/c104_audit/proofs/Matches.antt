@@ -111,23 +111,13 @@ module _ (plan : Plan) (is_plan : IsPlan plan) where
 
       by_reply : (q : Port) (r : Reply) → is_some (plan_event plan k (far_act q r)) ≡ false
       by_reply (port.Switch s l) reply.Done = none _
-      by_reply (port.Switch s l) reply.NotReady = none _
-      by_reply (port.Switch s l) (reply.Token x) = none _
-      by_reply (port.Switch s l) (reply.Control bytes) = none _
       by_reply (port.Terminal t) reply.Done = none _
-      by_reply (port.Terminal t) reply.NotReady = none _
-      by_reply (port.Terminal t) (reply.Token x) = none _
-      by_reply (port.Terminal t) (reply.Control bytes) = none _
+      by_reply q r = none _
 
   far_link : (q : Port) (r : Reply) → act_link (far_act {A = Token} q r) ≡ Some (port_link q)
   far_link (port.Switch s l) reply.Done = refl
-  far_link (port.Switch s l) reply.NotReady = refl
-  far_link (port.Switch s l) (reply.Token x) = refl
-  far_link (port.Switch s l) (reply.Control bytes) = refl
   far_link (port.Terminal t) reply.Done = refl
-  far_link (port.Terminal t) reply.NotReady = refl
-  far_link (port.Terminal t) (reply.Token x) = refl
-  far_link (port.Terminal t) (reply.Control bytes) = refl
+  far_link q r = refl
 
   -- a wired port is known by its place and its link
   port_is : (p q p' q' : Port) → peer plan p ≡ Some q → peer plan p' ≡ Some q' → port_place plan p ≡ port_place plan p' → port_link p ≡ port_link p' → p ≡ p'

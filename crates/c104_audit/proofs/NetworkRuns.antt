@@ -39,16 +39,10 @@ use Rattle.c104_token.specs.declared.tokens.Token.{Token}
 use Rattle.std.proofs.Common.{Bool, List, None, Ok, Option, Result, Some, [], ap, arith, false, get_or, if◌then◌else◌, inl, inr, length, map, nat_eq, nat_lt, refl, slice_get, slice_set, subst, suc, sym, true, ℕ, ◌++◌, ◌+◌, ◌-◌, ◌<◌, ◌∙◌, ◌∷◌, ◌≡◌, ◌≢◌, ◌≤◌, ◌⊎◌}
 use Rattle.std.proofs.lemmas.Bool.Decides.{nat_tests}
 use Rattle.std.proofs.lemmas.Bool.{cases_eq}
+use Rattle.c104_net.proofs.StillWires.{element_at}
 use Rattle.std.proofs.lemmas.List.{length-set}
 use Rattle.std.proofs.lemmas.Option.{slice_get_cases}
 use Rattle.std.specs.List.{AllByRecursion}
-
-pub there : {X : Type 0} (xs : List X) (k : ℕ) → k < length xs → (x : X) × (slice_get xs k ≡ Some x)
-there {X} xs k inside = by_place (slice_get_cases xs k).1
-  where
-    by_place : ((x : X) × (k < length xs) × (slice_get xs k ≡ Some x) × (get_or xs k x ≡ x)) ⊎ ((length xs ≤ k) × (slice_get xs k ≡ None)) → (x : X) × (slice_get xs k ≡ Some x)
-    by_place (inl found) = (found.0, found.2)
-    by_place (inr past) = absurd (let far = past.0 in let no : ⊥ = omega (arith, inside, far) in no)
 
 -- lists of one length with the same things at each place are the same
 pub same_places : {X : Type 0} (xs ys : List X) → length ys ≡ length xs → ((k : ℕ) (x y : X) → slice_get xs k ≡ Some x → slice_get ys k ≡ Some y → y ≡ x) → ys ≡ xs
@@ -70,9 +64,7 @@ at_other k j x ds differs = by_test (nat_eq j k) refl
 
 plain_same : (r : Reply) → plain_reply plain_kind r ≡ r
 plain_same reply.Done = refl
-plain_same reply.NotReady = refl
-plain_same (reply.Token x) = refl
-plain_same (reply.Control bytes) = refl
+plain_same r = refl
 
 module _ (plan : Plan) (is_plan : IsPlan plan) where
   -- nodes that stand at their places, with all their links
@@ -292,15 +284,15 @@ module _ (plan : Plan) (is_plan : IsPlan plan) where
 
         by_cases : LeadsAlone plan K X.act ⊎ LeadsJoint plan K X.act → IsDoneRun plain_kind (network_of plan nodes) (map (lead_pair plan) (m ∷ ms)) (network_of plan ends)
         by_cases (inl alone) =
-            let n = there nodes K (omega (arith, inside, counted)) in
-            let e = there ends K (omega (arith, inside, counted, long)) in
+            let n = element_at nodes K (omega (arith, inside, counted)) in
+            let e = element_at ends K (omega (arith, inside, counted, long)) in
             alone_run inside n.0 e.0 n.1 e.1 alone
         by_cases (inr j) =
-            let n = there nodes K (omega (arith, inside, counted)) in
-            let e = there ends K (omega (arith, inside, counted, long)) in
+            let n = element_at nodes K (omega (arith, inside, counted)) in
+            let e = element_at ends K (omega (arith, inside, counted, long)) in
             let far_inside = port_there j.far j.near (peer_back plan is_plan j.near j.far j.wired) in
-            let n' = there nodes (port_place plan j.far) (omega (arith, far_inside, counted)) in
-            let e' = there ends (port_place plan j.far) (omega (arith, far_inside, counted, long)) in
+            let n' = element_at nodes (port_place plan j.far) (omega (arith, far_inside, counted)) in
+            let e' = element_at ends (port_place plan j.far) (omega (arith, far_inside, counted, long)) in
             joint_run j n.0 e.0 n'.0 e'.0 n.1 e.1 n'.1 e'.1
           where
             port_there : (p q : Port) → peer plan p ≡ Some q → port_place plan p < length plan.switches + length plan.terminals

@@ -39,10 +39,6 @@ module _ (lists : Lists) (count : ℕ) where
   some_of : (s : ℕ) (m : ℕ × Lead Entry) (ms : List (ℕ × Lead Entry)) → Named m → calls_told lists s (m ∷ ms) ≡ [] → carries s m.1.entry ≡ false
   some_of s m ms named none = by_seat (carries s m.1.entry) refl
     where
-      by_event : (o : Option Event) → is_some o ≡ true → option_to_list (option_map (λ e. call_of e m.1.entry.ticket m.1.entry.reply) o) ++ calls_told lists s ms ≡ [] → ⊥
-      by_event None named is = cc
-      by_event (Some e) named is = cc
-
       by_call : (o : Option Call) → is_some o ≡ true → option_to_list o ++ calls_told lists s ms ≡ [] → ⊥
       by_call None named is = cc
       by_call (Some c) named is = cc

@@ -100,21 +100,11 @@ module _ (plan : Plan) where
   granted (Some n) r m is = let both : ◌≡◌ {A = Reply × Node Token} (reply.Done, n) (r, m) = cc in ap (λ (v : Reply × Node Token). v.0) both
 
   pub reply_is : (a : ActOf Token) (n m : Node Token) (r : Reply) → node_act plain_kind 0 a n ≡ Some (r, m) → told_reply a r ≡ r
-  reply_is (act.Step (action.Enter l x)) n m r is = refl
-  reply_is (act.Step (action.Leave l)) n m r is = refl
   reply_is (act.Step (action.CreditOut l)) (node.Switch s) m r is = granted (node_credit_out l (node.Switch s)) r m is
   reply_is (act.Step (action.CreditOut l)) (node.Terminal t) m r is = absurd (cc)
-  reply_is (act.Step (action.CreditIn l)) n m r is = refl
-  reply_is (act.Step (action.Input l word)) n m r is = refl
-  reply_is (act.Step (action.Claim i o)) n m r is = refl
-  reply_is (act.Step (action.Control bytes)) n m r is = refl
-  reply_is (act.Send packet) n m r is = refl
-  reply_is act.Drain n m r is = refl
-  reply_is act.Leave n m r is = refl
-  reply_is (act.Enter x) n m r is = refl
   reply_is act.CreditOut (node.Switch s) m r is = absurd (cc)
   reply_is act.CreditOut (node.Terminal t) m r is = granted (node_credit_out 0 (node.Terminal t)) r m is
-  reply_is act.CreditIn n m r is = refl
+  reply_is a n m r is = refl
 
   -- numbered events have the stamps of these entries that lead
   abbrev pub AreNumbered : (ℕ → Stamp) → ℕ → List (ℕ × Lead Entry) → Type 0

@@ -68,12 +68,9 @@ turn_length t word p qs r is = given (slice_get p.buffer.items 0) _ r is (λ x h
     by_phase Sinking x is = side_same _ r qs refl is
 
 claim_length : (settings : List Settings) (p : Input Token) (qs : List (Outgoing Token)) (o : ℕ) (phase : Phase (List Token)) (r : Side) → input_claim settings p qs o phase ≡ Some r → (length r.1 ≡ length qs) × (o < length qs)
-claim_length settings p qs o Fresh r is = absurd (cc)
-claim_length settings p qs o (Head b) r is = absurd (cc)
 claim_length settings p qs o (Want b g) r is = required _ _ r is (λ in_group more. given (slice_get settings o) _ r more (λ t own most. given (step_at qs o (put_header t b)) _ r most (λ rs made last.
     (side_same _ r rs refl last ∙ length-at_place qs o (put_header t b) rs made, at_place_made qs o (put_header t b) rs made (λ x y here done set. slice_get_within qs o x here)))))
-claim_length settings p qs o (Stream q) r is = absurd (cc)
-claim_length settings p qs o Sinking r is = absurd (cc)
+claim_length settings p qs o phase r is = absurd (cc)
 
 module _ (s : Switch Token) (wide : IsWideSwitch s) where
   enter_wide : (l : ℕ) (x : Token) (s' : Switch Token) → switch_enter s l x ≡ Some s' → IsWideSwitch s'
@@ -154,19 +151,13 @@ wide_act number (act.Step (action.Claim i o)) (node.Switch s) r wide is = wide_d
 wide_act number (act.Step (action.Control bytes)) (node.Switch s) r wide is =
     let v = switch_control s bytes in
     let both : ◌≡◌ {A = Reply × Node Token} (reply.Control v.0, node.Switch v.1) r = cc in subst (λ (v : Reply × Node Token). IsWide v.1) both (control_wide s wide bytes)
-wide_act number (act.Step a) (node.Terminal t) r wide is = absurd (cc)
-wide_act number (act.Send packet) (node.Switch s) r wide is = absurd (cc)
 wide_act number (act.Send packet) (node.Terminal t) r wide is = wide_terminal (Some (terminal.terminal_send plain_kind number packet t)) r is
-wide_act number act.Drain (node.Switch s) r wide is = absurd (cc)
 wide_act number act.Drain (node.Terminal t) r wide is = wide_arrived (terminal.terminal_drain t) r is
-wide_act number act.Leave (node.Switch s) r wide is = absurd (cc)
 wide_act number act.Leave (node.Terminal t) r wide is = wide_arrived (terminal.terminal_leave t) r is
-wide_act number (act.Enter x) (node.Switch s) r wide is = absurd (cc)
 wide_act number (act.Enter x) (node.Terminal t) r wide is = wide_terminal (terminal.terminal_enter x t) r is
-wide_act number act.CreditOut (node.Switch s) r wide is = absurd (cc)
 wide_act number act.CreditOut (node.Terminal t) r wide is = wide_terminal (terminal.terminal_credit_out t) r is
-wide_act number act.CreditIn (node.Switch s) r wide is = absurd (cc)
 wide_act number act.CreditIn (node.Terminal t) r wide is = wide_terminal (terminal.terminal_credit_in t) r is
+wide_act number a n r wide is = absurd (cc)
 
 -- a switch that took a turn or made a claim did it over its links
 pub input_there : (number : ℕ) (n : Node Token) (l word : ℕ) (r : Reply × Node Token) → IsWide n → node_act plain_kind number (act.Step (action.Input l word)) n ≡ Some r → l < LINKS
