@@ -8,7 +8,7 @@ use Rattle.c104_audit.specs.Leads.{AreRising, list_at}
 use Rattle.std.specs.List.{AllByRecursion}
 use Rattle.c104_audit.specs.Tests.{IsNotBelow, StandsFirst}
 use Rattle.c104_audit.specs.declared.calls.Call.{Call}
-use Rattle.std.proofs.Common.{Bool, IsTrue, List, Some, [], ap, arith, drop, false, inl, inr, nat_eq, refl, slice_get, subst, sym, true, unwrap_or, ℕ, ◌++◌, ◌+◌, ◌<◌, ◌∙◌, ◌∷◌, ◌≡◌, ◌≢◌, ◌↔◌, ◌⊎◌, append_assoc}
+use Rattle.std.proofs.Common.{Bool, List, Some, [], ap, arith, drop, false, inl, inr, nat_eq, refl, slice_get, subst, sym, true, unwrap_or, ℕ, ◌++◌, ◌+◌, ◌<◌, ◌∙◌, ◌∷◌, ◌≡◌, ◌≢◌, ◌↔◌, ◌⊎◌, append_assoc}
 use Rattle.std.proofs.lemmas.Bool.Decides.{nat_tests}
 
 in_either : (x : Call) (xs ys : List Call) → IsIn x (xs ++ ys) → IsIn x xs ⊎ IsIn x ys

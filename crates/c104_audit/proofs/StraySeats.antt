@@ -4,7 +4,6 @@ use Rattle.c104_audit.proofs.FirstFailures.{first_both, first_same}
 use Rattle.c104_audit.proofs.KeptElements.{drop_all}
 use Rattle.c104_audit.proofs.Merging.{in_each}
 use Rattle.c104_audit.specs.Audits.{carries, is_number, led_call, led_event, lists_leads}
-use Rattle.c104_audit.specs.Calls.{call_of}
 use Rattle.c104_audit.specs.Firsts.{IsFirst, lower_of}
 use Rattle.c104_audit.specs.Leads.{Lead}
 use Rattle.std.specs.List.{AllByRecursion}
@@ -16,7 +15,7 @@ use Rattle.c104_event.specs.declared.events.Event.{Event}
 use Rattle.c104_node.specs.declared.acts.Entry.{Entry}
 use Rattle.std.proofs.Common.{Bool, List, None, Option, Some, [], ap, arith, drop, false, if◌then◌else◌, is_some, length, map, nat_eq, nat_le, refl, subst, sym, true, ℕ, ◌++◌, ◌+◌, ◌∙◌, ◌∷◌, ◌≡◌, ◌≤◌}
 use Rattle.std.proofs.lemmas.Bool.Decides.{nat_tests}
-use Rattle.std.specs.Option.{option_map, option_to_list}
+use Rattle.std.specs.Option.{option_to_list}
 
 past_first : (count : ℕ) (o : Option ℕ) → IsFirst (λ s. count ≤ s → is_number s o ≡ false) (past_seat count o)
 past_first count None = λ s past. refl
