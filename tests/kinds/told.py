@@ -7,7 +7,7 @@ the sentences that are put together of parts: of labels, of what didn't arrive, 
 import tempfile
 
 from case_runner import PLAN, TOP
-from kinds.check import A_ROWS, B_ROWS, WIRE
+from kinds.check import A_ROWS, B_ROWS, OVER_A_WIRE, WIRE
 from kinds.cycles import ROUND
 from kinds.debug import END_OF_INPUT, asked_by_person
 from kinds.explain import STANDS, run_on_terminal, with_a_later_clock
@@ -25,6 +25,8 @@ CHECKS = {
          'by: terminal b A.1 labels 2 from 1']),
     'labels for which no others are free': (b'header 2\nswitch A\nterminal a A.0 labels 40000\nterminal b A.1 labels 40000 from 9\n',
         'refused 1 RangesOverlap: a b', ['label 9 belongs to a and to b']),
+    'labels for which others are random headers': (b'switch A\nterminal a A.0 labels 2\nterminal b A.1 from 1\nrandom A.0 2 1\n',
+        'refused 1 RangesOverlap: a b', ['label 1 belongs to a and to b']),
     'random headers at a link without a terminal': (PLAN + b'random A.31 2 1\n', 'refused 10 RandomInside: A.31',
         ['no terminal is on A.31, but random headers are put before packets there']),
     'a wrong terminal': (PLAN.replace(b'row A.1 1 0', b'row A.1 1 1'), 'refused 5 WrongEnd: from b header 0 walk A.1',
@@ -37,6 +39,20 @@ CHECKS = {
     'a row that stands between others': (PLAN.replace(b'row A.0 2 1', b'row A.0 9 1'), 'refused 8 Stray: from a header 2 walk A.0',
         ['header 2 belongs to no terminal, but A.0 may send it by link 1 to b', 'replace: row A.0 9 1', 'by: row A.0 2 1',
          'by: row A.0 9 sink']),
+    'a header of nobody that goes on': (WIRE + b'row A.0 1 0\nrow A.0 3 1\nrow A.1 1 0\n' + B_ROWS,
+        'refused 8 Stray: from a header 2 walk A.0',
+        ['header 2 belongs to no terminal, but A.0 may send it by link 1 to B.1', 'replace: row A.0 3 1', 'by: row A.0 2 1',
+         'by: row A.0 3 sink']),
+    'an input that has no room': (PLAN.replace(b'row A.0 1 0\nrow A.0 2 1\n', b'row A.0 2 1\n' + b'row A.0 2 sink\n' * 35),
+        'refused 5 WrongEnd: from a header 0 walk A.0', ['header 0 belongs to a, but A.0 may send it by link 1 to b']),
+    'a portal that leads to the wrong terminal': (OVER_A_WIRE.replace(b'row B.1 1 1\n', b''),
+        'refused 5 WrongEnd: from a header 0 walk B.1',
+        ['header 0 belongs to a, but behind a random header of a, which B.1 discards, B.1 may send it by link 0 to b',
+         'replace: row B.1 2 0', 'by: row B.1 1 1', 'by: row B.1 2 0']),
+    'a portal that lets a header of nobody go on': (OVER_A_WIRE.replace(b'row B.1 11 sink', b'row B.1 11 0'),
+        'refused 8 Stray: from a header 2 walk B.1',
+        ['header 2 belongs to no terminal, but behind a random header of a, which B.1 discards, B.1 may send it by link 0 to b',
+         'replace: row B.1 11 0', 'by: row B.1 10 sink', 'by: row B.1 11 0']),
     'a random header that comes to a terminal': (PLAN + b'random A.0 1 1\n', 'refused 5 WrongEnd: from a header 1 walk A.0',
         [RANDOM_AT_A % 1 + 'A.0 may send it by link 1 to terminal b, which takes packets']),
     'a random header that is sunk': (PLAN + b'random A.0 2 1\nrow A.0 3 sink\n', 'refused 6 DeadEnd: from a header 2 walk A.0',
