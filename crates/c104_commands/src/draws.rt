@@ -29,7 +29,7 @@ pub fn draw_command<D: Read, W: Write, M: Messages>(
     writer: &mut W,
     messages: &mut M,
 ) -> Status
-    ensures { CommandRuns PrintsPicture (D.remaining description.old)
+    ensures { CommandRuns (PrintsPicture marks) (D.remaining description.old)
         (W.contents writer.old) (W.contents writer.new) result }
 {
     match read_setup(alloc, description, writer, messages) {
@@ -42,7 +42,7 @@ pub fn draw_command<D: Read, W: Write, M: Messages>(
 fn draw_setup<W: Write>(alloc: Global, setup: &Setup, marks: Marks, writer: &mut W) -> Status
     requires { Fits setup.now.image setup.now.plan }
     ensures { (due : Result ThePlan ThePlanFault) → ComesTo due (Ok (setup.now.plan, setup.now.image))
-        → CommandEnds PrintsPicture due (W.contents writer.old) (W.contents writer.new) result }
+        → CommandEnds (PrintsPicture marks) due (W.contents writer.old) (W.contents writer.new) result }
 {
     let Ok(text) = picture_text(alloc, &setup.plan, &setup.image, marks) else {
         return Status::NoMemory;

@@ -5,6 +5,7 @@ ghost use Rattle.c104_check.specs.Routes.{IsAccepted, routes_of};
 ghost use Rattle.c104_check.specs.declared.faults.CheckFault.TheVariants as check_fault;
 ghost use Rattle.c104_plan.specs.PlanImage.{Fits};
 ghost use Rattle.c104_draw.specs.CycleDrawings.{IsCycleDrawing};
+ghost use Rattle.c104_draw.specs.Edges.{Drawing as Drawn};
 ghost use Rattle.c104_commands.specs.Pictures.{IsAcceptedPicture, IsHeaderPicture, IsPicture, IsPlainPicture, IsRefusedPicture, cycle_inputs};
 
 use crate::cycle_texts::cycle_text;
@@ -43,10 +44,12 @@ pub(crate) fn picture_text(
     marks: Marks,
 ) -> Result<String, NoMemory>
     requires { Fits image.now plan.now }
+    ensures { IfOk result (λ _. (drawing : Drawn) × IsPicture plan.now image.now marks drawing) }
 {
     let picture = marked_picture(alloc, plan, image, marks)?;
     let title = picture.title.as_str().trim_end();
-    drawing_text(alloc, plan, image, &picture.drawing, title)
+    let text = drawing_text(alloc, plan, image, &picture.drawing, title)?;
+    Ok(text)
 }
 
 /// A network's picture.

@@ -3,4 +3,4 @@ use Rattle.c104_commands.proofs.Refusals.{runs_on}
 use Rattle.c104_commands.proofs.draws.draw_command.Goals as goal
 
 pub returns-in-Ok : goal.returns-in-Ok
-returns-in-Ok g c = runs_on PrintsPicture _ _ _ _ _ _ _ c.in-Ok.ensures.unwritten c.in-Ok.ensures.network c.draw_setup.ensures
+returns-in-Ok g c = runs_on (PrintsPicture c.args.marks) _ _ _ _ _ _ _ c.in-Ok.ensures.unwritten c.in-Ok.ensures.network c.draw_setup.ensures
