@@ -18,11 +18,7 @@ pub mod HomeLemmas
 pub mod StartLemmas
 pub mod CheckLemmas
 pub mod PeerLemmas
-pub mod WalkKindLemmas
-pub mod MendLemmas
-pub mod MisstepLemmas
 pub mod FirstWalkLemmas
-pub mod DistanceLemmas
 pub mod ReachLemmas
 pub mod OwnStarts
 pub mod Homeless

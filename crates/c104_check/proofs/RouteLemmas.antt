@@ -193,3 +193,10 @@ pub portal_input : (routes : Routes) (p q : SwitchPort) → IsNetwork routes →
 portal_input routes p q net (r, m, random, reaches, discards) =
     let found = selects_at routes q.switch q.link r Discard discards in
     is_input routes q found.0 net found.1
+
+-- a link is one of its own group
+pub own_link : (continues : ℕ → Bool) (g : ℕ) → group_contains continues g g ≡ true
+own_link continues g =
+    let none : g - g ≡ 0 = omega arith in
+    let first : nat_le g g ≡ true = le-leb g g (omega arith) in
+    ap (λ b. if b then is_joined_run continues g (g - g) else is_joined_run continues g (g - g)) first ∙ ap (is_joined_run continues g) none

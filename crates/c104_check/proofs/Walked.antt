@@ -3,6 +3,7 @@ use Rattle.std.proofs.Common.{◌≡◌, ℕ, suc, ◌<◌, ◌≤◌, ◌+◌, 
 use Rattle.std.proofs.lemmas.Bool.{cases_eq, cases_Bool, eq-eqb}
 use Rattle.std.proofs.lemmas.Grind.{get_or-set_at}
 use Rattle.std.proofs.lemmas.List.{get_or-set_other, length-append, length-set}
+use Rattle.std.proofs.lemmas.List.Folds.{list_any_at}
 use Rattle.c104_plan.specs.declared.ports.Port.{Port}
 use Rattle.c104_plan.specs.declared.ports.Port.TheVariants as port
 use Rattle.c104_check.specs.declared.faults.WalkFault.TheVariants.{WrongEnd, DeadEnd, Loop}
@@ -208,3 +209,7 @@ follows_by routes h t link first end p q ways low high leads = ways_leave routes
 
 pub marks_length : (marks : List Mark) (k : ℕ) (m : Mark) → length (slice_set marks k m) ≡ length marks
 marks_length marks k m = length-set marks k m
+
+-- an input of a walk, by its place
+pub met_at : (walk xs : List SwitchPort) (i : ℕ) (d : SwitchPort) → xs ≡ walk → i < length xs → is_met (slice_index_or xs i d) walk ≡ true
+met_at walk xs i d same inside = ap (is_met (slice_index_or xs i d)) (sym same) ∙ list_any_at (is_port (slice_index_or xs i d)) xs i d inside (is_port-refl (slice_index_or xs i d))

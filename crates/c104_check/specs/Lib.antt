@@ -10,8 +10,6 @@ pub mod Breaks
 pub mod Portals
 pub mod Starts
 pub mod Tables
-pub mod Mends
-pub mod Distances
 pub mod Reach
 pub mod Parts
 pub mod Ranks

@@ -1,11 +1,8 @@
-//! Which headers refused walks are of.
+//! Which headers refused walks are of. Nothing is proved of it but that it is safe and ends.
 //!
 //! Where random headers are put before a terminal's packets, its input may be a portal too. A walk from there is a random
 //! header's exactly where the header is one and comes to no portal by some choice: what begins at a portal is told only
 //! once all random headers come to one.
-ghost use Rattle.std.specs.Prelude.{◌≡◌, option_map};
-ghost use Rattle.c104_check.specs.Walks.{is_port};
-ghost use Rattle.c104_check.specs.declared.walks.Goal.TheVariants.{Owner};
 
 use crate::faults::Shown;
 use crate::ports::SwitchPort;
@@ -26,43 +23,25 @@ pub enum WalkKind {
 }
 
 impl WalkKind {
-    ghost use Rattle.std.specs.Prelude.{◌≡◌};
-    ghost use Rattle.c104_check.specs.Mends.{goal_of};
-
     /// Where the header should come that has this owner, if it has one. None where it is to be dropped.
-    pub(crate) fn goal(self, owner: Option<usize>) -> Option<Goal>
-        ensures { result ≡ goal_of self owner }
-    {
-        match self {
-            WalkKind::Random(_) => Some(Goal::Portal),
-            WalkKind::Own | WalkKind::Behind(_) => owner_goal(owner),
+    pub(crate) fn goal(self, owner: Option<usize>) -> Option<Goal> {
+        match (self, owner) {
+            (WalkKind::Random(_), _) => Some(Goal::Portal),
+            (_, Some(owner)) => Some(Goal::Owner(owner)),
+            (_, None) => None,
         }
-    }
-}
-
-/// The goal of a header that isn't random.
-fn owner_goal(owner: Option<usize>) -> Option<Goal>
-    ensures { result ≡ option_map Owner owner }
-{
-    match owner {
-        Some(owner) => Some(Goal::Owner(owner)),
-        None => None,
     }
 }
 
 impl<'a> Routes<'a> {
-    ghost use Rattle.std.specs.Prelude.{◌↔◌, length, IfOk, IsTrue};
-    ghost use Rattle.c104_check.specs.Mends.{IsWalkKind, IsHomeless};
-    ghost use Rattle.c104_check.specs.Trails.{IsInput, IsNetwork, routes_in};
+    ghost use Rattle.std.specs.Prelude.{length};
+    ghost use Rattle.c104_check.specs.Trails.{IsInput, routes_in};
 
     /// Of which kind a walk is.
-    pub(crate) fn walk_kind(&self, alloc: Global, shown: &Shown) -> Result<WalkKind, NoMemory>
-        ensures { IfOk result (IsWalkKind (routes_in self.now) shown.now) }
-    {
-        let walk = shown.walk.as_slice();
-        if walk.is_empty() {
+    pub(crate) fn walk_kind(&self, alloc: Global, shown: &Shown) -> Result<WalkKind, NoMemory> {
+        let Some(first) = shown.walk.as_slice().first() else {
             return Ok(WalkKind::Own);
-        }
+        };
         if shown.entry >= self.ranges().len() {
             return Ok(WalkKind::Own);
         }
@@ -70,36 +49,20 @@ impl<'a> Routes<'a> {
         if !self.settings(entry).randomize() {
             return Ok(WalkKind::Own);
         }
-        let first = walk[0];
-        if !is_same(first, entry) {
-            return Ok(WalkKind::Behind(first));
-        }
-        if self.is_homeless(alloc, shown.header, entry)? {
+        if *first == entry && self.is_homeless(alloc, shown.header, entry)? {
             return Ok(WalkKind::Random(entry));
         }
-        Ok(WalkKind::Behind(first))
+        Ok(WalkKind::Behind(*first))
     }
 
     /// Whether a header is a random one at an input, and comes from there to no portal by some choice.
     fn is_homeless(&self, alloc: Global, header: u32, at: SwitchPort) -> Result<bool, NoMemory>
-        requires network { IsNetwork (routes_in self.now) }
-        requires input { IsInput (length (routes_in self.now).settings) at }
-        ensures { IfOk result (λ is. IsTrue is ↔ IsHomeless (routes_in self.now) header at) }
+        requires { IsInput (length (routes_in self.now).settings) at }
     {
-        if header >= self.header_count() {
-            return Ok(false);
-        }
-        if !self.is_random_at(header, at) {
+        if header >= self.header_count() || !self.is_random_at(header, at) {
             return Ok(false);
         }
         let comes = self.comes_from(alloc, header, Goal::Portal, at)?;
         Ok(!comes)
     }
-}
-
-/// Whether two ports are one.
-fn is_same(port: SwitchPort, other: SwitchPort) -> bool
-    ensures { result ≡ is_port port other }
-{
-    port.switch == other.switch && port.link == other.link
 }

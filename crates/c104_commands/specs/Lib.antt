@@ -7,11 +7,7 @@ pub mod ImageTexts
 pub mod Labels
 pub mod LabelRows
 pub mod Traffic
-pub mod RangeChanges
-pub mod RowChanges
-pub mod RowSteps
-pub mod Advice
 pub mod Pictures
 pub mod CycleTexts
 pub mod Cycles
-pub mod CycleAdvice
+pub mod Fixes

@@ -6,13 +6,12 @@ ghost use Rattle.c104_check.specs.declared.faults.CheckFault.TheVariants as chec
 ghost use Rattle.c104_plan.specs.PlanImage.{Fits};
 ghost use Rattle.c104_plan.specs.Plans.{Plan as ThePlan};
 ghost use Rattle.c104_describe.specs.declared.faults.PlanFault.{PlanFault as ThePlanFault};
-ghost use Rattle.c104_label.specs.Images.{IsImageOf, is_labelled_shape};
+ghost use Rattle.c104_label.specs.Images.{is_labelled_shape};
 ghost use Rattle.c104_commands.specs.Checks.{LabelRefusalEnds, PrintsCheck};
 ghost use Rattle.c104_commands.specs.Endings.{CommandEnds, CommandRuns};
 ghost use Rattle.c104_commands.specs.Setups.{ComesTo};
 
-use crate::accepted::cycle_advice;
-use crate::advice::check_advice;
+use crate::advice::{check_advice, cycle_advice};
 use crate::setups::{Setup, read_setup};
 use crate::status::Status;
 use crate::texts::check_fault_text;
@@ -53,7 +52,6 @@ fn check_setup<W: Write, M: Messages>(
     messages: &mut M,
 ) -> Status
     requires fits { Fits setup.now.image setup.now.plan }
-    requires own { IsImageOf setup.now.plan setup.now.image }
     requires accepted { is_labelled_shape setup.now.plan.shape ≡ true
         → IsAccepted (routes_of setup.now.plan setup.now.image) }
     ensures { (due : Result ThePlan ThePlanFault) → ComesTo due (Ok (setup.now.plan, setup.now.image))
@@ -109,7 +107,6 @@ pub fn refuse_labels<W: Write, M: Messages>(
     messages: &mut M,
 ) -> Status
     requires fits { Fits setup.now.image setup.now.plan }
-    requires own { IsImageOf setup.now.plan setup.now.image }
     requires cause { IsCause (routes_of setup.now.plan setup.now.image) fault.now }
     requires told { fault.now ≢ check_fault.NoMemory }
     requires shape { is_labelled_shape setup.now.plan.shape ≡ false }
@@ -132,7 +129,6 @@ pub fn refuse_labels<W: Write, M: Messages>(
 /// memory for it.
 fn advise<M: Messages>(alloc: Global, setup: &Setup, fault: &CheckFault, messages: &mut M)
     requires fits { Fits setup.now.image setup.now.plan }
-    requires own { IsImageOf setup.now.plan setup.now.image }
 {
     let Ok(advice) = check_advice(alloc, &setup.plan, &setup.image, fault) else {
         return;

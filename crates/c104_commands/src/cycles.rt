@@ -5,7 +5,7 @@ ghost use Rattle.c104_check.specs.Routes.{IsAccepted, routes_of};
 ghost use Rattle.c104_plan.specs.PlanImage.{Fits};
 ghost use Rattle.c104_plan.specs.Plans.{Plan as ThePlan};
 ghost use Rattle.c104_describe.specs.declared.faults.PlanFault.{PlanFault as ThePlanFault};
-ghost use Rattle.c104_label.specs.Images.{IsImageOf, is_labelled_shape};
+ghost use Rattle.c104_label.specs.Images.{is_labelled_shape};
 ghost use Rattle.c104_commands.specs.Cycles.{PrintsCycles, TellsCycle, TellsCycles};
 ghost use Rattle.c104_commands.specs.Endings.{CommandEnds, CommandRuns};
 ghost use Rattle.c104_commands.specs.Setups.{ComesTo};
@@ -56,7 +56,6 @@ fn search_setup<W: Write, M: Messages>(
     messages: &mut M,
 ) -> Status
     requires fits { Fits setup.now.image setup.now.plan }
-    requires own { IsImageOf setup.now.plan setup.now.image }
     requires accepted { is_labelled_shape setup.now.plan.shape ≡ true
         → IsAccepted (routes_of setup.now.plan setup.now.image) }
     ensures { (due : Result ThePlan ThePlanFault) → ComesTo due (Ok (setup.now.plan, setup.now.image))

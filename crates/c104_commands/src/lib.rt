@@ -6,45 +6,47 @@
 //! command begins with, also those of c104_run_commands, which run a script, is `read_setup`.
 //!
 //! Each of them reports what is faulty or refused to what takes `Messages`; what it writes and answers is the same
-//! whatever that does. Give `Silent` to report to nobody.
+//! whatever that does. Give `Silent` to report to nobody. Of labels people are told what `find_fix` and `find_waiting`
+//! find.
 //!
 //! A `Status` is how a command ended; it keeps which of two readers failed, and stands for the program's
 //! exit status. The texts of the program's messages are in `c104`, which has `main`.
 #![tactic(auto)]
 
-mod accepted;
 mod advice;
 mod checks;
-mod cycle_breaks;
 mod cycle_texts;
 mod cycles;
-mod discarding;
 mod draws;
+mod fixes;
 mod images;
 mod label_rows;
 mod labels;
-mod mending;
 mod pictures;
 mod range_changes;
 mod row_changes;
+mod sameness;
 mod setups;
 mod status;
 mod texts;
 mod traffic;
 mod trials;
+mod waiting;
 
-pub use accepted::cycle_advice;
-pub use advice::check_advice;
+pub use advice::{check_advice, cycle_advice};
 pub use c104_traffic::{MAX_DATA, MAX_PACKETS, PatternName, Traffic};
 pub use checks::{check_command, refuse_labels};
 pub use cycle_texts::acyclic_text;
 pub use cycles::cycles_command;
 pub use draws::draw_command;
+pub use fixes::{Fix, TriedFix, find_fix};
 pub use images::image_text;
 pub use label_rows::{label_rows_command, rows_text};
 pub use labels::label_command;
 pub use pictures::Marks;
+pub use row_changes::RowFix;
 pub use setups::{Setup, SetupFault, label_fault_text, read_setup, refuse, set_up};
 pub use status::Status;
 pub use texts::check_fault_text;
 pub use traffic::traffic_command;
+pub use waiting::{Waiting, find_waiting};

@@ -1,15 +1,10 @@
-//! What becomes of an input's rows where headers are to select something else there.
-ghost use Rattle.std.specs.Prelude.{◌≡◌, ◌<◌, ◌+◌, length, map, nat_le};
-ghost use Rattle.c104_check.specs.Routes.{to_port};
-ghost use Rattle.c104_commands.specs.RowChanges.{input_rows};
-ghost use Rattle.c104_commands.specs.RowSteps.{IsCovering, IsRowChange, added_rows, change_of, covering_with, new_rows, replaced_rows};
-ghost use Rattle.c104_commands.specs.RowSteps.{row_if};
-ghost use Rattle.c104_plan.specs.PlanImage.{base_of, table_row};
-ghost use Rattle.c104_plan.specs.Plans.{rows_of};
+//! What becomes of an input's rows where headers are to select something else there. Nothing is proved of it but that it
+//! is safe and ends.
 
 use c104_check::SwitchPort;
 use c104_interval::{ROWS, Row, Select};
 use c104_plan::{Plan, Port};
+use std::alloc::{AllocError, Global};
 
 /// Headers that are to select something else at an input.
 #[derive(Clone, Copy, Debug)]
@@ -22,182 +17,152 @@ pub(crate) struct Change {
     pub(crate) select: Select,
 }
 
-/// Which row of an input covers a header.
+/// Other rows of an input.
+#[derive(Drop)]
+pub struct RowFix {
+    /// The input.
+    pub at: SwitchPort,
+    /// All of its rows, as they are to be.
+    pub rows: Vec<Row>,
+    /// The row that gives way to others. None where they are put behind all.
+    pub replaced: Option<Row>,
+    /// These others.
+    pub by: Vec<Row>,
+}
+
+/// Which row of an input is the first to cover a header.
 #[derive(Clone, Copy, Debug)]
-pub(crate) struct Covering {
-    /// The first that does, if one does.
-    pub(crate) row: Option<Row>,
+struct Covering {
+    /// Its number; where none does, how many rows there are.
+    number: usize,
     /// Where its interval begins; where none does, where that of a further row would.
-    pub(crate) low: u32,
-    /// How many rows the input has.
-    pub(crate) count: usize,
+    low: u32,
 }
 
-/// Up to three rows, one after the other.
-#[derive(Clone, Copy, Debug)]
-pub(crate) struct NewRows {
-    /// Of headers below those of a change.
-    pub(crate) below: Option<Row>,
-    /// Of its own headers.
-    pub(crate) own: Row,
-    /// Of headers above them.
-    pub(crate) above: Option<Row>,
-}
-
-/// What becomes of the rows of an input.
-#[derive(Clone, Copy, Debug)]
-pub(crate) enum RowChange {
-    /// They stay, since there is no room for more.
-    NoRoom,
-    /// Others are put behind them.
-    Added(NewRows),
-    /// The first that covers a header gives way to others.
-    Replaced(Row, NewRows),
-}
-
-/// What becomes of the rows of an input so that headers select there what they are to, and all others what they select
-/// now; where a row covers the first of them, only those that it covers do.
-pub(crate) fn find_row_change(plan: &Plan, change: Change) -> RowChange
-    ensures { change.first < change.end → IsRowChange
-        (base_of plan.now (to_port change.at)) (input_rows plan.now change.at) change result }
-{
-    let port = Port::Switch(change.at.switch, change.at.link);
-    change_of(change, find_covering(plan, port, change.first))
-}
-
-/// The same, by the row that covers the first of them.
-fn change_of(change: Change, covering: Covering) -> RowChange
-    ensures { result ≡ change_of change covering.row covering.low covering.count }
-{
-    match covering.row {
-        Some(row) => {
-            let rows = replaced_rows(change, covering.low, row);
-            if has_room(covering.count, rows, ROWS + 1) {
-                RowChange::Replaced(row, rows)
-            } else {
-                RowChange::NoRoom
-            }
-        }
-        None => {
-            let rows = added_rows(change, covering.low);
-            if has_room(covering.count, rows, ROWS) {
-                RowChange::Added(rows)
-            } else {
-                RowChange::NoRoom
-            }
-        }
-    }
-}
-
-/// Whether `count` rows and these are at most `most` together.
-fn has_room(count: usize, rows: NewRows, most: usize) -> bool
-    requires { most < 64 }
-    ensures { result ≡ nat_le (count + length (new_rows rows)) most }
-{
-    let added = 1 + usize::from(rows.below.is_some()) + usize::from(rows.above.is_some());
-    count <= most && added <= most - count
-}
-
-/// The first row of an input that covers a header.
-pub(crate) fn find_covering(plan: &Plan, port: Port, header: u32) -> Covering
-    ensures { IsCovering (base_of plan.now port) (map table_row (rows_of port plan.now.rows)) header result }
-{
-    let mut covering = Covering {
-        row: None,
-        low: base_of(plan, port),
-        count: 0,
+/// Other rows of an input by which headers select there what they are to, and all others what they select now; where a
+/// row covers the first of them, only those that it covers do. None where the input has no room for the rows.
+pub(crate) fn row_fix(
+    alloc: Global,
+    plan: &Plan,
+    change: Change,
+) -> Result<Option<RowFix>, AllocError> {
+    let old = rows_at(alloc, plan, change.at)?;
+    let covering = find_covering(old.as_slice(), base_of(plan, change.at), change.first);
+    let replaced = old.get(covering.number).copied();
+    let by = match replaced {
+        Some(row) => replacing(alloc, change, covering.low, row)?,
+        None => behind(alloc, change, covering.low)?,
     };
+    let rows = with_rows(alloc, old.as_slice(), covering.number, by.as_slice())?;
+    if rows.len() > ROWS {
+        return Ok(None);
+    }
+    Ok(Some(RowFix {
+        at: change.at,
+        rows,
+        replaced,
+        by,
+    }))
+}
+
+/// The row of an input that is the first to cover a header.
+pub(crate) fn row_over(
+    alloc: Global,
+    plan: &Plan,
+    at: SwitchPort,
+    header: u32,
+) -> Result<Option<Row>, AllocError> {
+    let rows = rows_at(alloc, plan, at)?;
+    let covering = find_covering(rows.as_slice(), base_of(plan, at), header);
+    Ok(rows.get(covering.number).copied())
+}
+
+/// The rows of an input, in order.
+fn rows_at(alloc: Global, plan: &Plan, at: SwitchPort) -> Result<Vec<Row>, AllocError> {
+    let port = Port::Switch(at.switch, at.link);
+    let mut rows = Vec::new(alloc);
     for row in plan.rows() {
         if row.port.is_same(port) {
-            let row = Row {
+            rows.push(Row {
                 limit: row.limit,
                 select: row.select,
-            };
-            covering = covering_with(covering, row, header);
+            })?;
         }
     }
-    covering
-}
-
-/// Which row covers a header, with one row more behind the others.
-pub(crate) fn covering_with(covering: Covering, row: Row, header: u32) -> Covering
-    ensures { result ≡ covering_with covering row header }
-{
-    let count = covering.count.saturating_add(1);
-    if covering.row.is_some() {
-        return Covering { count, ..covering };
-    }
-    if covering.low <= header && header < row.limit {
-        return Covering {
-            row: Some(row),
-            low: covering.low,
-            count,
-        };
-    }
-    Covering {
-        row: None,
-        low: row.limit,
-        count,
-    }
-}
-
-/// A row, if it is wanted.
-fn row_if(is_wanted: bool, row: Row) -> Option<Row>
-    ensures { result ≡ row_if is_wanted row }
-{
-    if is_wanted { Some(row) } else { None }
-}
-
-/// A row gives way to up to three: for the headers that it covers below those of a change, for these, and for those
-/// above them.
-fn replaced_rows(change: Change, low: u32, row: Row) -> NewRows
-    ensures { result ≡ replaced_rows change low row }
-{
-    let end = change.end.min(row.limit);
-    let select = row.select;
-    let below = Row {
-        limit: change.first,
-        select,
-    };
-    let own = Row {
-        limit: end,
-        select: change.select,
-    };
-    NewRows {
-        below: row_if(low < change.first, below),
-        own,
-        above: row_if(end < row.limit, row),
-    }
-}
-
-/// Rows behind those of an input, none of which covers the first header of a change.
-fn added_rows(change: Change, low: u32) -> NewRows
-    ensures { result ≡ added_rows change low }
-{
-    let below = Row {
-        limit: change.first,
-        select: Select::Sink,
-    };
-    let own = Row {
-        limit: change.end,
-        select: change.select,
-    };
-    NewRows {
-        below: row_if(low != change.first, below),
-        own,
-        above: None,
-    }
+    Ok(rows)
 }
 
 /// Where the first interval of an input's table begins.
-#[tactic(auto, unfolding(c104_plan::specs::PlanImage::base_of))]
-pub(crate) fn base_of(plan: &Plan, port: Port) -> u32
-    ensures { result ≡ base_of plan.now port }
-{
+fn base_of(plan: &Plan, at: SwitchPort) -> u32 {
+    let port = Port::Switch(at.switch, at.link);
     for base in plan.bases() {
         if base.port.is_same(port) {
             return base.base;
         }
     }
     0
+}
+
+/// The first of these rows that covers a header, where the first interval begins at `base`.
+fn find_covering(rows: &[Row], base: u32, header: u32) -> Covering {
+    let mut low = base;
+    for (number, row) in rows.iter().enumerate() {
+        if low <= header && header < row.limit {
+            return Covering { number, low };
+        }
+        low = row.limit;
+    }
+    Covering {
+        number: rows.len(),
+        low,
+    }
+}
+
+/// What a row, whose interval begins at `low`, gives way to: rows for the headers that it covers below those of a change,
+/// for these, and for those above them.
+fn replacing(alloc: Global, change: Change, low: u32, row: Row) -> Result<Vec<Row>, AllocError> {
+    let mut rows = Vec::new(alloc);
+    if low < change.first {
+        rows.push(Row {
+            limit: change.first,
+            select: row.select,
+        })?;
+    }
+    let end = change.end.min(row.limit);
+    rows.push(Row {
+        limit: end,
+        select: change.select,
+    })?;
+    if end < row.limit {
+        rows.push(row)?;
+    }
+    Ok(rows)
+}
+
+/// Rows behind others, none of which covers the first header of a change.
+fn behind(alloc: Global, change: Change, low: u32) -> Result<Vec<Row>, AllocError> {
+    let mut rows = Vec::new(alloc);
+    if low != change.first {
+        rows.push(Row {
+            limit: change.first,
+            select: Select::Sink,
+        })?;
+    }
+    rows.push(Row {
+        limit: change.end,
+        select: change.select,
+    })?;
+    Ok(rows)
+}
+
+/// These rows with others in the place of the one of this number, or behind all.
+fn with_rows(
+    alloc: Global,
+    old: &[Row],
+    number: usize,
+    by: &[Row],
+) -> Result<Vec<Row>, AllocError> {
+    let before = old.iter().take(number);
+    let after = old.iter().skip(number.saturating_add(1));
+    before.chain(by.iter()).chain(after).copied().collect(alloc)
 }

@@ -1,13 +1,13 @@
-//! Changes of a description's rows, tried before people are told of them. Nothing is proved of the rows but that it is
-//! safe and ends.
+//! Fixes of a description, tried before people are told of them.
 ghost use Rattle.std.specs.Prelude.{◌≡◌, true, IfOk};
-ghost use Rattle.c104_check.specs.Routes.{IsAccepted, routes_of};
-ghost use Rattle.c104_plan.specs.PlanImage.{Fits};
+ghost use Rattle.c104_commands.specs.Fixes.{IsMended, LeavesAccepted};
 
-use crate::row_changes::{Change, base_of};
-use c104_check::{CheckFault, SwitchPort, check};
-use c104_interval::{ROWS, Select};
-use c104_plan::{Image, Plan, PlanRow, Port, hand_image};
+use crate::fixes::Fix;
+use crate::row_changes::RowFix;
+use crate::sameness::is_same_fault;
+use c104_check::{CheckFault, check};
+use c104_interval::{ROWS, Row, Select};
+use c104_plan::{Image, ImageFault, Plan, hand_image};
 use c104_regs::{Address, LINKS, Register};
 use c104_token::NoMemory;
 use std::alloc::Global;
@@ -22,24 +22,52 @@ pub(crate) fn most_trials(plan: &Plan) -> usize {
     MOST_TRIALS / pairs.max(1)
 }
 
-/// The image of a plan's own lines with a change. None where the input has no room for its rows.
-pub(crate) fn changed_image(
+/// The image of a plan's own lines with a fix. None where the fix can't be set.
+pub(crate) fn fixed_image(
     alloc: Global,
     plan: &Plan,
-    change: Change,
+    fix: &Fix,
 ) -> Result<Option<Image>, NoMemory> {
     let mut image = hand_image(alloc, plan)?;
-    if set_rows(plan, &mut image, change) {
-        Ok(Some(image))
-    } else {
-        Ok(None)
+    let set = match fix {
+        Fix::Labels(terminal, first) => {
+            let count = match plan.terminals().get(*terminal) {
+                Some(terminal) => terminal.count,
+                None => 0,
+            };
+            image.set_range(*terminal, *first, count)
+        }
+        Fix::Rows(rows) => set_rows(&mut image, rows),
+    };
+    match set {
+        Ok(()) => Ok(Some(image)),
+        Err(ImageFault::NoMemory) => Err(NoMemory),
+        Err(_) => Ok(None),
+    }
+}
+
+/// Whether the check accepts the labels of an image, or refuses them for another fault than this.
+pub(crate) fn is_mended(
+    alloc: Global,
+    plan: &Plan,
+    fault: &CheckFault,
+    image: &Image,
+) -> Result<bool, NoMemory>
+    ensures { IfOk result (λ is. is ≡ true → IsMended plan.now fault.now image.now) }
+{
+    if !image.fits(plan) {
+        return Ok(false);
+    }
+    match check(alloc, plan, image) {
+        Ok(_) => Ok(true),
+        Err(CheckFault::NoMemory) => Err(NoMemory),
+        Err(other) => Ok(!is_same_fault(&other, fault)),
     }
 }
 
 /// Whether the labels of an image are accepted.
 pub(crate) fn are_accepted(alloc: Global, plan: &Plan, image: &Image) -> Result<bool, NoMemory>
-    ensures accepted { IfOk result (λ are. are ≡ true → IsAccepted (routes_of plan.now image.now)) }
-    ensures fits { IfOk result (λ are. are ≡ true → Fits image.now plan.now) }
+    ensures { IfOk result (λ are. are ≡ true → LeavesAccepted plan.now image.now) }
 {
     if !image.fits(plan) {
         return Ok(false);
@@ -51,71 +79,23 @@ pub(crate) fn are_accepted(alloc: Global, plan: &Plan, image: &Image) -> Result<
     }
 }
 
-/// Sets the rows of an input so that the headers of a change select what they are to, and all others what they did; and
-/// tells whether it could.
-fn set_rows(plan: &Plan, image: &mut Image, change: Change) -> bool {
-    let port = Port::Switch(change.at.switch, change.at.link);
-    let mut low = base_of(plan, port);
-    let mut rows = Rows {
-        at: change.at,
-        count: 0,
-        changed: false,
-    };
-    for row in plan.rows() {
-        if row.port.is_same(port) {
-            if !rows.add_changed(image, change, low, *row) {
-                return false;
-            }
-            low = row.limit;
-        }
+/// Sets all rows of an input.
+fn set_rows(image: &mut Image, fix: &RowFix) -> Result<(), ImageFault> {
+    for (number, row) in fix.rows.iter().enumerate() {
+        set_row(image, fix, number, *row)?;
     }
-    rows.changed || rows.add_behind(image, change, low)
+    Ok(())
 }
 
-/// The rows that are set at an input.
-#[derive(Drop)]
-struct Rows {
-    at: SwitchPort,
-    count: usize,
-    // Whether the headers of the change select what they are to.
-    changed: bool,
-}
-
-impl Rows {
-    /// Sets a row whose interval begins at a header, or where the row is the first that covers the first header of a
-    /// change, up to three in its place; and tells whether it could.
-    fn add_changed(&mut self, image: &mut Image, change: Change, low: u32, row: PlanRow) -> bool {
-        if self.changed || change.first < low || row.limit <= change.first {
-            return self.add(image, row.limit, row.select);
-        }
-        self.changed = true;
-        let end = change.end.min(row.limit);
-        let below = low == change.first || self.add(image, change.first, row.select);
-        let own = self.add(image, end, change.select);
-        let above = end >= row.limit || self.add(image, row.limit, row.select);
-        below && own && above
+/// Sets the row of this number.
+fn set_row(image: &mut Image, fix: &RowFix, number: usize, row: Row) -> Result<(), ImageFault> {
+    if number >= ROWS || fix.at.link >= LINKS {
+        return Err(ImageFault::NoNode);
     }
-
-    /// Sets rows behind all others, the last of which ends at a header and none of which covers the first header of a
-    /// change; and tells whether it could.
-    fn add_behind(&mut self, image: &mut Image, change: Change, low: u32) -> bool {
-        let below = low == change.first || self.add(image, change.first, Select::Sink);
-        below && self.add(image, change.end, change.select)
-    }
-
-    /// Sets one more row, and tells whether it could.
-    fn add(&mut self, image: &mut Image, limit: u32, select: Select) -> bool {
-        if self.count >= ROWS || self.at.link >= LINKS {
-            return false;
-        }
-        let limit_at = Address::AtLink(self.at.link, Register::Limit(self.count)).number();
-        let select_at = Address::AtLink(self.at.link, Register::Select(self.count)).number();
-        self.count += 1;
-        image.set(self.at.switch, limit_at, limit).is_ok()
-            && image
-                .set(self.at.switch, select_at, number_of(select))
-                .is_ok()
-    }
+    let limit_at = Address::AtLink(fix.at.link, Register::Limit(number)).number();
+    let select_at = Address::AtLink(fix.at.link, Register::Select(number)).number();
+    image.set(fix.at.switch, limit_at, row.limit)?;
+    image.set(fix.at.switch, select_at, number_of(row.select))
 }
 
 /// What the register of a select reads.

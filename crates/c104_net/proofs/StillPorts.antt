@@ -19,7 +19,7 @@ use Rattle.c104_net.proofs.Promises.{IsSettled, IsStart, each, starts}
 use Rattle.c104_net.proofs.RunSteps.{header_cases, header_positive}
 use Rattle.c104_net.proofs.SentBytes.{AreBytesSent}
 use Rattle.c104_net.proofs.StillWires.{arrived, claimed, drained, stuck}
-use Rattle.c104_check.proofs.MisstepLemmas.{own_link}
+use Rattle.c104_check.proofs.RouteLemmas.{own_link}
 use Rattle.c104_run.specs.Balance.{IsSteady}
 use Rattle.c104_node.specs.Nodes.{is_switch, Node}
 use Rattle.c104_run.specs.Network.{Network, network_of, terminal_place}

@@ -1,5 +1,5 @@
 -- What each event of a round says that isn't ready, in a network whose switches are started.
-use Rattle.c104_check.proofs.MisstepLemmas.{own_link}
+use Rattle.c104_check.proofs.RouteLemmas.{own_link}
 use Rattle.c104_plan.specs.Plans.{IsPlan, Plan}
 use Rattle.c104_plan.specs.Wiring.{peer}
 use Rattle.c104_plan.specs.declared.ports.Port.{Port}

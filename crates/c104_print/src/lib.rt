@@ -2,14 +2,16 @@
 //! is proved where it is found.
 //!
 //! [`drawing_text`] is the picture of a network and [`state_text`] that of a network as it stands, both in the language
-//! of Graphviz.
+//! of Graphviz. [`refusal_text`] and its neighbours are what people are told of labels.
 #![tactic(auto)]
 
+mod advice;
 mod drawings;
 mod edges;
 mod frames;
 mod nodes;
 mod states;
 
+pub use advice::{cycle_sentences, label_lines, no_cycle_text, refusal_text, row_lines};
 pub use drawings::{drawing_text, drawing_text_with};
 pub use states::state_text;

@@ -4,7 +4,7 @@ use Rattle.c104_check.specs.Dependencies.{AreListedAt}
 use Rattle.c104_check.specs.Routes.{SwitchPort}
 use Rattle.c104_check.specs.Trails.{routes_in}
 use Rattle.c104_check.proofs.DependencyLemmas.{at_next, extended_more}
-use Rattle.c104_check.proofs.MendLemmas.{met_at}
+use Rattle.c104_check.proofs.Walked.{met_at}
 use Rattle.c104_check.proofs.ReachLemmas.{all_taken}
 use Rattle.c104_check.proofs.TrailLemmas.{All-found}
 use Rattle.c104_check.proofs.routes.Routes.add_at_all.Goals as goal
