@@ -7,6 +7,8 @@
 #![tactic(auto)]
 
 #[cfg(test)]
+mod advice;
+#[cfg(test)]
 mod calls;
 #[cfg(test)]
 mod commands;
