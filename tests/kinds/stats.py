@@ -23,6 +23,17 @@ FIRST = b'send a 01 68 eop\nrounds 9\n'
 # A packet for b goes to a link that nothing leads on from.
 STUCK = PLAN.replace(b'row A.0 2 1', b'row A.0 2 7')
 NO_ROWS = PLAN[:PLAN.index(b'row')]
+# Names that are wider than a column, and links of two digits. Two packets cross one behind the other, in rounds 1 to 6 to the
+# switch and in 2 to 7 from it, and one the other way, in 1 and 2, and in 2 and 3.
+WIDE = b'''switch crossroads
+terminal westernmost crossroads.10
+terminal easternmost crossroads.31
+row crossroads.10 1 10
+row crossroads.10 2 31
+row crossroads.31 1 10
+row crossroads.31 2 31
+'''
+THREE = b'send westernmost 01 68 eop\nsend westernmost 01 69 eop\nsend easternmost 00 eop\nrounds 9\n'
 # Of a's packet 68 is in A, behind 01, when A is reset in round 2; its terminator leaves a in round 3. Once its row is set and
 # it is started, A finds a packet without a header in that.
 RESET = b'send a 01 68 eop\nrounds 2\ncontrol A 02\n'
@@ -58,6 +69,11 @@ BY_HAND = {
     'packets that are lost': (NO_ROWS, b'send a 01 68 eop\nsend b eop\nrounds 9\n', 'packets',
         ('a 0 - 2 1 0 1 - - 0 sunk', 'b 0 - 0 1 0 1 - - 0 short')),
     'a packet that goes nowhere': (STUCK, FIRST, 'packets', ('a 0 - 2 1 0 1 - - 0 unfinished',)),
+    'names wider than a column': (WIDE, THREE, 'packets',
+        ('westernmost 0 easternmost 2 2 0 1 4 4 0 arrived', 'westernmost 1 easternmost 2 2 0 4 7 7 0 arrived',
+         'easternmost 0 westernmost 1 2 0 1 3 3 0 arrived')),
+    'links of two digits': (WIDE, THREE, 'links',
+        ('crossroads.10 2 0.285 1 2 1', 'crossroads.31 6 0.857 2 3 1', 'westernmost 6 0.857 2 3 6', 'easternmost 2 0.285 1 2 2')),
     'nothing is asked': (PLAN, b'', 'packets', ()),
     'the round before the first': (PLAN, b'', 'rounds', ('0 0 0 0 0 0',)),
     'no network': (b'', b'send a 01 eop\nrounds 3\n', 'links', ()),
@@ -68,6 +84,8 @@ SUMMARIES = {
     'the first run': (PLAN, FIRST, '4 1 1 0 4 4 4 4 1.500 A.1 0.750 a 0.750 - -'),
     'the first run, with a packet behind it': (PLAN, FIRST + b'send b 00 eop\n',
         '9 2 1 0 4 4 4 4 0.666 A.1 0.333 a 0.333 - -'),
+    'three packets, each of another latency': (WIDE, THREE,
+        '7 3 3 0 3 4 7 7 2.285 crossroads.31 0.857 westernmost 0.857 crossroads.10 0.285'),
     'nothing is asked': (PLAN, b'', '0 0 0 0 - - - - 0.000 - - - - - -'),
     'lost packets': (NO_ROWS, b'send a 01 68 eop\nsend b eop\nrounds 9\n', '3 2 0 2 - - - - 1.333 a 1.000 b 0.333 - -'),
 }
