@@ -1,15 +1,12 @@
--- The first of all faults that applies, in the order of their numbers, has the least number.
-use Rattle.std.proofs.Common.{◌≡◌, ℕ, suc, ◌-◌, ◌<◌, ◌≤◌, Bool, true, false, List, [], ◌∷◌, inl, inr, slice_index_or, if◌then◌else◌, Option, Some, None, sym, ◌∙◌, ap, refl, arith, lit≤, lit<}
+-- The first of all faults that applies, in the order of their numbers, has the least number: so of a line the least fault is told.
+use Rattle.std.proofs.Common.{◌≡◌, ℕ, suc, ◌-◌, ◌<◌, ◌≤◌, Bool, true, false, List, [], ◌∷◌, inl, inr, slice_index_or, if◌then◌else◌, Option, Some, None, sym, ◌∙◌, Ok, Err, ap, refl, arith, lit≤, lit<}
 use Rattle.std.specs.List.{find}
 use Rattle.std.proofs.lemmas.Bool.{cases_eq}
 use Rattle.c104_describe.specs.declared.faults.PlanFaultKind.TheVariants as kind
 use Rattle.c104_describe.specs.PlanFaults.{PlanFaultKind, plan_fault_number}
-
--- all faults, in the order of their numbers
-abbrev pub all_faults : List PlanFaultKind
-all_faults =
-    kind.TooLong ∷ kind.UnknownWord ∷ kind.BadShape ∷ kind.BadNumber ∷ kind.BadName ∷ kind.NameTaken ∷ kind.UnknownName
-    ∷ kind.SelfWire ∷ kind.LinkTaken ∷ kind.TooMany ∷ kind.Twice ∷ kind.MixedStyle ∷ kind.NoMemory ∷ []
+use Rattle.c104_plan.specs.Plans.{Plan}
+use Rattle.c104_describe.specs.PlanLines.{Draft, LineParts}
+use Rattle.c104_describe.specs.LineFaults.{IsFaultless, IsLeastFault, all_faults, has_fault, is_fault_of, read_parts, read_plan_line, unless}
 
 -- the fault of a number
 fault_numbered : ℕ → PlanFaultKind
@@ -77,11 +74,11 @@ all_numbered : AreNumbered 1 all_faults
 all_numbered = (refl, (refl, (refl, (refl, (refl, (refl, (refl, (refl, (refl, (refl, (refl, (refl, (refl, refl)))))))))))))
 
 -- none below the first one that applies
-pub none_lesser : (has : PlanFaultKind → Bool) (fault : PlanFaultKind) → find has all_faults ≡ Some fault → (other : PlanFaultKind) → plan_fault_number other < plan_fault_number fault → has other ≡ false
+none_lesser : (has : PlanFaultKind → Bool) (fault : PlanFaultKind) → find has all_faults ≡ Some fault → (other : PlanFaultKind) → plan_fault_number other < plan_fault_number fault → has other ≡ false
 none_lesser has fault is other under = lesser has 1 all_faults all_numbered other (number-range other).0 (rw is under)
 
 -- none at all where there is no first one
-pub none_at_all : (has : PlanFaultKind → Bool) → find has all_faults ≡ None → (other : PlanFaultKind) → has other ≡ false
+none_at_all : (has : PlanFaultKind → Bool) → find has all_faults ≡ None → (other : PlanFaultKind) → has other ≡ false
 none_at_all has is other = lesser has 1 all_faults all_numbered other (number-range other).0 (rw is ((number-range other).1))
 
 applies-first : (has : PlanFaultKind → Bool) (fault found : PlanFaultKind) (rest : Option PlanFaultKind) (b : Bool) → has fault ≡ b → (if b then Some fault else rest) ≡ Some found → (rest ≡ Some found → has found ≡ true) → has found ≡ true
@@ -89,6 +86,30 @@ applies-first has fault found rest true is here go = let same : fault ≡ found 
 applies-first has fault found rest false is here go = go here
 
 -- the first one that applies does
-pub applies : (has : PlanFaultKind → Bool) (faults : List PlanFaultKind) (found : PlanFaultKind) → find has faults ≡ Some found → has found ≡ true
+applies : (has : PlanFaultKind → Bool) (faults : List PlanFaultKind) (found : PlanFaultKind) → find has faults ≡ Some found → has found ≡ true
 applies has [] found is = cc
 applies has (fault ∷ faults) found is = applies-first has fault found (find has faults) (has fault) refl is (λ here. applies has faults found here)
+
+-- Of a line
+
+-- there was no fault
+pub made : (o : Option PlanFaultKind) (after next : Draft) → unless o after ≡ Ok next → (o ≡ None) × (after ≡ next)
+made None after next is = let same : after ≡ next = cc in (refl, same)
+made (Some fault) after next is = cc
+
+-- there was this one
+pub told : (o : Option PlanFaultKind) (after : Draft) (fault : PlanFaultKind) → unless o after ≡ Err fault → o ≡ Some fault
+told None after fault is = cc
+told (Some other) after fault is = let same : other ≡ fault = cc in ap Some same
+
+-- parts that were read have no fault
+pub sound : (plan : Plan) (parts : LineParts) (next : Draft) → read_parts plan parts ≡ Ok next → (fault : PlanFaultKind) → is_fault_of plan parts fault ≡ false
+sound plan parts next is = none_at_all (is_fault_of plan parts) (made (find (is_fault_of plan parts) all_faults) parts.next next is).0
+
+pub least_fault : (draft : Draft) (line : List ℕ) (fault : PlanFaultKind) → read_plan_line draft line ≡ Err fault → IsLeastFault draft line fault
+least_fault draft line fault is =
+    let first : find (has_fault draft line) all_faults ≡ Some fault = told (find (has_fault draft line) all_faults) _ fault is in
+    record { applies = applies (has_fault draft line) all_faults fault first; no_lesser = none_lesser (has_fault draft line) fault first }
+
+pub faultless : (draft : Draft) (line : List ℕ) (next : Draft) → read_plan_line draft line ≡ Ok next → IsFaultless draft line
+faultless draft line next is = none_at_all (has_fault draft line) (made (find (has_fault draft line) all_faults) _ next is).0

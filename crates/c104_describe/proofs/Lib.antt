@@ -11,11 +11,10 @@ pub mod PlanRooted
 pub mod DraftsKept
 pub mod PlanLinesKept
 pub mod FaultOrder
-pub mod FaultSteps
 pub mod MixedLast
-pub mod LineFaultLaws
 pub mod PlanDue
 mod LineWords
+mod LineSteps
 mod PrintedSteps
 mod PrintedParts
 mod PrintedWords

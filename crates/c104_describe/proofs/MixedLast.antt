@@ -1,18 +1,13 @@
 -- A line's own faults come before that it doesn't go with the lines before it.
-use Rattle.std.proofs.Common.{◌≡◌, Bool, true, false, not, List, [], ◌∷◌, ◌++◌, if◌then◌else◌, Option, Some, None, Result, Ok, Err, sym, ◌∙◌, ap, refl}
+use Rattle.std.proofs.Common.{◌≡◌, ℕ, Bool, true, false, List, [], ◌∷◌, ◌++◌, if◌then◌else◌, Option, Some, None, Result, Ok, Err, ◌⊎◌, inl, inr, sym, ◌∙◌, ap, refl}
 use Rattle.std.specs.List.{find}
 use Rattle.c104_describe.specs.declared.faults.PlanFaultKind.TheVariants as kind
 use Rattle.c104_describe.specs.PlanFaults.{PlanFaultKind}
 use Rattle.c104_plan.specs.Plans.{Plan}
-use Rattle.c104_plan.specs.Checks.{◌>>=◌, ◌>>◌, require}
-use Rattle.c104_describe.specs.PlanDrafts.{Draft}
-use Rattle.c104_describe.specs.LineFaults.{LineParts, is_fault_of}
-use Rattle.c104_describe.proofs.FaultOrder.{all_faults}
-use Rattle.c104_describe.proofs.FaultSteps.{error_of}
-
--- the first of the faults of a line of these parts
-abbrev pub first_fault : Plan → LineParts → Option PlanFaultKind
-first_fault plan parts = find (is_fault_of plan parts) all_faults
+use Rattle.c104_describe.specs.PlanDrafts.{is_mixed}
+use Rattle.c104_describe.specs.PlanWords.{Keyword}
+use Rattle.c104_describe.specs.PlanLines.{Draft, LineParts, first_word_parts, keyword_parts}
+use Rattle.c104_describe.specs.LineFaults.{is_fault_of, keyword_line, read_parts, unless}
 
 -- those of a line by itself
 own_faults : List PlanFaultKind
@@ -25,11 +20,6 @@ first_of : Option PlanFaultKind → Option PlanFaultKind → Option PlanFaultKin
 first_of None other = other
 first_of (Some fault) other = Some fault
 
-first_alone : (o : Option PlanFaultKind) → first_of o None ≡ o
-unfolding first_of
-first_alone None = refl
-first_alone (Some fault) = refl
-
 found_in : (has : PlanFaultKind → Bool) (xs ys : List PlanFaultKind) → find has (xs ++ ys) ≡ first_of (find has xs) (find has ys)
 unfolding first_of
 found_in has [] ys = refl
@@ -39,23 +29,50 @@ found_in has (x ∷ xs) ys = by_test (has x) (found_in has xs ys)
     by_test true rest = refl
     by_test false rest = rest
 
--- that it is mixed, if it is
-mixed_fault : Bool → Option PlanFaultKind
-mixed_fault mixed = if mixed then Some kind.MixedStyle else None
+-- what the line gave by itself, and then whether it goes with the others
+then_mixed : Bool → Result Draft PlanFaultKind → Result Draft PlanFaultKind
+then_mixed mixed (Ok next) = if mixed then Err kind.MixedStyle else Ok next
+then_mixed mixed (Err fault) = Err fault
 
-in_turn : (plan : Plan) (parts : LineParts) (mixed : Bool) → first_fault plan (record parts { is_mixed = mixed }) ≡ first_of (find (is_fault_of plan parts) own_faults) (mixed_fault mixed)
-unfolding own_faults mixed_fault
-in_turn plan parts mixed = found_in (is_fault_of plan (record parts { is_mixed = mixed })) own_faults (kind.MixedStyle ∷ kind.NoMemory ∷ [])
+by_own : (own : Option PlanFaultKind) (mixed : Bool) (next : Draft) → unless (first_of own (if mixed then Some kind.MixedStyle else None)) next ≡ then_mixed mixed (unless (first_of own None) next)
+unfolding first_of then_mixed
+by_own None true next = refl
+by_own None false next = refl
+by_own (Some fault) mixed next = refl
 
-answered : (made : Result Draft PlanFaultKind) (mixed : Bool) → error_of (made >>= λ next. require (not mixed) kind.MixedStyle >> Ok next) ≡ first_of (error_of made) (mixed_fault mixed)
-unfolding first_of mixed_fault
-answered (Ok draft) true = refl
-answered (Ok draft) false = refl
-answered (Err fault) mixed = refl
+last : (plan : Plan) (parts : LineParts) (mixed : Bool) → read_parts plan (record parts { is_mixed = mixed }) ≡ then_mixed mixed (read_parts plan (record parts { is_mixed = false }))
+unfolding own_faults
+last plan parts mixed =
+    let at = λ (m : Bool). is_fault_of plan (record parts { is_mixed = m }) in
+    let behind = kind.MixedStyle ∷ kind.NoMemory ∷ [] in
+    let own : Option PlanFaultKind = find (at false) own_faults in
+    ap (λ o. unless o parts.next) (found_in (at mixed) own_faults behind)
+    ∙ by_own own mixed parts.next
+    ∙ ap (λ o. then_mixed mixed (unless o parts.next)) (sym (found_in (at false) own_faults behind))
 
-pub mixed_last : (plan : Plan) (parts : LineParts) (made : Result Draft PlanFaultKind) (mixed : Bool) → error_of made ≡ first_fault plan (record parts { is_mixed = false })
-    → error_of (made >>= λ next. require (not mixed) kind.MixedStyle >> Ok next) ≡ first_fault plan (record parts { is_mixed = mixed })
-unfolding mixed_fault
-mixed_last plan parts made mixed own =
-    let same : error_of made ≡ find (is_fault_of plan parts) own_faults = own ∙ in_turn plan parts false ∙ first_alone (find (is_fault_of plan parts) own_faults) in
-    answered made mixed ∙ ap (λ o. first_of o (mixed_fault mixed)) same ∙ sym (in_turn plan parts mixed)
+module _ (plan : Plan) (parts : LineParts) (mixed : Bool) where
+  own_fault : (fault : PlanFaultKind) → read_parts plan (record parts { is_mixed = false }) ≡ Err fault → read_parts plan (record parts { is_mixed = mixed }) ≡ Err fault
+  unfolding then_mixed
+  own_fault fault is = last plan parts mixed ∙ ap (then_mixed mixed) is
+
+  is_last : (next : Draft) → read_parts plan (record parts { is_mixed = false }) ≡ Ok next → read_parts plan (record parts { is_mixed = mixed }) ≡ (if mixed then Err kind.MixedStyle else Ok next)
+  unfolding then_mixed
+  is_last next is = last plan parts mixed ∙ ap (then_mixed mixed) is
+
+-- a line whose first word is known, by what it gives but for whether it goes with the lines before
+module _ (draft : Draft) (k : Keyword) (rest : List (List ℕ)) where
+  abbrev parts : LineParts
+  parts = record (keyword_parts draft k rest) { is_known = true; is_plain = true }
+
+  abbrev pub known_line : Result Draft PlanFaultKind
+  known_line = read_parts draft.plan (record (first_word_parts draft (Some k) rest) { is_plain = true })
+
+  known_fault : (fault : PlanFaultKind) → keyword_line draft k rest ≡ Err fault → known_line ≡ Err fault
+  known_fault fault is = own_fault draft.plan parts (is_mixed draft k rest) fault is
+
+  pub known_or_memory : (fault : PlanFaultKind) → (keyword_line draft k rest ≡ Err fault) ⊎ (fault ≡ kind.NoMemory) → (known_line ≡ Err fault) ⊎ (fault ≡ kind.NoMemory)
+  known_or_memory fault (inl is) = inl (known_fault fault is)
+  known_or_memory fault (inr none) = inr none
+
+  pub known_mixed : (next : Draft) → is_mixed draft k rest ≡ true → keyword_line draft k rest ≡ Ok next → known_line ≡ Err kind.MixedStyle
+  known_mixed next mixed is = is_last draft.plan parts (is_mixed draft k rest) next is ∙ (λ i. if mixed i then Err kind.MixedStyle else Ok next)

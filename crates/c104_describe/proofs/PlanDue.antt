@@ -6,10 +6,10 @@ use Rattle.c104_describe.specs.declared.faults.PlanFaultKind.TheVariants.{TooLon
 use Rattle.c104_plan.specs.TextCut.{lines, most_bytes}
 use Rattle.c104_describe.specs.PlanFaults.{PlanFault, PlanFaultKind, fault_at, no_memory}
 use Rattle.c104_plan.specs.Plans.{Plan}
-use Rattle.c104_describe.specs.PlanLines.{Draft, read_plan_line}
-use Rattle.c104_describe.specs.LineFaults.{IsFaultless}
+use Rattle.c104_describe.specs.PlanLines.{Draft}
+use Rattle.c104_describe.specs.LineFaults.{IsFaultless, read_plan_line}
 use Rattle.c104_describe.specs.PlanText.{draft_after_line, plan_of_draft, read_description, empty_draft, read_plan_lines, GivesPlanOrNoMemory, AreFaultless, IsDue, IsFirstFault}
-use Rattle.c104_describe.proofs.LineFaultLaws.{least_fault, faultless}
+use Rattle.c104_describe.proofs.FaultOrder.{least_fault, faultless}
 
 -- the first faulty line among some, of which the first has this number
 record Found (n : ℕ) (list : List (List ℕ)) (draft : Draft) (fault : PlanFault) : Type 0 where

@@ -1,94 +1,124 @@
--- Each line keeps what the type of a plan does, and what it leaves as it was.
-use Rattle.std.proofs.Common.{◌≡◌, ℕ, ◌+◌, ◌*◌, ◌^◌, ◌<◌, ◌≤◌, ◌==◌, ◌&&◌, Bool, true, false, not, List, [], ◌∷◌, ◌++◌, length, nat_le, nat_lt, bytes_eq, codes, if◌then◌else◌, Option, Some, None, Result, Ok, Err, sym, subst, refl, arith, length-append}
-use Rattle.std.proofs.lemmas.Bool.{and_parts, not-true, ltb-true, leb-true}
-use Rattle.std.proofs.lemmas.Bool.Decides.{nat_tests}
+-- What each line without a fault keeps of the plan: what its type does, and what the line leaves as it was.
+use Rattle.std.proofs.Common.{◌≡◌, ℕ, ◌+◌, ◌<◌, ◌≤◌, ◌||◌, ◌==◌, Bool, true, false, not, List, [], ◌∷◌, ◌++◌, length, is_none, nat_le, nat_lt, bytes_eq, codes, if◌then◌else◌, Option, Some, None, Ok, sym, ap, refl, arith, get_or, ◌∙◌, length-append}
+use Rattle.std.specs.Option.{option_map_or, unwrap_or}
+use Rattle.std.proofs.lemmas.Bool.{and_parts, or_parts, eqb-true, eqb-false, leb-true, ltb-false}
 use Rattle.std.proofs.lemmas.List.Quantifiers.{position-Some}
+use Rattle.std.proofs.lemmas.Slice.Eq.{bytes_eq-Decides}
 use Rattle.c104_interval.specs.declared.intervals.TheConstants.{ROWS}
-use Rattle.c104_interval.specs.declared.intervals.Select.{Select}
 use Rattle.c104_interval.specs.declared.intervals.Select.TheVariants.{Link, Discard, Sink}
 use Rattle.c104_plan.specs.declared.ports.Port.TheVariants as port
-use Rattle.c104_describe.specs.declared.faults.PlanFaultKind.TheVariants.{BadName, BadNumber, LinkTaken, NameTaken, SelfWire, TooMany, Twice, UnknownName}
-use Rattle.c104_plan.specs.TextWords.{read_number, is_name}
-use Rattle.c104_describe.specs.PlanFaults.{PlanFaultKind}
-use Rattle.c104_plan.specs.Ports.{is_any_at}
 use Rattle.c104_plan.specs.declared.ports.Port.{Port}
 use Rattle.c104_plan.specs.declared.ports.Wire.{Wire}
-use Rattle.c104_plan.specs.declared.plans.Shape.TheVariants.{Hand, Mesh, Cube}
-use Rattle.c104_plan.specs.Layouts.{cube, mesh}
-use Rattle.c104_plan.specs.Plans.{Plan, IsUnset, IsLaterPort, total_count, IsPlan, IsPlanSelect, IsPlanWire, switch_number, terminal_number, is_taken, is_linked, is_continued, is_deleted, rows_of, next_first, most_switches, most_terminals, label_count, last_link}
 use Rattle.c104_plan.specs.declared.plans.PlanBase.{PlanBase}
 use Rattle.c104_plan.specs.declared.plans.PlanRandom.{PlanRandom}
 use Rattle.c104_plan.specs.declared.plans.PlanRow.{PlanRow}
+use Rattle.c104_plan.specs.declared.plans.Shape.{Shape}
+use Rattle.c104_plan.specs.declared.plans.Shape.TheVariants.{Hand, Tree, UpDown, Mesh, Cube}
 use Rattle.c104_plan.specs.declared.plans.Terminal.{Terminal}
-use Rattle.c104_plan.specs.Checks.{◌>>=◌, ◌>>◌, require, value_or_fault}
-use Rattle.c104_describe.specs.PlanWords.{number_within, number_or, port_sides, port_word, select_word}
-use Rattle.c104_describe.specs.PlanDrafts.{is_by_hand}
-use Rattle.c104_describe.specs.PlanLines.{switch_line, terminal_line, wire_line, continue_line, delete_line, base_line, row_line, random_line, filled_plan, mesh_line, cube_line}
-use Rattle.c104_plan.proofs.PlanKept.{with_switch, with_terminal, with_wire, with_continue, with_delete, with_base, with_row, with_random}
-use Rattle.c104_describe.proofs.FilledKept.{cube_kept, mesh_kept}
+use Rattle.c104_plan.specs.Ports.{IsSwitchPort, is_any_at}
+use Rattle.c104_plan.specs.TextWords.{read_number}
+use Rattle.c104_plan.specs.Plans.{Plan, IsUnset, IsPlan, IsPlanSelect, IsPlanWire, is_buffer_size, is_continued, is_deleted, is_linked, label_count, last_link, most_header_bytes, most_terminals, next_first, rows_of, switch_number, terminal_number, total_count}
+use Rattle.c104_plan.proofs.PlanKept.{with_switch, with_terminal, with_wire, with_continue, with_delete, with_base, with_row, with_random, with_header, with_buffer}
+use Rattle.c104_describe.specs.declared.words.Keyword.TheVariants as keyword
+use Rattle.c104_describe.specs.declared.faults.PlanFaultKind.TheVariants as kind
+use Rattle.c104_describe.specs.PlanFaults.{PlanFaultKind}
 use Rattle.c104_plan.proofs.LayoutNumbers.{power_small}
+use Rattle.c104_describe.proofs.FilledKept.{cube_kept as filled_cube, mesh_kept as filled_mesh}
+use Rattle.c104_describe.specs.PlanWords.{Keyword}
+use Rattle.c104_describe.specs.PlanDrafts.{is_by_hand, is_mixed}
+use Rattle.c104_describe.specs.PlanLines.{Draft, LineParts, is_bad_number, is_from_to, keyword_parts, names_port, number_said, port_link, port_name, port_said, select_said, selected_link, switch_said, terminal_parts, value_said}
+use Rattle.c104_describe.specs.LineFaults.{is_fault_of}
 
--- what was read, where all was
-pub given : {X Y : Type 0} (r : Result X PlanFaultKind) (f : X → Result Y PlanFaultKind) (y : Y) (P : Type 0) → (r >>= f) ≡ Ok y → ((x : X) → r ≡ Ok x → f x ≡ Ok y → P) → P
-given (Ok x) f y P is go = go x refl is
-given (Err kind) f y P is go = cc
+-- Conditions that hold
 
-pub held : {Y : Type 0} (b : Bool) (kind : PlanFaultKind) (r : Result Y PlanFaultKind) (y : Y) (P : Type 0) → (require b kind >> r) ≡ Ok y → (b ≡ true → r ≡ Ok y → P) → P
-held true kind r y P is go = go refl is
-held false kind r y P is go = cc
+is_so : (b : Bool) → not b ≡ false → b ≡ true
+is_so true is = refl
+is_so false is = cc
 
-pub found : {X : Type 0} (o : Option X) (kind : PlanFaultKind) (x : X) → value_or_fault o kind ≡ Ok x → o ≡ Some x
-found (Some y) kind x is = cc
-found None kind x is = cc
+holds : (b rest : Bool) → (not b || rest) ≡ false → b ≡ true
+holds b rest is = is_so b (or_parts (not b) rest is).0
 
-pub number_within-is : (least most : ℕ) (word : List ℕ) (value : ℕ) → number_within least most word ≡ Ok value → (least ≤ value) × (value ≤ most)
-number_within-is least most word value is =
-    given (value_or_fault (read_number word) BadNumber) _ value ((least ≤ value) × (value ≤ most)) is (λ v was is1.
-    held (nat_le least v && nat_le v most) BadNumber _ value ((least ≤ value) × (value ≤ most)) is1 (λ within is2.
-    let parts = and_parts (nat_le least v) (nat_le v most) within in
-    let same : v ≡ value = cc in
-    (subst (λ n. least ≤ n) same (leb-true _ _ parts.0), subst (λ n. n ≤ most) same (leb-true _ _ parts.1))))
+-- a number passes its test
+tested : (o : Option ℕ) (test : ℕ → Bool) → not (option_map_or test o false) ≡ false → test (unwrap_or o 0) ≡ true
+tested None test is = cc
+tested (Some v) test is = is_so (test v) is
 
--- a port's link is one of a switch's
-port_word-link : (word : List ℕ) (at : List ℕ × ℕ) → port_word word ≡ Ok at → at.1 < 32
-port_word-link word at is =
-    given (port_sides word) _ at (at.1 < 32) is (λ sides was is1.
-    given (number_within 0 last_link sides.1) _ at (at.1 < 32) is1 (λ link linked is2.
-    let low : link ≤ last_link = (number_within-is 0 last_link sides.1 link linked).1 in
-    let made : (sides.0, link) ≡ at = cc in
-    let IsLink : List ℕ × ℕ → Type 0 = λ p. p.1 < 32 in
-    subst IsLink made (omega arith)))
+-- there is room for one more
+one_more : (there most : ℕ) → nat_lt most (there + 1) ≡ false → there < most
+one_more there most is = let end = ltb-false most (there + 1) is in omega (arith, end)
 
-select_word-is : (word : List ℕ) (select : Select) → select_word word ≡ Ok select → IsPlanSelect select
-select_word-is word select is = by_test (bytes_eq word (codes "sink")) (bytes_eq word (codes "discard")) is
-  where
-    by_test : (sinks discards : Bool) → (if sinks then Ok Sink else (if discards then Ok Discard else (number_within 0 last_link word >>= λ link. Ok (Link link)))) ≡ Ok select → IsPlanSelect select
-    by_test true discards here = let made : Sink ≡ select = cc in subst IsPlanSelect made tt
-    by_test false true here = let made : Discard ≡ select = cc in subst IsPlanSelect made tt
-    by_test false false here =
-        given (number_within 0 last_link word) _ select (IsPlanSelect select) here (λ link was here1.
-        let low : link ≤ last_link = (number_within-is 0 last_link word link was).1 in
-        let made : Link link ≡ select = cc in
-        subst IsPlanSelect made (omega arith))
+-- a number lies within its range
+pub number_kept : (least most : ℕ) (word : List ℕ) → is_bad_number (Some word) (is_from_to least most) ≡ false → (least ≤ value_said word) × (value_said word ≤ most)
+number_kept least most word good =
+    let parts = and_parts (nat_le least (value_said word)) (nat_le (value_said word) most) (tested (read_number word) (is_from_to least most) good) in
+    (leb-true _ _ parts.0, leb-true _ _ parts.1)
 
-number_or-least : (other least most : ℕ) (word : Option (List ℕ)) (value : ℕ) → least ≤ other → number_or other least most word ≡ Ok value → least ≤ value
-number_or-least other least most None value low is = let same : other ≡ value = cc in subst (λ n. least ≤ n) same low
-number_or-least other least most (Some word) value low is = (number_within-is least most word value is).0
+count_kept : (word : Option (List ℕ)) → is_bad_number word (is_from_to 1 label_count) ≡ false → 1 ≤ number_said 1 word
+count_kept None good = omega arith
+count_kept (Some word) good = (number_kept 1 label_count word good).0
 
-pub switch_number-inside : (plan : Plan) (name : List ℕ) (switch : ℕ) → switch_number plan name ≡ Some switch → switch < length plan.switches
+-- a name that is used is that of a switch, or of a terminal
+there_is : (o : Option ℕ) → is_none o ≡ false → o ≡ Some (unwrap_or o 0)
+there_is None is = cc
+there_is (Some n) is = refl
+
+pub switch_inside : (plan : Plan) (name : List ℕ) → is_none (switch_number plan name) ≡ false → switch_said plan name < length plan.switches
 unfolding switch_number
-switch_number-inside plan name switch is = (position-Some (λ other. bytes_eq other name) plan.switches switch [] is).0
+switch_inside plan name known = (position-Some (λ other. bytes_eq other name) plan.switches (switch_said plan name) [] (there_is (switch_number plan name) known)).0
 
-terminal_number-inside : (plan : Plan) (name : List ℕ) (terminal : ℕ) → terminal_number plan name ≡ Some terminal → terminal < length plan.terminals
+terminal_inside : (plan : Plan) (name : List ℕ) → is_none (terminal_number plan name) ≡ false → unwrap_or (terminal_number plan name) 0 < length plan.terminals
 unfolding terminal_number
-terminal_number-inside plan name terminal is = (position-Some (λ (t : Terminal). bytes_eq t.name name) plan.terminals terminal no_terminal is).0
+terminal_inside plan name known = (position-Some (λ (t : Terminal). bytes_eq t.name name) plan.terminals _ no_terminal (there_is (terminal_number plan name) known)).0
   where
     no_terminal : Terminal
     no_terminal = record { name = []; switch = 0; link = 0; first = 0; count = 0 }
 
--- the switch that a line names
-pub named_switch : (plan : Plan) (name : List ℕ) (switch : ℕ) → value_or_fault (switch_number plan name) UnknownName ≡ Ok switch → switch < length plan.switches
-named_switch plan name switch known = switch_number-inside plan name switch (found _ UnknownName switch known)
+free_of : (o : Option ℕ) (test : ℕ → Bool) → is_none o ≡ false → option_map_or test o false ≡ false → test (unwrap_or o 0) ≡ false
+free_of None test known is = cc
+free_of (Some n) test known is = is
+
+-- rows of an input that has room for one more
+one_row : (o : Option ℕ) (count : ℕ → ℕ) → is_none o ≡ false → nat_lt ROWS (option_map_or count o 0 + 1) ≡ false → count (unwrap_or o 0) < ROWS
+one_row None count known is = cc
+one_row (Some n) count known is = one_more (count n) ROWS is
+
+-- a port is one of a switch, and hasn't what no line named of it
+module _ (plan : Plan) (at : List ℕ) (known : is_none (switch_number plan (port_name at)) ≡ false) where
+  port_kept : is_bad_number (Some (port_link at)) (is_from_to 0 last_link) ≡ false → IsSwitchPort (length plan.switches) (port_said plan at)
+  port_kept good = let low = (number_kept 0 last_link (port_link at) good).1 in (switch_inside plan (port_name at) known, omega (arith, low))
+
+  port_free : (test : Port → Bool) → names_port plan test at ≡ false → test (port_said plan at) ≡ false
+  port_free test is = free_of (switch_number plan (port_name at)) (λ switch. test (port.Switch switch (value_said (port_link at)))) known is
+
+-- names of two switches are the same where their numbers are
+pub same_switch : (plan : Plan) (a b : List ℕ) (s t : ℕ) → switch_number plan a ≡ Some s → switch_number plan b ≡ Some t → bytes_eq a b ≡ (s == t)
+unfolding switch_number
+same_switch plan a b s t is_a is_b = by_tests (bytes_eq a b) (s == t) refl refl
+  where
+    by_tests : (x y : Bool) → bytes_eq a b ≡ x → (s == t) ≡ y → x ≡ y
+    by_tests true true same is = refl
+    by_tests false false differ isn't = refl
+    by_tests true false same isn't =
+        let equal : a ≡ b = (bytes_eq-Decides a b).0 same in
+        let numbers : Some s ≡ Some t = sym is_a ∙ ap (switch_number plan) equal ∙ is_b in
+        let one : s ≡ t = cc in
+        absurd (eqb-false s t isn't one)
+    by_tests false true differ is =
+        let at_a : get_or plan.switches s [] ≡ a = (bytes_eq-Decides (get_or plan.switches s []) a).0 (position-Some (λ other. bytes_eq other a) plan.switches s [] is_a).1 in
+        let at_b : get_or plan.switches t [] ≡ b = (bytes_eq-Decides (get_or plan.switches t []) b).0 (position-Some (λ other. bytes_eq other b) plan.switches t [] is_b).1 in
+        let equal : a ≡ b = sym at_a ∙ ap (λ i. get_or plan.switches i []) (eqb-true s t is) ∙ at_b in
+        sym differ ∙ (bytes_eq-Decides a b).1 equal
+
+-- what a row selects
+select_kept : (word : List ℕ) → is_bad_number (selected_link word) (is_from_to 0 last_link) ≡ false → IsPlanSelect (select_said word)
+select_kept word good = by_test (bytes_eq word (codes "sink")) (bytes_eq word (codes "discard")) good
+  where
+    by_test : (sinks discards : Bool) → is_bad_number (if sinks || discards then None else Some word) (is_from_to 0 last_link) ≡ false → IsPlanSelect (if sinks then Sink else (if discards then Discard else Link (value_said word)))
+    by_test true discards is = tt
+    by_test false true is = tt
+    by_test false false is = let low = (number_kept 0 last_link word is).1 in omega (arith, low)
+
+-- What a line leaves as it was
 
 -- a plan after one more line, which adds no terminal
 pub record IsNext (plan next : Plan) : Type 0 where
@@ -109,6 +139,14 @@ pub record IsHosting (from : Option (List ℕ)) (plan next : Plan) : Type 0 wher
   pub unset : IsUnset plan → IsUnset next
   pub counted : from ≡ None → next_first plan.terminals ≡ total_count plan.terminals → next_first next.terminals ≡ total_count next.terminals
 
+same_unset : (plan next : Plan) → next.continues ≡ plan.continues → next.bases ≡ plan.bases → next.rows ≡ plan.rows → next.randoms ≡ plan.randoms → IsUnset plan → IsUnset next
+same_unset plan next continues bases rows randoms unset = record {
+  continues = continues ∙ unset.continues;
+  bases = bases ∙ unset.bases;
+  rows = rows ∙ unset.rows;
+  randoms = randoms ∙ unset.randoms;
+}
+
 next_first-pushed : (terminals : List Terminal) (t : Terminal) → next_first (terminals ++ t ∷ []) ≡ t.first + t.count
 next_first-pushed [] t = refl
 next_first-pushed (u ∷ []) t = refl
@@ -119,194 +157,173 @@ total-pushed [] t = omega arith
 total-pushed (u ∷ terminals) t = omega (arith, total-pushed terminals t)
 
 -- without `from` a terminal's range begins where that of the terminal before ended
-begins_there : (next first : ℕ) (from : Option (List ℕ)) → from ≡ None → number_or next 0 0xffff from ≡ Ok first → first ≡ next
-begins_there next first None none is = let same : next ≡ first = cc in sym same
-begins_there next first (Some word) none is = cc
+begins_there : (next : ℕ) (from : Option (List ℕ)) → from ≡ None → number_said next from ≡ next
+begins_there next None none = refl
+begins_there next (Some word) none = cc
 
-module _ (plan next : Plan) (kept : IsPlan plan) (hand : plan.shape ≡ Hand) where
-  pub switch_line-kept : (name : List ℕ) → switch_line plan name ≡ Ok next → IsBeside plan next
-  switch_line-kept name is =
-      held (is_name name) BadName _ next (IsBeside plan next) is (λ named is1.
-      held (not (is_taken plan name)) NameTaken _ next (IsBeside plan next) is1 (λ free is2.
-      held (nat_lt (length plan.switches) most_switches) TooMany _ next (IsBeside plan next) is2 (λ room is3.
-      let made : record plan { switches = plan.switches ++ name ∷ [] } ≡ next = cc in
-      subst (IsBeside plan) made (
-        record {
-          kept = with_switch plan kept name hand named (not-true _ free) (ltb-true _ _ room);
-          shape = refl;
-          more = omega (arith, length-append plan.switches (name ∷ []));
-          terminals = refl;
-        },
-        λ unset. record { continues = unset.continues; bases = unset.bases; rows = unset.rows; randoms = unset.randoms },
-      ))))
+-- Lines
 
-  pub terminal_line-kept : (name word : List ℕ) (labels from : Option (List ℕ)) → terminal_line plan name word labels from ≡ Ok next → IsHosting from plan next
-  terminal_line-kept name word labels from is =
-      given (port_word word) _ next (IsHosting from plan next) is (λ at was is1.
-      given (number_or 1 1 label_count labels) _ next (IsHosting from plan next) is1 (λ count counted is2.
-      given (number_or (next_first plan.terminals) 0 0xffff from) _ next (IsHosting from plan next) is2 (λ first begun is3.
-      held (is_name name && is_name at.0) BadName _ next (IsHosting from plan next) is3 (λ named is4.
-      held (not (is_taken plan name)) NameTaken _ next (IsHosting from plan next) is4 (λ free is5.
-      given (value_or_fault (switch_number plan at.0) UnknownName) _ next (IsHosting from plan next) is5 (λ switch known is6.
-      held (not (is_linked plan (port.Switch switch at.1))) LinkTaken _ next (IsHosting from plan next) is6 (λ unlinked is7.
-      held (nat_lt (length plan.terminals) most_terminals && nat_le (first + count) label_count) TooMany _ next (IsHosting from plan next) is7 (λ room is8.
-      let t : Terminal = record { name = name; switch = switch; link = at.1; first = first; count = count } in
-      let made : record plan { terminals = plan.terminals ++ t ∷ [] } ≡ next = cc in
-      let rooms = and_parts (nat_lt (length plan.terminals) most_terminals) (nat_le (first + count) label_count) room in
-      let some : 1 ≤ count = number_or-least 1 1 label_count labels count (omega arith) counted in
-      subst (IsHosting from plan) made (record {
-        kept = with_terminal plan kept t hand (and_parts (is_name name) (is_name at.0) named).0 (not-true _ free) (named_switch plan at.0 switch known, port_word-link word at was) (not-true _ unlinked) (ltb-true _ _ rooms.0) (omega arith, leb-true _ _ rooms.1);
+by_hand : (shape : Shape) → not (is_by_hand shape) ≡ false → shape ≡ Hand
+by_hand Hand is = refl
+by_hand (Tree root) is = cc
+by_hand (UpDown root) is = cc
+by_hand (Mesh w h p) is = cc
+by_hand (Cube d p) is = cc
+
+-- a line of these parts has no fault
+abbrev pub IsSound : Plan → LineParts → Type 0
+IsSound plan parts = (fault : PlanFaultKind) → is_fault_of plan parts fault ≡ false
+
+module _ (draft : Draft) (is_plain : Bool) (kept : IsPlan draft.plan) where
+  abbrev plan : Plan
+  plan = draft.plan
+
+  -- the line has no fault
+  abbrev pub IsRead : Keyword → List (List ℕ) → Type 0
+  IsRead k words = IsSound draft.plan (record (keyword_parts draft k words) { is_known = true; is_plain = is_plain; is_mixed = is_mixed draft k words })
+
+  abbrev pub after : Keyword → List (List ℕ) → Plan
+  after k words = (keyword_parts draft k words).next.plan
+
+  next_by : (next : Plan) → IsPlan next → next.shape ≡ plan.shape → next.switches ≡ plan.switches → next.terminals ≡ plan.terminals → IsNext plan next
+  next_by next is shape switches terminals = record { kept = is; shape = shape; more = let same = ap length switches in omega (arith, same); terminals = terminals }
+
+  pub hand_kept : not (is_by_hand plan.shape) ≡ false → plan.shape ≡ Hand
+  hand_kept = by_hand plan.shape
+
+  pub switch_kept : (name : List ℕ) → IsRead keyword.Switch (name ∷ []) → IsBeside plan (after keyword.Switch (name ∷ []))
+  switch_kept name sound = (
+    record {
+      kept = with_switch plan kept name (by_hand plan.shape (sound kind.MixedStyle)) (holds _ _ (sound kind.BadName)) (or_parts _ _ (sound kind.NameTaken)).0 (one_more _ _ (or_parts _ _ (sound kind.TooMany)).0);
+      shape = refl;
+      more = omega (arith, length-append plan.switches (name ∷ []));
+      terminals = refl;
+    },
+    same_unset plan _ refl refl refl refl,
+  )
+
+  pub terminal_kept : (name at : List ℕ) (range : Option (List ℕ) × Option (List ℕ)) (mixed : Bool) → plan.shape ≡ Hand
+      → IsSound draft.plan (record (terminal_parts draft name at (Ok range)) { is_known = true; is_plain = is_plain; is_mixed = mixed }) → IsHosting range.1 plan (terminal_parts draft name at (Ok range)).next.plan
+  terminal_kept name at range mixed hand sound =
+      let numbers = or_parts _ _ (sound kind.BadNumber) in
+      let names = sound kind.BadName in
+      let known = (or_parts _ _ (sound kind.UnknownName)).0 in
+      let counts = or_parts _ _ (sound kind.TooMany) in
+      let count = number_said 1 range.0 in
+      let first = number_said (next_first plan.terminals) range.1 in
+      let t : Terminal = record { name = name; switch = switch_said plan (port_name at); link = value_said (port_link at); first = first; count = count } in
+      let some : 1 ≤ count = count_kept range.0 (or_parts _ _ numbers.1).0 in
+      let ends : first + count ≤ label_count = ltb-false label_count (first + count) (or_parts _ _ counts.1).0 in
+      record {
+        kept = with_terminal plan kept t hand (holds _ _ names) (or_parts _ _ (sound kind.NameTaken)).0 (port_kept plan at known numbers.0)
+            (port_free plan at known (is_linked plan) (or_parts _ _ (sound kind.LinkTaken)).0) (one_more (length plan.terminals) most_terminals counts.0)
+            (omega (arith, some), ends);
         shape = refl;
         switches = refl;
-        unset = λ unset. record { continues = unset.continues; bases = unset.bases; rows = unset.rows; randoms = unset.randoms };
+        unset = same_unset plan _ refl refl refl refl;
         counted = λ none so_far.
-            let there : first ≡ next_first plan.terminals = begins_there (next_first plan.terminals) first from none begun in
+            let there : first ≡ next_first plan.terminals = begins_there (next_first plan.terminals) range.1 none in
             omega (arith, next_first-pushed plan.terminals t, total-pushed plan.terminals t, so_far, there);
-      })))))))))
+      }
 
-  pub wire_line-kept : (here there : List ℕ) → wire_line plan here there ≡ Ok next → IsBeside plan next
-  wire_line-kept here there is =
-      given (port_sides here) _ next (IsBeside plan next) is (λ from cut is1.
-      given (port_sides there) _ next (IsBeside plan next) is1 (λ to cut_far is2.
-      given (number_within 0 last_link from.1) _ next (IsBeside plan next) is2 (λ link linked is3.
-      given (number_within 0 last_link to.1) _ next (IsBeside plan next) is3 (λ far_link far_linked is4.
-      held (is_name from.0 && is_name to.0) BadName _ next (IsBeside plan next) is4 (λ named is5.
-      given (value_or_fault (switch_number plan from.0) UnknownName) _ next (IsBeside plan next) is5 (λ switch known is6.
-      given (value_or_fault (switch_number plan to.0) UnknownName) _ next (IsBeside plan next) is6 (λ far_switch far_known is7.
-      held (not (switch == far_switch)) SelfWire _ next (IsBeside plan next) is7 (λ apart is8.
-      held (not (is_linked plan (port.Switch switch link))) LinkTaken _ next (IsBeside plan next) is8 (λ free is9.
-      held (not (is_linked plan (port.Switch far_switch far_link))) LinkTaken _ next (IsBeside plan next) is9 (λ far_free is10.
-      let w : Wire = record { here = port.Switch switch link; there = port.Switch far_switch far_link } in
-      let made : record plan { wires = plan.wires ++ w ∷ [] } ≡ next = cc in
-      let low : link ≤ last_link = (number_within-is 0 last_link from.1 link linked).1 in
-      let far_low : far_link ≤ last_link = (number_within-is 0 last_link to.1 far_link far_linked).1 in
-      let differ : (switch == far_switch) ≡ false = not-true _ apart in
-      let is_wire : IsPlanWire (length plan.switches) w = ((named_switch plan from.0 switch known, omega arith), (named_switch plan to.0 far_switch far_known, omega arith), λ same. absurd (grind (arith, nat_tests))) in
-      subst (IsBeside plan) made (
-        record {
-          kept = with_wire plan kept w hand is_wire (rw differ refl) (not-true _ free) (not-true _ far_free);
-          shape = refl;
-          more = omega arith;
-          terminals = refl;
-        },
-        λ unset. record { continues = unset.continues; bases = unset.bases; rows = unset.rows; randoms = unset.randoms },
-      )))))))))))
+  pub wire_kept : (here there : List ℕ) → IsRead keyword.Wire (here ∷ there ∷ []) → IsBeside plan (after keyword.Wire (here ∷ there ∷ []))
+  wire_kept here there sound =
+      let numbers = or_parts _ _ (sound kind.BadNumber) in
+      let used = or_parts _ _ (sound kind.UnknownName) in
+      let far_used = or_parts _ _ used.1 in
+      let linked = or_parts _ _ (sound kind.LinkTaken) in
+      let s = switch_said plan (port_name here) in
+      let t = switch_said plan (port_name there) in
+      let differ : (s == t) ≡ false =
+      sym (same_switch plan (port_name here) (port_name there) s t (there_is _ used.0) (there_is _ far_used.0)) ∙ (or_parts _ _ (sound kind.SelfWire)).0 in
+      let w : Wire = record { here = port_said plan here; there = port_said plan there } in
+      let is_wire : IsPlanWire (length plan.switches) w =
+      (port_kept plan here used.0 numbers.0, port_kept plan there far_used.0 (or_parts _ _ numbers.1).0, eqb-false s t differ) in (
+        next_by _ (with_wire plan kept w (by_hand plan.shape (sound kind.MixedStyle)) is_wire (rw differ refl) (port_free plan here used.0 (is_linked plan) linked.0) (port_free plan there far_used.0 (is_linked plan) (or_parts _ _ linked.1).0)) refl refl refl,
+        same_unset plan _ refl refl refl refl,
+      )
 
-  pub continue_line-kept : (word : List ℕ) → continue_line plan word ≡ Ok next → IsNext plan next
-  continue_line-kept word is =
-      given (port_word word) _ next (IsNext plan next) is (λ at was is1.
-      held (not (at.1 == 0)) BadNumber _ next (IsNext plan next) is1 (λ above is2.
-      held (is_name at.0) BadName _ next (IsNext plan next) is2 (λ named is3.
-      given (value_or_fault (switch_number plan at.0) UnknownName) _ next (IsNext plan next) is3 (λ switch known is4.
-      held (not (is_continued plan (port.Switch switch at.1))) Twice _ next (IsNext plan next) is4 (λ once is5.
-      let p : Port = port.Switch switch at.1 in
-      let made : record plan { continues = plan.continues ++ p ∷ [] } ≡ next = cc in
-      let later : IsLaterPort (length plan.switches) p = (named_switch plan at.0 switch known, grind (arith, nat_tests), port_word-link word at was) in
-      subst (IsNext plan) made (record { kept = with_continue plan kept p hand later (not-true _ once); shape = refl; more = omega arith; terminals = refl }))))))
+  pub continue_kept : (at : List ℕ) → plan.shape ≡ Hand → IsRead keyword.Continue (at ∷ []) → IsNext plan (after keyword.Continue (at ∷ []))
+  continue_kept at hand sound =
+      let numbers = or_parts _ _ (sound kind.BadNumber) in
+      let known = (or_parts _ _ (sound kind.UnknownName)).0 in
+      let low = number_kept 1 last_link (port_link at) (or_parts _ _ numbers.1).0 in
+      let is = port_kept plan at known numbers.0 in
+      next_by _ (with_continue plan kept (port_said plan at) hand (is.0, omega (arith, low.0), is.1) (port_free plan at known (is_continued plan) (sound kind.Twice))) refl refl refl
 
-  pub base_line-kept : (word number : List ℕ) → base_line plan word number ≡ Ok next → IsNext plan next
-  base_line-kept word number is =
-      given (port_word word) _ next (IsNext plan next) is (λ at was is1.
-      given (number_within 0 0xffff number) _ next (IsNext plan next) is1 (λ base numbered is2.
-      held (is_name at.0) BadName _ next (IsNext plan next) is2 (λ named is3.
-      given (value_or_fault (switch_number plan at.0) UnknownName) _ next (IsNext plan next) is3 (λ switch known is4.
-      held (not (is_any_at (λ (b : PlanBase). b.port) plan.bases (port.Switch switch at.1))) Twice _ next (IsNext plan next) is4 (λ once is5.
-      let b : PlanBase = record { port = port.Switch switch at.1; base = base } in
-      let made : record plan { bases = plan.bases ++ b ∷ [] } ≡ next = cc in
-      let low : base ≤ 0xffff = (number_within-is 0 0xffff number base numbered).1 in
-      subst (IsNext plan) made (record {
-        kept = with_base plan kept b hand (named_switch plan at.0 switch known, port_word-link word at was) (omega arith) (not-true _ once);
-        shape = refl;
-        more = omega arith;
-        terminals = refl;
-      }))))))
+  pub delete_kept : (name : List ℕ) → IsRead keyword.Delete (name ∷ []) → IsBeside plan (after keyword.Delete (name ∷ []))
+  delete_kept name sound =
+      let known = (or_parts _ _ (sound kind.UnknownName)).0 in (
+        next_by _ (with_delete plan kept (unwrap_or (terminal_number plan name) 0) (terminal_inside plan name known) (free_of (terminal_number plan name) (is_deleted plan) known (sound kind.Twice))) refl refl refl,
+        same_unset plan _ refl refl refl refl,
+      )
 
-  pub row_line-kept : (word limit select : List ℕ) → row_line plan word limit select ≡ Ok next → IsNext plan next
-  row_line-kept word most selected is =
-      given (port_word word) _ next (IsNext plan next) is (λ at was is1.
-      given (number_within 0 label_count most) _ next (IsNext plan next) is1 (λ limit numbered is2.
-      given (select_word selected) _ next (IsNext plan next) is2 (λ select selects is3.
-      held (is_name at.0) BadName _ next (IsNext plan next) is3 (λ named is4.
-      given (value_or_fault (switch_number plan at.0) UnknownName) _ next (IsNext plan next) is4 (λ switch known is5.
-      held (nat_lt (length (rows_of (port.Switch switch at.1) plan.rows)) ROWS) TooMany _ next (IsNext plan next) is5 (λ room is6.
-      let r : PlanRow = record { port = port.Switch switch at.1; limit = limit; select = select } in
-      let made : record plan { rows = plan.rows ++ r ∷ [] } ≡ next = cc in
-      subst (IsNext plan) made (record {
-        kept = with_row plan kept r hand (named_switch plan at.0 switch known, port_word-link word at was) (number_within-is 0 label_count most limit numbered).1 (select_word-is selected select selects) (ltb-true _ _ room);
-        shape = refl;
-        more = omega arith;
-        terminals = refl;
-      })))))))
+  pub base_kept : (at base : List ℕ) → plan.shape ≡ Hand → IsRead keyword.Base (at ∷ base ∷ []) → IsNext plan (after keyword.Base (at ∷ base ∷ []))
+  base_kept at base hand sound =
+      let numbers = or_parts _ _ (sound kind.BadNumber) in
+      let known = (or_parts _ _ (sound kind.UnknownName)).0 in
+      let low = (number_kept 0 0xffff base (or_parts _ _ numbers.1).0).1 in
+      let b : PlanBase = record { port = port_said plan at; base = value_said base } in
+      next_by _ (with_base plan kept b hand (port_kept plan at known numbers.0) (omega (arith, low)) (port_free plan at known (is_any_at (λ (b : PlanBase). b.port) plan.bases) (sound kind.Twice))) refl refl refl
 
-  pub random_line-kept : (word first many : List ℕ) → random_line plan word first many ≡ Ok next → IsNext plan next
-  random_line-kept word first many is =
-      given (port_word word) _ next (IsNext plan next) is (λ at was is1.
-      given (number_within 0 0xffff first) _ next (IsNext plan next) is1 (λ base begun is2.
-      given (number_within 0 label_count many) _ next (IsNext plan next) is2 (λ range numbered is3.
-      held (is_name at.0) BadName _ next (IsNext plan next) is3 (λ named is4.
-      given (value_or_fault (switch_number plan at.0) UnknownName) _ next (IsNext plan next) is4 (λ switch known is5.
-      held (not (is_any_at (λ (r : PlanRandom). r.port) plan.randoms (port.Switch switch at.1))) Twice _ next (IsNext plan next) is5 (λ once is6.
-      let r : PlanRandom = record { port = port.Switch switch at.1; base = base; range = range } in
-      let made : record plan { randoms = plan.randoms ++ r ∷ [] } ≡ next = cc in
-      let low : base ≤ 0xffff = (number_within-is 0 0xffff first base begun).1 in
-      subst (IsNext plan) made (record {
-        kept = with_random plan kept r hand (named_switch plan at.0 switch known, port_word-link word at was) (omega arith) (number_within-is 0 label_count many range numbered).1 (not-true _ once);
-        shape = refl;
-        more = omega arith;
-        terminals = refl;
-      })))))))
+  pub row_kept : (at limit select : List ℕ) → plan.shape ≡ Hand → IsRead keyword.Row (at ∷ limit ∷ select ∷ []) → IsNext plan (after keyword.Row (at ∷ limit ∷ select ∷ []))
+  row_kept at limit select hand sound =
+      let numbers = or_parts _ _ (sound kind.BadNumber) in
+      let others = or_parts _ _ numbers.1 in
+      let known = (or_parts _ _ (sound kind.UnknownName)).0 in
+      let r : PlanRow = record { port = port_said plan at; limit = value_said limit; select = select_said select } in
+      let few = one_row (switch_number plan (port_name at)) (λ switch. length (rows_of (port.Switch switch (value_said (port_link at))) plan.rows)) known (or_parts _ _ (sound kind.TooMany)).0 in
+      next_by _ (with_row plan kept r hand (port_kept plan at known numbers.0) (number_kept 0 label_count limit others.0).1 (select_kept select (or_parts _ _ others.1).0) few) refl refl refl
 
--- lines that go with meshes and cubes too
-module _ (plan next : Plan) (kept : IsPlan plan) where
-  pub delete_line-kept : (name : List ℕ) → delete_line plan name ≡ Ok next → IsBeside plan next
-  delete_line-kept name is =
-      held (is_name name) BadName _ next (IsBeside plan next) is (λ named is1.
-      given (value_or_fault (terminal_number plan name) UnknownName) _ next (IsBeside plan next) is1 (λ terminal known is2.
-      held (not (is_deleted plan terminal)) Twice _ next (IsBeside plan next) is2 (λ once is3.
-      let made : record plan { deletes = plan.deletes ++ terminal ∷ [] } ≡ next = cc in
-      subst (IsBeside plan) made (
-        record {
-          kept = with_delete plan kept terminal (terminal_number-inside plan name terminal (found _ UnknownName terminal known)) (not-true _ once);
-          shape = refl;
-          more = omega arith;
-          terminals = refl;
-        },
-        λ unset. record { continues = unset.continues; bases = unset.bases; rows = unset.rows; randoms = unset.randoms },
-      ))))
+  pub random_kept : (at base range : List ℕ) → plan.shape ≡ Hand → IsRead keyword.Random (at ∷ base ∷ range ∷ []) → IsNext plan (after keyword.Random (at ∷ base ∷ range ∷ []))
+  random_kept at base range hand sound =
+      let numbers = or_parts _ _ (sound kind.BadNumber) in
+      let others = or_parts _ _ numbers.1 in
+      let known = (or_parts _ _ (sound kind.UnknownName)).0 in
+      let low = (number_kept 0 0xffff base others.0).1 in
+      let r : PlanRandom = record { port = port_said plan at; base = value_said base; range = value_said range } in
+      next_by _ (with_random plan kept r hand (port_kept plan at known numbers.0) (omega (arith, low)) (number_kept 0 label_count range (or_parts _ _ others.1).0).1 (port_free plan at known (is_any_at (λ (r : PlanRandom). r.port) plan.randoms) (sound kind.Twice))) refl refl refl
 
-  pub mesh_line-kept : (width height terminals : List ℕ) → plan.switches ≡ [] → mesh_line plan width height terminals ≡ Ok next → IsPlan next × is_by_hand next.shape ≡ false
-  mesh_line-kept width height terminals none is =
-      given (number_within 1 64 width) _ next (IsPlan next × is_by_hand next.shape ≡ false) is (λ w wide is1.
-      given (number_within 1 64 height) _ next (IsPlan next × is_by_hand next.shape ≡ false) is1 (λ h high is2.
-      given (number_within 1 28 terminals) _ next (IsPlan next × is_by_hand next.shape ≡ false) is2 (λ p some is3.
-      held (nat_le (w * h) most_switches && nat_le (w * h * p) most_terminals) TooMany _ next (IsPlan next × is_by_hand next.shape ≡ false) is3 (λ few is4.
-      let parts = and_parts (nat_le (w * h) most_switches) (nat_le (w * h * p) most_terminals) few in
-      let made : filled_plan (Mesh w h p) (mesh w h) p plan ≡ next = cc in
-      subst (λ n. IsPlan n × is_by_hand n.shape ≡ false) made (
-        mesh_kept plan kept none w h p (record {
-          wide = number_within-is 1 64 width w wide;
-          high = number_within-is 1 64 height h high;
-          some = (number_within-is 1 28 terminals p some).0;
-          links = (number_within-is 1 28 terminals p some).1;
-          switches = leb-true _ _ parts.0;
-          labels = leb-true _ _ parts.1;
+  pub header_kept : (bytes : List ℕ) → IsRead keyword.Header (bytes ∷ []) → IsBeside plan (after keyword.Header (bytes ∷ []))
+  header_kept bytes sound =
+      let within = number_kept 1 most_header_bytes bytes (or_parts _ _ (sound kind.BadNumber)).0 in
+      (next_by _ (with_header plan kept (value_said bytes) (omega (arith, within.0)) within.1) refl refl refl, same_unset plan _ refl refl refl refl)
+
+  pub buffer_kept : (size : List ℕ) → IsRead keyword.Buffer (size ∷ []) → IsBeside plan (after keyword.Buffer (size ∷ []))
+  buffer_kept size sound =
+      (next_by _ (with_buffer plan kept (value_said size) (tested (read_number size) is_buffer_size (or_parts _ _ (sound kind.BadNumber)).0)) refl refl refl, same_unset plan _ refl refl refl refl)
+
+  -- a mesh or a cube, where there was no switch
+  abbrev pub IsFilledPlan : Plan → Type 0
+  IsFilledPlan next = IsPlan next × is_by_hand next.shape ≡ false
+
+  pub mesh_kept : (width height terminals : List ℕ) → plan.switches ≡ [] → IsRead keyword.Mesh (width ∷ height ∷ terminals ∷ []) → IsFilledPlan (after keyword.Mesh (width ∷ height ∷ terminals ∷ []))
+  mesh_kept width height terminals none sound =
+      let numbers = or_parts _ _ (sound kind.BadNumber) in
+      let others = or_parts _ _ numbers.1 in
+      let counts = or_parts _ _ (sound kind.TooMany) in
+      let some = number_kept 1 28 terminals (or_parts _ _ others.1).0 in (
+        filled_mesh plan kept none (value_said width) (value_said height) (value_said terminals) (record {
+          wide = number_kept 1 64 width numbers.0;
+          high = number_kept 1 64 height others.0;
+          some = some.0;
+          links = some.1;
+          switches = ltb-false _ _ counts.0;
+          labels = ltb-false _ _ (or_parts _ _ counts.1).0;
         }),
         refl,
-      )))))
+      )
 
-  pub cube_line-kept : (dimensions terminals : List ℕ) → plan.switches ≡ [] → cube_line plan dimensions terminals ≡ Ok next → IsPlan next × is_by_hand next.shape ≡ false
-  cube_line-kept dimensions terminals none is =
-      given (number_within 0 6 dimensions) _ next (IsPlan next × is_by_hand next.shape ≡ false) is (λ d low is1.
-      given (number_within 1 26 terminals) _ next (IsPlan next × is_by_hand next.shape ≡ false) is1 (λ p some is2.
-      held (nat_le (2 ^ d * p) most_terminals) TooMany _ next (IsPlan next × is_by_hand next.shape ≡ false) is2 (λ few is3.
-      let made : filled_plan (Cube d p) (cube d) p plan ≡ next = cc in
-      let is_low : d ≤ 6 = (number_within-is 0 6 dimensions d low).1 in
-      subst (λ n. IsPlan n × is_by_hand n.shape ≡ false) made (
-        cube_kept plan kept none d p (record {
-          low = is_low;
-          some = (number_within-is 1 26 terminals p some).0;
-          links = (number_within-is 1 26 terminals p some).1;
-          labels = leb-true _ _ few;
-        }) (power_small d is_low),
+  pub cube_kept : (dimensions terminals : List ℕ) → plan.switches ≡ [] → IsRead keyword.Cube (dimensions ∷ terminals ∷ []) → IsFilledPlan (after keyword.Cube (dimensions ∷ terminals ∷ []))
+  cube_kept dimensions terminals none sound =
+      let numbers = or_parts _ _ (sound kind.BadNumber) in
+      let low = (number_kept 0 6 dimensions numbers.0).1 in
+      let some = number_kept 1 26 terminals (or_parts _ _ numbers.1).0 in (
+        filled_cube plan kept none (value_said dimensions) (value_said terminals) (record {
+          low = low;
+          some = some.0;
+          links = some.1;
+          labels = ltb-false _ _ (or_parts _ _ (sound kind.TooMany)).0;
+        }) (power_small (value_said dimensions) low),
         refl,
-      ))))
+      )

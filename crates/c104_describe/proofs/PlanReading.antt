@@ -3,7 +3,8 @@ use Rattle.std.proofs.Common.{◌≡◌, ◌<◌, ℕ, ◌+◌, List, ◌∷◌,
 use Rattle.std.proofs.Math.Seq.{drop-cons}
 use Rattle.std.proofs.lemmas.List.{get_or-map, length-map}
 use Rattle.c104_describe.specs.PlanFaults.{PlanFaultKind, fault_at}
-use Rattle.c104_describe.specs.PlanLines.{Draft, read_plan_line}
+use Rattle.c104_describe.specs.PlanLines.{Draft}
+use Rattle.c104_describe.specs.LineFaults.{read_plan_line}
 use Rattle.c104_describe.specs.PlanText.{draft_after_line, empty_draft, read_plan_lines}
 
 -- the texts of lent slices

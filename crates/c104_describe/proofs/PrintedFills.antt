@@ -1,19 +1,18 @@
 -- What is printed of a mesh or a cube is read back.
-use Rattle.std.proofs.Common.{◌≡◌, ℕ, ◌+◌, ◌*◌, ◌^◌, true, false, List, [], ◌∷◌, nat_le, None, Ok, refl, sym, ap, ◌∙◌, arith}
-use Rattle.std.specs.Fmt.{decimal}
+use Rattle.std.proofs.Common.{◌≡◌, ℕ, ◌+◌, ◌*◌, ◌^◌, true, false, List, [], ◌∷◌, nat_lt, None, Ok, refl, sym, ap, ◌∙◌, arith}
 use Rattle.std.proofs.lemmas.Bool.Decides.{nat_tests}
 use Rattle.c104_plan.specs.declared.plans.Shape.TheVariants.{Mesh, Cube}
 use Rattle.c104_plan.specs.Layouts.{Layout, IsCube, IsMesh, cube, mesh}
 use Rattle.c104_plan.specs.Plans.{Plan, IsFilled, IsPlan}
 use Rattle.c104_plan.specs.declared.plans.Shape.{Shape}
-use Rattle.c104_describe.specs.PlanWords.{number_within}
-use Rattle.c104_describe.specs.PlanLines.{filled_plan, read_plan_words}
+use Rattle.c104_describe.specs.PlanLines.{filled_plan}
+use Rattle.c104_describe.specs.LineFaults.{read_plan_words}
 use Rattle.c104_describe.specs.PlanText.{draft_after_line, plan_of_draft}
 use Rattle.c104_plan.specs.PlanParts.{empty_plan}
 use Rattle.c104_describe.specs.PlanPrint.{cube_words, mesh_words}
 use Rattle.c104_describe.proofs.PrintedText.{read_lines_of_words}
 use Rattle.c104_describe.proofs.PrintedParts.{lines_after_network}
-use Rattle.c104_describe.proofs.PrintedNumbers.{number_within-decimal}
+use Rattle.c104_describe.proofs.PrintedNumbers.{number-decimal, value-decimal}
 use Rattle.c104_describe.proofs.PrintedSteps.{draft_with, with_deletes}
 use Rattle.c104_describe.proofs.PrintedDeletes.{deletes_alone, deletes_read}
 
@@ -42,16 +41,16 @@ module _ (plan : Plan) (kept : IsPlan plan) where
 
   pub read_mesh : (w h p : ℕ) → plan.shape ≡ Mesh w h p → IsMesh w h p → IsFilled (mesh w h) p plan → (n : ℕ) → plan_of_draft (read_lines_of_words n (mesh_words w h p ∷ lines_after_network plan) (draft_with false None begun)) ≡ Ok plan
   read_mesh w h p is_shape sizes is n =
-      let wide : number_within 1 64 (decimal w) ≡ Ok w = number_within-decimal 1 64 w (omega (arith, sizes.wide.0)) sizes.wide.1 (omega (arith, sizes.wide.1)) in
-      let high : number_within 1 64 (decimal h) ≡ Ok h = number_within-decimal 1 64 h (omega (arith, sizes.high.0)) sizes.high.1 (omega (arith, sizes.high.1)) in
-      let some : number_within 1 28 (decimal p) ≡ Ok p = number_within-decimal 1 28 p (omega (arith, sizes.some)) sizes.links (omega (arith, sizes.links)) in
-      let few : nat_le (w * h) 64 ≡ true = grind (arith, nat_tests, sizes.switches) in
-      let labels : nat_le (w * h * p) 256 ≡ true = grind (arith, nat_tests, sizes.labels) in
-      read_filled (Mesh w h p) (mesh w h) p is_shape is n (mesh_words w h p) (rw (wide, high, some, few, labels) refl)
+      let wide = number-decimal 1 64 w (omega (arith, sizes.wide.0)) sizes.wide.1 (omega (arith, sizes.wide.1)) in
+      let high = number-decimal 1 64 h (omega (arith, sizes.high.0)) sizes.high.1 (omega (arith, sizes.high.1)) in
+      let some = number-decimal 1 28 p (omega (arith, sizes.some)) sizes.links (omega (arith, sizes.links)) in
+      let few : nat_lt 64 (w * h) ≡ false = grind (arith, nat_tests, sizes.switches) in
+      let labels : nat_lt 256 (w * h * p) ≡ false = grind (arith, nat_tests, sizes.labels) in
+      read_filled (Mesh w h p) (mesh w h) p is_shape is n (mesh_words w h p) (rw (wide, high, some, value-decimal w (omega (arith, sizes.wide.1)), value-decimal h (omega (arith, sizes.high.1)), value-decimal p (omega (arith, sizes.links)), few, labels) refl)
 
   pub read_cube : (d p : ℕ) → plan.shape ≡ Cube d p → IsCube d p → IsFilled (cube d) p plan → (n : ℕ) → plan_of_draft (read_lines_of_words n (cube_words d p ∷ lines_after_network plan) (draft_with false None begun)) ≡ Ok plan
   read_cube d p is_shape sizes is n =
-      let low : number_within 0 6 (decimal d) ≡ Ok d = number_within-decimal 0 6 d (omega arith) sizes.low (omega (arith, sizes.low)) in
-      let some : number_within 1 26 (decimal p) ≡ Ok p = number_within-decimal 1 26 p (omega (arith, sizes.some)) sizes.links (omega (arith, sizes.links)) in
-      let labels : nat_le (2 ^ d * p) 256 ≡ true = grind (arith, nat_tests, sizes.labels) in
-      read_filled (Cube d p) (cube d) p is_shape is n (cube_words d p) (rw (low, some, labels) refl)
+      let low = number-decimal 0 6 d (omega arith) sizes.low (omega (arith, sizes.low)) in
+      let some = number-decimal 1 26 p (omega (arith, sizes.some)) sizes.links (omega (arith, sizes.links)) in
+      let labels : nat_lt 256 (2 ^ d * p) ≡ false = grind (arith, nat_tests, sizes.labels) in
+      read_filled (Cube d p) (cube d) p is_shape is n (cube_words d p) (rw (low, some, value-decimal d (omega (arith, sizes.low)), value-decimal p (omega (arith, sizes.links)), labels) refl)

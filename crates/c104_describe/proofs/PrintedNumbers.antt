@@ -1,14 +1,13 @@
 -- What is printed of a number is read back.
-use Rattle.std.proofs.Common.{◌≡◌, ℕ, ◌+◌, ◌*◌, ◌-◌, ◌<◌, ◌≤◌, ◌^◌, ◌&&◌, true, if◌then◌else◌, List, length, fold, nat_le, nat_lt, Some, None, Ok, ◌∙◌, arith, rules}
+use Rattle.std.proofs.Common.{◌≡◌, ℕ, ◌+◌, ◌*◌, ◌-◌, ◌<◌, ◌≤◌, ◌^◌, ◌&&◌, true, false, not, if◌then◌else◌, List, length, fold, nat_le, nat_lt, Some, None, ap, ◌∙◌, arith, rules}
 use Rattle.std.proofs.lemmas.Bool.Decides.{nat_tests}
 use Rattle.std.specs.Fmt.{decimal}
 use Rattle.std.specs.List.{list_all}
+use Rattle.std.specs.Option.{option_map_or, unwrap_or}
 use Rattle.std.proofs.lemmas.Fmt.{digits_decimal, digits_value-decimal, length-decimal-le, decimal_nonempty}
 use Rattle.std.proofs.lemmas.Str.Parse.{IsNumeralModel, numerals_by_fold}
-use Rattle.c104_describe.specs.declared.faults.PlanFaultKind.TheVariants.{BadNumber}
-use Rattle.c104_plan.specs.Checks.{◌>>=◌, ◌>>◌, require, value_or_fault}
 use Rattle.c104_plan.specs.TextWords.{read_number, value_of, is_digit}
-use Rattle.c104_describe.specs.PlanWords.{number_within}
+use Rattle.c104_describe.specs.PlanLines.{is_bad_number, is_from_to, value_said}
 use Rattle.c104_describe.proofs.PrintedText.{is_word, is_word_byte}
 use Rattle.c104_plan.proofs.TextBytes.{list_all-weaker}
 
@@ -36,12 +35,15 @@ number_by word n digits some few value =
 pub read_number-decimal : (n : ℕ) → n < 10 ^ 7 → read_number (decimal n) ≡ Some n
 read_number-decimal n small = number_by (decimal n) n (decimal_digits n small) (decimal_long n small).0 (decimal_long n small).1 (decimal_value n small)
 
-pub number_within-decimal : (least most n : ℕ) → least ≤ n → n ≤ most → n < 10 ^ 7 → number_within least most (decimal n) ≡ Ok n
-number_within-decimal least most n low high small =
+-- it lies in its range
+pub number-decimal : (least most n : ℕ) → least ≤ n → n ≤ most → n < 10 ^ 7 → is_bad_number (Some (decimal n)) (is_from_to least most) ≡ false
+number-decimal least most n low high small =
     let some : nat_le least n ≡ true = grind (arith, nat_tests) in
     let few : nat_le n most ≡ true = grind (arith, nat_tests) in
-    (λ i. value_or_fault (read_number-decimal n small i) BadNumber >>= (λ value. require (nat_le least value && nat_le value most) BadNumber >> Ok value))
-    ∙ (λ i. require (some i && few i) BadNumber >> Ok n)
+    (λ i. not (option_map_or (is_from_to least most) (read_number-decimal n small i) false)) ∙ (λ i. not (some i && few i))
+
+pub value-decimal : (n : ℕ) → n < 10 ^ 7 → value_said (decimal n) ≡ n
+value-decimal n small = ap (λ o. unwrap_or o 0) (read_number-decimal n small)
 
 digit_byte : (b : ℕ) → is_digit b ≡ true → is_word_byte b ≡ true
 digit_byte b is = grind (arith, nat_tests)

@@ -9,14 +9,13 @@ use Rattle.c104_plan.specs.TextWords.{read_number}
 use Rattle.c104_describe.specs.PlanFaults.{fault_at}
 use Rattle.c104_plan.specs.Plans.{Plan, IsOfShape, IsPlan, most_header_bytes}
 use Rattle.c104_plan.specs.declared.plans.Shape.{Shape}
-use Rattle.c104_describe.specs.PlanWords.{number_within}
-use Rattle.c104_describe.specs.PlanLines.{read_plan_words}
+use Rattle.c104_describe.specs.LineFaults.{read_plan_words}
 use Rattle.c104_describe.specs.PlanText.{empty_draft, plan_of_draft, read_description, read_plan_lines, draft_after_line}
 use Rattle.c104_plan.specs.PlanParts.{empty_plan}
 use Rattle.c104_describe.specs.PlanPrint.{header_words, buffer_words, network_lines, plan_text, text_of}
 use Rattle.c104_describe.proofs.PrintedText.{lines_of, read_lines_of_words, read_sentences}
 use Rattle.c104_describe.proofs.PrintedParts.{lines_by_kinds, plan_lines-by_kinds, lines_after_network, lines_after_buffer}
-use Rattle.c104_describe.proofs.PrintedNumbers.{number_within-decimal, read_number-decimal}
+use Rattle.c104_describe.proofs.PrintedNumbers.{number-decimal, value-decimal, read_number-decimal}
 use Rattle.c104_describe.proofs.PrintedSteps.{draft_with}
 use Rattle.c104_describe.proofs.PrintedWords.{small_buffer, words_plan}
 use Rattle.c104_describe.proofs.PrintedByHand.{read_by_hand}
@@ -26,8 +25,8 @@ use Rattle.c104_describe.proofs.PrintedFills.{read_cube, read_mesh}
 module _ (plan : Plan) (kept : IsPlan plan) where
   header_read : read_plan_words empty_draft true (header_words plan.header) ≡ Ok (record { plan = record empty_plan { header = plan.header }; header_said = true; buffer_said = false; from_said = false; labels = None })
   header_read =
-      let bytes : number_within 1 most_header_bytes (decimal plan.header) ≡ Ok plan.header = number_within-decimal 1 most_header_bytes plan.header kept.header.0 kept.header.1 (omega (arith, kept.header.1)) in
-      rw bytes refl
+      let bytes = number-decimal 1 most_header_bytes plan.header kept.header.0 kept.header.1 (omega (arith, kept.header.1)) in
+      rw (bytes, value-decimal plan.header (omega (arith, kept.header.1))) refl
 
   buffer_read : read_plan_words (record { plan = record empty_plan { header = plan.header }; header_said = true; buffer_said = false; from_said = false; labels = None }) true (buffer_words plan.cap) ≡ Ok (draft_with false None (record empty_plan { header = plan.header; cap = plan.cap }))
   buffer_read =

@@ -1,5 +1,5 @@
 -- What is printed of a name, a port and what a row selects is read back.
-use Rattle.std.proofs.Common.{◌≡◌, ◌≢◌, ℕ, ◌+◌, ◌<◌, ◌&&◌, ◌||◌, ◌==◌, Bool, true, false, not, cond, if◌then◌else◌, List, [], ◌∷◌, ◌++◌, length, take, drop, nat_lt, bytes_eq, codes, Some, None, Ok, refl, sym, ap, ◌∙◌, arith, length-append}
+use Rattle.std.proofs.Common.{◌≡◌, ◌≢◌, ℕ, ◌+◌, ◌<◌, ◌&&◌, ◌||◌, ◌==◌, Bool, true, false, not, cond, if◌then◌else◌, List, [], ◌∷◌, ◌++◌, length, drop, nat_lt, bytes_eq, codes, Some, None, refl, sym, ap, ◌∙◌, arith, length-append}
 use Rattle.std.proofs.lemmas.Bool.{and_parts}
 use Rattle.std.proofs.lemmas.Bool.Decides.{nat_tests}
 use Rattle.std.proofs.Math.Seq.{take-append_seam, drop-append-add}
@@ -9,15 +9,15 @@ use Rattle.std.proofs.lemmas.List.Folds.{list_all-append}
 use Rattle.std.proofs.lemmas.Slice.Eq.{bytes_eq-Decides}
 use Rattle.c104_interval.specs.declared.intervals.Select.{Select}
 use Rattle.c104_interval.specs.declared.intervals.Select.TheVariants.{Link, Discard, Sink}
+use Rattle.c104_plan.specs.declared.text.Dots.{Dots}
 use Rattle.c104_plan.specs.declared.text.Dots.TheVariants.{At, Several}
-use Rattle.c104_plan.specs.Checks.{◌>>=◌}
 use Rattle.c104_plan.specs.TextWords.{is_digit, is_name, is_name_byte, dots, dots_from}
-use Rattle.c104_describe.specs.PlanWords.{number_within, port_sides, sides_of_dots, port_word, select_word}
+use Rattle.c104_describe.specs.PlanLines.{is_bad_number, is_from_to, is_one_dot, port_link, port_name, select_said, selected_link, sides_at, value_said}
 use Rattle.c104_plan.specs.Plans.{IsPlanSelect, last_link}
 use Rattle.c104_plan.specs.PortTexts.{select_text}
 use Rattle.c104_describe.proofs.PrintedText.{is_word, is_word_byte}
 use Rattle.c104_plan.proofs.TextBytes.{list_all-weaker}
-use Rattle.c104_describe.proofs.PrintedNumbers.{decimal_digits, decimal_bytes, number_within-decimal, word-decimal}
+use Rattle.c104_describe.proofs.PrintedNumbers.{decimal_digits, decimal_bytes, number-decimal, value-decimal, word-decimal}
 use Rattle.c104_plan.proofs.NameText.{name_bytes}
 
 -- Names
@@ -69,22 +69,24 @@ dots_name name ds named digits =
     ∙ (λ i. if no_dots ds digits i then Several else At (length name))
 
 -- the two sides of a printed port
-pub port_sides-port : (name : List ℕ) (link : ℕ) → is_name name ≡ true → link < 32 → port_sides (name ++ 0x2e ∷ decimal link) ≡ Ok (name, decimal link)
-port_sides-port name link named is_link =
-    let word = name ++ 0x2e ∷ decimal link in
-    let behind : drop (length name + 1) word ≡ decimal link = drop-append-add name (0x2e ∷ decimal link) 1 in
-    let before : take (length name) word ≡ name = take-append_seam name (0x2e ∷ decimal link) in
-    ap (sides_of_dots word) (dots_name name (decimal link) named (decimal_digits link (omega arith)))
-    ∙ (λ i. Ok (before i, behind i))
+module _ (name : List ℕ) (link : ℕ) (named : is_name name ≡ true) (is_link : link < 32) where
+  abbrev word : List ℕ
+  word = name ++ 0x2e ∷ decimal link
 
-pub link-decimal : (link : ℕ) → link < 32 → number_within 0 last_link (decimal link) ≡ Ok link
-link-decimal link is_link = number_within-decimal 0 last_link link (omega arith) (omega arith) (omega arith)
+  at_dot : dots word ≡ At (length name)
+  at_dot = dots_name name (decimal link) named (decimal_digits link (omega arith))
 
--- a printed port is read back
-pub port_word-port : (name : List ℕ) (link : ℕ) → is_name name ≡ true → link < 32 → port_word (name ++ 0x2e ∷ decimal link) ≡ Ok (name, link)
-port_word-port name link named is_link =
-    (λ i. port_sides-port name link named is_link i >>= (λ sides. number_within 0 last_link sides.1 >>= (λ l. Ok (sides.0, l))))
-    ∙ (λ i. link-decimal link is_link i >>= (λ l. Ok (name, l)))
+  pub cut-port : is_one_dot (dots word) ≡ true
+  cut-port = ap is_one_dot at_dot
+
+  pub name-port : port_name word ≡ name
+  name-port = ap (λ (d : Dots). (sides_at word d).0) at_dot ∙ take-append_seam name (0x2e ∷ decimal link)
+
+  pub link-port : port_link word ≡ decimal link
+  link-port = ap (λ (d : Dots). (sides_at word d).1) at_dot ∙ drop-append-add name (0x2e ∷ decimal link) 1
+
+pub link-good : (link : ℕ) → link < 32 → is_bad_number (Some (decimal link)) (is_from_to 0 last_link) ≡ false
+link-good link is_link = number-decimal 0 last_link link (omega arith) (omega arith) (omega arith)
 
 -- a printed port is a word
 pub word-port : (name : List ℕ) (link : ℕ) → is_name name ≡ true → link < 32 → is_word (name ++ 0x2e ∷ decimal link) ≡ true
@@ -109,14 +111,22 @@ no_sink word digits = differ_eq word (codes "sink") (λ same. let bad : list_all
 no_discard : (word : List ℕ) → list_all is_digit word ≡ true → bytes_eq word (codes "discard") ≡ false
 no_discard word digits = differ_eq word (codes "discard") (λ same. let bad : list_all is_digit (codes "discard") ≡ true = ap (list_all is_digit) (sym same) ∙ digits in cc)
 
-pub select_word-select : (select : Select) → IsPlanSelect select → select_word (select_text select) ≡ Ok select
-select_word-select (Link link) is =
-    let read = number_within 0 last_link (decimal link) >>= (λ l. Ok (Link l)) in
-    (λ i. if no_sink (decimal link) (decimal_digits link (omega arith)) i then Ok Sink else (if bytes_eq (decimal link) (codes "discard") then Ok Discard else read))
-    ∙ (λ i. if no_discard (decimal link) (decimal_digits link (omega arith)) i then Ok Discard else read)
-    ∙ (λ i. link-decimal link is i >>= (λ l. Ok (Link l)))
-select_word-select Discard is = refl
-select_word-select Sink is = refl
+pub select-good : (select : Select) → IsPlanSelect select → is_bad_number (selected_link (select_text select)) (is_from_to 0 last_link) ≡ false
+select-good (Link link) is =
+    (λ i. is_bad_number (if no_sink (decimal link) (decimal_digits link (omega arith)) i || bytes_eq (decimal link) (codes "discard") then None else Some (decimal link)) (is_from_to 0 last_link))
+    ∙ (λ i. is_bad_number (if no_discard (decimal link) (decimal_digits link (omega arith)) i then None else Some (decimal link)) (is_from_to 0 last_link))
+    ∙ link-good link is
+select-good Discard is = refl
+select-good Sink is = refl
+
+pub select-is : (select : Select) → IsPlanSelect select → select_said (select_text select) ≡ select
+select-is (Link link) is =
+    let said = Link (value_said (decimal link)) in
+    (λ i. if no_sink (decimal link) (decimal_digits link (omega arith)) i then Sink else (if bytes_eq (decimal link) (codes "discard") then Discard else said))
+    ∙ (λ i. if no_discard (decimal link) (decimal_digits link (omega arith)) i then Discard else said)
+    ∙ ap Link (value-decimal link (omega arith))
+select-is Discard is = refl
+select-is Sink is = refl
 
 pub word-select : (select : Select) → IsPlanSelect select → is_word (select_text select) ≡ true
 word-select (Link link) is = word-decimal link (omega arith)

@@ -1,5 +1,5 @@
 -- Each printed line is read back, after the lines before it.
-use Rattle.std.proofs.Common.{◌≡◌, ◌≢◌, ℕ, ◌+◌, ◌<◌, ◌≤◌, ◌==◌, ◌||◌, Bool, true, false, cond, List, [], ◌∷◌, ◌++◌, length, map, filter, position, get_or, bytes_eq, nat_le, nat_lt, All, Option, Some, None, Ok, refl, sym, subst, ap, ◌∙◌, arith, append_assoc, append-nil, length-append}
+use Rattle.std.proofs.Common.{◌≡◌, ◌≢◌, ℕ, ◌+◌, ◌<◌, ◌≤◌, ◌==◌, ◌||◌, Bool, true, false, cond, List, [], ◌∷◌, ◌++◌, length, map, filter, position, get_or, bytes_eq, nat_lt, All, Option, Some, None, Ok, refl, sym, subst, ap, ◌∙◌, arith, append_assoc, append-nil, length-append}
 use Rattle.std.proofs.lemmas.Bool.Decides.{nat_tests}
 use Rattle.std.proofs.lemmas.Bool.{or_parts}
 use Rattle.std.proofs.lemmas.Slice.Eq.{bytes_eq-Decides}
@@ -13,26 +13,27 @@ use Rattle.std.specs.List.{list_any}
 use Rattle.c104_interval.specs.declared.intervals.Select.{Select}
 use Rattle.c104_plan.specs.Distinctness.{AreDistinct}
 use Rattle.c104_plan.specs.declared.ports.Port.TheVariants as port
-use Rattle.c104_plan.specs.TextWords.{is_name}
+use Rattle.c104_plan.specs.TextWords.{dots, is_name}
 use Rattle.c104_plan.specs.Ports.{is_port, is_any_at, both_ends, IsSwitchPort}
 use Rattle.c104_plan.specs.declared.ports.Port.{Port}
 use Rattle.c104_plan.specs.declared.ports.Wire.{Wire}
-use Rattle.c104_plan.specs.Plans.{Plan, IsPlan, IsPlanSelect, IsPlanWire, IsLaterPort, IsRange, names, host_port, linked_ports, is_taken, is_linked, is_deleted, is_row_of, rows_of, switch_number, terminal_number, label_count}
+use Rattle.c104_plan.specs.Plans.{Plan, IsPlan, IsPlanSelect, IsPlanWire, IsLaterPort, IsRange, names, host_port, linked_ports, is_taken, is_linked, is_deleted, is_row_of, rows_of, switch_number, terminal_number, label_count, last_link}
 use Rattle.c104_plan.specs.declared.plans.PlanBase.{PlanBase}
 use Rattle.c104_plan.specs.declared.plans.PlanRandom.{PlanRandom}
 use Rattle.c104_plan.specs.declared.plans.PlanRow.{PlanRow}
 use Rattle.c104_plan.specs.declared.plans.Terminal.{Terminal}
-use Rattle.c104_describe.specs.PlanWords.{number_within, port_sides, port_word, select_word}
 use Rattle.c104_describe.specs.PlanDrafts.{Draft, is_by_hand}
 use Rattle.c104_plan.specs.PlanParts.{has_some}
-use Rattle.c104_describe.specs.PlanLines.{read_plan_words}
+use Rattle.c104_describe.specs.PlanLines.{is_bad_number, is_from_to, is_one_dot, port_link, port_name, value_said}
+use Rattle.c104_describe.specs.LineFaults.{read_plan_words}
 use Rattle.c104_describe.specs.PlanPrint.{switch_words, terminal_words, wire_words, continue_words, delete_words, base_words, row_words, random_words}
 use Rattle.c104_plan.specs.declared.plans.Shape.{Shape}
-use Rattle.c104_plan.specs.PortTexts.{terminal_name, port_text, select_text}
+use Rattle.c104_plan.specs.PortTexts.{terminal_name, port_text}
 use Rattle.c104_describe.proofs.DistinctPlaces.{All-here, fresh, distinct_front, distinct_back, distinct_mapped, position_at}
 use Rattle.c104_plan.proofs.PortLemmas.{is_port-refl}
-use Rattle.c104_describe.proofs.PrintedNumbers.{number_within-decimal}
-use Rattle.c104_describe.proofs.PrintedPorts.{port_sides-port, port_word-port, link-decimal, select_word-select}
+use Rattle.c104_describe.proofs.PrintedNumbers.{number-decimal, value-decimal}
+use Rattle.c104_describe.proofs.PrintedPorts.{cut-port, link-good, link-port, name-port, select-good, select-is}
+use Rattle.c104_describe.proofs.PlanLinesKept.{same_switch}
 
 pub bytes_eq-refl : (xs : List ℕ) → bytes_eq xs xs ≡ true
 bytes_eq-refl xs = (bytes_eq-Decides xs xs).1 refl
@@ -103,7 +104,7 @@ module _ (plan : Plan) (kept : IsPlan plan) where
       ∙ fresh bytes_eq done name more (subst (AreDistinct bytes_eq) (sym is) switches_differ) in
       let long = length-append done (name ∷ more) in
       let whole : length (done ++ name ∷ more) ≡ length plan.switches = ap length is in
-      let room : nat_lt (length done) 64 ≡ true = grind (arith, nat_tests, kept.few_switches) in
+      let room : nat_lt 64 (length done + 1) ≡ false = grind (arith, nat_tests, kept.few_switches) in
       rw (named, free, room, hand) refl
 
   -- Ports of switches
@@ -118,11 +119,20 @@ module _ (plan : Plan) (kept : IsPlan plan) where
     pub port_printed : port_text plan (port.Switch s l) ≡ name_of s ++ 0x2e ∷ decimal l
     port_printed = ap (λ name. unwrap_or name [] ++ 0x2e ∷ decimal l) (slice_get-get_or plan.switches s [] is.0)
 
-    pub port_read : port_word (port_text plan (port.Switch s l)) ≡ Ok (name_of s, l)
-    port_read = ap port_word port_printed ∙ port_word-port (name_of s) l port_named is.1
+    pub port_cut : is_one_dot (dots (port_text plan (port.Switch s l))) ≡ true
+    port_cut = ap (λ word. is_one_dot (dots word)) port_printed ∙ cut-port (name_of s) l port_named is.1
 
-    sides_read : port_sides (port_text plan (port.Switch s l)) ≡ Ok (name_of s, decimal l)
-    sides_read = ap port_sides port_printed ∙ port_sides-port (name_of s) l port_named is.1
+    pub port_name-is : port_name (port_text plan (port.Switch s l)) ≡ name_of s
+    port_name-is = ap port_name port_printed ∙ name-port (name_of s) l port_named is.1
+
+    pub port_link-is : port_link (port_text plan (port.Switch s l)) ≡ decimal l
+    port_link-is = ap port_link port_printed ∙ link-port (name_of s) l port_named is.1
+
+    pub link_good : is_bad_number (Some (decimal l)) (is_from_to 0 last_link) ≡ false
+    link_good = link-good l is.1
+
+    pub link_is : value_said (decimal l) ≡ l
+    link_is = value-decimal l (omega (arith, is.1))
 
     pub port_number : position (λ switch. bytes_eq switch (name_of s)) plan.switches ≡ Some s
     port_number = position_at bytes_eq bytes_eq-refl plan.switches s [] is.0 switches_differ
@@ -166,14 +176,14 @@ module _ (plan : Plan) (kept : IsPlan plan) where
         let on_switch : IsSwitchPort (length plan.switches) (host_port t) = All-here (λ (u : Terminal). IsSwitchPort (length plan.switches) (host_port u)) plan.terminals done t more is kept.terminals.on_switches in
         let range : IsRange t.first t.count = All-here (λ (u : Terminal). IsRange u.first u.count) plan.terminals done t more is kept.terminals.ranges in
         let named : is_name t.name ≡ true = All-here (λ (u : Terminal). is_name u.name ≡ true) plan.terminals done t more is terminal_named in
-        let count_read : number_within 1 label_count (decimal t.count) ≡ Ok t.count = number_within-decimal 1 label_count t.count (omega (arith, range.0)) (omega (arith, range.1)) (omega (arith, range.1)) in
-        let first_read : number_within 0 0xffff (decimal t.first) ≡ Ok t.first = number_within-decimal 0 0xffff t.first (omega arith) (omega (arith, range.0, range.1)) (omega (arith, range.1)) in
+        let count_good = number-decimal 1 label_count t.count (omega (arith, range.0)) (omega (arith, range.1)) (omega (arith, range.1)) in
+        let first_good = number-decimal 0 0xffff t.first (omega arith) (omega (arith, range.0, range.1)) (omega (arith, range.1)) in
         let long = length-append done (t ∷ more) in
         let whole : length (done ++ t ∷ more) ≡ length plan.terminals = ap length is in
-        let room : nat_lt (length done) 256 ≡ true = grind (arith, nat_tests, kept.terminals.few) in
-        let ends : nat_le (t.first + t.count) label_count ≡ true = grind (arith, nat_tests, range.1) in
+        let room : nat_lt 256 (length done + 1) ≡ false = grind (arith, nat_tests, kept.terminals.few) in
+        let ends : nat_lt label_count (t.first + t.count) ≡ false = grind (arith, nat_tests, range.1) in
         let said : has_some (done ++ t ∷ []) ≡ true = has_more done t in
-        rw (port_read t.switch t.link on_switch, count_read, first_read, named, port_named t.switch t.link on_switch, name_free, port_number t.switch t.link on_switch, host_free, room, ends, hand, or_true (has_some done), said) refl
+        rw (port_cut t.switch t.link on_switch, port_name-is t.switch t.link on_switch, port_link-is t.switch t.link on_switch, link_good t.switch t.link on_switch, link_is t.switch t.link on_switch, count_good, value-decimal t.count (omega (arith, range.1)), first_good, value-decimal t.first (omega (arith, range.1)), named, port_named t.switch t.link on_switch, name_free, port_number t.switch t.link on_switch, host_free, room, ends, hand, or_true (has_some done), said) refl
 
   -- Wires
 
@@ -208,9 +218,10 @@ module _ (plan : Plan) (kept : IsPlan plan) where
   wire_line said hand done (port.Terminal t) there is free far_free = absurd is.0
   wire_line said hand done (port.Switch s l) (port.Terminal t) is free far_free = absurd is.1
   wire_line said hand done (port.Switch s l) (port.Switch r k) is free far_free =
-      let differ : s ≢ r = is.2 in
-      let apart : (s == r) ≡ false = grind (arith, nat_tests) in
-      rw (sides_read s l is.0, sides_read r k is.1, link-decimal l is.0.1, link-decimal k is.1.1, port_named s l is.0, port_named r k is.1, port_number s l is.0, port_number r k is.1, apart, free, far_free, hand) refl
+      let other : s ≢ r = is.2 in
+      let differ : (s == r) ≡ false = grind (arith, nat_tests) in
+      let apart : bytes_eq (name_of s) (name_of r) ≡ false = same_switch plan (name_of s) (name_of r) s r (port_number s l is.0) (port_number r k is.1) ∙ differ in
+      rw (port_cut s l is.0, port_name-is s l is.0, port_link-is s l is.0, link_good s l is.0, link_is s l is.0, port_cut r k is.1, port_name-is r k is.1, port_link-is r k is.1, link_good r k is.1, link_is r k is.1, port_named s l is.0, port_named r k is.1, port_number s l is.0, port_number r k is.1, apart, free, far_free, hand) refl
 
   pub wire_step : (said : Bool) → is_by_hand plan.shape ≡ true → (done : List Wire) (w : Wire) (more : List Wire) → done ++ w ∷ more ≡ plan.wires
       → read_plan_words (draft_with said None (with_wires done)) true (wire_words plan w) ≡ Ok (draft_with said None (with_wires (done ++ w ∷ [])))
@@ -224,8 +235,8 @@ module _ (plan : Plan) (kept : IsPlan plan) where
   continue_line said hand done (port.Terminal t) later free = absurd later
   continue_line said hand done (port.Switch s l) later free =
       let is : IsSwitchPort (length plan.switches) (port.Switch s l) = (later.0, later.2) in
-      let not_first : (l == 0) ≡ false = let some = later.1 in grind (arith, nat_tests) in
-      rw (port_read s l is, not_first, port_named s l is, port_number s l is, free, hand) refl
+      let not_first = number-decimal 1 last_link l (omega (arith, later.1)) (omega (arith, later.2)) (omega (arith, later.2)) in
+      rw (port_cut s l is, port_name-is s l is, port_link-is s l is, link_good s l is, link_is s l is, not_first, port_named s l is, port_number s l is, free, hand) refl
 
   pub continue_step : (said : Bool) → is_by_hand plan.shape ≡ true → (done : List Port) (p : Port) (more : List Port) → done ++ p ∷ more ≡ plan.continues
       → read_plan_words (draft_with said None (with_continues done)) true (continue_words plan p) ≡ Ok (draft_with said None (with_continues (done ++ p ∷ [])))
@@ -258,8 +269,8 @@ module _ (plan : Plan) (kept : IsPlan plan) where
   unfolding is_any_at switch_number
   base_line said hand done (port.Terminal t) base is range free = absurd is
   base_line said hand done (port.Switch s l) base is range free =
-      let base_read : number_within 0 0xffff (decimal base) ≡ Ok base = number_within-decimal 0 0xffff base (omega arith) (omega arith) (omega arith) in
-      rw (port_read s l is, base_read, port_named s l is, port_number s l is, free, hand) refl
+      let base_good = number-decimal 0 0xffff base (omega arith) (omega arith) (omega arith) in
+      rw (port_cut s l is, port_name-is s l is, port_link-is s l is, link_good s l is, link_is s l is, base_good, value-decimal base (omega arith), port_named s l is, port_number s l is, free, hand) refl
 
   pub base_step : (said : Bool) → is_by_hand plan.shape ≡ true → (done : List PlanBase) (b : PlanBase) (more : List PlanBase) → done ++ b ∷ more ≡ plan.bases
       → read_plan_words (draft_with said None (with_bases done)) true (base_words plan b) ≡ Ok (draft_with said None (with_bases (done ++ b ∷ [])))
@@ -277,10 +288,9 @@ module _ (plan : Plan) (kept : IsPlan plan) where
   unfolding switch_number
   row_line said hand done (port.Terminal t) limit select is few selectable room = absurd is
   row_line said hand done (port.Switch s l) limit select is few selectable room =
-      let limit_read : number_within 0 label_count (decimal limit) ≡ Ok limit = number_within-decimal 0 label_count limit (omega arith) few (omega arith) in
-      let select_read : select_word (select_text select) ≡ Ok select = select_word-select select selectable in
-      let fits : nat_lt (length (rows_of (port.Switch s l) done)) 36 ≡ true = grind (arith, nat_tests) in
-      rw (port_read s l is, limit_read, select_read, port_named s l is, port_number s l is, fits, hand) refl
+      let limit_good = number-decimal 0 label_count limit (omega arith) few (omega arith) in
+      let fits : nat_lt 36 (length (rows_of (port.Switch s l) done) + 1) ≡ false = grind (arith, nat_tests) in
+      rw (port_cut s l is, port_name-is s l is, port_link-is s l is, link_good s l is, link_is s l is, limit_good, value-decimal limit (omega arith), select-good select selectable, select-is select selectable, port_named s l is, port_number s l is, fits, hand) refl
 
   row_room : (done : List PlanRow) (r : PlanRow) (more : List PlanRow) → done ++ r ∷ more ≡ plan.rows → length (rows_of r.port done) < 36
   unfolding rows_of
@@ -306,9 +316,9 @@ module _ (plan : Plan) (kept : IsPlan plan) where
   unfolding is_any_at switch_number
   random_line said hand done (port.Terminal t) base range is low few free = absurd is
   random_line said hand done (port.Switch s l) base range is low few free =
-      let base_read : number_within 0 0xffff (decimal base) ≡ Ok base = number_within-decimal 0 0xffff base (omega arith) (omega arith) (omega arith) in
-      let range_read : number_within 0 label_count (decimal range) ≡ Ok range = number_within-decimal 0 label_count range (omega arith) few (omega arith) in
-      rw (port_read s l is, base_read, range_read, port_named s l is, port_number s l is, free, hand) refl
+      let base_good = number-decimal 0 0xffff base (omega arith) (omega arith) (omega arith) in
+      let range_good = number-decimal 0 label_count range (omega arith) few (omega arith) in
+      rw (port_cut s l is, port_name-is s l is, port_link-is s l is, link_good s l is, link_is s l is, base_good, value-decimal base (omega arith), range_good, value-decimal range (omega arith), port_named s l is, port_number s l is, free, hand) refl
 
   pub random_step : (said : Bool) → is_by_hand plan.shape ≡ true → (done : List PlanRandom) (r : PlanRandom) (more : List PlanRandom) → done ++ r ∷ more ≡ plan.randoms
       → read_plan_words (draft_with said None (with_randoms done)) true (random_words plan r) ≡ Ok (draft_with said None (with_randoms (done ++ r ∷ [])))

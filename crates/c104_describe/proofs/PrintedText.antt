@@ -9,7 +9,8 @@ use Rattle.std.proofs.lemmas.List.Folds.{list_all-append}
 use Rattle.std.proofs.lemmas.List.Splits.{slice_split_at, slice_split_none}
 use Rattle.c104_plan.specs.TextCut.{lines, uncommented_line, line_words, is_plain_line, parts_words}
 use Rattle.c104_describe.specs.PlanFaults.{PlanFault}
-use Rattle.c104_describe.specs.PlanLines.{Draft, read_plan_line, read_plan_words}
+use Rattle.c104_describe.specs.PlanLines.{Draft}
+use Rattle.c104_describe.specs.LineFaults.{read_plan_line, read_plan_words}
 use Rattle.c104_describe.specs.PlanPrint.{sentence, text_of}
 use Rattle.c104_describe.specs.PlanText.{draft_after_line, read_plan_lines}
 use Rattle.c104_plan.proofs.TextBytes.{list_all-weaker}

@@ -1,14 +1,13 @@
 -- What is printed of a network to be labelled from a root, as a tree or up and down, is read back.
-use Rattle.std.proofs.Common.{◌≡◌, ℕ, ◌+◌, Bool, true, false, List, [], ◌∷◌, ◌++◌, length, map, position, bytes_eq, nat_le, nat_lt, Some, None, Ok, refl, sym, ap, ◌∙◌, arith, append_assoc, length-append}
-use Rattle.std.specs.Fmt.{decimal}
+use Rattle.std.proofs.Common.{◌≡◌, ℕ, ◌+◌, Bool, true, false, List, [], ◌∷◌, ◌++◌, length, map, position, bytes_eq, nat_lt, Some, None, Ok, refl, sym, ap, ◌∙◌, arith, append_assoc, length-append}
 use Rattle.std.proofs.lemmas.Bool.Decides.{nat_tests}
 use Rattle.c104_plan.specs.TextWords.{is_name}
 use Rattle.c104_plan.specs.Ports.{IsSwitchPort}
 use Rattle.c104_plan.specs.Plans.{Plan, IsPlan, IsRange, IsTreePlan, IsUnset, host_port, is_linked, is_taken, label_count, next_first, switch_number}
 use Rattle.c104_plan.specs.declared.plans.Terminal.{Terminal}
 use Rattle.c104_describe.specs.PlanDrafts.{is_by_hand, rooted}
-use Rattle.c104_describe.specs.PlanWords.{number_within}
-use Rattle.c104_describe.specs.PlanLines.{is_labeller, labelled_shape, read_plan_words}
+use Rattle.c104_describe.specs.PlanLines.{is_labeller, labelled_shape}
+use Rattle.c104_describe.specs.LineFaults.{read_plan_words}
 use Rattle.c104_describe.specs.PlanText.{draft_after_line, plan_of_draft}
 use Rattle.c104_plan.specs.PlanParts.{empty_plan}
 use Rattle.c104_describe.specs.PlanPrint.{counted_words, delete_words, label_words, labelled_lines, labeller, switch_words, wire_words}
@@ -16,8 +15,8 @@ use Rattle.c104_describe.proofs.CountedPlans.{begins_there, counted, counted_kep
 use Rattle.c104_describe.proofs.DistinctPlaces.{All-here, position_at}
 use Rattle.c104_describe.proofs.PrintedText.{read_kind, read_lines_of_words}
 use Rattle.c104_describe.proofs.PrintedParts.{lines_after_network}
-use Rattle.c104_describe.proofs.PrintedNumbers.{number_within-decimal}
-use Rattle.c104_describe.proofs.PrintedSteps.{bytes_eq-refl, draft_with, name_of, switch_named, switches_differ, with_switches, with_terminals, with_wires, with_deletes, switch_step, wire_step, port_read, port_named, port_number, name_free, host_free, terminal_named}
+use Rattle.c104_describe.proofs.PrintedNumbers.{number-decimal, value-decimal}
+use Rattle.c104_describe.proofs.PrintedSteps.{bytes_eq-refl, draft_with, name_of, switch_named, switches_differ, with_switches, with_terminals, with_wires, with_deletes, switch_step, wire_step, port_cut, port_name-is, port_link-is, link_good, link_is, port_named, port_number, name_free, host_free, terminal_named}
 use Rattle.c104_describe.proofs.PrintedWords.{root_printed}
 use Rattle.c104_describe.proofs.PrintedDeletes.{deletes_alone, deletes_read}
 
@@ -29,12 +28,12 @@ module _ (plan : Plan) (kept : IsPlan plan) (done : List Terminal) (t : Terminal
       let on_switch : IsSwitchPort (length plan.switches) (host_port t) = All-here (λ (u : Terminal). IsSwitchPort (length plan.switches) (host_port u)) plan.terminals done t more is kept.terminals.on_switches in
       let range : IsRange t.first t.count = All-here (λ (u : Terminal). IsRange u.first u.count) plan.terminals done t more is kept.terminals.ranges in
       let named : is_name t.name ≡ true = All-here (λ (u : Terminal). is_name u.name ≡ true) plan.terminals done t more is (terminal_named plan kept) in
-      let count_read : number_within 1 label_count (decimal t.count) ≡ Ok t.count = number_within-decimal 1 label_count t.count (omega (arith, range.0)) (omega (arith, range.1)) (omega (arith, range.1)) in
+      let count_good = number-decimal 1 label_count t.count (omega (arith, range.0)) (omega (arith, range.1)) (omega (arith, range.1)) in
       let long = length-append done (t ∷ more) in
       let whole : length (done ++ t ∷ more) ≡ length plan.terminals = ap length is in
-      let room : nat_lt (length done) 256 ≡ true = grind (arith, nat_tests, kept.terminals.few) in
-      let ends : nat_le (t.first + t.count) label_count ≡ true = grind (arith, nat_tests, range.1) in
-      rw (port_read plan kept t.switch t.link on_switch, count_read, begins, named, port_named plan kept t.switch t.link on_switch, name_free plan kept done t more is, port_number plan kept t.switch t.link on_switch, host_free plan kept done t more is, room, ends, hand) refl
+      let room : nat_lt 256 (length done + 1) ≡ false = grind (arith, nat_tests, kept.terminals.few) in
+      let ends : nat_lt label_count (t.first + t.count) ≡ false = grind (arith, nat_tests, range.1) in
+      rw (port_cut plan kept t.switch t.link on_switch, port_name-is plan kept t.switch t.link on_switch, port_link-is plan kept t.switch t.link on_switch, link_good plan kept t.switch t.link on_switch, link_is plan kept t.switch t.link on_switch, count_good, value-decimal t.count (omega (arith, range.1)), begins, named, port_named plan kept t.switch t.link on_switch, name_free plan kept done t more is, port_number plan kept t.switch t.link on_switch, host_free plan kept done t more is, room, ends, hand) refl
 
 -- each such word is one by which labels may be asked for
 labels_asked : (up_down : Bool) → is_labeller (labeller up_down) ≡ true

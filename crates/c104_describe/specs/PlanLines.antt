@@ -1,155 +1,97 @@
--- The grammar of a description: what a line says after the lines before it. Of all that is wrong
--- with a line the fault of the least number is answered, so each line's conditions stand in the
--- order of the faults' numbers.
-use Rattle.std.specs.Prelude.{ℕ, ◌+◌, ◌*◌, ◌^◌, ◌==◌, ◌&&◌, ◌||◌, Bool, true, not, List, [], ◌∷◌, ◌++◌, length, nat_le, nat_lt, bytes_eq, if◌then◌else◌}
-use Rattle.std.specs.Prelude.{codes, is_some, Option, Some, Result, Ok, Err}
+-- The grammar of a description: what a line says, after the lines before it, in a row of the format's table for each
+-- word with which lines begin. What is wrong with a line and what it adds are said of the row's parts.
+use Rattle.std.specs.Prelude.{ℕ, ◌+◌, ◌*◌, ◌^◌, ◌&&◌, ◌||◌, Bool, true, false, not, List, [], ◌∷◌, ◌++◌, length, take, drop, nat_le}
+use Rattle.std.specs.Prelude.{bytes_eq, codes, if◌then◌else◌, is_some, Option, Some, None, Result, Ok, Err}
+use Rattle.std.specs.Option.{option_map_or, unwrap_or}
 use Rattle.c104_interval.specs.declared.intervals.TheConstants.{ROWS}
+use Rattle.c104_interval.specs.declared.intervals.Select.{Select}
+use Rattle.c104_interval.specs.declared.intervals.Select.TheVariants.{Link, Discard, Sink}
+use Rattle.c104_plan.specs.declared.ports.Port.{Port}
 use Rattle.c104_plan.specs.declared.ports.Port.TheVariants as port
-use Rattle.c104_describe.specs.declared.words.Keyword.TheVariants as keyword
-use Rattle.c104_describe.specs.declared.faults.PlanFaultKind.TheVariants.{BadName, BadNumber, BadShape, LinkTaken, MixedStyle, NameTaken}
-use Rattle.c104_describe.specs.declared.faults.PlanFaultKind.TheVariants.{SelfWire, TooMany, Twice, UnknownName, UnknownWord}
-use Rattle.c104_plan.specs.Checks.{◌>>=◌, ◌>>◌, require, value_or_fault}
-use Rattle.c104_plan.specs.TextCut.{uncommented_line, line_words, is_plain_line}
-use Rattle.c104_plan.specs.TextWords.{read_number, is_name}
-use Rattle.c104_describe.specs.PlanFaults.{PlanFaultKind}
-use Rattle.c104_plan.specs.Ports.{is_any_at}
-use Rattle.c104_describe.specs.PlanWords.{Keyword, keyword_of, number_within, number_or, select_word, port_sides, port_word, range_words}
-use Rattle.c104_plan.specs.declared.plans.Shape.TheVariants.{Tree, UpDown, Mesh, Cube}
-use Rattle.c104_plan.specs.Layouts.{Layout, mesh, cube, filled_switches, filled_terminals, filled_wires}
-pub use Rattle.c104_describe.specs.PlanDrafts.{Draft}
-use Rattle.c104_describe.specs.PlanDrafts.{is_mixed}
-use Rattle.c104_plan.specs.Plans.{Plan, switch_number, terminal_number, is_taken, is_linked, is_continued, is_deleted, rows_of, next_first}
-use Rattle.c104_plan.specs.Plans.{most_switches, most_terminals, most_header_bytes, label_count, last_link, is_buffer_size}
-use Rattle.c104_plan.specs.declared.plans.Shape.{Shape}
+use Rattle.c104_plan.specs.declared.ports.Wire.{Wire}
 use Rattle.c104_plan.specs.declared.plans.PlanBase.{PlanBase}
 use Rattle.c104_plan.specs.declared.plans.PlanRandom.{PlanRandom}
+use Rattle.c104_plan.specs.declared.plans.PlanRow.{PlanRow}
+use Rattle.c104_plan.specs.declared.plans.Shape.{Shape}
+use Rattle.c104_plan.specs.declared.plans.Shape.TheVariants.{Tree, UpDown, Mesh, Cube}
+use Rattle.c104_plan.specs.declared.text.Dots.{Dots}
+use Rattle.c104_plan.specs.declared.text.Dots.TheVariants.{Without, At, Several}
+use Rattle.c104_plan.specs.Layouts.{Layout, mesh, cube, filled_switches, filled_terminals, filled_wires}
+use Rattle.c104_plan.specs.Plans.{Plan, switch_number, terminal_number, is_continued, is_deleted, rows_of, next_first}
+use Rattle.c104_plan.specs.Plans.{most_switches, most_terminals, most_header_bytes, label_count, last_link, is_buffer_size}
+use Rattle.c104_plan.specs.Ports.{is_any_at}
+use Rattle.c104_plan.specs.TextWords.{read_number, dots}
+use Rattle.c104_describe.specs.declared.words.Keyword.TheVariants as keyword
+use Rattle.c104_describe.specs.PlanFaults.{PlanFaultKind}
+use Rattle.c104_describe.specs.PlanWords.{Keyword, keyword_of, range_words}
+pub use Rattle.c104_describe.specs.PlanDrafts.{Draft}
+use Rattle.c104_describe.specs.PlanDrafts.{is_mixed}
 
--- `switch N`
-abbrev pub switch_line : Plan → List ℕ → Result Plan PlanFaultKind
-switch_line plan name = do
-  require (is_name name) BadName
-  require (not (is_taken plan name)) NameTaken
-  require (nat_lt (length plan.switches) most_switches) TooMany
-  Ok (record plan { switches = plan.switches ++ name ∷ [] })
+-- What words say
 
--- `terminal N S.l`, with `labels n` and `from f` where these were said: else it has one label, and its
--- range begins where that of the terminal before ended
-abbrev pub terminal_line : Plan → List ℕ → List ℕ → Option (List ℕ) → Option (List ℕ) → Result Plan PlanFaultKind
-terminal_line plan name word labels from = do
-  named ← port_word word
-  count ← number_or 1 1 label_count labels
-  first ← number_or (next_first plan.terminals) 0 0xffff from
-  require (is_name name && is_name named.0) BadName
-  require (not (is_taken plan name)) NameTaken
-  switch ← value_or_fault (switch_number plan named.0) UnknownName
-  require (not (is_linked plan (port.Switch switch named.1))) LinkTaken
-  require (nat_lt (length plan.terminals) most_terminals && nat_le (first + count) label_count) TooMany
-  Ok (record plan {
-    terminals = plan.terminals ++ record {
-      name = name;
-      switch = switch;
-      link = named.1;
-      first = first;
-      count = count;
-    } ∷ [];
-  })
+-- what stands before and behind a word's one dot; all stands before it where it hasn't one
+abbrev pub sides_at : List ℕ → Dots → List ℕ × List ℕ
+sides_at word Without = (word, [])
+sides_at word (At at) = (take at word, drop (at + 1) word)
+sides_at word Several = (word, [])
 
--- `wire S.l S.l`: it joins links of two switches
-abbrev pub wire_line : Plan → List ℕ → List ℕ → Result Plan PlanFaultKind
-wire_line plan here there = do
-  from ← port_sides here
-  to ← port_sides there
-  link ← number_within 0 last_link from.1
-  far_link ← number_within 0 last_link to.1
-  require (is_name from.0 && is_name to.0) BadName
-  switch ← value_or_fault (switch_number plan from.0) UnknownName
-  far_switch ← value_or_fault (switch_number plan to.0) UnknownName
-  require (not (switch == far_switch)) SelfWire
-  require (not (is_linked plan (port.Switch switch link))) LinkTaken
-  require (not (is_linked plan (port.Switch far_switch far_link))) LinkTaken
-  Ok (record plan {
-    wires = plan.wires ++ record {
-      here = port.Switch switch link;
-      there = port.Switch far_switch far_link;
-    } ∷ [];
-  })
+-- whether there is one dot, as in a port
+abbrev pub is_one_dot : Dots → Bool
+is_one_dot Without = false
+is_one_dot (At at) = true
+is_one_dot Several = false
 
--- `continue S.l`: the link, which isn't the first, continues the group of the link before it
-abbrev pub continue_line : Plan → List ℕ → Result Plan PlanFaultKind
-continue_line plan word = do
-  named ← port_word word
-  require (not (named.1 == 0)) BadNumber
-  require (is_name named.0) BadName
-  switch ← value_or_fault (switch_number plan named.0) UnknownName
-  require (not (is_continued plan (port.Switch switch named.1))) Twice
-  Ok (record plan { continues = plan.continues ++ port.Switch switch named.1 ∷ [] })
+-- what stands for the name of a port's switch
+abbrev pub port_name : List ℕ → List ℕ
+port_name word = (sides_at word (dots word)).0
 
--- `delete T`: headers are deleted at the switch's link to that terminal
-abbrev pub delete_line : Plan → List ℕ → Result Plan PlanFaultKind
-delete_line plan name = do
-  require (is_name name) BadName
-  terminal ← value_or_fault (terminal_number plan name) UnknownName
-  require (not (is_deleted plan terminal)) Twice
-  Ok (record plan { deletes = plan.deletes ++ terminal ∷ [] })
+-- what stands for the number of a port's link
+abbrev pub port_link : List ℕ → List ℕ
+port_link word = (sides_at word (dots word)).1
 
--- `base S.l n`: the first label that the rows of that input cover
-abbrev pub base_line : Plan → List ℕ → List ℕ → Result Plan PlanFaultKind
-base_line plan word base = do
-  named ← port_word word
-  base ← number_within 0 0xffff base
-  require (is_name named.0) BadName
-  switch ← value_or_fault (switch_number plan named.0) UnknownName
-  require (not (is_any_at (λ (b : PlanBase). b.port) plan.bases (port.Switch switch named.1))) Twice
-  Ok (record plan { bases = plan.bases ++ record { port = port.Switch switch named.1; base = base } ∷ [] })
+-- what a number says, or what is meant where it is left out; 0 stands for a word that is no number, a
+-- fault by itself
+abbrev pub number_said : ℕ → Option (List ℕ) → ℕ
+number_said other None = other
+number_said other (Some word) = unwrap_or (read_number word) 0
 
--- `row S.l limit select`: the next row of that input
-abbrev pub row_line : Plan → List ℕ → List ℕ → List ℕ → Result Plan PlanFaultKind
-row_line plan word limit select = do
-  named ← port_word word
-  limit ← number_within 0 label_count limit
-  select ← select_word select
-  require (is_name named.0) BadName
-  switch ← value_or_fault (switch_number plan named.0) UnknownName
-  require (nat_lt (length (rows_of (port.Switch switch named.1) plan.rows)) ROWS) TooMany
-  Ok (record plan {
-    rows = plan.rows ++ record {
-      port = port.Switch switch named.1;
-      limit = limit;
-      select = select;
-    } ∷ [];
-  })
+-- what a number says
+abbrev pub value_said : List ℕ → ℕ
+value_said word = number_said 0 (Some word)
 
--- `random S.l base range`: packets that come in at that input get a random header, one of these
-abbrev pub random_line : Plan → List ℕ → List ℕ → List ℕ → Result Plan PlanFaultKind
-random_line plan word base range = do
-  named ← port_word word
-  base ← number_within 0 0xffff base
-  range ← number_within 0 label_count range
-  require (is_name named.0) BadName
-  switch ← value_or_fault (switch_number plan named.0) UnknownName
-  require (not (is_any_at (λ (r : PlanRandom). r.port) plan.randoms (port.Switch switch named.1))) Twice
-  Ok (record plan {
-    randoms = plan.randoms ++ record {
-      port = port.Switch switch named.1;
-      base = base;
-      range = range;
-    } ∷ [];
-  })
+-- whether a word is no number or one that may not be, where there is such a word
+abbrev pub is_bad_number : Option (List ℕ) → (ℕ → Bool) → Bool
+is_bad_number None test = false
+is_bad_number (Some word) test = not (option_map_or test (read_number word) false)
 
--- `header n`: the length of headers
-abbrev pub header_line : Draft → List ℕ → Result Draft PlanFaultKind
-header_line draft bytes = do
-  bytes ← number_within 1 most_header_bytes bytes
-  require (not draft.header_said) Twice
-  Ok (record draft { plan = record (draft.plan) { header = bytes }; header_said = true })
+-- the switch that a word names; 0 stands for a word that names none, a fault by itself
+abbrev pub switch_said : Plan → List ℕ → ℕ
+switch_said plan name = unwrap_or (switch_number plan name) 0
 
--- `buffer n`: the size of all buffers
-abbrev pub buffer_line : Draft → List ℕ → Result Draft PlanFaultKind
-buffer_line draft size = do
-  size ← value_or_fault (read_number size) BadNumber
-  require (is_buffer_size size) BadNumber
-  require (not draft.buffer_said) Twice
-  Ok (record draft { plan = record (draft.plan) { cap = size }; buffer_said = true })
+-- the port that a word names, likewise
+abbrev pub port_said : Plan → List ℕ → Port
+port_said plan word = port.Switch (switch_said plan (port_name word)) (value_said (port_link word))
+
+-- whether a word names a port with this property, of a switch that there is
+abbrev pub names_port : Plan → (Port → Bool) → List ℕ → Bool
+names_port plan test word =
+    option_map_or (λ switch. test (port.Switch switch (value_said (port_link word)))) (switch_number plan (port_name word)) false
+
+-- how many rows the input has that a word names
+abbrev pub row_count : Plan → List ℕ → ℕ
+row_count plan word =
+    option_map_or (λ switch. length (rows_of (port.Switch switch (value_said (port_link word))) plan.rows)) (switch_number plan (port_name word)) 0
+
+-- what a row selects: a link of the switch, `discard` or `sink`
+abbrev pub select_said : List ℕ → Select
+select_said word =
+    if bytes_eq word (codes "sink") then Sink
+    else (if bytes_eq word (codes "discard") then Discard
+    else Link (value_said word))
+
+-- the word for a number in the place of a row's select: none where that is `sink` or `discard`
+abbrev pub selected_link : List ℕ → Option (List ℕ)
+selected_link word = if bytes_eq word (codes "sink") || bytes_eq word (codes "discard") then None else Some word
 
 -- labels may be asked for by this word
 abbrev pub is_labeller : List ℕ → Bool
@@ -159,14 +101,65 @@ is_labeller style = bytes_eq style (codes "tree") || bytes_eq style (codes "up-d
 abbrev pub labelled_shape : List ℕ → ℕ → Shape
 labelled_shape style root = if bytes_eq style (codes "tree") then Tree root else UpDown root
 
--- `label tree S` and `label up-down S`: labels are to be those of a tree from a switch on, the root, or up and down from it
-abbrev pub label_line : Draft → List ℕ → List ℕ → Result Draft PlanFaultKind
-label_line draft style name = do
-  require (is_labeller style) BadShape
-  require (is_name name) BadName
-  root ← value_or_fault (switch_number draft.plan name) UnknownName
-  require (not (is_some draft.labels)) Twice
-  Ok (record draft { labels = Some (labelled_shape style root) })
+-- whether a number lies between two others, both included
+abbrev pub is_from_to : ℕ → ℕ → ℕ → Bool
+is_from_to least most value = nat_le least value && nat_le value most
+
+-- The table
+
+-- what a line says, in a row of the format's table
+pub record LineParts : Type 0 where
+  -- whether its first word is one with which lines begin
+  pub is_known : Bool
+  -- whether no byte of it is one that no line may have
+  pub is_plain : Bool
+  -- whether it has as many words as it has to, and the fixed words among them
+  pub is_shaped : Bool
+  -- the words that stand for ports; each names a switch, and a link by a number up to 31
+  pub ports : List (List ℕ)
+  -- the other numbers, with the test of each; none where it is left out
+  pub numbers : List (Option (List ℕ) × (ℕ → Bool))
+  -- the names that it defines
+  pub defined : List (List ℕ)
+  -- the names that are to be switches'
+  pub switches : List (List ℕ)
+  -- the names that are to be terminals'
+  pub terminals : List (List ℕ)
+  -- the ports that are to be of two switches
+  pub joined : List (List ℕ × List ℕ)
+  -- the ports that it gives a terminal or a wire
+  pub linked : List (List ℕ)
+  -- how many there are then of what it adds to, and the most that there may be
+  pub counts : List (ℕ × ℕ)
+  -- whether a line before has said what may be said once
+  pub is_said : Bool
+  -- whether it doesn't go with the lines before
+  pub is_mixed : Bool
+  -- the draft after it, where nothing of this is wrong
+  pub next : Draft
+
+-- a line that says nothing, behind which the draft is this one
+abbrev pub no_parts : Draft → LineParts
+no_parts next = record {
+  is_known = true;
+  is_plain = true;
+  is_shaped = true;
+  ports = [];
+  numbers = [];
+  defined = [];
+  switches = [];
+  terminals = [];
+  joined = [];
+  linked = [];
+  counts = [];
+  is_said = false;
+  is_mixed = false;
+  next = next;
+}
+
+-- the draft with this plan
+abbrev pub with_plan : Draft → Plan → Draft
+with_plan draft plan = record draft { plan = plan }
 
 -- the plan with the switches, terminals and wires of a layout
 abbrev pub filled_plan : Shape → Layout → ℕ → Plan → Plan
@@ -177,59 +170,138 @@ filled_plan shape layout p plan = record plan {
   wires = filled_wires layout;
 }
 
+-- `terminal N S.l`, with `labels n` and `from f` where these are said: else it has one label, and its range begins
+-- where that of the terminal before ended
+abbrev pub terminal_parts : Draft → List ℕ → List ℕ → Result (Option (List ℕ) × Option (List ℕ)) PlanFaultKind → LineParts
+terminal_parts draft name at (Ok range) =
+    let plan = draft.plan in
+    let first = number_said (next_first plan.terminals) range.1 in
+    let count = number_said 1 range.0 in
+    record (no_parts (record draft {
+      plan = record plan {
+        terminals = plan.terminals ++ record {
+          name = name;
+          switch = switch_said plan (port_name at);
+          link = value_said (port_link at);
+          first = first;
+          count = count;
+        } ∷ [];
+      };
+      from_said = draft.from_said || is_some range.1;
+    })) {
+      ports = at ∷ [];
+      numbers = (range.0, is_from_to 1 label_count) ∷ (range.1, is_from_to 0 0xffff) ∷ [];
+      defined = name ∷ [];
+      linked = at ∷ [];
+      counts = (length plan.terminals + 1, most_terminals) ∷ (first + count, label_count) ∷ [];
+    }
+terminal_parts draft name at (Err kind) = record (no_parts draft) { is_shaped = false }
+
+-- a line's parts, by what its first word says and the words after it
+abbrev pub keyword_parts : Draft → Keyword → List (List ℕ) → LineParts
+-- `switch N`
+keyword_parts draft keyword.Switch (name ∷ []) =
+    record (no_parts (with_plan draft (record (draft.plan) { switches = draft.plan.switches ++ name ∷ [] }))) {
+      defined = name ∷ [];
+      counts = (length draft.plan.switches + 1, most_switches) ∷ [];
+    }
+keyword_parts draft keyword.Terminal (name ∷ at ∷ rest) = terminal_parts draft name at (range_words rest)
+-- `wire S.l S.l`: it joins links of two switches
+keyword_parts draft keyword.Wire (here ∷ there ∷ []) =
+    let plan = draft.plan in
+    let wire : Wire = record { here = port_said plan here; there = port_said plan there } in
+    record (no_parts (with_plan draft (record plan { wires = plan.wires ++ wire ∷ [] }))) {
+      ports = here ∷ there ∷ [];
+      joined = (here, there) ∷ [];
+      linked = here ∷ there ∷ [];
+    }
+-- `header n`: the length of headers
+keyword_parts draft keyword.Header (bytes ∷ []) =
+    record (no_parts (record draft { plan = record (draft.plan) { header = value_said bytes }; header_said = true })) {
+      numbers = (Some bytes, is_from_to 1 most_header_bytes) ∷ [];
+      is_said = draft.header_said;
+    }
+-- `buffer n`: the size of all buffers
+keyword_parts draft keyword.Buffer (size ∷ []) =
+    record (no_parts (record draft { plan = record (draft.plan) { cap = value_said size }; buffer_said = true })) {
+      numbers = (Some size, is_buffer_size) ∷ [];
+      is_said = draft.buffer_said;
+    }
+-- `continue S.l`: the link, which isn't the first, continues the group of the link before it
+keyword_parts draft keyword.Continue (at ∷ []) =
+    let plan = draft.plan in
+    record (no_parts (with_plan draft (record plan { continues = plan.continues ++ port_said plan at ∷ [] }))) {
+      ports = at ∷ [];
+      numbers = (Some (port_link at), is_from_to 1 last_link) ∷ [];
+      is_said = names_port plan (is_continued plan) at;
+    }
+-- `delete T`: headers are deleted at the switch's link to that terminal
+keyword_parts draft keyword.Delete (name ∷ []) =
+    let plan = draft.plan in
+    let terminal = unwrap_or (terminal_number plan name) 0 in
+    record (no_parts (with_plan draft (record plan { deletes = plan.deletes ++ terminal ∷ [] }))) {
+      terminals = name ∷ [];
+      is_said = option_map_or (is_deleted plan) (terminal_number plan name) false;
+    }
+-- `base S.l n`: the first label that the rows of that input cover
+keyword_parts draft keyword.Base (at ∷ base ∷ []) =
+    let plan = draft.plan in
+    let first : PlanBase = record { port = port_said plan at; base = value_said base } in
+    record (no_parts (with_plan draft (record plan { bases = plan.bases ++ first ∷ [] }))) {
+      ports = at ∷ [];
+      numbers = (Some base, is_from_to 0 0xffff) ∷ [];
+      is_said = names_port plan (is_any_at (λ (b : PlanBase). b.port) plan.bases) at;
+    }
+-- `row S.l limit select`: the next row of that input
+keyword_parts draft keyword.Row (at ∷ limit ∷ select ∷ []) =
+    let plan = draft.plan in
+    let row : PlanRow = record { port = port_said plan at; limit = value_said limit; select = select_said select } in
+    record (no_parts (with_plan draft (record plan { rows = plan.rows ++ row ∷ [] }))) {
+      ports = at ∷ [];
+      numbers = (Some limit, is_from_to 0 label_count) ∷ (selected_link select, is_from_to 0 last_link) ∷ [];
+      counts = (row_count plan at + 1, ROWS) ∷ [];
+    }
+-- `random S.l base range`: packets that come in at that input get a random header, one of these
+keyword_parts draft keyword.Random (at ∷ base ∷ range ∷ []) =
+    let plan = draft.plan in
+    let random : PlanRandom = record { port = port_said plan at; base = value_said base; range = value_said range } in
+    record (no_parts (with_plan draft (record plan { randoms = plan.randoms ++ random ∷ [] }))) {
+      ports = at ∷ [];
+      numbers = (Some base, is_from_to 0 0xffff) ∷ (Some range, is_from_to 0 label_count) ∷ [];
+      is_said = names_port plan (is_any_at (λ (r : PlanRandom). r.port) plan.randoms) at;
+    }
+-- `label tree S` and `label up-down S`: labels are to be those of a tree from a switch on, the root, or up and down from it
+keyword_parts draft keyword.Label (style ∷ name ∷ []) =
+    record (no_parts (record draft { labels = Some (labelled_shape style (switch_said draft.plan name)) })) {
+      is_shaped = is_labeller style;
+      switches = name ∷ [];
+      is_said = is_some draft.labels;
+    }
 -- `mesh w h p`: all of a mesh of w columns and h rows, with p terminals at each switch
-abbrev pub mesh_line : Plan → List ℕ → List ℕ → List ℕ → Result Plan PlanFaultKind
-mesh_line plan width height terminals = do
-  w ← number_within 1 64 width
-  h ← number_within 1 64 height
-  p ← number_within 1 28 terminals
-  require (nat_le (w * h) most_switches && nat_le (w * h * p) most_terminals) TooMany
-  Ok (filled_plan (Mesh w h p) (mesh w h) p plan)
-
+keyword_parts draft keyword.Mesh (width ∷ height ∷ terminals ∷ []) =
+    let w = value_said width in
+    let h = value_said height in
+    let p = value_said terminals in
+    record (no_parts (with_plan draft (filled_plan (Mesh w h p) (mesh w h) p draft.plan))) {
+      numbers = (Some width, is_from_to 1 64) ∷ (Some height, is_from_to 1 64) ∷ (Some terminals, is_from_to 1 28) ∷ [];
+      counts = (w * h, most_switches) ∷ (w * h * p, most_terminals) ∷ [];
+    }
 -- `cube d p`: all of a cube of d dimensions, with p terminals at each switch
-abbrev pub cube_line : Plan → List ℕ → List ℕ → Result Plan PlanFaultKind
-cube_line plan dimensions terminals = do
-  d ← number_within 0 6 dimensions
-  p ← number_within 1 26 terminals
-  require (nat_le (2 ^ d * p) most_terminals) TooMany
-  Ok (filled_plan (Cube d p) (cube d) p plan)
+keyword_parts draft keyword.Cube (dimensions ∷ terminals ∷ []) =
+    let d = value_said dimensions in
+    let p = value_said terminals in
+    record (no_parts (with_plan draft (filled_plan (Cube d p) (cube d) p draft.plan))) {
+      numbers = (Some dimensions, is_from_to 0 6) ∷ (Some terminals, is_from_to 1 26) ∷ [];
+      counts = (2 ^ d * p, most_terminals) ∷ [];
+    }
+keyword_parts draft keyword rest = record (no_parts draft) { is_shaped = false }
 
--- the draft with the plan that a line makes of its own
-abbrev pub in_draft : Draft → Result Plan PlanFaultKind → Result Draft PlanFaultKind
-in_draft draft made = made >>= (λ plan. Ok (record draft { plan = plan }))
+-- the same by the first word, if it is one with which lines begin
+abbrev pub first_word_parts : Draft → Option Keyword → List (List ℕ) → LineParts
+first_word_parts draft None rest = record (no_parts draft) { is_known = false }
+first_word_parts draft (Some keyword) rest = record (keyword_parts draft keyword rest) { is_known = true; is_mixed = is_mixed draft keyword rest }
 
--- the draft where a terminal's line has said where its range begins, or hasn't
-abbrev pub after_from : Draft → Option (List ℕ) → Draft
-after_from draft from = record draft { from_said = draft.from_said || is_some from }
-
--- a line, by what its first word says and the words after it
-abbrev pub keyword_line : Keyword → Draft → List (List ℕ) → Result Draft PlanFaultKind
-keyword_line keyword.Switch draft (name ∷ []) = in_draft draft (switch_line draft.plan name)
-keyword_line keyword.Terminal draft (name ∷ at ∷ rest) =
-    range_words rest >>= (λ range. in_draft (after_from draft range.1) (terminal_line draft.plan name at range.0 range.1))
-keyword_line keyword.Wire draft (here ∷ there ∷ []) = in_draft draft (wire_line draft.plan here there)
-keyword_line keyword.Header draft (bytes ∷ []) = header_line draft bytes
-keyword_line keyword.Buffer draft (size ∷ []) = buffer_line draft size
-keyword_line keyword.Continue draft (at ∷ []) = in_draft draft (continue_line draft.plan at)
-keyword_line keyword.Delete draft (name ∷ []) = in_draft draft (delete_line draft.plan name)
-keyword_line keyword.Base draft (at ∷ base ∷ []) = in_draft draft (base_line draft.plan at base)
-keyword_line keyword.Row draft (at ∷ limit ∷ select ∷ []) = in_draft draft (row_line draft.plan at limit select)
-keyword_line keyword.Random draft (at ∷ base ∷ range ∷ []) = in_draft draft (random_line draft.plan at base range)
-keyword_line keyword.Label draft (style ∷ name ∷ []) = label_line draft style name
-keyword_line keyword.Mesh draft (width ∷ height ∷ terminals ∷ []) = in_draft draft (mesh_line draft.plan width height terminals)
-keyword_line keyword.Cube draft (dimensions ∷ terminals ∷ []) = in_draft draft (cube_line draft.plan dimensions terminals)
-keyword_line keyword draft rest = Err BadShape
-
--- a line, by its words; is_plain says that it has no byte that no line may have
-abbrev pub read_plan_words : Draft → Bool → List (List ℕ) → Result Draft PlanFaultKind
-read_plan_words draft is_plain [] = Ok draft
-read_plan_words draft is_plain (first ∷ rest) = do
-  keyword ← value_or_fault (keyword_of first) UnknownWord
-  require is_plain BadShape
-  next ← keyword_line keyword draft rest
-  require (not (is_mixed draft keyword rest)) MixedStyle
-  Ok next
-
--- the draft after a line, or what is wrong with it
-abbrev pub read_plan_line : Draft → List ℕ → Result Draft PlanFaultKind
-read_plan_line draft line = read_plan_words draft (is_plain_line (uncommented_line line)) (line_words (uncommented_line line))
+-- a line's parts, by its words; is_plain says that it has no byte that no line may have
+abbrev pub line_parts : Draft → Bool → List (List ℕ) → LineParts
+line_parts draft is_plain [] = no_parts draft
+line_parts draft is_plain (first ∷ rest) = record (first_word_parts draft (keyword_of first) rest) { is_plain = is_plain }

@@ -7,8 +7,8 @@ use Rattle.c104_plan.specs.TextCut.{lines, most_bytes}
 use Rattle.c104_describe.specs.PlanFaults.{PlanFault, PlanFaultKind, fault_at, no_memory}
 use Rattle.c104_plan.specs.Plans.{Plan}
 use Rattle.c104_describe.specs.PlanDrafts.{finished, draft_of}
-use Rattle.c104_describe.specs.PlanLines.{Draft, read_plan_line}
-use Rattle.c104_describe.specs.LineFaults.{IsLeastFault, IsFaultless}
+use Rattle.c104_describe.specs.PlanLines.{Draft}
+use Rattle.c104_describe.specs.LineFaults.{read_plan_line, IsLeastFault, IsFaultless}
 use Rattle.c104_plan.specs.PlanParts.{empty_plan}
 
 -- what comes after the line of this number, or its fault

@@ -1,19 +1,21 @@
 //! Descriptions: whole networks, meshes and cubes.
-ghost use Rattle.std.specs.Prelude.{◌≡◌, ℕ, ◌*◌, ◌^◌, ◌<◌, ◌≤◌, ◌++◌, map, IfOk, OnOk};
+ghost use Rattle.std.specs.Prelude.{◌≡◌, ℕ, ◌*◌, ◌^◌, ◌<◌, ◌≤◌, ◌++◌, ◌∷◌, [], map, IfOk, OnOk};
 ghost use Rattle.std.specs.List.{range_with_len};
 ghost use Rattle.c104_plan.specs.Layouts.{cube, filled_name, filled_terminal, filled_wires, mesh, mesh_beyond, wire_at, wire_to};
 ghost use Rattle.c104_plan.specs.Layouts.{wires_from};
 ghost use Rattle.c104_plan.specs.declared.ports.Port.TheVariants as port;
-ghost use Rattle.c104_describe.specs.PlanLines.{cube_line, mesh_line};
-ghost use Rattle.c104_plan.specs.PlanParts.{plan_of};
+ghost use Rattle.c104_describe.specs.declared.words.Keyword.TheVariants as keyword;
+ghost use Rattle.c104_describe.specs.LineFaults.{keyword_line};
+ghost use Rattle.c104_describe.specs.PlanDrafts.{draft_of};
 ghost use Rattle.c104_describe.specs.PlanText.{ReadsLine};
 ghost use Rattle.c104_plan.specs.Plans.{most_switches, most_terminals};
 
+use crate::drafts::Draft;
 use crate::faults::PlanFaultKind;
 use crate::words::read_number_within;
 use c104_plan::{
-    MAX_SWITCHES, MAX_TERMINALS, Name, Network, Parts, Port, Shape, SwitchList, Terminal,
-    TerminalList, Wire,
+    MAX_SWITCHES, MAX_TERMINALS, Name, Network, Port, Shape, SwitchList, Terminal, TerminalList,
+    Wire,
 };
 use c104_token::NoMemory;
 use std::alloc::{AllocError, Global};
@@ -24,13 +26,13 @@ const MESH_LINKS: usize = 4;
 /// Reads `mesh w h p`.
 pub(crate) fn set_mesh(
     alloc: Global,
-    parts: &mut Parts,
+    draft: &mut Draft,
     width: &[u8],
     height: &[u8],
     terminals: &[u8],
 ) -> Result<(), PlanFaultKind>
-    ensures { ReadsLine result (plan_of parts.new)
-        (mesh_line (plan_of parts.old) width.now height.now terminals.now) }
+    ensures { ReadsLine result (draft_of draft.new)
+        (keyword_line (draft_of draft.old) keyword.Mesh (width.now ∷ height.now ∷ terminals.now ∷ [])) }
 {
     let width = read_number_within(1, 64, width)? as usize;
     let height = read_number_within(1, 64, height)? as usize;
@@ -41,19 +43,21 @@ pub(crate) fn set_mesh(
     }
     let wires = mesh_wires(alloc, width, height)?;
     let network = filled_network(alloc, wires, switches, MESH_LINKS, terminals)?;
-    parts.fill(network, Shape::Mesh(width, height, terminals));
+    draft
+        .parts
+        .fill(network, Shape::Mesh(width, height, terminals));
     Ok(())
 }
 
 /// Reads `cube d p`.
 pub(crate) fn set_cube(
     alloc: Global,
-    parts: &mut Parts,
+    draft: &mut Draft,
     dimensions: &[u8],
     terminals: &[u8],
 ) -> Result<(), PlanFaultKind>
-    ensures { ReadsLine result (plan_of parts.new)
-        (cube_line (plan_of parts.old) dimensions.now terminals.now) }
+    ensures { ReadsLine result (draft_of draft.new)
+        (keyword_line (draft_of draft.old) keyword.Cube (dimensions.now ∷ terminals.now ∷ [])) }
 {
     let dimensions = read_number_within(0, 6, dimensions)? as usize;
     let terminals = read_number_within(1, 26, terminals)? as usize;
@@ -63,7 +67,9 @@ pub(crate) fn set_cube(
     }
     let wires = cube_wires(alloc, dimensions)?;
     let network = filled_network(alloc, wires, switches, dimensions, terminals)?;
-    parts.fill(network, Shape::Cube(dimensions, terminals));
+    draft
+        .parts
+        .fill(network, Shape::Cube(dimensions, terminals));
     Ok(())
 }
 

@@ -1,8 +1,7 @@
 //! Descriptions, line by line.
-ghost use Rattle.std.specs.Prelude.{◌≡◌, [], ◌∷◌, map, option_map};
-ghost use Rattle.c104_describe.specs.PlanLines.{read_plan_line, read_plan_words, keyword_line, header_line, buffer_line};
-ghost use Rattle.c104_describe.specs.PlanLines.{delete_line, is_labeller, label_line, labelled_shape, switch_line, terminal_line, wire_line};
-ghost use Rattle.c104_plan.specs.PlanParts.{plan_of};
+ghost use Rattle.std.specs.Prelude.{◌≡◌, [], ◌∷◌, map, option_map, true, Ok, Some};
+ghost use Rattle.c104_describe.specs.PlanLines.{first_word_parts, is_labeller, labelled_shape, terminal_parts};
+ghost use Rattle.c104_describe.specs.LineFaults.{keyword_line, read_parts, read_plan_line, read_plan_words};
 ghost use Rattle.c104_describe.specs.PlanDrafts.{draft_of};
 ghost use Rattle.c104_plan.specs.Plans.{IsPlan};
 ghost use Rattle.c104_describe.specs.PlanText.{ReadsLine};
@@ -14,11 +13,11 @@ use crate::fills::{set_cube, set_mesh};
 use crate::link_lines::{add, add_base, add_continue, add_random, add_row};
 use crate::words::{
     Keyword, RangeWords, cut_port, read_keyword, read_link, read_number_or, read_number_within,
-    read_port, read_range,
+    read_range,
 };
 use c104_plan::{
-    LABELS, MAX_HEADER_BYTES, MAX_SWITCHES, MAX_TERMINALS, Name, Parts, Port, Shape, Terminal,
-    Wire, cut_words, is_buffer_size, is_name, is_plain, read_number, uncommented,
+    LABELS, MAX_HEADER_BYTES, MAX_SWITCHES, MAX_TERMINALS, Name, Port, Shape, Terminal, Wire,
+    cut_words, is_buffer_size, is_name, is_plain, read_number, uncommented,
 };
 use std::alloc::Global;
 
@@ -52,15 +51,31 @@ fn read_words(
     if !is_plain {
         return Err(PlanFaultKind::BadShape);
     }
-    let is_mixed = draft.is_mixed(keyword, rest);
-    read_keyword_line(alloc, draft, keyword, rest)?;
-    if is_mixed {
-        return Err(PlanFaultKind::MixedStyle);
-    }
-    Ok(())
+    read_known_line(alloc, draft, keyword, rest)
 }
 
-/// Reads a line by what its first word says, and the words after it.
+/// Reads a plain line by what its first word says, and the words after it. That it doesn't go with the lines before is
+/// the last of its faults.
+fn read_known_line(
+    alloc: Global,
+    draft: &mut Draft,
+    keyword: Keyword,
+    rest: &[&[u8]],
+) -> Result<(), PlanFaultKind>
+    requires { IsPlan (draft_of draft.old).plan }
+    ensures { ReadsLine result (draft_of draft.new)
+        (read_parts (draft_of draft.old).plan (record (first_word_parts (draft_of draft.old) (Some keyword)
+        (map (λ word. word.now) rest.now)) { is_plain = true })) }
+{
+    let is_mixed = draft.is_mixed(keyword, rest);
+    match read_keyword_line(alloc, draft, keyword, rest) {
+        Ok(()) if is_mixed => Err(PlanFaultKind::MixedStyle),
+        Ok(()) => Ok(()),
+        Err(kind) => Err(kind),
+    }
+}
+
+/// Reads such a line, whether it goes with the lines before or not.
 fn read_keyword_line(
     alloc: Global,
     draft: &mut Draft,
@@ -69,7 +84,7 @@ fn read_keyword_line(
 ) -> Result<(), PlanFaultKind>
     requires { IsPlan (draft_of draft.old).plan }
     ensures { ReadsLine result (draft_of draft.new)
-        (keyword_line keyword (draft_of draft.old) (map (λ word. word.now) rest.now)) }
+        (keyword_line (draft_of draft.old) keyword (map (λ word. word.now) rest.now)) }
 {
     if matches!(keyword, Keyword::Terminal) {
         return read_terminal_line(alloc, draft, rest);
@@ -86,14 +101,13 @@ fn read_keyword_line(
 fn read_terminal_line(alloc: Global, draft: &mut Draft, rest: &[&[u8]]) -> Result<(), PlanFaultKind>
     requires { IsPlan (draft_of draft.old).plan }
     ensures { ReadsLine result (draft_of draft.new)
-        (keyword_line variant.Terminal (draft_of draft.old) (map (λ word. word.now) rest.now)) }
+        (keyword_line (draft_of draft.old) variant.Terminal (map (λ word. word.now) rest.now)) }
 {
     let [name, port, rest @ ..] = rest else {
         return Err(PlanFaultKind::BadShape);
     };
     let range = read_range(rest)?;
-    draft.from_said = draft.from_said || range.from.is_some();
-    add_terminal(alloc, &mut draft.parts, name, port, range)
+    add_terminal(alloc, draft, name, port, range)
 }
 
 /// Reads a line of one word behind its first.
@@ -104,14 +118,14 @@ fn read_word(
     word: &[u8],
 ) -> Result<(), PlanFaultKind>
     ensures { ReadsLine result (draft_of draft.new)
-        (keyword_line keyword (draft_of draft.old) (word.now ∷ [])) }
+        (keyword_line (draft_of draft.old) keyword (word.now ∷ [])) }
 {
     match keyword {
-        Keyword::Switch => add_switch(alloc, &mut draft.parts, word),
+        Keyword::Switch => add_switch(alloc, draft, word),
         Keyword::Header => set_header(draft, word),
         Keyword::Buffer => set_buffer(draft, word),
-        Keyword::Continue => add_continue(&mut draft.parts, word),
-        Keyword::Delete => add_delete(&mut draft.parts, word),
+        Keyword::Continue => add_continue(draft, word),
+        Keyword::Delete => add_delete(draft, word),
         _ => Err(PlanFaultKind::BadShape),
     }
 }
@@ -126,13 +140,13 @@ fn read_two_words(
 ) -> Result<(), PlanFaultKind>
     requires { keyword ≡ variant.Terminal → ⊥ }
     ensures { ReadsLine result (draft_of draft.new)
-        (keyword_line keyword (draft_of draft.old) (first.now ∷ second.now ∷ [])) }
+        (keyword_line (draft_of draft.old) keyword (first.now ∷ second.now ∷ [])) }
 {
     match keyword {
-        Keyword::Wire => add_wire(&mut draft.parts, first, second),
-        Keyword::Base => add_base(&mut draft.parts, first, second),
+        Keyword::Wire => add_wire(draft, first, second),
+        Keyword::Base => add_base(draft, first, second),
         Keyword::Label => set_labels(draft, first, second),
-        Keyword::Cube => set_cube(alloc, &mut draft.parts, first, second),
+        Keyword::Cube => set_cube(alloc, draft, first, second),
         _ => Err(PlanFaultKind::BadShape),
     }
 }
@@ -149,80 +163,83 @@ fn read_three_words(
     requires plan { IsPlan (draft_of draft.old).plan }
     requires kind { keyword ≡ variant.Terminal → ⊥ }
     ensures { ReadsLine result (draft_of draft.new)
-        (keyword_line keyword (draft_of draft.old) (first.now ∷ second.now ∷ third.now ∷ [])) }
+        (keyword_line (draft_of draft.old) keyword (first.now ∷ second.now ∷ third.now ∷ [])) }
 {
     match keyword {
-        Keyword::Row => add_row(&mut draft.parts, first, second, third),
-        Keyword::Random => add_random(&mut draft.parts, first, second, third),
-        Keyword::Mesh => set_mesh(alloc, &mut draft.parts, first, second, third),
+        Keyword::Row => add_row(draft, first, second, third),
+        Keyword::Random => add_random(draft, first, second, third),
+        Keyword::Mesh => set_mesh(alloc, draft, first, second, third),
         _ => Err(PlanFaultKind::BadShape),
     }
 }
 
 /// Reads `switch N`.
-fn add_switch(alloc: Global, parts: &mut Parts, name: &[u8]) -> Result<(), PlanFaultKind>
-    ensures { ReadsLine result (plan_of parts.new) (switch_line (plan_of parts.old) name.now) }
+fn add_switch(alloc: Global, draft: &mut Draft, name: &[u8]) -> Result<(), PlanFaultKind>
+    ensures { ReadsLine result (draft_of draft.new)
+        (keyword_line (draft_of draft.old) variant.Switch (name.now ∷ [])) }
 {
     if !is_name(name) {
         return Err(PlanFaultKind::BadName);
     }
-    if parts.is_taken(name) {
+    if draft.parts.is_taken(name) {
         return Err(PlanFaultKind::NameTaken);
     }
-    if parts.switches.len() >= MAX_SWITCHES {
+    if draft.parts.switches.len() >= MAX_SWITCHES {
         return Err(PlanFaultKind::TooMany);
     }
-    parts.switches.push(alloc, name)?;
+    draft.parts.switches.push(alloc, name)?;
     Ok(())
 }
 
 /// Reads `terminal N S.l`, with `labels n` and `from f` where these were said.
 fn add_terminal(
     alloc: Global,
-    parts: &mut Parts,
+    draft: &mut Draft,
     name: &[u8],
     port: &[u8],
     range: RangeWords<'_>,
 ) -> Result<(), PlanFaultKind>
-    requires { IsPlan (plan_of parts.old) }
-    ensures { ReadsLine result (plan_of parts.new)
-        (terminal_line (plan_of parts.old) name.now port.now
-        (option_map (λ w. w.now) range.entry.labels) (option_map (λ w. w.now) range.entry.from)) }
+    requires { IsPlan (draft_of draft.old).plan }
+    ensures { ReadsLine result (draft_of draft.new)
+        (read_parts (draft_of draft.old).plan (terminal_parts (draft_of draft.old) name.now port.now
+        (Ok (option_map (λ w. w.now) range.entry.labels, option_map (λ w. w.now) range.entry.from)))) }
 {
-    let port = read_port(port)?;
+    let port = cut_port(port)?;
+    let link = read_link(port.link)?;
     let count = read_number_or(1, 1, LABELS, range.labels)?;
-    let first = read_number_or(parts.next_first(), 0, LABELS - 1, range.from)?;
+    let first = read_number_or(draft.parts.next_first(), 0, LABELS - 1, range.from)?;
     if !(is_name(name) && is_name(port.name)) {
         return Err(PlanFaultKind::BadName);
     }
-    if parts.is_taken(name) {
+    if draft.parts.is_taken(name) {
         return Err(PlanFaultKind::NameTaken);
     }
-    let Some(switch) = parts.switch_number(port.name) else {
+    let Some(switch) = draft.parts.switch_number(port.name) else {
         return Err(PlanFaultKind::UnknownName);
     };
-    if parts.is_linked(Port::Switch(switch, port.link)) {
+    if draft.parts.is_linked(Port::Switch(switch, link)) {
         return Err(PlanFaultKind::LinkTaken);
     }
-    if parts.terminals.len() >= MAX_TERMINALS || first + count > LABELS {
+    if draft.parts.terminals.len() >= MAX_TERMINALS || first + count > LABELS {
         return Err(PlanFaultKind::TooMany);
     }
     let name = Name::new(alloc, name)?;
     let terminal = Terminal {
         name,
         switch,
-        link: port.link,
+        link,
         first,
         count,
     };
-    parts.terminals.push(alloc, terminal)?;
+    draft.parts.terminals.push(alloc, terminal)?;
+    draft.from_said = draft.from_said || range.from.is_some();
     Ok(())
 }
 
 /// Reads `wire S.l S.l`.
-fn add_wire(parts: &mut Parts, here: &[u8], there: &[u8]) -> Result<(), PlanFaultKind>
-    ensures { ReadsLine result (plan_of parts.new)
-        (wire_line (plan_of parts.old) here.now there.now) }
+fn add_wire(draft: &mut Draft, here: &[u8], there: &[u8]) -> Result<(), PlanFaultKind>
+    ensures { ReadsLine result (draft_of draft.new)
+        (keyword_line (draft_of draft.old) variant.Wire (here.now ∷ there.now ∷ [])) }
 {
     let from = cut_port(here)?;
     let to = cut_port(there)?;
@@ -231,10 +248,10 @@ fn add_wire(parts: &mut Parts, here: &[u8], there: &[u8]) -> Result<(), PlanFaul
     if !(is_name(from.name) && is_name(to.name)) {
         return Err(PlanFaultKind::BadName);
     }
-    let Some(switch) = parts.switch_number(from.name) else {
+    let Some(switch) = draft.parts.switch_number(from.name) else {
         return Err(PlanFaultKind::UnknownName);
     };
-    let Some(far_switch) = parts.switch_number(to.name) else {
+    let Some(far_switch) = draft.parts.switch_number(to.name) else {
         return Err(PlanFaultKind::UnknownName);
     };
     let wire = Wire {
@@ -244,34 +261,35 @@ fn add_wire(parts: &mut Parts, here: &[u8], there: &[u8]) -> Result<(), PlanFaul
     if wire.is_self_wire() {
         return Err(PlanFaultKind::SelfWire);
     }
-    if parts.is_linked(wire.here) || parts.is_linked(wire.there) {
+    if draft.parts.is_linked(wire.here) || draft.parts.is_linked(wire.there) {
         return Err(PlanFaultKind::LinkTaken);
     }
-    add(&mut parts.wires, wire)?;
+    add(&mut draft.parts.wires, wire)?;
     Ok(())
 }
 
 /// Reads `delete T`.
-fn add_delete(parts: &mut Parts, name: &[u8]) -> Result<(), PlanFaultKind>
-    ensures { ReadsLine result (plan_of parts.new) (delete_line (plan_of parts.old) name.now) }
+fn add_delete(draft: &mut Draft, name: &[u8]) -> Result<(), PlanFaultKind>
+    ensures { ReadsLine result (draft_of draft.new)
+        (keyword_line (draft_of draft.old) variant.Delete (name.now ∷ [])) }
 {
     if !is_name(name) {
         return Err(PlanFaultKind::BadName);
     }
-    let Some(terminal) = parts.terminal_number(name) else {
+    let Some(terminal) = draft.parts.terminal_number(name) else {
         return Err(PlanFaultKind::UnknownName);
     };
-    if parts.is_deleted(terminal) {
+    if draft.parts.is_deleted(terminal) {
         return Err(PlanFaultKind::Twice);
     }
-    add(&mut parts.deletes, terminal)?;
+    add(&mut draft.parts.deletes, terminal)?;
     Ok(())
 }
 
 /// Reads `label tree S` or `label up-down S`.
 fn set_labels(draft: &mut Draft, style: &[u8], name: &[u8]) -> Result<(), PlanFaultKind>
     ensures { ReadsLine result (draft_of draft.new)
-        (label_line (draft_of draft.old) style.now name.now) }
+        (keyword_line (draft_of draft.old) variant.Label (style.now ∷ name.now ∷ [])) }
 {
     if !is_labeller(style) {
         return Err(PlanFaultKind::BadShape);
@@ -309,7 +327,8 @@ fn labelled_shape(style: &[u8], root: usize) -> Shape
 
 /// Reads `header n`.
 fn set_header(draft: &mut Draft, bytes: &[u8]) -> Result<(), PlanFaultKind>
-    ensures { ReadsLine result (draft_of draft.new) (header_line (draft_of draft.old) bytes.now) }
+    ensures { ReadsLine result (draft_of draft.new)
+        (keyword_line (draft_of draft.old) variant.Header (bytes.now ∷ [])) }
 {
     let bytes = read_number_within(1, MAX_HEADER_BYTES, bytes)?;
     if draft.header_said {
@@ -322,7 +341,8 @@ fn set_header(draft: &mut Draft, bytes: &[u8]) -> Result<(), PlanFaultKind>
 
 /// Reads `buffer n`.
 fn set_buffer(draft: &mut Draft, size: &[u8]) -> Result<(), PlanFaultKind>
-    ensures { ReadsLine result (draft_of draft.new) (buffer_line (draft_of draft.old) size.now) }
+    ensures { ReadsLine result (draft_of draft.new)
+        (keyword_line (draft_of draft.old) variant.Buffer (size.now ∷ [])) }
 {
     let size = match read_number(size) {
         Some(size) if is_buffer_size(size) => size,

@@ -2,10 +2,14 @@
 //!
 //! A name that is no name is BadName also where it is used, since it can't have been given. A wrong byte in a line's
 //! first word is UnknownWord, since that is the lesser number.
-ghost use Rattle.std.specs.Prelude.{◌≡◌, ◌+◌, ◌≤◌, ◌&&◌, Err, IfOk, MatchResult, Ok, bytes_eq, codes, map, option_map};
+ghost use Rattle.std.specs.Prelude.{◌≡◌, ◌+◌, ◌≤◌, ◌&&◌, true, false, Err, IfOk, MatchResult, Ok, Some, bytes_eq, codes, map, option_map};
 ghost use Rattle.std.specs.Map.{lookup};
 ghost use Rattle.c104_plan.specs.Plans.{label_count, last_link};
-ghost use Rattle.c104_describe.specs.PlanWords.{keyword_of, number_within, number_or, port_sides, port_word, range_words, select_word};
+ghost use Rattle.c104_plan.specs.TextWords.{dots};
+ghost use Rattle.c104_describe.specs.declared.faults.PlanFaultKind.TheVariants as variant;
+ghost use Rattle.c104_describe.specs.PlanLines.{is_bad_number, is_from_to, is_one_dot, port_link, port_name, select_said, selected_link};
+ghost use Rattle.c104_describe.specs.LineFaults.{ReadsNumber};
+ghost use Rattle.c104_describe.specs.PlanWords.{keyword_of, range_words};
 
 use crate::faults::PlanFaultKind;
 use c104_interval::Select;
@@ -72,7 +76,7 @@ fn keyword_among(known: &[(&[u8], Keyword)], word: &[u8]) -> Option<Keyword>
 
 /// A number from `least` to `most`, both included, or BadNumber.
 pub(crate) fn read_number_within(least: u32, most: u32, word: &[u8]) -> Result<u32, PlanFaultKind>
-    ensures number { result ≡ number_within least most word.now }
+    ensures number { ReadsNumber result 0 (Some word.now) (is_from_to least most) }
     ensures range { IfOk result (λ value. (least ≤ value) × (value ≤ most)) }
 {
     match read_number(word) {
@@ -88,7 +92,7 @@ pub(crate) fn read_number_or(
     most: u32,
     word: Option<&[u8]>,
 ) -> Result<u32, PlanFaultKind>
-    ensures number { result ≡ number_or other least most (option_map (λ w. w.now) word.entry) }
+    ensures number { ReadsNumber result other (option_map (λ w. w.now) word.entry) (is_from_to least most) }
     ensures range { IfOk result (λ value. value ≤ other + most) }
 {
     match word {
@@ -99,14 +103,16 @@ pub(crate) fn read_number_or(
 
 /// A row's limit, or how many random headers there are: 0 to 65536, or BadNumber.
 pub(crate) fn read_limit(word: &[u8]) -> Result<u32, PlanFaultKind>
-    ensures { result ≡ number_within 0 label_count word.now }
+    ensures { ReadsNumber result 0 (Some word.now) (is_from_to 0 label_count) }
 {
     read_number_within(0, LABELS, word)
 }
 
 /// What a row selects: the number of a link, `discard` or `sink`.
 pub(crate) fn read_select(word: &[u8]) -> Result<Select, PlanFaultKind>
-    ensures { result ≡ select_word word.now }
+    ensures { MatchResult result
+        (λ select. (select_said word.now ≡ select) × (is_bad_number (selected_link word.now) (is_from_to 0 last_link) ≡ false))
+        (λ kind. (kind ≡ variant.BadNumber) × (is_bad_number (selected_link word.now) (is_from_to 0 last_link) ≡ true)) }
 {
     if word == b"sink".as_slice() {
         return Ok(Select::Sink);
@@ -127,20 +133,12 @@ pub(crate) struct PortSides<'a> {
     pub(crate) link: &'a [u8],
 }
 
-/// A port as a line names it.
-#[derive(Clone, Copy)]
-pub(crate) struct PortWord<'a> {
-    /// What stands for the switch's name.
-    pub(crate) name: &'a [u8],
-    /// The link, 0 to 31.
-    pub(crate) link: usize,
-}
-
 /// Cuts `NAME.NUMBER` at its dot: BadShape without exactly one dot. What stands on its sides is not
 /// tested.
 pub(crate) fn cut_port(word: &[u8]) -> Result<PortSides<'_>, PlanFaultKind>
-    ensures { MatchResult result (λ sides. port_sides word.now ≡ Ok (sides.name.now, sides.link.now))
-        (λ kind. port_sides word.now ≡ Err kind) }
+    ensures { MatchResult result
+        (λ sides. (is_one_dot (dots word.now) ≡ true) × (sides.name.now ≡ port_name word.now) × (sides.link.now ≡ port_link word.now))
+        (λ kind. (kind ≡ variant.BadShape) × (is_one_dot (dots word.now) ≡ false)) }
 {
     let Dots::At(dot) = find_dots(word) else {
         return Err(PlanFaultKind::BadShape);
@@ -153,24 +151,10 @@ pub(crate) fn cut_port(word: &[u8]) -> Result<PortSides<'_>, PlanFaultKind>
 
 /// The number of a link, or BadNumber where no switch has such a link.
 pub(crate) fn read_link(word: &[u8]) -> Result<usize, PlanFaultKind>
-    ensures { result ≡ number_within 0 last_link word.now }
+    ensures { ReadsNumber result 0 (Some word.now) (is_from_to 0 last_link) }
 {
     let link = read_number_within(0, LAST_LINK, word)?;
     Ok(link as usize)
-}
-
-/// Reads `NAME.NUMBER`: BadShape without exactly one dot, BadNumber where no link has the number.
-/// Whether what stands for the name is one is not tested.
-pub(crate) fn read_port(word: &[u8]) -> Result<PortWord<'_>, PlanFaultKind>
-    ensures { MatchResult result (λ port. port_word word.now ≡ Ok (port.name.now, port.link))
-        (λ kind. port_word word.now ≡ Err kind) }
-{
-    let sides = cut_port(word)?;
-    let link = read_link(sides.link)?;
-    Ok(PortWord {
-        name: sides.name,
-        link,
-    })
 }
 
 /// The words that give a terminal's range.

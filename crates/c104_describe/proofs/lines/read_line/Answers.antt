@@ -1,6 +1,6 @@
 use Rattle.std.proofs.Common.{◌≡◌, ◌∙◌, ap, subst, map, Bool, List, ℕ, Bor}
 use Rattle.c104_plan.specs.TextCut.{uncommented_line, line_words, is_plain_line}
-use Rattle.c104_describe.specs.PlanLines.{read_plan_words}
+use Rattle.c104_describe.specs.LineFaults.{read_plan_words}
 use Rattle.c104_describe.specs.PlanDrafts.{draft_of}
 use Rattle.c104_describe.specs.PlanText.{ReadsLine}
 use Rattle.c104_describe.proofs.lines.read_line.Goals as goal
