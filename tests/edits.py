@@ -9,6 +9,7 @@ and new.
 import os
 import re
 
+from imports import imports_of
 from sources import functions_of, read_text, write_text
 
 FOLDER, ENDING = 'refused', '.edit'
@@ -163,10 +164,9 @@ def without_answers(text, errors):
 
 def without_names(use, absent):
     """An import without names, or nothing of it where it has none of them, or no other."""
-    module, _, names = use.partition('{')
-    names, absent = names.partition('}')[0].split(','), {it.rpartition('.')[2] for it in absent}
-    left = [it.strip() for it in names if it.strip() not in absent]
-    return '%s{%s}\n' % (module, ', '.join(left)) if left and len(left) < len(names) else ''
+    absent, all_of_it = {it.rpartition('.')[2] for it in absent}, imports_of(use)
+    left = [it for it in all_of_it if it.parts[-1] not in absent]
+    return ''.join(it.line() for it in left) if len(left) < len(all_of_it) else ''
 
 
 def write_texts(texts):

@@ -7,13 +7,14 @@ None of them is kept in the repository: tests/write_pages writes them into build
 import os
 import re
 
+from imports import imports_of
 from modules import files_of
 from refusals import HEAD_OF_REFUSALS, refusals_text
 from sources import HEAD, blank, blocks_of, contract_end, past_bracket, read_text
 from specs import Scope, exported, files_below, public_definitions, type_of
 
 DEFINITIONS, PROMISES, REFUSALS, SHARED = 'DEFINITIONS.md', 'PROMISES.md', 'REFUSALS.md', 'SHARED.md'
-LEMMAS = re.compile(r'\bRattle\.(c104\w*)\.proofs\.(\w+(?:\.[a-z]\w*)*)')
+LEMMAS = re.compile(r'Rattle\.(c104\w*)\.proofs\.(\w+(?:\.[a-z]\w*)*)\.')
 CLAUSE = re.compile(r'\b(requires|ensures)\b\s*(\w*)\s*\{')
 GHOST = re.compile(r'\bghost (\w+)\s*[=:]\s*(?=[{(\[])')
 TYPE = re.compile(r'^pub (?:struct|enum|trait|type|const(?! fn)) (\w+)', re.MULTILINE)
@@ -204,7 +205,8 @@ def lemmas_used(crates):
         for part in ('src', 'specs', 'proofs'):
             folder = os.path.join(crate.folder, part)
             for file in files_below(folder, '.rt') + files_below(folder, '.antt'):
-                for place in LEMMAS.findall(read_text(folder, file)):
+                named = [LEMMAS.match('.'.join(it.parts) + '.' * (not it.is_item)) for it in imports_of(read_text(folder, file))]
+                for place in (it.groups() for it in named if it):
                     if place[0] != crate.name and crate.name not in found.setdefault(place, []):
                         found[place].append(crate.name)
     return found

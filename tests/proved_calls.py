@@ -17,6 +17,7 @@ import json
 import os
 import re
 
+from imports import imports_of
 from sources import functions_of, read_text, write_text
 
 EMPTY = '{ unreachable!() }'
@@ -50,11 +51,13 @@ def files_below(folder, part, ending):
 def named_by_others(crate, folder):
     """The functions, by their paths, with a proof file that a file elsewhere names."""
     found = set()
-    named = re.compile(r'\bRattle\.%s\.proofs\.([^\s{}]+)\.(?:Answers|Invariants|Proof)\b' % crate.name)
     for part in ('specs', 'proofs'):
         for file in files_below(folder, part, '.antt'):
             own = os.path.dirname(file).split(os.sep)
-            found.update(it for it in named.findall(read_text(folder, part, file)) if it.split('.') != own)
+            for it in imports_of(read_text(folder, part, file)):
+                ends = [at for at, name in enumerate(it.parts) if name + '.antt' in OWN_FILES]
+                if it.parts[:3] == ['Rattle', crate.name, 'proofs'] and ends and it.parts[3:ends[0]] != own:
+                    found.add('.'.join(it.parts[3:ends[0]]))
     return found
 
 

@@ -3,11 +3,13 @@
 import os
 import re
 
+from imports import imports_of
 from sources import HEAD, blank, blocks_of, contract_end, past_bracket, read_text, words_of
 
-DEFINITION = re.compile(r'^ *(?:pub )?(?:abbrev|unfoldable|opaque|data|record) (?:pub )?([^\s:({]+)')
+DEFINITION = re.compile(r'^ *(?:pub )?(?:abbrev|unfoldable|opaque|data|record) (?:pub )?(?!use )([^\s:({]+)')
 CONSTRUCTOR = re.compile(r'^ +([^\s:({]+) :')
-USE = re.compile(r'\buse\s+Rattle\.(\w+)\.specs\.([\w.]+?)(?:\.\{([^}]*)\}|\s+as\s+(\w+))')
+# The module of specs/ that the others stand below, and by which they are had without a module's name.
+ROOT = 'Lib'
 # A word of a term, or several with dots between them. A dot in front makes it a field's.
 WORDS = re.compile(r'(?<![\w.])[^\W\d][\w\']*(?:\.[^\W\d][\w\']*)*')
 GHOST = re.compile(r'\bghost \w+\s*[=:]\s*')
@@ -46,13 +48,15 @@ class Scope:
     """What the names of a file stand for: (crate, module, name), of `use` items with or without `ghost`."""
 
     def __init__(self, text):
-        self.names, self.aliases = {}, {}
-        for crate, module, items, alias in USE.findall(text):
-            if alias:
-                self.aliases[alias] = crate, module
-            for item in filter(None, (it.strip() for it in items.split(','))):
-                name, _, other = item.partition(' as ')
-                self.names.setdefault(other or name, []).append((crate, module, name))
+        self.names, self.aliases, self.globs = {}, {}, []
+        for it in imports_of(text):
+            if it.name == '*':
+                self.globs.append('.'.join(it.parts[:-1]))
+            elif it.parts[0] == 'Rattle' and it.parts[2:3] == ['specs']:
+                if it.is_item:
+                    self.names.setdefault(it.name, []).append((it.parts[1], '.'.join(it.parts[3:-1]) or ROOT, it.parts[-1]))
+                else:
+                    self.aliases[it.name] = it.parts[1], '.'.join(it.parts[3:]) or ROOT
 
     def cited(self, text):
         """The names that a text cites, of those that the file has."""
@@ -90,13 +94,15 @@ class Specs:
                 self.constructors[crate, module, constructor] = definition
                 scope.names.setdefault(constructor, []).append(definition.key)
 
-    def find(self, key):
+    def find(self, key, past=frozenset()):
         """The definition of this name: itself, one that has it as a constructor, or one that its module passes on."""
         if key in self.definitions or key in self.constructors:
             return self.definitions.get(key) or self.constructors[key]
         scope = self.scopes.get(key[:2])
-        others = scope.names.get(key[2], []) if scope else []
-        return next((self.definitions[it] for it in others if it in self.definitions), None)
+        if not scope or key in past:
+            return None
+        others = scope.names.get(key[2], []) + [(key[0], it, key[2]) for it in scope.globs]
+        return next(filter(None, (self.find(it, {*past, key}) for it in others)), None)
 
     def cited_by(self, scope, text):
         return {found for found in map(self.find, scope.cited(text)) if found}
