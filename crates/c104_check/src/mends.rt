@@ -1,5 +1,5 @@
-//! What would mend a refused walk. Nothing is proved of it but that it is safe and ends: whoever tells of it tries it by
-//! the check first.
+//! What may mend a refused walk. Nothing is proved of it but that it is safe and ends: the caller has to check the labels
+//! that it gives.
 //!
 //! Only the last input of the walk from which some group leads to the owner is mended, by one row, and no other header's
 //! way is changed but those without an owner that follow one which is to be sunk. Where a group would have to be another,

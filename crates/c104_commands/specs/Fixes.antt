@@ -21,7 +21,8 @@ LeavesAccepted plan image = Fits image plan × IsAccepted (routes_of plan image)
 -- they are, or another fault is the first
 abbrev pub IsMended : Plan → CheckFault → Image → Type 0
 IsMended plan why image = Fits image plan
-    × (IsAccepted (routes_of plan image) ⊎ ((other : CheckFault) × IsCause (routes_of plan image) other × (other ≢ fault.NoMemory) × (other ≢ why)))
+    × (IsAccepted (routes_of plan image)
+      ⊎ ((other : CheckFault) × IsCause (routes_of plan image) other × (other ≢ fault.NoMemory) × (other ≢ why)))
 
 -- they are, and no inputs depend on one another in a cycle
 abbrev pub LeavesNoCycle : Plan → Image → Type 0

@@ -1,6 +1,6 @@
 -- Pictures, by what is marked in them.
 --     IsPicture plan image marks drawing      a picture is that of the network of an image for a plan, with these marks
---     PrintsPicture marks plan image text refused      what `draw` writes of a network is the text of a picture
+--     PrintsPicture marks plan image text refused      a network isn't refused by `draw`, and has a picture
 use Rattle.std.specs.Prelude.{ℕ, ◌≡◌, ◌≢◌, ◌⊎◌, Bool, false, List, map, Option, Some, None, MatchOption}
 use Rattle.c104_plan.specs.Plans.{Plan}
 use Rattle.c104_plan.specs.PlanImage.{Image}
@@ -50,6 +50,6 @@ IsPicture plan image (marks.Header header) drawing = IsHeaderPicture plan image 
 IsPicture plan image marks.Cycle drawing =
     IsRefusedPicture plan image drawing ⊎ (IsAccepted (routes_of plan image) × IsAcceptedPicture plan image drawing)
 
--- what `draw` writes of a network isn't refused, and is the text of a picture with these marks, however that is spelled
+-- a network isn't refused by `draw`, and has a picture with these marks; nothing is said of the text
 abbrev pub PrintsPicture : Marks → Plan → Image → List ℕ → Bool → Type 0
 PrintsPicture marks plan image text refused = (refused ≡ false) × ((drawing : Drawing) × IsPicture plan image marks drawing)

@@ -80,7 +80,8 @@ names_port plan test word =
 -- how many rows the input has that a word names
 abbrev pub row_count : Plan → List ℕ → ℕ
 row_count plan word =
-    option_map_or (λ switch. length (rows_of (port.Switch switch (value_said (port_link word))) plan.rows)) (switch_number plan (port_name word)) 0
+    option_map_or (λ switch. length (rows_of (port.Switch switch (value_said (port_link word))) plan.rows))
+        (switch_number plan (port_name word)) 0
 
 -- what a row selects: a link of the switch, `discard` or `sink`
 abbrev pub select_said : List ℕ → Select
@@ -299,7 +300,8 @@ keyword_parts draft keyword rest = record (no_parts draft) { is_shaped = false }
 -- the same by the first word, if it is one with which lines begin
 abbrev pub first_word_parts : Draft → Option Keyword → List (List ℕ) → LineParts
 first_word_parts draft None rest = record (no_parts draft) { is_known = false }
-first_word_parts draft (Some keyword) rest = record (keyword_parts draft keyword rest) { is_known = true; is_mixed = is_mixed draft keyword rest }
+first_word_parts draft (Some keyword) rest =
+    record (keyword_parts draft keyword rest) { is_known = true; is_mixed = is_mixed draft keyword rest }
 
 -- a line's parts, by its words; is_plain says that it has no byte that no line may have
 abbrev pub line_parts : Draft → Bool → List (List ℕ) → LineParts

@@ -140,9 +140,6 @@ module _ (routes : Routes) (wired : IsWired routes.peer) where
 
 module _ (plan : Plan) (image : Image) (is_plan : IsPlan plan) (labelled : IsLabelled (routes_of plan image)) (nodes : List (Node Traced)) (good : IsSettled plan image is_plan labelled nodes) (steady : IsSteady (network_of plan nodes)) (started : IsStarted (network_of plan nodes)) (still : IsStill traced_kind (network_of plan nodes))
     (rank : SwitchPort → ℕ) (falls : IsRanking (routes_of plan image) rank) where
-  abbrev R : Routes
-  R = routes_of plan image
-
   abbrev w : World
   w = world_of plan image nodes
 

@@ -29,7 +29,9 @@ Obeyed (Some before) (a ∷ asked) after =
 -- a command was handed to a switch through a port, which gave a reply or none: all that is known of the port after it.
 -- Its list grew by just this command with its reply, which the switches that it shows obeyed; or nothing was asked, and
 -- it is one that the port may leave unanswered so. It has as many switches as before
-pub record Commanded {P : Type 0} (commands : P → List Asked) (switch_count : P → ℕ) (shown : P → Option Switches) (unanswered : P → ℕ → List ℕ → EventFault → Type 0) (due : P → ℕ → List ℕ → Given → P → Type 0) (old : P) (switch : ℕ) (command : List ℕ) (given : Given) (new : P) : Type 0 where
+pub record Commanded {P : Type 0} (commands : P → List Asked) (switch_count : P → ℕ) (shown : P → Option Switches)
+    (unanswered : P → ℕ → List ℕ → EventFault → Type 0) (due : P → ℕ → List ℕ → Given → P → Type 0)
+    (old : P) (switch : ℕ) (command : List ℕ) (given : Given) (new : P) : Type 0 where
   pub replied : MatchResult given
       (λ reply. (commands new ≡ commands old ++ command_asked switch command reply ∷ [])
       × Obeyed (shown old) (command_asked switch command reply ∷ []) (shown new))
