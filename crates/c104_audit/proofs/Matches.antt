@@ -39,9 +39,6 @@ use Rattle.std.proofs.Common.{Bool, List, None, Option, Some, ap, arith, false, 
 use Rattle.std.proofs.lemmas.Bool.Decides.{nat_tests}
 
 module _ (plan : Plan) (is_plan : IsPlan plan) where
-  abbrev S : ℕ
-  S = length plan.switches
-
   abbrev pub PlanEnd : Port → End
   PlanEnd p = end_among (length plan.switches) p
 

@@ -9,7 +9,7 @@ use Rattle.c104_control.specs.declared.replies.TheConstants.{ALREADY_STARTED}
 use Rattle.c104_link.proofs.MadeSteps.{at_place_made, from_place_made, given, length-at_place, required, with_place_made}
 use Rattle.c104_link.specs.Buffers as buffer
 use Rattle.c104_link.specs.Buffers.{Outgoing, outgoing_clear}
-use Rattle.c104_link.specs.Steps.{joint_step_at, step_at, yield_step_at, ◌>>=◌, ◌>>◌}
+use Rattle.c104_link.specs.Steps.{joint_step_at, step_at, yield_step_at, ◌>>=◌}
 use Rattle.c104_node.specs.Acts.{done_by, node_act, token_by}
 use Rattle.c104_node.specs.Nodes.{Node, as_switch, as_terminal}
 use Rattle.c104_node.specs.Terminals as terminal

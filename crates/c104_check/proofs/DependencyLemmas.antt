@@ -42,9 +42,6 @@ by_higher h d (Some e) low is =
     let high : nat_le h e.header ≡ true = is in
     grind (arith, nat_tests)
 
-pub by_itself : (h : ℕ) → nat_le h h ≡ true
-by_itself h = grind (arith, nat_tests)
-
 -- one dependency
 module _ (routes : Routes) (old : List (Option Dependency)) (at : SwitchPort) (o : ℕ) (d : Dependency) (input : IsInput (length routes.settings) at) (link : o < 32) (room : length old ≡ length routes.settings * 32 * 32) (leads : routes.peer (to_port (port_of at.switch o)) ≡ Some (to_port d.next)) (depends : DependsBy routes d.header at d.next) (low : AreByBelow (d.header + 1) old) where
   abbrev filled : List (Option Dependency)
@@ -82,10 +79,6 @@ module _ (routes : Routes) (old : List (Option Dependency)) (at : SwitchPort) (o
       | inr other ↦ low k e (sym (same_elsewhere k other.1) ∙ there)
     ];
   }
-
-  -- it stands there by its header
-  pub listed_one : is_by_from d.header (dependency_at filled (dependency_place at o)) ≡ true
-  listed_one = ap (is_by_from d.header) here ∙ by_itself d.header
 
 -- what is listed stays so
 pub over_kept : (routes : Routes) (limit : ℕ) (now new : List (Option Dependency)) (h : ℕ) (at link : SwitchPort) → IsExtended routes limit now new → IsListedOver routes now h at link → IsListedOver routes new h at link

@@ -37,13 +37,6 @@ either (z ∷ xs) y (suc k) x at = elim (either xs y k x at) [
 same_entry : (d e : Dependency) → Some d ≡ Some e → d ≡ e
 same_entry d e is = cc
 
-pub edges_none : (table : List (Option Dependency)) → AreEdgesBefore table 0 []
-edges_none table = record {
-  each = λ k e at. absurd cc;
-  all = λ j d below there. absurd (omega (arith, below));
-  in_order = λ k l e f less at. absurd cc;
-}
-
 pub edges_past : (table : List (Option Dependency)) (end : ℕ) (edges : List DependencyEdge) → AreEdgesBefore table end edges → dependency_at table end ≡ None → AreEdgesBefore table (end + 1) edges
 edges_past table end edges before none = record {
   each = λ k e at. (let is = before.each k e at in let below = is.1 in (is.0, omega (arith, below), is.2));

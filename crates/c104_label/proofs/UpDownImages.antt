@@ -1,7 +1,7 @@
 -- The image of a plan's tree is one by which packets go up and then down, and so is one with its ranges that was checked.
-use Rattle.std.proofs.Common.{◌≡◌, ◌∙◌, ℕ, ◌≤◌, Result, Ok, Err, IfOk, length, map, sym, ap, subst, arith}
+use Rattle.std.proofs.Common.{◌≡◌, ◌∙◌, ℕ, ◌≤◌, Result, Ok, Err, IfOk, length, map, sym, subst, arith}
 use Rattle.std.specs.List.{range_with_len}
-use Rattle.c104_plan.specs.LabelledImages.{port_labelled_image, table_in}
+use Rattle.c104_plan.specs.LabelledImages.{table_in}
 use Rattle.c104_plan.specs.PlanImage.{Image}
 use Rattle.c104_plan.specs.Plans.{IsPlan, IsTreePlan, Plan}
 use Rattle.c104_plan.proofs.LabelledSettings.{labelled_by_port}
@@ -17,7 +17,6 @@ use Rattle.c104_label.specs.declared.faults.LabelFault.{LabelFault}
 use Rattle.c104_label.specs.Images.{IsUpDownImage}
 use Rattle.c104_label.specs.TreeImages.{IsTreeImage, most_labels, total_count}
 use Rattle.c104_label.specs.TreeLabels.{switch_table, tree_range}
-use Rattle.c104_label.specs.UpDownLabels.{IsRelabelled}
 use Rattle.c104_label.proofs.TreeAccepted.{spanning_accepted}
 use Rattle.c104_label.proofs.TreeRanks.{spanning_acyclic}
 
@@ -33,17 +32,6 @@ tree_up_down plan root forest image kept is_tree few is =
       accepted = subst (λ (other : Image). IsAccepted (routes_of plan other)) (sym is.is) (spanning_accepted plan kept root is_tree forest is.tree (omega (arith, labels, few)));
       acyclic = subst (λ (other : Image). IsAcyclic (routes_of plan other)) (sym is.is) (spanning_acyclic plan kept root is_tree forest is.tree (omega (arith, labels, few)));
     }
-
-pub shorter_up_down : (plan : Plan) (root : ℕ) (forest : Forest) (tree image : Image) → IsTreeImage plan root forest tree → IsRelabelled plan tree image → IsUpDownImage plan root forest image
-shorter_up_down plan root forest tree image is new = record {
-  tree = is.tree;
-  tables = new.tables;
-  is = new.is ∙ ap (λ (i : Image). port_labelled_image plan i.ranges new.tables) is.is;
-  labels = is.labels;
-  order = is.order;
-  accepted = new.sound.accepted;
-  acyclic = new.sound.acyclic;
-}
 
 -- ranks of its inputs leave a network without a cycle
 pub ranked_acyclic : (routes : Routes) (x : RanksOrCycle) (ranks : Ranks) → AreRanksOrCycle routes x → x ≡ found.Ranks ranks → IsAcyclic routes

@@ -1,6 +1,6 @@
 -- The plan by hand that has an image: the switches, terminals and wires of another plan, the ranges of the image, and
 -- lines that set at each link what the image has there, as far as lines can say it.
-use Rattle.std.specs.Prelude.{◌≡◌, ◌≢◌, ℕ, ◌<◌, zero, suc, ◌==◌, ◌&&◌, Bool, true, false, not, List, [], ◌∷◌, ◌++◌, length, map, nat_le, nat_lt, Option, Some, None, is_some, if◌then◌else◌, slice_get, slice_index_or}
+use Rattle.std.specs.Prelude.{◌≡◌, ℕ, zero, suc, ◌==◌, ◌&&◌, Bool, true, false, not, List, [], ◌∷◌, ◌++◌, length, map, nat_le, nat_lt, Option, Some, None, if◌then◌else◌, slice_get, slice_index_or}
 use Rattle.c104_interval.specs.declared.intervals.TheConstants.{ROWS}
 use Rattle.c104_interval.specs.declared.intervals.Row.{Row}
 use Rattle.c104_interval.specs.declared.intervals.Select.{Select}
@@ -12,9 +12,8 @@ use Rattle.c104_regs.specs.Settings.{reset_settings}
 use Rattle.c104_plan.specs.declared.plans.Shape.TheVariants.{Hand}
 use Rattle.c104_plan.specs.declared.ports.Port.TheVariants as port
 use Rattle.c104_plan.specs.Ports.{Port, is_any_at}
-use Rattle.c104_plan.specs.Plans.{IsPlan, Plan, PlanBase, PlanRandom, Terminal, host_port, is_continued, is_deleted, label_count, rows_of}
-use Rattle.c104_plan.specs.PlanImage.{Image, hand_image}
-use Rattle.c104_plan.specs.Wiring.{peer}
+use Rattle.c104_plan.specs.Plans.{Plan, PlanBase, PlanRandom, Terminal, host_port, is_continued, is_deleted, label_count, rows_of}
+use Rattle.c104_plan.specs.PlanImage.{Image}
 
 -- terminals with these ranges in place of their own, as far as there are ranges
 abbrev pub with_ranges : List (ℕ × ℕ) → List Terminal → List Terminal

@@ -61,10 +61,10 @@ struct Headers {
 }
 
 impl Parts {
-    ghost use Rattle.std.specs.Prelude.{◌≡◌, ℕ, ◌<◌, ◌≤◌, [], length, bytes_eq, IfOk, IfSome, ◌||◌};
+    ghost use Rattle.std.specs.Prelude.{◌≡◌, ℕ, ◌<◌, ◌≤◌, length, IfOk, IfSome, ◌||◌};
     ghost use Rattle.std.specs.List.{list_any};
     ghost use Rattle.c104_plan.specs.Ports.{Wire as TheWire, is_any_at, is_port, IsSwitchPort};
-    ghost use Rattle.c104_plan.specs.Plans.{Terminal as TheTerminal, PlanBase as TheBase, PlanRandom as TheRandom, switch_number, terminal_number};
+    ghost use Rattle.c104_plan.specs.Plans.{PlanBase as TheBase, PlanRandom as TheRandom, switch_number, terminal_number};
     ghost use Rattle.c104_plan.specs.Plans.{host_port, is_taken, is_linked, is_continued, is_deleted, next_first, rows_of, AreTerminals, label_count, most_switches};
     ghost use Rattle.c104_plan.specs.PlanParts.{has_settings, plan_of, empty_plan};
 

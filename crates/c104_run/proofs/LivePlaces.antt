@@ -1,5 +1,5 @@
 -- Sets of places: what a change of one place changes, and what is passed over; and what they say of nodes.
-use Rattle.std.proofs.Common.{zero, suc, ◌≡◌, ◌≢◌, ◌∙◌, ◌-◌, ◌/◌, ◌%◌, ◌<◌, ◌≤◌, ◌||◌, ◌∷◌, [], ℕ, Bool, true, false, List, get_or, length, nat_le, replicate, slice_set, refl, ap, inl, inr, arith}
+use Rattle.std.proofs.Common.{zero, suc, ◌≡◌, ◌≢◌, ◌∙◌, ◌/◌, ◌%◌, ◌<◌, ◌≤◌, ◌||◌, ◌∷◌, [], ℕ, Bool, true, false, List, get_or, length, nat_le, replicate, slice_set, refl, ap, inl, inr, arith}
 use Rattle.std.proofs.lemmas.Bool.{cases_eq, cases_lt}
 use Rattle.std.proofs.lemmas.Bool.Decides.{nat_tests}
 use Rattle.std.proofs.lemmas.List.{get_or-set_other, get_or-set_same}

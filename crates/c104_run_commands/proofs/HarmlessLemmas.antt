@@ -1,5 +1,5 @@
 -- A script whose lines are harmless leaves a network as it was set up.
-use Rattle.std.proofs.Common.{◌≡◌, ◌∙◌, ◌<◌, ◌≤◌, ◌+◌, ◌++◌, ◌==◌, ℕ, zero, suc, All, Bool, IfOk, true, false, List, [], ◌∷◌, Option, Some, None, Result, Ok, Err, inl, inr, append-nil, append_assoc, if◌then◌else◌, length, map, refl, slice_get, sym, ap, subst, take}
+use Rattle.std.proofs.Common.{◌≡◌, ◌∙◌, ◌≤◌, ◌++◌, ◌==◌, ℕ, zero, suc, All, Bool, IfOk, true, false, List, [], ◌∷◌, Option, Some, Result, Ok, Err, inl, inr, append-nil, append_assoc, if◌then◌else◌, length, refl, slice_get, sym, ap, subst, take}
 use Rattle.std.proofs.Common.{arith, cond}
 use Rattle.std.specs.List.{onto_first, slice_split}
 use Rattle.std.proofs.lemmas.List.Elements.{All-head, All-tail}
@@ -15,12 +15,11 @@ use Rattle.c104_plan.specs.TextCut.{lines}
 use Rattle.c104_plan.specs.Wiring.{peer}
 use Rattle.c104_plan.specs.declared.ports.Port.{Port}
 use Rattle.c104_plan.specs.declared.ports.Port.TheVariants as port
-use Rattle.c104_check.specs.Routes.{IsAccepted, IsEntryOf, IsRandomAt, IsRandomIn, IsRandomized, Routes, has_label, link_settings, or_no_settings, routes_of}
-use Rattle.c104_check.specs.declared.ports.SwitchPort.{SwitchPort}
+use Rattle.c104_check.specs.Routes.{IsAccepted, IsRandomIn, Routes, has_label, link_settings, or_no_settings, routes_of}
 use Rattle.c104_event.specs.declared.events.Event.{Event}
 use Rattle.c104_label.proofs.HeaderLengths.{none_passes}
 use Rattle.c104_net.proofs.RandomOwners.{random_unowned}
-use Rattle.c104_net.specs.Deliveries.{has_header, header_of}
+use Rattle.c104_net.specs.Deliveries.{header_of}
 use Rattle.c104_net.specs.Unchanged.{MayBeSent, MayHappen}
 use Rattle.c104_node.specs.declared.starts.NodeStart.{NodeStart}
 use Rattle.c104_stream.specs.ScriptLines.{lines_within, most_script, script_lines}
@@ -30,7 +29,7 @@ use Rattle.c104_script.specs.declared.answers.Answer.TheVariants.{Replied}
 use Rattle.c104_script.specs.declared.faults.LineFault.{LineFault}
 use Rattle.c104_script.specs.declared.places.Request.{Request}
 use Rattle.c104_script.specs.declared.places.Request.TheVariants as ask
-use Rattle.c104_session.specs.PrintedPackets.{LeaveUnchanged, MayAsk, line_sends, lines_sent}
+use Rattle.c104_session.specs.PrintedPackets.{LeaveUnchanged, MayAsk, lines_sent}
 use Rattle.c104_session.specs.Shown.{line_answer, line_outcome, new_session}
 use Rattle.c104_session.specs.declared.session.Session.{Session}
 use Rattle.c104_session.proofs.PlacedNets.{placed_starts, placed_unchanged}
@@ -81,12 +80,6 @@ unfolding script_lines
 all_lines script short = within most_script [] script short ∙ some_part script
 
 -- What lines ask
-
-pub nothing_asked : (routes : Routes) → IsHarmless routes (Ok None)
-nothing_asked routes answer = tt
-
-pub faulty : (routes : Routes) (kind : LineFault) → IsHarmless routes (Err kind)
-faulty routes kind answer = tt
 
 pub event_asked : (routes : Routes) (e : Event) → ((r : Reply) → MayHappen routes e r) → IsHarmless routes (Ok (Some (ask.Asked e)))
 event_asked routes e may (Some (Replied r)) = may r

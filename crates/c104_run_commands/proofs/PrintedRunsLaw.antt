@@ -1,14 +1,14 @@
 -- What a run of texts prints of packets: every description that is read gives a plan, and every image fits its plan.
-use Rattle.std.proofs.Common.{◌≡◌, ◌∙◌, ◌≤◌, ℕ, All, Bool, true, false, List, get_or, Result, Ok, Err, if◌then◌else◌, length, map, nat_le, refl, sym, ap, subst}
+use Rattle.std.proofs.Common.{◌≡◌, ℕ, All, Bool, true, false, List, get_or, Result, Ok, Err, if◌then◌else◌, length, map, nat_le, refl, sym, ap, subst}
 use Rattle.std.proofs.lemmas.List.{length-map}
 use Rattle.std.proofs.lemmas.List.Elements.{All-map}
 use Rattle.std.specs.List.{range_with_len}
 use Rattle.c104_regs.specs.declared.registers.TheConstants.{LINKS}
 use Rattle.c104_regs.specs.declared.settings.Settings.{Settings}
 use Rattle.std.proofs.lemmas.List.FromFn.{length-map-range_with_len}
-use Rattle.c104_plan.specs.PlanImage.{Fits, Image, hand_image, range_of, settings_of, switch_settings}
+use Rattle.c104_plan.specs.PlanImage.{Fits, Image, range_of, settings_of, switch_settings}
 use Rattle.c104_plan.specs.Plans.{IsPlan, Plan}
-use Rattle.c104_plan.specs.LabelledImages.{labelled_image, labelled_settings, labelled_switch, port_labelled_image, port_labelled_switch, table_in}
+use Rattle.c104_plan.specs.LabelledImages.{labelled_image, labelled_settings, labelled_switch, port_labelled_switch, table_in}
 use Rattle.c104_plan.specs.TextCut.{lines, most_bytes}
 use Rattle.c104_plan.specs.declared.ports.Port.TheVariants as port
 use Rattle.c104_plan.specs.declared.plans.Shape.{Shape}
@@ -23,7 +23,6 @@ use Rattle.c104_describe.specs.declared.faults.PlanFaultKind.TheVariants.{TooLon
 use Rattle.c104_describe.proofs.DraftsKept.{empty-kept, read_lines-kept}
 use Rattle.c104_label.specs.Images.{IsImageBy, IsImageOf}
 use Rattle.c104_commands.specs.Setups.{ComesTo}
-use Rattle.c104_session.specs.PrintedPackets.{PrintsSentPackets}
 use Rattle.c104_session.proofs.PrintedLaw.{printed_law}
 use Rattle.c104_session.proofs.DeliveredLaw.{delivered_law}
 use Rattle.c104_session.proofs.PlacedNets.{IsOfLinks}

@@ -1,10 +1,9 @@
 -- What a line of a script sends is bytes, since two digits spell each.
-use Rattle.std.proofs.Common.{◌&&◌, ◌≡◌, ◌∙◌, ◌+◌, ◌*◌, ◌++◌, ◌<◌, ◌≤◌, ◌⊎◌, ℕ, Bool, true, false, All, List, [], ◌∷◌, Option, Some, None, Result, Ok, Err, IfOk, if◌then◌else◌, inl, inr, length, map, nat_le, refl, sym, ap, subst, arith}
+use Rattle.std.proofs.Common.{◌&&◌, ◌≡◌, ◌<◌, ℕ, Bool, true, false, All, List, [], ◌∷◌, Option, Some, None, Result, Ok, Err, IfOk, if◌then◌else◌, inl, inr, length, nat_le, refl, sym, ap, subst, arith}
 use Rattle.std.proofs.lemmas.List.Elements.{All-cons, All-nil}
 use Rattle.c104_token.specs.declared.faults.TokenFault.{TokenFault}
-use Rattle.c104_token.specs.declared.faults.TokenFault.TheVariants as token_fault
 use Rattle.c104_token.specs.declared.packets.Packet.{Packet}
-use Rattle.c104_token.specs.Text.{IsHexDigit, SpellBytes, SpellsByte, parse_words, word_of}
+use Rattle.c104_token.specs.Text.{IsHexDigit, SpellBytes, SpellsByte, parse_words}
 use Rattle.c104_token.proofs.Spelling.{Spelled, accepted}
 use Rattle.c104_control.specs.declared.bytes.TheConstants.{MAX_CONTROL_BYTES}
 use Rattle.c104_plan.specs.Checks.{◌>>=◌, ◌>>◌, require, value_or_fault}

@@ -1,5 +1,5 @@
 -- A script that is calm has the premises of the theorem about packets, where no link puts random headers.
-use Rattle.std.proofs.Common.{◌≡◌, ◌∙◌, ◌≤◌, ℕ, All, false, List, [], Option, Some, None, Result, Ok, Err, arith, length, refl, sym, ap, subst}
+use Rattle.std.proofs.Common.{◌≡◌, ◌∙◌, ◌≤◌, ℕ, false, List, [], Option, Some, None, Result, Ok, Err, arith, length, refl, sym, ap, subst}
 use Rattle.std.proofs.lemmas.Bool.Decides.{nat_tests}
 use Rattle.std.proofs.lemmas.List.Elements.{All-weaker}
 use Rattle.c104_switch.specs.Actions.{Reply}
@@ -15,7 +15,7 @@ use Rattle.c104_label.specs.Images.{IsImageBy, IsImageOf}
 use Rattle.c104_event.specs.declared.events.Event.{Event}
 use Rattle.c104_event.specs.declared.events.Event.TheVariants as event
 use Rattle.c104_net.specs.Unchanged.{MayHappen}
-use Rattle.c104_stream.specs.ScriptLines.{most_script, script_lines}
+use Rattle.c104_stream.specs.ScriptLines.{most_script}
 use Rattle.c104_script.specs.Script.{read_script_line}
 use Rattle.c104_script.specs.declared.faults.LineFault.{LineFault}
 use Rattle.c104_script.specs.declared.places.Request.{Request}

@@ -1,4 +1,4 @@
-use Rattle.std.proofs.Common.{◌≡◌, ◌+◌, ◌∙◌, List, [], ◌∷◌, ◌++◌, ap, subst, sym}
+use Rattle.std.proofs.Common.{◌+◌, ◌∙◌, List, [], ◌∷◌, ◌++◌, ap, subst, sym}
 use Rattle.c104_check.specs.Edges.{AreEdgesBefore, DependencyEdge}
 use Rattle.c104_check.proofs.EdgeLemmas.{edges_more, edges_past}
 use Rattle.c104_check.proofs.edges.edges_of.Goals.{in-Some+in_ok-push, in_default}

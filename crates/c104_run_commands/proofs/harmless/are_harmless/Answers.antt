@@ -1,4 +1,4 @@
-use Rattle.std.proofs.Common.{All, Bor, List, take, length, map, subst, ℕ, ◌≡◌}
+use Rattle.std.proofs.Common.{All, Bor, List, subst, ℕ}
 use Rattle.std.proofs.lemmas.List.{take_all}
 use Rattle.std.proofs.lemmas.List.Elements.{All-map, All-more}
 use Rattle.c104_check.specs.Routes.{routes_of}

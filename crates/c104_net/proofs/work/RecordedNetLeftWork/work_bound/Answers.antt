@@ -1,6 +1,4 @@
-use Rattle.std.proofs.Common.{ap, length, map, ℕ, ◌*◌, ◌∙◌, ◌≡◌}
-use Rattle.c104_check.specs.Ranks.{rank_in}
-use Rattle.c104_check.specs.declared.ports.SwitchPort.{SwitchPort}
+use Rattle.std.proofs.Common.{ap, length, map, ◌*◌, ◌∙◌, ◌≡◌}
 use Rattle.c104_plan.specs.Plans.{Plan}
 use Rattle.c104_node.specs.Places.{states}
 use Rattle.c104_run.specs.NetRecords.{NetRecord}

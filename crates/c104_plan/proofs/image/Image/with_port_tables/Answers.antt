@@ -1,4 +1,4 @@
-use Rattle.std.proofs.Common.{◌≡◌, ◌∙◌, All, length, ap}
+use Rattle.std.proofs.Common.{◌∙◌, length, ap}
 use Rattle.std.proofs.lemmas.List.Elements.{All-same}
 use Rattle.c104_plan.specs.PlanImage.{Image}
 use Rattle.c104_plan.specs.Plans.{IsRange}
