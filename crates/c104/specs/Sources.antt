@@ -1,7 +1,6 @@
 -- Where a text is read from.
-use Rattle.std.specs.Prelude.{ℕ, List, Option}
-use Rattle.c104.specs.declared.sources.Source.{Source}
-use Rattle.c104.specs.declared.sources.Source.TheVariants.{File, Input}
+use Rattle.c104.specs.declared.sources.Source.{Source, TheVariants.{File, Input}}
+use Rattle.std.specs.Prelude.{List, Option, ℕ}
 
 -- what a source has left is what its file or its input has
 abbrev pub source_remaining : {F I : Type 0} → (F → Option (List ℕ)) → (I → Option (List ℕ)) → Source F I → Option (List ℕ)

@@ -1,15 +1,9 @@
 -- Lists of calls whose tickets rise, and whether a ticket stands in both.
-use Rattle.c104_audit.proofs.KeptElements.{drop_next}
-use Rattle.c104_net.proofs.RoundMembers.{IsIn, in_right}
-use Rattle.c104_plan.proofs.RangeLists.{each_append}
-use Rattle.c104_audit.proofs.Merging.{each_in, in_each}
-use Rattle.c104_audit.specs.Audits.{HaveOtherTickets}
-use Rattle.c104_audit.specs.Leads.{AreRising, list_at}
-use Rattle.std.specs.List.{AllByRecursion}
-use Rattle.c104_audit.specs.Tests.{IsNotBelow, StandsFirst}
-use Rattle.c104_audit.specs.declared.calls.Call.{Call}
-use Rattle.std.proofs.Common.{Bool, List, Some, [], ap, arith, drop, false, inl, inr, nat_eq, refl, slice_get, subst, sym, true, unwrap_or, ℕ, ◌++◌, ◌+◌, ◌<◌, ◌∙◌, ◌∷◌, ◌≡◌, ◌≢◌, ◌↔◌, ◌⊎◌, append_assoc}
-use Rattle.std.proofs.lemmas.Bool.Decides.{nat_tests}
+use Rattle.c104_audit.{proofs.{KeptElements.drop_next, Merging.{each_in, in_each}}, specs.{Audits.HaveOtherTickets, Leads.AreRising}}
+use Rattle.{c104_audit.specs.{Leads.list_at, Tests.{IsNotBelow, StandsFirst}, declared.calls.Call.Call}, c104_net.proofs.RoundMembers.IsIn}
+use Rattle.{c104_net.proofs.RoundMembers.in_right, c104_plan.proofs.RangeLists.each_append, std.proofs.Common.{Bool, List, Some, [], ap}}
+use Rattle.std.proofs.Common.{append_assoc, arith, drop, false, inl, inr, nat_eq, refl, slice_get, subst, sym, true, unwrap_or, ℕ, ◌++◌}
+use Rattle.std.{proofs.{Common.{◌+◌, ◌<◌, ◌↔◌, ◌∙◌, ◌∷◌, ◌≡◌, ◌≢◌, ◌⊎◌}, lemmas.Bool.Decides.nat_tests}, specs.List.AllByRecursion}
 
 in_either : (x : Call) (xs ys : List Call) → IsIn x (xs ++ ys) → IsIn x xs ⊎ IsIn x ys
 in_either x [] ys has = inr has

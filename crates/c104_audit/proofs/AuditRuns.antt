@@ -1,36 +1,17 @@
 -- Where each node runs its part of what entries that lead tell, in whatever order they stand, the network runs their
 -- events.
-use Rattle.c104_audit.proofs.EntryEvents.{LeadsAlone, LeadsJoint, crossing_event, lead_cases, plan_event}
-use Rattle.c104_audit.proofs.Matching.{AreLeading, StandsBefore, all_deeds, lead_deeds}
-use Rattle.c104_audit.specs.Leads.{Lead}
-use Rattle.c104_event.specs.declared.events.Event.TheVariants as event
-use Rattle.c104_event.specs.declared.events.Event.{Event}
-use Rattle.c104_link.specs.Steps.{◌>>=◌}
-use Rattle.c104_node.proofs.BegunRecords.{run_kind}
-use Rattle.c104_node.proofs.JointEnds.{near_answers}
-use Rattle.c104_node.proofs.ReadyActs.{act_ready}
-use Rattle.c104_node.specs.Acts.{IsWithinLimits, node_act}
-use Rattle.c104_node.specs.Nodes.{Node, is_switch}
-use Rattle.c104_node.specs.PortActs.{Acts, IsAnswerOf, far_act}
-use Rattle.c104_node.specs.Records.{MayAct}
-use Rattle.c104_node.specs.Traces.{entry_of, part}
-use Rattle.c104_node.specs.declared.acts.ActOf.{ActOf}
-use Rattle.c104_node.specs.declared.acts.Entry.{Entry}
-use Rattle.c104_node.specs.declared.crossings.Crossing.TheVariants.{Grant, Token as TokenCrossing}
-use Rattle.c104_node.specs.declared.crossings.Crossing.{Crossing}
-use Rattle.c104_node.specs.declared.stamps.Stamp.{Stamp}
-use Rattle.c104_plan.specs.Plans.{Plan}
-use Rattle.c104_plan.specs.Wiring.{peer}
-use Rattle.c104_plan.specs.declared.ports.Port.{Port}
-use Rattle.c104_run.specs.EventActs.{event_acts, port_place}
-use Rattle.c104_run.specs.EventDeeds.{acts_deeds, event_deeds}
-use Rattle.c104_run.specs.EventPlaces.{event_place}
-use Rattle.c104_run.specs.Runs.{AreBehind, AreInOrder, IsBefore, run_deeds}
-use Rattle.c104_switch.specs.Actions.{Reply, is_ready}
-use Rattle.c104_switch.specs.declared.actions.ReplyOf.TheVariants as reply
-use Rattle.c104_token.specs.Kinds.{plain_kind}
-use Rattle.c104_token.specs.declared.tokens.Token.{Token}
-use Rattle.std.proofs.Common.{List, None, Option, Some, [], ap, arith, inl, inr, is_some, map, refl, slice_get, subst, suc, sym, true, unwrap_or, ℕ, ◌++◌, ◌+◌, ◌∙◌, ◌∷◌, ◌≡◌, ◌⊎◌}
+use Rattle.c104_audit.proofs.{EntryEvents.{LeadsAlone, LeadsJoint, crossing_event, lead_cases, plan_event}, Matching.AreLeading}
+use Rattle.c104_audit.{proofs.Matching.{StandsBefore, all_deeds, lead_deeds}, specs.Leads.Lead}
+use Rattle.{c104_event.specs.declared.events.Event.Event, c104_link.specs.Steps.◌>>=◌, c104_node.proofs.BegunRecords.run_kind}
+use Rattle.c104_node.{proofs.{JointEnds.near_answers, ReadyActs.act_ready}, specs.{Acts.{IsWithinLimits, node_act}, Nodes.Node}}
+use Rattle.c104_node.specs.{Nodes.is_switch, PortActs.{Acts, IsAnswerOf, far_act}, Records.MayAct, Traces.{entry_of, part}}
+use Rattle.c104_node.specs.declared.{acts.{ActOf.ActOf, Entry.Entry}, crossings.Crossing.{Crossing, TheVariants.Grant}}
+use Rattle.c104_node.specs.declared.{crossings.Crossing.TheVariants.Token as TokenCrossing, stamps.Stamp.Stamp}
+use Rattle.{c104_plan.specs.{Plans.Plan, Wiring.peer, declared.ports.Port.Port}, c104_run.specs.EventActs.{event_acts, port_place}}
+use Rattle.c104_run.specs.{EventDeeds.{acts_deeds, event_deeds}, EventPlaces.event_place, Runs.{AreBehind, AreInOrder, IsBefore, run_deeds}}
+use Rattle.{c104_switch.specs.{Actions.{Reply, is_ready}, declared.actions.ReplyOf.ReplyOf}, c104_token.specs.Kinds.plain_kind}
+use Rattle.{c104_token.specs.declared.tokens.Token.Token, std.proofs.Common.{List, None, Option, Some, [], ap, arith, inl, inr, is_some}}
+use Rattle.std.proofs.Common.{map, refl, slice_get, subst, suc, sym, true, unwrap_or, ℕ, ◌++◌, ◌+◌, ◌∙◌, ◌∷◌, ◌≡◌, ◌⊎◌}
 use Rattle.std.specs.List.{AllByRecursion}
 
 -- the stamp of an entry
@@ -46,14 +27,14 @@ module _ (plan : Plan) where
   abbrev pub far_half : Entry → Option (Acts Token) → Option (ℕ × Entry)
   far_half x None = None
   far_half x (Some (Acts.Alone k a)) = None
-  far_half x (Some (Acts.Joint p q crossing)) = Some (port_place plan q, entry_of (stamp_of x) (far_act q x.reply) reply.Done)
+  far_half x (Some (Acts.Joint p q crossing)) = Some (port_place plan q, entry_of (stamp_of x) (far_act q x.reply) ReplyOf.Done)
 
   abbrev pub far_of : ℕ → Entry → Option (ℕ × Entry)
   far_of k x = far_half x (plan_event plan k x.act >>= event_acts plan)
 
   -- the event that an entry leads in
   abbrev pub lead_event : ℕ × Lead Entry → Event
-  lead_event m = unwrap_or (plan_event plan m.1.place m.1.entry.act) (event.Drain 0)
+  lead_event m = unwrap_or (plan_event plan m.1.place m.1.entry.act) (Event.Drain 0)
 
   abbrev pub lead_pair : ℕ × Lead Entry → Event × Reply
   lead_pair m = (lead_event m, m.1.entry.reply)
@@ -77,7 +58,7 @@ module _ (plan : Plan) where
   pub far_alone : (k : ℕ) (x : Entry) → LeadsAlone plan k x.act → far_of k x ≡ None
   far_alone k x alone = rw (alone.told, alone.acts) refl
 
-  pub far_joint : (k : ℕ) (x : Entry) (j : LeadsJoint plan k x.act) → far_of k x ≡ Some (port_place plan j.far, entry_of (stamp_of x) (far_act j.far x.reply) reply.Done)
+  pub far_joint : (k : ℕ) (x : Entry) (j : LeadsJoint plan k x.act) → far_of k x ≡ Some (port_place plan j.far, entry_of (stamp_of x) (far_act j.far x.reply) ReplyOf.Done)
   far_joint k x j = rw (j.told, joint_acts j.crossing j.near j.far j.wired) refl
 
   event_alone : (m : ℕ × Lead Entry) (alone : LeadsAlone plan m.1.place m.1.entry.act) → lead_event m ≡ alone.event

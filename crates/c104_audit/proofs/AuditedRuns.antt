@@ -1,48 +1,27 @@
 -- Nodes whose lists audit well tell one run of their network. It begins with what was handed over, and then the seats'
 -- calls stand and nothing else.
 use Rattle.c104_audit.proofs.AuditRuns.{IsSure, far_of, lead_event, lead_pair, lead_stamps, order_sure, run_sure, stamp_or}
-use Rattle.c104_net.proofs.SureOrigins.{mapped}
-use Rattle.c104_node.proofs.Waiting.{get_before}
-use Rattle.c104_audit.proofs.GatheredNodes.{first_state, entries_legal, entries_rise, gathered_match, node_of, starting_is, starts_ready, whole_at}
-use Rattle.c104_audit.proofs.KeptLeads.{IsEarly, kept, leading_kept, same_leading, split_kept}
-use Rattle.c104_audit.proofs.Matches.{IsLegal, legal_event}
-use Rattle.c104_audit.proofs.Matching.{AreLeading, all_deeds, at_place}
-use Rattle.c104_audit.proofs.MergedLists.{IsLeader, in_merge, leaders, merged_lists}
-use Rattle.c104_audit.proofs.Merging.{each_in, from_filter, in_each, merged_leading}
-use Rattle.c104_audit.proofs.NetworkRuns.{RunParts, network_runs}
-use Rattle.c104_audit.proofs.TracedLeads.{AreNamed, AreNumbered, called_append, called_in, calls_are, from_unseated, in_unseated, is_unseated, leads_told, led_is, no_seat, node_below, run_front, runs_same, seated_is, unseated_is, unseated_rise}
-use Rattle.c104_audit.specs.AuditedRuns.{AreGathered, AreUnseated, IsAuditedRun, WereBefore, event_alone, node_shape}
-use Rattle.c104_audit.specs.Audits.{IsAudited, called_by, carries, is_leading, is_number, leading_entries, lists_events, unseated}
-use Rattle.c104_audit.specs.Leads.{AreRising, Lead, list_at, merged_leads}
-use Rattle.c104_audit.specs.declared.calls.Call.{Call}
-use Rattle.c104_audit.specs.declared.lists.Lists.{Lists}
-use Rattle.c104_audit.specs.declared.lists.NodeShape.{NodeShape}
-use Rattle.c104_event.specs.declared.events.Event.{Event}
-use Rattle.c104_net.proofs.RoundMembers.{IsIn, in_filter}
-use Rattle.c104_net.proofs.ToldEvents.{events_told}
-use Rattle.c104_net.specs.ToldEvents.{told_events}
-use Rattle.c104_node.specs.Nodes.{Node}
-use Rattle.c104_node.specs.Records.{IsNodeRun, NodeRecord, NodeRoom, node_start, node_state, node_trace}
-use Rattle.c104_node.specs.Starts.{start_node}
-use Rattle.c104_node.specs.Traces.{Deed, part, seatless}
-use Rattle.c104_node.specs.declared.acts.Entry.{Entry}
-use Rattle.c104_node.specs.declared.stamps.Stamp.{Stamp}
-use Rattle.c104_node.specs.declared.starts.NodeStart.{NodeStart}
-use Rattle.c104_plan.specs.Plans.{IsPlan, Plan}
-use Rattle.c104_plan.specs.Wiring.{wires}
-use Rattle.c104_run.specs.Balance.{AreInPlace, IsSteady}
-use Rattle.c104_run.specs.FinishedRecords.{FinishedRecord}
-use Rattle.c104_run.specs.Network.{network_of}
-use Rattle.c104_run.specs.NodeRuns.{TellRun, nodes_run, starting_nodes}
-use Rattle.c104_run.specs.Runs.{IsDoneRun, IsRunRecord, at_node, run_deeds}
-use Rattle.c104_switch.specs.Actions.{Reply}
-use Rattle.c104_token.specs.Kinds.{plain_kind}
-use Rattle.c104_token.specs.declared.tokens.Token.{Token}
-use Rattle.std.proofs.Common.{Bool, List, None, Option, Some, [], ap, arith, false, if◌then◌else◌, is_some, length, length-append, map, nat_eq, not, option_map, refl, slice_get, subst, suc, sym, true, unwrap_or, ℕ, ◌++◌, ◌+◌, ◌<◌, ◌∙◌, ◌∷◌, ◌≡◌, ◌≤◌}
-use Rattle.std.proofs.lemmas.Bool.Decides.{nat_tests}
-use Rattle.std.proofs.lemmas.List.{length-map, map-append}
-use Rattle.std.proofs.lemmas.Option.{slice_get-map, slice_get_within}
-use Rattle.std.specs.List.{AllByRecursion}
+use Rattle.c104_audit.proofs.GatheredNodes.{entries_legal, entries_rise, first_state, gathered_match, node_of, starting_is, starts_ready}
+use Rattle.c104_audit.proofs.{GatheredNodes.whole_at, KeptLeads.{IsEarly, kept, leading_kept, same_leading, split_kept}, Matches.IsLegal}
+use Rattle.c104_audit.proofs.{Matches.legal_event, Matching.{AreLeading, all_deeds, at_place}, MergedLists.{IsLeader, in_merge, leaders}}
+use Rattle.c104_audit.proofs.{MergedLists.merged_lists, Merging.{each_in, from_filter, in_each, merged_leading}, NetworkRuns.RunParts}
+use Rattle.c104_audit.proofs.{NetworkRuns.network_runs, TracedLeads.{AreNamed, AreNumbered, called_append, called_in, calls_are}}
+use Rattle.c104_audit.proofs.TracedLeads.{from_unseated, in_unseated, is_unseated, leads_told, led_is, no_seat, node_below, run_front}
+use Rattle.c104_audit.{proofs.TracedLeads.{runs_same, seated_is, unseated_is, unseated_rise}, specs.AuditedRuns.{AreGathered, AreUnseated}}
+use Rattle.c104_audit.specs.{AuditedRuns.{IsAuditedRun, WereBefore, event_alone, node_shape}, Audits.{IsAudited, called_by, carries}}
+use Rattle.c104_audit.specs.{Audits.{is_leading, is_number, leading_entries, lists_events, unseated}, Leads.{AreRising, Lead, list_at}}
+use Rattle.c104_audit.specs.{Leads.merged_leads, declared.{calls.Call.Call, lists.{Lists.Lists, NodeShape.NodeShape}}}
+use Rattle.{c104_event.specs.declared.events.Event.Event, c104_net.proofs.{RoundMembers.{IsIn, in_filter}, SureOrigins.mapped}}
+use Rattle.{c104_net.{proofs.ToldEvents.events_told, specs.ToldEvents.told_events}, c104_node.{proofs.Waiting.get_before, specs.Nodes.Node}}
+use Rattle.c104_node.specs.{Records.{IsNodeRun, NodeRecord, NodeRoom, node_start, node_state, node_trace}, Starts.start_node, Traces.Deed}
+use Rattle.c104_node.specs.{Traces.{part, seatless}, declared.{acts.Entry.Entry, stamps.Stamp.Stamp, starts.NodeStart.NodeStart}}
+use Rattle.{c104_plan.specs.{Plans.{IsPlan, Plan}, Wiring.wires}, c104_run.specs.Balance.{AreInPlace, IsSteady}}
+use Rattle.c104_run.specs.{FinishedRecords.FinishedRecord, Network.network_of, NodeRuns.{TellRun, nodes_run, starting_nodes}}
+use Rattle.{c104_run.specs.Runs.{IsDoneRun, IsRunRecord, at_node, run_deeds}, c104_switch.specs.Actions.Reply}
+use Rattle.{c104_token.specs.{Kinds.plain_kind, declared.tokens.Token.Token}, std.proofs.Common.{Bool, List, None, Option, Some, [], ap}}
+use Rattle.std.proofs.Common.{arith, false, if◌then◌else◌, is_some, length, length-append, map, nat_eq, not, option_map, refl, slice_get}
+use Rattle.std.proofs.{Common.{subst, suc, sym, true, unwrap_or, ℕ, ◌++◌, ◌+◌, ◌<◌, ◌∙◌, ◌∷◌, ◌≡◌, ◌≤◌}, lemmas.Bool.Decides.nat_tests}
+use Rattle.std.{proofs.lemmas.{List.{length-map, map-append}, Option.{slice_get-map, slice_get_within}}, specs.List.AllByRecursion}
 
 -- the entries at a place, by either word
 node_parts : (k : ℕ) (ds : List Deed) → at_node k ds ≡ at_place k ds

@@ -1,15 +1,10 @@
 -- What is found of each seat is that it is called so.
-use Rattle.c104_audit.proofs.FirstFailures.{below_all, first_both, first_same}
-use Rattle.c104_audit.specs.Audits.{HaveOtherTickets, IsCalled}
-use Rattle.c104_audit.specs.Firsts.{IsFirst, lower_of}
-use Rattle.c104_audit.specs.Leads.{AreRising, list_at}
-use Rattle.std.specs.List.{AllByRecursion}
-use Rattle.c104_audit.specs.Tests.{AreCalledBelow, CarryAtAllEnds, HasNoStray, IsApart, IsToldAt, is_other}
-use Rattle.c104_audit.specs.declared.calls.Call.{Call}
-use Rattle.c104_audit.specs.declared.lists.Lists.{Lists}
-use Rattle.std.proofs.Common.{Bool, IsTrue, List, None, Option, Some, [], ap, arith, false, get_or, inl, inr, length, nat_eq, nat_lt, not, refl, slice_get, subst, sym, true, unwrap_or, ℕ, ◌<◌, ◌∙◌, ◌≡◌, ◌≤◌, ◌⊎◌, ◌↔◌}
-use Rattle.std.proofs.lemmas.Bool.Decides.{nat_tests}
-use Rattle.std.proofs.lemmas.Option.{slice_get_cases}
+use Rattle.c104_audit.{proofs.FirstFailures.{below_all, first_both, first_same}, specs.Audits.{HaveOtherTickets, IsCalled}}
+use Rattle.c104_audit.specs.{Firsts.{IsFirst, lower_of}, Leads.{AreRising, list_at}, Tests.{AreCalledBelow, CarryAtAllEnds, HasNoStray}}
+use Rattle.{c104_audit.specs.{Tests.{IsApart, IsToldAt, is_other}, declared.{calls.Call.Call, lists.Lists.Lists}}, std.proofs.Common.Bool}
+use Rattle.std.proofs.Common.{IsTrue, List, None, Option, Some, [], ap, arith, false, get_or, inl, inr, length, nat_eq, nat_lt, not, refl}
+use Rattle.std.proofs.{Common.{slice_get, subst, sym, true, unwrap_or, ℕ, ◌<◌, ◌↔◌, ◌∙◌, ◌≡◌, ◌≤◌, ◌⊎◌}, lemmas.Bool.Decides.nat_tests}
+use Rattle.std.{proofs.lemmas.Option.slice_get_cases, specs.List.AllByRecursion}
 
 -- there is nothing past the end of a list
 pub past_end : {X : Type 0} (xs : List X) (i : ℕ) → length xs ≤ i → slice_get xs i ≡ None

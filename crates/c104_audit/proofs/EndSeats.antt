@@ -1,13 +1,10 @@
 -- The first seat that entries at two ends carry unlike.
-use Rattle.c104_audit.proofs.FirstFailures.{below_all, below_next, first_both, first_same, none_there}
-use Rattle.c104_audit.specs.Audits.{AgreeOneByOne, CarryAtEnds, carries, is_number, passing_at}
-use Rattle.c104_audit.specs.Firsts.{IsFirst, lower_of}
-use Rattle.c104_audit.specs.Tests.{CarryAtAllEnds, CarryAtEndsTo, odd_of, odd_seat}
-use Rattle.c104_audit.specs.declared.lists.Lists.{Lists}
-use Rattle.c104_node.specs.declared.acts.Entry.{Entry}
-use Rattle.c104_plan.specs.declared.ports.Wire.{Wire}
-use Rattle.std.proofs.Common.{Bool, List, None, Option, Some, [], ap, arith, false, if◌then◌else◌, length, map, nat_eq, nat_le, refl, slice_get, subst, sym, true, ℕ, ◌+◌, ◌<◌, ◌∙◌, ◌∷◌, ◌≡◌, ◌≤◌}
-use Rattle.std.proofs.lemmas.Bool.Decides.{nat_tests}
+use Rattle.c104_audit.{proofs.FirstFailures.{below_all, below_next, first_both, first_same, none_there}, specs.Audits.AgreeOneByOne}
+use Rattle.c104_audit.specs.{Audits.{CarryAtEnds, carries, is_number, passing_at}, Firsts.{IsFirst, lower_of}, Tests.CarryAtAllEnds}
+use Rattle.c104_audit.specs.{Tests.{CarryAtEndsTo, odd_of, odd_seat}, declared.lists.Lists.Lists}
+use Rattle.{c104_node.specs.declared.acts.Entry.Entry, c104_plan.specs.declared.ports.Wire.Wire, std.proofs.Common.{Bool, List, None}}
+use Rattle.std.proofs.Common.{Option, Some, [], ap, arith, false, if◌then◌else◌, length, map, nat_eq, nat_le, refl, slice_get, subst, sym}
+use Rattle.std.proofs.{Common.{true, ℕ, ◌+◌, ◌<◌, ◌∙◌, ◌∷◌, ◌≡◌, ◌≤◌}, lemmas.Bool.Decides.nat_tests}
 
 itself : (s : ℕ) → nat_eq s s ≡ true
 itself s = grind (arith, nat_tests)

@@ -1,38 +1,21 @@
 -- What an entry that leads tells: an act of its node alone, or what crosses the wire at one of its links.
-use Rattle.c104_audit.proofs.WideNodes.{IsWide, claim_there, input_there}
-use Rattle.c104_audit.specs.Audits.{entry_event, is_link_wired, is_of_kind}
-use Rattle.c104_event.specs.declared.events.Event.TheVariants as event
-use Rattle.c104_event.specs.declared.events.Event.{Event}
-use Rattle.c104_net.specs.Leading.{act_event}
-use Rattle.c104_node.proofs.IdleNodes.{opposite}
-use Rattle.c104_node.specs.ActLinks.{on_links}
-use Rattle.c104_node.specs.Acts.{IsWithinLimits, node_act}
-use Rattle.c104_node.specs.Nodes.{Node}
-use Rattle.c104_node.specs.PortActs.{Acts, near_act}
+use Rattle.c104_audit.{proofs.WideNodes.{IsWide, claim_there, input_there}, specs.Audits.{entry_event, is_link_wired, is_of_kind}}
+use Rattle.{c104_event.specs.declared.events.Event.Event, c104_net.specs.Leading.act_event, c104_node.proofs.IdleNodes.opposite}
+use Rattle.c104_node.specs.{ActLinks.on_links, Acts.{IsWithinLimits, node_act}, Nodes.Node, PortActs.{Acts, near_act}}
+use Rattle.c104_node.specs.declared.{acts.ActOf.ActOf, crossings.Crossing.{Crossing, TheVariants.{Grant, Token as TokenCrossing}}}
+use Rattle.c104_plan.specs.{Plans.Plan, Wiring.{peer, wires}, declared.ports.Port.Port}
+use Rattle.{c104_regs.specs.declared.registers.TheConstants.LINKS, c104_run.specs.EventActs.{event_acts, port_place}}
+use Rattle.{c104_run.specs.{EventPlaces.event_place, Network.{event_fault, terminal_place}}, c104_switch.specs.Actions.Reply}
+use Rattle.{c104_switch.specs.declared.actions.ActionOf.ActionOf, c104_token.specs.Kinds.plain_kind}
+use Rattle.{c104_token.specs.declared.{text.TheConstants.MAX_PACKET_BYTES, tokens.Token.Token}, std.proofs.Common.{Bool, None, Option}}
+use Rattle.std.proofs.Common.{Some, ap, arith, false, inl, inr, is_some, length, nat_le, nat_lt, not, refl, sym, true, ℕ, ◌+◌, ◌-◌, ◌<◌}
+use Rattle.std.proofs.{Common.{◌∙◌, ◌≡◌, ◌≤◌, ◌⊎◌}, lemmas.Bool.Decides.nat_tests}
 use Rattle.c104_node.specs.declared.acts.ActOf.TheVariants as act
-use Rattle.c104_node.specs.declared.acts.ActOf.{ActOf}
-use Rattle.c104_node.specs.declared.crossings.Crossing.TheVariants.{Grant, Token as TokenCrossing}
-use Rattle.c104_node.specs.declared.crossings.Crossing.{Crossing}
-use Rattle.c104_plan.specs.Plans.{Plan}
-use Rattle.c104_plan.specs.Wiring.{peer, wires}
-use Rattle.c104_plan.specs.declared.ports.Port.TheVariants as port
-use Rattle.c104_plan.specs.declared.ports.Port.{Port}
-use Rattle.c104_regs.specs.declared.registers.TheConstants.{LINKS}
-use Rattle.c104_run.specs.EventActs.{event_acts, port_place}
-use Rattle.c104_run.specs.EventPlaces.{event_place}
-use Rattle.c104_run.specs.Network.{event_fault, terminal_place}
-use Rattle.c104_switch.specs.Actions.{Reply}
-use Rattle.c104_switch.specs.declared.actions.ActionOf.TheVariants as action
-use Rattle.c104_token.specs.Kinds.{plain_kind}
-use Rattle.c104_token.specs.declared.text.TheConstants.{MAX_PACKET_BYTES}
-use Rattle.c104_token.specs.declared.tokens.Token.{Token}
-use Rattle.std.proofs.Common.{Bool, None, Option, Some, ap, arith, false, inl, inr, is_some, length, nat_le, nat_lt, not, refl, sym, true, ℕ, ◌+◌, ◌-◌, ◌<◌, ◌∙◌, ◌≡◌, ◌≤◌, ◌⊎◌}
-use Rattle.std.proofs.lemmas.Bool.Decides.{nat_tests}
 
 -- the event in which something crosses from a port
 abbrev pub crossing_event : Crossing → Port → Event
-crossing_event TokenCrossing p = event.Cross p
-crossing_event Grant p = event.Credit p
+crossing_event TokenCrossing p = Event.Cross p
+crossing_event Grant p = Event.Credit p
 
 module _ (plan : Plan) where
   -- whether a link of the node at a place has a wire
@@ -96,10 +79,10 @@ module _ (plan : Plan) where
       by_peer None at some = absurd (cc)
       by_peer (Some q) at some = inr (record { near = p; far = q; crossing = crossing; wired = at; place = place; is = is; told = told })
 
-  pub switch_wired : (k l : ℕ) → nat_lt k (length plan.switches) ≡ true → is_wired_link k l ≡ true → is_some (peer plan (port.Switch k l)) ≡ true
+  pub switch_wired : (k l : ℕ) → nat_lt k (length plan.switches) ≡ true → is_wired_link k l ≡ true → is_some (peer plan (Port.Switch k l)) ≡ true
   switch_wired k l here is = sym (rw here refl) ∙ is
 
-  pub terminal_wired : (k : ℕ) → nat_lt k (length plan.switches) ≡ false → is_wired_link k 0 ≡ true → is_some (peer plan (port.Terminal (k - length plan.switches))) ≡ true
+  pub terminal_wired : (k : ℕ) → nat_lt k (length plan.switches) ≡ false → is_wired_link k 0 ≡ true → is_some (peer plan (Port.Terminal (k - length plan.switches))) ≡ true
   terminal_wired k past is = sym (rw past refl) ∙ is
 
   -- an act that leads in no event leads in none
@@ -108,32 +91,32 @@ module _ (plan : Plan) where
 
   -- an act that leads is an event by itself, or it is what crosses the wire at a port of its node
   pub lead_cases : (k : ℕ) (a : ActOf Token) → is_some (plan_event k a) ≡ true → LeadsAlone k a ⊎ LeadsJoint k a
-  lead_cases k (act.Step (action.Enter l x)) leads = absurd (leads_none k (act.Step (action.Enter l x)) refl leads)
-  lead_cases k (act.Step (action.Leave l)) leads = let s = stands_for k (act.Step (action.Leave l)) leads in joint k (act.Step (action.Leave l)) TokenCrossing (port.Switch k l) refl refl s.told (switch_wired k l s.kind s.linked)
-  lead_cases k (act.Step (action.CreditOut l)) leads = let s = stands_for k (act.Step (action.CreditOut l)) leads in joint k (act.Step (action.CreditOut l)) Grant (port.Switch k l) refl refl s.told (switch_wired k l s.kind s.linked)
-  lead_cases k (act.Step (action.CreditIn l)) leads = absurd (leads_none k (act.Step (action.CreditIn l)) refl leads)
-  lead_cases k (act.Step (action.Input l word)) leads =
-      let s = stands_for k (act.Step (action.Input l word)) leads in
+  lead_cases k (act.Step (ActionOf.Enter l x)) leads = absurd (leads_none k (act.Step (ActionOf.Enter l x)) refl leads)
+  lead_cases k (act.Step (ActionOf.Leave l)) leads = let s = stands_for k (act.Step (ActionOf.Leave l)) leads in joint k (act.Step (ActionOf.Leave l)) TokenCrossing (Port.Switch k l) refl refl s.told (switch_wired k l s.kind s.linked)
+  lead_cases k (act.Step (ActionOf.CreditOut l)) leads = let s = stands_for k (act.Step (ActionOf.CreditOut l)) leads in joint k (act.Step (ActionOf.CreditOut l)) Grant (Port.Switch k l) refl refl s.told (switch_wired k l s.kind s.linked)
+  lead_cases k (act.Step (ActionOf.CreditIn l)) leads = absurd (leads_none k (act.Step (ActionOf.CreditIn l)) refl leads)
+  lead_cases k (act.Step (ActionOf.Input l word)) leads =
+      let s = stands_for k (act.Step (ActionOf.Input l word)) leads in
       inl (record {
-        event = event.Input k l word;
+        event = Event.Input k l word;
         told = s.told;
         acts = refl;
         place = refl;
         possible = λ inside n r wide short made. rw (s.kind, below l LINKS (input_there 0 n l word r wide made)) refl;
       })
-  lead_cases k (act.Step (action.Claim i o)) leads =
-      let s = stands_for k (act.Step (action.Claim i o)) leads in
+  lead_cases k (act.Step (ActionOf.Claim i o)) leads =
+      let s = stands_for k (act.Step (ActionOf.Claim i o)) leads in
       inl (record {
-        event = event.Claim k i o;
+        event = Event.Claim k i o;
         told = s.told;
         acts = refl;
         place = refl;
         possible = λ inside n r wide short made. let there = claim_there 0 n i o r wide made in rw (s.kind, below i LINKS there.0, below o LINKS there.1) refl;
       })
-  lead_cases k (act.Step (action.Control bytes)) leads =
-      let s = stands_for k (act.Step (action.Control bytes)) leads in
+  lead_cases k (act.Step (ActionOf.Control bytes)) leads =
+      let s = stands_for k (act.Step (ActionOf.Control bytes)) leads in
       inl (record {
-        event = event.Control k bytes;
+        event = Event.Control k bytes;
         told = s.told;
         acts = refl;
         place = refl;
@@ -143,7 +126,7 @@ module _ (plan : Plan) where
       let s = stands_for k (act.Send packet) leads in
       let at = (terminal_there k s.kind).1 in
       inl (record {
-        event = event.Send (k - length plan.switches) packet;
+        event = Event.Send (k - length plan.switches) packet;
         told = s.told;
         acts = ap (λ j. Some (Acts.Alone j (act.Send packet))) at;
         place = at;
@@ -153,7 +136,7 @@ module _ (plan : Plan) where
       let s = stands_for k act.Drain leads in
       let at = (terminal_there k s.kind).1 in
       inl (record {
-        event = event.Drain (k - length plan.switches);
+        event = Event.Drain (k - length plan.switches);
         told = s.told;
         acts = ap (λ j. Some (Acts.Alone j act.Drain)) at;
         place = at;
@@ -162,10 +145,10 @@ module _ (plan : Plan) where
   lead_cases k act.Leave leads =
       let s = stands_for k act.Leave leads in
       let there = terminal_there k s.kind in
-      joint k act.Leave TokenCrossing (port.Terminal (k - length plan.switches)) refl there.1 s.told (terminal_wired k there.0 s.linked)
+      joint k act.Leave TokenCrossing (Port.Terminal (k - length plan.switches)) refl there.1 s.told (terminal_wired k there.0 s.linked)
   lead_cases k (act.Enter x) leads = absurd (leads_none k (act.Enter x) refl leads)
   lead_cases k act.CreditOut leads =
       let s = stands_for k act.CreditOut leads in
       let there = terminal_there k s.kind in
-      joint k act.CreditOut Grant (port.Terminal (k - length plan.switches)) refl there.1 s.told (terminal_wired k there.0 s.linked)
+      joint k act.CreditOut Grant (Port.Terminal (k - length plan.switches)) refl there.1 s.told (terminal_wired k there.0 s.linked)
   lead_cases k act.CreditIn leads = absurd (leads_none k act.CreditIn refl leads)

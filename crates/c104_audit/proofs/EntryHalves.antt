@@ -1,31 +1,19 @@
 -- The two entries of what crosses a wire: each tells the other.
 use Rattle.c104_audit.specs.Audits.{AgreeOneByOne, AreHalves, carried_in, carried_out, carries, is_number, is_of_kind}
-use Rattle.c104_audit.specs.declared.carried.Carried.TheVariants as carried
-use Rattle.c104_audit.specs.declared.carried.Carried.{Carried}
-use Rattle.c104_net.proofs.RoundMembers.{IsIn}
-use Rattle.c104_node.specs.ActLinks.{act_link, port_link}
-use Rattle.c104_node.specs.PortActs.{IsAnswerOf, far_act, near_act, port_credit_in, port_enter}
+use Rattle.{c104_audit.specs.declared.carried.Carried.Carried, c104_net.proofs.RoundMembers.IsIn, c104_node.specs.ActLinks.act_link}
+use Rattle.c104_node.specs.{ActLinks.port_link, PortActs.{IsAnswerOf, far_act, near_act, port_credit_in, port_enter}}
+use Rattle.c104_node.specs.declared.{acts.{ActOf.ActOf, Entry.Entry}, crossings.Crossing.{Crossing, TheVariants.Grant}}
+use Rattle.{c104_node.specs.declared.crossings.Crossing.TheVariants.Token as TokenCrossing, c104_plan.proofs.PortLemmas.is_port-true}
+use Rattle.{c104_plan.specs.{Ports.{is_port, other_end}, declared.ports.{Port.Port, Wire.Wire}}, c104_switch.specs.Actions.Reply}
+use Rattle.{c104_switch.specs.declared.actions.{ActionOf.ActionOf, ReplyOf.ReplyOf}, c104_token.specs.declared.tokens.Token.Token}
+use Rattle.std.proofs.Common.{Bool, List, None, Option, Some, [], ap, arith, false, if◌then◌else◌, inl, inr, map, nat_eq, refl, slice_get}
+use Rattle.std.proofs.{Common.{subst, suc, sym, true, ℕ, ◌&&◌, ◌∙◌, ◌∷◌, ◌≡◌, ◌⊎◌}, lemmas.Bool.Decides.nat_tests}
 use Rattle.c104_node.specs.declared.acts.ActOf.TheVariants as act
-use Rattle.c104_node.specs.declared.acts.ActOf.{ActOf}
-use Rattle.c104_node.specs.declared.acts.Entry.{Entry}
-use Rattle.c104_node.specs.declared.crossings.Crossing.TheVariants.{Grant, Token as TokenCrossing}
-use Rattle.c104_node.specs.declared.crossings.Crossing.{Crossing}
-use Rattle.c104_plan.proofs.PortLemmas.{is_port-true}
-use Rattle.c104_plan.specs.Ports.{is_port, other_end}
-use Rattle.c104_plan.specs.declared.ports.Port.TheVariants as port
-use Rattle.c104_plan.specs.declared.ports.Port.{Port}
-use Rattle.c104_plan.specs.declared.ports.Wire.{Wire}
-use Rattle.c104_switch.specs.Actions.{Reply}
-use Rattle.c104_switch.specs.declared.actions.ActionOf.TheVariants as action
-use Rattle.c104_switch.specs.declared.actions.ReplyOf.TheVariants as reply
-use Rattle.c104_token.specs.declared.tokens.Token.{Token}
-use Rattle.std.proofs.Common.{Bool, List, None, Option, Some, [], ap, arith, false, if◌then◌else◌, inl, inr, map, nat_eq, refl, slice_get, subst, suc, sym, true, ℕ, ◌&&◌, ◌∙◌, ◌∷◌, ◌≡◌, ◌⊎◌}
-use Rattle.std.proofs.lemmas.Bool.Decides.{nat_tests}
 
 -- whether a port is a switch's
 abbrev pub of_switch : Port → Bool
-of_switch (port.Switch s l) = true
-of_switch (port.Terminal t) = false
+of_switch (Port.Switch s l) = true
+of_switch (Port.Terminal t) = false
 
 -- an act is one at a port
 pub record IsAtPort (p : Port) (a : ActOf Token) : Type 0 where
@@ -43,47 +31,47 @@ link_is l (Some m) is = let same : m ≡ l = grind (arith, nat_tests) in ap Some
 
 -- what goes out at a port, and what comes in there
 pub out_is : (p : Port) (a : ActOf Token) (r : Reply) (c : Carried) → IsAtPort p a → carried_out a r ≡ Some c → (crossing : Crossing) × (a ≡ near_act crossing p)
-out_is (port.Switch s l) (act.Step (action.Leave m)) r c at is = let links = at.link in let same : m ≡ l = cc in (TokenCrossing, ap (λ k. act.Step (action.Leave k)) same)
-out_is (port.Switch s l) (act.Step (action.CreditOut m)) r c at is = let links = at.link in let same : m ≡ l = cc in (Grant, ap (λ k. act.Step (action.CreditOut k)) same)
-out_is (port.Terminal t) act.Leave r c at is = (TokenCrossing, refl)
-out_is (port.Terminal t) act.CreditOut r c at is = (Grant, refl)
+out_is (Port.Switch s l) (act.Step (ActionOf.Leave m)) r c at is = let links = at.link in let same : m ≡ l = cc in (TokenCrossing, ap (λ k. act.Step (ActionOf.Leave k)) same)
+out_is (Port.Switch s l) (act.Step (ActionOf.CreditOut m)) r c at is = let links = at.link in let same : m ≡ l = cc in (Grant, ap (λ k. act.Step (ActionOf.CreditOut k)) same)
+out_is (Port.Terminal t) act.Leave r c at is = (TokenCrossing, refl)
+out_is (Port.Terminal t) act.CreditOut r c at is = (Grant, refl)
 out_is p a r c at is = absurd (let kinds = at.kind in cc)
 
-enter_is : (q : Port) (a : ActOf Token) (v : Token) → IsAtPort q a → carried_in a ≡ Some (carried.Token v) → a ≡ port_enter v q
-enter_is (port.Switch s l) (act.Step (action.Enter m x)) v at is = let links = at.link in let same : m ≡ l = cc in let token : x ≡ v = cc in ap (λ k. act.Step (action.Enter k x)) same ∙ ap (λ y. act.Step (action.Enter l y)) token
-enter_is (port.Terminal t) (act.Enter x) v at is = let token : x ≡ v = cc in ap act.Enter token
+enter_is : (q : Port) (a : ActOf Token) (v : Token) → IsAtPort q a → carried_in a ≡ Some (Carried.Token v) → a ≡ port_enter v q
+enter_is (Port.Switch s l) (act.Step (ActionOf.Enter m x)) v at is = let links = at.link in let same : m ≡ l = cc in let token : x ≡ v = cc in ap (λ k. act.Step (ActionOf.Enter k x)) same ∙ ap (λ y. act.Step (ActionOf.Enter l y)) token
+enter_is (Port.Terminal t) (act.Enter x) v at is = let token : x ≡ v = cc in ap act.Enter token
 enter_is q a v at is = absurd (let kinds = at.kind in cc)
 
-credit_is : (q : Port) (a : ActOf Token) → IsAtPort q a → carried_in a ≡ Some carried.Grant → a ≡ port_credit_in q
-credit_is (port.Switch s l) (act.Step (action.CreditIn m)) at is = let links = at.link in let same : m ≡ l = cc in ap (λ k. act.Step (action.CreditIn k)) same
-credit_is (port.Terminal t) act.CreditIn at is = refl
+credit_is : (q : Port) (a : ActOf Token) → IsAtPort q a → carried_in a ≡ Some Carried.Grant → a ≡ port_credit_in q
+credit_is (Port.Switch s l) (act.Step (ActionOf.CreditIn m)) at is = let links = at.link in let same : m ≡ l = cc in ap (λ k. act.Step (ActionOf.CreditIn k)) same
+credit_is (Port.Terminal t) act.CreditIn at is = refl
 credit_is q a at is = absurd (let kinds = at.kind in cc)
 
 -- what comes in at a port is the far act of what went out
 pub in_is : (crossing : Crossing) (p q : Port) (a : ActOf Token) (r : Reply) (c : Carried) → IsAnswerOf crossing r → carried_out (near_act crossing p) r ≡ Some c → IsAtPort q a → carried_in a ≡ Some c → a ≡ far_act q r
-in_is TokenCrossing p q a (reply.Token x) c answer out at is = by_port p out
+in_is TokenCrossing p q a (ReplyOf.Token x) c answer out at is = by_port p out
   where
-    by_port : (p : Port) → carried_out (near_act TokenCrossing p) (reply.Token x) ≡ Some c → a ≡ port_enter x q
-    by_port (port.Switch s l) out = let same : carried.Token x ≡ c = cc in enter_is q a x at (is ∙ ap Some (sym same))
-    by_port (port.Terminal t) out = let same : carried.Token x ≡ c = cc in enter_is q a x at (is ∙ ap Some (sym same))
-in_is Grant p q a reply.Done c answer out at is = by_port p out
+    by_port : (p : Port) → carried_out (near_act TokenCrossing p) (ReplyOf.Token x) ≡ Some c → a ≡ port_enter x q
+    by_port (Port.Switch s l) out = let same : Carried.Token x ≡ c = cc in enter_is q a x at (is ∙ ap Some (sym same))
+    by_port (Port.Terminal t) out = let same : Carried.Token x ≡ c = cc in enter_is q a x at (is ∙ ap Some (sym same))
+in_is Grant p q a ReplyOf.Done c answer out at is = by_port p out
   where
-    by_port : (p : Port) → carried_out (near_act Grant p) reply.Done ≡ Some c → a ≡ port_credit_in q
-    by_port (port.Switch s l) out = let same : carried.Grant ≡ c = cc in credit_is q a at (is ∙ ap Some (sym same))
-    by_port (port.Terminal t) out = let same : carried.Grant ≡ c = cc in credit_is q a at (is ∙ ap Some (sym same))
+    by_port : (p : Port) → carried_out (near_act Grant p) ReplyOf.Done ≡ Some c → a ≡ port_credit_in q
+    by_port (Port.Switch s l) out = let same : Carried.Grant ≡ c = cc in credit_is q a at (is ∙ ap Some (sym same))
+    by_port (Port.Terminal t) out = let same : Carried.Grant ≡ c = cc in credit_is q a at (is ∙ ap Some (sym same))
 in_is crossing p q a r c answer out at is = absurd answer
 
 -- what goes out takes nothing in, and the other way round
 pub near_takes : (crossing : Crossing) (p : Port) (c : Carried) → carried_in (near_act crossing p) ≡ Some c → ⊥
-near_takes TokenCrossing (port.Switch s l) c is = cc
-near_takes Grant (port.Switch s l) c is = cc
+near_takes TokenCrossing (Port.Switch s l) c is = cc
+near_takes Grant (Port.Switch s l) c is = cc
 near_takes crossing p c is = cc
 
 pub near_at : (crossing : Crossing) (p : Port) → IsAtPort p (near_act crossing p)
-near_at TokenCrossing (port.Switch s l) = record { kind = refl; link = refl }
-near_at TokenCrossing (port.Terminal t) = record { kind = refl; link = refl }
-near_at Grant (port.Switch s l) = record { kind = refl; link = refl }
-near_at Grant (port.Terminal t) = record { kind = refl; link = refl }
+near_at TokenCrossing (Port.Switch s l) = record { kind = refl; link = refl }
+near_at TokenCrossing (Port.Terminal t) = record { kind = refl; link = refl }
+near_at Grant (Port.Switch s l) = record { kind = refl; link = refl }
+near_at Grant (Port.Terminal t) = record { kind = refl; link = refl }
 
 pub entry_is : (x y : Entry) → x.ticket ≡ y.ticket → x.act ≡ y.act → x.reply ≡ y.reply → x.seat ≡ y.seat → x ≡ y
 entry_is x y tickets acts replies seats =

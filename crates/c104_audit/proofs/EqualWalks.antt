@@ -1,7 +1,7 @@
 -- A walk that compares what it meets with a list, one by one.
-use Rattle.c104_audit.proofs.KeptElements.{drop_all, drop_next}
+use Rattle.{c104_audit.proofs.KeptElements.{drop_all, drop_next}, std.proofs.Common.{Bool, IsTrue, List, Some, [], ap, arith, drop, false}}
+use Rattle.std.proofs.Common.{length, nat_le, refl, slice_get, subst, suc, sym, true, zero, ℕ, ◌+◌, ◌<◌, ◌↔◌, ◌∙◌, ◌∷◌, ◌≡◌, ◌≤◌}
 use Rattle.std.proofs.lemmas.Bool.Decides.{nat_tests}
-use Rattle.std.proofs.Common.{Bool, IsTrue, List, Some, [], ap, arith, drop, false, length, nat_le, refl, slice_get, subst, suc, sym, true, zero, ℕ, ◌+◌, ◌<◌, ◌≤◌, ◌∙◌, ◌∷◌, ◌≡◌, ◌↔◌}
 
 never : {A : Type 0} → IsTrue false → A
 never is = absurd (let not_so : false ≡ true = is in cc)

@@ -1,9 +1,7 @@
 -- The first numbers of which something doesn't hold.
-use Rattle.c104_audit.specs.AuditFaults.{Everywhere}
-use Rattle.c104_audit.specs.Firsts.{IsFirst, lower_of}
-use Rattle.std.proofs.Common.{Bool, IsTrue, List, None, Option, Some, arith, false, if◌then◌else◌, length, nat_le, nat_lt, refl, slice_get, subst, sym, true, ℕ, ◌+◌, ◌<◌, ◌∙◌, ◌≡◌, ◌≤◌}
-use Rattle.std.proofs.lemmas.Option.{slice_get_within}
-use Rattle.std.proofs.lemmas.Bool.Decides.{nat_tests}
+use Rattle.{c104_audit.specs.{AuditFaults.Everywhere, Firsts.{IsFirst, lower_of}}, std.proofs.Common.{Bool, IsTrue, List, None, Option}}
+use Rattle.std.proofs.Common.{Some, arith, false, if◌then◌else◌, length, nat_le, nat_lt, refl, slice_get, subst, sym, true, ℕ, ◌+◌, ◌<◌}
+use Rattle.std.proofs.{Common.{◌∙◌, ◌≡◌, ◌≤◌}, lemmas.{Bool.Decides.nat_tests, Option.slice_get_within}}
 
 -- what is so of each number below one, and of this one
 pub below_next : (P : ℕ → Type 0) (i : ℕ) → ((k : ℕ) → k < i → P k) → P i → (k : ℕ) → k < i + 1 → P k

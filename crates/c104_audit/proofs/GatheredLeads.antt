@@ -1,11 +1,8 @@
 -- The entries that lead, as they are gathered.
-use Rattle.c104_audit.specs.Tests.{entry_or, lead_in}
-use Rattle.c104_audit.specs.Leads.{Lead, leads_at, leads_from}
-use Rattle.c104_net.specs.declared.leading.Lead.{Lead as Leading}
-use Rattle.c104_audit.proofs.KeptElements.{drop_next}
-use Rattle.std.proofs.lemmas.List.{map-append}
-use Rattle.c104_node.specs.declared.acts.Entry.{Entry}
-use Rattle.std.proofs.Common.{Bool, List, Some, [], ap, append_assoc, arith, drop, false, map, refl, slice_get, suc, sym, true, unwrap_or, ℕ, ◌++◌, ◌+◌, ◌∙◌, ◌∷◌, ◌≡◌}
+use Rattle.c104_audit.{proofs.KeptElements.drop_next, specs.{Leads.{Lead, leads_at, leads_from}, Tests.{entry_or, lead_in}}}
+use Rattle.{c104_net.specs.declared.leading.Lead.Lead as Leading, c104_node.specs.declared.acts.Entry.Entry, std.proofs.Common.{Bool, List}}
+use Rattle.std.proofs.Common.{Some, [], ap, append_assoc, arith, drop, false, map, refl, slice_get, suc, sym, true, unwrap_or, ℕ, ◌++◌, ◌+◌}
+use Rattle.std.proofs.{Common.{◌∙◌, ◌∷◌, ◌≡◌}, lemmas.List.map-append}
 
 module _ (leads : ℕ → Entry → Bool) where
   abbrev Tickets : Entry → ℕ

@@ -1,52 +1,24 @@
 -- What is known of the entries of nodes whose lists audit well.
-use Rattle.c104_audit.proofs.AuditRuns.{far_of, same_kind}
-use Rattle.c104_audit.proofs.EntryEvents.{is_wired_link}
-use Rattle.c104_audit.proofs.EntryHalves.{both_true}
-use Rattle.c104_audit.proofs.KeptLeads.{kept}
-use Rattle.c104_audit.proofs.Matches.{IsLegal, traces_match}
-use Rattle.c104_audit.proofs.Matching.{AreMatched}
-use Rattle.c104_audit.proofs.NetworkRuns.{AreReady}
-use Rattle.c104_net.proofs.SureOrigins.{mapped}
-use Rattle.c104_audit.proofs.WideNodes.{IsWide}
-use Rattle.c104_audit.specs.AuditedRuns.{AreGathered, IsKeptStart, IsWholeNode, node_shape}
-use Rattle.c104_audit.specs.Audits.{HasShape, IsAudited, is_leading, is_link_wired, is_of_kind}
-use Rattle.c104_audit.specs.Leads.{AreRising, list_at}
-use Rattle.c104_audit.specs.declared.lists.Lists.{Lists}
-use Rattle.c104_crossbar.specs.Groups.{has_bit}
-use Rattle.c104_link.proofs.MadeSteps.{All-place}
-use Rattle.c104_net.proofs.RoundMembers.{IsIn}
-use Rattle.c104_node.proofs.BegunRecords.{run_kind}
-use Rattle.c104_node.specs.ActLinks.{act_link}
-use Rattle.c104_node.specs.Acts.{node_act}
-use Rattle.c104_node.specs.Nodes.{Node, is_switch}
-use Rattle.c104_node.specs.Records.{IsNodeRun, MayAct, NodeRecord, NodeRoom, has_link, node_trace}
-use Rattle.c104_node.specs.Starts.{start_node}
-use Rattle.c104_node.specs.Traces.{part}
-use Rattle.c104_node.specs.declared.acts.ActOf.TheVariants as act
-use Rattle.c104_node.specs.declared.acts.ActOf.{ActOf}
-use Rattle.c104_node.specs.declared.acts.Entry.{Entry}
+use Rattle.c104_audit.proofs.{AuditRuns.{far_of, same_kind}, EntryEvents.is_wired_link, EntryHalves.both_true, KeptLeads.kept}
+use Rattle.c104_audit.proofs.{Matches.{IsLegal, traces_match}, Matching.AreMatched, NetworkRuns.AreReady, WideNodes.IsWide}
+use Rattle.c104_audit.specs.{AuditedRuns.{AreGathered, IsKeptStart, IsWholeNode, node_shape}, Audits.{HasShape, IsAudited, is_leading}}
+use Rattle.c104_audit.specs.{Audits.{is_link_wired, is_of_kind}, Leads.{AreRising, list_at}, declared.lists.Lists.Lists}
+use Rattle.{c104_crossbar.specs.Groups.has_bit, c104_link.proofs.MadeSteps.All-place, c104_net.proofs.RoundMembers.IsIn}
+use Rattle.{c104_net.proofs.SureOrigins.mapped, c104_node.{proofs.BegunRecords.run_kind, specs.{ActLinks.act_link, Acts.node_act}}}
+use Rattle.c104_node.specs.{Nodes.{Node, is_switch}, Records.{IsNodeRun, MayAct, NodeRecord, NodeRoom, has_link, node_trace}}
+use Rattle.c104_node.specs.{Starts.start_node, Traces.part, declared.{acts.{ActOf.ActOf, Entry.Entry}, starts.NodeStart.NodeStart}}
+use Rattle.{c104_plan.specs.{Plans.{IsPlan, Plan}, Wiring.wires}, c104_regs.specs.declared.registers.TheConstants.LINKS}
+use Rattle.{c104_run.specs.{NodeRuns.starting_nodes, Rounds.link_numbers}, c104_switch.specs.{Actions.Reply, Starts.start_input}}
+use Rattle.{c104_switch.specs.Starts.start_output, c104_token.specs.{Kinds.plain_kind, declared.tokens.Token.Token}, std.proofs.Common.Bool}
+use Rattle.std.proofs.Common.{List, None, Option, Some, [], ap, arith, false, get_or, inl, inr, length, map, nat_lt, option_map, refl}
+use Rattle.std.proofs.Common.{replicate, slice_get, subst, suc, sym, true, unwrap_or, zero, ℕ, ◌++◌, ◌+◌, ◌<◌, ◌∙◌, ◌∷◌, ◌≡◌}
+use Rattle.std.proofs.lemmas.{Bool.Decides.nat_tests, List.{FromFn.get_or-map-range_with_len, length-map}, Option.slice_get-map}
 use Rattle.c104_node.specs.declared.node.NodeOf.TheVariants as node
-use Rattle.c104_node.specs.declared.starts.NodeStart.TheVariants as start
-use Rattle.c104_node.specs.declared.starts.NodeStart.{NodeStart}
-use Rattle.c104_plan.specs.Plans.{IsPlan, Plan}
-use Rattle.c104_plan.specs.Wiring.{wires}
-use Rattle.c104_regs.specs.declared.registers.TheConstants.{LINKS}
-use Rattle.c104_run.specs.NodeRuns.{starting_nodes}
-use Rattle.c104_run.specs.Rounds.{link_numbers}
-use Rattle.c104_switch.specs.Actions.{Reply}
-use Rattle.c104_switch.specs.Starts.{start_input, start_output}
-use Rattle.c104_token.specs.Kinds.{plain_kind}
-use Rattle.c104_token.specs.declared.tokens.Token.{Token}
-use Rattle.std.proofs.Common.{Bool, List, None, Option, Some, [], ap, arith, false, get_or, inl, inr, length, map, nat_lt, option_map, refl, replicate, slice_get, subst, suc, sym, true, unwrap_or, zero, ℕ, ◌++◌, ◌+◌, ◌<◌, ◌∙◌, ◌∷◌, ◌≡◌}
-use Rattle.std.proofs.lemmas.Bool.Decides.{nat_tests}
-use Rattle.std.proofs.lemmas.List.FromFn.{get_or-map-range_with_len}
-use Rattle.std.proofs.lemmas.List.{length-map}
-use Rattle.std.proofs.lemmas.Option.{slice_get-map}
 
 -- an act that a node did is one of its kind
 pub act_of_kind : (a : ActOf Token) (n : Node Token) (r : Reply × Node Token) → node_act plain_kind 0 a n ≡ Some r → is_of_kind (is_switch n) a ≡ true
-act_of_kind (act.Step a) (node.Switch s) r is = refl
-act_of_kind (act.Step a) (node.Terminal t) r is = absurd (cc)
+act_of_kind (ActOf.Step a) (node.Switch s) r is = refl
+act_of_kind (ActOf.Step a) (node.Terminal t) r is = absurd (cc)
 act_of_kind a (node.Switch s) r is = absurd (cc)
 act_of_kind a (node.Terminal t) r is = refl
 
@@ -64,8 +36,8 @@ node_entry wired from to (e ∷ entries) x run (inl same) = subst (IsNodeEntry w
 node_entry wired from to (e ∷ entries) x run (inr has) = subst (λ b. IsNodeEntry wired b x) (same_kind wired e.act from run.0 e.reply run.1 run.2) (node_entry wired run.0 to entries x run.3 has)
 
 wide_start : (s : NodeStart) → IsKeptStart s → IsWide (start_node s)
-wide_start (start.Switch s) kept = (length-map s.links start_input ∙ kept.count, length-map s.links start_output ∙ kept.count)
-wide_start (start.Terminal t) kept = tt
+wide_start (NodeStart.Switch s) kept = (length-map s.links start_input ∙ kept.count, length-map s.links start_output ∙ kept.count)
+wide_start (NodeStart.Terminal t) kept = tt
 
 -- nodes of which those before a place are switches stand at their places
 pub in_place_by : (nodes : List (Node Token)) (a b : ℕ) → length nodes ≡ a + b → ((k : ℕ) (n : Node Token) → slice_get nodes k ≡ Some n → is_switch n ≡ nat_lt k a) → map is_switch nodes ≡ replicate a true ++ replicate b false

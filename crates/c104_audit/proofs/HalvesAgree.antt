@@ -1,8 +1,6 @@
 -- Whether what passes at two ends agrees, as a loop goes through it.
-use Rattle.c104_audit.specs.Audits.{AgreeOneByOne}
-use Rattle.c104_audit.specs.Tests.{HasHalf, HasNoHalf}
-use Rattle.c104_node.specs.declared.acts.Entry.{Entry}
-use Rattle.std.proofs.Common.{IsTrue, List, [], false, refl, subst, true, ◌∷◌, ◌≡◌, ◌↔◌}
+use Rattle.{c104_audit.specs.{Audits.AgreeOneByOne, Tests.{HasHalf, HasNoHalf}}, c104_node.specs.declared.acts.Entry.Entry}
+use Rattle.std.proofs.Common.{IsTrue, List, [], false, refl, subst, true, ◌↔◌, ◌∷◌, ◌≡◌}
 
 -- lists agree where they agree behind two halves
 pub agree_next : (All : Type 0) (ps qs rest others : List Entry) (x : Entry) → ps ≡ x ∷ rest → HasHalf x qs others → (AgreeOneByOne ps qs ↔ All) → (AgreeOneByOne rest others ↔ All)

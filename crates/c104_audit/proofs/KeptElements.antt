@@ -1,8 +1,7 @@
 -- What a filter, or what each element gives, keeps of a list from a place on.
-use Rattle.c104_node.proofs.Waiting.{drop_there}
-use Rattle.std.proofs.Common.{Bool, List, Some, [], ap, arith, drop, false, filter, get_or, length, map, refl, slice_get, subst, suc, sym, true, zero, ℕ, ◌++◌, ◌+◌, ◌<◌, ◌∙◌, ◌∷◌, ◌≡◌, ◌≤◌}
-use Rattle.std.proofs.lemmas.Option.{slice_get-get_or, slice_get_within}
-use Rattle.std.specs.List.{flat_map}
+use Rattle.{c104_node.proofs.Waiting.drop_there, std.proofs.Common.{Bool, List, Some, [], ap, arith, drop, false, filter, get_or, length}}
+use Rattle.std.proofs.Common.{map, refl, slice_get, subst, suc, sym, true, zero, ℕ, ◌++◌, ◌+◌, ◌<◌, ◌∙◌, ◌∷◌, ◌≡◌, ◌≤◌}
+use Rattle.std.{proofs.lemmas.Option.{slice_get-get_or, slice_get_within}, specs.List.flat_map}
 
 -- an element that was read
 pub got : {X : Type 0} (xs : List X) (i : ℕ) (y d : X) → y ≡ get_or xs i d → i < length xs → slice_get xs i ≡ Some y

@@ -1,55 +1,35 @@
 -- The traces of nodes that audit well match: what leads at one place and is done at another too is in the trace there,
 -- and each entry that doesn't lead is the other half of one that does.
-use Rattle.c104_audit.proofs.AuditRuns.{WasDone, answered, far_alone, far_joint, far_of, stamp_of}
-use Rattle.c104_audit.proofs.EntryEvents.{LeadsAlone, LeadsJoint, crossing_event, is_wired_link, lead_cases, plan_event, switch_wired, terminal_there, terminal_wired}
-use Rattle.c104_audit.proofs.EntryHalves.{IsAtPort, both_true, entry_is, in_is, link_is, near_at, near_takes, of_switch, out_is, partner, partner_back, wire_of}
-use Rattle.c104_audit.proofs.Matching.{AreMatched}
-use Rattle.c104_audit.proofs.Merging.{from_filter}
-use Rattle.c104_audit.proofs.NetworkRuns.{crossing_acts_are}
-use Rattle.c104_audit.specs.Audits.{AgreeOneByOne, AreHalves, IsPassed, carried_in, carried_out, carries, end_among, is_leading, is_of_kind, passes_at, passing_at}
-use Rattle.c104_audit.specs.Leads.{AreRising, list_at}
-use Rattle.c104_audit.specs.declared.carried.Carried.{Carried}
-use Rattle.c104_event.specs.declared.events.Event.{Event}
-use Rattle.c104_net.proofs.RoundMembers.{IsIn, in_filter}
-use Rattle.c104_net.specs.Leading.{act_event}
-use Rattle.c104_node.proofs.JointEnds.{far_done, near_answers}
-use Rattle.c104_node.specs.ActLinks.{act_link, on_links, port_link}
-use Rattle.c104_node.specs.Acts.{node_act}
-use Rattle.c104_node.specs.PortActs.{Acts, IsAnswerOf, far_act, near_act}
-use Rattle.c104_node.specs.Traces.{entry_of}
-use Rattle.c104_node.specs.declared.acts.ActOf.TheVariants as act
-use Rattle.c104_node.specs.declared.acts.ActOf.{ActOf}
-use Rattle.c104_node.specs.declared.acts.Entry.{Entry}
-use Rattle.c104_node.specs.declared.crossings.Crossing.TheVariants.{Grant, Token as TokenCrossing}
-use Rattle.c104_node.specs.declared.crossings.Crossing.{Crossing}
-use Rattle.c104_node.specs.declared.ends.End.{End}
-use Rattle.c104_plan.specs.Plans.{IsPlan, Plan}
-use Rattle.c104_plan.specs.Wiring.{peer, wires}
-use Rattle.c104_plan.specs.declared.ports.Port.TheVariants as port
-use Rattle.c104_plan.specs.declared.ports.Port.{Port}
-use Rattle.c104_plan.specs.declared.ports.Wire.{Wire}
-use Rattle.c104_run.proofs.BalanceWires.{nodes_apart, peer_back, peer_one, switch_inside}
-use Rattle.c104_run.specs.EventActs.{event_acts, port_place}
-use Rattle.c104_switch.specs.Actions.{Reply}
-use Rattle.c104_switch.specs.declared.actions.ActionOf.TheVariants as action
-use Rattle.c104_switch.specs.declared.actions.ReplyOf.TheVariants as reply
-use Rattle.c104_token.specs.Kinds.{plain_kind}
-use Rattle.c104_token.specs.declared.tokens.Token.{Token}
-use Rattle.std.proofs.Common.{Bool, List, None, Option, Some, ap, arith, false, if◌then◌else◌, inl, inr, is_some, length, map, nat_eq, nat_lt, not, refl, slice_get, subst, sym, true, ℕ, ◌+◌, ◌-◌, ◌∙◌, ◌≡◌, ◌≢◌, ◌⊎◌}
-use Rattle.std.proofs.lemmas.Bool.Decides.{nat_tests}
+use Rattle.c104_audit.proofs.{AuditRuns.{WasDone, answered, far_alone, far_joint, far_of, stamp_of}, EntryEvents.{LeadsAlone, LeadsJoint}}
+use Rattle.c104_audit.proofs.EntryEvents.{crossing_event, is_wired_link, lead_cases, plan_event, switch_wired, terminal_there}
+use Rattle.c104_audit.proofs.{EntryEvents.terminal_wired, EntryHalves.{IsAtPort, both_true, entry_is, in_is, link_is, near_at, near_takes}}
+use Rattle.c104_audit.proofs.{EntryHalves.{of_switch, out_is, partner, partner_back, wire_of}, Matching.AreMatched, Merging.from_filter}
+use Rattle.c104_audit.{proofs.NetworkRuns.crossing_acts_are, specs.Audits.{AgreeOneByOne, AreHalves, IsPassed, carried_in, carried_out}}
+use Rattle.c104_audit.specs.{Audits.{carries, end_among, is_leading, is_of_kind, passes_at, passing_at}, Leads.{AreRising, list_at}}
+use Rattle.{c104_audit.specs.declared.carried.Carried.Carried, c104_event.specs.declared.events.Event.Event}
+use Rattle.{c104_net.{proofs.RoundMembers.{IsIn, in_filter}, specs.Leading.act_event}, c104_node.proofs.JointEnds.{far_done, near_answers}}
+use Rattle.c104_node.specs.{ActLinks.{act_link, on_links, port_link}, Acts.node_act, PortActs.{Acts, IsAnswerOf, far_act, near_act}}
+use Rattle.c104_node.specs.{Traces.entry_of, declared.{acts.{ActOf.ActOf, Entry.Entry}, crossings.Crossing.{Crossing, TheVariants.Grant}}}
+use Rattle.{c104_node.specs.declared.{crossings.Crossing.TheVariants.Token as TokenCrossing, ends.End.End}, c104_plan.specs.Plans.IsPlan}
+use Rattle.c104_plan.specs.{Plans.Plan, Wiring.{peer, wires}, declared.ports.{Port.Port, Wire.Wire}}
+use Rattle.c104_run.{proofs.BalanceWires.{nodes_apart, peer_back, peer_one, switch_inside}, specs.EventActs.{event_acts, port_place}}
+use Rattle.{c104_switch.specs.{Actions.Reply, declared.actions.{ActionOf.ActionOf, ReplyOf.ReplyOf}}, c104_token.specs.Kinds.plain_kind}
+use Rattle.{c104_token.specs.declared.tokens.Token.Token, std.proofs.Common.{Bool, List, None, Option, Some, ap, arith, false}}
+use Rattle.std.proofs.Common.{if◌then◌else◌, inl, inr, is_some, length, map, nat_eq, nat_lt, not, refl, slice_get, subst, sym, true, ℕ, ◌+◌}
+use Rattle.std.proofs.{Common.{◌-◌, ◌∙◌, ◌≡◌, ◌≢◌, ◌⊎◌}, lemmas.Bool.Decides.nat_tests}
 
 module _ (plan : Plan) (is_plan : IsPlan plan) where
   abbrev pub PlanEnd : Port → End
   PlanEnd p = end_among (length plan.switches) p
 
   pub end_place : (p : Port) → (end_among (length plan.switches) p).node ≡ port_place plan p
-  end_place (port.Switch s l) = refl
-  end_place (port.Terminal t) = refl
+  end_place (Port.Switch s l) = refl
+  end_place (Port.Terminal t) = refl
 
   -- the kind of a port's node
   port_kind : (p q : Port) → peer plan p ≡ Some q → nat_lt (port_place plan p) (length plan.switches) ≡ of_switch p
-  port_kind (port.Switch s l) q wired = let inside = (switch_inside plan is_plan s l q wired).0 in grind (arith, nat_tests)
-  port_kind (port.Terminal t) q wired = grind (arith, nat_tests)
+  port_kind (Port.Switch s l) q wired = let inside = (switch_inside plan is_plan s l q wired).0 in grind (arith, nat_tests)
+  port_kind (Port.Terminal t) q wired = grind (arith, nat_tests)
 
   -- an entry passes at a port where its act is one at the port
   pub passes_is : (p q : Port) (x : Entry) → peer plan p ≡ Some q → passes_at (length plan.switches) (PlanEnd p) x ≡ true → IsAtPort p x.act
@@ -61,15 +41,15 @@ module _ (plan : Plan) (is_plan : IsPlan plan) where
       }
     where
       end_link : (p : Port) → (PlanEnd p).link ≡ port_link p
-      end_link (port.Switch s l) = refl
-      end_link (port.Terminal t) = refl
+      end_link (Port.Switch s l) = refl
+      end_link (Port.Terminal t) = refl
 
   pub is_passing : (p q : Port) (x : Entry) → peer plan p ≡ Some q → IsAtPort p x.act → passes_at (length plan.switches) (PlanEnd p) x ≡ true
   is_passing p q x wired at = by_port p (port_kind p q wired) at.kind at.link
     where
       by_port : (p : Port) → nat_lt (port_place plan p) (length plan.switches) ≡ of_switch p → is_of_kind (of_switch p) x.act ≡ true → act_link x.act ≡ Some (port_link p) → passes_at (length plan.switches) (PlanEnd p) x ≡ true
-      by_port (port.Switch s l) kind acts over = let itself : nat_eq l l ≡ true = grind (arith, nat_tests) in rw (kind, acts, over, itself) refl
-      by_port (port.Terminal t) kind acts over = rw (kind, acts, over) refl
+      by_port (Port.Switch s l) kind acts over = let itself : nat_eq l l ≡ true = grind (arith, nat_tests) in rw (kind, acts, over, itself) refl
+      by_port (Port.Terminal t) kind acts over = rw (kind, acts, over) refl
 
   -- an entry of a trace was done by a node of the place's kind, over no link without a wire
   pub record IsLegal (k : ℕ) (x : Entry) : Type 0 where
@@ -89,10 +69,10 @@ module _ (plan : Plan) (is_plan : IsPlan plan) where
       by_peer (Some q) is = (q, refl)
 
   near_told : (crossing : Crossing) (p q : Port) → peer plan p ≡ Some q → plan_event plan (port_place plan p) (near_act crossing p) ≡ Some (crossing_event crossing p)
-  near_told TokenCrossing (port.Switch s l) q wired = rw (port_kind (port.Switch s l) q wired, wired) refl
-  near_told TokenCrossing (port.Terminal t) q wired = let number : (length plan.switches + t) - length plan.switches ≡ t = omega arith in rw (port_kind (port.Terminal t) q wired, number, wired) refl
-  near_told Grant (port.Switch s l) q wired = rw (port_kind (port.Switch s l) q wired, wired) refl
-  near_told Grant (port.Terminal t) q wired = let number : (length plan.switches + t) - length plan.switches ≡ t = omega arith in rw (port_kind (port.Terminal t) q wired, number, wired) refl
+  near_told TokenCrossing (Port.Switch s l) q wired = rw (port_kind (Port.Switch s l) q wired, wired) refl
+  near_told TokenCrossing (Port.Terminal t) q wired = let number : (length plan.switches + t) - length plan.switches ≡ t = omega arith in rw (port_kind (Port.Terminal t) q wired, number, wired) refl
+  near_told Grant (Port.Switch s l) q wired = rw (port_kind (Port.Switch s l) q wired, wired) refl
+  near_told Grant (Port.Terminal t) q wired = let number : (length plan.switches + t) - length plan.switches ≡ t = omega arith in rw (port_kind (Port.Terminal t) q wired, number, wired) refl
 
   -- what goes out at a wired port leads
   near_leads : (crossing : Crossing) (p q : Port) → peer plan p ≡ Some q → is_some (plan_event plan (port_place plan p) (near_act crossing p)) ≡ true
@@ -107,21 +87,21 @@ module _ (plan : Plan) (is_plan : IsPlan plan) where
       none false = refl
 
       by_reply : (q : Port) (r : Reply) → is_some (plan_event plan k (far_act q r)) ≡ false
-      by_reply (port.Switch s l) reply.Done = none _
-      by_reply (port.Terminal t) reply.Done = none _
+      by_reply (Port.Switch s l) ReplyOf.Done = none _
+      by_reply (Port.Terminal t) ReplyOf.Done = none _
       by_reply q r = none _
 
   far_link : (q : Port) (r : Reply) → act_link (far_act {A = Token} q r) ≡ Some (port_link q)
-  far_link (port.Switch s l) reply.Done = refl
-  far_link (port.Terminal t) reply.Done = refl
+  far_link (Port.Switch s l) ReplyOf.Done = refl
+  far_link (Port.Terminal t) ReplyOf.Done = refl
   far_link q r = refl
 
   -- a wired port is known by its place and its link
   port_is : (p q p' q' : Port) → peer plan p ≡ Some q → peer plan p' ≡ Some q' → port_place plan p ≡ port_place plan p' → port_link p ≡ port_link p' → p ≡ p'
-  port_is (port.Switch s l) q (port.Switch s' l') q' is is' places links = ap (λ k. port.Switch k l) places ∙ ap (port.Switch s') links
-  port_is (port.Switch s l) q (port.Terminal t') q' is is' places links = absurd (let inside = (switch_inside plan is_plan s l q is).0 in let same : s ≡ length plan.switches + t' = places in let no : ⊥ = omega (arith, inside, same) in no)
-  port_is (port.Terminal t) q (port.Switch s' l') q' is is' places links = absurd (let inside = (switch_inside plan is_plan s' l' q' is').0 in let same : length plan.switches + t ≡ s' = places in let no : ⊥ = omega (arith, inside, same) in no)
-  port_is (port.Terminal t) q (port.Terminal t') q' is is' places links = let same : length plan.switches + t ≡ length plan.switches + t' = places in let number : t ≡ t' = omega (arith, same) in ap port.Terminal number
+  port_is (Port.Switch s l) q (Port.Switch s' l') q' is is' places links = ap (λ k. Port.Switch k l) places ∙ ap (Port.Switch s') links
+  port_is (Port.Switch s l) q (Port.Terminal t') q' is is' places links = absurd (let inside = (switch_inside plan is_plan s l q is).0 in let same : s ≡ length plan.switches + t' = places in let no : ⊥ = omega (arith, inside, same) in no)
+  port_is (Port.Terminal t) q (Port.Switch s' l') q' is is' places links = absurd (let inside = (switch_inside plan is_plan s' l' q' is').0 in let same : length plan.switches + t ≡ s' = places in let no : ⊥ = omega (arith, inside, same) in no)
+  port_is (Port.Terminal t) q (Port.Terminal t') q' is is' places links = let same : length plan.switches + t ≡ length plan.switches + t' = places in let number : t ≡ t' = omega (arith, same) in ap Port.Terminal number
 
   -- an entry that is legal and doesn't lead is at a wired port, lets nothing out, and takes something in
   pub record Follows (k : ℕ) (y : Entry) : Type 0 where
@@ -140,20 +120,20 @@ module _ (plan : Plan) (is_plan : IsPlan plan) where
 
       at_switch : (l : ℕ) → nat_lt k (length plan.switches) ≡ true → is_wired_link plan k l ≡ true → is_of_kind true y.act ≡ true → act_link y.act ≡ Some l → ((r : Reply) (c : Carried) → carried_out y.act r ≡ Some c → ⊥) → Follows k y
       at_switch l here wire kind over still =
-          let other = some_peer (port.Switch k l) (switch_wired plan k l here wire) in
-          record { at = port.Switch k l; other = other.0; wired = other.1; place = refl; here = record { kind = kind; link = over }; still = still }
+          let other = some_peer (Port.Switch k l) (switch_wired plan k l here wire) in
+          record { at = Port.Switch k l; other = other.0; wired = other.1; place = refl; here = record { kind = kind; link = over }; still = still }
 
       at_terminal : not (nat_lt k (length plan.switches)) ≡ true → is_wired_link plan k 0 ≡ true → is_of_kind false y.act ≡ true → act_link y.act ≡ Some 0 → ((r : Reply) (c : Carried) → carried_out y.act r ≡ Some c → ⊥) → Follows k y
       at_terminal past wire kind over still =
           let there = terminal_there plan k past in
-          let other = some_peer (port.Terminal (k - length plan.switches)) (terminal_wired plan k there.0 wire) in
-          record { at = port.Terminal (k - length plan.switches); other = other.0; wired = other.1; place = there.1; here = record { kind = kind; link = over }; still = still }
+          let other = some_peer (Port.Terminal (k - length plan.switches)) (terminal_wired plan k there.0 wire) in
+          record { at = Port.Terminal (k - length plan.switches); other = other.0; wired = other.1; place = there.1; here = record { kind = kind; link = over }; still = still }
 
       by_act : (a : ActOf Token) → y.act ≡ a → is_of_kind (nat_lt k (length plan.switches)) a ≡ true → on_links (is_wired_link plan k) a ≡ true → Follows k y
-      by_act (act.Step (action.Enter l x)) is kind wire = at_switch l kind wire (ap (is_of_kind true) is) (ap act_link is) (λ r c out. let no : carried_out (act.Step (action.Enter l x)) r ≡ Some c = ap (λ a. carried_out a r) (sym is) ∙ out in cc)
-      by_act (act.Step (action.CreditIn l)) is kind wire = at_switch l kind wire (ap (is_of_kind true) is) (ap act_link is) (λ r c out. let no : carried_out (act.Step (action.CreditIn l)) r ≡ Some c = ap (λ a. carried_out a r) (sym is) ∙ out in cc)
-      by_act (act.Enter x) is kind wire = at_terminal kind wire (ap (is_of_kind false) is) (ap act_link is) (λ r c out. let no : carried_out (act.Enter x) r ≡ Some c = ap (λ a. carried_out a r) (sym is) ∙ out in cc)
-      by_act act.CreditIn is kind wire = at_terminal kind wire (ap (is_of_kind false) is) (ap act_link is) (λ r c out. let no : carried_out act.CreditIn r ≡ Some c = ap (λ a. carried_out a r) (sym is) ∙ out in cc)
+      by_act (ActOf.Step (ActionOf.Enter l x)) is kind wire = at_switch l kind wire (ap (is_of_kind true) is) (ap act_link is) (λ r c out. let no : carried_out (ActOf.Step (ActionOf.Enter l x)) r ≡ Some c = ap (λ a. carried_out a r) (sym is) ∙ out in cc)
+      by_act (ActOf.Step (ActionOf.CreditIn l)) is kind wire = at_switch l kind wire (ap (is_of_kind true) is) (ap act_link is) (λ r c out. let no : carried_out (ActOf.Step (ActionOf.CreditIn l)) r ≡ Some c = ap (λ a. carried_out a r) (sym is) ∙ out in cc)
+      by_act (ActOf.Enter x) is kind wire = at_terminal kind wire (ap (is_of_kind false) is) (ap act_link is) (λ r c out. let no : carried_out (ActOf.Enter x) r ≡ Some c = ap (λ a. carried_out a r) (sym is) ∙ out in cc)
+      by_act ActOf.CreditIn is kind wire = at_terminal kind wire (ap (is_of_kind false) is) (ap act_link is) (λ r c out. let no : carried_out ActOf.CreditIn r ≡ Some c = ap (λ a. carried_out a r) (sym is) ∙ out in cc)
       by_act a is kind wire = absurd (leads_not _ (ap (act_event (length plan.switches) k) is))
 
   -- what goes out at a wired port is no event by itself
@@ -167,13 +147,13 @@ module _ (plan : Plan) (is_plan : IsPlan plan) where
           cc
 
   -- the other half of what goes out is what comes in at the other end with its ticket and its seat
-  half_is : (p q : Port) (x y : Entry) (j : ℕ) → peer plan p ≡ Some q → IsAtPort q y.act → WasDone plan x → WasDone plan y → (crossing : Crossing) → x.act ≡ near_act crossing p → IsAnswerOf crossing x.reply → x.ticket ≡ y.ticket → IsPassed x y → x.seat ≡ y.seat → y ≡ entry_of (stamp_of x) (far_act q x.reply) reply.Done
-  half_is p q x y j wired at was_x was_y crossing is answer tickets passed seats = entry_is y (entry_of (stamp_of x) (far_act q x.reply) reply.Done) (sym tickets) acts done (sym seats)
+  half_is : (p q : Port) (x y : Entry) (j : ℕ) → peer plan p ≡ Some q → IsAtPort q y.act → WasDone plan x → WasDone plan y → (crossing : Crossing) → x.act ≡ near_act crossing p → IsAnswerOf crossing x.reply → x.ticket ≡ y.ticket → IsPassed x y → x.seat ≡ y.seat → y ≡ entry_of (stamp_of x) (far_act q x.reply) ReplyOf.Done
+  half_is p q x y j wired at was_x was_y crossing is answer tickets passed seats = entry_is y (entry_of (stamp_of x) (far_act q x.reply) ReplyOf.Done) (sym tickets) acts done (sym seats)
     where
       acts : y.act ≡ far_act q x.reply
       acts = in_is crossing p q y.act x.reply passed.0 answer (ap (λ a. carried_out a x.reply) (sym is) ∙ passed.1) at passed.2
 
-      done : y.reply ≡ reply.Done
+      done : y.reply ≡ ReplyOf.Done
       done = far_done plain_kind crossing x.reply q was_y.node (y.reply, was_y.after) answer (subst (λ a. node_act plain_kind 0 a was_y.node ≡ Some (y.reply, was_y.after)) acts was_y.made)
 
   module _ (traces : List (List Entry)) (rising : (k : ℕ) → AreRising (λ (e : Entry). e.ticket) (list_at traces k)) (legal : (k : ℕ) (x : Entry) → IsIn x (list_at traces k) → IsLegal k x)
@@ -232,11 +212,11 @@ module _ (plan : Plan) (is_plan : IsPlan plan) where
             passed (inl out) = out
             passed (inr back) = absurd (near_takes j.crossing j.near back.0 (ap carried_in (sym j.is) ∙ back.2))
 
-            half : found.0 ≡ entry_of (stamp_of x) (far_act j.far x.reply) reply.Done
+            half : found.0 ≡ entry_of (stamp_of x) (far_act j.far x.reply) ReplyOf.Done
             half = half_is j.near j.far x found.0 k j.wired found_in.1 (legal k x has).was (legal (port_place plan j.far) found.0 found_in.0).was j.crossing j.is (answered plan x k j (legal k x has).was) found.2.0 (passed found.2.1) found.3
 
-            same : ◌≡◌ {A = ℕ × Entry} (port_place plan j.far, entry_of (stamp_of x) (far_act j.far x.reply) reply.Done) d
-            same = let both : ◌≡◌ {A = Option (ℕ × Entry)} (Some (port_place plan j.far, entry_of (stamp_of x) (far_act j.far x.reply) reply.Done)) (Some d) = sym (far_joint plan k x j) ∙ far in cc
+            same : ◌≡◌ {A = ℕ × Entry} (port_place plan j.far, entry_of (stamp_of x) (far_act j.far x.reply) ReplyOf.Done) d
+            same = let both : ◌≡◌ {A = Option (ℕ × Entry)} (Some (port_place plan j.far, entry_of (stamp_of x) (far_act j.far x.reply) ReplyOf.Done)) (Some d) = sym (far_joint plan k x j) ∙ far in cc
 
     away_half : (k : ℕ) (y : Entry) → IsIn y (T k) → is_leading (length plan.switches) (wires plan) k y ≡ false → (p : ℕ) × (x : Entry) × IsIn x (T p) × (is_leading (length plan.switches) (wires plan) p x ≡ true) × (Far p x ≡ Some (k, y))
     away_half k y has none = (port_place plan f.other, x, found_in.0, leads, far)
@@ -274,7 +254,7 @@ module _ (plan : Plan) (is_plan : IsPlan plan) where
 
         by_cases : LeadsAlone plan (port_place plan f.other) x.act ⊎ LeadsJoint plan (port_place plan f.other) x.act → Far (port_place plan f.other) x ≡ Some (k, y)
         by_cases (inl alone) = absurd (alone_not near.0 f.other f.at back (subst (LeadsAlone plan (port_place plan f.other)) near.1 alone))
-        by_cases (inr j) = far_joint plan (port_place plan f.other) x j ∙ ap Some (pair_is (ap (port_place plan) there ∙ f.place) (sym (half ∙ ap (λ r. entry_of (stamp_of x) (far_act r x.reply) reply.Done) (sym there))))
+        by_cases (inr j) = far_joint plan (port_place plan f.other) x j ∙ ap Some (pair_is (ap (port_place plan) there ∙ f.place) (sym (half ∙ ap (λ r. entry_of (stamp_of x) (far_act r x.reply) ReplyOf.Done) (sym there))))
           where
             pair_is : {a b : ℕ} {u v : Entry} → a ≡ b → u ≡ v → ◌≡◌ {A = ℕ × Entry} (a, u) (b, v)
             pair_is {a} {b} {u} {v} first second = ap (λ i. pair i u) first ∙ ap (pair b) second
@@ -288,7 +268,7 @@ module _ (plan : Plan) (is_plan : IsPlan plan) where
             there : j.far ≡ f.at
             there = (let both : Some j.far ≡ Some f.at = sym j.wired ∙ ap (peer plan) near_same ∙ back in cc)
 
-            half : y ≡ entry_of (stamp_of x) (far_act f.at x.reply) reply.Done
+            half : y ≡ entry_of (stamp_of x) (far_act f.at x.reply) ReplyOf.Done
             half = half_is f.other f.at x y k back f.here (legal (port_place plan f.other) x found_in.0).was (legal k y has).was near.0 near.1 (answered_by near.0 near.1) (sym found.2.0) out (sym found.3)
               where
                 answered_by : (crossing : Crossing) → x.act ≡ near_act crossing f.other → IsAnswerOf crossing x.reply
@@ -303,7 +283,7 @@ module _ (plan : Plan) (is_plan : IsPlan plan) where
         by_cases : LeadsAlone plan k x.act ⊎ LeadsJoint plan k x.act → (d.1.ticket ≡ x.ticket) × (is_leading (length plan.switches) (wires plan) d.0 d.1 ≡ false) × (nat_eq k d.0 ≡ false)
         by_cases (inl alone) = absurd (let no : ◌≡◌ {A = Option (ℕ × Entry)} None (Some d) = sym (far_alone plan k x alone) ∙ far in cc)
         by_cases (inr j) =
-            let same : ◌≡◌ {A = ℕ × Entry} (port_place plan j.far, entry_of (stamp_of x) (far_act j.far x.reply) reply.Done) d = (let both : ◌≡◌ {A = Option (ℕ × Entry)} (Some (port_place plan j.far, entry_of (stamp_of x) (far_act j.far x.reply) reply.Done)) (Some d) = sym (far_joint plan k x j) ∙ far in cc) in
+            let same : ◌≡◌ {A = ℕ × Entry} (port_place plan j.far, entry_of (stamp_of x) (far_act j.far x.reply) ReplyOf.Done) d = (let both : ◌≡◌ {A = Option (ℕ × Entry)} (Some (port_place plan j.far, entry_of (stamp_of x) (far_act j.far x.reply) ReplyOf.Done)) (Some d) = sym (far_joint plan k x j) ∙ far in cc) in
             let apart : port_place plan j.near ≢ port_place plan j.far = nodes_apart plan is_plan j.near j.far j.wired in
             subst (λ (e : ℕ × Entry). (e.1.ticket ≡ x.ticket) × (is_leading (length plan.switches) (wires plan) e.0 e.1 ≡ false) × (nat_eq k e.0 ≡ false)) same
             (refl, far_follows (port_place plan j.far) j.far x.reply, differs apart j.place)
@@ -318,14 +298,14 @@ module _ (plan : Plan) (is_plan : IsPlan plan) where
     one_half : (k i : ℕ) (x y : Entry) (d : ℕ × Entry) → is_leading (length plan.switches) (wires plan) k x ≡ true → is_leading (length plan.switches) (wires plan) i y ≡ true → Far k x ≡ Some d → Far i y ≡ Some d → k ≡ i
     one_half k i x y d leads leads' far far' = by_cases (lead_cases plan k x.act leads) (lead_cases plan i y.act leads')
       where
-        pair_of : (k : ℕ) (x : Entry) (j : LeadsJoint plan k x.act) → Far k x ≡ Some d → ◌≡◌ {A = ℕ × Entry} (port_place plan j.far, entry_of (stamp_of x) (far_act j.far x.reply) reply.Done) d
-        pair_of k x j far = let both : ◌≡◌ {A = Option (ℕ × Entry)} (Some (port_place plan j.far, entry_of (stamp_of x) (far_act j.far x.reply) reply.Done)) (Some d) = sym (far_joint plan k x j) ∙ far in cc
+        pair_of : (k : ℕ) (x : Entry) (j : LeadsJoint plan k x.act) → Far k x ≡ Some d → ◌≡◌ {A = ℕ × Entry} (port_place plan j.far, entry_of (stamp_of x) (far_act j.far x.reply) ReplyOf.Done) d
+        pair_of k x j far = let both : ◌≡◌ {A = Option (ℕ × Entry)} (Some (port_place plan j.far, entry_of (stamp_of x) (far_act j.far x.reply) ReplyOf.Done)) (Some d) = sym (far_joint plan k x j) ∙ far in cc
 
         by_cases : LeadsAlone plan k x.act ⊎ LeadsJoint plan k x.act → LeadsAlone plan i y.act ⊎ LeadsJoint plan i y.act → k ≡ i
         by_cases (inl alone) other = absurd (let no : ◌≡◌ {A = Option (ℕ × Entry)} None (Some d) = sym (far_alone plan k x alone) ∙ far in cc)
         by_cases (inr j) (inl alone) = absurd (let no : ◌≡◌ {A = Option (ℕ × Entry)} None (Some d) = sym (far_alone plan i y alone) ∙ far' in cc)
         by_cases (inr j) (inr j') =
-            let both : ◌≡◌ {A = ℕ × Entry} (port_place plan j.far, entry_of (stamp_of x) (far_act j.far x.reply) reply.Done) (port_place plan j'.far, entry_of (stamp_of y) (far_act j'.far y.reply) reply.Done) = pair_of k x j far ∙ sym (pair_of i y j' far') in
+            let both : ◌≡◌ {A = ℕ × Entry} (port_place plan j.far, entry_of (stamp_of x) (far_act j.far x.reply) ReplyOf.Done) (port_place plan j'.far, entry_of (stamp_of y) (far_act j'.far y.reply) ReplyOf.Done) = pair_of k x j far ∙ sym (pair_of i y j' far') in
             let places : port_place plan j.far ≡ port_place plan j'.far = ap (λ (e : ℕ × Entry). e.0) both in
             let links : Some (port_link j.far) ≡ Some (port_link j'.far) = sym (far_link j.far x.reply) ∙ ap (λ (e : ℕ × Entry). act_link e.1.act) both ∙ far_link j'.far y.reply in
             let link : port_link j.far ≡ port_link j'.far = cc in

@@ -1,9 +1,7 @@
 -- What things that lead do, at their places and at others, and lists that match: they have just what these do.
-use Rattle.c104_audit.specs.Leads.{AreRising, Lead, list_at}
-use Rattle.c104_net.proofs.RoundMembers.{IsIn}
-use Rattle.c104_run.specs.Runs.{IsBefore}
-use Rattle.std.specs.List.{AllByRecursion}
-use Rattle.std.specs.Prelude.{Bool, List, None, Option, Some, [], false, if◌then◌else◌, nat_eq, true, ℕ, ◌++◌, ◌∷◌, ◌≡◌}
+use Rattle.{c104_audit.specs.Leads.{AreRising, Lead, list_at}, c104_net.proofs.RoundMembers.IsIn, c104_run.specs.Runs.IsBefore}
+use Rattle.std.specs.{List.AllByRecursion, Prelude.{Bool, List, None, Option, Some, [], false, if◌then◌else◌, nat_eq, true, ℕ, ◌++◌, ◌∷◌}}
+use Rattle.std.specs.Prelude.{◌≡◌}
 
 -- one thing that leads stands before another: by ticket, and then by place
 abbrev pub StandsBefore : {X : Type 0} → ℕ × Lead X → ℕ × Lead X → Type 0

@@ -1,47 +1,22 @@
 -- Where each node runs its part of what entries that lead tell, the network runs their events.
 use Rattle.c104_audit.proofs.AuditRuns.{IsSure, far_alone, far_joint, far_of, lead_event, lead_pair, same_kind, stamp_of}
-use Rattle.c104_audit.proofs.EntryEvents.{LeadsAlone, LeadsJoint, crossing_event, lead_cases}
-use Rattle.c104_audit.proofs.Matching.{all_deeds, at_place, far_deed}
-use Rattle.c104_audit.proofs.WideNodes.{IsWide, wide_act}
-use Rattle.c104_audit.specs.Leads.{Lead}
-use Rattle.c104_event.specs.declared.events.Event.{Event}
-use Rattle.c104_event.specs.declared.faults.EventFault.{EventFault}
-use Rattle.c104_link.proofs.MadeSteps.{place_after_set}
-use Rattle.c104_link.specs.Steps.{◌>>=◌}
-use Rattle.c104_node.proofs.ReadyActs.{act_ready}
-use Rattle.c104_node.proofs.RecordedNodes.{number_plain}
-use Rattle.c104_node.proofs.WireEnds.{get_set_other, get_set_same}
-use Rattle.c104_node.specs.Acts.{node_act, plain_reply}
-use Rattle.c104_node.specs.Nodes.{Node, is_switch}
-use Rattle.c104_node.specs.PortActs.{Acts, acts_limit, far_act, near_act}
-use Rattle.c104_node.specs.Records.{IsNodeRun, MayAct}
-use Rattle.c104_node.specs.Traces.{entry_of}
-use Rattle.c104_node.specs.declared.acts.ActOf.{ActOf}
-use Rattle.c104_node.specs.declared.acts.Entry.{Entry}
-use Rattle.c104_node.specs.declared.crossings.Crossing.TheVariants.{Grant, Token as TokenCrossing}
-use Rattle.c104_node.specs.declared.crossings.Crossing.{Crossing}
-use Rattle.c104_plan.specs.Plans.{IsPlan, Plan}
-use Rattle.c104_plan.specs.Wiring.{peer}
-use Rattle.c104_plan.specs.declared.ports.Port.TheVariants as port
-use Rattle.c104_plan.specs.declared.ports.Port.{Port}
-use Rattle.c104_regs.specs.declared.registers.TheConstants.{LINKS}
-use Rattle.c104_run.proofs.BalancePlaces.{still_in_place}
-use Rattle.c104_run.proofs.BalanceWires.{nodes_apart, peer_back, switch_inside, terminal_inside}
-use Rattle.c104_run.proofs.RecordSteps.{nodes_counted}
-use Rattle.c104_run.specs.Balance.{AreInPlace}
-use Rattle.c104_run.specs.EventActs.{acts_step, event_acts, port_place}
+use Rattle.c104_audit.proofs.{EntryEvents.{LeadsAlone, LeadsJoint, crossing_event, lead_cases}, Matching.{all_deeds, at_place, far_deed}}
+use Rattle.{c104_audit.{proofs.WideNodes.{IsWide, wide_act}, specs.Leads.Lead}, c104_event.specs.declared.events.Event.Event}
+use Rattle.{c104_event.specs.declared.faults.EventFault.EventFault, c104_link.{proofs.MadeSteps.place_after_set, specs.Steps.◌>>=◌}}
+use Rattle.{c104_net.proofs.StillWires.element_at, c104_node.proofs.{ReadyActs.act_ready, RecordedNodes.number_plain}}
+use Rattle.c104_node.{proofs.WireEnds.{get_set_other, get_set_same}, specs.{Acts.{node_act, plain_reply}, Nodes.{Node, is_switch}}}
+use Rattle.c104_node.specs.{PortActs.{Acts, acts_limit, far_act, near_act}, Records.{IsNodeRun, MayAct}, Traces.entry_of}
+use Rattle.c104_node.specs.declared.{acts.{ActOf.ActOf, Entry.Entry}, crossings.Crossing.{Crossing, TheVariants.Grant}}
+use Rattle.{c104_node.specs.declared.crossings.Crossing.TheVariants.Token as TokenCrossing, c104_plan.specs.Plans.{IsPlan, Plan}}
+use Rattle.{c104_plan.specs.{Wiring.peer, declared.ports.Port.Port}, c104_regs.specs.declared.registers.TheConstants.LINKS}
+use Rattle.c104_run.proofs.{BalancePlaces.still_in_place, BalanceWires.{nodes_apart, peer_back, switch_inside, terminal_inside}}
+use Rattle.c104_run.{proofs.RecordSteps.nodes_counted, specs.{Balance.AreInPlace, EventActs.{acts_step, event_acts, port_place}}}
 use Rattle.c104_run.specs.Network.{Network, event_fault, event_limit, network_apply, network_of, network_step, told_step, wired_fault}
-use Rattle.c104_run.specs.Runs.{IsDoneRun}
-use Rattle.c104_switch.specs.Actions.{Reply, is_ready}
-use Rattle.c104_switch.specs.declared.actions.ReplyOf.TheVariants as reply
-use Rattle.c104_token.specs.Kinds.{plain_kind}
-use Rattle.c104_token.specs.declared.tokens.Token.{Token}
-use Rattle.std.proofs.Common.{Bool, List, None, Ok, Option, Result, Some, [], ap, arith, false, if◌then◌else◌, inl, inr, length, map, nat_eq, nat_lt, refl, slice_get, slice_set, subst, suc, sym, true, ℕ, ◌++◌, ◌+◌, ◌-◌, ◌<◌, ◌∙◌, ◌∷◌, ◌≡◌, ◌≢◌, ◌⊎◌}
-use Rattle.std.proofs.lemmas.Bool.Decides.{nat_tests}
-use Rattle.std.proofs.lemmas.Bool.{cases_eq}
-use Rattle.c104_net.proofs.StillWires.{element_at}
-use Rattle.std.proofs.lemmas.List.{length-set}
-use Rattle.std.specs.List.{AllByRecursion}
+use Rattle.{c104_run.specs.Runs.IsDoneRun, c104_switch.specs.{Actions.{Reply, is_ready}, declared.actions.ReplyOf.ReplyOf}}
+use Rattle.{c104_token.specs.{Kinds.plain_kind, declared.tokens.Token.Token}, std.proofs.Common.{Bool, List, None, Ok, Option, Result}}
+use Rattle.std.proofs.Common.{Some, [], ap, arith, false, if◌then◌else◌, inl, inr, length, map, nat_eq, nat_lt, refl, slice_get, slice_set}
+use Rattle.std.proofs.{Common.{subst, suc, sym, true, ℕ, ◌++◌, ◌+◌, ◌-◌, ◌<◌, ◌∙◌, ◌∷◌, ◌≡◌, ◌≢◌, ◌⊎◌}, lemmas.Bool.Decides.nat_tests}
+use Rattle.std.{proofs.lemmas.{Bool.cases_eq, List.length-set}, specs.List.AllByRecursion}
 
 -- lists of one length with the same things at each place are the same
 pub same_places : {X : Type 0} (xs ys : List X) → length ys ≡ length xs → ((k : ℕ) (x y : X) → slice_get xs k ≡ Some x → slice_get ys k ≡ Some y → y ≡ x) → ys ≡ xs
@@ -62,7 +37,7 @@ at_other k j x ds differs = by_test (nat_eq j k) refl
     by_test false is = refl
 
 plain_same : (r : Reply) → plain_reply plain_kind r ≡ r
-plain_same reply.Done = refl
+plain_same ReplyOf.Done = refl
 plain_same r = refl
 
 module _ (plan : Plan) (is_plan : IsPlan plan) where
@@ -82,14 +57,14 @@ module _ (plan : Plan) (is_plan : IsPlan plan) where
   applied nodes next e r possible made below = rw (possible, made, below) refl
 
   wired_possible : (p q : Port) → peer plan p ≡ Some q → wired_fault plan p ≡ None
-  wired_possible (port.Switch s l) q wired =
+  wired_possible (Port.Switch s l) q wired =
       let inside = switch_inside plan is_plan s l q wired in
       let s_there = inside.0 in
       let l_there = inside.1 in
       let first : nat_lt s (length plan.switches) ≡ true = grind (arith, nat_tests) in
       let second : nat_lt l LINKS ≡ true = grind (arith, nat_tests) in
       rw (first, second, wired) refl
-  wired_possible (port.Terminal t) q wired =
+  wired_possible (Port.Terminal t) q wired =
       let inside = terminal_inside plan is_plan t q wired in
       let first : nat_lt t (length plan.terminals) ≡ true = grind (arith, nat_tests) in
       rw (first, wired) refl
@@ -197,7 +172,7 @@ module _ (plan : Plan) (is_plan : IsPlan plan) where
         F = port_place plan j.far
 
         Y : Entry
-        Y = entry_of (stamp_of X) (far_act j.far X.reply) reply.Done
+        Y = entry_of (stamp_of X) (far_act j.far X.reply) ReplyOf.Done
 
         apart : K ≢ F
         apart same = nodes_apart plan is_plan j.near j.far j.wired (j.place ∙ same)
@@ -247,7 +222,7 @@ module _ (plan : Plan) (is_plan : IsPlan plan) where
         step : network_step plain_kind (network_of plan nodes) (lead_event plan m) ≡ Some (X.reply, network_of plan next)
         step =
             ap (network_step plain_kind (network_of plan nodes)) is
-            ∙ joint_step_is nodes ready j.crossing j.near j.far n mid n' far_mid X.reply reply.Done j.wired (ap (slice_get nodes) j.place ∙ at) far_at left far_run.2
+            ∙ joint_step_is nodes ready j.crossing j.near j.far n mid n' far_mid X.reply ReplyOf.Done j.wired (ap (slice_get nodes) j.place ∙ at) far_at left far_run.2
             ∙ ap (λ k. Some (X.reply, network_of plan (slice_set (slice_set nodes k mid) F far_mid))) j.place
 
         below : event_limit (network_of plan nodes) (lead_event plan m) ≡ None
@@ -295,8 +270,8 @@ module _ (plan : Plan) (is_plan : IsPlan plan) where
             joint_run j n.0 e.0 n'.0 e'.0 n.1 e.1 n'.1 e'.1
           where
             port_there : (p q : Port) → peer plan p ≡ Some q → port_place plan p < length plan.switches + length plan.terminals
-            port_there (port.Switch s l) q wired = let inside = (switch_inside plan is_plan s l q wired).0 in omega (arith, inside)
-            port_there (port.Terminal t) q wired = let inside = terminal_inside plan is_plan t q wired in omega (arith, inside)
+            port_there (Port.Switch s l) q wired = let inside = (switch_inside plan is_plan s l q wired).0 in omega (arith, inside)
+            port_there (Port.Terminal t) q wired = let inside = terminal_inside plan is_plan t q wired in omega (arith, inside)
 
   -- the network runs the events of entries that lead
   pub network_runs : (wired : ℕ → ℕ) (ms : List (ℕ × Lead Entry)) (nodes ends : List (Node Token)) → AreReady nodes → length ends ≡ length nodes → AllByRecursion (IsSure plan) ms → AllByRecursion (λ m. m.1.place < length plan.switches + length plan.terminals) ms → RunParts wired nodes ends ms → IsDoneRun plain_kind (network_of plan nodes) (map (lead_pair plan) ms) (network_of plan ends)

@@ -1,12 +1,8 @@
 -- Whether tickets rise, as a loop tells it.
-use Rattle.c104_audit.proofs.Merging.{each_in, in_each}
-use Rattle.c104_audit.specs.Leads.{AreRising}
+use Rattle.c104_audit.{proofs.Merging.{each_in, in_each}, specs.{Leads.AreRising, Tests.{is_later, rises_after}}}
+use Rattle.{c104_node.specs.declared.acts.Entry.Entry, std.proofs.Common.{Bool, IsTrue, List, None, Option, Some, [], arith, false, nat_lt}}
+use Rattle.std.proofs.{Common.{refl, sym, true, ℕ, ◌<◌, ◌↔◌, ◌∙◌, ◌∷◌, ◌≡◌}, lemmas.Bool.{Decides.nat_tests, and_parts}}
 use Rattle.std.specs.List.{AllByRecursion}
-use Rattle.c104_audit.specs.Tests.{is_later, rises_after}
-use Rattle.c104_node.specs.declared.acts.Entry.{Entry}
-use Rattle.std.proofs.Common.{Bool, IsTrue, List, None, Option, Some, [], arith, false, nat_lt, refl, sym, true, ℕ, ◌<◌, ◌↔◌, ◌∙◌, ◌∷◌, ◌≡◌}
-use Rattle.std.proofs.lemmas.Bool.{and_parts}
-use Rattle.std.proofs.lemmas.Bool.Decides.{nat_tests}
 
 later_all : (t : ℕ) (es : List Entry) → rises_after (Some t) es ≡ true → AllByRecursion (λ (e : Entry). t < e.ticket) es
 later_all t [] is = tt

@@ -1,21 +1,11 @@
 -- The first seat past all lists that entries carry which lead.
-use Rattle.c104_audit.proofs.CalledLeads.{leads_named}
-use Rattle.c104_audit.proofs.FirstFailures.{first_both, first_same}
-use Rattle.c104_audit.proofs.KeptElements.{drop_all}
-use Rattle.c104_audit.proofs.Merging.{in_each}
-use Rattle.c104_audit.specs.Audits.{carries, is_number, led_call, led_event, lists_leads}
-use Rattle.c104_audit.specs.Firsts.{IsFirst, lower_of}
-use Rattle.c104_audit.specs.Leads.{Lead}
-use Rattle.std.specs.List.{AllByRecursion}
-use Rattle.c104_audit.specs.Tests.{HasNoStray, calls_told, lead_in, past_seat, strays}
-use Rattle.c104_audit.specs.declared.calls.Call.{Call}
-use Rattle.c104_audit.specs.declared.lists.Lists.{Lists}
-use Rattle.c104_net.specs.declared.leading.Lead.{Lead as Leading}
-use Rattle.c104_event.specs.declared.events.Event.{Event}
-use Rattle.c104_node.specs.declared.acts.Entry.{Entry}
-use Rattle.std.proofs.Common.{Bool, List, None, Option, Some, [], ap, arith, drop, false, if◌then◌else◌, is_some, length, map, nat_eq, nat_le, refl, subst, sym, true, ℕ, ◌++◌, ◌∙◌, ◌∷◌, ◌≡◌, ◌≤◌}
-use Rattle.std.proofs.lemmas.Bool.Decides.{nat_tests}
-use Rattle.std.specs.Option.{option_to_list}
+use Rattle.c104_audit.proofs.{CalledLeads.leads_named, FirstFailures.{first_both, first_same}, KeptElements.drop_all, Merging.in_each}
+use Rattle.c104_audit.specs.{Audits.{carries, is_number, led_call, led_event, lists_leads}, Firsts.{IsFirst, lower_of}, Leads.Lead}
+use Rattle.c104_audit.specs.{Tests.{HasNoStray, calls_told, lead_in, past_seat, strays}, declared.{calls.Call.Call, lists.Lists.Lists}}
+use Rattle.{c104_event.specs.declared.events.Event.Event, c104_net.specs.declared.leading.Lead.Lead as Leading}
+use Rattle.{c104_node.specs.declared.acts.Entry.Entry, std.proofs.Common.{Bool, List, None, Option, Some, [], ap, arith, drop, false}}
+use Rattle.std.proofs.Common.{if◌then◌else◌, is_some, length, map, nat_eq, nat_le, refl, subst, sym, true, ℕ, ◌++◌, ◌∙◌, ◌∷◌, ◌≡◌, ◌≤◌}
+use Rattle.std.{proofs.lemmas.Bool.Decides.nat_tests, specs.{List.AllByRecursion, Option.option_to_list}}
 
 past_first : (count : ℕ) (o : Option ℕ) → IsFirst (λ s. count ≤ s → is_number s o ≡ false) (past_seat count o)
 past_first count None = λ s past. refl

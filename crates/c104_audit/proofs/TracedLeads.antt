@@ -1,52 +1,26 @@
 -- What entries that lead tell, as events and as calls.
-use Rattle.c104_audit.proofs.AuditRuns.{IsSure, lead_event, lead_pair, stamp_of}
-use Rattle.c104_audit.proofs.EntryEvents.{plan_event}
-use Rattle.c104_audit.proofs.KeptLeads.{revalued, sort_map}
-use Rattle.c104_plan.proofs.RangeLists.{each_append}
-use Rattle.c104_audit.proofs.Merging.{each_in, from_filter, in_each}
-use Rattle.c104_audit.specs.AuditedRuns.{AreSeated, AreUnseated, seat_calls}
-use Rattle.c104_audit.specs.Audits.{called_by, carries, is_leading, is_number, led_by, told_reply, unseated}
-use Rattle.c104_audit.specs.Calls.{call_of}
-use Rattle.c104_audit.specs.Leads.{AreRising, Lead, leads_at, leads_from, list_at, merged_leads}
-use Rattle.c104_audit.specs.declared.calls.Call.{Call}
-use Rattle.c104_event.specs.declared.events.Event.TheVariants as event
-use Rattle.c104_event.specs.declared.events.Event.{Event}
-use Rattle.c104_event.specs.declared.faults.EventFault.{EventFault}
-use Rattle.c104_net.proofs.RoundMembers.{IsIn, in_filter, in_right}
-use Rattle.c104_net.specs.Leading.{act_event, led_events, told_first}
-use Rattle.c104_net.specs.Merges.{by_ticket}
-use Rattle.c104_net.specs.ToldEvents.{told_by, told_event, told_events}
-use Rattle.c104_node.specs.Acts.{done_by, node_act}
-use Rattle.c104_node.specs.Nodes.{Node, node_credit_out}
-use Rattle.c104_node.specs.PortActs.{Acts, far_act, near_act}
-use Rattle.c104_node.specs.Traces.{Deed, entry_of, part, seatless}
-use Rattle.c104_node.specs.declared.acts.ActOf.TheVariants as act
-use Rattle.c104_node.specs.declared.acts.ActOf.{ActOf}
-use Rattle.c104_node.specs.declared.acts.Entry.{Entry}
-use Rattle.c104_node.specs.declared.crossings.Crossing.{Crossing}
-use Rattle.c104_node.specs.declared.node.NodeOf.TheVariants as node
-use Rattle.c104_node.specs.declared.stamps.Stamp.{Stamp}
-use Rattle.c104_plan.specs.Plans.{Plan}
-use Rattle.c104_plan.specs.Wiring.{wires}
-use Rattle.c104_plan.specs.declared.ports.Port.{Port}
-use Rattle.c104_run.specs.EventActs.{event_acts, port_place}
-use Rattle.c104_run.specs.EventDeeds.{acts_deeds, event_deeds}
-use Rattle.c104_run.specs.Network.{Network, network_apply}
-use Rattle.c104_run.specs.Runs.{IsDoneRun, at_node, run_deeds}
-use Rattle.c104_switch.specs.Actions.{Reply, is_ready}
-use Rattle.c104_switch.specs.declared.actions.ActionOf.TheVariants as action
-use Rattle.c104_switch.specs.declared.actions.ReplyOf.TheVariants as reply
-use Rattle.c104_token.specs.Kinds.{Kind, plain_kind}
-use Rattle.c104_token.specs.declared.tokens.Token.{Token}
-use Rattle.std.proofs.Common.{Bool, List, None, Ok, Option, Result, Some, [], ap, arith, false, if◌then◌else◌, inl, inr, is_some, length, map, nat_eq, not, option_map, refl, slice_get, subst, suc, sym, true, unwrap_or, ℕ, ◌++◌, ◌+◌, ◌<◌, ◌∙◌, ◌∷◌, ◌≡◌}
-use Rattle.std.proofs.lemmas.List.{map-append}
-use Rattle.std.specs.List.{AllByRecursion}
+use Rattle.c104_audit.proofs.{AuditRuns.{IsSure, lead_event, lead_pair, stamp_of}, EntryEvents.plan_event, KeptLeads.{revalued, sort_map}}
+use Rattle.c104_audit.{proofs.Merging.{each_in, from_filter, in_each}, specs.AuditedRuns.{AreSeated, AreUnseated, seat_calls}}
+use Rattle.c104_audit.specs.{Audits.{called_by, carries, is_leading, is_number, led_by, told_reply, unseated}, Calls.call_of}
+use Rattle.c104_audit.specs.{Leads.{AreRising, Lead, leads_at, leads_from, list_at, merged_leads}, declared.calls.Call.Call}
+use Rattle.{c104_event.specs.declared.{events.Event.Event, faults.EventFault.EventFault}, c104_net.proofs.RoundMembers.{IsIn, in_filter}}
+use Rattle.c104_net.{proofs.RoundMembers.in_right, specs.{Leading.{act_event, led_events, told_first}, Merges.by_ticket}}
+use Rattle.{c104_net.specs.ToldEvents.{told_by, told_event, told_events}, c104_node.specs.{Acts.{done_by, node_act}, Nodes.Node}}
+use Rattle.c104_node.specs.{Nodes.node_credit_out, PortActs.{Acts, far_act, near_act}, Traces.{Deed, entry_of, part, seatless}}
+use Rattle.c104_node.specs.declared.{acts.{ActOf.ActOf, Entry.Entry}, crossings.Crossing.Crossing, node.NodeOf.NodeOf, stamps.Stamp.Stamp}
+use Rattle.c104_plan.{proofs.RangeLists.each_append, specs.{Plans.Plan, Wiring.wires, declared.ports.Port.Port}}
+use Rattle.c104_run.specs.{EventActs.{event_acts, port_place}, EventDeeds.{acts_deeds, event_deeds}, Network.{Network, network_apply}}
+use Rattle.{c104_run.specs.Runs.{IsDoneRun, at_node, run_deeds}, c104_switch.specs.Actions.{Reply, is_ready}}
+use Rattle.{c104_switch.specs.declared.actions.{ActionOf.ActionOf, ReplyOf.ReplyOf}, c104_token.specs.Kinds.{Kind, plain_kind}}
+use Rattle.{c104_token.specs.declared.tokens.Token.Token, std.proofs.Common.{Bool, List, None, Ok, Option, Result, Some, [], ap, arith}}
+use Rattle.std.proofs.Common.{false, if◌then◌else◌, inl, inr, is_some, length, map, nat_eq, not, option_map, refl, slice_get, subst, suc}
+use Rattle.std.{proofs.{Common.{sym, true, unwrap_or, ℕ, ◌++◌, ◌+◌, ◌<◌, ◌∙◌, ◌∷◌, ◌≡◌}, lemmas.List.map-append}, specs.List.AllByRecursion}
 use Rattle.std.specs.Option.{option_to_list}
 
 module _ (plan : Plan) where
   -- an entry that leads, as the event that it tells
   abbrev pub event_of_lead : Lead Entry → Event
-  event_of_lead l = unwrap_or (plan_event plan l.place l.entry.act) (event.Drain 0)
+  event_of_lead l = unwrap_or (plan_event plan l.place l.entry.act) (Event.Drain 0)
 
   abbrev Tickets : Entry → ℕ
   Tickets e = e.ticket
@@ -64,7 +38,7 @@ module _ (plan : Plan) where
     where
       by_event : led_events (length plan.switches) k xs ≡ map (revalued event_of_lead) (leads_at Tickets Leads k xs) → (o : Option Event) → plan_event plan k x.act ≡ o → told_first x.ticket o (led_events (length plan.switches) k xs) ≡ map (revalued event_of_lead) (if is_some o then (x.ticket, record { place = k; entry = x }) ∷ leads_at Tickets Leads k xs else leads_at Tickets Leads k xs)
       by_event rest None is = rest
-      by_event rest (Some e) is = ap (λ es. (x.ticket, e) ∷ es) rest ∙ ap (λ o. (x.ticket, unwrap_or o (event.Drain 0)) ∷ map (revalued event_of_lead) (leads_at Tickets Leads k xs)) (sym is)
+      by_event rest (Some e) is = ap (λ es. (x.ticket, e) ∷ es) rest ∙ ap (λ o. (x.ticket, unwrap_or o (Event.Drain 0)) ∷ map (revalued event_of_lead) (leads_at Tickets Leads k xs)) (sym is)
 
   named_from : (k : ℕ) (traces : List (List Entry)) → ((j : ℕ) → AreNamed (k + j) (list_at traces j)) → told_by (length plan.switches) k traces ≡ map (revalued event_of_lead) (leads_from Tickets Leads k traces)
   named_from k [] named = refl
@@ -90,20 +64,20 @@ module _ (plan : Plan) where
   led_is [] sure = refl
   led_is (m ∷ ms) sure = by_event (plan_event plan m.1.place m.1.entry.act) refl (led_is ms sure.1) (sure.0.leads)
     where
-      by_event : (o : Option Event) → plan_event plan m.1.place m.1.entry.act ≡ o → led_by (length plan.switches) (wires plan) ms ≡ map (lead_event plan) ms → is_some o ≡ true → option_to_list o ++ led_by (length plan.switches) (wires plan) ms ≡ unwrap_or o (event.Drain 0) ∷ map (lead_event plan) ms
+      by_event : (o : Option Event) → plan_event plan m.1.place m.1.entry.act ≡ o → led_by (length plan.switches) (wires plan) ms ≡ map (lead_event plan) ms → is_some o ≡ true → option_to_list o ++ led_by (length plan.switches) (wires plan) ms ≡ unwrap_or o (Event.Drain 0) ∷ map (lead_event plan) ms
       by_event None is rest leads = absurd (cc)
       by_event (Some e) is rest leads = ap (λ es. e ∷ es) rest
 
   -- the reply of an event is that of the entry that leads in it
-  granted : (o : Option (Node Token)) (r : Reply) (m : Node Token) → done_by o ≡ Some (r, m) → reply.Done ≡ r
+  granted : (o : Option (Node Token)) (r : Reply) (m : Node Token) → done_by o ≡ Some (r, m) → ReplyOf.Done ≡ r
   granted None r m is = absurd (cc)
-  granted (Some n) r m is = let both : ◌≡◌ {A = Reply × Node Token} (reply.Done, n) (r, m) = cc in ap (λ (v : Reply × Node Token). v.0) both
+  granted (Some n) r m is = let both : ◌≡◌ {A = Reply × Node Token} (ReplyOf.Done, n) (r, m) = cc in ap (λ (v : Reply × Node Token). v.0) both
 
   pub reply_is : (a : ActOf Token) (n m : Node Token) (r : Reply) → node_act plain_kind 0 a n ≡ Some (r, m) → told_reply a r ≡ r
-  reply_is (act.Step (action.CreditOut l)) (node.Switch s) m r is = granted (node_credit_out l (node.Switch s)) r m is
-  reply_is (act.Step (action.CreditOut l)) (node.Terminal t) m r is = absurd (cc)
-  reply_is act.CreditOut (node.Switch s) m r is = absurd (cc)
-  reply_is act.CreditOut (node.Terminal t) m r is = granted (node_credit_out 0 (node.Terminal t)) r m is
+  reply_is (ActOf.Step (ActionOf.CreditOut l)) (NodeOf.Switch s) m r is = granted (node_credit_out l (NodeOf.Switch s)) r m is
+  reply_is (ActOf.Step (ActionOf.CreditOut l)) (NodeOf.Terminal t) m r is = absurd (cc)
+  reply_is ActOf.CreditOut (NodeOf.Switch s) m r is = absurd (cc)
+  reply_is ActOf.CreditOut (NodeOf.Terminal t) m r is = granted (node_credit_out 0 (NodeOf.Terminal t)) r m is
   reply_is a n m r is = refl
 
   -- numbered events have the stamps of these entries that lead
@@ -137,7 +111,7 @@ module _ (plan : Plan) where
       ap (λ (t : Stamp). if is_number s t.seat then call_of (lead_event plan m) t.ticket m.1.entry.reply ∷ seat_calls stamps s (suc n) (map (lead_pair plan) ms) else seat_calls stamps s (suc n) (map (lead_pair plan) ms)) (first_stamp stamps n m ms numbered)
       ∙ by_seat (calls_are stamps s (suc n) ms (next_stamps stamps n m ms numbered) sure.1) (is_number s m.1.entry.seat)
     where
-      by_event : (o : Option Event) → is_some o ≡ true → (calls : List Call) → call_of (unwrap_or o (event.Drain 0)) m.1.entry.ticket m.1.entry.reply ∷ calls ≡ option_to_list (option_map (CallOf m) o) ++ calls
+      by_event : (o : Option Event) → is_some o ≡ true → (calls : List Call) → call_of (unwrap_or o (Event.Drain 0)) m.1.entry.ticket m.1.entry.reply ∷ calls ≡ option_to_list (option_map (CallOf m) o) ++ calls
       by_event None leads calls = absurd (cc)
       by_event (Some e) leads calls = ap (λ r. call_of e m.1.entry.ticket r ∷ calls) (sym (reply_is m.1.entry.act sure.0.was.node sure.0.was.after m.1.entry.reply sure.0.was.made))
 
@@ -224,7 +198,7 @@ deeds_stamped plan stamp e r = by_acts (event_acts plan e)
     lone k a true = ((refl, refl), tt)
     lone k a false = tt
 
-    joint : (p q : Port) (crossing : Crossing) (b : Bool) → AllByRecursion (IsStamped stamp) (if b then (port_place plan p, entry_of stamp (near_act crossing p) r) ∷ (port_place plan q, entry_of stamp (far_act q r) reply.Done) ∷ [] else [])
+    joint : (p q : Port) (crossing : Crossing) (b : Bool) → AllByRecursion (IsStamped stamp) (if b then (port_place plan p, entry_of stamp (near_act crossing p) r) ∷ (port_place plan q, entry_of stamp (far_act q r) ReplyOf.Done) ∷ [] else [])
     joint p q crossing true = ((refl, refl), ((refl, refl), tt))
     joint p q crossing false = tt
 

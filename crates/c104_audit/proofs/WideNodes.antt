@@ -1,47 +1,30 @@
 -- A switch keeps its 32 links whatever it does, so that what it does over a link is over one of them.
-use Rattle.c104_control.specs.Reading.{read_command}
-use Rattle.c104_control.specs.declared.commands.Command.TheVariants.{CPeek, CPoke, Identify, Reset, Start}
-use Rattle.c104_control.specs.declared.commands.Command.{Command}
-use Rattle.c104_control.specs.declared.faults.CommandFault.{CommandFault}
-use Rattle.c104_control.specs.declared.replies.Answer.TheVariants.{Refused, Started}
-use Rattle.c104_control.specs.declared.replies.Answer.{Answer}
-use Rattle.c104_control.specs.declared.replies.TheConstants.{ALREADY_STARTED}
+use Rattle.c104_control.specs.{Reading.read_command, declared.commands.Command.{Command, TheVariants.{CPeek, CPoke, Identify, Reset}}}
+use Rattle.c104_control.specs.declared.{commands.Command.TheVariants.Start, faults.CommandFault.CommandFault, replies.Answer.Answer}
+use Rattle.c104_control.specs.declared.replies.{Answer.TheVariants.{Refused, Started}, TheConstants.ALREADY_STARTED}
 use Rattle.c104_link.proofs.MadeSteps.{at_place_made, from_place_made, given, length-at_place, required, with_place_made}
+use Rattle.c104_link.specs.{Buffers.{Outgoing, outgoing_clear}, Steps.{joint_step_at, step_at, yield_step_at, ◌>>=◌}}
+use Rattle.c104_node.specs.{Acts.{done_by, node_act, token_by}, Nodes.{Node, as_switch, as_terminal}, declared.acts.ActOf.ActOf}
+use Rattle.{c104_node.specs.declared.node.NodeOf.NodeOf, c104_regs.specs.declared.registers.TheConstants.LINKS}
+use Rattle.{c104_regs.specs.declared.settings.Settings.Settings, c104_switch.specs.{Actions.Reply, Claims.{input_claim, inputs_claim}}}
+use Rattle.c104_switch.specs.{Claims.{put_header, switch_claim}, Commands.{input_reset, switch_start}, Control.switch_control}
+use Rattle.c104_switch.specs.{Control.{switch_obey, switch_obey_if_read}, Switch.{Input, Switch, input_accept, input_grant, is_owned}}
+use Rattle.c104_switch.specs.Switch.{switch_credit_in, switch_credit_out, switch_enter, switch_leave, with_inputs, with_outputs, with_sides}
+use Rattle.c104_switch.specs.{Turns.{header_turn, input_turn, random_turn, switch_input, turn_by_phase}, declared.actions.ActionOf.ActionOf}
+use Rattle.c104_switch.specs.declared.{actions.ReplyOf.ReplyOf, phase.Phase.{Phase, TheVariants.{Fresh, Head, Sinking, Stream, Want}}}
+use Rattle.{c104_token.specs.{Kinds.plain_kind, Tokens.is_end, declared.tokens.Token.Token}, std.proofs.Common.{Bool, Err, List, None, Ok}}
+use Rattle.std.proofs.Common.{Option, Result, Some, [], ap, false, if◌then◌else◌, length, not, refl, slice_get, subst, sym, true, ℕ, ◌&&◌}
+use Rattle.std.proofs.{Common.{◌<◌, ◌∙◌, ◌≡◌}, lemmas.{List.{length-map, length-set}, Option.slice_get_within}}
 use Rattle.c104_link.specs.Buffers as buffer
-use Rattle.c104_link.specs.Buffers.{Outgoing, outgoing_clear}
-use Rattle.c104_link.specs.Steps.{joint_step_at, step_at, yield_step_at, ◌>>=◌}
-use Rattle.c104_node.specs.Acts.{done_by, node_act, token_by}
-use Rattle.c104_node.specs.Nodes.{Node, as_switch, as_terminal}
 use Rattle.c104_node.specs.Terminals as terminal
-use Rattle.c104_node.specs.declared.acts.ActOf.TheVariants as act
-use Rattle.c104_node.specs.declared.acts.ActOf.{ActOf}
-use Rattle.c104_node.specs.declared.node.NodeOf.TheVariants as node
-use Rattle.c104_regs.specs.declared.registers.TheConstants.{LINKS}
-use Rattle.c104_regs.specs.declared.settings.Settings.{Settings}
-use Rattle.c104_switch.specs.Actions.{Reply}
-use Rattle.c104_switch.specs.Claims.{input_claim, inputs_claim, put_header, switch_claim}
-use Rattle.c104_switch.specs.Commands.{input_reset, switch_start}
-use Rattle.c104_switch.specs.Control.{switch_control, switch_obey, switch_obey_if_read}
-use Rattle.c104_switch.specs.Switch.{Input, Switch, input_accept, input_grant, is_owned, switch_credit_in, switch_credit_out, switch_enter, switch_leave, with_inputs, with_outputs, with_sides}
-use Rattle.c104_switch.specs.Turns.{header_turn, input_turn, random_turn, switch_input, turn_by_phase}
-use Rattle.c104_switch.specs.declared.actions.ActionOf.TheVariants as action
-use Rattle.c104_switch.specs.declared.actions.ReplyOf.TheVariants as reply
-use Rattle.c104_switch.specs.declared.phase.Phase.TheVariants.{Fresh, Head, Sinking, Stream, Want}
-use Rattle.c104_switch.specs.declared.phase.Phase.{Phase}
-use Rattle.c104_token.specs.Kinds.{plain_kind}
-use Rattle.c104_token.specs.Tokens.{is_end}
-use Rattle.c104_token.specs.declared.tokens.Token.{Token}
-use Rattle.std.proofs.Common.{Bool, Err, List, None, Ok, Option, Result, Some, [], ap, false, if◌then◌else◌, length, not, refl, slice_get, subst, sym, true, ℕ, ◌&&◌, ◌<◌, ◌∙◌, ◌≡◌}
-use Rattle.std.proofs.lemmas.List.{length-map, length-set}
-use Rattle.std.proofs.lemmas.Option.{slice_get_within}
 
 -- a switch has as many inputs and outputs as it has links
 abbrev pub IsWideSwitch : Switch Token → Type 0
 IsWideSwitch s = (length s.inputs ≡ LINKS) × (length s.outputs ≡ LINKS)
 
 abbrev pub IsWide : Node Token → Type 0
-IsWide (node.Switch s) = IsWideSwitch s
-IsWide (node.Terminal t) = Unit {0}
+IsWide (NodeOf.Switch s) = IsWideSwitch s
+IsWide (NodeOf.Terminal t) = Unit {0}
 
 abbrev Sides : Type 0
 Sides = List (Input Token) × List (Outgoing Token)
@@ -126,52 +109,52 @@ module _ (s : Switch Token) (wide : IsWideSwitch s) where
 
 wide_done : (made : Option (Switch Token)) (r : Reply × Node Token) → done_by (made >>= as_switch) ≡ Some r → ((s : Switch Token) → made ≡ Some s → IsWideSwitch s) → IsWide r.1
 wide_done None r is holds = absurd (cc)
-wide_done (Some s) r is holds = let both : ◌≡◌ {A = Reply × Node Token} (reply.Done, node.Switch s) r = cc in subst (λ (v : Reply × Node Token). IsWide v.1) both (holds s refl)
+wide_done (Some s) r is holds = let both : ◌≡◌ {A = Reply × Node Token} (ReplyOf.Done, NodeOf.Switch s) r = cc in subst (λ (v : Reply × Node Token). IsWide v.1) both (holds s refl)
 
-wide_token : (made : Option (Token × Switch Token)) (r : Reply × Node Token) → token_by (made >>= (λ v. Some (v.0, node.Switch v.1))) ≡ Some r → ((v : Token × Switch Token) → made ≡ Some v → IsWideSwitch v.1) → IsWide r.1
+wide_token : (made : Option (Token × Switch Token)) (r : Reply × Node Token) → token_by (made >>= (λ v. Some (v.0, NodeOf.Switch v.1))) ≡ Some r → ((v : Token × Switch Token) → made ≡ Some v → IsWideSwitch v.1) → IsWide r.1
 wide_token None r is holds = absurd (cc)
-wide_token (Some v) r is holds = let both : ◌≡◌ {A = Reply × Node Token} (reply.Token v.0, node.Switch v.1) r = cc in subst (λ (v : Reply × Node Token). IsWide v.1) both (holds v refl)
+wide_token (Some v) r is holds = let both : ◌≡◌ {A = Reply × Node Token} (ReplyOf.Token v.0, NodeOf.Switch v.1) r = cc in subst (λ (v : Reply × Node Token). IsWide v.1) both (holds v refl)
 
 wide_terminal : (made : Option (terminal.Terminal Token)) (r : Reply × Node Token) → done_by (made >>= as_terminal) ≡ Some r → IsWide r.1
 wide_terminal None r is = absurd (cc)
-wide_terminal (Some t) r is = let both : ◌≡◌ {A = Reply × Node Token} (reply.Done, node.Terminal t) r = cc in subst (λ (v : Reply × Node Token). IsWide v.1) both tt
+wide_terminal (Some t) r is = let both : ◌≡◌ {A = Reply × Node Token} (ReplyOf.Done, NodeOf.Terminal t) r = cc in subst (λ (v : Reply × Node Token). IsWide v.1) both tt
 
-wide_arrived : (made : Option (Token × terminal.Terminal Token)) (r : Reply × Node Token) → token_by (made >>= (λ v. Some (v.0, node.Terminal v.1))) ≡ Some r → IsWide r.1
+wide_arrived : (made : Option (Token × terminal.Terminal Token)) (r : Reply × Node Token) → token_by (made >>= (λ v. Some (v.0, NodeOf.Terminal v.1))) ≡ Some r → IsWide r.1
 wide_arrived None r is = absurd (cc)
-wide_arrived (Some v) r is = let both : ◌≡◌ {A = Reply × Node Token} (reply.Token v.0, node.Terminal v.1) r = cc in subst (λ (v : Reply × Node Token). IsWide v.1) both tt
+wide_arrived (Some v) r is = let both : ◌≡◌ {A = Reply × Node Token} (ReplyOf.Token v.0, NodeOf.Terminal v.1) r = cc in subst (λ (v : Reply × Node Token). IsWide v.1) both tt
 
 -- a node keeps them in each of its acts
 pub wide_act : (number : ℕ) (a : ActOf Token) (n : Node Token) (r : Reply × Node Token) → IsWide n → node_act plain_kind number a n ≡ Some r → IsWide r.1
-wide_act number (act.Step (action.Enter l x)) (node.Switch s) r wide is = wide_done (switch_enter s l x) r is (enter_wide s wide l x)
-wide_act number (act.Step (action.Leave l)) (node.Switch s) r wide is = wide_token (switch_leave s l) r is (leave_wide s wide l)
-wide_act number (act.Step (action.CreditOut l)) (node.Switch s) r wide is = wide_done (switch_credit_out s l) r is (credit_out_wide s wide l)
-wide_act number (act.Step (action.CreditIn l)) (node.Switch s) r wide is = wide_done (switch_credit_in s l) r is (credit_in_wide s wide l)
-wide_act number (act.Step (action.Input l word)) (node.Switch s) r wide is = wide_done (switch_input plain_kind s l word) r is (λ s' made. (input_wide s wide l word s' made).0)
-wide_act number (act.Step (action.Claim i o)) (node.Switch s) r wide is = wide_done (switch_claim s i o) r is (λ s' made. (claim_wide s wide i o s' made).0)
-wide_act number (act.Step (action.Control bytes)) (node.Switch s) r wide is =
+wide_act number (ActOf.Step (ActionOf.Enter l x)) (NodeOf.Switch s) r wide is = wide_done (switch_enter s l x) r is (enter_wide s wide l x)
+wide_act number (ActOf.Step (ActionOf.Leave l)) (NodeOf.Switch s) r wide is = wide_token (switch_leave s l) r is (leave_wide s wide l)
+wide_act number (ActOf.Step (ActionOf.CreditOut l)) (NodeOf.Switch s) r wide is = wide_done (switch_credit_out s l) r is (credit_out_wide s wide l)
+wide_act number (ActOf.Step (ActionOf.CreditIn l)) (NodeOf.Switch s) r wide is = wide_done (switch_credit_in s l) r is (credit_in_wide s wide l)
+wide_act number (ActOf.Step (ActionOf.Input l word)) (NodeOf.Switch s) r wide is = wide_done (switch_input plain_kind s l word) r is (λ s' made. (input_wide s wide l word s' made).0)
+wide_act number (ActOf.Step (ActionOf.Claim i o)) (NodeOf.Switch s) r wide is = wide_done (switch_claim s i o) r is (λ s' made. (claim_wide s wide i o s' made).0)
+wide_act number (ActOf.Step (ActionOf.Control bytes)) (NodeOf.Switch s) r wide is =
     let v = switch_control s bytes in
-    let both : ◌≡◌ {A = Reply × Node Token} (reply.Control v.0, node.Switch v.1) r = cc in subst (λ (v : Reply × Node Token). IsWide v.1) both (control_wide s wide bytes)
-wide_act number (act.Send packet) (node.Terminal t) r wide is = wide_terminal (Some (terminal.terminal_send plain_kind number packet t)) r is
-wide_act number act.Drain (node.Terminal t) r wide is = wide_arrived (terminal.terminal_drain t) r is
-wide_act number act.Leave (node.Terminal t) r wide is = wide_arrived (terminal.terminal_leave t) r is
-wide_act number (act.Enter x) (node.Terminal t) r wide is = wide_terminal (terminal.terminal_enter x t) r is
-wide_act number act.CreditOut (node.Terminal t) r wide is = wide_terminal (terminal.terminal_credit_out t) r is
-wide_act number act.CreditIn (node.Terminal t) r wide is = wide_terminal (terminal.terminal_credit_in t) r is
+    let both : ◌≡◌ {A = Reply × Node Token} (ReplyOf.Control v.0, NodeOf.Switch v.1) r = cc in subst (λ (v : Reply × Node Token). IsWide v.1) both (control_wide s wide bytes)
+wide_act number (ActOf.Send packet) (NodeOf.Terminal t) r wide is = wide_terminal (Some (terminal.terminal_send plain_kind number packet t)) r is
+wide_act number ActOf.Drain (NodeOf.Terminal t) r wide is = wide_arrived (terminal.terminal_drain t) r is
+wide_act number ActOf.Leave (NodeOf.Terminal t) r wide is = wide_arrived (terminal.terminal_leave t) r is
+wide_act number (ActOf.Enter x) (NodeOf.Terminal t) r wide is = wide_terminal (terminal.terminal_enter x t) r is
+wide_act number ActOf.CreditOut (NodeOf.Terminal t) r wide is = wide_terminal (terminal.terminal_credit_out t) r is
+wide_act number ActOf.CreditIn (NodeOf.Terminal t) r wide is = wide_terminal (terminal.terminal_credit_in t) r is
 wide_act number a n r wide is = absurd (cc)
 
 -- a switch that took a turn or made a claim did it over its links
-pub input_there : (number : ℕ) (n : Node Token) (l word : ℕ) (r : Reply × Node Token) → IsWide n → node_act plain_kind number (act.Step (action.Input l word)) n ≡ Some r → l < LINKS
-input_there number (node.Switch s) l word r wide is = by_made (switch_input plain_kind s l word) refl is
+pub input_there : (number : ℕ) (n : Node Token) (l word : ℕ) (r : Reply × Node Token) → IsWide n → node_act plain_kind number (ActOf.Step (ActionOf.Input l word)) n ≡ Some r → l < LINKS
+input_there number (NodeOf.Switch s) l word r wide is = by_made (switch_input plain_kind s l word) refl is
   where
     by_made : (made : Option (Switch Token)) → switch_input plain_kind s l word ≡ made → done_by (made >>= as_switch) ≡ Some r → l < LINKS
     by_made None was is = absurd (cc)
     by_made (Some s') was is = (input_wide s wide l word s' was).1
-input_there number (node.Terminal t) l word r wide is = absurd (cc)
+input_there number (NodeOf.Terminal t) l word r wide is = absurd (cc)
 
-pub claim_there : (number : ℕ) (n : Node Token) (i o : ℕ) (r : Reply × Node Token) → IsWide n → node_act plain_kind number (act.Step (action.Claim i o)) n ≡ Some r → (i < LINKS) × (o < LINKS)
-claim_there number (node.Switch s) i o r wide is = by_made (switch_claim s i o) refl is
+pub claim_there : (number : ℕ) (n : Node Token) (i o : ℕ) (r : Reply × Node Token) → IsWide n → node_act plain_kind number (ActOf.Step (ActionOf.Claim i o)) n ≡ Some r → (i < LINKS) × (o < LINKS)
+claim_there number (NodeOf.Switch s) i o r wide is = by_made (switch_claim s i o) refl is
   where
     by_made : (made : Option (Switch Token)) → switch_claim s i o ≡ made → done_by (made >>= as_switch) ≡ Some r → (i < LINKS) × (o < LINKS)
     by_made None was is = absurd (cc)
     by_made (Some s') was is = let known = claim_wide s wide i o s' was in (known.1, known.2)
-claim_there number (node.Terminal t) i o r wide is = absurd (cc)
+claim_there number (NodeOf.Terminal t) i o r wide is = absurd (cc)

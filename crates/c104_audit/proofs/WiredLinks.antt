@@ -1,45 +1,38 @@
 -- Which links have wires: none past the last one, and of the others those that a node keeps.
-use Rattle.c104_audit.proofs.CalledSeats.{past_end}
-use Rattle.c104_audit.specs.Audits.{AreLists, IsEndAmong, IsShaped, is_link_wired}
-use Rattle.c104_audit.specs.Tests.{HasLinksTo}
-use Rattle.c104_audit.specs.declared.lists.Lists.{Lists}
-use Rattle.c104_audit.specs.declared.lists.NodeShape.{NodeShape}
-use Rattle.c104_plan.specs.Ports.{is_port, other_end}
-use Rattle.c104_plan.specs.declared.ports.Port.{Port}
-use Rattle.c104_plan.specs.declared.ports.Port.TheVariants as port
-use Rattle.c104_plan.specs.declared.ports.Wire.{Wire}
-use Rattle.std.proofs.Common.{Bool, IsTrue, List, Some, [], arith, false, if◌then◌else◌, ap, is_some, length, map, nat_eq, nat_lt, refl, slice_get, suc, sym, true, unwrap_or, zero, ℕ, ◌&&◌, ◌+◌, ◌-◌, ◌<◌, ◌∙◌, ◌∷◌, ◌≡◌, ◌≤◌, ◌↔◌}
-use Rattle.c104_run.specs.Rounds.{link_numbers}
+use Rattle.c104_audit.{proofs.CalledSeats.past_end, specs.{Audits.{AreLists, IsEndAmong, IsShaped, is_link_wired}, Tests.HasLinksTo}}
+use Rattle.{c104_audit.specs.declared.lists.{Lists.Lists, NodeShape.NodeShape}, c104_plan.specs.Ports.{is_port, other_end}}
+use Rattle.{c104_plan.specs.declared.ports.{Port.Port, Wire.Wire}, c104_run.specs.Rounds.link_numbers, std.proofs.Common.{Bool, IsTrue}}
+use Rattle.std.proofs.Common.{List, Some, [], ap, arith, false, if◌then◌else◌, is_some, length, map, nat_eq, nat_lt, refl, slice_get, suc}
+use Rattle.std.proofs.{Common.{sym, true, unwrap_or, zero, ℕ, ◌&&◌, ◌+◌, ◌-◌, ◌<◌, ◌↔◌, ◌∙◌, ◌∷◌, ◌≡◌, ◌≤◌}, lemmas.Bool.Decides.nat_tests}
 use Rattle.std.specs.List.{range_with_len}
-use Rattle.std.proofs.lemmas.Bool.Decides.{nat_tests}
 
 -- a port has one of the 32 links, or is a terminal's
 abbrev IsLinkPort : Port → Type 0
-IsLinkPort (port.Switch s l) = l < 32
-IsLinkPort (port.Terminal t) = Unit {0}
+IsLinkPort (Port.Switch s l) = l < 32
+IsLinkPort (Port.Terminal t) = Unit {0}
 
-no_wire : (ws : List Wire) (k l : ℕ) → 32 ≤ l → ((i : ℕ) (w : Wire) → slice_get ws i ≡ Some w → IsLinkPort w.here × IsLinkPort w.there) → is_some (other_end ws (port.Switch k l)) ≡ false
+no_wire : (ws : List Wire) (k l : ℕ) → 32 ≤ l → ((i : ℕ) (w : Wire) → slice_get ws i ≡ Some w → IsLinkPort w.here × IsLinkPort w.there) → is_some (other_end ws (Port.Switch k l)) ≡ false
 no_wire [] k l past inside = refl
 no_wire (w ∷ ws) k l past inside =
     let ends = inside 0 w refl in
     rw (not_port w.here ends.0, not_port w.there ends.1) (no_wire ws k l past (λ i v at. inside (suc i) v at))
   where
-    not_port : (p : Port) → IsLinkPort p → is_port p (port.Switch k l) ≡ false
-    not_port (port.Switch s m) below = let less = below in let differs : nat_eq m l ≡ false = grind (arith, nat_tests) in differs_and (nat_eq s k) differs
+    not_port : (p : Port) → IsLinkPort p → is_port p (Port.Switch k l) ≡ false
+    not_port (Port.Switch s m) below = let less = below in let differs : nat_eq m l ≡ false = grind (arith, nat_tests) in differs_and (nat_eq s k) differs
       where
         differs_and : (b : Bool) → nat_eq m l ≡ false → (b && nat_eq m l) ≡ false
         differs_and true is = is
         differs_and false is = refl
-    not_port (port.Terminal t) below = refl
+    not_port (Port.Terminal t) below = refl
 
 pub past_links : (lists : Lists) → AreLists lists → (k l : ℕ) → 32 ≤ l → is_link_wired lists.switches lists.wires k l ≡ false
 past_links lists are k l past = by_kind (nat_lt k lists.switches)
   where
     link_port : (p : Port) → IsEndAmong lists.switches (length lists.nodes) p → IsLinkPort p
-    link_port (port.Switch s m) inside = inside.1
-    link_port (port.Terminal t) inside = tt
+    link_port (Port.Switch s m) inside = inside.1
+    link_port (Port.Terminal t) inside = tt
 
-    by_kind : (b : Bool) → (if b then is_some (other_end lists.wires (port.Switch k l)) else (nat_eq l 0 && is_some (other_end lists.wires (port.Terminal (k - lists.switches))))) ≡ false
+    by_kind : (b : Bool) → (if b then is_some (other_end lists.wires (Port.Switch k l)) else (nat_eq l 0 && is_some (other_end lists.wires (Port.Terminal (k - lists.switches))))) ≡ false
     by_kind true = no_wire lists.wires k l past (λ i w at. let ends = are.inside i w at in (link_port w.here ends.0, link_port w.there ends.1))
     by_kind false = let not_first : nat_eq l 0 ≡ false = grind (arith, nat_tests) in rw not_first refl
 

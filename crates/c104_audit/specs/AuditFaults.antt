@@ -1,9 +1,7 @@
 -- Why lists are not those of one run: the first clause of an audit that fails, at the least number at which it does.
-use Rattle.std.specs.Prelude.{ℕ, ◌<◌}
-use Rattle.c104_audit.specs.Audits.{AgreeAtEnds, IsAsBefore, IsCalled, IsOrdered, IsShaped}
-use Rattle.c104_audit.specs.declared.faults.AuditFault.{AuditFault}
-use Rattle.c104_audit.specs.declared.faults.AuditFault.TheVariants as fault
+use Rattle.c104_audit.specs.{Audits.{AgreeAtEnds, IsAsBefore, IsCalled, IsOrdered, IsShaped}, declared.faults.AuditFault.AuditFault}
 use Rattle.c104_audit.specs.declared.lists.Lists.{Lists}
+use Rattle.std.specs.Prelude.{ℕ, ◌<◌}
 
 -- this is so of every number
 abbrev pub Everywhere : (ℕ → Type 0) → Type 0
@@ -16,14 +14,14 @@ pub record FailsFirst (P : ℕ → Type 0) (k : ℕ) : Type 0 where
 
 -- the fault's clause fails first at its number, and all clauses before it hold
 abbrev pub IsFault : Lists → AuditFault → Type 0
-IsFault lists (fault.Shape k) = FailsFirst (IsShaped lists) k
-IsFault lists (fault.Order k) = Everywhere (IsShaped lists) × FailsFirst (IsOrdered lists) k
-IsFault lists (fault.Ends i) =
+IsFault lists (AuditFault.Shape k) = FailsFirst (IsShaped lists) k
+IsFault lists (AuditFault.Order k) = Everywhere (IsShaped lists) × FailsFirst (IsOrdered lists) k
+IsFault lists (AuditFault.Ends i) =
     Everywhere (IsShaped lists) × Everywhere (IsOrdered lists) × FailsFirst (AgreeAtEnds lists) i
-IsFault lists (fault.Calls s) =
+IsFault lists (AuditFault.Calls s) =
     Everywhere (IsShaped lists) × Everywhere (IsOrdered lists) × Everywhere (AgreeAtEnds lists)
     × FailsFirst (IsCalled lists) s
-IsFault lists (fault.Before k) =
+IsFault lists (AuditFault.Before k) =
     Everywhere (IsShaped lists) × Everywhere (IsOrdered lists) × Everywhere (AgreeAtEnds lists)
     × Everywhere (IsCalled lists) × FailsFirst (IsAsBefore lists) k
-IsFault lists fault.NoMemory = Unit {0}
+IsFault lists AuditFault.NoMemory = Unit {0}

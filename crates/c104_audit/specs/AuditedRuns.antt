@@ -1,32 +1,14 @@
 -- What an audit tells of nodes that were gathered after a run by many seats: there is one run of their network, which
 -- begins with all that was done before, and in which then the seats' calls stand and nothing else.
-use Rattle.std.specs.Prelude.{ℕ, suc, ◌+◌, ◌≡◌, ◌++◌, true, if◌then◌else◌, is_some, All, List, [], ◌∷◌, None, length, map}
-use Rattle.c104_token.specs.Kinds.{plain_kind}
+use Rattle.c104_audit.specs.{Audits.{is_number, lists_events}, Calls.call_of, Leads.list_at, declared.{calls.Call.Call, lists.Lists.Lists}}
+use Rattle.{c104_audit.specs.declared.lists.NodeShape.NodeShape, c104_event.specs.declared.events.Event.Event}
+use Rattle.{c104_net.specs.ToldEvents.told_events, c104_node.specs.{Nodes.{Node, is_switch}, Records.{IsRecorded, NodeRecord, NodeRoom}}}
+use Rattle.c104_node.specs.{Records.{has_link, node_start, node_state, node_trace}, Starts.start_node, Traces.seatless}
+use Rattle.{c104_node.specs.declared.{stamps.Stamp.Stamp, starts.NodeStart.NodeStart}, c104_plan.specs.{Plans.Plan, Wiring.wires}}
+use Rattle.c104_run.specs.{FinishedRecords.FinishedRecord, NetParts.node_count, NodeRuns.{nodes_run, starting_nodes}, Rounds.link_numbers}
+use Rattle.{c104_run.specs.Runs.IsRunRecord, c104_switch.specs.{Actions.Reply, Starts.IsSwitchStart}, c104_token.specs.Kinds.plain_kind}
 use Rattle.c104_token.specs.declared.tokens.Token.{Token}
-use Rattle.c104_switch.specs.Actions.{Reply}
-use Rattle.c104_switch.specs.Starts.{IsSwitchStart}
-use Rattle.c104_plan.specs.Plans.{Plan}
-use Rattle.c104_plan.specs.Wiring.{wires}
-use Rattle.c104_event.specs.declared.events.Event.{Event}
-use Rattle.c104_node.specs.Nodes.{Node, is_switch}
-use Rattle.c104_node.specs.Records.{IsRecorded, NodeRecord, NodeRoom, has_link, node_start, node_state, node_trace}
-use Rattle.c104_node.specs.Starts.{start_node}
-use Rattle.c104_node.specs.Traces.{seatless}
-use Rattle.c104_node.specs.declared.stamps.Stamp.{Stamp}
-use Rattle.c104_node.specs.declared.starts.NodeStart.{NodeStart}
-use Rattle.c104_node.specs.declared.starts.NodeStart.TheVariants as start
-use Rattle.c104_run.specs.FinishedRecords.{FinishedRecord}
-use Rattle.c104_run.specs.NetParts.{node_count}
-use Rattle.c104_run.specs.NodeRuns.{nodes_run, starting_nodes}
-use Rattle.c104_run.specs.Rounds.{link_numbers}
-use Rattle.c104_run.specs.Runs.{IsRunRecord}
-use Rattle.c104_net.specs.ToldEvents.{told_events}
-use Rattle.c104_audit.specs.Audits.{is_number, lists_events}
-use Rattle.c104_audit.specs.Calls.{call_of}
-use Rattle.c104_audit.specs.Leads.{list_at}
-use Rattle.c104_audit.specs.declared.calls.Call.{Call}
-use Rattle.c104_audit.specs.declared.lists.Lists.{Lists}
-use Rattle.c104_audit.specs.declared.lists.NodeShape.{NodeShape}
+use Rattle.std.specs.Prelude.{All, List, None, [], if◌then◌else◌, is_some, length, map, suc, true, ℕ, ◌++◌, ◌+◌, ◌∷◌, ◌≡◌}
 
 -- what a node keeps of itself, as lists have it
 abbrev pub node_shape : NodeRecord × NodeRoom → NodeShape
@@ -39,8 +21,8 @@ node_shape n = record {
 
 -- what the type of a switch's start keeps; nothing of a terminal's is asked
 abbrev pub IsKeptStart : NodeStart → Type 0
-IsKeptStart (start.Switch s) = IsSwitchStart s
-IsKeptStart (start.Terminal t) = Unit {0}
+IsKeptStart (NodeStart.Switch s) = IsSwitchStart s
+IsKeptStart (NodeStart.Terminal t) = Unit {0}
 
 -- what the types of a node and of its start keep
 pub record IsWholeNode (n : NodeRecord × NodeRoom) : Type 0 where

@@ -4,34 +4,16 @@
 --     AgreeAtEnds   the entries at the two ends of a wire agree one by one
 --     IsCalled      a seat's list is what the entries tell that carry its number
 --     IsAsBefore    a node's start and its entries without a seat are those that it had before the seats were made
-use Rattle.std.specs.Prelude.{ℕ, ◌+◌, ◌-◌, ◌<◌, ◌≤◌, ◌≡◌, ◌≢◌, ◌⊎◌, Bool, false, not, ◌&&◌, if◌then◌else◌, nat_eq, nat_lt}
-use Rattle.std.specs.Prelude.{List, [], ◌∷◌, filter, length, map, slice_get, Option, Some, None, is_some}
-use Rattle.std.specs.List.{AllByRecursion, flat_map}
-use Rattle.std.specs.Option.{option_map, option_to_list}
-use Rattle.c104_regs.specs.declared.registers.TheConstants.{LINKS}
+use Rattle.c104_audit.specs.{Calls.call_of, Leads.{AreRising, Lead, list_at, merged_leads}, declared.calls.Call.Call}
+use Rattle.c104_audit.specs.declared.{carried.Carried.Carried, lists.{Lists.Lists, NodeShape.NodeShape}}
+use Rattle.{c104_event.specs.declared.events.Event.Event, c104_net.specs.Leading.act_event, c104_node.specs.ActLinks.{act_link, on_links}}
+use Rattle.{c104_node.specs.declared.{acts.{ActOf.ActOf, Entry.Entry}, ends.End.End}, c104_plan.specs.Ports.other_end}
+use Rattle.{c104_plan.specs.declared.ports.{Port.Port, Wire.Wire}, c104_regs.specs.declared.registers.TheConstants.LINKS}
+use Rattle.{c104_run.specs.Rounds.link_numbers, c104_switch.specs.{Actions.Reply, declared.actions.{ActionOf.ActionOf, ReplyOf.ReplyOf}}}
 use Rattle.c104_token.specs.declared.tokens.Token.{Token}
-use Rattle.c104_switch.specs.Actions.{Reply}
-use Rattle.c104_switch.specs.declared.actions.ActionOf.TheVariants as action
-use Rattle.c104_switch.specs.declared.actions.ReplyOf.TheVariants as reply
-use Rattle.c104_plan.specs.Ports.{other_end}
-use Rattle.c104_plan.specs.declared.ports.Port.{Port}
-use Rattle.c104_plan.specs.declared.ports.Port.TheVariants as port
-use Rattle.c104_plan.specs.declared.ports.Wire.{Wire}
-use Rattle.c104_event.specs.declared.events.Event.{Event}
-use Rattle.c104_node.specs.ActLinks.{act_link, on_links}
-use Rattle.c104_node.specs.declared.acts.ActOf.{ActOf}
-use Rattle.c104_node.specs.declared.acts.ActOf.TheVariants as act
-use Rattle.c104_node.specs.declared.acts.Entry.{Entry}
-use Rattle.c104_node.specs.declared.ends.End.{End}
-use Rattle.c104_run.specs.Rounds.{link_numbers}
-use Rattle.c104_net.specs.Leading.{act_event}
-use Rattle.c104_audit.specs.Calls.{call_of}
-use Rattle.c104_audit.specs.Leads.{AreRising, Lead, list_at, merged_leads}
-use Rattle.c104_audit.specs.declared.calls.Call.{Call}
-use Rattle.c104_audit.specs.declared.carried.Carried.{Carried}
-use Rattle.c104_audit.specs.declared.carried.Carried.TheVariants as carried
-use Rattle.c104_audit.specs.declared.lists.Lists.{Lists}
-use Rattle.c104_audit.specs.declared.lists.NodeShape.{NodeShape}
+use Rattle.std.specs.{List.{AllByRecursion, flat_map}, Option.{option_map, option_to_list}, Prelude.{Bool, List, None, Option, Some, []}}
+use Rattle.std.specs.Prelude.{false, filter, if◌then◌else◌, is_some, length, map, nat_eq, nat_lt, not, slice_get, ℕ, ◌&&◌, ◌+◌, ◌-◌, ◌<◌}
+use Rattle.std.specs.Prelude.{◌∷◌, ◌≡◌, ◌≢◌, ◌≤◌, ◌⊎◌}
 
 -- whether there is a number and it is this one
 abbrev pub is_number : ℕ → Option ℕ → Bool
@@ -40,13 +22,13 @@ is_number n (Some m) = nat_eq n m
 
 -- whether an act is one of a switch, or else of a terminal
 abbrev pub is_of_kind : Bool → ActOf Token → Bool
-is_of_kind on_switch (act.Step a) = on_switch
+is_of_kind on_switch (ActOf.Step a) = on_switch
 is_of_kind on_switch a = not on_switch
 
 -- where a port is among nodes that begin with this number of switches
 abbrev pub end_among : ℕ → Port → End
-end_among switches (port.Switch s l) = record { node = s; link = l }
-end_among switches (port.Terminal t) = record { node = switches + t; link = 0 }
+end_among switches (Port.Switch s l) = record { node = s; link = l }
+end_among switches (Port.Terminal t) = record { node = switches + t; link = 0 }
 
 -- whether an entry carries the number of a seat
 abbrev pub carries : ℕ → Entry → Bool
@@ -58,17 +40,17 @@ unseated entries = filter (λ (e : Entry). not (is_some e.seat)) entries
 
 -- what an act lets out over a wire that was answered so, and what an act takes in
 abbrev pub carried_out : ActOf Token → Reply → Option Carried
-carried_out (act.Step (action.Leave l)) (reply.Token x) = Some (carried.Token x)
-carried_out (act.Step (action.CreditOut l)) r = Some carried.Grant
-carried_out act.Leave (reply.Token x) = Some (carried.Token x)
-carried_out act.CreditOut r = Some carried.Grant
+carried_out (ActOf.Step (ActionOf.Leave l)) (ReplyOf.Token x) = Some (Carried.Token x)
+carried_out (ActOf.Step (ActionOf.CreditOut l)) r = Some Carried.Grant
+carried_out ActOf.Leave (ReplyOf.Token x) = Some (Carried.Token x)
+carried_out ActOf.CreditOut r = Some Carried.Grant
 carried_out a r = None
 
 abbrev pub carried_in : ActOf Token → Option Carried
-carried_in (act.Step (action.Enter l x)) = Some (carried.Token x)
-carried_in (act.Step (action.CreditIn l)) = Some carried.Grant
-carried_in (act.Enter x) = Some (carried.Token x)
-carried_in act.CreditIn = Some carried.Grant
+carried_in (ActOf.Step (ActionOf.Enter l x)) = Some (Carried.Token x)
+carried_in (ActOf.Step (ActionOf.CreditIn l)) = Some Carried.Grant
+carried_in (ActOf.Enter x) = Some (Carried.Token x)
+carried_in ActOf.CreditIn = Some Carried.Grant
 carried_in a = None
 
 -- the one lets out what the other takes in
@@ -88,8 +70,8 @@ AgreeOneByOne entries others = ⊥
 
 -- the reply of an event that is led so: a grant is done, and any other is answered as its act was
 abbrev pub told_reply : ActOf Token → Reply → Reply
-told_reply (act.Step (action.CreditOut l)) r = reply.Done
-told_reply act.CreditOut r = reply.Done
+told_reply (ActOf.Step (ActionOf.CreditOut l)) r = ReplyOf.Done
+told_reply ActOf.CreditOut r = ReplyOf.Done
 told_reply a r = r
 
 module _ (switches : ℕ) where
@@ -106,8 +88,8 @@ module _ (switches : ℕ) (wires : List Wire) where
   abbrev pub is_link_wired : ℕ → ℕ → Bool
   is_link_wired k l =
       if nat_lt k switches
-      then is_some (other_end wires (port.Switch k l))
-      else nat_eq l 0 && is_some (other_end wires (port.Terminal (k - switches)))
+      then is_some (other_end wires (Port.Switch k l))
+      else nat_eq l 0 && is_some (other_end wires (Port.Terminal (k - switches)))
 
   -- the event that an act of the node at a place leads in, if it stands for one: it is of the node's kind, and where it
   -- goes over a link, this has a wire
@@ -192,8 +174,8 @@ pub record IsAudited (lists : Lists) : Type 0 where
 
 -- a port is a link of one of `count` nodes, which begin with this number of switches
 abbrev pub IsEndAmong : ℕ → ℕ → Port → Type 0
-IsEndAmong switches count (port.Switch s l) = (s < switches) × (l < LINKS)
-IsEndAmong switches count (port.Terminal t) = switches + t < count
+IsEndAmong switches count (Port.Switch s l) = (s < switches) × (l < LINKS)
+IsEndAmong switches count (Port.Terminal t) = switches + t < count
 
 -- what a judge asks of lists: those per node are equally long, and each wire ends at links of two different nodes of them
 pub record AreLists (lists : Lists) : Type 0 where

@@ -1,8 +1,6 @@
 -- Calls: what a seat keeps of each event that was done through it.
-use Rattle.std.specs.Prelude.{ℕ, List, map}
-use Rattle.c104_event.specs.declared.events.Event.{Event}
-use Rattle.c104_switch.specs.Actions.{Reply}
-use Rattle.c104_audit.specs.declared.calls.Call.{Call}
+use Rattle.{c104_audit.specs.declared.calls.Call.Call, c104_event.specs.declared.events.Event.Event, c104_switch.specs.Actions.Reply}
+use Rattle.std.specs.Prelude.{List, map, ℕ}
 
 -- the tickets of calls, in order
 abbrev pub call_ticket : Call → ℕ

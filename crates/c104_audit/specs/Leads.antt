@@ -1,7 +1,6 @@
 -- Lists of things with tickets, one list for each place: those that lead, by ticket and then by place.
-use Rattle.std.specs.Prelude.{ℕ, suc, ◌<◌, ◌++◌, Bool, List, [], ◌∷◌, if◌then◌else◌, slice_get, unwrap_or}
-use Rattle.std.specs.List.{AllByRecursion}
 use Rattle.c104_net.specs.Merges.{by_ticket}
+use Rattle.std.specs.{List.AllByRecursion, Prelude.{Bool, List, [], if◌then◌else◌, slice_get, suc, unwrap_or, ℕ, ◌++◌, ◌<◌, ◌∷◌}}
 
 -- a thing and the place where it leads
 pub record Lead (X : Type 0) : Type 0 where

@@ -1,18 +1,11 @@
 -- The tests of an audit, as loops make them.
-use Rattle.c104_audit.specs.AuditFaults.{Everywhere}
-use Rattle.c104_audit.specs.Audits.{AreHalves, CarryAtEnds, HaveOtherTickets, IsCalled, called_by, is_link_wired, lists_leads, passes_at, told_reply}
-use Rattle.c104_audit.specs.Firsts.{lower_of}
-use Rattle.c104_audit.specs.Leads.{AreRising, Lead, list_at}
-use Rattle.std.specs.List.{AllByRecursion}
-use Rattle.c104_net.specs.declared.leading.Lead.{Lead as Leading}
-use Rattle.c104_audit.specs.declared.calls.Call.{Call}
-use Rattle.c104_audit.specs.declared.lists.Lists.{Lists}
-use Rattle.c104_net.specs.Leading.{act_event}
-use Rattle.c104_node.specs.declared.acts.Entry.{Entry}
-use Rattle.c104_node.specs.declared.ends.End.{End}
-use Rattle.c104_node.specs.declared.acts.ActOf.TheVariants as act
-use Rattle.c104_switch.specs.declared.actions.ReplyOf.TheVariants as reply
-use Rattle.std.specs.Prelude.{Bool, List, None, Option, Some, [], drop, filter, if◌then◌else◌, length, map, nat_eq, nat_le, nat_lt, not, slice_get, true, ℕ, ◌&&◌, ◌+◌, ◌++◌, ◌<◌, ◌≤◌, ◌∷◌, ◌≡◌, ◌↔◌}
+use Rattle.c104_audit.specs.{AuditFaults.Everywhere, Audits.{AreHalves, CarryAtEnds, HaveOtherTickets, IsCalled, called_by, is_link_wired}}
+use Rattle.c104_audit.specs.{Audits.{lists_leads, passes_at, told_reply}, Firsts.lower_of, Leads.{AreRising, Lead, list_at}}
+use Rattle.{c104_audit.specs.declared.{calls.Call.Call, lists.Lists.Lists}, c104_net.specs.Leading.act_event}
+use Rattle.{c104_net.specs.declared.leading.Lead.Lead as Leading, c104_node.specs.declared.{acts.{ActOf.ActOf, Entry.Entry}, ends.End.End}}
+use Rattle.c104_switch.specs.declared.actions.ReplyOf.{ReplyOf}
+use Rattle.std.specs.{List.AllByRecursion, Prelude.{Bool, List, None, Option, Some, [], drop, filter, if◌then◌else◌, length, map, nat_eq}}
+use Rattle.std.specs.Prelude.{nat_le, nat_lt, not, slice_get, true, ℕ, ◌&&◌, ◌++◌, ◌+◌, ◌<◌, ◌↔◌, ◌∷◌, ◌≡◌, ◌≤◌}
 
 -- of a link of a node it is kept whether it has a wire, and the same of each of the first links
 abbrev pub KeepsLink : Lists → ℕ → List Bool → ℕ → Type 0
@@ -73,7 +66,7 @@ CarryAtAllEnds lists s = Everywhere (CarryAtEnds lists s)
 
 -- an entry that leads, as it stands in the traces
 abbrev pub entry_or : Option Entry → Entry
-entry_or None = record { ticket = 0; act = act.CreditIn; reply = reply.Done; seat = None }
+entry_or None = record { ticket = 0; act = ActOf.CreditIn; reply = ReplyOf.Done; seat = None }
 entry_or (Some e) = e
 
 abbrev pub lead_in : List (List Entry) → Leading → ℕ × Lead Entry

@@ -1,14 +1,10 @@
 -- Ranks that fall along every dependency: a cycle leaves none, and a limit for the inputs of a network does for all.
-use Rattle.std.proofs.Common.{List, [], ◌∷◌, arith, inl, inr, Bool, true, false, ℕ, zero, suc, ◌<◌, ◌≤◌, ◌≡◌, Some, length, min, refl, subst, sym}
-use Rattle.c104_plan.specs.declared.ports.Port.TheVariants as port
-use Rattle.c104_check.specs.ChannelDependencies.{AreByLabels, AreChained, AreNeverBoth, ChannelDependency, Depends, DependsByLabels, IsAcyclic, IsBeginningBy, IsCycle, IsNeverRandomized, IsRanking, MayComeBy, input_count}
-use Rattle.c104_check.specs.Parts.{Begins, IsBeginning}
-use Rattle.c104_check.specs.Reach.{IsReached}
-use Rattle.c104_check.specs.Routes.{Routes, SwitchPort, owner}
-use Rattle.c104_check.specs.Trails.{IsInput, IsNetwork, Reaches}
-use Rattle.c104_check.proofs.PartLemmas.{reached_plain}
-use Rattle.c104_check.proofs.RouteLemmas.{portal_input}
-use Rattle.c104_check.proofs.StartLemmas.{random_is_randomized}
+use Rattle.c104_check.proofs.{PartLemmas.reached_plain, RouteLemmas.portal_input, StartLemmas.random_is_randomized}
+use Rattle.c104_check.specs.ChannelDependencies.{AreByLabels, AreChained, AreNeverBoth, ChannelDependency, Depends, DependsByLabels}
+use Rattle.c104_check.specs.ChannelDependencies.{IsAcyclic, IsBeginningBy, IsCycle, IsNeverRandomized, IsRanking, MayComeBy, input_count}
+use Rattle.c104_check.specs.{Parts.{Begins, IsBeginning}, Reach.IsReached, Routes.{Routes, SwitchPort, owner}, Trails.{IsInput, IsNetwork}}
+use Rattle.{c104_check.specs.Trails.Reaches, c104_plan.specs.declared.ports.Port.Port, std.proofs.Common.{Bool, List, Some, [], arith}}
+use Rattle.std.proofs.Common.{false, inl, inr, length, min, refl, subst, suc, sym, true, zero, ℕ, ◌<◌, ◌∷◌, ◌≡◌, ◌≤◌}
 
 falls_along : (routes : Routes) (rank : SwitchPort → ℕ) → IsRanking routes rank → (a : ChannelDependency) (more : List ChannelDependency) (end : SwitchPort) → AreChained routes a more end → rank end < rank a.input
 falls_along routes rank falls a [] end is = falls a.input end (a.header, is)
@@ -27,19 +23,19 @@ never_both routes cycle is acyclic = no_ranks routes acyclic.0 cycle is acyclic.
 -- a header comes from inputs of the network to such alone
 reached_input : (routes : Routes) (h m : ℕ) (start p : SwitchPort) → IsNetwork routes → IsInput (length routes.settings) start → Reaches routes h m start p → IsInput (length routes.settings) p
 reached_input routes h zero start p net here same = subst (IsInput (length routes.settings)) same here
-reached_input routes h (suc m) start p net here (z, reaches, follows) = net.inputs (port.Switch z.switch follows.1) p follows.4
+reached_input routes h (suc m) start p net here (z, reaches, follows) = net.inputs (Port.Switch z.switch follows.1) p follows.4
 
 own_input : (routes : Routes) (behind : Bool) (entry p : SwitchPort) → IsNetwork routes → IsInput (length routes.settings) entry → Begins routes entry behind p → IsInput (length routes.settings) p
 own_input routes false entry p net inside begins = subst (IsInput (length routes.settings)) (sym begins.0) inside
 own_input routes true entry p net inside begins = portal_input routes entry p net begins
 
 beginning_input : (routes : Routes) (p : SwitchPort) → IsNetwork routes → IsBeginning routes p → IsInput (length routes.settings) p
-beginning_input routes p net (t, behind, (entry, wired, begins)) = own_input routes behind entry p net (net.inputs (port.Terminal t) entry wired) begins
+beginning_input routes p net (t, behind, (entry, wired, begins)) = own_input routes behind entry p net (net.inputs (Port.Terminal t) entry wired) begins
 
 -- they begin at such
 start_input : (routes : Routes) (h : ℕ) (p : SwitchPort) → IsNetwork routes → IsBeginningBy routes h p → IsInput (length routes.settings) p
 start_input routes h p net (inl (t, owned, begins)) = beginning_input routes p net begins
-start_input routes h p net (inr (t, wired, random)) = net.inputs (port.Terminal t) p wired
+start_input routes h p net (inr (t, wired, random)) = net.inputs (Port.Terminal t) p wired
 
 -- and packets come to such alone
 pub arrived_input : (routes : Routes) (h : ℕ) (p : SwitchPort) → IsNetwork routes → MayComeBy routes h p → IsInput (length routes.settings) p

@@ -1,23 +1,15 @@
 -- A header that is no break fares as the one before it.
-use Rattle.std.proofs.Common.{◌≡◌, ◌≢◌, ℕ, zero, suc, ◌<◌, ◌+◌, ◌-◌, ◌%◌, ◌&&◌, ◌⊎◌, inl, inr, Bool, true, false, nat_le, nat_lt, cond, not, List, [], ◌∷◌, map, position, slice_get, option_map, Option, Some, None, refl, sym, ap, subst, ◌∙◌, arith}
-use Rattle.std.proofs.lemmas.Bool.Decides.{nat_tests}
-use Rattle.std.specs.List.{Contains, prefix_len}
-use Rattle.c104_interval.specs.Segments.{IsSegmentStart}
+use Rattle.c104_check.{proofs.RandomLemmas.{IsCount, before_large, before_small, counts, on_large, on_small}, specs.Breaks.AreBreaks}
+use Rattle.c104_check.specs.{Breaks.{BoundsRange, ChangesSelect, IsBreak, IsWired, is_marked}, Refusals.{AreInputs, LandSoFar, LandsAt}}
+use Rattle.c104_check.specs.{Refusals.{LandsBefore, Start}, Routes.{Arrives, Homes, IsRandomAt, Lands, Leads, Roams, Routes, SwitchPort}}
+use Rattle.c104_check.specs.{Routes.{has_label, header_count, link_settings, most_hops, owner, random_count, select}, Trails.IsNetwork}
+use Rattle.{c104_check.specs.Walks.port_of, c104_interval.specs.{Segments.IsSegmentStart, declared.intervals.{Row.Row, Select.Select}}}
+use Rattle.c104_interval.specs.declared.intervals.{Select.TheVariants.{Discard, Link, Sink}, Table.Table}
+use Rattle.{c104_plan.specs.declared.ports.Port.Port, c104_regs.specs.declared.settings.Settings.Settings, std.proofs.Common.{Bool, List}}
+use Rattle.std.proofs.Common.{None, Option, Some, [], ap, arith, cond, false, inl, inr, map, nat_le, nat_lt, not, option_map, position}
+use Rattle.std.proofs.Common.{refl, slice_get, subst, suc, sym, true, zero, ℕ, ◌%◌, ◌&&◌, ◌+◌, ◌-◌, ◌<◌, ◌∙◌, ◌∷◌, ◌≡◌, ◌≢◌, ◌⊎◌}
+use Rattle.std.{proofs.lemmas.Bool.{Decides.nat_tests, cases_eq}, specs.List.{Contains, prefix_len}}
 use Rattle.c104_interval.specs.Selection as table
-use Rattle.c104_interval.specs.declared.intervals.Row.{Row}
-use Rattle.c104_interval.specs.declared.intervals.Select.{Select}
-use Rattle.c104_interval.specs.declared.intervals.Select.TheVariants.{Link, Discard, Sink}
-use Rattle.c104_interval.specs.declared.intervals.Table.{Table}
-use Rattle.c104_regs.specs.declared.settings.Settings.{Settings}
-use Rattle.c104_plan.specs.declared.ports.Port.{Port}
-use Rattle.c104_plan.specs.declared.ports.Port.TheVariants as port
-use Rattle.c104_check.specs.Breaks.{AreBreaks, BoundsRange, ChangesSelect, IsBreak, IsWired, is_marked}
-use Rattle.c104_check.specs.Refusals.{AreInputs, LandSoFar, LandsAt, LandsBefore, Start}
-use Rattle.c104_check.specs.Routes.{Arrives, Homes, IsRandomAt, Lands, Leads, Roams, Routes, SwitchPort, has_label, header_count, link_settings, most_hops, owner, random_count, select}
-use Rattle.c104_check.proofs.RandomLemmas.{IsCount, before_large, before_small, counts, on_large, on_small}
-use Rattle.std.proofs.lemmas.Bool.{cases_eq}
-use Rattle.c104_check.specs.Trails.{IsNetwork}
-use Rattle.c104_check.specs.Walks.{port_of}
 
 same_step : (g low limit : ℕ) → (suc g ≡ low → ⊥) → (suc g ≡ limit → ⊥) → (nat_le low (suc g) && nat_lt (suc g) limit) ≡ (nat_le low g && nat_lt g limit)
 same_step g low limit not_low not_limit = grind (arith, nat_tests)
@@ -103,18 +95,18 @@ owner_alike routes g quiet =
     (λ t range there. label_alike g range (λ bounds. quiet (inr (inr (t, range, there, bounds)))))
 
 -- what leads on leads on for the next
-arrives_alike : (P Q : ℕ → ℕ → Type 0) (t : ℕ) (e : Option Port) → ((s i : ℕ) → e ≡ Some (port.Switch s i) → P s i → Q s i) → Arrives P t e → Arrives Q t e
+arrives_alike : (P Q : ℕ → ℕ → Type 0) (t : ℕ) (e : Option Port) → ((s i : ℕ) → e ≡ Some (Port.Switch s i) → P s i → Q s i) → Arrives P t e → Arrives Q t e
 arrives_alike P Q t None each arrives = absurd arrives
-arrives_alike P Q t (Some (port.Terminal u)) each arrives = arrives
-arrives_alike P Q t (Some (port.Switch s i)) each arrives = each s i refl arrives
+arrives_alike P Q t (Some (Port.Terminal u)) each arrives = arrives
+arrives_alike P Q t (Some (Port.Switch s i)) each arrives = each s i refl arrives
 
 pub leads_alike : (routes : Routes) (g t : ℕ) → IsNetwork routes → (IsBreak routes (suc g) → ⊥) → (k : ℕ) (p : SwitchPort) → IsWired routes p → Leads routes g t k p.switch p.link → Leads routes (suc g) t k p.switch p.link
 leads_alike routes g t net quiet zero p wired leads = absurd leads
 leads_alike routes g t net quiet (suc k) p wired (link, at, all) = (
   link,
   select_alike routes g p quiet wired ∙ at,
-  λ o joined. arrives_alike (Leads routes g t k) (Leads routes (suc g) t k) t (routes.peer (port.Switch p.switch o))
-      (λ s i there leads. leads_alike routes g t net quiet k (port_of s i) (port.Switch p.switch o, net.back (port.Switch p.switch o) (port.Switch s i) there) leads)
+  λ o joined. arrives_alike (Leads routes g t k) (Leads routes (suc g) t k) t (routes.peer (Port.Switch p.switch o))
+      (λ s i there leads. leads_alike routes g t net quiet k (port_of s i) (Port.Switch p.switch o, net.back (Port.Switch p.switch o) (Port.Switch s i) there) leads)
       (all o joined),
 )
 
@@ -161,10 +153,10 @@ pub random_before : (routes : Routes) (g : ℕ) (p : SwitchPort) → (IsBreak ro
 random_before routes g p quiet (x, set, (random, (k, low, is))) = random_back routes g p x quiet set random k low is
 
 -- what homes does so for the next
-roams_alike : (P Q : ℕ → ℕ → Type 0) (e : Option Port) → ((s i : ℕ) → e ≡ Some (port.Switch s i) → P s i → Q s i) → Roams P e → Roams Q e
+roams_alike : (P Q : ℕ → ℕ → Type 0) (e : Option Port) → ((s i : ℕ) → e ≡ Some (Port.Switch s i) → P s i → Q s i) → Roams P e → Roams Q e
 roams_alike P Q None each roams = absurd roams
-roams_alike P Q (Some (port.Terminal u)) each roams = absurd roams
-roams_alike P Q (Some (port.Switch s i)) each roams = each s i refl roams
+roams_alike P Q (Some (Port.Terminal u)) each roams = absurd roams
+roams_alike P Q (Some (Port.Switch s i)) each roams = each s i refl roams
 
 pub homes_alike : (routes : Routes) (g : ℕ) → IsNetwork routes → (IsBreak routes (suc g) → ⊥) → (k : ℕ) (p : SwitchPort) → IsWired routes p → Homes routes g k p.switch p.link → Homes routes (suc g) k p.switch p.link
 homes_alike routes g net quiet zero p wired homes = absurd homes
@@ -172,8 +164,8 @@ homes_alike routes g net quiet (suc k) p wired (inl discards) = inl (select_alik
 homes_alike routes g net quiet (suc k) p wired (inr (link, at, all)) = inr (
   link,
   select_alike routes g p quiet wired ∙ at,
-  λ o joined. roams_alike (Homes routes g k) (Homes routes (suc g) k) (routes.peer (port.Switch p.switch o))
-      (λ s i there homes. homes_alike routes g net quiet k (port_of s i) (port.Switch p.switch o, net.back (port.Switch p.switch o) (port.Switch s i) there) homes)
+  λ o joined. roams_alike (Homes routes g k) (Homes routes (suc g) k) (routes.peer (Port.Switch p.switch o))
+      (λ s i there homes. homes_alike routes g net quiet k (port_of s i) (Port.Switch p.switch o, net.back (Port.Switch p.switch o) (Port.Switch s i) there) homes)
       (all o joined),
 )
 

@@ -1,17 +1,11 @@
 -- A network is accepted exactly where no test refuses it.
-use Rattle.std.proofs.Common.{◌≡◌, ◌≢◌, ℕ, ◌<◌, inl, inr, Bool, true, false, Option, Some, None, Result, Ok, Err, MatchResult, IfOk, IfErr, refl, sym, subst, ◌∙◌, arith}
-use Rattle.std.proofs.lemmas.Bool.{cases_Bool, cases_eq, cases_lt, cases_order}
-use Rattle.c104_regs.specs.Settings.{header_length}
-use Rattle.c104_check.specs.declared.acceptance.Accepted.{Accepted}
-use Rattle.c104_check.specs.declared.faults.CheckFault.{CheckFault}
-use Rattle.c104_check.specs.declared.faults.CheckFault.TheVariants as fault
-use Rattle.c104_check.specs.declared.faults.WalkFault.TheVariants as walk
-use Rattle.c104_check.specs.Checks.{DeletesInside, HasLarge, IsCause, IsFirstRefused, IsMixed, IsPlain, IsRandomInside, Meet, NoneLarge, NoneMeet, Shown}
-use Rattle.c104_check.specs.Routes.{IsAccepted, IsRandomIn, IsRandomized, Lands, LandsBehind, Owns, Routes, SwitchPort, TerminalLands, header_count, most_hops, owner, to_port}
-use Rattle.c104_plan.specs.declared.ports.Port.{Port}
-use Rattle.c104_plan.specs.declared.ports.Port.TheVariants as port
-use Rattle.c104_check.specs.Trails.{IsNetwork}
-use Rattle.c104_check.specs.Walks.{WalkFault}
+use Rattle.c104_check.specs.Checks.{DeletesInside, HasLarge, IsCause, IsFirstRefused, IsMixed, IsPlain, IsRandomInside, Meet, NoneLarge}
+use Rattle.c104_check.specs.{Checks.{NoneMeet, Shown}, Routes.{IsAccepted, IsRandomIn, IsRandomized, Lands, LandsBehind, Owns, Routes}}
+use Rattle.c104_check.specs.{Routes.{SwitchPort, TerminalLands, header_count, most_hops, owner, to_port}, Trails.IsNetwork, Walks.WalkFault}
+use Rattle.c104_check.specs.declared.{acceptance.Accepted.Accepted, faults.CheckFault.CheckFault}
+use Rattle.{c104_plan.specs.declared.ports.Port.Port, c104_regs.specs.Settings.header_length, std.proofs.Common.{Bool, Err, IfErr, IfOk}}
+use Rattle.std.proofs.Common.{MatchResult, None, Ok, Option, Result, Some, arith, false, inl, inr, refl, subst, sym, true, ℕ, ◌<◌, ◌∙◌, ◌≡◌}
+use Rattle.std.proofs.{Common.◌≢◌, lemmas.Bool.{cases_Bool, cases_eq, cases_lt, cases_order}}
 
 module _ (routes : Routes) (net : IsNetwork routes) where
   apart_of : NoneMeet routes → (t u h : ℕ) → Owns routes t h → Owns routes u h → t ≡ u
@@ -30,10 +24,10 @@ module _ (routes : Routes) (net : IsNetwork routes) where
   false_of : (b : Bool) → (b ≡ true → ⊥) → b ≡ false
   false_of b not = elim (cases_Bool b) [ inl is ↦ absurd (not is) | inr is ↦ is ]
 
-  outside_of : (p : SwitchPort) → IsRandomized routes p → (IsRandomInside routes p → ⊥) → (o : Option Port) → routes.peer (to_port p) ≡ o → (t : ℕ) × (routes.peer (to_port p) ≡ Some (port.Terminal t))
-  outside_of p random none None at = absurd (none (random, λ t is. let clash : None ≡ Some (port.Terminal t) = sym at ∙ is in cc))
-  outside_of p random none (Some (port.Switch s l)) at = absurd (none (random, λ t is. let clash : Some (port.Switch s l) ≡ Some (port.Terminal t) = sym at ∙ is in cc))
-  outside_of p random none (Some (port.Terminal t)) at = (t, at)
+  outside_of : (p : SwitchPort) → IsRandomized routes p → (IsRandomInside routes p → ⊥) → (o : Option Port) → routes.peer (to_port p) ≡ o → (t : ℕ) × (routes.peer (to_port p) ≡ Some (Port.Terminal t))
+  outside_of p random none None at = absurd (none (random, λ t is. let clash : None ≡ Some (Port.Terminal t) = sym at ∙ is in cc))
+  outside_of p random none (Some (Port.Switch s l)) at = absurd (none (random, λ t is. let clash : Some (Port.Switch s l) ≡ Some (Port.Terminal t) = sym at ∙ is in cc))
+  outside_of p random none (Some (Port.Terminal t)) at = (t, at)
 
   pub accepted_of : IsPlain routes → ((t : ℕ) → TerminalLands routes t) → IsAccepted routes
   accepted_of plain land = record {
@@ -77,17 +71,17 @@ module _ (routes : Routes) (net : IsNetwork routes) where
       ]
 
   -- so of an accepted network no cause is told but want of memory
-  pub accepted_cause : IsAccepted routes → (why : CheckFault) → IsCause routes why → why ≡ fault.NoMemory
-  accepted_cause are (fault.RangesOverlap t u) pair = absurd (no_pair are t u pair.in_order pair.meet)
-  accepted_cause are (fault.LabelTooLarge t) large = absurd (no_large are t large.1.0)
-  accepted_cause are (fault.MixedHeaders p) mixed = absurd (no_mixed are p mixed.2.0)
-  accepted_cause are (fault.DeleteInside p) deletes = absurd (no_deleting are p deletes.3.0)
-  accepted_cause are (fault.RandomInside p) inside = absurd (no_inside are p inside.4.0)
-  accepted_cause are (fault.WrongEnd shown) refused = absurd (no_refused are walk.WrongEnd shown refused.1)
-  accepted_cause are (fault.DeadEnd shown) refused = absurd (no_refused are walk.DeadEnd shown refused.1)
-  accepted_cause are (fault.Loop shown) refused = absurd (no_refused are walk.Loop shown refused.1)
-  accepted_cause are (fault.Stray shown) refused = absurd (no_refused are walk.Stray shown refused.1)
-  accepted_cause are fault.NoMemory none = refl
+  pub accepted_cause : IsAccepted routes → (why : CheckFault) → IsCause routes why → why ≡ CheckFault.NoMemory
+  accepted_cause are (CheckFault.RangesOverlap t u) pair = absurd (no_pair are t u pair.in_order pair.meet)
+  accepted_cause are (CheckFault.LabelTooLarge t) large = absurd (no_large are t large.1.0)
+  accepted_cause are (CheckFault.MixedHeaders p) mixed = absurd (no_mixed are p mixed.2.0)
+  accepted_cause are (CheckFault.DeleteInside p) deletes = absurd (no_deleting are p deletes.3.0)
+  accepted_cause are (CheckFault.RandomInside p) inside = absurd (no_inside are p inside.4.0)
+  accepted_cause are (CheckFault.WrongEnd shown) refused = absurd (no_refused are WalkFault.WrongEnd shown refused.1)
+  accepted_cause are (CheckFault.DeadEnd shown) refused = absurd (no_refused are WalkFault.DeadEnd shown refused.1)
+  accepted_cause are (CheckFault.Loop shown) refused = absurd (no_refused are WalkFault.Loop shown refused.1)
+  accepted_cause are (CheckFault.Stray shown) refused = absurd (no_refused are WalkFault.Stray shown refused.1)
+  accepted_cause are CheckFault.NoMemory none = refl
 
 -- What is judged of the routes of a plan and an image
 module _ (a b : Routes) (same : a ≡ b) where
@@ -99,6 +93,6 @@ module _ (a b : Routes) (same : a ≡ b) where
   judged_refused (Ok x) is = tt
   judged_refused (Err why) is = subst (λ routes. IsCause routes why) same is
 
-  pub judged_exact : IsNetwork b → (r : Result Accepted CheckFault) → MatchResult r (λ _. IsAccepted a) (IsCause a) → IsAccepted b → IfErr r (λ why. why ≡ fault.NoMemory)
+  pub judged_exact : IsNetwork b → (r : Result Accepted CheckFault) → MatchResult r (λ _. IsAccepted a) (IsCause a) → IsAccepted b → IfErr r (λ why. why ≡ CheckFault.NoMemory)
   judged_exact net (Ok x) is are = tt
   judged_exact net (Err why) is are = accepted_cause b net are why (subst (λ routes. IsCause routes why) same is)

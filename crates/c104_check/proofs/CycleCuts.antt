@@ -1,11 +1,9 @@
 -- Inputs each of which depends on the next, and such a chain cut where it meets an input again.
-use Rattle.std.proofs.Common.{◌≡◌, ℕ, zero, suc, ◌<◌, Bool, List, [], ◌∷◌, ◌++◌, Some, drop, length, position, slice_index_or, refl, sym, ap, subst, ◌∙◌, arith}
-use Rattle.std.proofs.lemmas.List.Quantifiers.{position-Some}
-use Rattle.c104_check.specs.Routes.{Routes, SwitchPort}
-use Rattle.c104_check.specs.ChannelDependencies.{AreChained, DependsBy, IsCycle, ChannelDependency}
 pub use Rattle.c104_check.specs.FirstCycles.{inputs_of}
-use Rattle.c104_check.specs.Walks.{is_port}
-use Rattle.c104_check.proofs.TrailLemmas.{is_port-true}
+use Rattle.c104_check.{proofs.TrailLemmas.is_port-true, specs.ChannelDependencies.{AreChained, ChannelDependency, DependsBy, IsCycle}}
+use Rattle.{c104_check.specs.{Routes.{Routes, SwitchPort}, Walks.is_port}, std.proofs.Common.{Bool, List, Some, [], ap, arith, drop}}
+use Rattle.std.proofs.Common.{length, position, refl, slice_index_or, subst, suc, sym, zero, ℕ, ◌++◌, ◌<◌, ◌∙◌, ◌∷◌, ◌≡◌}
+use Rattle.std.proofs.lemmas.List.Quantifiers.{position-Some}
 
 abbrev pub dependency_of : SwitchPort → ℕ → ChannelDependency
 dependency_of at h = record { input = at; header = h }

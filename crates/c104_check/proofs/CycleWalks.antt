@@ -1,23 +1,14 @@
 -- The walk from input to input along dependencies, until it meets an input again.
-use Rattle.std.proofs.Common.{◌≡◌, ℕ, suc, ◌<◌, ◌≤◌, ◌+◌, ◌*◌, Bool, true, false, ◌||◌, List, [], ◌∷◌, ◌++◌, Option, None, Some, drop, length, nat_lt, not, position, refl, sym, ap, subst, ◌∙◌, arith}
+use Rattle.c104_check.proofs.CycleCuts.{IsChain, chain_more, dependency_of, inputs-snoc, inputs_of, is_cycle_cut, is_of_input}
+use Rattle.c104_check.proofs.{CycleCuts.length-inputs, FirstCycleLemmas.{distinct_rest, way_more}, TableRanks.entry_is}
+use Rattle.c104_check.{proofs.TrailLemmas.{All-snoc, IsDistinct-snoc, inputs_room}, specs.ChannelDependencies.{ChannelDependency, Depends}}
+use Rattle.c104_check.specs.{Checks.IsFirstLink, Cycles.{AreAllRanked, LeadsFirst}, Dependencies.{AreDependencies, Dependency}}
+use Rattle.c104_check.specs.{FirstCycles.{GoesOn, IsFirstCycle, IsOver, IsWay, LeadsToCycle}, Ranks.rank_in, Routes.{Routes, SwitchPort}}
+use Rattle.{c104_check.specs.{Routes.place, Trails.{IsInput, IsNetwork}, Walks.{is_met, is_port}}, c104_plan.specs.declared.ports.Port.Port}
+use Rattle.std.proofs.Common.{Bool, List, None, Option, Some, [], ap, arith, drop, false, length, nat_lt, not, position, refl, subst, suc}
+use Rattle.std.proofs.{Common.{sym, true, ℕ, ◌*◌, ◌++◌, ◌+◌, ◌<◌, ◌||◌, ◌∙◌, ◌∷◌, ◌≡◌, ◌≤◌}, lemmas.Bool.Decides.nat_tests}
+use Rattle.std.{proofs.lemmas.List.length-append, specs.List.{AllByRecursion, IsDistinct, position_or_len}}
 use mathlib.Core.Bool.{cond}
-use Rattle.std.proofs.lemmas.Bool.Decides.{nat_tests}
-use Rattle.std.proofs.lemmas.List.{length-append}
-use Rattle.std.specs.List.{AllByRecursion, IsDistinct, position_or_len}
-use Rattle.c104_plan.specs.declared.ports.Port.TheVariants as port
-use Rattle.c104_check.specs.ChannelDependencies.{ChannelDependency, Depends}
-use Rattle.c104_check.specs.Checks.{IsFirstLink}
-use Rattle.c104_check.specs.Cycles.{AreAllRanked, LeadsFirst}
-use Rattle.c104_check.specs.Dependencies.{AreDependencies, Dependency}
-use Rattle.c104_check.specs.FirstCycles.{GoesOn, IsFirstCycle, IsOver, IsWay, LeadsToCycle}
-use Rattle.c104_check.specs.Ranks.{rank_in}
-use Rattle.c104_check.specs.Routes.{Routes, SwitchPort, place}
-use Rattle.c104_check.specs.Trails.{IsInput, IsNetwork}
-use Rattle.c104_check.specs.Walks.{is_met, is_port}
-use Rattle.c104_check.proofs.CycleCuts.{IsChain, chain_more, dependency_of, inputs-snoc, inputs_of, is_cycle_cut, is_of_input, length-inputs}
-use Rattle.c104_check.proofs.FirstCycleLemmas.{distinct_rest, way_more}
-use Rattle.c104_check.proofs.TableRanks.{entry_is}
-use Rattle.c104_check.proofs.TrailLemmas.{All-snoc, IsDistinct-snoc, inputs_room}
 
 not_met : (at : SwitchPort) (steps : List ChannelDependency) → length steps ≤ position_or_len (is_of_input at) steps → is_met at (inputs_of steps) ≡ false
 not_met at [] over = refl
@@ -54,7 +45,7 @@ goes_on routes table ranks at d net dependencies ranked here (o, low, there, ran
       link = o;
       over = is.1;
       most = (is.0, λ g by. ranked.most at o g d here low there by);
-      leads = (ranked.told d.next (net.inputs (port.Switch at.switch o) d.next is.1)).0 rankless;
+      leads = (ranked.told d.next (net.inputs (Port.Switch at.switch o) d.next is.1)).0 rankless;
       lowest = lower;
     }
   where
@@ -63,7 +54,7 @@ goes_on routes table ranks at d net dependencies ranked here (o, low, there, ran
         let entry = ranked.listed at r u depends over in
         let e : Dependency = entry.0 in
         let some : 0 < rank_in ranks r = subst (λ x. 0 < rank_in ranks x) entry.2 (before u e below entry.1) in
-        let none : rank_in ranks r ≡ 0 = (ranked.told r (net.inputs (port.Switch at.switch u) r over)).1 leads in
+        let none : rank_in ranks r ≡ 0 = (ranked.told r (net.inputs (Port.Switch at.switch u) r over)).1 leads in
         omega (arith, some, none)
 
 pub follow_next : (routes : Routes) (table : List (Option Dependency)) (ranks : List ℕ) (steps seen new : List ChannelDependency) (start at : SwitchPort) (k : ℕ) (d : Dependency) → IsNetwork routes → AreDependencies routes table → AreAllRanked routes table ranks → IsChain routes steps at → IsWay routes start steps at → AllByRecursion (IsInput (length routes.settings)) (inputs_of steps) → IsDistinct is_port (inputs_of steps) → IsInput (length routes.settings) at → seen ≡ steps → position (is_of_input at) seen ≡ None → k ≡ place at → LeadsFirst table ranks k d → new ≡ steps ++ dependency_of at d.header ∷ [] → IsFollowed routes ranks steps new start d.next
@@ -81,7 +72,7 @@ follow_next routes table ranks steps seen new start at k d net dependencies rank
       way = way_more routes start at d.next d.header steps way (goes_on routes table ranks at d net dependencies ranked here of);
       inside = subst (AllByRecursion (IsInput (length routes.settings))) (sym (inputs-snoc steps (dependency_of at d.header))) more;
       once = subst (IsDistinct is_port) (sym (inputs-snoc steps (dependency_of at d.header))) apart;
-      here = net.inputs (port.Switch at.switch of.0) d.next step.1;
+      here = net.inputs (Port.Switch at.switch of.0) d.next step.1;
       rankless = of.3;
       longer = size;
       room = omega (arith, size, fits, long);

@@ -1,25 +1,16 @@
 -- The table of dependencies as it is filled, link by link, input by input and header by header.
-use Rattle.std.proofs.Common.{◌≡◌, ◌≢◌, ℕ, ◌<◌, ◌≤◌, ◌+◌, ◌*◌, inl, inr, Bool, true, false, List, Option, None, Some, MatchOption, length, ◌++◌, drop, ◌&&◌, is_some, nat_le, replicate, take, slice_index_or, slice_set, refl, sym, ap, subst, ◌∙◌, arith}
-use Rattle.std.proofs.lemmas.Bool.{cases_lt}
-use Rattle.std.proofs.lemmas.Bool.Decides.{eqb_tells, nat_tests}
-use Rattle.std.proofs.lemmas.List.{get_or-set_other, get_or-set_same, length-set}
-use Rattle.std.proofs.Math.Seq.{take-append_seam}
-use Rattle.std.specs.List.{AllByRecursion}
-use Rattle.c104_regs.proofs.RegisterLemmas.{get_or-same}
-use Rattle.c104_crossbar.specs.declared.group.Group.{Group}
-use Rattle.c104_check.specs.Dependencies.{AreByBelow, AreDependencies, AreListedBelow, Dependency, IsDependencyAt, IsExtended, AreListedAsOwn, AreListedAsRandom, AreListedAt, AreListedFor, AreListedFrom, IsListedOver, dependency_at, dependency_place, is_by_from}
-use Rattle.c104_check.specs.Parts.{AreJust, IsReachedAsOwn, IsReachedAsRandom}
-use Rattle.c104_check.specs.Reach.{IsSelected}
-use Rattle.c104_check.specs.Routes.{Routes, SwitchPort, is_in_group, owner, to_port}
-use Rattle.c104_check.specs.Trails.{IsInput, Reaches}
-use Rattle.c104_check.specs.ChannelDependencies.{DependsBy, IsBeginningBy, IsNeverRandomized, MayComeBy}
-use Rattle.c104_check.specs.Walks.{port_of}
-use Rattle.c104_check.proofs.LinkLemmas.{place_below}
-use Rattle.c104_check.proofs.OwnerLemmas.{no_owner, some_owner}
-use Rattle.c104_check.proofs.ReachLemmas.{all_just, all_taken_next}
-use Rattle.c104_check.proofs.RouteLemmas.{Some-Link-same}
-use Rattle.c104_check.proofs.StartLemmas.{random_is_randomized}
-use Rattle.c104_check.proofs.TrailLemmas.{All-found, All-map}
+use Rattle.c104_check.proofs.{LinkLemmas.place_below, OwnerLemmas.{no_owner, some_owner}, ReachLemmas.{all_just, all_taken_next}}
+use Rattle.c104_check.proofs.{RouteLemmas.Some-Link-same, StartLemmas.random_is_randomized, TrailLemmas.{All-found, All-map}}
+use Rattle.c104_check.specs.{ChannelDependencies.{DependsBy, IsBeginningBy, IsNeverRandomized, MayComeBy}, Dependencies.AreByBelow}
+use Rattle.c104_check.specs.Dependencies.{AreDependencies, AreListedAsOwn, AreListedAsRandom, AreListedAt, AreListedBelow, AreListedFor}
+use Rattle.c104_check.specs.Dependencies.{AreListedFrom, Dependency, IsDependencyAt, IsExtended, IsListedOver, dependency_at}
+use Rattle.c104_check.specs.{Dependencies.{dependency_place, is_by_from}, Parts.{AreJust, IsReachedAsOwn, IsReachedAsRandom}}
+use Rattle.c104_check.specs.{Reach.IsSelected, Routes.{Routes, SwitchPort, is_in_group, owner, to_port}, Trails.{IsInput, Reaches}}
+use Rattle.{c104_check.specs.Walks.port_of, c104_crossbar.specs.declared.group.Group.Group, c104_regs.proofs.RegisterLemmas.get_or-same}
+use Rattle.std.proofs.Common.{Bool, List, MatchOption, None, Option, Some, ap, arith, drop, false, inl, inr, is_some, length, nat_le, refl}
+use Rattle.std.proofs.Common.{replicate, slice_index_or, slice_set, subst, sym, take, true, ℕ, ◌&&◌, ◌*◌, ◌++◌, ◌+◌, ◌<◌, ◌∙◌, ◌≡◌, ◌≢◌}
+use Rattle.std.proofs.{Common.◌≤◌, Math.Seq.take-append_seam, lemmas.Bool.{Decides.{eqb_tells, nat_tests}, cases_lt}}
+use Rattle.std.{proofs.lemmas.List.{get_or-set_other, get_or-set_same, length-set}, specs.List.AllByRecursion}
 
 -- one after another
 pub extended_more : (routes : Routes) (first limit : ℕ) (old now new : List (Option Dependency)) → IsExtended routes first old now → IsExtended routes limit now new → IsExtended routes limit old new

@@ -1,16 +1,11 @@
 -- The edges of a table of dependencies, one by one; and that they are those of the network, each once and in order.
-use Rattle.std.proofs.Common.{◌≡◌, ℕ, zero, suc, ◌<◌, ◌≤◌, ◌+◌, ◌*◌, ◌/◌, ◌⊎◌, inl, inr, List, [], ◌∷◌, ◌++◌, Option, None, Some, length, slice_get, refl, sym, ap, subst, ◌∙◌, arith}
-use Rattle.std.proofs.lemmas.Bool.{cases_lt}
-use Rattle.std.proofs.lemmas.Option.{slice_get_within}
-use Rattle.c104_check.specs.ChannelDependencies.{Depends, DependsBy}
-use Rattle.c104_check.specs.Checks.{ComesBefore}
-use Rattle.c104_check.specs.Dependencies.{AreDependencies, AreListedBelow, Dependency, dependency_at, dependency_place}
-use Rattle.c104_check.specs.Edges.{AreAllEdges, AreEdgesBefore, AreInOrder, DependencyEdge, HasEdge, IsBefore, IsEachOnce, IsEdgeOf, edge_of}
-use Rattle.c104_check.specs.FirstCycles.{DependsMostBy, IsOver}
-use Rattle.c104_check.specs.Routes.{IsAccepted, Routes, SwitchPort, header_count, place, port_at}
-use Rattle.c104_check.specs.Trails.{IsInput, IsNetwork}
-use Rattle.c104_check.proofs.LinkLemmas.{at_place, place_below}
-use Rattle.c104_check.proofs.TableRanks.{entry_is, find_listed, most_listed, one_link}
+use Rattle.c104_check.proofs.{LinkLemmas.{at_place, place_below}, TableRanks.{entry_is, find_listed, most_listed, one_link}}
+use Rattle.c104_check.specs.{ChannelDependencies.{Depends, DependsBy}, Checks.ComesBefore, Dependencies.{AreDependencies, AreListedBelow}}
+use Rattle.c104_check.specs.{Dependencies.{Dependency, dependency_at, dependency_place}, Edges.{AreAllEdges, AreEdgesBefore, AreInOrder}}
+use Rattle.c104_check.specs.{Edges.{DependencyEdge, HasEdge, IsBefore, IsEachOnce, IsEdgeOf, edge_of}, FirstCycles.{DependsMostBy, IsOver}}
+use Rattle.c104_check.specs.{Routes.{IsAccepted, Routes, SwitchPort, header_count, place, port_at}, Trails.{IsInput, IsNetwork}}
+use Rattle.std.proofs.Common.{List, None, Option, Some, [], ap, arith, inl, inr, length, refl, slice_get, subst, suc, sym, zero, ℕ, ◌*◌}
+use Rattle.std.proofs.{Common.{◌++◌, ◌+◌, ◌/◌, ◌<◌, ◌∙◌, ◌∷◌, ◌≡◌, ◌≤◌, ◌⊎◌}, lemmas.{Bool.cases_lt, Option.slice_get_within}}
 
 -- Lists that grow
 

@@ -1,17 +1,11 @@
 -- The way into a cycle of dependencies is a single one, and so is the cycle.
-use Rattle.std.proofs.Common.{◌≡◌, ℕ, zero, suc, ◌<◌, ◌≤◌, Bool, true, false, ◌||◌, inl, inr, List, [], ◌∷◌, ◌++◌, Some, append_assoc, append-nil, drop, length, position, slice_index_or, refl, sym, ap, subst, ◌∙◌, arith}
-use Rattle.std.proofs.lemmas.Bool.{cases_lt}
-use Rattle.std.proofs.lemmas.List.Quantifiers.{position-Some}
-use Rattle.std.specs.List.{AllByRecursion, IsDistinct}
-use Rattle.c104_plan.specs.declared.ports.Port.TheVariants as port
-use Rattle.c104_check.specs.ChannelDependencies.{ChannelDependency, DependsBy}
-use Rattle.c104_check.specs.Checks.{ComesBefore, IsFirstLink}
-use Rattle.c104_check.specs.FirstCycles.{GoesOn, HasOneCycle, IsWay, LeadsToCycle, inputs_of}
-use Rattle.c104_check.specs.Routes.{Routes, SwitchPort}
-use Rattle.c104_check.specs.Walks.{is_met, is_port}
-use Rattle.c104_check.proofs.CycleCuts.{dependency_of, is_of_input}
-use Rattle.c104_check.proofs.ReachLemmas.{input_same}
-use Rattle.c104_check.proofs.TrailLemmas.{is_port-false}
+use Rattle.c104_check.proofs.{CycleCuts.{dependency_of, is_of_input}, ReachLemmas.input_same, TrailLemmas.is_port-false}
+use Rattle.c104_check.specs.{ChannelDependencies.{ChannelDependency, DependsBy}, Checks.{ComesBefore, IsFirstLink}, FirstCycles.GoesOn}
+use Rattle.c104_check.specs.{FirstCycles.{HasOneCycle, IsWay, LeadsToCycle, inputs_of}, Routes.{Routes, SwitchPort}, Walks.is_met}
+use Rattle.{c104_check.specs.Walks.is_port, c104_plan.specs.declared.ports.Port.Port, std.proofs.Common.{Bool, List, Some, [], ap}}
+use Rattle.std.proofs.Common.{append-nil, append_assoc, arith, drop, false, inl, inr, length, position, refl, slice_index_or, subst, suc}
+use Rattle.std.proofs.{Common.{sym, true, zero, ℕ, ◌++◌, ◌<◌, ◌||◌, ◌∙◌, ◌∷◌, ◌≡◌, ◌≤◌}, lemmas.Bool.cases_lt}
+use Rattle.std.{proofs.lemmas.List.Quantifiers.position-Some, specs.List.{AllByRecursion, IsDistinct}}
 
 -- a way over one input more
 pub way_more : (routes : Routes) (p at next : SwitchPort) (h : ℕ) (steps : List ChannelDependency) → IsWay routes p steps at → GoesOn routes (dependency_of at h) next → IsWay routes p (steps ++ dependency_of at h ∷ []) next
@@ -61,7 +55,7 @@ goes_same routes p h g q r x y =
       | inr not ↦ omega (arith, not)
     ] in
     let link : x.link ≡ y.link = omega (arith, low, high) in
-    let next : q ≡ r = input_same q r (routes.peer (port.Switch p.switch x.link)) (routes.peer (port.Switch p.switch y.link)) x.over y.over (ap (λ o. routes.peer (port.Switch p.switch o)) link) in
+    let next : q ≡ r = input_same q r (routes.peer (Port.Switch p.switch x.link)) (routes.peer (Port.Switch p.switch y.link)) x.over y.over (ap (λ o. routes.peer (Port.Switch p.switch o)) link) in
     let up : g ≤ h = x.most.1 g (subst (λ z. DependsBy routes g p z) (sym next) y.most.0) in
     let down : h ≤ g = y.most.1 h (subst (λ z. DependsBy routes h p z) next x.most.0) in
     (omega (arith, up, down), next)

@@ -1,23 +1,18 @@
 -- The fault that is found depth first is that of the first walk that goes wrong, and where none is found none does.
-use Rattle.std.proofs.Common.{◌≡◌, ◌⊎◌, ℕ, zero, suc, ◌<◌, ◌≤◌, ◌+◌, ◌*◌, inl, inr, Bool, true, false, cond, List, [], ◌∷◌, ◌++◌, length, option_map, Option, Some, None, refl, sym, ap, subst, ◌∙◌, arith}
-use Rattle.std.proofs.lemmas.Bool.{cases_Bool, cases_eq, cases_order}
-use Rattle.std.proofs.lemmas.List.{length-append}
-use Rattle.c104_interval.specs.declared.intervals.Select.{Select}
-use Rattle.c104_interval.specs.declared.intervals.Select.TheVariants.{Link, Discard, Sink}
-use Rattle.c104_plan.specs.declared.ports.Port.{Port}
-use Rattle.c104_plan.specs.declared.ports.Port.TheVariants as port
-use Rattle.c104_check.specs.declared.faults.WalkFault.TheVariants.{WrongEnd, DeadEnd, Loop}
-use Rattle.c104_check.specs.declared.walks.Goal.TheVariants.{Owner, Portal}
-use Rattle.c104_check.specs.FirstWalks.{TakesLower, GoesWrong, GoesWrongFrom, GoesWrongOver, IsFirstWalk, IsStuck, IsToldByWalks, MayLeaveBy, NoneGoesWrong}
-use Rattle.c104_check.specs.Routes.{Homes, Lands, Routes, SwitchPort, is_in_group, most_hops, owner, select}
-use Rattle.c104_check.specs.Shown.{Follows, IsForeign, IsPortalFor}
-use Rattle.c104_check.specs.Trails.{IsInput, IsNetwork, IsTrail}
-use Rattle.c104_check.specs.Walks.{Found, Goal, WalkFault, at_peer, at_peers, at_ways, discarded, fault_at, first_fault, first_of, is_home, is_met, peers_that, port_of, random_fault, ways_of}
-use Rattle.c104_check.proofs.GoalLemmas.{comes_home, foreign_comes, foreign_of, no_portal}
-use Rattle.c104_check.proofs.RouteLemmas.{IsAmong, Some-Link-same, group_among, group_peers, peers_step, within}
-use Rattle.c104_check.proofs.ShownLemmas.{fault_lands, fault_with, no_fault, nothing, random_homes, stray_lands, stray_shown, walk_or, why_or}
-use Rattle.c104_check.proofs.TrailLemmas.{trail_first, trail_longer, trail_room}
-use Rattle.c104_check.proofs.WalkLemmas.{entry_clear}
+use Rattle.c104_check.proofs.{GoalLemmas.{comes_home, foreign_comes, foreign_of, no_portal}, RouteLemmas.{IsAmong, Some-Link-same}}
+use Rattle.c104_check.proofs.{RouteLemmas.{group_among, group_peers, peers_step, within}, ShownLemmas.{fault_lands, fault_with, no_fault}}
+use Rattle.c104_check.proofs.{ShownLemmas.{nothing, random_homes, stray_lands, stray_shown, walk_or, why_or}, TrailLemmas.trail_first}
+use Rattle.c104_check.{proofs.{TrailLemmas.{trail_longer, trail_room}, WalkLemmas.entry_clear}, specs.FirstWalks.{GoesWrong, GoesWrongFrom}}
+use Rattle.c104_check.specs.FirstWalks.{GoesWrongOver, IsFirstWalk, IsStuck, IsToldByWalks, MayLeaveBy, NoneGoesWrong, TakesLower}
+use Rattle.c104_check.specs.{Routes.{Homes, Lands, Routes, SwitchPort, is_in_group, most_hops, owner, select}, Shown.{Follows, IsForeign}}
+use Rattle.c104_check.specs.{Shown.IsPortalFor, Trails.{IsInput, IsNetwork, IsTrail}, Walks.{Found, Goal, WalkFault, at_peer, at_peers}}
+use Rattle.c104_check.specs.Walks.{at_ways, discarded, fault_at, first_fault, first_of, is_home, is_met, peers_that, port_of, random_fault}
+use Rattle.c104_check.specs.{Walks.ways_of, declared.{faults.WalkFault.TheVariants.{DeadEnd, Loop, WrongEnd}, walks.Goal.TheVariants.Owner}}
+use Rattle.{c104_check.specs.declared.walks.Goal.TheVariants.Portal, c104_interval.specs.declared.intervals.Select.Select}
+use Rattle.{c104_interval.specs.declared.intervals.Select.TheVariants.{Discard, Link, Sink}, c104_plan.specs.declared.ports.Port.Port}
+use Rattle.std.proofs.Common.{Bool, List, None, Option, Some, [], ap, arith, cond, false, inl, inr, length, option_map, refl, subst, suc}
+use Rattle.std.proofs.{Common.{sym, true, zero, ℕ, ◌*◌, ◌++◌, ◌+◌, ◌<◌, ◌∙◌, ◌∷◌, ◌≡◌, ◌≤◌, ◌⊎◌}, lemmas.Bool.{cases_Bool, cases_eq}}
+use Rattle.std.proofs.lemmas.{Bool.cases_order, List.length-append}
 
 -- Where nothing is found, no walk goes wrong
 
@@ -57,20 +52,20 @@ module _ (routes : Routes) (h : ℕ) (t : Goal) where
 
   none_over : (k : ℕ) → NoneBehind k → (links : List ℕ) (why : WalkFault) (walk met : List SwitchPort) (e : Option Port) → at_peer (first_fault routes h t k) t met e ≡ None → GoesWrongOver (GoesWrong routes h t why walk links) t why walk links met e → ⊥
   none_over k none links why walk met None is goes = absurd cc
-  none_over k none links why walk met (Some (port.Terminal u)) is goes =
+  none_over k none links why walk met (Some (Port.Terminal u)) is goes =
       elim (cases_Bool (is_home t u)) [
         | inl home ↦ foreign_home t u goes.3 home
         | inr other ↦ let clash : fault_with WrongEnd met ≡ nothing = rw other at is in absurd cc
       ]
-  none_over k none links why walk met (Some (port.Switch s i)) is (inl loop) =
+  none_over k none links why walk met (Some (Port.Switch s i)) is (inl loop) =
       let again = loop.3 in
       let clash : fault_with Loop (met ++ (port_of s i ∷ [])) ≡ nothing = rw again at is in absurd cc
-  none_over k none links why walk met (Some (port.Switch s i)) is (inr (new, goes)) =
+  none_over k none links why walk met (Some (Port.Switch s i)) is (inr (new, goes)) =
       none links why walk (met ++ (port_of s i ∷ [])) (port_of s i) (rw new at is) goes
 
-  none_peer : IsNetwork routes → (k : ℕ) (met : List SwitchPort) (p : SwitchPort) (o : ℕ) → MayLeaveBy routes h p o → at_ways (first_fault routes h t k) t met (ways_of routes t p.switch (select routes p.switch p.link h)) ≡ None → at_peer (first_fault routes h t k) t met (routes.peer (port.Switch p.switch o)) ≡ None
+  none_peer : IsNetwork routes → (k : ℕ) (met : List SwitchPort) (p : SwitchPort) (o : ℕ) → MayLeaveBy routes h p o → at_ways (first_fault routes h t k) t met (ways_of routes t p.switch (select routes p.switch p.link h)) ≡ None → at_peer (first_fault routes h t k) t met (routes.peer (Port.Switch p.switch o)) ≡ None
   none_peer net k met p o (g, at, joined) is =
-      none_among (first_fault routes h t k) t met (routes.peer (port.Switch p.switch o)) (group_peers routes p.switch g)
+      none_among (first_fault routes h t k) t met (routes.peer (Port.Switch p.switch o)) (group_peers routes p.switch g)
       (subst (λ (s : Option Select). at_ways (first_fault routes h t k) t met (ways_of routes t p.switch s) ≡ None) at is)
       (group_among routes p.switch p.link h g o net at joined)
 
@@ -78,14 +73,14 @@ pub none_wrong : (routes : Routes) (h : ℕ) (t : Goal) → IsNetwork routes →
 none_wrong routes h t net zero links why walk met p is goes = absurd cc
 none_wrong routes h t net (suc k) [] why walk met p is goes = none_stuck routes h t k met p (select routes p.switch p.link h) refl is goes.2
 none_wrong routes h t net (suc k) (o ∷ links) why walk met p is (leaves, goes) =
-    none_over routes h t k (none_wrong routes h t net k) links why walk met (routes.peer (port.Switch p.switch o)) (none_peer routes h t net k met p o leaves is) goes
+    none_over routes h t k (none_wrong routes h t net k) links why walk met (routes.peer (Port.Switch p.switch o)) (none_peer routes h t net k met p o leaves is) goes
 
 -- What is found is found at the first link where anything is
 
 module _ (routes : Routes) (further : List SwitchPort → SwitchPort → Found) (t : Goal) (met : List SwitchPort) (s : ℕ) (test : ℕ → Bool) (x : WalkFault × List SwitchPort) where
   -- what is found by a link, and by the n links from one on that pass
   abbrev by_link : ℕ → Found
-  by_link o = at_peer further t met (routes.peer (port.Switch s o))
+  by_link o = at_peer further t met (routes.peer (Port.Switch s o))
 
   abbrev by_links : ℕ → ℕ → Found
   by_links from n = at_peers further t met (peers_that routes s test from n)
@@ -112,7 +107,7 @@ module _ (routes : Routes) (further : List SwitchPort → SwitchPort → Found) 
   found_here from n None passes at later is = found_later from (λ _. at) (later is)
   found_here from n (Some z) passes at later is = (from, omega arith, passes, at ∙ is, λ l least below joined. absurd (omega (arith, least, below)))
 
-  found_step : (from n : ℕ) (b : Bool) → test from ≡ b → (by_links (from + 1) n ≡ Some x → IsFoundFrom (from + 1)) → at_peers further t met (cond b (routes.peer (port.Switch s from) ∷ peers_that routes s test (from + 1) n) (peers_that routes s test (from + 1) n)) ≡ Some x → IsFoundFrom from
+  found_step : (from n : ℕ) (b : Bool) → test from ≡ b → (by_links (from + 1) n ≡ Some x → IsFoundFrom (from + 1)) → at_peers further t met (cond b (routes.peer (Port.Switch s from) ∷ peers_that routes s test (from + 1) n) (peers_that routes s test (from + 1) n)) ≡ Some x → IsFoundFrom from
   found_step from n true passes later is = found_here from n (by_link from) passes refl later is
   found_step from n false stays later is = found_later from (λ passes. let clash : true ≡ false = sym passes ∙ stays in absurd cc) (later is)
 
@@ -157,46 +152,46 @@ module _ (routes : Routes) (h : ℕ) (t : Goal) (why : WalkFault) (walk : List S
 
       abbrev NoneLower : Type 0
       NoneLower =
-          (l : ℕ) (others : List ℕ) (fault : WalkFault) (other : List SwitchPort) → l < o → MayLeaveBy routes h p l → GoesBy fault other others (routes.peer (port.Switch p.switch l)) → ⊥
+          (l : ℕ) (others : List ℕ) (fault : WalkFault) (other : List SwitchPort) → l < o → MayLeaveBy routes h p l → GoesBy fault other others (routes.peer (Port.Switch p.switch l)) → ⊥
 
-      none_before_by : (links others : List ℕ) (fault : WalkFault) (other : List SwitchPort) → NoneLower → NoneBy links (routes.peer (port.Switch p.switch o)) → TakesLower others (o ∷ links) → GoesWrong routes h t fault other others met p → ⊥
+      none_before_by : (links others : List ℕ) (fault : WalkFault) (other : List SwitchPort) → NoneLower → NoneBy links (routes.peer (Port.Switch p.switch o)) → TakesLower others (o ∷ links) → GoesWrong routes h t fault other others met p → ⊥
       none_before_by links [] fault other below after lower goes = lower
       none_before_by links (l ∷ others) fault other below after (inl lower) (leaves, goes) = below l others fault other lower leaves goes
       none_before_by links (l ∷ others) fault other below after (inr (same, lower)) (leaves, goes) =
-          after others fault other lower (subst (λ n. GoesBy fault other others (routes.peer (port.Switch p.switch n))) same goes)
+          after others fault other lower (subst (λ n. GoesBy fault other others (routes.peer (Port.Switch p.switch n))) same goes)
 
-      first_by : (links : List ℕ) (e : Option Port) → MayLeaveBy routes h p o → NoneLower → routes.peer (port.Switch p.switch o) ≡ e → GoesBy why walk links e → NoneBy links e → HasFirst met p
+      first_by : (links : List ℕ) (e : Option Port) → MayLeaveBy routes h p o → NoneLower → routes.peer (Port.Switch p.switch o) ≡ e → GoesBy why walk links e → NoneBy links e → HasFirst met p
       first_by links e leaves below at goes after = (
         o ∷ links,
         ((leaves, subst (GoesBy why walk links) (sym at) goes), λ others fault other lower wrong. none_before_by links others fault other below (subst (NoneBy links) (sym at) after) lower wrong),
       )
 
       -- over an input that wasn't met
-      after_new : (s i : ℕ) (links : List ℕ) → is_met (port_of s i) met ≡ false → ((others : List ℕ) (fault : WalkFault) (other : List SwitchPort) → TakesLower others links → GoesWrong routes h t fault other others (met ++ (port_of s i ∷ [])) (port_of s i) → ⊥) → NoneBy links (Some (port.Switch s i))
+      after_new : (s i : ℕ) (links : List ℕ) → is_met (port_of s i) met ≡ false → ((others : List ℕ) (fault : WalkFault) (other : List SwitchPort) → TakesLower others links → GoesWrong routes h t fault other others (met ++ (port_of s i ∷ [])) (port_of s i) → ⊥) → NoneBy links (Some (Port.Switch s i))
       after_new s i links new none others fault other lower (inl loop) =
           let again = loop.3 in
           let clash : true ≡ false = sym again ∙ new in
           absurd cc
       after_new s i links new none others fault other lower (inr goes) = none others fault other lower goes.1
 
-      first_end : (k : ℕ) (e : Option Port) → MayLeaveBy routes h p o → NoneLower → routes.peer (port.Switch p.switch o) ≡ e → ((q : SwitchPort) → Follows routes h p q → is_met q met ≡ false → first_fault routes h t k (met ++ (q ∷ [])) q ≡ Some (why, walk) → HasFirst (met ++ (q ∷ [])) q) → at_peer (first_fault routes h t k) t met e ≡ Some (why, walk) → HasFirst met p
+      first_end : (k : ℕ) (e : Option Port) → MayLeaveBy routes h p o → NoneLower → routes.peer (Port.Switch p.switch o) ≡ e → ((q : SwitchPort) → Follows routes h p q → is_met q met ≡ false → first_fault routes h t k (met ++ (q ∷ [])) q ≡ Some (why, walk) → HasFirst (met ++ (q ∷ [])) q) → at_peer (first_fault routes h t k) t met e ≡ Some (why, walk) → HasFirst met p
       first_end k None leaves below at each is =
           first_by [] None leaves below at (refl, sym (ap (why_or Loop) is), sym (ap (walk_or []) is)) (λ others fault other lower goes. never_lower others lower)
-      first_end k (Some (port.Terminal u)) leaves below at each is =
+      first_end k (Some (Port.Terminal u)) leaves below at each is =
           elim (cases_Bool (is_home t u)) [
             | inl home ↦ absurd (no_fault u t met why walk home is)
             | inr differ ↦
                 let found : fault_with WrongEnd met ≡ fault_with why walk = rw differ at is in
-                first_by [] (Some (port.Terminal u)) leaves below at (refl, sym (ap (why_or Loop) found), sym (ap (walk_or []) found), foreign_of t u differ) (λ others fault other lower goes. never_lower others lower)
+                first_by [] (Some (Port.Terminal u)) leaves below at (refl, sym (ap (why_or Loop) found), sym (ap (walk_or []) found), foreign_of t u differ) (λ others fault other lower goes. never_lower others lower)
           ]
-      first_end k (Some (port.Switch s i)) leaves below at each is =
+      first_end k (Some (Port.Switch s i)) leaves below at each is =
           elim (cases_Bool (is_met (port_of s i) met)) [
             | inl again ↦
                 let found : fault_with Loop (met ++ (port_of s i ∷ [])) ≡ fault_with why walk = rw again at is in
-                first_by [] (Some (port.Switch s i)) leaves below at (inl (refl, sym (ap (why_or DeadEnd) found), sym (ap (walk_or []) found), again)) (λ others fault other lower goes. never_lower others lower)
+                first_by [] (Some (Port.Switch s i)) leaves below at (inl (refl, sym (ap (why_or DeadEnd) found), sym (ap (walk_or []) found), again)) (λ others fault other lower goes. never_lower others lower)
             | inr new ↦
                 let rest = each (port_of s i) (leaves.0, o, leaves.1, leaves.2, at) new (rw new at is) in
-                first_by rest.0 (Some (port.Switch s i)) leaves below at (inr (new, rest.1.0)) (after_new s i rest.0 new rest.1.1)
+                first_by rest.0 (Some (Port.Switch s i)) leaves below at (inr (new, rest.1.0)) (after_new s i rest.0 new rest.1.1)
           ]
 
     abbrev EachFirst : ℕ → Type 0
@@ -204,16 +199,16 @@ module _ (routes : Routes) (h : ℕ) (t : Goal) (why : WalkFault) (walk : List S
         (q : SwitchPort) → Follows routes h p q → is_met q met ≡ false → first_fault routes h t k (met ++ (q ∷ [])) q ≡ Some (why, walk) → HasFirst (met ++ (q ∷ [])) q
 
     -- below a link where the first fault is found, no link of the group leads wrong
-    none_below : IsNetwork routes → (k g o : ℕ) → select routes p.switch p.link h ≡ Some (Link g) → ((l : ℕ) → 0 ≤ l → l < o → is_in_group routes p.switch g l ≡ true → at_peer (first_fault routes h t k) t met (routes.peer (port.Switch p.switch l)) ≡ None) → NoneLower o
+    none_below : IsNetwork routes → (k g o : ℕ) → select routes p.switch p.link h ≡ Some (Link g) → ((l : ℕ) → 0 ≤ l → l < o → is_in_group routes p.switch g l ≡ true → at_peer (first_fault routes h t k) t met (routes.peer (Port.Switch p.switch l)) ≡ None) → NoneLower o
     none_below net k g o at before l others fault other lower (g', also, joined) goes =
         let same : g' ≡ g = Some-Link-same g' g (sym also ∙ at) in
         let none = before l (omega arith) lower (subst (λ n. is_in_group routes p.switch n l ≡ true) same joined) in
-        none_over routes h t k (none_wrong routes h t net k) others fault other met (routes.peer (port.Switch p.switch l)) none goes
+        none_over routes h t k (none_wrong routes h t net k) others fault other met (routes.peer (Port.Switch p.switch l)) none goes
 
     first_group : IsNetwork routes → (k g : ℕ) → select routes p.switch p.link h ≡ Some (Link g) → EachFirst k → at_peers (first_fault routes h t k) t met (group_peers routes p.switch g) ≡ Some (why, walk) → HasFirst met p
     first_group net k g at each is =
         let (o, low, joined, found, before) = first_found routes (first_fault routes h t k) t met p.switch (is_in_group routes p.switch g) (why, walk) 32 0 is in
-        first_end o k (routes.peer (port.Switch p.switch o)) (g, at, joined) (none_below net k g o at before) refl each found
+        first_end o k (routes.peer (Port.Switch p.switch o)) (g, at, joined) (none_below net k g o at before) refl each found
 
     first_input : IsNetwork routes → (k : ℕ) (s : Option Select) → select routes p.switch p.link h ≡ s → EachFirst k → at_ways (first_fault routes h t k) t met (ways_of routes t p.switch s) ≡ Some (why, walk) → HasFirst met p
     first_input net k None at each is = first_stuck ((λ g link. let clash : None ≡ Some (Link g) = sym at ∙ link in cc), no_portal routes h t p None at (λ e. cc)) is
@@ -289,11 +284,11 @@ part_on o links others why fault walk other (inr (inr same)) = inr (inr same)
 
 part_over : (routes : Routes) (h : ℕ) (t : Goal) (links others : List ℕ) (why fault : WalkFault) (walk other met : List SwitchPort) → ((w : List SwitchPort) (q : SwitchPort) → GoesWrong routes h t why walk links w q → GoesWrong routes h t fault other others w q → PartOrSame links others why fault walk other) → (e : Option Port) → GoesWrongOver (GoesWrong routes h t why walk links) t why walk links met e → GoesWrongOver (GoesWrong routes h t fault other others) t fault other others met e → PartOrSame links others why fault walk other
 part_over routes h t links others why fault walk other met further None (a, b, c) (x, y, z) = inr (inr (y ∙ sym b, z ∙ sym c))
-part_over routes h t links others why fault walk other met further (Some (port.Terminal u)) (a, b, c, d) (x, y, z, w) = inr (inr (y ∙ sym b, z ∙ sym c))
-part_over routes h t links others why fault walk other met further (Some (port.Switch s i)) (inl (a, b, c, d)) (inl (x, y, z, w)) = inr (inr (y ∙ sym b, z ∙ sym c))
-part_over routes h t links others why fault walk other met further (Some (port.Switch s i)) (inl (a, b, c, d)) (inr (new, goes)) = let clash : true ≡ false = sym d ∙ new in absurd cc
-part_over routes h t links others why fault walk other met further (Some (port.Switch s i)) (inr (new, goes)) (inl (x, y, z, w)) = let clash : true ≡ false = sym w ∙ new in absurd cc
-part_over routes h t links others why fault walk other met further (Some (port.Switch s i)) (inr (new, goes)) (inr (also, goes')) = further (met ++ (port_of s i ∷ [])) (port_of s i) goes goes'
+part_over routes h t links others why fault walk other met further (Some (Port.Terminal u)) (a, b, c, d) (x, y, z, w) = inr (inr (y ∙ sym b, z ∙ sym c))
+part_over routes h t links others why fault walk other met further (Some (Port.Switch s i)) (inl (a, b, c, d)) (inl (x, y, z, w)) = inr (inr (y ∙ sym b, z ∙ sym c))
+part_over routes h t links others why fault walk other met further (Some (Port.Switch s i)) (inl (a, b, c, d)) (inr (new, goes)) = let clash : true ≡ false = sym d ∙ new in absurd cc
+part_over routes h t links others why fault walk other met further (Some (Port.Switch s i)) (inr (new, goes)) (inl (x, y, z, w)) = let clash : true ≡ false = sym w ∙ new in absurd cc
+part_over routes h t links others why fault walk other met further (Some (Port.Switch s i)) (inr (new, goes)) (inr (also, goes')) = further (met ++ (port_of s i ∷ [])) (port_of s i) goes goes'
 
 part_or_same : (routes : Routes) (h : ℕ) (t : Goal) (links others : List ℕ) (why fault : WalkFault) (walk other met : List SwitchPort) (p : SwitchPort) → GoesWrong routes h t why walk links met p → GoesWrong routes h t fault other others met p → PartOrSame links others why fault walk other
 part_or_same routes h t [] [] why fault walk other met p (a, b, c) (x, y, z) = inr (inr (x ∙ sym a, y ∙ sym b))
@@ -302,10 +297,10 @@ part_or_same routes h t (o ∷ links) [] why fault walk other met p (leaves, goe
 part_or_same routes h t (o ∷ links) (l ∷ others) why fault walk other met p (leaves, goes) (also, goes') =
     elim (cases_order o l) [
       | inl same ↦
-          let here = subst (λ n. GoesWrongOver (GoesWrong routes h t fault other others) t fault other others met (routes.peer (port.Switch p.switch n))) (sym same) goes' in
+          let here = subst (λ n. GoesWrongOver (GoesWrong routes h t fault other others) t fault other others met (routes.peer (Port.Switch p.switch n))) (sym same) goes' in
           subst (λ n. PartOrSame (o ∷ links) (n ∷ others) why fault walk other) same
           (part_on o links others why fault walk other
-          (part_over routes h t links others why fault walk other met (part_or_same routes h t links others why fault walk other) (routes.peer (port.Switch p.switch o)) goes here))
+          (part_over routes h t links others why fault walk other met (part_or_same routes h t links others why fault walk other) (routes.peer (Port.Switch p.switch o)) goes here))
       | inr (inl below) ↦ inl (inl below)
       | inr (inr above) ↦ inr (inl (inl above))
     ]

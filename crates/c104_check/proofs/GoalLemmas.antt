@@ -1,22 +1,17 @@
 -- What comes where it should: a header to its owner, and a random one to a portal.
-use Rattle.std.proofs.Common.{◌≡◌, ◌≢◌, ℕ, zero, suc, ◌⊎◌, inl, inr, ◌==◌, true, false, Option, Some, None, refl, sym, subst, ◌∙◌}
-use Rattle.std.proofs.lemmas.Bool.{eqb-true, eq-eqb}
-use Rattle.c104_interval.specs.declared.intervals.Select.{Select}
-use Rattle.c104_interval.specs.declared.intervals.Select.TheVariants.{Link, Discard}
-use Rattle.c104_plan.specs.declared.ports.Port.{Port}
-use Rattle.c104_plan.specs.declared.ports.Port.TheVariants as port
-use Rattle.c104_check.specs.declared.walks.Goal.TheVariants.{Owner, Portal}
-use Rattle.c104_check.specs.Routes.{Roams, Routes, SwitchPort, is_in_group, select}
-use Rattle.c104_check.specs.Shown.{Comes, ComesBy, IsForeign, IsPortalFor, MayLeave}
-use Rattle.c104_check.specs.Walks.{Goal, is_home}
-use Rattle.c104_check.proofs.RouteLemmas.{Some-Link-same, leaves_arrives}
+use Rattle.c104_check.{proofs.RouteLemmas.{Some-Link-same, leaves_arrives}, specs.Routes.{Roams, Routes, SwitchPort, is_in_group, select}}
+use Rattle.c104_check.specs.{Shown.{Comes, ComesBy, IsForeign, IsPortalFor, MayLeave}, Walks.{Goal, is_home}}
+use Rattle.{c104_check.specs.declared.walks.Goal.TheVariants.{Owner, Portal}, c104_interval.specs.declared.intervals.Select.Select}
+use Rattle.{c104_interval.specs.declared.intervals.Select.TheVariants.{Discard, Link}, c104_plan.specs.declared.ports.Port.Port}
+use Rattle.std.proofs.Common.{None, Option, Some, false, inl, inr, refl, subst, suc, sym, true, zero, ℕ, ◌==◌, ◌∙◌, ◌≡◌, ◌≢◌, ◌⊎◌}
+use Rattle.std.proofs.lemmas.Bool.{eq-eqb, eqb-true}
 
 pub comes_never : (routes : Routes) (h : ℕ) (t : Goal) (s i : ℕ) → Comes routes h t zero s i → ⊥
 comes_never routes h (Owner t) s i comes = comes
 comes_never routes h Portal s i comes = comes
 
 -- over the links of the group that it selects
-pub comes_over : (routes : Routes) (h : ℕ) (t : Goal) (k g : ℕ) (p : SwitchPort) → select routes p.switch p.link h ≡ Some (Link g) → ((o : ℕ) → is_in_group routes p.switch g o ≡ true → ComesBy (Comes routes h t k) t (routes.peer (port.Switch p.switch o))) → Comes routes h t (suc k) p.switch p.link
+pub comes_over : (routes : Routes) (h : ℕ) (t : Goal) (k g : ℕ) (p : SwitchPort) → select routes p.switch p.link h ≡ Some (Link g) → ((o : ℕ) → is_in_group routes p.switch g o ≡ true → ComesBy (Comes routes h t k) t (routes.peer (Port.Switch p.switch o))) → Comes routes h t (suc k) p.switch p.link
 comes_over routes h (Owner t) k g p at all = (g, at, all)
 comes_over routes h Portal k g p at all = inr (g, at, all)
 
@@ -38,19 +33,19 @@ pub comes_nothing : (next : ℕ → ℕ → Type 0) (t : Goal) → ComesBy next 
 comes_nothing next (Owner t) comes = comes
 comes_nothing next Portal comes = comes
 
-pub comes_home : (next : ℕ → ℕ → Type 0) (t : Goal) (u : ℕ) → is_home t u ≡ true → ComesBy next t (Some (port.Terminal u))
+pub comes_home : (next : ℕ → ℕ → Type 0) (t : Goal) (u : ℕ) → is_home t u ≡ true → ComesBy next t (Some (Port.Terminal u))
 comes_home next (Owner t) u is = eqb-true u t is
 comes_home next Portal u is = absurd cc
 
-pub home_of : (next : ℕ → ℕ → Type 0) (t : Goal) (u : ℕ) → ComesBy next t (Some (port.Terminal u)) → is_home t u ≡ true
+pub home_of : (next : ℕ → ℕ → Type 0) (t : Goal) (u : ℕ) → ComesBy next t (Some (Port.Terminal u)) → is_home t u ≡ true
 home_of next (Owner t) u comes = eq-eqb u t comes
 home_of next Portal u comes = absurd comes
 
-pub comes_on : (next : ℕ → ℕ → Type 0) (t : Goal) (s i : ℕ) → next s i → ComesBy next t (Some (port.Switch s i))
+pub comes_on : (next : ℕ → ℕ → Type 0) (t : Goal) (s i : ℕ) → next s i → ComesBy next t (Some (Port.Switch s i))
 comes_on next (Owner t) s i comes = comes
 comes_on next Portal s i comes = comes
 
-pub on_comes : (next : ℕ → ℕ → Type 0) (t : Goal) (s i : ℕ) → ComesBy next t (Some (port.Switch s i)) → next s i
+pub on_comes : (next : ℕ → ℕ → Type 0) (t : Goal) (s i : ℕ) → ComesBy next t (Some (Port.Switch s i)) → next s i
 on_comes next (Owner t) s i comes = comes
 on_comes next Portal s i comes = comes
 
@@ -58,7 +53,7 @@ pub foreign_of : (t : Goal) (u : ℕ) → is_home t u ≡ false → IsForeign t 
 foreign_of (Owner t) u is = λ same. let home : (u == t) ≡ true = eq-eqb u t same in let clash : true ≡ false = sym home ∙ is in cc
 foreign_of Portal u is = tt
 
-pub foreign_comes : (next : ℕ → ℕ → Type 0) (t : Goal) (u : ℕ) → IsForeign t u → ComesBy next t (Some (port.Terminal u)) → ⊥
+pub foreign_comes : (next : ℕ → ℕ → Type 0) (t : Goal) (u : ℕ) → IsForeign t u → ComesBy next t (Some (Port.Terminal u)) → ⊥
 foreign_comes next (Owner t) u foreign comes = foreign comes
 foreign_comes next Portal u foreign comes = comes
 

@@ -1,25 +1,15 @@
 -- Random headers that come to portals, one after another.
-use Rattle.std.proofs.Common.{◌≡◌, ℕ, zero, suc, ◌<◌, ◌+◌, ◌-◌, ◌*◌, inl, inr, Bool, true, false, List, [], ◌∷◌, ◌++◌, length, is_some, Option, Some, None, Result, Ok, Err, IfOk, MatchOption, refl, sym, ap, subst, ◌∙◌, arith}
-use Rattle.std.proofs.lemmas.Bool.{cases_lt}
-use Rattle.c104_token.specs.declared.faults.NoMemory.{NoMemory}
+use Rattle.c104_check.proofs.{BreakLemmas.{homes_alike, random_before}, FirstWalkLemmas.random_first, PortalLemmas.{add_append, add_in}}
+use Rattle.c104_check.proofs.{PortalLemmas.{add_known, met_alike}, RandomLemmas.{random_at_tells, random_at_told}, ShownLemmas.random_shown}
+use Rattle.c104_check.{proofs.ShownLemmas.shown_homes, specs.{Breaks.{AreBreaks, IsBreak, IsWired, is_marked}, FirstWalks.IsFirstWalk}}
+use Rattle.c104_check.specs.{Portals.{is_random_at, met_below, met_from, met_here, met_if}, Refusals.Refusal, Routes.{Homes, IsEntryOf}}
+use Rattle.c104_check.specs.{Routes.{IsRandomAt, Routes, SwitchPort, header_count, most_hops, to_port}, Shown.IsShownRandom, Starts.AllHome}
+use Rattle.c104_check.specs.{Starts.{AreKnown, HomeBelow, IsFirstRandomAt, IsRefusedRandom, add_all}, Trails.{IsInput, IsNetwork}}
+use Rattle.c104_check.specs.{Walking.fault_on, Walks.{first_fault, is_met, random_fault}, declared.walks.Goal.TheVariants.Portal}
+use Rattle.{c104_plan.specs.declared.ports.Port.Port, c104_token.specs.declared.faults.NoMemory.NoMemory, std.proofs.Common.{Bool, Err}}
+use Rattle.std.proofs.Common.{IfOk, List, MatchOption, None, Ok, Option, Result, Some, [], ap, arith, false, inl, inr, is_some, length}
+use Rattle.std.proofs.{Common.{refl, subst, suc, sym, true, zero, ℕ, ◌*◌, ◌++◌, ◌+◌, ◌-◌, ◌<◌, ◌∙◌, ◌∷◌, ◌≡◌}, lemmas.Bool.cases_lt}
 use Rattle.std.specs.List.{AllByRecursion}
-use Rattle.c104_plan.specs.declared.ports.Port.TheVariants as port
-use Rattle.c104_check.specs.declared.walks.Goal.TheVariants.{Portal}
-use Rattle.c104_check.specs.FirstWalks.{IsFirstWalk}
-use Rattle.c104_check.specs.Breaks.{AreBreaks, IsBreak, IsWired, is_marked}
-use Rattle.c104_check.specs.Portals.{is_random_at, met_below, met_from, met_here, met_if}
-use Rattle.c104_check.specs.Refusals.{Refusal}
-use Rattle.c104_check.specs.Routes.{Homes, IsEntryOf, IsRandomAt, Routes, SwitchPort, header_count, most_hops, to_port}
-use Rattle.c104_check.specs.Shown.{IsShownRandom}
-use Rattle.c104_check.specs.Starts.{AllHome, AreKnown, HomeBelow, IsFirstRandomAt, IsRefusedRandom, add_all}
-use Rattle.c104_check.specs.Trails.{IsInput, IsNetwork}
-use Rattle.c104_check.specs.Walking.{fault_on}
-use Rattle.c104_check.specs.Walks.{first_fault, is_met, random_fault}
-use Rattle.c104_check.proofs.FirstWalkLemmas.{random_first}
-use Rattle.c104_check.proofs.BreakLemmas.{homes_alike, random_before}
-use Rattle.c104_check.proofs.PortalLemmas.{add_append, add_in, add_known, met_alike}
-use Rattle.c104_check.proofs.RandomLemmas.{random_at_tells, random_at_told}
-use Rattle.c104_check.proofs.ShownLemmas.{random_shown, shown_homes}
 
 pub random_is : (routes : Routes) (r : ℕ) (p : SwitchPort) → fault_on routes r Portal [] p ≡ random_fault routes r p
 random_is routes r p =
@@ -32,7 +22,7 @@ refused_random routes t p r refusal net here terminal header is =
     record { terminal = terminal; header = header; shows = shows; first = random_first routes r p refusal.why refusal.shown.walk net here is; fails = λ k homes. shown_homes routes r k p refusal.why refusal.shown.walk shows homes }
 
 pub wired_entry : (routes : Routes) (t : ℕ) (p : SwitchPort) → IsNetwork routes → IsEntryOf routes t p → IsWired routes p
-wired_entry routes t p net entry = (port.Terminal t, net.back (port.Terminal t) (to_port p) entry)
+wired_entry routes t p net entry = (Port.Terminal t, net.back (Port.Terminal t) (to_port p) entry)
 
 home_next : (routes : Routes) (p : SwitchPort) (h : ℕ) → HomeBelow routes p h → (IsRandomAt routes p h → Homes routes h (most_hops routes) p.switch p.link) → HomeBelow routes p (h + 1)
 home_next routes p h before here r below random =

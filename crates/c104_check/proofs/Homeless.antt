@@ -1,17 +1,12 @@
 -- A header that is tried as a random one, terminal by terminal.
-use Rattle.std.proofs.Common.{◌≡◌, ℕ, ◌<◌, ◌≤◌, ◌+◌, inl, inr, Bool, true, false, nat_le, List, length, is_some, if◌then◌else◌, Option, Some, None, Result, Ok, Err, IfOk, MatchOption, refl, sym, subst, ◌∙◌, arith}
-use Rattle.std.proofs.lemmas.Bool.{cases_lt}
-use Rattle.std.proofs.lemmas.Bool.Decides.{nat_tests}
-use Rattle.c104_token.specs.declared.faults.NoMemory.{NoMemory}
+use Rattle.c104_check.proofs.{OwnStarts.{all_landed, lands_front}, RandomLemmas.random_at_told, RefusalLemmas.entry_same}
 use Rattle.c104_check.specs.Parts.{BeginsAt, HomesFirst, IsFirstRefusal, IsNeverRefused, IsOwnRefusal, IsRandomRefusal, LandsFirst}
-use Rattle.c104_check.specs.Portals.{is_random_at}
-use Rattle.c104_check.specs.Refusals.{IsFirstOf, LandsBefore, Refusal, Start}
-use Rattle.c104_check.specs.Routes.{Homes, IsEntryOf, IsRandomAt, Routes, SwitchPort, header_count, most_hops}
-use Rattle.c104_check.specs.Starts.{AreOwnStarts, HomesAt, IsFirstHomeless, IsHomelessAt, IsRefusedRandom, earlier}
-use Rattle.c104_check.specs.Trails.{IsNetwork}
-use Rattle.c104_check.proofs.OwnStarts.{all_landed, lands_front}
-use Rattle.c104_check.proofs.RandomLemmas.{random_at_told}
-use Rattle.c104_check.proofs.RefusalLemmas.{entry_same}
+use Rattle.c104_check.specs.{Portals.is_random_at, Refusals.{IsFirstOf, LandsBefore, Refusal, Start}, Routes.{Homes, IsEntryOf, IsRandomAt}}
+use Rattle.c104_check.specs.{Routes.{Routes, SwitchPort, header_count, most_hops}, Starts.{AreOwnStarts, HomesAt, IsFirstHomeless}}
+use Rattle.c104_check.specs.{Starts.{IsHomelessAt, IsRefusedRandom, earlier}, Trails.IsNetwork}
+use Rattle.{c104_token.specs.declared.faults.NoMemory.NoMemory, std.proofs.Common.{Bool, Err, IfOk, List, MatchOption, None, Ok, Option}}
+use Rattle.std.proofs.Common.{Result, Some, arith, false, if◌then◌else◌, inl, inr, is_some, length, nat_le, refl, subst, sym, true, ℕ, ◌+◌}
+use Rattle.std.proofs.{Common.{◌<◌, ◌∙◌, ◌≡◌, ◌≤◌}, lemmas.Bool.{Decides.nat_tests, cases_lt}}
 
 -- At one terminal
 

@@ -1,19 +1,13 @@
 -- Headers that are marked.
-use Rattle.std.proofs.Common.{◌≡◌, ◌↔◌, ℕ, zero, suc, ◌<◌, ◌≤◌, ◌+◌, ◌*◌, ◌⊎◌, inl, inr, Bool, true, false, List, [], ◌∷◌, ◌++◌, length, slice_index_or, slice_get, drop, take, is_some, Option, Some, None, refl, sym, ap, subst, ◌∙◌, arith}
-use Rattle.std.proofs.lemmas.Bool.{cases_eq}
-use Rattle.std.proofs.lemmas.List.{append-nil, drop_all, take_all, take_more}
-use Rattle.std.proofs.lemmas.Option.{slice_get-get_or, slice_get_within}
-use Rattle.std.specs.List.{Contains}
-use Rattle.c104_interval.specs.Segments.{AreSegmentsBelow}
-use Rattle.c104_interval.specs.declared.intervals.Table.{Table}
-use Rattle.c104_regs.specs.declared.settings.Settings.{Settings}
-use Rattle.c104_plan.specs.declared.ports.Port.{Port}
-use Rattle.c104_check.specs.Routes.{Routes, SwitchPort, header_count, link_settings, place, port_at, to_port}
-use Rattle.c104_check.specs.Trails.{IsInput, IsNetwork}
-use Rattle.c104_check.specs.Breaks.{AddsMarks, AreBreaks, BoundsLabels, BoundsRandomAt, BoundsRange, BreaksAt, ChangesSelect, ChangesSelectAt, IsBreak, IsWired, is_marked}
-use Rattle.c104_check.proofs.BreakLemmas.{change_starts}
-use Rattle.c104_check.proofs.LinkLemmas.{at_place, input_at, place_at}
-use Rattle.c104_check.proofs.RouteLemmas.{is_input}
+use Rattle.c104_check.proofs.{BreakLemmas.change_starts, LinkLemmas.{at_place, input_at, place_at}, RouteLemmas.is_input}
+use Rattle.c104_check.specs.Breaks.{AddsMarks, AreBreaks, BoundsLabels, BoundsRandomAt, BoundsRange, BreaksAt, ChangesSelect}
+use Rattle.c104_check.specs.{Breaks.{ChangesSelectAt, IsBreak, IsWired, is_marked}, Routes.{Routes, SwitchPort, header_count}}
+use Rattle.c104_check.specs.{Routes.{link_settings, place, port_at, to_port}, Trails.{IsInput, IsNetwork}}
+use Rattle.{c104_interval.specs.{Segments.AreSegmentsBelow, declared.intervals.Table.Table}, c104_plan.specs.declared.ports.Port.Port}
+use Rattle.{c104_regs.specs.declared.settings.Settings.Settings, std.proofs.Common.{Bool, List, None, Option, Some, [], ap, arith, drop}}
+use Rattle.std.proofs.Common.{false, inl, inr, is_some, length, refl, slice_get, slice_index_or, subst, suc, sym, take, true, zero, ℕ, ◌*◌}
+use Rattle.std.proofs.{Common.{◌++◌, ◌+◌, ◌<◌, ◌↔◌, ◌∙◌, ◌∷◌, ◌≡◌, ◌≤◌, ◌⊎◌}, lemmas.{Bool.cases_eq, List.{append-nil, drop_all, take_all}}}
+use Rattle.std.{proofs.lemmas.{List.take_more, Option.{slice_get-get_or, slice_get_within}}, specs.List.Contains}
 
 -- none is marked beside those that were
 pub marks_none : (old : List Bool) (X : ℕ → Type 0) → ((h : ℕ) → X h → ⊥) → AddsMarks old old X

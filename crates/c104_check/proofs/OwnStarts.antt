@@ -1,26 +1,18 @@
 -- Where own headers begin, terminal by terminal, and a header that is tried there.
-use Rattle.std.proofs.Common.{◌≡◌, ℕ, zero, suc, ◌<◌, ◌≤◌, ◌+◌, ◌||◌, ◌&&◌, ◌⊎◌, inl, inr, Bool, true, false, List, [], ◌∷◌, ◌++◌, length, slice_index_or, take, if◌then◌else◌, Some, Result, Ok, Err, OnOk, refl, sym, subst, ◌∙◌, arith}
-use Rattle.std.proofs.lemmas.Bool.{cases_lt}
-use Rattle.std.proofs.lemmas.Option.{slice_get_within}
-use Rattle.std.specs.List.{AllByRecursion}
-use Rattle.c104_token.specs.declared.faults.NoMemory.{NoMemory}
-use Rattle.c104_interval.specs.declared.intervals.Select.TheVariants.{Discard}
-use Rattle.c104_check.specs.Breaks.{AreBreaks, IsBreak, IsWired, is_marked}
-use Rattle.c104_check.specs.Parts.{AreJust, BeginsAt, IsReachedFrom, LandsFirst, LandsOwn}
-use Rattle.c104_check.specs.Portals.{is_random_at}
-use Rattle.c104_check.specs.Refusals.{AreInputs, LandsAt, LandsBefore, Start}
-use Rattle.c104_check.specs.Routes.{IsEntryOf, IsPortal, IsRandomAt, IsRandomized, Lands, LandsBehind, Reaches, Routes, SwitchPort, header_count, owner, select}
-use Rattle.c104_check.specs.Starts.{AreKept, AreOwnStarts, HasStart, HaveDiscarding, HaveOwn, HavePortals, IsOwnStart, has_portal, start_at, start_behind, with_portal}
-use Rattle.c104_check.specs.Trails.{IsInput, IsNetwork}
-use Rattle.c104_check.specs.Walks.{is_port}
-use Rattle.c104_check.proofs.BreakLemmas.{random_before, select_alike}
-use Rattle.c104_check.proofs.HomeLemmas.{no_zero, quiet_of, wired_entry}
-use Rattle.c104_check.proofs.RandomLemmas.{random_at_told, random_header}
-use Rattle.c104_check.proofs.RefusalLemmas.{entry_same}
-use Rattle.c104_check.proofs.ReachLemmas.{all_taken, all_taken_next}
-use Rattle.c104_check.proofs.RouteLemmas.{portal_input}
-use Rattle.c104_check.proofs.StartLemmas.{each_more, get_front, get_last, lands_behind_at, lands_own, portal_wired, random_is_randomized, reached_wired, take_get}
-use Rattle.c104_check.proofs.TrailLemmas.{All-found, All-map, is_port-true}
+use Rattle.c104_check.proofs.{BreakLemmas.{random_before, select_alike}, HomeLemmas.{no_zero, quiet_of, wired_entry}}
+use Rattle.c104_check.proofs.{RandomLemmas.{random_at_told, random_header}, ReachLemmas.{all_taken, all_taken_next}}
+use Rattle.c104_check.proofs.{RefusalLemmas.entry_same, RouteLemmas.portal_input, StartLemmas.{each_more, get_front, get_last}}
+use Rattle.c104_check.proofs.StartLemmas.{lands_behind_at, lands_own, portal_wired, random_is_randomized, reached_wired, take_get}
+use Rattle.c104_check.{proofs.TrailLemmas.{All-found, All-map, is_port-true}, specs.Breaks.{AreBreaks, IsBreak, IsWired, is_marked}}
+use Rattle.c104_check.specs.{Parts.{AreJust, BeginsAt, IsReachedFrom, LandsFirst, LandsOwn}, Portals.is_random_at, Refusals.AreInputs}
+use Rattle.c104_check.specs.{Refusals.{LandsAt, LandsBefore, Start}, Routes.{IsEntryOf, IsPortal, IsRandomAt, IsRandomized, Lands}}
+use Rattle.c104_check.specs.{Routes.{LandsBehind, Reaches, Routes, SwitchPort, header_count, owner, select}, Starts.{AreKept, AreOwnStarts}}
+use Rattle.c104_check.specs.Starts.{HasStart, HaveDiscarding, HaveOwn, HavePortals, IsOwnStart, has_portal, start_at, start_behind}
+use Rattle.c104_check.specs.{Starts.with_portal, Trails.{IsInput, IsNetwork}, Walks.is_port}
+use Rattle.{c104_interval.specs.declared.intervals.Select.TheVariants.Discard, c104_token.specs.declared.faults.NoMemory.NoMemory}
+use Rattle.std.proofs.Common.{Bool, Err, List, Ok, OnOk, Result, Some, [], arith, false, if◌then◌else◌, inl, inr, length, refl}
+use Rattle.std.proofs.Common.{slice_index_or, subst, suc, sym, take, true, zero, ℕ, ◌&&◌, ◌++◌, ◌+◌, ◌<◌, ◌||◌, ◌∙◌, ◌∷◌, ◌≡◌, ◌≤◌, ◌⊎◌}
+use Rattle.std.{proofs.lemmas.{Bool.cases_lt, Option.slice_get_within}, specs.List.AllByRecursion}
 
 -- One start more
 

@@ -1,8 +1,6 @@
 -- Headers that have owners, and those that have none.
-use Rattle.std.proofs.Common.{◌≡◌, ℕ, true, false, Option, None, Some, get_or, is_some, sym, ap, ◌∙◌}
-use Rattle.std.proofs.lemmas.List.Quantifiers.{position-Some}
-use Rattle.std.proofs.lemmas.Option.{slice_get-get_or}
-use Rattle.c104_check.specs.Routes.{Owns, Routes, has_label, owner}
+use Rattle.{c104_check.specs.Routes.{Owns, Routes, has_label, owner}, std.proofs.Common.{None, Option, Some, ap, false, get_or, is_some}}
+use Rattle.std.proofs.{Common.{sym, true, ℕ, ◌∙◌, ◌≡◌}, lemmas.{List.Quantifiers.position-Some, Option.slice_get-get_or}}
 
 pub some_owner : (o p : Option ℕ) → o ≡ p → is_some o ≡ true → (t : ℕ) × (p ≡ Some t)
 some_owner None p same is = absurd cc

@@ -1,18 +1,13 @@
 -- The two phases of packets' ways.
-use Rattle.std.proofs.Common.{◌≡◌, ◌↔◌, ℕ, ◌<◌, ◌≤◌, ◌+◌, inl, inr, Bool, true, false, IsTrue, List, [], length, slice_get, Some, refl, sym, ap, subst, ◌∙◌, arith}
-use Rattle.std.proofs.lemmas.Bool.{cases_lt}
-use Rattle.std.proofs.lemmas.Option.{slice_get_within}
-use Rattle.c104_interval.specs.declared.intervals.Select.TheVariants.{Discard}
-use Rattle.c104_check.specs.ChannelDependencies.{IsNeverRandomized}
-use Rattle.c104_check.specs.Parts.{AreJust, Begins, Has, IsBeginning, IsDiscardedAt, IsRandomBeginning, IsReachedAsOwn, IsReachedAsRandom, IsReachedFrom, IsTakenAsOwn, IsTakenAsRandom, IsTakenFrom}
-use Rattle.c104_check.specs.Reach.{AreDistinctInputs, IsReached, IsTaken, MayTake, with_input}
-use Rattle.c104_check.specs.Refusals.{Start}
-use Rattle.c104_check.specs.Routes.{IsEntryOf, Reaches, Routes, SwitchPort, header_count, select}
-use Rattle.c104_check.specs.Starts.{AreOwnStarts}
-use Rattle.c104_check.specs.Trails.{IsInput, IsNetwork}
-use Rattle.c104_check.proofs.RandomLemmas.{random_header}
-use Rattle.c104_check.proofs.ReachLemmas.{just_alike, just_joined, just_none, none_found}
-use Rattle.c104_check.proofs.StartLemmas.{random_is_randomized}
+use Rattle.c104_check.proofs.{RandomLemmas.random_header, ReachLemmas.{just_alike, just_joined, just_none, none_found}}
+use Rattle.c104_check.{proofs.StartLemmas.random_is_randomized, specs.{ChannelDependencies.IsNeverRandomized, Parts.{AreJust, Begins, Has}}}
+use Rattle.c104_check.specs.Parts.{IsBeginning, IsDiscardedAt, IsRandomBeginning, IsReachedAsOwn, IsReachedAsRandom, IsReachedFrom}
+use Rattle.c104_check.specs.{Parts.{IsTakenAsOwn, IsTakenAsRandom, IsTakenFrom}, Reach.{AreDistinctInputs, IsReached, IsTaken, MayTake}}
+use Rattle.c104_check.specs.{Reach.with_input, Refusals.Start, Routes.{IsEntryOf, Reaches, Routes, SwitchPort, header_count, select}}
+use Rattle.c104_check.specs.{Starts.AreOwnStarts, Trails.{IsInput, IsNetwork}}
+use Rattle.{c104_interval.specs.declared.intervals.Select.TheVariants.Discard, std.proofs.Common.{Bool, IsTrue, List, Some, [], ap, arith}}
+use Rattle.std.proofs.Common.{false, inl, inr, length, refl, slice_get, subst, sym, true, ℕ, ◌+◌, ◌<◌, ◌↔◌, ◌∙◌, ◌≡◌, ◌≤◌}
+use Rattle.std.proofs.lemmas.{Bool.cases_lt, Option.slice_get_within}
 
 -- The links that are taken from just the inputs that are reached
 

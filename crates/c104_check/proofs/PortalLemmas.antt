@@ -1,35 +1,19 @@
 -- The portals that a random header meets.
-use Rattle.std.proofs.Common.{◌≡◌, ℕ, zero, suc, ◌<◌, ◌≤◌, ◌+◌, ◌-◌, ◌||◌, ◌⊎◌, inl, inr, Bool, true, false, List, [], ◌∷◌, ◌++◌, length, slice_get, slice_index_or, slice_set, take, Result, Ok, Err, OnOk, if◌then◌else◌, Option, Some, None, refl, sym, ap, subst, ◌∙◌, append_assoc, arith}
-use Rattle.std.proofs.lemmas.Bool.{cases_Bool, cases_eq}
-use Rattle.std.proofs.lemmas.List.{append-nil, get_or-set_other, length-append}
-use Rattle.std.proofs.lemmas.List.Folds.{list_any-append}
-use Rattle.std.proofs.lemmas.Option.{slice_get_within}
-use Rattle.std.proofs.Math.Seq.{take-append-add}
-use Rattle.std.specs.List.{AllByRecursion}
-use Rattle.c104_interval.specs.declared.intervals.Select.{Select}
-use Rattle.c104_interval.specs.declared.intervals.Select.TheVariants.{Link, Discard, Sink}
-use Rattle.c104_plan.specs.declared.ports.Port.{Port}
-use Rattle.c104_plan.specs.declared.ports.Port.TheVariants as port
-use Rattle.c104_check.specs.declared.walks.Goal.TheVariants.{Portal}
-use Rattle.c104_check.specs.Breaks.{IsBreak, IsWired}
-use Rattle.c104_check.specs.Portals.{met_at, met_behind, met_below, met_from, met_if, is_random_at, portals_met}
-use Rattle.c104_check.specs.Reach.{IsSelected, with_input}
-use Rattle.c104_check.specs.Routes.{Homes, IsPortal, IsRandomAt, Roams, Routes, SwitchPort, header_count, is_in_group, most_hops, place, select, to_port}
-use Rattle.c104_check.specs.Shown.{Follows, MayLeave}
-use Rattle.c104_check.specs.Starts.{AreWalked, LeadsToInput, add_all}
-use Rattle.c104_check.proofs.RunLemmas.{between, run_is}
-use Rattle.c104_check.proofs.Walked.{place-same}
-use Rattle.c104_crossbar.specs.declared.group.Group.{Group}
-use Rattle.c104_token.specs.declared.faults.NoMemory.{NoMemory}
-use Rattle.std.proofs.lemmas.Bool.{le-leb}
-use Rattle.c104_check.specs.Trails.{IsInput, IsNetwork, Reaches, run_peers}
-use Rattle.c104_check.specs.Walks.{is_met, is_port, peers_that, port_of}
-use Rattle.c104_check.proofs.BreakLemmas.{select_alike}
-use Rattle.c104_check.proofs.GoalLemmas.{leaves_comes, on_comes}
-use Rattle.c104_check.proofs.RandomLemmas.{random_at_tells, random_at_told, random_header}
-use Rattle.c104_check.proofs.RouteLemmas.{IsAmong, among_leaves, group_among, group_peers}
-use Rattle.c104_check.proofs.TrailLemmas.{All-map, is_port-true}
-use Rattle.c104_check.proofs.Walked.{is_port-refl}
+use Rattle.c104_check.proofs.{BreakLemmas.select_alike, GoalLemmas.{leaves_comes, on_comes}, RandomLemmas.{random_at_tells, random_at_told}}
+use Rattle.c104_check.proofs.{RandomLemmas.random_header, RouteLemmas.{IsAmong, among_leaves, group_among, group_peers}, RunLemmas.between}
+use Rattle.c104_check.proofs.{RunLemmas.run_is, TrailLemmas.{All-map, is_port-true}, Walked.{is_port-refl, place-same}}
+use Rattle.c104_check.specs.{Breaks.{IsBreak, IsWired}, Portals.{is_random_at, met_at, met_behind, met_below, met_from, met_if}}
+use Rattle.c104_check.specs.{Portals.portals_met, Reach.{IsSelected, with_input}, Routes.{Homes, IsPortal, IsRandomAt, Roams, Routes}}
+use Rattle.c104_check.specs.{Routes.{SwitchPort, header_count, is_in_group, most_hops, place, select, to_port}, Shown.{Follows, MayLeave}}
+use Rattle.c104_check.specs.{Starts.{AreWalked, LeadsToInput, add_all}, Trails.{IsInput, IsNetwork, Reaches, run_peers}, Walks.is_met}
+use Rattle.c104_check.specs.{Walks.{is_port, peers_that, port_of}, declared.walks.Goal.TheVariants.Portal}
+use Rattle.{c104_crossbar.specs.declared.group.Group.Group, c104_interval.specs.declared.intervals.Select.{Select, TheVariants.Discard}}
+use Rattle.{c104_interval.specs.declared.intervals.Select.TheVariants.{Link, Sink}, c104_plan.specs.declared.ports.Port.Port}
+use Rattle.{c104_token.specs.declared.faults.NoMemory.NoMemory, std.proofs.Common.{Bool, Err, List, None, Ok, OnOk, Option, Result, Some}}
+use Rattle.std.proofs.Common.{[], ap, append_assoc, arith, false, if◌then◌else◌, inl, inr, length, refl, slice_get, slice_index_or}
+use Rattle.std.proofs.Common.{slice_set, subst, suc, sym, take, true, zero, ℕ, ◌++◌, ◌+◌, ◌-◌, ◌<◌, ◌||◌, ◌∙◌, ◌∷◌, ◌≡◌, ◌≤◌, ◌⊎◌}
+use Rattle.std.proofs.{Math.Seq.take-append-add, lemmas.{Bool.{cases_Bool, cases_eq, le-leb}, List.{Folds.list_any-append, append-nil}}}
+use Rattle.std.{proofs.lemmas.{List.{get_or-set_other, length-append}, Option.slice_get_within}, specs.List.AllByRecursion}
 
 abbrev pub IsIn : SwitchPort → List SwitchPort → Type 0
 IsIn q xs = is_met q xs ≡ true
@@ -147,21 +131,21 @@ add_split (x ∷ xs) inputs i q low at =
 
 -- What is met does not hang on how many switches may be crossed
 
-behind_same : (f g : SwitchPort → List SwitchPort) (es : List (Option Port)) → ((s i : ℕ) → IsAmong (Some (port.Switch s i)) es → f (port_of s i) ≡ g (port_of s i)) → met_behind f es ≡ met_behind g es
+behind_same : (f g : SwitchPort → List SwitchPort) (es : List (Option Port)) → ((s i : ℕ) → IsAmong (Some (Port.Switch s i)) es → f (port_of s i) ≡ g (port_of s i)) → met_behind f es ≡ met_behind g es
 behind_same f g [] each = refl
 behind_same f g (None ∷ es) each = behind_same f g es (λ s i is. each s i (inr is))
-behind_same f g (Some (port.Terminal u) ∷ es) each = behind_same f g es (λ s i is. each s i (inr is))
-behind_same f g (Some (port.Switch s i) ∷ es) each = rw (each s i (inl refl)) (ap (λ ys. g (port_of s i) ++ ys) (behind_same f g es (λ t j is. each t j (inr is))))
+behind_same f g (Some (Port.Terminal u) ∷ es) each = behind_same f g es (λ s i is. each s i (inr is))
+behind_same f g (Some (Port.Switch s i) ∷ es) each = rw (each s i (inl refl)) (ap (λ ys. g (port_of s i) ++ ys) (behind_same f g es (λ t j is. each t j (inr is))))
 
-at_same : (routes : Routes) (f g : SwitchPort → List SwitchPort) (p : SwitchPort) (o : Option Select) → ((link s i : ℕ) → o ≡ Some (Link link) → IsAmong (Some (port.Switch s i)) (group_peers routes p.switch link) → f (port_of s i) ≡ g (port_of s i)) → met_at routes f p o ≡ met_at routes g p o
+at_same : (routes : Routes) (f g : SwitchPort → List SwitchPort) (p : SwitchPort) (o : Option Select) → ((link s i : ℕ) → o ≡ Some (Link link) → IsAmong (Some (Port.Switch s i)) (group_peers routes p.switch link) → f (port_of s i) ≡ g (port_of s i)) → met_at routes f p o ≡ met_at routes g p o
 at_same routes f g p None each = refl
 at_same routes f g p (Some Discard) each = refl
 at_same routes f g p (Some Sink) each = refl
 at_same routes f g p (Some (Link link)) each = behind_same f g (group_peers routes p.switch link) (λ s i is. each link s i refl is)
 
-homes_on : (routes : Routes) (r k s i link : ℕ) (p : SwitchPort) → select routes p.switch p.link r ≡ Some (Link link) → IsAmong (Some (port.Switch s i)) (group_peers routes p.switch link) → Homes routes r (suc k) p.switch p.link → Homes routes r k s i
+homes_on : (routes : Routes) (r k s i link : ℕ) (p : SwitchPort) → select routes p.switch p.link r ≡ Some (Link link) → IsAmong (Some (Port.Switch s i)) (group_peers routes p.switch link) → Homes routes r (suc k) p.switch p.link → Homes routes r k s i
 homes_on routes r k s i link p at among homes =
-    on_comes (Homes routes r k) Portal s i (leaves_comes routes r Portal k p (Some (port.Switch s i)) (among_leaves routes r link p (Some (port.Switch s i)) at among) homes)
+    on_comes (Homes routes r k) Portal s i (leaves_comes routes r Portal k p (Some (Port.Switch s i)) (among_leaves routes r link p (Some (Port.Switch s i)) at among) homes)
 
 pub met_same : (routes : Routes) (r k j : ℕ) (p : SwitchPort) → Homes routes r k p.switch p.link → Homes routes r j p.switch p.link → met_from routes r k p ≡ met_from routes r j p
 met_same routes r zero j p one two = absurd one
@@ -177,8 +161,8 @@ met_alike routes g net quiet (suc k) p wired =
     rw (select_alike routes g p quiet wired)
     (at_same routes (met_from routes (suc g) k) (met_from routes g k) p (select routes p.switch p.link g)
     (λ link s i at among.
-    let leaves = among_leaves routes g link p (Some (port.Switch s i)) at among in
-    met_alike routes g net quiet k (port_of s i) (port.Switch p.switch leaves.1, net.back (port.Switch p.switch leaves.1) (port.Switch s i) leaves.4)))
+    let leaves = among_leaves routes g link p (Some (Port.Switch s i)) at among in
+    met_alike routes g net quiet k (port_of s i) (Port.Switch p.switch leaves.1, net.back (Port.Switch p.switch leaves.1) (Port.Switch s i) leaves.4)))
 
 -- What is met is a portal
 
@@ -193,11 +177,11 @@ or_cases : (a b : Bool) → (a || b) ≡ true → (a ≡ true) ⊎ (b ≡ true)
 or_cases true b is = inl refl
 or_cases false b is = inr is
 
-behind_portal : (routes : Routes) (r : ℕ) (p q : SwitchPort) (f : SwitchPort → List SwitchPort) (es : List (Option Port)) → ((s i : ℕ) → IsAmong (Some (port.Switch s i)) es → IsIn q (f (port_of s i)) → IsReachedPortal routes r p q) → IsIn q (met_behind f es) → IsReachedPortal routes r p q
+behind_portal : (routes : Routes) (r : ℕ) (p q : SwitchPort) (f : SwitchPort → List SwitchPort) (es : List (Option Port)) → ((s i : ℕ) → IsAmong (Some (Port.Switch s i)) es → IsIn q (f (port_of s i)) → IsReachedPortal routes r p q) → IsIn q (met_behind f es) → IsReachedPortal routes r p q
 behind_portal routes r p q f [] each is = absurd cc
 behind_portal routes r p q f (None ∷ es) each is = behind_portal routes r p q f es (λ s i among. each s i (inr among)) is
-behind_portal routes r p q f (Some (port.Terminal u) ∷ es) each is = behind_portal routes r p q f es (λ s i among. each s i (inr among)) is
-behind_portal routes r p q f (Some (port.Switch s i) ∷ es) each is =
+behind_portal routes r p q f (Some (Port.Terminal u) ∷ es) each is = behind_portal routes r p q f es (λ s i among. each s i (inr among)) is
+behind_portal routes r p q f (Some (Port.Switch s i) ∷ es) each is =
     elim (or_cases _ _ (sym (list_any-append (is_port q) (f (port_of s i)) (met_behind f es)) ∙ is)) [
       | inl here ↦ each s i (inl refl) here
       | inr later ↦ behind_portal routes r p q f es (λ t j among. each t j (inr among)) later
@@ -212,7 +196,7 @@ at_portal routes r p q f (Some Discard) at each is =
       | inr none ↦ absurd cc
     ]
 at_portal routes r p q f (Some (Link link)) at each is =
-    behind_portal routes r p q f (group_peers routes p.switch link) (λ s i among here. each (port_of s i) (among_leaves routes r link p (Some (port.Switch s i)) at among) here) is
+    behind_portal routes r p q f (group_peers routes p.switch link) (λ s i among here. each (port_of s i) (among_leaves routes r link p (Some (Port.Switch s i)) at among) here) is
 
 pub met_portal : (routes : Routes) (r k : ℕ) (p q : SwitchPort) → IsIn q (met_from routes r k p) → IsReachedPortal routes r p q
 met_portal routes r zero p q is = absurd cc
@@ -222,17 +206,17 @@ met_portal routes r (suc k) p q is =
 
 -- and each portal is met
 
-behind_met : (q : SwitchPort) (f : SwitchPort → List SwitchPort) (s i : ℕ) (es : List (Option Port)) → IsAmong (Some (port.Switch s i)) es → IsIn q (f (port_of s i)) → IsIn q (met_behind f es)
+behind_met : (q : SwitchPort) (f : SwitchPort → List SwitchPort) (s i : ℕ) (es : List (Option Port)) → IsAmong (Some (Port.Switch s i)) es → IsIn q (f (port_of s i)) → IsIn q (met_behind f es)
 behind_met q f s i [] among is = absurd among
 behind_met q f s i (None ∷ es) (inl same) is = absurd cc
 behind_met q f s i (None ∷ es) (inr among) is = behind_met q f s i es among is
-behind_met q f s i (Some (port.Terminal u) ∷ es) (inl same) is = absurd cc
-behind_met q f s i (Some (port.Terminal u) ∷ es) (inr among) is = behind_met q f s i es among is
-behind_met q f s i (Some (port.Switch t j) ∷ es) (inl same) is =
+behind_met q f s i (Some (Port.Terminal u) ∷ es) (inl same) is = absurd cc
+behind_met q f s i (Some (Port.Terminal u) ∷ es) (inr among) is = behind_met q f s i es among is
+behind_met q f s i (Some (Port.Switch t j) ∷ es) (inl same) is =
     let a : t ≡ s = cc in
     let b : j ≡ i = cc in
     in_left q (f (port_of t j)) (met_behind f es) (subst (λ n. IsIn q (f (port_of n j))) (sym a) (subst (λ n. IsIn q (f (port_of s n))) (sym b) is))
-behind_met q f s i (Some (port.Switch t j) ∷ es) (inr among) is = in_right q (f (port_of t j)) (met_behind f es) (behind_met q f s i es among is)
+behind_met q f s i (Some (Port.Switch t j) ∷ es) (inr among) is = in_right q (f (port_of t j)) (met_behind f es) (behind_met q f s i es among is)
 
 -- what is met from an input that follows
 on_met : (routes : Routes) (r k : ℕ) (p z q : SwitchPort) → IsNetwork routes → Follows routes r p z → IsIn q (met_from routes r k z) → IsIn q (met_from routes r (suc k) p)
@@ -250,7 +234,7 @@ met_reached routes r k (suc m) p z q net homes (y, reaches, follows) =
     let before = met_reached routes r k m p y q net homes reaches in
     let more = homes_more routes r before.0 y before.1 in
     let there : Homes routes r (suc more.0) y.switch y.link = subst (λ n. Homes routes r n y.switch y.link) more.1 before.1 in
-    (more.0, on_comes (Homes routes r more.0) Portal z.switch z.link (leaves_comes routes r Portal more.0 y (Some (port.Switch z.switch z.link)) follows there), λ is. before.2 (subst (λ n. IsIn q (met_from routes r n y)) (sym more.1) (on_met routes r more.0 y z q net follows is)))
+    (more.0, on_comes (Homes routes r more.0) Portal z.switch z.link (leaves_comes routes r Portal more.0 y (Some (Port.Switch z.switch z.link)) follows there), λ is. before.2 (subst (λ n. IsIn q (met_from routes r n y)) (sym more.1) (on_met routes r more.0 y z q net follows is)))
 
 pub portal_met : (routes : Routes) (r k m : ℕ) (p q : SwitchPort) → IsNetwork routes → Homes routes r k p.switch p.link → Reaches routes r m p q → select routes q.switch q.link r ≡ Some Discard → IsIn q (met_from routes r k p)
 portal_met routes r k m p q net homes reaches discards =
@@ -331,28 +315,28 @@ group_met routes r (suc k) p group is homes =
     ∙ ap (met_behind (met_from routes r k)) (run_is routes p.switch group.first group.last is.below is.in_order)
     ∙ ap (λ n. met_behind (met_from routes r n) (run_peers routes p.switch group.first (group.last + 1 - group.first))) (sym low)
 
-link_leaves : (routes : Routes) (r link : ℕ) (p : SwitchPort) (group : Group) → IsSelected routes r p group → group.first ≤ link → link ≤ group.last → MayLeave routes r p (routes.peer (port.Switch p.switch link))
+link_leaves : (routes : Routes) (r link : ℕ) (p : SwitchPort) (group : Group) → IsSelected routes r p group → group.first ≤ link → link ≤ group.last → MayLeave routes r p (routes.peer (Port.Switch p.switch link))
 link_leaves routes r link p group is low high = (is.link, link, is.selects, is.members link ∙ rw (le-leb group.first link low, le-leb link group.last high) refl, refl)
 
 roams_input : (next : ℕ → ℕ → Type 0) (e : Option Port) → Roams next e → LeadsToInput e
 roams_input next None roams = roams
-roams_input next (Some (port.Terminal u)) roams = roams
-roams_input next (Some (port.Switch s i)) roams = tt
+roams_input next (Some (Port.Terminal u)) roams = roams
+roams_input next (Some (Port.Switch s i)) roams = tt
 
-pub link_input : (routes : Routes) (r hops link : ℕ) (p : SwitchPort) (group : Group) → IsSelected routes r p group → group.first ≤ link → link < group.last + 1 → Homes routes r hops p.switch p.link → LeadsToInput (routes.peer (port.Switch p.switch link))
+pub link_input : (routes : Routes) (r hops link : ℕ) (p : SwitchPort) (group : Group) → IsSelected routes r p group → group.first ≤ link → link < group.last + 1 → Homes routes r hops p.switch p.link → LeadsToInput (routes.peer (Port.Switch p.switch link))
 link_input routes r zero link p group is low high homes = absurd homes
 link_input routes r (suc k) link p group is low high homes =
-    roams_input (Homes routes r k) (routes.peer (port.Switch p.switch link)) (leaves_comes routes r Portal k p (routes.peer (port.Switch p.switch link)) (link_leaves routes r link p group is low (omega (arith, high))) homes)
+    roams_input (Homes routes r k) (routes.peer (Port.Switch p.switch link)) (leaves_comes routes r Portal k p (routes.peer (Port.Switch p.switch link)) (link_leaves routes r link p group is low (omega (arith, high))) homes)
 
-pub link_homes : (routes : Routes) (r hops link : ℕ) (p next : SwitchPort) (group : Group) → IsSelected routes r p group → group.first ≤ link → link < group.last + 1 → routes.peer (port.Switch p.switch link) ≡ Some (to_port next) → Homes routes r hops p.switch p.link → (hops - 1 < hops) × Homes routes r (hops - 1) next.switch next.link
+pub link_homes : (routes : Routes) (r hops link : ℕ) (p next : SwitchPort) (group : Group) → IsSelected routes r p group → group.first ≤ link → link < group.last + 1 → routes.peer (Port.Switch p.switch link) ≡ Some (to_port next) → Homes routes r hops p.switch p.link → (hops - 1 < hops) × Homes routes r (hops - 1) next.switch next.link
 link_homes routes r zero link p next group is low high there homes = absurd homes
 link_homes routes r (suc k) link p next group is low high there homes =
     let down : suc k - 1 ≡ k = omega arith in
-    let on = subst (Roams (Homes routes r k)) there (leaves_comes routes r Portal k p (routes.peer (port.Switch p.switch link)) (link_leaves routes r link p group is low (omega (arith, high))) homes) in
+    let on = subst (Roams (Homes routes r k)) there (leaves_comes routes r Portal k p (routes.peer (Port.Switch p.switch link)) (link_leaves routes r link p group is low (omega (arith, high))) homes) in
     (omega arith, subst (λ n. Homes routes r n next.switch next.link) (sym down) on)
 
 -- one link more
-pub link_next : (routes : Routes) (f : SwitchPort → List SwitchPort) (s link end : ℕ) (old new whole : List SwitchPort) (next : SwitchPort) → link < end → routes.peer (port.Switch s link) ≡ Some (to_port next) → new ≡ add_all old (f next) → add_all old (met_behind f (run_peers routes s link (end - link))) ≡ whole → add_all new (met_behind f (run_peers routes s (link + 1) (end - (link + 1)))) ≡ whole
+pub link_next : (routes : Routes) (f : SwitchPort → List SwitchPort) (s link end : ℕ) (old new whole : List SwitchPort) (next : SwitchPort) → link < end → routes.peer (Port.Switch s link) ≡ Some (to_port next) → new ≡ add_all old (f next) → add_all old (met_behind f (run_peers routes s link (end - link))) ≡ whole → add_all new (met_behind f (run_peers routes s (link + 1) (end - (link + 1)))) ≡ whole
 link_next routes f s link end old new whole next below there is rest =
     let count : end - link ≡ suc (end - (link + 1)) = omega (arith, below) in
     let later = met_behind f (run_peers routes s (link + 1) (end - (link + 1))) in

@@ -1,11 +1,9 @@
 -- Random headers.
-use Rattle.std.proofs.Common.{◌≡◌, ℕ, suc, ◌<◌, ◌≤◌, ◌+◌, ◌-◌, ◌%◌, ◌⊎◌, inl, inr, Bool, true, false, ◌&&◌, nat_lt, cond, length, Option, Some, None, refl, sym, ap, subst, ◌∙◌, arith}
-use Rattle.std.proofs.lemmas.Bool.{cases_lt, ltb-true, lt-ltb}
-use Rattle.c104_regs.specs.declared.settings.Settings.{Settings}
-use Rattle.c104_check.specs.Portals.{is_random, is_random_at, is_random_set}
-use Rattle.c104_check.specs.Routes.{IsEntryOf, IsRandom, IsRandomAt, IsRandomIn, Routes, SwitchPort, header_count, link_settings, random_count}
-use Rattle.c104_check.specs.Trails.{IsNetwork}
-use Rattle.c104_check.proofs.RefusalLemmas.{entry_same}
+use Rattle.c104_check.{proofs.RefusalLemmas.entry_same, specs.{Portals.{is_random, is_random_at, is_random_set}, Routes.IsEntryOf}}
+use Rattle.c104_check.specs.Routes.{IsRandom, IsRandomAt, IsRandomIn, Routes, SwitchPort, header_count, link_settings, random_count}
+use Rattle.{c104_check.specs.Trails.IsNetwork, c104_regs.specs.declared.settings.Settings.Settings, std.proofs.Common.{Bool, None, Option}}
+use Rattle.std.proofs.Common.{Some, ap, arith, cond, false, inl, inr, length, nat_lt, refl, subst, suc, sym, true, ℕ, ◌%◌, ◌&&◌, ◌+◌, ◌-◌}
+use Rattle.std.proofs.{Common.{◌<◌, ◌∙◌, ◌≡◌, ◌≤◌, ◌⊎◌}, lemmas.Bool.{cases_lt, lt-ltb, ltb-true}}
 
 -- how many headers there are
 abbrev pub IsCount : ℕ → Type 0

@@ -1,13 +1,9 @@
 -- Ranks of more inputs, one by one.
-use Rattle.std.proofs.Common.{◌≡◌, ◌≢◌, ℕ, zero, suc, ◌<◌, ◌≤◌, ◌+◌, ◌-◌, ◌*◌, inl, inr, true, false, List, [], ◌∷◌, Option, None, Some, length, replicate, slice_set, refl, sym, ap, subst, ◌∙◌, arith}
-use Rattle.std.proofs.lemmas.Bool.{cases_lt}
-use Rattle.std.proofs.lemmas.Bool.Decides.{eqb_tells}
-use Rattle.std.proofs.lemmas.List.{get_or-set_other, get_or-set_same, length-set}
-use Rattle.c104_regs.proofs.RegisterLemmas.{get_or-same}
-use Rattle.c104_check.specs.Cycles.{AllLeadToRanked, IsDependencyOf, ArePartialRanks, IsRankingPass, unranked_count}
-use Rattle.c104_check.specs.Dependencies.{Dependency, dependency_at}
-use Rattle.c104_check.specs.Ranks.{rank_at, rank_in}
-use Rattle.c104_check.specs.Routes.{place}
+use Rattle.c104_check.specs.Cycles.{AllLeadToRanked, ArePartialRanks, IsDependencyOf, IsRankingPass, unranked_count}
+use Rattle.c104_check.specs.{Dependencies.{Dependency, dependency_at}, Ranks.{rank_at, rank_in}, Routes.place}
+use Rattle.{c104_regs.proofs.RegisterLemmas.get_or-same, std.proofs.Common.{List, None, Option, Some, [], ap, arith, false, inl, inr}}
+use Rattle.std.proofs.Common.{length, refl, replicate, slice_set, subst, suc, sym, true, zero, ℕ, ◌*◌, ◌+◌, ◌-◌, ◌<◌, ◌∙◌, ◌∷◌, ◌≡◌, ◌≢◌}
+use Rattle.std.proofs.{Common.◌≤◌, lemmas.{Bool.{Decides.eqb_tells, cases_lt}, List.{get_or-set_other, get_or-set_same, length-set}}}
 
 same_entry : {X : Type 0} (x y : X) → Some x ≡ Some y → x ≡ y
 same_entry x y is = cc

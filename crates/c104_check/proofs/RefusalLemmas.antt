@@ -1,17 +1,12 @@
 -- Headers that are refused, and those that come where they should.
-use Rattle.std.proofs.Common.{◌≡◌, ℕ, ◌<◌, ◌+◌, ◌*◌, ◌-◌, inl, inr, true, false, List, [], ◌∷◌, length, slice_get, is_some, Option, Some, None, MatchOption, refl, sym, ap, subst, ◌∙◌, arith}
+use Rattle.c104_check.proofs.{FirstWalkLemmas.fault_first, ShownLemmas.{fault_lands, fault_shown, shown_fails, shown_never}}
+use Rattle.c104_check.specs.{Checks.{IsRefusedAt, Shown}, Refusals.{AllLand, IsFirstIn, IsFirstOf, IsRefusal, IsSpared, LandSoFar}}
+use Rattle.c104_check.specs.{Refusals.{LandsBefore, LandsFrom, Refusal, Start}, Routes.{IsEntryOf, IsRandomIn, Lands, Routes, SwitchPort}}
+use Rattle.c104_check.specs.{Routes.{header_count, owner}, Trails.{IsInput, IsNetwork}, Walking.fault_on, Walks.{WalkFault, fault_at}}
+use Rattle.c104_check.specs.{Walks.{first_fault, port_of}, declared.walks.Goal.TheVariants.Owner}
+use Rattle.{c104_plan.specs.declared.ports.Port.Port, std.proofs.Common.{List, MatchOption, None, Option, Some, [], ap, arith, false, inl}}
+use Rattle.std.proofs.Common.{inr, is_some, length, refl, slice_get, subst, sym, true, ℕ, ◌*◌, ◌+◌, ◌-◌, ◌<◌, ◌∙◌, ◌∷◌, ◌≡◌}
 use Rattle.std.proofs.lemmas.Bool.{cases_lt}
-use Rattle.c104_plan.specs.declared.ports.Port.{Port}
-use Rattle.c104_plan.specs.declared.ports.Port.TheVariants as port
-use Rattle.c104_check.specs.Checks.{IsRefusedAt, Shown}
-use Rattle.c104_check.specs.Refusals.{AllLand, IsFirstIn, IsFirstOf, IsRefusal, IsSpared, LandSoFar, LandsBefore, LandsFrom, Refusal, Start}
-use Rattle.c104_check.specs.Routes.{IsEntryOf, IsRandomIn, Lands, Routes, SwitchPort, header_count, owner}
-use Rattle.c104_check.specs.Trails.{IsInput, IsNetwork}
-use Rattle.c104_check.specs.Walking.{fault_on}
-use Rattle.c104_check.specs.declared.walks.Goal.TheVariants.{Owner}
-use Rattle.c104_check.specs.Walks.{WalkFault, fault_at, first_fault, port_of}
-use Rattle.c104_check.proofs.FirstWalkLemmas.{fault_first}
-use Rattle.c104_check.proofs.ShownLemmas.{fault_lands, fault_shown, shown_fails, shown_never}
 
 -- a walk that goes on to an entry is the whole walk
 pub entry_is : (routes : Routes) (h t : ℕ) (p : SwitchPort) → fault_on routes h (Owner t) [] p ≡ fault_at routes h p (Some t)
@@ -20,13 +15,13 @@ entry_is routes h t p =
     ap (λ n. first_fault routes h (Owner t) n (p ∷ []) p) k
 
 switch_of : Option Port → ℕ
-switch_of (Some (port.Switch s l)) = s
-switch_of (Some (port.Terminal t)) = 0
+switch_of (Some (Port.Switch s l)) = s
+switch_of (Some (Port.Terminal t)) = 0
 switch_of None = 0
 
 link_of : Option Port → ℕ
-link_of (Some (port.Switch s l)) = l
-link_of (Some (port.Terminal t)) = 0
+link_of (Some (Port.Switch s l)) = l
+link_of (Some (Port.Terminal t)) = 0
 link_of None = 0
 
 -- a terminal has one entry

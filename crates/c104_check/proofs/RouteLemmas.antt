@@ -1,27 +1,16 @@
 -- What selects a link, which links are in its group, and where these lead.
-use Rattle.std.proofs.Common.{◌≡◌, ℕ, zero, suc, ◌<◌, ◌≤◌, ◌+◌, ◌-◌, ◌==◌, ◌⊎◌, inl, inr, Bool, true, false, ◌&&◌, nat_le, nat_lt, cond, if◌then◌else◌, List, [], ◌∷◌, length, slice_get, slice_index_or, option_map, Option, Some, None, refl, sym, ap, subst, ◌∙◌, arith}
-use Rattle.std.proofs.lemmas.Bool.{cases_eq, cases_lt, le-leb}
-use Rattle.std.proofs.lemmas.Bool.Decides.{nat_tests}
-use Rattle.std.proofs.lemmas.Option.{get_or_from_slice_get, slice_get_past, slice_get_within}
-use Rattle.std.specs.List.{AllByRecursion}
-use Rattle.c104_interval.specs.Selection.{reset_row, row_at, select_from}
-use Rattle.c104_interval.specs.Selection as table
-use Rattle.c104_interval.specs.declared.intervals.Row.{Row}
-use Rattle.c104_interval.specs.declared.intervals.Select.{Select}
-use Rattle.c104_interval.specs.declared.intervals.Select.TheVariants.{Link, Discard, Sink}
-use Rattle.c104_crossbar.specs.Groups.{group_contains, is_joined_run}
-use Rattle.c104_regs.specs.Groups.{continues, continues_at}
-use Rattle.c104_regs.specs.Ranges.{IsInRange}
-use Rattle.c104_regs.specs.declared.settings.Settings.{Settings}
-use Rattle.c104_regs.specs.Values.{select_code, select_of}
-use Rattle.c104_plan.specs.declared.ports.Port.{Port}
-use Rattle.c104_plan.specs.declared.ports.Port.TheVariants as port
-use Rattle.c104_plan.specs.PlanImage.{AreSettings}
 use Rattle.c104_check.specs.Routes.{Arrives, IsPortal, Leads, Routes, SwitchPort, is_in_group, or_no_settings, select, settings_at}
-use Rattle.c104_check.specs.Shown.{Follows, MayLeave}
-use Rattle.c104_check.specs.Trails.{IsInput, IsNetwork}
-use Rattle.c104_check.specs.Walks.{Goal, discarded, peers_that, ways_of}
-use Rattle.c104_check.specs.declared.walks.Goal.TheVariants.{Owner, Portal}
+use Rattle.c104_check.specs.{Shown.{Follows, MayLeave}, Trails.{IsInput, IsNetwork}, Walks.{Goal, discarded, peers_that, ways_of}}
+use Rattle.{c104_check.specs.declared.walks.Goal.TheVariants.{Owner, Portal}, c104_crossbar.specs.Groups.{group_contains, is_joined_run}}
+use Rattle.c104_interval.specs.{Selection.{reset_row, row_at, select_from}, declared.intervals.{Row.Row, Select.Select}}
+use Rattle.{c104_interval.specs.declared.intervals.Select.TheVariants.{Discard, Link, Sink}, c104_plan.specs.PlanImage.AreSettings}
+use Rattle.{c104_plan.specs.declared.ports.Port.Port, c104_regs.specs.{Groups.{continues, continues_at}, Ranges.IsInRange}}
+use Rattle.{c104_regs.specs.{Values.{select_code, select_of}, declared.settings.Settings.Settings}, std.proofs.Common.{Bool, List, None}}
+use Rattle.std.proofs.Common.{Option, Some, [], ap, arith, cond, false, if◌then◌else◌, inl, inr, length, nat_le, nat_lt, option_map, refl}
+use Rattle.std.proofs.Common.{slice_get, slice_index_or, subst, suc, sym, true, zero, ℕ, ◌&&◌, ◌+◌, ◌-◌, ◌<◌, ◌==◌, ◌∙◌, ◌∷◌, ◌≡◌, ◌≤◌, ◌⊎◌}
+use Rattle.std.proofs.lemmas.{Bool.{Decides.nat_tests, cases_eq, cases_lt, le-leb}, Option.{get_or_from_slice_get, slice_get_past}}
+use Rattle.std.{proofs.lemmas.Option.slice_get_within, specs.List.AllByRecursion}
+use Rattle.c104_interval.specs.Selection as table
 
 -- A selected link is one of the 32
 
@@ -116,7 +105,7 @@ all_among P e (x ∷ xs) (inl is) all = subst P is all.0
 all_among P e (x ∷ xs) (inr is) all = all_among P e xs is all.1
 
 -- the first of n links, which passes the test or doesn't
-pub peers_step : (routes : Routes) (s link n : ℕ) (test : ℕ → Bool) (b : Bool) → test link ≡ b → peers_that routes s test link (suc n) ≡ cond b (routes.peer (port.Switch s link) ∷ peers_that routes s test (link + 1) n) (peers_that routes s test (link + 1) n)
+pub peers_step : (routes : Routes) (s link n : ℕ) (test : ℕ → Bool) (b : Bool) → test link ≡ b → peers_that routes s test link (suc n) ≡ cond b (routes.peer (Port.Switch s link) ∷ peers_that routes s test (link + 1) n) (peers_that routes s test (link + 1) n)
 peers_step routes s link n test true is = rw is refl
 peers_step routes s link n test false is = rw is refl
 
@@ -125,19 +114,19 @@ among_later routes s from n test e true is among = subst (IsAmong e) (sym (peers
 among_later routes s from n test e false is among = subst (IsAmong e) (sym (peers_step routes s from n test false is)) among
 
 -- where a link leads that passes
-pub range_among : (routes : Routes) (s o : ℕ) (test : ℕ → Bool) → test o ≡ true → (n from : ℕ) → from ≤ o → o < from + n → IsAmong (routes.peer (port.Switch s o)) (peers_that routes s test from n)
+pub range_among : (routes : Routes) (s o : ℕ) (test : ℕ → Bool) → test o ≡ true → (n from : ℕ) → from ≤ o → o < from + n → IsAmong (routes.peer (Port.Switch s o)) (peers_that routes s test from n)
 range_among routes s o test passes zero from low high = absurd (omega (arith, low, high))
 range_among routes s o test passes (suc n) from low high =
     elim (cases_eq o from) [
-      | inl same ↦ subst (IsAmong (routes.peer (port.Switch s o))) (sym (peers_step routes s from n test true (ap test (sym same) ∙ passes))) (inl (ap (λ l. routes.peer (port.Switch s l)) (sym same)))
-      | inr differ ↦ among_later routes s from n test (routes.peer (port.Switch s o)) (test from) refl (range_among routes s o test passes n (from + 1) (omega (arith, low, differ)) (omega (arith, high)))
+      | inl same ↦ subst (IsAmong (routes.peer (Port.Switch s o))) (sym (peers_step routes s from n test true (ap test (sym same) ∙ passes))) (inl (ap (λ l. routes.peer (Port.Switch s l)) (sym same)))
+      | inr differ ↦ among_later routes s from n test (routes.peer (Port.Switch s o)) (test from) refl (range_among routes s o test passes n (from + 1) (omega (arith, low, differ)) (omega (arith, high)))
     ]
 
 -- and what leads there
 abbrev pub IsPassed : Routes → ℕ → (ℕ → Bool) → Option Port → Type 0
-IsPassed routes s test e = (o : ℕ) × (test o ≡ true) × (routes.peer (port.Switch s o) ≡ e)
+IsPassed routes s test e = (o : ℕ) × (test o ≡ true) × (routes.peer (Port.Switch s o) ≡ e)
 
-passed_on : (routes : Routes) (s from n : ℕ) (test : ℕ → Bool) (e : Option Port) (b : Bool) → test from ≡ b → (IsAmong e (peers_that routes s test (from + 1) n) → IsPassed routes s test e) → IsAmong e (cond b (routes.peer (port.Switch s from) ∷ peers_that routes s test (from + 1) n) (peers_that routes s test (from + 1) n)) → IsPassed routes s test e
+passed_on : (routes : Routes) (s from n : ℕ) (test : ℕ → Bool) (e : Option Port) (b : Bool) → test from ≡ b → (IsAmong e (peers_that routes s test (from + 1) n) → IsPassed routes s test e) → IsAmong e (cond b (routes.peer (Port.Switch s from) ∷ peers_that routes s test (from + 1) n) (peers_that routes s test (from + 1) n)) → IsPassed routes s test e
 passed_on routes s from n test e true is rest (inl here) = (from, is, here)
 passed_on routes s from n test e true is rest (inr later) = rest later
 passed_on routes s from n test e false is rest among = rest among
@@ -152,7 +141,7 @@ abbrev pub group_peers : Routes → ℕ → ℕ → List (Option Port)
 group_peers routes s g = peers_that routes s (is_in_group routes s g) 0 32
 
 -- a link of the group is among them
-pub group_among : (routes : Routes) (s i h g o : ℕ) → IsNetwork routes → select routes s i h ≡ Some (Link g) → is_in_group routes s g o ≡ true → IsAmong (routes.peer (port.Switch s o)) (group_peers routes s g)
+pub group_among : (routes : Routes) (s i h g o : ℕ) → IsNetwork routes → select routes s i h ≡ Some (Link g) → is_in_group routes s g o ≡ true → IsAmong (routes.peer (Port.Switch s o)) (group_peers routes s g)
 group_among routes s i h g o net at joined =
     let found = selects_at routes s i h (Link g) at in
     let links = (are_there routes s i found.0 net found.1).1.0 in
@@ -186,7 +175,7 @@ leaves_arrives routes h t k p e (g, o, at, joined, is) (g', at', all) =
     subst (Arrives (Leads routes h t k) t) is (all o (subst (λ n. is_in_group routes p.switch n o ≡ true) same joined))
 
 pub within : (routes : Routes) (h : ℕ) (p q : SwitchPort) → IsNetwork routes → Follows routes h p q → IsInput (length routes.settings) q
-within routes h p q net (g, o, at, joined, is) = net.inputs (port.Switch p.switch o) q is
+within routes h p q net (g, o, at, joined, is) = net.inputs (Port.Switch p.switch o) q is
 
 -- a portal is an input
 pub portal_input : (routes : Routes) (p q : SwitchPort) → IsNetwork routes → IsPortal routes p q → IsInput (length routes.settings) q

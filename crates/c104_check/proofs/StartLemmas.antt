@@ -1,25 +1,17 @@
 -- The starts of terminals, one after another, and what is told of them.
-use Rattle.std.proofs.Common.{◌≡◌, ℕ, zero, suc, ◌<◌, ◌≤◌, ◌+◌, ◌⊎◌, inl, inr, true, false, List, [], ◌∷◌, ◌++◌, length, slice_get, take, is_some, Option, Some, None, MatchOption, refl, sym, ap, subst, ◌∙◌, arith}
-use Rattle.std.proofs.lemmas.Bool.{cases_lt}
-use Rattle.std.proofs.lemmas.List.{length-append, take-append-le, take_all, take_more}
-use Rattle.std.proofs.lemmas.Option.{get_or_from_slice_get, slice_get_past, slice_get_within}
-use Rattle.std.specs.List.{AllByRecursion}
-use Rattle.c104_check.specs.Breaks.{IsWired}
-use Rattle.c104_check.specs.Checks.{IsFirstRefused, IsRefusedAt}
-use Rattle.c104_check.specs.Portals.{portals_met}
-use Rattle.c104_check.specs.Refusals.{AllLand, AreInputs, IsFirstIn, IsSpared, LandsAt, Refusal, Start}
-use Rattle.c104_check.specs.Routes.{EntryLands, IsEntryOf, IsPortal, IsRandomAt, IsRandomized, Lands, LandsBehind, PortalLands, Routes, SwitchPort, TerminalLands, header_count, link_settings, owner, to_port}
-use Rattle.c104_regs.specs.declared.settings.Settings.{Settings}
-use Rattle.c104_check.specs.Starts.{AllHome, AreStarts, CoverPortals, CoverTerminals, IsFirstRandom, IsFirstRandomAt, IsNext, add_all, start_behind}
-use Rattle.c104_check.specs.Trails.{IsInput, IsNetwork, Reaches}
-use Rattle.c104_plan.specs.declared.ports.Port.TheVariants as port
-use Rattle.c104_check.specs.Walks.{is_met}
-use Rattle.c104_check.proofs.HomeLemmas.{wired_entry}
-use Rattle.c104_check.proofs.PortalLemmas.{IsIn, add_in, add_longer, add_split, in_here, in_right, met_is_portal, portal_is_met}
-use Rattle.c104_check.proofs.RefusalLemmas.{entry_same}
-use Rattle.c104_check.proofs.RouteLemmas.{portal_input}
-use Rattle.c104_check.proofs.ShownLemmas.{random_short, shown_short}
-use Rattle.c104_check.proofs.TrailLemmas.{All-found, All-map, All-snoc}
+use Rattle.c104_check.proofs.{HomeLemmas.wired_entry, PortalLemmas.{IsIn, add_in, add_longer, add_split, in_here, in_right, met_is_portal}}
+use Rattle.c104_check.proofs.{PortalLemmas.portal_is_met, RefusalLemmas.entry_same, RouteLemmas.portal_input, ShownLemmas.random_short}
+use Rattle.c104_check.{proofs.{ShownLemmas.shown_short, TrailLemmas.{All-found, All-map, All-snoc}}, specs.Breaks.IsWired}
+use Rattle.c104_check.specs.{Checks.{IsFirstRefused, IsRefusedAt}, Portals.portals_met, Refusals.{AllLand, AreInputs, IsFirstIn, IsSpared}}
+use Rattle.c104_check.specs.{Refusals.{LandsAt, Refusal, Start}, Routes.{EntryLands, IsEntryOf, IsPortal, IsRandomAt, IsRandomized, Lands}}
+use Rattle.c104_check.specs.Routes.{LandsBehind, PortalLands, Routes, SwitchPort, TerminalLands, header_count, link_settings, owner}
+use Rattle.c104_check.specs.{Routes.to_port, Starts.{AllHome, AreStarts, CoverPortals, CoverTerminals, IsFirstRandom, IsFirstRandomAt}}
+use Rattle.c104_check.specs.{Starts.{IsNext, add_all, start_behind}, Trails.{IsInput, IsNetwork, Reaches}, Walks.is_met}
+use Rattle.{c104_plan.specs.declared.ports.Port.Port, c104_regs.specs.declared.settings.Settings.Settings, std.proofs.Common.List}
+use Rattle.std.proofs.Common.{MatchOption, None, Option, Some, [], ap, arith, false, inl, inr, is_some, length, refl, slice_get, subst, suc}
+use Rattle.std.proofs.{Common.{sym, take, true, zero, ℕ, ◌++◌, ◌+◌, ◌<◌, ◌∙◌, ◌∷◌, ◌≡◌, ◌≤◌, ◌⊎◌}, lemmas.Bool.cases_lt}
+use Rattle.std.proofs.lemmas.{List.{length-append, take-append-le, take_all, take_more}, Option.{get_or_from_slice_get, slice_get_past}}
+use Rattle.std.{proofs.lemmas.Option.slice_get_within, specs.List.AllByRecursion}
 
 -- Lists that grow
 
@@ -120,7 +112,7 @@ lands_behind routes h t q (Some u) own (inr spared) = absurd (let clash : Some u
 -- a portal is wired, since some wire leads to it
 pub reached_wired : (routes : Routes) (r m : ℕ) (p q : SwitchPort) → IsNetwork routes → IsWired routes p → Reaches routes r m p q → IsWired routes q
 reached_wired routes r zero p q net wired same = subst (IsWired routes) same wired
-reached_wired routes r (suc m) p q net wired (z, reaches, (g, o, at, joined, there)) = (port.Switch z.switch o, net.back (port.Switch z.switch o) (to_port q) there)
+reached_wired routes r (suc m) p q net wired (z, reaches, (g, o, at, joined, there)) = (Port.Switch z.switch o, net.back (Port.Switch z.switch o) (to_port q) there)
 
 pub portal_wired : (routes : Routes) (p q : SwitchPort) → IsNetwork routes → IsWired routes p → IsPortal routes p q → IsWired routes q
 portal_wired routes p q net wired (r, m, random, reaches, discards) = reached_wired routes r m p q net wired reaches
@@ -249,7 +241,7 @@ told_random routes starts refusal net all first = record {
   entry = first.entry;
   wired = first.wired;
   below = first.below;
-  short = random_short routes refusal.shown.header first.entry refusal.why refusal.shown.walk net (net.inputs (port.Terminal refusal.shown.entry) first.entry first.wired) first.refused.shows;
+  short = random_short routes refusal.shown.header first.entry refusal.why refusal.shown.walk net (net.inputs (Port.Terminal refusal.shown.entry) first.entry first.wired) first.refused.shows;
   terminals_before = first.covers all;
   here = inr (inl first.refused);
 }

@@ -1,24 +1,18 @@
 -- What the tables of a network's routes hold.
-use Rattle.std.proofs.Common.{◌≡◌, ◌↔◌, ℕ, ◌<◌, ◌≤◌, ◌+◌, ◌*◌, ◌&&◌, nat_lt, Bool, true, false, IsTrue, List, [], ◌∷◌, ◌++◌, length, map, take, slice_get, slice_index_or, option_map, Option, Some, None, refl, sym, ap, subst, ◌∙◌, arith}
-use Rattle.std.proofs.lemmas.List.{length-map, take_more}
-use Rattle.std.proofs.lemmas.List.FromFn.{get_or-map-range_with_len, length-map-range_with_len}
+use Rattle.c104_check.proofs.{LinkLemmas.{at_place, place_below}, RangeLemmas.{is_large, large_is, owns_has}, RouteLemmas.is_input}
+use Rattle.c104_check.{proofs.RunLemmas.{between, run_is}, specs.Checks.{DeletesInside, HasLarge, IsMixed, IsRandomInside, Meet}}
+use Rattle.c104_check.specs.Routes.{IsRandomized, Routes, SwitchPort, has_label, header_count, is_in_group, length_at, length_or_one}
+use Rattle.c104_check.specs.Routes.{link_peers, link_settings, or_no_settings, place, port_at, select, settings_at, settings_in, to_port}
+use Rattle.c104_check.specs.{Trails.{AreWays, IsInput, IsNetwork}, Walks.{Goal, peers_that, ways_of}}
+use Rattle.c104_crossbar.specs.Groups.{AreMembers, group_contains, has_bit}
+use Rattle.{c104_interval.specs.declared.intervals.Select.TheVariants.Link, c104_plan.specs.declared.ports.Port.Port}
+use Rattle.c104_regs.{proofs.ContinueLemmas.{bit-continues_at, bit_at-continue_bits}, specs.Groups.{continue_bits, continues_at}}
+use Rattle.{c104_regs.specs.{Settings.header_length, declared.settings.Settings.Settings}, std.proofs.Common.{Bool, IsTrue, List, None}}
+use Rattle.std.proofs.Common.{Option, Some, [], ap, arith, false, length, map, nat_lt, option_map, refl, slice_get, slice_index_or, subst}
+use Rattle.std.proofs.Common.{sym, take, true, ℕ, ◌&&◌, ◌*◌, ◌++◌, ◌+◌, ◌<◌, ◌↔◌, ◌∙◌, ◌∷◌, ◌≡◌, ◌≤◌}
+use Rattle.std.proofs.lemmas.List.{FromFn.{get_or-map-range_with_len, length-map-range_with_len}, length-map, take_more}
 use Rattle.std.proofs.lemmas.Option.{get_or_from_slice_get, slice_get-get_or, slice_get-map, slice_get_read, slice_get_within}
 use Rattle.std.specs.Int.{bit_at}
-use Rattle.c104_interval.specs.declared.intervals.Select.TheVariants.{Link}
-use Rattle.c104_crossbar.specs.Groups.{AreMembers, group_contains, has_bit}
-use Rattle.c104_regs.specs.Groups.{continue_bits, continues_at}
-use Rattle.c104_regs.specs.Settings.{header_length}
-use Rattle.c104_regs.specs.declared.settings.Settings.{Settings}
-use Rattle.c104_regs.proofs.ContinueLemmas.{bit-continues_at, bit_at-continue_bits}
-use Rattle.c104_plan.specs.declared.ports.Port.{Port}
-use Rattle.c104_check.specs.Checks.{DeletesInside, HasLarge, IsMixed, IsRandomInside, Meet}
-use Rattle.c104_check.specs.Routes.{IsRandomized, Routes, SwitchPort, has_label, is_in_group, header_count, length_at, length_or_one, link_peers, link_settings, or_no_settings, place, port_at, select, settings_at, settings_in, to_port}
-use Rattle.c104_check.specs.Trails.{AreWays, IsInput, IsNetwork}
-use Rattle.c104_check.specs.Walks.{Goal, peers_that, ways_of}
-use Rattle.c104_check.proofs.LinkLemmas.{at_place, place_below}
-use Rattle.c104_check.proofs.RangeLemmas.{is_large, large_is, owns_has}
-use Rattle.c104_check.proofs.RouteLemmas.{is_input}
-use Rattle.c104_check.proofs.RunLemmas.{between, run_is}
 
 pub peers_length : (far : Port → Option Port) (n : ℕ) → length (link_peers far n) ≡ n * 32
 peers_length far n = length-map-range_with_len (λ k. far (to_port (port_at k))) 0 (n * 32)

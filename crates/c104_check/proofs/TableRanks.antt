@@ -1,22 +1,14 @@
 -- What the table of dependencies, and ranks that fall along those in it, tell of a network.
-use Rattle.std.proofs.Common.{◌≡◌, ℕ, zero, suc, ◌<◌, ◌≤◌, ◌+◌, ◌*◌, inl, inr, true, List, Option, None, Some, length, nat_le, refl, sym, ap, subst, ◌∙◌, arith}
+use Rattle.c104_check.proofs.{AcyclicLemmas.arrived_input, LinkLemmas.{at_place, first_link, input_at, place_below}, OwnerLemmas.owner_owns}
+use Rattle.c104_check.{proofs.{RandomLemmas.random_header, ReachLemmas.input_same}, specs.ChannelDependencies.{AreRanksWithin, Depends}}
+use Rattle.c104_check.specs.{ChannelDependencies.{DependsBy, IsBeginningBy, IsRanking, input_count}, Checks.IsFirstLink}
+use Rattle.c104_check.specs.{Cycles.{AreAllRanked, ArePartialRanks, LeadsToUnranked}, Dependencies.{AreDependencies, AreListedBelow}}
+use Rattle.c104_check.specs.{Dependencies.{Dependency, dependency_at, dependency_place, is_by_from}, FirstCycles.{IsOver, LeadsOver}}
+use Rattle.c104_check.specs.{FirstCycles.LeadsToCycle, Ranks.{rank_at, rank_in}, Routes.{IsAccepted, Routes, SwitchPort, header_count}}
+use Rattle.c104_check.specs.{Routes.{place, port_at, to_port}, Trails.{IsInput, IsNetwork}, Walks.port_of}
+use Rattle.{c104_plan.specs.declared.ports.Port.Port, std.proofs.Common.{List, None, Option, Some, ap, arith, inl, inr, length, nat_le}}
+use Rattle.std.proofs.{Common.{refl, subst, suc, sym, true, zero, ℕ, ◌*◌, ◌+◌, ◌<◌, ◌∙◌, ◌≡◌, ◌≤◌}, lemmas.Bool.Decides.nat_tests}
 use Rattle.std.proofs.lemmas.Bool.{cases_lt}
-use Rattle.std.proofs.lemmas.Bool.Decides.{nat_tests}
-use Rattle.c104_plan.specs.declared.ports.Port.TheVariants as port
-use Rattle.c104_check.specs.Checks.{IsFirstLink}
-use Rattle.c104_check.specs.Cycles.{AreAllRanked, ArePartialRanks, LeadsToUnranked}
-use Rattle.c104_check.specs.Dependencies.{AreDependencies, AreListedBelow, Dependency, dependency_at, dependency_place, is_by_from}
-use Rattle.c104_check.specs.FirstCycles.{IsOver, LeadsOver, LeadsToCycle}
-use Rattle.c104_check.specs.Ranks.{rank_at, rank_in}
-use Rattle.c104_check.specs.Routes.{IsAccepted, Routes, SwitchPort, header_count, place, port_at, to_port}
-use Rattle.c104_check.specs.Trails.{IsInput, IsNetwork}
-use Rattle.c104_check.specs.ChannelDependencies.{AreRanksWithin, Depends, DependsBy, IsBeginningBy, IsRanking, input_count}
-use Rattle.c104_check.specs.Walks.{port_of}
-use Rattle.c104_check.proofs.AcyclicLemmas.{arrived_input}
-use Rattle.c104_check.proofs.LinkLemmas.{at_place, first_link, input_at, place_below}
-use Rattle.c104_check.proofs.OwnerLemmas.{owner_owns}
-use Rattle.c104_check.proofs.RandomLemmas.{random_header}
-use Rattle.c104_check.proofs.ReachLemmas.{input_same}
 
 by_some : (h : ℕ) (o : Option Dependency) → is_by_from h o ≡ true → (d : Dependency) × (o ≡ Some d) × (h ≤ d.header)
 by_some h None is = absurd cc
@@ -33,12 +25,12 @@ begun_header routes h x accepted (inl (t, owned, begins)) = accepted.small t h (
 begun_header routes h x accepted (inr (t, wired, random)) = random_header routes x h random
 
 -- wires join two ports
-same_link : (s o u : ℕ) → Some (port.Switch s o) ≡ Some (port.Switch s u) → o ≡ u
+same_link : (s o u : ℕ) → Some (Port.Switch s o) ≡ Some (Port.Switch s u) → o ≡ u
 same_link s o u is = cc
 
 pub one_link : (routes : Routes) (p q : SwitchPort) (o u : ℕ) → IsNetwork routes → IsOver routes p o q → IsOver routes p u q → o ≡ u
 one_link routes p q o u net first second =
-    same_link p.switch o u (sym (net.back (port.Switch p.switch o) (to_port q) first) ∙ net.back (port.Switch p.switch u) (to_port q) second)
+    same_link p.switch o u (sym (net.back (Port.Switch p.switch o) (to_port q) first) ∙ net.back (Port.Switch p.switch u) (to_port q) second)
 
 -- what stands for an input and a link is a dependency of it, over that link
 pub entry_is : (routes : Routes) (table : List (Option Dependency)) (at : SwitchPort) (o : ℕ) (d : Dependency) → AreDependencies routes table → IsInput (length routes.settings) at → o < 32 → dependency_at table (dependency_place at o) ≡ Some d → DependsBy routes d.header at d.next × IsOver routes at o d.next
@@ -53,7 +45,7 @@ entry_is routes table at o d dependencies here low there =
     let same : place p ≡ place at = omega (arith, index, low, below) in
     let links : e ≡ o = omega (arith, index, low, below) in
     let one : p ≡ at = sym (at_place (length routes.settings) p input) ∙ ap port_at same ∙ at_place (length routes.settings) at here in
-    let over : routes.peer (port.Switch at.switch o) ≡ Some (to_port d.next) = ap (λ x. routes.peer (to_port x)) (ap (λ (x : SwitchPort). port_of x.switch o) (sym one) ∙ ap (port_of p.switch) (sym links)) ∙ leads in
+    let over : routes.peer (Port.Switch at.switch o) ≡ Some (to_port d.next) = ap (λ x. routes.peer (to_port x)) (ap (λ (x : SwitchPort). port_of x.switch o) (sym one) ∙ ap (port_of p.switch) (sym links)) ∙ leads in
     (subst (λ x. DependsBy routes d.header x d.next) one entry.6, over)
 
 -- what the table has for a dependency
@@ -87,7 +79,7 @@ module _ (routes : Routes) (table : List (Option Dependency)) (net : IsNetwork r
         dependency = d;
         low = found.2;
         there = found.4;
-        next = input_same d.next q (routes.peer (port.Switch p.switch o)) (routes.peer (port.Switch p.switch o)) leads found.3 refl;
+        next = input_same d.next q (routes.peer (Port.Switch p.switch o)) (routes.peer (Port.Switch p.switch o)) leads found.3 refl;
         input = here;
         over = found.3;
       }
@@ -134,7 +126,7 @@ module _ (routes : Routes) (table : List (Option Dependency)) (net : IsNetwork r
         let d : Dependency = step.0 in
         let o : ℕ = step.1.0.0 in
         let is = entry_is routes table p o d dependencies here step.1.0.1 step.1.0.2 in
-        (d.next, (d.header, is.0), leads_over k d.next (net.inputs (port.Switch p.switch o) d.next is.1) step.1.1)
+        (d.next, (d.header, is.0), leads_over k d.next (net.inputs (Port.Switch p.switch o) d.next is.1) step.1.1)
 
     pub all_ranked : AreAllRanked routes table ranks
     all_ranked = record {

@@ -1,26 +1,16 @@
 -- The steps of a walk in code.
-use Rattle.std.proofs.Common.{◌≡◌, ℕ, suc, ◌<◌, ◌≤◌, ◌+◌, ◌*◌, ◌-◌, ◌⊎◌, inl, inr, Bool, true, false, ◌||◌, List, [], ◌∷◌, ◌++◌, length, slice_index_or, slice_set, if◌then◌else◌, Option, Some, None, refl, sym, ap, subst, ◌∙◌, arith}
-use Rattle.std.proofs.lemmas.Bool.{cases_eq, cases_Bool, eq-eqb}
-use Rattle.std.proofs.lemmas.Grind.{get_or-set_at}
-use Rattle.std.proofs.lemmas.List.{get_or-set_other, length-append, length-set}
-use Rattle.std.proofs.lemmas.List.Folds.{list_any_at}
-use Rattle.c104_plan.specs.declared.ports.Port.{Port}
-use Rattle.c104_plan.specs.declared.ports.Port.TheVariants as port
-use Rattle.c104_check.specs.declared.faults.WalkFault.TheVariants.{WrongEnd, DeadEnd, Loop}
-use Rattle.c104_check.specs.declared.walks.Halt.{Halt}
-use Rattle.c104_check.specs.declared.walks.Halt.TheVariants.{Fault, NoMemory}
-use Rattle.c104_check.specs.declared.walks.Mark.{Mark}
-use Rattle.c104_check.specs.declared.walks.Mark.TheVariants.{New, Met, Good}
-use Rattle.c104_check.specs.declared.walks.Way.TheVariants.{Home, On, Astray}
-use Rattle.c104_check.specs.Routes.{Routes, SwitchPort, place, select, to_port}
-use Rattle.c104_check.specs.Shown.{Comes, Follows}
-use Rattle.c104_check.specs.Trails.{AreWays, IsInput, IsNetwork, IsTrail, run_peers}
-use Rattle.c104_check.specs.Walking.{AreGood, IsHalt, TellMet, fault_from, fault_on, mark_at, tells_met, way_of}
-use Rattle.c104_check.specs.Walks.{Found, Goal, WalkFault, at_peer, at_peers, at_ways, first_fault, first_of, is_home, is_met, is_port, port_of, ways}
-use Rattle.c104_check.proofs.RouteLemmas.{IsAmong, ways_leave}
-use Rattle.c104_check.proofs.RunLemmas.{run_among}
-use Rattle.c104_check.proofs.TrailLemmas.{is_port-true, trail_room}
-use Rattle.c104_check.proofs.WalkLemmas.{Leads-from, clear}
+use Rattle.c104_check.proofs.{RouteLemmas.{IsAmong, ways_leave}, RunLemmas.run_among, TrailLemmas.{is_port-true, trail_room}}
+use Rattle.c104_check.{proofs.WalkLemmas.{Leads-from, clear}, specs.{Routes.{Routes, SwitchPort, place, select, to_port}, Shown.Comes}}
+use Rattle.c104_check.specs.{Shown.Follows, Trails.{AreWays, IsInput, IsNetwork, IsTrail, run_peers}, Walking.{AreGood, IsHalt, TellMet}}
+use Rattle.c104_check.specs.{Walking.{fault_from, fault_on, mark_at, tells_met, way_of}, Walks.{Found, Goal, WalkFault, at_peer, at_peers}}
+use Rattle.c104_check.specs.Walks.{at_ways, first_fault, first_of, is_home, is_met, is_port, port_of, ways}
+use Rattle.c104_check.specs.declared.{faults.WalkFault.TheVariants.{DeadEnd, Loop, WrongEnd}, walks.Halt.{Halt, TheVariants.Fault}}
+use Rattle.c104_check.specs.declared.walks.{Halt.TheVariants.NoMemory, Mark.{Mark, TheVariants.{Good, Met, New}}, Way.TheVariants.Astray}
+use Rattle.{c104_check.specs.declared.walks.Way.TheVariants.{Home, On}, c104_plan.specs.declared.ports.Port.Port, std.proofs.Common.Bool}
+use Rattle.std.proofs.Common.{List, None, Option, Some, [], ap, arith, false, if◌then◌else◌, inl, inr, length, refl, slice_index_or}
+use Rattle.std.proofs.Common.{slice_set, subst, suc, sym, true, ℕ, ◌*◌, ◌++◌, ◌+◌, ◌-◌, ◌<◌, ◌||◌, ◌∙◌, ◌∷◌, ◌≡◌, ◌≤◌, ◌⊎◌}
+use Rattle.std.proofs.lemmas.{Bool.{cases_Bool, cases_eq, eq-eqb}, Grind.get_or-set_at, List.{Folds.list_any_at, get_or-set_other}}
+use Rattle.std.proofs.lemmas.List.{length-append, length-set}
 
 -- what is found from an input that lengthens a walk
 abbrev pub further : Routes → ℕ → Goal → List SwitchPort → List SwitchPort → SwitchPort → Found
@@ -39,7 +29,7 @@ further_is routes h t walk q =
     ap (λ k. first_fault routes h t k (walk ++ (q ∷ [])) q) same
 
 -- what is found where a link leads to an input is what is found on the walk that goes on to it
-pub on_is : (routes : Routes) (h : ℕ) (t : Goal) (walk : List SwitchPort) (q : SwitchPort) → at_peer (further routes h t walk) t walk (Some (port.Switch q.switch q.link)) ≡ fault_on routes h t walk q
+pub on_is : (routes : Routes) (h : ℕ) (t : Goal) (walk : List SwitchPort) (q : SwitchPort) → at_peer (further routes h t walk) t walk (Some (Port.Switch q.switch q.link)) ≡ fault_on routes h t walk q
 on_is routes h t walk q = ap (λ x. if is_met q walk then Some (Loop, walk ++ (q ∷ [])) else x) (further_is routes h t walk q)
 
 pub on_new : (routes : Routes) (h : ℕ) (t : Goal) (walk : List SwitchPort) (q : SwitchPort) → is_met q walk ≡ false → fault_on routes h t walk q ≡ fault_from routes h t (walk ++ (q ∷ [])) q
@@ -59,20 +49,20 @@ abbrev pub pending : Routes → ℕ → Goal → ℕ → List SwitchPort → ℕ
 pending routes h t s walk end link = at_peers (further routes h t walk) t walk (run_peers routes s link (end - link))
 
 module _ (routes : Routes) (h : ℕ) (t : Goal) (s : ℕ) (walk : List SwitchPort) (end link : ℕ) (below : link < end) where
-  pending_next : pending routes h t s walk end link ≡ first_of (at_peer (further routes h t walk) t walk (routes.peer (port.Switch s link))) (pending routes h t s walk end (link + 1))
+  pending_next : pending routes h t s walk end link ≡ first_of (at_peer (further routes h t walk) t walk (routes.peer (Port.Switch s link))) (pending routes h t s walk end (link + 1))
   pending_next =
       let count : end - link ≡ suc (end - (link + 1)) = omega (arith, below) in
       ap (λ n. at_peers (further routes h t walk) t walk (run_peers routes s link n)) count
 
   -- a link that shows a fault, and one that shows none
-  pub stops : (p : SwitchPort) (e : Option Port) (f : WalkFault × List SwitchPort) → routes.peer (port.Switch s link) ≡ e → pending routes h t s walk end link ≡ fault_from routes h t walk p → at_peer (further routes h t walk) t walk e ≡ Some f → fault_from routes h t walk p ≡ Some f
+  pub stops : (p : SwitchPort) (e : Option Port) (f : WalkFault × List SwitchPort) → routes.peer (Port.Switch s link) ≡ e → pending routes h t s walk end link ≡ fault_from routes h t walk p → at_peer (further routes h t walk) t walk e ≡ Some f → fault_from routes h t walk p ≡ Some f
   stops p e f here rest is =
-      let found : at_peer (further routes h t walk) t walk (routes.peer (port.Switch s link)) ≡ Some f = ap (at_peer (further routes h t walk) t walk) here ∙ is in
+      let found : at_peer (further routes h t walk) t walk (routes.peer (Port.Switch s link)) ≡ Some f = ap (at_peer (further routes h t walk) t walk) here ∙ is in
       sym rest ∙ pending_next ∙ ap (λ x. first_of x (pending routes h t s walk end (link + 1))) found
 
-  pub goes_on : (p : SwitchPort) (e : Option Port) → routes.peer (port.Switch s link) ≡ e → pending routes h t s walk end link ≡ fault_from routes h t walk p → at_peer (further routes h t walk) t walk e ≡ None → pending routes h t s walk end (link + 1) ≡ fault_from routes h t walk p
+  pub goes_on : (p : SwitchPort) (e : Option Port) → routes.peer (Port.Switch s link) ≡ e → pending routes h t s walk end link ≡ fault_from routes h t walk p → at_peer (further routes h t walk) t walk e ≡ None → pending routes h t s walk end (link + 1) ≡ fault_from routes h t walk p
   goes_on p e here rest is =
-      let found : at_peer (further routes h t walk) t walk (routes.peer (port.Switch s link)) ≡ None = ap (at_peer (further routes h t walk) t walk) here ∙ is in
+      let found : at_peer (further routes h t walk) t walk (routes.peer (Port.Switch s link)) ≡ None = ap (at_peer (further routes h t walk) t walk) here ∙ is in
       sym (pending_next ∙ ap (λ x. first_of x (pending routes h t s walk end (link + 1))) found) ∙ rest
 
 pub pending_end : (routes : Routes) (h : ℕ) (t : Goal) (s : ℕ) (walk : List SwitchPort) (end link : ℕ) (p : SwitchPort) → end ≤ link → pending routes h t s walk end link ≡ fault_from routes h t walk p → fault_from routes h t walk p ≡ None
@@ -91,8 +81,8 @@ terminal_stops walk why false is = let same : WrongEnd ≡ why = cc in ap (λ f.
 
 pub way_stops : (further : List SwitchPort → SwitchPort → Found) (t : Goal) (walk : List SwitchPort) (e : Option Port) (why : WalkFault) → way_of t e ≡ Astray why → at_peer further t walk e ≡ Some (why, walk)
 way_stops further t walk None why is = let same : DeadEnd ≡ why = cc in ap (λ f. found_at f walk) same
-way_stops further t walk (Some (port.Terminal u)) why is = terminal_stops walk why (is_home t u) is
-way_stops further t walk (Some (port.Switch s i)) why is = absurd cc
+way_stops further t walk (Some (Port.Terminal u)) why is = terminal_stops walk why (is_home t u) is
+way_stops further t walk (Some (Port.Switch s i)) why is = absurd cc
 
 terminal_home : (walk : List SwitchPort) (b : Bool) → (if b then Home else Astray WrongEnd) ≡ Home → (if b then None else found_at WrongEnd walk) ≡ None
 terminal_home walk true is = refl
@@ -100,8 +90,8 @@ terminal_home walk false is = absurd cc
 
 pub way_home : (further : List SwitchPort → SwitchPort → Found) (t : Goal) (walk : List SwitchPort) (e : Option Port) → way_of t e ≡ Home → at_peer further t walk e ≡ None
 way_home further t walk None is = absurd cc
-way_home further t walk (Some (port.Terminal u)) is = terminal_home walk (is_home t u) is
-way_home further t walk (Some (port.Switch s i)) is = absurd cc
+way_home further t walk (Some (Port.Terminal u)) is = terminal_home walk (is_home t u) is
+way_home further t walk (Some (Port.Switch s i)) is = absurd cc
 
 terminal_on : (q : SwitchPort) (b : Bool) → (if b then Home else Astray WrongEnd) ≡ On q → ⊥
 terminal_on q true is = cc
@@ -112,11 +102,11 @@ port_same s i q is = cc
 
 pub way_on : (t : Goal) (e : Option Port) (q : SwitchPort) → way_of t e ≡ On q → e ≡ Some (to_port q)
 way_on t None q is = absurd cc
-way_on t (Some (port.Terminal u)) q is = absurd (terminal_on q (is_home t u) is)
-way_on t (Some (port.Switch s i)) q is = ap (λ x. Some (to_port x)) (port_same s i q is)
+way_on t (Some (Port.Terminal u)) q is = absurd (terminal_on q (is_home t u) is)
+way_on t (Some (Port.Switch s i)) q is = ap (λ x. Some (to_port x)) (port_same s i q is)
 
 -- a walk that went on, and stopped later
-pub later_halts : (routes : Routes) (h : ℕ) (t : Goal) (walk new : List SwitchPort) (q : SwitchPort) (halt : Halt) → IsHalt halt (fault_on routes h t walk q) new → (found : Found) → ((f : WalkFault × List SwitchPort) → at_peer (further routes h t walk) t walk (Some (port.Switch q.switch q.link)) ≡ Some f → found ≡ Some f) → IsHalt halt found new
+pub later_halts : (routes : Routes) (h : ℕ) (t : Goal) (walk new : List SwitchPort) (q : SwitchPort) (halt : Halt) → IsHalt halt (fault_on routes h t walk q) new → (found : Found) → ((f : WalkFault × List SwitchPort) → at_peer (further routes h t walk) t walk (Some (Port.Switch q.switch q.link)) ≡ Some f → found ≡ Some f) → IsHalt halt found new
 later_halts routes h t walk new q (Fault why) is found stop = stop (why, new) (on_is routes h t walk q ∙ is)
 later_halts routes h t walk new q NoMemory is found stop = tt
 
@@ -204,8 +194,8 @@ pub trail_of : (routes : Routes) (h : ℕ) (walk w : List SwitchPort) (p : Switc
 trail_of routes h walk w p trail new is = subst (λ x. IsTrail routes h x p) (sym is) (trail new)
 
 -- a link of the group leads to an input
-pub follows_by : (routes : Routes) (h : ℕ) (t : Goal) (link first end : ℕ) (p q : SwitchPort) → AreWays routes h t p first end → first ≤ link → link < end → routes.peer (port.Switch p.switch link) ≡ Some (port.Switch q.switch q.link) → Follows routes h p q
-follows_by routes h t link first end p q ways low high leads = ways_leave routes h t p (run_peers routes p.switch first (end - first)) (Some (port.Switch q.switch q.link)) (select routes p.switch p.link h) refl ways.are (subst (λ e. IsAmong e (run_peers routes p.switch first (end - first))) leads (run_among routes p.switch link (end - first) first low (omega (arith, low, high))))
+pub follows_by : (routes : Routes) (h : ℕ) (t : Goal) (link first end : ℕ) (p q : SwitchPort) → AreWays routes h t p first end → first ≤ link → link < end → routes.peer (Port.Switch p.switch link) ≡ Some (Port.Switch q.switch q.link) → Follows routes h p q
+follows_by routes h t link first end p q ways low high leads = ways_leave routes h t p (run_peers routes p.switch first (end - first)) (Some (Port.Switch q.switch q.link)) (select routes p.switch p.link h) refl ways.are (subst (λ e. IsAmong e (run_peers routes p.switch first (end - first))) leads (run_among routes p.switch link (end - first) first low (omega (arith, low, high))))
 
 pub marks_length : (marks : List Mark) (k : ℕ) (m : Mark) → length (slice_set marks k m) ≡ length marks
 marks_length marks k m = length-set marks k m

@@ -1,12 +1,11 @@
 -- Headers at which anything may change: from each of these to the next, each wired input selects the same
 -- for all, they have one owner or none, and all or none are random at an input.
 --     IsBreak routes h      header h is one of them
-use Rattle.std.specs.Prelude.{◌≡◌, ◌≢◌, ◌↔◌, ℕ, ◌+◌, ◌-◌, ◌%◌, ◌<◌, ◌⊎◌, Bool, true, false, List, length, slice_get, slice_index_or, Some}
-use Rattle.c104_interval.specs.Selection as table
-use Rattle.c104_interval.specs.declared.intervals.Table.{Table}
-use Rattle.c104_regs.specs.declared.settings.Settings.{Settings}
-use Rattle.c104_plan.specs.declared.ports.Port.{Port}
 use Rattle.c104_check.specs.Routes.{Routes, SwitchPort, header_count, link_settings, random_count, to_port}
+use Rattle.{c104_interval.specs.declared.intervals.Table.Table, c104_plan.specs.declared.ports.Port.Port}
+use Rattle.c104_regs.specs.declared.settings.Settings.{Settings}
+use Rattle.std.specs.Prelude.{Bool, List, Some, false, length, slice_get, slice_index_or, true, ℕ, ◌%◌, ◌+◌, ◌-◌, ◌<◌, ◌↔◌, ◌≡◌, ◌≢◌, ◌⊎◌}
+use Rattle.c104_interval.specs.Selection as table
 
 -- something is wired to a link
 abbrev pub IsWired : Routes → SwitchPort → Type 0

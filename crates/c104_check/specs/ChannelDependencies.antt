@@ -8,11 +8,9 @@
 --     Depends routes p q      input p depends on input q
 --     IsAcyclic routes      there are ranks of the inputs that fall along every dependency
 --     IsCycle routes dependencies      inputs each of which depends on the next, and the last on the first
-use Rattle.std.specs.Prelude.{ℕ, ◌≡◌, ◌↔◌, ◌<◌, ◌≤◌, ◌*◌, ◌⊎◌, List, [], ◌∷◌, Some, length}
-use Rattle.c104_check.specs.Parts.{IsBeginning, IsRandomBeginning, IsReachedFrom}
-use Rattle.c104_check.specs.Reach.{IsReached}
-use Rattle.c104_check.specs.Routes.{IsRandomized, Routes, SwitchPort, owner}
-use Rattle.c104_check.specs.Shown.{Follows}
+use Rattle.c104_check.specs.{Parts.{IsBeginning, IsRandomBeginning, IsReachedFrom}, Reach.IsReached, Routes.{IsRandomized, Routes}}
+use Rattle.c104_check.specs.{Routes.{SwitchPort, owner}, Shown.Follows}
+use Rattle.std.specs.Prelude.{List, Some, [], length, ℕ, ◌*◌, ◌<◌, ◌↔◌, ◌∷◌, ◌≡◌, ◌≤◌, ◌⊎◌}
 -- an input, and a header by which it depends on the next
 pub use Rattle.c104_check.specs.declared.cycles.ChannelDependency.{ChannelDependency}
 

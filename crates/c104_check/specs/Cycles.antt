@@ -1,13 +1,9 @@
 -- The search for a cycle of dependencies: ranks that are given to more and more inputs.
-use Rattle.std.specs.Prelude.{ℕ, zero, suc, ◌≡◌, ◌↔◌, ◌<◌, ◌≤◌, ◌+◌, ◌*◌, Bool, true, false, List, [], ◌∷◌, Some, Option, length}
 use Rattle.c104_check.specs.ChannelDependencies.{AreRanksWithin, Depends, DependsBy, IsCycle, IsRanking, input_count}
-use Rattle.c104_check.specs.Dependencies.{Dependency, dependency_at, dependency_place}
-use Rattle.c104_check.specs.FirstCycles.{IsOver, LeadsToCycle}
-use Rattle.c104_check.specs.Ranks.{rank_at, rank_in}
-use Rattle.c104_check.specs.Routes.{Routes, SwitchPort, place}
-use Rattle.c104_check.specs.Trails.{IsInput}
-use Rattle.c104_check.specs.declared.cycles.RanksOrCycle.{RanksOrCycle}
-use Rattle.c104_check.specs.declared.cycles.RanksOrCycle.TheVariants.{Ranks, Cycle}
+use Rattle.c104_check.specs.{Dependencies.{Dependency, dependency_at, dependency_place}, FirstCycles.{IsOver, LeadsToCycle}, Ranks.rank_at}
+use Rattle.c104_check.specs.{Ranks.rank_in, Routes.{Routes, SwitchPort, place}, Trails.IsInput, declared.cycles.RanksOrCycle.RanksOrCycle}
+use Rattle.c104_check.specs.declared.cycles.RanksOrCycle.TheVariants.{Cycle, Ranks}
+use Rattle.std.specs.Prelude.{Bool, List, Option, Some, [], false, length, suc, true, zero, ℕ, ◌*◌, ◌+◌, ◌<◌, ◌↔◌, ◌∷◌, ◌≡◌, ◌≤◌}
 
 -- ranks that fall along every dependency, none above the count of inputs; or a cycle
 abbrev pub AreRanksOrCycle : Routes → RanksOrCycle → Type 0

@@ -2,14 +2,10 @@
 -- header may go on to over that link.
 --     AreDependencies routes table      each that stands there is one
 --     AreListedBelow routes table n      where there is one by a header below n, it stands there by no lower one
-use Rattle.std.specs.Prelude.{ℕ, ◌≡◌, ◌<◌, ◌≤◌, ◌+◌, ◌*◌, Bool, List, Option, None, Some, false, length, nat_le, slice_index_or, true}
-use Rattle.c104_check.specs.ChannelDependencies.{DependsBy, MayComeBy}
-use Rattle.c104_check.specs.Parts.{IsReachedAsOwn, IsReachedAsRandom}
-use Rattle.c104_check.specs.Routes.{Routes, SwitchPort, owner, place, to_port}
-use Rattle.c104_check.specs.Shown.{Follows}
-use Rattle.c104_check.specs.Trails.{IsInput}
-use Rattle.c104_check.specs.Walks.{port_of}
 pub use Rattle.c104_check.specs.declared.dependencies.Dependency.{Dependency}
+use Rattle.c104_check.specs.{ChannelDependencies.{DependsBy, MayComeBy}, Parts.{IsReachedAsOwn, IsReachedAsRandom}, Routes.Routes}
+use Rattle.c104_check.specs.{Routes.{SwitchPort, owner, place, to_port}, Shown.Follows, Trails.IsInput, Walks.port_of}
+use Rattle.std.specs.Prelude.{Bool, List, None, Option, Some, false, length, nat_le, slice_index_or, true, ℕ, ◌*◌, ◌+◌, ◌<◌, ◌≡◌, ◌≤◌}
 
 abbrev pub dependency_at : List (Option Dependency) → ℕ → Option Dependency
 dependency_at table k = slice_index_or table k None

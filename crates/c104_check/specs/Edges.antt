@@ -1,13 +1,10 @@
 -- The edges of the channel dependency graph, as a list.
 --     AreAllEdges routes edges      they are the dependencies of the inputs on one another, all of them, each once and in order
-use Rattle.std.specs.Prelude.{ℕ, ◌≡◌, ◌<◌, ◌/◌, ◌⊎◌, List, Option, Some, slice_get}
-use Rattle.c104_regs.specs.declared.registers.TheConstants.{LINKS}
-use Rattle.c104_check.specs.ChannelDependencies.{Depends}
-use Rattle.c104_check.specs.Checks.{ComesBefore}
-use Rattle.c104_check.specs.Dependencies.{Dependency, dependency_at}
-use Rattle.c104_check.specs.FirstCycles.{DependsMostBy, IsOver}
-use Rattle.c104_check.specs.Routes.{Routes, SwitchPort, port_at}
 pub use Rattle.c104_check.specs.declared.edges.DependencyEdge.{DependencyEdge}
+use Rattle.c104_check.specs.{ChannelDependencies.Depends, Checks.ComesBefore, Dependencies.{Dependency, dependency_at}}
+use Rattle.c104_check.specs.{FirstCycles.{DependsMostBy, IsOver}, Routes.{Routes, SwitchPort, port_at}}
+use Rattle.c104_regs.specs.declared.registers.TheConstants.{LINKS}
+use Rattle.std.specs.Prelude.{List, Option, Some, slice_get, ℕ, ◌/◌, ◌<◌, ◌≡◌, ◌⊎◌}
 
 -- each is a dependency, by the highest header
 abbrev pub AreEdges : Routes → List DependencyEdge → Type 0

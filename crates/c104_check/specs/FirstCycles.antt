@@ -1,15 +1,10 @@
 -- The cycle of channel dependencies that is told of a network: a single one.
 --     LeadsToCycle routes p      from input p dependencies lead into a cycle
 --     IsFirstCycle routes cycle      these are the cycle that is told
-use Rattle.std.specs.Prelude.{ℕ, zero, suc, ◌≡◌, ◌<◌, ◌≤◌, ⊤, List, [], ◌∷◌, Some, drop, position}
-use Rattle.std.specs.List.{IsDistinct}
-use Rattle.c104_plan.specs.declared.ports.Port.TheVariants as port
-use Rattle.c104_check.specs.ChannelDependencies.{ChannelDependency, Depends, DependsBy, IsCycle}
-use Rattle.c104_check.specs.Checks.{IsFirstLink}
-use Rattle.c104_check.specs.Routes.{Routes, SwitchPort, to_port}
-use Rattle.c104_check.specs.Walks.{is_port}
-use Rattle.c104_check.specs.declared.cycles.RanksOrCycle.{RanksOrCycle}
-use Rattle.c104_check.specs.declared.cycles.RanksOrCycle.TheVariants.{Ranks, Cycle}
+use Rattle.c104_check.specs.{ChannelDependencies.{ChannelDependency, Depends, DependsBy, IsCycle}, Checks.IsFirstLink, Routes.Routes}
+use Rattle.c104_check.specs.{Routes.{SwitchPort, to_port}, Walks.is_port, declared.cycles.RanksOrCycle.{RanksOrCycle, TheVariants.Cycle}}
+use Rattle.{c104_check.specs.declared.cycles.RanksOrCycle.TheVariants.Ranks, c104_plan.specs.declared.ports.Port.Port}
+use Rattle.std.specs.{List.IsDistinct, Prelude.{List, Some, [], drop, position, suc, zero, ℕ, ⊤, ◌<◌, ◌∷◌, ◌≡◌, ◌≤◌}}
 
 -- h is the highest header by which input p depends on input q
 abbrev pub DependsMostBy : Routes → ℕ → SwitchPort → SwitchPort → Type 0
@@ -17,7 +12,7 @@ DependsMostBy routes h p q = DependsBy routes h p q × ((g : ℕ) → DependsBy 
 
 -- link o of the switch of input p is wired to input q
 abbrev pub IsOver : Routes → SwitchPort → ℕ → SwitchPort → Type 0
-IsOver routes p o q = routes.peer (port.Switch p.switch o) ≡ Some (to_port q)
+IsOver routes p o q = routes.peer (Port.Switch p.switch o) ≡ Some (to_port q)
 
 -- from input p there is a way over k dependencies
 abbrev pub LeadsOver : Routes → ℕ → SwitchPort → Type 0

@@ -3,16 +3,11 @@
 --     TakesLower links others      where two walks part, the one takes the lower link
 --     IsFirstWalk routes h goal p why walk      from input p this walk goes wrong, and none before it does
 --     NoneGoesWrong routes h goal p      none from there does
-use Rattle.std.specs.Prelude.{◌≡◌, ◌≢◌, ◌↔◌, ℕ, ◌<◌, ◌⊎◌, true, false, List, [], ◌∷◌, ◌++◌, length, option_map, Option, Some, None}
-use Rattle.c104_interval.specs.declared.intervals.Select.TheVariants.{Link, Sink}
-use Rattle.c104_plan.specs.declared.ports.Port.{Port}
-use Rattle.c104_plan.specs.declared.ports.Port.TheVariants as port
-use Rattle.c104_check.specs.declared.faults.WalkFault.TheVariants.{WrongEnd, DeadEnd, Loop, Stray}
-use Rattle.c104_check.specs.declared.walks.Goal.TheVariants.{Owner, Portal}
-use Rattle.c104_check.specs.Routes.{Homes, Lands, Routes, SwitchPort, is_in_group, most_hops, owner, select}
-use Rattle.c104_check.specs.Shown.{IsForeign, IsPortalFor}
-use Rattle.c104_check.specs.Trails.{IsInput}
-use Rattle.c104_check.specs.Walks.{Goal, WalkFault, is_met, port_of}
+use Rattle.c104_check.specs.{Routes.{Homes, Lands, Routes, SwitchPort, is_in_group, most_hops, owner, select}, Shown.IsForeign}
+use Rattle.c104_check.specs.{Shown.IsPortalFor, Trails.IsInput, Walks.{Goal, WalkFault, is_met, port_of}}
+use Rattle.c104_check.specs.declared.{faults.WalkFault.TheVariants.{DeadEnd, Loop, Stray, WrongEnd}, walks.Goal.TheVariants.{Owner, Portal}}
+use Rattle.{c104_interval.specs.declared.intervals.Select.TheVariants.{Link, Sink}, c104_plan.specs.declared.ports.Port.Port}
+use Rattle.std.specs.Prelude.{List, None, Option, Some, [], false, length, option_map, true, ℕ, ◌++◌, ◌<◌, ◌↔◌, ◌∷◌, ◌≡◌, ◌≢◌, ◌⊎◌}
 
 -- header h may leave from input p by link o of the same switch, one of the group that it selects
 abbrev pub MayLeaveBy : Routes → ℕ → SwitchPort → ℕ → Type 0
@@ -29,9 +24,9 @@ IsStuck routes h t p =
 -- taken; or to an input that it hasn't met, and from there the next holds. The walk is all inputs that it meets.
 abbrev pub GoesWrongOver : (List SwitchPort → SwitchPort → Type 0) → Goal → WalkFault → List SwitchPort → List ℕ → List SwitchPort → Option Port → Type 0
 GoesWrongOver next t why walk links met None = (links ≡ []) × (why ≡ DeadEnd) × (walk ≡ met)
-GoesWrongOver next t why walk links met (Some (port.Terminal u)) =
+GoesWrongOver next t why walk links met (Some (Port.Terminal u)) =
     (links ≡ []) × (why ≡ WrongEnd) × (walk ≡ met) × IsForeign t u
-GoesWrongOver next t why walk links met (Some (port.Switch s i)) =
+GoesWrongOver next t why walk links met (Some (Port.Switch s i)) =
     ((links ≡ []) × (why ≡ Loop) × (walk ≡ met ++ (port_of s i ∷ [])) × (is_met (port_of s i) met ≡ true))
     ⊎ ((is_met (port_of s i) met ≡ false) × next (met ++ (port_of s i ∷ [])) (port_of s i))
 
@@ -40,7 +35,7 @@ GoesWrongOver next t why walk links met (Some (port.Switch s i)) =
 abbrev pub GoesWrong : Routes → ℕ → Goal → WalkFault → List SwitchPort → List ℕ → List SwitchPort → SwitchPort → Type 0
 GoesWrong routes h t why walk [] met p = (why ≡ DeadEnd) × (walk ≡ met) × IsStuck routes h t p
 GoesWrong routes h t why walk (o ∷ links) met p =
-    MayLeaveBy routes h p o × GoesWrongOver (GoesWrong routes h t why walk links) t why walk links met (routes.peer (port.Switch p.switch o))
+    MayLeaveBy routes h p o × GoesWrongOver (GoesWrong routes h t why walk links) t why walk links met (routes.peer (Port.Switch p.switch o))
 
 -- the same from input p, where its walk begins. One that should come nowhere is to be dropped there.
 abbrev pub GoesWrongFrom : Routes → ℕ → Option Goal → SwitchPort → WalkFault → List SwitchPort → List ℕ → Type 0

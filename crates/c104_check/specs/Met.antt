@@ -1,8 +1,6 @@
 -- Inputs that are met, and marks at their places.
-use Rattle.std.specs.Prelude.{◌≡◌, ◌<◌, ◌/◌, ◌&&◌, Bool, true, false, List, length, nat_lt, slice_index_or, slice_set, if◌then◌else◌}
-use Rattle.c104_regs.specs.declared.registers.TheConstants.{LINKS}
-use Rattle.c104_check.specs.Routes.{SwitchPort, place}
-use Rattle.c104_check.specs.Walks.{is_met}
+use Rattle.{c104_check.specs.{Routes.{SwitchPort, place}, Walks.is_met}, c104_regs.specs.declared.registers.TheConstants.LINKS}
+use Rattle.std.specs.Prelude.{Bool, List, false, if◌then◌else◌, length, nat_lt, slice_index_or, slice_set, true, ◌&&◌, ◌/◌, ◌<◌, ◌≡◌}
 
 -- the places of inputs that have marks
 abbrev pub HasMark : List Bool → SwitchPort → Type 0

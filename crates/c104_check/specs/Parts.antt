@@ -3,16 +3,12 @@
 --     IsReachedAsOwn routes h p, IsTakenAsOwn routes h q      in the phase by own headers, h may come to input p, and leave such an input by link q
 --     IsReachedAsRandom routes r p, IsTakenAsRandom routes r q      the same in the phase by random headers
 --     IsDiscardedAt routes r q      and there it may be discarded, at portal q
-use Rattle.std.specs.Prelude.{◌≡◌, ◌↔◌, ℕ, ◌<◌, ◌+◌, ◌⊎◌, Bool, true, false, List, length, Some, None}
+use Rattle.c104_check.specs.{Checks.{IsRefusedAt, Shown, fault_of}, FirstWalks.IsFirstWalk, Reach.MayTake, Routes.{Homes, IsEntryOf}}
+use Rattle.c104_check.specs.Routes.{IsPortal, IsRandomAt, IsRandomIn, IsRandomized, Lands, LandsBehind, Reaches, Routes, SwitchPort}
+use Rattle.c104_check.specs.{Routes.{header_count, most_hops, owner, select}, Shown.IsShownRandom, Walks.{WalkFault, is_met}}
+use Rattle.c104_check.specs.declared.{faults.CheckFault.CheckFault, walks.Goal.TheVariants.Portal}
 use Rattle.c104_interval.specs.declared.intervals.Select.TheVariants.{Discard}
-use Rattle.c104_check.specs.declared.faults.CheckFault.{CheckFault}
-use Rattle.c104_check.specs.declared.walks.Goal.TheVariants.{Portal}
-use Rattle.c104_check.specs.Checks.{IsRefusedAt, Shown, fault_of}
-use Rattle.c104_check.specs.FirstWalks.{IsFirstWalk}
-use Rattle.c104_check.specs.Reach.{MayTake}
-use Rattle.c104_check.specs.Routes.{Homes, IsEntryOf, IsPortal, IsRandomAt, IsRandomIn, IsRandomized, Lands, LandsBehind, Reaches, Routes, SwitchPort, header_count, most_hops, owner, select}
-use Rattle.c104_check.specs.Shown.{IsShownRandom}
-use Rattle.c104_check.specs.Walks.{WalkFault, is_met}
+use Rattle.std.specs.Prelude.{Bool, List, None, Some, false, length, true, ℕ, ◌+◌, ◌<◌, ◌↔◌, ◌≡◌, ◌⊎◌}
 
 -- own headers that come in at an entry begin at input p: there, where no random headers are put before them, and else
 -- behind it, at each portal

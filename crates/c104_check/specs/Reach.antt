@@ -1,17 +1,12 @@
 -- Where a header may come from all terminals, and by which links it may go on.
 --     IsReached routes h p      header h may come to input p from some terminal
 --     IsTaken routes h q      and by link q it may leave such an input
-use Rattle.std.specs.Prelude.{◌≡◌, ℕ, ◌<◌, ◌≤◌, ◌&&◌, true, List, [], ◌∷◌, ◌++◌, length, nat_le, slice_get, Option, Some, None, if◌then◌else◌}
-use Rattle.std.specs.List.{AllByRecursion, IsDistinct}
-use Rattle.c104_crossbar.specs.declared.group.Group.{Group}
-use Rattle.c104_interval.specs.declared.intervals.Select.TheVariants.{Link}
-use Rattle.c104_regs.specs.declared.registers.TheConstants.{LINKS}
-use Rattle.c104_plan.specs.declared.ports.Port.{Port}
-use Rattle.c104_plan.specs.declared.ports.Port.TheVariants as port
-use Rattle.c104_check.specs.Routes.{IsEntryOf, Routes, SwitchPort, header_count, is_in_group, select}
-use Rattle.c104_check.specs.Shown.{Follows}
-use Rattle.c104_check.specs.Trails.{Checked, IsInput, Reaches, routes_in}
-use Rattle.c104_check.specs.Walks.{is_met, is_port, port_of}
+use Rattle.c104_check.specs.{Routes.{IsEntryOf, Routes, SwitchPort, header_count, is_in_group, select}, Shown.Follows, Trails.Checked}
+use Rattle.c104_check.specs.{Trails.{IsInput, Reaches, routes_in}, Walks.{is_met, is_port, port_of}}
+use Rattle.{c104_crossbar.specs.declared.group.Group.Group, c104_interval.specs.declared.intervals.Select.TheVariants.Link}
+use Rattle.{c104_plan.specs.declared.ports.Port.Port, c104_regs.specs.declared.registers.TheConstants.LINKS}
+use Rattle.std.specs.{List.{AllByRecursion, IsDistinct}, Prelude.{List, None, Option, Some, [], if◌then◌else◌, length, nat_le, slice_get}}
+use Rattle.std.specs.Prelude.{true, ℕ, ◌&&◌, ◌++◌, ◌<◌, ◌∷◌, ◌≡◌, ◌≤◌}
 
 -- a header in the network of an image for a plan
 pub record NetworkHeader : Type 0 where
@@ -61,8 +56,8 @@ with_input inputs p = if is_met p inputs then inputs else inputs ++ p ∷ []
 -- and so does what a link is wired to, where that is an input
 abbrev pub with_peer : List SwitchPort → Option Port → List SwitchPort
 with_peer inputs None = inputs
-with_peer inputs (Some (port.Terminal t)) = inputs
-with_peer inputs (Some (port.Switch s i)) = with_input inputs (port_of s i)
+with_peer inputs (Some (Port.Terminal t)) = inputs
+with_peer inputs (Some (Port.Switch s i)) = with_input inputs (port_of s i)
 
 -- a group of links is the one that a header selects at an input
 pub record IsSelected (routes : Routes) (h : ℕ) (p : SwitchPort) (group : Group) : Type 0 where

@@ -1,13 +1,9 @@
 -- Why a header is refused at an entry, as a relation: what one can see of a walk without computing any.
-use Rattle.std.specs.Prelude.{◌≡◌, ◌≢◌, ℕ, ⊤, ◌⊎◌, true, false, List, [], ◌∷◌, ◌++◌, Option, Some, None}
-use Rattle.c104_interval.specs.declared.intervals.Select.TheVariants.{Link, Discard, Sink}
-use Rattle.c104_plan.specs.declared.ports.Port.{Port}
-use Rattle.c104_plan.specs.declared.ports.Port.TheVariants as port
 pub use Rattle.c104_check.specs.Routes.{Follows, MayLeave}
-use Rattle.c104_check.specs.Routes.{Arrives, Homes, Leads, Roams, Routes, SwitchPort, select}
-use Rattle.c104_check.specs.Walks.{Goal, WalkFault, is_met}
-use Rattle.c104_check.specs.declared.walks.Goal.TheVariants.{Owner, Portal}
-use Rattle.c104_check.specs.declared.faults.WalkFault.TheVariants.{WrongEnd, DeadEnd, Loop, Stray}
+use Rattle.c104_check.specs.{Routes.{Arrives, Homes, Leads, Roams, Routes, SwitchPort, select}, Walks.{Goal, WalkFault, is_met}}
+use Rattle.c104_check.specs.declared.{faults.WalkFault.TheVariants.{DeadEnd, Loop, Stray, WrongEnd}, walks.Goal.TheVariants.{Owner, Portal}}
+use Rattle.{c104_interval.specs.declared.intervals.Select.TheVariants.{Discard, Link, Sink}, c104_plan.specs.declared.ports.Port.Port}
+use Rattle.std.specs.Prelude.{List, None, Option, Some, [], false, true, ℕ, ⊤, ◌++◌, ◌∷◌, ◌≡◌, ◌≢◌, ◌⊎◌}
 
 -- it should come to a portal, and p is one
 abbrev pub IsPortalFor : Routes → ℕ → Goal → SwitchPort → Type 0
@@ -26,7 +22,7 @@ IsForeign Portal u = ⊤
 
 -- a link of the group leads to such a terminal
 abbrev pub IsWrong : Routes → ℕ → Goal → SwitchPort → Type 0
-IsWrong routes h t p = (u : ℕ) × IsForeign t u × MayLeave routes h p (Some (port.Terminal u))
+IsWrong routes h t p = (u : ℕ) × IsForeign t u × MayLeave routes h p (Some (Port.Terminal u))
 
 -- a walk that ends at p is refused by going on over these inputs. Each follows the one before, and none
 -- was met before, but for the last where the fault is a loop; else the last is dead, or wrong.

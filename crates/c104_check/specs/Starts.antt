@@ -1,21 +1,12 @@
 -- The starts of terminals, in order.
-use Rattle.std.specs.Prelude.{◌≡◌, ℕ, ◌<◌, ◌⊎◌, ◌&&◌, if◌then◌else◌, Bool, true, false, List, [], ◌∷◌, ◌++◌, length, nat_le, slice_get, slice_index_or, take, Option, Some, None, ⊤}
-use Rattle.c104_plan.specs.declared.ports.Port.{Port}
-use Rattle.c104_plan.specs.declared.ports.Port.TheVariants as port
-use Rattle.std.specs.List.{AllByRecursion, list_any}
-use Rattle.c104_interval.specs.declared.intervals.Select.TheVariants.{Discard}
-use Rattle.c104_check.specs.Breaks.{IsWired}
-use Rattle.c104_check.specs.Checks.{IsRandomRefused}
-use Rattle.c104_check.specs.FirstWalks.{IsFirstWalk}
-use Rattle.c104_check.specs.declared.walks.Goal.TheVariants.{Portal}
-use Rattle.c104_check.specs.Portals.{met_from, portals_met}
-use Rattle.c104_check.specs.Parts.{AreJust, BeginsAt, HomesFirst, IsReachedAsOwn, IsReachedAsRandom}
-use Rattle.c104_check.specs.Reach.{with_input}
-use Rattle.c104_check.specs.Refusals.{AllLand, Refusal, Start}
-use Rattle.c104_check.specs.Routes.{Homes, IsEntryOf, IsPortal, IsRandomAt, IsRandomized, PortalLands, Reaches, Routes, SwitchPort, TerminalLands, header_count, most_hops, place, select}
-use Rattle.c104_check.specs.Trails.{IsInput, IsNetwork}
-use Rattle.c104_check.specs.Shown.{IsShownRandom}
-use Rattle.c104_check.specs.Walks.{is_met, is_port}
+use Rattle.c104_check.specs.{Breaks.IsWired, Checks.IsRandomRefused, FirstWalks.IsFirstWalk, Parts.{AreJust, BeginsAt, HomesFirst}}
+use Rattle.c104_check.specs.{Parts.{IsReachedAsOwn, IsReachedAsRandom}, Portals.{met_from, portals_met}, Reach.with_input, Refusals.AllLand}
+use Rattle.c104_check.specs.{Refusals.{Refusal, Start}, Routes.{Homes, IsEntryOf, IsPortal, IsRandomAt, IsRandomized, PortalLands, Reaches}}
+use Rattle.c104_check.specs.{Routes.{Routes, SwitchPort, TerminalLands, header_count, most_hops, place, select}, Shown.IsShownRandom}
+use Rattle.c104_check.specs.{Trails.{IsInput, IsNetwork}, Walks.{is_met, is_port}, declared.walks.Goal.TheVariants.Portal}
+use Rattle.{c104_interval.specs.declared.intervals.Select.TheVariants.Discard, c104_plan.specs.declared.ports.Port.Port}
+use Rattle.std.specs.{List.{AllByRecursion, list_any}, Prelude.{Bool, List, None, Option, Some, [], false, if◌then◌else◌, length, nat_le}}
+use Rattle.std.specs.Prelude.{slice_get, slice_index_or, take, true, ℕ, ⊤, ◌&&◌, ◌++◌, ◌<◌, ◌∷◌, ◌≡◌, ◌⊎◌}
 
 -- all random headers of an entry come to portals
 abbrev pub AllHome : Routes → SwitchPort → Type 0
@@ -174,8 +165,8 @@ earlier (Some random) (Some own) = if nat_le random.shown.entry own.shown.entry 
 -- a link is wired to an input
 abbrev pub LeadsToInput : Option Port → Type 0
 LeadsToInput None = ⊥
-LeadsToInput (Some (port.Terminal t)) = ⊥
-LeadsToInput (Some (port.Switch s i)) = ⊤
+LeadsToInput (Some (Port.Terminal t)) = ⊥
+LeadsToInput (Some (Port.Switch s i)) = ⊤
 
 -- what the random headers of an entry meet joined those of these portals that were known, which these starts cover
 pub record HaveJoined (routes : Routes) (p : SwitchPort) (starts : List Start) (known : ℕ) (portals : List SwitchPort) : Type 0 where

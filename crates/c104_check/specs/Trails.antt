@@ -1,15 +1,10 @@
 -- What is known of a walk while it is walked.
-use Rattle.std.specs.Prelude.{◌≡◌, ℕ, ◌-◌, ◌<◌, ◌≤◌, List, length, map, slice_get, Option, Some}
-use Rattle.std.specs.List.{AllByRecursion, IsDistinct, range_with_len}
-use Rattle.c104_regs.specs.declared.registers.TheConstants.{LINKS}
-use Rattle.c104_regs.specs.declared.settings.Settings.{Settings}
-use Rattle.c104_plan.specs.declared.ports.Port.{Port}
-use Rattle.c104_plan.specs.declared.ports.Port.TheVariants as port
-use Rattle.c104_plan.specs.Plans.{Plan, most_switches}
-use Rattle.c104_plan.specs.PlanImage.{AreSettings, Image}
 pub use Rattle.c104_check.specs.Routes.{Reaches}
-use Rattle.c104_check.specs.Routes.{IsEntryOf, Routes, SwitchPort, routes_of, to_port}
-use Rattle.c104_check.specs.Walks.{Goal, is_port, ways}
+use Rattle.c104_check.specs.{Routes.{IsEntryOf, Routes, SwitchPort, routes_of, to_port}, Walks.{Goal, is_port, ways}}
+use Rattle.c104_plan.specs.{PlanImage.{AreSettings, Image}, Plans.{Plan, most_switches}, declared.ports.Port.Port}
+use Rattle.c104_regs.specs.declared.{registers.TheConstants.LINKS, settings.Settings.Settings}
+use Rattle.std.specs.{List.{AllByRecursion, IsDistinct, range_with_len}, Prelude.{List, Option, Some, length, map, slice_get, ℕ, ◌-◌, ◌<◌}}
+use Rattle.std.specs.Prelude.{◌≡◌, ◌≤◌}
 
 -- a plan and an image that are checked, and what of them decides where packets go
 pub record Checked : Type 0 where
@@ -25,7 +20,7 @@ IsInput n p = (p.switch < n) × (p.link < LINKS)
 
 -- what a run of count links from one on is wired to
 abbrev pub run_peers : Routes → ℕ → ℕ → ℕ → List (Option Port)
-run_peers routes s from count = map (λ o. routes.peer (port.Switch s o)) (range_with_len from count)
+run_peers routes s from count = map (λ o. routes.peer (Port.Switch s o)) (range_with_len from count)
 
 -- header h may leave input p by the links from one up to an end, none of them past the switch's last
 pub record AreWays (routes : Routes) (h : ℕ) (t : Goal) (p : SwitchPort) (first end : ℕ) : Type 0 where

@@ -1,10 +1,8 @@
 -- Lines that are written one number after the other, and digits.
-use Rattle.std.proofs.Common.{◌≡◌, ◌+◌, ◌-◌, ◌^◌, ◌∙◌, ℕ, zero, suc, false, List, [], ◌++◌, length, replicate, flat_map, ap, sym, arith}
-use Rattle.std.specs.Fmt.{char_count, digits, format_spec, padded_integral}
-use Rattle.std.specs.List.{range_with_len}
-use Rattle.std.proofs.lemmas.List.{append-nil}
+use Rattle.{c104_commands.specs.ImageTexts.hex_text, std.proofs.Common.{List, [], ap, arith, false, flat_map, length, replicate, suc, sym}}
+use Rattle.std.{proofs.{Common.{zero, ℕ, ◌++◌, ◌+◌, ◌-◌, ◌^◌, ◌∙◌, ◌≡◌}, lemmas.List.append-nil}, specs.Fmt.{char_count, digits}}
+use Rattle.std.specs.{Fmt.{format_spec, padded_integral}, List.range_with_len}
 use mathlib.Core.List.{append_assoc}
-use Rattle.c104_commands.specs.ImageTexts.{hex_text}
 
 lines_from : (f : ℕ → List ℕ) (n a : ℕ) → flat_map f (range_with_len a (suc n)) ≡ flat_map f (range_with_len a n) ++ f (a + n)
 lines_from f zero a = append-nil (f a) ∙ ap f (omega arith)

@@ -1,14 +1,8 @@
 -- What a check prints.
-use Rattle.std.specs.Prelude.{ℕ, List, [], ◌∷◌, ◌++◌, flat_map, codes}
-use Rattle.std.specs.Fmt.{decimal}
-use Rattle.c104_plan.specs.Plans.{Plan}
-use Rattle.c104_plan.specs.PortTexts.{port_text, terminal_name}
-use Rattle.c104_check.specs.Routes.{to_port}
-use Rattle.c104_check.specs.declared.ports.SwitchPort.{SwitchPort}
-use Rattle.c104_check.specs.CheckFaults.{check_fault_name, check_fault_number}
-use Rattle.c104_check.specs.declared.faults.CheckFault.{CheckFault}
-use Rattle.c104_check.specs.declared.faults.CheckFault.TheVariants as fault
-use Rattle.c104_check.specs.declared.faults.Shown.{Shown}
+use Rattle.c104_check.specs.{CheckFaults.{check_fault_name, check_fault_number}, Routes.to_port, declared.faults.CheckFault.CheckFault}
+use Rattle.{c104_check.specs.declared.{faults.Shown.Shown, ports.SwitchPort.SwitchPort}, c104_plan.specs.{Plans.Plan, PortTexts.port_text}}
+use Rattle.c104_plan.specs.PortTexts.{terminal_name}
+use Rattle.std.specs.{Fmt.decimal, Prelude.{List, [], codes, flat_map, ℕ, ◌++◌, ◌∷◌}}
 
 -- the line of labels that are accepted
 abbrev pub accepted_text : List ℕ
@@ -25,16 +19,16 @@ shown_text plan shown =
 
 -- where a fault is; out of memory has no place
 abbrev pub check_fault_place : Plan → CheckFault → List ℕ
-check_fault_place plan (fault.RangesOverlap t u) = terminal_name plan t ++ (codes " " ++ terminal_name plan u)
-check_fault_place plan (fault.LabelTooLarge t) = terminal_name plan t
-check_fault_place plan (fault.MixedHeaders p) = port_text plan (to_port p)
-check_fault_place plan (fault.DeleteInside p) = port_text plan (to_port p)
-check_fault_place plan (fault.RandomInside p) = port_text plan (to_port p)
-check_fault_place plan (fault.WrongEnd shown) = shown_text plan shown
-check_fault_place plan (fault.DeadEnd shown) = shown_text plan shown
-check_fault_place plan (fault.Loop shown) = shown_text plan shown
-check_fault_place plan (fault.Stray shown) = shown_text plan shown
-check_fault_place plan fault.NoMemory = []
+check_fault_place plan (CheckFault.RangesOverlap t u) = terminal_name plan t ++ (codes " " ++ terminal_name plan u)
+check_fault_place plan (CheckFault.LabelTooLarge t) = terminal_name plan t
+check_fault_place plan (CheckFault.MixedHeaders p) = port_text plan (to_port p)
+check_fault_place plan (CheckFault.DeleteInside p) = port_text plan (to_port p)
+check_fault_place plan (CheckFault.RandomInside p) = port_text plan (to_port p)
+check_fault_place plan (CheckFault.WrongEnd shown) = shown_text plan shown
+check_fault_place plan (CheckFault.DeadEnd shown) = shown_text plan shown
+check_fault_place plan (CheckFault.Loop shown) = shown_text plan shown
+check_fault_place plan (CheckFault.Stray shown) = shown_text plan shown
+check_fault_place plan CheckFault.NoMemory = []
 
 -- the line of labels that are refused, by the names of the plan
 abbrev pub check_fault_text : Plan → CheckFault → List ℕ

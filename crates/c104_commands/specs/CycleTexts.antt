@@ -1,12 +1,7 @@
 -- What `cycles` prints of channel dependencies, by the names of a plan.
-use Rattle.std.specs.Prelude.{ℕ, List, ◌∷◌, ◌++◌, flat_map, codes}
-use Rattle.std.specs.Fmt.{decimal}
-use Rattle.c104_plan.specs.Plans.{Plan}
-use Rattle.c104_plan.specs.PortTexts.{port_text}
-use Rattle.c104_check.specs.Routes.{to_port}
-use Rattle.c104_check.specs.declared.cycles.ChannelDependency.{ChannelDependency}
-use Rattle.c104_check.specs.declared.edges.DependencyEdge.{DependencyEdge}
-use Rattle.c104_check.specs.declared.ports.SwitchPort.{SwitchPort}
+use Rattle.c104_check.specs.{Routes.to_port, declared.{cycles.ChannelDependency.ChannelDependency, edges.DependencyEdge.DependencyEdge}}
+use Rattle.{c104_check.specs.declared.ports.SwitchPort.SwitchPort, c104_plan.specs.{Plans.Plan, PortTexts.port_text}}
+use Rattle.std.specs.{Fmt.decimal, Prelude.{List, codes, flat_map, ℕ, ◌++◌, ◌∷◌}}
 
 -- the line of a network without a cycle
 abbrev pub acyclic_text : List ℕ

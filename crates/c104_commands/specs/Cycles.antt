@@ -1,15 +1,9 @@
 -- What `cycles` prints of a network: whether packets can wait for one another in a cycle.
-use Rattle.std.specs.Prelude.{ℕ, ◌≡◌, ◌⊎◌, Bool, true, false, List, ◌++◌}
+use Rattle.c104_check.specs.{ChannelDependencies.IsAcyclic, Edges.AreAllEdges, FirstCycles.IsFirstCycle, Routes.{IsAccepted, routes_of}}
+use Rattle.c104_check.specs.declared.{cycles.ChannelDependency.ChannelDependency, edges.DependencyEdge.DependencyEdge}
+use Rattle.{c104_commands.specs.{Checks.IsRefusedBy, CycleTexts.{acyclic_text, cycle_text, edges_text}}, c104_plan.specs.PlanImage.Image}
 use Rattle.c104_plan.specs.Plans.{Plan}
-use Rattle.c104_plan.specs.PlanImage.{Image}
-use Rattle.c104_check.specs.ChannelDependencies.{IsAcyclic}
-use Rattle.c104_check.specs.declared.cycles.ChannelDependency.{ChannelDependency}
-use Rattle.c104_check.specs.Edges.{AreAllEdges}
-use Rattle.c104_check.specs.declared.edges.DependencyEdge.{DependencyEdge}
-use Rattle.c104_check.specs.FirstCycles.{IsFirstCycle}
-use Rattle.c104_check.specs.Routes.{IsAccepted, routes_of}
-use Rattle.c104_commands.specs.Checks.{IsRefusedBy}
-use Rattle.c104_commands.specs.CycleTexts.{acyclic_text, cycle_text, edges_text}
+use Rattle.std.specs.Prelude.{Bool, List, false, true, ℕ, ◌++◌, ◌≡◌, ◌⊎◌}
 
 -- the line on a network, by whether it has a cycle: that it has none, or the one that is told
 abbrev pub TellsCycle : Plan → Image → List ℕ → Bool → Type 0

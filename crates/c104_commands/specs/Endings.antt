@@ -3,17 +3,10 @@
 -- network, and whether it refuses that, is a relation of its own, `prints plan image text refused`.
 --     CommandEnds prints due held holds status      of a description that is read
 --     CommandRuns prints description held holds status      of the description that a reader has left
-use Rattle.std.specs.Prelude.{ℕ, ◌≡◌, ⊤, Bool, true, false, List, Option, Some, None, Result, Ok, Err}
-use Rattle.std.specs.Io.KnownBytes.{Appends, Keeps}
-use Rattle.c104_plan.specs.Plans.{Plan}
-use Rattle.c104_plan.specs.PlanImage.{Image}
-use Rattle.c104_describe.specs.declared.faults.PlanFault.{PlanFault}
-use Rattle.c104_describe.specs.PlanText.{read_description}
-use Rattle.c104_stream.specs.Writing.{AppendsPrefix}
-use Rattle.c104_commands.specs.Setups.{ComesTo, SetupResult, refused_text}
-use Rattle.c104_commands.specs.declared.setups.SetupFault.{SetupFault}
-use Rattle.c104_commands.specs.declared.status.Status.{Status}
-use Rattle.c104_commands.specs.declared.status.Status.TheVariants as status
+use Rattle.c104_commands.specs.{Setups.{ComesTo, SetupResult, refused_text}, declared.{setups.SetupFault.SetupFault, status.Status.Status}}
+use Rattle.{c104_describe.specs.{PlanText.read_description, declared.faults.PlanFault.PlanFault}, c104_plan.specs.PlanImage.Image}
+use Rattle.{c104_plan.specs.Plans.Plan, c104_stream.specs.Writing.AppendsPrefix}
+use Rattle.std.specs.{Io.KnownBytes.{Appends, Keeps}, Prelude.{Bool, Err, List, None, Ok, Option, Result, Some, false, true, ℕ, ⊤, ◌≡◌}}
 
 -- what a command prints, by what its description comes to, and whether the exit status is 1: the line that tells why
 -- there is no network, or else what it prints of the network
@@ -24,15 +17,15 @@ CommandPrints prints (Ok both) text refused = prints both.0 both.1 text refused
 -- what it has written when it ends so: all that it prints; or, where the writer failed, a prefix of that; and where
 -- the reader failed, or it is out of memory, nothing
 abbrev pub CommandEnds : (Plan → Image → List ℕ → Bool → Type 0) → Result Plan PlanFault → Option (List ℕ) → Option (List ℕ) → Status → Type 0
-CommandEnds prints due held holds status.Done =
+CommandEnds prints due held holds Status.Done =
     (setup : SetupResult) × ComesTo due setup × (text : List ℕ) × CommandPrints prints setup text false × Appends held holds text
-CommandEnds prints due held holds status.Refused =
+CommandEnds prints due held holds Status.Refused =
     (setup : SetupResult) × ComesTo due setup × (text : List ℕ) × CommandPrints prints setup text true × Appends held holds text
-CommandEnds prints due held holds (status.CannotRead n) = (n ≡ 0) × Keeps held holds
-CommandEnds prints due held holds status.CannotWrite =
+CommandEnds prints due held holds (Status.CannotRead n) = (n ≡ 0) × Keeps held holds
+CommandEnds prints due held holds Status.CannotWrite =
     (setup : SetupResult) × ComesTo due setup × (text : List ℕ) × (refused : Bool)
     × CommandPrints prints setup text refused × AppendsPrefix held holds text
-CommandEnds prints due held holds status.NoMemory = Keeps held holds
+CommandEnds prints due held holds Status.NoMemory = Keeps held holds
 
 -- the same of the description that a reader has left
 abbrev pub CommandRuns : (Plan → Image → List ℕ → Bool → Type 0) → Option (List ℕ) → Option (List ℕ) → Option (List ℕ) → Status → Type 0
@@ -47,10 +40,10 @@ IsSetup (Some description) setup = ComesTo (read_description description) setup
 -- how any command ends that got no network: a read failed, it is out of memory, or the description or its labels are refused
 abbrev pub EndsBefore : Option (List ℕ) → Option (List ℕ) → Option (List ℕ) → Status → Type 0
 EndsBefore None held holds status = ⊤
-EndsBefore (Some description) held holds (status.CannotRead n) = (n ≡ 0) × Keeps held holds
-EndsBefore (Some description) held holds status.NoMemory = Keeps held holds
-EndsBefore (Some description) held holds status.Done = ⊥
-EndsBefore (Some description) held holds status.Refused =
+EndsBefore (Some description) held holds (Status.CannotRead n) = (n ≡ 0) × Keeps held holds
+EndsBefore (Some description) held holds Status.NoMemory = Keeps held holds
+EndsBefore (Some description) held holds Status.Done = ⊥
+EndsBefore (Some description) held holds Status.Refused =
     (why : SetupFault) × ComesTo (read_description description) (Err why) × Appends held holds (refused_text why)
-EndsBefore (Some description) held holds status.CannotWrite =
+EndsBefore (Some description) held holds Status.CannotWrite =
     (why : SetupFault) × ComesTo (read_description description) (Err why) × AppendsPrefix held holds (refused_text why)

@@ -1,12 +1,8 @@
 -- What `label` prints: the ranges and the registers of an image, by the names of a plan.
-use Rattle.std.specs.Prelude.{ℕ, ◌-◌, false, List, [], ◌++◌, length, replicate, flat_map, codes, slice_get, Option, Some, None}
-use Rattle.std.specs.List.{range_with_len}
-use Rattle.std.specs.Fmt.{decimal, digits}
+use Rattle.{c104_plan.specs.{PlanImage.Image, Plans.Plan, PortTexts.{switch_name, terminal_name}}, c104_regs.specs.KeptValues.kept_values}
 use Rattle.c104_regs.specs.declared.settings.Settings.{Settings}
-use Rattle.c104_regs.specs.KeptValues.{kept_values}
-use Rattle.c104_plan.specs.Plans.{Plan}
-use Rattle.c104_plan.specs.PlanImage.{Image}
-use Rattle.c104_plan.specs.PortTexts.{switch_name, terminal_name}
+use Rattle.std.specs.{Fmt.{decimal, digits}, List.range_with_len, Prelude.{List, None, Option, Some, [], codes, false, flat_map, length}}
+use Rattle.std.specs.Prelude.{replicate, slice_get, ℕ, ◌++◌, ◌-◌}
 
 -- a number in lower-case hexadecimal, padded in front with zeros (0x30) to at least a given number of digits
 unfoldable pub hex_text : ℕ → ℕ → List ℕ

@@ -1,12 +1,7 @@
 -- What `label --rows` prints of a network: the description of the plan by hand that has the image.
-use Rattle.std.specs.Prelude.{ℕ, ◌≡◌, ◌≢◌, ◌≤◌, Bool, true, false, List, codes, length, Ok}
-use Rattle.c104_plan.specs.Plans.{Plan}
-use Rattle.c104_plan.specs.PlanImage.{Image, hand_image}
-use Rattle.c104_describe.specs.PlanPrint.{plan_text}
-use Rattle.c104_describe.specs.PlanText.{read_description}
-use Rattle.c104_plan.specs.TextCut.{most_bytes}
-use Rattle.c104_plan.specs.RowPlans.{IsOfNetwork, row_plan}
-use Rattle.c104_plan.specs.declared.plans.Shape.TheVariants.{Hand}
+use Rattle.{c104_describe.specs.{PlanPrint.plan_text, PlanText.read_description}, c104_plan.specs.PlanImage.{Image, hand_image}}
+use Rattle.c104_plan.specs.{Plans.Plan, RowPlans.{IsOfNetwork, row_plan}, TextCut.most_bytes, declared.plans.Shape.TheVariants.Hand}
+use Rattle.std.specs.Prelude.{Bool, List, Ok, codes, false, length, true, ℕ, ◌≡◌, ◌≢◌, ◌≤◌}
 
 -- that description, unless it is too long to be read, is read as a plan of the same network, which isn't labelled anew,
 -- since its own lines give the image

@@ -1,22 +1,12 @@
 -- Pictures, by what is marked in them.
 --     IsPicture plan image marks drawing      a picture is that of the network of an image for a plan, with these marks
 --     PrintsPicture marks plan image text refused      a network isn't refused by `draw`, and has a picture
-use Rattle.std.specs.Prelude.{ℕ, ◌≡◌, ◌≢◌, ◌⊎◌, Bool, false, List, map, Option, Some, None, MatchOption}
-use Rattle.c104_plan.specs.Plans.{Plan}
-use Rattle.c104_plan.specs.PlanImage.{Image}
-use Rattle.c104_check.specs.ChannelDependencies.{IsAcyclic}
-use Rattle.c104_check.specs.Checks.{IsCause}
-use Rattle.c104_check.specs.FirstCycles.{IsFirstCycle}
-use Rattle.c104_check.specs.Parts.{IsNeverRefused, TellsFirst}
-use Rattle.c104_check.specs.Routes.{IsAccepted, routes_of}
-use Rattle.c104_check.specs.declared.cycles.ChannelDependency.{ChannelDependency}
-use Rattle.c104_check.specs.declared.faults.CheckFault.{CheckFault}
-use Rattle.c104_check.specs.declared.faults.CheckFault.TheVariants as fault
-use Rattle.c104_check.specs.declared.ports.SwitchPort.{SwitchPort}
-use Rattle.c104_draw.specs.CycleDrawings.{IsCycleDrawing}
-use Rattle.c104_draw.specs.Edges.{Drawing, IsDrawing, marking_of}
-use Rattle.c104_commands.specs.declared.pictures.Marks.{Marks}
-use Rattle.c104_commands.specs.declared.pictures.Marks.TheVariants as marks
+use Rattle.c104_check.specs.{ChannelDependencies.IsAcyclic, Checks.IsCause, FirstCycles.IsFirstCycle, Parts.{IsNeverRefused, TellsFirst}}
+use Rattle.c104_check.specs.{Routes.{IsAccepted, routes_of}, declared.cycles.ChannelDependency.ChannelDependency}
+use Rattle.c104_check.specs.declared.{faults.CheckFault.CheckFault, ports.SwitchPort.SwitchPort}
+use Rattle.{c104_commands.specs.declared.pictures.Marks.Marks, c104_draw.specs.{CycleDrawings.IsCycleDrawing, Edges.{Drawing, IsDrawing}}}
+use Rattle.{c104_draw.specs.Edges.marking_of, c104_plan.specs.{PlanImage.Image, Plans.Plan}}
+use Rattle.std.specs.Prelude.{Bool, List, MatchOption, None, Option, Some, false, map, ℕ, ◌≡◌, ◌≢◌, ◌⊎◌}
 
 -- a picture in which nothing is marked
 abbrev pub IsPlainPicture : Plan → Image → Drawing → Type 0
@@ -40,14 +30,14 @@ IsAcceptedPicture plan image drawing = (IsAcyclic (routes_of plan image) × IsPl
 
 -- that of a network whose labels are refused: nothing is marked
 abbrev pub IsRefusedPicture : Plan → Image → Drawing → Type 0
-IsRefusedPicture plan image drawing = (why : CheckFault) × IsCause (routes_of plan image) why × (why ≢ fault.NoMemory)
+IsRefusedPicture plan image drawing = (why : CheckFault) × IsCause (routes_of plan image) why × (why ≢ CheckFault.NoMemory)
     × IsPlainPicture plan image drawing
 
 -- a picture, by what is marked
 abbrev pub IsPicture : Plan → Image → Marks → Drawing → Type 0
-IsPicture plan image marks.Nothing drawing = IsPlainPicture plan image drawing
-IsPicture plan image (marks.Header header) drawing = IsHeaderPicture plan image header drawing
-IsPicture plan image marks.Cycle drawing =
+IsPicture plan image Marks.Nothing drawing = IsPlainPicture plan image drawing
+IsPicture plan image (Marks.Header header) drawing = IsHeaderPicture plan image header drawing
+IsPicture plan image Marks.Cycle drawing =
     IsRefusedPicture plan image drawing ⊎ (IsAccepted (routes_of plan image) × IsAcceptedPicture plan image drawing)
 
 -- a network isn't refused by `draw`, and has a picture with these marks; nothing is said of the text

@@ -1,23 +1,11 @@
 -- What `traffic` prints of a network: a script, or why the network can't have the pattern; and how it ends.
 --     PrintsTraffic name target traffic plan image text refused
-use Rattle.std.specs.Prelude.{ℕ, ◌≡◌, ◌≢◌, ◌<◌, Bool, true, false, List, length, Option}
-use Rattle.std.specs.Io.KnownBytes.{Appends, Keeps}
-use Rattle.c104_plan.specs.Plans.{Plan}
-use Rattle.c104_plan.specs.PlanImage.{Image}
-use Rattle.c104_stream.specs.Writing.{AppendsPrefix}
-use Rattle.c104_traffic.specs.Directions.{AreDirected}
-use Rattle.c104_traffic.specs.Faults.{IsTrafficFault, traffic_fault_text}
-use Rattle.c104_traffic.specs.declared.faults.TrafficFault.{TrafficFault}
-use Rattle.c104_traffic.specs.declared.faults.TrafficFault.TheVariants as fault
-use Rattle.c104_traffic.specs.declared.amounts.Traffic.{Traffic}
-use Rattle.c104_traffic.specs.Patterns.{IsPatternOf}
-use Rattle.c104_traffic.specs.declared.patterns.Pattern.{Pattern}
-use Rattle.c104_traffic.specs.declared.patterns.PatternName.{PatternName}
-use Rattle.c104_traffic.specs.Schedules.{AreLabelled}
-use Rattle.c104_traffic.specs.Targets.{senders_of}
-use Rattle.c104_traffic.specs.Texts.{traffic_text}
-use Rattle.c104_commands.specs.declared.status.Status.{Status}
-use Rattle.c104_commands.specs.declared.status.Status.TheVariants as status
+use Rattle.{c104_commands.specs.declared.status.Status.Status, c104_plan.specs.{PlanImage.Image, Plans.Plan}}
+use Rattle.{c104_stream.specs.Writing.AppendsPrefix, c104_traffic.specs.{Directions.AreDirected, Faults.IsTrafficFault}}
+use Rattle.c104_traffic.specs.{Faults.traffic_fault_text, Patterns.IsPatternOf, Schedules.AreLabelled, Targets.senders_of}
+use Rattle.c104_traffic.specs.{Texts.traffic_text, declared.{amounts.Traffic.Traffic, faults.TrafficFault.TrafficFault}}
+use Rattle.c104_traffic.specs.declared.patterns.{Pattern.Pattern, PatternName.PatternName}
+use Rattle.std.specs.{Io.KnownBytes.{Appends, Keeps}, Prelude.{Bool, List, Option, false, length, true, ℕ, ◌<◌, ◌≡◌, ◌≢◌}}
 
 -- the script of traffic of a network that can have the pattern of this name: some terminal sends by it, and each has a
 -- header that leads to it. Each packet goes from a terminal to a terminal, by a label that this owns
@@ -33,7 +21,7 @@ pub record IsScript (name : PatternName) (target : List ℕ) (traffic : Traffic)
 pub record IsTrafficRefusal (name : PatternName) (target : List ℕ) (traffic : Traffic) (plan : Plan) (image : Image) (text : List ℕ) : Type 0 where
   pub why : TrafficFault
   pub cause : IsTrafficFault plan image name target traffic.own why
-  pub told : why ≢ fault.NoMemory
+  pub told : why ≢ TrafficFault.NoMemory
   pub line : text ≡ traffic_fault_text plan why
 
 -- what `traffic` prints of a network, and whether it is refused
@@ -44,16 +32,16 @@ PrintsTraffic name target traffic plan image text true = IsTrafficRefusal name t
 -- how a command ends that writes this script: all of it is written, or a prefix where the writer failed, or nothing where
 -- it is out of memory
 abbrev pub ScriptEnds : List ℕ → Option (List ℕ) → Option (List ℕ) → Status → Type 0
-ScriptEnds text held holds status.Done = Appends held holds text
-ScriptEnds text held holds status.Refused = ⊥
-ScriptEnds text held holds (status.CannotRead n) = ⊥
-ScriptEnds text held holds status.CannotWrite = AppendsPrefix held holds text
-ScriptEnds text held holds status.NoMemory = Keeps held holds
+ScriptEnds text held holds Status.Done = Appends held holds text
+ScriptEnds text held holds Status.Refused = ⊥
+ScriptEnds text held holds (Status.CannotRead n) = ⊥
+ScriptEnds text held holds Status.CannotWrite = AppendsPrefix held holds text
+ScriptEnds text held holds Status.NoMemory = Keeps held holds
 
 -- how one ends that tells this fault
 abbrev pub FaultEnds : Plan → TrafficFault → Option (List ℕ) → Option (List ℕ) → Status → Type 0
-FaultEnds plan why held holds status.Done = ⊥
-FaultEnds plan why held holds status.Refused = (why ≢ fault.NoMemory) × Appends held holds (traffic_fault_text plan why)
-FaultEnds plan why held holds (status.CannotRead n) = ⊥
-FaultEnds plan why held holds status.CannotWrite = (why ≢ fault.NoMemory) × AppendsPrefix held holds (traffic_fault_text plan why)
-FaultEnds plan why held holds status.NoMemory = Keeps held holds
+FaultEnds plan why held holds Status.Done = ⊥
+FaultEnds plan why held holds Status.Refused = (why ≢ TrafficFault.NoMemory) × Appends held holds (traffic_fault_text plan why)
+FaultEnds plan why held holds (Status.CannotRead n) = ⊥
+FaultEnds plan why held holds Status.CannotWrite = (why ≢ TrafficFault.NoMemory) × AppendsPrefix held holds (traffic_fault_text plan why)
+FaultEnds plan why held holds Status.NoMemory = Keeps held holds

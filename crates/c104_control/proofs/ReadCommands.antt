@@ -1,13 +1,11 @@
 -- A command is read from its bytes, and from no others.
-use Rattle.std.proofs.Common.{◌≡◌, ◌≢◌, ◌↔◌, ℕ, zero, suc, ◌<◌, ◌^◌, Bool, true, false, nat_eq, List, [], ◌∷◌, ◌++◌, get_or, Result, Ok, Err, if◌then◌else◌, refl, sym, subst, ap, ◌∙◌, arith}
-use Rattle.std.proofs.lemmas.Bool.Decides.{nat_tests}
-use Rattle.std.proofs.lemmas.Nat.{from_le_bytes-to_le_bytes_2, from_le_bytes-to_le_bytes_4, le_bytes_2, le_bytes_4}
-use Rattle.std.specs.Int.{w16, w32, to_le_bytes, from_le_bytes}
-use Rattle.c104_control.specs.Table.{Command, IsCommand, IsUnknownCode, command_bytes, command_format}
-use Rattle.c104_control.specs.declared.commands.Command.TheVariants.{Start, Reset, Identify, CPeek, CPoke}
-use Rattle.c104_control.specs.Reading.{alone, peek_of, poke_of, read_command}
-use Rattle.c104_control.specs.Faults.{CommandFault}
-use Rattle.c104_control.specs.declared.faults.CommandFault.TheVariants.{UnknownCode, WrongLength}
+use Rattle.c104_control.specs.{Faults.CommandFault, Reading.{alone, peek_of, poke_of, read_command}, Table.{Command, IsCommand}}
+use Rattle.c104_control.specs.{Table.{IsUnknownCode, command_bytes, command_format}, declared.commands.Command.TheVariants.{CPeek, CPoke}}
+use Rattle.c104_control.specs.declared.{commands.Command.TheVariants.{Identify, Reset, Start}, faults.CommandFault.TheVariants.UnknownCode}
+use Rattle.{c104_control.specs.declared.faults.CommandFault.TheVariants.WrongLength, std.proofs.Common.{Bool, Err, List, Ok, Result, []}}
+use Rattle.std.proofs.Common.{ap, arith, false, get_or, if◌then◌else◌, nat_eq, refl, subst, suc, sym, true, zero, ℕ, ◌++◌, ◌<◌, ◌^◌, ◌↔◌}
+use Rattle.std.proofs.{Common.{◌∙◌, ◌∷◌, ◌≡◌, ◌≢◌}, lemmas.{Bool.Decides.nat_tests, Nat.from_le_bytes-to_le_bytes_2}}
+use Rattle.std.{proofs.lemmas.Nat.{from_le_bytes-to_le_bytes_4, le_bytes_2, le_bytes_4}, specs.Int.{from_le_bytes, to_le_bytes, w16, w32}}
 
 -- what was written is read back
 pub read_back : (c : Command) → IsCommand c → read_command (command_bytes c) ≡ Ok c

@@ -1,14 +1,11 @@
 -- An answer is read from its bytes, and from no others.
-use Rattle.std.proofs.Common.{◌≡◌, ◌↔◌, ℕ, zero, suc, ◌<◌, ◌≤◌, ◌^◌, Bool, true, false, ◌&&◌, nat_eq, nat_le, List, [], ◌∷◌, Option, Some, None, if◌then◌else◌, inl, inr, refl, sym, subst, ap, ◌==◌, IsTrue, arith}
-use Rattle.std.proofs.lemmas.Bool.Decides.{nat_tests}
-use Rattle.std.proofs.lemmas.Nat.{from_le_bytes-to_le_bytes_4, le_bytes_4}
-use Rattle.std.specs.List.{list_any}
-use Rattle.std.specs.Int.{w32, to_le_bytes, from_le_bytes}
-use Rattle.c104_control.specs.Table.{Command, Answer, IsAnswer, IsAnswerTo, IsReply, device_id, command_format, reply_bytes}
-use Rattle.c104_control.specs.declared.commands.Command.TheVariants.{Start, Reset, Identify, CPeek, CPoke}
-use Rattle.c104_control.specs.declared.replies.Answer.TheVariants.{Started, WasReset, Identity, Value, Poked, Refused}
-use Rattle.c104_control.specs.Reading.{answer_alone, answer_with, identity_of, refused_of, read_reply}
-use Rattle.c104_control.proofs.ReadCommands.{AreBytes}
+use Rattle.c104_control.{proofs.ReadCommands.AreBytes, specs.Reading.{answer_alone, answer_with, identity_of, read_reply, refused_of}}
+use Rattle.c104_control.specs.Table.{Answer, Command, IsAnswer, IsAnswerTo, IsReply, command_format, device_id, reply_bytes}
+use Rattle.c104_control.specs.declared.commands.Command.TheVariants.{CPeek, CPoke, Identify, Reset, Start}
+use Rattle.c104_control.specs.declared.replies.Answer.TheVariants.{Identity, Poked, Refused, Started, Value, WasReset}
+use Rattle.std.proofs.Common.{Bool, IsTrue, List, None, Option, Some, [], ap, arith, false, if◌then◌else◌, inl, inr, nat_eq, nat_le, refl}
+use Rattle.std.proofs.{Common.{subst, suc, sym, true, zero, ℕ, ◌&&◌, ◌<◌, ◌==◌, ◌^◌, ◌↔◌, ◌∷◌, ◌≡◌, ◌≤◌}, lemmas.Bool.Decides.nat_tests}
+use Rattle.std.{proofs.lemmas.Nat.{from_le_bytes-to_le_bytes_4, le_bytes_4}, specs.{Int.{from_le_bytes, to_le_bytes, w32}, List.list_any}}
 
 -- the numbers of refusals are those of the table, and of bytes that are no command
 refusal_is : (n : ℕ) → 1 ≤ n → n ≤ 7 → IsAnswer (Refused n)

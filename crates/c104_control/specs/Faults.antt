@@ -1,7 +1,7 @@
 -- The faults of bytes that are no command.
-use Rattle.std.specs.Prelude.{ℕ, List, codes}
 pub use Rattle.c104_control.specs.declared.faults.CommandFault.{CommandFault}
 use Rattle.c104_control.specs.declared.faults.CommandFault.TheVariants.{UnknownCode, WrongLength}
+use Rattle.std.specs.Prelude.{List, codes, ℕ}
 
 -- the number that a refusal of a command gives
 abbrev pub command_fault_number : CommandFault → ℕ

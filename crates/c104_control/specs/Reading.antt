@@ -1,12 +1,10 @@
 -- Reading a command, and an answer.
-use Rattle.std.specs.Prelude.{ℕ, ◌==◌, ◌&&◌, nat_le, List, [], ◌∷◌, Option, Some, None, Result, Ok, Err, if◌then◌else◌}
-use Rattle.std.specs.Int.{w16, w32, from_le_bytes}
-use Rattle.c104_control.specs.Table.{Command, Answer, device_id}
-use Rattle.c104_control.specs.declared.commands.Command.TheVariants.{Start, Reset, Identify, CPeek, CPoke}
-use Rattle.c104_control.specs.declared.replies.Answer.TheVariants.{Started, WasReset, Identity, Value, Poked, Refused}
-use Rattle.c104_control.specs.Faults.{CommandFault}
-use Rattle.c104_control.specs.declared.replies.TheConstants.{ALREADY_STARTED}
-use Rattle.c104_control.specs.declared.faults.CommandFault.TheVariants.{UnknownCode, WrongLength}
+use Rattle.c104_control.specs.{Faults.CommandFault, Table.{Answer, Command, device_id}, declared.commands.Command.TheVariants.CPeek}
+use Rattle.c104_control.specs.declared.commands.Command.TheVariants.{CPoke, Identify, Reset, Start}
+use Rattle.c104_control.specs.declared.{faults.CommandFault.TheVariants.{UnknownCode, WrongLength}, replies.Answer.TheVariants.Identity}
+use Rattle.c104_control.specs.declared.replies.{Answer.TheVariants.{Poked, Refused, Started, Value, WasReset}, TheConstants.ALREADY_STARTED}
+use Rattle.std.specs.{Int.{from_le_bytes, w16, w32}, Prelude.{Err, List, None, Ok, Option, Result, Some, [], if◌then◌else◌, nat_le, ℕ}}
+use Rattle.std.specs.Prelude.{◌&&◌, ◌==◌, ◌∷◌}
 
 -- a command of one byte has no arguments
 abbrev pub alone : Command → List ℕ → Result Command CommandFault

@@ -3,14 +3,12 @@
 --     command_format c      the table's line of command c
 --     reply_bytes a      the bytes of answer a
 --     IsAnswerTo c a      a is an answer to command c
-use Rattle.std.specs.Prelude.{◌≡◌, ◌≢◌, ℕ, ◌<◌, ◌≤◌, ◌^◌, ◌⊎◌, ◌==◌, List, [], ◌∷◌, ◌++◌, IsTrue}
-use Rattle.std.specs.List.{list_any}
-use Rattle.std.specs.Int.{w16, w32, to_le_bytes}
-use Rattle.c104_control.specs.declared.replies.TheConstants.{DEVICE_ID, ALREADY_STARTED}
-pub use Rattle.c104_control.specs.declared.commands.Command.{Command}
-use Rattle.c104_control.specs.declared.commands.Command.TheVariants.{Start, Reset, Identify, CPeek, CPoke}
-pub use Rattle.c104_control.specs.declared.replies.Answer.{Answer}
-use Rattle.c104_control.specs.declared.replies.Answer.TheVariants.{Started, WasReset, Identity, Value, Poked, Refused}
+pub use Rattle.c104_control.specs.declared.{commands.Command.Command, replies.Answer.Answer}
+use Rattle.c104_control.specs.declared.commands.Command.TheVariants.{CPeek, CPoke, Identify, Reset, Start}
+use Rattle.c104_control.specs.declared.replies.Answer.TheVariants.{Identity, Poked, Refused, Started, Value, WasReset}
+use Rattle.c104_control.specs.declared.replies.TheConstants.{ALREADY_STARTED, DEVICE_ID}
+use Rattle.std.specs.{Int.{to_le_bytes, w16, w32}, List.list_any, Prelude.{IsTrue, List, [], ℕ, ◌++◌, ◌<◌, ◌==◌, ◌^◌, ◌∷◌, ◌≡◌, ◌≢◌, ◌≤◌}}
+use Rattle.std.specs.Prelude.{◌⊎◌}
 
 -- the number of the device, 0x0000C104
 abbrev pub device_id : ℕ

@@ -1,12 +1,10 @@
 -- The marks that the bits of a word are.
-use Rattle.std.proofs.Common.{◌≡◌, ◌≢◌, ◌<◌, ◌≤◌, ◌+◌, ◌==◌, ℕ, zero, suc, not, Bool, true, false, List, Option, Some, length, inl, inr, refl, sym, ap, zero-add, ◌∙◌, subst, arith, w32, ◌-◌, ◌*◌, ◌%◌, ◌^◌, slice_index_or, slice_set}
-use Rattle.std.proofs.lemmas.Bool.{cases_eq}
-use Rattle.std.proofs.lemmas.Bool.Decides.{nat_tests}
-use Rattle.std.proofs.lemmas.List.{get_or-set_other, get_or-set_same}
-use Rattle.std.proofs.lemmas.Nat.Bits.{bit_at_clear_other, bit_at_clear_same, bit_at_set_other, bit_at_set_same}
-use Rattle.std.specs.Prelude.{bit_and, bit_or}
-use Rattle.c104_crossbar.specs.Groups.{has_bit}
-use Rattle.c104_crossbar.specs.Marks.{ClaimKeepsPartition, ReleaseKeepsPartition, all_free, bool_number, crossbar_claim, crossbar_release, is_free, marks_from, marks_of}
+use Rattle.c104_crossbar.specs.{Groups.has_bit, Marks.{ClaimKeepsPartition, ReleaseKeepsPartition, all_free, bool_number, crossbar_claim}}
+use Rattle.{c104_crossbar.specs.Marks.{crossbar_release, is_free, marks_from, marks_of}, std.proofs.Common.{Bool, List, Option, Some, ap}}
+use Rattle.std.proofs.Common.{arith, false, inl, inr, length, not, refl, slice_index_or, slice_set, subst, suc, sym, true, w32, zero}
+use Rattle.std.proofs.{Common.{zero-add, ℕ, ◌%◌, ◌*◌, ◌+◌, ◌-◌, ◌<◌, ◌==◌, ◌^◌, ◌∙◌, ◌≡◌, ◌≢◌, ◌≤◌}, lemmas.Bool.Decides.nat_tests}
+use Rattle.std.proofs.lemmas.{Bool.cases_eq, List.{get_or-set_other, get_or-set_same}, Nat.Bits.{bit_at_clear_other, bit_at_clear_same}}
+use Rattle.std.{proofs.lemmas.Nat.Bits.{bit_at_set_other, bit_at_set_same}, specs.Prelude.{bit_and, bit_or}}
 
 -- the mark of an output is its bit, and past the last the default
 mark_within : (word start n o : ℕ) → o < n → slice_index_or (marks_from word start n) o true ≡ has_bit word (start + o)

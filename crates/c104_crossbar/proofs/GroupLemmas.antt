@@ -1,8 +1,7 @@
 -- What a group that is given as a relation says of the test of each link, and that there is just one.
-use Rattle.std.proofs.Common.{◌≡◌, ◌<◌, ◌≤◌, ◌==◌, ℕ, zero, suc, ◌+◌, ◌-◌, ◌^◌, ◌&&◌, Bool, true, false, nat_le, inl, inr, refl, ap, ◌∙◌, arith}
-use Rattle.std.proofs.lemmas.Bool.{and_from, and_left, and_right, both_ways, cases_eq, cases_lt, le-leb, lt-leb}
-use Rattle.std.proofs.lemmas.Nat.Bits.{bit_at_above}
-use Rattle.c104_crossbar.specs.Groups.{IsGroup, has_bit, group_contains, is_joined_run}
+use Rattle.{c104_crossbar.specs.Groups.{IsGroup, group_contains, has_bit, is_joined_run}, std.proofs.Common.{Bool, ap, arith, false, inl}}
+use Rattle.std.proofs.{Common.{inr, nat_le, refl, suc, true, zero, ℕ, ◌&&◌, ◌+◌, ◌-◌, ◌<◌, ◌==◌, ◌^◌, ◌∙◌, ◌≡◌, ◌≤◌}, lemmas.Bool.and_from}
+use Rattle.std.proofs.lemmas.{Bool.{and_left, and_right, both_ways, cases_eq, cases_lt, le-leb, lt-leb}, Nat.Bits.bit_at_above}
 
 -- a run is joined where each link after its first continues
 joined-true : (continues : ℕ → Bool) (low n : ℕ) → ((k : ℕ) → low < k → k ≤ low + n → continues k ≡ true) → is_joined_run continues low n ≡ true

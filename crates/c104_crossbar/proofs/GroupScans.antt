@@ -1,13 +1,9 @@
 -- The ends of a group, as scans of bits find them.
-use Rattle.std.proofs.Common.{◌≡◌, ◌<◌, ◌≤◌, ◌+◌, ◌-◌, ◌*◌, ◌/◌, ◌%◌, ◌^◌, ◌==◌, ℕ, suc, true, false, min, max, inl, inr, refl, sym, ap, ◌∙◌, arith, w32}
-use Rattle.std.specs.Prelude.{bit_and, bit_or}
-use Rattle.std.specs.Int.{bit_at, trailing_ones}
-use Rattle.std.specs.Int.Count.{count_leading_zeros}
-use Rattle.std.proofs.lemmas.Bool.{cases_lt}
-use Rattle.std.proofs.lemmas.Nat.{and_le_r, leading_top, shr-shr, shr_le}
-use Rattle.std.proofs.lemmas.Nat.Bits.{bit_at_above, bit_at_and, bit_at_cat_high, bit_at-lt, bit_at_not, bit_at_ones, bit_at_ones_above, bit_at_or, bit_at-suc, bit_at-trailing_ones, ones_shr}
-use Rattle.std.proofs.Math.Nat.{pow-suc}
-use Rattle.c104_crossbar.specs.Groups.{has_bit}
+use Rattle.{c104_crossbar.specs.Groups.has_bit, std.proofs.Common.{ap, arith, false, inl, inr, max, min, refl, suc, sym, true, w32, ℕ, ◌%◌}}
+use Rattle.std.proofs.{Common.{◌*◌, ◌+◌, ◌-◌, ◌/◌, ◌<◌, ◌==◌, ◌^◌, ◌∙◌, ◌≡◌, ◌≤◌}, Math.Nat.pow-suc, lemmas.Bool.cases_lt}
+use Rattle.std.proofs.lemmas.Nat.Bits.{bit_at-lt, bit_at-suc, bit_at-trailing_ones, bit_at_above, bit_at_and, bit_at_cat_high, bit_at_not}
+use Rattle.std.proofs.lemmas.Nat.{Bits.{bit_at_ones, bit_at_ones_above, bit_at_or, ones_shr}, and_le_r, leading_top, shr-shr, shr_le}
+use Rattle.std.specs.{Int.{Count.count_leading_zeros, bit_at, trailing_ones}, Prelude.{bit_and, bit_or}}
 
 -- the highest one of a number is at the place that its power of two says
 top_bit : (n j : ℕ) → 2 ^ j ≤ n → n < 2 ^ suc j → bit_at n j ≡ 1

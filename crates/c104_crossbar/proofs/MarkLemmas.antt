@@ -1,7 +1,6 @@
 -- Marks of which none is set.
-use Rattle.std.proofs.Common.{◌≡◌, ℕ, zero, suc, false, nat_lt, replicate, arith}
+use Rattle.{c104_crossbar.specs.Marks.is_free, std.proofs.Common.{arith, false, nat_lt, replicate, suc, zero, ℕ, ◌≡◌}}
 use Rattle.std.proofs.lemmas.Bool.Decides.{nat_tests}
-use Rattle.c104_crossbar.specs.Marks.{is_free}
 
 pub is_free-replicate : (n o : ℕ) → is_free (replicate n false) o ≡ nat_lt o n
 is_free-replicate zero o = grind (arith, nat_tests)

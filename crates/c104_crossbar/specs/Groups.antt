@@ -3,9 +3,8 @@
 -- continue is a test of the link's number, so this serves whatever says it.
 --     IsGroup continues g first last      the group of g, as a relation
 --     group_contains continues g o      whether o is in it, as a computation; `Group::of` ties the two
-use Rattle.std.specs.Prelude.{◌≡◌, ℕ, zero, suc, ◌+◌, ◌-◌, ◌<◌, ◌≤◌, ◌==◌, ◌&&◌, Bool, true, false, nat_le, if◌then◌else◌}
-use Rattle.std.specs.Int.{bit_at}
 use Rattle.c104_crossbar.specs.declared.TheConstants.{LINKS}
+use Rattle.std.specs.{Int.bit_at, Prelude.{Bool, false, if◌then◌else◌, nat_le, suc, true, zero, ℕ, ◌&&◌, ◌+◌, ◌-◌, ◌<◌, ◌==◌, ◌≡◌, ◌≤◌}}
 
 -- the n links after this one all continue the group
 abbrev pub is_joined_run : (ℕ → Bool) → ℕ → ℕ → Bool

@@ -1,8 +1,8 @@
 -- Which of the 32 outputs are taken: a mark for each, set where the output belongs to a claim. A claim
 -- is the number of its output.
-use Rattle.std.specs.Prelude.{option_to_list, ◌≡◌, ℕ, zero, suc, ◌+◌, ◌==◌, Bool, true, false, not, nat_lt, List, [], ◌∷◌, ◌++◌, Option, Some, None, replicate, if◌then◌else◌, slice_index_or, slice_set}
-use Rattle.c104_crossbar.specs.declared.TheConstants.{LINKS}
-use Rattle.c104_crossbar.specs.Groups.{has_bit}
+use Rattle.c104_crossbar.specs.{Groups.has_bit, declared.TheConstants.LINKS}
+use Rattle.std.specs.Prelude.{Bool, List, None, Option, Some, [], false, if◌then◌else◌, nat_lt, not, option_to_list, replicate}
+use Rattle.std.specs.Prelude.{slice_index_or, slice_set, suc, true, zero, ℕ, ◌++◌, ◌+◌, ◌==◌, ◌∷◌, ◌≡◌}
 
 -- the marks that the bits of a word are, for n outputs from output o on
 abbrev pub marks_from : ℕ → ℕ → ℕ → List Bool

@@ -1,19 +1,11 @@
 -- A plan to be labelled as a tree, as it is while its lines are read: made line by line, and each terminal's
 -- range begins where that of the one before ends.
-use Rattle.std.proofs.Common.{◌≡◌, ℕ, zero, suc, ◌+◌, ◌<◌, ◌≤◌, List, [], ◌∷◌, ◌++◌, length, map, slice_get, codes, All, refl, sym, subst, ap, ◌∙◌, arith}
-use Rattle.std.specs.Option.{option_map_or}
-use Rattle.std.proofs.lemmas.List.Elements.{All-cons, All-head, All-nil, All-tail}
-use Rattle.c104_plan.specs.declared.plans.Shape.TheVariants.{Hand}
-use Rattle.c104_plan.specs.declared.ports.Port.TheVariants as port
-use Rattle.c104_plan.specs.Distinctness.{AreDistinct}
-use Rattle.c104_plan.specs.Ports.{is_port, both_ends, IsSwitchPort}
-use Rattle.c104_plan.specs.declared.ports.Port.{Port}
-use Rattle.c104_plan.specs.declared.ports.Wire.{Wire}
-use Rattle.c104_plan.specs.PlanParts.{without_first}
-use Rattle.c104_plan.specs.Plans.{Plan, AreNames, IsPlan, IsRange, IsTreePlan, host_port, label_count, next_first, total_count}
-use Rattle.c104_plan.specs.declared.plans.Terminal.{Terminal}
-use Rattle.c104_describe.specs.PlanPrint.{counted_words, delete_words, wire_words}
-use Rattle.c104_plan.specs.PortTexts.{port_text, terminal_name}
+use Rattle.{c104_describe.specs.PlanPrint.{counted_words, delete_words, wire_words}, c104_plan.specs.Distinctness.AreDistinct}
+use Rattle.c104_plan.specs.{PlanParts.without_first, Plans.{AreNames, IsPlan, IsRange, IsTreePlan, Plan, host_port, label_count}}
+use Rattle.c104_plan.specs.{Plans.{next_first, total_count}, PortTexts.{port_text, terminal_name}, Ports.{IsSwitchPort, both_ends, is_port}}
+use Rattle.c104_plan.specs.declared.{plans.{Shape.TheVariants.Hand, Terminal.Terminal}, ports.{Port.Port, Wire.Wire}}
+use Rattle.std.proofs.Common.{All, List, [], ap, arith, codes, length, map, refl, slice_get, subst, suc, sym, zero, ℕ, ◌++◌, ◌+◌, ◌<◌, ◌∙◌}
+use Rattle.std.{proofs.{Common.{◌∷◌, ◌≡◌, ◌≤◌}, lemmas.List.Elements.{All-cons, All-head, All-nil, All-tail}}, specs.Option.option_map_or}
 
 -- the first range begins at n
 abbrev pub counted_from : ℕ → List Terminal → List Terminal
@@ -124,8 +116,8 @@ module _ (plan : Plan) where
   same_terminal k = name_at 0 plan.terminals k
 
   same_port : (p : Port) → port_text counted p ≡ port_text plan p
-  same_port (port.Switch s l) = refl
-  same_port (port.Terminal t) = same_terminal t
+  same_port (Port.Switch s l) = refl
+  same_port (Port.Terminal t) = same_terminal t
 
   pub same_wires : (wires : List Wire) → map (wire_words counted) wires ≡ map (wire_words plan) wires
   same_wires [] = refl

@@ -1,10 +1,8 @@
 -- What stands in a list without repetition differs from all before it, and is found where it stands.
-use Rattle.std.proofs.Common.{◌≡◌, ℕ, zero, suc, ◌<◌, ◌||◌, Bool, true, false, cond, List, [], ◌∷◌, ◌++◌, length, map, position, get_or, nat_lt, All, Some, None, refl, sym, subst, ◌∙◌, arith}
-use Rattle.std.proofs.lemmas.Bool.Decides.{nat_tests}
+use Rattle.{c104_plan.specs.Distinctness.AreDistinct, std.proofs.Common.{All, Bool, List, None, Some, [], arith, cond, false, get_or}}
+use Rattle.std.proofs.Common.{length, map, nat_lt, position, refl, subst, suc, sym, true, zero, ℕ, ◌++◌, ◌<◌, ◌||◌, ◌∙◌, ◌∷◌, ◌≡◌}
+use Rattle.std.proofs.lemmas.{Bool.Decides.nat_tests, List.{Elements.{All-head, All-tail}, Sums.position_or_len_is}}
 use Rattle.std.specs.List.{AllByRecursion, list_any, position_or_len}
-use Rattle.std.proofs.lemmas.List.Elements.{All-head, All-tail}
-use Rattle.std.proofs.lemmas.List.Sums.{position_or_len_is}
-use Rattle.c104_plan.specs.Distinctness.{AreDistinct}
 
 -- one of a list, of which all are so
 pub All-here : {X : Type 0} (P : X → Type 0) (xs done : List X) (x : X) (more : List X) → done ++ x ∷ more ≡ xs → All P xs → P x

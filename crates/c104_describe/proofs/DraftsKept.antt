@@ -1,24 +1,17 @@
 -- What the lines read so far keep, so that they give a plan.
-use Rattle.std.proofs.Common.{◌≡◌, ℕ, ◌+◌, ◌<◌, ◌&&◌, ◌||◌, Bool, true, false, not, List, [], ◌∷◌, length, is_some, bytes_eq, codes, if◌then◌else◌, Option, Some, None, Result, Ok, Err, Bor, get_or, sym, ◌∙◌, ap, subst, refl, arith, lit≤, lit<}
-use Rattle.std.proofs.lemmas.Bool.{or_from, or_parts}
-use Rattle.std.proofs.lemmas.Bool.Decides.{nat_tests}
-use Rattle.std.proofs.lemmas.List.Elements.{All-nil}
-use Rattle.c104_plan.specs.declared.plans.Shape.TheVariants.{Hand, Tree, UpDown}
-use Rattle.c104_describe.specs.declared.words.Keyword.TheVariants as keyword
-use Rattle.c104_describe.specs.declared.faults.PlanFaultKind.TheVariants as kind
-use Rattle.c104_plan.specs.TextCut.{is_plain_line, uncommented_line, line_words}
-use Rattle.c104_describe.specs.PlanFaults.{PlanFault, PlanFaultKind}
-use Rattle.c104_describe.specs.PlanWords.{Keyword, keyword_of, range_words}
-use Rattle.c104_plan.specs.Plans.{Plan, IsPlan, IsUnset, next_first, rows_of, total_count}
-use Rattle.c104_plan.specs.declared.plans.Shape.{Shape}
-use Rattle.c104_describe.specs.PlanDrafts.{Draft, finished, is_begun, is_by_hand, rooted, says_from}
-use Rattle.c104_plan.specs.PlanParts.{has_settings, has_some}
-use Rattle.c104_describe.specs.PlanLines.{first_word_parts, keyword_parts, labelled_shape, line_parts, switch_said, terminal_parts}
-use Rattle.c104_describe.specs.LineFaults.{read_plan_line}
-use Rattle.c104_describe.specs.PlanText.{draft_after_line, empty_draft, read_plan_lines}
-use Rattle.c104_describe.proofs.FaultOrder.{made, sound}
-use Rattle.c104_describe.proofs.PlanLinesKept.{IsBeside, IsHosting, IsNext, IsRead, IsSound, hand_kept, switch_inside, switch_kept, terminal_kept, wire_kept, header_kept, buffer_kept, continue_kept, delete_kept, base_kept, row_kept, random_kept, mesh_kept, cube_kept}
-use Rattle.c104_describe.proofs.PlanRooted.{IsRootIn, root_in_more, root_in_none, rooted_kept}
+use Rattle.c104_describe.proofs.{FaultOrder.{made, sound}, PlanLinesKept.{IsBeside, IsHosting, IsNext, IsRead, IsSound, base_kept}}
+use Rattle.c104_describe.proofs.PlanLinesKept.{buffer_kept, continue_kept, cube_kept, delete_kept, hand_kept, header_kept, mesh_kept}
+use Rattle.c104_describe.proofs.PlanLinesKept.{random_kept, row_kept, switch_inside, switch_kept, terminal_kept, wire_kept}
+use Rattle.c104_describe.{proofs.PlanRooted.{IsRootIn, root_in_more, root_in_none, rooted_kept}, specs.LineFaults.read_plan_line}
+use Rattle.c104_describe.specs.{PlanDrafts.{Draft, finished, is_begun, is_by_hand, rooted, says_from}, PlanFaults.PlanFault}
+use Rattle.c104_describe.specs.{PlanFaults.PlanFaultKind, PlanLines.{first_word_parts, keyword_parts, labelled_shape, line_parts}}
+use Rattle.c104_describe.specs.{PlanLines.{switch_said, terminal_parts}, PlanText.{draft_after_line, empty_draft, read_plan_lines}}
+use Rattle.{c104_describe.specs.PlanWords.{Keyword, keyword_of, range_words}, c104_plan.specs.PlanParts.{has_settings, has_some}}
+use Rattle.c104_plan.specs.{Plans.{IsPlan, IsUnset, Plan, next_first, rows_of, total_count}, TextCut.{is_plain_line, line_words}}
+use Rattle.c104_plan.specs.{TextCut.uncommented_line, declared.plans.Shape.{Shape, TheVariants.{Hand, Tree, UpDown}}}
+use Rattle.std.proofs.Common.{Bool, Bor, Err, List, None, Ok, Option, Result, Some, [], ap, arith, bytes_eq, codes, false, get_or}
+use Rattle.std.proofs.Common.{if◌then◌else◌, is_some, length, lit<, lit≤, not, refl, subst, sym, true, ℕ, ◌&&◌, ◌+◌, ◌<◌, ◌||◌, ◌∙◌, ◌∷◌}
+use Rattle.std.proofs.{Common.◌≡◌, lemmas.{Bool.{Decides.nat_tests, or_from, or_parts}, List.Elements.All-nil}}
 
 -- with a root a plan is one that is made line by line, without `from` and without what labellers set
 abbrev pub IsRooted : Option Shape → Plan → Bool → Type 0
@@ -113,18 +106,18 @@ module _ (draft : Draft) (is_plain : Bool) (all : IsDraft draft) where
       let parts = or_parts (not (is_by_hand draft.plan.shape)) (is_some draft.labels) mixed in
       settings draft next all (labels ∙ no_root draft.labels parts.1) from (keeps (hand_kept draft is_plain all.kept parts.0))
 
-  terminal-kept : (name at : List ℕ) (words : List (List ℕ)) → Keeps keyword.Terminal (name ∷ at ∷ words)
+  terminal-kept : (name at : List ℕ) (words : List (List ℕ)) → Keeps Keyword.Terminal (name ∷ at ∷ words)
   terminal-kept name at words sound =
-      let parts = or_parts (not (is_by_hand draft.plan.shape)) (is_some draft.labels && says_from (name ∷ at ∷ words)) (sound kind.MixedStyle) in
+      let parts = or_parts (not (is_by_hand draft.plan.shape)) (is_some draft.labels && says_from (name ∷ at ∷ words)) (sound PlanFaultKind.MixedStyle) in
       by_range (range_words words) (hand_kept draft is_plain all.kept parts.0) parts.1 sound
     where
       by_range : (said : Result (Option (List ℕ) × Option (List ℕ)) PlanFaultKind) → draft.plan.shape ≡ Hand → (is_some draft.labels && is_begun said) ≡ false → IsSound draft.plan (record (terminal_parts draft name at said) { is_known = true; is_plain = is_plain; is_mixed = not (is_by_hand draft.plan.shape) || (is_some draft.labels && is_begun said) }) → IsDraft (terminal_parts draft name at said).next
       by_range (Err fault) hand apart sound = all
       by_range (Ok range) hand apart sound = hosting draft _ range.1 all apart (terminal_kept draft is_plain all.kept name at range _ hand sound)
 
-  label-kept : (style name : List ℕ) → Keeps keyword.Label (style ∷ name ∷ [])
+  label-kept : (style name : List ℕ) → Keeps Keyword.Label (style ∷ name ∷ [])
   label-kept style name sound =
-      let parts = or_parts (not (is_by_hand draft.plan.shape)) (draft.from_said || has_settings draft.plan) (sound kind.MixedStyle) in
+      let parts = or_parts (not (is_by_hand draft.plan.shape)) (draft.from_said || has_settings draft.plan) (sound PlanFaultKind.MixedStyle) in
       let rest = or_parts draft.from_said (has_settings draft.plan) parts.1 in
       let set = or_parts (has_some draft.plan.continues) (has_some draft.plan.bases || (has_some draft.plan.rows || has_some draft.plan.randoms)) rest.1 in
       let tables = or_parts (has_some draft.plan.bases) (has_some draft.plan.rows || has_some draft.plan.randoms) set.1 in
@@ -136,26 +129,26 @@ module _ (draft : Draft) (is_plain : Bool) (all : IsDraft draft) where
         randoms = has_none draft.plan.randoms last.1;
       } in
       let root = switch_said draft.plan name in
-      let inside : root < length draft.plan.switches = switch_inside draft.plan name (or_parts _ _ (sound kind.UnknownName)).0 in
+      let inside : root < length draft.plan.switches = switch_inside draft.plan name (or_parts _ _ (sound PlanFaultKind.UnknownName)).0 in
       record { kept = all.kept; counted = all.counted; rooted = (root_asked style root (length draft.plan.switches) inside, hand_kept draft is_plain all.kept parts.0, rest.0, unset) }
 
   keyword_kept : (k : Keyword) (rest : List (List ℕ)) → Keeps k rest
-  keyword_kept keyword.Switch (name ∷ []) sound = beside draft _ all refl refl (switch_kept draft is_plain all.kept name sound)
-  keyword_kept keyword.Terminal (name ∷ at ∷ words) sound = terminal-kept name at words sound
-  keyword_kept keyword.Wire (here ∷ there ∷ []) sound = beside draft _ all refl refl (wire_kept draft is_plain all.kept here there sound)
-  keyword_kept keyword.Header (bytes ∷ []) sound = beside draft _ all refl refl (header_kept draft is_plain all.kept bytes sound)
-  keyword_kept keyword.Buffer (size ∷ []) sound = beside draft _ all refl refl (buffer_kept draft is_plain all.kept size sound)
-  keyword_kept keyword.Continue (at ∷ []) sound = setting _ (sound kind.MixedStyle) refl refl (λ hand. continue_kept draft is_plain all.kept at hand sound)
-  keyword_kept keyword.Delete (name ∷ []) sound = beside draft _ all refl refl (delete_kept draft is_plain all.kept name sound)
-  keyword_kept keyword.Base (at ∷ base ∷ []) sound = setting _ (sound kind.MixedStyle) refl refl (λ hand. base_kept draft is_plain all.kept at base hand sound)
-  keyword_kept keyword.Row (at ∷ limit ∷ select ∷ []) sound = setting _ (sound kind.MixedStyle) refl refl (λ hand. row_kept draft is_plain all.kept at limit select hand sound)
-  keyword_kept keyword.Random (at ∷ base ∷ range ∷ []) sound = setting _ (sound kind.MixedStyle) refl refl (λ hand. random_kept draft is_plain all.kept at base range hand sound)
-  keyword_kept keyword.Label (style ∷ name ∷ []) sound = label-kept style name sound
-  keyword_kept keyword.Mesh (width ∷ height ∷ terminals ∷ []) sound =
-      let none = has_none draft.plan.switches (sound kind.MixedStyle) in
+  keyword_kept Keyword.Switch (name ∷ []) sound = beside draft _ all refl refl (switch_kept draft is_plain all.kept name sound)
+  keyword_kept Keyword.Terminal (name ∷ at ∷ words) sound = terminal-kept name at words sound
+  keyword_kept Keyword.Wire (here ∷ there ∷ []) sound = beside draft _ all refl refl (wire_kept draft is_plain all.kept here there sound)
+  keyword_kept Keyword.Header (bytes ∷ []) sound = beside draft _ all refl refl (header_kept draft is_plain all.kept bytes sound)
+  keyword_kept Keyword.Buffer (size ∷ []) sound = beside draft _ all refl refl (buffer_kept draft is_plain all.kept size sound)
+  keyword_kept Keyword.Continue (at ∷ []) sound = setting _ (sound PlanFaultKind.MixedStyle) refl refl (λ hand. continue_kept draft is_plain all.kept at hand sound)
+  keyword_kept Keyword.Delete (name ∷ []) sound = beside draft _ all refl refl (delete_kept draft is_plain all.kept name sound)
+  keyword_kept Keyword.Base (at ∷ base ∷ []) sound = setting _ (sound PlanFaultKind.MixedStyle) refl refl (λ hand. base_kept draft is_plain all.kept at base hand sound)
+  keyword_kept Keyword.Row (at ∷ limit ∷ select ∷ []) sound = setting _ (sound PlanFaultKind.MixedStyle) refl refl (λ hand. row_kept draft is_plain all.kept at limit select hand sound)
+  keyword_kept Keyword.Random (at ∷ base ∷ range ∷ []) sound = setting _ (sound PlanFaultKind.MixedStyle) refl refl (λ hand. random_kept draft is_plain all.kept at base range hand sound)
+  keyword_kept Keyword.Label (style ∷ name ∷ []) sound = label-kept style name sound
+  keyword_kept Keyword.Mesh (width ∷ height ∷ terminals ∷ []) sound =
+      let none = has_none draft.plan.switches (sound PlanFaultKind.MixedStyle) in
       filled draft _ all none (mesh_kept draft is_plain all.kept width height terminals none sound)
-  keyword_kept keyword.Cube (dimensions ∷ terminals ∷ []) sound =
-      let none = has_none draft.plan.switches (sound kind.MixedStyle) in
+  keyword_kept Keyword.Cube (dimensions ∷ terminals ∷ []) sound =
+      let none = has_none draft.plan.switches (sound PlanFaultKind.MixedStyle) in
       filled draft _ all none (cube_kept draft is_plain all.kept dimensions terminals none sound)
   -- too few words or too many: nothing is added
   keyword_kept k rest sound = all

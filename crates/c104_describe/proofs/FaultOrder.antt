@@ -1,50 +1,47 @@
 -- The first of all faults that applies, in the order of their numbers, has the least number: so of a line the least fault is told.
-use Rattle.std.proofs.Common.{◌≡◌, ℕ, suc, ◌-◌, ◌<◌, ◌≤◌, Bool, true, false, List, [], ◌∷◌, inl, inr, slice_index_or, if◌then◌else◌, Option, Some, None, sym, ◌∙◌, Ok, Err, ap, refl, arith, lit≤, lit<}
-use Rattle.std.specs.List.{find}
-use Rattle.std.proofs.lemmas.Bool.{cases_eq}
-use Rattle.c104_describe.specs.declared.faults.PlanFaultKind.TheVariants as kind
-use Rattle.c104_describe.specs.PlanFaults.{PlanFaultKind, plan_fault_number}
-use Rattle.c104_plan.specs.Plans.{Plan}
-use Rattle.c104_describe.specs.PlanLines.{Draft, LineParts}
-use Rattle.c104_describe.specs.LineFaults.{IsFaultless, IsLeastFault, all_faults, has_fault, is_fault_of, read_parts, read_plan_line, unless}
+use Rattle.c104_describe.specs.LineFaults.{IsFaultless, IsLeastFault, all_faults, has_fault, is_fault_of, read_parts, read_plan_line}
+use Rattle.c104_describe.specs.{LineFaults.unless, PlanFaults.{PlanFaultKind, plan_fault_number}, PlanLines.{Draft, LineParts}}
+use Rattle.{c104_plan.specs.Plans.Plan, std.proofs.Common.{Bool, Err, List, None, Ok, Option, Some, [], ap, arith, false, if◌then◌else◌}}
+use Rattle.std.proofs.Common.{inl, inr, lit<, lit≤, refl, slice_index_or, suc, sym, true, ℕ, ◌-◌, ◌<◌, ◌∙◌, ◌∷◌, ◌≡◌, ◌≤◌}
+use Rattle.std.{proofs.lemmas.Bool.cases_eq, specs.List.find}
 
 -- the fault of a number
 fault_numbered : ℕ → PlanFaultKind
-fault_numbered number = slice_index_or all_faults (number - 1) kind.TooLong
+fault_numbered number = slice_index_or all_faults (number - 1) PlanFaultKind.TooLong
 
 is_numbered : (fault : PlanFaultKind) → fault_numbered (plan_fault_number fault) ≡ fault
 unfolding fault_numbered
-is_numbered kind.TooLong = refl
-is_numbered kind.UnknownWord = refl
-is_numbered kind.BadShape = refl
-is_numbered kind.BadNumber = refl
-is_numbered kind.BadName = refl
-is_numbered kind.NameTaken = refl
-is_numbered kind.UnknownName = refl
-is_numbered kind.SelfWire = refl
-is_numbered kind.LinkTaken = refl
-is_numbered kind.TooMany = refl
-is_numbered kind.Twice = refl
-is_numbered kind.MixedStyle = refl
-is_numbered kind.NoMemory = refl
+is_numbered PlanFaultKind.TooLong = refl
+is_numbered PlanFaultKind.UnknownWord = refl
+is_numbered PlanFaultKind.BadShape = refl
+is_numbered PlanFaultKind.BadNumber = refl
+is_numbered PlanFaultKind.BadName = refl
+is_numbered PlanFaultKind.NameTaken = refl
+is_numbered PlanFaultKind.UnknownName = refl
+is_numbered PlanFaultKind.SelfWire = refl
+is_numbered PlanFaultKind.LinkTaken = refl
+is_numbered PlanFaultKind.TooMany = refl
+is_numbered PlanFaultKind.Twice = refl
+is_numbered PlanFaultKind.MixedStyle = refl
+is_numbered PlanFaultKind.NoMemory = refl
 
 same_number : (fault other : PlanFaultKind) → plan_fault_number fault ≡ plan_fault_number other → fault ≡ other
 same_number fault other same = sym (is_numbered fault) ∙ ap fault_numbered same ∙ is_numbered other
 
 number-range : (fault : PlanFaultKind) → (1 ≤ plan_fault_number fault) × (plan_fault_number fault < 14)
-number-range kind.TooLong = (lit≤ tt, lit< tt)
-number-range kind.UnknownWord = (lit≤ tt, lit< tt)
-number-range kind.BadShape = (lit≤ tt, lit< tt)
-number-range kind.BadNumber = (lit≤ tt, lit< tt)
-number-range kind.BadName = (lit≤ tt, lit< tt)
-number-range kind.NameTaken = (lit≤ tt, lit< tt)
-number-range kind.UnknownName = (lit≤ tt, lit< tt)
-number-range kind.SelfWire = (lit≤ tt, lit< tt)
-number-range kind.LinkTaken = (lit≤ tt, lit< tt)
-number-range kind.TooMany = (lit≤ tt, lit< tt)
-number-range kind.Twice = (lit≤ tt, lit< tt)
-number-range kind.MixedStyle = (lit≤ tt, lit< tt)
-number-range kind.NoMemory = (lit≤ tt, lit< tt)
+number-range PlanFaultKind.TooLong = (lit≤ tt, lit< tt)
+number-range PlanFaultKind.UnknownWord = (lit≤ tt, lit< tt)
+number-range PlanFaultKind.BadShape = (lit≤ tt, lit< tt)
+number-range PlanFaultKind.BadNumber = (lit≤ tt, lit< tt)
+number-range PlanFaultKind.BadName = (lit≤ tt, lit< tt)
+number-range PlanFaultKind.NameTaken = (lit≤ tt, lit< tt)
+number-range PlanFaultKind.UnknownName = (lit≤ tt, lit< tt)
+number-range PlanFaultKind.SelfWire = (lit≤ tt, lit< tt)
+number-range PlanFaultKind.LinkTaken = (lit≤ tt, lit< tt)
+number-range PlanFaultKind.TooMany = (lit≤ tt, lit< tt)
+number-range PlanFaultKind.Twice = (lit≤ tt, lit< tt)
+number-range PlanFaultKind.MixedStyle = (lit≤ tt, lit< tt)
+number-range PlanFaultKind.NoMemory = (lit≤ tt, lit< tt)
 
 -- the numbers of these go up from the first one's, to the last of all
 abbrev AreNumbered : ℕ → List PlanFaultKind → Type 0

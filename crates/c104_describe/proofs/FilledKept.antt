@@ -1,40 +1,28 @@
 -- A filled plan keeps what every plan does.
-use Rattle.std.proofs.Common.{◌≡◌, ℕ, ◌<◌, ◌≤◌, ◌+◌, ◌*◌, ◌^◌, true, false, List, [], ◌∷◌, length, All, Option, Some, None, refl, sym, subst, ap, ⊎_elim, arith, lit≤}
-use Rattle.std.specs.List.{AllByRecursion}
-use Rattle.std.proofs.lemmas.Bool.{cases_Bool}
-use Rattle.std.proofs.lemmas.Nat.{div_below, mod_below}
-use Rattle.std.proofs.lemmas.List.Elements.{All-head, All-nil, All-weaker}
-use Rattle.std.proofs.lemmas.List.FromFn.{length-map-range_with_len}
-use Rattle.c104_plan.specs.declared.ports.Port.TheVariants as port
-use Rattle.c104_plan.specs.declared.plans.Shape.TheVariants.{Mesh, Cube}
-use Rattle.c104_plan.specs.Ports.{IsSwitchPort}
-use Rattle.c104_plan.specs.declared.ports.Port.{Port}
-use Rattle.c104_plan.specs.Layouts.{Layout, IsCube, IsMesh, cube, mesh, filled_name, filled_switches, filled_terminal, filled_terminals, filled_wires, wire_at, wire_to, wires_from}
-use Rattle.c104_describe.specs.PlanLines.{filled_plan}
-use Rattle.c104_plan.specs.Plans.{Plan, AreBases, AreContinues, AreDeletes, AreRandoms, AreRows, AreTerminals, IsLaterPort, IsOfShape, IsPlan, IsPlanWire, IsRange, IsUnset, host_port, rows_of}
-use Rattle.c104_plan.specs.declared.plans.PlanBase.{PlanBase}
-use Rattle.c104_plan.specs.declared.plans.PlanRandom.{PlanRandom}
-use Rattle.c104_plan.specs.declared.plans.PlanRow.{PlanRow}
-use Rattle.c104_plan.specs.declared.plans.Shape.{Shape}
-use Rattle.c104_plan.specs.declared.plans.Terminal.{Terminal}
-use Rattle.c104_describe.proofs.FilledLinks.{filled_links}
-use Rattle.c104_describe.proofs.FilledNames.{filled_names}
-use Rattle.c104_plan.proofs.LayoutJoins.{AreJoined, IsJoined, cube_is, mesh_is}
-use Rattle.c104_plan.proofs.RangeLists.{all_of_each, all_range, each_flat}
+use Rattle.c104_describe.{proofs.{FilledLinks.filled_links, FilledNames.filled_names}, specs.PlanLines.filled_plan}
+use Rattle.c104_plan.proofs.{LayoutJoins.{AreJoined, IsJoined, cube_is, mesh_is}, RangeLists.{all_of_each, all_range, each_flat}}
+use Rattle.c104_plan.specs.Layouts.{IsCube, IsMesh, Layout, cube, filled_name, filled_switches, filled_terminal, filled_terminals}
+use Rattle.c104_plan.specs.{Layouts.{filled_wires, mesh, wire_at, wire_to, wires_from}, Plans.{AreBases, AreContinues, AreDeletes}}
+use Rattle.c104_plan.specs.Plans.{AreRandoms, AreRows, AreTerminals, IsLaterPort, IsOfShape, IsPlan, IsPlanWire, IsRange, IsUnset, Plan}
+use Rattle.c104_plan.specs.{Plans.{host_port, rows_of}, Ports.IsSwitchPort, declared.plans.{PlanBase.PlanBase, PlanRandom.PlanRandom}}
+use Rattle.c104_plan.specs.declared.{plans.{PlanRow.PlanRow, Shape.{Shape, TheVariants.{Cube, Mesh}}, Terminal.Terminal}, ports.Port.Port}
+use Rattle.std.proofs.Common.{All, List, None, Option, Some, [], ap, arith, false, length, lit≤, refl, subst, sym, true, ℕ, ⊎_elim, ◌*◌}
+use Rattle.std.proofs.{Common.{◌+◌, ◌<◌, ◌^◌, ◌∷◌, ◌≡◌, ◌≤◌}, lemmas.{Bool.cases_Bool, List.Elements.{All-head, All-nil, All-weaker}}}
+use Rattle.std.{proofs.lemmas.{List.FromFn.length-map-range_with_len, Nat.{div_below, mod_below}}, specs.List.AllByRecursion}
 
 -- Without switches there is nothing at a link
 
 no_switch : (p : Port) → IsSwitchPort 0 p → ⊥
-no_switch (port.Switch s l) is = omega (arith, is.0)
-no_switch (port.Terminal t) is = is
+no_switch (Port.Switch s l) is = omega (arith, is.0)
+no_switch (Port.Terminal t) is = is
 
 none_at : {X : Type 0} (port_of : X → Port) (xs : List X) → All (λ x. IsSwitchPort 0 (port_of x)) xs → xs ≡ []
 none_at port_of [] all = refl
 none_at port_of (x ∷ xs) all = absurd (no_switch (port_of x) (All-head (λ y. IsSwitchPort 0 (port_of y)) x xs all))
 
 later_one : (p : Port) → IsLaterPort 0 p → IsSwitchPort 0 p
-later_one (port.Switch s l) is = (is.0, is.2)
-later_one (port.Terminal t) is = is
+later_one (Port.Switch s l) is = (is.0, is.2)
+later_one (Port.Terminal t) is = is
 
 none_below : (ns : List ℕ) → All (λ n. n < 0) ns → ns ≡ []
 none_below [] all = refl
@@ -90,10 +78,10 @@ module _ (layout : Layout) (p : ℕ) (joined : AreJoined layout) (some : 0 < p) 
         ranges = all_range (λ (t : Terminal). IsRange t.first t.count) (filled_terminal layout.links p) 0 (layout.switches * p) (λ t lt. (omega arith, omega (arith, lt, labels)));
       }
 
-  wire_is : (s l : ℕ) (q : Option Port) → s < layout.switches → l < layout.links → IsJoined layout s l q → AllByRecursion (IsPlanWire layout.switches) (wire_to (port.Switch s l) q)
+  wire_is : (s l : ℕ) (q : Option Port) → s < layout.switches → l < layout.links → IsJoined layout s l q → AllByRecursion (IsPlanWire layout.switches) (wire_to (Port.Switch s l) q)
   wire_is s l None a b j = tt
-  wire_is s l (Some (port.Switch t k)) a b j = (((a, omega (arith, b, links)), (j.inside, omega (arith, j.link, links)), j.other), tt)
-  wire_is s l (Some (port.Terminal t)) a b j = absurd j
+  wire_is s l (Some (Port.Switch t k)) a b j = (((a, omega (arith, b, links)), (j.inside, omega (arith, j.link, links)), j.other), tt)
+  wire_is s l (Some (Port.Terminal t)) a b j = absurd j
 
   wires_are : All (IsPlanWire layout.switches) (filled_wires layout)
   wires_are = all_of_each (IsPlanWire layout.switches) (filled_wires layout) (each_flat (IsPlanWire layout.switches) (wires_from layout) 0 layout.switches (λ s a.

@@ -1,32 +1,24 @@
 -- No link has two terminals or wires in a filled plan.
-use Rattle.std.proofs.Common.{◌≡◌, ◌≢◌, ℕ, zero, suc, ◌<◌, ◌≤◌, ◌+◌, ◌*◌, ◌/◌, ◌%◌, true, false, not, List, [], ◌∷◌, ◌++◌, map, Option, Some, None, refl, sym, ap, subst, ◌∙◌, ⊎_elim, arith}
-use Rattle.std.specs.List.{AllByRecursion, flat_map, range_with_len}
-use Rattle.std.proofs.lemmas.Bool.{cases_Bool}
-use Rattle.c104_plan.specs.Distinctness.{AreDistinct}
-use Rattle.c104_plan.specs.declared.ports.Port.TheVariants as port
-use Rattle.c104_plan.specs.Ports.{is_port, both_ends}
-use Rattle.c104_plan.specs.declared.ports.Port.{Port}
-use Rattle.c104_plan.specs.declared.ports.Wire.{Wire}
-use Rattle.c104_plan.specs.Layouts.{Layout, filled_terminal, filled_terminals, filled_wires, wire_at, wire_to, wires_from}
-use Rattle.c104_plan.specs.Plans.{host_port, linked_ports}
-use Rattle.c104_plan.proofs.LayoutJoins.{AreJoined, IsJoined}
-use Rattle.c104_plan.proofs.LayoutNumbers.{parts}
-use Rattle.c104_plan.proofs.PortLemmas.{is_port-ne}
-use Rattle.c104_plan.proofs.RangeLists.{each_flat}
+use Rattle.c104_plan.proofs.{LayoutJoins.{AreJoined, IsJoined}, LayoutNumbers.parts, PortLemmas.is_port-ne, RangeLists.each_flat}
+use Rattle.c104_plan.specs.{Distinctness.AreDistinct, Layouts.{Layout, filled_terminal, filled_terminals, filled_wires, wire_at, wire_to}}
+use Rattle.c104_plan.specs.{Layouts.wires_from, Plans.{host_port, linked_ports}, Ports.{both_ends, is_port}, declared.ports.Port.Port}
+use Rattle.{c104_plan.specs.declared.ports.Wire.Wire, std.proofs.Common.{List, None, Option, Some, [], ap, arith, false, map, not, refl}}
+use Rattle.std.proofs.Common.{subst, suc, sym, true, zero, ℕ, ⊎_elim, ◌%◌, ◌*◌, ◌++◌, ◌+◌, ◌/◌, ◌<◌, ◌∙◌, ◌∷◌, ◌≡◌, ◌≢◌, ◌≤◌}
+use Rattle.std.{proofs.lemmas.Bool.cases_Bool, specs.List.{AllByRecursion, flat_map, range_with_len}}
 
 -- where a link for a switch leads
 leads : Layout → Port → Option Port
-leads layout (port.Switch s l) = layout.beyond s l
-leads layout (port.Terminal t) = None
+leads layout (Port.Switch s l) = layout.beyond s l
+leads layout (Port.Terminal t) = None
 
 -- a link at which a wire begins, and one at which it ends
 abbrev IsBegin : Layout → Port → Type 0
-IsBegin layout (port.Switch s l) = (l < layout.links) × (layout.begins s l ≡ true)
-IsBegin layout (port.Terminal t) = ⊥
+IsBegin layout (Port.Switch s l) = (l < layout.links) × (layout.begins s l ≡ true)
+IsBegin layout (Port.Terminal t) = ⊥
 
 abbrev IsEnd : Layout → Port → Type 0
-IsEnd layout (port.Switch s l) = (l < layout.links) × (layout.begins s l ≡ false)
-IsEnd layout (port.Terminal t) = ⊥
+IsEnd layout (Port.Switch s l) = (l < layout.links) × (layout.begins s l ≡ false)
+IsEnd layout (Port.Terminal t) = ⊥
 
 record IsGood (layout : Layout) (w : Wire) : Type 0 where
   begin : IsBegin layout w.here
@@ -34,13 +26,13 @@ record IsGood (layout : Layout) (w : Wire) : Type 0 where
   back : leads layout w.there ≡ Some w.here
 
 clash : (layout : Layout) (q : Port) → IsBegin layout q → IsEnd layout q → ⊥
-clash layout (port.Switch s l) a b = let x : layout.begins s l ≡ true = a.1 in let y : layout.begins s l ≡ false = b.1 in absurd cc
-clash layout (port.Terminal t) a b = a
+clash layout (Port.Switch s l) a b = let x : layout.begins s l ≡ true = a.1 in let y : layout.begins s l ≡ false = b.1 in absurd cc
+clash layout (Port.Terminal t) a b = a
 
 -- links in order
 rank : Layout → Port → ℕ
-rank layout (port.Switch s l) = s * layout.links + l
-rank layout (port.Terminal t) = 0
+rank layout (Port.Switch s l) = s * layout.links + l
+rank layout (Port.Terminal t) = 0
 
 -- wires whose beginnings ascend, from lo on and below hi
 abbrev IsRun : Layout → ℕ → ℕ → List Wire → Type 0
@@ -62,7 +54,7 @@ run_range layout base step n (suc count) lo hi f a b each =
     (let e : base + n * step ≡ lo = sym a in let u : base + n * step + step ≡ base + (n + 1) * step = omega arith in subst (λ x. IsRun layout x (base + (n + 1) * step) (f n)) e (subst (λ x. IsRun layout (base + n * step) x (f n)) u (each n (omega arith))))
     (run_range layout base step (n + 1) count (base + (n + 1) * step) hi f refl (omega (arith, a, b)) (λ i lt. each i (omega (arith, lt))))
 
-wire_run : (layout : Layout) (s l : ℕ) (q : Option Port) → IsRun layout (s * layout.links + l) (s * layout.links + l + 1) (wire_to (port.Switch s l) q)
+wire_run : (layout : Layout) (s l : ℕ) (q : Option Port) → IsRun layout (s * layout.links + l) (s * layout.links + l + 1) (wire_to (Port.Switch s l) q)
 unfolding rank
 wire_run layout s l None = omega arith
 wire_run layout s l (Some q) = (omega arith, omega arith)
@@ -80,11 +72,11 @@ wires_run layout = run_range layout 0 layout.links 0 layout.switches 0 (layout.s
     let hi : s * layout.links + l + 1 ≡ 0 + s * layout.links + l * 1 + 1 = omega arith in
     subst (λ x. IsRun layout x (0 + s * layout.links + l * 1 + 1) (wire_at layout s l)) lo (subst (λ x. IsRun layout (s * layout.links + l) x (wire_at layout s l)) hi (wire_at_run layout s l))))
 
-wire_good : (layout : Layout) (s l : ℕ) (q : Option Port) → s < layout.switches → l < layout.links → layout.begins s l ≡ true → IsJoined layout s l q → AllByRecursion (IsGood layout) (wire_to (port.Switch s l) q)
+wire_good : (layout : Layout) (s l : ℕ) (q : Option Port) → s < layout.switches → l < layout.links → layout.begins s l ≡ true → IsJoined layout s l q → AllByRecursion (IsGood layout) (wire_to (Port.Switch s l) q)
 unfolding leads
 wire_good layout s l None a b c j = tt
-wire_good layout s l (Some (port.Switch t k)) a b c j = (record { begin = (b, c); end = (j.link, j.one_end ∙ ap not c); back = j.back }, tt)
-wire_good layout s l (Some (port.Terminal t)) a b c j = absurd j
+wire_good layout s l (Some (Port.Switch t k)) a b c j = (record { begin = (b, c); end = (j.link, j.one_end ∙ ap not c); back = j.back }, tt)
+wire_good layout s l (Some (Port.Terminal t)) a b c j = absurd j
 
 wires_good : (layout : Layout) → AreJoined layout → AllByRecursion (IsGood layout) (filled_wires layout)
 wires_good layout joined = each_flat (IsGood layout) (wires_from layout) 0 layout.switches (λ s a. each_flat (IsGood layout) (wire_at layout s) 0 layout.links (λ l b. ⊎_elim
@@ -123,17 +115,17 @@ module _ (layout : Layout) where
 
   -- terminals are on other links
 
-  no_begin : (s l : ℕ) (p : Port) → layout.links ≤ l → IsBegin layout p → port.Switch s l ≢ p
-  no_begin s l (port.Switch t k) le a same = let e : l ≡ k = cc in omega (arith, le, e, a.0)
-  no_begin s l (port.Terminal t) le a same = a
+  no_begin : (s l : ℕ) (p : Port) → layout.links ≤ l → IsBegin layout p → Port.Switch s l ≢ p
+  no_begin s l (Port.Switch t k) le a same = let e : l ≡ k = cc in omega (arith, le, e, a.0)
+  no_begin s l (Port.Terminal t) le a same = a
 
-  no_end : (s l : ℕ) (p : Port) → layout.links ≤ l → IsEnd layout p → port.Switch s l ≢ p
-  no_end s l (port.Switch t k) le a same = let e : l ≡ k = cc in omega (arith, le, e, a.0)
-  no_end s l (port.Terminal t) le a same = a
+  no_end : (s l : ℕ) (p : Port) → layout.links ≤ l → IsEnd layout p → Port.Switch s l ≢ p
+  no_end s l (Port.Switch t k) le a same = let e : l ≡ k = cc in omega (arith, le, e, a.0)
+  no_end s l (Port.Terminal t) le a same = a
 
-  own_none : (s l : ℕ) (ws : List Wire) → layout.links ≤ l → AllByRecursion (IsGood layout) ws → IsNone (port.Switch s l) (both_ends ws)
+  own_none : (s l : ℕ) (ws : List Wire) → layout.links ≤ l → AllByRecursion (IsGood layout) ws → IsNone (Port.Switch s l) (both_ends ws)
   own_none s l [] le good = tt
-  own_none s l (w ∷ ws) le good = (is_port-ne (port.Switch s l) w.here (no_begin s l w.here le good.0.begin), (is_port-ne (port.Switch s l) w.there (no_end s l w.there le good.0.end), own_none s l ws le good.1))
+  own_none s l (w ∷ ws) le good = (is_port-ne (Port.Switch s l) w.here (no_begin s l w.here le good.0.begin), (is_port-ne (Port.Switch s l) w.there (no_end s l w.there le good.0.end), own_none s l ws le good.1))
 
   module _ (p : ℕ) where
     own_port : ℕ → Port

@@ -1,19 +1,12 @@
 -- The names of a filled plan are names, and differ.
-use Rattle.std.proofs.Common.{◌≡◌, ℕ, ◌<◌, ◌≤◌, ◌*◌, ◌^◌, ◌&&◌, true, false, List, ◌∷◌, ◌++◌, map, length, nat_lt, bytes_eq, refl, sym, subst, arith}
-use Rattle.std.specs.List.{AllByRecursion, list_all, range_with_len}
-use Rattle.std.specs.Fmt.{decimal}
-use Rattle.std.proofs.lemmas.Bool.Decides.{nat_tests}
-use Rattle.std.proofs.lemmas.Fmt.{decimal_injective, length-decimal-le}
-use Rattle.std.proofs.lemmas.List.Elements.{All-append}
-use Rattle.std.proofs.lemmas.Simd.{map-map}
-use Rattle.c104_plan.specs.TextWords.{is_digit, is_letter, is_name, is_name_byte}
-use Rattle.c104_plan.specs.Layouts.{Layout, filled_name, filled_switches, filled_terminal, filled_terminals}
-use Rattle.c104_plan.specs.Plans.{AreNames, names}
-use Rattle.c104_plan.specs.declared.plans.Terminal.{Terminal}
-use Rattle.c104_plan.proofs.TextBytes.{list_all-weaker}
-use Rattle.c104_describe.proofs.PrintedNumbers.{decimal_digits}
-use Rattle.c104_describe.proofs.PrintedPorts.{differ_eq}
-use Rattle.c104_plan.proofs.RangeLists.{all_range, distinct_both, distinct_range, each_range}
+use Rattle.{c104_describe.proofs.{PrintedNumbers.decimal_digits, PrintedPorts.differ_eq}, c104_plan.proofs.RangeLists.all_range}
+use Rattle.c104_plan.{proofs.{RangeLists.{distinct_both, distinct_range, each_range}, TextBytes.list_all-weaker}, specs.Layouts.Layout}
+use Rattle.c104_plan.specs.{Layouts.{filled_name, filled_switches, filled_terminal, filled_terminals}, Plans.{AreNames, names}}
+use Rattle.c104_plan.specs.{TextWords.{is_digit, is_letter, is_name, is_name_byte}, declared.plans.Terminal.Terminal}
+use Rattle.std.proofs.Common.{List, arith, bytes_eq, false, length, map, nat_lt, refl, subst, sym, true, ℕ, ◌&&◌, ◌*◌, ◌++◌, ◌<◌, ◌^◌, ◌∷◌}
+use Rattle.std.proofs.{Common.{◌≡◌, ◌≤◌}, lemmas.{Bool.Decides.nat_tests, Fmt.{decimal_injective, length-decimal-le}}}
+use Rattle.std.{proofs.lemmas.{List.Elements.All-append, Simd.map-map}, specs.{Fmt.decimal, List.{AllByRecursion, list_all}}}
+use Rattle.std.specs.List.{range_with_len}
 
 digit_in_name : (c : ℕ) → is_digit c ≡ true → is_name_byte c ≡ true
 digit_in_name c is = grind (arith, nat_tests)

@@ -1,30 +1,24 @@
 -- What a line is told that says again what may be said once, or joins a switch to itself, by what was read of it.
-use Rattle.std.proofs.Common.{◌≡◌, ◌==◌, ℕ, List, [], ◌∷◌, true, false, bytes_eq, Some, Err, ◌∙◌, refl}
-use Rattle.c104_plan.specs.declared.ports.Port.TheVariants as port
-use Rattle.c104_plan.specs.declared.plans.PlanBase.{PlanBase}
-use Rattle.c104_plan.specs.declared.plans.PlanRandom.{PlanRandom}
-use Rattle.c104_plan.specs.Plans.{label_count, last_link, switch_number}
-use Rattle.c104_plan.specs.Ports.{is_any_at}
-use Rattle.c104_plan.specs.TextWords.{dots, is_name}
-use Rattle.c104_describe.specs.declared.words.Keyword.TheVariants as keyword
-use Rattle.c104_describe.specs.declared.faults.PlanFaultKind.TheVariants.{SelfWire, Twice}
-use Rattle.c104_describe.specs.PlanLines.{Draft, is_bad_number, is_from_to, is_one_dot, port_link, port_name, value_said}
-use Rattle.c104_describe.specs.LineFaults.{keyword_line}
-use Rattle.c104_describe.proofs.PlanLinesKept.{same_switch}
+use Rattle.c104_describe.{proofs.PlanLinesKept.same_switch, specs.{LineFaults.keyword_line, PlanLines.{Draft, is_bad_number, is_from_to}}}
+use Rattle.c104_describe.specs.PlanLines.{is_one_dot, port_link, port_name, value_said}
+use Rattle.c104_describe.specs.declared.{faults.PlanFaultKind.TheVariants.{SelfWire, Twice}, words.Keyword.Keyword}
+use Rattle.c104_plan.specs.{Plans.{label_count, last_link, switch_number}, Ports.is_any_at, TextWords.{dots, is_name}}
+use Rattle.{c104_plan.specs.declared.{plans.{PlanBase.PlanBase, PlanRandom.PlanRandom}, ports.Port.Port}, std.proofs.Common.{Err, List}}
+use Rattle.std.proofs.Common.{Some, [], bytes_eq, false, refl, true, ℕ, ◌==◌, ◌∙◌, ◌∷◌, ◌≡◌}
 
 -- a port of which all was read
 module _ (draft : Draft) (at : List ℕ) (s l : ℕ) (dot : is_one_dot (dots at) ≡ true) (good : is_bad_number (Some (port_link at)) (is_from_to 0 last_link) ≡ false) (is : value_said (port_link at) ≡ l) (named : is_name (port_name at) ≡ true) (known : switch_number draft.plan (port_name at) ≡ Some s) where
-  pub base_twice : (base : List ℕ) → is_bad_number (Some base) (is_from_to 0 0xffff) ≡ false → is_any_at (λ (b : PlanBase). b.port) draft.plan.bases (port.Switch s l) ≡ true → keyword_line draft keyword.Base (at ∷ base ∷ []) ≡ Err Twice
+  pub base_twice : (base : List ℕ) → is_bad_number (Some base) (is_from_to 0 0xffff) ≡ false → is_any_at (λ (b : PlanBase). b.port) draft.plan.bases (Port.Switch s l) ≡ true → keyword_line draft Keyword.Base (at ∷ base ∷ []) ≡ Err Twice
   base_twice base base_good said = rw (dot, good, base_good, named, known, is, said) refl
 
   pub random_twice : (base range : List ℕ) → is_bad_number (Some base) (is_from_to 0 0xffff) ≡ false → is_bad_number (Some range) (is_from_to 0 label_count) ≡ false
-      → is_any_at (λ (r : PlanRandom). r.port) draft.plan.randoms (port.Switch s l) ≡ true → keyword_line draft keyword.Random (at ∷ base ∷ range ∷ []) ≡ Err Twice
+      → is_any_at (λ (r : PlanRandom). r.port) draft.plan.randoms (Port.Switch s l) ≡ true → keyword_line draft Keyword.Random (at ∷ base ∷ range ∷ []) ≡ Err Twice
   random_twice base range base_good range_good said = rw (dot, good, base_good, range_good, named, known, is, said) refl
 
 -- two ports of one switch
 pub wire_self : (draft : Draft) (here there : List ℕ) (s t : ℕ) → is_one_dot (dots here) ≡ true → is_one_dot (dots there) ≡ true
     → is_bad_number (Some (port_link here)) (is_from_to 0 last_link) ≡ false → is_bad_number (Some (port_link there)) (is_from_to 0 last_link) ≡ false → is_name (port_name here) ≡ true → is_name (port_name there) ≡ true
-    → switch_number draft.plan (port_name here) ≡ Some s → switch_number draft.plan (port_name there) ≡ Some t → (s == t) ≡ true → keyword_line draft keyword.Wire (here ∷ there ∷ []) ≡ Err SelfWire
+    → switch_number draft.plan (port_name here) ≡ Some s → switch_number draft.plan (port_name there) ≡ Some t → (s == t) ≡ true → keyword_line draft Keyword.Wire (here ∷ there ∷ []) ≡ Err SelfWire
 wire_self draft here there s t dot far_dot good far_good named far_named known far_known equal =
     let same : bytes_eq (port_name here) (port_name there) ≡ true = same_switch draft.plan (port_name here) (port_name there) s t known far_known ∙ equal in
     rw (dot, far_dot, good, far_good, named, far_named, known, far_known, same) refl

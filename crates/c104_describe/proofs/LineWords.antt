@@ -1,18 +1,14 @@
 -- Lines of too many words, or of too few.
-use Rattle.std.proofs.Common.{◌≡◌, ◌<◌, ◌≤◌, ℕ, List, [], ◌∷◌, length, Bor, Err, refl, arith}
-use Rattle.c104_describe.specs.declared.faults.PlanFaultKind.TheVariants.{BadShape}
-use Rattle.c104_describe.specs.declared.words.Keyword.TheVariants as keyword
-use Rattle.c104_describe.specs.PlanLines.{Draft}
-use Rattle.c104_describe.specs.LineFaults.{keyword_line}
-use Rattle.c104_describe.specs.PlanWords.{Keyword}
-use Rattle.c104_describe.proofs.PlanReading.{texts}
+use Rattle.c104_describe.{proofs.PlanReading.texts, specs.{LineFaults.keyword_line, PlanLines.Draft, PlanWords.Keyword}}
+use Rattle.{c104_describe.specs.declared.faults.PlanFaultKind.TheVariants.BadShape, std.proofs.Common.{Bor, Err, List, [], arith, length}}
+use Rattle.std.proofs.Common.{refl, ℕ, ◌<◌, ◌∷◌, ◌≡◌, ◌≤◌}
 
-more_words : (k : Keyword) (draft : Draft) (a b c d : List ℕ) (more : List (List ℕ)) → (k ≡ keyword.Terminal → ⊥) → keyword_line draft k (a ∷ b ∷ c ∷ d ∷ more) ≡ Err BadShape
-more_words keyword.Terminal draft a b c d more other = absurd (other refl)
+more_words : (k : Keyword) (draft : Draft) (a b c d : List ℕ) (more : List (List ℕ)) → (k ≡ Keyword.Terminal → ⊥) → keyword_line draft k (a ∷ b ∷ c ∷ d ∷ more) ≡ Err BadShape
+more_words Keyword.Terminal draft a b c d more other = absurd (other refl)
 more_words k draft a b c d more other = refl
 
 -- four words or more
-pub many_words : (k : Keyword) (draft : Draft) (words : List (Bor (List ℕ))) → (k ≡ keyword.Terminal → ⊥) → 4 ≤ length words → keyword_line draft k (texts words) ≡ Err BadShape
+pub many_words : (k : Keyword) (draft : Draft) (words : List (Bor (List ℕ))) → (k ≡ Keyword.Terminal → ⊥) → 4 ≤ length words → keyword_line draft k (texts words) ≡ Err BadShape
 many_words k draft [] other long = absurd (omega (arith, long))
 many_words k draft (a ∷ []) other long = absurd (omega (arith, long))
 many_words k draft (a ∷ b ∷ []) other long = absurd (omega (arith, long))
@@ -20,7 +16,7 @@ many_words k draft (a ∷ b ∷ c ∷ []) other long = absurd (omega (arith, lon
 many_words k draft (a ∷ b ∷ c ∷ d ∷ more) other long = more_words k draft a.now b.now c.now d.now (texts more) other
 
 -- a terminal's line of too few
-pub few_words : (draft : Draft) (words : List (Bor (List ℕ))) → length words < 2 → keyword_line draft keyword.Terminal (texts words) ≡ Err BadShape
+pub few_words : (draft : Draft) (words : List (Bor (List ℕ))) → length words < 2 → keyword_line draft Keyword.Terminal (texts words) ≡ Err BadShape
 few_words draft [] short = refl
 few_words draft (a ∷ []) short = refl
 few_words draft (a ∷ b ∷ more) short = absurd (omega (arith, short))

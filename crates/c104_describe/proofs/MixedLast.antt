@@ -1,19 +1,14 @@
 -- A line's own faults come before that it doesn't go with the lines before it.
-use Rattle.std.proofs.Common.{◌≡◌, ℕ, Bool, true, false, List, [], ◌∷◌, ◌++◌, if◌then◌else◌, Option, Some, None, Result, Ok, Err, ◌⊎◌, inl, inr, sym, ◌∙◌, ap, refl}
-use Rattle.std.specs.List.{find}
-use Rattle.c104_describe.specs.declared.faults.PlanFaultKind.TheVariants as kind
-use Rattle.c104_describe.specs.PlanFaults.{PlanFaultKind}
-use Rattle.c104_plan.specs.Plans.{Plan}
-use Rattle.c104_describe.specs.PlanDrafts.{is_mixed}
-use Rattle.c104_describe.specs.PlanWords.{Keyword}
-use Rattle.c104_describe.specs.PlanLines.{Draft, LineParts, first_word_parts, keyword_parts}
-use Rattle.c104_describe.specs.LineFaults.{is_fault_of, keyword_line, read_parts, unless}
+use Rattle.c104_describe.specs.{LineFaults.{is_fault_of, keyword_line, read_parts, unless}, PlanDrafts.is_mixed, PlanFaults.PlanFaultKind}
+use Rattle.c104_describe.specs.{PlanLines.{Draft, LineParts, first_word_parts, keyword_parts}, PlanWords.Keyword}
+use Rattle.{c104_plan.specs.Plans.Plan, std.proofs.Common.{Bool, Err, List, None, Ok, Option, Result, Some, [], ap, false, if◌then◌else◌}}
+use Rattle.std.{proofs.Common.{inl, inr, refl, sym, true, ℕ, ◌++◌, ◌∙◌, ◌∷◌, ◌≡◌, ◌⊎◌}, specs.List.find}
 
 -- those of a line by itself
 own_faults : List PlanFaultKind
 own_faults =
-    kind.TooLong ∷ kind.UnknownWord ∷ kind.BadShape ∷ kind.BadNumber ∷ kind.BadName ∷ kind.NameTaken ∷ kind.UnknownName
-    ∷ kind.SelfWire ∷ kind.LinkTaken ∷ kind.TooMany ∷ kind.Twice ∷ []
+    PlanFaultKind.TooLong ∷ PlanFaultKind.UnknownWord ∷ PlanFaultKind.BadShape ∷ PlanFaultKind.BadNumber ∷ PlanFaultKind.BadName ∷ PlanFaultKind.NameTaken ∷ PlanFaultKind.UnknownName
+    ∷ PlanFaultKind.SelfWire ∷ PlanFaultKind.LinkTaken ∷ PlanFaultKind.TooMany ∷ PlanFaultKind.Twice ∷ []
 
 -- the first, and the second where there is no first
 first_of : Option PlanFaultKind → Option PlanFaultKind → Option PlanFaultKind
@@ -31,10 +26,10 @@ found_in has (x ∷ xs) ys = by_test (has x) (found_in has xs ys)
 
 -- what the line gave by itself, and then whether it goes with the others
 then_mixed : Bool → Result Draft PlanFaultKind → Result Draft PlanFaultKind
-then_mixed mixed (Ok next) = if mixed then Err kind.MixedStyle else Ok next
+then_mixed mixed (Ok next) = if mixed then Err PlanFaultKind.MixedStyle else Ok next
 then_mixed mixed (Err fault) = Err fault
 
-by_own : (own : Option PlanFaultKind) (mixed : Bool) (next : Draft) → unless (first_of own (if mixed then Some kind.MixedStyle else None)) next ≡ then_mixed mixed (unless (first_of own None) next)
+by_own : (own : Option PlanFaultKind) (mixed : Bool) (next : Draft) → unless (first_of own (if mixed then Some PlanFaultKind.MixedStyle else None)) next ≡ then_mixed mixed (unless (first_of own None) next)
 unfolding first_of then_mixed
 by_own None true next = refl
 by_own None false next = refl
@@ -44,7 +39,7 @@ last : (plan : Plan) (parts : LineParts) (mixed : Bool) → read_parts plan (rec
 unfolding own_faults
 last plan parts mixed =
     let at = λ (m : Bool). is_fault_of plan (record parts { is_mixed = m }) in
-    let behind = kind.MixedStyle ∷ kind.NoMemory ∷ [] in
+    let behind = PlanFaultKind.MixedStyle ∷ PlanFaultKind.NoMemory ∷ [] in
     let own : Option PlanFaultKind = find (at false) own_faults in
     ap (λ o. unless o parts.next) (found_in (at mixed) own_faults behind)
     ∙ by_own own mixed parts.next
@@ -55,7 +50,7 @@ module _ (plan : Plan) (parts : LineParts) (mixed : Bool) where
   unfolding then_mixed
   own_fault fault is = last plan parts mixed ∙ ap (then_mixed mixed) is
 
-  is_last : (next : Draft) → read_parts plan (record parts { is_mixed = false }) ≡ Ok next → read_parts plan (record parts { is_mixed = mixed }) ≡ (if mixed then Err kind.MixedStyle else Ok next)
+  is_last : (next : Draft) → read_parts plan (record parts { is_mixed = false }) ≡ Ok next → read_parts plan (record parts { is_mixed = mixed }) ≡ (if mixed then Err PlanFaultKind.MixedStyle else Ok next)
   unfolding then_mixed
   is_last next is = last plan parts mixed ∙ ap (then_mixed mixed) is
 
@@ -70,9 +65,9 @@ module _ (draft : Draft) (k : Keyword) (rest : List (List ℕ)) where
   known_fault : (fault : PlanFaultKind) → keyword_line draft k rest ≡ Err fault → known_line ≡ Err fault
   known_fault fault is = own_fault draft.plan parts (is_mixed draft k rest) fault is
 
-  pub known_or_memory : (fault : PlanFaultKind) → (keyword_line draft k rest ≡ Err fault) ⊎ (fault ≡ kind.NoMemory) → (known_line ≡ Err fault) ⊎ (fault ≡ kind.NoMemory)
+  pub known_or_memory : (fault : PlanFaultKind) → (keyword_line draft k rest ≡ Err fault) ⊎ (fault ≡ PlanFaultKind.NoMemory) → (known_line ≡ Err fault) ⊎ (fault ≡ PlanFaultKind.NoMemory)
   known_or_memory fault (inl is) = inl (known_fault fault is)
   known_or_memory fault (inr none) = inr none
 
-  pub known_mixed : (next : Draft) → is_mixed draft k rest ≡ true → keyword_line draft k rest ≡ Ok next → known_line ≡ Err kind.MixedStyle
-  known_mixed next mixed is = is_last draft.plan parts (is_mixed draft k rest) next is ∙ (λ i. if mixed i then Err kind.MixedStyle else Ok next)
+  pub known_mixed : (next : Draft) → is_mixed draft k rest ≡ true → keyword_line draft k rest ≡ Ok next → known_line ≡ Err PlanFaultKind.MixedStyle
+  known_mixed next mixed is = is_last draft.plan parts (is_mixed draft k rest) next is ∙ (λ i. if mixed i then Err PlanFaultKind.MixedStyle else Ok next)

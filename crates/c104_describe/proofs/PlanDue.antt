@@ -1,15 +1,11 @@
 -- A refusal is of the first faulty line, and a plan is of lines without a fault.
-use Rattle.std.proofs.Common.{◌≡◌, ℕ, zero, suc, ◌+◌, ◌≤◌, inl, inr, Bool, true, false, List, [], ◌∷◌, length, take, nat_le, slice_get, if◌then◌else◌, Some, Result, Ok, Err, sym, ◌∙◌, ap, subst, refl, arith}
-use Rattle.std.proofs.lemmas.Bool.Decides.{nat_tests}
-use Rattle.std.specs.Result.{IfErr}
-use Rattle.c104_describe.specs.declared.faults.PlanFaultKind.TheVariants.{TooLong}
-use Rattle.c104_plan.specs.TextCut.{lines, most_bytes}
-use Rattle.c104_describe.specs.PlanFaults.{PlanFault, PlanFaultKind, fault_at, no_memory}
-use Rattle.c104_plan.specs.Plans.{Plan}
-use Rattle.c104_describe.specs.PlanLines.{Draft}
-use Rattle.c104_describe.specs.LineFaults.{IsFaultless, read_plan_line}
-use Rattle.c104_describe.specs.PlanText.{draft_after_line, plan_of_draft, read_description, empty_draft, read_plan_lines, GivesPlanOrNoMemory, AreFaultless, IsDue, IsFirstFault}
-use Rattle.c104_describe.proofs.FaultOrder.{least_fault, faultless}
+use Rattle.c104_describe.{proofs.FaultOrder.{faultless, least_fault}, specs.LineFaults.{IsFaultless, read_plan_line}}
+use Rattle.c104_describe.specs.{PlanFaults.{PlanFault, PlanFaultKind, fault_at, no_memory}, PlanLines.Draft, PlanText.AreFaultless}
+use Rattle.c104_describe.specs.PlanText.{GivesPlanOrNoMemory, IsDue, IsFirstFault, draft_after_line, empty_draft, plan_of_draft}
+use Rattle.c104_describe.specs.{PlanText.{read_description, read_plan_lines}, declared.faults.PlanFaultKind.TheVariants.TooLong}
+use Rattle.{c104_plan.specs.{Plans.Plan, TextCut.{lines, most_bytes}}, std.proofs.Common.{Bool, Err, List, Ok, Result, Some, [], ap, arith}}
+use Rattle.std.proofs.Common.{false, if◌then◌else◌, inl, inr, length, nat_le, refl, slice_get, subst, suc, sym, take, true, zero, ℕ, ◌+◌}
+use Rattle.std.{proofs.{Common.{◌∙◌, ◌∷◌, ◌≡◌, ◌≤◌}, lemmas.Bool.Decides.nat_tests}, specs.Result.IfErr}
 
 -- the first faulty line among some, of which the first has this number
 record Found (n : ℕ) (list : List (List ℕ)) (draft : Draft) (fault : PlanFault) : Type 0 where

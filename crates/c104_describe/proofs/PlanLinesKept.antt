@@ -1,33 +1,20 @@
 -- What each line without a fault keeps of the plan: what its type does, and what the line leaves as it was.
-use Rattle.std.proofs.Common.{◌≡◌, ℕ, ◌+◌, ◌<◌, ◌≤◌, ◌||◌, ◌==◌, Bool, true, false, not, List, [], ◌∷◌, ◌++◌, length, is_none, nat_le, nat_lt, bytes_eq, codes, if◌then◌else◌, Option, Some, None, Ok, sym, ap, refl, arith, get_or, ◌∙◌, length-append}
-use Rattle.std.specs.Option.{option_map_or, unwrap_or}
-use Rattle.std.proofs.lemmas.Bool.{and_parts, or_parts, eqb-true, eqb-false, leb-true, ltb-false}
-use Rattle.std.proofs.lemmas.List.Quantifiers.{position-Some}
-use Rattle.std.proofs.lemmas.Slice.Eq.{bytes_eq-Decides}
-use Rattle.c104_interval.specs.declared.intervals.TheConstants.{ROWS}
-use Rattle.c104_interval.specs.declared.intervals.Select.TheVariants.{Link, Discard, Sink}
-use Rattle.c104_plan.specs.declared.ports.Port.TheVariants as port
-use Rattle.c104_plan.specs.declared.ports.Port.{Port}
-use Rattle.c104_plan.specs.declared.ports.Wire.{Wire}
-use Rattle.c104_plan.specs.declared.plans.PlanBase.{PlanBase}
-use Rattle.c104_plan.specs.declared.plans.PlanRandom.{PlanRandom}
-use Rattle.c104_plan.specs.declared.plans.PlanRow.{PlanRow}
-use Rattle.c104_plan.specs.declared.plans.Shape.{Shape}
-use Rattle.c104_plan.specs.declared.plans.Shape.TheVariants.{Hand, Tree, UpDown, Mesh, Cube}
-use Rattle.c104_plan.specs.declared.plans.Terminal.{Terminal}
-use Rattle.c104_plan.specs.Ports.{IsSwitchPort, is_any_at}
-use Rattle.c104_plan.specs.TextWords.{read_number}
-use Rattle.c104_plan.specs.Plans.{Plan, IsUnset, IsPlan, IsPlanSelect, IsPlanWire, is_buffer_size, is_continued, is_deleted, is_linked, label_count, last_link, most_header_bytes, most_terminals, next_first, rows_of, switch_number, terminal_number, total_count}
-use Rattle.c104_plan.proofs.PlanKept.{with_switch, with_terminal, with_wire, with_continue, with_delete, with_base, with_row, with_random, with_header, with_buffer}
-use Rattle.c104_describe.specs.declared.words.Keyword.TheVariants as keyword
-use Rattle.c104_describe.specs.declared.faults.PlanFaultKind.TheVariants as kind
-use Rattle.c104_describe.specs.PlanFaults.{PlanFaultKind}
-use Rattle.c104_plan.proofs.LayoutNumbers.{power_small}
-use Rattle.c104_describe.proofs.FilledKept.{cube_kept as filled_cube, mesh_kept as filled_mesh}
-use Rattle.c104_describe.specs.PlanWords.{Keyword}
-use Rattle.c104_describe.specs.PlanDrafts.{is_by_hand, is_mixed}
-use Rattle.c104_describe.specs.PlanLines.{Draft, LineParts, is_bad_number, is_from_to, keyword_parts, names_port, number_said, port_link, port_name, port_said, select_said, selected_link, switch_said, terminal_parts, value_said}
-use Rattle.c104_describe.specs.LineFaults.{is_fault_of}
+use Rattle.c104_describe.{proofs.FilledKept.{cube_kept as filled_cube, mesh_kept as filled_mesh}, specs.LineFaults.is_fault_of}
+use Rattle.c104_describe.specs.{PlanDrafts.{is_by_hand, is_mixed}, PlanFaults.PlanFaultKind, PlanLines.{Draft, LineParts, is_bad_number}}
+use Rattle.c104_describe.specs.PlanLines.{is_from_to, keyword_parts, names_port, number_said, port_link, port_name, port_said, select_said}
+use Rattle.c104_describe.specs.{PlanLines.{selected_link, switch_said, terminal_parts, value_said}, PlanWords.Keyword}
+use Rattle.c104_interval.specs.declared.intervals.{Select.TheVariants.{Discard, Link, Sink}, TheConstants.ROWS}
+use Rattle.c104_plan.proofs.{LayoutNumbers.power_small, PlanKept.{with_base, with_buffer, with_continue, with_delete, with_header}}
+use Rattle.c104_plan.{proofs.PlanKept.{with_random, with_row, with_switch, with_terminal, with_wire}, specs.Plans.{IsPlan, IsPlanSelect}}
+use Rattle.c104_plan.specs.Plans.{IsPlanWire, IsUnset, Plan, is_buffer_size, is_continued, is_deleted, is_linked, label_count, last_link}
+use Rattle.c104_plan.specs.Plans.{most_header_bytes, most_terminals, next_first, rows_of, switch_number, terminal_number, total_count}
+use Rattle.c104_plan.specs.{Ports.{IsSwitchPort, is_any_at}, TextWords.read_number, declared.plans.PlanBase.PlanBase}
+use Rattle.c104_plan.specs.declared.plans.{PlanRandom.PlanRandom, PlanRow.PlanRow, Shape.{Shape, TheVariants.{Cube, Hand, Mesh, Tree}}}
+use Rattle.c104_plan.specs.declared.{plans.{Shape.TheVariants.UpDown, Terminal.Terminal}, ports.{Port.Port, Wire.Wire}}
+use Rattle.std.proofs.Common.{Bool, List, None, Ok, Option, Some, [], ap, arith, bytes_eq, codes, false, get_or, if◌then◌else◌, is_none}
+use Rattle.std.proofs.Common.{length, length-append, nat_le, nat_lt, not, refl, sym, true, ℕ, ◌++◌, ◌+◌, ◌<◌, ◌==◌, ◌||◌, ◌∙◌, ◌∷◌, ◌≡◌}
+use Rattle.std.proofs.{Common.◌≤◌, lemmas.Bool.{and_parts, eqb-false, eqb-true, leb-true, ltb-false, or_parts}}
+use Rattle.std.{proofs.lemmas.{List.Quantifiers.position-Some, Slice.Eq.bytes_eq-Decides}, specs.Option.{option_map_or, unwrap_or}}
 
 -- Conditions that hold
 
@@ -88,7 +75,7 @@ module _ (plan : Plan) (at : List ℕ) (known : is_none (switch_number plan (por
   port_kept good = let low = (number_kept 0 last_link (port_link at) good).1 in (switch_inside plan (port_name at) known, omega (arith, low))
 
   port_free : (test : Port → Bool) → names_port plan test at ≡ false → test (port_said plan at) ≡ false
-  port_free test is = free_of (switch_number plan (port_name at)) (λ switch. test (port.Switch switch (value_said (port_link at)))) known is
+  port_free test is = free_of (switch_number plan (port_name at)) (λ switch. test (Port.Switch switch (value_said (port_link at)))) known is
 
 -- names of two switches are the same where their numbers are
 pub same_switch : (plan : Plan) (a b : List ℕ) (s t : ℕ) → switch_number plan a ≡ Some s → switch_number plan b ≡ Some t → bytes_eq a b ≡ (s == t)
@@ -191,10 +178,10 @@ module _ (draft : Draft) (is_plain : Bool) (kept : IsPlan draft.plan) where
   pub hand_kept : not (is_by_hand plan.shape) ≡ false → plan.shape ≡ Hand
   hand_kept = by_hand plan.shape
 
-  pub switch_kept : (name : List ℕ) → IsRead keyword.Switch (name ∷ []) → IsBeside plan (after keyword.Switch (name ∷ []))
+  pub switch_kept : (name : List ℕ) → IsRead Keyword.Switch (name ∷ []) → IsBeside plan (after Keyword.Switch (name ∷ []))
   switch_kept name sound = (
     record {
-      kept = with_switch plan kept name (by_hand plan.shape (sound kind.MixedStyle)) (holds _ _ (sound kind.BadName)) (or_parts _ _ (sound kind.NameTaken)).0 (one_more _ _ (or_parts _ _ (sound kind.TooMany)).0);
+      kept = with_switch plan kept name (by_hand plan.shape (sound PlanFaultKind.MixedStyle)) (holds _ _ (sound PlanFaultKind.BadName)) (or_parts _ _ (sound PlanFaultKind.NameTaken)).0 (one_more _ _ (or_parts _ _ (sound PlanFaultKind.TooMany)).0);
       shape = refl;
       more = omega (arith, length-append plan.switches (name ∷ []));
       terminals = refl;
@@ -205,18 +192,18 @@ module _ (draft : Draft) (is_plain : Bool) (kept : IsPlan draft.plan) where
   pub terminal_kept : (name at : List ℕ) (range : Option (List ℕ) × Option (List ℕ)) (mixed : Bool) → plan.shape ≡ Hand
       → IsSound draft.plan (record (terminal_parts draft name at (Ok range)) { is_known = true; is_plain = is_plain; is_mixed = mixed }) → IsHosting range.1 plan (terminal_parts draft name at (Ok range)).next.plan
   terminal_kept name at range mixed hand sound =
-      let numbers = or_parts _ _ (sound kind.BadNumber) in
-      let names = sound kind.BadName in
-      let known = (or_parts _ _ (sound kind.UnknownName)).0 in
-      let counts = or_parts _ _ (sound kind.TooMany) in
+      let numbers = or_parts _ _ (sound PlanFaultKind.BadNumber) in
+      let names = sound PlanFaultKind.BadName in
+      let known = (or_parts _ _ (sound PlanFaultKind.UnknownName)).0 in
+      let counts = or_parts _ _ (sound PlanFaultKind.TooMany) in
       let count = number_said 1 range.0 in
       let first = number_said (next_first plan.terminals) range.1 in
       let t : Terminal = record { name = name; switch = switch_said plan (port_name at); link = value_said (port_link at); first = first; count = count } in
       let some : 1 ≤ count = count_kept range.0 (or_parts _ _ numbers.1).0 in
       let ends : first + count ≤ label_count = ltb-false label_count (first + count) (or_parts _ _ counts.1).0 in
       record {
-        kept = with_terminal plan kept t hand (holds _ _ names) (or_parts _ _ (sound kind.NameTaken)).0 (port_kept plan at known numbers.0)
-            (port_free plan at known (is_linked plan) (or_parts _ _ (sound kind.LinkTaken)).0) (one_more (length plan.terminals) most_terminals counts.0)
+        kept = with_terminal plan kept t hand (holds _ _ names) (or_parts _ _ (sound PlanFaultKind.NameTaken)).0 (port_kept plan at known numbers.0)
+            (port_free plan at known (is_linked plan) (or_parts _ _ (sound PlanFaultKind.LinkTaken)).0) (one_more (length plan.terminals) most_terminals counts.0)
             (omega (arith, some), ends);
         shape = refl;
         switches = refl;
@@ -226,82 +213,82 @@ module _ (draft : Draft) (is_plain : Bool) (kept : IsPlan draft.plan) where
             omega (arith, next_first-pushed plan.terminals t, total-pushed plan.terminals t, so_far, there);
       }
 
-  pub wire_kept : (here there : List ℕ) → IsRead keyword.Wire (here ∷ there ∷ []) → IsBeside plan (after keyword.Wire (here ∷ there ∷ []))
+  pub wire_kept : (here there : List ℕ) → IsRead Keyword.Wire (here ∷ there ∷ []) → IsBeside plan (after Keyword.Wire (here ∷ there ∷ []))
   wire_kept here there sound =
-      let numbers = or_parts _ _ (sound kind.BadNumber) in
-      let used = or_parts _ _ (sound kind.UnknownName) in
+      let numbers = or_parts _ _ (sound PlanFaultKind.BadNumber) in
+      let used = or_parts _ _ (sound PlanFaultKind.UnknownName) in
       let far_used = or_parts _ _ used.1 in
-      let linked = or_parts _ _ (sound kind.LinkTaken) in
+      let linked = or_parts _ _ (sound PlanFaultKind.LinkTaken) in
       let s = switch_said plan (port_name here) in
       let t = switch_said plan (port_name there) in
       let differ : (s == t) ≡ false =
-      sym (same_switch plan (port_name here) (port_name there) s t (there_is _ used.0) (there_is _ far_used.0)) ∙ (or_parts _ _ (sound kind.SelfWire)).0 in
+      sym (same_switch plan (port_name here) (port_name there) s t (there_is _ used.0) (there_is _ far_used.0)) ∙ (or_parts _ _ (sound PlanFaultKind.SelfWire)).0 in
       let w : Wire = record { here = port_said plan here; there = port_said plan there } in
       let is_wire : IsPlanWire (length plan.switches) w =
       (port_kept plan here used.0 numbers.0, port_kept plan there far_used.0 (or_parts _ _ numbers.1).0, eqb-false s t differ) in (
-        next_by _ (with_wire plan kept w (by_hand plan.shape (sound kind.MixedStyle)) is_wire (rw differ refl) (port_free plan here used.0 (is_linked plan) linked.0) (port_free plan there far_used.0 (is_linked plan) (or_parts _ _ linked.1).0)) refl refl refl,
+        next_by _ (with_wire plan kept w (by_hand plan.shape (sound PlanFaultKind.MixedStyle)) is_wire (rw differ refl) (port_free plan here used.0 (is_linked plan) linked.0) (port_free plan there far_used.0 (is_linked plan) (or_parts _ _ linked.1).0)) refl refl refl,
         same_unset plan _ refl refl refl refl,
       )
 
-  pub continue_kept : (at : List ℕ) → plan.shape ≡ Hand → IsRead keyword.Continue (at ∷ []) → IsNext plan (after keyword.Continue (at ∷ []))
+  pub continue_kept : (at : List ℕ) → plan.shape ≡ Hand → IsRead Keyword.Continue (at ∷ []) → IsNext plan (after Keyword.Continue (at ∷ []))
   continue_kept at hand sound =
-      let numbers = or_parts _ _ (sound kind.BadNumber) in
-      let known = (or_parts _ _ (sound kind.UnknownName)).0 in
+      let numbers = or_parts _ _ (sound PlanFaultKind.BadNumber) in
+      let known = (or_parts _ _ (sound PlanFaultKind.UnknownName)).0 in
       let low = number_kept 1 last_link (port_link at) (or_parts _ _ numbers.1).0 in
       let is = port_kept plan at known numbers.0 in
-      next_by _ (with_continue plan kept (port_said plan at) hand (is.0, omega (arith, low.0), is.1) (port_free plan at known (is_continued plan) (sound kind.Twice))) refl refl refl
+      next_by _ (with_continue plan kept (port_said plan at) hand (is.0, omega (arith, low.0), is.1) (port_free plan at known (is_continued plan) (sound PlanFaultKind.Twice))) refl refl refl
 
-  pub delete_kept : (name : List ℕ) → IsRead keyword.Delete (name ∷ []) → IsBeside plan (after keyword.Delete (name ∷ []))
+  pub delete_kept : (name : List ℕ) → IsRead Keyword.Delete (name ∷ []) → IsBeside plan (after Keyword.Delete (name ∷ []))
   delete_kept name sound =
-      let known = (or_parts _ _ (sound kind.UnknownName)).0 in (
-        next_by _ (with_delete plan kept (unwrap_or (terminal_number plan name) 0) (terminal_inside plan name known) (free_of (terminal_number plan name) (is_deleted plan) known (sound kind.Twice))) refl refl refl,
+      let known = (or_parts _ _ (sound PlanFaultKind.UnknownName)).0 in (
+        next_by _ (with_delete plan kept (unwrap_or (terminal_number plan name) 0) (terminal_inside plan name known) (free_of (terminal_number plan name) (is_deleted plan) known (sound PlanFaultKind.Twice))) refl refl refl,
         same_unset plan _ refl refl refl refl,
       )
 
-  pub base_kept : (at base : List ℕ) → plan.shape ≡ Hand → IsRead keyword.Base (at ∷ base ∷ []) → IsNext plan (after keyword.Base (at ∷ base ∷ []))
+  pub base_kept : (at base : List ℕ) → plan.shape ≡ Hand → IsRead Keyword.Base (at ∷ base ∷ []) → IsNext plan (after Keyword.Base (at ∷ base ∷ []))
   base_kept at base hand sound =
-      let numbers = or_parts _ _ (sound kind.BadNumber) in
-      let known = (or_parts _ _ (sound kind.UnknownName)).0 in
+      let numbers = or_parts _ _ (sound PlanFaultKind.BadNumber) in
+      let known = (or_parts _ _ (sound PlanFaultKind.UnknownName)).0 in
       let low = (number_kept 0 0xffff base (or_parts _ _ numbers.1).0).1 in
       let b : PlanBase = record { port = port_said plan at; base = value_said base } in
-      next_by _ (with_base plan kept b hand (port_kept plan at known numbers.0) (omega (arith, low)) (port_free plan at known (is_any_at (λ (b : PlanBase). b.port) plan.bases) (sound kind.Twice))) refl refl refl
+      next_by _ (with_base plan kept b hand (port_kept plan at known numbers.0) (omega (arith, low)) (port_free plan at known (is_any_at (λ (b : PlanBase). b.port) plan.bases) (sound PlanFaultKind.Twice))) refl refl refl
 
-  pub row_kept : (at limit select : List ℕ) → plan.shape ≡ Hand → IsRead keyword.Row (at ∷ limit ∷ select ∷ []) → IsNext plan (after keyword.Row (at ∷ limit ∷ select ∷ []))
+  pub row_kept : (at limit select : List ℕ) → plan.shape ≡ Hand → IsRead Keyword.Row (at ∷ limit ∷ select ∷ []) → IsNext plan (after Keyword.Row (at ∷ limit ∷ select ∷ []))
   row_kept at limit select hand sound =
-      let numbers = or_parts _ _ (sound kind.BadNumber) in
+      let numbers = or_parts _ _ (sound PlanFaultKind.BadNumber) in
       let others = or_parts _ _ numbers.1 in
-      let known = (or_parts _ _ (sound kind.UnknownName)).0 in
+      let known = (or_parts _ _ (sound PlanFaultKind.UnknownName)).0 in
       let r : PlanRow = record { port = port_said plan at; limit = value_said limit; select = select_said select } in
-      let few = one_row (switch_number plan (port_name at)) (λ switch. length (rows_of (port.Switch switch (value_said (port_link at))) plan.rows)) known (or_parts _ _ (sound kind.TooMany)).0 in
+      let few = one_row (switch_number plan (port_name at)) (λ switch. length (rows_of (Port.Switch switch (value_said (port_link at))) plan.rows)) known (or_parts _ _ (sound PlanFaultKind.TooMany)).0 in
       next_by _ (with_row plan kept r hand (port_kept plan at known numbers.0) (number_kept 0 label_count limit others.0).1 (select_kept select (or_parts _ _ others.1).0) few) refl refl refl
 
-  pub random_kept : (at base range : List ℕ) → plan.shape ≡ Hand → IsRead keyword.Random (at ∷ base ∷ range ∷ []) → IsNext plan (after keyword.Random (at ∷ base ∷ range ∷ []))
+  pub random_kept : (at base range : List ℕ) → plan.shape ≡ Hand → IsRead Keyword.Random (at ∷ base ∷ range ∷ []) → IsNext plan (after Keyword.Random (at ∷ base ∷ range ∷ []))
   random_kept at base range hand sound =
-      let numbers = or_parts _ _ (sound kind.BadNumber) in
+      let numbers = or_parts _ _ (sound PlanFaultKind.BadNumber) in
       let others = or_parts _ _ numbers.1 in
-      let known = (or_parts _ _ (sound kind.UnknownName)).0 in
+      let known = (or_parts _ _ (sound PlanFaultKind.UnknownName)).0 in
       let low = (number_kept 0 0xffff base others.0).1 in
       let r : PlanRandom = record { port = port_said plan at; base = value_said base; range = value_said range } in
-      next_by _ (with_random plan kept r hand (port_kept plan at known numbers.0) (omega (arith, low)) (number_kept 0 label_count range (or_parts _ _ others.1).0).1 (port_free plan at known (is_any_at (λ (r : PlanRandom). r.port) plan.randoms) (sound kind.Twice))) refl refl refl
+      next_by _ (with_random plan kept r hand (port_kept plan at known numbers.0) (omega (arith, low)) (number_kept 0 label_count range (or_parts _ _ others.1).0).1 (port_free plan at known (is_any_at (λ (r : PlanRandom). r.port) plan.randoms) (sound PlanFaultKind.Twice))) refl refl refl
 
-  pub header_kept : (bytes : List ℕ) → IsRead keyword.Header (bytes ∷ []) → IsBeside plan (after keyword.Header (bytes ∷ []))
+  pub header_kept : (bytes : List ℕ) → IsRead Keyword.Header (bytes ∷ []) → IsBeside plan (after Keyword.Header (bytes ∷ []))
   header_kept bytes sound =
-      let within = number_kept 1 most_header_bytes bytes (or_parts _ _ (sound kind.BadNumber)).0 in
+      let within = number_kept 1 most_header_bytes bytes (or_parts _ _ (sound PlanFaultKind.BadNumber)).0 in
       (next_by _ (with_header plan kept (value_said bytes) (omega (arith, within.0)) within.1) refl refl refl, same_unset plan _ refl refl refl refl)
 
-  pub buffer_kept : (size : List ℕ) → IsRead keyword.Buffer (size ∷ []) → IsBeside plan (after keyword.Buffer (size ∷ []))
+  pub buffer_kept : (size : List ℕ) → IsRead Keyword.Buffer (size ∷ []) → IsBeside plan (after Keyword.Buffer (size ∷ []))
   buffer_kept size sound =
-      (next_by _ (with_buffer plan kept (value_said size) (tested (read_number size) is_buffer_size (or_parts _ _ (sound kind.BadNumber)).0)) refl refl refl, same_unset plan _ refl refl refl refl)
+      (next_by _ (with_buffer plan kept (value_said size) (tested (read_number size) is_buffer_size (or_parts _ _ (sound PlanFaultKind.BadNumber)).0)) refl refl refl, same_unset plan _ refl refl refl refl)
 
   -- a mesh or a cube, where there was no switch
   abbrev pub IsFilledPlan : Plan → Type 0
   IsFilledPlan next = IsPlan next × is_by_hand next.shape ≡ false
 
-  pub mesh_kept : (width height terminals : List ℕ) → plan.switches ≡ [] → IsRead keyword.Mesh (width ∷ height ∷ terminals ∷ []) → IsFilledPlan (after keyword.Mesh (width ∷ height ∷ terminals ∷ []))
+  pub mesh_kept : (width height terminals : List ℕ) → plan.switches ≡ [] → IsRead Keyword.Mesh (width ∷ height ∷ terminals ∷ []) → IsFilledPlan (after Keyword.Mesh (width ∷ height ∷ terminals ∷ []))
   mesh_kept width height terminals none sound =
-      let numbers = or_parts _ _ (sound kind.BadNumber) in
+      let numbers = or_parts _ _ (sound PlanFaultKind.BadNumber) in
       let others = or_parts _ _ numbers.1 in
-      let counts = or_parts _ _ (sound kind.TooMany) in
+      let counts = or_parts _ _ (sound PlanFaultKind.TooMany) in
       let some = number_kept 1 28 terminals (or_parts _ _ others.1).0 in (
         filled_mesh plan kept none (value_said width) (value_said height) (value_said terminals) (record {
           wide = number_kept 1 64 width numbers.0;
@@ -314,16 +301,16 @@ module _ (draft : Draft) (is_plain : Bool) (kept : IsPlan draft.plan) where
         refl,
       )
 
-  pub cube_kept : (dimensions terminals : List ℕ) → plan.switches ≡ [] → IsRead keyword.Cube (dimensions ∷ terminals ∷ []) → IsFilledPlan (after keyword.Cube (dimensions ∷ terminals ∷ []))
+  pub cube_kept : (dimensions terminals : List ℕ) → plan.switches ≡ [] → IsRead Keyword.Cube (dimensions ∷ terminals ∷ []) → IsFilledPlan (after Keyword.Cube (dimensions ∷ terminals ∷ []))
   cube_kept dimensions terminals none sound =
-      let numbers = or_parts _ _ (sound kind.BadNumber) in
+      let numbers = or_parts _ _ (sound PlanFaultKind.BadNumber) in
       let low = (number_kept 0 6 dimensions numbers.0).1 in
       let some = number_kept 1 26 terminals (or_parts _ _ numbers.1).0 in (
         filled_cube plan kept none (value_said dimensions) (value_said terminals) (record {
           low = low;
           some = some.0;
           links = some.1;
-          labels = ltb-false _ _ (or_parts _ _ (sound kind.TooMany)).0;
+          labels = ltb-false _ _ (or_parts _ _ (sound PlanFaultKind.TooMany)).0;
         }) (power_small (value_said dimensions) low),
         refl,
       )

@@ -1,11 +1,8 @@
 -- One line read: what the rest says after it is what was due before it.
-use Rattle.std.proofs.Common.{◌≡◌, ◌<◌, ℕ, ◌+◌, List, ◌∷◌, length, map, drop, get_or, Bor, Ok, Err, sym, ◌∙◌, ap, add-one, arith}
-use Rattle.std.proofs.Math.Seq.{drop-cons}
-use Rattle.std.proofs.lemmas.List.{get_or-map, length-map}
-use Rattle.c104_describe.specs.PlanFaults.{PlanFaultKind, fault_at}
-use Rattle.c104_describe.specs.PlanLines.{Draft}
-use Rattle.c104_describe.specs.LineFaults.{read_plan_line}
-use Rattle.c104_describe.specs.PlanText.{draft_after_line, empty_draft, read_plan_lines}
+use Rattle.c104_describe.specs.{LineFaults.read_plan_line, PlanFaults.{PlanFaultKind, fault_at}, PlanLines.Draft, PlanText.draft_after_line}
+use Rattle.{c104_describe.specs.PlanText.{empty_draft, read_plan_lines}, std.proofs.Common.{Bor, Err, List, Ok, add-one, ap, arith, drop}}
+use Rattle.std.proofs.{Common.{get_or, length, map, sym, ℕ, ◌+◌, ◌<◌, ◌∙◌, ◌∷◌, ◌≡◌}, Math.Seq.drop-cons, lemmas.List.get_or-map}
+use Rattle.std.proofs.lemmas.List.{length-map}
 
 -- the texts of lent slices
 abbrev pub texts : List (Bor (List ℕ)) → List (List ℕ)

@@ -1,17 +1,10 @@
 -- A plan to be labelled from a root keeps what every plan does.
-use Rattle.std.proofs.Common.{◌≡◌, ℕ, ◌<◌, ◌≤◌, ◌+◌, List, [], ◌∷◌, ◌++◌, map, length, All, sym, subst, ap, refl, arith}
-use Rattle.std.proofs.lemmas.List.{length-map}
-use Rattle.std.proofs.lemmas.List.Elements.{All-map, All-weaker}
-use Rattle.c104_plan.specs.declared.plans.Shape.{Shape}
-use Rattle.c104_plan.specs.declared.plans.Shape.TheVariants.{Hand, Tree, UpDown, Mesh, Cube}
-use Rattle.c104_plan.specs.Distinctness.{AreDistinct}
-use Rattle.c104_plan.specs.Ports.{is_port, both_ends, IsSwitchPort}
-use Rattle.c104_plan.specs.PlanParts.{without_first}
-use Rattle.c104_plan.specs.Plans.{Plan, AreNames, AreTerminals, IsOfShape, IsPlan, IsRange, IsTreePlan, IsUnset, host_port, next_first, total_count}
-use Rattle.c104_plan.specs.declared.plans.Terminal.{Terminal}
-use Rattle.c104_plan.proofs.PlanRanges.{next_first-le}
-use Rattle.std.proofs.lemmas.Simd.{map-map}
-use Rattle.c104_plan.proofs.NamesKept.{same_names}
+use Rattle.c104_plan.{proofs.{NamesKept.same_names, PlanRanges.next_first-le}, specs.{Distinctness.AreDistinct, PlanParts.without_first}}
+use Rattle.c104_plan.specs.Plans.{AreNames, AreTerminals, IsOfShape, IsPlan, IsRange, IsTreePlan, IsUnset, Plan, host_port, next_first}
+use Rattle.c104_plan.specs.{Plans.total_count, Ports.{IsSwitchPort, both_ends, is_port}, declared.plans.Shape.{Shape, TheVariants.Cube}}
+use Rattle.{c104_plan.specs.declared.plans.{Shape.TheVariants.{Hand, Mesh, Tree, UpDown}, Terminal.Terminal}, std.proofs.Common.{All, List}}
+use Rattle.std.proofs.Common.{[], ap, arith, length, map, refl, subst, sym, ℕ, ◌++◌, ◌+◌, ◌<◌, ◌∷◌, ◌≡◌, ◌≤◌}
+use Rattle.std.proofs.lemmas.{List.{Elements.{All-map, All-weaker}, length-map}, Simd.map-map}
 
 -- a plan of so many switches is labelled as this shape from one of them
 abbrev pub IsRootIn : ℕ → Shape → Type 0

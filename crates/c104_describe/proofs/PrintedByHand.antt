@@ -1,14 +1,13 @@
 -- What is printed of a network that is made line by line is read back.
-use Rattle.std.proofs.Common.{◌≡◌, ℕ, ◌+◌, true, false, [], ◌++◌, length, map, None, Ok, refl, sym, ap, ◌∙◌, append-nil, append_assoc}
-use Rattle.c104_plan.specs.declared.plans.Shape.TheVariants.{Hand}
-use Rattle.c104_describe.specs.PlanDrafts.{is_by_hand}
-use Rattle.c104_plan.specs.PlanParts.{has_some, empty_plan}
-use Rattle.c104_plan.specs.Plans.{Plan, IsPlan}
-use Rattle.c104_describe.specs.PlanText.{plan_of_draft}
-use Rattle.c104_describe.specs.PlanPrint.{network_lines, switch_words, terminal_words, wire_words, continue_words, delete_words, base_words, row_words, random_words}
-use Rattle.c104_describe.proofs.PrintedText.{read_kind, read_lines_of_words}
-use Rattle.c104_describe.proofs.PrintedParts.{lines_after_rows, lines_after_bases, lines_after_deletes, lines_after_continues, lines_after_network}
-use Rattle.c104_describe.proofs.PrintedSteps.{draft_with, draft_by_hand, with_switches, with_terminals, with_wires, with_continues, with_deletes, with_bases, with_rows, with_randoms, switch_step, terminal_step, wire_step, continue_step, delete_step, base_step, row_step, random_step}
+use Rattle.c104_describe.proofs.PrintedParts.{lines_after_bases, lines_after_continues, lines_after_deletes, lines_after_network}
+use Rattle.c104_describe.proofs.{PrintedParts.lines_after_rows, PrintedSteps.{base_step, continue_step, delete_step, draft_by_hand}}
+use Rattle.c104_describe.proofs.PrintedSteps.{draft_with, random_step, row_step, switch_step, terminal_step, wire_step, with_bases}
+use Rattle.c104_describe.proofs.PrintedSteps.{with_continues, with_deletes, with_randoms, with_rows, with_switches, with_terminals}
+use Rattle.c104_describe.{proofs.{PrintedSteps.with_wires, PrintedText.{read_kind, read_lines_of_words}}, specs.PlanDrafts.is_by_hand}
+use Rattle.c104_describe.specs.PlanPrint.{base_words, continue_words, delete_words, network_lines, random_words, row_words, switch_words}
+use Rattle.{c104_describe.specs.{PlanPrint.{terminal_words, wire_words}, PlanText.plan_of_draft}, c104_plan.specs.PlanParts.empty_plan}
+use Rattle.{c104_plan.specs.{PlanParts.has_some, Plans.{IsPlan, Plan}, declared.plans.Shape.TheVariants.Hand}, std.proofs.Common.{None, Ok}}
+use Rattle.std.proofs.Common.{[], ap, append-nil, append_assoc, false, length, map, refl, sym, true, ℕ, ◌++◌, ◌+◌, ◌∙◌, ◌≡◌}
 
 module _ (plan : Plan) (kept : IsPlan plan) (shape : plan.shape ≡ Hand) where
   hand : is_by_hand plan.shape ≡ true

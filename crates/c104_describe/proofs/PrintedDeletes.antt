@@ -1,11 +1,8 @@
 -- Behind a network with nothing set at links come deletes alone, and these are read back.
-use Rattle.std.proofs.Common.{◌≡◌, ℕ, Bool, [], ◌++◌, map, Option, Ok, refl, sym, ap, ◌∙◌}
-use Rattle.c104_plan.specs.Plans.{Plan, IsPlan, IsUnset}
-use Rattle.c104_plan.specs.declared.plans.Shape.{Shape}
-use Rattle.c104_describe.specs.PlanPrint.{continue_words, delete_words, base_words, row_words, random_words}
-use Rattle.c104_describe.proofs.PrintedText.{read_kind, read_lines_of_words}
-use Rattle.c104_describe.proofs.PrintedParts.{lines_after_network}
-use Rattle.c104_describe.proofs.PrintedSteps.{draft_with, with_deletes, delete_step}
+use Rattle.c104_describe.proofs.{PrintedParts.lines_after_network, PrintedSteps.{delete_step, draft_with, with_deletes}}
+use Rattle.c104_describe.{proofs.PrintedText.{read_kind, read_lines_of_words}, specs.PlanPrint.{base_words, continue_words, delete_words}}
+use Rattle.{c104_describe.specs.PlanPrint.{random_words, row_words}, c104_plan.specs.Plans.{IsPlan, IsUnset, Plan}}
+use Rattle.{c104_plan.specs.declared.plans.Shape.Shape, std.proofs.Common.{Bool, Ok, Option, [], ap, map, refl, sym, ℕ, ◌++◌, ◌∙◌, ◌≡◌}}
 
 module _ (plan : Plan) (kept : IsPlan plan) (unset : IsUnset plan) where
   pub deletes_alone : lines_after_network plan ≡ map (delete_words plan) plan.deletes ++ []

@@ -1,20 +1,11 @@
 -- What is printed of a mesh or a cube is read back.
-use Rattle.std.proofs.Common.{◌≡◌, ℕ, ◌+◌, ◌*◌, ◌^◌, true, false, List, [], ◌∷◌, nat_lt, None, Ok, refl, sym, ap, ◌∙◌, arith}
+use Rattle.c104_describe.proofs.{PrintedDeletes.{deletes_alone, deletes_read}, PrintedNumbers.{number-decimal, value-decimal}}
+use Rattle.c104_describe.proofs.{PrintedParts.lines_after_network, PrintedSteps.{draft_with, with_deletes}, PrintedText.read_lines_of_words}
+use Rattle.c104_describe.specs.{LineFaults.read_plan_words, PlanLines.filled_plan, PlanPrint.{cube_words, mesh_words}}
+use Rattle.{c104_describe.specs.PlanText.{draft_after_line, plan_of_draft}, c104_plan.specs.Layouts.{IsCube, IsMesh, Layout, cube, mesh}}
+use Rattle.c104_plan.specs.{PlanParts.empty_plan, Plans.{IsFilled, IsPlan, Plan}, declared.plans.Shape.{Shape, TheVariants.{Cube, Mesh}}}
+use Rattle.std.proofs.Common.{List, None, Ok, [], ap, arith, false, nat_lt, refl, sym, true, ℕ, ◌*◌, ◌+◌, ◌^◌, ◌∙◌, ◌∷◌, ◌≡◌}
 use Rattle.std.proofs.lemmas.Bool.Decides.{nat_tests}
-use Rattle.c104_plan.specs.declared.plans.Shape.TheVariants.{Mesh, Cube}
-use Rattle.c104_plan.specs.Layouts.{Layout, IsCube, IsMesh, cube, mesh}
-use Rattle.c104_plan.specs.Plans.{Plan, IsFilled, IsPlan}
-use Rattle.c104_plan.specs.declared.plans.Shape.{Shape}
-use Rattle.c104_describe.specs.PlanLines.{filled_plan}
-use Rattle.c104_describe.specs.LineFaults.{read_plan_words}
-use Rattle.c104_describe.specs.PlanText.{draft_after_line, plan_of_draft}
-use Rattle.c104_plan.specs.PlanParts.{empty_plan}
-use Rattle.c104_describe.specs.PlanPrint.{cube_words, mesh_words}
-use Rattle.c104_describe.proofs.PrintedText.{read_lines_of_words}
-use Rattle.c104_describe.proofs.PrintedParts.{lines_after_network}
-use Rattle.c104_describe.proofs.PrintedNumbers.{number-decimal, value-decimal}
-use Rattle.c104_describe.proofs.PrintedSteps.{draft_with, with_deletes}
-use Rattle.c104_describe.proofs.PrintedDeletes.{deletes_alone, deletes_read}
 
 module _ (plan : Plan) (kept : IsPlan plan) where
   -- the plan behind the lines of the header length and the buffer size

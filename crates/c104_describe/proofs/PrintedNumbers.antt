@@ -1,15 +1,10 @@
 -- What is printed of a number is read back.
-use Rattle.std.proofs.Common.{◌≡◌, ℕ, ◌+◌, ◌*◌, ◌-◌, ◌<◌, ◌≤◌, ◌^◌, ◌&&◌, true, false, not, if◌then◌else◌, List, length, fold, nat_le, nat_lt, Some, None, ap, ◌∙◌, arith, rules}
-use Rattle.std.proofs.lemmas.Bool.Decides.{nat_tests}
-use Rattle.std.specs.Fmt.{decimal}
-use Rattle.std.specs.List.{list_all}
-use Rattle.std.specs.Option.{option_map_or, unwrap_or}
-use Rattle.std.proofs.lemmas.Fmt.{digits_decimal, digits_value-decimal, length-decimal-le, decimal_nonempty}
-use Rattle.std.proofs.lemmas.Str.Parse.{IsNumeralModel, numerals_by_fold}
-use Rattle.c104_plan.specs.TextWords.{read_number, value_of, is_digit}
-use Rattle.c104_describe.specs.PlanLines.{is_bad_number, is_from_to, value_said}
-use Rattle.c104_describe.proofs.PrintedText.{is_word, is_word_byte}
-use Rattle.c104_plan.proofs.TextBytes.{list_all-weaker}
+use Rattle.c104_describe.{proofs.PrintedText.{is_word, is_word_byte}, specs.PlanLines.{is_bad_number, is_from_to, value_said}}
+use Rattle.{c104_plan.{proofs.TextBytes.list_all-weaker, specs.TextWords.{is_digit, read_number, value_of}}, std.proofs.Common.{List, None}}
+use Rattle.std.proofs.Common.{Some, ap, arith, false, fold, if◌then◌else◌, length, nat_le, nat_lt, not, rules, true, ℕ, ◌&&◌, ◌*◌, ◌+◌, ◌-◌}
+use Rattle.std.proofs.{Common.{◌<◌, ◌^◌, ◌∙◌, ◌≡◌, ◌≤◌}, lemmas.{Bool.Decides.nat_tests, Fmt.{decimal_nonempty, digits_decimal}}}
+use Rattle.std.proofs.lemmas.{Fmt.{digits_value-decimal, length-decimal-le}, Str.Parse.{IsNumeralModel, numerals_by_fold}}
+use Rattle.std.specs.{Fmt.decimal, List.list_all, Option.{option_map_or, unwrap_or}}
 
 abbrev are_digits : List ℕ → Type 0
 are_digits ds = list_all is_digit ds ≡ true

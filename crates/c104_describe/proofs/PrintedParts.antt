@@ -1,7 +1,7 @@
 -- A plan's text is the header length and the buffer size, and then one kind after the other.
-use Rattle.std.proofs.Common.{◌≡◌, ℕ, List, [], ◌∷◌, ◌++◌, map, refl, sym, ap, ◌∙◌, append_assoc}
-use Rattle.c104_plan.specs.Plans.{Plan}
-use Rattle.c104_describe.specs.PlanPrint.{sentence, text_of, header_words, buffer_words, network_lines, continue_words, delete_words, base_words, row_words, random_words, plan_lines, plan_text}
+use Rattle.c104_describe.specs.PlanPrint.{base_words, buffer_words, continue_words, delete_words, header_words, network_lines, plan_lines}
+use Rattle.{c104_describe.specs.PlanPrint.{plan_text, random_words, row_words, sentence, text_of}, c104_plan.specs.Plans.Plan}
+use Rattle.std.proofs.Common.{List, [], ap, append_assoc, map, refl, sym, ℕ, ◌++◌, ◌∙◌, ◌∷◌, ◌≡◌}
 
 -- The lines of a plan behind those of one kind, told from the last kind on
 

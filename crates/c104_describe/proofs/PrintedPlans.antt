@@ -1,26 +1,16 @@
 -- What is printed of a plan is read back as that plan.
-use Rattle.std.proofs.Common.{◌≡◌, ℕ, ◌≤◌, true, false, List, ◌∷◌, ◌++◌, length, nat_le, Some, None, Ok, Err, if◌then◌else◌, refl, subst, ap, ◌∙◌, arith}
-use Rattle.std.proofs.lemmas.Bool.Decides.{nat_tests}
-use Rattle.std.specs.Fmt.{decimal}
-use Rattle.c104_describe.specs.declared.faults.PlanFaultKind.TheVariants.{TooLong}
-use Rattle.c104_plan.specs.declared.plans.Shape.TheVariants.{Hand, Tree, UpDown, Mesh, Cube}
-use Rattle.c104_plan.specs.TextCut.{lines, most_bytes}
-use Rattle.c104_plan.specs.TextWords.{read_number}
-use Rattle.c104_describe.specs.PlanFaults.{fault_at}
-use Rattle.c104_plan.specs.Plans.{Plan, IsOfShape, IsPlan, most_header_bytes}
-use Rattle.c104_plan.specs.declared.plans.Shape.{Shape}
-use Rattle.c104_describe.specs.LineFaults.{read_plan_words}
-use Rattle.c104_describe.specs.PlanText.{empty_draft, plan_of_draft, read_description, read_plan_lines, draft_after_line}
-use Rattle.c104_plan.specs.PlanParts.{empty_plan}
-use Rattle.c104_describe.specs.PlanPrint.{header_words, buffer_words, network_lines, plan_text, text_of}
-use Rattle.c104_describe.proofs.PrintedText.{lines_of, read_lines_of_words, read_sentences}
-use Rattle.c104_describe.proofs.PrintedParts.{lines_by_kinds, plan_lines-by_kinds, lines_after_network, lines_after_buffer}
-use Rattle.c104_describe.proofs.PrintedNumbers.{number-decimal, value-decimal, read_number-decimal}
-use Rattle.c104_describe.proofs.PrintedSteps.{draft_with}
-use Rattle.c104_describe.proofs.PrintedWords.{small_buffer, words_plan}
-use Rattle.c104_describe.proofs.PrintedByHand.{read_by_hand}
-use Rattle.c104_describe.proofs.PrintedTrees.{read_tree}
-use Rattle.c104_describe.proofs.PrintedFills.{read_cube, read_mesh}
+use Rattle.c104_describe.proofs.{PrintedByHand.read_by_hand, PrintedFills.{read_cube, read_mesh}, PrintedNumbers.number-decimal}
+use Rattle.c104_describe.proofs.{PrintedNumbers.{read_number-decimal, value-decimal}, PrintedParts.lines_after_buffer}
+use Rattle.c104_describe.proofs.{PrintedParts.{lines_after_network, lines_by_kinds, plan_lines-by_kinds}, PrintedSteps.draft_with}
+use Rattle.c104_describe.proofs.{PrintedText.{lines_of, read_lines_of_words, read_sentences}, PrintedTrees.read_tree}
+use Rattle.c104_describe.{proofs.PrintedWords.{small_buffer, words_plan}, specs.{LineFaults.read_plan_words, PlanFaults.fault_at}}
+use Rattle.c104_describe.specs.{PlanPrint.{buffer_words, header_words, network_lines, plan_text, text_of}, PlanText.draft_after_line}
+use Rattle.c104_describe.specs.PlanText.{empty_draft, plan_of_draft, read_description, read_plan_lines}
+use Rattle.{c104_describe.specs.declared.faults.PlanFaultKind.TheVariants.TooLong, c104_plan.specs.{PlanParts.empty_plan, Plans.IsOfShape}}
+use Rattle.c104_plan.specs.{Plans.{IsPlan, Plan, most_header_bytes}, TextCut.{lines, most_bytes}, TextWords.read_number}
+use Rattle.{c104_plan.specs.declared.plans.Shape.{Shape, TheVariants.{Cube, Hand, Mesh, Tree, UpDown}}, std.proofs.Common.{Err, List, None}}
+use Rattle.std.proofs.Common.{Ok, Some, ap, arith, false, if◌then◌else◌, length, nat_le, refl, subst, true, ℕ, ◌++◌, ◌∙◌, ◌∷◌, ◌≡◌, ◌≤◌}
+use Rattle.std.{proofs.lemmas.Bool.Decides.nat_tests, specs.Fmt.decimal}
 
 module _ (plan : Plan) (kept : IsPlan plan) where
   header_read : read_plan_words empty_draft true (header_words plan.header) ≡ Ok (record { plan = record empty_plan { header = plan.header }; header_said = true; buffer_said = false; from_said = false; labels = None })

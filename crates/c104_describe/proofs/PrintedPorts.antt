@@ -1,24 +1,15 @@
 -- What is printed of a name, a port and what a row selects is read back.
-use Rattle.std.proofs.Common.{◌≡◌, ◌≢◌, ℕ, ◌+◌, ◌<◌, ◌&&◌, ◌||◌, ◌==◌, Bool, true, false, not, cond, if◌then◌else◌, List, [], ◌∷◌, ◌++◌, length, drop, nat_lt, bytes_eq, codes, Some, None, refl, sym, ap, ◌∙◌, arith, length-append}
-use Rattle.std.proofs.lemmas.Bool.{and_parts}
-use Rattle.std.proofs.lemmas.Bool.Decides.{nat_tests}
-use Rattle.std.proofs.Math.Seq.{take-append_seam, drop-append-add}
-use Rattle.std.specs.Fmt.{decimal}
-use Rattle.std.specs.List.{list_all, list_any, prefix_len, position_or_len}
-use Rattle.std.proofs.lemmas.List.Folds.{list_all-append}
-use Rattle.std.proofs.lemmas.Slice.Eq.{bytes_eq-Decides}
-use Rattle.c104_interval.specs.declared.intervals.Select.{Select}
-use Rattle.c104_interval.specs.declared.intervals.Select.TheVariants.{Link, Discard, Sink}
-use Rattle.c104_plan.specs.declared.text.Dots.{Dots}
-use Rattle.c104_plan.specs.declared.text.Dots.TheVariants.{At, Several}
-use Rattle.c104_plan.specs.TextWords.{is_digit, is_name, is_name_byte, dots, dots_from}
-use Rattle.c104_describe.specs.PlanLines.{is_bad_number, is_from_to, is_one_dot, port_link, port_name, select_said, selected_link, sides_at, value_said}
-use Rattle.c104_plan.specs.Plans.{IsPlanSelect, last_link}
-use Rattle.c104_plan.specs.PortTexts.{select_text}
-use Rattle.c104_describe.proofs.PrintedText.{is_word, is_word_byte}
-use Rattle.c104_plan.proofs.TextBytes.{list_all-weaker}
-use Rattle.c104_describe.proofs.PrintedNumbers.{decimal_digits, decimal_bytes, number-decimal, value-decimal, word-decimal}
-use Rattle.c104_plan.proofs.NameText.{name_bytes}
+use Rattle.c104_describe.proofs.PrintedNumbers.{decimal_bytes, decimal_digits, number-decimal, value-decimal, word-decimal}
+use Rattle.c104_describe.{proofs.PrintedText.{is_word, is_word_byte}, specs.PlanLines.{is_bad_number, is_from_to, is_one_dot, port_link}}
+use Rattle.c104_describe.specs.PlanLines.{port_name, select_said, selected_link, sides_at, value_said}
+use Rattle.{c104_interval.specs.declared.intervals.Select.{Select, TheVariants.{Discard, Link, Sink}}, c104_plan.proofs.NameText.name_bytes}
+use Rattle.c104_plan.{proofs.TextBytes.list_all-weaker, specs.{Plans.{IsPlanSelect, last_link}, PortTexts.select_text, TextWords.dots}}
+use Rattle.c104_plan.specs.{TextWords.{dots_from, is_digit, is_name, is_name_byte}, declared.text.Dots.{Dots, TheVariants.{At, Several}}}
+use Rattle.std.proofs.Common.{Bool, List, None, Some, [], ap, arith, bytes_eq, codes, cond, drop, false, if◌then◌else◌, length}
+use Rattle.std.proofs.Common.{length-append, nat_lt, not, refl, sym, true, ℕ, ◌&&◌, ◌++◌, ◌+◌, ◌<◌, ◌==◌, ◌||◌, ◌∙◌, ◌∷◌, ◌≡◌, ◌≢◌}
+use Rattle.std.proofs.{Math.Seq.{drop-append-add, take-append_seam}, lemmas.Bool.{Decides.nat_tests, and_parts}}
+use Rattle.std.{proofs.lemmas.{List.Folds.list_all-append, Slice.Eq.bytes_eq-Decides}, specs.{Fmt.decimal, List.{list_all, list_any}}}
+use Rattle.std.specs.List.{position_or_len, prefix_len}
 
 -- Names
 

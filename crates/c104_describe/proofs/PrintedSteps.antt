@@ -1,39 +1,21 @@
 -- Each printed line is read back, after the lines before it.
-use Rattle.std.proofs.Common.{◌≡◌, ◌≢◌, ℕ, ◌+◌, ◌<◌, ◌≤◌, ◌==◌, ◌||◌, Bool, true, false, cond, List, [], ◌∷◌, ◌++◌, length, map, filter, position, get_or, bytes_eq, nat_lt, All, Option, Some, None, Ok, refl, sym, subst, ap, ◌∙◌, arith, append_assoc, append-nil, length-append}
-use Rattle.std.proofs.lemmas.Bool.Decides.{nat_tests}
-use Rattle.std.proofs.lemmas.Bool.{or_parts}
-use Rattle.std.proofs.lemmas.Slice.Eq.{bytes_eq-Decides}
-use Rattle.std.proofs.lemmas.List.{get_or-append-add, get_or-map, get_or_append_left, length-map, map-append}
-use Rattle.std.proofs.lemmas.List.Elements.{filter-append}
-use Rattle.std.proofs.lemmas.List.Folds.{list_any-append}
-use Rattle.std.proofs.lemmas.Option.{slice_get-get_or}
-use Rattle.std.specs.Fmt.{decimal}
-use Rattle.std.specs.Option.{option_map_or, unwrap_or}
-use Rattle.std.specs.List.{list_any}
-use Rattle.c104_interval.specs.declared.intervals.Select.{Select}
-use Rattle.c104_plan.specs.Distinctness.{AreDistinct}
-use Rattle.c104_plan.specs.declared.ports.Port.TheVariants as port
-use Rattle.c104_plan.specs.TextWords.{dots, is_name}
-use Rattle.c104_plan.specs.Ports.{is_port, is_any_at, both_ends, IsSwitchPort}
-use Rattle.c104_plan.specs.declared.ports.Port.{Port}
-use Rattle.c104_plan.specs.declared.ports.Wire.{Wire}
-use Rattle.c104_plan.specs.Plans.{Plan, IsPlan, IsPlanSelect, IsPlanWire, IsLaterPort, IsRange, names, host_port, linked_ports, is_taken, is_linked, is_deleted, is_row_of, rows_of, switch_number, terminal_number, label_count, last_link}
-use Rattle.c104_plan.specs.declared.plans.PlanBase.{PlanBase}
-use Rattle.c104_plan.specs.declared.plans.PlanRandom.{PlanRandom}
-use Rattle.c104_plan.specs.declared.plans.PlanRow.{PlanRow}
-use Rattle.c104_plan.specs.declared.plans.Terminal.{Terminal}
-use Rattle.c104_describe.specs.PlanDrafts.{Draft, is_by_hand}
-use Rattle.c104_plan.specs.PlanParts.{has_some}
-use Rattle.c104_describe.specs.PlanLines.{is_bad_number, is_from_to, is_one_dot, port_link, port_name, value_said}
-use Rattle.c104_describe.specs.LineFaults.{read_plan_words}
-use Rattle.c104_describe.specs.PlanPrint.{switch_words, terminal_words, wire_words, continue_words, delete_words, base_words, row_words, random_words}
-use Rattle.c104_plan.specs.declared.plans.Shape.{Shape}
-use Rattle.c104_plan.specs.PortTexts.{terminal_name, port_text}
-use Rattle.c104_describe.proofs.DistinctPlaces.{All-here, fresh, distinct_front, distinct_back, distinct_mapped, position_at}
-use Rattle.c104_plan.proofs.PortLemmas.{is_port-refl}
-use Rattle.c104_describe.proofs.PrintedNumbers.{number-decimal, value-decimal}
-use Rattle.c104_describe.proofs.PrintedPorts.{cut-port, link-good, link-port, name-port, select-good, select-is}
-use Rattle.c104_describe.proofs.PlanLinesKept.{same_switch}
+use Rattle.c104_describe.proofs.DistinctPlaces.{All-here, distinct_back, distinct_front, distinct_mapped, fresh, position_at}
+use Rattle.c104_describe.proofs.{PlanLinesKept.same_switch, PrintedNumbers.{number-decimal, value-decimal}, PrintedPorts.cut-port}
+use Rattle.c104_describe.{proofs.PrintedPorts.{link-good, link-port, name-port, select-good, select-is}, specs.LineFaults.read_plan_words}
+use Rattle.c104_describe.specs.{PlanDrafts.{Draft, is_by_hand}, PlanLines.{is_bad_number, is_from_to, is_one_dot, port_link, port_name}}
+use Rattle.c104_describe.specs.{PlanLines.value_said, PlanPrint.{base_words, continue_words, delete_words, random_words, row_words}}
+use Rattle.{c104_describe.specs.PlanPrint.{switch_words, terminal_words, wire_words}, c104_interval.specs.declared.intervals.Select.Select}
+use Rattle.c104_plan.{proofs.PortLemmas.is_port-refl, specs.{Distinctness.AreDistinct, PlanParts.has_some, Plans.{IsLaterPort, IsPlan}}}
+use Rattle.c104_plan.specs.Plans.{IsPlanSelect, IsPlanWire, IsRange, Plan, host_port, is_deleted, is_linked, is_row_of, is_taken}
+use Rattle.c104_plan.specs.Plans.{label_count, last_link, linked_ports, names, rows_of, switch_number, terminal_number}
+use Rattle.c104_plan.specs.{PortTexts.{port_text, terminal_name}, Ports.{IsSwitchPort, both_ends, is_any_at, is_port}, TextWords.dots}
+use Rattle.c104_plan.specs.{TextWords.is_name, declared.plans.{PlanBase.PlanBase, PlanRandom.PlanRandom, PlanRow.PlanRow, Shape.Shape}}
+use Rattle.{c104_plan.specs.declared.{plans.Terminal.Terminal, ports.{Port.Port, Wire.Wire}}, std.proofs.Common.{All, Bool, List, None, Ok}}
+use Rattle.std.proofs.Common.{Option, Some, [], ap, append-nil, append_assoc, arith, bytes_eq, cond, false, filter, get_or, length}
+use Rattle.std.proofs.Common.{length-append, map, nat_lt, position, refl, subst, sym, true, ℕ, ◌++◌, ◌+◌, ◌<◌, ◌==◌, ◌||◌, ◌∙◌, ◌∷◌, ◌≡◌}
+use Rattle.std.proofs.{Common.{◌≢◌, ◌≤◌}, lemmas.{Bool.{Decides.nat_tests, or_parts}, List.{Elements.filter-append, Folds.list_any-append}}}
+use Rattle.std.proofs.lemmas.{List.{get_or-append-add, get_or-map, get_or_append_left, length-map, map-append}, Option.slice_get-get_or}
+use Rattle.std.{proofs.lemmas.Slice.Eq.bytes_eq-Decides, specs.{Fmt.decimal, List.list_any, Option.{option_map_or, unwrap_or}}}
 
 pub bytes_eq-refl : (xs : List ℕ) → bytes_eq xs xs ≡ true
 bytes_eq-refl xs = (bytes_eq-Decides xs xs).1 refl
@@ -112,20 +94,20 @@ module _ (plan : Plan) (kept : IsPlan plan) where
   abbrev pub name_of : ℕ → List ℕ
   name_of s = get_or plan.switches s []
 
-  module _ (s l : ℕ) (is : IsSwitchPort (length plan.switches) (port.Switch s l)) where
+  module _ (s l : ℕ) (is : IsSwitchPort (length plan.switches) (Port.Switch s l)) where
     pub port_named : is_name (name_of s) ≡ true
     port_named = switch_named s [] is.0
 
-    pub port_printed : port_text plan (port.Switch s l) ≡ name_of s ++ 0x2e ∷ decimal l
+    pub port_printed : port_text plan (Port.Switch s l) ≡ name_of s ++ 0x2e ∷ decimal l
     port_printed = ap (λ name. unwrap_or name [] ++ 0x2e ∷ decimal l) (slice_get-get_or plan.switches s [] is.0)
 
-    pub port_cut : is_one_dot (dots (port_text plan (port.Switch s l))) ≡ true
+    pub port_cut : is_one_dot (dots (port_text plan (Port.Switch s l))) ≡ true
     port_cut = ap (λ word. is_one_dot (dots word)) port_printed ∙ cut-port (name_of s) l port_named is.1
 
-    pub port_name-is : port_name (port_text plan (port.Switch s l)) ≡ name_of s
+    pub port_name-is : port_name (port_text plan (Port.Switch s l)) ≡ name_of s
     port_name-is = ap port_name port_printed ∙ name-port (name_of s) l port_named is.1
 
-    pub port_link-is : port_link (port_text plan (port.Switch s l)) ≡ decimal l
+    pub port_link-is : port_link (port_text plan (Port.Switch s l)) ≡ decimal l
     port_link-is = ap port_link port_printed ∙ link-port (name_of s) l port_named is.1
 
     pub link_good : is_bad_number (Some (decimal l)) (is_from_to 0 last_link) ≡ false
@@ -215,9 +197,9 @@ module _ (plan : Plan) (kept : IsPlan plan) where
       → list_any (λ q. is_port q here) (linked_ports plan.terminals done) ≡ false → list_any (λ q. is_port q there) (linked_ports plan.terminals done) ≡ false
       → read_plan_words (draft_with said None (with_wires done)) true (wire_words plan (record { here = here; there = there })) ≡ Ok (draft_with said None (with_wires (done ++ record { here = here; there = there } ∷ [])))
   unfolding is_linked switch_number
-  wire_line said hand done (port.Terminal t) there is free far_free = absurd is.0
-  wire_line said hand done (port.Switch s l) (port.Terminal t) is free far_free = absurd is.1
-  wire_line said hand done (port.Switch s l) (port.Switch r k) is free far_free =
+  wire_line said hand done (Port.Terminal t) there is free far_free = absurd is.0
+  wire_line said hand done (Port.Switch s l) (Port.Terminal t) is free far_free = absurd is.1
+  wire_line said hand done (Port.Switch s l) (Port.Switch r k) is free far_free =
       let other : s ≢ r = is.2 in
       let differ : (s == r) ≡ false = grind (arith, nat_tests) in
       let apart : bytes_eq (name_of s) (name_of r) ≡ false = same_switch plan (name_of s) (name_of r) s r (port_number s l is.0) (port_number r k is.1) ∙ differ in
@@ -232,9 +214,9 @@ module _ (plan : Plan) (kept : IsPlan plan) where
   continue_line : (said : Bool) → is_by_hand plan.shape ≡ true → (done : List Port) (p : Port) → IsLaterPort (length plan.switches) p → list_any (λ q. is_port q p) done ≡ false
       → read_plan_words (draft_with said None (with_continues done)) true (continue_words plan p) ≡ Ok (draft_with said None (with_continues (done ++ p ∷ [])))
   unfolding is_any_at switch_number
-  continue_line said hand done (port.Terminal t) later free = absurd later
-  continue_line said hand done (port.Switch s l) later free =
-      let is : IsSwitchPort (length plan.switches) (port.Switch s l) = (later.0, later.2) in
+  continue_line said hand done (Port.Terminal t) later free = absurd later
+  continue_line said hand done (Port.Switch s l) later free =
+      let is : IsSwitchPort (length plan.switches) (Port.Switch s l) = (later.0, later.2) in
       let not_first = number-decimal 1 last_link l (omega (arith, later.1)) (omega (arith, later.2)) (omega (arith, later.2)) in
       rw (port_cut s l is, port_name-is s l is, port_link-is s l is, link_good s l is, link_is s l is, not_first, port_named s l is, port_number s l is, free, hand) refl
 
@@ -267,8 +249,8 @@ module _ (plan : Plan) (kept : IsPlan plan) where
   base_line : (said : Bool) → is_by_hand plan.shape ≡ true → (done : List PlanBase) (p : Port) (base : ℕ) → IsSwitchPort (length plan.switches) p → base < label_count → list_any (λ (b : PlanBase). is_port b.port p) done ≡ false
       → read_plan_words (draft_with said None (with_bases done)) true (base_words plan (record { port = p; base = base })) ≡ Ok (draft_with said None (with_bases (done ++ record { port = p; base = base } ∷ [])))
   unfolding is_any_at switch_number
-  base_line said hand done (port.Terminal t) base is range free = absurd is
-  base_line said hand done (port.Switch s l) base is range free =
+  base_line said hand done (Port.Terminal t) base is range free = absurd is
+  base_line said hand done (Port.Switch s l) base is range free =
       let base_good = number-decimal 0 0xffff base (omega arith) (omega arith) (omega arith) in
       rw (port_cut s l is, port_name-is s l is, port_link-is s l is, link_good s l is, link_is s l is, base_good, value-decimal base (omega arith), port_named s l is, port_number s l is, free, hand) refl
 
@@ -286,10 +268,10 @@ module _ (plan : Plan) (kept : IsPlan plan) where
   row_line : (said : Bool) → is_by_hand plan.shape ≡ true → (done : List PlanRow) (p : Port) (limit : ℕ) (select : Select) → IsSwitchPort (length plan.switches) p → limit ≤ label_count → IsPlanSelect select → length (rows_of p done) < 36
       → read_plan_words (draft_with said None (with_rows done)) true (row_words plan (record { port = p; limit = limit; select = select })) ≡ Ok (draft_with said None (with_rows (done ++ record { port = p; limit = limit; select = select } ∷ [])))
   unfolding switch_number
-  row_line said hand done (port.Terminal t) limit select is few selectable room = absurd is
-  row_line said hand done (port.Switch s l) limit select is few selectable room =
+  row_line said hand done (Port.Terminal t) limit select is few selectable room = absurd is
+  row_line said hand done (Port.Switch s l) limit select is few selectable room =
       let limit_good = number-decimal 0 label_count limit (omega arith) few (omega arith) in
-      let fits : nat_lt 36 (length (rows_of (port.Switch s l) done) + 1) ≡ false = grind (arith, nat_tests) in
+      let fits : nat_lt 36 (length (rows_of (Port.Switch s l) done) + 1) ≡ false = grind (arith, nat_tests) in
       rw (port_cut s l is, port_name-is s l is, port_link-is s l is, link_good s l is, link_is s l is, limit_good, value-decimal limit (omega arith), select-good select selectable, select-is select selectable, port_named s l is, port_number s l is, fits, hand) refl
 
   row_room : (done : List PlanRow) (r : PlanRow) (more : List PlanRow) → done ++ r ∷ more ≡ plan.rows → length (rows_of r.port done) < 36
@@ -314,8 +296,8 @@ module _ (plan : Plan) (kept : IsPlan plan) where
   random_line : (said : Bool) → is_by_hand plan.shape ≡ true → (done : List PlanRandom) (p : Port) (base range : ℕ) → IsSwitchPort (length plan.switches) p → base < label_count → range ≤ label_count → list_any (λ (r : PlanRandom). is_port r.port p) done ≡ false
       → read_plan_words (draft_with said None (with_randoms done)) true (random_words plan (record { port = p; base = base; range = range })) ≡ Ok (draft_with said None (with_randoms (done ++ record { port = p; base = base; range = range } ∷ [])))
   unfolding is_any_at switch_number
-  random_line said hand done (port.Terminal t) base range is low few free = absurd is
-  random_line said hand done (port.Switch s l) base range is low few free =
+  random_line said hand done (Port.Terminal t) base range is low few free = absurd is
+  random_line said hand done (Port.Switch s l) base range is low few free =
       let base_good = number-decimal 0 0xffff base (omega arith) (omega arith) (omega arith) in
       let range_good = number-decimal 0 label_count range (omega arith) few (omega arith) in
       rw (port_cut s l is, port_name-is s l is, port_link-is s l is, link_good s l is, link_is s l is, base_good, value-decimal base (omega arith), range_good, value-decimal range (omega arith), port_named s l is, port_number s l is, free, hand) refl

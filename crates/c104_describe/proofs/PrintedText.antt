@@ -1,19 +1,11 @@
 -- A text of lines of words is cut into just these lines and words.
-use Rattle.std.proofs.Common.{◌≡◌, ℕ, ◌+◌, ◌&&◌, ◌||◌, ◌==◌, Bool, true, false, not, cond, List, [], ◌∷◌, ◌++◌, length, map, filter, nat_le, nat_lt, All, Result, Ok, refl, sym, ap, ◌∙◌, arith, append-nil, append_assoc}
-use Rattle.std.proofs.lemmas.Bool.{and_parts}
-use Rattle.std.proofs.lemmas.Bool.Decides.{nat_tests}
-use Rattle.std.specs.List.{list_all, slice_split, prefix_len}
-use Rattle.std.proofs.lemmas.List.{take_all}
-use Rattle.std.proofs.lemmas.List.Elements.{All-cons, All-nil}
-use Rattle.std.proofs.lemmas.List.Folds.{list_all-append}
-use Rattle.std.proofs.lemmas.List.Splits.{slice_split_at, slice_split_none}
-use Rattle.c104_plan.specs.TextCut.{lines, uncommented_line, line_words, is_plain_line, parts_words}
-use Rattle.c104_describe.specs.PlanFaults.{PlanFault}
-use Rattle.c104_describe.specs.PlanLines.{Draft}
-use Rattle.c104_describe.specs.LineFaults.{read_plan_line, read_plan_words}
-use Rattle.c104_describe.specs.PlanPrint.{sentence, text_of}
-use Rattle.c104_describe.specs.PlanText.{draft_after_line, read_plan_lines}
-use Rattle.c104_plan.proofs.TextBytes.{list_all-weaker}
+use Rattle.c104_describe.specs.{LineFaults.{read_plan_line, read_plan_words}, PlanFaults.PlanFault, PlanLines.Draft, PlanPrint.sentence}
+use Rattle.c104_describe.specs.{PlanPrint.text_of, PlanText.{draft_after_line, read_plan_lines}}
+use Rattle.c104_plan.{proofs.TextBytes.list_all-weaker, specs.TextCut.{is_plain_line, line_words, lines, parts_words, uncommented_line}}
+use Rattle.std.proofs.Common.{All, Bool, List, Ok, Result, [], ap, append-nil, append_assoc, arith, cond, false, filter, length, map}
+use Rattle.std.proofs.Common.{nat_le, nat_lt, not, refl, sym, true, ℕ, ◌&&◌, ◌++◌, ◌+◌, ◌==◌, ◌||◌, ◌∙◌, ◌∷◌, ◌≡◌}
+use Rattle.std.proofs.lemmas.{Bool.{Decides.nat_tests, and_parts}, List.{Elements.{All-cons, All-nil}, Folds.list_all-append}}
+use Rattle.std.{proofs.lemmas.List.{Splits.{slice_split_at, slice_split_none}, take_all}, specs.List.{list_all, prefix_len, slice_split}}
 
 -- a byte that a word may have in any line: printable, and neither space nor `#`
 abbrev pub is_word_byte : ℕ → Bool

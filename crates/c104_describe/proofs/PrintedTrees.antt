@@ -1,24 +1,18 @@
 -- What is printed of a network to be labelled from a root, as a tree or up and down, is read back.
-use Rattle.std.proofs.Common.{◌≡◌, ℕ, ◌+◌, Bool, true, false, List, [], ◌∷◌, ◌++◌, length, map, position, bytes_eq, nat_lt, Some, None, Ok, refl, sym, ap, ◌∙◌, arith, append_assoc, length-append}
-use Rattle.std.proofs.lemmas.Bool.Decides.{nat_tests}
-use Rattle.c104_plan.specs.TextWords.{is_name}
-use Rattle.c104_plan.specs.Ports.{IsSwitchPort}
-use Rattle.c104_plan.specs.Plans.{Plan, IsPlan, IsRange, IsTreePlan, IsUnset, host_port, is_linked, is_taken, label_count, next_first, switch_number}
-use Rattle.c104_plan.specs.declared.plans.Terminal.{Terminal}
-use Rattle.c104_describe.specs.PlanDrafts.{is_by_hand, rooted}
-use Rattle.c104_describe.specs.PlanLines.{is_labeller, labelled_shape}
-use Rattle.c104_describe.specs.LineFaults.{read_plan_words}
-use Rattle.c104_describe.specs.PlanText.{draft_after_line, plan_of_draft}
-use Rattle.c104_plan.specs.PlanParts.{empty_plan}
-use Rattle.c104_describe.specs.PlanPrint.{counted_words, delete_words, label_words, labelled_lines, labeller, switch_words, wire_words}
 use Rattle.c104_describe.proofs.CountedPlans.{begins_there, counted, counted_kept, counts_again, same_deletes, same_terminals, same_wires}
-use Rattle.c104_describe.proofs.DistinctPlaces.{All-here, position_at}
-use Rattle.c104_describe.proofs.PrintedText.{read_kind, read_lines_of_words}
-use Rattle.c104_describe.proofs.PrintedParts.{lines_after_network}
-use Rattle.c104_describe.proofs.PrintedNumbers.{number-decimal, value-decimal}
-use Rattle.c104_describe.proofs.PrintedSteps.{bytes_eq-refl, draft_with, name_of, switch_named, switches_differ, with_switches, with_terminals, with_wires, with_deletes, switch_step, wire_step, port_cut, port_name-is, port_link-is, link_good, link_is, port_named, port_number, name_free, host_free, terminal_named}
-use Rattle.c104_describe.proofs.PrintedWords.{root_printed}
-use Rattle.c104_describe.proofs.PrintedDeletes.{deletes_alone, deletes_read}
+use Rattle.c104_describe.proofs.{DistinctPlaces.{All-here, position_at}, PrintedDeletes.{deletes_alone, deletes_read}}
+use Rattle.c104_describe.proofs.{PrintedNumbers.{number-decimal, value-decimal}, PrintedParts.lines_after_network}
+use Rattle.c104_describe.proofs.PrintedSteps.{bytes_eq-refl, draft_with, host_free, link_good, link_is, name_free, name_of, port_cut}
+use Rattle.c104_describe.proofs.PrintedSteps.{port_link-is, port_name-is, port_named, port_number, switch_named, switch_step}
+use Rattle.c104_describe.proofs.PrintedSteps.{switches_differ, terminal_named, wire_step, with_deletes, with_switches, with_terminals}
+use Rattle.c104_describe.proofs.{PrintedSteps.with_wires, PrintedText.{read_kind, read_lines_of_words}, PrintedWords.root_printed}
+use Rattle.c104_describe.specs.{LineFaults.read_plan_words, PlanDrafts.{is_by_hand, rooted}, PlanLines.{is_labeller, labelled_shape}}
+use Rattle.c104_describe.specs.PlanPrint.{counted_words, delete_words, label_words, labelled_lines, labeller, switch_words, wire_words}
+use Rattle.{c104_describe.specs.PlanText.{draft_after_line, plan_of_draft}, c104_plan.specs.{PlanParts.empty_plan, Plans.{IsPlan, IsRange}}}
+use Rattle.c104_plan.specs.Plans.{IsTreePlan, IsUnset, Plan, host_port, is_linked, is_taken, label_count, next_first, switch_number}
+use Rattle.{c104_plan.specs.{Ports.IsSwitchPort, TextWords.is_name, declared.plans.Terminal.Terminal}, std.proofs.Common.{Bool, List, None}}
+use Rattle.std.proofs.Common.{Ok, Some, [], ap, append_assoc, arith, bytes_eq, false, length, length-append, map, nat_lt, position, refl}
+use Rattle.std.proofs.{Common.{sym, true, ℕ, ◌++◌, ◌+◌, ◌∙◌, ◌∷◌, ◌≡◌}, lemmas.Bool.Decides.nat_tests}
 
 -- a terminal's line without `from`, after those before it, where its range begins there
 module _ (plan : Plan) (kept : IsPlan plan) (done : List Terminal) (t : Terminal) (more : List Terminal) (is : done ++ t ∷ more ≡ plan.terminals) where

@@ -1,30 +1,17 @@
 -- Every printed line is one of words.
-use Rattle.std.proofs.Common.{◌≡◌, ℕ, ◌<◌, ◌≤◌, ◌&&◌, Bool, true, false, List, [], ◌∷◌, ◌++◌, length, map, get_or, nat_le, All, refl, ap, ◌∙◌, arith}
-use Rattle.std.proofs.lemmas.Bool.{and_parts, leb-true}
-use Rattle.std.specs.List.{list_all}
-use Rattle.std.specs.Option.{unwrap_or}
-use Rattle.std.proofs.lemmas.List.Elements.{All-head, All-tail}
-use Rattle.std.proofs.lemmas.List.Folds.{list_all-append}
-use Rattle.std.proofs.lemmas.Option.{slice_get-get_or}
-use Rattle.c104_plan.specs.declared.ports.Port.TheVariants as port
-use Rattle.c104_plan.specs.declared.plans.Shape.TheVariants.{Hand, Tree, UpDown, Mesh, Cube}
-use Rattle.c104_plan.specs.TextWords.{is_name}
-use Rattle.c104_plan.specs.Ports.{IsSwitchPort}
-use Rattle.c104_plan.specs.declared.ports.Port.{Port}
-use Rattle.c104_plan.specs.declared.ports.Wire.{Wire}
-use Rattle.c104_plan.specs.Plans.{Plan, IsOfShape, IsPlan, IsPlanSelect, IsTreePlan, IsPlanWire, IsLaterPort, IsRange, host_port, label_count, is_buffer_size}
-use Rattle.c104_plan.specs.declared.plans.PlanBase.{PlanBase}
-use Rattle.c104_plan.specs.declared.plans.PlanRandom.{PlanRandom}
-use Rattle.c104_plan.specs.declared.plans.PlanRow.{PlanRow}
-use Rattle.c104_plan.specs.declared.plans.Shape.{Shape}
-use Rattle.c104_plan.specs.declared.plans.Terminal.{Terminal}
-use Rattle.c104_describe.specs.PlanPrint.{switch_words, terminal_words, counted_words, wire_words, label_words, labelled_lines, labeller, network_lines, continue_words, delete_words, base_words, row_words, random_words}
-use Rattle.c104_plan.specs.PortTexts.{port_text, switch_name}
-use Rattle.c104_describe.proofs.PrintedText.{are_words, is_word}
-use Rattle.c104_describe.proofs.PrintedParts.{lines_by_kinds, lines_after_rows, lines_after_bases, lines_after_continues, lines_after_deletes, lines_after_network}
-use Rattle.c104_describe.proofs.PrintedNumbers.{word-decimal}
-use Rattle.c104_describe.proofs.PrintedPorts.{word-name, word-port, word-select}
-use Rattle.c104_describe.proofs.PrintedSteps.{name_of, switch_named, port_named, port_printed, terminal_named, delete_printed}
+use Rattle.c104_describe.proofs.{PrintedNumbers.word-decimal, PrintedParts.{lines_after_bases, lines_after_continues, lines_after_deletes}}
+use Rattle.c104_describe.proofs.{PrintedParts.{lines_after_network, lines_after_rows, lines_by_kinds}, PrintedPorts.{word-name, word-port}}
+use Rattle.c104_describe.proofs.{PrintedPorts.word-select, PrintedSteps.{delete_printed, name_of, port_named, port_printed, switch_named}}
+use Rattle.c104_describe.{proofs.{PrintedSteps.terminal_named, PrintedText.{are_words, is_word}}, specs.PlanPrint.base_words}
+use Rattle.c104_describe.specs.PlanPrint.{continue_words, counted_words, delete_words, label_words, labelled_lines, labeller, network_lines}
+use Rattle.c104_describe.specs.PlanPrint.{random_words, row_words, switch_words, terminal_words, wire_words}
+use Rattle.c104_plan.specs.Plans.{IsLaterPort, IsOfShape, IsPlan, IsPlanSelect, IsPlanWire, IsRange, IsTreePlan, Plan, host_port}
+use Rattle.c104_plan.specs.{Plans.{is_buffer_size, label_count}, PortTexts.{port_text, switch_name}, Ports.IsSwitchPort, TextWords.is_name}
+use Rattle.c104_plan.specs.declared.plans.{PlanBase.PlanBase, PlanRandom.PlanRandom, PlanRow.PlanRow, Shape.{Shape, TheVariants.Cube}}
+use Rattle.c104_plan.specs.declared.{plans.{Shape.TheVariants.{Hand, Mesh, Tree, UpDown}, Terminal.Terminal}, ports.{Port.Port, Wire.Wire}}
+use Rattle.std.proofs.Common.{All, Bool, List, [], ap, arith, false, get_or, length, map, nat_le, refl, true, ℕ, ◌&&◌, ◌++◌, ◌<◌, ◌∙◌, ◌∷◌}
+use Rattle.std.proofs.{Common.{◌≡◌, ◌≤◌}, lemmas.{Bool.{and_parts, leb-true}, List.{Elements.{All-head, All-tail}, Folds.list_all-append}}}
+use Rattle.std.{proofs.lemmas.Option.slice_get-get_or, specs.{List.list_all, Option.unwrap_or}}
 
 words_both : (xs ys : List (List (List ℕ))) → are_words xs ≡ true → are_words ys ≡ true → are_words (xs ++ ys) ≡ true
 words_both xs ys a b = list_all-append (λ ws. list_all is_word ws) xs ys ∙ (λ i. a i && b i)
@@ -41,8 +28,8 @@ module _ (plan : Plan) (kept : IsPlan plan) where
   -- Every line is words
 
   word_at : (p : Port) → IsSwitchPort (length plan.switches) p → is_word (port_text plan p) ≡ true
-  word_at (port.Terminal t) is = absurd is
-  word_at (port.Switch s l) is = ap is_word (port_printed plan kept s l is) ∙ word-port (name_of plan kept s) l (port_named plan kept s l is) is.1
+  word_at (Port.Terminal t) is = absurd is
+  word_at (Port.Switch s l) is = ap is_word (port_printed plan kept s l is) ∙ word-port (name_of plan kept s) l (port_named plan kept s l is) is.1
 
   words_switch : (name : List ℕ) → is_name name ≡ true → list_all is_word (switch_words name) ≡ true
   words_switch name is = λ i. word-name name is i && true
@@ -61,8 +48,8 @@ module _ (plan : Plan) (kept : IsPlan plan) where
   words_wire w is = λ i. word_at w.here is.0 i && (word_at w.there is.1 i && true)
 
   words_continue : (p : Port) → IsLaterPort (length plan.switches) p → list_all is_word (continue_words plan p) ≡ true
-  words_continue (port.Terminal t) is = absurd is
-  words_continue (port.Switch s l) is = λ i. word_at (port.Switch s l) (is.0, is.2) i && true
+  words_continue (Port.Terminal t) is = absurd is
+  words_continue (Port.Switch s l) is = λ i. word_at (Port.Switch s l) (is.0, is.2) i && true
 
   words_delete : (terminal : ℕ) → terminal < length plan.terminals → list_all is_word (delete_words plan terminal) ≡ true
   words_delete terminal is =

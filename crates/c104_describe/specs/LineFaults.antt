@@ -1,17 +1,13 @@
 -- The faults of a line, each by itself, over the line's parts. No condition rests on another, and their order says
 -- nothing. Of all that is wrong with a line the fault of the least number is answered; a line without a fault adds
 -- what its parts say.
-use Rattle.std.specs.Prelude.{◌≡◌, ℕ, ◌<◌, ◌||◌, Bool, true, false, not, List, [], ◌∷◌, ◌++◌, map}
-use Rattle.std.specs.Prelude.{is_none, nat_lt, bytes_eq, IsTrue, Option, Some, None, Result, Ok, Err, MatchResult}
-use Rattle.std.specs.List.{find, list_any}
+use Rattle.c104_describe.specs.{PlanFaults.{PlanFaultKind, plan_fault_number}, PlanLines.{Draft, LineParts, is_bad_number, is_from_to}}
+use Rattle.c104_describe.specs.PlanLines.{is_one_dot, keyword_parts, line_parts, names_port, number_said, port_link, port_name}
+use Rattle.{c104_describe.specs.PlanWords.Keyword, c104_plan.specs.Plans.{Plan, is_linked, is_taken, last_link, switch_number}}
+use Rattle.c104_plan.specs.{Plans.terminal_number, TextCut.{is_plain_line, line_words, uncommented_line}, TextWords.{dots, is_name}}
+use Rattle.std.specs.{List.{find, list_any}, Prelude.{Bool, Err, IsTrue, List, MatchResult, None, Ok, Option, Result, Some, [], bytes_eq}}
+use Rattle.std.specs.Prelude.{false, is_none, map, nat_lt, not, true, ℕ, ◌++◌, ◌<◌, ◌||◌, ◌∷◌, ◌≡◌}
 use Rattle.c104_describe.specs.declared.faults.PlanFaultKind.TheVariants as kind
-use Rattle.c104_plan.specs.TextCut.{uncommented_line, line_words, is_plain_line}
-use Rattle.c104_plan.specs.TextWords.{is_name, dots}
-use Rattle.c104_plan.specs.Plans.{Plan, switch_number, terminal_number, is_taken, is_linked, last_link}
-use Rattle.c104_describe.specs.PlanFaults.{PlanFaultKind, plan_fault_number}
-use Rattle.c104_describe.specs.PlanWords.{Keyword}
-use Rattle.c104_describe.specs.PlanLines.{Draft, LineParts, keyword_parts, line_parts, port_name, port_link, names_port, number_said}
-use Rattle.c104_describe.specs.PlanLines.{is_bad_number, is_from_to, is_one_dot}
 
 -- all numbers of a line, and the test of each
 abbrev pub all_numbers : LineParts → List (Option (List ℕ) × (ℕ → Bool))

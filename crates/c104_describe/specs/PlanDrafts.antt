@@ -1,15 +1,10 @@
 -- Drafts: what the lines of a description have said so far, the plan that this gives, and which further
 -- lines go with it.
-use Rattle.std.specs.Prelude.{ℕ, ◌&&◌, ◌||◌, Bool, true, false, not, List, [], ◌∷◌, map, is_some, Option, Some, None, Result, Ok, Err}
-use Rattle.c104_plan.specs.declared.plans.Shape.TheVariants.{Hand, Tree, UpDown, Mesh, Cube}
-use Rattle.c104_describe.specs.declared.words.Keyword.TheVariants as keyword
-use Rattle.c104_describe.specs.PlanFaults.{PlanFaultKind}
-use Rattle.c104_describe.specs.PlanWords.{Keyword, range_words}
-use Rattle.c104_plan.specs.Plans.{Plan}
-use Rattle.c104_plan.specs.declared.plans.Shape.{Shape}
-use Rattle.c104_plan.specs.declared.plans.Terminal.{Terminal}
+use Rattle.{c104_describe.specs.{PlanFaults.PlanFaultKind, PlanWords.{Keyword, range_words}}, c104_plan.specs.PlanParts.has_settings}
+use Rattle.c104_plan.specs.{PlanParts.{has_some, plan_of, without_first}, Plans.Plan, declared.plans.Shape.{Shape, TheVariants.Cube}}
+use Rattle.c104_plan.specs.declared.plans.{Shape.TheVariants.{Hand, Mesh, Tree, UpDown}, Terminal.Terminal}
+use Rattle.std.specs.Prelude.{Bool, Err, List, None, Ok, Option, Result, Some, [], false, is_some, map, not, true, ℕ, ◌&&◌, ◌||◌, ◌∷◌}
 use Rattle.c104_describe.specs.declared.drafts.Draft as kept
-use Rattle.c104_plan.specs.PlanParts.{plan_of, without_first, has_some, has_settings}
 
 -- a plan, of which the shape is that of a mesh or a cube once a line gave one; whether lines have said its
 -- header length, its buffer size, and where the range of some terminal begins; and the shape as which a line asks it
@@ -53,19 +48,19 @@ says_from (name ∷ at ∷ rest) = is_begun (range_words rest)
 -- `label` goes with neither `continue`, `base`, `row`, `random` nor a terminal's `from`, and `mesh` and `cube` give all
 -- of a network but its headers, buffers and deletes. Each line of another kind gives or names a switch.
 abbrev pub is_mixed : Draft → Keyword → List (List ℕ) → Bool
-is_mixed draft keyword.Switch rest = not (is_by_hand draft.plan.shape)
-is_mixed draft keyword.Terminal rest = not (is_by_hand draft.plan.shape) || (is_some draft.labels && says_from rest)
-is_mixed draft keyword.Wire rest = not (is_by_hand draft.plan.shape)
-is_mixed draft keyword.Continue rest = not (is_by_hand draft.plan.shape) || is_some draft.labels
-is_mixed draft keyword.Base rest = not (is_by_hand draft.plan.shape) || is_some draft.labels
-is_mixed draft keyword.Row rest = not (is_by_hand draft.plan.shape) || is_some draft.labels
-is_mixed draft keyword.Random rest = not (is_by_hand draft.plan.shape) || is_some draft.labels
-is_mixed draft keyword.Label rest = not (is_by_hand draft.plan.shape) || (draft.from_said || has_settings draft.plan)
-is_mixed draft keyword.Mesh rest = has_some draft.plan.switches
-is_mixed draft keyword.Cube rest = has_some draft.plan.switches
-is_mixed draft keyword.Header rest = false
-is_mixed draft keyword.Buffer rest = false
-is_mixed draft keyword.Delete rest = false
+is_mixed draft Keyword.Switch rest = not (is_by_hand draft.plan.shape)
+is_mixed draft Keyword.Terminal rest = not (is_by_hand draft.plan.shape) || (is_some draft.labels && says_from rest)
+is_mixed draft Keyword.Wire rest = not (is_by_hand draft.plan.shape)
+is_mixed draft Keyword.Continue rest = not (is_by_hand draft.plan.shape) || is_some draft.labels
+is_mixed draft Keyword.Base rest = not (is_by_hand draft.plan.shape) || is_some draft.labels
+is_mixed draft Keyword.Row rest = not (is_by_hand draft.plan.shape) || is_some draft.labels
+is_mixed draft Keyword.Random rest = not (is_by_hand draft.plan.shape) || is_some draft.labels
+is_mixed draft Keyword.Label rest = not (is_by_hand draft.plan.shape) || (draft.from_said || has_settings draft.plan)
+is_mixed draft Keyword.Mesh rest = has_some draft.plan.switches
+is_mixed draft Keyword.Cube rest = has_some draft.plan.switches
+is_mixed draft Keyword.Header rest = false
+is_mixed draft Keyword.Buffer rest = false
+is_mixed draft Keyword.Delete rest = false
 
 -- the draft that it is
 abbrev pub draft_of : kept.Draft → Draft

@@ -1,31 +1,16 @@
 -- The grammar of a description: what a line says, after the lines before it, in a row of the format's table for each
 -- word with which lines begin. What is wrong with a line and what it adds are said of the row's parts.
-use Rattle.std.specs.Prelude.{ℕ, ◌+◌, ◌*◌, ◌^◌, ◌&&◌, ◌||◌, Bool, true, false, not, List, [], ◌∷◌, ◌++◌, length, take, drop, nat_le}
-use Rattle.std.specs.Prelude.{bytes_eq, codes, if◌then◌else◌, is_some, Option, Some, None, Result, Ok, Err}
-use Rattle.std.specs.Option.{option_map_or, unwrap_or}
-use Rattle.c104_interval.specs.declared.intervals.TheConstants.{ROWS}
-use Rattle.c104_interval.specs.declared.intervals.Select.{Select}
-use Rattle.c104_interval.specs.declared.intervals.Select.TheVariants.{Link, Discard, Sink}
-use Rattle.c104_plan.specs.declared.ports.Port.{Port}
-use Rattle.c104_plan.specs.declared.ports.Port.TheVariants as port
-use Rattle.c104_plan.specs.declared.ports.Wire.{Wire}
-use Rattle.c104_plan.specs.declared.plans.PlanBase.{PlanBase}
-use Rattle.c104_plan.specs.declared.plans.PlanRandom.{PlanRandom}
-use Rattle.c104_plan.specs.declared.plans.PlanRow.{PlanRow}
-use Rattle.c104_plan.specs.declared.plans.Shape.{Shape}
-use Rattle.c104_plan.specs.declared.plans.Shape.TheVariants.{Tree, UpDown, Mesh, Cube}
-use Rattle.c104_plan.specs.declared.text.Dots.{Dots}
-use Rattle.c104_plan.specs.declared.text.Dots.TheVariants.{Without, At, Several}
-use Rattle.c104_plan.specs.Layouts.{Layout, mesh, cube, filled_switches, filled_terminals, filled_wires}
-use Rattle.c104_plan.specs.Plans.{Plan, switch_number, terminal_number, is_continued, is_deleted, rows_of, next_first}
-use Rattle.c104_plan.specs.Plans.{most_switches, most_terminals, most_header_bytes, label_count, last_link, is_buffer_size}
-use Rattle.c104_plan.specs.Ports.{is_any_at}
-use Rattle.c104_plan.specs.TextWords.{read_number, dots}
-use Rattle.c104_describe.specs.declared.words.Keyword.TheVariants as keyword
-use Rattle.c104_describe.specs.PlanFaults.{PlanFaultKind}
-use Rattle.c104_describe.specs.PlanWords.{Keyword, keyword_of, range_words}
 pub use Rattle.c104_describe.specs.PlanDrafts.{Draft}
-use Rattle.c104_describe.specs.PlanDrafts.{is_mixed}
+use Rattle.c104_describe.specs.{PlanDrafts.is_mixed, PlanFaults.PlanFaultKind, PlanWords.{Keyword, keyword_of, range_words}}
+use Rattle.c104_interval.specs.declared.intervals.{Select.{Select, TheVariants.{Discard, Link, Sink}}, TheConstants.ROWS}
+use Rattle.c104_plan.specs.{Layouts.{Layout, cube, filled_switches, filled_terminals, filled_wires, mesh}, Plans.{Plan, is_buffer_size}}
+use Rattle.c104_plan.specs.Plans.{is_continued, is_deleted, label_count, last_link, most_header_bytes, most_switches, most_terminals}
+use Rattle.c104_plan.specs.{Plans.{next_first, rows_of, switch_number, terminal_number}, Ports.is_any_at, TextWords.{dots, read_number}}
+use Rattle.c104_plan.specs.declared.plans.{PlanBase.PlanBase, PlanRandom.PlanRandom, PlanRow.PlanRow, Shape.{Shape, TheVariants.Cube}}
+use Rattle.c104_plan.specs.declared.{plans.Shape.TheVariants.{Mesh, Tree, UpDown}, ports.{Port.Port, Wire.Wire}, text.Dots.Dots}
+use Rattle.c104_plan.specs.declared.text.Dots.TheVariants.{At, Several, Without}
+use Rattle.std.specs.{Option.{option_map_or, unwrap_or}, Prelude.{Bool, Err, List, None, Ok, Option, Result, Some, [], bytes_eq, codes}}
+use Rattle.std.specs.Prelude.{drop, false, if◌then◌else◌, is_some, length, nat_le, not, take, true, ℕ, ◌&&◌, ◌*◌, ◌++◌, ◌+◌, ◌^◌, ◌||◌, ◌∷◌}
 
 -- What words say
 
@@ -70,18 +55,18 @@ switch_said plan name = unwrap_or (switch_number plan name) 0
 
 -- the port that a word names, likewise
 abbrev pub port_said : Plan → List ℕ → Port
-port_said plan word = port.Switch (switch_said plan (port_name word)) (value_said (port_link word))
+port_said plan word = Port.Switch (switch_said plan (port_name word)) (value_said (port_link word))
 
 -- whether a word names a port with this property, of a switch that there is
 abbrev pub names_port : Plan → (Port → Bool) → List ℕ → Bool
 names_port plan test word =
-    option_map_or (λ switch. test (port.Switch switch (value_said (port_link word)))) (switch_number plan (port_name word)) false
+    option_map_or (λ switch. test (Port.Switch switch (value_said (port_link word)))) (switch_number plan (port_name word)) false
 
 -- how many rows the input has that a word names
 abbrev pub row_count : Plan → List ℕ → ℕ
 row_count plan word =
-    option_map_or (λ switch. length (rows_of (port.Switch switch (value_said (port_link word))) plan.rows))
-        (switch_number plan (port_name word)) 0
+    option_map_or (λ switch. length (rows_of (Port.Switch switch (value_said (port_link word))) plan.rows))
+    (switch_number plan (port_name word)) 0
 
 -- what a row selects: a link of the switch, `discard` or `sink`
 abbrev pub select_said : List ℕ → Select
@@ -201,14 +186,14 @@ terminal_parts draft name at (Err kind) = record (no_parts draft) { is_shaped = 
 -- a line's parts, by what its first word says and the words after it
 abbrev pub keyword_parts : Draft → Keyword → List (List ℕ) → LineParts
 -- `switch N`
-keyword_parts draft keyword.Switch (name ∷ []) =
+keyword_parts draft Keyword.Switch (name ∷ []) =
     record (no_parts (with_plan draft (record (draft.plan) { switches = draft.plan.switches ++ name ∷ [] }))) {
       defined = name ∷ [];
       counts = (length draft.plan.switches + 1, most_switches) ∷ [];
     }
-keyword_parts draft keyword.Terminal (name ∷ at ∷ rest) = terminal_parts draft name at (range_words rest)
+keyword_parts draft Keyword.Terminal (name ∷ at ∷ rest) = terminal_parts draft name at (range_words rest)
 -- `wire S.l S.l`: it joins links of two switches
-keyword_parts draft keyword.Wire (here ∷ there ∷ []) =
+keyword_parts draft Keyword.Wire (here ∷ there ∷ []) =
     let plan = draft.plan in
     let wire : Wire = record { here = port_said plan here; there = port_said plan there } in
     record (no_parts (with_plan draft (record plan { wires = plan.wires ++ wire ∷ [] }))) {
@@ -217,19 +202,19 @@ keyword_parts draft keyword.Wire (here ∷ there ∷ []) =
       linked = here ∷ there ∷ [];
     }
 -- `header n`: the length of headers
-keyword_parts draft keyword.Header (bytes ∷ []) =
+keyword_parts draft Keyword.Header (bytes ∷ []) =
     record (no_parts (record draft { plan = record (draft.plan) { header = value_said bytes }; header_said = true })) {
       numbers = (Some bytes, is_from_to 1 most_header_bytes) ∷ [];
       is_said = draft.header_said;
     }
 -- `buffer n`: the size of all buffers
-keyword_parts draft keyword.Buffer (size ∷ []) =
+keyword_parts draft Keyword.Buffer (size ∷ []) =
     record (no_parts (record draft { plan = record (draft.plan) { cap = value_said size }; buffer_said = true })) {
       numbers = (Some size, is_buffer_size) ∷ [];
       is_said = draft.buffer_said;
     }
 -- `continue S.l`: the link, which isn't the first, continues the group of the link before it
-keyword_parts draft keyword.Continue (at ∷ []) =
+keyword_parts draft Keyword.Continue (at ∷ []) =
     let plan = draft.plan in
     record (no_parts (with_plan draft (record plan { continues = plan.continues ++ port_said plan at ∷ [] }))) {
       ports = at ∷ [];
@@ -237,7 +222,7 @@ keyword_parts draft keyword.Continue (at ∷ []) =
       is_said = names_port plan (is_continued plan) at;
     }
 -- `delete T`: headers are deleted at the switch's link to that terminal
-keyword_parts draft keyword.Delete (name ∷ []) =
+keyword_parts draft Keyword.Delete (name ∷ []) =
     let plan = draft.plan in
     let terminal = unwrap_or (terminal_number plan name) 0 in
     record (no_parts (with_plan draft (record plan { deletes = plan.deletes ++ terminal ∷ [] }))) {
@@ -245,7 +230,7 @@ keyword_parts draft keyword.Delete (name ∷ []) =
       is_said = option_map_or (is_deleted plan) (terminal_number plan name) false;
     }
 -- `base S.l n`: the first label that the rows of that input cover
-keyword_parts draft keyword.Base (at ∷ base ∷ []) =
+keyword_parts draft Keyword.Base (at ∷ base ∷ []) =
     let plan = draft.plan in
     let first : PlanBase = record { port = port_said plan at; base = value_said base } in
     record (no_parts (with_plan draft (record plan { bases = plan.bases ++ first ∷ [] }))) {
@@ -254,7 +239,7 @@ keyword_parts draft keyword.Base (at ∷ base ∷ []) =
       is_said = names_port plan (is_any_at (λ (b : PlanBase). b.port) plan.bases) at;
     }
 -- `row S.l limit select`: the next row of that input
-keyword_parts draft keyword.Row (at ∷ limit ∷ select ∷ []) =
+keyword_parts draft Keyword.Row (at ∷ limit ∷ select ∷ []) =
     let plan = draft.plan in
     let row : PlanRow = record { port = port_said plan at; limit = value_said limit; select = select_said select } in
     record (no_parts (with_plan draft (record plan { rows = plan.rows ++ row ∷ [] }))) {
@@ -263,7 +248,7 @@ keyword_parts draft keyword.Row (at ∷ limit ∷ select ∷ []) =
       counts = (row_count plan at + 1, ROWS) ∷ [];
     }
 -- `random S.l base range`: packets that come in at that input get a random header, one of these
-keyword_parts draft keyword.Random (at ∷ base ∷ range ∷ []) =
+keyword_parts draft Keyword.Random (at ∷ base ∷ range ∷ []) =
     let plan = draft.plan in
     let random : PlanRandom = record { port = port_said plan at; base = value_said base; range = value_said range } in
     record (no_parts (with_plan draft (record plan { randoms = plan.randoms ++ random ∷ [] }))) {
@@ -272,14 +257,14 @@ keyword_parts draft keyword.Random (at ∷ base ∷ range ∷ []) =
       is_said = names_port plan (is_any_at (λ (r : PlanRandom). r.port) plan.randoms) at;
     }
 -- `label tree S` and `label up-down S`: labels are to be those of a tree from a switch on, the root, or up and down from it
-keyword_parts draft keyword.Label (style ∷ name ∷ []) =
+keyword_parts draft Keyword.Label (style ∷ name ∷ []) =
     record (no_parts (record draft { labels = Some (labelled_shape style (switch_said draft.plan name)) })) {
       is_shaped = is_labeller style;
       switches = name ∷ [];
       is_said = is_some draft.labels;
     }
 -- `mesh w h p`: all of a mesh of w columns and h rows, with p terminals at each switch
-keyword_parts draft keyword.Mesh (width ∷ height ∷ terminals ∷ []) =
+keyword_parts draft Keyword.Mesh (width ∷ height ∷ terminals ∷ []) =
     let w = value_said width in
     let h = value_said height in
     let p = value_said terminals in
@@ -288,7 +273,7 @@ keyword_parts draft keyword.Mesh (width ∷ height ∷ terminals ∷ []) =
       counts = (w * h, most_switches) ∷ (w * h * p, most_terminals) ∷ [];
     }
 -- `cube d p`: all of a cube of d dimensions, with p terminals at each switch
-keyword_parts draft keyword.Cube (dimensions ∷ terminals ∷ []) =
+keyword_parts draft Keyword.Cube (dimensions ∷ terminals ∷ []) =
     let d = value_said dimensions in
     let p = value_said terminals in
     record (no_parts (with_plan draft (filled_plan (Cube d p) (cube d) p draft.plan))) {

@@ -1,17 +1,9 @@
 -- What a plan is printed as: lines of words. Words are parted by one space, and each line ends with a
 -- line feed.
-use Rattle.std.specs.Prelude.{ℕ, Bool, true, false, List, [], ◌∷◌, ◌++◌, map, codes}
-use Rattle.std.specs.Fmt.{decimal}
-use Rattle.c104_plan.specs.declared.ports.Port.{Port}
-use Rattle.c104_plan.specs.declared.ports.Wire.{Wire}
-use Rattle.c104_plan.specs.declared.plans.Shape.TheVariants.{Hand, Tree, UpDown, Mesh, Cube}
-use Rattle.c104_plan.specs.Plans.{Plan, host_port}
-use Rattle.c104_plan.specs.declared.plans.Shape.{Shape}
-use Rattle.c104_plan.specs.declared.plans.PlanBase.{PlanBase}
-use Rattle.c104_plan.specs.declared.plans.PlanRandom.{PlanRandom}
-use Rattle.c104_plan.specs.declared.plans.PlanRow.{PlanRow}
-use Rattle.c104_plan.specs.declared.plans.Terminal.{Terminal}
-use Rattle.c104_plan.specs.PortTexts.{switch_name, terminal_name, port_text, select_text}
+use Rattle.c104_plan.specs.{Plans.{Plan, host_port}, PortTexts.{port_text, select_text, switch_name, terminal_name}}
+use Rattle.c104_plan.specs.declared.plans.{PlanBase.PlanBase, PlanRandom.PlanRandom, PlanRow.PlanRow, Shape.{Shape, TheVariants.Cube}}
+use Rattle.c104_plan.specs.declared.{plans.{Shape.TheVariants.{Hand, Mesh, Tree, UpDown}, Terminal.Terminal}, ports.{Port.Port, Wire.Wire}}
+use Rattle.std.specs.{Fmt.decimal, Prelude.{Bool, List, [], codes, false, map, true, ℕ, ◌++◌, ◌∷◌}}
 
 -- words with a space (0x20) between neighbours
 abbrev pub sentence : List (List ℕ) → List ℕ

@@ -1,15 +1,10 @@
 -- Descriptions: lines in order, up to the first faulty one.
-use Rattle.std.specs.Prelude.{◌≡◌, ℕ, ◌+◌, ◌<◌, ◌≤◌, ◌⊎◌, false, List, [], ◌∷◌, length, take, nat_le, slice_get, if◌then◌else◌, Some, None}
-use Rattle.std.specs.Prelude.{Result, Ok, Err, MatchResult}
-use Rattle.c104_describe.specs.declared.faults.PlanFaultKind.TheVariants.{NoMemory, TooLong}
-use Rattle.c104_describe.specs.declared.drafts.Draft.{Draft as Kept}
-use Rattle.c104_plan.specs.TextCut.{lines, most_bytes}
-use Rattle.c104_describe.specs.PlanFaults.{PlanFault, PlanFaultKind, fault_at, no_memory}
-use Rattle.c104_plan.specs.Plans.{Plan}
-use Rattle.c104_describe.specs.PlanDrafts.{finished, draft_of}
-use Rattle.c104_describe.specs.PlanLines.{Draft}
-use Rattle.c104_describe.specs.LineFaults.{read_plan_line, IsLeastFault, IsFaultless}
-use Rattle.c104_plan.specs.PlanParts.{empty_plan}
+use Rattle.c104_describe.specs.{LineFaults.{IsFaultless, IsLeastFault, read_plan_line}, PlanDrafts.{draft_of, finished}}
+use Rattle.c104_describe.specs.{PlanFaults.{PlanFault, PlanFaultKind, fault_at, no_memory}, PlanLines.Draft}
+use Rattle.c104_describe.specs.declared.{drafts.Draft.Draft as Kept, faults.PlanFaultKind.TheVariants.{NoMemory, TooLong}}
+use Rattle.c104_plan.specs.{PlanParts.empty_plan, Plans.Plan, TextCut.{lines, most_bytes}}
+use Rattle.std.specs.Prelude.{Err, List, MatchResult, None, Ok, Result, Some, [], false, if◌then◌else◌, length, nat_le, slice_get, take, ℕ}
+use Rattle.std.specs.Prelude.{◌+◌, ◌<◌, ◌∷◌, ◌≡◌, ◌≤◌, ◌⊎◌}
 
 -- what comes after the line of this number, or its fault
 abbrev pub draft_after_line : ℕ → Result Draft PlanFaultKind → (Draft → Result Draft PlanFault) → Result Draft PlanFault

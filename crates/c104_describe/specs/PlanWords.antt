@@ -1,27 +1,24 @@
 -- The fixed words of a description's line.
-use Rattle.std.specs.Prelude.{ℕ, ◌&&◌, List, [], ◌∷◌, bytes_eq, codes, if◌then◌else◌, Option, Some, None, Result, Ok, Err}
-use Rattle.std.specs.Map.{lookup}
 pub use Rattle.c104_describe.specs.declared.words.Keyword.{Keyword}
-use Rattle.c104_describe.specs.declared.words.Keyword.TheVariants as keyword
-use Rattle.c104_describe.specs.declared.faults.PlanFaultKind.TheVariants.{BadShape}
-use Rattle.c104_describe.specs.PlanFaults.{PlanFaultKind}
+use Rattle.c104_describe.specs.{PlanFaults.PlanFaultKind, declared.faults.PlanFaultKind.TheVariants.BadShape}
+use Rattle.std.specs.{Map.lookup, Prelude.{Err, List, None, Ok, Option, Result, Some, [], bytes_eq, codes, if◌then◌else◌, ℕ, ◌&&◌, ◌∷◌}}
 
 -- the words with which lines begin
 abbrev pub keywords : List (List ℕ × Keyword)
 keywords =
-    (codes "row", keyword.Row)
-    ∷ (codes "base", keyword.Base)
-    ∷ (codes "wire", keyword.Wire)
-    ∷ (codes "terminal", keyword.Terminal)
-    ∷ (codes "switch", keyword.Switch)
-    ∷ (codes "continue", keyword.Continue)
-    ∷ (codes "delete", keyword.Delete)
-    ∷ (codes "header", keyword.Header)
-    ∷ (codes "buffer", keyword.Buffer)
-    ∷ (codes "label", keyword.Label)
-    ∷ (codes "mesh", keyword.Mesh)
-    ∷ (codes "cube", keyword.Cube)
-    ∷ (codes "random", keyword.Random)
+    (codes "row", Keyword.Row)
+    ∷ (codes "base", Keyword.Base)
+    ∷ (codes "wire", Keyword.Wire)
+    ∷ (codes "terminal", Keyword.Terminal)
+    ∷ (codes "switch", Keyword.Switch)
+    ∷ (codes "continue", Keyword.Continue)
+    ∷ (codes "delete", Keyword.Delete)
+    ∷ (codes "header", Keyword.Header)
+    ∷ (codes "buffer", Keyword.Buffer)
+    ∷ (codes "label", Keyword.Label)
+    ∷ (codes "mesh", Keyword.Mesh)
+    ∷ (codes "cube", Keyword.Cube)
+    ∷ (codes "random", Keyword.Random)
     ∷ []
 
 -- what the first word of a line says

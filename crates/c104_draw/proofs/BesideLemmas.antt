@@ -1,21 +1,13 @@
 -- Being drawn as one edge is handed on from wire to wire. So the first wire of an edge is its own first.
-use Rattle.std.proofs.Common.{◌≡◌, ℕ, zero, suc, ◌<◌, ◌≤◌, ◌+◌, ◌-◌, ◌==◌, ◌&&◌, ◌||◌, ◌⊎◌, inl, inr, Bool, true, false, nat_le, nat_lt, List, [], ◌∷◌, length, map, slice_get, slice_index_or, if◌then◌else◌, Option, Some, None, option_map, refl, sym, ap, subst, ◌∙◌, arith}
-use Rattle.std.proofs.lemmas.Bool.{cases_lt}
-use Rattle.std.proofs.lemmas.Bool.Decides.{nat_tests}
-use Rattle.std.proofs.lemmas.Iterator.Adapters.{position_from-zero}
-use Rattle.std.proofs.lemmas.List.Quantifiers.{position-Some}
-use Rattle.std.proofs.lemmas.Option.{get_or_from_slice_get, slice_get-get_or, slice_get-map}
+use Rattle.{c104_crossbar.specs.Groups.{group_contains, is_joined_run}, c104_draw.proofs.EdgeLemmas.{beside_self, both_true}}
+use Rattle.c104_draw.specs.{Drawings.{DrawnWire, Stroke}, Edges.{AreFirsts, are_alike, are_grouped, are_mates, first_beside, is_beside}}
+use Rattle.{c104_draw.specs.Edges.is_same, c104_plan.specs.{PlanImage.Image, declared.ports.Port.Port}, c104_regs.specs.Groups.continues_at}
+use Rattle.{c104_regs.specs.declared.{registers.TheConstants.LINKS, settings.Settings.Settings}, std.proofs.Common.{Bool, List, None}}
+use Rattle.std.proofs.Common.{Option, Some, [], ap, arith, false, if◌then◌else◌, inl, inr, length, map, nat_le, nat_lt, option_map, refl}
+use Rattle.std.proofs.Common.{slice_get, slice_index_or, subst, suc, sym, true, zero, ℕ, ◌&&◌, ◌+◌, ◌-◌, ◌<◌, ◌==◌, ◌||◌, ◌∙◌, ◌∷◌, ◌≡◌}
+use Rattle.std.proofs.{Common.{◌≤◌, ◌⊎◌}, lemmas.{Bool.{Decides.nat_tests, cases_lt}, Iterator.Adapters.position_from-zero}}
+use Rattle.std.proofs.lemmas.{List.Quantifiers.position-Some, Option.{get_or_from_slice_get, slice_get-get_or, slice_get-map}}
 use Rattle.std.specs.List.{position_from}
-use Rattle.c104_crossbar.specs.Groups.{group_contains, is_joined_run}
-use Rattle.c104_regs.specs.Groups.{continues_at}
-use Rattle.c104_regs.specs.declared.registers.TheConstants.{LINKS}
-use Rattle.c104_regs.specs.declared.settings.Settings.{Settings}
-use Rattle.c104_plan.specs.declared.ports.Port.{Port}
-use Rattle.c104_plan.specs.declared.ports.Port.TheVariants as port
-use Rattle.c104_plan.specs.PlanImage.{Image}
-use Rattle.c104_draw.specs.Drawings.{DrawnWire, Stroke}
-use Rattle.c104_draw.specs.Edges.{AreFirsts, are_alike, are_grouped, are_mates, first_beside, is_beside, is_same}
-use Rattle.c104_draw.proofs.EdgeLemmas.{beside_self, both_true}
 
 and_left : (a b : Bool) → (a && b) ≡ true → a ≡ true
 and_left true b is = refl
@@ -121,17 +113,17 @@ one_on o l k m one two =
     ]
 
 mates_on : (image : Image) (p q r : Port) → are_mates image p q ≡ true → are_mates image q r ≡ true → are_mates image p r ≡ true
-mates_on image (port.Switch s l) (port.Switch t k) (port.Switch u m) one two =
+mates_on image (Port.Switch s l) (Port.Switch t k) (Port.Switch u m) one two =
     let at : ℕ → Option (List Settings) = slice_get image.settings in
     let same : s ≡ t = is_number s t (and_left (s == t) (are_one (at s) l k) one) in
     both_true (s == u) (are_one (at s) l m)
     (number_on s t u (and_left (s == t) (are_one (at s) l k) one) (and_left (t == u) (are_one (at t) k m) two))
     (one_on (at s) l k m (and_right (s == t) (are_one (at s) l k) one) (subst (λ n. are_one (at n) k m ≡ true) (sym same) (and_right (t == u) (are_one (at t) k m) two)))
-mates_on image (port.Switch s l) (port.Switch t k) (port.Terminal v) one two = absurd cc
-mates_on image (port.Switch s l) (port.Terminal u) r one two = absurd cc
-mates_on image (port.Terminal t) (port.Switch s l) r one two = absurd cc
-mates_on image (port.Terminal t) (port.Terminal u) (port.Switch s l) one two = absurd cc
-mates_on image (port.Terminal t) (port.Terminal u) (port.Terminal v) one two = number_on t u v one two
+mates_on image (Port.Switch s l) (Port.Switch t k) (Port.Terminal v) one two = absurd cc
+mates_on image (Port.Switch s l) (Port.Terminal u) r one two = absurd cc
+mates_on image (Port.Terminal t) (Port.Switch s l) r one two = absurd cc
+mates_on image (Port.Terminal t) (Port.Terminal u) (Port.Switch s l) one two = absurd cc
+mates_on image (Port.Terminal t) (Port.Terminal u) (Port.Terminal v) one two = number_on t u v one two
 
 same_on : (a b c : Bool) → is_same a b ≡ true → is_same b c ≡ true → is_same a c ≡ true
 same_on true true c one two = two

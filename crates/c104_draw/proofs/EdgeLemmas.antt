@@ -1,14 +1,9 @@
 -- Each wire is drawn with a first one, which may be itself.
-use Rattle.std.proofs.Common.{◌≡◌, ℕ, zero, suc, ◌<◌, ◌+◌, ◌==◌, ◌&&◌, ◌||◌, Bool, true, false, List, [], ◌∷◌, ◌++◌, length, map, take, slice_index_or, if◌then◌else◌, Option, Some, None, refl, sym, ap, ◌∙◌, arith}
-use Rattle.std.proofs.lemmas.Bool.Decides.{nat_tests}
-use Rattle.std.proofs.lemmas.Iterator.Adapters.{position_from-zero}
-use Rattle.std.specs.List.{position_from}
-use Rattle.c104_plan.specs.declared.ports.Port.{Port}
-use Rattle.c104_plan.specs.declared.ports.Port.TheVariants as port
-use Rattle.c104_plan.specs.PlanImage.{Image}
-use Rattle.c104_draw.specs.Drawings.{DrawnWire, Stroke}
-use Rattle.c104_draw.specs.Edges.{are_alike, are_mates, first_beside, is_beside, is_same}
-use Rattle.c104_draw.proofs.ListLemmas.{map_more, mapped_next}
+use Rattle.c104_draw.{proofs.ListLemmas.{map_more, mapped_next}, specs.{Drawings.{DrawnWire, Stroke}, Edges.{are_alike, are_mates}}}
+use Rattle.{c104_draw.specs.Edges.{first_beside, is_beside, is_same}, c104_plan.specs.{PlanImage.Image, declared.ports.Port.Port}}
+use Rattle.std.proofs.Common.{Bool, List, None, Option, Some, [], ap, arith, false, if◌then◌else◌, length, map, refl, slice_index_or, suc}
+use Rattle.std.proofs.{Common.{sym, take, true, zero, ℕ, ◌&&◌, ◌++◌, ◌+◌, ◌<◌, ◌==◌, ◌||◌, ◌∙◌, ◌∷◌, ◌≡◌}, lemmas.Bool.Decides.nat_tests}
+use Rattle.std.{proofs.lemmas.Iterator.Adapters.position_from-zero, specs.List.position_from}
 
 clash_at : (n : ℕ) (b : Bool) (rest : Option ℕ) → b ≡ true → (if b then Some n else rest) ≡ None → ⊥
 clash_at n true rest is none = cc
@@ -33,8 +28,8 @@ same_number : (n : ℕ) → (n == n) ≡ true
 same_number n = grind (arith, nat_tests)
 
 mates_self : (image : Image) (p : Port) → are_mates image p p ≡ true
-mates_self image (port.Switch s l) = both_true (s == s) _ (same_number s) (first_true (l == l) _ (same_number l))
-mates_self image (port.Terminal t) = same_number t
+mates_self image (Port.Switch s l) = both_true (s == s) _ (same_number s) (first_true (l == l) _ (same_number l))
+mates_self image (Port.Terminal t) = same_number t
 
 same_self : (b : Bool) → is_same b b ≡ true
 same_self true = refl

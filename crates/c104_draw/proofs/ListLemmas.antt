@@ -1,14 +1,8 @@
 -- Lists that are made element by element.
-use Rattle.std.proofs.Common.{◌≡◌, ℕ, zero, suc, ◌<◌, ◌+◌, List, [], ◌∷◌, ◌++◌, length, map, take, slice_index_or, refl, sym, ap, ◌∙◌, append_assoc, arith}
-use Rattle.std.specs.List.{range_with_len}
-use Rattle.std.proofs.lemmas.List.{length-take-le, take_more}
-use Rattle.c104_plan.specs.declared.ports.Port.TheVariants as port
-use Rattle.c104_plan.specs.declared.plans.Terminal.{Terminal}
-use Rattle.c104_plan.specs.Plans.{host_port}
-use Rattle.c104_plan.specs.declared.ports.Wire.{Wire}
-use Rattle.c104_plan.specs.declared.ports.Port.{Port}
-use Rattle.c104_plan.specs.Wiring.{terminal_wires}
-use Rattle.c104_draw.specs.Drawings.{ordered}
+use Rattle.{c104_draw.specs.Drawings.ordered, c104_plan.specs.{Plans.host_port, Wiring.terminal_wires, declared.plans.Terminal.Terminal}}
+use Rattle.{c104_plan.specs.declared.ports.{Port.Port, Wire.Wire}, std.proofs.Common.{List, [], ap, append_assoc, arith, length, map, refl}}
+use Rattle.std.proofs.{Common.{slice_index_or, suc, sym, take, zero, ℕ, ◌++◌, ◌+◌, ◌<◌, ◌∙◌, ◌∷◌, ◌≡◌}, lemmas.List.length-take-le}
+use Rattle.std.{proofs.lemmas.List.take_more, specs.List.range_with_len}
 
 pub map_more : {X Y : Type 0} (f : X → Y) (xs : List X) (x : X) → map f (xs ++ x ∷ []) ≡ map f xs ++ f x ∷ []
 map_more f [] x = refl
@@ -32,17 +26,17 @@ numbers_next f n old made new y are one is =
     ∙ ap (λ z. old ++ (map f (range_with_len 0 n) ++ z ∷ [])) (one ∙ ap f (sym last))
     ∙ ap (λ ys. old ++ ys) (sym (range_from f n 0)) ∙ ap (λ k. old ++ map f (range_with_len 0 k)) count
 
-wires_more : (n : ℕ) (ts : List Terminal) (t : Terminal) → terminal_wires n (ts ++ t ∷ []) ≡ terminal_wires n ts ++ record { here = port.Terminal (n + length ts); there = host_port t } ∷ []
-wires_more n [] t = ap (λ k. record { here = port.Terminal k; there = host_port t } ∷ []) (omega arith)
+wires_more : (n : ℕ) (ts : List Terminal) (t : Terminal) → terminal_wires n (ts ++ t ∷ []) ≡ terminal_wires n ts ++ record { here = Port.Terminal (n + length ts); there = host_port t } ∷ []
+wires_more n [] t = ap (λ k. record { here = Port.Terminal k; there = host_port t } ∷ []) (omega arith)
 wires_more n (u ∷ ts) t =
-    ap (λ ws. record { here = port.Terminal n; there = host_port u } ∷ ws) (wires_more (suc n) ts t ∙ ap (λ k. terminal_wires (suc n) ts ++ record { here = port.Terminal k; there = host_port t } ∷ []) (omega arith))
+    ap (λ ws. record { here = Port.Terminal n; there = host_port u } ∷ ws) (wires_more (suc n) ts t ∙ ap (λ k. terminal_wires (suc n) ts ++ record { here = Port.Terminal k; there = host_port t } ∷ []) (omega arith))
 
 -- the wires of terminals as they are drawn, one terminal further
-pub wires_next : (xs : List Terminal) (k : ℕ) (t : Terminal) (there : Port) (made new : List Wire) → k < length xs → t ≡ slice_index_or xs k t → there ≡ host_port t → made ≡ map ordered (terminal_wires 0 (take k xs)) → new ≡ made ++ record { here = port.Terminal k; there = there } ∷ [] → new ≡ map ordered (terminal_wires 0 (take (k + 1) xs))
+pub wires_next : (xs : List Terminal) (k : ℕ) (t : Terminal) (there : Port) (made new : List Wire) → k < length xs → t ≡ slice_index_or xs k t → there ≡ host_port t → made ≡ map ordered (terminal_wires 0 (take k xs)) → new ≡ made ++ record { here = Port.Terminal k; there = there } ∷ [] → new ≡ map ordered (terminal_wires 0 (take (k + 1) xs))
 wires_next xs k t there made new below at host are is =
     let count : 0 + length (take k xs) ≡ k = let n = length-take-le k xs (omega (arith, below)) in omega (arith, n) in
-    let wire : ℕ → Wire = λ n. record { here = port.Terminal n; there = host_port t } in
+    let wire : ℕ → Wire = λ n. record { here = Port.Terminal n; there = host_port t } in
     let all : terminal_wires 0 (take (k + 1) xs) ≡ terminal_wires 0 (take k xs) ++ wire k ∷ [] =
     ap (terminal_wires 0) (take_more xs k t below ∙ ap (λ u. take k xs ++ u ∷ []) (sym at)) ∙ wires_more 0 (take k xs) t ∙ ap (λ n. terminal_wires 0 (take k xs) ++ wire n ∷ []) count in
-    is ∙ ap (λ p. made ++ record { here = port.Terminal k; there = p } ∷ []) host ∙ ap (λ ws. ws ++ wire k ∷ []) are
+    is ∙ ap (λ p. made ++ record { here = Port.Terminal k; there = p } ∷ []) host ∙ ap (λ ws. ws ++ wire k ∷ []) are
     ∙ sym (map_more ordered (terminal_wires 0 (take k xs)) (wire k)) ∙ ap (map ordered) (sym all)

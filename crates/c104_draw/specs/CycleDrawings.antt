@@ -1,20 +1,14 @@
 -- A network as it is drawn where a cycle of channel dependencies is marked.
 --     IsCycleDrawing plan image inputs drawing      a picture marks the ways to these inputs
-use Rattle.std.specs.Prelude.{◌≡◌, Bool, false, List, map, Some, None}
-use Rattle.c104_plan.specs.declared.ports.Port.TheVariants as port
-use Rattle.c104_plan.specs.Plans.{Plan}
-use Rattle.c104_plan.specs.PlanImage.{Image}
-use Rattle.c104_plan.specs.declared.ports.Port.{Port}
-use Rattle.c104_plan.specs.declared.ports.Wire.{Wire}
-use Rattle.c104_check.specs.declared.ports.SwitchPort.{SwitchPort}
-use Rattle.c104_check.specs.Walks.{is_met, port_of}
-use Rattle.c104_draw.specs.Drawings.{DrawnWire, Stroke, drawn_nodes, drawn_wires}
-use Rattle.c104_draw.specs.Edges.{AreFirsts, Drawing, first_beside}
+use Rattle.{c104_check.specs.{Walks.{is_met, port_of}, declared.ports.SwitchPort.SwitchPort}, c104_draw.specs.Drawings.{DrawnWire, Stroke}}
+use Rattle.c104_draw.specs.{Drawings.{drawn_nodes, drawn_wires}, Edges.{AreFirsts, Drawing, first_beside}}
+use Rattle.c104_plan.specs.{PlanImage.Image, Plans.Plan, declared.ports.{Port.Port, Wire.Wire}}
+use Rattle.std.specs.Prelude.{Bool, List, None, Some, false, map, ◌≡◌}
 
 -- the way to a port is one to an input of the cycle
 abbrev pub is_in_cycle : List SwitchPort → Port → Bool
-is_in_cycle inputs (port.Switch s i) = is_met (port_of s i) inputs
-is_in_cycle inputs (port.Terminal t) = false
+is_in_cycle inputs (Port.Switch s i) = is_met (port_of s i) inputs
+is_in_cycle inputs (Port.Terminal t) = false
 
 -- how the way to a port is drawn: red where it leads to an input of the cycle
 abbrev pub cycle_stroke : List SwitchPort → Port → Stroke

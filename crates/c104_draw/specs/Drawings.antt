@@ -2,32 +2,23 @@
 --     drawn_nodes plan owner      each switch and each terminal, once
 --     drawn_wires plan      each wire, once
 --     IsDrawn marking drawn      how a wire is drawn, by what is marked
-use Rattle.std.specs.Prelude.{◌≡◌, ◌↔◌, ℕ, ◌==◌, Bool, false, IsTrue, List, ◌++◌, length, map, nat_lt, Option, Some, None, if◌then◌else◌}
-use Rattle.std.specs.List.{range_with_len}
-use Rattle.c104_plan.specs.declared.ports.Port.TheVariants as port
-use Rattle.c104_plan.specs.Plans.{Plan}
-use Rattle.c104_plan.specs.declared.ports.Port.{Port}
-use Rattle.c104_plan.specs.declared.ports.Wire.{Wire}
-use Rattle.c104_plan.specs.Wiring.{wires}
-use Rattle.c104_check.specs.Parts.{IsDiscardedAt, IsTakenAsOwn, IsTakenAsRandom}
-use Rattle.c104_check.specs.Routes.{Routes, header_owner}
-use Rattle.c104_check.specs.declared.ports.SwitchPort.{SwitchPort}
-use Rattle.c104_check.specs.Walks.{is_met, port_of}
-pub use Rattle.c104_draw.specs.declared.drawings.DrawnNode.{DrawnNode}
-pub use Rattle.c104_draw.specs.declared.drawings.DrawnWire.{DrawnWire}
-pub use Rattle.c104_draw.specs.declared.drawings.Stroke.{Stroke}
-use Rattle.c104_draw.specs.declared.drawings.Node.TheVariants as node
+pub use Rattle.c104_draw.specs.declared.drawings.{DrawnNode.DrawnNode, DrawnWire.DrawnWire, Stroke.Stroke}
+use Rattle.c104_check.specs.{Parts.{IsDiscardedAt, IsTakenAsOwn, IsTakenAsRandom}, Routes.{Routes, header_owner}, Walks.{is_met, port_of}}
+use Rattle.{c104_check.specs.declared.ports.SwitchPort.SwitchPort, c104_draw.specs.declared.drawings.Node.Node, c104_plan.specs.Plans.Plan}
+use Rattle.c104_plan.specs.{Wiring.wires, declared.ports.{Port.Port, Wire.Wire}}
+use Rattle.std.specs.{List.range_with_len, Prelude.{Bool, IsTrue, List, None, Option, Some, false, if◌then◌else◌, length, map, nat_lt, ℕ}}
+use Rattle.std.specs.Prelude.{◌++◌, ◌==◌, ◌↔◌, ◌≡◌}
 
 -- a switch and a terminal as they are drawn; the terminal that owns the header is filled
 abbrev pub switch_node : ℕ → DrawnNode
-switch_node s = record { node = node.Switch s; filled = false }
+switch_node s = record { node = Node.Switch s; filled = false }
 
 abbrev pub is_owner : Option ℕ → ℕ → Bool
 is_owner None t = false
 is_owner (Some owner) t = owner == t
 
 abbrev pub terminal_node : Option ℕ → ℕ → DrawnNode
-terminal_node owner t = record { node = node.Terminal t; filled = is_owner owner t }
+terminal_node owner t = record { node = Node.Terminal t; filled = is_owner owner t }
 
 -- the nodes of a network: its switches, and then its terminals
 abbrev pub drawn_nodes : Plan → Option ℕ → List DrawnNode
@@ -36,10 +27,10 @@ drawn_nodes plan owner =
 
 -- a wire is drawn from its terminal, or else from the switch that has the lower number
 abbrev pub is_backward : Port → Port → Bool
-is_backward (port.Switch s l) (port.Switch s' l') = nat_lt s' s
-is_backward (port.Switch s l) (port.Terminal t) = false
-is_backward (port.Terminal t) (port.Switch s l) = false
-is_backward (port.Terminal t) (port.Terminal t') = false
+is_backward (Port.Switch s l) (Port.Switch s' l') = nat_lt s' s
+is_backward (Port.Switch s l) (Port.Terminal t) = false
+is_backward (Port.Terminal t) (Port.Switch s l) = false
+is_backward (Port.Terminal t) (Port.Terminal t') = false
 
 abbrev pub ordered : Wire → Wire
 ordered w = if is_backward w.here w.there then record { here = w.there; there = w.here } else w
@@ -64,26 +55,26 @@ marked_owner (Some m) = header_owner m.routes m.header
 -- of packets
 abbrev pub IsBold : Option Marking → Port → Type 0
 IsBold None p = ⊥
-IsBold (Some m) (port.Switch s o) = IsTakenAsOwn m.routes m.header (port_of s o)
-IsBold (Some m) (port.Terminal t) = ⊥
+IsBold (Some m) (Port.Switch s o) = IsTakenAsOwn m.routes m.header (port_of s o)
+IsBold (Some m) (Port.Terminal t) = ⊥
 
 -- it is dashed: the header may do so as a random one, on its way to a portal
 abbrev pub IsDashed : Option Marking → Port → Type 0
 IsDashed None p = ⊥
-IsDashed (Some m) (port.Switch s o) = IsTakenAsRandom m.routes m.header (port_of s o)
-IsDashed (Some m) (port.Terminal t) = ⊥
+IsDashed (Some m) (Port.Switch s o) = IsTakenAsRandom m.routes m.header (port_of s o)
+IsDashed (Some m) (Port.Terminal t) = ⊥
 
 -- a port is drawn as a portal: it is an input at which the header may be discarded as a random one
 abbrev pub IsDrawnPortal : Option Marking → Port → Type 0
 IsDrawnPortal None p = ⊥
-IsDrawnPortal (Some m) (port.Switch s i) = IsDiscardedAt m.routes m.header (port_of s i)
-IsDrawnPortal (Some m) (port.Terminal t) = ⊥
+IsDrawnPortal (Some m) (Port.Switch s i) = IsDiscardedAt m.routes m.header (port_of s i)
+IsDrawnPortal (Some m) (Port.Terminal t) = ⊥
 
 -- the way to a port is red: it is an input of the walk
 abbrev pub is_red : Option Marking → Port → Bool
 is_red None p = false
-is_red (Some m) (port.Switch s i) = is_met (port_of s i) m.walk
-is_red (Some m) (port.Terminal t) = false
+is_red (Some m) (Port.Switch s i) = is_met (port_of s i) m.walk
+is_red (Some m) (Port.Terminal t) = false
 
 -- how the way from a port to another is drawn
 pub record IsStroke (marking : Option Marking) (from to : Port) (stroke : Stroke) : Type 0 where

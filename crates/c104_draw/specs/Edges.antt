@@ -1,21 +1,13 @@
 -- Which wires of a picture are drawn as one edge.
 --     is_beside image w x      two wires are
 --     IsDrawing plan image marking drawing      a picture has each node and each wire of a network once
-use Rattle.std.specs.Prelude.{◌≡◌, ℕ, ◌==◌, ◌&&◌, ◌||◌, Bool, true, false, not, List, [], map, nat_lt, position, slice_get, Option, Some, None}
-use Rattle.std.specs.List.{AllByRecursion}
-use Rattle.c104_crossbar.specs.Groups.{group_contains}
-use Rattle.c104_regs.specs.declared.registers.TheConstants.{LINKS}
+use Rattle.c104_check.specs.{Routes.routes_of, declared.{faults.CheckFault.CheckFault, ports.SwitchPort.SwitchPort}}
+use Rattle.{c104_crossbar.specs.Groups.group_contains, c104_draw.specs.Drawings.{DrawnNode, DrawnWire, IsDrawn, Marking, Stroke}}
+use Rattle.{c104_draw.specs.Drawings.{drawn_nodes, drawn_wires, marked_owner}, c104_plan.specs.{PlanImage.Image, Plans.Plan}}
+use Rattle.{c104_plan.specs.declared.ports.Port.Port, c104_regs.specs.{Groups.continues_at, declared.registers.TheConstants.LINKS}}
 use Rattle.c104_regs.specs.declared.settings.Settings.{Settings}
-use Rattle.c104_regs.specs.Groups.{continues_at}
-use Rattle.c104_plan.specs.declared.ports.Port.TheVariants as port
-use Rattle.c104_plan.specs.Plans.{Plan}
-use Rattle.c104_plan.specs.PlanImage.{Image}
-use Rattle.c104_plan.specs.declared.ports.Port.{Port}
-use Rattle.c104_check.specs.declared.faults.CheckFault.{CheckFault}
-use Rattle.c104_check.specs.declared.faults.CheckFault.TheVariants as fault
-use Rattle.c104_check.specs.Routes.{routes_of}
-use Rattle.c104_check.specs.declared.ports.SwitchPort.{SwitchPort}
-use Rattle.c104_draw.specs.Drawings.{DrawnNode, DrawnWire, IsDrawn, Marking, Stroke, drawn_nodes, drawn_wires, marked_owner}
+use Rattle.std.specs.{List.AllByRecursion, Prelude.{Bool, List, None, Option, Some, [], false, map, nat_lt, not, position, slice_get, true}}
+use Rattle.std.specs.Prelude.{ℕ, ◌&&◌, ◌==◌, ◌||◌, ◌≡◌}
 
 -- two links of a switch with these settings are of one group
 abbrev pub are_grouped : Option (List Settings) → ℕ → ℕ → Bool
@@ -24,11 +16,11 @@ are_grouped (Some settings) l k = nat_lt l LINKS && group_contains (continues_at
 
 -- two ports are one, or links of one group
 abbrev pub are_mates : Image → Port → Port → Bool
-are_mates image (port.Switch s l) (port.Switch r k) =
+are_mates image (Port.Switch s l) (Port.Switch r k) =
     s == r && (l == k || are_grouped (slice_get image.settings s) l k)
-are_mates image (port.Switch s l) (port.Terminal t) = false
-are_mates image (port.Terminal t) (port.Switch s l) = false
-are_mates image (port.Terminal t) (port.Terminal u) = t == u
+are_mates image (Port.Switch s l) (Port.Terminal t) = false
+are_mates image (Port.Terminal t) (Port.Switch s l) = false
+are_mates image (Port.Terminal t) (Port.Terminal u) = t == u
 
 abbrev pub is_same : Bool → Bool → Bool
 is_same true b = b
@@ -73,16 +65,16 @@ pub record IsDrawing (plan : Plan) (image : Image) (marking : Option Marking) (d
 -- the inputs of the walk that a fault tells, if it tells one
 abbrev pub fault_walk : Option CheckFault → List SwitchPort
 fault_walk None = []
-fault_walk (Some (fault.WrongEnd shown)) = shown.walk
-fault_walk (Some (fault.DeadEnd shown)) = shown.walk
-fault_walk (Some (fault.Loop shown)) = shown.walk
-fault_walk (Some (fault.Stray shown)) = shown.walk
-fault_walk (Some (fault.RangesOverlap t u)) = []
-fault_walk (Some (fault.LabelTooLarge t)) = []
-fault_walk (Some (fault.MixedHeaders p)) = []
-fault_walk (Some (fault.DeleteInside p)) = []
-fault_walk (Some (fault.RandomInside p)) = []
-fault_walk (Some fault.NoMemory) = []
+fault_walk (Some (CheckFault.WrongEnd shown)) = shown.walk
+fault_walk (Some (CheckFault.DeadEnd shown)) = shown.walk
+fault_walk (Some (CheckFault.Loop shown)) = shown.walk
+fault_walk (Some (CheckFault.Stray shown)) = shown.walk
+fault_walk (Some (CheckFault.RangesOverlap t u)) = []
+fault_walk (Some (CheckFault.LabelTooLarge t)) = []
+fault_walk (Some (CheckFault.MixedHeaders p)) = []
+fault_walk (Some (CheckFault.DeleteInside p)) = []
+fault_walk (Some (CheckFault.RandomInside p)) = []
+fault_walk (Some CheckFault.NoMemory) = []
 
 -- a header in the network of an image for a plan, with the walk of its fault
 abbrev pub marking_of : Plan → Image → ℕ → Option CheckFault → Marking

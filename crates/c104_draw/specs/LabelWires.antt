@@ -1,22 +1,14 @@
 -- Over which wires labels lead.
 --     is_used image wire      one way or the other
-use Rattle.std.specs.Prelude.{ℕ, ◌||◌, Bool, false, List, slice_get, Option, Some, None}
-use Rattle.std.specs.List.{list_any}
-use Rattle.c104_interval.specs.declared.intervals.Row.{Row}
-use Rattle.c104_interval.specs.declared.intervals.Select.{Select}
-use Rattle.c104_interval.specs.declared.intervals.Select.TheVariants as select
-use Rattle.c104_regs.specs.declared.settings.Settings.{Settings}
-use Rattle.c104_plan.specs.declared.ports.Port.{Port}
-use Rattle.c104_plan.specs.declared.ports.Port.TheVariants as port
-use Rattle.c104_plan.specs.declared.ports.Wire.{Wire}
-use Rattle.c104_plan.specs.PlanImage.{Image}
-use Rattle.c104_draw.specs.Edges.{are_mates}
+use Rattle.{c104_draw.specs.Edges.are_mates, c104_interval.specs.declared.intervals.{Row.Row, Select.Select}}
+use Rattle.{c104_plan.specs.{PlanImage.Image, declared.ports.{Port.Port, Wire.Wire}}, c104_regs.specs.declared.settings.Settings.Settings}
+use Rattle.std.specs.{List.list_any, Prelude.{Bool, List, None, Option, Some, false, slice_get, ℕ, ◌||◌}}
 
 -- what a row of a switch selects is a port, or another link of its group
 abbrev pub selects_link : Image → ℕ → Port → Select → Bool
-selects_link image switch p (select.Link link) = are_mates image p (port.Switch switch link)
-selects_link image switch p select.Discard = false
-selects_link image switch p select.Sink = false
+selects_link image switch p (Select.Link link) = are_mates image p (Port.Switch switch link)
+selects_link image switch p Select.Discard = false
+selects_link image switch p Select.Sink = false
 
 abbrev pub selects : Image → ℕ → Port → Row → Bool
 selects image switch p row = selects_link image switch p row.select
@@ -31,11 +23,11 @@ leads_back_if image switch p (Some settings) = leads_back image switch p setting
 
 abbrev pub leads_back_at : Image → ℕ → ℕ → Option (List Settings) → Bool
 leads_back_at image switch link None = false
-leads_back_at image switch link (Some settings) = leads_back_if image switch (port.Switch switch link) (slice_get settings link)
+leads_back_at image switch link (Some settings) = leads_back_if image switch (Port.Switch switch link) (slice_get settings link)
 
 abbrev pub is_selected : Image → Port → Bool
-is_selected image (port.Switch s l) = leads_back_at image s l (slice_get image.settings s)
-is_selected image (port.Terminal t) = false
+is_selected image (Port.Switch s l) = leads_back_at image s l (slice_get image.settings s)
+is_selected image (Port.Terminal t) = false
 
 -- labels lead over a wire, one way or the other
 abbrev pub is_used : Image → Wire → Bool

@@ -1,6 +1,6 @@
 -- What people ask where they type a script, beside its lines.
-use Rattle.std.specs.Prelude.{◌||◌, ℕ, Bool, false, List, Option, Some, None, bytes_eq, codes, slice_get}
-use Rattle.c104_plan.specs.TextCut.{uncommented_line, line_words}
+use Rattle.c104_plan.specs.TextCut.{line_words, uncommented_line}
+use Rattle.std.specs.Prelude.{Bool, List, None, Option, Some, bytes_eq, codes, false, slice_get, ℕ, ◌||◌}
 
 -- whether it is with this word that a person wants to end the script
 abbrev pub wants_end : List ℕ → Bool

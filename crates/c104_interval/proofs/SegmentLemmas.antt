@@ -1,15 +1,10 @@
 -- What a list of just a table's separators says of the table's selection.
-use Rattle.std.proofs.Common.{◌≡◌, ℕ, zero, suc, ◌<◌, ◌≤◌, ◌⊎◌, inl, inr, ◌↔◌, Bool, true, false, ◌&&◌, cond, nat_le, nat_lt, List, [], ◌∷◌, map, filter, slice_get, Some, refl, sym, ap, ◌∙◌, add-one, arith}
-use Rattle.std.proofs.lemmas.Bool.{cases_eq, ltb-true, lt-ltb}
-use Rattle.std.proofs.lemmas.Bool.Decides.{nat_tests}
-use Rattle.std.proofs.lemmas.List.Elements.{All-contains, All-contains_itself, All-filter, filter_passes}
-use Rattle.std.specs.List.{Contains}
-use Rattle.std.specs.List.Sorted.{IsStrictlyIncreasing}
-use Rattle.c104_interval.specs.declared.intervals.Row.{Row}
-use Rattle.c104_interval.specs.declared.intervals.Select.{Select}
-use Rattle.c104_interval.specs.declared.intervals.Table.{Table}
-use Rattle.c104_interval.specs.Segments.{AreSegmentsBelow, IsConstantBetween, IsGreatestUpTo, IsSegmentStart, SelectsBySegment, limits, separators}
-use Rattle.c104_interval.specs.Selection.{select_from}
+use Rattle.c104_interval.specs.Segments.{AreSegmentsBelow, IsConstantBetween, IsGreatestUpTo, IsSegmentStart, SelectsBySegment, limits}
+use Rattle.c104_interval.specs.{Segments.separators, Selection.select_from, declared.intervals.{Row.Row, Select.Select, Table.Table}}
+use Rattle.std.proofs.Common.{Bool, List, Some, [], add-one, ap, arith, cond, false, filter, inl, inr, map, nat_le, nat_lt, refl, slice_get}
+use Rattle.std.proofs.{Common.{suc, sym, true, zero, ℕ, ◌&&◌, ◌<◌, ◌↔◌, ◌∙◌, ◌∷◌, ◌≡◌, ◌≤◌, ◌⊎◌}, lemmas.Bool.{Decides.nat_tests, cases_eq}}
+use Rattle.std.proofs.lemmas.{Bool.{lt-ltb, ltb-true}, List.Elements.{All-contains, All-contains_itself, All-filter, filter_passes}}
+use Rattle.std.specs.List.{Contains, Sorted.IsStrictlyIncreasing}
 
 Contains-here : (x : ℕ) (xs : List ℕ) → Contains (x ∷ xs) x
 Contains-here x xs = (zero, omega arith, refl)

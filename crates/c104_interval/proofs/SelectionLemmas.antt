@@ -1,10 +1,8 @@
 -- What the computing form selects is what the first row that covers the header selects.
-use Rattle.std.proofs.Common.{◌≡◌, ℕ, zero, suc, ◌<◌, ◌≤◌, inl, inr, Bool, true, false, ◌&&◌, if◌then◌else◌, nat_le, nat_lt, List, [], ◌∷◌, refl, arith}
+use Rattle.c104_interval.specs.{Selection.{Covers, IsSelected, limit_before, select, select_from}, declared.intervals.Row.Row}
+use Rattle.{c104_interval.specs.declared.intervals.{Select.Select, Table.Table}, std.proofs.Common.{Bool, List, [], arith, false}}
+use Rattle.std.proofs.Common.{if◌then◌else◌, inl, inr, nat_le, nat_lt, refl, suc, true, zero, ℕ, ◌&&◌, ◌<◌, ◌∷◌, ◌≡◌, ◌≤◌}
 use Rattle.std.proofs.lemmas.Bool.Decides.{nat_tests}
-use Rattle.c104_interval.specs.declared.intervals.Select.{Select}
-use Rattle.c104_interval.specs.declared.intervals.Row.{Row}
-use Rattle.c104_interval.specs.declared.intervals.Table.{Table}
-use Rattle.c104_interval.specs.Selection.{Covers, IsSelected, limit_before, select, select_from}
 
 -- these rows, where the first begins at low
 abbrev table : ℕ → List Row → Table

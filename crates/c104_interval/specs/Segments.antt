@@ -1,9 +1,7 @@
 -- The headers at which a table's selection may change, its segments, and the law that it changes
 -- nowhere else. A segment is named by the header that it begins at.
-use Rattle.std.specs.Prelude.{◌≡◌, ℕ, ◌<◌, ◌≤◌, ◌⊎◌, ◌↔◌, List, [], ◌∷◌, ◌++◌, map}
-use Rattle.std.specs.List.{Contains}
-use Rattle.c104_interval.specs.declared.intervals.Table.{Table}
-use Rattle.c104_interval.specs.Selection.{select}
+use Rattle.c104_interval.specs.{Selection.select, declared.intervals.Table.Table}
+use Rattle.std.specs.{List.Contains, Prelude.{List, [], map, ℕ, ◌++◌, ◌<◌, ◌↔◌, ◌∷◌, ◌≡◌, ◌≤◌, ◌⊎◌}}
 
 -- the limits of a table's rows
 abbrev pub limits : Table → List ℕ

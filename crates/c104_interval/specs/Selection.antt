@@ -2,12 +2,9 @@
 -- does. A table has 36 rows, numbered from 0.
 --     IsSelected t h s      this, as a relation
 --     select t h      this, as a computation; the contract of `Table::select` ties the two
-use Rattle.std.specs.Prelude.{◌≡◌, ℕ, ◌<◌, ◌≤◌, ◌⊎◌, List, [], ◌∷◌, zero, suc, length, replicate, nat_le, nat_lt, ◌&&◌, if◌then◌else◌, slice_index_or}
-use Rattle.c104_interval.specs.declared.intervals.TheConstants.{ROWS}
-use Rattle.c104_interval.specs.declared.intervals.Select.{Select}
-use Rattle.c104_interval.specs.declared.intervals.Select.TheVariants.{Sink}
-use Rattle.c104_interval.specs.declared.intervals.Row.{Row}
-use Rattle.c104_interval.specs.declared.intervals.Table.{Table}
+use Rattle.c104_interval.specs.declared.intervals.{Row.Row, Select.{Select, TheVariants.Sink}, Table.Table, TheConstants.ROWS}
+use Rattle.std.specs.Prelude.{List, [], if◌then◌else◌, length, nat_le, nat_lt, replicate, slice_index_or, suc, zero, ℕ, ◌&&◌, ◌<◌, ◌∷◌, ◌≡◌}
+use Rattle.std.specs.Prelude.{◌≤◌, ◌⊎◌}
 
 -- a row after a reset, whose interval is empty
 abbrev pub reset_row : Row

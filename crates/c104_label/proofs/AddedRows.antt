@@ -1,11 +1,8 @@
 -- Rows that are added one by one.
-use Rattle.std.proofs.Common.{◌≡◌, ℕ, zero, suc, ◌+◌, ◌==◌, true, false, if◌then◌else◌, List, [], ◌∷◌, ◌++◌, map, refl, sym, ap, ◌∙◌, ⊎_elim, append_assoc, arith}
-use Rattle.std.specs.List.{range_with_len}
-use Rattle.std.proofs.lemmas.Bool.{cases_Bool}
-use Rattle.std.proofs.lemmas.Bool.Decides.{nat_tests}
-use Rattle.c104_interval.specs.declared.intervals.Row.{Row}
-use Rattle.c104_label.specs.LabelRows.{kept_rows, last_limit, with_row, without_empty}
-use Rattle.c104_label.proofs.Runs.{last_without}
+use Rattle.{c104_interval.specs.declared.intervals.Row.Row, c104_label.{proofs.Runs.last_without, specs.LabelRows.{kept_rows, last_limit}}}
+use Rattle.{c104_label.specs.LabelRows.{with_row, without_empty}, std.proofs.Common.{List, [], ap, append_assoc, arith, false}}
+use Rattle.std.proofs.Common.{if◌then◌else◌, map, refl, suc, sym, true, zero, ℕ, ⊎_elim, ◌++◌, ◌+◌, ◌==◌, ◌∙◌, ◌∷◌, ◌≡◌}
+use Rattle.std.{proofs.lemmas.Bool.{Decides.nat_tests, cases_Bool}, specs.List.range_with_len}
 
 without_last : (low : ℕ) (rows : List Row) (r : Row) → without_empty low (rows ++ r ∷ []) ≡ without_empty low rows ++ (if r.limit == last_limit low rows then [] else r ∷ [])
 without_last low [] r = refl

@@ -1,27 +1,23 @@
 -- Headers that leave each switch by one link: over which wires they come to their terminal.
-use Rattle.std.proofs.Common.{◌≡◌, ℕ, zero, suc, ◌<◌, ◌+◌, ◌/◌, ◌%◌, ◌==◌, true, is_some, Option, Some, None, refl, sym, ap, subst, ◌∙◌}
-use Rattle.std.proofs.lemmas.Bool.{eqb-true}
-use Rattle.c104_interval.specs.declared.intervals.Select.TheVariants.{Link}
-use Rattle.c104_plan.specs.declared.ports.Port.{Port}
-use Rattle.c104_plan.specs.declared.ports.Port.TheVariants as port
-use Rattle.c104_plan.specs.Layouts.{Layout}
-use Rattle.c104_plan.proofs.LayoutJoins.{AreJoined, IsJoin, IsJoined}
 use Rattle.c104_check.specs.Routes.{Arrives, Leads, Routes, is_in_group, select}
-use Rattle.c104_label.specs.Crossings.{Crosses, IsOver}
+use Rattle.{c104_interval.specs.declared.intervals.Select.TheVariants.Link, c104_label.specs.Crossings.{Crosses, IsOver}}
+use Rattle.c104_plan.{proofs.LayoutJoins.{AreJoined, IsJoin, IsJoined}, specs.{Layouts.Layout, declared.ports.Port.Port}}
+use Rattle.std.proofs.Common.{None, Option, Some, ap, is_some, refl, subst, suc, sym, true, zero, ℕ, ◌%◌, ◌+◌, ◌/◌, ◌<◌, ◌==◌, ◌∙◌, ◌≡◌}
+use Rattle.std.proofs.lemmas.Bool.{eqb-true}
 
 over_arrives : (routes : Routes) (h t n : ℕ) → ((s i : ℕ) → Crosses routes h t n s i → Leads routes h t (suc n) s i) → (o : Option Port) → IsOver (Crosses routes h t n) o → Arrives (Leads routes h t (suc n)) t o
 over_arrives routes h t n step None is = is
-over_arrives routes h t n step (Some (port.Terminal u)) is = absurd is
-over_arrives routes h t n step (Some (port.Switch s i)) is = step s i is
+over_arrives routes h t n step (Some (Port.Terminal u)) is = absurd is
+over_arrives routes h t n step (Some (Port.Switch s i)) is = step s i is
 
 -- what crosses n wires leads there over one more switch
 pub crosses_leads : (routes : Routes) (h t n s i : ℕ) → Crosses routes h t n s i → Leads routes h t (suc n) s i
 crosses_leads routes h t zero s i (g, at, all) = (g, at, λ o is. subst (Arrives (Leads routes h t zero) t) (sym (all o is)) refl)
-crosses_leads routes h t (suc n) s i (g, at, all) = (g, at, λ o is. over_arrives routes h t n (crosses_leads routes h t n) (routes.peer (port.Switch s o)) (all o is))
+crosses_leads routes h t (suc n) s i (g, at, all) = (g, at, λ o is. over_arrives routes h t n (crosses_leads routes h t n) (routes.peer (Port.Switch s o)) (all o is))
 
 -- something is wired to a link
 abbrev pub IsWired : Routes → ℕ → ℕ → Type 0
-IsWired routes s l = is_some (routes.peer (port.Switch s l)) ≡ true
+IsWired routes s l = is_some (routes.peer (Port.Switch s l)) ≡ true
 
 -- a network of a layout whose switches have p terminals each, in which header h leaves a switch by the one link that
 -- is picked by the number of its owner's switch and by its owner's link
@@ -29,26 +25,26 @@ pub record LeavesByPick (layout : Layout) (p : ℕ) (pick : ℕ → ℕ → ℕ 
   pub joined : AreJoined layout
   pub alone : (s g o : ℕ) → s < layout.switches → is_in_group routes s g o ≡ (o == g)
   pub selects : (s l : ℕ) → s < layout.switches → IsWired routes s l → select routes s l h ≡ Some (Link (pick s (h / p) (layout.links + h % p)))
-  pub beyond : (s l t k : ℕ) → s < layout.switches → l < layout.links → layout.beyond s l ≡ Some (port.Switch t k) → routes.peer (port.Switch s l) ≡ Some (port.Switch t k)
+  pub beyond : (s l t k : ℕ) → s < layout.switches → l < layout.links → layout.beyond s l ≡ Some (Port.Switch t k) → routes.peer (Port.Switch s l) ≡ Some (Port.Switch t k)
   pub back : (a b : Port) → routes.peer a ≡ Some b → routes.peer b ≡ Some a
-  pub own : routes.peer (port.Switch (h / p) (layout.links + h % p)) ≡ Some (port.Terminal h)
+  pub own : routes.peer (Port.Switch (h / p) (layout.links + h % p)) ≡ Some (Port.Terminal h)
 
 module _ (layout : Layout) (p : ℕ) (pick : ℕ → ℕ → ℕ → ℕ) (routes : Routes) (h : ℕ) (net : LeavesByPick layout p pick routes h) where
   -- the one link of a group
-  the_link : (s g o : ℕ) → s < layout.switches → is_in_group routes s g o ≡ true → routes.peer (port.Switch s o) ≡ routes.peer (port.Switch s g)
-  the_link s g o lt member = ap (λ x. routes.peer (port.Switch s x)) (eqb-true o g (sym (net.alone s g o lt) ∙ member))
+  the_link : (s g o : ℕ) → s < layout.switches → is_in_group routes s g o ≡ true → routes.peer (Port.Switch s o) ≡ routes.peer (Port.Switch s g)
+  the_link s g o lt member = ap (λ x. routes.peer (Port.Switch s x)) (eqb-true o g (sym (net.alone s g o lt) ∙ member))
 
   -- where the link that is picked leads to a switch, from which the header crosses n wires, it crosses one more
-  pub cross : (n s l o u k : ℕ) → IsWired routes s l → s < layout.switches → o < layout.links → layout.beyond s o ≡ Some (port.Switch u k) → pick s (h / p) (layout.links + h % p) ≡ o → (u < layout.switches → IsWired routes u k → Crosses routes h h n u k) → Crosses routes h h (suc n) s l
+  pub cross : (n s l o u k : ℕ) → IsWired routes s l → s < layout.switches → o < layout.links → layout.beyond s o ≡ Some (Port.Switch u k) → pick s (h / p) (layout.links + h % p) ≡ o → (u < layout.switches → IsWired routes u k → Crosses routes h h n u k) → Crosses routes h h (suc n) s l
   cross n s l o u k wired lt few leads picks rest =
       let join : IsJoin layout s o u k = subst (IsJoined layout s o) leads (net.joined s o lt few) in
-      let there : routes.peer (port.Switch s o) ≡ Some (port.Switch u k) = net.beyond s o u k lt few leads in
-      let here : routes.peer (port.Switch u k) ≡ Some (port.Switch s o) = net.back (port.Switch s o) (port.Switch u k) there in
+      let there : routes.peer (Port.Switch s o) ≡ Some (Port.Switch u k) = net.beyond s o u k lt few leads in
+      let here : routes.peer (Port.Switch u k) ≡ Some (Port.Switch s o) = net.back (Port.Switch s o) (Port.Switch u k) there in
       let goes_on : Crosses routes h h n u k = rest join.inside (ap is_some here) in
       (o, net.selects s l lt wired ∙ ap (λ x. Some (Link x)) picks, λ x member. subst (IsOver (Crosses routes h h n)) (sym (the_link s o x lt member ∙ there)) goes_on)
 
   -- and where it leads to the header's own terminal, the header is there
   pub arrive : (s l : ℕ) → IsWired routes s l → s < layout.switches → h / p ≡ s → pick s (h / p) (layout.links + h % p) ≡ layout.links + h % p → Crosses routes h h 0 s l
   arrive s l wired lt owner picks =
-      let there : routes.peer (port.Switch s (layout.links + h % p)) ≡ Some (port.Terminal h) = subst (λ u. routes.peer (port.Switch u (layout.links + h % p)) ≡ Some (port.Terminal h)) owner net.own in
+      let there : routes.peer (Port.Switch s (layout.links + h % p)) ≡ Some (Port.Terminal h) = subst (λ u. routes.peer (Port.Switch u (layout.links + h % p)) ≡ Some (Port.Terminal h)) owner net.own in
       (layout.links + h % p, net.selects s l lt wired ∙ ap (λ x. Some (Link x)) picks, λ x member. the_link s (layout.links + h % p) x lt member ∙ there)

@@ -1,11 +1,7 @@
 -- The rows of a cube's switch, in three runs: from the highest bit down, its own, from the lowest bit up.
-use Rattle.std.proofs.Common.{◌≡◌, ℕ, zero, suc, ◌+◌, ◌*◌, ◌-◌, ◌/◌, ◌^◌, List, [], ◌∷◌, ◌++◌, map, refl, sym, ap, ◌∙◌, append_assoc, arith}
-use Rattle.std.specs.List.{range_with_len}
-use Rattle.std.proofs.lemmas.List.{append-nil}
-use Rattle.c104_interval.specs.declared.intervals.Row.{Row}
-use Rattle.c104_label.specs.LabelRows.{label_row, own_rows}
-use Rattle.c104_label.specs.CubeLabels.{all_cube_rows}
-use Rattle.c104_label.proofs.AddedRows.{mapped_last}
+use Rattle.{c104_interval.specs.declared.intervals.Row.Row, c104_label.{proofs.AddedRows.mapped_last, specs.CubeLabels.all_cube_rows}}
+use Rattle.{c104_label.specs.LabelRows.{label_row, own_rows}, std.proofs.Common.{List, [], ap, append_assoc, arith, map, refl, suc, sym}}
+use Rattle.std.{proofs.{Common.{zero, ℕ, ◌*◌, ◌++◌, ◌+◌, ◌-◌, ◌/◌, ◌^◌, ◌∙◌, ◌∷◌, ◌≡◌}, lemmas.List.append-nil}, specs.List.range_with_len}
 
 abbrev pub below_row : ℕ → ℕ → ℕ → Row
 below_row p x k = label_row (x / 2 ^ k * 2 ^ k * p) k

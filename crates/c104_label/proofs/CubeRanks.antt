@@ -1,29 +1,15 @@
 -- On a labelled cube no inputs depend on one another in a cycle.
-use Rattle.std.proofs.Common.{◌≡◌, ◌≢◌, ℕ, zero, suc, ◌<◌, ◌≤◌, ◌+◌, ◌-◌, ◌/◌, ◌%◌, ◌^◌, ◌==◌, ◌⊎◌, inl, inr, true, false, length, map, min, Some, refl, sym, ap, subst, ◌∙◌, ⊎_elim, arith}
-use Rattle.std.specs.List.{range_with_len}
-use Rattle.std.proofs.lemmas.Bool.{cases_Bool, cases_lt, eqb-true, eq-eqb}
-use Rattle.std.proofs.lemmas.Bool.Decides.{nat_tests}
-use Rattle.std.proofs.lemmas.Nat.{div_below, mod_below}
+use Rattle.c104_check.{proofs.AcyclicLemmas.{FallsByLabels, acyclic_by, plain_ranking}, specs.ChannelDependencies.{IsAcyclic, input_count}}
+use Rattle.c104_check.specs.{Routes.{IsEntryOf, Routes, routes_of, to_port}, Trails.IsInput, declared.ports.SwitchPort.SwitchPort}
+use Rattle.c104_label.proofs.{AcceptedCubes.{cube_labelling, is_of, net}, AcceptedLayouts.layout_routes, CubeSelections.cube_link}
+use Rattle.c104_label.proofs.{CubeWalks.{IsFlipped, bits_agree, flipped_down, flipped_up, same_switch}, LabelledRoutes.not_randomized}
+use Rattle.c104_label.{proofs.LayoutRanks.{GoesOn, came_from, entry_link, goes_on}, specs.{Crossings.cube_distance, CubeLabels.bit}}
+use Rattle.{c104_label.specs.{CubeLabels.cube_table, Images.IsCubeImage}, c104_plan.specs.{Layouts.{IsCube, cube}, PlanImage.Image}}
+use Rattle.c104_plan.specs.{PlanImage.range_of, Plans.{IsPlan, Plan}, declared.{plans.Shape.TheVariants.Cube, ports.Port.Port}}
+use Rattle.std.proofs.Common.{Some, ap, arith, false, inl, inr, length, map, min, refl, subst, suc, sym, true, zero, ℕ, ⊎_elim, ◌%◌, ◌+◌}
+use Rattle.std.proofs.{Common.{◌-◌, ◌/◌, ◌<◌, ◌==◌, ◌^◌, ◌∙◌, ◌≡◌, ◌≢◌, ◌≤◌, ◌⊎◌}, lemmas.Bool.{Decides.nat_tests, cases_Bool, cases_lt}}
+use Rattle.std.{proofs.lemmas.{Bool.{eq-eqb, eqb-true}, Nat.{div_below, mod_below}}, specs.List.range_with_len}
 use native.Mathlib.Nat.{div-eq_of_lt}
-use Rattle.c104_plan.specs.declared.ports.Port.TheVariants as port
-use Rattle.c104_plan.specs.Layouts.{IsCube, cube}
-use Rattle.c104_plan.specs.PlanImage.{Image, range_of}
-use Rattle.c104_plan.specs.Plans.{IsPlan, Plan}
-use Rattle.c104_plan.specs.declared.plans.Shape.TheVariants.{Cube}
-use Rattle.c104_check.specs.declared.ports.SwitchPort.{SwitchPort}
-use Rattle.c104_check.specs.Routes.{IsEntryOf, Routes, routes_of, to_port}
-use Rattle.c104_check.specs.ChannelDependencies.{IsAcyclic, input_count}
-use Rattle.c104_check.specs.Trails.{IsInput}
-use Rattle.c104_check.proofs.AcyclicLemmas.{FallsByLabels, acyclic_by, plain_ranking}
-use Rattle.c104_label.specs.Images.{IsCubeImage}
-use Rattle.c104_label.specs.Crossings.{cube_distance}
-use Rattle.c104_label.specs.CubeLabels.{bit, cube_table}
-use Rattle.c104_label.proofs.AcceptedLayouts.{layout_routes}
-use Rattle.c104_label.proofs.AcceptedCubes.{cube_labelling, is_of, net}
-use Rattle.c104_label.proofs.CubeSelections.{cube_link}
-use Rattle.c104_label.proofs.CubeWalks.{IsFlipped, bits_agree, flipped_down, flipped_up, same_switch}
-use Rattle.c104_label.proofs.LabelledRoutes.{not_randomized}
-use Rattle.c104_label.proofs.LayoutRanks.{GoesOn, came_from, entry_link, goes_on}
 
 -- the highest bit first
 abbrev pub cube_rank : ℕ → SwitchPort → ℕ
@@ -68,7 +54,7 @@ picked_bit (suc n) x u own = ⊎_elim
     ))
     (cases_Bool (bit x n == bit u n))
 
-one_port : (a b : ℕ) (q : SwitchPort) → Some (port.Switch a b) ≡ Some (to_port q) → (a ≡ q.switch) × (b ≡ q.link)
+one_port : (a b : ℕ) (q : SwitchPort) → Some (Port.Switch a b) ≡ Some (to_port q) → (a ≡ q.switch) × (b ≡ q.link)
 one_port a b q e = let x : a ≡ q.switch = cc in let y : b ≡ q.link = cc in (x, y)
 
 module _ (plan : Plan) (d p : ℕ) (image : Image) (kept : IsPlan plan) (shape : plan.shape ≡ Cube d p) (made : IsCubeImage plan d p image) where
@@ -95,10 +81,10 @@ module _ (plan : Plan) (d p : ℕ) (image : Image) (kept : IsPlan plan) (shape :
         ap (bit y) same ∙ bits_agree (bit z.switch k) (bit y k) (bit (l / p) k) (mod_below _ 2 (omega arith)) (mod_below _ 2 (omega arith)) (mod_below _ 2 (omega arith)) differs f.differs ∙ ap (bit (l / p)) (sym same)))
         (cases_lt k j)
 
-    led : (k y : ℕ) → IsHighest d z.switch (l / p) (d + l % p) k → (cube d).beyond z.switch k ≡ Some (port.Switch y k) → IsFlipped z.switch y k → Way z.switch (l / p) q
+    led : (k y : ℕ) → IsHighest d z.switch (l / p) (d + l % p) k → (cube d).beyond z.switch k ≡ Some (Port.Switch y k) → IsFlipped z.switch y k → Way z.switch (l / p) q
     led k y top beyond f =
-        let there : R.peer (port.Switch z.switch k) ≡ Some (port.Switch y k) = g.leaves.beyond z.switch k y k g.inside top.below beyond in
-        let to = one_port y k q (sym there ∙ ap (λ n. R.peer (port.Switch z.switch n)) (sym top.link) ∙ g.leads) in
+        let there : R.peer (Port.Switch z.switch k) ≡ Some (Port.Switch y k) = g.leaves.beyond z.switch k y k g.inside top.below beyond in
+        let to = one_port y k q (sym there ∙ ap (λ n. R.peer (Port.Switch z.switch n)) (sym top.link) ∙ g.leads) in
         let agree : Agree d y (l / p) k = flipped k top.differs y f top.above in
         record {
           below = subst (λ n. n < d) to.1 top.below;
@@ -111,7 +97,7 @@ module _ (plan : Plan) (d p : ℕ) (image : Image) (kept : IsPlan plan) (shape :
         (λ (own : (cube_link d z.switch (l / p) (d + l % p) ≡ d + l % p) × Agree d z.switch (l / p) 0 × (cube_distance d z.switch (l / p) ≡ 0)).
         let owned : l / p < 2 ^ d = div_below l p (2 ^ d) sizes.some g.below in
         let at : z.switch ≡ l / p = same_switch d z.switch (l / p) (div-eq_of_lt g.inside ∙ sym (div-eq_of_lt owned)) own.2 in
-        let clash : Some (port.Terminal l) ≡ Some (to_port q) = sym g.leaves.own ∙ ap (λ n. R.peer (port.Switch n (d + l % p))) (sym at) ∙ ap (λ n. R.peer (port.Switch z.switch n)) (sym own.0) ∙ g.leads in
+        let clash : Some (Port.Terminal l) ≡ Some (to_port q) = sym g.leaves.own ∙ ap (λ n. R.peer (Port.Switch n (d + l % p))) (sym at) ∙ ap (λ n. R.peer (Port.Switch z.switch n)) (sym own.0) ∙ g.leads in
         absurd (cc))
         (λ (top : (k : ℕ) × IsHighest d z.switch (l / p) (d + l % p) k). ⊎_elim
         (λ (t : (bit z.switch top.0 == 0) ≡ true). led top.0 (z.switch + 2 ^ top.0) top.1 (rw t refl) (flipped_up z.switch top.0 (eqb-true (bit z.switch top.0) 0 t)))

@@ -1,12 +1,9 @@
 -- A cube's rows as they are added.
-use Rattle.std.proofs.Common.{◌≡◌, ℕ, zero, suc, ◌<◌, ◌≤◌, ◌+◌, ◌*◌, ◌-◌, ◌/◌, ◌%◌, ◌^◌, List, [], ◌++◌, refl, sym, ap, ◌∙◌, append_assoc, arith}
+use Rattle.{c104_interval.specs.declared.intervals.Row.Row, c104_label.proofs.AddedRows.{rows_so_far, so_far_first, so_far_next}}
+use Rattle.c104_label.proofs.{CubeLists.{above_row, below_row, cube_flat, rows_above, rows_below}, Quotients.times}
+use Rattle.{c104_label.specs.{CubeLabels.cube_rows, LabelRows.{kept_rows, label_row, own_rows, with_row}}, std.proofs.Common.{List, [], ap}}
+use Rattle.std.proofs.Common.{append_assoc, arith, refl, suc, sym, zero, ℕ, ◌%◌, ◌*◌, ◌++◌, ◌+◌, ◌-◌, ◌/◌, ◌<◌, ◌^◌, ◌∙◌, ◌≡◌, ◌≤◌}
 use Rattle.std.proofs.lemmas.Nat.{div_below, pow-add, pow_pos}
-use Rattle.c104_interval.specs.declared.intervals.Row.{Row}
-use Rattle.c104_label.specs.LabelRows.{kept_rows, label_row, own_rows, with_row}
-use Rattle.c104_label.specs.CubeLabels.{cube_rows}
-use Rattle.c104_label.proofs.Quotients.{times}
-use Rattle.c104_label.proofs.AddedRows.{rows_so_far, so_far_first, so_far_next}
-use Rattle.c104_label.proofs.CubeLists.{above_row, below_row, cube_flat, rows_above, rows_below}
 
 unfoldable pub cube_down : ℕ → ℕ → ℕ → ℕ → List Row
 cube_down d p x i = rows_so_far [] (λ i. below_row p x (d - suc i)) i

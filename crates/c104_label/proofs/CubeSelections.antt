@@ -1,15 +1,11 @@
 -- What a cube's tables select is what labels are to select.
-use Rattle.std.proofs.Common.{◌≡◌, ◌≢◌, ℕ, zero, suc, ◌<◌, ◌≤◌, ◌+◌, ◌*◌, ◌-◌, ◌/◌, ◌%◌, ◌^◌, ◌==◌, true, false, if◌then◌else◌, refl, sym, ap, subst, ◌∙◌, ⊎_elim, arith}
-use Rattle.std.proofs.lemmas.Bool.Decides.{nat_tests}
-use Rattle.std.proofs.lemmas.Bool.{cases_Bool, eq-eqb, ne_eqb}
-use Rattle.std.proofs.lemmas.Nat.{div_below, le-div, pow_pos}
-use Rattle.c104_interval.specs.declared.intervals.Select.{Select}
-use Rattle.c104_interval.specs.declared.intervals.Select.TheVariants.{Link}
-use Rattle.c104_interval.specs.Selection.{select}
-use Rattle.c104_label.specs.LabelRows.{own_rows, owner}
-use Rattle.c104_label.specs.CubeLabels.{IsHighestDifference, SelectsInCube, all_cube_rows, bit, cube_rows, cube_table}
-use Rattle.c104_label.proofs.Quotients.{cube_ends, cube_one, cube_whole, lower_end, place_at, upper_end}
-use Rattle.c104_label.proofs.Pieces.{IsPiece, none_of, one_of, own_piece, picked, piece_around, piece_same, table_selects}
+use Rattle.{c104_interval.specs.{Selection.select, declared.intervals.Select.{Select, TheVariants.Link}}, c104_label.proofs.Pieces.IsPiece}
+use Rattle.c104_label.proofs.{Pieces.{none_of, one_of, own_piece, picked, piece_around, piece_same, table_selects}, Quotients.cube_ends}
+use Rattle.c104_label.{proofs.Quotients.{cube_one, cube_whole, lower_end, place_at, upper_end}, specs.CubeLabels.IsHighestDifference}
+use Rattle.c104_label.specs.{CubeLabels.{SelectsInCube, all_cube_rows, bit, cube_rows, cube_table}, LabelRows.{own_rows, owner}}
+use Rattle.std.proofs.Common.{ap, arith, false, if◌then◌else◌, refl, subst, suc, sym, true, zero, ℕ, ⊎_elim, ◌%◌, ◌*◌, ◌+◌, ◌-◌, ◌/◌, ◌<◌}
+use Rattle.std.proofs.{Common.{◌==◌, ◌^◌, ◌∙◌, ◌≡◌, ◌≢◌, ◌≤◌}, lemmas.{Bool.{Decides.nat_tests, cases_Bool, eq-eqb, ne_eqb}, Nat.div_below}}
+use Rattle.std.proofs.lemmas.Nat.{le-div, pow_pos}
 
 -- of the bits below k the link for a label whose owner is switch u and whose
 -- terminal's link is own

@@ -1,11 +1,9 @@
 -- The rows of a cube's tables are in order, few and of links.
-use Rattle.std.proofs.Common.{◌≡◌, ℕ, zero, suc, ◌<◌, ◌≤◌, ◌+◌, ◌*◌, ◌/◌, ◌^◌, length, sym, subst, ◌∙◌, arith}
-use Rattle.std.specs.List.{AllByRecursion}
-use Rattle.c104_label.specs.LabelRows.{AreLabelRows, IsLinkRow, label_row, own_rows}
-use Rattle.c104_label.specs.CubeLabels.{AreCubeTables, IsCube, all_cube_rows, cube_rows}
-use Rattle.c104_label.proofs.Quotients.{cube_ends, cube_one, cube_whole}
-use Rattle.c104_label.proofs.CubeSelections.{selects_in_cube}
-use Rattle.c104_label.proofs.Runs.{IsRun, around_links, kept_fewer, kept_links, kept_rising, length_around, own_length, own_links, run_around, run_of_own}
+use Rattle.c104_label.proofs.{CubeSelections.selects_in_cube, Quotients.{cube_ends, cube_one, cube_whole}, Runs.{IsRun, around_links}}
+use Rattle.c104_label.proofs.Runs.{kept_fewer, kept_links, kept_rising, length_around, own_length, own_links, run_around, run_of_own}
+use Rattle.c104_label.specs.{CubeLabels.{AreCubeTables, IsCube, all_cube_rows, cube_rows}, LabelRows.{AreLabelRows, IsLinkRow, label_row}}
+use Rattle.{c104_label.specs.LabelRows.own_rows, std.proofs.Common.{arith, length, subst, suc, sym, zero, ℕ, ◌*◌, ◌+◌, ◌/◌, ◌<◌, ◌^◌, ◌∙◌}}
+use Rattle.std.{proofs.Common.{◌≡◌, ◌≤◌}, specs.List.AllByRecursion}
 
 cube_run : (d p x k : ℕ) → IsRun (x / 2 ^ k * 2 ^ k * p) ((x / 2 ^ k + 1) * 2 ^ k * p) (all_cube_rows d p x k)
 cube_run d p x zero =

@@ -1,19 +1,11 @@
 -- What the links of a plan of a layout are wired to.
-use Rattle.std.proofs.Common.{◌≡◌, ℕ, zero, suc, ◌<◌, ◌≤◌, ◌+◌, ◌*◌, ◌/◌, ◌%◌, ◌⊎◌, inl, inr, not, true, false, List, [], ◌∷◌, ◌++◌, map, slice_get, Some, refl, sym, ap, subst, ◌∙◌, arith}
-use Rattle.std.specs.List.{AllByRecursion, flat_map, range_with_len}
-use Rattle.std.proofs.lemmas.Bool.{cases_Bool, cases_eq}
-use Rattle.c104_plan.specs.Distinctness.{AreDistinct}
-use Rattle.c104_plan.specs.declared.plans.Terminal.{Terminal}
-use Rattle.c104_plan.specs.declared.ports.Port.TheVariants as port
-use Rattle.c104_plan.specs.Layouts.{Layout, filled_terminal, filled_wires, wire_at, wires_from}
-use Rattle.c104_plan.specs.Plans.{IsFilled, IsPlan, Plan, host_port, linked_ports}
-use Rattle.c104_plan.specs.declared.ports.Wire.{Wire}
-use Rattle.c104_plan.specs.Ports.{both_ends, is_port, other_end}
-use Rattle.c104_plan.specs.Wiring.{peer, terminal_wires}
-use Rattle.c104_plan.proofs.LayoutJoins.{AreJoined, IsJoin, IsJoined}
-use Rattle.c104_plan.proofs.PortLemmas.{is_port-refl}
-use Rattle.c104_plan.proofs.Wires.{wiring}
-use Rattle.c104_label.proofs.MappedRanges.{map_at}
+use Rattle.{c104_label.proofs.MappedRanges.map_at, c104_plan.proofs.{LayoutJoins.{AreJoined, IsJoin, IsJoined}, PortLemmas.is_port-refl}}
+use Rattle.c104_plan.{proofs.Wires.wiring, specs.{Distinctness.AreDistinct, Layouts.{Layout, filled_terminal, filled_wires, wire_at}}}
+use Rattle.c104_plan.specs.{Layouts.wires_from, Plans.{IsFilled, IsPlan, Plan, host_port, linked_ports}, Ports.{both_ends, is_port}}
+use Rattle.c104_plan.specs.{Ports.other_end, Wiring.{peer, terminal_wires}, declared.{plans.Terminal.Terminal, ports.Port.Port}}
+use Rattle.{c104_plan.specs.declared.ports.Wire.Wire, std.proofs.Common.{List, Some, [], ap, arith, false, inl, inr, map, not, refl}}
+use Rattle.std.proofs.Common.{slice_get, subst, suc, sym, true, zero, ℕ, ◌%◌, ◌*◌, ◌++◌, ◌+◌, ◌/◌, ◌<◌, ◌∙◌, ◌∷◌, ◌≡◌, ◌≤◌, ◌⊎◌}
+use Rattle.std.{proofs.lemmas.Bool.{cases_Bool, cases_eq}, specs.List.{AllByRecursion, flat_map, range_with_len}}
 
 -- x is one of these
 abbrev IsIn : {X : Type 0} → X → List X → Type 0
@@ -57,35 +49,35 @@ end_of_wire w (v ∷ ws) once (inr is) =
     rw (each_in (λ q. is_port v.here q ≡ false) w.here (v.there ∷ both_ends ws) once.0 (inr among), each_in (λ q. is_port v.there q ≡ false) w.here (both_ends ws) once.1.0 among)
     (end_of_wire w ws once.1.1 is)
 
-end_of_linked : (n : ℕ) (ts : List Terminal) (ws : List Wire) (w : Wire) (s l : ℕ) → w.here ≡ port.Switch s l → AreDistinct is_port (linked_ports ts ws) → IsIn w ws → other_end (terminal_wires n ts ++ ws) (port.Switch s l) ≡ Some w.there
+end_of_linked : (n : ℕ) (ts : List Terminal) (ws : List Wire) (w : Wire) (s l : ℕ) → w.here ≡ Port.Switch s l → AreDistinct is_port (linked_ports ts ws) → IsIn w ws → other_end (terminal_wires n ts ++ ws) (Port.Switch s l) ≡ Some w.there
 end_of_linked n [] ws w s l here once is = subst (λ q. other_end ws q ≡ Some w.there) here (end_of_wire w ws once is)
 end_of_linked n (t ∷ ts) ws w s l here once is =
-    let among : IsIn (port.Switch s l) (both_ends ws) = subst (λ q. IsIn q (both_ends ws)) here (begin_in w ws is) in
-    rw (each_in (λ q. is_port (host_port t) q ≡ false) (port.Switch s l) (linked_ports ts ws) once.0 (in_second (port.Switch s l) (map host_port ts) (both_ends ws) among))
+    let among : IsIn (Port.Switch s l) (both_ends ws) = subst (λ q. IsIn q (both_ends ws)) here (begin_in w ws is) in
+    rw (each_in (λ q. is_port (host_port t) q ≡ false) (Port.Switch s l) (linked_ports ts ws) once.0 (in_second (Port.Switch s l) (map host_port ts) (both_ends ws) among))
     (end_of_linked (suc n) ts ws w s l here once.1 is)
 
 module _ (plan : Plan) (layout : Layout) (p : ℕ) (kept : IsPlan plan) (filled : IsFilled layout p plan) (joined : AreJoined layout) where
-  begin_peer : (s l t k : ℕ) → s < layout.switches → l < layout.links → layout.beyond s l ≡ Some (port.Switch t k) → layout.begins s l ≡ true → peer plan (port.Switch s l) ≡ Some (port.Switch t k)
+  begin_peer : (s l t k : ℕ) → s < layout.switches → l < layout.links → layout.beyond s l ≡ Some (Port.Switch t k) → layout.begins s l ≡ true → peer plan (Port.Switch s l) ≡ Some (Port.Switch t k)
   begin_peer s l t k a b is begins =
-      let w : Wire = record { here = port.Switch s l; there = port.Switch t k } in
+      let w : Wire = record { here = Port.Switch s l; there = Port.Switch t k } in
       let one : IsIn w (wire_at layout s l) = rw (begins, is) (inl refl) in
       let all : IsIn w (filled_wires layout) = in_range w (wires_from layout) 0 layout.switches s (omega arith) (omega (arith, a)) (in_range w (wire_at layout s) 0 layout.links l (omega arith) (omega (arith, b)) one) in
       end_of_linked 0 plan.terminals plan.wires w s l refl kept.links (subst (IsIn w) (sym filled.wires) all)
 
   -- a link for another switch
-  pub beyond_peer : (s l t k : ℕ) → s < layout.switches → l < layout.links → layout.beyond s l ≡ Some (port.Switch t k) → peer plan (port.Switch s l) ≡ Some (port.Switch t k)
+  pub beyond_peer : (s l t k : ℕ) → s < layout.switches → l < layout.links → layout.beyond s l ≡ Some (Port.Switch t k) → peer plan (Port.Switch s l) ≡ Some (Port.Switch t k)
   beyond_peer s l t k a b is =
       let join : IsJoin layout s l t k = subst (IsJoined layout s l) is (joined s l a b) in
       elim (cases_Bool (layout.begins s l)) [
         | inl begins ↦ begin_peer s l t k a b is begins
-        | inr ends ↦ (wiring plan kept).back (port.Switch t k) (port.Switch s l) (begin_peer t k s l join.inside join.link join.back (join.one_end ∙ ap not ends))
+        | inr ends ↦ (wiring plan kept).back (Port.Switch t k) (Port.Switch s l) (begin_peer t k s l join.inside join.link join.back (join.one_end ∙ ap not ends))
       ]
 
   -- and the link of a terminal
-  pub terminal_peer : (t : ℕ) → t < layout.switches * p → peer plan (port.Terminal t) ≡ Some (port.Switch (t / p) (layout.links + t % p))
+  pub terminal_peer : (t : ℕ) → t < layout.switches * p → peer plan (Port.Terminal t) ≡ Some (Port.Switch (t / p) (layout.links + t % p))
   terminal_peer t below =
       let at : slice_get plan.terminals t ≡ Some (filled_terminal layout.links p t) = ap (λ ts. slice_get ts t) filled.terminals ∙ map_at (filled_terminal layout.links p) (layout.switches * p) t below in
       (wiring plan kept).host t (filled_terminal layout.links p t) at
 
-  pub own_peer : (t : ℕ) → t < layout.switches * p → peer plan (port.Switch (t / p) (layout.links + t % p)) ≡ Some (port.Terminal t)
-  own_peer t below = (wiring plan kept).back (port.Terminal t) (port.Switch (t / p) (layout.links + t % p)) (terminal_peer t below)
+  pub own_peer : (t : ℕ) → t < layout.switches * p → peer plan (Port.Switch (t / p) (layout.links + t % p)) ≡ Some (Port.Terminal t)
+  own_peer t below = (wiring plan kept).back (Port.Terminal t) (Port.Switch (t / p) (layout.links + t % p)) (terminal_peer t below)

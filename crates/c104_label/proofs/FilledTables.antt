@@ -1,11 +1,8 @@
 -- Tables that are filled row by row, and made switch by switch.
-use Rattle.std.proofs.Common.{◌≡◌, ℕ, zero, suc, ◌<◌, ◌≤◌, ◌+◌, ◌-◌, List, [], ◌∷◌, ◌++◌, length, take, map, replicate, slice_set, slice_index_or, refl, sym, ap, ◌∙◌, add-one, arith}
-use Rattle.c104_interval.specs.declared.intervals.Row.{Row}
-use Rattle.c104_interval.specs.declared.intervals.Table.{Table}
-use Rattle.c104_label.specs.LabelRows.{label_table}
-use Rattle.c104_interval.specs.Selection.{reset_row}
+use Rattle.{c104_interval.specs.{Selection.reset_row, declared.intervals.{Row.Row, Table.Table}}, c104_label.specs.LabelRows.label_table}
+use Rattle.std.proofs.Common.{List, [], add-one, ap, arith, length, map, refl, replicate, slice_index_or, slice_set, suc, sym, take, zero}
+use Rattle.std.proofs.{Common.{ℕ, ◌++◌, ◌+◌, ◌-◌, ◌<◌, ◌∙◌, ◌∷◌, ◌≡◌, ◌≤◌}, lemmas.List.FromFn.map-range_with_len_more}
 use Rattle.std.specs.List.{range_with_len}
-use Rattle.std.proofs.lemmas.List.FromFn.{map-range_with_len_more}
 
 abbrev filled : ℕ → List Row → List Row
 filled m rows = rows ++ replicate (m - length rows) reset_row

@@ -1,12 +1,10 @@
 -- What a depth-first visit finds: a tree of different switches, with all that wires lead to.
-use Rattle.std.proofs.Common.{◌≡◌, ℕ, zero, suc, ◌<◌, ◌≤◌, ◌+◌, ◌-◌, ◌⊎◌, inl, inr, Bool, true, false, ◌==◌, ◌||◌, List, [], ◌∷◌, ◌++◌, length, Some, refl, sym, ap, subst, ◌∙◌, arith, append_assoc, append-nil}
-use Rattle.std.proofs.Math.Dec.{eqb}
-use Rattle.std.proofs.lemmas.Bool.{eqb-true, eq-eqb}
-use Rattle.std.proofs.lemmas.Bool.Decides.{nat_tests}
-use Rattle.std.proofs.lemmas.Map.Steps.{length-le_from_distinct_below}
-use Rattle.std.specs.List.{AllByRecursion, IsDistinct, range_with_len}
-use Rattle.c104_plan.specs.declared.ports.Port.TheVariants as port
-use Rattle.c104_label.specs.Forests.{AreInside, AreSwitches, Ends, Forest, Grown, IsDepthFirst, IsPassed, Wired, child, empty, is_met, links, switches}
+use Rattle.c104_label.specs.Forests.{AreInside, AreSwitches, Ends, Forest, Grown, IsDepthFirst, IsPassed, Wired, child, empty, is_met}
+use Rattle.{c104_label.specs.Forests.{links, switches}, c104_plan.specs.declared.ports.Port.Port, std.proofs.Common.{Bool, List, Some, []}}
+use Rattle.std.proofs.Common.{ap, append-nil, append_assoc, arith, false, inl, inr, length, refl, subst, suc, sym, true, zero, ℕ, ◌++◌, ◌+◌}
+use Rattle.std.proofs.{Common.{◌-◌, ◌<◌, ◌==◌, ◌||◌, ◌∙◌, ◌∷◌, ◌≡◌, ◌≤◌, ◌⊎◌}, Math.Dec.eqb, lemmas.Bool.{Decides.nat_tests, eq-eqb}}
+use Rattle.std.{proofs.lemmas.{Bool.eqb-true, Map.Steps.length-le_from_distinct_below}, specs.List.{AllByRecursion, IsDistinct}}
+use Rattle.std.specs.List.{range_with_len}
 
 -- this holds of each switch of a forest
 abbrev pub AllSwitches : (ℕ → Type 0) → Forest → Type 0
@@ -68,9 +66,9 @@ AllSwitches-map P Q each (child l r b below rest) all = (each r all.0, AllSwitch
 abbrev IsClosed : Ends → List ℕ → ℕ → Type 0
 IsClosed ends seen s = AllByRecursion (IsPassed ends seen s) links
 
-pub wire_here : (ends : Ends) (s l r b : ℕ) (seen : List ℕ) → ends s l ≡ Some (port.Switch r b) → is_met seen r ≡ true → IsPassed ends seen s l
+pub wire_here : (ends : Ends) (s l r b : ℕ) (seen : List ℕ) → ends s l ≡ Some (Port.Switch r b) → is_met seen r ≡ true → IsPassed ends seen s l
 wire_here ends s l r b seen at met r' b' is =
-    let same : r' ≡ r = let e : Some (port.Switch r' b') ≡ Some (port.Switch r b) = sym is ∙ at in cc in
+    let same : r' ≡ r = let e : Some (Port.Switch r' b') ≡ Some (Port.Switch r b) = sym is ∙ at in cc in
     rw same met
 
 pub grown_closed : (ends : Ends) (f : Forest) (seen ls : List ℕ) (s : ℕ) → Grown ends seen s ls f → AllByRecursion (IsPassed ends (seen ++ switches f) s) ls × AllSwitches (IsClosed ends (seen ++ switches f)) f
@@ -103,7 +101,7 @@ AllSwitches-at P (child l r b below rest) s all is =
       ]
     ]
 
-passed_at : (ends : Ends) (seen : List ℕ) (s : ℕ) (ls : List ℕ) (l r b : ℕ) → AllByRecursion (IsPassed ends seen s) ls → is_met ls l ≡ true → ends s l ≡ Some (port.Switch r b) → is_met seen r ≡ true
+passed_at : (ends : Ends) (seen : List ℕ) (s : ℕ) (ls : List ℕ) (l r b : ℕ) → AllByRecursion (IsPassed ends seen s) ls → is_met ls l ≡ true → ends s l ≡ Some (Port.Switch r b) → is_met seen r ≡ true
 passed_at ends seen s [] l r b all one at = absurd cc
 passed_at ends seen s (k ∷ ls) l r b all one at =
     elim (or_parts (l == k) (is_met ls l) one) [
@@ -194,7 +192,7 @@ grown_skip ends seen s l ls empty here grown = (here, grown)
 grown_skip ends seen s l ls (child k r b below rest) here (before, after, is, passed, at, new, down, on) =
     (l ∷ before, after, ap (λ xs. l ∷ xs) is, (here, passed), at, new, down, on)
 
-pub grown_take : (ends : Ends) (seen : List ℕ) (s l r b : ℕ) (ls : List ℕ) (below rest : Forest) → ends s l ≡ Some (port.Switch r b) → is_met seen r ≡ false → Grown ends (seen ++ (r ∷ [])) r links below
+pub grown_take : (ends : Ends) (seen : List ℕ) (s l r b : ℕ) (ls : List ℕ) (below rest : Forest) → ends s l ≡ Some (Port.Switch r b) → is_met seen r ≡ false → Grown ends (seen ++ (r ∷ [])) r links below
     → Grown ends ((seen ++ (r ∷ [])) ++ switches below) s ls rest → Grown ends seen s (l ∷ ls) (child l r b below rest)
 grown_take ends seen s l r b ls below rest at new down on = ([], ls, refl, tt, at, new, down, on)
 

@@ -1,32 +1,17 @@
 -- Headers are as long as the plan says at all links that are wired, and so equally long.
-use Rattle.std.proofs.Common.{◌≡◌, ℕ, ◌<◌, ◌≤◌, ◌*◌, ◌==◌, ◌&&◌, Bool, true, false, inl, inr, if◌then◌else◌, is_some, nat_lt, get_or, List, length, position, slice_get, Option, Some, None, refl, sym, ap, subst, ◌∙◌, arith}
-use Rattle.std.specs.List.{find, position_or_len}
-use Rattle.std.proofs.lemmas.Bool.{cases_lt}
-use Rattle.std.proofs.lemmas.Bool.Decides.{nat_tests}
-use Rattle.std.proofs.lemmas.List.FromFn.{length-map-range_with_len}
-use Rattle.std.proofs.lemmas.List.Quantifiers.{position-Some}
-use Rattle.std.proofs.lemmas.List.Sums.{fails_before_first}
-use Rattle.std.proofs.lemmas.Option.{get_or_from_slice_get, slice_get_within}
-use Rattle.c104_interval.specs.declared.intervals.Table.{Table}
-use Rattle.c104_regs.specs.Settings.{header_length}
-use Rattle.c104_regs.specs.declared.settings.Settings.{Settings}
-use Rattle.c104_plan.specs.declared.plans.PlanRandom.{PlanRandom}
-use Rattle.c104_plan.specs.declared.plans.Terminal.{Terminal}
-use Rattle.c104_plan.specs.declared.ports.Port.{Port}
-use Rattle.c104_plan.specs.declared.ports.Port.TheVariants as port
-use Rattle.c104_plan.specs.LabelledImages.{labelled_settings, labelled_switch, table_in}
-use Rattle.c104_plan.specs.PlanImage.{is_random_of, plain_settings_of, settings_of, with_random}
-use Rattle.c104_plan.specs.Plans.{IsPlan, Plan, host_port}
-use Rattle.c104_plan.specs.Wiring.{peer}
-use Rattle.c104_plan.proofs.LabelledSettings.{labelled_at}
-use Rattle.c104_plan.proofs.Wires.{wiring}
-use Rattle.c104_check.specs.declared.ports.SwitchPort.{SwitchPort}
-use Rattle.c104_check.specs.Routes.{Routes, header_count, length_at, length_or_one, link_peers, link_settings, place, port_at, to_port}
-use Rattle.c104_check.specs.Trails.{IsInput}
-use Rattle.c104_check.proofs.LinkLemmas.{at_place, input_at, place_below}
-use Rattle.c104_label.specs.TreeImages.{most_labels}
-use Rattle.c104_label.proofs.LabelledRoutes.{link_was, routes, settings_are, settings_count}
-use Rattle.c104_label.proofs.MappedRanges.{map_at}
+use Rattle.c104_check.{proofs.LinkLemmas.{at_place, input_at, place_below}, specs.Routes.{Routes, header_count, length_at, length_or_one}}
+use Rattle.c104_check.specs.{Routes.{link_peers, link_settings, place, port_at, to_port}, Trails.IsInput}
+use Rattle.{c104_check.specs.declared.ports.SwitchPort.SwitchPort, c104_interval.specs.declared.intervals.Table.Table}
+use Rattle.c104_label.proofs.{LabelledRoutes.{link_was, routes, settings_are, settings_count}, MappedRanges.map_at}
+use Rattle.{c104_label.specs.TreeImages.most_labels, c104_plan.proofs.{LabelledSettings.labelled_at, Wires.wiring}}
+use Rattle.c104_plan.specs.{LabelledImages.{labelled_settings, labelled_switch, table_in}, PlanImage.{is_random_of, plain_settings_of}}
+use Rattle.c104_plan.specs.{PlanImage.{settings_of, with_random}, Plans.{IsPlan, Plan, host_port}, Wiring.peer}
+use Rattle.c104_plan.specs.declared.{plans.{PlanRandom.PlanRandom, Terminal.Terminal}, ports.Port.Port}
+use Rattle.{c104_regs.specs.{Settings.header_length, declared.settings.Settings.Settings}, std.proofs.Common.{Bool, List, None, Option}}
+use Rattle.std.proofs.Common.{Some, ap, arith, false, get_or, if◌then◌else◌, inl, inr, is_some, length, nat_lt, position, refl, slice_get}
+use Rattle.std.proofs.{Common.{subst, sym, true, ℕ, ◌&&◌, ◌*◌, ◌<◌, ◌==◌, ◌∙◌, ◌≡◌, ◌≤◌}, lemmas.Bool.{Decides.nat_tests, cases_lt}}
+use Rattle.std.proofs.lemmas.List.{FromFn.length-map-range_with_len, Quantifiers.position-Some, Sums.fails_before_first}
+use Rattle.std.{proofs.lemmas.Option.{get_or_from_slice_get, slice_get_within}, specs.List.{find, position_or_len}}
 
 -- how many bytes a plan's headers have
 abbrev pub plan_bytes : Plan → ℕ
@@ -126,5 +111,5 @@ module _ (plan : Plan) (ranges : List (ℕ × ℕ)) (tables : List Table) (kept 
   pub headers_many : (t : ℕ) (terminal : Terminal) → slice_get plan.terminals t ≡ Some terminal → most_labels plan ≤ header_count net
   headers_many t terminal is =
       let q : SwitchPort = record { switch = terminal.switch; link = terminal.link } in
-      let there : peer plan (to_port q) ≡ Some (port.Terminal t) = (wiring plan kept).back (port.Terminal t) (host_port terminal) ((wiring plan kept).host t terminal is) in
-      many_by plan net.header (header_is q (is_input q (port.Terminal t) there) (ap (λ (o : Option Port). is_some o) there))
+      let there : peer plan (to_port q) ≡ Some (Port.Terminal t) = (wiring plan kept).back (Port.Terminal t) (host_port terminal) ((wiring plan kept).host t terminal is) in
+      many_by plan net.header (header_is q (is_input q (Port.Terminal t) there) (ap (λ (o : Option Port). is_some o) there))

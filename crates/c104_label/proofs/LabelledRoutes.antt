@@ -1,35 +1,19 @@
 -- What decides where packets go in a network whose switches have tables that are given, as those of labels.
-use Rattle.std.proofs.Common.{◌≡◌, ℕ, zero, suc, ◌<◌, ◌≤◌, ◌+◌, ◌-◌, ◌==◌, inl, inr, Bool, true, false, if◌then◌else◌, is_some, nat_le, nat_lt, List, [], ◌∷◌, length, map, slice_get, option_map, All, Option, Some, None, refl, sym, ap, ◌∙◌, arith}
+use Rattle.c104_check.{proofs.NetworkLemmas.network_of, specs.Routes.{IsRandomized, Routes, header_count, is_in_group, link_settings}}
+use Rattle.c104_check.specs.{Routes.{or_no_settings, routes_of, select, settings_at, to_port}, Trails.IsNetwork}
+use Rattle.{c104_check.specs.declared.ports.SwitchPort.SwitchPort, c104_crossbar.specs.Groups.{group_contains, is_joined_run}}
+use Rattle.{c104_interval.specs.{Selection.reset_table, declared.intervals.Table.Table}, c104_label.proofs.MappedRanges.{map_at, map_was}}
+use Rattle.c104_plan.proofs.{LabelledSettings.{are_labelled, labelled_at, labelled_fits}, PortLemmas.is_port-true, RangeLists.all_range}
+use Rattle.c104_plan.{proofs.Wires.wiring, specs.LabelledImages.{labelled_image, labelled_settings, labelled_switch, table_in}}
+use Rattle.c104_plan.specs.{PlanImage.{AreSettings, is_random_of, plain_settings_of, settings_of, with_random}, Plans.{IsPlan, Plan}}
+use Rattle.c104_plan.specs.{Plans.{deletes_at, host_port, is_continued, is_on}, Ports.is_any_at, Wiring.peer}
+use Rattle.{c104_plan.specs.declared.{plans.{PlanRandom.PlanRandom, Terminal.Terminal}, ports.Port.Port}, c104_regs.specs.Groups.continues}
+use Rattle.{c104_regs.specs.{Groups.continues_at, Ranges.IsTableInRange, declared.settings.Settings.Settings}, std.proofs.Common.All}
+use Rattle.std.proofs.Common.{Bool, List, None, Option, Some, [], ap, arith, false, if◌then◌else◌, inl, inr, is_some, length, map, nat_le}
+use Rattle.std.proofs.Common.{nat_lt, option_map, refl, slice_get, suc, sym, true, zero, ℕ, ◌+◌, ◌-◌, ◌<◌, ◌==◌, ◌∙◌, ◌∷◌, ◌≡◌, ◌≤◌}
+use Rattle.std.proofs.lemmas.{Bool.{Decides.nat_tests, cases_Bool, cases_lt}, List.FromFn.length-map-range_with_len, Option.slice_get_past}
 use Rattle.std.specs.List.{find, list_any, range_with_len}
-use Rattle.std.proofs.lemmas.Bool.{cases_Bool, cases_lt}
-use Rattle.std.proofs.lemmas.Bool.Decides.{nat_tests}
-use Rattle.std.proofs.lemmas.Option.{slice_get_past}
-use Rattle.std.proofs.lemmas.List.FromFn.{length-map-range_with_len}
 use Rattle.c104_interval.specs.Selection as table
-use Rattle.c104_interval.specs.Selection.{reset_table}
-use Rattle.c104_interval.specs.declared.intervals.Table.{Table}
-use Rattle.c104_crossbar.specs.Groups.{group_contains, is_joined_run}
-use Rattle.c104_regs.specs.Groups.{continues, continues_at}
-use Rattle.c104_regs.specs.Ranges.{IsTableInRange}
-use Rattle.c104_regs.specs.declared.settings.Settings.{Settings}
-use Rattle.c104_plan.specs.declared.plans.PlanRandom.{PlanRandom}
-use Rattle.c104_plan.specs.declared.plans.Terminal.{Terminal}
-use Rattle.c104_plan.specs.declared.ports.Port.{Port}
-use Rattle.c104_plan.specs.declared.ports.Port.TheVariants as port
-use Rattle.c104_plan.specs.LabelledImages.{labelled_image, labelled_settings, labelled_switch, table_in}
-use Rattle.c104_plan.specs.PlanImage.{AreSettings, is_random_of, plain_settings_of, settings_of, with_random}
-use Rattle.c104_plan.specs.Plans.{IsPlan, Plan, deletes_at, host_port, is_continued, is_on}
-use Rattle.c104_plan.specs.Ports.{is_any_at}
-use Rattle.c104_plan.specs.Wiring.{peer}
-use Rattle.c104_plan.proofs.LabelledSettings.{are_labelled, labelled_at, labelled_fits}
-use Rattle.c104_plan.proofs.PortLemmas.{is_port-true}
-use Rattle.c104_plan.proofs.RangeLists.{all_range}
-use Rattle.c104_plan.proofs.Wires.{wiring}
-use Rattle.c104_check.specs.declared.ports.SwitchPort.{SwitchPort}
-use Rattle.c104_check.specs.Routes.{IsRandomized, Routes, header_count, is_in_group, link_settings, or_no_settings, routes_of, select, settings_at, to_port}
-use Rattle.c104_check.specs.Trails.{IsNetwork}
-use Rattle.c104_check.proofs.NetworkLemmas.{network_of}
-use Rattle.c104_label.proofs.MappedRanges.{map_at, map_was}
 
 -- Where no link continues a group, each link is a group by itself
 
@@ -109,7 +93,7 @@ on_terminal p None is = absurd cc
 on_terminal p (Some t) is = (t, refl, is_port-true (host_port t) p is)
 
 -- so none are deleted where a wire leads to a switch
-pub none_deleted : (plan : Plan) (p : Port) (s l : ℕ) → IsPlan plan → peer plan p ≡ Some (port.Switch s l) → deletes_at plan p ≡ false
+pub none_deleted : (plan : Plan) (p : Port) (s l : ℕ) → IsPlan plan → peer plan p ≡ Some (Port.Switch s l) → deletes_at plan p ≡ false
 unfolding deletes_at
 none_deleted plan p s l kept wired = elim (cases_Bool (deletes_at plan p)) [
   | inr not ↦ not
@@ -117,9 +101,9 @@ none_deleted plan p s l kept wired = elim (cases_Bool (deletes_at plan p)) [
       let found = any_on plan p plan.deletes is in
       let terminal = on_terminal p (slice_get plan.terminals found.0) found.1 in
       let w = wiring plan kept in
-      let here : peer plan (port.Terminal found.0) ≡ Some p = w.host found.0 terminal.0 terminal.1 ∙ ap Some terminal.2 in
-      let there : peer plan p ≡ Some (port.Terminal found.0) = w.back (port.Terminal found.0) p here in
-      let clash : Some (port.Switch s l) ≡ Some (port.Terminal found.0) = sym wired ∙ there in absurd cc
+      let here : peer plan (Port.Terminal found.0) ≡ Some p = w.host found.0 terminal.0 terminal.1 ∙ ap Some terminal.2 in
+      let there : peer plan p ≡ Some (Port.Terminal found.0) = w.back (Port.Terminal found.0) p here in
+      let clash : Some (Port.Switch s l) ≡ Some (Port.Terminal found.0) = sym wired ∙ there in absurd cc
 ]
 
 -- A plan and its image with tables make a network
@@ -160,7 +144,7 @@ module _ (plan : Plan) (ranges : List (ℕ × ℕ)) (tables : List Table) where
   ]
 
   -- what a header selects at a port that has a wire
-  pub selected : (s i h : ℕ) → s < length plan.switches → i < 32 → is_some (peer plan (port.Switch s i)) ≡ true → select routes s i h ≡ Some (table.select (table_in tables s) h)
+  pub selected : (s i h : ℕ) → s < length plan.switches → i < 32 → is_some (peer plan (Port.Switch s i)) ≡ true → select routes s i h ≡ Some (table.select (table_in tables s) h)
   unfolding labelled_switch labelled_settings
   selected s i h lt few wired =
       let found : slice_get (settings_at routes s) i ≡ Some (at s i) = ap (λ xs. slice_get xs i) (settings_are s lt) ∙ map_at (at s) 32 i few in
@@ -173,7 +157,7 @@ module _ (plan : Plan) (ranges : List (ℕ × ℕ)) (tables : List Table) where
     where
       none : (l : ℕ) → continues_at (settings_at routes s) l ≡ false
       none l = ap (λ xs. continues_at xs l) (settings_are s lt) ∙ elim (cases_lt l 32) [
-        | inl below ↦ ap continues (map_at (at s) 32 l below) ∙ continues_own plan (table_in tables s) (port.Switch s l) ∙ none_continued plan (port.Switch s l) unset
+        | inl below ↦ ap continues (map_at (at s) 32 l below) ∙ continues_own plan (table_in tables s) (Port.Switch s l) ∙ none_continued plan (Port.Switch s l) unset
         | inr past ↦ ap continues (slice_get_past (map (at s) (range_with_len 0 32)) l (let e : length (map (at s) (range_with_len 0 32)) ≡ 32 = length-map-range_with_len (at s) 0 32 in omega (arith, e, past)))
       ]
 

@@ -1,23 +1,12 @@
 -- Where a header with an owner goes on in a network of a layout: over the link that is picked.
-use Rattle.std.proofs.Common.{◌≡◌, ℕ, zero, suc, ◌<◌, ◌≤◌, ◌+◌, ◌*◌, ◌/◌, ◌%◌, ◌⊎◌, inl, inr, is_some, length, Some, None, sym, ap, subst, ◌∙◌, arith}
-use Rattle.std.proofs.lemmas.Bool.{cases_lt, eqb-true}
-use Rattle.std.proofs.lemmas.List.FromFn.{length-map-range_with_len}
-use Rattle.c104_interval.specs.declared.intervals.Select.TheVariants.{Link}
-use Rattle.c104_interval.specs.declared.intervals.Table.{Table}
-use Rattle.c104_plan.specs.declared.ports.Port.{Port}
-use Rattle.c104_plan.specs.declared.ports.Port.TheVariants as port
-use Rattle.c104_plan.specs.Layouts.{Layout}
-use Rattle.c104_plan.specs.Plans.{IsFilled, IsPlan, Plan}
-use Rattle.c104_plan.proofs.Wires.{wiring}
-use Rattle.c104_check.specs.declared.ports.SwitchPort.{SwitchPort}
-use Rattle.c104_check.specs.Reach.{IsReached}
-use Rattle.c104_check.specs.Routes.{IsEntryOf, Routes, owner, to_port}
-use Rattle.c104_check.specs.Shown.{Follows}
-use Rattle.c104_check.specs.Trails.{IsNetwork}
-use Rattle.c104_label.proofs.AcceptedLayouts.{IsLabelling, layout_routes, leaves, ranges, switch_count}
-use Rattle.c104_label.proofs.CrossedWires.{IsWired, LeavesByPick}
-use Rattle.c104_label.proofs.FilledPeers.{terminal_peer}
-use Rattle.c104_label.proofs.OwnLabels.{no_owner, one_label}
+use Rattle.c104_check.specs.{Reach.IsReached, Routes.{IsEntryOf, Routes, owner, to_port}, Shown.Follows, Trails.IsNetwork}
+use Rattle.{c104_check.specs.declared.ports.SwitchPort.SwitchPort, c104_interval.specs.declared.intervals.Select.TheVariants.Link}
+use Rattle.{c104_interval.specs.declared.intervals.Table.Table, c104_label.proofs.AcceptedLayouts.{IsLabelling, layout_routes, leaves}}
+use Rattle.c104_label.proofs.{AcceptedLayouts.{ranges, switch_count}, CrossedWires.{IsWired, LeavesByPick}, FilledPeers.terminal_peer}
+use Rattle.{c104_label.proofs.OwnLabels.{no_owner, one_label}, c104_plan.{proofs.Wires.wiring, specs.{Layouts.Layout, Plans.IsFilled}}}
+use Rattle.{c104_plan.specs.{Plans.{IsPlan, Plan}, declared.ports.Port.Port}, std.proofs.Common.{None, Some, ap, arith, inl, inr, is_some}}
+use Rattle.std.proofs.{Common.{length, subst, suc, sym, zero, ℕ, ◌%◌, ◌*◌, ◌+◌, ◌/◌, ◌<◌, ◌∙◌, ◌≡◌, ◌≤◌, ◌⊎◌}, lemmas.Bool.cases_lt}
+use Rattle.std.proofs.lemmas.{Bool.eqb-true, List.FromFn.length-map-range_with_len}
 
 module _ (plan : Plan) (layout : Layout) (p : ℕ) (tables : ℕ → Table) (pick : ℕ → ℕ → ℕ → ℕ) (distance : ℕ → ℕ → ℕ) (kept : IsPlan plan) (filled : IsFilled layout p plan) (labelling : IsLabelling layout p tables pick distance) (is_network : IsNetwork (layout_routes plan layout tables)) where
   abbrev net : Routes
@@ -28,7 +17,7 @@ module _ (plan : Plan) (layout : Layout) (p : ℕ) (tables : ℕ → Table) (pic
     pub below : h < layout.switches * p
     pub inside : q.switch < layout.switches
     pub leaves : LeavesByPick layout p pick (layout_routes plan layout tables) h
-    pub leads : (layout_routes plan layout tables).peer (port.Switch q.switch (pick q.switch (h / p) (layout.links + h % p))) ≡ Some (to_port r)
+    pub leads : (layout_routes plan layout tables).peer (Port.Switch q.switch (pick q.switch (h / p) (layout.links + h % p))) ≡ Some (to_port r)
 
   owned_below : (h t : ℕ) → owner net h ≡ Some t → h < layout.switches * p
   owned_below h t owned = elim (cases_lt h (layout.switches * p)) [
@@ -40,8 +29,8 @@ module _ (plan : Plan) (layout : Layout) (p : ℕ) (tables : ℕ → Table) (pic
 
   -- an input to which a header may come is wired
   reached_wired : (h : ℕ) (q : SwitchPort) → IsReached net h q → (b : Port) × (net.peer (to_port q) ≡ Some b)
-  reached_wired h q (t, x, zero, entry, same) = (port.Terminal t, (wiring plan kept).back (port.Terminal t) (to_port q) (entry ∙ ap (λ z. Some (to_port z)) same))
-  reached_wired h q (t, x, suc m, entry, (z, from, follows)) = (port.Switch z.switch follows.1, (wiring plan kept).back (port.Switch z.switch follows.1) (to_port q) follows.4)
+  reached_wired h q (t, x, zero, entry, same) = (Port.Terminal t, (wiring plan kept).back (Port.Terminal t) (to_port q) (entry ∙ ap (λ z. Some (to_port z)) same))
+  reached_wired h q (t, x, suc m, entry, (z, from, follows)) = (Port.Switch z.switch follows.1, (wiring plan kept).back (Port.Switch z.switch follows.1) (to_port q) follows.4)
 
   pub goes_on : (h t : ℕ) (q r : SwitchPort) → owner net h ≡ Some t → IsReached net h q → Follows net h q r → GoesOn h q r
   goes_on h t q r owned reached (g, o, sel, group, wire) =
@@ -55,7 +44,7 @@ module _ (plan : Plan) (layout : Layout) (p : ℕ) (tables : ℕ → Table) (pic
       let same : Some (Link g) ≡ Some (Link (pick q.switch (h / p) (layout.links + h % p))) = sym sel ∙ picks in
       let g_is : g ≡ pick q.switch (h / p) (layout.links + h % p) = cc in
       let o_is : o ≡ g = eqb-true o g (sym (lv.alone q.switch g o lt) ∙ group) in
-      record { below = below; inside = lt; leaves = lv; leads = ap (λ n. net.peer (port.Switch q.switch n)) (sym (o_is ∙ g_is)) ∙ wire }
+      record { below = below; inside = lt; leaves = lv; leads = ap (λ n. net.peer (Port.Switch q.switch n)) (sym (o_is ∙ g_is)) ∙ wire }
 
   -- the input of a terminal is none of a link between switches
   pub entry_link : (t : ℕ) (q : SwitchPort) → IsEntryOf net t q → layout.links ≤ q.link
@@ -64,7 +53,7 @@ module _ (plan : Plan) (layout : Layout) (p : ℕ) (tables : ℕ → Table) (pic
       let below : t < layout.switches * p = omega (arith, inside, ap length (ranges plan layout p tables pick distance kept filled labelling is_network), length-map-range_with_len one_label 0 (layout.switches * p)) in
       link_same (t / p) (layout.links + t % p) q (omega arith) (sym (terminal_peer plan layout p kept filled labelling.joined t below) ∙ entry)
     where
-      link_same : (s l : ℕ) (q : SwitchPort) → layout.links ≤ l → Some (port.Switch s l) ≡ Some (to_port q) → layout.links ≤ q.link
+      link_same : (s l : ℕ) (q : SwitchPort) → layout.links ≤ l → Some (Port.Switch s l) ≡ Some (to_port q) → layout.links ≤ q.link
       link_same s l q le is = let e : l ≡ q.link = cc in subst (λ n. layout.links ≤ n) e le
 
   -- an input to which a header may come is one of a terminal, or one to which it goes on from another

@@ -1,6 +1,5 @@
 -- What stands at a place of a list that is made of a range of numbers.
-use Rattle.std.proofs.Common.{◌≡◌, ℕ, zero, suc, ◌<◌, ◌+◌, map, slice_get, Some, sym, ap, ◌∙◌, arith}
-use Rattle.std.specs.List.{range_with_len}
+use Rattle.std.{proofs.Common.{Some, ap, arith, map, slice_get, suc, sym, zero, ℕ, ◌+◌, ◌<◌, ◌∙◌, ◌≡◌}, specs.List.range_with_len}
 
 made_at : {X : Type 0} (f : ℕ → X) (n count i : ℕ) → i < count → slice_get (map f (range_with_len n count)) i ≡ Some (f (n + i))
 made_at f n zero i lt = absurd (omega (arith, lt))

@@ -1,30 +1,16 @@
 -- On a labelled mesh no inputs depend on one another in a cycle.
-use Rattle.std.proofs.Common.{◌≡◌, ℕ, zero, suc, ◌<◌, ◌≤◌, ◌+◌, ◌*◌, ◌-◌, ◌/◌, ◌%◌, inl, inr, true, nat_le, nat_lt, length, map, Some, refl, sym, ap, subst, ◌∙◌, ⊎_elim, arith}
+use Rattle.c104_check.{proofs.AcyclicLemmas.{FallsByLabels, acyclic_by, plain_ranking}, specs.ChannelDependencies.{IsAcyclic, input_count}}
+use Rattle.c104_check.specs.{Routes.{IsEntryOf, Routes, routes_of, to_port}, Trails.IsInput, declared.ports.SwitchPort.SwitchPort}
+use Rattle.c104_label.proofs.{AcceptedLayouts.layout_routes, AcceptedMeshes.{is_of, mesh_labelling, net}, LabelledRoutes.not_randomized}
+use Rattle.c104_label.proofs.{LabelledRoutes.settings_count, LayoutRanks.{GoesOn, came_from, entry_link, goes_on}}
+use Rattle.c104_label.proofs.{MeshSelections.{mesh_above, mesh_below, mesh_left, mesh_link, mesh_own, mesh_right}, MeshWalks.after_column}
+use Rattle.c104_label.proofs.{MeshWalks.{after_row, before_column, before_row, same_place}, Quotients.{next_above, parts, rows_fit, times}}
+use Rattle.c104_label.{proofs.{Quotients.whole_below, ShapePlans.mesh_switches}, specs.{Crossings.mesh_distance, Images.IsMeshImage}}
+use Rattle.{c104_label.specs.MeshLabels.mesh_table, c104_plan.specs.{Layouts.{IsMesh, mesh}, PlanImage.{Image, range_of}, Plans.IsPlan}}
+use Rattle.{c104_plan.specs.{Plans.Plan, declared.{plans.Shape.TheVariants.Mesh, ports.Port.Port}}, std.proofs.Common.{Some, ap, arith}}
+use Rattle.std.proofs.Common.{inl, inr, length, map, nat_le, nat_lt, refl, subst, suc, sym, true, zero, ℕ, ⊎_elim, ◌%◌, ◌*◌, ◌+◌, ◌-◌, ◌/◌}
+use Rattle.std.proofs.{Common.{◌<◌, ◌∙◌, ◌≡◌, ◌≤◌}, lemmas.{Bool.{Decides.nat_tests, cases_order}, Nat.{div_below, mod_below}}}
 use Rattle.std.specs.List.{range_with_len}
-use Rattle.std.proofs.lemmas.Bool.{cases_order}
-use Rattle.std.proofs.lemmas.Bool.Decides.{nat_tests}
-use Rattle.std.proofs.lemmas.Nat.{div_below, mod_below}
-use Rattle.c104_plan.specs.declared.ports.Port.TheVariants as port
-use Rattle.c104_plan.specs.Layouts.{IsMesh, mesh}
-use Rattle.c104_plan.specs.PlanImage.{Image, range_of}
-use Rattle.c104_plan.specs.Plans.{IsPlan, Plan}
-use Rattle.c104_plan.specs.declared.plans.Shape.TheVariants.{Mesh}
-use Rattle.c104_check.specs.declared.ports.SwitchPort.{SwitchPort}
-use Rattle.c104_check.specs.Routes.{IsEntryOf, Routes, routes_of, to_port}
-use Rattle.c104_check.specs.ChannelDependencies.{IsAcyclic, input_count}
-use Rattle.c104_check.specs.Trails.{IsInput}
-use Rattle.c104_check.proofs.AcyclicLemmas.{FallsByLabels, acyclic_by, plain_ranking}
-use Rattle.c104_label.specs.Images.{IsMeshImage}
-use Rattle.c104_label.specs.Crossings.{mesh_distance}
-use Rattle.c104_label.specs.MeshLabels.{mesh_table}
-use Rattle.c104_label.proofs.AcceptedLayouts.{layout_routes}
-use Rattle.c104_label.proofs.AcceptedMeshes.{is_of, mesh_labelling, net}
-use Rattle.c104_label.proofs.LabelledRoutes.{not_randomized, settings_count}
-use Rattle.c104_label.proofs.LayoutRanks.{GoesOn, came_from, entry_link, goes_on}
-use Rattle.c104_label.proofs.MeshSelections.{mesh_above, mesh_below, mesh_left, mesh_link, mesh_own, mesh_right}
-use Rattle.c104_label.proofs.MeshWalks.{after_column, after_row, before_column, before_row, same_place}
-use Rattle.c104_label.proofs.Quotients.{next_above, parts, rows_fit, times, whole_below}
-use Rattle.c104_label.proofs.ShapePlans.{mesh_switches}
 
 -- up and down in the column first, and then along the row
 abbrev pub mesh_rank_at : ℕ → ℕ → ℕ → ℕ → ℕ
@@ -103,7 +89,7 @@ past_links w u s (suc (suc zero)) le = absurd (omega (arith, le))
 past_links w u s (suc (suc (suc zero))) le = absurd (omega (arith, le))
 past_links w u s (suc (suc (suc (suc k)))) le = tt
 
-one_port : (a b : ℕ) (q : SwitchPort) → Some (port.Switch a b) ≡ Some (to_port q) → (a ≡ q.switch) × (b ≡ q.link)
+one_port : (a b : ℕ) (q : SwitchPort) → Some (Port.Switch a b) ≡ Some (to_port q) → (a ≡ q.switch) × (b ≡ q.link)
 one_port a b q e = let x : a ≡ q.switch = cc in let y : b ≡ q.link = cc in (x, y)
 
 module _ (plan : Plan) (w h p : ℕ) (image : Image) (kept : IsPlan plan) (shape : plan.shape ≡ Mesh w h p) (made : IsMeshImage plan w h p image) where
@@ -118,8 +104,8 @@ module _ (plan : Plan) (w h p : ℕ) (image : Image) (kept : IsPlan plan) (shape
 
   module _ (l : ℕ) (z q : SwitchPort) (g : Goes l z q) where
     -- where the link that is picked leads, as the mesh says
-    led : (o s k : ℕ) → o < 4 → mesh_link w z.switch (l / p) (4 + l % p) ≡ o → (mesh w h).beyond z.switch o ≡ Some (port.Switch s k) → (s ≡ q.switch) × (k ≡ q.link)
-    led o s k few picks beyond = one_port s k q (sym (g.leaves.beyond z.switch o s k g.inside few beyond) ∙ ap (λ n. R.peer (port.Switch z.switch n)) (sym picks) ∙ g.leads)
+    led : (o s k : ℕ) → o < 4 → mesh_link w z.switch (l / p) (4 + l % p) ≡ o → (mesh w h).beyond z.switch o ≡ Some (Port.Switch s k) → (s ≡ q.switch) × (k ≡ q.link)
+    led o s k few picks beyond = one_port s k q (sym (g.leaves.beyond z.switch o s k g.inside few beyond) ∙ ap (λ n. R.peer (Port.Switch z.switch n)) (sym picks) ∙ g.leads)
 
     way : Way w z.switch (l / p) q.switch q.link
     way =
@@ -144,7 +130,7 @@ module _ (plan : Plan) (w h p : ℕ) (image : Image) (kept : IsPlan plan) (shape
             | inl column ↦
                 let at : l / p ≡ z.switch = same_place w (l / p) z.switch row column in
                 let picks : mesh_link w z.switch (l / p) (4 + l % p) ≡ 4 + l % p = mesh_own w z.switch (l / p) (4 + l % p) wide at in
-                let clash : Some (port.Terminal l) ≡ Some (to_port q) = sym g.leaves.own ∙ ap (λ n. R.peer (port.Switch n (4 + l % p))) at ∙ ap (λ n. R.peer (port.Switch z.switch n)) (sym picks) ∙ g.leads in
+                let clash : Some (Port.Terminal l) ≡ Some (to_port q) = sym g.leaves.own ∙ ap (λ n. R.peer (Port.Switch n (4 + l % p))) at ∙ ap (λ n. R.peer (Port.Switch z.switch n)) (sym picks) ∙ g.leads in
                 absurd (cc)
             | inr (inr column) ↦
                 let few : z.switch % w + 1 < w = omega (arith, column, mod_below (l / p) w wide) in

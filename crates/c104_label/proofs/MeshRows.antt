@@ -1,11 +1,7 @@
 -- A mesh's rows as they are added.
-use Rattle.std.proofs.Common.{◌≡◌, ℕ, ◌<◌, ◌≤◌, ◌+◌, ◌*◌, ◌/◌, List, [], ◌∷◌, ◌++◌, map, ap, ◌∙◌, arith}
-use Rattle.std.specs.List.{range_with_len}
-use Rattle.c104_interval.specs.declared.intervals.Row.{Row}
-use Rattle.c104_label.specs.LabelRows.{kept_rows, label_row, with_row}
-use Rattle.c104_label.specs.MeshLabels.{mesh_rows}
-use Rattle.c104_label.proofs.Quotients.{times}
-use Rattle.c104_label.proofs.AddedRows.{added, rows_so_far, so_far_next}
+use Rattle.{c104_interval.specs.declared.intervals.Row.Row, c104_label.proofs.AddedRows.{added, rows_so_far, so_far_next}}
+use Rattle.c104_label.{proofs.Quotients.times, specs.{LabelRows.{kept_rows, label_row, with_row}, MeshLabels.mesh_rows}}
+use Rattle.std.{proofs.Common.{List, [], ap, arith, map, ℕ, ◌*◌, ◌++◌, ◌+◌, ◌/◌, ◌<◌, ◌∙◌, ◌∷◌, ◌≡◌, ◌≤◌}, specs.List.range_with_len}
 
 abbrev own_row : ℕ → ℕ → Row
 own_row base j = label_row (base + j + 1) (4 + j)

@@ -1,14 +1,10 @@
 -- What a mesh's tables select is what labels are to select.
-use Rattle.std.proofs.Common.{◌≡◌, ℕ, ◌<◌, ◌≤◌, ◌+◌, ◌*◌, ◌-◌, ◌/◌, ◌%◌, ◌==◌, true, false, nat_lt, if◌then◌else◌, refl, sym, ap, ◌∙◌, arith}
-use Rattle.std.proofs.lemmas.Bool.Decides.{nat_tests}
-use Rattle.std.proofs.lemmas.Nat.{div_below, le-div}
-use Rattle.c104_interval.specs.declared.intervals.Select.{Select}
-use Rattle.c104_interval.specs.declared.intervals.Select.TheVariants.{Link}
-use Rattle.c104_interval.specs.Selection.{select}
-use Rattle.c104_label.specs.LabelRows.{around, label_row, own_rows, owner}
-use Rattle.c104_label.specs.MeshLabels.{SelectsInMesh, all_mesh_rows, mesh_rows, mesh_table}
-use Rattle.c104_label.proofs.Quotients.{mesh_ends, next_above, parts, place_at, times, whole_below}
-use Rattle.c104_label.proofs.Pieces.{IsPiece, none_of, one_of, own_is, piece_around, picked, table_selects}
+use Rattle.{c104_interval.specs.{Selection.select, declared.intervals.Select.{Select, TheVariants.Link}}, c104_label.proofs.Pieces.IsPiece}
+use Rattle.c104_label.proofs.{Pieces.{none_of, one_of, own_is, picked, piece_around, table_selects}, Quotients.{mesh_ends, next_above}}
+use Rattle.c104_label.{proofs.Quotients.{parts, place_at, times, whole_below}, specs.LabelRows.{around, label_row, own_rows, owner}}
+use Rattle.{c104_label.specs.MeshLabels.{SelectsInMesh, all_mesh_rows, mesh_rows, mesh_table}, std.proofs.Common.{ap, arith, false}}
+use Rattle.std.proofs.Common.{if◌then◌else◌, nat_lt, refl, sym, true, ℕ, ◌%◌, ◌*◌, ◌+◌, ◌-◌, ◌/◌, ◌<◌, ◌==◌, ◌∙◌, ◌≡◌, ◌≤◌}
+use Rattle.std.proofs.lemmas.{Bool.Decides.nat_tests, Nat.{div_below, le-div}}
 
 -- the link for a label whose owner is switch u and whose terminal's link is own
 abbrev pub mesh_link : ℕ → ℕ → ℕ → ℕ → ℕ

@@ -1,11 +1,9 @@
 -- The rows of a mesh's tables are in order, few and of links.
-use Rattle.std.proofs.Common.{◌≡◌, ℕ, ◌<◌, ◌≤◌, ◌+◌, ◌*◌, ◌/◌, length, ◌∙◌, arith}
+use Rattle.c104_label.proofs.{MeshSelections.selects_in_mesh, Quotients.mesh_ends, Runs.{IsRun, around_links, kept_fewer, kept_links}}
+use Rattle.c104_label.proofs.Runs.{kept_rising, length_around, own_length, own_links, run_around, run_of_own}
+use Rattle.c104_label.specs.{LabelRows.{AreLabelRows, IsLinkRow, around, label_row, own_rows}, MeshLabels.{AreMeshTables, IsMesh}}
+use Rattle.{c104_label.specs.MeshLabels.{all_mesh_rows, mesh_rows}, std.proofs.Common.{arith, length, ℕ, ◌*◌, ◌+◌, ◌/◌, ◌<◌, ◌∙◌, ◌≡◌, ◌≤◌}}
 use Rattle.std.specs.List.{AllByRecursion}
-use Rattle.c104_label.specs.LabelRows.{AreLabelRows, IsLinkRow, around, label_row, own_rows}
-use Rattle.c104_label.specs.MeshLabels.{AreMeshTables, IsMesh, all_mesh_rows, mesh_rows}
-use Rattle.c104_label.proofs.Quotients.{mesh_ends}
-use Rattle.c104_label.proofs.MeshSelections.{selects_in_mesh}
-use Rattle.c104_label.proofs.Runs.{IsRun, around_links, kept_fewer, kept_links, kept_rising, length_around, own_length, own_links, run_around, run_of_own}
 
 mesh_run : (w h p s : ℕ) → 0 < w → s < w * h → IsRun 0 (w * h * p) (all_mesh_rows w h p s)
 mesh_run w h p s wide inside =

@@ -1,28 +1,15 @@
 -- No link of an image of a plan puts random headers before packets where no line of the plan says so, as in each
 -- plan whose labels are made by its shape.
-use Rattle.std.proofs.Common.{◌≡◌, ◌∙◌, ℕ, Some, None, Result, Ok, Err, IfOk, [], inl, inr, length, map, slice_get, true, false, refl, sym, ap, subst, arith, ◌*◌, ◌^◌}
-use Rattle.std.proofs.lemmas.Bool.{cases_lt}
-use Rattle.std.proofs.lemmas.List.FromFn.{length-map-range_with_len}
-use Rattle.std.proofs.lemmas.Option.{slice_get_past}
-use Rattle.std.specs.List.{range_with_len}
-use Rattle.c104_check.specs.ChannelDependencies.{IsNeverRandomized}
-use Rattle.c104_check.specs.Routes.{or_no_settings, routes_of, settings_in}
-use Rattle.c104_plan.specs.PlanImage.{Image, hand_image, range_of, settings_of, switch_settings}
-use Rattle.c104_plan.specs.Plans.{IsOfShape, IsPlan, IsUnset, Plan}
-use Rattle.c104_plan.specs.declared.ports.Port.TheVariants as port
-use Rattle.c104_plan.specs.declared.plans.Shape.{Shape}
-use Rattle.c104_plan.specs.declared.plans.Shape.TheVariants.{Hand, Tree, UpDown, Mesh, Cube}
-use Rattle.c104_label.proofs.LabelledRoutes.{not_randomized, settings_plain}
-use Rattle.c104_label.proofs.MappedRanges.{map_at, map_was}
-use Rattle.c104_label.proofs.PortRoutes.{port_not_randomized}
-use Rattle.c104_label.specs.CubeLabels.{cube_table}
-use Rattle.c104_label.specs.Images.{IsImageBy, IsUpDownImage, is_labelled_shape}
-use Rattle.c104_label.specs.MeshLabels.{mesh_table}
-use Rattle.c104_label.specs.Forests.{Forest}
-use Rattle.c104_label.specs.TreeImages.{IsTreeImage}
-use Rattle.c104_label.specs.TreeLabels.{switch_table, tree_range}
-use Rattle.c104_label.specs.declared.faults.LabelFault.{LabelFault}
-use Rattle.c104_regs.specs.declared.settings.Settings.{Settings}
+use Rattle.c104_check.specs.{ChannelDependencies.IsNeverRandomized, Routes.{or_no_settings, routes_of, settings_in}}
+use Rattle.c104_label.proofs.{LabelledRoutes.{not_randomized, settings_plain}, MappedRanges.{map_at, map_was}}
+use Rattle.c104_label.{proofs.PortRoutes.port_not_randomized, specs.{CubeLabels.cube_table, Forests.Forest, Images.IsImageBy}}
+use Rattle.c104_label.specs.{Images.{IsUpDownImage, is_labelled_shape}, MeshLabels.mesh_table, TreeImages.IsTreeImage}
+use Rattle.c104_label.specs.{TreeLabels.{switch_table, tree_range}, declared.faults.LabelFault.LabelFault}
+use Rattle.c104_plan.specs.{PlanImage.{Image, hand_image, range_of, settings_of, switch_settings}, Plans.{IsOfShape, IsPlan, IsUnset, Plan}}
+use Rattle.c104_plan.specs.declared.{plans.Shape.{Shape, TheVariants.{Cube, Hand, Mesh, Tree, UpDown}}, ports.Port.Port}
+use Rattle.{c104_regs.specs.declared.settings.Settings.Settings, std.proofs.Common.{Err, IfOk, None, Ok, Result, Some, [], ap, arith}}
+use Rattle.std.proofs.Common.{false, inl, inr, length, map, refl, slice_get, subst, sym, true, ℕ, ◌*◌, ◌^◌, ◌∙◌, ◌≡◌}
+use Rattle.std.{proofs.lemmas.{Bool.cases_lt, List.FromFn.length-map-range_with_len, Option.slice_get_past}, specs.List.range_with_len}
 
 -- where labels are made by a plan's shape, its own lines set nothing at links
 unset_by : (plan : Plan) (shape : Shape) → is_labelled_shape shape ≡ true → IsOfShape shape plan → IsUnset plan
@@ -42,8 +29,8 @@ unfolding switch_settings
 hand_plain plan none q random = elim (cases_lt q.switch (length plan.switches)) [
   | inl lt ↦
       let here : settings_in (hand_image plan).settings q.switch ≡ switch_settings plan q.switch = ap or_no_settings (map_at (switch_settings plan) (length plan.switches) q.switch lt) in
-      let is = (map_was (λ link. settings_of plan (port.Switch q.switch link)) 32 q.link random.0 (ap (λ xs. slice_get xs q.link) (sym here) ∙ random.1)).1 in
-      let plain : random.0.randomize ≡ false = ap (λ (x : Settings). x.randomize) is ∙ settings_plain plan (port.Switch q.switch q.link) none in
+      let is = (map_was (λ link. settings_of plan (Port.Switch q.switch link)) 32 q.link random.0 (ap (λ xs. slice_get xs q.link) (sym here) ∙ random.1)).1 in
+      let plain : random.0.randomize ≡ false = ap (λ (x : Settings). x.randomize) is ∙ settings_plain plan (Port.Switch q.switch q.link) none in
       let clash : true ≡ false = sym random.2 ∙ plain in absurd cc
   | inr ge ↦
       let many : length (hand_image plan).settings ≡ length plan.switches = length-map-range_with_len (switch_settings plan) 0 (length plan.switches) in

@@ -1,14 +1,10 @@
 -- Who owns a header where terminal k has label k alone.
-use Rattle.std.proofs.Common.{◌≡◌, ℕ, zero, suc, ◌<◌, ◌≤◌, ◌+◌, true, false, cond, nat_lt, ◌∷◌, length, map, get_or, slice_get, Some, None, refl, sym, ap, subst, ◌∙◌, arith}
-use Rattle.std.specs.List.{position_or_len, range_with_len}
-use Rattle.std.proofs.lemmas.Bool.Decides.{nat_tests}
-use Rattle.std.proofs.lemmas.List.FromFn.{get_or-map-range_with_len, length-map-range_with_len}
-use Rattle.std.proofs.lemmas.List.Sums.{position_or_len_is}
-use Rattle.c104_plan.specs.Layouts.{filled_terminal}
-use Rattle.c104_plan.specs.PlanImage.{range_of}
-use Rattle.c104_check.specs.Routes.{Owns, Routes, has_label, owner}
-use Rattle.c104_check.proofs.RangeLemmas.{has_is, is_has}
-use Rattle.c104_label.proofs.MappedRanges.{map_was}
+use Rattle.c104_check.{proofs.RangeLemmas.{has_is, is_has}, specs.Routes.{Owns, Routes, has_label, owner}}
+use Rattle.{c104_label.proofs.MappedRanges.map_was, c104_plan.specs.{Layouts.filled_terminal, PlanImage.range_of}, std.proofs.Common.None}
+use Rattle.std.proofs.Common.{Some, ap, arith, cond, false, get_or, length, map, nat_lt, refl, slice_get, subst, suc, sym, true, zero, ℕ}
+use Rattle.std.proofs.{Common.{◌+◌, ◌<◌, ◌∙◌, ◌∷◌, ◌≡◌, ◌≤◌}, lemmas.{Bool.Decides.nat_tests, List.FromFn.get_or-map-range_with_len}}
+use Rattle.std.{proofs.lemmas.List.{FromFn.length-map-range_with_len, Sums.position_or_len_is}, specs.List.position_or_len}
+use Rattle.std.specs.List.{range_with_len}
 
 -- the range of one label
 abbrev pub one_label : ℕ → ℕ × ℕ

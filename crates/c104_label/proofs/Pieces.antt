@@ -1,13 +1,10 @@
 -- What runs of rows select.
-use Rattle.std.proofs.Common.{◌≡◌, ℕ, zero, suc, ◌+◌, ◌*◌, ◌-◌, ◌%◌, map, subst, ◌<◌, ◌≤◌, ◌==◌, true, false, ◌&&◌, if◌then◌else◌, nat_le, nat_lt, List, [], ◌∷◌, ◌++◌, replicate, refl, sym, ap, ◌∙◌, ⊎_elim, append_assoc, arith}
-use Rattle.std.proofs.lemmas.Bool.Decides.{nat_tests}
-use Rattle.std.proofs.lemmas.Bool.{cases_Bool}
-use Rattle.c104_interval.specs.declared.intervals.Select.{Select}
-use Rattle.c104_interval.specs.declared.intervals.Select.TheVariants.{Link, Sink}
-use Rattle.c104_interval.specs.declared.intervals.Row.{Row}
-use Rattle.c104_interval.specs.Selection.{reset_row, select, select_from}
+use Rattle.c104_interval.specs.{Selection.{reset_row, select, select_from}, declared.intervals.{Row.Row, Select.{Select, TheVariants.Link}}}
+use Rattle.{c104_interval.specs.declared.intervals.Select.TheVariants.Sink, c104_label.specs.LabelRows.{around, kept_rows, label_row}}
+use Rattle.{c104_label.specs.LabelRows.{label_table, own_rows, owner, without_empty}, std.proofs.Common.{List, [], ap, append_assoc, arith}}
+use Rattle.std.proofs.Common.{false, if◌then◌else◌, map, nat_le, nat_lt, refl, replicate, subst, suc, sym, true, zero, ℕ, ⊎_elim, ◌%◌, ◌&&◌}
+use Rattle.std.proofs.{Common.{◌*◌, ◌++◌, ◌+◌, ◌-◌, ◌<◌, ◌==◌, ◌∙◌, ◌∷◌, ◌≡◌, ◌≤◌}, lemmas.Bool.{Decides.nat_tests, cases_Bool}}
 use Rattle.std.specs.List.{range_with_len}
-use Rattle.c104_label.specs.LabelRows.{around, own_rows, owner, owner, kept_rows, label_row, label_table, without_empty}
 
 -- rows for the labels from one limit up to another, each of which selects f of it, whatever rows follow
 abbrev pub IsPiece : ℕ → ℕ → List Row → (ℕ → Select) → Type 0

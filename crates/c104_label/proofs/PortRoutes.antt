@@ -1,18 +1,12 @@
 -- No link of a network whose links have tables of their own puts random headers before packets where no line of the plan
 -- says so.
-use Rattle.std.proofs.Common.{◌≡◌, ℕ, ◌<◌, ◌≤◌, true, false, inl, inr, List, [], length, slice_get, Some, None, sym, ap, ◌∙◌, arith}
-use Rattle.std.proofs.lemmas.Bool.{cases_lt}
-use Rattle.std.proofs.lemmas.List.FromFn.{length-map-range_with_len}
-use Rattle.std.proofs.lemmas.Option.{slice_get_past}
-use Rattle.c104_interval.specs.declared.intervals.Table.{Table}
-use Rattle.c104_regs.specs.declared.settings.Settings.{Settings}
-use Rattle.c104_plan.specs.LabelledImages.{port_labelled_image, port_labelled_switch}
-use Rattle.c104_plan.specs.Plans.{Plan}
-use Rattle.c104_plan.proofs.LabelledSettings.{port_labelled_at}
-use Rattle.c104_check.specs.declared.ports.SwitchPort.{SwitchPort}
 use Rattle.c104_check.specs.Routes.{IsRandomized, Routes, link_settings, or_no_settings, routes_of, settings_at, to_port}
-use Rattle.c104_label.proofs.LabelledRoutes.{plain_own}
-use Rattle.c104_label.proofs.MappedRanges.{map_at, map_was}
+use Rattle.{c104_check.specs.declared.ports.SwitchPort.SwitchPort, c104_interval.specs.declared.intervals.Table.Table}
+use Rattle.c104_label.proofs.{LabelledRoutes.plain_own, MappedRanges.{map_at, map_was}}
+use Rattle.c104_plan.{proofs.LabelledSettings.port_labelled_at, specs.LabelledImages.{port_labelled_image, port_labelled_switch}}
+use Rattle.{c104_plan.specs.Plans.Plan, c104_regs.specs.declared.settings.Settings.Settings, std.proofs.Common.{List, None, Some, [], ap}}
+use Rattle.std.proofs.{Common.{arith, false, inl, inr, length, slice_get, sym, true, ℕ, ◌<◌, ◌∙◌, ◌≡◌, ◌≤◌}, lemmas.Bool.cases_lt}
+use Rattle.std.proofs.lemmas.{List.FromFn.length-map-range_with_len, Option.slice_get_past}
 
 module _ (plan : Plan) (ranges : List (ℕ × ℕ)) (tables : ℕ → ℕ → Table) where
   abbrev routes : Routes

@@ -1,14 +1,9 @@
 -- A table of label rows is within the ranges of its registers.
-use Rattle.std.proofs.Common.{◌≡◌, ℕ, zero, suc, ◌≤◌, ◌+◌, ◌-◌, List, [], ◌∷◌, ◌++◌, length, replicate, get_or, ap, ◌∙◌, arith, lit<}
-use Rattle.std.proofs.lemmas.List.{length-append, length-replicate}
-use Rattle.std.specs.List.{AllByRecursion}
-use Rattle.c104_interval.specs.declared.intervals.Row.{Row}
-use Rattle.c104_interval.specs.declared.intervals.Select.{Select}
-use Rattle.c104_interval.specs.declared.intervals.Select.TheVariants.{Discard, Link, Sink}
-use Rattle.c104_interval.specs.Selection.{reset_row}
-use Rattle.c104_regs.specs.Ranges.{IsTableInRange}
-use Rattle.c104_regs.proofs.RangeNumbers.{IsSelectable, IsTableInRange-from}
+use Rattle.c104_interval.specs.{Selection.reset_row, declared.intervals.{Row.Row, Select.{Select, TheVariants.{Discard, Link, Sink}}}}
 use Rattle.c104_label.specs.LabelRows.{AreLabelRows, AreRising, IsLinkRow, label_table, last_limit}
+use Rattle.{c104_regs.{proofs.RangeNumbers.{IsSelectable, IsTableInRange-from}, specs.Ranges.IsTableInRange}, std.proofs.Common.{List, []}}
+use Rattle.std.proofs.Common.{ap, arith, get_or, length, lit<, replicate, suc, zero, ℕ, ◌++◌, ◌+◌, ◌-◌, ◌∙◌, ◌∷◌, ◌≡◌, ◌≤◌}
+use Rattle.std.{proofs.lemmas.List.{length-append, length-replicate}, specs.List.AllByRecursion}
 
 abbrev pub IsRowInRange : Row → Type 0
 IsRowInRange row = (row.limit ≤ 65536) × IsSelectable row.select

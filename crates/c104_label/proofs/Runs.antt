@@ -1,10 +1,8 @@
 -- Runs of rows whose limits never fall, and how many rows there are.
-use Rattle.std.proofs.Common.{◌≡◌, ℕ, zero, suc, ◌<◌, ◌≤◌, ◌+◌, ◌*◌, ◌==◌, true, false, List, [], ◌∷◌, ◌++◌, length, map, refl, sym, ap, subst, ◌∙◌, ⊎_elim, arith, length-append}
-use Rattle.std.specs.List.{AllByRecursion, range_with_len}
-use Rattle.std.proofs.lemmas.Bool.{cases_Bool}
-use Rattle.std.proofs.lemmas.Bool.Decides.{nat_tests}
-use Rattle.c104_interval.specs.declared.intervals.Row.{Row}
-use Rattle.c104_label.specs.LabelRows.{AreRising, IsLinkRow, around, kept_rows, label_row, last_limit, own_rows, without_empty}
+use Rattle.{c104_interval.specs.declared.intervals.Row.Row, c104_label.specs.LabelRows.{AreRising, IsLinkRow, around, kept_rows, label_row}}
+use Rattle.{c104_label.specs.LabelRows.{last_limit, own_rows, without_empty}, std.proofs.Common.{List, [], ap, arith, false, length}}
+use Rattle.std.proofs.Common.{length-append, map, refl, subst, suc, sym, true, zero, ℕ, ⊎_elim, ◌*◌, ◌++◌, ◌+◌, ◌<◌, ◌==◌, ◌∙◌, ◌∷◌, ◌≡◌}
+use Rattle.std.{proofs.{Common.◌≤◌, lemmas.Bool.{Decides.nat_tests, cases_Bool}}, specs.List.{AllByRecursion, range_with_len}}
 
 -- limits that never fall from low on
 abbrev pub AreAscending : ℕ → List Row → Type 0

@@ -1,9 +1,6 @@
 -- How many switches a plan of a mesh or of a cube has.
-use Rattle.std.proofs.Common.{◌≡◌, ◌*◌, ◌^◌, ◌∙◌, ℕ, length, ap, subst}
-use Rattle.std.proofs.lemmas.List.FromFn.{length-map-range_with_len}
-use Rattle.c104_plan.specs.Layouts.{filled_name}
-use Rattle.c104_plan.specs.Plans.{IsOfShape, IsPlan, Plan}
-use Rattle.c104_plan.specs.declared.plans.Shape.TheVariants.{Mesh, Cube}
+use Rattle.c104_plan.specs.{Layouts.filled_name, Plans.{IsOfShape, IsPlan, Plan}, declared.plans.Shape.TheVariants.{Cube, Mesh}}
+use Rattle.std.proofs.{Common.{ap, length, subst, ℕ, ◌*◌, ◌^◌, ◌∙◌, ◌≡◌}, lemmas.List.FromFn.length-map-range_with_len}
 
 pub mesh_switches : (plan : Plan) (w h p : ℕ) → IsPlan plan → plan.shape ≡ Mesh w h p → length plan.switches ≡ w * h
 mesh_switches plan w h p kept is =

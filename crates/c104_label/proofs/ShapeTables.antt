@@ -1,17 +1,10 @@
 -- The tables of meshes and cubes are within the ranges of their registers.
-use Rattle.std.proofs.Common.{◌≡◌, ℕ, ◌<◌, ◌≤◌, ◌*◌, ◌^◌, List, map, get_or, All, ◌∙◌, arith}
-use Rattle.std.proofs.lemmas.List.Elements.{All-map}
-use Rattle.std.proofs.lemmas.List.FromFn.{get_or-range_with_len, length-range_with_len}
-use Rattle.std.specs.List.{range_with_len}
-use Rattle.c104_interval.specs.declared.intervals.Row.{Row}
-use Rattle.c104_interval.specs.declared.intervals.Table.{Table}
-use Rattle.c104_regs.specs.Ranges.{IsTableInRange}
-use Rattle.c104_label.specs.CubeLabels.{AreCubeTables, IsCube, cube_rows, cube_table}
-use Rattle.c104_label.specs.LabelRows.{AreLabelRows, label_table}
-use Rattle.c104_label.specs.MeshLabels.{AreMeshTables, IsMesh, mesh_rows, mesh_table}
-use Rattle.c104_label.proofs.CubeTables.{are_cube_tables}
-use Rattle.c104_label.proofs.MeshTables.{are_mesh_tables}
-use Rattle.c104_label.proofs.RowRanges.{rows_in_range}
+use Rattle.{c104_interval.specs.declared.intervals.{Row.Row, Table.Table}, c104_label.proofs.CubeTables.are_cube_tables}
+use Rattle.c104_label.{proofs.{MeshTables.are_mesh_tables, RowRanges.rows_in_range}, specs.CubeLabels.{AreCubeTables, IsCube, cube_rows}}
+use Rattle.c104_label.specs.{CubeLabels.cube_table, LabelRows.{AreLabelRows, label_table}, MeshLabels.{AreMeshTables, IsMesh, mesh_rows}}
+use Rattle.{c104_label.specs.MeshLabels.mesh_table, c104_regs.specs.Ranges.IsTableInRange, std.proofs.Common.{All, List, arith, get_or}}
+use Rattle.std.proofs.{Common.{map, ℕ, ◌*◌, ◌<◌, ◌^◌, ◌∙◌, ◌≡◌, ◌≤◌}, lemmas.List.{Elements.All-map, FromFn.get_or-range_with_len}}
+use Rattle.std.{proofs.lemmas.List.FromFn.length-range_with_len, specs.List.range_with_len}
 
 -- tables that are made switch by switch, each of label rows
 all_in_range : (labels n : ℕ) (rows : ℕ → List Row) (tables : List Table) → ((k : ℕ) → k < n → AreLabelRows labels (rows k)) → labels ≤ 65536 → tables ≡ map (λ k. label_table (rows k)) (range_with_len 0 n) → All IsTableInRange tables

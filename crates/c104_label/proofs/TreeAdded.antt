@@ -1,14 +1,10 @@
 -- A tree's rows as they are added.
-use Rattle.std.proofs.Common.{◌≡◌, ℕ, zero, suc, ◌≤◌, ◌+◌, ◌-◌, List, [], ◌∷◌, ◌++◌, map, refl, sym, ap, subst, ◌∙◌, arith, append_assoc, append-nil}
-use Rattle.std.specs.List.{range_with_len}
-use Rattle.c104_interval.specs.declared.intervals.Row.{Row}
-use Rattle.c104_label.specs.Forests.{Forest, links}
-use Rattle.c104_label.specs.LabelRows.{kept_rows, label_row, with_row, with_rows}
-use Rattle.c104_label.specs.TreeLabels.{Net, Pieces, child_pieces, labels_behind, labels_on, own_labels, own_pieces, piece, place, place_end, rows_from, tree_rows}
-use Rattle.c104_label.proofs.AddedRows.{added, rows_so_far, so_far_next}
-use Rattle.c104_label.proofs.TreeCounts.{labels_next}
-use Rattle.c104_label.proofs.TreeRows.{rows_append, total_of}
-use Rattle.c104_label.proofs.TreeSelections.{total_children, total_own}
+use Rattle.{c104_interval.specs.declared.intervals.Row.Row, c104_label.proofs.AddedRows.{added, rows_so_far, so_far_next}}
+use Rattle.c104_label.proofs.{TreeCounts.labels_next, TreeRows.{rows_append, total_of}, TreeSelections.{total_children, total_own}}
+use Rattle.c104_label.specs.{Forests.{Forest, links}, LabelRows.{kept_rows, label_row, with_row, with_rows}, TreeLabels.{Net, Pieces}}
+use Rattle.c104_label.specs.TreeLabels.{child_pieces, labels_behind, labels_on, own_labels, own_pieces, piece, place, place_end, rows_from}
+use Rattle.{c104_label.specs.TreeLabels.tree_rows, std.proofs.Common.{List, [], ap, append-nil, append_assoc, arith, map, refl, subst, suc}}
+use Rattle.std.{proofs.Common.{sym, zero, ℕ, ◌++◌, ◌+◌, ◌-◌, ◌∙◌, ◌∷◌, ◌≡◌, ◌≤◌}, specs.List.range_with_len}
 
 -- the row of the labels of a link's terminal
 abbrev pub own_row : Net → ℕ → ℕ → ℕ → Row

@@ -1,16 +1,9 @@
 -- Labels that are counted one after another.
-use Rattle.std.proofs.Common.{◌≡◌, ℕ, zero, suc, ◌≤◌, ◌+◌, List, [], ◌∷◌, length, map, get_or, Option, Some, None, refl, sym, ap, ◌∙◌, arith, inl, inr}
-use Rattle.std.proofs.Math.Path.{fun_ext}
-use Rattle.std.proofs.lemmas.Bool.{cases_lt}
-use Rattle.std.proofs.lemmas.List.{get_or_past}
-use Rattle.std.proofs.lemmas.List.FromFn.{get_or-map-range_with_len, length-map-range_with_len}
+use Rattle.c104_label.specs.{Forests.{ends_of, links}, TreeLabels.{Net, count_at, labels_behind, labels_on, net_of, own_labels}}
+use Rattle.{c104_plan.specs.{Plans.Plan, Wiring.IsWiring, declared.ports.Port.Port}, std.proofs.Common.{List, None, Option, Some, [], ap}}
+use Rattle.std.proofs.{Common.{arith, get_or, inl, inr, length, map, refl, suc, sym, zero, ℕ, ◌+◌, ◌∙◌, ◌∷◌, ◌≡◌, ◌≤◌}, Math.Path.fun_ext}
+use Rattle.std.proofs.lemmas.{Bool.cases_lt, List.{FromFn.{get_or-map-range_with_len, length-map-range_with_len}, get_or_past}}
 use Rattle.std.specs.List.{range_with_len}
-use Rattle.c104_plan.specs.declared.ports.Port.{Port}
-use Rattle.c104_plan.specs.declared.ports.Port.TheVariants as port
-use Rattle.c104_plan.specs.Plans.{Plan}
-use Rattle.c104_plan.specs.Wiring.{IsWiring}
-use Rattle.c104_label.specs.Forests.{ends_of, links}
-use Rattle.c104_label.specs.TreeLabels.{Net, count_at, labels_behind, labels_on, net_of, own_labels}
 
 -- the links of a switch before one, and that one
 labels_more : (net : Net) (s a n l : ℕ) → a + n ≡ l → labels_on net s (range_with_len a (suc n)) ≡ labels_on net s (range_with_len a n) + labels_behind net.counts (net.ends s l)
@@ -30,7 +23,7 @@ labels_next net s l =
 -- past the last switch there is none
 no_end : (plan : Plan) → IsWiring plan → (s l : ℕ) (o : Option Port) → length plan.switches ≤ s → ends_of plan s l ≡ o → labels_behind (net_of plan).counts o ≡ 0
 no_end plan wiring s l None past is = refl
-no_end plan wiring s l (Some q) past is = let inside = wiring.inside (port.Switch s l) q is in let below = inside.0 in absurd (omega (arith, below, past))
+no_end plan wiring s l (Some q) past is = let inside = wiring.inside (Port.Switch s l) q is in let below = inside.0 in absurd (omega (arith, below, past))
 
 none_on : (plan : Plan) → IsWiring plan → (s : ℕ) (ls : List ℕ) → length plan.switches ≤ s → labels_on (net_of plan) s ls ≡ 0
 none_on plan wiring s [] past = refl

@@ -1,10 +1,9 @@
 -- The labels of a depth-first tree are numbered in the order in which its switches are visited.
-use Rattle.std.proofs.Common.{◌≡◌, ℕ, ◌+◌, inl, inr, Bool, true, false, ◌==◌, if◌then◌else◌, List, [], ◌∷◌, ◌++◌, Option, Some, refl, sym, ap, subst, ◌∙◌, arith}
-use Rattle.std.proofs.lemmas.Bool.{cases_Bool, eq-eqb}
-use Rattle.c104_label.specs.Forests.{Forest, child, empty, is_met, switches}
-use Rattle.c104_label.specs.TreeLabels.{AreInOrder, Place, either, forest_labels, labels_together, place, place_in, place_of}
-use Rattle.c104_label.proofs.ForestLemmas.{met_first, or_parts}
-use Rattle.c104_label.proofs.TreePlaces.{either-none, either-some, not_both, place_none, place_some, place_step, unmet_left, unmet_one, unmet_right}
+use Rattle.c104_label.proofs.{ForestLemmas.{met_first, or_parts}, TreePlaces.{either-none, either-some, not_both, place_none, place_some}}
+use Rattle.c104_label.{proofs.TreePlaces.{place_step, unmet_left, unmet_one, unmet_right}, specs.Forests.{Forest, child, empty, is_met}}
+use Rattle.c104_label.specs.{Forests.switches, TreeLabels.{AreInOrder, Place, either, forest_labels, labels_together, place, place_in}}
+use Rattle.{c104_label.specs.TreeLabels.place_of, std.proofs.Common.{Bool, List, Option, Some, [], ap, arith, false, if◌then◌else◌, inl}}
+use Rattle.std.proofs.{Common.{inr, refl, subst, sym, true, ℕ, ◌++◌, ◌+◌, ◌==◌, ◌∙◌, ◌∷◌, ◌≡◌}, lemmas.Bool.{cases_Bool, eq-eqb}}
 
 -- how many labels lists of switches have together
 together_on : (own : ℕ → ℕ) (xs ys : List ℕ) → labels_together own (xs ++ ys) ≡ labels_together own xs + labels_together own ys

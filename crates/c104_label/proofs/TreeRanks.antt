@@ -1,36 +1,23 @@
 -- In a network that is labelled by its tree no inputs depend on one another in a cycle: packets go up, and then down.
-use Rattle.std.proofs.Common.{◌≡◌, ℕ, zero, suc, ◌<◌, ◌≤◌, ◌+◌, ◌-◌, ◌==◌, ◌⊎◌, inl, inr, Bool, true, false, if◌then◌else◌, nat_lt, List, [], ◌∷◌, ◌++◌, length, slice_get, get_or, Option, Some, None, refl, sym, ap, subst, ◌∙◌, ⊎_elim, arith}
-use Rattle.std.proofs.lemmas.Bool.{cases_lt, eqb-true, eq-eqb}
-use Rattle.std.proofs.lemmas.Bool.Decides.{nat_tests}
-use Rattle.std.proofs.lemmas.List.{length-append}
-use Rattle.std.proofs.lemmas.List.Quantifiers.{position-Some}
+use Rattle.c104_check.{proofs.AcyclicLemmas.{FallsByLabels, acyclic_by, plain_ranking}, specs.ChannelDependencies.{IsAcyclic, input_count}}
+use Rattle.c104_check.specs.{Reach.IsReached, Routes.{IsEntryOf, Routes, has_label, owner, routes_of, to_port}, Shown.Follows}
+use Rattle.c104_check.specs.{Trails.IsInput, declared.ports.SwitchPort.SwitchPort}
+use Rattle.{c104_interval.specs.declared.intervals.Select.TheVariants.Link, c104_label.proofs.ForestLemmas.{AllSwitches, AllSwitches-at}}
+use Rattle.c104_label.proofs.ForestLemmas.{grown_switches, met_first, met_right, or_parts, switches_room, switches_root}
+use Rattle.c104_label.proofs.{LabelledRoutes.{alone, not_randomized, settings_count}, TreeAccepted.{is_network, owned, small_of, tree_plan}}
+use Rattle.c104_label.proofs.{TreePlaces.{Stands, either_case, if_case}, TreeTables.{place_known, standing}, TreeWalks.{Down, FoundIn}}
+use Rattle.c104_label.proofs.TreeWalks.{all_ranges, all_tables, behind_terminal, counted, down, far_stands, host_parts, later_found}
+use Rattle.c104_label.proofs.{TreeWalks.{link_with, range_count, range_first, selects_at, selects_of, tree_routes}, VisitLemmas.ends_inside}
+use Rattle.c104_label.specs.{Forests.{Forest, Grown, IsSpanning, child, empty, ends_of, is_met, links, switches}, TreeImages.HasLabel}
+use Rattle.c104_label.specs.{TreeImages.{IsBehind, IsTreeImage, SelectsInTree, most_labels, plan_labels, total_count}, TreeLabels.Place}
+use Rattle.c104_label.specs.TreeLabels.{forest_labels, labels_behind, net_of, own_labels, place, place_end, place_in, place_of}
+use Rattle.{c104_label.specs.TreeLabels.{switch_table, tree_labels, tree_range}, c104_plan.{proofs.Wires.wiring, specs.PlanImage.Image}}
+use Rattle.c104_plan.specs.{Plans.{IsPlan, IsTreePlan, Plan}, Wiring.peer, declared.{plans.Shape.TheVariants.Tree, ports.Port.Port}}
+use Rattle.std.proofs.Common.{Bool, List, None, Option, Some, [], ap, arith, false, get_or, if◌then◌else◌, inl, inr, length, nat_lt, refl}
+use Rattle.std.proofs.Common.{slice_get, subst, suc, sym, true, zero, ℕ, ⊎_elim, ◌++◌, ◌+◌, ◌-◌, ◌<◌, ◌==◌, ◌∙◌, ◌∷◌, ◌≡◌, ◌≤◌, ◌⊎◌}
+use Rattle.std.proofs.lemmas.{Bool.{Decides.nat_tests, cases_lt, eq-eqb, eqb-true}, List.{Quantifiers.position-Some, length-append}}
 use Rattle.std.proofs.lemmas.Option.{slice_get-get_or}
 use Rattle.c104_interval.specs.Selection as table
-use Rattle.c104_interval.specs.declared.intervals.Select.TheVariants.{Link}
-use Rattle.c104_plan.specs.declared.plans.Shape.TheVariants.{Tree}
-use Rattle.c104_plan.specs.declared.ports.Port.{Port}
-use Rattle.c104_plan.specs.declared.ports.Port.TheVariants as port
-use Rattle.c104_plan.specs.PlanImage.{Image}
-use Rattle.c104_plan.specs.Plans.{IsPlan, IsTreePlan, Plan}
-use Rattle.c104_plan.specs.Wiring.{peer}
-use Rattle.c104_plan.proofs.Wires.{wiring}
-use Rattle.c104_check.specs.declared.ports.SwitchPort.{SwitchPort}
-use Rattle.c104_check.specs.Reach.{IsReached}
-use Rattle.c104_check.specs.Routes.{IsEntryOf, Routes, has_label, owner, routes_of, to_port}
-use Rattle.c104_check.specs.Shown.{Follows}
-use Rattle.c104_check.specs.ChannelDependencies.{IsAcyclic, input_count}
-use Rattle.c104_check.specs.Trails.{IsInput}
-use Rattle.c104_check.proofs.AcyclicLemmas.{FallsByLabels, acyclic_by, plain_ranking}
-use Rattle.c104_label.specs.Forests.{Forest, Grown, IsSpanning, child, empty, ends_of, is_met, links, switches}
-use Rattle.c104_label.specs.TreeLabels.{Place, forest_labels, labels_behind, net_of, own_labels, place, place_end, place_in, place_of, switch_table, tree_labels, tree_range}
-use Rattle.c104_label.specs.TreeImages.{HasLabel, IsBehind, IsTreeImage, SelectsInTree, most_labels, plan_labels, total_count}
-use Rattle.c104_label.proofs.ForestLemmas.{AllSwitches, AllSwitches-at, grown_switches, met_first, met_right, or_parts, switches_room, switches_root}
-use Rattle.c104_label.proofs.LabelledRoutes.{alone, not_randomized, settings_count}
-use Rattle.c104_label.proofs.TreeAccepted.{is_network, owned, small_of, tree_plan}
-use Rattle.c104_label.proofs.TreePlaces.{Stands, either_case, if_case}
-use Rattle.c104_label.proofs.TreeTables.{place_known, standing}
-use Rattle.c104_label.proofs.VisitLemmas.{ends_inside}
-use Rattle.c104_label.proofs.TreeWalks.{Down, FoundIn, all_ranges, all_tables, behind_terminal, counted, down, far_stands, host_parts, later_found, link_with, range_count, range_first, selects_at, selects_of, tree_routes}
 
 -- how many switches subtrees have
 abbrev pub size : Forest → ℕ
@@ -71,14 +58,14 @@ below_switch plan root forest s = size_at (place_of (own_labels (net_of plan)) r
 -- what comes from a terminal is first; then what comes up from a subtree, by how much lies below; then what comes down
 abbrev pub rank_by : Plan → ℕ → Forest → ℕ → Option Port → ℕ
 rank_by plan root forest s None = 0
-rank_by plan root forest s (Some (port.Terminal t)) = size forest + size forest + 3
-rank_by plan root forest s (Some (port.Switch r b)) =
+rank_by plan root forest s (Some (Port.Terminal t)) = size forest + size forest + 3
+rank_by plan root forest s (Some (Port.Switch r b)) =
     if nat_lt (below_switch plan root forest r) (below_switch plan root forest s) then size forest + 1 + (size forest - below_switch plan root forest s) else below_switch plan root forest s
 
 abbrev pub tree_rank : Plan → ℕ → Forest → SwitchPort → ℕ
 tree_rank plan root forest q = rank_by plan root forest q.switch (peer plan (to_port q))
 
-one_port : (a b : ℕ) (q : SwitchPort) → Some (port.Switch a b) ≡ Some (to_port q) → (a ≡ q.switch) × (b ≡ q.link)
+one_port : (a b : ℕ) (q : SwitchPort) → Some (Port.Switch a b) ≡ Some (to_port q) → (a ≡ q.switch) × (b ≡ q.link)
 one_port a b q e = let x : a ≡ q.switch = cc in let y : b ≡ q.link = cc in (x, y)
 
 module _ (plan : Plan) (kept : IsPlan plan) (root : ℕ) (is_tree : IsTreePlan root plan) (forest : Forest) (spans : IsSpanning plan root forest) (few : plan_labels plan root forest ≤ most_labels plan) where
@@ -155,9 +142,9 @@ module _ (plan : Plan) (kept : IsPlan plan) (root : ℕ) (is_tree : IsTreePlan r
     Lower : below_switch plan root forest b.switch < below_switch plan root forest s → In h b.switch → Step h s b
     Upper : below_switch plan root forest s < below_switch plan root forest b.switch → Out h s → (q : Place) × At b.switch q → Step h s b
 
-  module _ (h s o : ℕ) (b : SwitchPort) (small : h < tree_labels (own_labels (net_of plan)) root forest) (picks : table.select (switch_table plan root forest s) h ≡ Link o) (to : peer plan (port.Switch s o) ≡ Some (to_port b)) where
+  module _ (h s o : ℕ) (b : SwitchPort) (small : h < tree_labels (own_labels (net_of plan)) root forest) (picks : table.select (switch_table plan root forest s) h ≡ Link o) (to : peer plan (Port.Switch s o) ≡ Some (to_port b)) where
     inside : s < length plan.switches
-    inside = ((wiring plan kept).inside (port.Switch s o) (to_port b) to).0
+    inside = ((wiring plan kept).inside (Port.Switch s o) (to_port b) to).0
 
     selected_is : (l : ℕ) → table.select (switch_table plan root forest s) h ≡ Link l → l ≡ o
     selected_is l e = let f : Link l ≡ Link o = sym e ∙ picks in cc
@@ -171,13 +158,13 @@ module _ (plan : Plan) (kept : IsPlan plan) (root : ℕ) (is_tree : IsTreePlan r
         let same = ap (λ (x : ℕ). labels_behind (net_of plan).counts (ends_of plan s x)) place_is in
         let (t, wired, many) = behind_terminal (net_of plan).counts (ends_of plan s l) (omega (arith, first, end, same)) in
         let (terminal, is, count_is) = counted (slice_get plan.terminals t) (omega (arith, first, end, same, many)) in
-        let (switch_is, link_is) = host_parts terminal s l (sym ((wiring plan kept).host t terminal is) ∙ (wiring plan kept).back (port.Switch s l) (port.Terminal t) wired) in
+        let (switch_is, link_is) = host_parts terminal s l (sym ((wiring plan kept).host t terminal is) ∙ (wiring plan kept).back (Port.Switch s l) (Port.Terminal t) wired) in
         let first_is = range_first plan kept is_tree.unset.continues root forest spans terminal s l p at switch_is link_is in
         let number = range_count plan kept is_tree.unset.continues root forest spans terminal in
         let has : HasLabel (tree_range plan root forest terminal) h = (omega (arith, first, first_is), omega (arith, end, same, many, count_is, first_is, number)) in
         let pick : table.select (switch_table plan root forest s) h ≡ Link terminal.link = (selects_of plan kept is_tree.unset.continues root forest spans s p at).own t h terminal is switch_is has in
         let link_o : terminal.link ≡ o = selected_is terminal.link pick in
-        let clash : Some (port.Terminal t) ≡ Some (to_port b) = sym wired ∙ ap (λ n. peer plan (port.Switch s n)) (sym link_is ∙ link_o) ∙ to in
+        let clash : Some (Port.Terminal t) ≡ Some (to_port b) = sym wired ∙ ap (λ n. peer plan (Port.Switch s n)) (sym link_is ∙ link_o) ∙ to in
         absurd cc
 
     go_up : (p : Place) → At s p → (h < p.first) ⊎ (place_end (own_labels (net_of plan)) s p ≤ h) → Step h s b
@@ -192,9 +179,9 @@ module _ (plan : Plan) (kept : IsPlan plan) (root : ℕ) (is_tree : IsTreePlan r
           out)
       | inr on ↦
           let up : p.up ≡ o = selected_is p.up ((selects_of plan kept is_tree.unset.continues root forest spans s p at).above h small out) in
-          let wire : peer plan (port.Switch on.parent on.link) ≡ Some (port.Switch s p.up) = (selects_of plan kept is_tree.unset.continues root forest spans on.parent on.above on.stands).wired on.link s p on.behind at.found in
-          let back : peer plan (port.Switch s p.up) ≡ Some (port.Switch on.parent on.link) = (wiring plan kept).back (port.Switch on.parent on.link) (port.Switch s p.up) wire in
-          let is = one_port on.parent on.link b (sym back ∙ ap (λ n. peer plan (port.Switch s n)) up ∙ to) in
+          let wire : peer plan (Port.Switch on.parent on.link) ≡ Some (Port.Switch s p.up) = (selects_of plan kept is_tree.unset.continues root forest spans on.parent on.above on.stands).wired on.link s p on.behind at.found in
+          let back : peer plan (Port.Switch s p.up) ≡ Some (Port.Switch on.parent on.link) = (wiring plan kept).back (Port.Switch on.parent on.link) (Port.Switch s p.up) wire in
+          let is = one_port on.parent on.link b (sym back ∙ ap (λ n. peer plan (Port.Switch s n)) up ∙ to) in
           let less = child_smaller on.parent on.link s on.above p on.stands on.behind at in
           Upper (subst (λ n. below_switch plan root forest s < below_switch plan root forest n) is.0 less) (p, at, out) (on.above, subst (λ n. At n on.above) is.0 on.stands)
     ]
@@ -203,8 +190,8 @@ module _ (plan : Plan) (kept : IsPlan plan) (root : ℕ) (is_tree : IsTreePlan r
     go_down p at (l, r, q, behind, there, from, under, on) =
         let selects : SelectsInTree plan root forest s p (switch_table plan root forest s) = selects_of plan kept is_tree.unset.continues root forest spans s p at in
         let link : l ≡ o = selected_is l (selects.below l r h q behind there.found from under) in
-        let wire : peer plan (port.Switch s l) ≡ Some (port.Switch r q.up) = selects.wired l r q behind there.found in
-        let is = one_port r q.up b (sym wire ∙ ap (λ n. peer plan (port.Switch s n)) link ∙ to) in
+        let wire : peer plan (Port.Switch s l) ≡ Some (Port.Switch r q.up) = selects.wired l r q behind there.found in
+        let is = one_port r q.up b (sym wire ∙ ap (λ n. peer plan (Port.Switch s n)) link ∙ to) in
         let less = child_smaller s l r p q at behind there in
         Lower (subst (λ n. below_switch plan root forest n < below_switch plan root forest s) is.0 less) (subst (In h) is.0 (q, there, from, under))
 
@@ -227,12 +214,12 @@ module _ (plan : Plan) (kept : IsPlan plan) (root : ℕ) (is_tree : IsTreePlan r
   -- where a header with an owner goes on from an input
   record Goes (h : ℕ) (a b : SwitchPort) : Type 0 where
     link : ℕ
-    back : peer plan (to_port b) ≡ Some (port.Switch a.switch link)
+    back : peer plan (to_port b) ≡ Some (Port.Switch a.switch link)
     goes : Step h a.switch b
 
   reached_wired : (h : ℕ) (q : SwitchPort) → IsReached net h q → (c : Port) × (peer plan (to_port q) ≡ Some c)
-  reached_wired h q (t, x, zero, entry, same) = (port.Terminal t, (wiring plan kept).back (port.Terminal t) (to_port q) (entry ∙ ap (λ z. Some (to_port z)) same))
-  reached_wired h q (t, x, suc m, entry, (z, from, follows)) = (port.Switch z.switch follows.1, (wiring plan kept).back (port.Switch z.switch follows.1) (to_port q) follows.4)
+  reached_wired h q (t, x, zero, entry, same) = (Port.Terminal t, (wiring plan kept).back (Port.Terminal t) (to_port q) (entry ∙ ap (λ z. Some (to_port z)) same))
+  reached_wired h q (t, x, suc m, entry, (z, from, follows)) = (Port.Switch z.switch follows.1, (wiring plan kept).back (Port.Switch z.switch follows.1) (to_port q) follows.4)
 
   owned_small : (h t : ℕ) → owner net h ≡ Some t → h < tree_labels (own_labels (net_of plan)) root forest
   owned_small h t is =
@@ -246,20 +233,20 @@ module _ (plan : Plan) (kept : IsPlan plan) (root : ℕ) (is_tree : IsTreePlan r
       let one : o ≡ g = eqb-true o g (sym (alone plan (all_ranges plan root forest) (all_tables plan root forest) a.switch g o is_tree.unset.continues there.0) ∙ group) in
       let picks : Some (table.select (switch_table plan root forest a.switch) h) ≡ Some (Link g) = sym (selects_at plan kept is_tree.unset.continues root forest spans a.switch a.link h at.0 at.1) ∙ sel in
       let pick : table.select (switch_table plan root forest a.switch) h ≡ Link g = cc in
-      record { link = o; back = (wiring plan kept).back (port.Switch a.switch o) (to_port b) wire; goes = step h a.switch o b (owned_small h t owns) (pick ∙ ap Link (sym one)) wire }
+      record { link = o; back = (wiring plan kept).back (Port.Switch a.switch o) (to_port b) wire; goes = step h a.switch o b (owned_small h t owns) (pick ∙ ap Link (sym one)) wire }
 
   came_from : (h t : ℕ) (q : SwitchPort) → owner net h ≡ Some t → IsReached net h q → ((x : ℕ) × IsEntryOf net x q) ⊎ ((z : SwitchPort) × Goes h z q)
   came_from h t q owns (x, e, zero, entry, same) = inl (x, subst (IsEntryOf net x) same entry)
   came_from h t q owns (x, e, suc m, entry, (z, from, follows)) = inr (z, goes_on h t z q owns (x, e, m, entry, from) follows)
 
-  rank_lower : (h : ℕ) (a b : SwitchPort) (link : ℕ) → peer plan (to_port b) ≡ Some (port.Switch a.switch link) → below_switch plan root forest b.switch < below_switch plan root forest a.switch → tree_rank plan root forest b ≡ below_switch plan root forest b.switch
+  rank_lower : (h : ℕ) (a b : SwitchPort) (link : ℕ) → peer plan (to_port b) ≡ Some (Port.Switch a.switch link) → below_switch plan root forest b.switch < below_switch plan root forest a.switch → tree_rank plan root forest b ≡ below_switch plan root forest b.switch
   rank_lower h a b link back less = let t : nat_lt (below_switch plan root forest a.switch) (below_switch plan root forest b.switch) ≡ false = grind (arith, nat_tests) in rw (back, t) refl
 
-  rank_upper : (h : ℕ) (a b : SwitchPort) (link : ℕ) → peer plan (to_port b) ≡ Some (port.Switch a.switch link) → below_switch plan root forest a.switch < below_switch plan root forest b.switch → tree_rank plan root forest b ≡ size forest + 1 + (size forest - below_switch plan root forest b.switch)
+  rank_upper : (h : ℕ) (a b : SwitchPort) (link : ℕ) → peer plan (to_port b) ≡ Some (Port.Switch a.switch link) → below_switch plan root forest a.switch < below_switch plan root forest b.switch → tree_rank plan root forest b ≡ size forest + 1 + (size forest - below_switch plan root forest b.switch)
   rank_upper h a b link back less = let t : nat_lt (below_switch plan root forest a.switch) (below_switch plan root forest b.switch) ≡ true = grind (arith, nat_tests) in rw (back, t) refl
 
   rank_entry : (t : ℕ) (a : SwitchPort) → IsEntryOf net t a → tree_rank plan root forest a ≡ size forest + size forest + 3
-  rank_entry t a entry = rw ((wiring plan kept).back (port.Terminal t) (to_port a) entry) refl
+  rank_entry t a entry = rw ((wiring plan kept).back (Port.Terminal t) (to_port a) entry) refl
 
   place_at : (h s : ℕ) → In h s → below_switch plan root forest s ≤ size forest
   place_at h s (p, at, from, under) = bs_small s p at
@@ -310,8 +297,8 @@ size_small plan root forest kept is_tree spans =
 -- no rank is above that of what comes from a terminal
 rank_by_low : (plan : Plan) (root : ℕ) (forest : Forest) (s : ℕ) (o : Option Port) → rank_by plan root forest s o ≤ size forest + size forest + 3
 rank_by_low plan root forest s None = omega arith
-rank_by_low plan root forest s (Some (port.Terminal t)) = omega arith
-rank_by_low plan root forest s (Some (port.Switch r b)) = by_test (nat_lt (below_switch plan root forest r) (below_switch plan root forest s))
+rank_by_low plan root forest s (Some (Port.Terminal t)) = omega arith
+rank_by_low plan root forest s (Some (Port.Switch r b)) = by_test (nat_lt (below_switch plan root forest r) (below_switch plan root forest s))
   where
     small : below_switch plan root forest s ≤ size forest
     small = by_place (place_of (own_labels (net_of plan)) root forest s) refl

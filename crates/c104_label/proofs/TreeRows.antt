@@ -1,15 +1,10 @@
 -- Pieces, their rows, and what these select.
-use Rattle.std.proofs.Common.{◌≡◌, ℕ, ◌<◌, ◌≤◌, ◌+◌, inl, inr, Bool, true, false, ◌==◌, nat_le, nat_lt, if◌then◌else◌, [], ◌∷◌, ◌++◌, length, refl, ap, subst, ◌∙◌, arith}
-use Rattle.std.proofs.lemmas.Bool.{cases_Bool, lt-ltb}
-use Rattle.std.proofs.lemmas.Bool.Decides.{nat_tests}
+use Rattle.c104_interval.specs.{Selection.{select, select_from}, declared.intervals.Select.{Select, TheVariants.{Link, Sink}}}
+use Rattle.c104_label.{proofs.{Pieces.{select_filled, select_full}, Runs.{IsRun, kept_links, kept_rising}}, specs.LabelRows.AreLabelRows}
+use Rattle.c104_label.specs.{LabelRows.{IsLinkRow, kept_rows, label_row, label_table, without_empty}, TreeLabels.{Pieces, piece, rows_from}}
+use Rattle.std.proofs.Common.{Bool, [], ap, arith, false, if◌then◌else◌, inl, inr, length, nat_le, nat_lt, refl, subst, true, ℕ, ◌++◌, ◌+◌}
+use Rattle.std.proofs.{Common.{◌<◌, ◌==◌, ◌∙◌, ◌∷◌, ◌≡◌, ◌≤◌}, lemmas.Bool.{Decides.nat_tests, cases_Bool, lt-ltb}}
 use Rattle.std.specs.List.{AllByRecursion}
-use Rattle.c104_interval.specs.declared.intervals.Select.{Select}
-use Rattle.c104_interval.specs.declared.intervals.Select.TheVariants.{Link, Sink}
-use Rattle.c104_interval.specs.Selection.{select, select_from}
-use Rattle.c104_label.specs.LabelRows.{AreLabelRows, IsLinkRow, kept_rows, label_row, label_table, without_empty}
-use Rattle.c104_label.specs.TreeLabels.{Pieces, piece, rows_from}
-use Rattle.c104_label.proofs.Pieces.{select_filled, select_full}
-use Rattle.c104_label.proofs.Runs.{IsRun, kept_links, kept_rising}
 
 -- which link has label h, where the first piece begins at low
 abbrev pub pick : ℕ → Pieces → ℕ → Select

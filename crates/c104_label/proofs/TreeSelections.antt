@@ -1,19 +1,14 @@
 -- What the table of a switch of a tree selects.
-use Rattle.std.proofs.Common.{◌≡◌, ℕ, zero, suc, ◌<◌, ◌≤◌, ◌+◌, ◌-◌, ◌⊎◌, inl, inr, true, List, [], ◌∷◌, ◌++◌, slice_get, Some, refl, sym, ap, subst, ◌∙◌, arith}
-use Rattle.std.specs.List.{range_with_len}
-use Rattle.c104_interval.specs.declared.intervals.Select.{Select}
-use Rattle.c104_interval.specs.declared.intervals.Select.TheVariants.{Link, Sink}
-use Rattle.c104_interval.specs.Selection.{select}
-use Rattle.c104_plan.specs.declared.ports.Port.TheVariants as port
-use Rattle.c104_plan.specs.declared.plans.Terminal.{Terminal}
-use Rattle.c104_plan.specs.Plans.{Plan, host_port}
-use Rattle.c104_plan.specs.Wiring.{IsWiring, peer}
-use Rattle.c104_label.specs.Forests.{Ends, Forest, Grown, child, empty, ends_of, is_met, links, switches}
-use Rattle.c104_label.specs.TreeLabels.{Net, Pieces, Place, all_pieces, child_pieces, count_or_zero, first_at, forest_labels, labels_behind, labels_on, net_of, own_labels, own_pieces, piece, place, place_end, place_in, place_of, switch_table, table_at, tree_labels, tree_range, tree_rows, tree_table}
-use Rattle.c104_label.specs.TreeImages.{HasLabel, IsBehind, SelectsInTree}
-use Rattle.c104_label.proofs.ForestLemmas.{met_first, met_right}
-use Rattle.c104_label.proofs.TreeRows.{pick, pick_after, pick_first, pick_here, pick_next, pick_past, table_picks, total_of}
-use Rattle.c104_label.proofs.TreePlaces.{Stands, place_on, place_here}
+use Rattle.c104_interval.specs.{Selection.select, declared.intervals.Select.{Select, TheVariants.{Link, Sink}}}
+use Rattle.c104_label.proofs.{ForestLemmas.{met_first, met_right}, TreePlaces.{Stands, place_here, place_on}, TreeRows.{pick, pick_after}}
+use Rattle.c104_label.{proofs.TreeRows.{pick_first, pick_here, pick_next, pick_past, table_picks, total_of}, specs.Forests.{Ends, Forest}}
+use Rattle.c104_label.specs.{Forests.{Grown, child, empty, ends_of, is_met, links, switches}, TreeImages.{HasLabel, IsBehind}}
+use Rattle.c104_label.specs.{TreeImages.SelectsInTree, TreeLabels.{Net, Pieces, Place, all_pieces, child_pieces, count_or_zero, first_at}}
+use Rattle.c104_label.specs.TreeLabels.{forest_labels, labels_behind, labels_on, net_of, own_labels, own_pieces, piece, place, place_end}
+use Rattle.c104_label.specs.TreeLabels.{place_in, place_of, switch_table, table_at, tree_labels, tree_range, tree_rows, tree_table}
+use Rattle.c104_plan.specs.{Plans.{Plan, host_port}, Wiring.{IsWiring, peer}, declared.{plans.Terminal.Terminal, ports.Port.Port}}
+use Rattle.std.proofs.Common.{List, Some, [], ap, arith, inl, inr, refl, slice_get, subst, suc, sym, true, zero, ℕ, ◌++◌, ◌+◌, ◌-◌, ◌<◌}
+use Rattle.std.{proofs.Common.{◌∙◌, ◌∷◌, ◌≡◌, ◌≤◌, ◌⊎◌}, specs.List.range_with_len}
 
 -- how many labels pieces have
 
@@ -81,7 +76,7 @@ behind_met (child k q b below rest) l r (inr later) = met_right (q ∷ switches 
 
 abbrev ChildAt : Ends → (ℕ → ℕ) → Forest → ℕ → ℕ → ℕ → ℕ → Place → Type 0
 ChildAt ends own f first s l r q =
-    (ends s l ≡ Some (port.Switch r q.up)) × (first ≤ q.first) × (place_end own r q ≤ first + forest_labels own f)
+    (ends s l ≡ Some (Port.Switch r q.up)) × (first ≤ q.first) × (place_end own r q ≤ first + forest_labels own f)
     × ((h : ℕ) → q.first ≤ h → h < place_end own r q → pick first (child_pieces own f) h ≡ Link l)
 
 child_at : (ends : Ends) (own : ℕ → ℕ) (f : Forest) (first : ℕ) (seen ls : List ℕ) (s l r : ℕ) (q : Place) → Grown ends seen s ls f → IsBehind f l r → place_in own r first f ≡ Some q → ChildAt ends own f first s l r q
@@ -90,7 +85,7 @@ child_at ends own (child k t b below rest) first seen ls s l r q (before, after,
     let here : Some (place b first below) ≡ Some q = sym (place_here own t b below rest first r switch_is) ∙ found in
     let same : place b first below ≡ q = cc in
     subst (λ (p : Place). ChildAt ends own (child k t b below rest) first s l r p) same (
-      ap (ends s) (sym link_is) ∙ at ∙ ap (λ (c : ℕ). Some (port.Switch c b)) switch_is,
+      ap (ends s) (sym link_is) ∙ at ∙ ap (λ (c : ℕ). Some (Port.Switch c b)) switch_is,
       omega arith,
       (let e = ap own switch_is in omega (arith, e)),
       (λ h from under. let e = ap own switch_is in pick_here first k (own t + forest_labels own below) (child_pieces own rest) h (omega (arith, e, under)) ∙ ap Link link_is),
@@ -111,8 +106,8 @@ pub terminal_at : (plan : Plan) (k : ℕ) (t : Terminal) → IsWiring plan → s
     → (t.link < 32) × (labels_behind (net_of plan).counts (ends_of plan t.switch t.link) ≡ t.count)
 terminal_at plan k t wiring is =
     let host = wiring.host k t is in
-    let back : peer plan (port.Switch t.switch t.link) ≡ Some (port.Terminal k) = wiring.back (port.Terminal k) (host_port t) host in
-    let port_is = wiring.inside (port.Switch t.switch t.link) (port.Terminal k) back in
+    let back : peer plan (Port.Switch t.switch t.link) ≡ Some (Port.Terminal k) = wiring.back (Port.Terminal k) (host_port t) host in
+    let port_is = wiring.inside (Port.Switch t.switch t.link) (Port.Terminal k) back in
     (port_is.1, ap (labels_behind (net_of plan).counts) back ∙ ap count_or_zero is)
 
 -- what the table of a switch selects, by its pieces

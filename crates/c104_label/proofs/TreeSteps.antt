@@ -1,23 +1,15 @@
 -- What the code of the tree's labels needs, over plain variables.
-use Rattle.std.proofs.Common.{◌≡◌, ℕ, ◌<◌, ◌≤◌, ◌+◌, ◌==◌, Bool, true, false, if◌then◌else◌, List, [], ◌∷◌, ◌++◌, length, map, Option, Some, None, Result, Ok, Err, IfOk, MatchOption, get_or, take, refl, sym, ap, subst, ◌∙◌, arith}
-use Rattle.std.proofs.lemmas.List.{map_more}
-use Rattle.std.specs.List.{range_with_len}
-use Rattle.c104_interval.specs.declared.intervals.Row.{Row}
-use Rattle.c104_interval.specs.declared.intervals.Table.{Table}
-use Rattle.c104_plan.specs.declared.plans.Terminal.{Terminal}
-use Rattle.c104_plan.specs.Plans.{IsPlan, Plan}
-use Rattle.c104_plan.specs.PlanImage.{Image}
-use Rattle.c104_plan.specs.LabelledImages.{labelled_image}
-use Rattle.c104_plan.proofs.Wires.{wiring}
-use Rattle.c104_label.specs.Forests.{Forest, IsSpanning}
-use Rattle.c104_label.specs.LabelRows.{label_row, label_table, with_row, with_rows}
-use Rattle.c104_label.specs.TreeLabels.{AreLinks, Net, Place, child_pieces, count_at, first_at, forest_labels, labels_on, net_of, own_labels, place, place_end, place_of, rows_from, switch_table, table_at, tree_labels, tree_range, tree_rows}
-use Rattle.c104_label.specs.TreeImages.{IsTreeImage, most_labels, plan_labels, switch_place, total_count}
-use Rattle.c104_label.proofs.TreeAdded.{own_all, rows_front, rows_last}
-use Rattle.c104_label.proofs.TreeOrder.{in_order}
-use Rattle.c104_label.proofs.TreePlaces.{place_of_within}
-use Rattle.c104_label.proofs.TreeSums.{labels_sum}
-use Rattle.c104_label.proofs.TreeTables.{place_known, place_links, rows_are, standing, tree_tables}
+use Rattle.{c104_interval.specs.declared.intervals.{Row.Row, Table.Table}, c104_label.proofs.TreeAdded.{own_all, rows_front, rows_last}}
+use Rattle.c104_label.proofs.{TreeOrder.in_order, TreePlaces.place_of_within, TreeSums.labels_sum, TreeTables.{place_known, place_links}}
+use Rattle.c104_label.{proofs.TreeTables.{rows_are, standing, tree_tables}, specs.{Forests.{Forest, IsSpanning}, LabelRows.label_row}}
+use Rattle.c104_label.specs.{LabelRows.{label_table, with_row, with_rows}, TreeImages.{IsTreeImage, most_labels, plan_labels, switch_place}}
+use Rattle.c104_label.specs.{TreeImages.total_count, TreeLabels.{AreLinks, Net, Place, child_pieces, count_at, first_at, forest_labels}}
+use Rattle.c104_label.specs.TreeLabels.{labels_on, net_of, own_labels, place, place_end, place_of, rows_from, switch_table, table_at}
+use Rattle.{c104_label.specs.TreeLabels.{tree_labels, tree_range, tree_rows}, c104_plan.proofs.Wires.wiring}
+use Rattle.c104_plan.specs.{LabelledImages.labelled_image, PlanImage.Image, Plans.{IsPlan, Plan}, declared.plans.Terminal.Terminal}
+use Rattle.std.proofs.Common.{Bool, Err, IfOk, List, MatchOption, None, Ok, Option, Result, Some, [], ap, arith, false, get_or}
+use Rattle.std.proofs.Common.{if◌then◌else◌, length, map, refl, subst, sym, take, true, ℕ, ◌++◌, ◌+◌, ◌<◌, ◌==◌, ◌∙◌, ◌∷◌, ◌≡◌, ◌≤◌}
+use Rattle.std.{proofs.lemmas.List.map_more, specs.List.range_with_len}
 
 pub most_small : (plan : Plan) → most_labels plan ≤ 65536
 most_small plan = by (plan.header == 2)

@@ -1,21 +1,13 @@
 -- A tree with all switches of a plan has as many labels as the plan's terminals have together: each terminal is on one
 -- link of one switch, and each switch stands in the tree once.
-use Rattle.std.proofs.Common.{◌≡◌, ℕ, zero, suc, ◌<◌, ◌≤◌, ◌+◌, inl, inr, Bool, true, false, ◌==◌, ◌&&◌, ◌||◌, List, [], ◌∷◌, ◌++◌, length, slice_get, Option, Some, None, refl, sym, ap, subst, ◌∙◌, arith}
-use Rattle.std.proofs.lemmas.Bool.{cases_Bool, eqb-true, eq-eqb}
-use Rattle.std.proofs.lemmas.Bool.Decides.{nat_tests}
-use Rattle.std.proofs.lemmas.List.Folds.{list_any-append}
-use Rattle.std.specs.List.{range_with_len}
-use Rattle.c104_plan.specs.declared.ports.Port.{Port}
-use Rattle.c104_plan.specs.declared.ports.Port.TheVariants as port
-use Rattle.c104_plan.specs.declared.plans.Terminal.{Terminal}
-use Rattle.c104_plan.specs.Plans.{Plan, host_port}
-use Rattle.c104_plan.specs.Wiring.{IsWiring, peer}
-use Rattle.c104_label.specs.Forests.{Forest, Grown, IsSpanning, child, empty, ends_of, is_met, links, switches}
-use Rattle.c104_label.specs.TreeLabels.{count_or_zero, forest_labels, labels_behind, labels_on, net_of, own_labels}
-use Rattle.c104_label.specs.TreeImages.{plan_labels, total_count}
-use Rattle.c104_label.proofs.ForestLemmas.{met_first, met_right}
-use Rattle.c104_label.proofs.TreePlaces.{false_by, grown_new, unmet_left, unmet_one, unmet_right}
-use Rattle.c104_label.proofs.TreeSelections.{terminal_at}
+use Rattle.c104_label.proofs.{ForestLemmas.{met_first, met_right}, TreePlaces.{false_by, grown_new, unmet_left, unmet_one, unmet_right}}
+use Rattle.c104_label.{proofs.TreeSelections.terminal_at, specs.Forests.{Forest, Grown, IsSpanning, child, empty, ends_of, is_met, links}}
+use Rattle.c104_label.specs.{Forests.switches, TreeImages.{plan_labels, total_count}, TreeLabels.{count_or_zero, forest_labels}}
+use Rattle.{c104_label.specs.TreeLabels.{labels_behind, labels_on, net_of, own_labels}, c104_plan.specs.Plans.{Plan, host_port}}
+use Rattle.{c104_plan.specs.{Wiring.{IsWiring, peer}, declared.{plans.Terminal.Terminal, ports.Port.Port}}, std.proofs.Common.{Bool, List}}
+use Rattle.std.proofs.Common.{None, Option, Some, [], ap, arith, false, inl, inr, length, refl, slice_get, subst, suc, sym, true, zero, ℕ}
+use Rattle.std.proofs.{Common.{◌&&◌, ◌++◌, ◌+◌, ◌<◌, ◌==◌, ◌||◌, ◌∙◌, ◌∷◌, ◌≡◌, ◌≤◌}, lemmas.Bool.{Decides.nat_tests, cases_Bool, eq-eqb}}
+use Rattle.std.{proofs.lemmas.{Bool.eqb-true, List.Folds.list_any-append}, specs.List.range_with_len}
 
 -- sums of a function of the first n numbers
 
@@ -132,38 +124,38 @@ module _ (plan : Plan) (wiring : IsWiring plan) where
   both true b is = (refl, is)
   both false b is = absurd cc
 
-  there : (s l k : ℕ) (t : Terminal) → slice_get plan.terminals k ≡ Some t → here s l t.switch t.link ≡ true → ends_of plan s l ≡ Some (port.Terminal k)
+  there : (s l k : ℕ) (t : Terminal) → slice_get plan.terminals k ≡ Some t → here s l t.switch t.link ≡ true → ends_of plan s l ≡ Some (Port.Terminal k)
   there s l k t is at =
       let tests = both (t.switch == s) (t.link == l) at in
       let host = wiring.host k t is in
-      let back : peer plan (port.Switch t.switch t.link) ≡ Some (port.Terminal k) = wiring.back (port.Terminal k) (host_port t) host in
+      let back : peer plan (Port.Switch t.switch t.link) ≡ Some (Port.Terminal k) = wiring.back (Port.Terminal k) (host_port t) host in
       let switch_is : t.switch ≡ s = eqb-true t.switch s tests.0 in
       let link_is : t.link ≡ l = eqb-true t.link l tests.1 in
-      subst (λ (x : ℕ). ends_of plan s x ≡ Some (port.Terminal k)) link_is (subst (λ (x : ℕ). ends_of plan x t.link ≡ Some (port.Terminal k)) switch_is back)
+      subst (λ (x : ℕ). ends_of plan s x ≡ Some (Port.Terminal k)) link_is (subst (λ (x : ℕ). ends_of plan x t.link ≡ Some (Port.Terminal k)) switch_is back)
 
   -- a terminal that isn't there counts nothing
-  not_here : (s l k : ℕ) (o : Option Terminal) → slice_get plan.terminals k ≡ o → (ends_of plan s l ≡ Some (port.Terminal k) → ⊥) → pick_if (passes (here s l) o) (count_or_zero o) ≡ 0
+  not_here : (s l k : ℕ) (o : Option Terminal) → slice_get plan.terminals k ≡ o → (ends_of plan s l ≡ Some (Port.Terminal k) → ⊥) → pick_if (passes (here s l) o) (count_or_zero o) ≡ 0
   not_here s l k None is never = refl
   not_here s l k (Some t) is never = ap (λ (x : Bool). pick_if x t.count) (false_by (here s l t.switch t.link) (λ at. never (there s l k t is at)))
 
-  is_here : (s l k : ℕ) (o : Option Terminal) → slice_get plan.terminals k ≡ o → ends_of plan s l ≡ Some (port.Terminal k) → pick_if (passes (here s l) o) (count_or_zero o) ≡ count_or_zero o
+  is_here : (s l k : ℕ) (o : Option Terminal) → slice_get plan.terminals k ≡ o → ends_of plan s l ≡ Some (Port.Terminal k) → pick_if (passes (here s l) o) (count_or_zero o) ≡ count_or_zero o
   is_here s l k None is at = refl
   is_here s l k (Some t) is at =
       let host = wiring.host k t is in
-      let back : peer plan (port.Terminal k) ≡ Some (port.Switch s l) = wiring.back (port.Switch s l) (port.Terminal k) at in
-      let one : Some (port.Switch t.switch t.link) ≡ Some (port.Switch s l) = sym host ∙ back in
+      let back : peer plan (Port.Terminal k) ≡ Some (Port.Switch s l) = wiring.back (Port.Switch s l) (Port.Terminal k) at in
+      let one : Some (Port.Switch t.switch t.link) ≡ Some (Port.Switch s l) = sym host ∙ back in
       let switch_is : t.switch ≡ s = cc in
       let link_is : t.link ≡ l = cc in
       rw (switch_is, link_is, eq-eqb s s refl, eq-eqb l l refl) refl
 
   behind_by : (s l : ℕ) (o : Option Port) → ends_of plan s l ≡ o → labels_behind (net_of plan).counts o ≡ sum_such plan (here s l)
   behind_by s l None is =
-      sym (total_none (part plan (here s l)) (length plan.terminals) (λ k. not_here s l k (slice_get plan.terminals k) refl (λ at. let e : None ≡ Some (port.Terminal k) = sym is ∙ at in absurd cc)))
-  behind_by s l (Some (port.Switch r b)) is =
-      sym (total_none (part plan (here s l)) (length plan.terminals) (λ k. not_here s l k (slice_get plan.terminals k) refl (λ at. let e : Some (port.Switch r b) ≡ Some (port.Terminal k) = sym is ∙ at in absurd cc)))
-  behind_by s l (Some (port.Terminal t)) is =
-      let inside = wiring.inside (port.Terminal t) (port.Switch s l) (wiring.back (port.Switch s l) (port.Terminal t) is) in
-      let one = total_one (part plan (here s l)) t (length plan.terminals) inside (λ k differs. not_here s l k (slice_get plan.terminals k) refl (λ at. let e : Some (port.Terminal t) ≡ Some (port.Terminal k) = sym is ∙ at in differs cc)) in
+      sym (total_none (part plan (here s l)) (length plan.terminals) (λ k. not_here s l k (slice_get plan.terminals k) refl (λ at. let e : None ≡ Some (Port.Terminal k) = sym is ∙ at in absurd cc)))
+  behind_by s l (Some (Port.Switch r b)) is =
+      sym (total_none (part plan (here s l)) (length plan.terminals) (λ k. not_here s l k (slice_get plan.terminals k) refl (λ at. let e : Some (Port.Switch r b) ≡ Some (Port.Terminal k) = sym is ∙ at in absurd cc)))
+  behind_by s l (Some (Port.Terminal t)) is =
+      let inside = wiring.inside (Port.Terminal t) (Port.Switch s l) (wiring.back (Port.Switch s l) (Port.Terminal t) is) in
+      let one = total_one (part plan (here s l)) t (length plan.terminals) inside (λ k differs. not_here s l k (slice_get plan.terminals k) refl (λ at. let e : Some (Port.Terminal t) ≡ Some (Port.Terminal k) = sym is ∙ at in differs cc)) in
       sym (one ∙ is_here s l t (slice_get plan.terminals t) refl is)
 
   -- the links of a switch from one on, and all of them
@@ -249,7 +241,7 @@ module _ (plan : Plan) (wiring : IsWiring plan) where
   all_at root forest spans k None is = refl
   all_at root forest spans k (Some t) is =
       let host = wiring.host k t is in
-      let inside = wiring.inside (port.Switch t.switch t.link) (port.Terminal k) (wiring.back (port.Terminal k) (host_port t) host) in
+      let inside = wiring.inside (Port.Switch t.switch t.link) (Port.Terminal k) (wiring.back (Port.Terminal k) (host_port t) host) in
       ap (λ (x : Bool). pick_if x t.count) (spans.all t.switch inside.0)
 
   pub labels_sum : (root : ℕ) (forest : Forest) → IsSpanning plan root forest → plan_labels plan root forest ≡ total_count plan.terminals

@@ -1,25 +1,17 @@
 -- The rows of a tree's tables are in order, few and of links, and the tables are within the ranges of the registers.
-use Rattle.std.proofs.Common.{◌≡◌, ℕ, zero, suc, ◌<◌, ◌≤◌, ◌+◌, ◌-◌, inl, inr, ◌==◌, true, false, Bool, if◌then◌else◌, List, [], ◌∷◌, ◌++◌, length, map, get_or, slice_get, All, Option, Some, None, sym, ap, subst, ◌∙◌, arith}
-use Rattle.std.proofs.lemmas.List.{length-append}
-use Rattle.std.proofs.lemmas.List.Elements.{All-map}
-use Rattle.std.proofs.lemmas.List.FromFn.{get_or-range_with_len, length-range_with_len}
-use Rattle.std.proofs.lemmas.Option.{slice_get-get_or}
-use Rattle.std.specs.List.{range_with_len}
-use Rattle.c104_interval.specs.declared.intervals.Table.{Table}
-use Rattle.c104_regs.specs.Ranges.{IsTableInRange}
-use Rattle.c104_plan.specs.declared.ports.Port.{Port}
-use Rattle.c104_plan.specs.declared.ports.Port.TheVariants as port
-use Rattle.c104_plan.specs.declared.plans.Terminal.{Terminal}
-use Rattle.c104_plan.specs.Plans.{IsPlan, IsRange, Plan, host_port}
-use Rattle.c104_plan.specs.Wiring.{IsWiring}
-use Rattle.c104_label.specs.Forests.{Ends, Forest, Grown, IsSpanning, child, empty, ends_of, links, switches}
-use Rattle.c104_label.specs.LabelRows.{AreLabelRows}
-use Rattle.c104_label.specs.TreeLabels.{AreLinks, Net, Pieces, Place, all_pieces, child_pieces, first_at, forest_labels, labels_behind, labels_on, net_of, own_labels, own_pieces, piece, place_end, place_of, switch_table, tree_range, tree_rows}
-use Rattle.c104_label.specs.TreeImages.{AreTreeTables, plan_labels}
-use Rattle.c104_label.proofs.TreePlaces.{HasPlace, Stands, stands}
-use Rattle.c104_label.proofs.RowRanges.{rows_in_range}
-use Rattle.c104_label.proofs.TreeRows.{ArePieceLinks, label_rows, links-append, nonempty, nonempty-append, total-append, total_of}
-use Rattle.c104_label.proofs.TreeSelections.{own_small, selects_in_tree, table_is, terminal_at, total_children, total_own}
+use Rattle.{c104_interval.specs.declared.intervals.Table.Table, c104_label.proofs.{RowRanges.rows_in_range, TreePlaces.{HasPlace, Stands}}}
+use Rattle.c104_label.proofs.{TreePlaces.stands, TreeRows.{ArePieceLinks, label_rows, links-append, nonempty, nonempty-append}}
+use Rattle.c104_label.proofs.{TreeRows.{total-append, total_of}, TreeSelections.{own_small, selects_in_tree, table_is, terminal_at}}
+use Rattle.c104_label.{proofs.TreeSelections.{total_children, total_own}, specs.Forests.{Ends, Forest, Grown, IsSpanning, child, empty}}
+use Rattle.c104_label.specs.{Forests.{ends_of, links, switches}, LabelRows.AreLabelRows, TreeImages.{AreTreeTables, plan_labels}}
+use Rattle.c104_label.specs.TreeLabels.{AreLinks, Net, Pieces, Place, all_pieces, child_pieces, first_at, forest_labels, labels_behind}
+use Rattle.c104_label.specs.TreeLabels.{labels_on, net_of, own_labels, own_pieces, piece, place_end, place_of, switch_table, tree_range}
+use Rattle.{c104_label.specs.TreeLabels.tree_rows, c104_plan.specs.{Plans.{IsPlan, IsRange, Plan, host_port}, Wiring.IsWiring}}
+use Rattle.{c104_plan.specs.declared.{plans.Terminal.Terminal, ports.Port.Port}, c104_regs.specs.Ranges.IsTableInRange}
+use Rattle.std.proofs.Common.{All, Bool, List, None, Option, Some, [], ap, arith, false, get_or, if◌then◌else◌, inl, inr, length, map}
+use Rattle.std.proofs.Common.{slice_get, subst, suc, sym, true, zero, ℕ, ◌++◌, ◌+◌, ◌-◌, ◌<◌, ◌==◌, ◌∙◌, ◌∷◌, ◌≡◌, ◌≤◌}
+use Rattle.std.proofs.lemmas.List.{Elements.All-map, FromFn.{get_or-range_with_len, length-range_with_len}, length-append}
+use Rattle.std.{proofs.lemmas.Option.slice_get-get_or, specs.List.range_with_len}
 
 -- all labels lie somewhere
 pieces_total : (net : Net) (total s : ℕ) (p : Place) → place_end (own_labels net) s p ≤ total → total_of (all_pieces net total s p) ≡ total
@@ -57,8 +49,8 @@ pieces_links net total s p up are = (
 pub grown_links : (plan : Plan) → IsWiring plan → (f : Forest) (seen ls : List ℕ) (s : ℕ) → Grown (ends_of plan) seen s ls f → AreLinks f
 grown_links plan wiring empty seen ls s grown = tt
 grown_links plan wiring (child l r b below rest) seen ls s (before, after, split, passed, at, new, down, on) =
-    let here = wiring.inside (port.Switch s l) (port.Switch r b) at in
-    let far = wiring.inside (port.Switch r b) (port.Switch s l) (wiring.back (port.Switch s l) (port.Switch r b) at) in (
+    let here = wiring.inside (Port.Switch s l) (Port.Switch r b) at in
+    let far = wiring.inside (Port.Switch r b) (Port.Switch s l) (wiring.back (Port.Switch s l) (Port.Switch r b) at) in (
       here.1,
       far.1,
       grown_links plan wiring below (seen ++ (r ∷ [])) links r down,
@@ -69,8 +61,8 @@ grown_links plan wiring (child l r b below rest) seen ls s (before, after, split
 
 abbrev is_terminal : Option Port → ℕ
 is_terminal None = 0
-is_terminal (Some (port.Terminal t)) = 1
-is_terminal (Some (port.Switch r b)) = 0
+is_terminal (Some (Port.Terminal t)) = 1
+is_terminal (Some (Port.Switch r b)) = 0
 
 abbrev terminals_on : Ends → ℕ → List ℕ → ℕ
 terminals_on ends s [] = 0
@@ -82,8 +74,8 @@ at_most_one false = omega arith
 
 own_end : (counts : ℕ → ℕ) (o : Option Port) → (if labels_behind counts o == 0 then 0 else 1) ≤ is_terminal o
 own_end counts None = omega arith
-own_end counts (Some (port.Terminal t)) = at_most_one (counts t == 0)
-own_end counts (Some (port.Switch r b)) = omega arith
+own_end counts (Some (Port.Terminal t)) = at_most_one (counts t == 0)
+own_end counts (Some (Port.Switch r b)) = omega arith
 
 own_few : (net : Net) (s : ℕ) (ls : List ℕ) → nonempty (own_pieces net s ls) ≤ terminals_on net.ends s ls
 own_few net s [] = omega arith
@@ -99,8 +91,8 @@ children_few own (child l r b below rest) = let a = at_most_one (own r + forest_
 
 end_few : (o : Option Port) → is_terminal o ≤ 1
 end_few None = omega arith
-end_few (Some (port.Terminal t)) = omega arith
-end_few (Some (port.Switch r b)) = omega arith
+end_few (Some (Port.Terminal t)) = omega arith
+end_few (Some (Port.Switch r b)) = omega arith
 
 terminals_few : (ends : Ends) (s : ℕ) (ls : List ℕ) → terminals_on ends s ls ≤ length ls
 terminals_few ends s [] = omega arith
@@ -157,8 +149,8 @@ module _ (plan : Plan) (wiring : IsWiring plan) (root : ℕ) (forest : Forest) (
   up_small s p at = elim at.up [
     | inl top ↦ omega (arith, top)
     | inr wired ↦
-        let back = wiring.back (port.Switch wired.0 wired.1) (port.Switch s p.up) wired.2 in
-        (wiring.inside (port.Switch s p.up) (port.Switch wired.0 wired.1) back).1
+        let back = wiring.back (Port.Switch wired.0 wired.1) (Port.Switch s p.up) wired.2 in
+        (wiring.inside (Port.Switch s p.up) (Port.Switch wired.0 wired.1) back).1
   ]
 
   pub place_links : (s : ℕ) (p : Place) → Stands (ends_of plan) own root forest s p → (p.up < 32) × AreLinks p.below
@@ -199,7 +191,7 @@ module _ (plan : Plan) (wiring : IsWiring plan) (root : ℕ) (forest : Forest) (
   range_in k t is has few =
       let end = terminal_at plan k t wiring is in
       let host = wiring.host k t is in
-      let inside = wiring.inside (port.Switch t.switch t.link) (port.Terminal k) (wiring.back (port.Terminal k) (host_port t) host) in
+      let inside = wiring.inside (Port.Switch t.switch t.link) (Port.Terminal k) (wiring.back (Port.Terminal k) (host_port t) host) in
       let known = standing t.switch inside.0 in
       let p : Place = known.0 in
       let first_is : first_at (net_of plan) t.switch t.link (place_of own root forest t.switch) ≡ p.first + labels_on (net_of plan) t.switch (range_with_len 0 t.link) = ap (first_at (net_of plan) t.switch t.link) known.1.found in

@@ -1,24 +1,11 @@
 -- The image of a plan's tree is one by which packets go up and then down, and so is one with its ranges that was checked.
-use Rattle.std.proofs.Common.{◌≡◌, ◌∙◌, ℕ, ◌≤◌, Result, Ok, Err, IfOk, length, map, sym, subst, arith}
-use Rattle.std.specs.List.{range_with_len}
-use Rattle.c104_plan.specs.LabelledImages.{table_in}
-use Rattle.c104_plan.specs.PlanImage.{Image}
-use Rattle.c104_plan.specs.Plans.{IsPlan, IsTreePlan, Plan}
-use Rattle.c104_plan.proofs.LabelledSettings.{labelled_by_port}
-use Rattle.c104_check.specs.ChannelDependencies.{IsAcyclic}
-use Rattle.c104_check.specs.Cycles.{AreRanksOrCycle}
-use Rattle.c104_check.specs.Ranks.{rank_in}
-use Rattle.c104_check.specs.Routes.{IsAccepted, Routes, routes_of}
-use Rattle.c104_check.specs.declared.cycles.Ranks.{Ranks}
-use Rattle.c104_check.specs.declared.cycles.RanksOrCycle.{RanksOrCycle}
-use Rattle.c104_check.specs.declared.cycles.RanksOrCycle.TheVariants as found
-use Rattle.c104_label.specs.Forests.{Forest}
-use Rattle.c104_label.specs.declared.faults.LabelFault.{LabelFault}
-use Rattle.c104_label.specs.Images.{IsUpDownImage}
-use Rattle.c104_label.specs.TreeImages.{IsTreeImage, most_labels, total_count}
-use Rattle.c104_label.specs.TreeLabels.{switch_table, tree_range}
-use Rattle.c104_label.proofs.TreeAccepted.{spanning_accepted}
-use Rattle.c104_label.proofs.TreeRanks.{spanning_acyclic}
+use Rattle.c104_check.specs.{ChannelDependencies.IsAcyclic, Cycles.AreRanksOrCycle, Ranks.rank_in, Routes.{IsAccepted, Routes, routes_of}}
+use Rattle.{c104_check.specs.declared.cycles.{Ranks.Ranks, RanksOrCycle.RanksOrCycle}, c104_label.proofs.TreeAccepted.spanning_accepted}
+use Rattle.c104_label.{proofs.TreeRanks.spanning_acyclic, specs.{Forests.Forest, Images.IsUpDownImage, TreeImages.IsTreeImage}}
+use Rattle.c104_label.specs.{TreeImages.{most_labels, total_count}, TreeLabels.{switch_table, tree_range}}
+use Rattle.{c104_label.specs.declared.faults.LabelFault.LabelFault, c104_plan.proofs.LabelledSettings.labelled_by_port}
+use Rattle.{c104_plan.specs.{LabelledImages.table_in, PlanImage.Image, Plans.{IsPlan, IsTreePlan, Plan}}, std.proofs.Common.{Err, IfOk, Ok}}
+use Rattle.std.{proofs.Common.{Result, arith, length, map, subst, sym, ℕ, ◌∙◌, ◌≡◌, ◌≤◌}, specs.List.range_with_len}
 
 pub tree_up_down : (plan : Plan) (root : ℕ) (forest : Forest) (image : Image) → IsPlan plan → IsTreePlan root plan → total_count plan.terminals ≤ most_labels plan → IsTreeImage plan root forest image → IsUpDownImage plan root forest image
 tree_up_down plan root forest image kept is_tree few is =
@@ -34,7 +21,7 @@ tree_up_down plan root forest image kept is_tree few is =
     }
 
 -- ranks of its inputs leave a network without a cycle
-pub ranked_acyclic : (routes : Routes) (x : RanksOrCycle) (ranks : Ranks) → AreRanksOrCycle routes x → x ≡ found.Ranks ranks → IsAcyclic routes
+pub ranked_acyclic : (routes : Routes) (x : RanksOrCycle) (ranks : Ranks) → AreRanksOrCycle routes x → x ≡ RanksOrCycle.Ranks ranks → IsAcyclic routes
 ranked_acyclic routes x ranks are is = let both = subst (λ y. AreRanksOrCycle routes y) is are in (rank_in ranks.by_place, both.0, both.1)
 
 -- and so what is answered

@@ -1,18 +1,10 @@
 -- Tables of rows that were checked are within the ranges of registers.
-use Rattle.std.proofs.Common.{◌≡◌, ◌∙◌, ℕ, ◌≤◌, ◌+◌, ◌-◌, true, List, [], ◌∷◌, ◌++◌, length, nat_le, nat_lt, replicate, ap, arith, lit<}
-use Rattle.std.proofs.lemmas.Bool.{and_parts}
-use Rattle.std.proofs.lemmas.Bool.Decides.{nat_tests}
-use Rattle.std.proofs.lemmas.List.{length-append, length-replicate}
-use Rattle.std.specs.List.{AllByRecursion, list_all}
-use Rattle.c104_interval.specs.declared.intervals.Row.{Row}
-use Rattle.c104_interval.specs.declared.intervals.Select.{Select}
-use Rattle.c104_interval.specs.declared.intervals.Select.TheVariants.{Discard, Link, Sink}
-use Rattle.c104_interval.specs.Selection.{reset_row}
-use Rattle.c104_regs.specs.Ranges.{IsTableInRange}
-use Rattle.c104_regs.proofs.RangeNumbers.{IsTableInRange-from}
-use Rattle.c104_label.specs.LabelRows.{label_table}
-use Rattle.c104_label.specs.UpDownLabels.{is_link_row}
-use Rattle.c104_label.proofs.RowRanges.{IsRowInRange, at_any}
+use Rattle.c104_interval.specs.{Selection.reset_row, declared.intervals.{Row.Row, Select.{Select, TheVariants.{Discard, Link, Sink}}}}
+use Rattle.c104_label.{proofs.RowRanges.{IsRowInRange, at_any}, specs.{LabelRows.label_table, UpDownLabels.is_link_row}}
+use Rattle.{c104_regs.{proofs.RangeNumbers.IsTableInRange-from, specs.Ranges.IsTableInRange}, std.proofs.Common.{List, [], ap, arith}}
+use Rattle.std.proofs.Common.{length, lit<, nat_le, nat_lt, replicate, true, ℕ, ◌++◌, ◌+◌, ◌-◌, ◌∙◌, ◌∷◌, ◌≡◌, ◌≤◌}
+use Rattle.std.{proofs.lemmas.{Bool.{Decides.nat_tests, and_parts}, List.{length-append, length-replicate}}, specs.List.AllByRecursion}
+use Rattle.std.specs.List.{list_all}
 
 row_in_range : (limit : ℕ) (x : Select) → is_link_row (record { limit = limit; select = x }) ≡ true → IsRowInRange (record { limit = limit; select = x })
 row_in_range limit (Link link) is =

@@ -1,16 +1,12 @@
 -- What the visit's code needs, over plain variables.
-use Rattle.std.proofs.Common.{◌≡◌, ℕ, ◌<◌, ◌≤◌, ◌+◌, ◌-◌, true, false, List, [], ◌∷◌, ◌++◌, length, Bool, is_some, IfOk, MatchOption, Ok, Err, Result, Option, Some, None, if◌then◌else◌, refl, sym, ap, subst, ◌∙◌, arith}
-use Rattle.std.specs.List.{range_with_len}
-use Rattle.std.proofs.lemmas.List.{length-append}
-use Rattle.c104_plan.specs.declared.ports.Port.{Port}
-use Rattle.c104_plan.specs.declared.ports.Port.TheVariants as port
-use Rattle.c104_plan.specs.Plans.{Plan}
-use Rattle.c104_plan.specs.Wiring.{IsWiring}
+use Rattle.c104_label.proofs.ForestLemmas.{grown_skip, grown_switches, grown_take, links_are, met_wired, range_step, switches_more}
+use Rattle.c104_label.{proofs.ForestLemmas.{switches_room, switches_root, wire_here, wired_met}, specs.Forests.{AreInside, AreSwitches}}
+use Rattle.c104_label.specs.Forests.{Ends, Forest, Grown, IsConnected, IsCutOff, IsDepthFirst, IsPassed, IsSpanning, child, ends_of, is_met}
+use Rattle.c104_label.specs.{Forests.{links, switches}, Trees.{forest_of, unvisited}, declared.forests.FarEnd.FarEnd}
+use Rattle.{c104_plan.specs.{Plans.Plan, Wiring.IsWiring, declared.ports.Port.Port}, std.proofs.Common.{Bool, Err, IfOk, List, MatchOption}}
+use Rattle.std.proofs.Common.{None, Ok, Option, Result, Some, [], ap, arith, false, if◌then◌else◌, is_some, length, refl, subst, sym, true}
+use Rattle.std.{proofs.{Common.{ℕ, ◌++◌, ◌+◌, ◌-◌, ◌<◌, ◌∙◌, ◌∷◌, ◌≡◌, ◌≤◌}, lemmas.List.length-append}, specs.List.range_with_len}
 use Rattle.c104_label.specs.declared.forests.Forest as kept
-use Rattle.c104_label.specs.declared.forests.FarEnd.{FarEnd}
-use Rattle.c104_label.specs.Forests.{AreInside, AreSwitches, Ends, Forest, Grown, IsConnected, IsCutOff, IsDepthFirst, IsPassed, IsSpanning, child, ends_of, is_met, links, switches}
-use Rattle.c104_label.specs.Trees.{forest_of, unvisited}
-use Rattle.c104_label.proofs.ForestLemmas.{grown_skip, grown_switches, grown_take, links_are, met_wired, range_step, switches_more, switches_room, switches_root, wire_here, wired_met}
 
 abbrev rest_of : ℕ → List ℕ
 rest_of l = range_with_len l (32 - l)
@@ -19,7 +15,7 @@ pub visit_skip : (E : Type 0) (ends : Ends) (seen : List ℕ) (s l : ℕ) (r : R
 visit_skip E ends seen s l (Ok f) below passed on = rw (range_step l below) (grown_skip ends seen s l (rest_of (l + 1)) (forest_of f) passed on)
 visit_skip E ends seen s l (Err e) below passed on = tt
 
-pub visit_take : (ends : Ends) (seen one more : List ℕ) (s l r b : ℕ) (below rest : Forest) → l < 32 → ends s l ≡ Some (port.Switch r b) → is_met seen r ≡ false → one ≡ seen ++ (r ∷ []) → Grown ends one r (rest_of 0) below
+pub visit_take : (ends : Ends) (seen one more : List ℕ) (s l r b : ℕ) (below rest : Forest) → l < 32 → ends s l ≡ Some (Port.Switch r b) → is_met seen r ≡ false → one ≡ seen ++ (r ∷ []) → Grown ends one r (rest_of 0) below
     → more ≡ one ++ switches below → Grown ends more s (rest_of (l + 1)) rest → Grown ends seen s (rest_of l) (child l r b below rest)
 visit_take ends seen one more s l r b below rest lt at new one_is down more_is on =
     let down_is : Grown ends (seen ++ (r ∷ [])) r links below = subst (λ (x : List ℕ). Grown ends x r links below) one_is (subst (λ (x : List ℕ). Grown ends one r x below) (sym links_are) down) in
@@ -46,21 +42,21 @@ some_by true x y is = absurd cc
 some_by false x y is = (refl, cc)
 
 passed_by : (ends : Ends) (seen : List ℕ) (s l : ℕ) (far : Option Port) → ends s l ≡ far → unvisited far seen ≡ None → IsPassed ends seen s l
-passed_by ends seen s l None is none = λ r b at. let e : None ≡ Some (port.Switch r b) = sym is ∙ at in absurd cc
-passed_by ends seen s l (Some (port.Terminal t)) is none = λ r b at. let e : Some (port.Terminal t) ≡ Some (port.Switch r b) = sym is ∙ at in absurd cc
-passed_by ends seen s l (Some (port.Switch r' b')) is none = wire_here ends s l r' b' seen is (none_by (is_met seen r') (record { switch = r'; back = b' }) none)
+passed_by ends seen s l None is none = λ r b at. let e : None ≡ Some (Port.Switch r b) = sym is ∙ at in absurd cc
+passed_by ends seen s l (Some (Port.Terminal t)) is none = λ r b at. let e : Some (Port.Terminal t) ≡ Some (Port.Switch r b) = sym is ∙ at in absurd cc
+passed_by ends seen s l (Some (Port.Switch r' b')) is none = wire_here ends s l r' b' seen is (none_by (is_met seen r') (record { switch = r'; back = b' }) none)
 
-found_by : (far : Option Port) (seen : List ℕ) (x : FarEnd) → unvisited far seen ≡ Some x → (far ≡ Some (port.Switch x.switch x.back)) × (is_met seen x.switch ≡ false)
+found_by : (far : Option Port) (seen : List ℕ) (x : FarEnd) → unvisited far seen ≡ Some x → (far ≡ Some (Port.Switch x.switch x.back)) × (is_met seen x.switch ≡ false)
 found_by None seen x is = absurd cc
-found_by (Some (port.Terminal t)) seen x is = absurd cc
-found_by (Some (port.Switch r b)) seen x is =
+found_by (Some (Port.Terminal t)) seen x is = absurd cc
+found_by (Some (Port.Switch r b)) seen x is =
     let found = some_by (is_met seen r) (record { switch = r; back = b }) x is in
-    (ap (λ (y : FarEnd). Some (port.Switch y.switch y.back)) found.1, subst (λ (y : FarEnd). is_met seen y.switch ≡ false) found.1 found.0)
+    (ap (λ (y : FarEnd). Some (Port.Switch y.switch y.back)) found.1, subst (λ (y : FarEnd). is_met seen y.switch ≡ false) found.1 found.0)
 
 pub passed : (plan : Plan) (seen : List ℕ) (s l : ℕ) (far : Option Port) (x : Option FarEnd) → far ≡ ends_of plan s l → x ≡ unvisited far seen → x ≡ None → IsPassed (ends_of plan) seen s l
 passed plan seen s l far x is by none = passed_by (ends_of plan) seen s l far (sym is) (sym by ∙ none)
 
-pub found : (plan : Plan) (seen : List ℕ) (s l : ℕ) (far : Option Port) (x : Option FarEnd) (y : FarEnd) → far ≡ ends_of plan s l → x ≡ unvisited far seen → x ≡ Some y → (ends_of plan s l ≡ Some (port.Switch y.switch y.back)) × (is_met seen y.switch ≡ false)
+pub found : (plan : Plan) (seen : List ℕ) (s l : ℕ) (far : Option Port) (x : Option FarEnd) (y : FarEnd) → far ≡ ends_of plan s l → x ≡ unvisited far seen → x ≡ Some y → (ends_of plan s l ≡ Some (Port.Switch y.switch y.back)) × (is_met seen y.switch ≡ false)
 found plan seen s l far x y is by at = let both = found_by far seen y (sym by ∙ at) in (sym is ∙ both.0, both.1)
 
 -- at the root
@@ -75,7 +71,7 @@ tree_root E ends root empty one (Err e) none is grown = tt
 
 -- wires of a plan lead to its switches
 pub ends_inside : (plan : Plan) → IsWiring plan → AreInside (ends_of plan) (length plan.switches)
-ends_inside plan wiring s l r b at = (wiring.inside (port.Switch r b) (port.Switch s l) (wiring.back (port.Switch s l) (port.Switch r b) at)).0
+ends_inside plan wiring s l r b at = (wiring.inside (Port.Switch r b) (Port.Switch s l) (wiring.back (Port.Switch s l) (Port.Switch r b) at)).0
 
 -- a tree that has all switches, and one that misses some
 pub all_wired : (plan : Plan) (root : ℕ) (f : Forest) → IsSpanning plan root f → IsConnected plan root

@@ -1,31 +1,25 @@
 -- Over how many wires between switches a header goes.
 --     Crosses routes h t n s i      by any choice in the groups, header h comes from an input to terminal t over n wires
 --     mesh_distance, cube_distance      how many wires two switches of a mesh or of a cube are apart
-use Rattle.std.specs.Prelude.{◌≡◌, ℕ, zero, suc, ◌+◌, ◌-◌, ◌*◌, ◌<◌, ◌==◌, ◌^◌, true, Option, Some, None, if◌then◌else◌}
-use Rattle.c104_interval.specs.declared.intervals.Select.TheVariants.{Link}
-use Rattle.c104_plan.specs.declared.ports.Port.{Port}
-use Rattle.c104_plan.specs.declared.ports.Port.TheVariants as port
-use Rattle.c104_plan.specs.declared.plans.Shape.{Shape}
-use Rattle.c104_plan.specs.declared.plans.Shape.TheVariants.{Hand, Tree, UpDown, Mesh, Cube}
-use Rattle.c104_check.specs.declared.ports.SwitchPort.{SwitchPort}
-use Rattle.c104_check.specs.Routes.{IsEntryOf, Routes, is_in_group, select}
-use Rattle.c104_label.specs.CubeLabels.{bit}
-use Rattle.c104_label.specs.LabelRows.{owner}
-use Rattle.c104_label.specs.MeshLabels.{mesh_column, mesh_row}
+use Rattle.c104_check.specs.{Routes.{IsEntryOf, Routes, is_in_group, select}, declared.ports.SwitchPort.SwitchPort}
+use Rattle.{c104_interval.specs.declared.intervals.Select.TheVariants.Link, c104_label.specs.{CubeLabels.bit, LabelRows.owner}}
+use Rattle.{c104_label.specs.MeshLabels.{mesh_column, mesh_row}, c104_plan.specs.declared.plans.Shape.{Shape, TheVariants.{Cube, Hand}}}
+use Rattle.c104_plan.specs.declared.{plans.Shape.TheVariants.{Mesh, Tree, UpDown}, ports.Port.Port}
+use Rattle.std.specs.Prelude.{None, Option, Some, if◌then◌else◌, suc, true, zero, ℕ, ◌*◌, ◌+◌, ◌-◌, ◌<◌, ◌==◌, ◌^◌, ◌≡◌}
 
 -- a wire leads to an input from which the next holds
 abbrev pub IsOver : (ℕ → ℕ → Type 0) → Option Port → Type 0
 IsOver next None = ⊥
-IsOver next (Some (port.Terminal t)) = ⊥
-IsOver next (Some (port.Switch s i)) = next s i
+IsOver next (Some (Port.Terminal t)) = ⊥
+IsOver next (Some (Port.Switch s i)) = next s i
 
 -- header h at input i of switch s comes to terminal t by any choice in the groups, over exactly n wires
 -- between switches
 abbrev pub Crosses : Routes → ℕ → ℕ → ℕ → ℕ → ℕ → Type 0
 Crosses routes h t zero s i =
-    (g : ℕ) × (select routes s i h ≡ Some (Link g)) × ((o : ℕ) → is_in_group routes s g o ≡ true → routes.peer (port.Switch s o) ≡ Some (port.Terminal t))
+    (g : ℕ) × (select routes s i h ≡ Some (Link g)) × ((o : ℕ) → is_in_group routes s g o ≡ true → routes.peer (Port.Switch s o) ≡ Some (Port.Terminal t))
 Crosses routes h t (suc n) s i =
-    (g : ℕ) × (select routes s i h ≡ Some (Link g)) × ((o : ℕ) → is_in_group routes s g o ≡ true → IsOver (Crosses routes h t n) (routes.peer (port.Switch s o)))
+    (g : ℕ) × (select routes s i h ≡ Some (Link g)) × ((o : ℕ) → is_in_group routes s g o ≡ true → IsOver (Crosses routes h t n) (routes.peer (Port.Switch s o)))
 
 -- the difference of two numbers
 abbrev pub gap : ℕ → ℕ → ℕ

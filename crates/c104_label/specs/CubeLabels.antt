@@ -1,13 +1,10 @@
 -- The labels of cubes. A cube of d dimensions has 2 ^ d switches, each with p terminals. Of a switch link k,
 -- below d, goes to the switch whose number differs at bit k alone, and terminal j is on link d + j. Label l is
 -- terminal l % p's of switch l / p.
-use Rattle.std.specs.Prelude.{◌≡◌, ◌≢◌, ℕ, zero, suc, ◌+◌, ◌*◌, ◌/◌, ◌%◌, ◌^◌, ◌<◌, ◌≤◌, List}
-use Rattle.c104_interval.specs.declared.intervals.Row.{Row}
-use Rattle.c104_interval.specs.declared.intervals.Table.{Table}
-use Rattle.c104_interval.specs.declared.intervals.Select.TheVariants.{Link, Sink}
-use Rattle.c104_interval.specs.Selection.{select}
-use Rattle.c104_label.specs.LabelRows.{AreLabelRows, around, kept_rows, label_row, label_table, own_rows, owner}
 pub use Rattle.c104_plan.specs.Layouts.{IsCube, bit}
+use Rattle.c104_interval.specs.{Selection.select, declared.intervals.{Row.Row, Select.TheVariants.{Link, Sink}, Table.Table}}
+use Rattle.c104_label.specs.LabelRows.{AreLabelRows, around, kept_rows, label_row, label_table, own_rows, owner}
+use Rattle.std.specs.Prelude.{List, suc, zero, ℕ, ◌%◌, ◌*◌, ◌+◌, ◌/◌, ◌<◌, ◌^◌, ◌≡◌, ◌≢◌, ◌≤◌}
 
 -- k is the highest of d bits at which two numbers differ
 pub record IsHighestDifference (d x u k : ℕ) : Type 0 where

@@ -1,18 +1,14 @@
 -- The depth-first tree of a network's switches.
-use Rattle.std.specs.Prelude.{◌≡◌, ℕ, zero, suc, ◌<◌, ◌==◌, Bool, true, false, List, [], ◌∷◌, ◌++◌, length, Option, Some}
-use Rattle.std.specs.List.{AllByRecursion, IsDistinct, list_any, range_with_len}
-use Rattle.c104_regs.specs.declared.registers.TheConstants.{LINKS}
-use Rattle.c104_plan.specs.declared.ports.Port.{Port}
-use Rattle.c104_plan.specs.declared.ports.Port.TheVariants as port
-use Rattle.c104_plan.specs.Plans.{Plan}
-use Rattle.c104_plan.specs.Wiring.{peer}
+use Rattle.{c104_plan.specs.{Plans.Plan, Wiring.peer, declared.ports.Port.Port}, c104_regs.specs.declared.registers.TheConstants.LINKS}
+use Rattle.std.specs.{List.{AllByRecursion, IsDistinct, list_any, range_with_len}, Prelude.{Bool, List, Option, Some, [], false, length}}
+use Rattle.std.specs.Prelude.{suc, true, zero, ℕ, ◌++◌, ◌<◌, ◌==◌, ◌∷◌, ◌≡◌}
 
 -- what each link of each switch is wired to, in a network and in a plan's
 abbrev pub Ends : Type 0
 Ends = ℕ → ℕ → Option Port
 
 abbrev pub ends_of : Plan → Ends
-ends_of plan s l = peer plan (port.Switch s l)
+ends_of plan s l = peer plan (Port.Switch s l)
 
 -- the links of a switch
 unfoldable pub links : List ℕ
@@ -35,7 +31,7 @@ switches (child l r b below rest) = (r ∷ switches below) ++ switches rest
 
 -- if a wire on this link leads to a switch, that was visited
 abbrev pub IsPassed : Ends → List ℕ → ℕ → ℕ → Type 0
-IsPassed ends seen s l = (r b : ℕ) → ends s l ≡ Some (port.Switch r b) → is_met seen r ≡ true
+IsPassed ends seen s l = (r b : ℕ) → ends s l ≡ Some (Port.Switch r b) → is_met seen r ≡ true
 
 -- what a depth-first visit finds behind the links ls of s, taken in turn, where seen were visited before: the
 -- first link with a wire to a switch that wasn't visited leads to the first subtree, in which a visit of that
@@ -44,7 +40,7 @@ abbrev pub Grown : Ends → List ℕ → ℕ → List ℕ → Forest → Type 0
 Grown ends seen s ls empty = AllByRecursion (IsPassed ends seen s) ls
 Grown ends seen s ls (child l r b below rest) =
     (before : List ℕ) × (after : List ℕ) × (ls ≡ before ++ (l ∷ after)) × AllByRecursion (IsPassed ends seen s) before
-    × (ends s l ≡ Some (port.Switch r b)) × (is_met seen r ≡ false)
+    × (ends s l ≡ Some (Port.Switch r b)) × (is_met seen r ≡ false)
     × Grown ends (seen ++ (r ∷ [])) r links below
     × Grown ends ((seen ++ (r ∷ [])) ++ switches below) s after rest
 
@@ -56,7 +52,7 @@ IsDepthFirst ends root forest = Grown ends (root ∷ []) root links forest
 abbrev pub Wired : Ends → ℕ → ℕ → ℕ → Type 0
 Wired ends root zero s = s ≡ root
 Wired ends root (suc m) s =
-    (r : ℕ) × (l : ℕ) × (b : ℕ) × Wired ends root m r × (is_met links l ≡ true) × (ends r l ≡ Some (port.Switch s b))
+    (r : ℕ) × (l : ℕ) × (b : ℕ) × Wired ends root m r × (is_met links l ≡ true) × (ends r l ≡ Some (Port.Switch s b))
 
 -- no number of wires leads from root to s
 abbrev pub IsCutOff : Ends → ℕ → ℕ → Type 0
@@ -73,7 +69,7 @@ pub record AreSwitches (n : ℕ) (seen : List ℕ) : Type 0 where
 
 -- wires lead to switches of n alone
 abbrev pub AreInside : Ends → ℕ → Type 0
-AreInside ends n = (s l r b : ℕ) → ends s l ≡ Some (port.Switch r b) → r < n
+AreInside ends n = (s l r b : ℕ) → ends s l ≡ Some (Port.Switch r b) → r < n
 
 -- the depth-first tree of a plan from a root has all its switches
 pub record IsSpanning (plan : Plan) (root : ℕ) (forest : Forest) : Type 0 where

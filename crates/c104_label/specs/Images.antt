@@ -1,21 +1,12 @@
 -- The image of a plan: that of its own lines, or that of the labels of its shape.
-use Rattle.std.specs.Prelude.{ℕ, ◌≡◌, ◌*◌, ◌^◌, Bool, false, true, map}
-use Rattle.std.specs.List.{range_with_len}
-use Rattle.c104_plan.specs.Plans.{Plan}
-use Rattle.c104_plan.specs.declared.plans.Shape.{Shape}
-use Rattle.c104_plan.specs.declared.plans.Shape.TheVariants.{Hand, Tree, UpDown, Mesh, Cube}
-use Rattle.c104_interval.specs.declared.intervals.Table.{Table}
-use Rattle.c104_plan.specs.LabelledImages.{labelled_image, port_labelled_image}
-use Rattle.c104_plan.specs.PlanImage.{Image, hand_image, range_of}
-use Rattle.c104_label.specs.declared.faults.LabelFault.{LabelFault}
-use Rattle.c104_label.specs.declared.faults.LabelFault.TheVariants as fault
-use Rattle.c104_check.specs.ChannelDependencies.{IsAcyclic}
-use Rattle.c104_check.specs.Routes.{IsAccepted, routes_of}
-use Rattle.c104_label.specs.Forests.{Forest, IsSpanning}
-use Rattle.c104_label.specs.CubeLabels.{AreCubeTables, cube_table}
-use Rattle.c104_label.specs.MeshLabels.{AreMeshTables, mesh_table}
-use Rattle.c104_label.specs.TreeImages.{IsLabelCause, IsTreeImage, plan_labels, total_count}
-use Rattle.c104_label.specs.TreeLabels.{AreInOrder, net_of, own_labels, tree_range}
+use Rattle.c104_check.specs.{ChannelDependencies.IsAcyclic, Routes.{IsAccepted, routes_of}}
+use Rattle.{c104_interval.specs.declared.intervals.Table.Table, c104_label.specs.{CubeLabels.{AreCubeTables, cube_table}, Forests.Forest}}
+use Rattle.c104_label.specs.{Forests.IsSpanning, MeshLabels.{AreMeshTables, mesh_table}, TreeImages.{IsLabelCause, IsTreeImage}}
+use Rattle.c104_label.specs.{TreeImages.{plan_labels, total_count}, TreeLabels.{AreInOrder, net_of, own_labels, tree_range}}
+use Rattle.{c104_label.specs.declared.faults.LabelFault.LabelFault, c104_plan.specs.LabelledImages.{labelled_image, port_labelled_image}}
+use Rattle.c104_plan.specs.{PlanImage.{Image, hand_image, range_of}, Plans.Plan, declared.plans.Shape.{Shape, TheVariants.{Cube, Hand}}}
+use Rattle.c104_plan.specs.declared.plans.Shape.TheVariants.{Mesh, Tree, UpDown}
+use Rattle.std.specs.{List.range_with_len, Prelude.{Bool, false, map, true, ℕ, ◌*◌, ◌^◌, ◌≡◌}}
 
 -- the image of a plan whose switches have the tables of a mesh, which are right
 pub record IsMeshImage (plan : Plan) (width height terminals : ℕ) (image : Image) : Type 0 where
@@ -90,10 +81,10 @@ is_labelled_shape (Cube dimensions terminals) = true
 
 -- out of memory, and no other fault; nothing more is said of it
 abbrev pub IsNoMemory : LabelFault → Type 0
-IsNoMemory fault.NotConnected = ⊥
-IsNoMemory fault.TooManyLabels = ⊥
-IsNoMemory fault.WrongShape = ⊥
-IsNoMemory fault.NoMemory = Unit {0}
+IsNoMemory LabelFault.NotConnected = ⊥
+IsNoMemory LabelFault.TooManyLabels = ⊥
+IsNoMemory LabelFault.WrongShape = ⊥
+IsNoMemory LabelFault.NoMemory = Unit {0}
 
 -- why a plan that is to be of this shape has no image
 abbrev pub IsCauseBy : Shape → Plan → LabelFault → Type 0
@@ -110,5 +101,5 @@ IsImageCause plan why = IsCauseBy plan.shape plan why
 -- why a labeller of one shape has no image of a plan, by whether the plan's shape is its own: where it is another,
 -- for that alone, before all else; where it isn't, for what the plan has no image
 abbrev pub IsShapeCause : Bool → Plan → LabelFault → Type 0
-IsShapeCause false plan why = why ≡ fault.WrongShape
+IsShapeCause false plan why = why ≡ LabelFault.WrongShape
 IsShapeCause true plan why = IsImageCause plan why

@@ -1,13 +1,9 @@
 -- The rows of a table that labels give. A row is for the labels from the limit of the row before it, or from
 -- 0, up to and without its own limit.
-use Rattle.std.specs.Prelude.{◌≡◌, ℕ, ◌+◌, ◌-◌, ◌*◌, ◌/◌, ◌==◌, ◌<◌, ◌≤◌, List, [], ◌∷◌, ◌++◌, map, length, replicate, if◌then◌else◌}
-use Rattle.std.specs.List.{AllByRecursion, range_with_len}
-use Rattle.c104_interval.specs.declared.intervals.TheConstants.{ROWS}
-use Rattle.c104_interval.specs.declared.intervals.Row.{Row}
-use Rattle.c104_interval.specs.declared.intervals.Table.{Table}
-use Rattle.c104_interval.specs.declared.intervals.Select.{Select}
-use Rattle.c104_interval.specs.declared.intervals.Select.TheVariants.{Discard, Link, Sink}
-use Rattle.c104_interval.specs.Selection.{reset_row}
+use Rattle.c104_interval.specs.{Selection.reset_row, declared.intervals.{Row.Row, Select.{Select, TheVariants.{Discard, Link, Sink}}}}
+use Rattle.c104_interval.specs.declared.intervals.{Table.Table, TheConstants.ROWS}
+use Rattle.std.specs.{List.{AllByRecursion, range_with_len}, Prelude.{List, [], if◌then◌else◌, length, map, replicate, ℕ, ◌*◌, ◌++◌, ◌+◌}}
+use Rattle.std.specs.Prelude.{◌-◌, ◌/◌, ◌<◌, ◌==◌, ◌∷◌, ◌≡◌, ◌≤◌}
 
 -- the row of labels below a limit, which leave by this link
 abbrev pub label_row : ℕ → ℕ → Row

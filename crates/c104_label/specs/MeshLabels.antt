@@ -2,13 +2,10 @@
 -- s % w, each with p terminals. Of a switch link 0 goes to the row above, 1 to the column before, 2 to the
 -- column after and 3 to the row below, and terminal j is on link 4 + j. Label l is terminal l % p's of switch
 -- l / p.
-use Rattle.std.specs.Prelude.{◌≡◌, ℕ, ◌+◌, ◌*◌, ◌/◌, ◌%◌, ◌<◌, ◌≤◌, List}
-use Rattle.c104_interval.specs.declared.intervals.Row.{Row}
-use Rattle.c104_interval.specs.declared.intervals.Table.{Table}
-use Rattle.c104_interval.specs.declared.intervals.Select.TheVariants.{Link, Sink}
-use Rattle.c104_interval.specs.Selection.{select}
-use Rattle.c104_label.specs.LabelRows.{AreLabelRows, around, kept_rows, label_row, label_table, own_rows, owner}
 pub use Rattle.c104_plan.specs.Layouts.{IsMesh}
+use Rattle.c104_interval.specs.{Selection.select, declared.intervals.{Row.Row, Select.TheVariants.{Link, Sink}, Table.Table}}
+use Rattle.c104_label.specs.LabelRows.{AreLabelRows, around, kept_rows, label_row, label_table, own_rows, owner}
+use Rattle.std.specs.Prelude.{List, ℕ, ◌%◌, ◌*◌, ◌+◌, ◌/◌, ◌<◌, ◌≡◌, ◌≤◌}
 
 -- the row and the column of a switch
 abbrev pub mesh_row : ℕ → ℕ → ℕ

@@ -1,20 +1,11 @@
 -- The image of a plan that is labelled as a tree, and what its tables select.
-use Rattle.std.specs.Prelude.{◌≡◌, ℕ, ◌⊎◌, ◌+◌, ◌<◌, ◌≤◌, ◌==◌, length, map, slice_get, if◌then◌else◌, Option, Some}
-use Rattle.std.specs.List.{range_with_len}
-use Rattle.c104_interval.specs.declared.intervals.Table.{Table}
-use Rattle.c104_interval.specs.declared.intervals.Select.TheVariants.{Link, Sink}
-use Rattle.c104_interval.specs.Selection.{select}
-use Rattle.c104_plan.specs.declared.ports.Port.TheVariants as port
-use Rattle.c104_plan.specs.declared.plans.Terminal.{Terminal}
-use Rattle.c104_plan.specs.Plans.{Plan}
 pub use Rattle.c104_plan.specs.Plans.{total_count}
-use Rattle.c104_plan.specs.PlanImage.{Image}
-use Rattle.c104_plan.specs.LabelledImages.{labelled_image}
-use Rattle.c104_label.specs.declared.faults.LabelFault.{LabelFault}
-use Rattle.c104_label.specs.declared.faults.LabelFault.TheVariants as fault
-use Rattle.c104_label.specs.Forests.{Forest, IsConnected, IsCutOff, IsSpanning, child, empty, ends_of}
-use Rattle.c104_label.specs.LabelRows.{AreLabelRows}
-use Rattle.c104_label.specs.TreeLabels.{AreInOrder, Place, net_of, own_labels, place_end, place_of, switch_table, tree_labels, tree_range, tree_rows, tree_table}
+use Rattle.c104_interval.specs.{Selection.select, declared.intervals.{Select.TheVariants.{Link, Sink}, Table.Table}}
+use Rattle.c104_label.specs.{Forests.{Forest, IsConnected, IsCutOff, IsSpanning, child, empty, ends_of}, LabelRows.AreLabelRows}
+use Rattle.c104_label.specs.TreeLabels.{AreInOrder, Place, net_of, own_labels, place_end, place_of, switch_table, tree_labels, tree_range}
+use Rattle.c104_label.specs.{TreeLabels.{tree_rows, tree_table}, declared.faults.LabelFault.LabelFault}
+use Rattle.c104_plan.specs.{LabelledImages.labelled_image, PlanImage.Image, Plans.Plan, declared.{plans.Terminal.Terminal, ports.Port.Port}}
+use Rattle.std.specs.{List.range_with_len, Prelude.{Option, Some, if◌then◌else◌, length, map, slice_get, ℕ, ◌+◌, ◌<◌, ◌==◌, ◌≡◌, ◌≤◌, ◌⊎◌}}
 
 -- how many labels a plan may have: as many as there are headers of one byte or of two
 abbrev pub most_labels : Plan → ℕ
@@ -45,7 +36,7 @@ IsBehind (child l q b below rest) link r = ((l ≡ link) × (q ≡ r)) ⊎ IsBeh
 -- is wired to the subtree's switch, at its link to its parent.
 pub record SelectsInTree (plan : Plan) (root : ℕ) (forest : Forest) (s : ℕ) (p : Place) (t : Table) : Type 0 where
   pub own : (k l : ℕ) (terminal : Terminal) → slice_get plan.terminals k ≡ Some terminal → terminal.switch ≡ s → HasLabel (tree_range plan root forest terminal) l → select t l ≡ Link terminal.link
-  pub wired : (link r : ℕ) (q : Place) → IsBehind p.below link r → switch_place plan root forest r ≡ Some q → ends_of plan s link ≡ Some (port.Switch r q.up)
+  pub wired : (link r : ℕ) (q : Place) → IsBehind p.below link r → switch_place plan root forest r ≡ Some q → ends_of plan s link ≡ Some (Port.Switch r q.up)
   pub below : (link r l : ℕ) (q : Place) → IsBehind p.below link r → switch_place plan root forest r ≡ Some q → q.first ≤ l → l < subtree_end plan r q → select t l ≡ Link link
   pub above : (l : ℕ) → l < plan_labels plan root forest → (l < p.first) ⊎ (subtree_end plan s p ≤ l) → select t l ≡ Link p.up
   pub none : (l : ℕ) → plan_labels plan root forest ≤ l → select t l ≡ Sink
@@ -71,7 +62,7 @@ pub record IsTreeImage (plan : Plan) (root : ℕ) (forest : Forest) (image : Ima
 -- why a plan isn't labelled as a tree from a root: wires don't lead to each switch; or they do, but there are more
 -- labels than headers; or memory ran out, of which nothing is said
 abbrev pub IsLabelCause : Plan → ℕ → LabelFault → Type 0
-IsLabelCause plan root fault.NotConnected = (s : ℕ) × (s < length plan.switches) × IsCutOff (ends_of plan) root s
-IsLabelCause plan root fault.TooManyLabels = IsConnected plan root × (most_labels plan < total_count plan.terminals)
-IsLabelCause plan root fault.WrongShape = ⊥
-IsLabelCause plan root fault.NoMemory = Unit {0}
+IsLabelCause plan root LabelFault.NotConnected = (s : ℕ) × (s < length plan.switches) × IsCutOff (ends_of plan) root s
+IsLabelCause plan root LabelFault.TooManyLabels = IsConnected plan root × (most_labels plan < total_count plan.terminals)
+IsLabelCause plan root LabelFault.WrongShape = ⊥
+IsLabelCause plan root LabelFault.NoMemory = Unit {0}

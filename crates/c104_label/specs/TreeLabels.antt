@@ -1,18 +1,12 @@
 -- The labels of a tree, by Santoro and Khatib. A depth-first visit numbers them: at each switch its own terminals,
 -- in ascending order of links, have the next labels, each as many as its count, and then come those of the
 -- subtrees behind its links. So the labels of a subtree are one interval.
-use Rattle.std.specs.Prelude.{◌≡◌, ℕ, ◌<◌, ◌+◌, ◌-◌, ◌==◌, false, List, [], ◌∷◌, ◌++◌, slice_get, slice_index_or, if◌then◌else◌, Option, Some, None}
-use Rattle.std.specs.List.{range_with_len}
-use Rattle.c104_interval.specs.declared.intervals.Row.{Row}
-use Rattle.c104_interval.specs.declared.intervals.Table.{Table}
-use Rattle.c104_interval.specs.Selection.{reset_table}
+use Rattle.{c104_interval.specs.{Selection.reset_table, declared.intervals.{Row.Row, Table.Table}}, c104_label.specs.Forests.{Ends, Forest}}
+use Rattle.c104_label.specs.{Forests.{child, empty, ends_of, is_met, links, switches}, LabelRows.{kept_rows, label_row, label_table}}
+use Rattle.c104_plan.specs.{Plans.Plan, declared.{plans.Terminal.Terminal, ports.Port.Port}}
 use Rattle.c104_regs.specs.declared.registers.TheConstants.{LINKS}
-use Rattle.c104_plan.specs.declared.ports.Port.{Port}
-use Rattle.c104_plan.specs.declared.ports.Port.TheVariants as port
-use Rattle.c104_plan.specs.declared.plans.Terminal.{Terminal}
-use Rattle.c104_plan.specs.Plans.{Plan}
-use Rattle.c104_label.specs.Forests.{Ends, Forest, child, empty, ends_of, is_met, links, switches}
-use Rattle.c104_label.specs.LabelRows.{kept_rows, label_row, label_table}
+use Rattle.std.specs.{List.range_with_len, Prelude.{List, None, Option, Some, [], false, if◌then◌else◌, slice_get, slice_index_or, ℕ, ◌++◌}}
+use Rattle.std.specs.Prelude.{◌+◌, ◌-◌, ◌<◌, ◌==◌, ◌∷◌, ◌≡◌}
 
 -- how the links are wired, and how many labels each terminal has
 pub record Net : Type 0 where
@@ -31,8 +25,8 @@ net_of plan = record { ends = ends_of plan; counts = λ t. count_or_zero (slice_
 -- how many labels lie right at the far end of a link: those of a terminal
 abbrev pub labels_behind : (ℕ → ℕ) → Option Port → ℕ
 labels_behind counts None = 0
-labels_behind counts (Some (port.Terminal t)) = counts t
-labels_behind counts (Some (port.Switch s l)) = 0
+labels_behind counts (Some (Port.Terminal t)) = counts t
+labels_behind counts (Some (Port.Switch s l)) = 0
 
 -- how many the terminals on these links of a switch have
 abbrev pub labels_on : Net → ℕ → List ℕ → ℕ

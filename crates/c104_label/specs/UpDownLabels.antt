@@ -1,16 +1,9 @@
 -- How the tables are found by which packets go up and then down: they are believed only after a check.
-use Rattle.std.specs.Prelude.{◌≡◌, ℕ, ◌*◌, ◌&&◌, Bool, false, List, length, nat_le, nat_lt, All}
-use Rattle.c104_interval.specs.declared.intervals.Row.{Row}
-use Rattle.c104_interval.specs.declared.intervals.Select.{Select}
-use Rattle.c104_interval.specs.declared.intervals.Select.TheVariants.{Discard, Link, Sink}
-use Rattle.c104_interval.specs.declared.intervals.Table.{Table}
-use Rattle.c104_regs.specs.Ranges.{IsTableInRange}
-use Rattle.c104_regs.specs.declared.registers.TheConstants.{LINKS}
-use Rattle.c104_plan.specs.LabelledImages.{port_labelled_image}
-use Rattle.c104_plan.specs.PlanImage.{Fits, Image}
-use Rattle.c104_plan.specs.Plans.{Plan}
-use Rattle.c104_check.specs.ChannelDependencies.{IsAcyclic}
-use Rattle.c104_check.specs.Routes.{IsAccepted, routes_of}
+use Rattle.c104_check.specs.{ChannelDependencies.IsAcyclic, Routes.{IsAccepted, routes_of}}
+use Rattle.c104_interval.specs.declared.intervals.{Row.Row, Select.{Select, TheVariants.{Discard, Link, Sink}}, Table.Table}
+use Rattle.c104_plan.specs.{LabelledImages.port_labelled_image, PlanImage.{Fits, Image}, Plans.Plan}
+use Rattle.c104_regs.specs.{Ranges.IsTableInRange, declared.registers.TheConstants.LINKS}
+use Rattle.std.specs.Prelude.{All, Bool, List, false, length, nat_le, nat_lt, ℕ, ◌&&◌, ◌*◌, ◌≡◌}
 
 -- a row selects a link of a switch, with a limit that registers can hold
 abbrev pub is_link_row : Row → Bool

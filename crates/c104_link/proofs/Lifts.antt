@@ -1,8 +1,7 @@
 -- From a step of one element to the step of a list at that place.
-use Rattle.std.proofs.Common.{◌≡◌, ◌<◌, ℕ, Bool, false, List, Option, Some, None, length, get_or, slice_get, slice_set, is_some, refl, ◌∙◌, ap}
-use Rattle.std.proofs.lemmas.Option.{slice_get_read}
-use Rattle.std.proofs.lemmas.List.{set-get_or}
-use Rattle.c104_link.specs.Steps.{bool_outcome, option_outcome, step_at, yield_step_at, joint_step_at}
+use Rattle.{c104_link.specs.Steps.{bool_outcome, joint_step_at, option_outcome, step_at, yield_step_at}, std.proofs.Common.{Bool, List}}
+use Rattle.std.proofs.Common.{None, Option, Some, ap, false, get_or, is_some, length, refl, slice_get, slice_set, ℕ, ◌<◌, ◌∙◌, ◌≡◌}
+use Rattle.std.proofs.lemmas.{List.set-get_or, Option.slice_get_read}
 
 -- the element at a place of a list
 module _ {X : Type 0} (xs : List X) (i : ℕ) (x new : X) (inside : i < length xs) (is : x ≡ get_or xs i x) where

@@ -1,9 +1,8 @@
 -- What a step says of what it leaves, where it was made; and lists that it changes at one place.
-use Rattle.std.proofs.Common.{◌≡◌, ◌⊎◌, ℕ, zero, suc, Bool, true, false, List, [], ◌∷◌, Option, Some, None, All, length, slice_get, slice_set, refl, sym, ap, subst, inl, inr}
-use Rattle.std.proofs.lemmas.Option.{slice_get_within, get_or_from_slice_get}
-use Rattle.std.proofs.lemmas.List.{length-set}
-use Rattle.std.proofs.lemmas.List.Elements.{All-set}
-use Rattle.c104_link.specs.Steps.{◌>>=◌, ◌>>◌, require, step_at, yield_step_at, joint_step_at, bool_outcome, option_outcome}
+use Rattle.c104_link.specs.Steps.{bool_outcome, joint_step_at, option_outcome, require, step_at, yield_step_at, ◌>>=◌, ◌>>◌}
+use Rattle.std.proofs.Common.{All, Bool, List, None, Option, Some, [], ap, false, inl, inr, length, refl, slice_get, slice_set, subst, suc}
+use Rattle.std.proofs.{Common.{sym, true, zero, ℕ, ◌∷◌, ◌≡◌, ◌⊎◌}, lemmas.List.{Elements.All-set, length-set}}
+use Rattle.std.proofs.lemmas.Option.{get_or_from_slice_get, slice_get_within}
 
 -- a step that was made had its first part made, and then the rest
 pub given : {X Y C : Type 0} (made : Option X) (f : X → Option Y) (y : Y) → made >>= f ≡ Some y → ((x : X) → made ≡ Some x → f x ≡ Some y → C) → C

@@ -2,10 +2,9 @@
 -- output buffer, which spends it. A flow-control token grants eight more tokens, and only where the
 -- receiver's buffer has room (the data sheet's rule). An input buffer has room for 8, 16, .. 64
 -- tokens and an output buffer for 8, and the credit is at most 64 (this emulator).
-use Rattle.std.specs.Prelude.{ℕ, ◌≡◌, ◌+◌, ◌-◌, ◌%◌, ◌≤◌, List, [], ◌∷◌, ◌++◌, length, Option, Some, nat_lt, nat_le, drop, slice_get}
-use Rattle.c104_link.specs.Steps.{◌>>=◌, ◌>>◌, require}
-use Rattle.c104_link.specs.declared.TheConstants.{TOKENS_OF_A_GRANT}
-use Rattle.c104_link.specs.declared.outgoing.TheConstants.{OUTPUT_CAP, CREDIT_LIMIT}
+use Rattle.c104_link.specs.{Steps.{require, ◌>>=◌, ◌>>◌}, declared.{TheConstants.TOKENS_OF_A_GRANT, outgoing.TheConstants.CREDIT_LIMIT}}
+use Rattle.c104_link.specs.declared.outgoing.TheConstants.{OUTPUT_CAP}
+use Rattle.std.specs.Prelude.{List, Option, Some, [], drop, length, nat_le, nat_lt, slice_get, ℕ, ◌%◌, ◌++◌, ◌+◌, ◌-◌, ◌∷◌, ◌≡◌, ◌≤◌}
 
 -- an input buffer: how many tokens it has room for, those that it holds, from the first, and how
 -- many more the other end of the wire may send

@@ -1,6 +1,6 @@
 -- Steps that can be made or not: Some is what a step leaves and what comes of it, and None is
 -- NotReady, where nothing changes.
-use Rattle.std.specs.Prelude.{ℕ, Bool, true, false, List, Option, Some, None, Result, Ok, Err, slice_get, slice_set}
+use Rattle.std.specs.Prelude.{Bool, Err, List, None, Ok, Option, Result, Some, false, slice_get, slice_set, true, ℕ}
 
 infixl 20 ◌>>=◌
 infixl 20 ◌>>◌

@@ -1,5 +1,5 @@
 -- The replies of a switch to commands that it refuses.
-use Rattle.std.specs.Prelude.{ℕ, ◌==◌, Bool, false, List, [], ◌∷◌}
+use Rattle.std.specs.Prelude.{Bool, List, [], false, ℕ, ◌==◌, ◌∷◌}
 
 -- whether a reply says that the command is refused: its first byte says so
 abbrev pub is_refusal : List ℕ → Bool

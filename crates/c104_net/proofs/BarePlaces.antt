@@ -1,23 +1,11 @@
 -- Places of bare nodes, of which nothing is kept: no trace is full, so an event is refused where memory is short, and for no other reason.
-use Rattle.std.proofs.Common.{◌≡◌, ◌∙◌, ℕ, false, List, Option, Some, None, Result, map, option_map, slice_get, unwrap_or, refl, subst}
-use Rattle.std.proofs.lemmas.Option.{slice_get-map}
-use Rattle.std.proofs.lemmas.List.{map-id}
-use Rattle.c104_token.specs.declared.tokens.Token.{Token}
-use Rattle.c104_token.specs.Kinds.{Kind}
-use Rattle.c104_switch.specs.Actions.{Reply}
-use Rattle.c104_plan.specs.Plans.{Plan}
-use Rattle.c104_event.specs.declared.events.Event.{Event}
-use Rattle.c104_event.specs.declared.faults.EventFault.{EventFault}
-use Rattle.c104_node.specs.declared.stamps.Stamp.{Stamp}
-use Rattle.c104_run.specs.EventActs.{event_acts, port_place}
-use Rattle.c104_node.specs.PortActs.{Acts}
-use Rattle.c104_run.specs.EventsAtPlaces.{EventDone}
-use Rattle.c104_run.specs.Network.{AnswersEvent, AnswersWith, network_of}
-use Rattle.c104_node.specs.Nodes.{Node}
-use Rattle.c104_node.specs.Places.{Shown, bare_shown, fulls, states}
-use Rattle.c104_node.specs.Traces.{full_at, part}
-use Rattle.c104_run.specs.EventDeeds.{acts_full, event_full}
-use Rattle.c104_run.proofs.FirstRecords.{map_twice}
+use Rattle.{c104_event.specs.declared.{events.Event.Event, faults.EventFault.EventFault}, c104_node.specs.{Nodes.Node, Places.Shown}}
+use Rattle.c104_node.specs.{Places.{bare_shown, fulls, states}, PortActs.Acts, Traces.{full_at, part}, declared.stamps.Stamp.Stamp}
+use Rattle.{c104_plan.specs.Plans.Plan, c104_run.{proofs.FirstRecords.map_twice, specs.EventActs.{event_acts, port_place}}}
+use Rattle.c104_run.specs.{EventDeeds.{acts_full, event_full}, EventsAtPlaces.EventDone, Network.{AnswersEvent, AnswersWith, network_of}}
+use Rattle.{c104_switch.specs.Actions.Reply, c104_token.specs.{Kinds.Kind, declared.tokens.Token.Token}, std.proofs.Common.{List, None}}
+use Rattle.std.proofs.Common.{Option, Result, Some, false, map, option_map, refl, slice_get, subst, unwrap_or, ℕ, ◌∙◌, ◌≡◌}
+use Rattle.std.proofs.lemmas.{List.map-id, Option.slice_get-map}
 
 module _ {A : Type 0} (nodes : List (Node A)) where
   bare_states : states (map bare_shown nodes) ≡ nodes

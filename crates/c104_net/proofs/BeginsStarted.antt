@@ -1,34 +1,18 @@
 -- Nodes that start as their types keep, with all switches started, are started; so a finished run that stands still is
 -- quiet.
-use Rattle.c104_check.specs.Routes.{IsAccepted, routes_of}
-use Rattle.c104_check.specs.ChannelDependencies.{IsAcyclic}
-use Rattle.c104_plan.specs.PlanImage.{Image}
-use Rattle.c104_plan.specs.Plans.{IsPlan, Plan}
-use Rattle.c104_link.proofs.MadeSteps.{All-place}
-use Rattle.c104_net.proofs.RunOrigins.{IsKeptRun}
-use Rattle.c104_net.proofs.StandingRuns.{stands_quiet}
-use Rattle.c104_net.proofs.SureOrigins.{mapped}
-use Rattle.c104_run.specs.FinishedRecords.{FinishedRecord}
-use Rattle.c104_run.specs.Network.{network_of}
-use Rattle.c104_run.specs.QuietNets.{IsQuiet}
-use Rattle.c104_run.specs.Standstill.{IsStarted, IsStartedNode, StandsStill}
-use Rattle.c104_net.specs.DeadlockFreedom.{IsAcyclicRun}
-use Rattle.c104_node.specs.Starts.{IsStartedStart, start_node}
-use Rattle.c104_net.specs.Unchanged.{AreStartsOf, IsUnchanged}
-use Rattle.c104_node.specs.declared.starts.NodeStart.{NodeStart}
-use Rattle.c104_switch.specs.Starts.{IsLinkStart, start_input, start_output}
-use Rattle.c104_switch.specs.Switch.{Input}
-use Rattle.c104_token.specs.Kinds.{plain_kind}
-use Rattle.c104_token.specs.declared.tokens.Token.{Token}
-use Rattle.c104_link.specs.declared.TheConstants.{TOKENS_OF_A_GRANT}
-use Rattle.std.proofs.Common.{All, List, map, subst, ◌∙◌, ◌≤◌}
-use Rattle.std.proofs.lemmas.List.{length-map}
-use Rattle.c104_node.specs.declared.starts.NodeStart.TheVariants as start
+use Rattle.{c104_check.specs.{ChannelDependencies.IsAcyclic, Routes.{IsAccepted, routes_of}}, c104_link.proofs.MadeSteps.All-place}
+use Rattle.{c104_link.specs.declared.TheConstants.TOKENS_OF_A_GRANT, c104_net.proofs.{RunOrigins.IsKeptRun, StandingRuns.stands_quiet}}
+use Rattle.c104_net.{proofs.SureOrigins.mapped, specs.{DeadlockFreedom.IsAcyclicRun, Unchanged.{AreStartsOf, IsUnchanged}}}
+use Rattle.{c104_node.specs.{Starts.{IsStartedStart, start_node}, declared.starts.NodeStart.NodeStart}, c104_plan.specs.PlanImage.Image}
+use Rattle.{c104_plan.specs.Plans.{IsPlan, Plan}, c104_run.specs.{FinishedRecords.FinishedRecord, Network.network_of, QuietNets.IsQuiet}}
+use Rattle.{c104_run.specs.Standstill.{IsStarted, IsStartedNode, StandsStill}, c104_switch.specs.Starts.{IsLinkStart, start_input}}
+use Rattle.{c104_switch.specs.{Starts.start_output, Switch.Input}, c104_token.specs.{Kinds.plain_kind, declared.tokens.Token.Token}}
+use Rattle.std.proofs.{Common.{All, List, map, subst, ◌∙◌, ◌≤◌}, lemmas.List.length-map}
 
 module _ (A : Type 0) where
   start_is_started : (s : NodeStart) → IsStartedStart s → IsStartedNode {A = A} (start_node s)
-  start_is_started (start.Terminal t) is = is.cap.1
-  start_is_started (start.Switch s) is = record {
+  start_is_started (NodeStart.Terminal t) is = is.cap.1
+  start_is_started (NodeStart.Switch s) is = record {
     started = is.0;
     settings = is.1.settings;
     inputs = length-map s.links start_input ∙ is.1.count;

@@ -1,57 +1,23 @@
 -- A network that is accepted, that nobody changed and whose channels don't depend on one another in a cycle has no
 -- deadlock: from what the type of a network with its record keeps.
-use Rattle.c104_check.specs.ChannelDependencies.{IsRanking}
-use Rattle.c104_check.specs.Routes.{Routes, routes_of}
-use Rattle.c104_check.specs.declared.ports.SwitchPort.{SwitchPort}
-use Rattle.c104_plan.specs.PlanImage.{Image}
-use Rattle.c104_plan.specs.Plans.{IsPlan, Plan}
-use Rattle.c104_event.specs.declared.events.Event.{Event}
-use Rattle.c104_net.proofs.BeginsStarted.{starts_are_started}
-use Rattle.c104_net.proofs.PacketInvariant.{IsLabelled}
-use Rattle.c104_net.proofs.Promises.{each, starts}
-use Rattle.c104_net.proofs.RecordedRounds.{applied_plain, done_after, done_of, plain_run, starts_stay}
-use Rattle.c104_net.proofs.RoundsEnd.{rounds_deliver, run_plain, work_map}
-use Rattle.c104_net.proofs.RunOrigins.{still_steady}
-use Rattle.c104_net.proofs.RunSteps.{header_positive}
-use Rattle.c104_net.proofs.SentBytes.{AreBytesSent}
-use Rattle.c104_net.proofs.StandingRuns.{run_steady, stands_quiet, started_traced}
-use Rattle.c104_run.proofs.NodeMaps.{quiet_map}
-use Rattle.c104_net.proofs.StartMaps.{starts_are}
-use Rattle.c104_net.proofs.StartedRuns.{run_started}
-use Rattle.c104_net.proofs.TracedRuns.{token_of, traced_from}
-use Rattle.c104_net.proofs.UndoneRounds.{undone_stands}
-use Rattle.c104_net.proofs.FullWork.{plain_work, random_within}
-use Rattle.c104_net.proofs.WorkBounds.{bound_by_tokens}
-use Rattle.c104_net.proofs.WorkEvents.{event_less}
-use Rattle.c104_net.proofs.WorkRounds.{falling}
-use Rattle.c104_net.specs.DeadlockFreedom.{HasFullInbox, HasFullTrace, HasNoDeadlock, IsAcyclicNet, IsAllDelivered, NothingDone, RoundsDeliver, IsAcyclicRun}
-use Rattle.c104_net.specs.Deliveries.{Promise}
-use Rattle.c104_run.specs.EventRuns.{Outcome, StopsShort, run_events}
-use Rattle.c104_run.specs.NetRecords.{IsNetRecord, NetRecord, is_done}
-use Rattle.c104_run.specs.Network.{Network, network_apply, network_of}
-use Rattle.c104_node.specs.Quiet.{IsQuietNode}
-use Rattle.c104_run.specs.QuietNets.{IsQuiet}
-use Rattle.c104_run.specs.RecordedRuns.{record_apply}
-use Rattle.c104_run.specs.Rounds.{rounds}
-use Rattle.c104_run.specs.Runs.{IsDoneRun}
-use Rattle.c104_run.specs.Standstill.{StandsStill}
-use Rattle.c104_node.specs.Starts.{start_node}
-use Rattle.c104_node.specs.Traced.{traced_kind}
-use Rattle.c104_run.specs.TracedRuns.{map_network}
-use Rattle.c104_node.specs.MappedNodes.{map_node}
-use Rattle.c104_net.specs.HeaderWork.{random_ahead, random_work}
-use Rattle.c104_net.specs.RoundEvents.{IsOfRound}
-use Rattle.c104_event.specs.declared.faults.EventFault.{EventFault}
-use Rattle.c104_run.proofs.RecordSteps.{done_made}
-use Rattle.c104_run.proofs.RoundRuns.{Applied}
-use Rattle.c104_run.proofs.StepMaps.{apply_map}
-use Rattle.c104_net.specs.Work.{highest_rank}
-use Rattle.c104_node.specs.declared.traced.Traced.{Traced}
-use Rattle.c104_switch.specs.Actions.{Reply}
-use Rattle.c104_token.specs.Kinds.{plain_kind}
-use Rattle.c104_token.specs.declared.tokens.Token.{Token}
-use Rattle.std.proofs.Common.{Err, List, Ok, Result, refl, true, ap, arith, get_or, inl, inr, length, map, subst, sym, ℕ, ⊎_elim, ◌*◌, ◌++◌, ◌<◌, ◌∙◌, ◌≡◌, ◌≤◌, ◌⊎◌}
-use Rattle.std.proofs.lemmas.List.Elements.{All-map}
+use Rattle.c104_check.specs.{ChannelDependencies.IsRanking, Routes.{Routes, routes_of}, declared.ports.SwitchPort.SwitchPort}
+use Rattle.{c104_event.specs.declared.{events.Event.Event, faults.EventFault.EventFault}, c104_net.proofs.BeginsStarted.starts_are_started}
+use Rattle.c104_net.proofs.{FullWork.{plain_work, random_within}, PacketInvariant.IsLabelled, Promises.{each, starts}}
+use Rattle.c104_net.proofs.{RecordedRounds.{applied_plain, done_after, done_of, plain_run, starts_stay}, RoundsEnd.rounds_deliver}
+use Rattle.c104_net.proofs.{RoundsEnd.{run_plain, work_map}, RunOrigins.still_steady, RunSteps.header_positive, SentBytes.AreBytesSent}
+use Rattle.c104_net.proofs.{StandingRuns.{run_steady, stands_quiet, started_traced}, StartMaps.starts_are, StartedRuns.run_started}
+use Rattle.c104_net.proofs.{TracedRuns.{token_of, traced_from}, UndoneRounds.undone_stands, WorkBounds.bound_by_tokens}
+use Rattle.c104_net.{proofs.{WorkEvents.event_less, WorkRounds.falling}, specs.DeadlockFreedom.{HasFullInbox, HasFullTrace, HasNoDeadlock}}
+use Rattle.c104_net.specs.{DeadlockFreedom.{IsAcyclicNet, IsAcyclicRun, IsAllDelivered, NothingDone, RoundsDeliver}, Deliveries.Promise}
+use Rattle.c104_net.specs.{HeaderWork.{random_ahead, random_work}, RoundEvents.IsOfRound, Work.highest_rank}
+use Rattle.c104_node.specs.{MappedNodes.map_node, Quiet.IsQuietNode, Starts.start_node, Traced.traced_kind, declared.traced.Traced.Traced}
+use Rattle.{c104_plan.specs.{PlanImage.Image, Plans.{IsPlan, Plan}}, c104_run.proofs.{NodeMaps.quiet_map, RecordSteps.done_made}}
+use Rattle.c104_run.{proofs.{RoundRuns.Applied, StepMaps.apply_map}, specs.EventRuns.{Outcome, StopsShort, run_events}}
+use Rattle.c104_run.specs.{NetRecords.{IsNetRecord, NetRecord, is_done}, Network.{Network, network_apply, network_of}, QuietNets.IsQuiet}
+use Rattle.c104_run.specs.{RecordedRuns.record_apply, Rounds.rounds, Runs.IsDoneRun, Standstill.StandsStill, TracedRuns.map_network}
+use Rattle.{c104_switch.specs.Actions.Reply, c104_token.specs.{Kinds.plain_kind, declared.tokens.Token.Token}, std.proofs.Common.Err}
+use Rattle.std.proofs.Common.{List, Ok, Result, ap, arith, get_or, inl, inr, length, map, refl, subst, sym, true, ℕ, ⊎_elim, ◌*◌, ◌++◌, ◌<◌}
+use Rattle.std.proofs.{Common.{◌∙◌, ◌≡◌, ◌≤◌, ◌⊎◌}, lemmas.List.Elements.All-map}
 
 module _ (net : NetRecord) (is_plan : IsPlan net.network.plan) (kept : IsNetRecord net) (sent : AreBytesSent kept.told.0) (image : Image) (is : IsAcyclicNet image net) where
   abbrev plan : Plan

@@ -1,28 +1,14 @@
 -- Work in a network where random headers may be put before packets: more by higher ranks, and where none are put before
 -- packets the work that is left.
-use Rattle.c104_check.specs.ChannelDependencies.{IsNeverRandomized}
-use Rattle.c104_check.specs.Routes.{Routes, link_settings}
-use Rattle.c104_check.specs.Walks.{port_of}
-use Rattle.c104_check.specs.declared.ports.SwitchPort.{SwitchPort}
-use Rattle.c104_plan.specs.Plans.{Plan}
-use Rattle.c104_plan.specs.Wiring.{peer}
-use Rattle.c104_plan.specs.declared.ports.Port.{Port}
-use Rattle.c104_link.specs.Buffers.{Outgoing}
-use Rattle.c104_net.proofs.WorkBounds.{level_more, sum_more, weigh_more}
-use Rattle.c104_net.specs.HeaderWork.{ahead_at, ahead_by, first_ahead, full_input, full_link, full_node, full_output, full_work}
-use Rattle.c104_net.specs.HeaderWork.{none_ahead, random_ahead, random_bound, random_work, work}
-use Rattle.c104_node.specs.Nodes.{Node}
-use Rattle.c104_net.specs.Work.{header_held, highest_rank, level}
-use Rattle.c104_regs.specs.declared.settings.Settings.{Settings}
-use Rattle.c104_switch.specs.Switch.{Input}
-use Rattle.c104_switch.specs.declared.phase.Phase.{Phase}
-use Rattle.c104_switch.specs.declared.phase.Phase.TheVariants.{Fresh}
-use Rattle.std.proofs.Common.{List, None, Option, Some, arith, false, length, refl, suc, true, zero, ℕ, ⊎_elim, ◌*◌, ◌+◌, ◌-◌}
-use Rattle.std.proofs.Common.{◌≡◌, ◌≤◌}
-use Rattle.std.proofs.Math.Nat.{suc-mul, zero-mul}
-use Rattle.std.proofs.lemmas.Bool.{cases_Bool}
-use Rattle.c104_plan.specs.declared.ports.Port.TheVariants as port
-use Rattle.c104_node.specs.declared.node.NodeOf.TheVariants as node
+use Rattle.c104_check.specs.{ChannelDependencies.IsNeverRandomized, Routes.{Routes, link_settings}, Walks.port_of}
+use Rattle.{c104_check.specs.declared.ports.SwitchPort.SwitchPort, c104_link.specs.Buffers.Outgoing, c104_net.proofs.WorkBounds.level_more}
+use Rattle.c104_net.{proofs.WorkBounds.{sum_more, weigh_more}, specs.HeaderWork.{ahead_at, ahead_by, first_ahead, full_input, full_link}}
+use Rattle.c104_net.specs.HeaderWork.{full_node, full_output, full_work, none_ahead, random_ahead, random_bound, random_work, work}
+use Rattle.{c104_net.specs.Work.{header_held, highest_rank, level}, c104_node.specs.{Nodes.Node, declared.node.NodeOf.NodeOf}}
+use Rattle.{c104_plan.specs.{Plans.Plan, Wiring.peer, declared.ports.Port.Port}, c104_regs.specs.declared.settings.Settings.Settings}
+use Rattle.{c104_switch.specs.{Switch.Input, declared.phase.Phase.{Phase, TheVariants.Fresh}}, std.proofs.Common.{List, None, Option, Some}}
+use Rattle.std.proofs.{Common.{arith, false, length, refl, suc, true, zero, ℕ, ⊎_elim, ◌*◌, ◌+◌, ◌-◌, ◌≡◌, ◌≤◌}, Math.Nat.suc-mul}
+use Rattle.std.proofs.{Math.Nat.zero-mul, lemmas.Bool.cases_Bool}
 
 -- By higher ranks
 
@@ -36,7 +22,7 @@ times_more (suc n) a b less =
 
 module _ (plan : Plan) (rank high ahead most : SwitchPort → ℕ) (less : (p : SwitchPort) → rank p ≤ high p) (fewer : (p : SwitchPort) → ahead p ≤ most p) where
   ahead_more : (q : Option Port) → ahead_at plan rank ahead q ≤ ahead_at plan high most q
-  ahead_more (Some (port.Switch s l)) = let here = fewer (port_of s l) in omega (arith, here)
+  ahead_more (Some (Port.Switch s l)) = let here = fewer (port_of s l) in omega (arith, here)
   ahead_more q = omega arith
 
   module _ {A : Type 0} where
@@ -48,8 +34,8 @@ module _ (plan : Plan) (rank high ahead most : SwitchPort → ℕ) (less : (p : 
     input_more s l p =
         let far = less (port_of s l) in
         let here = fewer (port_of s l) in
-        let items = weigh_more (8 * level plan rank (Some (port.Switch s l)) + 2 + ahead (port_of s l)) (8 * level plan high (Some (port.Switch s l)) + 2 + most (port_of s l)) (omega (arith, far, here)) p.buffer.items in
-        let header = weigh_more (8 * level plan rank (Some (port.Switch s l))) (8 * level plan high (Some (port.Switch s l))) (omega (arith, far)) (header_held p.phase) in
+        let items = weigh_more (8 * level plan rank (Some (Port.Switch s l)) + 2 + ahead (port_of s l)) (8 * level plan high (Some (Port.Switch s l)) + 2 + most (port_of s l)) (omega (arith, far, here)) p.buffer.items in
+        let header = weigh_more (8 * level plan rank (Some (Port.Switch s l))) (8 * level plan high (Some (Port.Switch s l))) (omega (arith, far)) (header_held p.phase) in
         let first = first_more s l p.phase in
         omega (arith, items, header, first)
 
@@ -60,11 +46,11 @@ module _ (plan : Plan) (rank high ahead most : SwitchPort → ℕ) (less : (p : 
         weigh_more (8 * level plan rank q + 4 + ahead_at plan rank ahead q) (8 * level plan high q + 4 + ahead_at plan high most q) (omega (arith, far, here)) out.items
 
     node_more : (k : ℕ) (n : Node A) → full_node plan rank ahead k n ≤ full_node plan high most k n
-    node_more k (node.Switch S) =
+    node_more k (NodeOf.Switch S) =
         let inputs = sum_more (full_input plan rank ahead k) (full_input plan high most k) (input_more k) 0 S.inputs in
-        let outputs = sum_more (full_link plan rank ahead k) (full_link plan high most k) (λ l q. output_more (peer plan (port.Switch k l)) q) 0 S.outputs in
+        let outputs = sum_more (full_link plan rank ahead k) (full_link plan high most k) (λ l q. output_more (peer plan (Port.Switch k l)) q) 0 S.outputs in
         omega (arith, inputs, outputs)
-    node_more k (node.Terminal T) = let out = output_more (peer plan (port.Terminal (k - length plan.switches))) T.output in omega (arith, out)
+    node_more k (NodeOf.Terminal T) = let out = output_more (peer plan (Port.Terminal (k - length plan.switches))) T.output in omega (arith, out)
 
     full_more : (nodes : List (Node A)) → full_work plan rank ahead nodes ≤ full_work plan high most nodes
     full_more nodes = sum_more (full_node plan rank ahead) (full_node plan high most) node_more 0 nodes

@@ -1,15 +1,9 @@
 -- The entries that lead, as they are gathered.
-use Rattle.c104_event.specs.declared.events.Event.{Event}
-use Rattle.c104_net.proofs.LeadingSteps.{leads_any}
-use Rattle.c104_net.specs.Leading.{act_event, leads, led_events, told_first}
-use Rattle.c104_net.specs.Replays.{entry_event, event_or, lead_event}
-use Rattle.c104_net.specs.ToldEvents.{told_by}
-use Rattle.c104_node.specs.declared.acts.Entry.{Entry}
-use Rattle.c104_net.specs.declared.leading.Lead.{Lead}
+use Rattle.{c104_event.specs.declared.events.Event.Event, c104_net.{proofs.LeadingSteps.leads_any, specs.Leading.{act_event, leads}}}
+use Rattle.c104_net.specs.{Leading.{led_events, told_first}, Replays.{entry_event, event_or, lead_event}, ToldEvents.told_by}
+use Rattle.{c104_net.specs.declared.leading.Lead.Lead, c104_node.{proofs.Waiting.drop_there, specs.declared.acts.Entry.Entry}}
 use Rattle.std.proofs.Common.{List, None, Option, Some, [], ap, append_assoc, arith, drop, false, is_some, map, refl, slice_get, suc, sym}
-use Rattle.std.proofs.Common.{true, unwrap_or, ℕ, ◌++◌, ◌+◌, ◌∙◌, ◌∷◌, ◌≡◌}
-use Rattle.std.proofs.lemmas.List.{map-append}
-use Rattle.c104_node.proofs.Waiting.{drop_there}
+use Rattle.std.proofs.{Common.{true, unwrap_or, ℕ, ◌++◌, ◌+◌, ◌∙◌, ◌∷◌, ◌≡◌}, lemmas.List.map-append}
 
 module _ (switches k : ℕ) where
   -- an entry that leads tells its event first

@@ -1,33 +1,18 @@
 -- What each act of an event of a round keeps of a node is kept by the event.
-use Rattle.c104_plan.specs.Plans.{Plan}
-use Rattle.c104_plan.specs.declared.ports.Port.{Port}
-use Rattle.c104_plan.specs.declared.ports.Port.TheVariants as port
-use Rattle.c104_link.proofs.MadeSteps.{from_place_made, given}
-use Rattle.c104_node.specs.Acts.{done_by, node_act, nodes_act, plain_reply, token_by}
-use Rattle.c104_plan.specs.Wiring.{peer}
-use Rattle.c104_event.specs.declared.events.Event.{Event}
-use Rattle.c104_event.specs.declared.events.Event.TheVariants as event
 pub use Rattle.c104_net.specs.RoundEvents.{IsOfRound}
-use Rattle.c104_run.specs.EventActs.{Ask, acts_step, ask_acts, crossing_acts, event_acts, event_ask, port_place}
-use Rattle.c104_node.specs.PortActs.{Acts, far_act, near_act}
-use Rattle.c104_run.specs.Network.{Network, network_of, network_step}
-use Rattle.c104_node.specs.Nodes.{Node, node_claim, node_credit_in, node_credit_out, node_drain, node_enter, node_input, node_leave}
-use Rattle.c104_node.specs.declared.acts.ActOf.{ActOf}
-use Rattle.c104_node.specs.declared.acts.ActOf.TheVariants as act
-use Rattle.c104_node.specs.declared.crossings.Crossing.{Crossing}
-use Rattle.c104_node.specs.declared.crossings.Crossing.TheVariants.{Grant, Token}
-use Rattle.c104_node.specs.declared.node.NodeOf.TheVariants as node
-use Rattle.c104_switch.specs.Actions.{Reply}
-use Rattle.c104_switch.specs.declared.actions.ActionOf.TheVariants as action
-use Rattle.c104_switch.specs.declared.actions.ReplyOf.{ReplyOf}
-use Rattle.c104_switch.specs.declared.actions.ReplyOf.TheVariants as reply
-use Rattle.c104_token.specs.Kinds.{Kind}
+use Rattle.{c104_event.specs.declared.events.Event.Event, c104_link.proofs.MadeSteps.{from_place_made, given}, c104_node.specs.Acts.done_by}
+use Rattle.c104_node.specs.{Acts.{node_act, nodes_act, plain_reply, token_by}, Nodes.{Node, node_claim, node_credit_in, node_credit_out}}
+use Rattle.c104_node.specs.{Nodes.{node_drain, node_enter, node_input, node_leave}, PortActs.{Acts, far_act, near_act}}
+use Rattle.c104_node.specs.declared.{acts.ActOf.ActOf, crossings.Crossing.{Crossing, TheVariants.{Grant, Token}}, node.NodeOf.NodeOf}
+use Rattle.{c104_plan.specs.{Plans.Plan, Wiring.peer, declared.ports.Port.Port}, c104_run.specs.EventActs.{Ask, acts_step, ask_acts}}
+use Rattle.c104_run.specs.{EventActs.{crossing_acts, event_acts, event_ask, port_place}, Network.{Network, network_of, network_step}}
+use Rattle.{c104_switch.specs.{Actions.Reply, declared.actions.{ActionOf.ActionOf, ReplyOf.ReplyOf}}, c104_token.specs.Kinds.Kind}
 use Rattle.std.proofs.Common.{IfSome, List, None, Option, Some, length, refl, slice_get, slice_set, subst, ℕ, ◌-◌, ◌≡◌}
 
 -- an act of such an event
 abbrev pub IsPlainAct : {A : Type 0} → ActOf A → Type 0
-IsPlainAct (act.Step (action.Control bytes)) = ⊥
-IsPlainAct (act.Send packet) = ⊥
+IsPlainAct (ActOf.Step (ActionOf.Control bytes)) = ⊥
+IsPlainAct (ActOf.Send packet) = ⊥
 IsPlainAct a = Unit {0}
 
 abbrev ArePlain : {A : Type 0} → Acts A → Type 0
@@ -40,8 +25,8 @@ IsPlainAsk (Ask.Alone k a) = IsPlainAct a
 IsPlainAsk (Ask.Over p crossing) = Unit {0}
 
 pub asks_plain : (A : Type 0) (plan : Plan) (e : Event) → IsOfRound e → IsPlainAsk {A = A} (event_ask plan e)
-asks_plain A plan (event.Send t packet) of = absurd of
-asks_plain A plan (event.Control s bytes) of = absurd of
+asks_plain A plan (Event.Send t packet) of = absurd of
+asks_plain A plan (Event.Control s bytes) of = absurd of
 asks_plain A plan e of = tt
 
 acts_plain : {A : Type 0} (plan : Plan) (ask : Ask A) → IsPlainAsk ask → IfSome (ask_acts plan ask) ArePlain
@@ -60,36 +45,36 @@ module _ {A : Type 0} (kind : Kind A) (Changed : Node A → Node A → Type 0)
     (drains : (n : Node A) (r : A × Node A) → node_drain n ≡ Some r → Changed n r.1) where
   by_done : (n : Node A) (made : Option (Node A)) (r : ReplyOf A × Node A) → done_by made ≡ Some r → ((m : Node A) → made ≡ Some m → Changed n m) → Changed n r.1
   by_done n None r is keeps = absurd (cc)
-  by_done n (Some m) r is keeps = let same : ◌≡◌ {A = ReplyOf A × Node A} (reply.Done, m) r = cc in subst (λ (z : ReplyOf A × Node A). Changed n z.1) same (keeps m refl)
+  by_done n (Some m) r is keeps = let same : ◌≡◌ {A = ReplyOf A × Node A} (ReplyOf.Done, m) r = cc in subst (λ (z : ReplyOf A × Node A). Changed n z.1) same (keeps m refl)
 
   by_token : (n : Node A) (made : Option (A × Node A)) (r : ReplyOf A × Node A) → token_by made ≡ Some r → ((v : A × Node A) → made ≡ Some v → Changed n v.1) → Changed n r.1
   by_token n None r is keeps = absurd (cc)
-  by_token n (Some v) r is keeps = let same : ◌≡◌ {A = ReplyOf A × Node A} (reply.Token v.0, v.1) r = cc in subst (λ (z : ReplyOf A × Node A). Changed n z.1) same (keeps v refl)
+  by_token n (Some v) r is keeps = let same : ◌≡◌ {A = ReplyOf A × Node A} (ReplyOf.Token v.0, v.1) r = cc in subst (λ (z : ReplyOf A × Node A). Changed n z.1) same (keeps v refl)
 
   act_keeps : (number : ℕ) (a : ActOf A) → IsPlainAct a → (n : Node A) (r : ReplyOf A × Node A) → node_act kind number a n ≡ Some r → Changed n r.1
-  act_keeps number (act.Step (action.Enter l x)) plain (node.Switch s) r is = by_done (node.Switch s) (node_enter x l (node.Switch s)) r is (enters x l (node.Switch s))
-  act_keeps number (act.Step (action.Leave l)) plain (node.Switch s) r is = by_token (node.Switch s) (node_leave l (node.Switch s)) r is (leaves l (node.Switch s))
-  act_keeps number (act.Step (action.CreditOut l)) plain (node.Switch s) r is = by_done (node.Switch s) (node_credit_out l (node.Switch s)) r is (grants l (node.Switch s))
-  act_keeps number (act.Step (action.CreditIn l)) plain (node.Switch s) r is = by_done (node.Switch s) (node_credit_in l (node.Switch s)) r is (gains l (node.Switch s))
-  act_keeps number (act.Step (action.Input l word)) plain (node.Switch s) r is = by_done (node.Switch s) (node_input kind l word (node.Switch s)) r is (turns l word (node.Switch s))
-  act_keeps number (act.Step (action.Claim i o)) plain (node.Switch s) r is = by_done (node.Switch s) (node_claim i o (node.Switch s)) r is (claims i o (node.Switch s))
-  act_keeps number (act.Step (action.Control bytes)) plain n r is = absurd plain
-  act_keeps number (act.Send packet) plain n r is = absurd plain
-  act_keeps number act.Drain plain n r is = by_token n (node_drain n) r is (drains n)
-  act_keeps number act.Leave plain (node.Terminal t) r is = by_token (node.Terminal t) (node_leave 0 (node.Terminal t)) r is (leaves 0 (node.Terminal t))
-  act_keeps number (act.Enter x) plain (node.Terminal t) r is = by_done (node.Terminal t) (node_enter x 0 (node.Terminal t)) r is (enters x 0 (node.Terminal t))
-  act_keeps number act.CreditOut plain (node.Terminal t) r is = by_done (node.Terminal t) (node_credit_out 0 (node.Terminal t)) r is (grants 0 (node.Terminal t))
-  act_keeps number act.CreditIn plain (node.Terminal t) r is = by_done (node.Terminal t) (node_credit_in 0 (node.Terminal t)) r is (gains 0 (node.Terminal t))
+  act_keeps number (ActOf.Step (ActionOf.Enter l x)) plain (NodeOf.Switch s) r is = by_done (NodeOf.Switch s) (node_enter x l (NodeOf.Switch s)) r is (enters x l (NodeOf.Switch s))
+  act_keeps number (ActOf.Step (ActionOf.Leave l)) plain (NodeOf.Switch s) r is = by_token (NodeOf.Switch s) (node_leave l (NodeOf.Switch s)) r is (leaves l (NodeOf.Switch s))
+  act_keeps number (ActOf.Step (ActionOf.CreditOut l)) plain (NodeOf.Switch s) r is = by_done (NodeOf.Switch s) (node_credit_out l (NodeOf.Switch s)) r is (grants l (NodeOf.Switch s))
+  act_keeps number (ActOf.Step (ActionOf.CreditIn l)) plain (NodeOf.Switch s) r is = by_done (NodeOf.Switch s) (node_credit_in l (NodeOf.Switch s)) r is (gains l (NodeOf.Switch s))
+  act_keeps number (ActOf.Step (ActionOf.Input l word)) plain (NodeOf.Switch s) r is = by_done (NodeOf.Switch s) (node_input kind l word (NodeOf.Switch s)) r is (turns l word (NodeOf.Switch s))
+  act_keeps number (ActOf.Step (ActionOf.Claim i o)) plain (NodeOf.Switch s) r is = by_done (NodeOf.Switch s) (node_claim i o (NodeOf.Switch s)) r is (claims i o (NodeOf.Switch s))
+  act_keeps number (ActOf.Step (ActionOf.Control bytes)) plain n r is = absurd plain
+  act_keeps number (ActOf.Send packet) plain n r is = absurd plain
+  act_keeps number ActOf.Drain plain n r is = by_token n (node_drain n) r is (drains n)
+  act_keeps number ActOf.Leave plain (NodeOf.Terminal t) r is = by_token (NodeOf.Terminal t) (node_leave 0 (NodeOf.Terminal t)) r is (leaves 0 (NodeOf.Terminal t))
+  act_keeps number (ActOf.Enter x) plain (NodeOf.Terminal t) r is = by_done (NodeOf.Terminal t) (node_enter x 0 (NodeOf.Terminal t)) r is (enters x 0 (NodeOf.Terminal t))
+  act_keeps number ActOf.CreditOut plain (NodeOf.Terminal t) r is = by_done (NodeOf.Terminal t) (node_credit_out 0 (NodeOf.Terminal t)) r is (grants 0 (NodeOf.Terminal t))
+  act_keeps number ActOf.CreditIn plain (NodeOf.Terminal t) r is = by_done (NodeOf.Terminal t) (node_credit_in 0 (NodeOf.Terminal t)) r is (gains 0 (NodeOf.Terminal t))
   act_keeps number a plain n r is = absurd (cc is)
 
   near_plain : (crossing : Crossing) (p : Port) → IsPlainAct {A = A} (near_act crossing p)
-  near_plain Token (port.Switch s l) = tt
-  near_plain Grant (port.Switch s l) = tt
+  near_plain Token (Port.Switch s l) = tt
+  near_plain Grant (Port.Switch s l) = tt
   near_plain crossing p = tt
 
   far_plain : (q : Port) (told : ReplyOf A) → IsPlainAct (far_act q told)
-  far_plain (port.Switch s l) (reply.Token x) = tt
-  far_plain (port.Terminal t) (reply.Token x) = tt
+  far_plain (Port.Switch s l) (ReplyOf.Token x) = tt
+  far_plain (Port.Terminal t) (ReplyOf.Token x) = tt
   far_plain q told = tt
 
   -- what such a change at a place keeps of all nodes

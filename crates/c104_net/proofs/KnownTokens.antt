@@ -1,46 +1,19 @@
 -- In a run from a start whose traces are within their limit, each terminator that arrives tells its packet, and in numbers
 -- that its eight bytes have room for. So what is kept of it tells the same packet.
-use Rattle.std.proofs.Common.{◌≡◌, ◌∙◌, ◌≤◌, ◌<◌, ◌%◌, ◌++◌, ℕ, suc, true, List, [], ◌∷◌, Some, None, Result, Ok, length, map, slice_get, refl, sym, ap, subst, arith}
-use Rattle.std.proofs.lemmas.Bool.{true≢false}
-use Rattle.std.proofs.lemmas.Option.{slice_get-map}
-use Rattle.std.specs.Option.{option_map}
-use Rattle.c104_token.specs.Kinds.{Kind}
-use Rattle.c104_token.specs.declared.tokens.Token.{Token}
-use Rattle.c104_token.specs.declared.tokens.Token.TheVariants.{Byte}
-use Rattle.c104_token.specs.declared.tokens.Token.TheVariants as token
-use Rattle.c104_switch.specs.Actions.{Reply, is_ready}
-use Rattle.c104_plan.specs.Plans.{Plan}
-use Rattle.c104_event.specs.declared.events.Event.{Event}
-use Rattle.c104_event.specs.declared.events.Event.TheVariants as event
-use Rattle.c104_event.specs.declared.faults.EventFault.{EventFault}
-use Rattle.c104_node.specs.declared.node.NodeOf.TheVariants as node
-use Rattle.c104_node.specs.declared.stamps.Stamp.{Stamp}
-use Rattle.c104_node.specs.declared.starts.NodeStart.{NodeStart}
-use Rattle.c104_node.specs.Nodes.{terminals_of, Node}
-use Rattle.c104_node.specs.Tagged.{tag, tagged_origins}
-use Rattle.c104_node.specs.declared.tagged.TaggedToken.{TaggedToken}
-use Rattle.c104_run.specs.Network.{network_apply, network_of, network_step, event_fault, terminal_place, Network}
-use Rattle.c104_node.specs.Origins.{origins_in, AreSure, IsSure}
-use Rattle.c104_node.specs.declared.origins.Origin.{Origin}
-use Rattle.c104_run.specs.Runs.{run_deeds, IsDoneRun}
-use Rattle.c104_node.specs.Starts.{start_node}
-use Rattle.c104_node.specs.Terminals.{Terminal}
-use Rattle.c104_node.specs.Traced.{sent_token, traced_kind}
-use Rattle.c104_node.specs.declared.traced.Source.{Source}
-use Rattle.c104_node.specs.declared.traced.Traced.{Traced}
-use Rattle.c104_run.specs.TracedRuns.{map_network}
-use Rattle.c104_node.specs.MappedNodes.{map_node}
-use Rattle.c104_node.specs.Traces.{Deed}
-use Rattle.c104_run.specs.EventDeeds.{event_deeds}
-use Rattle.c104_run.proofs.TaggedRuns.{origins_same, IsSmall}
-use Rattle.c104_run.proofs.RoundJoins.{apply_plan}
-use Rattle.c104_net.proofs.RunOrigins.{terminal_origins}
-use Rattle.c104_net.proofs.RunSteps.{done_possible, done_step_is}
-use Rattle.c104_net.proofs.SentCounts.{bounded_on, counts, low_number, sent_count, step_counts, AddsSent, IsBounded}
-use Rattle.c104_run.proofs.NodeMaps.{starts_same}
-use Rattle.c104_run.proofs.StepMaps.{apply_alike, IsSentAlike}
-use Rattle.c104_run.proofs.NoFaults.{node_there}
-use Rattle.c104_net.proofs.SureOrigins.{mapped, sure_sent}
+use Rattle.{c104_event.specs.declared.{events.Event.Event, faults.EventFault.EventFault}, c104_net.proofs.RunOrigins.terminal_origins}
+use Rattle.c104_net.proofs.{RunSteps.{done_possible, done_step_is}, SentCounts.{AddsSent, IsBounded, bounded_on, counts, low_number}}
+use Rattle.{c104_net.proofs.{SentCounts.{sent_count, step_counts}, SureOrigins.{mapped, sure_sent}}, c104_node.specs.MappedNodes.map_node}
+use Rattle.c104_node.specs.{Nodes.{Node, terminals_of}, Origins.{AreSure, IsSure, origins_in}, Starts.start_node, Tagged.tag}
+use Rattle.c104_node.specs.{Tagged.tagged_origins, Terminals.Terminal, Traced.{sent_token, traced_kind}, Traces.Deed}
+use Rattle.c104_node.specs.declared.{node.NodeOf.NodeOf, origins.Origin.Origin, stamps.Stamp.Stamp, starts.NodeStart.NodeStart}
+use Rattle.{c104_node.specs.declared.{tagged.TaggedToken.TaggedToken, traced.{Source.Source, Traced.Traced}}, c104_plan.specs.Plans.Plan}
+use Rattle.c104_run.proofs.{NoFaults.node_there, NodeMaps.starts_same, RoundJoins.apply_plan, StepMaps.{IsSentAlike, apply_alike}}
+use Rattle.c104_run.{proofs.TaggedRuns.{IsSmall, origins_same}, specs.{EventDeeds.event_deeds, Network.{Network, event_fault}}}
+use Rattle.c104_run.specs.{Network.{network_apply, network_of, network_step, terminal_place}, Runs.{IsDoneRun, run_deeds}}
+use Rattle.{c104_run.specs.TracedRuns.map_network, c104_switch.specs.Actions.{Reply, is_ready}, c104_token.specs.Kinds.Kind}
+use Rattle.{c104_token.specs.declared.tokens.Token.{TheVariants.Byte, Token}, std.proofs.Common.{List, None, Ok, Result, Some, [], ap}}
+use Rattle.std.proofs.Common.{arith, length, map, refl, slice_get, subst, suc, sym, true, ℕ, ◌%◌, ◌++◌, ◌<◌, ◌∙◌, ◌∷◌, ◌≡◌, ◌≤◌}
+use Rattle.std.{proofs.lemmas.{Bool.true≢false, Option.slice_get-map}, specs.Option.option_map}
 
 -- a token with what is known of it
 abbrev pub Known : Type 0
@@ -73,8 +46,8 @@ known_sent t n j x = (
 
 abbrev known_random : Token → Known
 known_random (Byte b) = (record { token = Byte b; source = None }, (λ e. absurd (true≢false (sym e))), small_none (Byte b))
-known_random token.Eop = known_sent 0 0 0 token.Eop
-known_random token.Eom = known_sent 0 0 0 token.Eom
+known_random Token.Eop = known_sent 0 0 0 Token.Eop
+known_random Token.Eom = known_sent 0 0 0 Token.Eom
 
 abbrev known_kind : Kind Known
 known_kind = record { plain = λ x. x.0.token; byte = λ x. None; random = λ place x. known_random x; sent = known_sent }
@@ -93,7 +66,7 @@ sent_alike t n j x terminal number =
 
 -- what an event of such a run sends has small numbers
 alike : (net : Network Known) (e : Event) (r : Reply) (stamp : Stamp) (rest : List Deed) → length net.plan.terminals ≤ 65536 → event_fault net.plan e ≡ None → is_ready r ≡ true → IsBounded (counts (map (map_node known_of) net.nodes)) (event_deeds net.plan stamp e r ++ rest) → IsSentAlike known_of known_kind traced_kind plain_known random_known net e
-alike net (event.Send t packet) r stamp rest few possible ready bound = λ T at j x.
+alike net (Event.Send t packet) r stamp rest few possible ready bound = λ T at j x.
     let inside : t < length net.plan.terminals = node_there _ (length net.plan.terminals) t possible in
     let there : slice_get (counts (map (map_node known_of) net.nodes)) (terminal_place net.plan t) ≡ Some (length T.sent) =
     slice_get-map sent_count (map (map_node known_of) net.nodes) (terminal_place net.plan t)
@@ -133,8 +106,8 @@ tagged_lists t = tagged_origins t.arrived
 
 known_lists : (nodes : List (Node Known)) → map tagged_lists (terminals_of (map (map_node tag) (map (map_node known_of) nodes))) ≡ map terminal_origins (terminals_of (map (map_node known_of) nodes))
 known_lists [] = refl
-known_lists (node.Switch s ∷ nodes) = known_lists nodes
-known_lists (node.Terminal t ∷ nodes) =
+known_lists (NodeOf.Switch s ∷ nodes) = known_lists nodes
+known_lists (NodeOf.Terminal t ∷ nodes) =
     ap (λ l. l ∷ map tagged_lists (terminals_of (map (map_node tag) (map (map_node known_of) nodes)))) (origins_same (map known_of t.arrived) (all_sure t.arrived) (all_small t.arrived))
     ∙ ap (λ ls. origins_in (map known_of t.arrived) ∷ ls) (known_lists nodes)
 

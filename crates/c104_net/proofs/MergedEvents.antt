@@ -1,17 +1,10 @@
 -- The events of a run, found again by their tickets: what each place tells, joined by ticket, is all that the run did.
-use Rattle.c104_plan.specs.Plans.{Plan}
-use Rattle.c104_event.specs.declared.events.Event.{Event}
-use Rattle.c104_run.specs.EventPlaces.{event_place}
-use Rattle.c104_net.specs.Leading.{events_at, led_events}
-use Rattle.c104_run.specs.Runs.{AreBehind, AreInOrder}
-use Rattle.c104_net.specs.Merges.{by_ticket, join_by_ticket}
-use Rattle.c104_net.specs.ToldEvents.{told_by, told_event}
-use Rattle.c104_node.specs.declared.acts.Entry.{Entry}
-use Rattle.c104_node.specs.declared.stamps.Stamp.{Stamp}
-use Rattle.c104_switch.specs.Actions.{Reply}
-use Rattle.std.proofs.Common.{Bool, List, Some, [], ap, arith, false, if◌then◌else◌, inl, inr, length, map, nat_eq, nat_le, refl, slice_get}
-use Rattle.std.proofs.Common.{subst, suc, sym, true, ℕ, ◌++◌, ◌+◌, ◌<◌, ◌∙◌, ◌∷◌, ◌≡◌, ◌≤◌}
-use Rattle.std.proofs.lemmas.Bool.Decides.{nat_tests}
+use Rattle.{c104_event.specs.declared.events.Event.Event, c104_net.specs.{Leading.{events_at, led_events}, Merges.by_ticket}}
+use Rattle.{c104_net.specs.{Merges.join_by_ticket, ToldEvents.{told_by, told_event}}, c104_node.specs.declared.acts.Entry.Entry}
+use Rattle.{c104_node.specs.declared.stamps.Stamp.Stamp, c104_plan.specs.Plans.Plan, c104_run.specs.EventPlaces.event_place}
+use Rattle.{c104_run.specs.Runs.{AreBehind, AreInOrder}, c104_switch.specs.Actions.Reply, std.proofs.Common.{Bool, List, Some, [], ap}}
+use Rattle.std.proofs.Common.{arith, false, if◌then◌else◌, inl, inr, length, map, nat_eq, nat_le, refl, slice_get, subst, suc, sym, true, ℕ}
+use Rattle.std.proofs.{Common.{◌++◌, ◌+◌, ◌<◌, ◌∙◌, ◌∷◌, ◌≡◌, ◌≤◌}, lemmas.Bool.Decides.nat_tests}
 
 -- the event alone, without its reply
 abbrev pub event_alone : Event × Reply → Event

@@ -1,31 +1,16 @@
 -- What a meter is told of a network of tagged tokens, by its record.
-use Rattle.std.proofs.Common.{◌≡◌, ◌∙◌, Bool, true, List, Result, Ok, Err, inl, refl, sym, ap, subst}
-use Rattle.c104_token.specs.declared.tokens.Token.{Token}
-use Rattle.c104_switch.specs.Actions.{Reply}
-use Rattle.c104_plan.specs.Plans.{IsPlan}
-use Rattle.c104_event.specs.declared.events.Event.{Event}
-use Rattle.c104_event.specs.declared.faults.EventFault.{EventFault}
-use Rattle.c104_node.specs.declared.starts.NodeStart.{NodeStart}
-use Rattle.c104_node.specs.declared.tagged.TaggedToken.{TaggedToken}
-use Rattle.c104_node.specs.Nodes.{Node}
-use Rattle.c104_node.specs.Places.{base_start, started_base}
-use Rattle.c104_node.specs.Tagged.{tagged_kind}
-use Rattle.c104_run.specs.EventRuns.{Answers}
-use Rattle.c104_run.specs.MeteredRuns.{own_stage, AreOwnNodes, MetersEvent, MetersSo}
-use Rattle.c104_run.specs.Meters.{meter_if, metered_apply, own_reply, with_meter, Metered, Sees}
-use Rattle.c104_run.specs.Network.{network_of, Network}
-use Rattle.c104_run.specs.NetRecords.{is_done, IsNetRecord, NetRecord}
-use Rattle.c104_run.specs.RecordedNets.{KeepsTokens}
-use Rattle.c104_run.specs.RecordedPlaces.{counted_keeps}
-use Rattle.c104_run.specs.RecordedRuns.{record_apply, record_at}
-use Rattle.c104_run.specs.RoundParts.{PartEnds}
-use Rattle.c104_run.specs.Stages.{stage_apply}
-use Rattle.c104_run.proofs.FirstRecords.{map_twice}
-use Rattle.c104_run.proofs.RecordedStages.{after_plan, plain_stage, record_plain, stage_on, IsRecordedStage}
-use Rattle.c104_run.proofs.RoundRuns.{ends_keep, Applied}
-use Rattle.c104_run.proofs.SeenRuns.{answers_while, part_while}
-use Rattle.c104_net.specs.MeteredRecords.{at_meter, record_metered, tagged_net, MeteredRecord}
-use Rattle.c104_net.proofs.OwnEnds.{own_end}
+use Rattle.{c104_event.specs.declared.{events.Event.Event, faults.EventFault.EventFault}, c104_net.proofs.OwnEnds.own_end}
+use Rattle.{c104_net.specs.MeteredRecords.{MeteredRecord, at_meter, record_metered, tagged_net}, c104_node.specs.Nodes.Node}
+use Rattle.c104_node.specs.{Places.{base_start, started_base}, Tagged.tagged_kind, declared.starts.NodeStart.NodeStart}
+use Rattle.{c104_node.specs.declared.tagged.TaggedToken.TaggedToken, c104_plan.specs.Plans.IsPlan, c104_run.proofs.FirstRecords.map_twice}
+use Rattle.c104_run.proofs.{RecordedStages.{IsRecordedStage, after_plan, plain_stage, record_plain, stage_on}, RoundRuns.Applied}
+use Rattle.c104_run.{proofs.{RoundRuns.ends_keep, SeenRuns.{answers_while, part_while}}, specs.{EventRuns.Answers, MeteredRuns.AreOwnNodes}}
+use Rattle.c104_run.specs.{MeteredRuns.{MetersEvent, MetersSo, own_stage}, Meters.{Metered, Sees, meter_if, metered_apply, own_reply}}
+use Rattle.c104_run.specs.{Meters.with_meter, NetRecords.{IsNetRecord, NetRecord, is_done}, Network.{Network, network_of}}
+use Rattle.c104_run.specs.{RecordedNets.KeepsTokens, RecordedPlaces.counted_keeps, RecordedRuns.{record_apply, record_at}}
+use Rattle.{c104_run.specs.{RoundParts.PartEnds, Stages.stage_apply}, c104_switch.specs.Actions.Reply}
+use Rattle.{c104_token.specs.declared.tokens.Token.Token, std.proofs.Common.{Bool, Err, List, Ok, Result, ap, inl, refl, subst, sym, true}}
+use Rattle.std.proofs.Common.{◌∙◌, ◌≡◌}
 
 abbrev tokens : KeepsTokens tagged_kind
 tokens = counted_keeps.reads.tokens

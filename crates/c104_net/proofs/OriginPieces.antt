@@ -1,27 +1,13 @@
 -- The origins of what arrived are those of its whole pieces in turn, and a received packet's piece has that packet's.
-use Rattle.c104_check.specs.Routes.{Routes}
-use Rattle.c104_plan.specs.declared.ports.Port.{Port}
-use Rattle.c104_net.proofs.HeaderReads.{bytes_push}
-use Rattle.c104_net.proofs.PacketInvariant.{bytes_only}
-use Rattle.c104_net.specs.Deliveries.{IsDelivered, cut_at, deletes}
-use Rattle.c104_run.specs.Network.{Network}
-use Rattle.c104_node.specs.Origins.{AreSure, origin_by, origin_of, origins_in}
-use Rattle.c104_node.specs.Terminals.{sent_from, sent_tokens}
-use Rattle.c104_node.specs.Traced.{traced_kind}
-use Rattle.c104_node.specs.declared.origins.Origin.{Origin}
-use Rattle.c104_node.specs.declared.traced.Source.{Source}
-use Rattle.c104_node.specs.declared.traced.Traced.{Traced}
-use Rattle.c104_token.specs.Cut.{unfinished_piece, whole_pieces}
-use Rattle.c104_token.specs.Tokens.{end_token, is_end}
-use Rattle.c104_token.specs.declared.tokens.Mark.{Mark}
-use Rattle.c104_token.specs.declared.tokens.Token.{Token}
-use Rattle.c104_token.specs.declared.tokens.Token.TheVariants.{Byte}
-use Rattle.std.proofs.Common.{Bool, List, None, Option, Some, [], ap, append-nil, append_assoc, arith, drop, false, flat_map, if◌then◌else◌}
-use Rattle.std.proofs.Common.{length, map, refl, suc, sym, true, zero, ℕ, ⊎_elim, ◌++◌, ◌∙◌, ◌∷◌, ◌≡◌, ◌≤◌}
-use Rattle.std.proofs.lemmas.Bool.{cases_Bool, leb-true}
+use Rattle.{c104_check.specs.Routes.Routes, c104_net.proofs.{HeaderReads.bytes_push, PacketInvariant.bytes_only}}
+use Rattle.{c104_net.specs.Deliveries.{IsDelivered, cut_at, deletes}, c104_node.specs.Origins.{AreSure, origin_by, origin_of, origins_in}}
+use Rattle.c104_node.specs.{Terminals.{sent_from, sent_tokens}, Traced.traced_kind, declared.{origins.Origin.Origin, traced.Source.Source}}
+use Rattle.{c104_node.specs.declared.traced.Traced.Traced, c104_plan.specs.declared.ports.Port.Port, c104_run.specs.Network.Network}
+use Rattle.c104_token.specs.{Cut.{unfinished_piece, whole_pieces}, Tokens.{end_token, is_end}, declared.tokens.Mark.Mark}
+use Rattle.{c104_token.specs.declared.tokens.Token.{TheVariants.Byte, Token}, std.proofs.Common.{Bool, List, None, Option, Some, [], ap}}
+use Rattle.std.proofs.Common.{append-nil, append_assoc, arith, drop, false, flat_map, if◌then◌else◌, length, map, refl, suc, sym, true}
+use Rattle.std.proofs.{Common.{zero, ℕ, ⊎_elim, ◌++◌, ◌∙◌, ◌∷◌, ◌≡◌, ◌≤◌}, lemmas.Bool.{cases_Bool, leb-true}}
 use Rattle.std.specs.Prelude.{option_to_list}
-use Rattle.c104_token.specs.declared.tokens.Mark.TheVariants as mark
-use Rattle.c104_plan.specs.declared.ports.Port.TheVariants as port
 
 abbrev plain : Traced → Token
 plain x = x.token
@@ -82,15 +68,15 @@ abbrev pub packet_origin : ℕ → ℕ → Origin
 packet_origin a n = record { terminal = a; number = n }
 
 sent_origin : (a n j k : ℕ) (bytes : List ℕ) (m : Mark) → k ≤ length bytes → origins_in (drop k (sent_from traced_kind a n j (map Byte bytes ++ end_token m ∷ []))) ≡ packet_origin a n ∷ []
-sent_origin a n j zero [] mark.Eop h = refl
-sent_origin a n j zero [] mark.Eom h = refl
+sent_origin a n j zero [] Mark.Eop h = refl
+sent_origin a n j zero [] Mark.Eom h = refl
 sent_origin a n j (suc k) [] m h = absurd (omega (arith, h))
 sent_origin a n j zero (b ∷ bytes) m h = sent_origin a n (suc j) zero bytes m (omega arith)
 sent_origin a n j (suc k) (b ∷ bytes) m h = sent_origin a n (suc j) k bytes m (omega (arith, h))
 
 -- a received packet is named by its one origin
 pub delivered_origin : (routes : Routes) (net : Network Traced) (t : ℕ) (piece : List Traced) (d : IsDelivered routes net t piece) → origins_in piece ≡ packet_origin d.terminal d.number ∷ []
-delivered_origin routes net t piece d = ap origins_in d.whole ∙ by_cut (routes.peer (port.Terminal t))
+delivered_origin routes net t piece d = ap origins_in d.whole ∙ by_cut (routes.peer (Port.Terminal t))
   where
     short : (b : Bool) → (if b then routes.header else 0) ≤ length d.packet.bytes
     short true = leb-true routes.header (length d.packet.bytes) d.complete

@@ -1,37 +1,15 @@
 -- The nodes of tagged tokens that a network with its record stands for, which its traces determine.
-use Rattle.std.proofs.Common.{◌≡◌, ◌∙◌, ℕ, List, [], ◌∷◌, Option, Some, None, Result, map, slice_get, refl, sym, ap, subst}
-use Rattle.std.proofs.lemmas.Option.{slice_get-map}
-use Rattle.std.specs.Option.{option_map}
-use Rattle.c104_token.specs.declared.tokens.Token.{Token}
-use Rattle.c104_token.specs.Kinds.{plain_kind}
-use Rattle.c104_switch.specs.Actions.{Reply}
-use Rattle.c104_plan.specs.Plans.{Plan, IsPlan}
-use Rattle.c104_event.specs.declared.events.Event.{Event}
-use Rattle.c104_event.specs.declared.faults.EventFault.{EventFault}
-use Rattle.c104_node.specs.declared.starts.NodeStart.{NodeStart}
-use Rattle.c104_node.specs.declared.tagged.TaggedToken.{TaggedToken}
-use Rattle.c104_node.specs.declared.traced.Traced.{Traced}
-use Rattle.c104_node.specs.MappedNodes.{map_node}
-use Rattle.c104_node.specs.Nodes.{Node}
-use Rattle.c104_node.specs.Starts.{start_node}
-use Rattle.c104_node.specs.Tagged.{tag, tagged_kind}
-use Rattle.c104_node.specs.Traced.{traced_kind}
-use Rattle.c104_node.specs.Traces.{seatless}
-use Rattle.c104_run.specs.Balance.{AreInPlace}
-use Rattle.c104_run.specs.EventRuns.{run_events}
-use Rattle.c104_run.specs.FinishedRecords.{record_finish}
-use Rattle.c104_run.specs.MeteredRuns.{AreOwnNodes}
-use Rattle.c104_run.specs.Network.{network_apply, network_of, Network}
-use Rattle.c104_run.specs.NetRecords.{NetRecord}
-use Rattle.c104_run.specs.Runs.{at_node, run_deeds, IsDoneRun, IsRunRecord}
-use Rattle.c104_run.specs.TracedRuns.{map_network, IsTracedRun}
-use Rattle.c104_net.specs.MeteredRecords.{tagged_net}
-use Rattle.c104_net.specs.TracedEnds.{traced_end}
-use Rattle.c104_run.proofs.NodeMaps.{starts_same}
-use Rattle.c104_run.proofs.StepMaps.{apply_map}
-use Rattle.c104_run.proofs.TaggedRuns.{tagged_apply, tagged_plain, plain_network, token_of}
-use Rattle.c104_net.proofs.ToldEvents.{events_told}
-use Rattle.c104_net.proofs.TracedRuns.{run_after, traced_from}
+use Rattle.{c104_event.specs.declared.{events.Event.Event, faults.EventFault.EventFault}, c104_net.proofs.ToldEvents.events_told}
+use Rattle.c104_net.{proofs.TracedRuns.{run_after, traced_from}, specs.{MeteredRecords.tagged_net, TracedEnds.traced_end}}
+use Rattle.c104_node.specs.{MappedNodes.map_node, Nodes.Node, Starts.start_node, Tagged.{tag, tagged_kind}, Traced.traced_kind}
+use Rattle.c104_node.specs.{Traces.seatless, declared.{starts.NodeStart.NodeStart, tagged.TaggedToken.TaggedToken, traced.Traced.Traced}}
+use Rattle.{c104_plan.specs.Plans.{IsPlan, Plan}, c104_run.proofs.{NodeMaps.starts_same, StepMaps.apply_map, TaggedRuns.plain_network}}
+use Rattle.c104_run.{proofs.TaggedRuns.{tagged_apply, tagged_plain, token_of}, specs.{Balance.AreInPlace, EventRuns.run_events}}
+use Rattle.c104_run.specs.{FinishedRecords.record_finish, MeteredRuns.AreOwnNodes, NetRecords.NetRecord, Network.{Network, network_apply}}
+use Rattle.c104_run.specs.{Network.network_of, Runs.{IsDoneRun, IsRunRecord, at_node, run_deeds}, TracedRuns.{IsTracedRun, map_network}}
+use Rattle.{c104_switch.specs.Actions.Reply, c104_token.specs.{Kinds.plain_kind, declared.tokens.Token.Token}, std.proofs.Common.List}
+use Rattle.std.proofs.Common.{None, Option, Result, Some, [], ap, map, refl, slice_get, subst, sym, ℕ, ◌∙◌, ◌∷◌, ◌≡◌}
+use Rattle.std.{proofs.lemmas.Option.slice_get-map, specs.Option.option_map}
 
 -- what is told of each of a list, whatever it is
 option_same : {X Y Z : Type 0} (f : X → Y) (z : Z) (o : Option X) → option_map (λ (y : Y). z) (option_map f o) ≡ option_map (λ (x : X). z) o

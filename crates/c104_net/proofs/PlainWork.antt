@@ -1,14 +1,8 @@
 -- The work of a network is that of its nodes over their own tokens, since work reads no token.
-use Rattle.c104_check.specs.declared.ports.SwitchPort.{SwitchPort}
-use Rattle.c104_plan.specs.Plans.{Plan}
-use Rattle.c104_net.proofs.RoundsEnd.{full_map}
-use Rattle.c104_net.specs.HeaderWork.{none_ahead, work}
-use Rattle.c104_node.specs.MappedNodes.{map_node}
-use Rattle.c104_node.specs.Nodes.{Node}
-use Rattle.c104_node.specs.Places.{states}
-use Rattle.c104_run.proofs.RecordedNets.{states_plain}
-use Rattle.c104_run.specs.RecordedNets.{IsReading, Reading}
-use Rattle.std.proofs.Common.{List, ap, map, sym, ℕ, ◌∙◌, ◌≡◌}
+use Rattle.{c104_check.specs.declared.ports.SwitchPort.SwitchPort, c104_net.{proofs.RoundsEnd.full_map, specs.HeaderWork.none_ahead}}
+use Rattle.{c104_net.specs.HeaderWork.work, c104_node.specs.{MappedNodes.map_node, Nodes.Node, Places.states}, c104_plan.specs.Plans.Plan}
+use Rattle.{c104_run.{proofs.RecordedNets.states_plain, specs.RecordedNets.{IsReading, Reading}}, std.proofs.Common.{List, ap, map, sym, ℕ}}
+use Rattle.std.proofs.Common.{◌∙◌, ◌≡◌}
 
 module _ (plan : Plan) (rank : SwitchPort → ℕ) where
   plain_nodes : {A B : Type 0} (f : A → B) (nodes : List (Node A)) → work plan rank (map (map_node f) nodes) ≡ work plan rank nodes

@@ -1,10 +1,7 @@
 -- Ports, and functions of ports that are changed at one.
-use Rattle.c104_plan.proofs.PortLemmas.{cases_port, is_port-ne, is_port-refl, is_port-true}
-use Rattle.c104_plan.specs.Ports.{is_port}
-use Rattle.c104_plan.specs.declared.ports.Port.{Port}
-use Rattle.c104_net.proofs.PacketInvariant.{is_at}
-use Rattle.std.proofs.Common.{None, Option, Some, ap, false, if◌then◌else◌, refl, subst, sym, true, ⊎_elim, ◌∙◌, ◌≡◌}
-use Rattle.std.proofs.lemmas.Bool.{true≢false}
+use Rattle.{c104_net.proofs.PacketInvariant.is_at, c104_plan.proofs.PortLemmas.{cases_port, is_port-ne, is_port-refl, is_port-true}}
+use Rattle.{c104_plan.specs.{Ports.is_port, declared.ports.Port.Port}, std.proofs.Common.{None, Option, Some, ap, false, if◌then◌else◌}}
+use Rattle.std.proofs.{Common.{refl, subst, sym, true, ⊎_elim, ◌∙◌, ◌≡◌}, lemmas.Bool.true≢false}
 
 -- f, changed at one port
 abbrev pub at : {X : Type 0} → (Port → X) → Port → X → Port → X

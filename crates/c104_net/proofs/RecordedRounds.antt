@@ -1,28 +1,18 @@
 -- A run of events over a network with its record is one over its network, where no fault stops it; and those of its
 -- events that were done are a run of events that were done.
-use Rattle.c104_event.specs.declared.events.Event.{Event}
-use Rattle.c104_event.specs.declared.faults.EventFault.{EventFault}
-use Rattle.c104_run.proofs.RecordedRuns.{record_plan}
-use Rattle.c104_run.proofs.RoundRuns.{Applied, ends_keep, undone_leaves}
-use Rattle.c104_run.specs.EventRuns.{EventsEnd, Outcome, run_events, unless_fault}
-use Rattle.c104_run.specs.NetRecords.{NetRecord, is_done}
-use Rattle.c104_run.specs.Network.{Network, network_apply}
-use Rattle.c104_run.specs.RecordedRuns.{record_apply, record_stage}
-use Rattle.c104_run.specs.Runs.{IsDoneRun}
-use Rattle.c104_run.specs.Stages.{stage_full}
-use Rattle.c104_switch.specs.Actions.{Reply, is_ready}
-use Rattle.c104_token.specs.Kinds.{Kind, plain_kind}
-use Rattle.c104_token.specs.declared.tokens.Token.{Token}
-use Rattle.std.proofs.Common.{Bool, Err, List, Ok, Result, [], ap, false, if◌then◌else◌, inl, refl, subst, sym, true, ◌&&◌, ◌++◌, ◌∙◌, ◌∷◌}
-use Rattle.std.proofs.Common.{◌≡◌}
-use Rattle.c104_event.specs.declared.faults.EventFault.TheVariants as fault
+use Rattle.{c104_event.specs.declared.{events.Event.Event, faults.EventFault.EventFault}, c104_run.proofs.RecordedRuns.record_plan}
+use Rattle.c104_run.{proofs.RoundRuns.{Applied, ends_keep, undone_leaves}, specs.EventRuns.{EventsEnd, Outcome, run_events, unless_fault}}
+use Rattle.c104_run.specs.{NetRecords.{NetRecord, is_done}, Network.{Network, network_apply}, RecordedRuns.{record_apply, record_stage}}
+use Rattle.{c104_run.specs.{Runs.IsDoneRun, Stages.stage_full}, c104_switch.specs.Actions.{Reply, is_ready}, c104_token.specs.Kinds.Kind}
+use Rattle.{c104_token.specs.{Kinds.plain_kind, declared.tokens.Token.Token}, std.proofs.Common.{Bool, Err, List, Ok, Result, [], ap}}
+use Rattle.std.proofs.Common.{false, if◌then◌else◌, inl, refl, subst, sym, true, ◌&&◌, ◌++◌, ◌∙◌, ◌∷◌, ◌≡◌}
 
 module _ (r : NetRecord) (e : Event) where
   abbrev due : Applied (Network Token)
   due = network_apply plain_kind r.network e
 
   -- an event that is answered is answered so in the network
-  answered : (b : Bool) (x : Reply) → (if◌then◌else◌ {A = Applied (Network Token)} b (Err fault.TraceFull, r.network) due).0 ≡ Ok x → ◌≡◌ {A = Applied (Network Token)} (Ok x, (if◌then◌else◌ {A = Applied (Network Token)} b (Err fault.TraceFull, r.network) due).1) due
+  answered : (b : Bool) (x : Reply) → (if◌then◌else◌ {A = Applied (Network Token)} b (Err EventFault.TraceFull, r.network) due).0 ≡ Ok x → ◌≡◌ {A = Applied (Network Token)} (Ok x, (if◌then◌else◌ {A = Applied (Network Token)} b (Err EventFault.TraceFull, r.network) due).1) due
   answered true x is = absurd (cc)
   answered false x is = ap (λ o. (o, due.1)) (sym is)
 

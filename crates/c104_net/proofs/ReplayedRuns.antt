@@ -1,12 +1,8 @@
 -- Events that lead from one network to another.
-use Rattle.c104_event.specs.declared.events.Event.{Event}
-use Rattle.c104_node.proofs.Waiting.{drop_there}
-use Rattle.c104_run.specs.Network.{Network}
-use Rattle.c104_net.specs.Replays.{LeadTo}
-use Rattle.c104_net.specs.ToldEvents.{told_event}
-use Rattle.c104_node.specs.declared.traced.Traced.{Traced}
-use Rattle.c104_net.specs.declared.leading.Lead.{Lead}
-use Rattle.std.proofs.Common.{List, Some, [], arith, drop, map, slice_get, subst, suc, sym, ℕ, ◌+◌, ◌∷◌, ◌≡◌}
+use Rattle.{c104_event.specs.declared.events.Event.Event, c104_net.specs.{Replays.LeadTo, ToldEvents.told_event}}
+use Rattle.{c104_net.specs.declared.leading.Lead.Lead, c104_node.{proofs.Waiting.drop_there, specs.declared.traced.Traced.Traced}}
+use Rattle.{c104_run.specs.Network.Network, std.proofs.Common.{List, Some, [], arith, drop, map, slice_get, subst, suc, sym, ℕ, ◌+◌, ◌∷◌}}
+use Rattle.std.proofs.Common.{◌≡◌}
 
 -- an event that leads on, and others behind it
 pub led_on : (net next ended : Network Traced) (e : Event) (events : List Event) → LeadTo net (e ∷ []) next → LeadTo next events ended → LeadTo net (e ∷ events) ended

@@ -1,26 +1,13 @@
 -- Which events a round has, and what holds of them all.
-use Rattle.c104_plan.specs.Plans.{IsPlan, Plan}
-use Rattle.c104_plan.specs.Wiring.{peer}
-use Rattle.c104_plan.specs.declared.ports.Port.{Port}
-use Rattle.c104_event.specs.declared.events.Event.{Event}
-use Rattle.c104_run.proofs.BalanceWires.{switch_inside, terminal_inside}
-use Rattle.c104_plan.proofs.RangeLists.{each_append, each_flat, each_range}
-use Rattle.c104_run.proofs.PartRuns.{single, singles}
-use Rattle.c104_run.proofs.RoundLists.{links_passed}
-use Rattle.c104_run.specs.Network.{Network}
+use Rattle.{c104_event.specs.declared.events.Event.Event, c104_plan.proofs.RangeLists.{each_append, each_flat, each_range}}
+use Rattle.{c104_plan.specs.{Plans.{IsPlan, Plan}, Wiring.peer, declared.ports.Port.Port}, c104_run.proofs.BalanceWires.switch_inside}
+use Rattle.c104_run.{proofs.{BalanceWires.terminal_inside, PartRuns.{single, singles}, RoundLists.links_passed}, specs.Network.Network}
 use Rattle.c104_run.specs.Rounds.{all_claims, all_drains, claims_of, is_wired, link_numbers, round, switch_claims, turn_at, wired_links}
-use Rattle.c104_run.specs.Rounds.{wired_ports, wired_terminals}
-use Rattle.c104_run.specs.Standstill.{StandsStill, IsStill, IsUnready}
-use Rattle.c104_token.specs.Kinds.{Kind}
-use Rattle.std.specs.Prelude.{Contains}
-use Rattle.std.specs.List.{AllByRecursion, flat_map, range_with_len}
-use Rattle.std.proofs.Common.{Bool, List, None, Option, Some, [], ap, arith, false, filter, if◌then◌else◌, inl, inr, is_some, length, map, refl, subst}
-use Rattle.std.proofs.Common.{suc, sym, true, zero, ℕ, ⊎_elim, ◌++◌, ◌+◌, ◌<◌, ◌∙◌, ◌∷◌, ◌≡◌, ◌≤◌, ◌≢◌, ◌⊎◌}
-use Rattle.std.proofs.lemmas.Bool.{cases_eq}
-use Rattle.std.proofs.lemmas.Grind.{flat_map-append}
-use Rattle.std.proofs.lemmas.List.Elements.{All-contains}
-use Rattle.c104_plan.specs.declared.ports.Port.TheVariants as port
-use Rattle.c104_event.specs.declared.events.Event.TheVariants as event
+use Rattle.c104_run.specs.{Rounds.{wired_ports, wired_terminals}, Standstill.{IsStill, IsUnready, StandsStill}}
+use Rattle.{c104_token.specs.Kinds.Kind, std.proofs.Common.{Bool, List, None, Option, Some, [], ap, arith, false, filter, if◌then◌else◌}}
+use Rattle.std.proofs.Common.{inl, inr, is_some, length, map, refl, subst, suc, sym, true, zero, ℕ, ⊎_elim, ◌++◌, ◌+◌, ◌<◌, ◌∙◌, ◌∷◌, ◌≡◌}
+use Rattle.std.proofs.{Common.{◌≢◌, ◌≤◌, ◌⊎◌}, lemmas.{Bool.cases_eq, Grind.flat_map-append, List.Elements.All-contains}}
+use Rattle.std.specs.{List.{AllByRecursion, flat_map, range_with_len}, Prelude.Contains}
 
 module _ {X : Type 0} where
   abbrev pub IsIn : X → List X → Type 0
@@ -69,21 +56,21 @@ in_links l below = subst (IsIn l) (links_passed 32 refl) (in_range 0 32 l (omega
 
 module _ (plan : Plan) (is_plan : IsPlan plan) where
   wired_in : (p q : Port) → peer plan p ≡ Some q → IsIn p (wired_ports plan)
-  wired_in (port.Switch s l) q wire =
+  wired_in (Port.Switch s l) q wire =
       let inside = switch_inside plan is_plan s l q wire in
-      let link : IsIn (port.Switch s l) (wired_links plan s) = in_filter (is_wired plan) (port.Switch s l) (map (port.Switch s) link_numbers) (in_map (port.Switch s) l link_numbers (in_links l inside.1)) (ap is_some wire) in
-      in_left (port.Switch s l) (flat_map (wired_links plan) (range_with_len 0 (length plan.switches))) (wired_terminals plan)
-      (in_flat (wired_links plan) s (port.Switch s l) (range_with_len 0 (length plan.switches)) (in_range 0 (length plan.switches) s (omega arith) (omega (arith, inside.0))) link)
-  wired_in (port.Terminal t) q wire =
-      in_right (port.Terminal t) (flat_map (wired_links plan) (range_with_len 0 (length plan.switches))) (wired_terminals plan)
-      (in_filter (is_wired plan) (port.Terminal t) (map port.Terminal (range_with_len 0 (length plan.terminals)))
-      (in_map port.Terminal t (range_with_len 0 (length plan.terminals)) (in_range 0 (length plan.terminals) t (omega arith) (omega (arith, terminal_inside plan is_plan t q wire)))) (ap is_some wire))
+      let link : IsIn (Port.Switch s l) (wired_links plan s) = in_filter (is_wired plan) (Port.Switch s l) (map (Port.Switch s) link_numbers) (in_map (Port.Switch s) l link_numbers (in_links l inside.1)) (ap is_some wire) in
+      in_left (Port.Switch s l) (flat_map (wired_links plan) (range_with_len 0 (length plan.switches))) (wired_terminals plan)
+      (in_flat (wired_links plan) s (Port.Switch s l) (range_with_len 0 (length plan.switches)) (in_range 0 (length plan.switches) s (omega arith) (omega (arith, inside.0))) link)
+  wired_in (Port.Terminal t) q wire =
+      in_right (Port.Terminal t) (flat_map (wired_links plan) (range_with_len 0 (length plan.switches))) (wired_terminals plan)
+      (in_filter (is_wired plan) (Port.Terminal t) (map Port.Terminal (range_with_len 0 (length plan.terminals)))
+      (in_map Port.Terminal t (range_with_len 0 (length plan.terminals)) (in_range 0 (length plan.terminals) t (omega arith) (omega (arith, terminal_inside plan is_plan t q wire)))) (ap is_some wire))
 
   abbrev credits : List Event
-  credits = map event.Credit (wired_ports plan)
+  credits = map Event.Credit (wired_ports plan)
 
   abbrev crosses : List Event
-  crosses = map event.Cross (wired_ports plan)
+  crosses = map Event.Cross (wired_ports plan)
 
   abbrev turns : List Event
   turns = flat_map turn_at (wired_ports plan)
@@ -94,26 +81,26 @@ module _ (plan : Plan) (is_plan : IsPlan plan) where
   abbrev drains : List Event
   drains = all_drains (length plan.terminals)
 
-  pub credit_in : (p q : Port) → peer plan p ≡ Some q → IsIn (event.Credit p) (round plan)
-  credit_in p q wire = in_left (event.Credit p) (credits ++ crosses ++ turns ++ claims) drains (in_left (event.Credit p) (credits ++ crosses ++ turns) claims (in_left (event.Credit p) (credits ++ crosses) turns (in_left (event.Credit p) credits crosses
-      (in_map event.Credit p (wired_ports plan) (wired_in p q wire)))))
+  pub credit_in : (p q : Port) → peer plan p ≡ Some q → IsIn (Event.Credit p) (round plan)
+  credit_in p q wire = in_left (Event.Credit p) (credits ++ crosses ++ turns ++ claims) drains (in_left (Event.Credit p) (credits ++ crosses ++ turns) claims (in_left (Event.Credit p) (credits ++ crosses) turns (in_left (Event.Credit p) credits crosses
+      (in_map Event.Credit p (wired_ports plan) (wired_in p q wire)))))
 
-  pub cross_in : (p q : Port) → peer plan p ≡ Some q → IsIn (event.Cross p) (round plan)
-  cross_in p q wire = in_left (event.Cross p) (credits ++ crosses ++ turns ++ claims) drains (in_left (event.Cross p) (credits ++ crosses ++ turns) claims (in_left (event.Cross p) (credits ++ crosses) turns (in_right (event.Cross p) credits crosses
-      (in_map event.Cross p (wired_ports plan) (wired_in p q wire)))))
+  pub cross_in : (p q : Port) → peer plan p ≡ Some q → IsIn (Event.Cross p) (round plan)
+  cross_in p q wire = in_left (Event.Cross p) (credits ++ crosses ++ turns ++ claims) drains (in_left (Event.Cross p) (credits ++ crosses ++ turns) claims (in_left (Event.Cross p) (credits ++ crosses) turns (in_right (Event.Cross p) credits crosses
+      (in_map Event.Cross p (wired_ports plan) (wired_in p q wire)))))
 
-  pub input_in : (s l : ℕ) (q : Port) → peer plan (port.Switch s l) ≡ Some q → IsIn (event.Input s l 0) (round plan)
-  input_in s l q wire = in_left (event.Input s l 0) (credits ++ crosses ++ turns ++ claims) drains (in_left (event.Input s l 0) (credits ++ crosses ++ turns) claims (in_right (event.Input s l 0) (credits ++ crosses) turns
-      (in_flat turn_at (port.Switch s l) (event.Input s l 0) (wired_ports plan) (wired_in (port.Switch s l) q wire) (inl refl))))
+  pub input_in : (s l : ℕ) (q : Port) → peer plan (Port.Switch s l) ≡ Some q → IsIn (Event.Input s l 0) (round plan)
+  input_in s l q wire = in_left (Event.Input s l 0) (credits ++ crosses ++ turns ++ claims) drains (in_left (Event.Input s l 0) (credits ++ crosses ++ turns) claims (in_right (Event.Input s l 0) (credits ++ crosses) turns
+      (in_flat turn_at (Port.Switch s l) (Event.Input s l 0) (wired_ports plan) (wired_in (Port.Switch s l) q wire) (inl refl))))
 
-  pub claim_in : (s i o : ℕ) → s < length plan.switches → i < 32 → o < 32 → IsIn (event.Claim s i o) (round plan)
-  claim_in s i o inside input output = in_left (event.Claim s i o) (credits ++ crosses ++ turns ++ claims) drains (in_right (event.Claim s i o) (credits ++ crosses ++ turns) claims
-      (in_flat switch_claims s (event.Claim s i o) (range_with_len 0 (length plan.switches)) (in_range 0 (length plan.switches) s (omega arith) (omega (arith, inside)))
-      (in_flat (claims_of s) i (event.Claim s i o) link_numbers (in_links i input) (in_map (event.Claim s i) o link_numbers (in_links o output)))))
+  pub claim_in : (s i o : ℕ) → s < length plan.switches → i < 32 → o < 32 → IsIn (Event.Claim s i o) (round plan)
+  claim_in s i o inside input output = in_left (Event.Claim s i o) (credits ++ crosses ++ turns ++ claims) drains (in_right (Event.Claim s i o) (credits ++ crosses ++ turns) claims
+      (in_flat switch_claims s (Event.Claim s i o) (range_with_len 0 (length plan.switches)) (in_range 0 (length plan.switches) s (omega arith) (omega (arith, inside)))
+      (in_flat (claims_of s) i (Event.Claim s i o) link_numbers (in_links i input) (in_map (Event.Claim s i) o link_numbers (in_links o output)))))
 
-  pub drain_in : (t : ℕ) → t < length plan.terminals → IsIn (event.Drain t) (round plan)
-  drain_in t inside = in_right (event.Drain t) (credits ++ crosses ++ turns ++ claims) drains
-      (in_map event.Drain t (range_with_len 0 (length plan.terminals)) (in_range 0 (length plan.terminals) t (omega arith) (omega (arith, inside))))
+  pub drain_in : (t : ℕ) → t < length plan.terminals → IsIn (Event.Drain t) (round plan)
+  drain_in t inside = in_right (Event.Drain t) (credits ++ crosses ++ turns ++ claims) drains
+      (in_map Event.Drain t (range_with_len 0 (length plan.terminals)) (in_range 0 (length plan.terminals) t (omega arith) (omega (arith, inside))))
 
 -- what holds of each kind of event that a round has holds of all its events
 module _ (plan : Plan) (P : Event → Type 0) where
@@ -132,39 +119,39 @@ module _ (plan : Plan) (P : Event → Type 0) where
 
     each_switch : (ss : List ℕ) → AllByRecursion P (flat_map events_of (flat_map (wired_links plan) ss))
     each_switch [] = tt
-    each_switch (s ∷ ss) = joined events_of (wired_links plan s) (flat_map (wired_links plan) ss) (each_port (map (port.Switch s) link_numbers)) (each_switch ss)
+    each_switch (s ∷ ss) = joined events_of (wired_links plan s) (flat_map (wired_links plan) ss) (each_port (map (Port.Switch s) link_numbers)) (each_switch ss)
 
     each_wired : AllByRecursion P (flat_map events_of (wired_ports plan))
-    each_wired = joined events_of (flat_map (wired_links plan) (range_with_len 0 (length plan.switches))) (wired_terminals plan) (each_switch (range_with_len 0 (length plan.switches))) (each_port (map port.Terminal (range_with_len 0 (length plan.terminals))))
+    each_wired = joined events_of (flat_map (wired_links plan) (range_with_len 0 (length plan.switches))) (wired_terminals plan) (each_switch (range_with_len 0 (length plan.switches))) (each_port (map Port.Terminal (range_with_len 0 (length plan.terminals))))
 
-  each_turn : ((s l : ℕ) (q : Port) → peer plan (port.Switch s l) ≡ Some q → P (event.Input s l 0)) → (p q : Port) → peer plan p ≡ Some q → AllByRecursion P (turn_at p)
-  each_turn of_turn (port.Switch s l) q wire = (of_turn s l q wire, tt)
-  each_turn of_turn (port.Terminal t) q wire = tt
+  each_turn : ((s l : ℕ) (q : Port) → peer plan (Port.Switch s l) ≡ Some q → P (Event.Input s l 0)) → (p q : Port) → peer plan p ≡ Some q → AllByRecursion P (turn_at p)
+  each_turn of_turn (Port.Switch s l) q wire = (of_turn s l q wire, tt)
+  each_turn of_turn (Port.Terminal t) q wire = tt
 
-  pub each_of_round : ((p q : Port) → peer plan p ≡ Some q → P (event.Credit p)) → ((p q : Port) → peer plan p ≡ Some q → P (event.Cross p)) → ((s l : ℕ) (q : Port) → peer plan (port.Switch s l) ≡ Some q → P (event.Input s l 0)) →
-      ((s i o : ℕ) → s < length plan.switches → i < 32 → o < 32 → P (event.Claim s i o)) → ((t : ℕ) → t < length plan.terminals → P (event.Drain t)) → AllByRecursion P (round plan)
+  pub each_of_round : ((p q : Port) → peer plan p ≡ Some q → P (Event.Credit p)) → ((p q : Port) → peer plan p ≡ Some q → P (Event.Cross p)) → ((s l : ℕ) (q : Port) → peer plan (Port.Switch s l) ≡ Some q → P (Event.Input s l 0)) →
+      ((s i o : ℕ) → s < length plan.switches → i < 32 → o < 32 → P (Event.Claim s i o)) → ((t : ℕ) → t < length plan.terminals → P (Event.Drain t)) → AllByRecursion P (round plan)
   each_of_round of_credit of_cross of_turn of_claim of_drain =
-      let a : List Event = map event.Credit (wired_ports plan) in
-      let b : List Event = map event.Cross (wired_ports plan) in
+      let a : List Event = map Event.Credit (wired_ports plan) in
+      let b : List Event = map Event.Cross (wired_ports plan) in
       let c : List Event = flat_map turn_at (wired_ports plan) in
       let d : List Event = all_claims (length plan.switches) in
       let e : List Event = all_drains (length plan.terminals) in
-      let each_credit : AllByRecursion P a = subst (AllByRecursion P) (singles event.Credit (wired_ports plan)) (each_wired (single event.Credit) (λ p q wire. (of_credit p q wire, tt))) in
-      let each_cross : AllByRecursion P b = subst (AllByRecursion P) (singles event.Cross (wired_ports plan)) (each_wired (single event.Cross) (λ p q wire. (of_cross p q wire, tt))) in
+      let each_credit : AllByRecursion P a = subst (AllByRecursion P) (singles Event.Credit (wired_ports plan)) (each_wired (single Event.Credit) (λ p q wire. (of_credit p q wire, tt))) in
+      let each_cross : AllByRecursion P b = subst (AllByRecursion P) (singles Event.Cross (wired_ports plan)) (each_wired (single Event.Cross) (λ p q wire. (of_cross p q wire, tt))) in
       let each_claim : AllByRecursion P d = each_flat P switch_claims 0 (length plan.switches) (λ s inside.
       subst (λ ns. AllByRecursion P (flat_map (claims_of s) ns)) (links_passed 32 refl) (each_flat P (claims_of s) 0 32 (λ i input.
-      subst (λ ns. AllByRecursion P (map (event.Claim s i) ns)) (links_passed 32 refl) (each_range P (event.Claim s i) 0 32 (λ o low output. of_claim s i o (omega (arith, inside)) (omega (arith, input)) (omega (arith, output))))))) in
-      let each_drain : AllByRecursion P e = each_range P event.Drain 0 (length plan.terminals) (λ t low inside. of_drain t (omega (arith, inside))) in
+      subst (λ ns. AllByRecursion P (map (Event.Claim s i) ns)) (links_passed 32 refl) (each_range P (Event.Claim s i) 0 32 (λ o low output. of_claim s i o (omega (arith, inside)) (omega (arith, input)) (omega (arith, output))))))) in
+      let each_drain : AllByRecursion P e = each_range P Event.Drain 0 (length plan.terminals) (λ t low inside. of_drain t (omega (arith, inside))) in
       each_append P (a ++ b ++ c ++ d) e (each_append P (a ++ b ++ c) d (each_append P (a ++ b) c (each_append P a b each_credit each_cross) (each_wired turn_at (each_turn of_turn))) each_claim) each_drain
 
 -- what is so of each event of a round
 pub still_of : {A : Type 0} (kind : Kind A) (net : Network A) → IsPlan net.plan → StandsStill kind net → IsStill kind net
 still_of kind net is_plan all = record {
-  credits = λ p q wire. each (event.Credit p) (credit_in net.plan is_plan p q wire);
-  crosses = λ p q wire. each (event.Cross p) (cross_in net.plan is_plan p q wire);
-  inputs = λ s l q wire. each (event.Input s l 0) (input_in net.plan is_plan s l q wire);
-  claims = λ s i o inside input output. each (event.Claim s i o) (claim_in net.plan is_plan s i o inside input output);
-  drains = λ t inside. each (event.Drain t) (drain_in net.plan is_plan t inside);
+  credits = λ p q wire. each (Event.Credit p) (credit_in net.plan is_plan p q wire);
+  crosses = λ p q wire. each (Event.Cross p) (cross_in net.plan is_plan p q wire);
+  inputs = λ s l q wire. each (Event.Input s l 0) (input_in net.plan is_plan s l q wire);
+  claims = λ s i o inside input output. each (Event.Claim s i o) (claim_in net.plan is_plan s i o inside input output);
+  drains = λ t inside. each (Event.Drain t) (drain_in net.plan is_plan t inside);
 }
   where
     each : (e : Event) → IsIn e (round net.plan) → IsUnready kind net e

@@ -1,49 +1,20 @@
 -- In an accepted network whose channels don't depend on one another in a cycle rounds go on until all is quiet: then each
 -- packet with an owner was received by it.
-use Rattle.c104_check.specs.Routes.{IsAccepted, Routes, routes_of}
-use Rattle.c104_check.specs.Walks.{port_of}
-use Rattle.c104_check.specs.declared.ports.SwitchPort.{SwitchPort}
-use Rattle.c104_plan.specs.PlanImage.{Image}
-use Rattle.c104_plan.specs.Plans.{IsPlan, Plan}
-use Rattle.c104_plan.specs.Wiring.{peer}
-use Rattle.c104_event.specs.declared.events.Event.{Event}
-use Rattle.c104_event.specs.declared.faults.EventFault.{EventFault}
-use Rattle.c104_link.specs.Buffers.{Incoming}
-use Rattle.c104_net.proofs.PacketInvariant.{IsLabelled}
-use Rattle.c104_net.proofs.Promises.{each, promised, starts, IsStart}
-use Rattle.c104_net.proofs.RunSteps.{header_positive}
-use Rattle.c104_net.proofs.SentBytes.{AreBytesSent}
-use Rattle.c104_run.proofs.StepMaps.{apply_map}
-use Rattle.c104_net.proofs.TracedRuns.{token_of}
-use Rattle.c104_net.proofs.WorkRounds.{rounds_rest}
-use Rattle.c104_run.specs.Balance.{IsSteady}
-use Rattle.c104_net.specs.Deliveries.{Promise}
-use Rattle.c104_run.specs.EventRuns.{Outcome, run_events, unless_fault}
-use Rattle.c104_run.specs.Network.{Network, network_apply}
-use Rattle.c104_node.specs.Nodes.{Node}
-use Rattle.c104_run.specs.QuietNets.{IsQuiet}
-use Rattle.c104_run.specs.Rounds.{rounds}
-use Rattle.c104_run.specs.Runs.{IsDoneRun}
-use Rattle.c104_run.specs.Standstill.{IsStarted}
-use Rattle.c104_check.specs.ChannelDependencies.{IsRanking}
-use Rattle.c104_node.specs.Traced.{traced_kind}
-use Rattle.c104_run.specs.TracedRuns.{map_network}
-use Rattle.c104_node.specs.MappedNodes.{map_incoming, map_input, map_node, map_outgoing}
-use Rattle.c104_net.specs.Unchanged.{IsUnchanged}
-use Rattle.c104_net.specs.HeaderWork.{ahead_at, first_ahead, full_incoming, full_input, full_link, full_node, full_work, random_ahead, random_work}
-use Rattle.c104_net.specs.Work.{header_held, level, sum_at, weigh}
-use Rattle.c104_node.specs.declared.traced.Traced.{Traced}
-use Rattle.c104_switch.specs.Actions.{Reply}
-use Rattle.c104_switch.specs.Phases.{with_header}
-use Rattle.c104_switch.specs.Switch.{Input}
-use Rattle.c104_switch.specs.declared.phase.Phase.{Phase}
-use Rattle.c104_switch.specs.declared.phase.Phase.TheVariants.{Fresh, Head, Want}
-use Rattle.c104_token.specs.Kinds.{plain_kind}
-use Rattle.c104_token.specs.declared.tokens.Token.{Token}
-use Rattle.std.proofs.Common.{Err, List, Ok, Result, Some, [], ap, length, map, refl, subst, suc, sym, ℕ, ◌+◌, ◌-◌, ◌*◌, ◌<◌, ◌∙◌, ◌∷◌, ◌≡◌}
-use Rattle.std.proofs.lemmas.List.{length-map}
-use Rattle.c104_node.specs.declared.node.NodeOf.TheVariants as node
-use Rattle.c104_plan.specs.declared.ports.Port.TheVariants as port
+use Rattle.c104_check.specs.{ChannelDependencies.IsRanking, Routes.{IsAccepted, Routes, routes_of}, Walks.port_of}
+use Rattle.{c104_check.specs.declared.ports.SwitchPort.SwitchPort, c104_event.specs.declared.events.Event.Event}
+use Rattle.{c104_event.specs.declared.faults.EventFault.EventFault, c104_link.specs.Buffers.Incoming}
+use Rattle.c104_net.proofs.{PacketInvariant.IsLabelled, Promises.{IsStart, each, promised, starts}, RunSteps.header_positive}
+use Rattle.c104_net.{proofs.{SentBytes.AreBytesSent, TracedRuns.token_of, WorkRounds.rounds_rest}, specs.Deliveries.Promise}
+use Rattle.c104_net.specs.HeaderWork.{ahead_at, first_ahead, full_incoming, full_input, full_link, full_node, full_work, random_ahead}
+use Rattle.c104_net.specs.{HeaderWork.random_work, Unchanged.IsUnchanged, Work.{header_held, level, sum_at, weigh}}
+use Rattle.c104_node.specs.{MappedNodes.{map_incoming, map_input, map_node, map_outgoing}, Nodes.Node, Traced.traced_kind}
+use Rattle.{c104_node.specs.declared.{node.NodeOf.NodeOf, traced.Traced.Traced}, c104_plan.specs.{PlanImage.Image, Plans.{IsPlan, Plan}}}
+use Rattle.{c104_plan.specs.{Wiring.peer, declared.ports.Port.Port}, c104_run.{proofs.StepMaps.apply_map, specs.Balance.IsSteady}}
+use Rattle.c104_run.specs.{EventRuns.{Outcome, run_events, unless_fault}, Network.{Network, network_apply}, QuietNets.IsQuiet}
+use Rattle.{c104_run.specs.{Rounds.rounds, Runs.IsDoneRun, Standstill.IsStarted, TracedRuns.map_network}, c104_switch.specs.Actions.Reply}
+use Rattle.c104_switch.specs.{Phases.with_header, Switch.Input, declared.phase.Phase.{Phase, TheVariants.{Fresh, Head, Want}}}
+use Rattle.{c104_token.specs.{Kinds.plain_kind, declared.tokens.Token.Token}, std.proofs.Common.{Err, List, Ok, Result, Some, [], ap}}
+use Rattle.std.proofs.{Common.{length, map, refl, subst, suc, sym, ℕ, ◌*◌, ◌+◌, ◌-◌, ◌<◌, ◌∙◌, ◌∷◌, ◌≡◌}, lemmas.List.length-map}
 
 -- the work doesn't read tokens
 module _ {A B : Type 0} (f : A → B) where
@@ -69,14 +40,14 @@ module _ {A B : Type 0} (f : A → B) where
     incoming_map far a b = rw (weigh_map (8 * far + 2 + a) b.items, length-map b.items f) refl
 
     input_map : (s l : ℕ) (p : Input A) → full_input plan rank ahead s l (map_input f p) ≡ full_input plan rank ahead s l p
-    input_map s l p = rw (incoming_map (level plan rank (Some (port.Switch s l))) (ahead (port_of s l)) p.buffer, held_map (8 * level plan rank (Some (port.Switch s l))) p.phase, first_map (ahead (port_of s l)) p.phase) refl
+    input_map s l p = rw (incoming_map (level plan rank (Some (Port.Switch s l))) (ahead (port_of s l)) p.buffer, held_map (8 * level plan rank (Some (Port.Switch s l))) p.phase, first_map (ahead (port_of s l)) p.phase) refl
 
     node_map : (k : ℕ) (n : Node A) → full_node plan rank ahead k (map_node f n) ≡ full_node plan rank ahead k n
-    node_map k (node.Switch S) = rw (
+    node_map k (NodeOf.Switch S) = rw (
       sum_map (map_input f) (full_input plan rank ahead k) (full_input plan rank ahead k) (input_map k) 0 S.inputs,
-      sum_map (map_outgoing f) (full_link plan rank ahead k) (full_link plan rank ahead k) (λ l q. weigh_map (8 * level plan rank (peer plan (port.Switch k l)) + 4 + ahead_at plan rank ahead (peer plan (port.Switch k l))) q.items) 0 S.outputs,
+      sum_map (map_outgoing f) (full_link plan rank ahead k) (full_link plan rank ahead k) (λ l q. weigh_map (8 * level plan rank (peer plan (Port.Switch k l)) + 4 + ahead_at plan rank ahead (peer plan (Port.Switch k l))) q.items) 0 S.outputs,
     ) refl
-    node_map k (node.Terminal T) = rw (incoming_map 0 0 T.input, weigh_map (8 * level plan rank (peer plan (port.Terminal (k - length plan.switches))) + 4 + ahead_at plan rank ahead (peer plan (port.Terminal (k - length plan.switches)))) T.output.items) refl
+    node_map k (NodeOf.Terminal T) = rw (incoming_map 0 0 T.input, weigh_map (8 * level plan rank (peer plan (Port.Terminal (k - length plan.switches))) + 4 + ahead_at plan rank ahead (peer plan (Port.Terminal (k - length plan.switches)))) T.output.items) refl
 
     pub full_map : (nodes : List (Node A)) → full_work plan rank ahead (map (map_node f) nodes) ≡ full_work plan rank ahead nodes
     full_map nodes = sum_map (map_node f) (full_node plan rank ahead) (full_node plan rank ahead) node_map 0 nodes

@@ -1,60 +1,24 @@
 -- What a run that is done once more tells of where its packets came from.
-use Rattle.c104_check.specs.Routes.{IsAccepted, routes_of}
-use Rattle.c104_plan.specs.PlanImage.{Image}
-use Rattle.c104_plan.specs.Plans.{IsPlan, Plan}
-use Rattle.c104_event.specs.declared.events.Event.{Event}
-use Rattle.c104_link.specs.Steps.{◌>>=◌}
-use Rattle.c104_run.proofs.Finishing.{arrived_same, terminals_counted}
-use Rattle.c104_net.proofs.NamedOrigins.{found_origins, named_origins, quiet_traced, sent_plain}
-use Rattle.c104_net.proofs.OriginPieces.{packet_origin}
-use Rattle.c104_net.proofs.Promises.{headline}
-use Rattle.c104_net.proofs.SentBytes.{AreBytesSent, IsFitEntry, fit_run, run_bytes}
-use Rattle.c104_net.proofs.StartMaps.{starts_are, still_placed}
-use Rattle.c104_net.proofs.SureOrigins.{arrived_sure}
-use Rattle.c104_net.proofs.ToldEvents.{events_told}
-use Rattle.c104_net.proofs.TracedRuns.{run_after, token_of, traced_from}
-use Rattle.c104_run.specs.Balance.{AreInPlace, IsSteady, credit_at, credit_of, granted_at, granted_of}
-use Rattle.c104_node.specs.Nodes.{is_switch, Node, arrived_tokens, node_arrived, terminals_of}
-use Rattle.c104_net.specs.Deliveries.{Promise, arrived_at}
-use Rattle.c104_run.specs.Ends.{end_of}
-use Rattle.c104_run.specs.EventRuns.{run_events, unless_fault}
-use Rattle.c104_run.specs.Finished.{FinishedRun, network_finish, run_arrived}
-use Rattle.c104_run.specs.FinishedRecords.{ended_record, FinishedRecord, IsFinishedRecord}
-use Rattle.c104_run.specs.NetRecords.{NetRecord}
-use Rattle.c104_run.specs.Network.{Network, network_apply, network_arrived, network_of, terminal_place}
-use Rattle.c104_node.specs.Origins.{AreSure, origins_in}
-use Rattle.c104_node.specs.declared.origins.Origin.{Origin}
-use Rattle.c104_net.specs.Replays.{LeadTo}
-use Rattle.c104_net.specs.ToldEvents.{told_events}
-use Rattle.c104_node.specs.declared.stamps.Stamp.{Stamp}
-use Rattle.c104_event.specs.declared.faults.EventFault.{EventFault}
-use Rattle.c104_net.specs.RunOrigins.{AreOrigins}
-use Rattle.c104_run.specs.Runs.{IsDoneRun, IsRunRecord}
-use Rattle.c104_node.specs.Starts.{start_node}
-use Rattle.c104_node.specs.Terminals.{Terminal}
-use Rattle.c104_node.specs.Traced.{traced_kind}
-use Rattle.c104_net.specs.TracedEnds.{traced_end}
-use Rattle.c104_run.specs.TracedRuns.{IsTracedRun}
-use Rattle.c104_node.specs.MappedNodes.{map_node}
-use Rattle.c104_node.specs.Traces.{part}
-use Rattle.c104_net.specs.Unchanged.{AreStartsOf, IsUnchanged}
-use Rattle.c104_run.specs.WiredActs.{IsRecordedAt}
-use Rattle.c104_node.specs.declared.acts.Entry.{Entry}
-use Rattle.c104_node.specs.declared.ends.End.{End}
-use Rattle.c104_node.specs.declared.starts.NodeStart.{NodeStart}
-use Rattle.c104_node.specs.declared.traced.Traced.{Traced}
-use Rattle.c104_switch.specs.Actions.{Reply}
-use Rattle.c104_switch.specs.Starts.{start_input, start_output}
-use Rattle.c104_switch.specs.declared.link_start.LinkStart.{LinkStart}
-use Rattle.c104_token.specs.Kinds.{plain_kind}
-use Rattle.c104_token.specs.declared.tokens.Token.{Token}
-use Rattle.std.proofs.Common.{All, Err, IfOk, List, None, Ok, Option, Result, Some, [], ap, arith, get_or, if◌then◌else◌, length, map, nat_lt, option_map, refl, slice_get, subst, sym, true, ℕ, ⊎_elim, ◌<◌, ◌∙◌, ◌∷◌, ◌≡◌, ◌≤◌}
-use Rattle.std.proofs.lemmas.List.{length-map}
-use Rattle.std.proofs.lemmas.Bool.Decides.{nat_tests}
-use Rattle.std.proofs.lemmas.Option.{slice_get-map, slice_get_cases}
-use Rattle.c104_node.specs.declared.node.NodeOf.TheVariants as node
-use Rattle.c104_node.specs.declared.starts.NodeStart.TheVariants as start
-use Rattle.c104_run.proofs.NodeMaps.{kinds_plain}
+use Rattle.{c104_check.specs.Routes.{IsAccepted, routes_of}, c104_event.specs.declared.{events.Event.Event, faults.EventFault.EventFault}}
+use Rattle.{c104_link.specs.Steps.◌>>=◌, c104_net.proofs.NamedOrigins.{found_origins, named_origins, quiet_traced, sent_plain}}
+use Rattle.c104_net.proofs.{OriginPieces.packet_origin, Promises.headline, SentBytes.{AreBytesSent, IsFitEntry, fit_run, run_bytes}}
+use Rattle.c104_net.proofs.{StartMaps.{starts_are, still_placed}, SureOrigins.arrived_sure, ToldEvents.events_told, TracedRuns.run_after}
+use Rattle.c104_net.{proofs.TracedRuns.{token_of, traced_from}, specs.{Deliveries.{Promise, arrived_at}, Replays.LeadTo}}
+use Rattle.c104_net.specs.{RunOrigins.AreOrigins, ToldEvents.told_events, TracedEnds.traced_end, Unchanged.{AreStartsOf, IsUnchanged}}
+use Rattle.c104_node.specs.{MappedNodes.map_node, Nodes.{Node, arrived_tokens, is_switch, node_arrived, terminals_of}, Origins.AreSure}
+use Rattle.c104_node.specs.{Origins.origins_in, Starts.start_node, Terminals.Terminal, Traced.traced_kind, Traces.part}
+use Rattle.c104_node.specs.declared.{acts.Entry.Entry, ends.End.End, node.NodeOf.NodeOf, origins.Origin.Origin, stamps.Stamp.Stamp}
+use Rattle.{c104_node.specs.declared.{starts.NodeStart.NodeStart, traced.Traced.Traced}, c104_plan.specs.{PlanImage.Image, Plans.IsPlan}}
+use Rattle.{c104_plan.specs.Plans.Plan, c104_run.proofs.{Finishing.{arrived_same, terminals_counted}, NodeMaps.kinds_plain}}
+use Rattle.c104_run.specs.{Balance.{AreInPlace, IsSteady, credit_at, credit_of, granted_at, granted_of}, Ends.end_of, EventRuns.run_events}
+use Rattle.c104_run.specs.{EventRuns.unless_fault, Finished.{FinishedRun, network_finish, run_arrived}, FinishedRecords.FinishedRecord}
+use Rattle.c104_run.specs.{FinishedRecords.{IsFinishedRecord, ended_record}, NetRecords.NetRecord, Network.{Network, network_apply}}
+use Rattle.c104_run.specs.{Network.{network_arrived, network_of, terminal_place}, Runs.{IsDoneRun, IsRunRecord}, TracedRuns.IsTracedRun}
+use Rattle.{c104_run.specs.WiredActs.IsRecordedAt, c104_switch.specs.{Actions.Reply, Starts.{start_input, start_output}}}
+use Rattle.{c104_switch.specs.declared.link_start.LinkStart.LinkStart, c104_token.specs.{Kinds.plain_kind, declared.tokens.Token.Token}}
+use Rattle.std.proofs.Common.{All, Err, IfOk, List, None, Ok, Option, Result, Some, [], ap, arith, get_or, if◌then◌else◌, length, map}
+use Rattle.std.proofs.Common.{nat_lt, option_map, refl, slice_get, subst, sym, true, ℕ, ⊎_elim, ◌<◌, ◌∙◌, ◌∷◌, ◌≡◌, ◌≤◌}
+use Rattle.std.proofs.lemmas.{Bool.Decides.nat_tests, List.length-map, Option.{slice_get-map, slice_get_cases}}
 
 -- starts read no token: what holds of the credits at a start holds of them over any kind of token
 module _ (A B : Type 0) where
@@ -67,12 +31,12 @@ module _ (A B : Type 0) where
   input_same (Some l) = refl
 
   credit_start : (l : ℕ) (s : NodeStart) → credit_of l (start_node {A = B} s) ≡ credit_of l (start_node {A = A} s)
-  credit_start l (start.Switch s) = rw (slice_get-map (start_output {A = B}) s.links l, slice_get-map (start_output {A = A}) s.links l) (output_same (slice_get s.links l))
-  credit_start l (start.Terminal t) = refl
+  credit_start l (NodeStart.Switch s) = rw (slice_get-map (start_output {A = B}) s.links l, slice_get-map (start_output {A = A}) s.links l) (output_same (slice_get s.links l))
+  credit_start l (NodeStart.Terminal t) = refl
 
   granted_start : (l : ℕ) (s : NodeStart) → granted_of l (start_node {A = B} s) ≡ granted_of l (start_node {A = A} s)
-  granted_start l (start.Switch s) = rw (slice_get-map (start_input {A = B}) s.links l, slice_get-map (start_input {A = A}) s.links l) (input_same (slice_get s.links l))
-  granted_start l (start.Terminal t) = refl
+  granted_start l (NodeStart.Switch s) = rw (slice_get-map (start_input {A = B}) s.links l, slice_get-map (start_input {A = A}) s.links l) (input_same (slice_get s.links l))
+  granted_start l (NodeStart.Terminal t) = refl
 
   credit_there : (l : ℕ) (o : Option NodeStart) → (option_map (start_node {A = B}) o >>= credit_of l) ≡ (option_map (start_node {A = A}) o >>= credit_of l)
   credit_there l None = refl
@@ -141,11 +105,11 @@ abbrev pub terminal_origins : Terminal Traced → List Origin
 terminal_origins t = origins_in t.arrived
 
 origins_there : (found : Terminal Traced) (o : Option (Node Traced)) → ◌≡◌ {A = Option (List Traced)} (Some found.arrived) (o >>= node_arrived) → origins_in found.arrived ≡ origins_in (part [] arrived_tokens o)
-origins_there found (Some (node.Terminal t)) is = let same : found.arrived ≡ t.arrived = cc in ap origins_in same
+origins_there found (Some (NodeOf.Terminal t)) is = let same : found.arrived ≡ t.arrived = cc in ap origins_in same
 origins_there found o is = absurd (cc)
 
 plain_node : (arrived : List Traced) (o : Option (Node Traced)) → ◌≡◌ {A = Option (List Traced)} (Some arrived) (o >>= node_arrived) → (option_map (map_node token_of) o >>= node_arrived) ≡ Some (map token_of (part [] arrived_tokens o))
-plain_node arrived (Some (node.Terminal t)) is = refl
+plain_node arrived (Some (NodeOf.Terminal t)) is = refl
 plain_node arrived o is = absurd (cc)
 
 module _ (plan : Plan) (nodes : List (Node Traced)) (placed : AreInPlace plan nodes) where

@@ -1,41 +1,24 @@
 -- How many packets each node has sent: a Send that is done adds one at its terminal, and nothing else changes it. So the
 -- number of a packet is lower than the most entries of a trace.
-use Rattle.std.proofs.Common.{◌≡◌, ◌∙◌, ◌≤◌, ◌+◌, ◌++◌, ℕ, suc, zero, Bool, true, false, All, List, [], ◌∷◌, Option, Some, None, if◌then◌else◌, inl, inr, length, length-append, map, nat_eq, option_map, slice_get, slice_set, refl, sym, ap, subst, arith}
-use Rattle.std.proofs.lemmas.Bool.{cases_eq}
-use Rattle.std.proofs.lemmas.List.{map-set}
-use Rattle.std.proofs.lemmas.Option.{slice_get-map}
-use Rattle.c104_token.specs.declared.packets.Packet.{Packet}
-use Rattle.c104_token.specs.Kinds.{Kind}
+use Rattle.{c104_event.specs.declared.events.Event.Event, c104_link.proofs.MadeSteps.{All-place, at_place_made, from_place_made, given}}
+use Rattle.{c104_link.specs.Steps.{step_at, yield_step_at, ◌>>=◌}, c104_net.proofs.{EventEntries.lone_first, JointKeeps.IsOfRound}}
+use Rattle.{c104_net.proofs.JointKeeps.round_keeps, c104_node.{proofs.WireEnds.{get_set_other, get_set_same}, specs.Nodes.Node}}
+use Rattle.c104_node.specs.Nodes.{as_terminal, node_claim, node_control, node_credit_in, node_credit_out, node_drain, node_enter}
+use Rattle.c104_node.specs.{Nodes.{node_input, node_leave, node_send}, Starts.start_node, Traces.{Deed, trace_limit}}
+use Rattle.c104_node.specs.declared.{acts.{ActOf.ActOf, Entry.Entry}, node.NodeOf.TheVariants.{Switch, Terminal}, stamps.Stamp.Stamp}
+use Rattle.{c104_node.specs.declared.starts.NodeStart.NodeStart, c104_plan.specs.Plans.Plan, c104_run.proofs.EventSteps.control_named}
+use Rattle.c104_run.{proofs.EventSteps.send_named, specs.{EventDeeds.event_deeds, NetRecords.IsWithinLimit, Network.{Network, network_of}}}
+use Rattle.{c104_run.specs.{Network.{network_step, terminal_place}, Runs.at_node}, c104_switch.specs.Actions.{Reply, is_ready}}
+use Rattle.{c104_switch.specs.declared.actions.ReplyOf.ReplyOf, c104_token.specs.{Kinds.Kind, declared.packets.Packet.Packet}}
+use Rattle.std.proofs.Common.{All, Bool, List, None, Option, Some, [], ap, arith, false, if◌then◌else◌, inl, inr, length, length-append}
+use Rattle.std.proofs.Common.{map, nat_eq, option_map, refl, slice_get, slice_set, subst, suc, sym, true, zero, ℕ, ◌++◌, ◌+◌, ◌∙◌, ◌∷◌, ◌≡◌}
+use Rattle.std.proofs.{Common.◌≤◌, lemmas.{Bool.cases_eq, List.map-set, Option.slice_get-map}}
 use Rattle.c104_link.specs.Buffers as buffer
-use Rattle.c104_link.specs.Steps.{step_at, yield_step_at, ◌>>=◌}
-use Rattle.c104_link.proofs.MadeSteps.{given, at_place_made, from_place_made, All-place}
-use Rattle.c104_switch.specs.Actions.{Reply, is_ready}
-use Rattle.c104_switch.specs.declared.actions.ReplyOf.TheVariants as reply
-use Rattle.c104_switch.specs.Switch as switch
-use Rattle.c104_switch.specs.Turns as turns
+use Rattle.c104_node.specs.Terminals as terminal
 use Rattle.c104_switch.specs.Claims as claims
 use Rattle.c104_switch.specs.Control as controls
-use Rattle.c104_plan.specs.Plans.{Plan}
-use Rattle.c104_event.specs.declared.events.Event.{Event}
-use Rattle.c104_event.specs.declared.events.Event.TheVariants as event
-use Rattle.c104_node.specs.declared.acts.ActOf.TheVariants as act
-use Rattle.c104_node.specs.declared.stamps.Stamp.{Stamp}
-use Rattle.c104_node.specs.declared.acts.Entry.{Entry}
-use Rattle.c104_node.specs.declared.node.NodeOf.TheVariants.{Switch, Terminal}
-use Rattle.c104_node.specs.declared.starts.NodeStart.{NodeStart}
-use Rattle.c104_node.specs.declared.starts.NodeStart.TheVariants as start
-use Rattle.c104_run.specs.Network.{Network, network_of, network_step, terminal_place}
-use Rattle.c104_run.specs.NetRecords.{IsWithinLimit}
-use Rattle.c104_node.specs.Nodes.{Node, as_terminal, node_claim, node_control, node_credit_in, node_credit_out, node_drain, node_enter, node_input, node_leave, node_send}
-use Rattle.c104_run.specs.Runs.{at_node}
-use Rattle.c104_node.specs.Starts.{start_node}
-use Rattle.c104_node.specs.Terminals as terminal
-use Rattle.c104_node.specs.Traces.{trace_limit, Deed}
-use Rattle.c104_run.specs.EventDeeds.{event_deeds}
-use Rattle.c104_node.proofs.WireEnds.{get_set_other, get_set_same}
-use Rattle.c104_run.proofs.EventSteps.{control_named, send_named}
-use Rattle.c104_net.proofs.EventEntries.{lone_first}
-use Rattle.c104_net.proofs.JointKeeps.{IsOfRound, round_keeps}
+use Rattle.c104_switch.specs.Switch as switch
+use Rattle.c104_switch.specs.Turns as turns
 
 module _ {A : Type 0} where
   abbrev pub sent_count : Node A → ℕ
@@ -119,7 +102,7 @@ module _ {A : Type 0} where
 
 -- what an event does to the numbers
 abbrev pub AddsSent : Plan → Event → List ℕ → List ℕ → Type 0
-AddsSent plan (event.Send t packet) before after = (c : ℕ) × (slice_get before (terminal_place plan t) ≡ Some c) × (after ≡ slice_set before (terminal_place plan t) (suc c))
+AddsSent plan (Event.Send t packet) before after = (c : ℕ) × (slice_get before (terminal_place plan t) ≡ Some c) × (after ≡ slice_set before (terminal_place plan t) (suc c))
 AddsSent plan e before after = after ≡ before
 
 module _ {A : Type 0} (kind : Kind A) (plan : Plan) (nodes : List (Node A)) where
@@ -134,10 +117,10 @@ module _ {A : Type 0} (kind : Kind A) (plan : Plan) (nodes : List (Node A)) wher
       (λ ns. counts ns ≡ counts nodes) (λ ns k n m here keeps same. set_counts ns k n m here keeps ∙ same) plan nodes e of r is refl
 
   pub step_counts : (e : Event) (r : Reply × Network A) → network_step kind (network_of plan nodes) e ≡ Some r → AddsSent plan e (counts nodes) (counts r.1.nodes)
-  step_counts (event.Control s bytes) r is = given (yield_step_at nodes s (node_control bytes)) _ r (control_named kind (network_of plan nodes) s bytes ∙ is) (λ v made last.
-      by_last (reply.Control v.0) v.1 r (λ cs. cs ≡ counts nodes) last (yield_kept nodes s (node_control bytes) v made (control_keeps bytes)))
-  step_counts (event.Send t packet) r is = given (step_at nodes (terminal_place plan t) (node_send kind t packet)) _ r (send_named kind (network_of plan nodes) t packet ∙ is) (λ v made last.
-      by_last reply.Done v r (λ cs. AddsSent plan (event.Send t packet) (counts nodes) cs) last (at_place_made nodes (terminal_place plan t) (node_send kind t packet) v made (λ n m here step set. (
+  step_counts (Event.Control s bytes) r is = given (yield_step_at nodes s (node_control bytes)) _ r (control_named kind (network_of plan nodes) s bytes ∙ is) (λ v made last.
+      by_last (ReplyOf.Control v.0) v.1 r (λ cs. cs ≡ counts nodes) last (yield_kept nodes s (node_control bytes) v made (control_keeps bytes)))
+  step_counts (Event.Send t packet) r is = given (step_at nodes (terminal_place plan t) (node_send kind t packet)) _ r (send_named kind (network_of plan nodes) t packet ∙ is) (λ v made last.
+      by_last ReplyOf.Done v r (λ cs. AddsSent plan (Event.Send t packet) (counts nodes) cs) last (at_place_made nodes (terminal_place plan t) (node_send kind t packet) v made (λ n m here step set. (
         sent_count n,
         slice_get-map sent_count nodes (terminal_place plan t) ∙ ap (option_map sent_count) here,
         ap counts (sym set) ∙ set_there (terminal_place plan t) m ∙ ap (slice_set (counts nodes) (terminal_place plan t)) (send_adds kind t packet n m step),
@@ -163,14 +146,14 @@ later : (cs after : List ℕ) (ds rest : List Deed) → after ≡ cs → IsBound
 later cs after ds rest same bound = λ k c at. (let one = bound k c (ap (λ xs. slice_get xs k) (sym same) ∙ at) in let more = at_more k ds rest in omega (arith, one, more))
 
 -- a packet that is sent has a number below the limit
-pub low_number : (plan : Plan) (t : ℕ) (packet : Packet) (stamp : Stamp) (r : Reply) (cs : List ℕ) (rest : List Deed) (c : ℕ) → is_ready r ≡ true → IsBounded cs (event_deeds plan stamp (event.Send t packet) r ++ rest) → slice_get cs (terminal_place plan t) ≡ Some c → c + suc (length (at_node (terminal_place plan t) rest)) ≤ trace_limit
+pub low_number : (plan : Plan) (t : ℕ) (packet : Packet) (stamp : Stamp) (r : Reply) (cs : List ℕ) (rest : List Deed) (c : ℕ) → is_ready r ≡ true → IsBounded cs (event_deeds plan stamp (Event.Send t packet) r ++ rest) → slice_get cs (terminal_place plan t) ≡ Some c → c + suc (length (at_node (terminal_place plan t) rest)) ≤ trace_limit
 low_number plan t packet stamp r cs rest c ready bound at =
     let one = bound (terminal_place plan t) c at in
-    subst (λ (es : List Entry). c + length es ≤ trace_limit) (lone_first stamp (terminal_place plan t) (act.Send packet) r rest ready) one
+    subst (λ (es : List Entry). c + length es ≤ trace_limit) (lone_first stamp (terminal_place plan t) (ActOf.Send packet) r rest ready) one
 
 -- an event that was done keeps them within the limit
 pub bounded_on : (plan : Plan) (e : Event) (stamp : Stamp) (r : Reply) (cs after : List ℕ) (rest : List Deed) → is_ready r ≡ true → AddsSent plan e cs after → IsBounded cs (event_deeds plan stamp e r ++ rest) → IsBounded after rest
-bounded_on plan (event.Send t packet) stamp r cs after rest ready adds bound = λ k c at.
+bounded_on plan (Event.Send t packet) stamp r cs after rest ready adds bound = λ k c at.
     elim (cases_eq (terminal_place plan t) k) [
       | inl same ↦ subst (λ (j : ℕ). c + length (at_node j rest) ≤ trace_limit) same (
           let there : slice_get after (terminal_place plan t) ≡ Some (suc adds.0) = ap (λ xs. slice_get xs (terminal_place plan t)) adds.2 ∙ get_set_same cs (terminal_place plan t) adds.0 (suc adds.0) adds.1 in
@@ -181,14 +164,14 @@ bounded_on plan (event.Send t packet) stamp r cs after rest ready adds bound = �
       | inr other ↦ (
           let before : slice_get cs k ≡ Some c = sym (get_set_other cs (terminal_place plan t) k (suc adds.0) other) ∙ ap (λ xs. slice_get xs k) (sym adds.2) ∙ at in
           let one = bound k c before in
-          let more = at_more k (event_deeds plan stamp (event.Send t packet) r) rest in
+          let more = at_more k (event_deeds plan stamp (Event.Send t packet) r) rest in
           omega (arith, one, more))
     ]
 bounded_on plan e stamp r cs after rest ready adds bound = later cs after (event_deeds plan stamp e r) rest adds bound
 
 -- at a start nothing was sent
 none_sent : (A : Type 0) (starts : List NodeStart) (k c : ℕ) → slice_get (counts (map (start_node {A = A}) starts)) k ≡ Some c → c ≡ 0
-none_sent A (start.Switch s ∷ starts) zero c is = cc
+none_sent A (NodeStart.Switch s ∷ starts) zero c is = cc
 none_sent A (s ∷ starts) (suc k) c is = none_sent A starts k c is
 none_sent A starts k c is = cc
 

@@ -1,8 +1,6 @@
 -- Entries that lead, sorted by ticket: what is told of each of them, with its ticket, is sorted too.
-use Rattle.c104_net.specs.Merges.{by_ticket, join_by_ticket}
-use Rattle.c104_net.specs.Replays.{with_ticket}
-use Rattle.c104_net.specs.declared.leading.Lead.{Lead}
-use Rattle.std.proofs.Common.{Bool, List, [], ap, false, if◌then◌else◌, map, nat_le, refl, sym, true, ℕ, ◌∙◌, ◌∷◌, ◌≡◌}
+use Rattle.{c104_net.specs.{Merges.{by_ticket, join_by_ticket}, Replays.with_ticket, declared.leading.Lead.Lead}, std.proofs.Common.Bool}
+use Rattle.std.proofs.Common.{List, [], ap, false, if◌then◌else◌, map, nat_le, refl, sym, true, ℕ, ◌∙◌, ◌∷◌, ◌≡◌}
 
 module _ {X Y : Type 0} (f : X → Y) where
   abbrev On : ℕ × X → ℕ × Y

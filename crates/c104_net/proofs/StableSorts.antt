@@ -1,12 +1,9 @@
 -- A stable sort by ticket: lists that ascend by ticket and have the same things of each ticket in the same order are one
 -- list.
-use Rattle.c104_net.specs.Merges.{by_ticket, join_by_ticket}
-use Rattle.std.proofs.Common.{Bool, List, [], ap, arith, cond, false, filter, get_or, if◌then◌else◌, length, map, nat_eq, nat_le, nat_lt}
-use Rattle.std.proofs.Common.{not, refl, suc, sym, true, ℕ, ◌&&◌, ◌<◌, ◌==◌, ◌∙◌, ◌∷◌, ◌≡◌, ◌≤◌}
-use Rattle.std.proofs.lemmas.Bool.Decides.{nat_tests}
-use Rattle.std.specs.List.Sorted.{IsNonDecreasingBy, IsStableByKey}
-use Rattle.std.specs.Ordering.{is_lt, nat_cmp}
-use Rattle.std.specs.declared.cmp.Ordering.TheVariants.{Equal, Greater, Less}
+use Rattle.{c104_net.specs.Merges.{by_ticket, join_by_ticket}, std.proofs.Common.{Bool, List, [], ap, arith, cond, false, filter, get_or}}
+use Rattle.std.proofs.Common.{if◌then◌else◌, length, map, nat_eq, nat_le, nat_lt, not, refl, suc, sym, true, ℕ, ◌&&◌, ◌<◌, ◌==◌, ◌∙◌, ◌∷◌}
+use Rattle.std.{proofs.{Common.{◌≡◌, ◌≤◌}, lemmas.Bool.Decides.nat_tests}, specs.List.Sorted.{IsNonDecreasingBy, IsStableByKey}}
+use Rattle.std.specs.{Ordering.{is_lt, nat_cmp}, declared.cmp.Ordering.TheVariants.{Equal, Greater, Less}}
 
 itself : (t : ℕ) → nat_eq t t ≡ true
 itself t = grind (arith, nat_tests)

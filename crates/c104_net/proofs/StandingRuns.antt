@@ -1,43 +1,17 @@
 -- An accepted network that stands still is quiet: from its start, over plain tokens.
-use Rattle.c104_check.specs.Routes.{routes_of}
-use Rattle.c104_plan.specs.PlanImage.{Image}
-use Rattle.c104_plan.specs.Plans.{IsPlan, Plan}
-use Rattle.c104_event.specs.declared.events.Event.{Event}
-use Rattle.c104_event.specs.declared.faults.EventFault.{EventFault}
-use Rattle.c104_net.proofs.StartedRuns.{run_started}
-use Rattle.c104_run.proofs.BalanceEvents.{applied_steady}
-use Rattle.c104_net.proofs.RoundMembers.{still_of}
-use Rattle.c104_net.proofs.RunOrigins.{still_steady}
-use Rattle.c104_run.proofs.RoundJoins.{apply_plan}
-use Rattle.c104_net.proofs.SentBytes.{AreBytesSent}
-use Rattle.c104_net.proofs.StartMaps.{starts_are}
-use Rattle.c104_run.proofs.StepMaps.{apply_map}
-use Rattle.c104_net.proofs.StillPorts.{standstill}
-use Rattle.c104_net.proofs.TracedRuns.{token_of, traced_from}
-use Rattle.c104_run.specs.Balance.{IsSteady}
-use Rattle.c104_run.specs.Network.{Network, network_apply, network_of}
-use Rattle.c104_node.specs.Nodes.{Node}
-use Rattle.c104_node.specs.Quiet.{IsQuietNode}
-use Rattle.c104_run.specs.QuietNets.{IsQuiet}
-use Rattle.c104_run.specs.Rounds.{round}
-use Rattle.c104_run.specs.Runs.{IsDoneRun}
-use Rattle.c104_run.specs.Standstill.{IsStarted, IsStartedNode, StandsStill, IsStill, IsUnready}
-use Rattle.c104_net.specs.DeadlockFreedom.{IsAcyclicRun}
-use Rattle.c104_node.specs.Starts.{start_node}
-use Rattle.c104_node.specs.Traced.{traced_kind}
-use Rattle.c104_run.specs.TracedRuns.{map_network}
-use Rattle.c104_node.specs.MappedNodes.{map_input, map_node, map_outgoing}
-use Rattle.c104_node.specs.declared.starts.NodeStart.{NodeStart}
-use Rattle.c104_node.specs.declared.traced.Traced.{Traced}
-use Rattle.c104_switch.specs.Actions.{Reply}
-use Rattle.c104_token.specs.Kinds.{Kind, plain_kind}
-use Rattle.c104_token.specs.declared.tokens.Token.{Token}
-use Rattle.std.proofs.Common.{All, List, Ok, Result, [], ap, get_or, inl, map, option_map, refl, slice_get, subst, sym, ◌∙◌, ◌∷◌, ◌≡◌}
-use Rattle.std.proofs.lemmas.List.{length-map}
-use Rattle.std.proofs.lemmas.List.Elements.{All-map, All-weaker}
+use Rattle.{c104_check.specs.Routes.routes_of, c104_event.specs.declared.{events.Event.Event, faults.EventFault.EventFault}}
+use Rattle.c104_net.proofs.{RoundMembers.still_of, RunOrigins.still_steady, SentBytes.AreBytesSent, StartMaps.starts_are}
+use Rattle.c104_net.proofs.{StartedRuns.run_started, StillPorts.standstill, TracedRuns.{token_of, traced_from}}
+use Rattle.{c104_net.specs.DeadlockFreedom.IsAcyclicRun, c104_node.specs.{MappedNodes.{map_input, map_node, map_outgoing}, Nodes.Node}}
+use Rattle.c104_node.specs.{Quiet.IsQuietNode, Starts.start_node, Traced.traced_kind, declared.node.NodeOf.NodeOf}
+use Rattle.{c104_node.specs.declared.{starts.NodeStart.NodeStart, traced.Traced.Traced}, c104_plan.specs.{PlanImage.Image, Plans.IsPlan}}
+use Rattle.{c104_plan.specs.Plans.Plan, c104_run.proofs.{BalanceEvents.applied_steady, NodeMaps.quiet_map, RoundJoins.apply_plan}}
+use Rattle.c104_run.{proofs.StepMaps.apply_map, specs.{Balance.IsSteady, Network.{Network, network_apply, network_of}, QuietNets.IsQuiet}}
+use Rattle.c104_run.specs.{Rounds.round, Runs.IsDoneRun, Standstill.{IsStarted, IsStartedNode, IsStill, IsUnready, StandsStill}}
+use Rattle.{c104_run.specs.TracedRuns.map_network, c104_switch.specs.Actions.Reply, c104_token.specs.Kinds.{Kind, plain_kind}}
+use Rattle.{c104_token.specs.declared.tokens.Token.Token, std.proofs.Common.{All, List, Ok, Result, [], ap, get_or, inl, map, option_map}}
+use Rattle.std.proofs.{Common.{refl, slice_get, subst, sym, ◌∙◌, ◌∷◌, ◌≡◌}, lemmas.List.{Elements.{All-map, All-weaker}, length-map}}
 use Rattle.std.proofs.lemmas.Option.{slice_get-map}
-use Rattle.c104_node.specs.declared.node.NodeOf.TheVariants as node
-use Rattle.c104_run.proofs.NodeMaps.{quiet_map}
 
 -- a run keeps the balance of the wires
 pub run_steady : {A : Type 0} (kind : Kind A) (net ended : Network A) (events : List (Event × Reply)) → IsPlan net.plan → IsDoneRun kind net events ended → IsSteady net → IsSteady ended
@@ -49,14 +23,14 @@ run_steady {A} kind net ended (e ∷ events) is_plan is steady =
 module _ {A B : Type 0} (f : A → B) where
   -- a node that is started over other tokens is started over these
   started_map : (n : Node A) → IsStartedNode (map_node f n) → IsStartedNode n
-  started_map (node.Switch S) a = record {
+  started_map (NodeOf.Switch S) a = record {
     started = a.started;
     settings = a.settings;
     inputs = sym (length-map S.inputs (map_input f)) ∙ a.inputs;
     outputs = sym (length-map S.outputs (map_outgoing f)) ∙ a.outputs;
     room = λ l p is. a.room l (map_input f p) (slice_get-map (map_input f) S.inputs l ∙ ap (option_map (map_input f)) is);
   }
-  started_map (node.Terminal T) a = a
+  started_map (NodeOf.Terminal T) a = a
 
 module _ (plan : Plan) (starts : List NodeStart) (nodes : List (Node Token)) (events : List (Event × Reply)) (is_plan : IsPlan plan) (run : IsDoneRun plain_kind (network_of plan (map start_node starts)) events (network_of plan nodes)) (traced : List (Node Traced)) (plain : map (map_node token_of) traced ≡ nodes) where
   unready_traced : (e : Event) → IsUnready plain_kind (network_of plan nodes) e → IsUnready traced_kind (network_of plan traced) e

@@ -1,34 +1,21 @@
 -- The starts of runs are the same over any kind of token.
-use Rattle.c104_check.specs.Routes.{routes_of, settings_at}
-use Rattle.c104_plan.specs.PlanImage.{Image}
-use Rattle.c104_plan.specs.Plans.{Plan}
-use Rattle.c104_net.proofs.Promises.{IsStart}
-use Rattle.c104_run.specs.Balance.{AreInPlace}
-use Rattle.c104_node.specs.Nodes.{is_switch, Node}
-use Rattle.c104_run.specs.Network.{network_of}
-use Rattle.c104_node.specs.Quiet.{IsQuietInput, IsQuietNode, IsQuietOutput}
-use Rattle.c104_node.specs.Starts.{start_node}
-use Rattle.c104_node.specs.TerminalStarts.{start_terminal}
-use Rattle.c104_node.specs.Terminals.{Terminal}
-use Rattle.c104_net.specs.Unchanged.{AreStartsOf}
-use Rattle.c104_node.specs.declared.starts.NodeStart.{NodeStart}
-use Rattle.c104_switch.specs.Starts.{start_input, start_output, start_switch}
-use Rattle.c104_switch.specs.Switch.{Switch}
-use Rattle.c104_token.specs.declared.tokens.Token.{Token}
-use Rattle.std.proofs.Common.{All, Bool, List, Some, [], ap, false, get_or, map, refl, slice_get, suc, sym, true, zero, ℕ, ◌∙◌, ◌∷◌, ◌≡◌}
-use Rattle.std.proofs.lemmas.List.Elements.{All-map}
-use Rattle.c104_node.specs.declared.node.NodeOf.TheVariants as node
-use Rattle.c104_node.specs.declared.starts.NodeStart.TheVariants as start
+use Rattle.{c104_check.specs.Routes.{routes_of, settings_at}, c104_net.{proofs.Promises.IsStart, specs.Unchanged.AreStartsOf}}
+use Rattle.c104_node.specs.{Nodes.{Node, is_switch}, Quiet.{IsQuietInput, IsQuietNode, IsQuietOutput}, Starts.start_node}
+use Rattle.c104_node.specs.{TerminalStarts.start_terminal, Terminals.Terminal, declared.{node.NodeOf.NodeOf, starts.NodeStart.NodeStart}}
+use Rattle.{c104_plan.specs.{PlanImage.Image, Plans.Plan}, c104_run.specs.{Balance.AreInPlace, Network.network_of}}
+use Rattle.c104_switch.specs.{Starts.{start_input, start_output, start_switch}, Switch.Switch}
+use Rattle.{c104_token.specs.declared.tokens.Token.Token, std.proofs.Common.{All, Bool, List, Some, [], ap, false, get_or, map, refl}}
+use Rattle.std.proofs.{Common.{slice_get, suc, sym, true, zero, ℕ, ◌∙◌, ◌∷◌, ◌≡◌}, lemmas.List.Elements.All-map}
 
 abbrev pub switch_start : NodeStart → Bool
-switch_start (start.Switch s) = true
-switch_start (start.Terminal t) = false
+switch_start (NodeStart.Switch s) = true
+switch_start (NodeStart.Terminal t) = false
 
 -- whether a node is a switch is told by its start alone
 pub kinds_started : (A : Type 0) (starts : List NodeStart) → map is_switch (map (start_node {A = A}) starts) ≡ map switch_start starts
 kinds_started A [] = refl
-kinds_started A (start.Switch s ∷ starts) = ap (λ bs. true ∷ bs) (kinds_started A starts)
-kinds_started A (start.Terminal t ∷ starts) = ap (λ bs. false ∷ bs) (kinds_started A starts)
+kinds_started A (NodeStart.Switch s ∷ starts) = ap (λ bs. true ∷ bs) (kinds_started A starts)
+kinds_started A (NodeStart.Terminal t ∷ starts) = ap (λ bs. false ∷ bs) (kinds_started A starts)
 
 -- starts that are in place are so over any kind of token
 pub still_placed : (A B : Type 0) (plan : Plan) (starts : List NodeStart) → AreInPlace {A = A} plan (map start_node starts) → AreInPlace {A = B} plan (map start_node starts)
@@ -39,8 +26,8 @@ all_of : {X Y : Type 0} (P : Y → Type 0) (g : X → Y) → ((x : X) → P (g x
 all_of P g h xs = All-map P g xs (λ i x inside. h (get_or xs i x))
 
 quiet_start : (A : Type 0) (s : NodeStart) → IsQuietNode {A = A} (start_node s)
-quiet_start A (start.Switch s) = (all_of (IsQuietInput {A = A}) start_input (λ l. (refl, refl)) s.links, all_of (IsQuietOutput {A = A}) start_output (λ l. refl) s.links)
-quiet_start A (start.Terminal t) = (refl, refl)
+quiet_start A (NodeStart.Switch s) = (all_of (IsQuietInput {A = A}) start_input (λ l. (refl, refl)) s.links, all_of (IsQuietOutput {A = A}) start_output (λ l. refl) s.links)
+quiet_start A (NodeStart.Terminal t) = (refl, refl)
 
 module _ {A : Type 0} where
   started : (starts : List NodeStart) (k : ℕ) (n : Node A) → slice_get (map start_node starts) k ≡ Some n → (s : NodeStart) × (slice_get starts k ≡ Some s) × (start_node s ≡ n)
@@ -53,14 +40,14 @@ module _ {A : Type 0} where
   starts_are plan image starts are = record {
     in_place = still_placed Token A plan starts are.in_place;
     quiet = all_of (IsQuietNode {A = A}) start_node (quiet_start A) starts;
-    set = λ k s is. let one = started starts k (node.Switch s) is in set_of k one.0 one.1 s one.2;
-    first = λ k t is. let one = started starts k (node.Terminal t) is in first_of one.0 t one.2;
+    set = λ k s is. let one = started starts k (NodeOf.Switch s) is in set_of k one.0 one.1 s one.2;
+    first = λ k t is. let one = started starts k (NodeOf.Terminal t) is in first_of one.0 t one.2;
   }
     where
-      set_of : (k : ℕ) (s : NodeStart) → slice_get starts k ≡ Some s → (S : Switch A) → start_node s ≡ node.Switch S → S.settings ≡ settings_at (routes_of plan image) k
-      set_of k (start.Switch s) at S is = let same : start_switch s ≡ S = cc in ap (λ (z : Switch A). z.settings) (sym same) ∙ are.set k s at
-      set_of k (start.Terminal t) at S is = absurd (cc)
+      set_of : (k : ℕ) (s : NodeStart) → slice_get starts k ≡ Some s → (S : Switch A) → start_node s ≡ NodeOf.Switch S → S.settings ≡ settings_at (routes_of plan image) k
+      set_of k (NodeStart.Switch s) at S is = let same : start_switch s ≡ S = cc in ap (λ (z : Switch A). z.settings) (sym same) ∙ are.set k s at
+      set_of k (NodeStart.Terminal t) at S is = absurd (cc)
 
-      first_of : (s : NodeStart) (T : Terminal A) → start_node s ≡ node.Terminal T → (T.sent ≡ []) × (T.arrived ≡ [])
-      first_of (start.Switch s) T is = absurd (cc)
-      first_of (start.Terminal t) T is = let same : start_terminal t ≡ T = cc in (ap (λ (z : Terminal A). z.sent) (sym same), ap (λ (z : Terminal A). z.arrived) (sym same))
+      first_of : (s : NodeStart) (T : Terminal A) → start_node s ≡ NodeOf.Terminal T → (T.sent ≡ []) × (T.arrived ≡ [])
+      first_of (NodeStart.Switch s) T is = absurd (cc)
+      first_of (NodeStart.Terminal t) T is = let same : start_terminal t ≡ T = cc in (ap (λ (z : Terminal A). z.sent) (sym same), ap (λ (z : Terminal A). z.arrived) (sym same))

@@ -1,30 +1,14 @@
 -- In a run in which nobody changes a network each node stays started.
-use Rattle.c104_check.specs.Routes.{Routes}
-use Rattle.c104_control.specs.Reading.{read_command}
-use Rattle.c104_plan.specs.Plans.{Plan}
-use Rattle.c104_event.specs.declared.events.Event.{Event}
-use Rattle.c104_link.proofs.MadeSteps.{from_place_made, given}
-use Rattle.c104_link.specs.Steps.{step_at, yield_step_at}
-use Rattle.c104_net.proofs.CommandEvents.{SameSides, read_sides}
-use Rattle.c104_run.proofs.EventSteps.{control_named, send_named}
-use Rattle.c104_net.proofs.RunSteps.{done_step_is}
-use Rattle.c104_net.proofs.WorkEvents.{AreStarted, started_at, started_set, event_started}
-use Rattle.c104_run.specs.Network.{Network, network_of, network_step, terminal_place}
-use Rattle.c104_node.specs.Nodes.{Node, node_control, node_send}
-use Rattle.c104_run.specs.Runs.{IsDoneRun}
-use Rattle.c104_run.specs.Standstill.{IsStarted, IsStartedNode, IsStartedSwitch}
-use Rattle.c104_node.specs.Terminals.{terminal_send}
-use Rattle.c104_net.specs.Unchanged.{IsUnchanged, MayHappen}
-use Rattle.c104_switch.specs.Actions.{Reply}
-use Rattle.c104_switch.specs.Control.{switch_control}
-use Rattle.c104_switch.specs.Switch.{Switch}
-use Rattle.c104_token.specs.Kinds.{Kind}
-use Rattle.c104_token.specs.declared.packets.Packet.{Packet}
-use Rattle.std.proofs.Common.{List, Option, Some, [], ap, length, slice_get, slice_set, subst, sym, ℕ, ◌∙◌, ◌∷◌, ◌≡◌}
-use Rattle.std.proofs.lemmas.Option.{some_pair_parts}
-use Rattle.c104_event.specs.declared.events.Event.TheVariants as event
-use Rattle.c104_node.specs.declared.node.NodeOf.TheVariants as node
-use Rattle.c104_switch.specs.declared.actions.ReplyOf.TheVariants as reply
+use Rattle.{c104_check.specs.Routes.Routes, c104_control.specs.Reading.read_command, c104_event.specs.declared.events.Event.Event}
+use Rattle.c104_link.{proofs.MadeSteps.{from_place_made, given}, specs.Steps.{step_at, yield_step_at}}
+use Rattle.c104_net.proofs.{CommandEvents.{SameSides, read_sides}, RunSteps.done_step_is, WorkEvents.{AreStarted, event_started}}
+use Rattle.{c104_net.{proofs.WorkEvents.{started_at, started_set}, specs.Unchanged.{IsUnchanged, MayHappen}}, c104_node.specs.Nodes.Node}
+use Rattle.c104_node.specs.{Nodes.{node_control, node_send}, Terminals.terminal_send, declared.node.NodeOf.NodeOf}
+use Rattle.{c104_plan.specs.Plans.Plan, c104_run.{proofs.EventSteps.{control_named, send_named}, specs.Network.{Network, network_of}}}
+use Rattle.c104_run.specs.{Network.{network_step, terminal_place}, Runs.IsDoneRun, Standstill.{IsStarted, IsStartedNode, IsStartedSwitch}}
+use Rattle.c104_switch.specs.{Actions.Reply, Control.switch_control, Switch.Switch, declared.actions.ReplyOf.ReplyOf}
+use Rattle.{c104_token.specs.{Kinds.Kind, declared.packets.Packet.Packet}, std.proofs.Common.{List, Option, Some, [], ap, length}}
+use Rattle.std.proofs.{Common.{slice_get, slice_set, subst, sym, ℕ, ◌∙◌, ◌∷◌, ◌≡◌}, lemmas.Option.some_pair_parts}
 
 module _ {A : Type 0} where
   sides_started : (S T : Switch A) → SameSides S T → IsStartedSwitch S → IsStartedSwitch T
@@ -37,28 +21,28 @@ module _ {A : Type 0} where
   }
 
   send_started : (kind : Kind A) (t : ℕ) (p : Packet) (n m : Node A) → node_send kind t p n ≡ Some m → IsStartedNode n → IsStartedNode m
-  send_started kind t p (node.Switch S) m e a = absurd (cc)
-  send_started kind t p (node.Terminal T) m e a = let d : node.Terminal (terminal_send kind t p T) ≡ m = cc in subst IsStartedNode d a
+  send_started kind t p (NodeOf.Switch S) m e a = absurd (cc)
+  send_started kind t p (NodeOf.Terminal T) m e a = let d : NodeOf.Terminal (terminal_send kind t p T) ≡ m = cc in subst IsStartedNode d a
 
 module _ {A : Type 0} (kind : Kind A) (plan : Plan) (nodes : List (Node A)) (started : AreStarted nodes) where
   step_started : (routes : Routes) (e : Event) (r : Reply) (net' : Network A) → MayHappen routes e r → network_step kind (network_of plan nodes) e ≡ Some (r, net') → IsStarted net'
-  step_started routes (event.Send t p) r net' may is = given (step_at nodes (terminal_place plan t) (node_send kind t p)) _ (r, net') (send_named kind (network_of plan nodes) t p ∙ is) (λ after ea e2.
+  step_started routes (Event.Send t p) r net' may is = given (step_at nodes (terminal_place plan t) (node_send kind t p)) _ (r, net') (send_named kind (network_of plan nodes) t p ∙ is) (λ after ea e2.
       (let all = started_at nodes (terminal_place plan t) (node_send kind t p) after ea (send_started kind t p) started in
-      let d : network_of plan after ≡ net' = (some_pair_parts reply.Done r (network_of plan after) net' e2).1 in subst IsStarted d all))
-  step_started routes (event.Control s bytes) r net' may is = given (yield_step_at nodes s (node_control bytes)) _ (r, net') (control_named kind (network_of plan nodes) s bytes ∙ is) (λ v ev e2.
+      let d : network_of plan after ≡ net' = (some_pair_parts ReplyOf.Done r (network_of plan after) net' e2).1 in subst IsStarted d all))
+  step_started routes (Event.Control s bytes) r net' may is = given (yield_step_at nodes s (node_control bytes)) _ (r, net') (control_named kind (network_of plan nodes) s bytes ∙ is) (λ v ev e2.
       from_place_made nodes s (node_control bytes) v ev (λ n y en ey hv. by_node n y en ey v hv e2))
     where
-      by_node : (n : Node A) (y : List ℕ × Node A) → slice_get nodes s ≡ Some n → node_control bytes n ≡ Some y → (v : List ℕ × List (Node A)) → ◌≡◌ {A = List ℕ × List (Node A)} (y.0, slice_set nodes s y.1) v → ◌≡◌ {A = Option (Reply × Network A)} (Some (reply.Control v.0, network_of plan v.1)) (Some (r, net')) → IsStarted net'
-      by_node (node.Terminal T) y en ey v hv e2 = absurd (cc)
-      by_node (node.Switch S) y en ey v hv e2 =
-          let parts = some_pair_parts (reply.Control v.0) r (network_of plan v.1) net' e2 in
+      by_node : (n : Node A) (y : List ℕ × Node A) → slice_get nodes s ≡ Some n → node_control bytes n ≡ Some y → (v : List ℕ × List (Node A)) → ◌≡◌ {A = List ℕ × List (Node A)} (y.0, slice_set nodes s y.1) v → ◌≡◌ {A = Option (Reply × Network A)} (Some (ReplyOf.Control v.0, network_of plan v.1)) (Some (r, net')) → IsStarted net'
+      by_node (NodeOf.Terminal T) y en ey v hv e2 = absurd (cc)
+      by_node (NodeOf.Switch S) y en ey v hv e2 =
+          let parts = some_pair_parts (ReplyOf.Control v.0) r (network_of plan v.1) net' e2 in
           let done = switch_control S bytes in
-          let dy : ◌≡◌ {A = List ℕ × Node A} (done.0, node.Switch done.1) y = cc in
-          let told : reply.Control done.0 ≡ r = ap (λ (z : List ℕ × Node A). reply.Control z.0) dy ∙ ap (λ (z : List ℕ × List (Node A)). reply.Control z.0) hv ∙ parts.0 in
-          let same = read_sides S (read_command bytes) may.0 (λ e. may.1 (sym told ∙ ap reply.Control e)) in
-          let one : IsStartedNode (node.Switch done.1) = sides_started S done.1 same (started s (node.Switch S) en) in
-          let dv : slice_set nodes s (node.Switch done.1) ≡ v.1 = ap (λ (w : List ℕ × Node A). slice_set nodes s w.1) dy ∙ ap (λ (w : List ℕ × List (Node A)). w.1) hv in
-          subst IsStarted parts.1 (subst AreStarted dv (started_set nodes s (node.Switch done.1) started one))
+          let dy : ◌≡◌ {A = List ℕ × Node A} (done.0, NodeOf.Switch done.1) y = cc in
+          let told : ReplyOf.Control done.0 ≡ r = ap (λ (z : List ℕ × Node A). ReplyOf.Control z.0) dy ∙ ap (λ (z : List ℕ × List (Node A)). ReplyOf.Control z.0) hv ∙ parts.0 in
+          let same = read_sides S (read_command bytes) may.0 (λ e. may.1 (sym told ∙ ap ReplyOf.Control e)) in
+          let one : IsStartedNode (NodeOf.Switch done.1) = sides_started S done.1 same (started s (NodeOf.Switch S) en) in
+          let dv : slice_set nodes s (NodeOf.Switch done.1) ≡ v.1 = ap (λ (w : List ℕ × Node A). slice_set nodes s w.1) dy ∙ ap (λ (w : List ℕ × List (Node A)). w.1) hv in
+          subst IsStarted parts.1 (subst AreStarted dv (started_set nodes s (NodeOf.Switch done.1) started one))
   step_started routes e r net' may is = event_started kind plan nodes started e r net' tt is
 
 -- each event of the run keeps it

@@ -1,47 +1,20 @@
 -- An accepted network that stands still holds no token, where its channels don't depend on one another in a cycle.
-use Rattle.c104_check.specs.Parts.{Begins}
-use Rattle.c104_check.specs.Routes.{IsAccepted, IsEntryOf, Reaches, Routes, routes_of, settings_at, to_port}
-use Rattle.c104_check.specs.Walks.{port_of}
-use Rattle.c104_check.specs.declared.ports.SwitchPort.{SwitchPort}
-use Rattle.c104_plan.specs.PlanImage.{Image}
-use Rattle.c104_plan.specs.Plans.{IsPlan, Plan}
-use Rattle.c104_plan.specs.Wiring.{peer}
-use Rattle.c104_plan.specs.declared.ports.Port.{Port}
-use Rattle.c104_event.specs.declared.events.Event.{Event}
-use Rattle.c104_run.proofs.BalancePlaces.{switches_first}
-use Rattle.c104_run.proofs.BalanceWires.{peer_back, switch_inside}
-use Rattle.c104_net.proofs.Channels.{IsChannel}
-use Rattle.c104_net.proofs.LinkEvents.{world_of}
-use Rattle.c104_net.proofs.NodeViews.{ins, node_phase, outs, phases, terminal_fresh}
+use Rattle.c104_check.{proofs.RouteLemmas.own_link, specs.ChannelDependencies.{Depends, IsAcyclic, IsBeginningBy, IsRanking, MayComeBy}}
+use Rattle.c104_check.specs.{Parts.Begins, Routes.{IsAccepted, IsEntryOf, Reaches, Routes, routes_of, settings_at, to_port}, Walks.port_of}
+use Rattle.{c104_check.specs.declared.ports.SwitchPort.SwitchPort, c104_event.specs.declared.events.Event.Event}
+use Rattle.c104_net.proofs.{Channels.IsChannel, LinkEvents.world_of, NodeViews.{ins, node_phase, outs, phases, terminal_fresh}}
 use Rattle.c104_net.proofs.PacketInvariant.{Ghost, IsChosen, IsLabelled, IsPiece, IsWired, Suits, World, beside, group_at}
-use Rattle.c104_net.proofs.PlanWires.{wired}
-use Rattle.c104_net.proofs.Promises.{IsSettled, IsStart, each, starts}
-use Rattle.c104_net.proofs.RunSteps.{header_cases, header_positive}
-use Rattle.c104_net.proofs.SentBytes.{AreBytesSent}
-use Rattle.c104_net.proofs.StillWires.{arrived, claimed, drained, stuck}
-use Rattle.c104_check.proofs.RouteLemmas.{own_link}
-use Rattle.c104_run.specs.Balance.{IsSteady}
-use Rattle.c104_node.specs.Nodes.{is_switch, Node}
-use Rattle.c104_run.specs.Network.{Network, network_of, terminal_place}
-use Rattle.c104_node.specs.Quiet.{IsQuietNode}
-use Rattle.c104_run.specs.QuietNets.{IsQuiet}
-use Rattle.c104_run.specs.Runs.{IsDoneRun}
-use Rattle.c104_run.specs.Standstill.{IsStarted, IsStill}
-use Rattle.c104_check.specs.ChannelDependencies.{Depends, IsAcyclic, IsBeginningBy, IsRanking, MayComeBy}
-use Rattle.c104_node.specs.Traced.{traced_kind}
-use Rattle.c104_node.specs.Traces.{part}
-use Rattle.c104_net.specs.Unchanged.{IsUnchanged}
-use Rattle.c104_node.specs.declared.traced.Traced.{Traced}
-use Rattle.c104_regs.specs.Groups.{continues_at}
-use Rattle.c104_switch.specs.Actions.{Reply}
-use Rattle.c104_switch.specs.Switch.{Input}
-use Rattle.c104_switch.specs.declared.phase.Phase.{Phase}
-use Rattle.c104_switch.specs.declared.phase.Phase.TheVariants.{Fresh, Head, Sinking, Stream, Want}
-use Rattle.std.proofs.Common.{Bool, List, None, Option, Some, [], ap, arith, false, get_or, inl, inr, length, nat_lt, refl, slice_get, subst, suc, sym, true, zero, ℕ, ⊎_elim, ◌++◌, ◌+◌, ◌-◌, ◌<◌, ◌∙◌, ◌∷◌, ◌≡◌, ◌≢◌, ◌≤◌, ◌⊎◌}
-use Rattle.std.proofs.lemmas.Bool.{cases_eq}
-use Rattle.std.proofs.lemmas.Bool.Decides.{nat_tests}
-use Rattle.std.proofs.lemmas.Option.{slice_get-get_or}
-use Rattle.c104_node.specs.declared.node.NodeOf.TheVariants as node
+use Rattle.c104_net.proofs.{PlanWires.wired, Promises.{IsSettled, IsStart, each, starts}, RunSteps.{header_cases, header_positive}}
+use Rattle.c104_net.{proofs.{SentBytes.AreBytesSent, StillWires.{arrived, claimed, drained, stuck}}, specs.Unchanged.IsUnchanged}
+use Rattle.c104_node.specs.{Nodes.{Node, is_switch}, Quiet.IsQuietNode, Traced.traced_kind, Traces.part, declared.node.NodeOf.NodeOf}
+use Rattle.{c104_node.specs.declared.traced.Traced.Traced, c104_plan.specs.{PlanImage.Image, Plans.{IsPlan, Plan}, Wiring.peer}}
+use Rattle.{c104_plan.specs.declared.ports.Port.Port, c104_regs.specs.Groups.continues_at, c104_run.proofs.BalancePlaces.switches_first}
+use Rattle.c104_run.{proofs.BalanceWires.{peer_back, switch_inside}, specs.{Balance.IsSteady, Network.{Network, network_of}}}
+use Rattle.c104_run.specs.{Network.terminal_place, QuietNets.IsQuiet, Runs.IsDoneRun, Standstill.{IsStarted, IsStill}}
+use Rattle.c104_switch.specs.{Actions.Reply, Switch.Input, declared.phase.Phase.{Phase, TheVariants.{Fresh, Head, Sinking, Stream, Want}}}
+use Rattle.std.proofs.Common.{Bool, List, None, Option, Some, [], ap, arith, false, get_or, inl, inr, length, nat_lt, refl, slice_get}
+use Rattle.std.proofs.Common.{subst, suc, sym, true, zero, ℕ, ⊎_elim, ◌++◌, ◌+◌, ◌-◌, ◌<◌, ◌∙◌, ◌∷◌, ◌≡◌, ◌≢◌, ◌≤◌, ◌⊎◌}
+use Rattle.std.proofs.lemmas.{Bool.{Decides.nat_tests, cases_eq}, Option.slice_get-get_or}
 use Rattle.c104_plan.specs.declared.ports.Port.TheVariants as port
 
 -- the sum of what a function says of the numbers below a limit, which bounds each
@@ -165,7 +138,7 @@ module _ (plan : Plan) (image : Image) (is_plan : IsPlan plan) (labelled : IsLab
   owner_cases s o = by_node (slice_get nodes s) refl
     where
       by_node : (n : Option (Node Traced)) → slice_get nodes s ≡ n → ((k : ℕ) × (part Fresh (node_phase (port.Switch s k)) n ≡ Stream o)) ⊎ ((k : ℕ) → part Fresh (node_phase (port.Switch s k)) n ≢ Stream o)
-      by_node (Some (node.Switch S)) e = streaming S.inputs o
+      by_node (Some (NodeOf.Switch S)) e = streaming S.inputs o
       by_node n e = inr (λ k f. absurd (cc))
 
   -- what streams on from an input goes on where the output is empty
@@ -313,7 +286,7 @@ module _ (plan : Plan) (image : Image) (is_plan : IsPlan plan) (labelled : IsLab
           record { none_in = both.0; none_out = both.1; waits = fresh }
 
   node_quiet : (k : ℕ) (n : Node Traced) → slice_get nodes k ≡ Some n → IsQuietNode n
-  node_quiet k (node.Switch S) e = (
+  node_quiet k (NodeOf.Switch S) e = (
     λ i d inside.
         let p = get_or S.inputs i d in
         let is : slice_get S.inputs i ≡ Some p = slice_get-get_or S.inputs i d inside in
@@ -328,18 +301,18 @@ module _ (plan : Plan) (image : Image) (is_plan : IsPlan plan) (labelled : IsLab
         let items : outs plan nodes (port.Switch k i) ≡ p.items = rw (e, is) refl in
         sym items ∙ q.none_out,
   )
-  node_quiet k (node.Terminal T) e = by_test (nat_lt k (length plan.switches)) refl
+  node_quiet k (NodeOf.Terminal T) e = by_test (nat_lt k (length plan.switches)) refl
     where
-      by_test : (b : Bool) → nat_lt k (length plan.switches) ≡ b → IsQuietNode (node.Terminal T)
+      by_test : (b : Bool) → nat_lt k (length plan.switches) ≡ b → IsQuietNode (NodeOf.Terminal T)
       by_test true is =
           let inside : k < length plan.switches = grind (arith, nat_tests) in
-          let f : is_switch (node.Terminal T) ≡ true = switches_first plan nodes steady.in_place k (node.Terminal T) inside e in
+          let f : is_switch (NodeOf.Terminal T) ≡ true = switches_first plan nodes steady.in_place k (NodeOf.Terminal T) inside e in
           absurd (cc f)
       by_test false is =
           let past : length plan.switches ≤ k = grind (arith, nat_tests) in
           let t : ℕ = k - length plan.switches in
           let place : terminal_place plan t ≡ k = omega (arith, past) in
-          let here : slice_get nodes (terminal_place plan t) ≡ Some (node.Terminal T) = ap (slice_get nodes) place ∙ e in
+          let here : slice_get nodes (terminal_place plan t) ≡ Some (NodeOf.Terminal T) = ap (slice_get nodes) place ∙ e in
           let q = quiet_port (port.Terminal t) in
           let i : ins plan nodes (port.Terminal t) ≡ T.input.items = rw here refl in
           let o : outs plan nodes (port.Terminal t) ≡ T.output.items = rw here refl in

@@ -1,42 +1,22 @@
 -- What each event of a round says that isn't ready, in a network whose switches are started.
-use Rattle.c104_check.proofs.RouteLemmas.{own_link}
-use Rattle.c104_plan.specs.Plans.{IsPlan, Plan}
-use Rattle.c104_plan.specs.Wiring.{peer}
-use Rattle.c104_plan.specs.declared.ports.Port.{Port}
-use Rattle.c104_event.specs.declared.events.Event.{Event}
-use Rattle.c104_link.specs.Buffers.{Incoming, Outgoing}
-use Rattle.c104_run.proofs.BalanceWires.{peer_back, switch_inside, terminal_inside}
-use Rattle.c104_run.proofs.EventReasons.{event_reason_holds}
-use Rattle.c104_net.proofs.NodeViews.{ins, outs, phases}
-use Rattle.c104_run.proofs.UnreadyEvents.{StandsAt, switch_there, terminal_there, unready_answered}
-use Rattle.c104_run.specs.Balance.{IsSteady, credit_at, granted_at}
-use Rattle.c104_run.specs.Ends.{end_of}
-use Rattle.c104_run.specs.Network.{network_of, terminal_place}
-use Rattle.c104_node.specs.Nodes.{Node}
-use Rattle.c104_run.specs.ReasonMeanings.{IsCreditInReason, IsCreditOutReason, IsEnterReason, IsEventReason, IsLeaveReason, IsSaidAt}
-use Rattle.c104_run.specs.Reasons.{is_unready, network_why}
-use Rattle.c104_run.specs.Standstill.{IsStarted, IsStartedSwitch, IsStill, IsUnready}
-use Rattle.c104_node.specs.Terminals.{Terminal}
-use Rattle.c104_run.specs.declared.reason.Reason.{Reason}
-use Rattle.c104_regs.specs.Groups.{continues_at}
-use Rattle.c104_switch.specs.Group.{is_in_group}
-use Rattle.c104_switch.specs.Phases.{is_want}
-use Rattle.c104_switch.specs.ReasonMeanings.{IsEmitReason, IsGrantReason, IsAcceptReason, IsCreditedReason, IsReason, IsTakeReason}
-use Rattle.c104_switch.specs.Switch.{Input, Switch}
-use Rattle.c104_switch.specs.declared.phase.Phase.TheVariants.{Stream, Want}
-use Rattle.c104_switch.specs.declared.unready.Unready.{Unready}
-use Rattle.c104_switch.specs.declared.unready.Unready.TheVariants.{NoLink, NotStarted, NoToken, NoCredit, NotGranted, NoRoom, CreditFull}
-use Rattle.c104_switch.specs.declared.unready.Unready.TheVariants.{WantsOutput, OutputFull, WantsNothing, OutsideGroup, Owned}
-use Rattle.c104_switch.specs.declared.unready.Unready.TheVariants.{NoRoomForHeader}
-use Rattle.c104_token.specs.Kinds.{Kind}
-use Rattle.std.proofs.Common.{IfSome, IsSomeAnd, List, None, Option, Some, [], ap, arith, false, inl, inr, is_some, length}
-use Rattle.std.proofs.Common.{refl, slice_get, subst, sym, true, ℕ, ⊎_elim, ◌+◌, ◌<◌, ◌∙◌, ◌∷◌, ◌≡◌, ◌≤◌, ◌⊎◌}
-use Rattle.std.proofs.lemmas.Bool.{true≢false}
+use Rattle.{c104_check.proofs.RouteLemmas.own_link, c104_event.specs.declared.events.Event.Event, c104_link.specs.Buffers.Incoming}
+use Rattle.{c104_link.specs.Buffers.Outgoing, c104_net.proofs.NodeViews.{ins, outs, phases}, c104_node.specs.Nodes.Node}
+use Rattle.{c104_node.specs.{Terminals.Terminal, declared.node.NodeOf.NodeOf}, c104_plan.specs.{Plans.{IsPlan, Plan}, Wiring.peer}}
+use Rattle.{c104_plan.specs.declared.ports.Port.Port, c104_regs.specs.Groups.continues_at, c104_run.proofs.BalanceWires.peer_back}
+use Rattle.c104_run.proofs.{BalanceWires.{switch_inside, terminal_inside}, EventReasons.event_reason_holds, UnreadyEvents.StandsAt}
+use Rattle.c104_run.{proofs.UnreadyEvents.{switch_there, terminal_there, unready_answered}, specs.Balance.{IsSteady, credit_at, granted_at}}
+use Rattle.c104_run.specs.{Ends.end_of, Network.{network_of, terminal_place}, ReasonMeanings.{IsCreditInReason, IsCreditOutReason}}
+use Rattle.c104_run.specs.{ReasonMeanings.{IsEnterReason, IsEventReason, IsLeaveReason, IsSaidAt}, Reasons.{is_unready, network_why}}
+use Rattle.c104_run.specs.{Standstill.{IsStarted, IsStartedSwitch, IsStill, IsUnready}, declared.reason.Reason.Reason}
+use Rattle.c104_switch.specs.{Group.is_in_group, Phases.is_want, ReasonMeanings.{IsAcceptReason, IsCreditedReason, IsEmitReason}}
+use Rattle.c104_switch.specs.{ReasonMeanings.{IsGrantReason, IsReason, IsTakeReason}, Switch.{Input, Switch}}
+use Rattle.c104_switch.specs.declared.{actions.ActionOf.ActionOf, phase.Phase.TheVariants.{Stream, Want}}
+use Rattle.c104_switch.specs.declared.unready.Unready.TheVariants.{CreditFull, NoCredit, NoLink, NoRoom, NoRoomForHeader, NoToken}
+use Rattle.c104_switch.specs.declared.unready.Unready.TheVariants.{NotGranted, NotStarted, OutputFull, OutsideGroup, Owned, WantsNothing}
+use Rattle.{c104_switch.specs.declared.unready.Unready.{TheVariants.WantsOutput, Unready}, c104_token.specs.Kinds.Kind}
+use Rattle.std.proofs.Common.{IfSome, IsSomeAnd, List, None, Option, Some, [], ap, arith, false, inl, inr, is_some, length, refl, slice_get}
+use Rattle.std.proofs.{Common.{subst, sym, true, ℕ, ⊎_elim, ◌+◌, ◌<◌, ◌∙◌, ◌∷◌, ◌≡◌, ◌≤◌, ◌⊎◌}, lemmas.Bool.true≢false}
 use Rattle.std.proofs.lemmas.Option.{slice_get_cases, slice_get_within}
-use Rattle.c104_plan.specs.declared.ports.Port.TheVariants as port
-use Rattle.c104_event.specs.declared.events.Event.TheVariants as event
-use Rattle.c104_node.specs.declared.node.NodeOf.TheVariants as node
-use Rattle.c104_switch.specs.declared.actions.ActionOf.TheVariants as action
 
 pub element_at : {X : Type 0} (xs : List X) (k : ℕ) → k < length xs → (x : X) × (slice_get xs k ≡ Some x)
 element_at xs k h = elim (slice_get_cases xs k).1 [ inl found ↦ (found.0, found.2) | inr past ↦ absurd (omega (arith, h, past.0)) ]
@@ -47,13 +27,13 @@ module _ {A : Type 0} (S : Switch A) (started : IsStartedSwitch S) where
     within : length S.inputs ≤ l → ⊥
     within h = omega (arith, h, slice_get_within S.inputs l p is_input)
 
-    no_grant : (u : Unready) → IsReason S (action.CreditOut l) u → p.buffer.cap < length p.buffer.items + p.buffer.granted + 8
+    no_grant : (u : Unready) → IsReason S (ActionOf.CreditOut l) u → p.buffer.cap < length p.buffer.items + p.buffer.granted + 8
     no_grant NoLink r = absurd (within r)
     no_grant NotStarted r = absurd (true≢false (sym started.started ∙ r))
     no_grant NoRoom r = rw is_input at r
     no_grant u r = absurd (rw is_input at r)
 
-    no_entry : (x : A) (u : Unready) → IsReason S (action.Enter l x) u → p.buffer.granted ≡ 0
+    no_entry : (x : A) (u : Unready) → IsReason S (ActionOf.Enter l x) u → p.buffer.granted ≡ 0
     no_entry x NoLink r = absurd (within r)
     no_entry x NotGranted r = rw is_input at r
     no_entry x u r = absurd (rw is_input at r)
@@ -62,12 +42,12 @@ module _ {A : Type 0} (S : Switch A) (started : IsStartedSwitch S) where
     beyond : length S.outputs ≤ l → ⊥
     beyond h = omega (arith, h, slice_get_within S.outputs l q is_output)
 
-    no_credit : (u : Unready) → IsReason S (action.CreditIn l) u → 64 < q.credit + 8
+    no_credit : (u : Unready) → IsReason S (ActionOf.CreditIn l) u → 64 < q.credit + 8
     no_credit NoLink r = absurd (beyond r)
     no_credit CreditFull r = rw is_output at r
     no_credit u r = absurd (rw is_output at r)
 
-    no_leave : (u : Unready) → IsReason S (action.Leave l) u → 0 < q.credit → q.items ≡ []
+    no_leave : (u : Unready) → IsReason S (ActionOf.Leave l) u → 0 < q.credit → q.items ≡ []
     no_leave NoLink r some = absurd (beyond r)
     no_leave NoToken r some = rw is_output at r
     no_leave NoCredit r some = let k : (0 < length q.items) × (q.credit ≡ 0) = rw is_output at r in absurd (omega (arith, k.1, some))
@@ -80,7 +60,7 @@ module _ {A : Type 0} (S : Switch A) (started : IsStartedSwitch S) where
       ⊎ (((b : List A) × (g : ℕ) × (p.phase ≡ Want b g))
       ⊎ ((o : ℕ) × (p.phase ≡ Stream o) × ((q : Outgoing A) → slice_get S.outputs o ≡ Some q → 8 ≤ length q.items)))
 
-  no_turn : (l : ℕ) (p : Input A) (is_input : slice_get S.inputs l ≡ Some p) → l < 32 → (u : Unready) → IsReason S (action.Input l 0) u → IsStuck l p
+  no_turn : (l : ℕ) (p : Input A) (is_input : slice_get S.inputs l ≡ Some p) → l < 32 → (u : Unready) → IsReason S (ActionOf.Input l 0) u → IsStuck l p
   no_turn l p is_input below NoLink r = absurd (⊎_elim (λ (h : length S.settings ≤ l). omega (arith, h, below, started.settings)) (λ h. within l p is_input h) r)
   no_turn l p is_input below NotStarted r = absurd (true≢false (sym started.started ∙ r))
   no_turn l p is_input below NoToken r = inl (rw is_input at r)
@@ -89,7 +69,7 @@ module _ {A : Type 0} (S : Switch A) (started : IsStartedSwitch S) where
   no_turn l p is_input below u r = absurd (rw is_input at r)
 
   -- an input that wants a link with room gets it, unless another input has it
-  no_claim : (i g : ℕ) (b : List A) (p : Input A) (q : Outgoing A) → slice_get S.inputs i ≡ Some p → slice_get S.outputs g ≡ Some q → g < 32 → p.phase ≡ Want b g → q.items ≡ [] → length b ≤ 8 → (u : Unready) → IsReason S (action.Claim i g) u → (k : ℕ) × (owner : Input A) × (slice_get S.inputs k ≡ Some owner) × (owner.phase ≡ Stream g)
+  no_claim : (i g : ℕ) (b : List A) (p : Input A) (q : Outgoing A) → slice_get S.inputs i ≡ Some p → slice_get S.outputs g ≡ Some q → g < 32 → p.phase ≡ Want b g → q.items ≡ [] → length b ≤ 8 → (u : Unready) → IsReason S (ActionOf.Claim i g) u → (k : ℕ) × (owner : Input A) × (slice_get S.inputs k ≡ Some owner) × (owner.phase ≡ Stream g)
   no_claim i g b p q is_input is_output below wants none few NoLink r = absurd (⊎_elim (λ (h : length S.inputs ≤ i). within i p is_input h) (λ (h : (length S.settings ≤ g) ⊎ (length S.outputs ≤ g)). ⊎_elim (λ (h : length S.settings ≤ g). omega (arith, h, below, started.settings)) (λ h. beyond g q is_output h) h) r)
   no_claim i g b p q is_input is_output below wants none few NotStarted r = absurd (true≢false (sym started.started ∙ r))
   no_claim i g b p q is_input is_output below wants none few WantsNothing r = let k : is_want p.phase ≡ false = rw is_input at r in absurd (true≢false (sym (ap is_want wants) ∙ k))
@@ -126,7 +106,7 @@ module _ {A : Type 0} (kind : Kind A) (plan : Plan) (is_plan : IsPlan plan) (nod
   -- a switch's link with a wire, and its two sides
   record LinkAt (s l : ℕ) : Type 0 where
     switch : Switch A
-    here : slice_get nodes s ≡ Some (node.Switch switch)
+    here : slice_get nodes s ≡ Some (NodeOf.Switch switch)
     started_is : IsStartedSwitch switch
     below : l < 32
     inside : s < length plan.switches
@@ -135,46 +115,46 @@ module _ {A : Type 0} (kind : Kind A) (plan : Plan) (is_plan : IsPlan plan) (nod
     output : Outgoing A
     output_is : slice_get switch.outputs l ≡ Some output
 
-  link_at : (s l : ℕ) (Q : Port) → peer plan (port.Switch s l) ≡ Some Q → LinkAt s l
+  link_at : (s l : ℕ) (Q : Port) → peer plan (Port.Switch s l) ≡ Some Q → LinkAt s l
   link_at s l Q wired =
       let within = switch_inside plan is_plan s l Q wired in
       by_node within.0 within.1 (switch_there (length plan.switches) (length plan.terminals) nodes steady.in_place s within.0)
     where
       by_node : s < length plan.switches → l < 32 → StandsAt nodes s true → LinkAt s l
-      by_node inside below (node.Terminal T, e, k) = absurd (cc k)
-      by_node inside below (node.Switch S, e, k) =
-          let ok : IsStartedSwitch S = started s (node.Switch S) e in
+      by_node inside below (NodeOf.Terminal T, e, k) = absurd (cc k)
+      by_node inside below (NodeOf.Switch S, e, k) =
+          let ok : IsStartedSwitch S = started s (NodeOf.Switch S) e in
           let p = element_at S.inputs l (omega (arith, below, ok.inputs)) in
           let q = element_at S.outputs l (omega (arith, below, ok.outputs)) in
           record { switch = S; here = e; started_is = ok; below = below; inside = inside; input = p.0; input_is = p.1; output = q.0; output_is = q.1 }
 
-  terminal_at : (t : ℕ) (Q : Port) → peer plan (port.Terminal t) ≡ Some Q → (T : Terminal A) × (slice_get nodes (terminal_place plan t) ≡ Some (node.Terminal T))
+  terminal_at : (t : ℕ) (Q : Port) → peer plan (Port.Terminal t) ≡ Some Q → (T : Terminal A) × (slice_get nodes (terminal_place plan t) ≡ Some (NodeOf.Terminal T))
   terminal_at t Q wired = by_node (terminal_there (length plan.switches) (length plan.terminals) nodes steady.in_place t (terminal_place plan t) refl (terminal_inside plan is_plan t Q wired))
     where
-      by_node : StandsAt nodes (terminal_place plan t) false → (T : Terminal A) × (slice_get nodes (terminal_place plan t) ≡ Some (node.Terminal T))
-      by_node (node.Switch S, e, k) = absurd (cc k)
-      by_node (node.Terminal T, e, k) = (T, e)
+      by_node : StandsAt nodes (terminal_place plan t) false → (T : Terminal A) × (slice_get nodes (terminal_place plan t) ≡ Some (NodeOf.Terminal T))
+      by_node (NodeOf.Switch S, e, k) = absurd (cc k)
+      by_node (NodeOf.Terminal T, e, k) = (T, e)
 
   -- an input that holds nothing and grants nothing more has granted already
   granted_some : (Q P : Port) (c : ℕ) (u : Unready) → peer plan Q ≡ Some P → granted_at nodes (end_of plan Q) ≡ Some c → ins plan nodes Q ≡ [] → IsSaidAt (network_of plan nodes) IsCreditOutReason Q u → 0 < c
-  granted_some (port.Switch s l) P c u wired grants none said =
+  granted_some (Port.Switch s l) P c u wired grants none said =
       let k = link_at s l P wired in
       let e : Some k.input.buffer.granted ≡ Some c = sym (rw (k.here, k.input_is) refl) ∙ grants in
       let d : k.input.buffer.granted ≡ c = cc in
-      let see : ins plan nodes (port.Switch s l) ≡ k.input.buffer.items = rw (k.here, k.input_is) refl in
+      let see : ins plan nodes (Port.Switch s l) ≡ k.input.buffer.items = rw (k.here, k.input_is) refl in
       let empty : k.input.buffer.items ≡ [] = sym see ∙ none in
-      let r : IsReason k.switch (action.CreditOut l) u = rw k.here at said in
+      let r : IsReason k.switch (ActionOf.CreditOut l) u = rw k.here at said in
       let full : k.input.buffer.cap < 0 + k.input.buffer.granted + 8 = rw empty at (no_grant k.switch k.started_is l k.input k.input_is u r) in
       omega (arith, full, d, k.started_is.room l k.input k.input_is)
-  granted_some (port.Terminal t) P c u wired grants none said =
+  granted_some (Port.Terminal t) P c u wired grants none said =
       let k = terminal_at t P wired in
       let e : Some k.0.input.granted ≡ Some c = sym (rw k.1 refl) ∙ grants in
       let d : k.0.input.granted ≡ c = cc in
-      let see : ins plan nodes (port.Terminal t) ≡ k.0.input.items = rw k.1 refl in
+      let see : ins plan nodes (Port.Terminal t) ≡ k.0.input.items = rw k.1 refl in
       let empty : k.0.input.items ≡ [] = sym see ∙ none in
       let full : k.0.input.cap < length k.0.input.items + k.0.input.granted + 8 = full_of k.0.input u (rw k.1 at said) in
       let over : k.0.input.cap < 0 + k.0.input.granted + 8 = rw empty at full in
-      omega (arith, over, d, started (terminal_place plan t) (node.Terminal k.0) k.1)
+      omega (arith, over, d, started (terminal_place plan t) (NodeOf.Terminal k.0) k.1)
     where
       full_of : (b : Incoming A) (u : Unready) → IsGrantReason b u → b.cap < length b.items + b.granted + 8
       full_of b NoRoom r = r
@@ -182,13 +162,13 @@ module _ {A : Type 0} (kind : Kind A) (plan : Plan) (is_plan : IsPlan plan) (nod
 
   -- and so has one whose far end takes no more
   credit_some : (P Q : Port) (c : ℕ) (u : Unready) → peer plan P ≡ Some Q → credit_at nodes (end_of plan P) ≡ Some c → IsSaidAt (network_of plan nodes) IsCreditInReason P u → 0 < c
-  credit_some (port.Switch s l) Q c u wired has said =
+  credit_some (Port.Switch s l) Q c u wired has said =
       let k = link_at s l Q wired in
       let e : Some k.output.credit ≡ Some c = sym (rw (k.here, k.output_is) refl) ∙ has in
       let d : k.output.credit ≡ c = cc in
-      let r : IsReason k.switch (action.CreditIn l) u = rw k.here at said in
+      let r : IsReason k.switch (ActionOf.CreditIn l) u = rw k.here at said in
       omega (arith, d, no_credit k.switch k.started_is l k.output k.output_is u r)
-  credit_some (port.Terminal t) Q c u wired has said =
+  credit_some (Port.Terminal t) Q c u wired has said =
       let k = terminal_at t Q wired in
       let e : Some k.0.output.credit ≡ Some c = sym (rw k.1 refl) ∙ has in
       let d : k.0.output.credit ≡ c = cc in
@@ -201,18 +181,18 @@ module _ {A : Type 0} (kind : Kind A) (plan : Plan) (is_plan : IsPlan plan) (nod
 
   -- where there is credit, what can't leave isn't there
   none_leaves : (P Q : Port) (c : ℕ) (u : Unready) → peer plan P ≡ Some Q → credit_at nodes (end_of plan P) ≡ Some c → 0 < c → IsSaidAt (network_of plan nodes) IsLeaveReason P u → outs plan nodes P ≡ []
-  none_leaves (port.Switch s l) Q c u wired has some said =
+  none_leaves (Port.Switch s l) Q c u wired has some said =
       let k = link_at s l Q wired in
       let e : Some k.output.credit ≡ Some c = sym (rw (k.here, k.output_is) refl) ∙ has in
       let d : k.output.credit ≡ c = cc in
-      let see : outs plan nodes (port.Switch s l) ≡ k.output.items = rw (k.here, k.output_is) refl in
-      let r : IsReason k.switch (action.Leave l) u = rw k.here at said in
+      let see : outs plan nodes (Port.Switch s l) ≡ k.output.items = rw (k.here, k.output_is) refl in
+      let r : IsReason k.switch (ActionOf.Leave l) u = rw k.here at said in
       see ∙ no_leave k.switch k.started_is l k.output k.output_is u r (omega (arith, d, some))
-  none_leaves (port.Terminal t) Q c u wired has some said =
+  none_leaves (Port.Terminal t) Q c u wired has some said =
       let k = terminal_at t Q wired in
       let e : Some k.0.output.credit ≡ Some c = sym (rw k.1 refl) ∙ has in
       let d : k.0.output.credit ≡ c = cc in
-      let see : outs plan nodes (port.Terminal t) ≡ k.0.output.items = rw k.1 refl in
+      let see : outs plan nodes (Port.Terminal t) ≡ k.0.output.items = rw k.1 refl in
       see ∙ none_of k.0.output (omega (arith, d, some)) u (rw k.1 at said)
     where
       none_of : (q : Outgoing A) → 0 < q.credit → (u : Unready) → IsEmitReason q u → q.items ≡ []
@@ -222,13 +202,13 @@ module _ {A : Type 0} (kind : Kind A) (plan : Plan) (is_plan : IsPlan plan) (nod
 
   -- and a token can enter
   enters : (Q P : Port) (x : A) (c : ℕ) (u : Unready) → peer plan Q ≡ Some P → granted_at nodes (end_of plan Q) ≡ Some c → 0 < c → IsSaidAt (network_of plan nodes) IsEnterReason Q u → ⊥
-  enters (port.Switch s l) P x c u wired grants some said =
+  enters (Port.Switch s l) P x c u wired grants some said =
       let k = link_at s l P wired in
       let e : Some k.input.buffer.granted ≡ Some c = sym (rw (k.here, k.input_is) refl) ∙ grants in
       let d : k.input.buffer.granted ≡ c = cc in
-      let r : (y : A) → IsReason k.switch (action.Enter l y) u = rw k.here at said in
+      let r : (y : A) → IsReason k.switch (ActionOf.Enter l y) u = rw k.here at said in
       omega (arith, d, some, no_entry k.switch k.started_is l k.input k.input_is x u (r x))
-  enters (port.Terminal t) P x c u wired grants some said =
+  enters (Port.Terminal t) P x c u wired grants some said =
       let k = terminal_at t P wired in
       let e : Some k.0.input.granted ≡ Some c = sym (rw k.1 refl) ∙ grants in
       let d : k.0.input.granted ≡ c = cc in
@@ -244,16 +224,16 @@ module _ {A : Type 0} (kind : Kind A) (plan : Plan) (is_plan : IsPlan plan) (nod
   drained P Q wired none =
       let back : peer plan Q ≡ Some P = peer_back plan is_plan P Q wired in
       let level = steady.balanced P Q wired in
-      let grant = reason_of (event.Credit Q) (still.credits Q P back) in
+      let grant = reason_of (Event.Credit Q) (still.credits Q P back) in
       let some : 0 < level.0 = ⊎_elim
       (λ (h : (grant.0.port ≡ Q) × IsSaidAt (network_of plan nodes) IsCreditOutReason grant.0.port grant.0.unready). granted_some Q P level.0 grant.0.unready back level.2 none (subst (λ z. IsSaidAt (network_of plan nodes) IsCreditOutReason z grant.0.unready) h.0 h.1))
       (λ (h : (peer plan Q ≡ Some grant.0.port) × IsSaidAt (network_of plan nodes) IsCreditInReason grant.0.port grant.0.unready).
       let e : Some grant.0.port ≡ Some P = sym h.0 ∙ back in let same : grant.0.port ≡ P = cc in
       credit_some P Q level.0 grant.0.unready wired level.1 (subst (λ z. IsSaidAt (network_of plan nodes) IsCreditInReason z grant.0.unready) same h.1))
       grant.1 in
-      by_out back level.0 level.1 level.2 some (reason_of (event.Cross P) (still.crosses P Q wired)) (outs plan nodes P) refl
+      by_out back level.0 level.1 level.2 some (reason_of (Event.Cross P) (still.crosses P Q wired)) (outs plan nodes P) refl
     where
-      by_out : peer plan Q ≡ Some P → (c : ℕ) → credit_at nodes (end_of plan P) ≡ Some c → granted_at nodes (end_of plan Q) ≡ Some c → 0 < c → (r : Reason) × IsEventReason (network_of plan nodes) (event.Cross P) r → (out : List A) → outs plan nodes P ≡ out → outs plan nodes P ≡ []
+      by_out : peer plan Q ≡ Some P → (c : ℕ) → credit_at nodes (end_of plan P) ≡ Some c → granted_at nodes (end_of plan Q) ≡ Some c → 0 < c → (r : Reason) × IsEventReason (network_of plan nodes) (Event.Cross P) r → (out : List A) → outs plan nodes P ≡ out → outs plan nodes P ≡ []
       by_out back c has grants some r [] e = e
       by_out back c has grants some r (x ∷ xs) e = ⊎_elim
           (λ (h : (r.0.port ≡ P) × IsSaidAt (network_of plan nodes) IsLeaveReason r.0.port r.0.unready). none_leaves P Q c r.0.unready wired has some (subst (λ z. IsSaidAt (network_of plan nodes) IsLeaveReason z r.0.unready) h.0 h.1))
@@ -263,11 +243,11 @@ module _ {A : Type 0} (kind : Kind A) (plan : Plan) (is_plan : IsPlan plan) (nod
           r.1
 
   -- nothing stands at a terminal
-  pub arrived : (t : ℕ) (Q : Port) → peer plan (port.Terminal t) ≡ Some Q → ins plan nodes (port.Terminal t) ≡ []
+  pub arrived : (t : ℕ) (Q : Port) → peer plan (Port.Terminal t) ≡ Some Q → ins plan nodes (Port.Terminal t) ≡ []
   arrived t Q wired =
       let k = terminal_at t Q wired in
-      let r = reason_of (event.Drain t) (still.drains t (terminal_inside plan is_plan t Q wired)) in
-      let see : ins plan nodes (port.Terminal t) ≡ k.0.input.items = rw k.1 refl in
+      let r = reason_of (Event.Drain t) (still.drains t (terminal_inside plan is_plan t Q wired)) in
+      let see : ins plan nodes (Port.Terminal t) ≡ k.0.input.items = rw k.1 refl in
       see ∙ none_of k.0.input r.0.unready (rw k.1 at r.1.1)
     where
       none_of : (b : Incoming A) (u : Unready) → IsTakeReason b u → b.items ≡ []
@@ -275,39 +255,39 @@ module _ {A : Type 0} (kind : Kind A) (plan : Plan) (is_plan : IsPlan plan) (nod
       none_of b u r = absurd r
 
   -- an input with a token wants an output, or streams to one that is full
-  pub stuck : (s l : ℕ) (Q : Port) → peer plan (port.Switch s l) ≡ Some Q →
-      (ins plan nodes (port.Switch s l) ≡ [])
-      ⊎ (((b : List A) × (g : ℕ) × (phases plan nodes (port.Switch s l) ≡ Want b g))
-      ⊎ ((o : ℕ) × (phases plan nodes (port.Switch s l) ≡ Stream o) × ((R : Port) → peer plan (port.Switch s o) ≡ Some R → 8 ≤ length (outs plan nodes (port.Switch s o)))))
+  pub stuck : (s l : ℕ) (Q : Port) → peer plan (Port.Switch s l) ≡ Some Q →
+      (ins plan nodes (Port.Switch s l) ≡ [])
+      ⊎ (((b : List A) × (g : ℕ) × (phases plan nodes (Port.Switch s l) ≡ Want b g))
+      ⊎ ((o : ℕ) × (phases plan nodes (Port.Switch s l) ≡ Stream o) × ((R : Port) → peer plan (Port.Switch s o) ≡ Some R → 8 ≤ length (outs plan nodes (Port.Switch s o)))))
   stuck s l Q wired =
       let k = link_at s l Q wired in
-      let r = reason_of (event.Input s l 0) (still.inputs s l Q wired) in
-      let see : ins plan nodes (port.Switch s l) ≡ k.input.buffer.items = rw (k.here, k.input_is) refl in
-      let phase : phases plan nodes (port.Switch s l) ≡ k.input.phase = rw (k.here, k.input_is) refl in
+      let r = reason_of (Event.Input s l 0) (still.inputs s l Q wired) in
+      let see : ins plan nodes (Port.Switch s l) ≡ k.input.buffer.items = rw (k.here, k.input_is) refl in
+      let phase : phases plan nodes (Port.Switch s l) ≡ k.input.phase = rw (k.here, k.input_is) refl in
       ⊎_elim (λ (h : k.input.buffer.items ≡ []). inl (see ∙ h)) (λ (h : ((b : List A) × (g : ℕ) × (k.input.phase ≡ Want b g)) ⊎ ((o : ℕ) × (k.input.phase ≡ Stream o) × ((q : Outgoing A) → slice_get k.switch.outputs o ≡ Some q → 8 ≤ length q.items))). ⊎_elim
       (λ (h : (b : List A) × (g : ℕ) × (k.input.phase ≡ Want b g)). inr (inl (h.0, h.1, phase ∙ h.2)))
       (λ (h : (o : ℕ) × (k.input.phase ≡ Stream o) × ((q : Outgoing A) → slice_get k.switch.outputs o ≡ Some q → 8 ≤ length q.items)). inr (inr (h.0, phase ∙ h.1, λ R to_r. full s h.0 R k.switch k.here to_r h.2)))
       h)
       (no_turn k.switch k.started_is l k.input k.input_is k.below r.0.unready (rw k.here at r.1.1))
     where
-      full : (s o : ℕ) (R : Port) (S : Switch A) → slice_get nodes s ≡ Some (node.Switch S) → peer plan (port.Switch s o) ≡ Some R → ((q : Outgoing A) → slice_get S.outputs o ≡ Some q → 8 ≤ length q.items) → 8 ≤ length (outs plan nodes (port.Switch s o))
+      full : (s o : ℕ) (R : Port) (S : Switch A) → slice_get nodes s ≡ Some (NodeOf.Switch S) → peer plan (Port.Switch s o) ≡ Some R → ((q : Outgoing A) → slice_get S.outputs o ≡ Some q → 8 ≤ length q.items) → 8 ≤ length (outs plan nodes (Port.Switch s o))
       full s o R S here to_r each =
-          let ok : IsStartedSwitch S = started s (node.Switch S) here in
+          let ok : IsStartedSwitch S = started s (NodeOf.Switch S) here in
           let q = element_at S.outputs o (omega (arith, (switch_inside plan is_plan s o R to_r).1, ok.outputs)) in
-          let see : outs plan nodes (port.Switch s o) ≡ q.0.items = rw (here, q.1) refl in
+          let see : outs plan nodes (Port.Switch s o) ≡ q.0.items = rw (here, q.1) refl in
           subst (λ (xs : List A). 8 ≤ length xs) (sym see) (each q.0 q.1)
 
   -- a link that is wanted and has nothing is another input's
-  pub claimed : (s i g : ℕ) (b : List A) (Q R : Port) → peer plan (port.Switch s i) ≡ Some Q → peer plan (port.Switch s g) ≡ Some R → phases plan nodes (port.Switch s i) ≡ Want b g → outs plan nodes (port.Switch s g) ≡ [] → length b ≤ 8 → (k : ℕ) × (phases plan nodes (port.Switch s k) ≡ Stream g)
+  pub claimed : (s i g : ℕ) (b : List A) (Q R : Port) → peer plan (Port.Switch s i) ≡ Some Q → peer plan (Port.Switch s g) ≡ Some R → phases plan nodes (Port.Switch s i) ≡ Want b g → outs plan nodes (Port.Switch s g) ≡ [] → length b ≤ 8 → (k : ℕ) × (phases plan nodes (Port.Switch s k) ≡ Stream g)
   claimed s i g b Q R wired to_r wants none few =
       let k = link_at s i Q wired in
       let below : g < 32 = (switch_inside plan is_plan s g R to_r).1 in
       let q = element_at k.switch.outputs g (omega (arith, below, k.started_is.outputs)) in
-      let see : outs plan nodes (port.Switch s g) ≡ q.0.items = rw (k.here, q.1) refl in
-      let phase : phases plan nodes (port.Switch s i) ≡ k.input.phase = rw (k.here, k.input_is) refl in
-      let r = reason_of (event.Claim s i g) (still.claims s i g k.inside k.below below) in
+      let see : outs plan nodes (Port.Switch s g) ≡ q.0.items = rw (k.here, q.1) refl in
+      let phase : phases plan nodes (Port.Switch s i) ≡ k.input.phase = rw (k.here, k.input_is) refl in
+      let r = reason_of (Event.Claim s i g) (still.claims s i g k.inside k.below below) in
       let found = no_claim k.switch k.started_is i g b k.input q.0 k.input_is q.1 below (sym phase ∙ wants) (sym see ∙ none) few r.0.unready (rw k.here at r.1.1) in
       (found.0, seen_phase k.switch found.0 found.1 k.here found.2 found.3)
     where
-      seen_phase : (S : Switch A) (j : ℕ) (owner : Input A) → slice_get nodes s ≡ Some (node.Switch S) → slice_get S.inputs j ≡ Some owner → owner.phase ≡ Stream g → phases plan nodes (port.Switch s j) ≡ Stream g
+      seen_phase : (S : Switch A) (j : ℕ) (owner : Input A) → slice_get nodes s ≡ Some (NodeOf.Switch S) → slice_get S.inputs j ≡ Some owner → owner.phase ≡ Stream g → phases plan nodes (Port.Switch s j) ≡ Stream g
       seen_phase S j owner here is streams = rw (here, is) streams

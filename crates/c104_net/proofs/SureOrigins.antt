@@ -1,29 +1,12 @@
 -- Each terminator that arrives in a run from a start tells its packet.
-use Rattle.c104_plan.specs.Plans.{Plan}
-use Rattle.c104_event.specs.declared.events.Event.{Event}
-use Rattle.c104_run.proofs.NodeMaps.{starts_same}
-use Rattle.c104_run.proofs.StepMaps.{run_lift}
-use Rattle.c104_net.specs.Deliveries.{arrived_at}
-use Rattle.c104_run.specs.Network.{Network, network_of, terminal_place}
-use Rattle.c104_node.specs.Nodes.{Node, arrived_tokens}
-use Rattle.c104_node.specs.Origins.{IsSure}
-use Rattle.c104_run.specs.Runs.{IsDoneRun}
-use Rattle.c104_node.specs.Starts.{start_node}
-use Rattle.c104_node.specs.Traced.{sent_token, traced_kind}
-use Rattle.c104_run.specs.TracedRuns.{map_network}
-use Rattle.c104_node.specs.MappedNodes.{map_node}
-use Rattle.c104_node.specs.Traces.{part}
-use Rattle.c104_node.specs.declared.starts.NodeStart.{NodeStart}
-use Rattle.c104_node.specs.declared.traced.Traced.{Traced}
-use Rattle.c104_switch.specs.Actions.{Reply}
-use Rattle.c104_token.specs.Kinds.{Kind}
-use Rattle.c104_token.specs.declared.tokens.Token.{Token}
-use Rattle.c104_token.specs.declared.tokens.Token.TheVariants.{Byte}
-use Rattle.std.proofs.Common.{List, None, Option, Some, [], ap, map, option_map, refl, slice_get, subst, suc, sym, zero, ℕ, ◌∷◌, ◌≡◌}
-use Rattle.std.proofs.lemmas.Bool.{true≢false}
+use Rattle.{c104_event.specs.declared.events.Event.Event, c104_net.specs.Deliveries.arrived_at, c104_node.specs.MappedNodes.map_node}
+use Rattle.c104_node.specs.{Nodes.{Node, arrived_tokens}, Origins.IsSure, Starts.start_node, Traced.{sent_token, traced_kind}, Traces.part}
+use Rattle.{c104_node.specs.declared.{node.NodeOf.NodeOf, starts.NodeStart.NodeStart, traced.Traced.Traced}, c104_plan.specs.Plans.Plan}
+use Rattle.c104_run.{proofs.{NodeMaps.starts_same, StepMaps.run_lift}, specs.Network.{Network, network_of, terminal_place}}
+use Rattle.{c104_run.specs.{Runs.IsDoneRun, TracedRuns.map_network}, c104_switch.specs.Actions.Reply, c104_token.specs.Kinds.Kind}
+use Rattle.{c104_token.specs.declared.tokens.Token.{TheVariants.Byte, Token}, std.proofs.Common.{List, None, Option, Some, [], ap, map}}
+use Rattle.std.proofs.{Common.{option_map, refl, slice_get, subst, suc, sym, zero, ℕ, ◌∷◌, ◌≡◌}, lemmas.Bool.true≢false}
 use Rattle.std.proofs.lemmas.Option.{slice_get-map}
-use Rattle.c104_node.specs.declared.node.NodeOf.TheVariants as node
-use Rattle.c104_token.specs.declared.tokens.Token.TheVariants as token
 
 -- a token with what is sure of it
 abbrev Sure : Type 0
@@ -34,8 +17,8 @@ sure_sent terminal number place x = λ e. (record { terminal = terminal; number 
 
 sure_random : Token → Sure
 sure_random (Byte b) = (record { token = Byte b; source = None }, λ e. absurd (true≢false (sym e)))
-sure_random token.Eop = (sent_token 0 0 0 token.Eop, sure_sent 0 0 0 token.Eop)
-sure_random token.Eom = (sent_token 0 0 0 token.Eom, sure_sent 0 0 0 token.Eom)
+sure_random Token.Eop = (sent_token 0 0 0 Token.Eop, sure_sent 0 0 0 Token.Eop)
+sure_random Token.Eom = (sent_token 0 0 0 Token.Eom, sure_sent 0 0 0 Token.Eom)
 
 abbrev sure_kind : Kind Sure
 sure_kind = record {
@@ -62,7 +45,7 @@ all_sure : (l : List Sure) (k : ℕ) (x : Traced) → slice_get (map traced_of l
 all_sure l k x e = let one = mapped traced_of l k x e in subst IsSure one.2 one.0.1
 
 sure_node : (o : Option (Node Sure)) (k : ℕ) (x : Traced) → slice_get (part [] arrived_tokens (option_map (map_node traced_of) o)) k ≡ Some x → IsSure x
-sure_node (Some (node.Terminal T)) k x e = all_sure T.arrived k x e
+sure_node (Some (NodeOf.Terminal T)) k x e = all_sure T.arrived k x e
 sure_node o k x e = absurd (cc)
 
 -- whatever was done since a start, accepted or not, each terminator that arrived tells its packet

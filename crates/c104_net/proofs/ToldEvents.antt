@@ -1,22 +1,12 @@
 -- The events that the traces of a run tell are those that were done, in order.
-use Rattle.c104_plan.specs.Plans.{IsPlan, Plan}
-use Rattle.c104_event.specs.declared.events.Event.{Event}
-use Rattle.c104_net.proofs.LedEvents.{run_inside, trace_led}
-use Rattle.c104_net.proofs.MergedEvents.{TellEvents, all_from, event_alone, told_from}
-use Rattle.c104_run.specs.Balance.{AreInPlace}
-use Rattle.c104_node.specs.Nodes.{is_switch, Node}
-use Rattle.c104_run.specs.EventPlaces.{event_place}
-use Rattle.c104_net.specs.Leading.{events_at, led_events}
-use Rattle.c104_run.specs.Network.{network_of}
-use Rattle.c104_run.specs.Runs.{IsRunRecord, at_node, run_deeds}
-use Rattle.c104_net.specs.ToldEvents.{told_event, told_events}
-use Rattle.c104_node.specs.declared.acts.Entry.{Entry}
-use Rattle.c104_node.specs.declared.stamps.Stamp.{Stamp}
-use Rattle.c104_switch.specs.Actions.{Reply}
-use Rattle.c104_token.specs.Kinds.{plain_kind}
-use Rattle.c104_token.specs.declared.tokens.Token.{Token}
-use Rattle.std.proofs.Common.{List, None, Some, ap, arith, false, get_or, inl, inr, length, length-append, map, option_map, refl, replicate, slice_get, subst, sym, true, ℕ, ◌+◌, ◌<◌, ◌∙◌, ◌≡◌, ◌≤◌, ◌⊎◌}
-use Rattle.std.proofs.lemmas.List.{length-map, length-replicate}
+use Rattle.{c104_event.specs.declared.events.Event.Event, c104_net.proofs.{LedEvents.{run_inside, trace_led}, MergedEvents.TellEvents}}
+use Rattle.c104_net.{proofs.MergedEvents.{all_from, event_alone, told_from}, specs.{Leading.{events_at, led_events}, ToldEvents.told_event}}
+use Rattle.{c104_net.specs.ToldEvents.told_events, c104_node.specs.{Nodes.{Node, is_switch}, declared.acts.Entry.Entry}}
+use Rattle.{c104_node.specs.declared.stamps.Stamp.Stamp, c104_plan.specs.Plans.{IsPlan, Plan}, c104_run.specs.Balance.AreInPlace}
+use Rattle.c104_run.specs.{EventPlaces.event_place, Network.network_of, Runs.{IsRunRecord, at_node, run_deeds}}
+use Rattle.{c104_switch.specs.Actions.Reply, c104_token.specs.{Kinds.plain_kind, declared.tokens.Token.Token}, std.proofs.Common.List}
+use Rattle.std.proofs.Common.{None, Some, ap, arith, false, get_or, inl, inr, length, length-append, map, option_map, refl, replicate}
+use Rattle.std.proofs.{Common.{slice_get, subst, sym, true, ℕ, ◌+◌, ◌<◌, ◌∙◌, ◌≡◌, ◌≤◌, ◌⊎◌}, lemmas.List.{length-map, length-replicate}}
 use Rattle.std.proofs.lemmas.Option.{slice_get_cases, slice_get_within}
 
 module _ (plan : Plan) (is_plan : IsPlan plan) (stamps : ℕ → Stamp) (start nodes : List (Node Token)) (traces : List (List Entry)) (count : ℕ) (events : List (Event × Reply)) (of_run : IsRunRecord plain_kind plan stamps start nodes traces count events) where

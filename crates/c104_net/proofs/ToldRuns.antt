@@ -1,28 +1,11 @@
 -- Whichever events left the traces of a run are those that they tell, and there is only one such list with its replies.
-use Rattle.c104_plan.specs.Plans.{IsPlan, Plan}
-use Rattle.c104_event.specs.declared.events.Event.{Event}
-use Rattle.c104_event.specs.declared.faults.EventFault.{EventFault}
-use Rattle.c104_net.proofs.ToldEvents.{events_told}
-use Rattle.c104_net.proofs.TracedRuns.{run_after, traced_from}
-use Rattle.c104_net.specs.RunOrigins.{AreOrigins}
-use Rattle.c104_net.specs.ToldEvents.{told_events}
-use Rattle.c104_net.specs.ToldRuns.{TellsEachRun, TellsRun}
-use Rattle.c104_net.specs.TracedEnds.{traced_end}
-use Rattle.c104_node.specs.Nodes.{Node}
-use Rattle.c104_node.specs.Starts.{start_node}
-use Rattle.c104_node.specs.Traced.{traced_kind}
-use Rattle.c104_node.specs.declared.origins.Origin.{Origin}
-use Rattle.c104_node.specs.declared.stamps.Stamp.{Stamp}
-use Rattle.c104_node.specs.declared.traced.Traced.{Traced}
-use Rattle.c104_run.specs.Balance.{AreInPlace}
-use Rattle.c104_run.specs.EventRuns.{run_events}
-use Rattle.c104_run.specs.FinishedRecords.{FinishedRecord}
-use Rattle.c104_run.specs.Network.{Network, network_apply, network_of}
-use Rattle.c104_run.specs.Runs.{IsDoneRun, IsRunRecord}
-use Rattle.c104_run.specs.TracedRuns.{IsTracedRun}
-use Rattle.c104_switch.specs.Actions.{Reply}
-use Rattle.c104_token.specs.Kinds.{Kind, plain_kind}
-use Rattle.c104_token.specs.declared.tokens.Token.{Token}
+use Rattle.{c104_event.specs.declared.{events.Event.Event, faults.EventFault.EventFault}, c104_net.proofs.ToldEvents.events_told}
+use Rattle.c104_net.{proofs.TracedRuns.{run_after, traced_from}, specs.{RunOrigins.AreOrigins, ToldEvents.told_events}}
+use Rattle.{c104_net.specs.{ToldRuns.{TellsEachRun, TellsRun}, TracedEnds.traced_end}, c104_node.specs.{Nodes.Node, Starts.start_node}}
+use Rattle.c104_node.specs.{Traced.traced_kind, declared.{origins.Origin.Origin, stamps.Stamp.Stamp, traced.Traced.Traced}}
+use Rattle.{c104_plan.specs.Plans.{IsPlan, Plan}, c104_run.specs.{Balance.AreInPlace, EventRuns.run_events, FinishedRecords.FinishedRecord}}
+use Rattle.c104_run.specs.{Network.{Network, network_apply, network_of}, Runs.{IsDoneRun, IsRunRecord}, TracedRuns.IsTracedRun}
+use Rattle.{c104_switch.specs.Actions.Reply, c104_token.specs.{Kinds.{Kind, plain_kind}, declared.tokens.Token.Token}}
 use Rattle.std.proofs.Common.{List, Ok, Result, [], ap, map, refl, subst, sym, ℕ, ◌∙◌, ◌∷◌, ◌≡◌}
 
 -- the event alone, without its reply

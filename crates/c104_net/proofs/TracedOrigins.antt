@@ -1,50 +1,30 @@
 -- The origins that the tagged tokens of a network tell are those of its run.
-use Rattle.std.proofs.Common.{◌≡◌, ◌∙◌, ◌≤◌, ◌++◌, ◌<◌, ◌+◌, ℕ, zero, suc, All, List, [], ◌∷◌, Some, None, get_or, length, map, slice_get, take, refl, sym, ap, subst, arith, append-nil, inl, inr}
-use Rattle.std.proofs.lemmas.Bool.{cases_eq}
-use Rattle.std.proofs.lemmas.List.{map-append, map_more}
-use Rattle.c104_plan.specs.Plans.{Plan, IsPlan}
-use Rattle.c104_node.specs.declared.acts.Entry.{Entry}
-use Rattle.c104_node.specs.declared.node.NodeOf.TheVariants as node
-use Rattle.c104_node.specs.declared.starts.NodeStart.{NodeStart}
-use Rattle.c104_run.specs.Finished.{network_finish}
-use Rattle.c104_node.specs.Nodes.{terminals_of, node_arrived, Node}
-use Rattle.c104_run.specs.FinishedRecords.{record_finish, FinishedRecord}
-use Rattle.c104_run.specs.MeteredRuns.{AreOwnNodes}
-use Rattle.c104_run.specs.Network.{network_of, Network}
-use Rattle.c104_run.specs.NetRecords.{IsWithinLimit, NetRecord}
-use Rattle.c104_node.specs.declared.origins.Origin.{Origin}
-use Rattle.c104_net.specs.RunOrigins.{AreOrigins}
-use Rattle.c104_run.specs.Runs.{at_node, run_deeds}
-use Rattle.c104_node.specs.Starts.{start_node}
-use Rattle.c104_node.specs.Tagged.{tag, tagged_kind, tagged_origins}
-use Rattle.c104_node.specs.declared.tagged.TaggedToken.{TaggedToken}
-use Rattle.c104_node.specs.declared.traced.Traced.{Traced}
-use Rattle.c104_run.specs.TracedRuns.{map_network, IsTracedRun}
-use Rattle.c104_node.specs.MappedNodes.{map_node}
-use Rattle.c104_net.specs.TracedEnds.{traced_end}
-use Rattle.c104_node.specs.Traces.{seatless}
-use Rattle.c104_run.specs.RecordedNets.{places_record, IsRecordedNet}
-use Rattle.c104_run.specs.RecordedPlaces.{counted_keeps, counted_reading}
-use Rattle.c104_node.specs.TracedRecords.{traced_start, traced_state, traced_trace, IsFit, TracedRecord}
-use Rattle.c104_run.proofs.Finishing.{terminals_append}
-use Rattle.c104_run.proofs.RecordedNets.{states_shown}
-use Rattle.c104_net.proofs.RunOrigins.{ends_traced, origins_lent, terminal_origins, IsKeptRun}
-use Rattle.c104_net.proofs.SentBytes.{run_bytes, IsFitEntry}
-use Rattle.c104_net.proofs.KnownTokens.{lists_same, tagged_lists}
-use Rattle.c104_net.proofs.SentCounts.{bounded_first}
-use Rattle.c104_net.proofs.OwnEnds.{ends_again, one_part, own_end, run_again, tagged_again}
+use Rattle.c104_net.proofs.{KnownTokens.{lists_same, tagged_lists}, OwnEnds.{ends_again, one_part, own_end, run_again, tagged_again}}
+use Rattle.c104_net.proofs.{RunOrigins.{IsKeptRun, ends_traced, origins_lent, terminal_origins}, SentBytes.{IsFitEntry, run_bytes}}
+use Rattle.c104_net.{proofs.SentCounts.bounded_first, specs.{RunOrigins.AreOrigins, TracedEnds.traced_end}}
+use Rattle.c104_node.specs.{MappedNodes.map_node, Nodes.{Node, node_arrived, terminals_of}, Starts.start_node, Tagged.{tag, tagged_kind}}
+use Rattle.c104_node.specs.{Tagged.tagged_origins, TracedRecords.{IsFit, TracedRecord, traced_start, traced_state, traced_trace}}
+use Rattle.c104_node.specs.{Traces.seatless, declared.{acts.Entry.Entry, node.NodeOf.NodeOf, origins.Origin.Origin}}
+use Rattle.c104_node.specs.declared.{starts.NodeStart.NodeStart, tagged.TaggedToken.TaggedToken, traced.Traced.Traced}
+use Rattle.{c104_plan.specs.Plans.{IsPlan, Plan}, c104_run.proofs.{Finishing.terminals_append, RecordedNets.states_shown}}
+use Rattle.c104_run.specs.{Finished.network_finish, FinishedRecords.{FinishedRecord, record_finish}, MeteredRuns.AreOwnNodes}
+use Rattle.c104_run.specs.{NetRecords.{IsWithinLimit, NetRecord}, Network.{Network, network_of}, RecordedNets.IsRecordedNet}
+use Rattle.c104_run.specs.{RecordedNets.places_record, RecordedPlaces.{counted_keeps, counted_reading}, Runs.{at_node, run_deeds}}
+use Rattle.{c104_run.specs.TracedRuns.{IsTracedRun, map_network}, std.proofs.Common.{All, List, None, Some, [], ap, append-nil, arith}}
+use Rattle.std.proofs.Common.{get_or, inl, inr, length, map, refl, slice_get, subst, suc, sym, take, zero, ℕ, ◌++◌, ◌+◌, ◌<◌, ◌∙◌, ◌∷◌, ◌≡◌}
+use Rattle.std.proofs.{Common.◌≤◌, lemmas.{Bool.cases_eq, List.{map-append, map_more}}}
 
 -- the origins of what arrived at the terminals among nodes
 abbrev pub arrived_origins : List TracedRecord → List (List Origin)
 arrived_origins nodes = map tagged_lists (terminals_of (map traced_state nodes))
 
 origins_one : (n : Node TaggedToken) (tokens : List TaggedToken) → Some tokens ≡ node_arrived n → map tagged_lists (terminals_of (n ∷ [])) ≡ tagged_origins tokens ∷ []
-origins_one (node.Switch s) tokens is = cc
-origins_one (node.Terminal t) tokens is = let same : tokens ≡ t.arrived = cc in ap (λ ts. tagged_origins ts ∷ []) (sym same)
+origins_one (NodeOf.Switch s) tokens is = cc
+origins_one (NodeOf.Terminal t) tokens is = let same : tokens ≡ t.arrived = cc in ap (λ ts. tagged_origins ts ∷ []) (sym same)
 
 origins_none : (n : Node TaggedToken) → None ≡ node_arrived n → map tagged_lists (terminals_of (n ∷ [])) ≡ []
-origins_none (node.Switch s) is = refl
-origins_none (node.Terminal t) is = cc
+origins_none (NodeOf.Switch s) is = refl
+origins_none (NodeOf.Terminal t) is = cc
 
 -- those of one node more
 next_origins : (nodes : List TracedRecord) (i : ℕ) (n : TracedRecord) → i < length nodes → n ≡ get_or nodes i n → arrived_origins (take (i + 1) nodes) ≡ arrived_origins (take i nodes) ++ map tagged_lists (terminals_of (n.state ∷ []))

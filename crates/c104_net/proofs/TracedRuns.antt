@@ -1,21 +1,9 @@
 -- Runs over tokens that tell where they came from, and what is promised of them.
-use Rattle.c104_plan.specs.Plans.{Plan}
-use Rattle.c104_event.specs.declared.events.Event.{Event}
-use Rattle.c104_event.specs.declared.faults.EventFault.{EventFault}
-use Rattle.c104_run.proofs.NodeMaps.{starts_same}
-use Rattle.c104_run.proofs.StepMaps.{run_lift}
-use Rattle.c104_run.specs.EventRuns.{run_events, unless_fault}
-use Rattle.c104_run.specs.Network.{Network, network_apply, network_of}
-use Rattle.c104_node.specs.Nodes.{Node}
-use Rattle.c104_run.specs.Runs.{IsDoneRun}
-use Rattle.c104_node.specs.Starts.{start_node}
-use Rattle.c104_node.specs.Traced.{traced_kind}
-use Rattle.c104_run.specs.TracedRuns.{IsTracedRun, map_network}
-use Rattle.c104_node.specs.declared.starts.NodeStart.{NodeStart}
-use Rattle.c104_node.specs.declared.traced.Traced.{Traced}
-use Rattle.c104_switch.specs.Actions.{Reply}
-use Rattle.c104_token.specs.Kinds.{Kind, plain_kind}
-use Rattle.c104_token.specs.declared.tokens.Token.{Token}
+use Rattle.{c104_event.specs.declared.{events.Event.Event, faults.EventFault.EventFault}, c104_node.specs.{Nodes.Node, Starts.start_node}}
+use Rattle.{c104_node.specs.{Traced.traced_kind, declared.{starts.NodeStart.NodeStart, traced.Traced.Traced}}, c104_plan.specs.Plans.Plan}
+use Rattle.c104_run.{proofs.{NodeMaps.starts_same, StepMaps.run_lift}, specs.{EventRuns.{run_events, unless_fault}, Network.Network}}
+use Rattle.c104_run.specs.{Network.{network_apply, network_of}, Runs.IsDoneRun, TracedRuns.{IsTracedRun, map_network}}
+use Rattle.{c104_switch.specs.Actions.Reply, c104_token.specs.{Kinds.{Kind, plain_kind}, declared.tokens.Token.Token}}
 use Rattle.std.proofs.Common.{List, Result, [], ap, map, refl, subst, sym, ◌∙◌, ◌∷◌, ◌≡◌}
 
 -- the token alone

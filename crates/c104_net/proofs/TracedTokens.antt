@@ -1,46 +1,31 @@
 -- The tokens that wait in a network of tagged tokens are what is kept of those at the end of its run.
-use Rattle.std.proofs.Common.{◌≡◌, ◌∙◌, ℕ, List, Option, None, length, map, nat_lt, option_map, slice_get, refl, sym, ap}
+use Rattle.{c104_net.{proofs.TracedOrigins.tagged_end, specs.TracedEnds.traced_end}, c104_node.specs.MappedNodes.{map_input, map_node}}
+use Rattle.c104_node.specs.{MappedNodes.map_outgoing, Nodes.Node, Places.{Shown, states}, Tagged.tag, TracedRecords.TracedRecord}
+use Rattle.c104_node.specs.{TracedRecords.{counted_shown, traced_state}, Views.{node_input_token, node_output_token, nodes_input_token}}
+use Rattle.c104_node.specs.{Views.nodes_output_token, declared.{node.NodeOf.NodeOf, tagged.TaggedToken.TaggedToken}}
+use Rattle.{c104_plan.specs.{Plans.{IsPlan, Plan}, declared.ports.Port.Port}, c104_run.proofs.{FirstRecords.map_twice, TokenMaps.bind_both}}
+use Rattle.c104_run.{proofs.TokenMaps.if_map, specs.{FinishedRecords.record_finish, NetRecords.NetRecord, NetViews.network_input_token}}
+use Rattle.c104_run.specs.{NetViews.network_output_token, Network.{Network, network_of, terminal_place}, RecordedNets.IsRecordedNet}
+use Rattle.{c104_run.specs.{RecordedNets.places_record, RecordedPlaces.counted_reading, TracedRuns.map_network}, std.proofs.Common.List}
+use Rattle.std.proofs.Common.{None, Option, ap, length, map, nat_lt, option_map, refl, slice_get, sym, ℕ, ◌∙◌, ◌≡◌}
 use Rattle.std.proofs.lemmas.Option.{slice_get-map}
-use Rattle.c104_plan.specs.Plans.{Plan, IsPlan}
-use Rattle.c104_plan.specs.declared.ports.Port.{Port}
-use Rattle.c104_plan.specs.declared.ports.Port.TheVariants as port
-use Rattle.c104_node.specs.declared.node.NodeOf.TheVariants as node
-use Rattle.c104_run.specs.FinishedRecords.{record_finish}
-use Rattle.c104_run.specs.NetRecords.{NetRecord}
-use Rattle.c104_run.specs.Network.{network_of, terminal_place, Network}
-use Rattle.c104_node.specs.Nodes.{Node}
-use Rattle.c104_node.specs.Places.{Shown, states}
-use Rattle.c104_run.specs.RecordedNets.{places_record, IsRecordedNet}
-use Rattle.c104_run.specs.RecordedPlaces.{counted_reading}
-use Rattle.c104_node.specs.TracedRecords.{counted_shown}
-use Rattle.c104_node.specs.Tagged.{tag}
-use Rattle.c104_node.specs.declared.tagged.TaggedToken.{TaggedToken}
-use Rattle.c104_net.specs.TracedEnds.{traced_end}
-use Rattle.c104_node.specs.TracedRecords.{traced_state, TracedRecord}
-use Rattle.c104_run.specs.TracedRuns.{map_network}
-use Rattle.c104_node.specs.MappedNodes.{map_input, map_node, map_outgoing}
-use Rattle.c104_node.specs.Views.{node_input_token, node_output_token, nodes_input_token, nodes_output_token}
-use Rattle.c104_run.specs.NetViews.{network_input_token, network_output_token}
-use Rattle.c104_run.proofs.FirstRecords.{map_twice}
-use Rattle.c104_run.proofs.TokenMaps.{bind_both, if_map}
-use Rattle.c104_net.proofs.TracedOrigins.{tagged_end}
 
 -- where each token is mapped, each that waits is
 module _ {A B : Type 0} (f : A → B) where
   input_map : (l k : ℕ) (n : Node A) → node_input_token l k (map_node f n) ≡ option_map f (node_input_token l k n)
-  input_map l k (node.Switch s) = bind_both (map_input f) f (slice_get s.inputs l) _ _ _ (slice_get-map (map_input f) s.inputs l) (λ p. slice_get-map f p.buffer.items k)
-  input_map l k (node.Terminal t) = slice_get-map f t.input.items k
+  input_map l k (NodeOf.Switch s) = bind_both (map_input f) f (slice_get s.inputs l) _ _ _ (slice_get-map (map_input f) s.inputs l) (λ p. slice_get-map f p.buffer.items k)
+  input_map l k (NodeOf.Terminal t) = slice_get-map f t.input.items k
 
   inputs_map : (nodes : List (Node A)) (place l k : ℕ) → nodes_input_token (map (map_node f) nodes) place l k ≡ option_map f (nodes_input_token nodes place l k)
   inputs_map nodes place l k = bind_both (map_node f) f (slice_get nodes place) _ _ _ (slice_get-map (map_node f) nodes place) (input_map l k)
 
   network_input_map : (net : Network A) (p : Port) (k : ℕ) → network_input_token (map_network f net) p k ≡ option_map f (network_input_token net p k)
-  network_input_map net (port.Switch s l) k = if_map (option_map f) (nat_lt s (length net.plan.switches)) _ (nodes_input_token net.nodes s l k) None _ _ refl (inputs_map net.nodes s l k) refl
-  network_input_map net (port.Terminal t) k = if_map (option_map f) (nat_lt t (length net.plan.terminals)) _ (nodes_input_token net.nodes (terminal_place net.plan t) 0 k) None _ _ refl (inputs_map net.nodes (terminal_place net.plan t) 0 k) refl
+  network_input_map net (Port.Switch s l) k = if_map (option_map f) (nat_lt s (length net.plan.switches)) _ (nodes_input_token net.nodes s l k) None _ _ refl (inputs_map net.nodes s l k) refl
+  network_input_map net (Port.Terminal t) k = if_map (option_map f) (nat_lt t (length net.plan.terminals)) _ (nodes_input_token net.nodes (terminal_place net.plan t) 0 k) None _ _ refl (inputs_map net.nodes (terminal_place net.plan t) 0 k) refl
 
   output_map : (l k : ℕ) (n : Node A) → node_output_token l k (map_node f n) ≡ option_map f (node_output_token l k n)
-  output_map l k (node.Switch s) = bind_both (map_outgoing f) f (slice_get s.outputs l) _ _ _ (slice_get-map (map_outgoing f) s.outputs l) (λ q. slice_get-map f q.items k)
-  output_map l k (node.Terminal t) = refl
+  output_map l k (NodeOf.Switch s) = bind_both (map_outgoing f) f (slice_get s.outputs l) _ _ _ (slice_get-map (map_outgoing f) s.outputs l) (λ q. slice_get-map f q.items k)
+  output_map l k (NodeOf.Terminal t) = refl
 
   network_output_map : (net : Network A) (s l k : ℕ) → network_output_token (map_network f net) s l k ≡ option_map f (network_output_token net s l k)
   network_output_map net s l k = if_map (option_map f) (nat_lt s (length net.plan.switches)) _ (nodes_output_token net.nodes s l k) None _ _ refl

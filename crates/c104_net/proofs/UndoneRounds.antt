@@ -1,45 +1,20 @@
 -- Where no event of a round is done the network stands still, or an inbox or a trace is full.
-use Rattle.c104_plan.proofs.RangeLists.{all_of_each}
-use Rattle.c104_plan.specs.Plans.{IsPlan, Plan}
-use Rattle.c104_plan.specs.Wiring.{peer}
-use Rattle.c104_plan.specs.declared.ports.Port.{Port}
-use Rattle.c104_event.specs.declared.events.Event.{Event}
-use Rattle.c104_event.specs.declared.faults.EventFault.{EventFault}
-use Rattle.c104_link.proofs.MadeSteps.{All-place}
-use Rattle.c104_plan.proofs.Wires.{wiring}
-use Rattle.c104_run.proofs.ActAttempts.{claim_possible, drain_possible, turn_possible}
-use Rattle.c104_run.proofs.IdleEvents.{wired_inside}
-use Rattle.c104_net.proofs.RoundMembers.{each_of_round}
-use Rattle.c104_run.proofs.RoundRuns.{Applied}
-use Rattle.c104_net.specs.DeadlockFreedom.{HasFullInbox, HasFullTrace, IsUndone, NothingDone}
-use Rattle.c104_run.specs.NetRecords.{NetRecord, is_done}
-use Rattle.c104_run.specs.Network.{Network, event_fault, event_limit, network_apply, network_step, outcome_if_possible, outcome_if_ready, outcome_within_limit, terminal_place, wired_fault}
-use Rattle.c104_node.specs.Nodes.{Node, arrived_tokens}
-use Rattle.c104_run.specs.RecordedRuns.{record_apply, record_stage}
-use Rattle.c104_run.specs.Rounds.{round}
-use Rattle.c104_run.specs.Stages.{stage_full}
-use Rattle.c104_run.specs.Standstill.{IsUnready, StandsStill}
-use Rattle.c104_run.specs.EventActs.{crossing_acts, event_acts, port_place}
-use Rattle.c104_node.specs.PortActs.{Acts, act_limit, acts_limit, inbox_limit}
-use Rattle.c104_node.specs.declared.acts.ActOf.TheVariants as act
-use Rattle.c104_node.specs.declared.crossings.Crossing.{Crossing}
-use Rattle.c104_node.specs.declared.crossings.Crossing.TheVariants as crossing
-use Rattle.c104_link.specs.Steps.{◌>>=◌}
-use Rattle.c104_switch.specs.declared.actions.ActionOf.TheVariants as action
-use Rattle.c104_node.specs.Traces.{full_at, part, is_trace_full}
-use Rattle.c104_run.specs.EventDeeds.{acts_full, event_full}
-use Rattle.c104_node.specs.declared.acts.Entry.{Entry}
-use Rattle.c104_switch.specs.Actions.{Action, Reply}
-use Rattle.c104_token.specs.Kinds.{plain_kind}
-use Rattle.c104_token.specs.declared.tokens.Token.{Token}
-use Rattle.std.specs.List.{AllByRecursion}
+use Rattle.{c104_event.specs.declared.{events.Event.Event, faults.EventFault.EventFault}, c104_link.proofs.MadeSteps.All-place}
+use Rattle.{c104_link.specs.Steps.◌>>=◌, c104_net.{proofs.RoundMembers.each_of_round, specs.DeadlockFreedom.{HasFullInbox, HasFullTrace}}}
+use Rattle.{c104_net.specs.DeadlockFreedom.{IsUndone, NothingDone}, c104_node.specs.{Nodes.{Node, arrived_tokens}, PortActs.Acts}}
+use Rattle.c104_node.specs.{PortActs.{act_limit, acts_limit, inbox_limit}, Traces.{full_at, is_trace_full, part}, declared.acts.ActOf.ActOf}
+use Rattle.{c104_node.specs.declared.{acts.Entry.Entry, crossings.Crossing.Crossing}, c104_plan.proofs.RangeLists.all_of_each}
+use Rattle.c104_plan.{proofs.Wires.wiring, specs.{Plans.{IsPlan, Plan}, Wiring.peer, declared.ports.Port.Port}}
+use Rattle.c104_run.proofs.{ActAttempts.{claim_possible, drain_possible, turn_possible}, IdleEvents.wired_inside, RoundRuns.Applied}
+use Rattle.c104_run.specs.{EventActs.{crossing_acts, event_acts, port_place}, EventDeeds.{acts_full, event_full}, NetRecords.NetRecord}
+use Rattle.c104_run.specs.{NetRecords.is_done, Network.{Network, event_fault, event_limit, network_apply, network_step}}
+use Rattle.c104_run.specs.Network.{outcome_if_possible, outcome_if_ready, outcome_within_limit, terminal_place, wired_fault}
+use Rattle.c104_run.specs.{RecordedRuns.{record_apply, record_stage}, Rounds.round, Stages.stage_full, Standstill.{IsUnready, StandsStill}}
+use Rattle.c104_switch.specs.{Actions.{Action, Reply}, declared.actions.{ActionOf.ActionOf, ReplyOf.ReplyOf}}
+use Rattle.{c104_token.specs.{Kinds.plain_kind, declared.tokens.Token.Token}, std.proofs.Common.{Bool, Err, List, None, Ok, Option, Result}}
+use Rattle.std.proofs.Common.{Some, [], ap, false, if◌then◌else◌, inl, inr, length, map, nat_lt, refl, slice_get, suc, sym, true, unwrap_or}
+use Rattle.std.{proofs.{Common.{ℕ, ⊎_elim, ◌&&◌, ◌<◌, ◌||◌, ◌∙◌, ◌∷◌, ◌≡◌, ◌⊎◌}, lemmas.Option.slice_get-map}, specs.List.AllByRecursion}
 use Rattle.std.specs.Option.{option_map}
-use Rattle.std.proofs.Common.{Bool, Err, List, None, Ok, Option, Result, Some, [], ap, false, if◌then◌else◌, inl, inr, length, map, nat_lt, refl, slice_get, suc, sym, true, unwrap_or, ℕ, ⊎_elim, ◌&&◌, ◌<◌, ◌||◌, ◌∙◌, ◌∷◌, ◌≡◌, ◌⊎◌}
-use Rattle.std.proofs.lemmas.Option.{slice_get-map}
-use Rattle.c104_plan.specs.declared.ports.Port.TheVariants as port
-use Rattle.c104_event.specs.declared.events.Event.TheVariants as event
-use Rattle.c104_event.specs.declared.faults.EventFault.TheVariants as fault
-use Rattle.c104_switch.specs.declared.actions.ReplyOf.TheVariants as reply
 
 module _ (net : NetRecord) where
   abbrev plan : Plan
@@ -88,13 +63,13 @@ module _ (net : NetRecord) where
   hindered e possible limited undone = by_full (stage_full true (record_stage net) e) refl (is_done (network_apply plain_kind net.network e).0) refl undone (λ f. limited f)
     where
       by_answer : (answer : Result Reply EventFault) → (network_apply plain_kind net.network e).0 ≡ answer → is_done answer ≡ false → ((f : EventFault) → answer ≡ Err f → HasFullInbox net) → Hindered e
-      by_answer (Ok reply.NotReady) is none limit = inl is
+      by_answer (Ok ReplyOf.NotReady) is none limit = inl is
       by_answer (Err f) is none limit = inr (inl (limit f refl))
       by_answer answer is none limit = absurd (cc none)
 
       by_full : (full : Bool) → stage_full true (record_stage net) e ≡ full → (done : Bool) → is_done (network_apply plain_kind net.network e).0 ≡ done →
-          is_done (if◌then◌else◌ {A = Due} (full && done) (Err fault.TraceFull, net.network) (network_apply plain_kind net.network e)).0 ≡ false →
-          ((f : EventFault) → event_limit net.network e ≡ Some f → (if◌then◌else◌ {A = Due} (full && done) (Err fault.TraceFull, net.network) (network_apply plain_kind net.network e)).0 ≡ Err f → HasFullInbox net) → Hindered e
+          is_done (if◌then◌else◌ {A = Due} (full && done) (Err EventFault.TraceFull, net.network) (network_apply plain_kind net.network e)).0 ≡ false →
+          ((f : EventFault) → event_limit net.network e ≡ Some f → (if◌then◌else◌ {A = Due} (full && done) (Err EventFault.TraceFull, net.network) (network_apply plain_kind net.network e)).0 ≡ Err f → HasFullInbox net) → Hindered e
       by_full true full true done none limit = inr (inr (event_trace e full))
       by_full true full false done none limit = by_answer (network_apply plain_kind net.network e).0 refl done (λ f is. limit f (limit_is e (network_step plain_kind net.network e) f (ap (λ o. (outcome_if_possible plain_kind net.network e o).0) (sym possible) ∙ is)) is)
       by_full false full done is none limit = by_answer (network_apply plain_kind net.network e).0 refl none (λ f is. limit f (limit_is e (network_step plain_kind net.network e) f (ap (λ o. (outcome_if_possible plain_kind net.network e o).0) (sym possible) ∙ is)) is)
@@ -114,30 +89,30 @@ module _ (net : NetRecord) where
     none_limits : (c : Crossing) (p q : Port) → peer plan p ≡ Some q → (crossing_acts c p (peer plan p) >>= acts_limit net.network.nodes) ≡ None
     none_limits c p q wire = ap (λ o. crossing_acts c p o >>= acts_limit net.network.nodes) wire
 
-    step_unlimited : (o : Option (Node Token)) (a : Action) → act_limit o (act.Step a) ≡ None
+    step_unlimited : (o : Option (Node Token)) (a : Action) → act_limit o (ActOf.Step a) ≡ None
     step_unlimited None a = refl
     step_unlimited (Some n) a = refl
 
-    credit_may : (p q : Port) → peer plan p ≡ Some q → May (event.Credit p)
-    credit_may p q wire = hindered (event.Credit p) (wired_possible p q wire) (λ f is told. no_limit f (sym (none_limits crossing.Grant p q wire) ∙ is))
+    credit_may : (p q : Port) → peer plan p ≡ Some q → May (Event.Credit p)
+    credit_may p q wire = hindered (Event.Credit p) (wired_possible p q wire) (λ f is told. no_limit f (sym (none_limits Crossing.Grant p q wire) ∙ is))
 
-    cross_may : (p q : Port) → peer plan p ≡ Some q → May (event.Cross p)
-    cross_may p q wire = hindered (event.Cross p) (wired_possible p q wire) (λ f is told. no_limit f (sym (none_limits crossing.Token p q wire) ∙ is))
+    cross_may : (p q : Port) → peer plan p ≡ Some q → May (Event.Cross p)
+    cross_may p q wire = hindered (Event.Cross p) (wired_possible p q wire) (λ f is told. no_limit f (sym (none_limits Crossing.Token p q wire) ∙ is))
 
-    turn_may : (s l : ℕ) (q : Port) → peer plan (port.Switch s l) ≡ Some q → May (event.Input s l 0)
-    turn_may s l q wire = hindered (event.Input s l 0) (turn_possible plan s l 0 (wired_possible (port.Switch s l) q wire)) (λ f is told. no_limit f (sym (step_unlimited (slice_get net.network.nodes s) (action.Input l 0)) ∙ is))
+    turn_may : (s l : ℕ) (q : Port) → peer plan (Port.Switch s l) ≡ Some q → May (Event.Input s l 0)
+    turn_may s l q wire = hindered (Event.Input s l 0) (turn_possible plan s l 0 (wired_possible (Port.Switch s l) q wire)) (λ f is told. no_limit f (sym (step_unlimited (slice_get net.network.nodes s) (ActionOf.Input l 0)) ∙ is))
 
-    claim_may : (s i o : ℕ) → s < length plan.switches → i < 32 → o < 32 → May (event.Claim s i o)
-    claim_may s i o inside input output = hindered (event.Claim s i o) (claim_possible plan s i o inside input output) (λ f is told. no_limit f (sym (step_unlimited (slice_get net.network.nodes s) (action.Claim i o)) ∙ is))
+    claim_may : (s i o : ℕ) → s < length plan.switches → i < 32 → o < 32 → May (Event.Claim s i o)
+    claim_may s i o inside input output = hindered (Event.Claim s i o) (claim_possible plan s i o inside input output) (λ f is told. no_limit f (sym (step_unlimited (slice_get net.network.nodes s) (ActionOf.Claim i o)) ∙ is))
 
-    drain_may : (t : ℕ) → t < length plan.terminals → May (event.Drain t)
-    drain_may t inside = hindered (event.Drain t) (drain_possible plan t inside) (λ f is told. (t, told ∙ ap Err (full (slice_get net.network.nodes (terminal_place plan t)) f is)))
+    drain_may : (t : ℕ) → t < length plan.terminals → May (Event.Drain t)
+    drain_may t inside = hindered (Event.Drain t) (drain_possible plan t inside) (λ f is told. (t, told ∙ ap Err (full (slice_get net.network.nodes (terminal_place plan t)) f is)))
       where
-        full : (o : Option (Node Token)) (f : EventFault) → act_limit o act.Drain ≡ Some f → f ≡ fault.InboxFull
+        full : (o : Option (Node Token)) (f : EventFault) → act_limit o ActOf.Drain ≡ Some f → f ≡ EventFault.InboxFull
         full None f is = absurd (let no : ⊥ = cc in no)
         full (Some n) f is = by_test (nat_lt (length (arrived_tokens n)) inbox_limit) is
           where
-            by_test : (b : Bool) → (if b then None else Some fault.InboxFull) ≡ Some f → f ≡ fault.InboxFull
+            by_test : (b : Bool) → (if b then None else Some EventFault.InboxFull) ≡ Some f → f ≡ EventFault.InboxFull
             by_test true is = absurd (let no : ⊥ = cc in no)
             by_test false is = cc
 

@@ -1,31 +1,14 @@
 -- Work by ranks that are higher is more, so all work has a bound; and work as it is summed up.
-use Rattle.c104_check.specs.Walks.{port_of}
-use Rattle.c104_check.specs.declared.ports.SwitchPort.{SwitchPort}
-use Rattle.c104_plan.specs.Plans.{Plan}
-use Rattle.c104_plan.specs.Wiring.{peer}
-use Rattle.c104_plan.specs.declared.ports.Port.{Port}
-use Rattle.c104_link.specs.Buffers.{Outgoing}
-use Rattle.c104_node.specs.Nodes.{Node}
-use Rattle.c104_node.specs.Traces.{part}
-use Rattle.c104_net.specs.HeaderWork.{ahead_at, first_ahead, full_input, full_link, full_node, full_output, none_ahead, work_bound}
-use Rattle.c104_net.specs.Work.{header_held, highest_rank, level, most_weight, node_room, node_tokens, room_held, sum_at, told_work}
-use Rattle.c104_net.specs.Work.{tokens_held, weigh}
-use Rattle.c104_link.proofs.MadeSteps.{given}
-use Rattle.c104_switch.specs.Phases.{with_header}
-use Rattle.c104_switch.specs.Views.{link_view, sides_view}
-use Rattle.c104_switch.specs.declared.actions.LinkView.{LinkView}
-use Rattle.c104_token.specs.Kinds.{Kind}
-use Rattle.c104_switch.specs.Rooms.{room_left}
-use Rattle.c104_switch.specs.Switch.{Input, Switch}
-use Rattle.c104_switch.specs.declared.phase.Phase.{Phase}
-use Rattle.c104_switch.specs.declared.phase.Phase.TheVariants.{Fresh, Head, Want}
-use Rattle.std.proofs.Common.{List, Option, Some, [], ap, arith, inl, inr, length, map, min, refl, slice_get, subst, suc, sym, take}
-use Rattle.std.proofs.Common.{zero, ℕ, ⊎_elim, ◌*◌, ◌+◌, ◌-◌, ◌<◌, ◌∙◌, ◌∷◌, ◌≡◌, ◌≤◌, ◌⊎◌}
-use Rattle.std.proofs.Math.Nat.{add-mul, min-eq_left, min-eq_right, suc-mul, zero-mul}
-use Rattle.std.proofs.lemmas.Bool.{cases_lt}
-use Rattle.std.proofs.lemmas.List.{length-map}
-use Rattle.c104_plan.specs.declared.ports.Port.TheVariants as port
-use Rattle.c104_node.specs.declared.node.NodeOf.TheVariants as node
+use Rattle.{c104_check.specs.{Walks.port_of, declared.ports.SwitchPort.SwitchPort}, c104_link.proofs.MadeSteps.given}
+use Rattle.{c104_link.specs.Buffers.Outgoing, c104_net.specs.HeaderWork.{ahead_at, first_ahead, full_input, full_link, full_node}}
+use Rattle.c104_net.specs.{HeaderWork.{full_output, none_ahead, work_bound}, Work.{header_held, highest_rank, level, most_weight}}
+use Rattle.{c104_net.specs.Work.{node_room, node_tokens, room_held, sum_at, tokens_held, told_work, weigh}, c104_node.specs.Nodes.Node}
+use Rattle.{c104_node.specs.{Traces.part, declared.node.NodeOf.NodeOf}, c104_plan.specs.{Plans.Plan, Wiring.peer, declared.ports.Port.Port}}
+use Rattle.c104_switch.specs.{Phases.with_header, Rooms.room_left, Switch.{Input, Switch}, Views.{link_view, sides_view}}
+use Rattle.c104_switch.specs.declared.{actions.LinkView.LinkView, phase.Phase.{Phase, TheVariants.{Fresh, Head, Want}}}
+use Rattle.{c104_token.specs.Kinds.Kind, std.proofs.Common.{List, Option, Some, [], ap, arith, inl, inr, length, map, min, refl, slice_get}}
+use Rattle.std.proofs.{Common.{subst, suc, sym, take, zero, ℕ, ⊎_elim, ◌*◌, ◌+◌, ◌-◌, ◌<◌, ◌∙◌, ◌∷◌, ◌≡◌, ◌≤◌, ◌⊎◌}, Math.Nat.add-mul}
+use Rattle.std.proofs.{Math.Nat.{min-eq_left, min-eq_right, suc-mul, zero-mul}, lemmas.{Bool.cases_lt, List.length-map}}
 
 module _ {X : Type 0} where
   pub weigh_more : (a b : ℕ) → a ≤ b → (xs : List X) → weigh a xs ≤ weigh b xs
@@ -56,14 +39,14 @@ module _ {X : Type 0} where
 
 module _ (plan : Plan) (rank high : SwitchPort → ℕ) (less : (p : SwitchPort) → rank p ≤ high p) where
   pub level_more : (q : Option Port) → level plan rank q ≤ level plan high q
-  level_more (Some (port.Switch s l)) = let here = less (port_of s l) in omega (arith, here)
+  level_more (Some (Port.Switch s l)) = let here = less (port_of s l) in omega (arith, here)
   level_more q = omega arith
 
 -- where nothing is counted in advance
 
 module _ (plan : Plan) (rank : SwitchPort → ℕ) where
   none_at : (q : Option Port) → ahead_at plan rank none_ahead q ≡ 0
-  none_at (Some (port.Switch s l)) = refl
+  none_at (Some (Port.Switch s l)) = refl
   none_at q = refl
 
   module _ {A : Type 0} where
@@ -108,7 +91,7 @@ module _ (most : ℕ) where
 
 module _ (plan : Plan) where
   level_most : (q : Option Port) → level plan (highest_rank plan) q ≤ 32 * length plan.switches + 1
-  level_most (Some (port.Switch s l)) = omega arith
+  level_most (Some (Port.Switch s l)) = omega arith
   level_most q = omega arith
 
   abbrev top : ℕ
@@ -117,9 +100,9 @@ module _ (plan : Plan) where
   module _ {A : Type 0} where
     input_most : (s l : ℕ) (p : Input A) → full_input plan (highest_rank plan) none_ahead s l p ≤ (length p.buffer.items + length (header_held p.phase)) * most_weight plan + room_left p.buffer
     input_most s l p =
-        let far = level_most (Some (port.Switch s l)) in
-        let items = weigh_most top (8 * level plan (highest_rank plan) (Some (port.Switch s l)) + 2) (omega (arith, far)) p.buffer.items in
-        let header = weigh_most top (8 * level plan (highest_rank plan) (Some (port.Switch s l))) (omega (arith, far)) (header_held p.phase) in
+        let far = level_most (Some (Port.Switch s l)) in
+        let items = weigh_most top (8 * level plan (highest_rank plan) (Some (Port.Switch s l)) + 2) (omega (arith, far)) p.buffer.items in
+        let header = weigh_most top (8 * level plan (highest_rank plan) (Some (Port.Switch s l))) (omega (arith, far)) (header_held p.phase) in
         let both = add-mul (length p.buffer.items) (length (header_held p.phase)) top in
         let plain = plain_input plan (highest_rank plan) s l p in
         omega (arith, items, header, both, plain)
@@ -131,14 +114,14 @@ module _ (plan : Plan) where
         weigh_most top (8 * level plan (highest_rank plan) q + 4 + ahead_at plan (highest_rank plan) none_ahead q) (omega (arith, far, none)) out.items
 
     node_most : (k : ℕ) (n : Node A) → full_node plan (highest_rank plan) none_ahead k n ≤ node_tokens n * most_weight plan + node_room n
-    node_most k (node.Switch S) =
+    node_most k (NodeOf.Switch S) =
         let inputs = sum_most top (full_input plan (highest_rank plan) none_ahead k) (λ l p. length p.buffer.items + length (header_held p.phase)) (λ l p. room_left p.buffer) (input_most k) 0 S.inputs in
-        let outputs = sum_only top (full_link plan (highest_rank plan) none_ahead k) (λ l q. length q.items) (λ l q. output_most (peer plan (port.Switch k l)) q) 0 S.outputs in
+        let outputs = sum_only top (full_link plan (highest_rank plan) none_ahead k) (λ l q. length q.items) (λ l q. output_most (peer plan (Port.Switch k l)) q) 0 S.outputs in
         let both = add-mul (sum_at (λ l p. length p.buffer.items + length (header_held p.phase)) 0 S.inputs) (sum_at (λ l q. length q.items) 0 S.outputs) top in
         omega (arith, inputs, outputs, both)
-    node_most k (node.Terminal T) =
+    node_most k (NodeOf.Terminal T) =
         let items = weigh_most top 2 (omega arith) T.input.items in
-        let out = output_most (peer plan (port.Terminal (k - length plan.switches))) T.output in
+        let out = output_most (peer plan (Port.Terminal (k - length plan.switches))) T.output in
         let both = add-mul (length T.input.items) (length T.output.items) top in
         omega (arith, items, out, both)
 

@@ -1,60 +1,36 @@
 -- Events of a round leave less work, and each switch started.
-use Rattle.c104_check.specs.declared.ports.SwitchPort.{SwitchPort}
-use Rattle.c104_plan.specs.Plans.{IsPlan, Plan}
-use Rattle.c104_plan.specs.Wiring.{peer}
-use Rattle.c104_plan.specs.declared.ports.Port.{Port}
-use Rattle.c104_event.specs.declared.events.Event.{Event}
-use Rattle.c104_event.specs.declared.faults.EventFault.{EventFault}
-use Rattle.c104_node.specs.declared.crossings.Crossing.{Crossing}
-use Rattle.c104_node.specs.declared.crossings.Crossing.TheVariants.{Grant, Token}
-use Rattle.c104_link.proofs.MadeSteps.{at_place_made, from_place_made, given, length-at_place, place_after_set, required, with_place_made}
-use Rattle.c104_link.specs.Buffers.{Incoming, Outgoing, incoming_accept, incoming_grant, outgoing_credited, outgoing_emit, outgoing_put, without_first}
-use Rattle.c104_link.specs.Steps.{◌>>=◌, joint_step_at, step_at, yield_step_at}
-use Rattle.c104_run.specs.EventActs.{Ask, acts_step, ask_acts}
-use Rattle.c104_run.proofs.AskCases.{AreCases, of_event}
-use Rattle.c104_run.proofs.EventSteps.{claim_named, credit_named, cross_named, drain_named, input_named}
-use Rattle.c104_net.proofs.JointKeeps.{IsOfRound, IsPlainAsk, asks_plain, round_keeps}
-use Rattle.c104_run.proofs.BalanceWires.{peer_back}
-use Rattle.c104_net.proofs.LinkActs.{Matches, leave_same, credit_out_same}
-use Rattle.c104_node.proofs.NextTokens.{first_some}
-use Rattle.c104_net.proofs.PlanWires.{matches}
-use Rattle.c104_net.proofs.WorkSteps.{at_far, at_own, claim_work, credit_in_work, credit_out_work, drain_work, enter_work, far_of, input_set, leave_work, own, sum_set, turn_work}
-use Rattle.c104_run.specs.Balance.{AreInPlace}
-use Rattle.c104_node.specs.Nodes.{is_switch, Node, node_claim, node_credit_in, node_credit_out, node_drain, node_enter, node_input, node_leave}
-use Rattle.c104_run.specs.Ends.{end_of}
-use Rattle.c104_run.specs.Network.{Network, network_of, network_step, terminal_place, told_step, wired_fault}
-use Rattle.c104_run.specs.Standstill.{IsStarted, IsStartedNode, IsStartedSwitch}
+use Rattle.{c104_check.specs.{Walks.port_of, declared.ports.SwitchPort.SwitchPort}, c104_event.specs.declared.events.Event.Event}
+use Rattle.{c104_event.specs.declared.faults.EventFault.EventFault, c104_link.proofs.MadeSteps.{at_place_made, from_place_made, given}}
+use Rattle.c104_link.{proofs.MadeSteps.{length-at_place, place_after_set, required, with_place_made}, specs.Buffers.{Incoming, Outgoing}}
+use Rattle.c104_link.specs.Buffers.{incoming_accept, incoming_grant, outgoing_credited, outgoing_emit, outgoing_put, without_first}
+use Rattle.{c104_link.specs.Steps.{joint_step_at, step_at, yield_step_at, ◌>>=◌}, c104_net.proofs.JointKeeps.{IsOfRound, IsPlainAsk}}
+use Rattle.c104_net.proofs.{JointKeeps.{asks_plain, round_keeps}, LinkActs.{Matches, credit_out_same, leave_same}, PlanWires.matches}
+use Rattle.c104_net.proofs.WorkSteps.{at_far, at_own, claim_work, credit_in_work, credit_out_work, drain_work, enter_work, far_of}
+use Rattle.c104_net.{proofs.WorkSteps.{input_set, leave_work, own, sum_set, turn_work}, specs.HeaderWork.{ahead_at, full_node, full_work}}
+use Rattle.{c104_net.specs.Work.level, c104_node.{proofs.{NamedWires.{nodes_credit, nodes_cross}, NextTokens.first_some}, specs.Nodes.Node}}
+use Rattle.c104_node.specs.Nodes.{is_switch, node_claim, node_credit_in, node_credit_out, node_drain, node_enter, node_input, node_leave}
 use Rattle.c104_node.specs.Terminals.{Terminal, terminal_credit_in, terminal_credit_out, terminal_drain, terminal_enter, terminal_leave}
-use Rattle.c104_node.proofs.NamedWires.{nodes_credit, nodes_cross}
-use Rattle.c104_net.specs.HeaderWork.{ahead_at, full_node, full_work}
-use Rattle.c104_net.specs.Work.{level}
-use Rattle.c104_check.specs.Walks.{port_of}
-use Rattle.c104_regs.specs.Settings.{header_length}
-use Rattle.c104_regs.specs.declared.settings.Settings.{Settings}
-use Rattle.c104_switch.specs.Actions.{Reply}
-use Rattle.c104_switch.specs.Claims.{input_claim, inputs_claim, put_header, streaming_input, switch_claim}
-use Rattle.c104_switch.specs.Group.{is_in_group}
-use Rattle.c104_switch.specs.Switch.{Input, Switch, input_accept, input_grant, is_owned, switch_credit_in, switch_credit_out, switch_enter, switch_leave, with_sides}
-use Rattle.c104_switch.specs.Turns.{header_turn, input_after_token, input_turn, phase_after_token, random_turn, switch_input, turn_by_phase}
-use Rattle.c104_switch.specs.declared.phase.Phase.{Phase}
-use Rattle.c104_switch.specs.declared.phase.Phase.TheVariants.{Fresh, Head, Sinking, Stream, Want}
-use Rattle.c104_token.specs.Kinds.{Kind}
-use Rattle.c104_token.specs.Tokens.{is_end}
-use Rattle.std.proofs.Common.{◌*◌, List, Option, Some, [], ap, arith, false, length, map, nat_le, nat_lt, not, refl, slice_get, slice_set, subst, sym, true, ℕ, ⊎_elim, ◌&&◌, ◌++◌, ◌+◌, ◌-◌, ◌<◌, ◌∙◌, ◌∷◌, ◌≡◌, ◌≤◌}
-use Rattle.std.proofs.lemmas.Bool.{cases_Bool}
-use Rattle.std.proofs.lemmas.List.{length-set}
-use Rattle.std.proofs.lemmas.Option.{some_pair_parts}
-use Rattle.c104_event.specs.declared.events.Event.TheVariants as event
-use Rattle.c104_node.specs.declared.node.NodeOf.TheVariants as node
-use Rattle.c104_plan.specs.declared.ports.Port.TheVariants as port
-use Rattle.c104_switch.specs.declared.actions.ReplyOf.TheVariants as reply
+use Rattle.c104_node.specs.declared.{crossings.Crossing.{Crossing, TheVariants.{Grant, Token}}, node.NodeOf.NodeOf}
+use Rattle.{c104_plan.specs.{Plans.{IsPlan, Plan}, Wiring.peer, declared.ports.Port.Port}, c104_regs.specs.Settings.header_length}
+use Rattle.{c104_regs.specs.declared.settings.Settings.Settings, c104_run.proofs.{AskCases.{AreCases, of_event}, BalanceWires.peer_back}}
+use Rattle.c104_run.{proofs.EventSteps.{claim_named, credit_named, cross_named, drain_named, input_named}, specs.Balance.AreInPlace}
+use Rattle.c104_run.specs.{Ends.end_of, EventActs.{Ask, acts_step, ask_acts}, Network.{Network, network_of, network_step, terminal_place}}
+use Rattle.c104_run.specs.{Network.{told_step, wired_fault}, Standstill.{IsStarted, IsStartedNode, IsStartedSwitch}}
+use Rattle.c104_switch.specs.{Actions.Reply, Claims.{input_claim, inputs_claim, put_header, streaming_input, switch_claim}}
+use Rattle.c104_switch.specs.{Group.is_in_group, Switch.{Input, Switch, input_accept, input_grant, is_owned, switch_credit_in}}
+use Rattle.c104_switch.specs.{Switch.{switch_credit_out, switch_enter, switch_leave, with_sides}, Turns.{header_turn, input_after_token}}
+use Rattle.c104_switch.specs.Turns.{input_turn, phase_after_token, random_turn, switch_input, turn_by_phase}
+use Rattle.c104_switch.specs.declared.{actions.ReplyOf.ReplyOf, phase.Phase.{Phase, TheVariants.{Fresh, Head, Sinking, Stream, Want}}}
+use Rattle.{c104_token.specs.{Kinds.Kind, Tokens.is_end}, std.proofs.Common.{List, Option, Some, [], ap, arith, false, length, map, nat_le}}
+use Rattle.std.proofs.Common.{nat_lt, not, refl, slice_get, slice_set, subst, sym, true, ℕ, ⊎_elim, ◌&&◌, ◌*◌, ◌++◌, ◌+◌, ◌-◌, ◌<◌, ◌∙◌}
+use Rattle.std.proofs.{Common.{◌∷◌, ◌≡◌, ◌≤◌}, lemmas.{Bool.cases_Bool, List.length-set, Option.some_pair_parts}}
 
 -- what each way of a packet goes down, and what is counted in advance: at an input that puts random headers what one
 -- weighs, and one for the turn; at one that a switch is wired to nothing
 pub record AreFalling {A : Type 0} (plan : Plan) (rank ahead : SwitchPort → ℕ) (nodes : List (Node A)) : Type 0 where
-  pub puts : (s i : ℕ) (S : Switch A) (t : Settings) → slice_get nodes s ≡ Some (node.Switch S) → slice_get S.settings i ≡ Some t → t.randomize ≡ true → ahead (port_of s i) ≡ header_length t * (8 * own plan rank (port.Switch s i)) + 1
-  pub streams : (s i o : ℕ) (S : Switch A) (p : Input A) → slice_get nodes s ≡ Some (node.Switch S) → slice_get S.inputs i ≡ Some p → p.phase ≡ Stream o → (far_of plan rank (port.Switch s o) + 1 ≤ own plan rank (port.Switch s i)) × (at_far plan rank ahead (port.Switch s o) ≡ 0)
-  pub wants : (s i o g : ℕ) (S : Switch A) (p : Input A) (b : List A) → slice_get nodes s ≡ Some (node.Switch S) → slice_get S.inputs i ≡ Some p → p.phase ≡ Want b g → is_in_group S.settings g o ≡ true → (0 < length b) × (far_of plan rank (port.Switch s o) + 1 ≤ own plan rank (port.Switch s i)) × (at_far plan rank ahead (port.Switch s o) ≡ 0)
+  pub puts : (s i : ℕ) (S : Switch A) (t : Settings) → slice_get nodes s ≡ Some (NodeOf.Switch S) → slice_get S.settings i ≡ Some t → t.randomize ≡ true → ahead (port_of s i) ≡ header_length t * (8 * own plan rank (Port.Switch s i)) + 1
+  pub streams : (s i o : ℕ) (S : Switch A) (p : Input A) → slice_get nodes s ≡ Some (NodeOf.Switch S) → slice_get S.inputs i ≡ Some p → p.phase ≡ Stream o → (far_of plan rank (Port.Switch s o) + 1 ≤ own plan rank (Port.Switch s i)) × (at_far plan rank ahead (Port.Switch s o) ≡ 0)
+  pub wants : (s i o g : ℕ) (S : Switch A) (p : Input A) (b : List A) → slice_get nodes s ≡ Some (NodeOf.Switch S) → slice_get S.inputs i ≡ Some p → p.phase ≡ Want b g → is_in_group S.settings g o ≡ true → (0 < length b) × (far_of plan rank (Port.Switch s o) + 1 ≤ own plan rank (Port.Switch s i)) × (at_far plan rank ahead (Port.Switch s o) ≡ 0)
 
 module _ {A : Type 0} (kind : Kind A) (plan : Plan) (is_plan : IsPlan plan) (rank ahead : SwitchPort → ℕ) (nodes : List (Node A)) (placed : AreInPlace plan nodes) (falling : AreFalling plan rank ahead nodes) where
   node_set : (k : ℕ) (n m : Node A) (all : List (Node A)) → slice_get all k ≡ Some n → full_work plan rank ahead (slice_set all k m) + full_node plan rank ahead k n ≡ full_work plan rank ahead all + full_node plan rank ahead k m
@@ -70,7 +46,7 @@ module _ {A : Type 0} (kind : Kind A) (plan : Plan) (is_plan : IsPlan plan) (ran
   left_is : (told r : Reply) (after : List (Node A)) (net' : Network A) → ◌≡◌ {A = Option (Reply × Network A)} (Some (told, network_of plan after)) (Some (r, net')) → full_work plan rank ahead after + 1 ≤ full_work plan rank ahead nodes → Less net'
   left_is told r after net' e less = let d : network_of plan after ≡ net' = (some_pair_parts told r (network_of plan after) net' e).1 in subst Less d less
 
-  cross_less : (P : Port) (r : Reply) (net' : Network A) → network_step kind (network_of plan nodes) (event.Cross P) ≡ Some (r, net') → Less net'
+  cross_less : (P : Port) (r : Reply) (net' : Network A) → network_step kind (network_of plan nodes) (Event.Cross P) ≡ Some (r, net') → Less net'
   cross_less P r net' e =
       given (peer plan P) _ (r, net') (cross_named kind (network_of plan nodes) is_plan placed P ∙ e) (λ Q eQ e1.
       given (nodes_cross nodes (end_of plan P) (end_of plan Q)) _ (r, net') e1 (λ c ec e2.
@@ -92,9 +68,9 @@ module _ {A : Type 0} (kind : Kind A) (plan : Plan) (is_plan : IsPlan plan) (ran
       let a : full_work plan rank ahead (slice_set nodes (end_of plan P).node y.1) ≡ full_work plan rank ahead v.1 = ap (full_work plan rank ahead) mid in
       let b : full_work plan rank ahead (slice_set v.1 (end_of plan Q).node m') ≡ full_work plan rank ahead after = ap (full_work plan rank ahead) hm in
       let d : (v.0, after) ≡ c = cc in
-      left_is (reply.Token (kind.plain c.0)) r c.1 net' e2 (subst (λ (z : A × List (Node A)). full_work plan rank ahead z.1 + 1 ≤ full_work plan rank ahead nodes) d (omega (arith, one, two, first, second, same, ahead_is, a, b))))))))))
+      left_is (ReplyOf.Token (kind.plain c.0)) r c.1 net' e2 (subst (λ (z : A × List (Node A)). full_work plan rank ahead z.1 + 1 ≤ full_work plan rank ahead nodes) d (omega (arith, one, two, first, second, same, ahead_is, a, b))))))))))
 
-  credit_less : (P : Port) (r : Reply) (net' : Network A) → network_step kind (network_of plan nodes) (event.Credit P) ≡ Some (r, net') → Less net'
+  credit_less : (P : Port) (r : Reply) (net' : Network A) → network_step kind (network_of plan nodes) (Event.Credit P) ≡ Some (r, net') → Less net'
   credit_less P r net' e =
       given (peer plan P) _ (r, net') (credit_named kind (network_of plan nodes) is_plan placed P ∙ e) (λ Q eQ e1.
       given (nodes_credit nodes (end_of plan P) (end_of plan Q)) _ (r, net') e1 (λ after ec e2.
@@ -111,23 +87,23 @@ module _ {A : Type 0} (kind : Kind A) (plan : Plan) (is_plan : IsPlan plan) (ran
       let second = node_set (end_of plan Q).node m m' mid em in
       let a : full_work plan rank ahead (slice_set nodes (end_of plan P).node n') ≡ full_work plan rank ahead mid = ap (full_work plan rank ahead) hv in
       let b : full_work plan rank ahead (slice_set mid (end_of plan Q).node m') ≡ full_work plan rank ahead after = ap (full_work plan rank ahead) hm in
-      left_is reply.Done r after net' e2 (omega (arith, one, two, first, second, a, b))))))))
+      left_is ReplyOf.Done r after net' e2 (omega (arith, one, two, first, second, a, b))))))))
 
-  drain_less : (t : ℕ) (r : Reply) (net' : Network A) → network_step kind (network_of plan nodes) (event.Drain t) ≡ Some (r, net') → Less net'
+  drain_less : (t : ℕ) (r : Reply) (net' : Network A) → network_step kind (network_of plan nodes) (Event.Drain t) ≡ Some (r, net') → Less net'
   drain_less t r net' e =
       given (yield_step_at nodes (terminal_place plan t) node_drain) _ (r, net') (drain_named kind (network_of plan nodes) t ∙ e) (λ v ev e2.
       from_place_made nodes (terminal_place plan t) node_drain v ev (λ n y en ey hv.
       (let one = one_less (terminal_place plan t) n y.1 en (drain_work plan rank ahead (terminal_place plan t) n y ey) in
-      left_is (reply.Token (kind.plain v.0)) r v.1 net' e2 (subst (λ (z : A × List (Node A)). full_work plan rank ahead z.1 + 1 ≤ full_work plan rank ahead nodes) hv one))))
+      left_is (ReplyOf.Token (kind.plain v.0)) r v.1 net' e2 (subst (λ (z : A × List (Node A)). full_work plan rank ahead z.1 + 1 ≤ full_work plan rank ahead nodes) hv one))))
 
-  input_less : (s i word : ℕ) (r : Reply) (net' : Network A) → network_step kind (network_of plan nodes) (event.Input s i word) ≡ Some (r, net') → Less net'
+  input_less : (s i word : ℕ) (r : Reply) (net' : Network A) → network_step kind (network_of plan nodes) (Event.Input s i word) ≡ Some (r, net') → Less net'
   input_less s i word r net' e =
       given (step_at nodes s (node_input kind i word)) _ (r, net') (input_named kind (network_of plan nodes) s i word ∙ e) (λ ended ea e2.
-      at_place_made nodes s (node_input kind i word) ended ea (λ n n' en en' hv. left_is reply.Done r ended net' e2 (subst (λ z. full_work plan rank ahead z + 1 ≤ full_work plan rank ahead nodes) hv (one_less s n n' en (by_node n n' en en')))))
+      at_place_made nodes s (node_input kind i word) ended ea (λ n n' en en' hv. left_is ReplyOf.Done r ended net' e2 (subst (λ z. full_work plan rank ahead z + 1 ≤ full_work plan rank ahead nodes) hv (one_less s n n' en (by_node n n' en en')))))
     where
       by_node : (n n' : Node A) → slice_get nodes s ≡ Some n → node_input kind i word n ≡ Some n' → full_node plan rank ahead s n' + 1 ≤ full_node plan rank ahead s n
-      by_node (node.Terminal T) n' en en' = absurd (cc)
-      by_node (node.Switch S) n' en en' =
+      by_node (NodeOf.Terminal T) n' en en' = absurd (cc)
+      by_node (NodeOf.Switch S) n' en en' =
           given (switch_input kind S i word) _ n' en' (λ S' eS' d0.
           required S.started _ S' eS' (λ h f1.
           given (slice_get S.settings i) _ S' f1 (λ t et f2.
@@ -136,18 +112,18 @@ module _ {A : Type 0} (kind : Kind A) (plan : Plan) (is_plan : IsPlan plan) (ran
           given (slice_get p.buffer.items 0) _ y ey (λ x ex f4.
           (let less = turn_work plan rank ahead kind s i S t word p x y p.phase (falling.puts s i S t en et) (λ o streams. falling.streams s i o S p en ep streams) refl (first_some p.buffer.items x ex) f4 in
           let all = input_set plan rank ahead s S i p y.0 ep in
-          let b : with_sides S v ≡ S' = cc in let c : node.Switch S' ≡ n' = cc in
-          let d : ◌≡◌ {A = Node A} (node.Switch (with_sides S (slice_set S.inputs i y.0, y.1))) n' = ap (λ (z : List (Input A) × List (Outgoing A)). node.Switch (with_sides S z)) d1 ∙ ap node.Switch b ∙ c in
-          subst (λ z. full_node plan rank ahead s z + 1 ≤ full_node plan rank ahead s (node.Switch S)) d (omega (arith, less, all)))))))))
+          let b : with_sides S v ≡ S' = cc in let c : NodeOf.Switch S' ≡ n' = cc in
+          let d : ◌≡◌ {A = Node A} (NodeOf.Switch (with_sides S (slice_set S.inputs i y.0, y.1))) n' = ap (λ (z : List (Input A) × List (Outgoing A)). NodeOf.Switch (with_sides S z)) d1 ∙ ap NodeOf.Switch b ∙ c in
+          subst (λ z. full_node plan rank ahead s z + 1 ≤ full_node plan rank ahead s (NodeOf.Switch S)) d (omega (arith, less, all)))))))))
 
-  claim_less : (s i o : ℕ) (r : Reply) (net' : Network A) → network_step kind (network_of plan nodes) (event.Claim s i o) ≡ Some (r, net') → Less net'
+  claim_less : (s i o : ℕ) (r : Reply) (net' : Network A) → network_step kind (network_of plan nodes) (Event.Claim s i o) ≡ Some (r, net') → Less net'
   claim_less s i o r net' e =
       given (step_at nodes s (node_claim i o)) _ (r, net') (claim_named kind (network_of plan nodes) s i o ∙ e) (λ ended ea e2.
-      at_place_made nodes s (node_claim i o) ended ea (λ n n' en en' hv. left_is reply.Done r ended net' e2 (subst (λ z. full_work plan rank ahead z + 1 ≤ full_work plan rank ahead nodes) hv (one_less s n n' en (by_node n n' en en')))))
+      at_place_made nodes s (node_claim i o) ended ea (λ n n' en en' hv. left_is ReplyOf.Done r ended net' e2 (subst (λ z. full_work plan rank ahead z + 1 ≤ full_work plan rank ahead nodes) hv (one_less s n n' en (by_node n n' en en')))))
     where
       by_node : (n n' : Node A) → slice_get nodes s ≡ Some n → node_claim i o n ≡ Some n' → full_node plan rank ahead s n' + 1 ≤ full_node plan rank ahead s n
-      by_node (node.Terminal T) n' en en' = absurd (cc)
-      by_node (node.Switch S) n' en en' =
+      by_node (NodeOf.Terminal T) n' en en' = absurd (cc)
+      by_node (NodeOf.Switch S) n' en en' =
           given (switch_claim S i o) _ n' en' (λ S' eS' d0.
           required S.started _ S' eS' (λ h f1.
           given (inputs_claim S.settings S.inputs S.outputs i o) _ S' f1 (λ v ev f3.
@@ -155,9 +131,9 @@ module _ {A : Type 0} (kind : Kind A) (plan : Plan) (is_plan : IsPlan plan) (ran
           with_place_made S.inputs i (λ p. input_claim S.settings p S.outputs o p.phase) v f4 (λ p y ep ey d1.
           (let less = claim_work plan rank ahead kind s i S o p y p.phase (λ b g wants group. falling.wants s i o g S p b en ep wants group) refl ey in
           let all = input_set plan rank ahead s S i p y.0 ep in
-          let b : with_sides S v ≡ S' = cc in let c : node.Switch S' ≡ n' = cc in
-          let d : ◌≡◌ {A = Node A} (node.Switch (with_sides S (slice_set S.inputs i y.0, y.1))) n' = ap (λ (z : List (Input A) × List (Outgoing A)). node.Switch (with_sides S z)) d1 ∙ ap node.Switch b ∙ c in
-          subst (λ z. full_node plan rank ahead s z + 1 ≤ full_node plan rank ahead s (node.Switch S)) d (omega (arith, less, all))))))))
+          let b : with_sides S v ≡ S' = cc in let c : NodeOf.Switch S' ≡ n' = cc in
+          let d : ◌≡◌ {A = Node A} (NodeOf.Switch (with_sides S (slice_set S.inputs i y.0, y.1))) n' = ap (λ (z : List (Input A) × List (Outgoing A)). NodeOf.Switch (with_sides S z)) d1 ∙ ap NodeOf.Switch b ∙ c in
+          subst (λ z. full_node plan rank ahead s z + 1 ≤ full_node plan rank ahead s (NodeOf.Switch S)) d (omega (arith, less, all))))))))
 
   -- what is asked in a round leaves less, where it was ready
   abbrev LeavesLess : Option EventFault → Ask A → Type 0
@@ -206,50 +182,50 @@ module _ {A : Type 0} where
   grant_cap b c e = required (nat_le (length b.items + b.granted + 8) b.cap) _ c e (λ h f. (let d : record { cap = b.cap; items = b.items; granted = b.granted + 8 } ≡ c = cc in sym (ap (λ (z : Incoming A). z.cap) d)))
 
   enter_started : (x : A) (l : ℕ) (n m : Node A) → node_enter x l n ≡ Some m → IsStartedNode n → IsStartedNode m
-  enter_started x l (node.Switch S) m e a =
+  enter_started x l (NodeOf.Switch S) m e a =
       given (switch_enter S l x) _ m e (λ S' f1 f2. given (step_at S.inputs l (input_accept x)) _ S' f1 (λ ps g1 g2. at_place_made S.inputs l (input_accept x) ps g1 (λ p p' ep h1 h2. given (incoming_accept x p.buffer) _ p' h1 (λ b eb h3.
-      (let d : node.Switch (with_sides S (slice_set S.inputs l (record p { buffer = b }), S.outputs)) ≡ m = cc in
+      (let d : NodeOf.Switch (with_sides S (slice_set S.inputs l (record p { buffer = b }), S.outputs)) ≡ m = cc in
       subst IsStartedNode d (started_sides S a l p (record p { buffer = b }) S.outputs ep (accept_cap x p.buffer b eb) refl))))))
-  enter_started x l (node.Terminal T) m e a =
+  enter_started x l (NodeOf.Terminal T) m e a =
       given (terminal_enter x T) _ m e (λ T' f1 f2. given (incoming_accept x T.input) _ T' f1 (λ b eb g2.
-      (let d : node.Terminal (record T { input = b }) ≡ m = cc in subst IsStartedNode d (subst (λ n. 8 ≤ n) (sym (accept_cap x T.input b eb)) a))))
+      (let d : NodeOf.Terminal (record T { input = b }) ≡ m = cc in subst IsStartedNode d (subst (λ n. 8 ≤ n) (sym (accept_cap x T.input b eb)) a))))
 
   leave_started : (l : ℕ) (n : Node A) (r : A × Node A) → node_leave l n ≡ Some r → IsStartedNode n → IsStartedNode r.1
-  leave_started l (node.Switch S) r e a =
+  leave_started l (NodeOf.Switch S) r e a =
       given (switch_leave S l) _ r e (λ v f1 f2. given (yield_step_at S.outputs l outgoing_emit) _ v f1 (λ qs g1 g2. from_place_made S.outputs l outgoing_emit qs g1 (λ q y eq ey h2.
       (let d1 : ◌≡◌ {A = A × Switch A} (y.0, with_sides S (S.inputs, slice_set S.outputs l y.1)) v = ap (λ (z : A × List (Outgoing A)). (z.0, with_sides S (S.inputs, z.1))) h2 ∙ cc in
-      let d : ◌≡◌ {A = A × Node A} (y.0, node.Switch (with_sides S (S.inputs, slice_set S.outputs l y.1))) r = ap (λ (z : A × Switch A). (z.0, node.Switch z.1)) d1 ∙ cc in
+      let d : ◌≡◌ {A = A × Node A} (y.0, NodeOf.Switch (with_sides S (S.inputs, slice_set S.outputs l y.1))) r = ap (λ (z : A × Switch A). (z.0, NodeOf.Switch z.1)) d1 ∙ cc in
       subst (λ (z : A × Node A). IsStartedNode z.1) d (started_outputs S a (slice_set S.outputs l y.1) (length-set S.outputs l y.1))))))
-  leave_started l (node.Terminal T) r e a =
+  leave_started l (NodeOf.Terminal T) r e a =
       given (terminal_leave T) _ r e (λ v f1 f2. given (outgoing_emit T.output) _ v f1 (λ y ey g2.
       (let d1 : ◌≡◌ {A = A × Terminal A} (y.0, record T { output = y.1 }) v = cc in
-      let d : ◌≡◌ {A = A × Node A} (y.0, node.Terminal (record T { output = y.1 })) r = ap (λ (z : A × Terminal A). (z.0, node.Terminal z.1)) d1 ∙ cc in
+      let d : ◌≡◌ {A = A × Node A} (y.0, NodeOf.Terminal (record T { output = y.1 })) r = ap (λ (z : A × Terminal A). (z.0, NodeOf.Terminal z.1)) d1 ∙ cc in
       subst (λ (z : A × Node A). IsStartedNode z.1) d a)))
 
   credit_out_started : (l : ℕ) (n m : Node A) → node_credit_out l n ≡ Some m → IsStartedNode n → IsStartedNode m
-  credit_out_started l (node.Switch S) m e a =
+  credit_out_started l (NodeOf.Switch S) m e a =
       given (switch_credit_out S l) _ m e (λ S' f1 f2. required S.started _ S' f1 (λ started f0. given (step_at S.inputs l input_grant) _ S' f0 (λ ps g1 g2. at_place_made S.inputs l input_grant ps g1 (λ p p' ep h1 h2. given (incoming_grant p.buffer) _ p' h1 (λ b eb h3.
-      (let d : node.Switch (with_sides S (slice_set S.inputs l (record p { buffer = b }), S.outputs)) ≡ m = cc in
+      (let d : NodeOf.Switch (with_sides S (slice_set S.inputs l (record p { buffer = b }), S.outputs)) ≡ m = cc in
       subst IsStartedNode d (started_sides S a l p (record p { buffer = b }) S.outputs ep (grant_cap p.buffer b eb) refl)))))))
-  credit_out_started l (node.Terminal T) m e a =
+  credit_out_started l (NodeOf.Terminal T) m e a =
       given (terminal_credit_out T) _ m e (λ T' f1 f2. given (incoming_grant T.input) _ T' f1 (λ b eb g2.
-      (let d : node.Terminal (record T { input = b }) ≡ m = cc in subst IsStartedNode d (subst (λ n. 8 ≤ n) (sym (grant_cap T.input b eb)) a))))
+      (let d : NodeOf.Terminal (record T { input = b }) ≡ m = cc in subst IsStartedNode d (subst (λ n. 8 ≤ n) (sym (grant_cap T.input b eb)) a))))
 
   credit_in_started : (l : ℕ) (n m : Node A) → node_credit_in l n ≡ Some m → IsStartedNode n → IsStartedNode m
-  credit_in_started l (node.Switch S) m e a =
+  credit_in_started l (NodeOf.Switch S) m e a =
       given (switch_credit_in S l) _ m e (λ S' f1 f2. given (step_at S.outputs l outgoing_credited) _ S' f1 (λ qs g1 g2. at_place_made S.outputs l outgoing_credited qs g1 (λ q q' eq h1 h2.
-      (let d : node.Switch (with_sides S (S.inputs, slice_set S.outputs l q')) ≡ m = cc in
+      (let d : NodeOf.Switch (with_sides S (S.inputs, slice_set S.outputs l q')) ≡ m = cc in
       subst IsStartedNode d (started_outputs S a (slice_set S.outputs l q') (length-set S.outputs l q'))))))
-  credit_in_started l (node.Terminal T) m e a =
+  credit_in_started l (NodeOf.Terminal T) m e a =
       given (terminal_credit_in T) _ m e (λ T' f1 f2. given (outgoing_credited T.output) _ T' f1 (λ q eq g2.
-      (let d : node.Terminal (record T { output = q }) ≡ m = cc in subst IsStartedNode d a)))
+      (let d : NodeOf.Terminal (record T { output = q }) ≡ m = cc in subst IsStartedNode d a)))
 
   drain_started : (n : Node A) (r : A × Node A) → node_drain n ≡ Some r → IsStartedNode n → IsStartedNode r.1
-  drain_started (node.Switch S) r e a = absurd (cc)
-  drain_started (node.Terminal T) r e a = given (terminal_drain T) _ r e (λ z ez g1. given (slice_get T.input.items 0) _ z ez (λ x ex g2.
+  drain_started (NodeOf.Switch S) r e a = absurd (cc)
+  drain_started (NodeOf.Terminal T) r e a = given (terminal_drain T) _ r e (λ z ez g1. given (slice_get T.input.items 0) _ z ez (λ x ex g2.
       (let T' : Terminal A = record T { input = without_first T.input; arrived = T.arrived ++ x ∷ [] } in
       let dz : ◌≡◌ {A = A × Terminal A} (x, T') z = cc in
-      let d : ◌≡◌ {A = A × Node A} (x, node.Terminal T') r = ap (λ (w : A × Terminal A). (w.0, node.Terminal w.1)) dz ∙ cc in
+      let d : ◌≡◌ {A = A × Node A} (x, NodeOf.Terminal T') r = ap (λ (w : A × Terminal A). (w.0, NodeOf.Terminal w.1)) dz ∙ cc in
       subst (λ (z : A × Node A). IsStartedNode z.1) d a)))
 
   -- a turn and a claim keep the capacity of the buffer, and how many outputs there are
@@ -276,8 +252,8 @@ module _ {A : Type 0} where
   claim_keeps settings p qs o ph r e = absurd (cc)
 
   input_started : (kind : Kind A) (i word : ℕ) (n m : Node A) → node_input kind i word n ≡ Some m → IsStartedNode n → IsStartedNode m
-  input_started kind i word (node.Terminal T) m e a = absurd (cc)
-  input_started kind i word (node.Switch S) m e a =
+  input_started kind i word (NodeOf.Terminal T) m e a = absurd (cc)
+  input_started kind i word (NodeOf.Switch S) m e a =
       given (switch_input kind S i word) _ m e (λ S' eS' d0.
       required S.started _ S' eS' (λ h f1.
       given (slice_get S.settings i) _ S' f1 (λ t et f2.
@@ -285,21 +261,21 @@ module _ {A : Type 0} where
       with_place_made S.inputs i (λ p. input_turn kind t word p S.outputs) v ev (λ p y ep ey d1.
       given (slice_get p.buffer.items 0) _ y ey (λ x ex f4.
       (let k = turn_keeps kind t word p S.outputs x p.phase y f4 in
-      let b : with_sides S v ≡ S' = cc in let c : node.Switch S' ≡ m = cc in
-      let d : ◌≡◌ {A = Node A} (node.Switch (with_sides S (slice_set S.inputs i y.0, y.1))) m = ap (λ (z : List (Input A) × List (Outgoing A)). node.Switch (with_sides S z)) d1 ∙ ap node.Switch b ∙ c in
+      let b : with_sides S v ≡ S' = cc in let c : NodeOf.Switch S' ≡ m = cc in
+      let d : ◌≡◌ {A = Node A} (NodeOf.Switch (with_sides S (slice_set S.inputs i y.0, y.1))) m = ap (λ (z : List (Input A) × List (Outgoing A)). NodeOf.Switch (with_sides S z)) d1 ∙ ap NodeOf.Switch b ∙ c in
       subst IsStartedNode d (started_sides S a i p y.0 y.1 ep k.0 k.1))))))))
 
   claim_started : (i o : ℕ) (n m : Node A) → node_claim i o n ≡ Some m → IsStartedNode n → IsStartedNode m
-  claim_started i o (node.Terminal T) m e a = absurd (cc)
-  claim_started i o (node.Switch S) m e a =
+  claim_started i o (NodeOf.Terminal T) m e a = absurd (cc)
+  claim_started i o (NodeOf.Switch S) m e a =
       given (switch_claim S i o) _ m e (λ S' eS' d0.
       required S.started _ S' eS' (λ h f1.
       given (inputs_claim S.settings S.inputs S.outputs i o) _ S' f1 (λ v ev f3.
       required (not (is_owned S.inputs o)) _ v ev (λ free f4.
       with_place_made S.inputs i (λ p. input_claim S.settings p S.outputs o p.phase) v f4 (λ p y ep ey d1.
       (let k = claim_keeps S.settings p S.outputs o p.phase y ey in
-      let b : with_sides S v ≡ S' = cc in let c : node.Switch S' ≡ m = cc in
-      let d : ◌≡◌ {A = Node A} (node.Switch (with_sides S (slice_set S.inputs i y.0, y.1))) m = ap (λ (z : List (Input A) × List (Outgoing A)). node.Switch (with_sides S z)) d1 ∙ ap node.Switch b ∙ c in
+      let b : with_sides S v ≡ S' = cc in let c : NodeOf.Switch S' ≡ m = cc in
+      let d : ◌≡◌ {A = Node A} (NodeOf.Switch (with_sides S (slice_set S.inputs i y.0, y.1))) m = ap (λ (z : List (Input A) × List (Outgoing A)). NodeOf.Switch (with_sides S z)) d1 ∙ ap NodeOf.Switch b ∙ c in
       subst IsStartedNode d (started_sides S a i p y.0 y.1 ep k.0 k.1)))))))
 
   abbrev pub AreStarted : List (Node A) → Type 0

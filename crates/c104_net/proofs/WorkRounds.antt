@@ -1,116 +1,83 @@
 -- Rounds go on until the network is quiet: each round that does something leaves less work.
-use Rattle.c104_check.specs.Routes.{IsRandomized, Routes, link_settings, routes_of}
-use Rattle.c104_check.specs.Walks.{port_of}
-use Rattle.c104_check.specs.declared.ports.SwitchPort.{SwitchPort}
-use Rattle.c104_plan.proofs.RangeLists.{all_of_each}
-use Rattle.c104_plan.specs.PlanImage.{Image}
-use Rattle.c104_plan.specs.Plans.{IsPlan, Plan}
-use Rattle.c104_plan.specs.Wiring.{peer}
-use Rattle.c104_plan.specs.declared.ports.Port.{Port}
-use Rattle.c104_event.specs.declared.events.Event.{Event}
-use Rattle.c104_event.specs.declared.faults.EventFault.{EventFault}
-use Rattle.c104_run.proofs.BalanceEvents.{applied_steady}
-use Rattle.c104_run.proofs.BalanceWires.{peer_back}
-use Rattle.c104_net.proofs.LinkEvents.{world_of}
-use Rattle.c104_net.proofs.NodeViews.{phases}
-use Rattle.c104_net.proofs.PacketInvariant.{IsChosen, IsLabelled, Suits, group_at}
-use Rattle.c104_net.proofs.PlanWires.{wired}
-use Rattle.c104_net.proofs.Promises.{IsSettled, one, set_is}
-use Rattle.c104_net.proofs.RoundMembers.{each_of_round, still_of}
-use Rattle.c104_run.proofs.RoundRuns.{run_append, run_from, undone_leaves}
-use Rattle.c104_net.proofs.RunSteps.{done_step_is}
-use Rattle.c104_net.proofs.SentBytes.{SendsBytes}
-use Rattle.c104_net.proofs.StillPorts.{all_quiet, depends_on}
-use Rattle.c104_net.proofs.JointKeeps.{IsOfRound}
-use Rattle.c104_net.proofs.WorkEvents.{AreStarted, AreFalling, event_started, event_less}
-use Rattle.c104_net.proofs.WorkSteps.{at_far, far_of, own}
-use Rattle.c104_run.specs.Balance.{IsSteady}
-use Rattle.c104_run.specs.EventRuns.{Outcome, run_events, unless_fault}
-use Rattle.c104_run.specs.Network.{Network, network_apply, network_of, network_step}
-use Rattle.c104_node.specs.Nodes.{Node}
-use Rattle.c104_run.specs.QuietNets.{IsQuiet}
-use Rattle.c104_run.specs.Rounds.{round, rounds}
-use Rattle.c104_run.specs.Standstill.{IsStarted, IsUnready}
-use Rattle.c104_check.specs.ChannelDependencies.{IsRanking}
-use Rattle.c104_node.specs.Traced.{traced_kind}
-use Rattle.c104_net.specs.Unchanged.{MayHappen}
-use Rattle.c104_net.specs.HeaderWork.{ahead_by, random_ahead, random_work}
-use Rattle.c104_node.specs.declared.traced.Traced.{Traced}
-use Rattle.c104_regs.specs.Settings.{header_length}
-use Rattle.c104_regs.specs.declared.settings.Settings.{Settings}
-use Rattle.c104_switch.specs.Actions.{Reply, is_ready}
-use Rattle.c104_switch.specs.Group.{is_in_group}
-use Rattle.c104_switch.specs.Switch.{Input, Switch}
-use Rattle.c104_switch.specs.declared.phase.Phase.TheVariants.{Stream, Want}
-use Rattle.std.specs.List.{AllByRecursion}
-use Rattle.std.proofs.Common.{Bool, Err, List, None, Ok, Option, Result, Some, [], ap, arith, false, inl, inr, length, refl, slice_get, subst, suc, sym, true, zero, ℕ, ⊎_elim, ◌*◌, ◌+◌, ◌<◌, ◌∙◌, ◌∷◌, ◌≡◌, ◌≤◌, ◌⊎◌}
-use Rattle.std.proofs.lemmas.Bool.{cases_Bool}
-use Rattle.c104_event.specs.declared.events.Event.TheVariants as event
-use Rattle.c104_node.specs.declared.node.NodeOf.TheVariants as node
-use Rattle.c104_plan.specs.declared.ports.Port.TheVariants as port
-use Rattle.c104_switch.specs.declared.actions.ReplyOf.TheVariants as reply
+use Rattle.c104_check.specs.{ChannelDependencies.IsRanking, Routes.{IsRandomized, Routes, link_settings, routes_of}, Walks.port_of}
+use Rattle.{c104_check.specs.declared.ports.SwitchPort.SwitchPort, c104_event.specs.declared.events.Event.Event}
+use Rattle.{c104_event.specs.declared.faults.EventFault.EventFault, c104_net.proofs.{JointKeeps.IsOfRound, LinkEvents.world_of}}
+use Rattle.c104_net.proofs.{NodeViews.phases, PacketInvariant.{IsChosen, IsLabelled, Suits, group_at}, PlanWires.wired, Promises.IsSettled}
+use Rattle.c104_net.proofs.{Promises.{one, set_is}, RoundMembers.{each_of_round, still_of}, RunSteps.done_step_is, SentBytes.SendsBytes}
+use Rattle.c104_net.proofs.{StillPorts.{all_quiet, depends_on}, WorkEvents.{AreFalling, AreStarted, event_less, event_started}}
+use Rattle.c104_net.{proofs.WorkSteps.{at_far, far_of, own}, specs.{HeaderWork.{ahead_by, random_ahead, random_work}, Unchanged.MayHappen}}
+use Rattle.c104_node.specs.{Nodes.Node, Traced.traced_kind, declared.{node.NodeOf.NodeOf, traced.Traced.Traced}}
+use Rattle.c104_plan.{proofs.RangeLists.all_of_each, specs.{PlanImage.Image, Plans.{IsPlan, Plan}, Wiring.peer, declared.ports.Port.Port}}
+use Rattle.{c104_regs.specs.{Settings.header_length, declared.settings.Settings.Settings}, c104_run.proofs.BalanceEvents.applied_steady}
+use Rattle.c104_run.{proofs.{BalanceWires.peer_back, RoundRuns.{run_append, run_from, undone_leaves}}, specs.Balance.IsSteady}
+use Rattle.c104_run.specs.{EventRuns.{Outcome, run_events, unless_fault}, Network.{Network, network_apply, network_of, network_step}}
+use Rattle.{c104_run.specs.{QuietNets.IsQuiet, Rounds.{round, rounds}, Standstill.{IsStarted, IsUnready}}, c104_switch.specs.Actions.Reply}
+use Rattle.c104_switch.specs.{Actions.is_ready, Group.is_in_group, Switch.{Input, Switch}, declared.actions.ReplyOf.ReplyOf}
+use Rattle.{c104_switch.specs.declared.phase.Phase.TheVariants.{Stream, Want}, std.proofs.Common.{Bool, Err, List, None, Ok, Option}}
+use Rattle.std.proofs.Common.{Result, Some, [], ap, arith, false, inl, inr, length, refl, slice_get, subst, suc, sym, true, zero, ℕ, ⊎_elim}
+use Rattle.std.{proofs.{Common.{◌*◌, ◌+◌, ◌<◌, ◌∙◌, ◌∷◌, ◌≡◌, ◌≤◌, ◌⊎◌}, lemmas.Bool.cases_Bool}, specs.List.AllByRecursion}
 
 -- all events of a round are events of a round
 of_round : (plan : Plan) → AllByRecursion IsOfRound (round plan)
 of_round plan = each_of_round plan IsOfRound (λ p q wire. tt) (λ p q wire. tt) (λ s l q wire. tt) (λ s i o inside input output. tt) (λ t inside. tt)
 
 may_happen : (routes : Routes) (e : Event) (r : Reply) → IsOfRound e → MayHappen routes e r
-may_happen routes (event.Send t p) r of = absurd of
-may_happen routes (event.Control s bytes) r of = absurd of
+may_happen routes (Event.Send t p) r of = absurd of
+may_happen routes (Event.Control s bytes) r of = absurd of
 may_happen routes e r of = tt
 
 sends_none : (e : Event) → IsOfRound e → SendsBytes e
-sends_none (event.Send t p) of = absurd of
+sends_none (Event.Send t p) of = absurd of
 sends_none e of = tt
 
-not_ready : (r : Reply) → is_ready r ≡ false → r ≡ reply.NotReady
-not_ready reply.NotReady is = refl
+not_ready : (r : Reply) → is_ready r ≡ false → r ≡ ReplyOf.NotReady
+not_ready ReplyOf.NotReady is = refl
 not_ready r is = absurd (cc is)
 
 module _ (plan : Plan) (image : Image) (is_plan : IsPlan plan) (labelled : IsLabelled (routes_of plan image)) (rank : SwitchPort → ℕ) (falls : IsRanking (routes_of plan image) rank) where
-  goes_down : (s i l o : ℕ) (R : Port) → IsChosen (routes_of plan image) (port.Switch s i) l → group_at (routes_of plan image) (port.Switch s i) l o ≡ true → peer plan (port.Switch s o) ≡ Some R → far_of plan rank (port.Switch s o) + 1 ≤ own plan rank (port.Switch s i)
-  goes_down s i l o (port.Terminal t) chosen group wire = rw wire (omega arith)
-  goes_down s i l o (port.Switch s' i') chosen group wire =
+  goes_down : (s i l o : ℕ) (R : Port) → IsChosen (routes_of plan image) (Port.Switch s i) l → group_at (routes_of plan image) (Port.Switch s i) l o ≡ true → peer plan (Port.Switch s o) ≡ Some R → far_of plan rank (Port.Switch s o) + 1 ≤ own plan rank (Port.Switch s i)
+  goes_down s i l o (Port.Terminal t) chosen group wire = rw wire (omega arith)
+  goes_down s i l o (Port.Switch s' i') chosen group wire =
       let r = falls (port_of s i) (port_of s' i') (depends_on (routes_of plan image) (wired plan is_plan) s i l o s' i' chosen group wire) in
       rw wire (omega (arith, r))
 
   -- nothing is counted in advance at an input that a switch is wired to, since no random headers are put there
-  ahead_inner : (s l : ℕ) (z o : ℕ) → peer plan (port.Switch s l) ≡ Some (port.Switch z o) → random_ahead (routes_of plan image) rank (port_of s l) ≡ 0
+  ahead_inner : (s l : ℕ) (z o : ℕ) → peer plan (Port.Switch s l) ≡ Some (Port.Switch z o) → random_ahead (routes_of plan image) rank (port_of s l) ≡ 0
   ahead_inner s l z o wire = by_settings (link_settings (routes_of plan image).settings (port_of s l)) refl
     where
       outer : IsRandomized (routes_of plan image) (port_of s l) → ⊥
-      outer random = let out = labelled.accepted.random_outside (port_of s l) random in (let clash : Some (port.Switch z o) ≡ Some (port.Terminal out.0) = sym wire ∙ out.1 in cc)
+      outer random = let out = labelled.accepted.random_outside (port_of s l) random in (let clash : Some (Port.Switch z o) ≡ Some (Port.Terminal out.0) = sym wire ∙ out.1 in cc)
 
       by_settings : (x : Option Settings) → link_settings (routes_of plan image).settings (port_of s l) ≡ x → ahead_by (routes_of plan image).header (rank (port_of s l)) x ≡ 0
       by_settings None is = refl
       by_settings (Some x) is = ⊎_elim (λ (k : x.randomize ≡ true). absurd (outer (x, is, k))) (λ (k : x.randomize ≡ false). rw k refl) (cases_Bool x.randomize)
 
-  none_far : (s o : ℕ) (R : Port) → peer plan (port.Switch s o) ≡ Some R → at_far plan rank (random_ahead (routes_of plan image) rank) (port.Switch s o) ≡ 0
-  none_far s o (port.Terminal t) wire = rw wire refl
-  none_far s o (port.Switch s' i') wire = rw wire (ahead_inner s' i' s o (peer_back plan is_plan (port.Switch s o) (port.Switch s' i') wire))
+  none_far : (s o : ℕ) (R : Port) → peer plan (Port.Switch s o) ≡ Some R → at_far plan rank (random_ahead (routes_of plan image) rank) (Port.Switch s o) ≡ 0
+  none_far s o (Port.Terminal t) wire = rw wire refl
+  none_far s o (Port.Switch s' i') wire = rw wire (ahead_inner s' i' s o (peer_back plan is_plan (Port.Switch s o) (Port.Switch s' i') wire))
 
   pub falling : (nodes : List (Node Traced)) → IsSettled plan image is_plan labelled nodes → AreFalling plan rank (random_ahead (routes_of plan image) rank) nodes
   falling nodes good = record { puts = puts; streams = streams; wants = wants }
     where
-      puts : (s i : ℕ) (S : Switch Traced) (t : Settings) → slice_get nodes s ≡ Some (node.Switch S) → slice_get S.settings i ≡ Some t → t.randomize ≡ true → random_ahead (routes_of plan image) rank (port_of s i) ≡ header_length t * (8 * own plan rank (port.Switch s i)) + 1
+      puts : (s i : ℕ) (S : Switch Traced) (t : Settings) → slice_get nodes s ≡ Some (NodeOf.Switch S) → slice_get S.settings i ≡ Some t → t.randomize ≡ true → random_ahead (routes_of plan image) rank (port_of s i) ≡ header_length t * (8 * own plan rank (Port.Switch s i)) + 1
       puts s i S t here set random =
           let there : link_settings (routes_of plan image).settings (port_of s i) ≡ Some t = ap (λ l. slice_get l i) (sym (set_is plan image is_plan labelled nodes good.set s S here)) ∙ set in
           let out = labelled.accepted.random_outside (port_of s i) (t, there, random) in
-          let long : header_length t ≡ (routes_of plan image).header = labelled.accepted.one_length (port_of s i) (port.Terminal out.0) t out.1 there in
+          let long : header_length t ≡ (routes_of plan image).header = labelled.accepted.one_length (port_of s i) (Port.Terminal out.0) t out.1 there in
           let is_put : ahead_by (routes_of plan image).header (rank (port_of s i)) (Some t) ≡ (routes_of plan image).header * (8 * (rank (port_of s i) + 1)) + 1 = rw random refl in
           ap (ahead_by (routes_of plan image).header (rank (port_of s i))) there ∙ is_put ∙ ap (λ n. n * (8 * (rank (port_of s i) + 1)) + 1) (sym long)
 
-      streams : (s i o : ℕ) (S : Switch Traced) (p : Input Traced) → slice_get nodes s ≡ Some (node.Switch S) → slice_get S.inputs i ≡ Some p → p.phase ≡ Stream o → (far_of plan rank (port.Switch s o) + 1 ≤ own plan rank (port.Switch s i)) × (at_far plan rank (random_ahead (routes_of plan image) rank) (port.Switch s o) ≡ 0)
+      streams : (s i o : ℕ) (S : Switch Traced) (p : Input Traced) → slice_get nodes s ≡ Some (NodeOf.Switch S) → slice_get S.inputs i ≡ Some p → p.phase ≡ Stream o → (far_of plan rank (Port.Switch s o) + 1 ≤ own plan rank (Port.Switch s i)) × (at_far plan rank (random_ahead (routes_of plan image) rank) (Port.Switch s o) ≡ 0)
       streams s i o S p here input e =
-          let phase : phases plan nodes (port.Switch s i) ≡ Stream o = rw (here, input) e in
-          let u : Suits (routes_of plan image) (world_of plan image nodes).book good.holds.0 (port.Switch s i) (Stream o) = rw phase at (good.holds.1.suits (port.Switch s i)) in
+          let phase : phases plan nodes (Port.Switch s i) ≡ Stream o = rw (here, input) e in
+          let u : Suits (routes_of plan image) (world_of plan image nodes).book good.holds.0 (Port.Switch s i) (Stream o) = rw phase at (good.holds.1.suits (Port.Switch s i)) in
           (goes_down s i u.4 o u.1 u.5 u.6 u.2, none_far s o u.1 u.2)
 
-      wants : (s i o g : ℕ) (S : Switch Traced) (p : Input Traced) (b : List Traced) → slice_get nodes s ≡ Some (node.Switch S) → slice_get S.inputs i ≡ Some p → p.phase ≡ Want b g → is_in_group S.settings g o ≡ true → (0 < length b) × (far_of plan rank (port.Switch s o) + 1 ≤ own plan rank (port.Switch s i)) × (at_far plan rank (random_ahead (routes_of plan image) rank) (port.Switch s o) ≡ 0)
+      wants : (s i o g : ℕ) (S : Switch Traced) (p : Input Traced) (b : List Traced) → slice_get nodes s ≡ Some (NodeOf.Switch S) → slice_get S.inputs i ≡ Some p → p.phase ≡ Want b g → is_in_group S.settings g o ≡ true → (0 < length b) × (far_of plan rank (Port.Switch s o) + 1 ≤ own plan rank (Port.Switch s i)) × (at_far plan rank (random_ahead (routes_of plan image) rank) (Port.Switch s o) ≡ 0)
       wants s i o g S p b here input e group =
-          let phase : phases plan nodes (port.Switch s i) ≡ Want b g = rw (here, input) e in
-          let u : Suits (routes_of plan image) (world_of plan image nodes).book good.holds.0 (port.Switch s i) (Want b g) = rw phase at (good.holds.1.suits (port.Switch s i)) in
-          let among : group_at (routes_of plan image) (port.Switch s i) g o ≡ true = ap (λ l. is_in_group l g o) (sym (set_is plan image is_plan labelled nodes good.set s S here)) ∙ group in
+          let phase : phases plan nodes (Port.Switch s i) ≡ Want b g = rw (here, input) e in
+          let u : Suits (routes_of plan image) (world_of plan image nodes).book good.holds.0 (Port.Switch s i) (Want b g) = rw phase at (good.holds.1.suits (Port.Switch s i)) in
+          let among : group_at (routes_of plan image) (Port.Switch s i) g o ≡ true = ap (λ l. is_in_group l g o) (sym (set_is plan image is_plan labelled nodes good.set s S here)) ∙ group in
           let out = u.2 o among in
           (omega (arith, u.3, labelled.positive), goes_down s i g o out.0 u.4 among out.1, none_far s o out.0 out.1)
 

@@ -1,40 +1,24 @@
 -- Each event of a round that is done leaves less work.
-use Rattle.c104_plan.specs.Plans.{Plan}
-use Rattle.c104_plan.specs.Wiring.{peer}
-use Rattle.c104_plan.specs.declared.ports.Port.{Port}
-use Rattle.c104_check.specs.declared.ports.SwitchPort.{SwitchPort}
-use Rattle.c104_interval.specs.Selection.{select}
-use Rattle.c104_interval.specs.declared.intervals.Select.{Select}
-use Rattle.c104_interval.specs.declared.intervals.Select.TheVariants.{Link}
-use Rattle.c104_link.proofs.MadeSteps.{at_place_made, from_place_made, given, required}
-use Rattle.c104_link.specs.Buffers.{Incoming, Outgoing, incoming_accept, incoming_grant, outgoing_credited, outgoing_emit, outgoing_put, outgoing_put_all, without_first}
-use Rattle.c104_link.specs.Steps.{step_at, yield_step_at}
-use Rattle.c104_net.proofs.LinkActs.{Matches}
-use Rattle.c104_node.proofs.NextTokens.{first_some}
-use Rattle.c104_run.specs.Ends.{end_of}
-use Rattle.c104_run.specs.Network.{terminal_place}
-use Rattle.c104_node.specs.Nodes.{Node, node_credit_in, node_credit_out, node_drain, node_enter, node_leave}
-use Rattle.c104_node.specs.Terminals.{Terminal, terminal_credit_in, terminal_credit_out, terminal_drain, terminal_enter, terminal_leave, with_input, with_output}
-use Rattle.c104_net.specs.HeaderWork.{ahead_at, first_ahead, full_incoming, full_input, full_inputs, full_link, full_node, full_output, full_outputs}
-use Rattle.c104_net.specs.Work.{header_held, level, sum_at, weigh}
-use Rattle.c104_check.specs.Walks.{port_of}
-use Rattle.c104_regs.specs.Settings.{header_length}
-use Rattle.c104_regs.specs.declared.settings.Settings.{Settings}
-use Rattle.c104_switch.specs.Claims.{input_claim, put_header, streaming_input}
-use Rattle.c104_switch.specs.Group.{is_in_group}
-use Rattle.c104_switch.specs.Headers.{decided_phase, header_value, is_sink, phase_after_header, random_header}
-use Rattle.c104_switch.specs.Switch.{Input, Switch, input_accept, input_grant, switch_credit_in, switch_credit_out, switch_enter, switch_leave, with_buffer, with_inputs, with_outputs}
-use Rattle.c104_switch.specs.Turns.{header_turn, input_after_token, phase_after_token, random_turn, turn_by_phase}
-use Rattle.c104_switch.specs.declared.phase.Phase.{Phase}
-use Rattle.c104_switch.specs.declared.phase.Phase.TheVariants.{Fresh, Head, Sinking, Stream, Want}
-use Rattle.c104_token.specs.Kinds.{Kind}
-use Rattle.c104_token.specs.Tokens.{is_end}
-use Rattle.std.proofs.Common.{Bool, List, Some, [], ap, arith, drop, false, length, length-append, nat_le, nat_lt, not, refl, slice_get, slice_set, subst, suc, sym, true, zero, ℕ, ⊎_elim, ◌&&◌, ◌*◌, ◌++◌, ◌+◌, ◌-◌, ◌<◌, ◌∙◌, ◌∷◌, ◌≡◌, ◌≤◌}
-use Rattle.c104_net.proofs.WorkBounds.{weigh_is}
-use Rattle.std.proofs.lemmas.Bool.{and_parts, cases_Bool, le-leb, leb-true}
-use Rattle.std.proofs.lemmas.Bool.Decides.{nat_tests}
-use Rattle.c104_node.specs.declared.node.NodeOf.TheVariants as node
-use Rattle.c104_plan.specs.declared.ports.Port.TheVariants as port
+use Rattle.{c104_check.specs.{Walks.port_of, declared.ports.SwitchPort.SwitchPort}, c104_interval.specs.Selection.select}
+use Rattle.{c104_interval.specs.declared.intervals.Select.{Select, TheVariants.Link}, c104_link.proofs.MadeSteps.at_place_made}
+use Rattle.c104_link.{proofs.MadeSteps.{from_place_made, given, required}, specs.Buffers.{Incoming, Outgoing, incoming_accept}}
+use Rattle.c104_link.specs.Buffers.{incoming_grant, outgoing_credited, outgoing_emit, outgoing_put, outgoing_put_all, without_first}
+use Rattle.{c104_link.specs.Steps.{step_at, yield_step_at}, c104_net.proofs.{LinkActs.Matches, WorkBounds.weigh_is}}
+use Rattle.c104_net.specs.HeaderWork.{ahead_at, first_ahead, full_incoming, full_input, full_inputs, full_link, full_node, full_output}
+use Rattle.{c104_net.specs.{HeaderWork.full_outputs, Work.{header_held, level, sum_at, weigh}}, c104_node.proofs.NextTokens.first_some}
+use Rattle.c104_node.specs.{Nodes.{Node, node_credit_in, node_credit_out, node_drain, node_enter, node_leave}, Terminals.Terminal}
+use Rattle.c104_node.specs.Terminals.{terminal_credit_in, terminal_credit_out, terminal_drain, terminal_enter, terminal_leave, with_input}
+use Rattle.{c104_node.specs.{Terminals.with_output, declared.node.NodeOf.NodeOf}, c104_plan.specs.{Plans.Plan, Wiring.peer}}
+use Rattle.{c104_plan.specs.declared.ports.Port.Port, c104_regs.specs.{Settings.header_length, declared.settings.Settings.Settings}}
+use Rattle.{c104_run.specs.{Ends.end_of, Network.terminal_place}, c104_switch.specs.Claims.{input_claim, put_header, streaming_input}}
+use Rattle.c104_switch.specs.{Group.is_in_group, Headers.{decided_phase, header_value, is_sink, phase_after_header, random_header}}
+use Rattle.c104_switch.specs.Switch.{Input, Switch, input_accept, input_grant, switch_credit_in, switch_credit_out, switch_enter}
+use Rattle.c104_switch.specs.{Switch.{switch_leave, with_buffer, with_inputs, with_outputs}, Turns.{header_turn, input_after_token}}
+use Rattle.c104_switch.specs.{Turns.{phase_after_token, random_turn, turn_by_phase}, declared.phase.Phase.{Phase, TheVariants.Fresh}}
+use Rattle.{c104_switch.specs.declared.phase.Phase.TheVariants.{Head, Sinking, Stream, Want}, c104_token.specs.{Kinds.Kind, Tokens.is_end}}
+use Rattle.std.proofs.Common.{Bool, List, Some, [], ap, arith, drop, false, length, length-append, nat_le, nat_lt, not, refl, slice_get}
+use Rattle.std.proofs.Common.{slice_set, subst, suc, sym, true, zero, ℕ, ⊎_elim, ◌&&◌, ◌*◌, ◌++◌, ◌+◌, ◌-◌, ◌<◌, ◌∙◌, ◌∷◌, ◌≡◌, ◌≤◌}
+use Rattle.std.proofs.lemmas.Bool.{Decides.nat_tests, and_parts, cases_Bool, le-leb, leb-true}
 
 module _ {X : Type 0} where
   pub weigh-append : (a : ℕ) (xs ys : List X) → weigh a (xs ++ ys) ≡ weigh a xs + weigh a ys
@@ -117,78 +101,78 @@ module _ {A : Type 0} (plan : Plan) (rank ahead : SwitchPort → ℕ) where
     output_set l q r e = sum_set (full_link plan rank ahead s) S.outputs l q r e
 
   pub enter_work : (Q : Port) (x : A) (n m : Node A) → Matches Q n → node_enter x (end_of plan Q).link n ≡ Some m → full_node plan rank ahead (end_of plan Q).node m ≡ full_node plan rank ahead (end_of plan Q).node n + (8 * own plan rank Q + 2 + at_own plan rank ahead Q)
-  enter_work (port.Switch s l) x (node.Switch S) m k e =
+  enter_work (Port.Switch s l) x (NodeOf.Switch S) m k e =
       given (switch_enter S l x) _ m e (λ S' f1 f2. given (step_at S.inputs l (input_accept x)) _ S' f1 (λ ps g1 g2. at_place_made S.inputs l (input_accept x) ps g1 (λ p p' ep h1 h2. given (incoming_accept x p.buffer) _ p' h1 (λ b eb h3.
-      (let d : node.Switch (with_inputs S (slice_set S.inputs l (with_buffer p b))) ≡ m = cc in
-      let one = accept_work (own plan rank (port.Switch s l)) (at_own plan rank ahead (port.Switch s l)) x p.buffer b eb in
+      (let d : NodeOf.Switch (with_inputs S (slice_set S.inputs l (with_buffer p b))) ≡ m = cc in
+      let one = accept_work (own plan rank (Port.Switch s l)) (at_own plan rank ahead (Port.Switch s l)) x p.buffer b eb in
       let all = input_set s S l p (with_buffer p b) ep in
-      subst (λ z. full_node plan rank ahead s z ≡ full_node plan rank ahead s (node.Switch S) + (8 * own plan rank (port.Switch s l) + 2 + at_own plan rank ahead (port.Switch s l))) d (omega (arith, one, all)))))))
-  enter_work (port.Terminal t) x (node.Terminal T) m k e =
+      subst (λ z. full_node plan rank ahead s z ≡ full_node plan rank ahead s (NodeOf.Switch S) + (8 * own plan rank (Port.Switch s l) + 2 + at_own plan rank ahead (Port.Switch s l))) d (omega (arith, one, all)))))))
+  enter_work (Port.Terminal t) x (NodeOf.Terminal T) m k e =
       given (terminal_enter x T) _ m e (λ T' f1 f2. given (incoming_accept x T.input) _ T' f1 (λ b eb g2.
-      (let d : node.Terminal (with_input T b) ≡ m = cc in
+      (let d : NodeOf.Terminal (with_input T b) ≡ m = cc in
       let one = accept_work 0 0 x T.input b eb in
-      subst (λ z. full_node plan rank ahead (terminal_place plan t) z ≡ full_node plan rank ahead (terminal_place plan t) (node.Terminal T) + 2) d (omega (arith, one)))))
+      subst (λ z. full_node plan rank ahead (terminal_place plan t) z ≡ full_node plan rank ahead (terminal_place plan t) (NodeOf.Terminal T) + 2) d (omega (arith, one)))))
   enter_work P x n m k e = absurd k
 
   pub leave_work : (P : Port) (n : Node A) (r : A × Node A) → Matches P n → node_leave (end_of plan P).link n ≡ Some r → full_node plan rank ahead (end_of plan P).node r.1 + (8 * far_of plan rank P + 4 + at_far plan rank ahead P) ≡ full_node plan rank ahead (end_of plan P).node n
-  leave_work (port.Switch s l) (node.Switch S) r k e =
+  leave_work (Port.Switch s l) (NodeOf.Switch S) r k e =
       given (switch_leave S l) _ r e (λ v f1 f2. given (yield_step_at S.outputs l outgoing_emit) _ v f1 (λ qs g1 g2. from_place_made S.outputs l outgoing_emit qs g1 (λ q y eq ey h2.
       (let d1 : ◌≡◌ {A = A × Switch A} (y.0, with_outputs S (slice_set S.outputs l y.1)) v = ap (λ (z : A × List (Outgoing A)). (z.0, with_outputs S z.1)) h2 ∙ cc in
-      let d : ◌≡◌ {A = A × Node A} (y.0, node.Switch (with_outputs S (slice_set S.outputs l y.1))) r = ap (λ (z : A × Switch A). (z.0, node.Switch z.1)) d1 ∙ cc in
-      let one = emit_work (far_of plan rank (port.Switch s l)) (at_far plan rank ahead (port.Switch s l)) q y ey in
+      let d : ◌≡◌ {A = A × Node A} (y.0, NodeOf.Switch (with_outputs S (slice_set S.outputs l y.1))) r = ap (λ (z : A × Switch A). (z.0, NodeOf.Switch z.1)) d1 ∙ cc in
+      let one = emit_work (far_of plan rank (Port.Switch s l)) (at_far plan rank ahead (Port.Switch s l)) q y ey in
       let all = output_set s S l q y.1 eq in
-      subst (λ (z : A × Node A). full_node plan rank ahead s z.1 + (8 * far_of plan rank (port.Switch s l) + 4 + at_far plan rank ahead (port.Switch s l)) ≡ full_node plan rank ahead s (node.Switch S)) d (omega (arith, one, all))))))
-  leave_work (port.Terminal t) (node.Terminal T) r k e =
+      subst (λ (z : A × Node A). full_node plan rank ahead s z.1 + (8 * far_of plan rank (Port.Switch s l) + 4 + at_far plan rank ahead (Port.Switch s l)) ≡ full_node plan rank ahead s (NodeOf.Switch S)) d (omega (arith, one, all))))))
+  leave_work (Port.Terminal t) (NodeOf.Terminal T) r k e =
       given (terminal_leave T) _ r e (λ v f1 f2. given (outgoing_emit T.output) _ v f1 (λ y ey g2.
       (let d1 : ◌≡◌ {A = A × Terminal A} (y.0, with_output T y.1) v = cc in
-      let d : ◌≡◌ {A = A × Node A} (y.0, node.Terminal (with_output T y.1)) r = ap (λ (z : A × Terminal A). (z.0, node.Terminal z.1)) d1 ∙ cc in
-      let far : ℕ = level plan rank (peer plan (port.Terminal (terminal_place plan t - length plan.switches))) in
-      let same : far ≡ far_of plan rank (port.Terminal t) = ap (λ n. level plan rank (peer plan (port.Terminal n))) (terminal_number plan t) in
-      let ahead_is : ahead_at plan rank ahead (peer plan (port.Terminal (terminal_place plan t - length plan.switches))) ≡ at_far plan rank ahead (port.Terminal t) = ap (λ n. ahead_at plan rank ahead (peer plan (port.Terminal n))) (terminal_number plan t) in
-      let one = emit_work far (ahead_at plan rank ahead (peer plan (port.Terminal (terminal_place plan t - length plan.switches)))) T.output y ey in
-      subst (λ (z : A × Node A). full_node plan rank ahead (terminal_place plan t) z.1 + (8 * far_of plan rank (port.Terminal t) + 4 + at_far plan rank ahead (port.Terminal t)) ≡ full_node plan rank ahead (terminal_place plan t) (node.Terminal T)) d (omega (arith, one, same, ahead_is)))))
+      let d : ◌≡◌ {A = A × Node A} (y.0, NodeOf.Terminal (with_output T y.1)) r = ap (λ (z : A × Terminal A). (z.0, NodeOf.Terminal z.1)) d1 ∙ cc in
+      let far : ℕ = level plan rank (peer plan (Port.Terminal (terminal_place plan t - length plan.switches))) in
+      let same : far ≡ far_of plan rank (Port.Terminal t) = ap (λ n. level plan rank (peer plan (Port.Terminal n))) (terminal_number plan t) in
+      let ahead_is : ahead_at plan rank ahead (peer plan (Port.Terminal (terminal_place plan t - length plan.switches))) ≡ at_far plan rank ahead (Port.Terminal t) = ap (λ n. ahead_at plan rank ahead (peer plan (Port.Terminal n))) (terminal_number plan t) in
+      let one = emit_work far (ahead_at plan rank ahead (peer plan (Port.Terminal (terminal_place plan t - length plan.switches)))) T.output y ey in
+      subst (λ (z : A × Node A). full_node plan rank ahead (terminal_place plan t) z.1 + (8 * far_of plan rank (Port.Terminal t) + 4 + at_far plan rank ahead (Port.Terminal t)) ≡ full_node plan rank ahead (terminal_place plan t) (NodeOf.Terminal T)) d (omega (arith, one, same, ahead_is)))))
   leave_work P n r k e = absurd k
 
   pub credit_out_work : (P : Port) (n m : Node A) → Matches P n → node_credit_out (end_of plan P).link n ≡ Some m → full_node plan rank ahead (end_of plan P).node m + 8 ≡ full_node plan rank ahead (end_of plan P).node n
-  credit_out_work (port.Switch s l) (node.Switch S) m k e =
+  credit_out_work (Port.Switch s l) (NodeOf.Switch S) m k e =
       given (switch_credit_out S l) _ m e (λ S' f1 f2. required S.started _ S' f1 (λ started f0. given (step_at S.inputs l input_grant) _ S' f0 (λ ps g1 g2. at_place_made S.inputs l input_grant ps g1 (λ p p' ep h1 h2. given (incoming_grant p.buffer) _ p' h1 (λ b eb h3.
-      (let d : node.Switch (with_inputs S (slice_set S.inputs l (with_buffer p b))) ≡ m = cc in
-      let one = grant_work (own plan rank (port.Switch s l)) (at_own plan rank ahead (port.Switch s l)) p.buffer b eb in
+      (let d : NodeOf.Switch (with_inputs S (slice_set S.inputs l (with_buffer p b))) ≡ m = cc in
+      let one = grant_work (own plan rank (Port.Switch s l)) (at_own plan rank ahead (Port.Switch s l)) p.buffer b eb in
       let all = input_set s S l p (with_buffer p b) ep in
-      subst (λ z. full_node plan rank ahead s z + 8 ≡ full_node plan rank ahead s (node.Switch S)) d (omega (arith, one, all))))))))
-  credit_out_work (port.Terminal t) (node.Terminal T) m k e =
+      subst (λ z. full_node plan rank ahead s z + 8 ≡ full_node plan rank ahead s (NodeOf.Switch S)) d (omega (arith, one, all))))))))
+  credit_out_work (Port.Terminal t) (NodeOf.Terminal T) m k e =
       given (terminal_credit_out T) _ m e (λ T' f1 f2. given (incoming_grant T.input) _ T' f1 (λ b eb g2.
-      (let d : node.Terminal (with_input T b) ≡ m = cc in
+      (let d : NodeOf.Terminal (with_input T b) ≡ m = cc in
       let one = grant_work 0 0 T.input b eb in
-      subst (λ z. full_node plan rank ahead (terminal_place plan t) z + 8 ≡ full_node plan rank ahead (terminal_place plan t) (node.Terminal T)) d (omega (arith, one)))))
+      subst (λ z. full_node plan rank ahead (terminal_place plan t) z + 8 ≡ full_node plan rank ahead (terminal_place plan t) (NodeOf.Terminal T)) d (omega (arith, one)))))
   credit_out_work P n m k e = absurd k
 
   pub credit_in_work : (P : Port) (n m : Node A) → Matches P n → node_credit_in (end_of plan P).link n ≡ Some m → full_node plan rank ahead (end_of plan P).node m ≡ full_node plan rank ahead (end_of plan P).node n
-  credit_in_work (port.Switch s l) (node.Switch S) m k e =
+  credit_in_work (Port.Switch s l) (NodeOf.Switch S) m k e =
       given (switch_credit_in S l) _ m e (λ S' f1 f2. given (step_at S.outputs l outgoing_credited) _ S' f1 (λ qs g1 g2. at_place_made S.outputs l outgoing_credited qs g1 (λ q q' eq h1 h2.
-      (let d : node.Switch (with_outputs S (slice_set S.outputs l q')) ≡ m = cc in
-      let one = credited_work (far_of plan rank (port.Switch s l)) (at_far plan rank ahead (port.Switch s l)) q q' h1 in
+      (let d : NodeOf.Switch (with_outputs S (slice_set S.outputs l q')) ≡ m = cc in
+      let one = credited_work (far_of plan rank (Port.Switch s l)) (at_far plan rank ahead (Port.Switch s l)) q q' h1 in
       let all = output_set s S l q q' eq in
-      subst (λ z. full_node plan rank ahead s z ≡ full_node plan rank ahead s (node.Switch S)) d (omega (arith, one, all))))))
-  credit_in_work (port.Terminal t) (node.Terminal T) m k e =
+      subst (λ z. full_node plan rank ahead s z ≡ full_node plan rank ahead s (NodeOf.Switch S)) d (omega (arith, one, all))))))
+  credit_in_work (Port.Terminal t) (NodeOf.Terminal T) m k e =
       given (terminal_credit_in T) _ m e (λ T' f1 f2. given (outgoing_credited T.output) _ T' f1 (λ q eq g2.
-      (let d : node.Terminal (with_output T q) ≡ m = cc in
-      let one = credited_work (level plan rank (peer plan (port.Terminal (terminal_place plan t - length plan.switches)))) (ahead_at plan rank ahead (peer plan (port.Terminal (terminal_place plan t - length plan.switches)))) T.output q eq in
-      subst (λ z. full_node plan rank ahead (terminal_place plan t) z ≡ full_node plan rank ahead (terminal_place plan t) (node.Terminal T)) d (omega (arith, one)))))
+      (let d : NodeOf.Terminal (with_output T q) ≡ m = cc in
+      let one = credited_work (level plan rank (peer plan (Port.Terminal (terminal_place plan t - length plan.switches)))) (ahead_at plan rank ahead (peer plan (Port.Terminal (terminal_place plan t - length plan.switches)))) T.output q eq in
+      subst (λ z. full_node plan rank ahead (terminal_place plan t) z ≡ full_node plan rank ahead (terminal_place plan t) (NodeOf.Terminal T)) d (omega (arith, one)))))
   credit_in_work P n m k e = absurd k
 
   pub drain_work : (k : ℕ) (n : Node A) (r : A × Node A) → node_drain n ≡ Some r → full_node plan rank ahead k r.1 + 1 ≤ full_node plan rank ahead k n
-  drain_work k (node.Switch S) r e = absurd (cc)
-  drain_work k (node.Terminal T) r e = given (terminal_drain T) _ r e (λ z ez g1. given (slice_get T.input.items 0) _ z ez (λ x ex g2.
+  drain_work k (NodeOf.Switch S) r e = absurd (cc)
+  drain_work k (NodeOf.Terminal T) r e = given (terminal_drain T) _ r e (λ z ez g1. given (slice_get T.input.items 0) _ z ez (λ x ex g2.
       (let T' : Terminal A = record T { input = without_first T.input; arrived = T.arrived ++ x ∷ [] } in
       let dz : ◌≡◌ {A = A × Terminal A} (x, T') z = cc in
-      let d : ◌≡◌ {A = A × Node A} (x, node.Terminal T') r = ap (λ (w : A × Terminal A). (w.0, node.Terminal w.1)) dz ∙ cc in
+      let d : ◌≡◌ {A = A × Node A} (x, NodeOf.Terminal T') r = ap (λ (w : A × Terminal A). (w.0, NodeOf.Terminal w.1)) dz ∙ cc in
       let one = first_work 0 0 x T.input (first_some T.input.items x ex) in
-      subst (λ (z : A × Node A). full_node plan rank ahead k z.1 + 1 ≤ full_node plan rank ahead k (node.Terminal T)) d (omega (arith, one)))))
+      subst (λ (z : A × Node A). full_node plan rank ahead k z.1 + 1 ≤ full_node plan rank ahead k (NodeOf.Terminal T)) d (omega (arith, one)))))
 
   module _ (kind : Kind A) (s i : ℕ) where
     abbrev far : ℕ
-    far = level plan rank (Some (port.Switch s i))
+    far = level plan rank (Some (Port.Switch s i))
 
     abbrev a : ℕ
     a = ahead (port_of s i)
@@ -255,7 +239,7 @@ module _ {A : Type 0} (plan : Plan) (rank ahead : SwitchPort → ℕ) where
     abbrev pub IsLess : Input A → List (Outgoing A) → Input A × List (Outgoing A) → Type 0
     IsLess p qs r = full_input plan rank ahead s i r.0 + full_outputs plan rank ahead s r.1 + 1 ≤ full_input plan rank ahead s i p + full_outputs plan rank ahead s qs
 
-    pub turn_work : (S : Switch A) (t : Settings) (word : ℕ) (p : Input A) (x : A) (r : Input A × List (Outgoing A)) (ph : Phase (List A)) → (t.randomize ≡ true → a ≡ header_length t * (8 * far) + 1) → ((o : ℕ) → ph ≡ Stream o → (far_of plan rank (port.Switch s o) + 1 ≤ far) × (at_far plan rank ahead (port.Switch s o) ≡ 0)) → p.phase ≡ ph → p.buffer.items ≡ x ∷ drop 1 p.buffer.items → turn_by_phase kind t word p S.outputs ph x ≡ Some r → IsLess p S.outputs r
+    pub turn_work : (S : Switch A) (t : Settings) (word : ℕ) (p : Input A) (x : A) (r : Input A × List (Outgoing A)) (ph : Phase (List A)) → (t.randomize ≡ true → a ≡ header_length t * (8 * far) + 1) → ((o : ℕ) → ph ≡ Stream o → (far_of plan rank (Port.Switch s o) + 1 ≤ far) × (at_far plan rank ahead (Port.Switch s o) ≡ 0)) → p.phase ≡ ph → p.buffer.items ≡ x ∷ drop 1 p.buffer.items → turn_by_phase kind t word p S.outputs ph x ≡ Some r → IsLess p S.outputs r
     turn_work S t word p x r Fresh puts falls is items e = ⊎_elim
         (λ (m : (t.randomize && not (is_end (kind.plain x))) ≡ true).
         (let e' : Some (random_turn kind t word p, S.outputs) ≡ Some r = rw m at e in
@@ -278,7 +262,7 @@ module _ {A : Type 0} (plan : Plan) (rank ahead : SwitchPort → ℕ) where
         let held : weigh (8 * far) (header_held (phase_after_token kind x (Stream o))) ≡ 0 = no_header x (Stream o) refl in
         let none : weigh (8 * far) (header_held p.phase) ≡ 0 = ap (λ z. weigh (8 * far) (header_held z)) is in
         let all = output_set s S o q q' eq in
-        let more : full_link plan rank ahead s o q' ≡ full_link plan rank ahead s o q + (8 * far_of plan rank (port.Switch s o) + 4 + at_far plan rank ahead (port.Switch s o)) = sym (ap (λ (z : Outgoing A). full_link plan rank ahead s o z) came) ∙ weigh-append (8 * far_of plan rank (port.Switch s o) + 4 + at_far plan rank ahead (port.Switch s o)) q.items (x ∷ []) ∙ omega arith in
+        let more : full_link plan rank ahead s o q' ≡ full_link plan rank ahead s o q + (8 * far_of plan rank (Port.Switch s o) + 4 + at_far plan rank ahead (Port.Switch s o)) = sym (ap (λ (z : Outgoing A). full_link plan rank ahead s o z) came) ∙ weigh-append (8 * far_of plan rank (Port.Switch s o) + 4 + at_far plan rank ahead (Port.Switch s o)) q.items (x ∷ []) ∙ omega arith in
         let know = falls o refl in
         subst (IsLess p S.outputs) d (omega (arith, one, held, none, all, more, know.0, know.1, waits_low (phase_after_token kind x (Stream o))))))))
       where
@@ -291,22 +275,22 @@ module _ {A : Type 0} (plan : Plan) (rank ahead : SwitchPort → ℕ) where
         let held : weigh (8 * far) (header_held (phase_after_token kind x Sinking)) ≡ 0 = ⊎_elim (λ (m : is_end (kind.plain x) ≡ true). rw m refl) (λ (m : is_end (kind.plain x) ≡ false). rw m refl) (cases_Bool (is_end (kind.plain x))) in
         subst (IsLess p S.outputs) d (omega (arith, one, held, waits_low (phase_after_token kind x Sinking)))
 
-    pub claim_work : (S : Switch A) (o : ℕ) (p : Input A) (r : Input A × List (Outgoing A)) (ph : Phase (List A)) → ((b : List A) (g : ℕ) → ph ≡ Want b g → is_in_group S.settings g o ≡ true → (0 < length b) × (far_of plan rank (port.Switch s o) + 1 ≤ far) × (at_far plan rank ahead (port.Switch s o) ≡ 0)) → p.phase ≡ ph → input_claim S.settings p S.outputs o ph ≡ Some r → IsLess p S.outputs r
+    pub claim_work : (S : Switch A) (o : ℕ) (p : Input A) (r : Input A × List (Outgoing A)) (ph : Phase (List A)) → ((b : List A) (g : ℕ) → ph ≡ Want b g → is_in_group S.settings g o ≡ true → (0 < length b) × (far_of plan rank (Port.Switch s o) + 1 ≤ far) × (at_far plan rank ahead (Port.Switch s o) ≡ 0)) → p.phase ≡ ph → input_claim S.settings p S.outputs o ph ≡ Some r → IsLess p S.outputs r
     claim_work S o p r (Want b g) falls is e = required (is_in_group S.settings g o) _ r e (λ group f0. given (slice_get S.settings o) _ r f0 (λ t et f1. given (step_at S.outputs o (put_header t b)) _ r f1 (λ rs f2 f3. at_place_made S.outputs o (put_header t b) rs f2 (λ q q' eq put d1.
         (let d : (streaming_input p o, slice_set S.outputs o q') ≡ r = cc in
         let know = falls b g refl group in
         let all = output_set s S o q q' eq in
         let held : weigh (8 * far) (header_held p.phase) ≡ weigh (8 * far) b = ap (λ z. weigh (8 * far) (header_held z)) is in
         let more = put_work t b q q' put in
-        let less = weigh_less (8 * far_of plan rank (port.Switch s o) + 4 + at_far plan rank ahead (port.Switch s o)) (8 * far) b (omega (arith, know.1, know.2)) know.0 in
+        let less = weigh_less (8 * far_of plan rank (Port.Switch s o) + 4 + at_far plan rank ahead (Port.Switch s o)) (8 * far) b (omega (arith, know.1, know.2)) know.0 in
         subst (IsLess p S.outputs) d (omega (arith, all, held, more, less)))))))
       where
-        put_work : (t : Settings) (b : List A) (q q' : Outgoing A) → put_header t b q ≡ Some q' → full_link plan rank ahead s o q' ≤ full_link plan rank ahead s o q + weigh (8 * far_of plan rank (port.Switch s o) + 4 + at_far plan rank ahead (port.Switch s o)) b
+        put_work : (t : Settings) (b : List A) (q q' : Outgoing A) → put_header t b q ≡ Some q' → full_link plan rank ahead s o q' ≤ full_link plan rank ahead s o q + weigh (8 * far_of plan rank (Port.Switch s o) + 4 + at_far plan rank ahead (Port.Switch s o)) b
         put_work t b q q' e = ⊎_elim
-            (λ (m : t.delete_header ≡ true). (let f : Some q ≡ Some q' = rw m at e in let d : q ≡ q' = cc in subst (λ z. full_link plan rank ahead s o z ≤ full_link plan rank ahead s o q + weigh (8 * far_of plan rank (port.Switch s o) + 4 + at_far plan rank ahead (port.Switch s o)) b) d (omega arith)))
+            (λ (m : t.delete_header ≡ true). (let f : Some q ≡ Some q' = rw m at e in let d : q ≡ q' = cc in subst (λ z. full_link plan rank ahead s o z ≤ full_link plan rank ahead s o q + weigh (8 * far_of plan rank (Port.Switch s o) + 4 + at_far plan rank ahead (Port.Switch s o)) b) d (omega arith)))
             (λ (m : t.delete_header ≡ false). (let f : outgoing_put_all b q ≡ Some q' = rw m at e in required (nat_le (length q.items + length b) 8) _ q' f (λ h g2.
             (let came : record { items = q.items ++ b; credit = q.credit } ≡ q' = cc in
-            let heavy = weigh-append (8 * far_of plan rank (port.Switch s o) + 4 + at_far plan rank ahead (port.Switch s o)) q.items b in
-            subst (λ z. full_link plan rank ahead s o z ≤ full_link plan rank ahead s o q + weigh (8 * far_of plan rank (port.Switch s o) + 4 + at_far plan rank ahead (port.Switch s o)) b) came (omega (arith, heavy))))))
+            let heavy = weigh-append (8 * far_of plan rank (Port.Switch s o) + 4 + at_far plan rank ahead (Port.Switch s o)) q.items b in
+            subst (λ z. full_link plan rank ahead s o z ≤ full_link plan rank ahead s o q + weigh (8 * far_of plan rank (Port.Switch s o) + 4 + at_far plan rank ahead (Port.Switch s o)) b) came (omega (arith, heavy))))))
             (cases_Bool t.delete_header)
     claim_work S o p r ph falls is e = absurd (cc)

@@ -4,42 +4,19 @@
 --     NothingDone net      no event of a round is done
 --     IsFreeOfDeadlock net      what follows
 --     EndsWithoutDeadlock run      the same of a finished run
-use Rattle.std.specs.Prelude.{ℕ, ◌+◌, ◌*◌, ◌≡◌, ◌<◌, ◌≤◌, ◌⊎◌, All, false, true, List, Some, Ok, Err, map, slice_get}
-use Rattle.c104_check.specs.ChannelDependencies.{IsAcyclic, IsNeverRandomized, IsRanking}
-use Rattle.c104_check.specs.Routes.{IsAccepted, Routes, routes_of}
-use Rattle.c104_check.specs.declared.ports.SwitchPort.{SwitchPort}
-use Rattle.c104_plan.specs.PlanImage.{Fits, Image}
-use Rattle.c104_event.specs.declared.events.Event.{Event}
-use Rattle.c104_event.specs.declared.events.Event.TheVariants as event
-use Rattle.c104_event.specs.declared.faults.EventFault.TheVariants as fault
-use Rattle.c104_node.specs.declared.acts.Entry.{Entry}
-use Rattle.c104_net.specs.Deliveries.{Promise}
-use Rattle.c104_run.specs.Finished.{network_finish}
-use Rattle.c104_run.specs.FinishedRecords.{FinishedRecord}
-use Rattle.c104_run.specs.NetRecords.{NetRecord, is_done}
-use Rattle.c104_run.specs.Network.{network_of}
-use Rattle.c104_node.specs.Nodes.{Node}
-use Rattle.c104_run.specs.QuietNets.{IsQuiet}
-use Rattle.c104_run.specs.RecordedRuns.{RecordsRounds, record_apply}
-use Rattle.c104_run.specs.Rounds.{round}
-use Rattle.c104_run.specs.Runs.{IsDoneRun, IsRunRecord}
-use Rattle.c104_run.specs.Standstill.{IsDeadlocked, StandsStill, IsStarted}
-use Rattle.c104_node.specs.Starts.{IsStartedStart, start_node}
-use Rattle.c104_node.specs.Traced.{traced_kind}
-use Rattle.c104_node.specs.declared.traced.Traced.{Traced}
-use Rattle.c104_node.specs.Traces.{seatless, is_trace_full}
-use Rattle.c104_node.specs.declared.stamps.Stamp.{Stamp}
-use Rattle.c104_node.specs.MappedNodes.{map_node}
-use Rattle.c104_net.specs.Unchanged.{AreStartsOf, IsUnchanged}
-use Rattle.c104_net.specs.HeaderWork.{random_bound, random_work, work, work_bound}
-use Rattle.c104_net.specs.RoundEvents.{IsOfRound}
-use Rattle.c104_net.specs.Work.{most_weight, room_held, tokens_held}
-use Rattle.c104_switch.specs.Actions.{Reply}
-use Rattle.c104_token.specs.Kinds.{plain_kind}
+use Rattle.c104_check.specs.{ChannelDependencies.{IsAcyclic, IsNeverRandomized, IsRanking}, Routes.{IsAccepted, Routes, routes_of}}
+use Rattle.{c104_check.specs.declared.ports.SwitchPort.SwitchPort, c104_event.specs.declared.events.Event.Event}
+use Rattle.{c104_event.specs.declared.faults.EventFault.EventFault, c104_net.specs.{Deliveries.Promise, HeaderWork.random_bound}}
+use Rattle.c104_net.specs.{HeaderWork.{random_work, work, work_bound}, RoundEvents.IsOfRound, Unchanged.{AreStartsOf, IsUnchanged}}
+use Rattle.{c104_net.specs.Work.{most_weight, room_held, tokens_held}, c104_node.specs.{MappedNodes.map_node, Nodes.Node}}
+use Rattle.c104_node.specs.{Starts.{IsStartedStart, start_node}, Traced.traced_kind, Traces.{is_trace_full, seatless}}
+use Rattle.c104_node.specs.declared.{acts.Entry.Entry, stamps.Stamp.Stamp, starts.NodeStart.NodeStart, traced.Traced.Traced}
+use Rattle.{c104_plan.specs.{PlanImage.{Fits, Image}, Plans.Plan}, c104_run.specs.{Balance.IsSteady, Finished.network_finish}}
+use Rattle.c104_run.specs.{FinishedRecords.FinishedRecord, NetRecords.{NetRecord, is_done}, Network.network_of, QuietNets.IsQuiet}
+use Rattle.c104_run.specs.{RecordedRuns.{RecordsRounds, record_apply}, Rounds.round, Runs.{IsDoneRun, IsRunRecord}, Standstill.IsDeadlocked}
+use Rattle.{c104_run.specs.Standstill.{IsStarted, StandsStill}, c104_switch.specs.Actions.Reply, c104_token.specs.Kinds.plain_kind}
 use Rattle.c104_token.specs.declared.tokens.Token.{Token}
-use Rattle.c104_plan.specs.Plans.{Plan}
-use Rattle.c104_run.specs.Balance.{IsSteady}
-use Rattle.c104_node.specs.declared.starts.NodeStart.{NodeStart}
+use Rattle.std.specs.Prelude.{All, Err, List, Ok, Some, false, map, slice_get, true, ℕ, ◌*◌, ◌+◌, ◌<◌, ◌≡◌, ◌≤◌, ◌⊎◌}
 
 -- A network with its record whose labels the check accepts, and whose channels don't depend on one another in a cycle:
 -- its run began with the image's settings and with every switch started, nobody changed the network since, and what
@@ -65,7 +42,7 @@ NothingDone net = All (IsUndone net) (round net.network.plan)
 
 -- a terminal refuses a token, since it keeps all that arrive and has no room for more
 abbrev pub HasFullInbox : NetRecord → Type 0
-HasFullInbox net = (t : ℕ) × ((record_apply net (event.Drain t)).0 ≡ Err fault.InboxFull)
+HasFullInbox net = (t : ℕ) × ((record_apply net (Event.Drain t)).0 ≡ Err EventFault.InboxFull)
 
 -- the trace of some node may have no further entry
 abbrev pub HasFullTrace : NetRecord → Type 0

@@ -1,22 +1,12 @@
 -- What is promised of the packets that terminals receive.
 --     IsDelivered routes net t piece     a received packet is one packet that was sent to t, whole
 --     Promise routes net     each received packet is, no two are one, and where all is quiet none is missing
-use Rattle.std.specs.Prelude.{ℕ, ◌≡◌, Bool, true, false, List, [], length, drop, take, nat_le, Option, Some, None, if◌then◌else◌, slice_get}
-use Rattle.c104_token.specs.Cut.{whole_pieces}
-use Rattle.c104_token.specs.declared.packets.Packet.{Packet}
-use Rattle.c104_regs.specs.declared.settings.Settings.{Settings}
-use Rattle.c104_switch.specs.Headers.{header_number}
-use Rattle.c104_plan.specs.declared.ports.Port.{Port}
-use Rattle.c104_plan.specs.declared.ports.Port.TheVariants as port
-use Rattle.c104_check.specs.Routes.{Routes, owner, settings_at}
-use Rattle.c104_node.specs.declared.node.NodeOf.TheVariants as node
-use Rattle.c104_node.specs.Nodes.{Node, arrived_tokens}
-use Rattle.c104_node.specs.Terminals.{sent_tokens}
-use Rattle.c104_run.specs.Network.{Network, terminal_place}
-use Rattle.c104_run.specs.QuietNets.{IsQuiet}
-use Rattle.c104_node.specs.Traced.{traced_kind}
-use Rattle.c104_node.specs.declared.traced.Traced.{Traced}
-use Rattle.c104_node.specs.Traces.{part}
+use Rattle.{c104_check.specs.Routes.{Routes, owner, settings_at}, c104_node.specs.{Nodes.{Node, arrived_tokens}, Terminals.sent_tokens}}
+use Rattle.c104_node.specs.{Traced.traced_kind, Traces.part, declared.{node.NodeOf.NodeOf, traced.Traced.Traced}}
+use Rattle.{c104_plan.specs.declared.ports.Port.Port, c104_regs.specs.declared.settings.Settings.Settings, c104_run.specs.Network.Network}
+use Rattle.{c104_run.specs.{Network.terminal_place, QuietNets.IsQuiet}, c104_switch.specs.Headers.header_number}
+use Rattle.c104_token.specs.{Cut.whole_pieces, declared.packets.Packet.Packet}
+use Rattle.std.specs.Prelude.{Bool, List, None, Option, Some, [], drop, false, if◌then◌else◌, length, nat_le, slice_get, take, true, ℕ, ◌≡◌}
 
 -- whether a packet has a whole header, and its number
 abbrev pub has_header : Routes → Packet → Bool
@@ -27,8 +17,8 @@ header_of routes p = header_number (take routes.header p.bytes)
 
 -- whether headers are deleted where packets go out at this port
 abbrev pub deletes : Routes → Port → Bool
-deletes routes (port.Switch s l) = part false (λ (x : Settings). x.delete_header) (slice_get (settings_at routes s) l)
-deletes routes (port.Terminal t) = false
+deletes routes (Port.Switch s l) = part false (λ (x : Settings). x.delete_header) (slice_get (settings_at routes s) l)
+deletes routes (Port.Terminal t) = false
 
 -- how many tokens each packet lacks at its beginning on a wire from this port
 abbrev pub cut_at : Routes → Option Port → ℕ
@@ -37,8 +27,8 @@ cut_at routes (Some p) = if deletes routes p then routes.header else 0
 
 -- the packets that a node sent, in order; a switch sends none
 abbrev pub sent_packets : {A : Type 0} → Node A → List Packet
-sent_packets (node.Switch s) = []
-sent_packets (node.Terminal t) = t.sent
+sent_packets (NodeOf.Switch s) = []
+sent_packets (NodeOf.Terminal t) = t.sent
 
 -- the tokens that arrived at a terminal, and the packets that it sent
 abbrev pub arrived_at : {A : Type 0} → Network A → ℕ → List A
@@ -58,7 +48,7 @@ pub record IsDelivered (routes : Routes) (net : Network Traced) (t : ℕ) (piece
   pub number : ℕ
   pub packet : Packet
   pub sent : slice_get (sent_at net terminal) number ≡ Some packet
-  pub whole : piece ≡ drop (cut_at routes (routes.peer (port.Terminal t))) (sent_tokens traced_kind terminal number packet)
+  pub whole : piece ≡ drop (cut_at routes (routes.peer (Port.Terminal t))) (sent_tokens traced_kind terminal number packet)
   pub complete : has_header routes packet ≡ true
   pub owned : owner routes (header_of routes packet) ≡ Some t
 

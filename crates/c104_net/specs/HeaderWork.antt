@@ -5,24 +5,12 @@
 --     random_ahead routes rank      what a random header weighs there, and one for the turn that puts it
 --     work plan rank nodes      where no link puts random headers before packets
 --     work_bound plan nodes      by tokens and buffers alone: no work is more, by ranks up to the count of inputs
-use Rattle.std.specs.Prelude.{ℕ, ◌+◌, ◌-◌, ◌*◌, List, length, Option, Some, None, if◌then◌else◌}
-use Rattle.c104_check.specs.Routes.{Routes, link_settings}
-use Rattle.c104_check.specs.Walks.{port_of}
-use Rattle.c104_check.specs.declared.ports.SwitchPort.{SwitchPort}
-use Rattle.c104_plan.specs.Plans.{Plan}
-use Rattle.c104_plan.specs.Wiring.{peer}
-use Rattle.c104_plan.specs.declared.ports.Port.{Port}
-use Rattle.c104_plan.specs.declared.ports.Port.TheVariants as port
-use Rattle.c104_link.specs.Buffers.{Incoming, Outgoing}
-use Rattle.c104_regs.specs.declared.settings.Settings.{Settings}
-use Rattle.c104_switch.specs.Rooms.{room_left}
-use Rattle.c104_switch.specs.Switch.{Input}
-use Rattle.c104_switch.specs.declared.phase.Phase.{Phase}
-use Rattle.c104_switch.specs.declared.phase.Phase.TheVariants.{Fresh, Head, Want, Stream, Sinking}
-use Rattle.c104_node.specs.declared.node.NodeOf.TheVariants as node
-use Rattle.c104_node.specs.Nodes.{Node}
-use Rattle.c104_node.specs.Terminals.{Terminal}
-use Rattle.c104_net.specs.Work.{header_held, highest_rank, level, sum_at, weigh}
+use Rattle.c104_check.specs.{Routes.{Routes, link_settings}, Walks.port_of, declared.ports.SwitchPort.SwitchPort}
+use Rattle.{c104_link.specs.Buffers.{Incoming, Outgoing}, c104_net.specs.Work.{header_held, highest_rank, level, sum_at, weigh}}
+use Rattle.{c104_node.specs.{Nodes.Node, Terminals.Terminal, declared.node.NodeOf.NodeOf}, c104_plan.specs.{Plans.Plan, Wiring.peer}}
+use Rattle.{c104_plan.specs.declared.ports.Port.Port, c104_regs.specs.declared.settings.Settings.Settings}
+use Rattle.c104_switch.specs.{Rooms.room_left, Switch.Input, declared.phase.Phase.{Phase, TheVariants.{Fresh, Head, Sinking, Stream, Want}}}
+use Rattle.std.specs.Prelude.{List, None, Option, Some, if◌then◌else◌, length, ℕ, ◌*◌, ◌+◌, ◌-◌}
 
 -- what a random header of a given number of bytes weighs at an input, where one may be put by what is set there; and
 -- one for the turn that puts it
@@ -37,8 +25,8 @@ module _ (plan : Plan) (rank ahead : SwitchPort → ℕ) where
   -- what is counted in advance at the port that a wire leads to
   abbrev pub ahead_at : Option Port → ℕ
   ahead_at None = 0
-  ahead_at (Some (port.Switch s l)) = ahead (port_of s l)
-  ahead_at (Some (port.Terminal t)) = 0
+  ahead_at (Some (Port.Switch s l)) = ahead (port_of s l)
+  ahead_at (Some (Port.Terminal t)) = 0
 
   module _ {A : Type 0} where
     -- and with an input, where it waits for a packet
@@ -55,8 +43,8 @@ module _ (plan : Plan) (rank ahead : SwitchPort → ℕ) where
 
     abbrev pub full_input : ℕ → ℕ → Input A → ℕ
     full_input s l p =
-        full_incoming (level plan rank (Some (port.Switch s l))) (ahead (port_of s l)) p.buffer
-        + weigh (8 * level plan rank (Some (port.Switch s l))) (header_held p.phase)
+        full_incoming (level plan rank (Some (Port.Switch s l))) (ahead (port_of s l)) p.buffer
+        + weigh (8 * level plan rank (Some (Port.Switch s l))) (header_held p.phase)
         + first_ahead (ahead (port_of s l)) p.phase
 
     -- and of the tokens that wait to go out
@@ -64,7 +52,7 @@ module _ (plan : Plan) (rank ahead : SwitchPort → ℕ) where
     full_output far a q = weigh (8 * far + 4 + a) q.items
 
     abbrev pub full_link : ℕ → ℕ → Outgoing A → ℕ
-    full_link s l q = full_output (level plan rank (peer plan (port.Switch s l))) (ahead_at (peer plan (port.Switch s l))) q
+    full_link s l q = full_output (level plan rank (peer plan (Port.Switch s l))) (ahead_at (peer plan (Port.Switch s l))) q
 
     abbrev pub full_inputs : ℕ → List (Input A) → ℕ
     full_inputs s ps = sum_at (full_input s) 0 ps
@@ -75,12 +63,12 @@ module _ (plan : Plan) (rank ahead : SwitchPort → ℕ) where
     abbrev pub full_terminal : ℕ → Terminal A → ℕ
     full_terminal k t =
         full_incoming 0 0 t.input
-        + full_output (level plan rank (peer plan (port.Terminal (k - length plan.switches))))
-        (ahead_at (peer plan (port.Terminal (k - length plan.switches)))) t.output
+        + full_output (level plan rank (peer plan (Port.Terminal (k - length plan.switches))))
+        (ahead_at (peer plan (Port.Terminal (k - length plan.switches)))) t.output
 
     abbrev pub full_node : ℕ → Node A → ℕ
-    full_node k (node.Switch s) = full_inputs k s.inputs + full_outputs k s.outputs
-    full_node k (node.Terminal t) = full_terminal k t
+    full_node k (NodeOf.Switch s) = full_inputs k s.inputs + full_outputs k s.outputs
+    full_node k (NodeOf.Terminal t) = full_terminal k t
 
     -- the work of all nodes
     abbrev pub full_work : List (Node A) → ℕ

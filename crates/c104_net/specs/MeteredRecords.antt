@@ -1,17 +1,9 @@
 -- What a meter is told of a network of tagged tokens, which its record determines.
+use Rattle.{c104_event.specs.declared.{events.Event.Event, faults.EventFault.EventFault}, c104_net.specs.TracedEnds.traced_end}
+use Rattle.c104_node.specs.{Tagged.{tag, tagged_kind}, declared.tagged.TaggedToken.TaggedToken}
+use Rattle.c104_run.specs.{FinishedRecords.record_finish, Meters.{Sees, meter_if, own_reply}, NetRecords.{NetRecord, is_done}}
+use Rattle.{c104_run.specs.{Network.Network, RecordedRuns.record_apply, TracedRuns.map_network}, c104_switch.specs.Actions.Reply}
 use Rattle.std.specs.Prelude.{Result}
-use Rattle.c104_switch.specs.Actions.{Reply}
-use Rattle.c104_event.specs.declared.events.Event.{Event}
-use Rattle.c104_event.specs.declared.faults.EventFault.{EventFault}
-use Rattle.c104_node.specs.Tagged.{tag, tagged_kind}
-use Rattle.c104_node.specs.declared.tagged.TaggedToken.{TaggedToken}
-use Rattle.c104_run.specs.FinishedRecords.{record_finish}
-use Rattle.c104_run.specs.Meters.{meter_if, own_reply, Sees}
-use Rattle.c104_run.specs.Network.{Network}
-use Rattle.c104_run.specs.NetRecords.{is_done, NetRecord}
-use Rattle.c104_run.specs.RecordedRuns.{record_apply}
-use Rattle.c104_run.specs.TracedRuns.{map_network}
-use Rattle.c104_net.specs.TracedEnds.{traced_end}
 
 -- the network over tagged tokens
 abbrev pub tagged_net : NetRecord → Network TaggedToken

@@ -1,10 +1,7 @@
 -- The events of a run, as the traces of its nodes tell them: by ticket, and those of one ticket by the places of the
 -- nodes that lead in them.
-use Rattle.c104_plan.specs.Plans.{Plan}
-use Rattle.c104_event.specs.declared.events.Event.{Event}
-use Rattle.c104_net.specs.Leading.{led_events}
-use Rattle.c104_net.specs.Merges.{by_ticket}
-use Rattle.c104_node.specs.declared.acts.Entry.{Entry}
+use Rattle.{c104_event.specs.declared.events.Event.Event, c104_net.specs.{Leading.led_events, Merges.by_ticket}}
+use Rattle.{c104_node.specs.declared.acts.Entry.Entry, c104_plan.specs.Plans.Plan}
 use Rattle.std.specs.Prelude.{List, [], length, map, suc, ℕ, ◌++◌, ◌∷◌}
 
 -- the events that traces tell, with their tickets, one trace after the other, by the number of switches and the place

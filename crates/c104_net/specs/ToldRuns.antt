@@ -1,17 +1,9 @@
 -- What the traces of a run tell: whichever events left them are those that they tell.
 --     TellsRun run events nodes      what they tell of events, and of where these led
 --     TellsEachRun run      so it is of all events that have left this record
-use Rattle.c104_event.specs.declared.events.Event.{Event}
-use Rattle.c104_net.specs.ToldEvents.{told_events}
-use Rattle.c104_net.specs.TracedEnds.{traced_end}
-use Rattle.c104_node.specs.Nodes.{Node}
-use Rattle.c104_node.specs.Starts.{start_node}
-use Rattle.c104_node.specs.declared.stamps.Stamp.{Stamp}
-use Rattle.c104_run.specs.FinishedRecords.{FinishedRecord}
-use Rattle.c104_run.specs.Runs.{IsRunRecord}
-use Rattle.c104_run.specs.TracedRuns.{IsTracedRun}
-use Rattle.c104_switch.specs.Actions.{Reply}
-use Rattle.c104_token.specs.Kinds.{plain_kind}
+use Rattle.{c104_event.specs.declared.events.Event.Event, c104_net.specs.{ToldEvents.told_events, TracedEnds.traced_end}}
+use Rattle.{c104_node.specs.{Nodes.Node, Starts.start_node, declared.stamps.Stamp.Stamp}, c104_run.specs.FinishedRecords.FinishedRecord}
+use Rattle.{c104_run.specs.{Runs.IsRunRecord, TracedRuns.IsTracedRun}, c104_switch.specs.Actions.Reply, c104_token.specs.Kinds.plain_kind}
 use Rattle.c104_token.specs.declared.tokens.Token.{Token}
 use Rattle.std.specs.Prelude.{List, map, ℕ, ◌≡◌}
 

@@ -1,18 +1,11 @@
 -- What the work that is left in a network is counted by, and how it is told.
 --     level plan rank port      how far from its end a token is, by ranks that fall along every way of a packet
 --     tokens_held nodes      the tokens that there are, and the room for more
-use Rattle.std.specs.Prelude.{ℕ, suc, ◌+◌, ◌*◌, List, [], ◌∷◌, length, min, Option, Some, None}
-use Rattle.c104_regs.specs.declared.registers.TheConstants.{LINKS}
-use Rattle.c104_switch.specs.Rooms.{room_left}
-use Rattle.c104_switch.specs.declared.phase.Phase.{Phase}
-use Rattle.c104_switch.specs.declared.phase.Phase.TheVariants.{Fresh, Head, Want, Stream, Sinking}
-use Rattle.c104_plan.specs.Plans.{Plan}
-use Rattle.c104_plan.specs.declared.ports.Port.{Port}
-use Rattle.c104_plan.specs.declared.ports.Port.TheVariants as port
-use Rattle.c104_check.specs.Walks.{port_of}
-use Rattle.c104_check.specs.declared.ports.SwitchPort.{SwitchPort}
-use Rattle.c104_node.specs.declared.node.NodeOf.TheVariants as node
-use Rattle.c104_node.specs.Nodes.{Node}
+use Rattle.{c104_check.specs.{Walks.port_of, declared.ports.SwitchPort.SwitchPort}, c104_node.specs.Nodes.Node}
+use Rattle.{c104_node.specs.declared.node.NodeOf.NodeOf, c104_plan.specs.{Plans.Plan, declared.ports.Port.Port}}
+use Rattle.{c104_regs.specs.declared.registers.TheConstants.LINKS, c104_switch.specs.{Rooms.room_left, declared.phase.Phase.Phase}}
+use Rattle.c104_switch.specs.declared.phase.Phase.TheVariants.{Fresh, Head, Sinking, Stream, Want}
+use Rattle.std.specs.Prelude.{List, None, Option, Some, [], length, min, suc, ℕ, ◌*◌, ◌+◌, ◌∷◌}
 
 -- as much for each element
 abbrev pub weigh : {X : Type 0} → ℕ → List X → ℕ
@@ -36,8 +29,8 @@ module _ (plan : Plan) (rank : SwitchPort → ℕ) where
   -- how far from its end a token is that goes over a wire to this port
   abbrev pub level : Option Port → ℕ
   level None = 0
-  level (Some (port.Switch s l)) = rank (port_of s l) + 1
-  level (Some (port.Terminal t)) = 0
+  level (Some (Port.Switch s l)) = rank (port_of s l) + 1
+  level (Some (Port.Terminal t)) = 0
 
 -- the highest rank that is needed: the number of inputs
 abbrev pub highest_rank : Plan → SwitchPort → ℕ
@@ -45,13 +38,13 @@ highest_rank plan p = LINKS * length plan.switches
 
 -- how many tokens a node holds, and how many more its buffers could grant
 abbrev pub node_tokens : {A : Type 0} → Node A → ℕ
-node_tokens (node.Switch s) =
+node_tokens (NodeOf.Switch s) =
     sum_at (λ l p. length p.buffer.items + length (header_held p.phase)) 0 s.inputs + sum_at (λ l q. length q.items) 0 s.outputs
-node_tokens (node.Terminal t) = length t.input.items + length t.output.items
+node_tokens (NodeOf.Terminal t) = length t.input.items + length t.output.items
 
 abbrev pub node_room : {A : Type 0} → Node A → ℕ
-node_room (node.Switch s) = sum_at (λ l p. room_left p.buffer) 0 s.inputs
-node_room (node.Terminal t) = room_left t.input
+node_room (NodeOf.Switch s) = sum_at (λ l p. room_left p.buffer) 0 s.inputs
+node_room (NodeOf.Terminal t) = room_left t.input
 
 -- the same of all nodes
 abbrev pub tokens_held : {A : Type 0} → List (Node A) → ℕ

@@ -1,17 +1,10 @@
 -- An action of a switch is the same step of the node that is the switch.
-use Rattle.std.proofs.Common.{◌≡◌, Option, Some, None, is_some, refl}
-use Rattle.c104_token.specs.Kinds.{Kind}
-use Rattle.c104_switch.specs.Switch.{Switch as State, switch_enter, switch_leave, switch_credit_out, switch_credit_in}
-use Rattle.c104_switch.specs.Turns.{switch_input}
-use Rattle.c104_switch.specs.Claims.{switch_claim}
-use Rattle.c104_switch.specs.Actions.{switch_step, done_outcome, token_outcome, is_ready}
-use Rattle.c104_switch.specs.declared.actions.ActionOf.{ActionOf}
-use Rattle.c104_switch.specs.declared.actions.ReplyOf.{ReplyOf}
-use Rattle.c104_switch.specs.declared.actions.ActionOf.TheVariants as action
-use Rattle.c104_node.specs.declared.node.NodeOf.TheVariants.{Switch}
-use Rattle.c104_node.specs.Nodes.{Node, as_switch}
-use Rattle.c104_node.specs.Acts.{done_by, token_by, node_step, reply_outcome}
-use Rattle.c104_link.specs.Steps.{◌>>=◌}
+use Rattle.{c104_link.specs.Steps.◌>>=◌, c104_node.specs.{Acts.{done_by, node_step, reply_outcome, token_by}, Nodes.{Node, as_switch}}}
+use Rattle.{c104_node.specs.declared.node.NodeOf.TheVariants.Switch, c104_switch.specs.Actions.{done_outcome, is_ready, switch_step}}
+use Rattle.c104_switch.specs.{Actions.token_outcome, Claims.switch_claim, Switch.{Switch as State, switch_credit_in, switch_credit_out}}
+use Rattle.c104_switch.specs.{Switch.{switch_enter, switch_leave}, Turns.switch_input, declared.actions.ActionOf.ActionOf}
+use Rattle.{c104_switch.specs.declared.actions.ReplyOf.ReplyOf, c104_token.specs.Kinds.Kind, std.proofs.Common.{None, Option, Some}}
+use Rattle.std.proofs.Common.{is_some, refl, ◌≡◌}
 
 module _ {A : Type 0} (kind : Kind A) (s : State A) where
   -- an answer of the switch, as one of the node
@@ -28,13 +21,13 @@ module _ {A : Type 0} (kind : Kind A) (s : State A) where
 
   -- what the action answers and leaves
   pub step_as_node : (a : ActionOf A) → reply_outcome (node_step kind a (Switch s)) (Switch s) ≡ as_node (switch_step kind s a)
-  step_as_node (action.Enter l x) = by_done (switch_enter s l x)
-  step_as_node (action.Leave l) = by_token (switch_leave s l)
-  step_as_node (action.CreditOut l) = by_done (switch_credit_out s l)
-  step_as_node (action.CreditIn l) = by_done (switch_credit_in s l)
-  step_as_node (action.Input l word) = by_done (switch_input kind s l word)
-  step_as_node (action.Claim i o) = by_done (switch_claim s i o)
-  step_as_node (action.Control bytes) = refl
+  step_as_node (ActionOf.Enter l x) = by_done (switch_enter s l x)
+  step_as_node (ActionOf.Leave l) = by_token (switch_leave s l)
+  step_as_node (ActionOf.CreditOut l) = by_done (switch_credit_out s l)
+  step_as_node (ActionOf.CreditIn l) = by_done (switch_credit_in s l)
+  step_as_node (ActionOf.Input l word) = by_done (switch_input kind s l word)
+  step_as_node (ActionOf.Claim i o) = by_done (switch_claim s i o)
+  step_as_node (ActionOf.Control bytes) = refl
 
   ready_done : (made : Option (State A)) → is_ready (done_outcome made s).0 ≡ is_some (done_by {A = A} (made >>= as_switch))
   ready_done None = refl
@@ -46,10 +39,10 @@ module _ {A : Type 0} (kind : Kind A) (s : State A) where
 
   -- whether it is done
   pub ready_as_node : (a : ActionOf A) → is_ready (switch_step kind s a).0 ≡ is_some (node_step kind a (Switch s))
-  ready_as_node (action.Enter l x) = ready_done (switch_enter s l x)
-  ready_as_node (action.Leave l) = ready_token (switch_leave s l)
-  ready_as_node (action.CreditOut l) = ready_done (switch_credit_out s l)
-  ready_as_node (action.CreditIn l) = ready_done (switch_credit_in s l)
-  ready_as_node (action.Input l word) = ready_done (switch_input kind s l word)
-  ready_as_node (action.Claim i o) = ready_done (switch_claim s i o)
-  ready_as_node (action.Control bytes) = refl
+  ready_as_node (ActionOf.Enter l x) = ready_done (switch_enter s l x)
+  ready_as_node (ActionOf.Leave l) = ready_token (switch_leave s l)
+  ready_as_node (ActionOf.CreditOut l) = ready_done (switch_credit_out s l)
+  ready_as_node (ActionOf.CreditIn l) = ready_done (switch_credit_in s l)
+  ready_as_node (ActionOf.Input l word) = ready_done (switch_input kind s l word)
+  ready_as_node (ActionOf.Claim i o) = ready_done (switch_claim s i o)
+  ready_as_node (ActionOf.Control bytes) = refl

@@ -1,11 +1,9 @@
 -- What arrived, as bytes and the tokens that are more than a byte: one token more, and the token at a place.
-use Rattle.std.proofs.Common.{◌≡◌, ◌∙◌, ◌≤◌, ◌<◌, ◌+◌, ◌++◌, ◌⊎◌, ℕ, zero, suc, List, [], ◌∷◌, Option, Some, None, drop, inl, inr, length, length-append, map, slice_get, slice_set, take, refl, subst, sym, ap, arith}
-use Rattle.std.proofs.lemmas.Option.{slice_get-map}
-use Rattle.std.specs.Option.{option_map}
-use Rattle.std.proofs.lemmas.List.{length-map, length-set, map-append}
-use Rattle.c104_token.specs.Kinds.{byte_token, Kind}
-use Rattle.c104_node.proofs.Waiting.{drop_there}
-use Rattle.c104_node.specs.Arrivals.{arrived_list, counted_other, others_in, overlaid, AreInside, IsArrived, OtherOf}
+use Rattle.c104_node.{proofs.Waiting.drop_there, specs.Arrivals.{AreInside, IsArrived, OtherOf, arrived_list, counted_other, others_in}}
+use Rattle.{c104_node.specs.Arrivals.overlaid, c104_token.specs.Kinds.{Kind, byte_token}, std.proofs.Common.{List, None, Option, Some, []}}
+use Rattle.std.proofs.Common.{ap, arith, drop, inl, inr, length, length-append, map, refl, slice_get, slice_set, subst, suc, sym, take}
+use Rattle.std.proofs.{Common.{zero, ℕ, ◌++◌, ◌+◌, ◌<◌, ◌∙◌, ◌∷◌, ◌≡◌, ◌≤◌, ◌⊎◌}, lemmas.List.{length-map, length-set, map-append}}
+use Rattle.std.{proofs.lemmas.Option.slice_get-map, specs.Option.option_map}
 
 same_or : (m n : ℕ) → (m ≡ n) ⊎ (m ≡ n → ⊥)
 same_or zero zero = inl refl

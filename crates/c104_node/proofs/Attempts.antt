@@ -1,23 +1,13 @@
 -- An act that was tried at its place, as it ends at all places.
-use Rattle.std.proofs.Common.{◌≡◌, ◌<◌, ◌∙◌, ℕ, Bool, true, false, List, Option, Some, None, Result, Ok, Err, if◌then◌else◌, get_or, map, option_map, length, slice_get, slice_set, is_some, unwrap_or, refl, sym, ap, subst}
-use Rattle.std.proofs.lemmas.List.{map-set}
-use Rattle.std.proofs.lemmas.Option.{slice_get-get_or, slice_get-map}
-use Rattle.c104_link.specs.Steps.{◌>>=◌}
-use Rattle.c104_token.specs.Kinds.{Kind}
-use Rattle.c104_event.specs.declared.faults.EventFault.{EventFault}
-use Rattle.c104_event.specs.declared.faults.EventFault.TheVariants as fault
-use Rattle.c104_switch.specs.Actions.{is_ready}
-use Rattle.c104_switch.specs.declared.actions.ReplyOf.{ReplyOf}
-use Rattle.c104_switch.specs.declared.actions.ReplyOf.TheVariants as reply
-use Rattle.c104_node.specs.declared.acts.ActOf.{ActOf}
-use Rattle.c104_node.specs.declared.stamps.Stamp.{Stamp}
-use Rattle.c104_node.specs.Acts.{node_act, nodes_act, plain_reply, reply_outcome}
-use Rattle.c104_node.specs.Nodes.{Node}
-use Rattle.c104_node.specs.PlaceActs.{AloneDone, HasTried}
-use Rattle.c104_node.specs.Places.{Shown, fulls, room_fault, states, traces}
-use Rattle.c104_node.specs.PortActs.{act_limit}
+use Rattle.{c104_event.specs.declared.faults.EventFault.EventFault, c104_link.specs.Steps.◌>>=◌, c104_node.proofs.PlaceSteps.kept_same}
+use Rattle.c104_node.{proofs.PlaceSteps.seen_there, specs.{Acts.{node_act, nodes_act, plain_reply, reply_outcome}, Nodes.Node}}
+use Rattle.c104_node.specs.{PlaceActs.{AloneDone, HasTried}, Places.{Shown, fulls, room_fault, states, traces}, PortActs.act_limit}
 use Rattle.c104_node.specs.Traces.{full_at, kept_entry, lone_deed, noted, noted_all, noted_at, noted_in, plain_act}
-use Rattle.c104_node.proofs.PlaceSteps.{kept_same, seen_there}
+use Rattle.{c104_node.specs.declared.{acts.ActOf.ActOf, stamps.Stamp.Stamp}, c104_switch.specs.Actions.is_ready}
+use Rattle.{c104_switch.specs.declared.actions.ReplyOf.ReplyOf, c104_token.specs.Kinds.Kind, std.proofs.Common.{Bool, Err, List, None, Ok}}
+use Rattle.std.proofs.Common.{Option, Result, Some, ap, false, get_or, if◌then◌else◌, is_some, length, map, option_map, refl, slice_get}
+use Rattle.std.proofs.{Common.{slice_set, subst, sym, true, unwrap_or, ℕ, ◌<◌, ◌∙◌, ◌≡◌}, lemmas.{List.map-set, Option.slice_get-get_or}}
+use Rattle.std.proofs.lemmas.Option.{slice_get-map}
 
 -- an act that was tried at a place, among what all places show
 module _ {A : Type 0} (kind : Kind A) (keeps : Bool) (number : ℕ) (stamp : Stamp) (a : ActOf A) (olds : List (Shown A)) (k : ℕ) (old new : Shown A) (there : slice_get olds k ≡ Some old) where
@@ -47,7 +37,7 @@ module _ {A : Type 0} (kind : Kind A) (keeps : Bool) (number : ℕ) (stamp : Sta
       by_made : (m : Option (ReplyOf A × Node A)) → ◌≡◌ {A = ReplyOf A × Node A} (told, new.state) (reply_outcome m old.state) → ◌≡◌ {A = ReplyOf A × List (Node A)} (told, states (slice_set olds k new)) (reply_outcome (m >>= put) (states olds))
       by_made None is =
           ap (λ (r : ReplyOf A). (r, states (slice_set olds k new))) (ap (λ (z : ReplyOf A × Node A). z.0) is)
-          ∙ ap (λ (ns : List (Node A)). (reply.NotReady, ns)) (kept_same olds k old new there (λ (s : Shown A). s.state) (ap (λ (z : ReplyOf A × Node A). z.1) is))
+          ∙ ap (λ (ns : List (Node A)). (ReplyOf.NotReady, ns)) (kept_same olds k old new there (λ (s : Shown A). s.state) (ap (λ (z : ReplyOf A × Node A). z.1) is))
       by_made (Some y) is = ap (λ (ns : List (Node A)). (told, ns)) states_set ∙ ap (λ (z : ReplyOf A × Node A). (z.0, slice_set (states olds) k z.1)) is
 
   -- the entry that is kept, if one is
@@ -60,10 +50,10 @@ module _ {A : Type 0} (kind : Kind A) (keeps : Bool) (number : ℕ) (stamp : Sta
           ∙ sym (ap (noted_in keeps (traces olds) k (kept_entry kind stamp a told)) (seen_there olds k old new there (λ (s : Shown A). s.trace)))
 
       by_told : (told : ReplyOf A) → new.trace ≡ (if is_ready told then noted keeps old.trace (kept_entry kind stamp a told) else old.trace) → traces (slice_set olds k new) ≡ noted_all keeps (traces olds) (lone_deed stamp k (plain_act kind a) (plain_reply kind told))
-      by_told reply.Done is = added reply.Done is
-      by_told reply.NotReady is = kept_same olds k old new there (λ (s : Shown A). s.trace) is
-      by_told (reply.Token x) is = added (reply.Token x) is
-      by_told (reply.Control bytes) is = added (reply.Control bytes) is
+      by_told ReplyOf.Done is = added ReplyOf.Done is
+      by_told ReplyOf.NotReady is = kept_same olds k old new there (λ (s : Shown A). s.trace) is
+      by_told (ReplyOf.Token x) is = added (ReplyOf.Token x) is
+      by_told (ReplyOf.Control bytes) is = added (ReplyOf.Control bytes) is
 
   module _ (below : act_limit (slice_get (states olds) k) a ≡ None) (free : full_at (fulls olds) k ≡ false) where
     pub tried_done : (told : ReplyOf A) → HasTried kind keeps number stamp a old told new → AloneDone kind keeps k number stamp a olds (Ok told) (slice_set olds k new)
@@ -73,7 +63,7 @@ module _ {A : Type 0} (kind : Kind A) (keeps : Bool) (number : ℕ) (stamp : Sta
       trace = entry_in told is.trace;
     }
 
-    pub tried_refused : is_some (node_act kind number a old.state) ≡ true → new ≡ old → AloneDone kind keeps k number stamp a olds (Err fault.NoMemory) (slice_set olds k new)
+    pub tried_refused : is_some (node_act kind number a old.state) ≡ true → new ≡ old → AloneDone kind keeps k number stamp a olds (Err EventFault.NoMemory) (slice_set olds k new)
     tried_refused ready same = record {
       ends = (sym (ap (λ (o : Option EventFault). unwrap_or o (room_fault (full_at (fulls olds) k))) below ∙ ap room_fault free), ready_all ready, kept_same olds k old new there (λ (s : Shown A). s.state) (ap (λ (s : Shown A). s.state) same));
       base = kept_same olds k old new there (λ (s : Shown A). s.base) (ap (λ (s : Shown A). s.base) same);
@@ -92,5 +82,5 @@ module _ {A P : Type 0} (shown : P → Shown A) (xs : List P) (k : ℕ) (d new :
   pub attempt_done : (told : ReplyOf A) → HasTried kind keeps number stamp a (shown (get_or xs k d)) told (shown new) → IsDone (Ok told) (map shown (slice_set xs k new))
   attempt_done told is = subst (IsDone (Ok told)) (sym (map-set shown xs k new)) (tried_done kind keeps number stamp a (map shown xs) k (shown (get_or xs k d)) (shown new) here below free told is)
 
-  pub attempt_refused : is_some (node_act kind number a (shown (get_or xs k d)).state) ≡ true → shown new ≡ shown (get_or xs k d) → IsDone (Err fault.NoMemory) (map shown (slice_set xs k new))
-  attempt_refused ready same = subst (IsDone (Err fault.NoMemory)) (sym (map-set shown xs k new)) (tried_refused kind keeps number stamp a (map shown xs) k (shown (get_or xs k d)) (shown new) here below free ready same)
+  pub attempt_refused : is_some (node_act kind number a (shown (get_or xs k d)).state) ≡ true → shown new ≡ shown (get_or xs k d) → IsDone (Err EventFault.NoMemory) (map shown (slice_set xs k new))
+  attempt_refused ready same = subst (IsDone (Err EventFault.NoMemory)) (sym (map-set shown xs k new)) (tried_refused kind keeps number stamp a (map shown xs) k (shown (get_or xs k d)) (shown new) here below free ready same)

@@ -1,53 +1,30 @@
 -- No act changes how large a node's buffers are.
-use Rattle.std.proofs.Common.{◌≡◌, ◌∙◌, ◌&&◌, ℕ, Bool, true, false, All, List, [], ◌∷◌, ◌++◌, ◌-◌, ◌+◌, Option, Some, None}
-use Rattle.std.proofs.Common.{Result, Ok, Err, length, map, nat_le, nat_lt, ap, not, refl, slice_get, sym, subst, if◌then◌else◌}
-use Rattle.std.proofs.lemmas.List.Elements.{All-cons, All-head, All-nil, All-set, All-tail}
-use Rattle.c104_control.specs.Reading.{read_command}
-use Rattle.c104_control.specs.declared.commands.Command.{Command}
-use Rattle.c104_control.specs.declared.commands.Command.TheVariants.{Start, Reset, Identify, CPeek, CPoke}
-use Rattle.c104_control.specs.declared.faults.CommandFault.{CommandFault}
-use Rattle.c104_control.specs.declared.replies.Answer.{Answer}
-use Rattle.c104_control.specs.declared.replies.Answer.TheVariants.{Started, Refused}
-use Rattle.c104_control.specs.declared.replies.TheConstants.{ALREADY_STARTED}
-use Rattle.c104_link.specs.Buffers.{Incoming, Outgoing, incoming_accept, incoming_grant, outgoing_credited, outgoing_emit, outgoing_put}
-use Rattle.c104_link.specs.Buffers.{without_first}
-use Rattle.c104_link.specs.Steps.{◌>>=◌, joint_step_at, step_at, yield_step_at}
-use Rattle.c104_link.proofs.MadeSteps.{All-at_place, All-place, given, required, with_place_made}
-use Rattle.c104_regs.specs.declared.settings.Settings.{Settings}
-use Rattle.c104_switch.specs.Actions.{Reply}
-use Rattle.c104_switch.specs.Claims.{input_claim, inputs_claim, put_header, streaming_input, switch_claim}
-use Rattle.c104_switch.specs.Commands.{input_reset}
-use Rattle.c104_switch.specs.Control.{switch_control, switch_obey, switch_obey_if_read}
-use Rattle.c104_switch.specs.Group.{is_in_group}
-use Rattle.c104_switch.specs.Starts.{link_starts, start_input}
-use Rattle.c104_switch.specs.Switch.{Input, Switch, is_owned, with_buffer, with_inputs, with_outputs, with_sides, input_accept, input_grant}
-use Rattle.c104_switch.specs.Switch.{switch_credit_in, switch_credit_out, switch_enter, switch_leave}
-use Rattle.c104_switch.specs.Turns.{header_turn, input_turn, inputs_turn, random_turn, switch_input, turn_by_phase}
-use Rattle.c104_switch.specs.declared.phase.Phase.{Phase}
-use Rattle.c104_switch.specs.declared.phase.Phase.TheVariants.{Fresh, Head, Want, Stream, Sinking}
-use Rattle.c104_switch.specs.declared.actions.ActionOf.TheVariants as action
-use Rattle.c104_switch.specs.declared.actions.ReplyOf.TheVariants as reply
-use Rattle.c104_switch.specs.declared.link_start.LinkStart.{LinkStart}
-use Rattle.c104_token.specs.Kinds.{plain_kind}
-use Rattle.c104_token.specs.Tokens.{is_end}
-use Rattle.c104_token.specs.declared.tokens.Token.{Token}
-use Rattle.c104_node.specs.declared.acts.ActOf.{ActOf}
-use Rattle.c104_node.specs.declared.acts.ActOf.TheVariants as act
-use Rattle.c104_node.specs.declared.acts.Entry.{Entry}
-use Rattle.c104_node.specs.declared.node.NodeOf.TheVariants as node
-use Rattle.c104_node.specs.declared.starts.NodeStart.{NodeStart}
-use Rattle.c104_node.specs.declared.starts.NodeStart.TheVariants as start
-use Rattle.c104_node.specs.Acts.{done_by, node_act, token_by}
-use Rattle.c104_node.specs.Nodes.{Node, as_switch, as_terminal}
-use Rattle.c104_node.specs.Records.{HasCap, IsNodeRun}
-use Rattle.c104_node.specs.Starts.{start_node, start_of}
+use Rattle.c104_control.specs.{Reading.read_command, declared.commands.Command.{Command, TheVariants.{CPeek, CPoke, Identify, Reset}}}
+use Rattle.c104_control.specs.declared.{commands.Command.TheVariants.Start, faults.CommandFault.CommandFault, replies.Answer.Answer}
+use Rattle.c104_control.specs.declared.replies.{Answer.TheVariants.{Refused, Started}, TheConstants.ALREADY_STARTED}
+use Rattle.c104_link.{proofs.MadeSteps.{All-at_place, All-place, given, required, with_place_made}, specs.Buffers.{Incoming, Outgoing}}
+use Rattle.c104_link.specs.Buffers.{incoming_accept, incoming_grant, outgoing_credited, outgoing_emit, outgoing_put, without_first}
+use Rattle.{c104_link.specs.Steps.{joint_step_at, step_at, yield_step_at, ◌>>=◌}, c104_node.specs.Acts.{done_by, node_act, token_by}}
+use Rattle.c104_node.specs.{Nodes.{Node, as_switch, as_terminal}, Records.{HasCap, IsNodeRun}, Starts.{start_node, start_of}}
 use Rattle.c104_node.specs.Terminals.{Terminal, terminal_credit_in, terminal_credit_out, terminal_drain, terminal_enter, terminal_leave}
-use Rattle.c104_node.specs.Terminals.{terminal_send, with_input, with_output}
+use Rattle.c104_node.specs.{Terminals.{terminal_send, with_input, with_output}, declared.acts.{ActOf.ActOf, Entry.Entry}}
+use Rattle.{c104_node.specs.declared.{node.NodeOf.NodeOf, starts.NodeStart.NodeStart}, c104_regs.specs.declared.settings.Settings.Settings}
+use Rattle.c104_switch.specs.{Actions.Reply, Claims.{input_claim, inputs_claim, put_header, streaming_input, switch_claim}}
+use Rattle.c104_switch.specs.{Commands.input_reset, Control.{switch_control, switch_obey, switch_obey_if_read}, Group.is_in_group}
+use Rattle.c104_switch.specs.{Starts.{link_starts, start_input}, Switch.{Input, Switch, input_accept, input_grant, is_owned}}
+use Rattle.c104_switch.specs.Switch.{switch_credit_in, switch_credit_out, switch_enter, switch_leave, with_buffer, with_inputs}
+use Rattle.c104_switch.specs.{Switch.{with_outputs, with_sides}, Turns.{header_turn, input_turn, inputs_turn, random_turn, switch_input}}
+use Rattle.c104_switch.specs.{Turns.turn_by_phase, declared.{actions.{ActionOf.ActionOf, ReplyOf.ReplyOf}, link_start.LinkStart.LinkStart}}
+use Rattle.c104_switch.specs.declared.phase.Phase.{Phase, TheVariants.{Fresh, Head, Sinking, Stream, Want}}
+use Rattle.{c104_token.specs.{Kinds.plain_kind, Tokens.is_end, declared.tokens.Token.Token}, std.proofs.Common.{All, Bool, Err, List, None}}
+use Rattle.std.proofs.Common.{Ok, Option, Result, Some, [], ap, false, if◌then◌else◌, length, map, nat_le, nat_lt, not, refl, slice_get}
+use Rattle.std.proofs.{Common.{subst, sym, true, ℕ, ◌&&◌, ◌++◌, ◌+◌, ◌-◌, ◌∙◌, ◌∷◌, ◌≡◌}, lemmas.List.Elements.{All-cons, All-head}}
+use Rattle.std.proofs.lemmas.List.Elements.{All-nil, All-set, All-tail}
 
 -- each input buffer of a node has room for this number of tokens
 abbrev pub IsSized : ℕ → Node Token → Type 0
-IsSized cap (node.Switch s) = All (λ (p : Input Token). p.buffer.cap ≡ cap) s.inputs
-IsSized cap (node.Terminal t) = t.input.cap ≡ cap
+IsSized cap (NodeOf.Switch s) = All (λ (p : Input Token). p.buffer.cap ≡ cap) s.inputs
+IsSized cap (NodeOf.Terminal t) = t.input.cap ≡ cap
 
 module _ (cap : ℕ) where
   abbrev HasSize : Input Token → Type 0
@@ -59,8 +36,8 @@ module _ (cap : ℕ) where
   inputs_start (l ∷ ls) all = All-cons HasSize (start_input l) (map start_input ls) (All-head (λ (l : LinkStart). l.cap ≡ cap) l ls all) (inputs_start ls (All-tail (λ (l : LinkStart). l.cap ≡ cap) l ls all))
 
   pub start_sized : (s : NodeStart) → HasCap cap s → IsSized cap (start_node s)
-  start_sized (start.Switch s) sized = inputs_start s.links sized
-  start_sized (start.Terminal t) sized = sized
+  start_sized (NodeStart.Switch s) sized = inputs_start s.links sized
+  start_sized (NodeStart.Terminal t) sized = sized
 
   links_sized : (ps : List (Input Token)) (qs : List (Outgoing Token)) → All HasSize ps → All (λ (l : LinkStart). l.cap ≡ cap) (link_starts ps qs)
   links_sized [] qs all = All-nil (λ (l : LinkStart). l.cap ≡ cap)
@@ -68,8 +45,8 @@ module _ (cap : ℕ) where
   links_sized (p ∷ ps) (q ∷ qs) all = All-cons (λ (l : LinkStart). l.cap ≡ cap) _ (link_starts ps qs) (All-head HasSize p ps all) (links_sized ps qs (All-tail HasSize p ps all))
 
   pub sized_start : (n : Node Token) → IsSized cap n → HasCap cap (start_of n)
-  sized_start (node.Switch s) sized = links_sized s.inputs s.outputs sized
-  sized_start (node.Terminal t) sized = sized
+  sized_start (NodeOf.Switch s) sized = links_sized s.inputs s.outputs sized
+  sized_start (NodeOf.Terminal t) sized = sized
 
 -- no step changes the size of an input's buffer
 accepted_size : (x : Token) (b c : Incoming Token) → incoming_accept x b ≡ Some c → c.cap ≡ b.cap
@@ -151,78 +128,78 @@ module _ (cap : ℕ) where
     -- what a step of a switch leaves
     switch_sized : (made : Option (Switch Token)) → ((s : Switch Token) → made ≡ Some s → All (HasSize cap) s.inputs) → done_by (made >>= as_switch) ≡ Some (r, m) → IsSized cap m
     switch_sized None sized is = cc
-    switch_sized (Some s) sized is = let both : ◌≡◌ {A = Reply × Node Token} (reply.Done, node.Switch s) (r, m) = cc in subst (λ (p : Reply × Node Token). IsSized cap p.1) both (sized s refl)
+    switch_sized (Some s) sized is = let both : ◌≡◌ {A = Reply × Node Token} (ReplyOf.Done, NodeOf.Switch s) (r, m) = cc in subst (λ (p : Reply × Node Token). IsSized cap p.1) both (sized s refl)
 
-    left_sized : (made : Option (Token × Switch Token)) → ((v : Token × Switch Token) → made ≡ Some v → All (HasSize cap) v.1.inputs) → token_by (made >>= (λ v. Some (v.0, node.Switch v.1))) ≡ Some (r, m) → IsSized cap m
+    left_sized : (made : Option (Token × Switch Token)) → ((v : Token × Switch Token) → made ≡ Some v → All (HasSize cap) v.1.inputs) → token_by (made >>= (λ v. Some (v.0, NodeOf.Switch v.1))) ≡ Some (r, m) → IsSized cap m
     left_sized None sized is = cc
-    left_sized (Some v) sized is = let both : ◌≡◌ {A = Reply × Node Token} (reply.Token v.0, node.Switch v.1) (r, m) = cc in subst (λ (p : Reply × Node Token). IsSized cap p.1) both (sized v refl)
+    left_sized (Some v) sized is = let both : ◌≡◌ {A = Reply × Node Token} (ReplyOf.Token v.0, NodeOf.Switch v.1) (r, m) = cc in subst (λ (p : Reply × Node Token). IsSized cap p.1) both (sized v refl)
 
     -- and of a terminal
     terminal_sized : (made : Option (Terminal Token)) → ((t : Terminal Token) → made ≡ Some t → t.input.cap ≡ cap) → done_by (made >>= as_terminal) ≡ Some (r, m) → IsSized cap m
     terminal_sized None sized is = cc
-    terminal_sized (Some t) sized is = let both : ◌≡◌ {A = Reply × Node Token} (reply.Done, node.Terminal t) (r, m) = cc in subst (λ (p : Reply × Node Token). IsSized cap p.1) both (sized t refl)
+    terminal_sized (Some t) sized is = let both : ◌≡◌ {A = Reply × Node Token} (ReplyOf.Done, NodeOf.Terminal t) (r, m) = cc in subst (λ (p : Reply × Node Token). IsSized cap p.1) both (sized t refl)
 
-    gone_sized : (made : Option (Token × Terminal Token)) → ((v : Token × Terminal Token) → made ≡ Some v → v.1.input.cap ≡ cap) → token_by (made >>= (λ v. Some (v.0, node.Terminal v.1))) ≡ Some (r, m) → IsSized cap m
+    gone_sized : (made : Option (Token × Terminal Token)) → ((v : Token × Terminal Token) → made ≡ Some v → v.1.input.cap ≡ cap) → token_by (made >>= (λ v. Some (v.0, NodeOf.Terminal v.1))) ≡ Some (r, m) → IsSized cap m
     gone_sized None sized is = cc
-    gone_sized (Some v) sized is = let both : ◌≡◌ {A = Reply × Node Token} (reply.Token v.0, node.Terminal v.1) (r, m) = cc in subst (λ (p : Reply × Node Token). IsSized cap p.1) both (sized v refl)
+    gone_sized (Some v) sized is = let both : ◌≡◌ {A = Reply × Node Token} (ReplyOf.Token v.0, NodeOf.Terminal v.1) (r, m) = cc in subst (λ (p : Reply × Node Token). IsSized cap p.1) both (sized v refl)
 
     act_sized : (number : ℕ) (a : ActOf Token) (n : Node Token) → node_act plain_kind number a n ≡ Some (r, m) → IsSized cap n → IsSized cap m
-    act_sized number (act.Step (action.Enter l x)) (node.Switch s) is sized =
+    act_sized number (ActOf.Step (ActionOf.Enter l x)) (NodeOf.Switch s) is sized =
         switch_sized (switch_enter s l x) (λ s' made. given (step_at s.inputs l (input_accept x)) _ s' made (λ ps stepped last.
         let set : with_inputs s ps ≡ s' = cc in
         subst (λ (v : Switch Token). All (HasSize cap) v.inputs) set (made_sized s sized (input_accept x) l ps stepped (λ p q came. buffer_size p q (incoming_accept x p.buffer) (accepted_size x p.buffer) came)))) is
-    act_sized number (act.Step (action.Leave l)) (node.Switch s) is sized =
+    act_sized number (ActOf.Step (ActionOf.Leave l)) (NodeOf.Switch s) is sized =
         left_sized (switch_leave s l) (λ v made. given (yield_step_at s.outputs l outgoing_emit) _ v made (λ y stepped last.
         let set : (y.0, with_outputs s y.1) ≡ v = cc in
         subst (λ (w : Token × Switch Token). All (HasSize cap) w.1.inputs) set sized)) is
-    act_sized number (act.Step (action.CreditOut l)) (node.Switch s) is sized =
+    act_sized number (ActOf.Step (ActionOf.CreditOut l)) (NodeOf.Switch s) is sized =
         switch_sized (switch_credit_out s l) (λ s' made. required s.started _ s' made (λ on more. given (step_at s.inputs l input_grant) _ s' more (λ ps stepped last.
         let set : with_inputs s ps ≡ s' = cc in
         subst (λ (v : Switch Token). All (HasSize cap) v.inputs) set (made_sized s sized input_grant l ps stepped (λ p q came. buffer_size p q (incoming_grant p.buffer) (granted_size p.buffer) came))))) is
-    act_sized number (act.Step (action.CreditIn l)) (node.Switch s) is sized =
+    act_sized number (ActOf.Step (ActionOf.CreditIn l)) (NodeOf.Switch s) is sized =
         switch_sized (switch_credit_in s l) (λ s' made. given (step_at s.outputs l outgoing_credited) _ s' made (λ qs stepped last.
         let set : with_outputs s qs ≡ s' = cc in
         subst (λ (v : Switch Token). All (HasSize cap) v.inputs) set sized)) is
-    act_sized number (act.Step (action.Input l word)) (node.Switch s) is sized =
+    act_sized number (ActOf.Step (ActionOf.Input l word)) (NodeOf.Switch s) is sized =
         switch_sized (switch_input plain_kind s l word) (λ s' made. required s.started _ s' made (λ on more. given (slice_get s.settings l) _ s' more (λ t own most. given (inputs_turn plain_kind t word s.inputs s.outputs l) _ s' most (λ y turned last.
         let set : with_sides s y ≡ s' = cc in
         subst (λ (v : Switch Token). All (HasSize cap) v.inputs) set (joint_sized s.inputs l (λ p. input_turn plain_kind t word p s.outputs) y turned (λ p z took. turn_size t word p s.outputs z took) sized))))) is
-    act_sized number (act.Step (action.Claim i o)) (node.Switch s) is sized =
+    act_sized number (ActOf.Step (ActionOf.Claim i o)) (NodeOf.Switch s) is sized =
         switch_sized (switch_claim s i o) (λ s' made. required s.started _ s' made (λ on more. given (inputs_claim s.settings s.inputs s.outputs i o) _ s' more (λ y claimed last.
         let set : with_sides s y ≡ s' = cc in
         subst (λ (v : Switch Token). All (HasSize cap) v.inputs) set (required (not (is_owned s.inputs o)) _ y claimed (λ free rest.
         joint_sized s.inputs i (λ p. input_claim s.settings p s.outputs o p.phase) y rest (λ p z took. claim_size s.settings p s.outputs o p.phase z took) sized))))) is
-    act_sized number (act.Step (action.Control bytes)) (node.Switch s) is sized =
+    act_sized number (ActOf.Step (ActionOf.Control bytes)) (NodeOf.Switch s) is sized =
         let v = switch_control s bytes in
-        let both : ◌≡◌ {A = Reply × Node Token} (reply.Control v.0, node.Switch v.1) (r, m) = cc in
+        let both : ◌≡◌ {A = Reply × Node Token} (ReplyOf.Control v.0, NodeOf.Switch v.1) (r, m) = cc in
         subst (λ (p : Reply × Node Token). IsSized cap p.1) both (read_sized s sized (read_command bytes))
-    act_sized number (act.Step a) (node.Terminal t) is sized = cc
-    act_sized number (act.Send packet) (node.Switch s) is sized = cc
-    act_sized number (act.Send packet) (node.Terminal t) is sized =
-        let both : ◌≡◌ {A = Reply × Node Token} (reply.Done, node.Terminal (terminal_send plain_kind number packet t)) (r, m) = cc in
+    act_sized number (ActOf.Step a) (NodeOf.Terminal t) is sized = cc
+    act_sized number (ActOf.Send packet) (NodeOf.Switch s) is sized = cc
+    act_sized number (ActOf.Send packet) (NodeOf.Terminal t) is sized =
+        let both : ◌≡◌ {A = Reply × Node Token} (ReplyOf.Done, NodeOf.Terminal (terminal_send plain_kind number packet t)) (r, m) = cc in
         subst (λ (p : Reply × Node Token). IsSized cap p.1) both sized
-    act_sized number act.Drain (node.Switch s) is sized = cc
-    act_sized number act.Drain (node.Terminal t) is sized =
+    act_sized number ActOf.Drain (NodeOf.Switch s) is sized = cc
+    act_sized number ActOf.Drain (NodeOf.Terminal t) is sized =
         gone_sized (terminal_drain t) (λ v made. given (slice_get t.input.items 0) _ v made (λ x first last.
         let set : (x, record t { input = without_first t.input; arrived = t.arrived ++ x ∷ [] }) ≡ v = cc in
         subst (λ (w : Token × Terminal Token). w.1.input.cap ≡ cap) set sized)) is
-    act_sized number act.Leave (node.Switch s) is sized = cc
-    act_sized number act.Leave (node.Terminal t) is sized =
+    act_sized number ActOf.Leave (NodeOf.Switch s) is sized = cc
+    act_sized number ActOf.Leave (NodeOf.Terminal t) is sized =
         gone_sized (terminal_leave t) (λ v made. given (outgoing_emit t.output) _ v made (λ y went last.
         let set : (y.0, with_output t y.1) ≡ v = cc in
         subst (λ (w : Token × Terminal Token). w.1.input.cap ≡ cap) set sized)) is
-    act_sized number (act.Enter x) (node.Switch s) is sized = cc
-    act_sized number (act.Enter x) (node.Terminal t) is sized =
+    act_sized number (ActOf.Enter x) (NodeOf.Switch s) is sized = cc
+    act_sized number (ActOf.Enter x) (NodeOf.Terminal t) is sized =
         terminal_sized (terminal_enter x t) (λ t' made. given (incoming_accept x t.input) _ t' made (λ b came last.
         let set : with_input t b ≡ t' = cc in
         subst (λ (v : Terminal Token). v.input.cap ≡ cap) set (accepted_size x t.input b came ∙ sized))) is
-    act_sized number act.CreditOut (node.Switch s) is sized = cc
-    act_sized number act.CreditOut (node.Terminal t) is sized =
+    act_sized number ActOf.CreditOut (NodeOf.Switch s) is sized = cc
+    act_sized number ActOf.CreditOut (NodeOf.Terminal t) is sized =
         terminal_sized (terminal_credit_out t) (λ t' made. given (incoming_grant t.input) _ t' made (λ b came last.
         let set : with_input t b ≡ t' = cc in
         subst (λ (v : Terminal Token). v.input.cap ≡ cap) set (granted_size t.input b came ∙ sized))) is
-    act_sized number act.CreditIn (node.Switch s) is sized = cc
-    act_sized number act.CreditIn (node.Terminal t) is sized =
+    act_sized number ActOf.CreditIn (NodeOf.Switch s) is sized = cc
+    act_sized number ActOf.CreditIn (NodeOf.Terminal t) is sized =
         terminal_sized (terminal_credit_in t) (λ t' made. given (outgoing_credited t.output) _ t' made (λ q came last.
         let set : with_output t q ≡ t' = cc in
         subst (λ (v : Terminal Token). v.input.cap ≡ cap) set sized)) is

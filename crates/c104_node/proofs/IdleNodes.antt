@@ -1,31 +1,16 @@
 -- A node at which nothing of a round can begin, by what is asked of it; and what acts of other nodes leave there.
-use Rattle.std.proofs.Common.{◌≡◌, ◌≢◌, ◌∙◌, ◌<◌, ◌&&◌, not, ℕ, Bool, true, false, List, Option, Some, None, Result, Ok, Err, is_some, nat_lt, slice_get, slice_set, refl, sym, ap, arith}
-use Rattle.std.proofs.lemmas.Bool.Decides.{nat_tests}
-use Rattle.c104_crossbar.specs.Groups.{has_bit}
-use Rattle.c104_token.specs.Kinds.{Kind}
-use Rattle.c104_link.specs.Steps.{◌>>=◌, step_at}
-use Rattle.c104_link.proofs.MadeSteps.{from_place_made}
-use Rattle.c104_switch.specs.Switch.{Switch as State, switch_credit_out, switch_leave}
-use Rattle.c104_switch.specs.Turns.{switch_input}
-use Rattle.c104_switch.specs.Claims.{switch_claim, IsNextLink}
-use Rattle.c104_switch.specs.declared.actions.ReplyOf.{ReplyOf}
-use Rattle.c104_event.specs.declared.faults.EventFault.{EventFault}
-use Rattle.c104_node.specs.declared.acts.ActOf.{ActOf}
-use Rattle.c104_node.specs.declared.crossings.Joint.{Joint}
-use Rattle.c104_node.specs.declared.node.NodeOf.TheVariants as node
-use Rattle.c104_node.specs.declared.port_part.PortPart.{PortPart}
-use Rattle.c104_node.specs.declared.port_part.PortPart.TheVariants.{Credit, Cross, Turn}
-use Rattle.c104_node.specs.declared.stamps.Stamp.{Stamp}
-use Rattle.c104_node.specs.Acts.{done_by, node_act, nodes_act, token_by}
-use Rattle.c104_node.specs.Idle.{IsIdleNode}
-use Rattle.c104_node.specs.Nodes.{Node, as_switch, as_terminal, node_claim}
-use Rattle.c104_node.specs.PlaceActs.{ActsEnd, AloneDone, JointDone}
-use Rattle.c104_node.specs.Places.{Shown, states}
-use Rattle.c104_node.specs.PortActs.{far_act, joint_step, near_act}
-use Rattle.c104_node.specs.PortParts.{is_node_ready}
-use Rattle.c104_node.specs.Records.{has_link}
-use Rattle.c104_node.specs.Terminals.{Terminal, terminal_credit_out, terminal_drain, terminal_leave}
-use Rattle.c104_node.proofs.WireEnds.{get_set_other}
+use Rattle.{c104_crossbar.specs.Groups.has_bit, c104_event.specs.declared.faults.EventFault.EventFault}
+use Rattle.{c104_link.{proofs.MadeSteps.from_place_made, specs.Steps.{step_at, ◌>>=◌}}, c104_node.proofs.WireEnds.get_set_other}
+use Rattle.c104_node.specs.{Acts.{done_by, node_act, nodes_act, token_by}, Idle.IsIdleNode, Nodes.{Node, as_switch, as_terminal}}
+use Rattle.c104_node.specs.{Nodes.node_claim, PlaceActs.{ActsEnd, AloneDone, JointDone}, Places.{Shown, states}, PortActs.far_act}
+use Rattle.c104_node.specs.{PortActs.{joint_step, near_act}, PortParts.is_node_ready, Records.has_link, Terminals.Terminal}
+use Rattle.c104_node.specs.{Terminals.{terminal_credit_out, terminal_drain, terminal_leave}, declared.acts.ActOf.ActOf}
+use Rattle.c104_node.specs.declared.{crossings.Joint.Joint, node.NodeOf.NodeOf, port_part.PortPart.{PortPart, TheVariants.{Credit, Cross}}}
+use Rattle.{c104_node.specs.declared.{port_part.PortPart.TheVariants.Turn, stamps.Stamp.Stamp}, c104_switch.specs.Claims.IsNextLink}
+use Rattle.c104_switch.specs.{Claims.switch_claim, Switch.{Switch as State, switch_credit_out, switch_leave}, Turns.switch_input}
+use Rattle.{c104_switch.specs.declared.actions.ReplyOf.ReplyOf, c104_token.specs.Kinds.Kind, std.proofs.Common.{Bool, Err, List, None, Ok}}
+use Rattle.std.proofs.Common.{Option, Result, Some, ap, arith, false, is_some, nat_lt, not, refl, slice_get, slice_set, sym, true, ℕ, ◌&&◌}
+use Rattle.std.proofs.{Common.{◌<◌, ◌∙◌, ◌≡◌, ◌≢◌}, lemmas.Bool.Decides.nat_tests}
 
 -- what isn't so of a test that was passed over
 first_false : (a b : Bool) → (a && b) ≡ false → b ≡ true → a ≡ false
@@ -52,7 +37,7 @@ none_is (Some x) is = absurd (cc)
 module _ {A : Type 0} (kind : Kind A) where
   -- a switch of which no link that is asked is ready, and no input wants an output
   pub idle_switch : (s : State A) (wired : ℕ) → IsNextLink (λ l. is_some (switch_credit_out s l) && has_bit wired l) 0 None → IsNextLink (λ l. is_some (switch_leave s l) && has_bit wired l) 0 None →
-      ((l word : ℕ) → l < 32 → has_bit wired l ≡ true → switch_input kind s l word ≡ None) → ((i o : ℕ) → i < 32 → switch_claim s i o ≡ None) → IsIdleNode kind (has_link wired) (node.Switch s)
+      ((l word : ℕ) → l < 32 → has_bit wired l ≡ true → switch_input kind s l word ≡ None) → ((i o : ℕ) → i < 32 → switch_claim s i o ≡ None) → IsIdleNode kind (has_link wired) (NodeOf.Switch s)
   idle_switch s wired granting leaving turning wanting = record {
     links = λ part l is. by_part part l (link_inside wired l is);
     claims = λ i o inside. by_claim i o (wanting i o inside);
@@ -61,25 +46,25 @@ module _ {A : Type 0} (kind : Kind A) where
     drains = λ number. refl;
   }
     where
-      by_claim : (i o : ℕ) → switch_claim s i o ≡ None → node_claim i o (node.Switch s) ≡ None
+      by_claim : (i o : ℕ) → switch_claim s i o ≡ None → node_claim i o (NodeOf.Switch s) ≡ None
       by_claim i o none = ap (λ (made : Option (State A)). made >>= as_switch) none
 
-      by_part : (part : PortPart) (l : ℕ) → (l < 32) × (has_bit wired l ≡ true) → is_node_ready kind part l (node.Switch s) ≡ false
+      by_part : (part : PortPart) (l : ℕ) → (l < 32) × (has_bit wired l ≡ true) → is_node_ready kind part l (NodeOf.Switch s) ≡ false
       by_part Credit l inside = let none : switch_credit_out s l ≡ None = none_is (switch_credit_out s l) (first_false _ _ (granting.0 l (omega arith) inside.0) inside.1) in ap (λ (made : Option (State A)). is_some (done_by {A = A} (made >>= as_switch))) none
-      by_part Cross l inside = let none : switch_leave s l ≡ None = none_is (switch_leave s l) (first_false _ _ (leaving.0 l (omega arith) inside.0) inside.1) in ap (λ (made : Option (A × State A)). is_some (token_by (made >>= (λ r. Some (r.0, node.Switch r.1))))) none
+      by_part Cross l inside = let none : switch_leave s l ≡ None = none_is (switch_leave s l) (first_false _ _ (leaving.0 l (omega arith) inside.0) inside.1) in ap (λ (made : Option (A × State A)). is_some (token_by (made >>= (λ r. Some (r.0, NodeOf.Switch r.1))))) none
       by_part Turn l inside = let none : switch_input kind s l 0 ≡ None = turning l 0 inside.0 inside.1 in ap (λ (made : Option (State A)). is_some (done_by {A = A} (made >>= as_switch))) none
 
   -- a terminal that neither grants nor sends, and at which nothing arrives
-  pub idle_terminal : (t : Terminal A) (wired : ℕ) → is_some (terminal_credit_out t) ≡ false → is_some (terminal_leave t) ≡ false → is_some (terminal_drain t) ≡ false → IsIdleNode kind (has_link wired) (node.Terminal t)
+  pub idle_terminal : (t : Terminal A) (wired : ℕ) → is_some (terminal_credit_out t) ≡ false → is_some (terminal_leave t) ≡ false → is_some (terminal_drain t) ≡ false → IsIdleNode kind (has_link wired) (NodeOf.Terminal t)
   idle_terminal t wired granting leaving draining = record {
     links = λ part l is. by_part part l;
     claims = λ i o inside. refl;
     grants = ap (λ (made : Option (Terminal A)). is_some (done_by {A = A} (made >>= as_terminal))) (none_is (terminal_credit_out t) granting);
-    leaves = ap (λ (made : Option (A × Terminal A)). is_some (token_by (made >>= (λ r. Some (r.0, node.Terminal r.1))))) (none_is (terminal_leave t) leaving);
-    drains = λ number. ap (λ (made : Option (A × Terminal A)). is_some (token_by (made >>= (λ r. Some (r.0, node.Terminal r.1))))) (none_is (terminal_drain t) draining);
+    leaves = ap (λ (made : Option (A × Terminal A)). is_some (token_by (made >>= (λ r. Some (r.0, NodeOf.Terminal r.1))))) (none_is (terminal_leave t) leaving);
+    drains = λ number. ap (λ (made : Option (A × Terminal A)). is_some (token_by (made >>= (λ r. Some (r.0, NodeOf.Terminal r.1))))) (none_is (terminal_drain t) draining);
   }
     where
-      by_part : (part : PortPart) (l : ℕ) → is_node_ready kind part l (node.Terminal t) ≡ false
+      by_part : (part : PortPart) (l : ℕ) → is_node_ready kind part l (NodeOf.Terminal t) ≡ false
       by_part Credit l = refl
       by_part Cross l = refl
       by_part Turn l = refl

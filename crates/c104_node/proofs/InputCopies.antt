@@ -1,11 +1,8 @@
 -- An input buffer that takes in the tokens of another is its copy.
-use Rattle.std.proofs.Common.{◌≡◌, ◌∙◌, ◌+◌, ◌-◌, ◌++◌, ℕ, Bool, true, false, List, [], ◌∷◌, Some, Result, Ok, Err, ap, arith, nat_lt}
-use Rattle.std.proofs.Common.{refl, slice_get, sym, take}
-use Rattle.std.proofs.lemmas.Bool.Decides.{nat_tests}
-use Rattle.std.proofs.lemmas.List.{take_more}
-use Rattle.std.proofs.lemmas.Option.{get_or_from_slice_get, slice_get_within}
-use Rattle.c104_link.specs.Buffers.{Incoming, incoming_accept}
-use Rattle.c104_link.specs.Steps.{◌>>◌, require, result_outcome}
+use Rattle.{c104_link.specs.{Buffers.{Incoming, incoming_accept}, Steps.{require, result_outcome, ◌>>◌}}, std.proofs.Common.{Bool, Err}}
+use Rattle.std.proofs.Common.{List, Ok, Result, Some, [], ap, arith, false, nat_lt, refl, slice_get, sym, take, true, ℕ, ◌++◌, ◌+◌, ◌-◌}
+use Rattle.std.proofs.{Common.{◌∙◌, ◌∷◌, ◌≡◌}, lemmas.{Bool.Decides.nat_tests, List.take_more, Option.get_or_from_slice_get}}
+use Rattle.std.proofs.lemmas.Option.{slice_get_within}
 
 module _ {A : Type 0} (b new : Incoming A) (x : A) where
   -- what a buffer holds that has taken a token in

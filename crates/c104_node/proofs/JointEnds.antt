@@ -1,78 +1,63 @@
 -- What crosses a wire, among all nodes: where both ends are ready both act, and else nothing changes.
-use Rattle.c104_plan.specs.declared.ports.Port.{Port}
-use Rattle.c104_link.specs.Steps.{◌>>=◌}
-use Rattle.c104_link.proofs.MadeSteps.{from_place_made}
-use Rattle.c104_node.proofs.WireEnds.{get_set_other}
-use Rattle.c104_event.specs.declared.faults.EventFault.{EventFault}
-use Rattle.c104_node.specs.Acts.{done_by, node_act, nodes_act, reply_outcome, token_by}
-use Rattle.c104_node.specs.PortActs.{IsAnswerOf, far_act, joint_step, near_act}
-use Rattle.c104_node.specs.Nodes.{Node, node_credit_in, node_credit_out, node_enter, node_leave}
-use Rattle.c104_node.specs.PlaceActs.{HasActedAt, JointDone}
-use Rattle.c104_node.specs.Places.{Shown, bases, fulls, room_fault, states, traces}
-use Rattle.c104_node.specs.Traces.{full_at}
-use Rattle.c104_node.specs.declared.acts.ActOf.{ActOf}
-use Rattle.c104_node.specs.declared.stamps.Stamp.{Stamp}
-use Rattle.c104_node.specs.declared.crossings.Crossing.{Crossing}
-use Rattle.c104_node.specs.declared.crossings.Joint.{Joint}
-use Rattle.c104_node.specs.declared.crossings.Crossing.TheVariants.{Grant, Token}
-use Rattle.c104_switch.specs.Actions.{is_ready}
-use Rattle.c104_switch.specs.declared.actions.ReplyOf.{ReplyOf}
-use Rattle.c104_token.specs.Kinds.{Kind}
-use Rattle.std.proofs.Common.{Bool, Err, Ok, ◌||◌, List, None, Option, Some, ap, arith, false, is_some, length, nat_lt, refl, slice_get, slice_set, subst, sym, true, ℕ, ◌<◌, ◌≤◌, ◌∙◌, ◌≡◌, ◌≢◌}
-use Rattle.std.proofs.lemmas.Bool.Decides.{nat_tests}
-use Rattle.std.proofs.lemmas.Option.{slice_get_past}
-use Rattle.c104_plan.specs.declared.ports.Port.TheVariants as port
-use Rattle.c104_node.specs.declared.node.NodeOf.TheVariants as node
-use Rattle.c104_switch.specs.declared.actions.ReplyOf.TheVariants as reply
+use Rattle.{c104_event.specs.declared.faults.EventFault.EventFault, c104_link.{proofs.MadeSteps.from_place_made, specs.Steps.◌>>=◌}}
+use Rattle.c104_node.{proofs.WireEnds.get_set_other, specs.{Acts.{done_by, node_act, nodes_act, reply_outcome, token_by}, Nodes.Node}}
+use Rattle.c104_node.specs.{Nodes.{node_credit_in, node_credit_out, node_enter, node_leave}, PlaceActs.{HasActedAt, JointDone}}
+use Rattle.c104_node.specs.{Places.{Shown, bases, fulls, room_fault, states, traces}, PortActs.{IsAnswerOf, far_act, joint_step, near_act}}
+use Rattle.c104_node.specs.{Traces.full_at, declared.{acts.ActOf.ActOf, crossings.Crossing.{Crossing, TheVariants.{Grant, Token}}}}
+use Rattle.c104_node.specs.declared.{crossings.Joint.Joint, node.NodeOf.NodeOf, stamps.Stamp.Stamp}
+use Rattle.{c104_plan.specs.declared.ports.Port.Port, c104_switch.specs.{Actions.is_ready, declared.actions.ReplyOf.ReplyOf}}
+use Rattle.{c104_token.specs.Kinds.Kind, std.proofs.Common.{Bool, Err, List, None, Ok, Option, Some, ap, arith, false, is_some, length}}
+use Rattle.std.proofs.Common.{nat_lt, refl, slice_get, slice_set, subst, sym, true, ℕ, ◌<◌, ◌||◌, ◌∙◌, ◌≡◌, ◌≢◌, ◌≤◌}
+use Rattle.std.proofs.lemmas.{Bool.Decides.nat_tests, Option.slice_get_past}
 
 -- what is done answers so
 pub ready_answer : {A : Type 0} (crossing : Crossing) (r : ReplyOf A) → IsAnswerOf crossing r → is_ready r ≡ true
-ready_answer Token reply.Done is = absurd is
-ready_answer Token reply.NotReady is = absurd is
-ready_answer Token (reply.Token x) is = refl
-ready_answer Token (reply.Control bytes) is = absurd is
-ready_answer Grant reply.Done is = refl
-ready_answer Grant reply.NotReady is = absurd is
-ready_answer Grant (reply.Token x) is = absurd is
-ready_answer Grant (reply.Control bytes) is = absurd is
+ready_answer Token ReplyOf.Done is = absurd is
+ready_answer Token ReplyOf.NotReady is = absurd is
+ready_answer Token (ReplyOf.Token x) is = refl
+ready_answer Token (ReplyOf.Control bytes) is = absurd is
+ready_answer Grant ReplyOf.Done is = refl
+ready_answer Grant ReplyOf.NotReady is = absurd is
+ready_answer Grant (ReplyOf.Token x) is = absurd is
+ready_answer Grant (ReplyOf.Control bytes) is = absurd is
 
 module _ {A : Type 0} where
   token_answer : (made : Option (A × Node A)) (r : ReplyOf A × Node A) → token_by made ≡ Some r → IsAnswerOf Token r.0
   token_answer None r is = absurd (cc)
-  token_answer (Some v) r is = let same : reply.Token v.0 ≡ r.0 = (let both : ◌≡◌ {A = Option (ReplyOf A × Node A)} (Some (reply.Token v.0, v.1)) (Some r) = is in cc) in subst (IsAnswerOf Token) same tt
+  token_answer (Some v) r is = let same : ReplyOf.Token v.0 ≡ r.0 = (let both : ◌≡◌ {A = Option (ReplyOf A × Node A)} (Some (ReplyOf.Token v.0, v.1)) (Some r) = is in cc) in subst (IsAnswerOf Token) same tt
 
-  done_answer : (made : Option (Node A)) (r : ReplyOf A × Node A) → done_by made ≡ Some r → r.0 ≡ reply.Done
+  done_answer : (made : Option (Node A)) (r : ReplyOf A × Node A) → done_by made ≡ Some r → r.0 ≡ ReplyOf.Done
   done_answer None r is = absurd (cc)
-  done_answer (Some v) r is = let both : ◌≡◌ {A = Option (ReplyOf A × Node A)} (Some (reply.Done, v)) (Some r) = is in cc
+  done_answer (Some v) r is = let both : ◌≡◌ {A = Option (ReplyOf A × Node A)} (Some (ReplyOf.Done, v)) (Some r) = is in cc
 
 module _ {A : Type 0} (kind : Kind A) where
   -- the first end answers what crosses
   pub near_answers : (crossing : Crossing) (p : Port) (n : Node A) (r : ReplyOf A × Node A) → node_act kind 0 (near_act crossing p) n ≡ Some r → IsAnswerOf crossing r.0
-  near_answers Token (port.Switch s l) (node.Switch x) r is = token_answer (node_leave l (node.Switch x)) r is
-  near_answers Token (port.Switch s l) (node.Terminal x) r is = absurd (cc)
-  near_answers Token (port.Terminal t) (node.Switch x) r is = absurd (cc)
-  near_answers Token (port.Terminal t) (node.Terminal x) r is = token_answer (node_leave 0 (node.Terminal x)) r is
-  near_answers Grant (port.Switch s l) (node.Switch x) r is = subst (IsAnswerOf Grant) (sym (done_answer (node_credit_out l (node.Switch x)) r is)) tt
-  near_answers Grant (port.Switch s l) (node.Terminal x) r is = absurd (cc)
-  near_answers Grant (port.Terminal t) (node.Switch x) r is = absurd (cc)
-  near_answers Grant (port.Terminal t) (node.Terminal x) r is = subst (IsAnswerOf Grant) (sym (done_answer (node_credit_out 0 (node.Terminal x)) r is)) tt
+  near_answers Token (Port.Switch s l) (NodeOf.Switch x) r is = token_answer (node_leave l (NodeOf.Switch x)) r is
+  near_answers Token (Port.Switch s l) (NodeOf.Terminal x) r is = absurd (cc)
+  near_answers Token (Port.Terminal t) (NodeOf.Switch x) r is = absurd (cc)
+  near_answers Token (Port.Terminal t) (NodeOf.Terminal x) r is = token_answer (node_leave 0 (NodeOf.Terminal x)) r is
+  near_answers Grant (Port.Switch s l) (NodeOf.Switch x) r is = subst (IsAnswerOf Grant) (sym (done_answer (node_credit_out l (NodeOf.Switch x)) r is)) tt
+  near_answers Grant (Port.Switch s l) (NodeOf.Terminal x) r is = absurd (cc)
+  near_answers Grant (Port.Terminal t) (NodeOf.Switch x) r is = absurd (cc)
+  near_answers Grant (Port.Terminal t) (NodeOf.Terminal x) r is = subst (IsAnswerOf Grant) (sym (done_answer (node_credit_out 0 (NodeOf.Terminal x)) r is)) tt
 
   -- and the other end that it came in
-  pub far_done : (crossing : Crossing) (a : ReplyOf A) (q : Port) (m : Node A) (r : ReplyOf A × Node A) → IsAnswerOf crossing a → node_act kind 0 (far_act q a) m ≡ Some r → r.0 ≡ reply.Done
-  far_done Token reply.Done q m r answer is = absurd answer
-  far_done Token reply.NotReady q m r answer is = absurd answer
-  far_done Token (reply.Token x) (port.Switch s l) (node.Switch y) r answer is = done_answer (node_enter x l (node.Switch y)) r is
-  far_done Token (reply.Token x) (port.Switch s l) (node.Terminal y) r answer is = absurd (cc)
-  far_done Token (reply.Token x) (port.Terminal t) (node.Switch y) r answer is = absurd (cc)
-  far_done Token (reply.Token x) (port.Terminal t) (node.Terminal y) r answer is = done_answer (node_enter x 0 (node.Terminal y)) r is
-  far_done Token (reply.Control bytes) q m r answer is = absurd answer
-  far_done Grant reply.Done (port.Switch s l) (node.Switch y) r answer is = done_answer (node_credit_in l (node.Switch y)) r is
-  far_done Grant reply.Done (port.Switch s l) (node.Terminal y) r answer is = absurd (cc)
-  far_done Grant reply.Done (port.Terminal t) (node.Switch y) r answer is = absurd (cc)
-  far_done Grant reply.Done (port.Terminal t) (node.Terminal y) r answer is = done_answer (node_credit_in 0 (node.Terminal y)) r is
-  far_done Grant reply.NotReady q m r answer is = absurd answer
-  far_done Grant (reply.Token x) q m r answer is = absurd answer
-  far_done Grant (reply.Control bytes) q m r answer is = absurd answer
+  pub far_done : (crossing : Crossing) (a : ReplyOf A) (q : Port) (m : Node A) (r : ReplyOf A × Node A) → IsAnswerOf crossing a → node_act kind 0 (far_act q a) m ≡ Some r → r.0 ≡ ReplyOf.Done
+  far_done Token ReplyOf.Done q m r answer is = absurd answer
+  far_done Token ReplyOf.NotReady q m r answer is = absurd answer
+  far_done Token (ReplyOf.Token x) (Port.Switch s l) (NodeOf.Switch y) r answer is = done_answer (node_enter x l (NodeOf.Switch y)) r is
+  far_done Token (ReplyOf.Token x) (Port.Switch s l) (NodeOf.Terminal y) r answer is = absurd (cc)
+  far_done Token (ReplyOf.Token x) (Port.Terminal t) (NodeOf.Switch y) r answer is = absurd (cc)
+  far_done Token (ReplyOf.Token x) (Port.Terminal t) (NodeOf.Terminal y) r answer is = done_answer (node_enter x 0 (NodeOf.Terminal y)) r is
+  far_done Token (ReplyOf.Control bytes) q m r answer is = absurd answer
+  far_done Grant ReplyOf.Done (Port.Switch s l) (NodeOf.Switch y) r answer is = done_answer (node_credit_in l (NodeOf.Switch y)) r is
+  far_done Grant ReplyOf.Done (Port.Switch s l) (NodeOf.Terminal y) r answer is = absurd (cc)
+  far_done Grant ReplyOf.Done (Port.Terminal t) (NodeOf.Switch y) r answer is = absurd (cc)
+  far_done Grant ReplyOf.Done (Port.Terminal t) (NodeOf.Terminal y) r answer is = done_answer (node_credit_in 0 (NodeOf.Terminal y)) r is
+  far_done Grant ReplyOf.NotReady q m r answer is = absurd answer
+  far_done Grant (ReplyOf.Token x) q m r answer is = absurd answer
+  far_done Grant (ReplyOf.Control bytes) q m r answer is = absurd answer
 
   -- a node that can act is there
   pub acts_inside : (nodes : List (Node A)) (k : ℕ) (a : ActOf A) → is_some (nodes_act kind nodes k 0 a) ≡ true → k < length nodes
@@ -163,7 +148,7 @@ module _ {A : Type 0} (kind : Kind A) (keeps : Bool) (near far : ℕ) (joint : J
   made = joint_step kind near far joint.near joint.far joint.crossing (states olds)
 
   -- where one end isn't ready
-  pub none_crosses : made ≡ None → JointDone kind keeps near far joint stamp olds (Ok reply.NotReady) olds
+  pub none_crosses : made ≡ None → JointDone kind keeps near far joint stamp olds (Ok ReplyOf.NotReady) olds
   none_crosses none = record {
     ends = (ap (λ (m : Option (ReplyOf A × List (Node A))). reply_outcome m (states olds)) (sym none), λ ready. absurd (let no : ⊥ = cc in no));
     base = refl;

@@ -1,8 +1,6 @@
 -- What crosses a wire by the name of its steps: a token one way, and credit the other way. Both ends act, or neither does.
-use Rattle.std.specs.Prelude.{List, Option, Some}
-use Rattle.c104_link.specs.Steps.{◌>>=◌, step_at, yield_step_at}
-use Rattle.c104_node.specs.declared.ends.End.{End}
-use Rattle.c104_node.specs.Nodes.{Node, node_enter, node_leave, node_credit_out, node_credit_in}
+use Rattle.{c104_link.specs.Steps.{step_at, yield_step_at, ◌>>=◌}, c104_node.specs.Nodes.{Node, node_credit_in, node_credit_out}}
+use Rattle.{c104_node.specs.{Nodes.{node_enter, node_leave}, declared.ends.End.End}, std.specs.Prelude.{List, Option, Some}}
 
 -- a token goes out at one end and comes in at the other
 abbrev pub nodes_cross : {A : Type 0} → List (Node A) → End → End → Option (A × List (Node A))

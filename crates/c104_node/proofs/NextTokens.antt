@@ -1,14 +1,8 @@
 -- What would go out next over a link is the first token that waits there, where one can go out.
-use Rattle.c104_link.proofs.MadeSteps.{from_place_made, given, required}
-use Rattle.c104_link.specs.Buffers.{Outgoing, outgoing_emit}
-use Rattle.c104_link.specs.Steps.{◌>>=◌, yield_step_at}
-use Rattle.c104_node.specs.Nodes.{Node}
-use Rattle.c104_node.specs.Terminals.{Terminal, terminal_leave}
-use Rattle.c104_node.specs.Views.{node_next_token}
-use Rattle.c104_node.specs.declared.node.NodeOf.TheVariants as node
-use Rattle.c104_switch.specs.Switch.{Switch, switch_leave}
-use Rattle.c104_switch.specs.Views.{output_token}
-use Rattle.std.proofs.Common.{List, None, Option, Some, ap, false, is_some, refl, slice_get, true, ℕ, ◌∙◌, ◌≡◌, [], drop, nat_lt, ◌-◌, ◌∷◌}
+use Rattle.c104_link.{proofs.MadeSteps.{from_place_made, given, required}, specs.{Buffers.{Outgoing, outgoing_emit}, Steps.yield_step_at}}
+use Rattle.{c104_link.specs.Steps.◌>>=◌, c104_node.specs.{Nodes.Node, Terminals.{Terminal, terminal_leave}, Views.node_next_token}}
+use Rattle.{c104_node.specs.declared.node.NodeOf.NodeOf, c104_switch.specs.{Switch.{Switch, switch_leave}, Views.output_token}}
+use Rattle.std.proofs.Common.{List, None, Option, Some, [], ap, drop, false, is_some, nat_lt, refl, slice_get, true, ℕ, ◌-◌, ◌∙◌, ◌∷◌, ◌≡◌}
 use Rattle.std.proofs.lemmas.Bool.{both_ways}
 
 pub first_some : {A : Type 0} (l : List A) (x : A) → slice_get l 0 ≡ Some x → l ≡ x ∷ drop 1 l
@@ -42,11 +36,11 @@ module _ {A : Type 0} where
   first_of q y made = ap (λ (xs : List A). slice_get xs 0) (leave_some q y made)
 
   module _ (s : Switch A) (l : ℕ) where
-    pub switch_none : is_some (switch_leave s l) ≡ false → None ≡ node_next_token l (node.Switch s)
-    switch_none closed = none_by node.Switch (switch_leave s l) closed
+    pub switch_none : is_some (switch_leave s l) ≡ false → None ≡ node_next_token l (NodeOf.Switch s)
+    switch_none closed = none_by NodeOf.Switch (switch_leave s l) closed
 
-    pub switch_first : is_some (switch_leave s l) ≡ true → output_token s l 0 ≡ node_next_token l (node.Switch s)
-    switch_first ready = first_by node.Switch (output_token s l 0) (switch_leave s l) (λ v left.
+    pub switch_first : is_some (switch_leave s l) ≡ true → output_token s l 0 ≡ node_next_token l (NodeOf.Switch s)
+    switch_first ready = first_by NodeOf.Switch (output_token s l 0) (switch_leave s l) (λ v left.
         given (yield_step_at s.outputs l outgoing_emit) _ v left (λ w there last.
         from_place_made s.outputs l outgoing_emit w there (λ q y here made set.
         (let one : y.0 ≡ w.0 = ap (λ (z : A × List (Outgoing A)). z.0) set in
@@ -54,10 +48,10 @@ module _ {A : Type 0} where
         rw here (first_of q y made ∙ ap Some (one ∙ two)))))) ready
 
   module _ (t : Terminal A) (l : ℕ) where
-    pub terminal_none : is_some (terminal_leave t) ≡ false → None ≡ node_next_token l (node.Terminal t)
-    terminal_none closed = none_by node.Terminal (terminal_leave t) closed
+    pub terminal_none : is_some (terminal_leave t) ≡ false → None ≡ node_next_token l (NodeOf.Terminal t)
+    terminal_none closed = none_by NodeOf.Terminal (terminal_leave t) closed
 
-    pub terminal_first : is_some (terminal_leave t) ≡ true → slice_get t.output.items 0 ≡ node_next_token l (node.Terminal t)
-    terminal_first ready = first_by node.Terminal (slice_get t.output.items 0) (terminal_leave t) (λ v left.
+    pub terminal_first : is_some (terminal_leave t) ≡ true → slice_get t.output.items 0 ≡ node_next_token l (NodeOf.Terminal t)
+    terminal_first ready = first_by NodeOf.Terminal (slice_get t.output.items 0) (terminal_leave t) (λ v left.
         given (outgoing_emit t.output) _ v left (λ y made last.
         (let two : y.0 ≡ v.0 = cc last in first_of t.output y made ∙ ap Some two))) ready

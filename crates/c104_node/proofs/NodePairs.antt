@@ -1,17 +1,9 @@
 -- What crosses a wire between two nodes: it does where both are ready.
-use Rattle.c104_link.specs.Steps.{◌>>=◌}
-use Rattle.c104_node.proofs.JointEnds.{far_done, near_answers}
-use Rattle.c104_node.proofs.RecordedNodes.{linked_ready}
-use Rattle.c104_node.specs.PortActs.{IsAnswerOf, far_act, near_act}
-use Rattle.c104_node.specs.Records.{Crossed, NodeRecord, crossed, pair_step, recorded_step}
-use Rattle.c104_node.specs.Nodes.{Node}
-use Rattle.c104_node.specs.declared.crossings.Joint.{Joint}
-use Rattle.c104_switch.specs.Actions.{Reply}
-use Rattle.c104_switch.specs.declared.actions.ReplyOf.TheVariants as reply
-use Rattle.c104_token.specs.Kinds.{plain_kind}
-use Rattle.c104_token.specs.declared.tokens.Token.{Token}
-use Rattle.std.proofs.Common.{Bool, None, Option, Some, ap, false, is_some, refl, sym, true, ◌∙◌, ◌≡◌}
-use Rattle.std.proofs.lemmas.Bool.{both_ways}
+use Rattle.{c104_link.specs.Steps.◌>>=◌, c104_node.proofs.{JointEnds.{far_done, near_answers}, RecordedNodes.linked_ready}}
+use Rattle.c104_node.specs.{Nodes.Node, PortActs.{IsAnswerOf, far_act, near_act}, Records.{Crossed, NodeRecord, crossed, pair_step}}
+use Rattle.{c104_node.specs.{Records.recorded_step, declared.crossings.Joint.Joint}, c104_switch.specs.Actions.Reply}
+use Rattle.{c104_switch.specs.declared.actions.ReplyOf.ReplyOf, c104_token.specs.{Kinds.plain_kind, declared.tokens.Token.Token}}
+use Rattle.std.proofs.{Common.{Bool, None, Option, Some, ap, false, is_some, refl, sym, true, ◌∙◌, ◌≡◌}, lemmas.Bool.both_ways}
 
 module _ (joint : Joint) (near far : NodeRecord) where
   abbrev with_far : Reply → Node Token → Reply × Node Token → Option Crossed
@@ -28,7 +20,7 @@ module _ (joint : Joint) (near far : NodeRecord) where
   pair_answers r is = near_answers plain_kind joint.crossing joint.near near.state r (sym (linked_ready near (near_act joint.crossing joint.near) (ap is_some is)).1 ∙ is)
 
   -- and the other end that it came in
-  pub pair_done : (told : Reply) (s : Reply × Node Token) → IsAnswerOf joint.crossing told → recorded_step far (far_act joint.far told) ≡ Some s → s.0 ≡ reply.Done
+  pub pair_done : (told : Reply) (s : Reply × Node Token) → IsAnswerOf joint.crossing told → recorded_step far (far_act joint.far told) ≡ Some s → s.0 ≡ ReplyOf.Done
   pair_done told s answer is = far_done plain_kind joint.crossing told joint.far far.state s answer (sym (linked_ready far (far_act joint.far told) (ap is_some is)).1 ∙ is)
 
   -- where the first end isn't ready, nothing crosses

@@ -1,23 +1,13 @@
 -- From one place to all places: what is read there, and what an act changes.
-use Rattle.std.proofs.Common.{◌≡◌, ◌≢◌, ◌<◌, ◌∙◌, ℕ, Bool, true, false, List, Option, Some, None, Result, Ok, Err, OnOk, get_or, map, nat_lt, length, slice_get, slice_set, is_some, option_map, unwrap_or, refl, sym, ap, subst, arith, IsErr, IsErrAnd}
-use Rattle.std.proofs.lemmas.Bool.Decides.{nat_tests}
-use Rattle.std.proofs.lemmas.Option.{get_or_from_slice_get, slice_get-get_or, slice_get-map, slice_get_past}
-use Rattle.std.proofs.lemmas.List.{length-map, map-set}
-use Rattle.std.proofs.Math.Seq.{map-set_same}
-use Rattle.c104_token.specs.Kinds.{Kind}
-use Rattle.c104_link.specs.Steps.{◌>>=◌}
-use Rattle.c104_switch.specs.declared.actions.ReplyOf.{ReplyOf}
-use Rattle.c104_node.specs.declared.acts.ActOf.{ActOf}
-use Rattle.c104_node.specs.declared.stamps.Stamp.{Stamp}
-use Rattle.c104_node.specs.Acts.{node_act, nodes_act, reply_outcome}
-use Rattle.c104_node.specs.Nodes.{Node}
-use Rattle.c104_node.specs.PlaceActs.{ActEnds, ActEndsAt, HasActed, HasActedAt}
-use Rattle.c104_node.specs.Places.{HasRoomAt, Shown, fulls, states, traces, PlaceBase, bases}
-use Rattle.c104_node.specs.Traces.{full_at, kept_entry, noted_in, part}
-use Rattle.c104_node.proofs.WireEnds.{get_set_same, get_set_other}
-use Rattle.c104_node.specs.ActLinks.{act_link}
-use Rattle.c104_node.specs.PortActs.{act_limit}
-use Rattle.c104_node.specs.WiredPlaces.{is_linked, is_linked_at, links_at, links_of}
+use Rattle.{c104_link.specs.Steps.◌>>=◌, c104_node.{proofs.WireEnds.{get_set_other, get_set_same}, specs.ActLinks.act_link}}
+use Rattle.c104_node.specs.{Acts.{node_act, nodes_act, reply_outcome}, Nodes.Node, PlaceActs.{ActEnds, ActEndsAt, HasActed, HasActedAt}}
+use Rattle.c104_node.specs.{Places.{HasRoomAt, PlaceBase, Shown, bases, fulls, states, traces}, PortActs.act_limit, Traces.full_at}
+use Rattle.c104_node.specs.{Traces.{kept_entry, noted_in, part}, WiredPlaces.{is_linked, is_linked_at, links_at, links_of}}
+use Rattle.{c104_node.specs.declared.{acts.ActOf.ActOf, stamps.Stamp.Stamp}, c104_switch.specs.declared.actions.ReplyOf.ReplyOf}
+use Rattle.{c104_token.specs.Kinds.Kind, std.proofs.Common.{Bool, Err, IsErr, IsErrAnd, List, None, Ok, OnOk, Option, Result, Some, ap}}
+use Rattle.std.proofs.Common.{arith, false, get_or, is_some, length, map, nat_lt, option_map, refl, slice_get, slice_set, subst, sym, true}
+use Rattle.std.proofs.{Common.{unwrap_or, ℕ, ◌<◌, ◌∙◌, ◌≡◌, ◌≢◌}, Math.Seq.map-set_same, lemmas.{Bool.Decides.nat_tests, List.length-map}}
+use Rattle.std.proofs.lemmas.{List.map-set, Option.{get_or_from_slice_get, slice_get-get_or, slice_get-map, slice_get_past}}
 
 -- what a place shows, read from the list of all
 module _ {A P S : Type 0} (f : Shown A → S) (shown : P → Shown A) (xs : List P) (k : ℕ) where

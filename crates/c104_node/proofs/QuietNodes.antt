@@ -1,19 +1,11 @@
 -- A switch is quiet where all its links are seen to be, and only there; and a run that begins keeps the
 -- balance.
-use Rattle.std.proofs.Common.{◌≡◌, ◌∙◌, ◌+◌, ◌<◌, ◌&&◌, ℕ, Bool, true, false, List, [], ◌∷◌, Some, get_or, length, nat_eq, slice_get, inl, inr, refl, sym, subst, arith}
-use Rattle.std.proofs.lemmas.Bool.{cases_eq}
-use Rattle.std.proofs.lemmas.Bool.Decides.{nat_tests}
-use Rattle.std.proofs.lemmas.Option.{slice_get-get_or}
-use Rattle.c104_token.specs.Kinds.{Kind}
-use Rattle.c104_link.specs.Buffers.{Outgoing}
-use Rattle.c104_regs.specs.declared.registers.TheConstants.{LINKS}
-use Rattle.c104_switch.specs.Switch.{Input, Switch as SwitchState}
-use Rattle.c104_switch.specs.Soundness.{IsSound}
-use Rattle.c104_switch.specs.Views.{link_view, phase_view}
-use Rattle.c104_switch.specs.declared.phase.Phase.{Phase}
-use Rattle.c104_switch.specs.declared.phase.Phase.TheVariants.{Fresh, Head, Want, Stream, Sinking}
-use Rattle.c104_node.specs.Nodes.{Node}
-use Rattle.c104_node.specs.Quiet.{is_fresh, is_quiet_view, IsQuietInput, IsQuietNode, IsQuietOutput, IsQuietSwitch}
+use Rattle.{c104_link.specs.Buffers.Outgoing, c104_node.specs.{Nodes.Node, Quiet.{IsQuietInput, IsQuietNode, IsQuietOutput, IsQuietSwitch}}}
+use Rattle.{c104_node.specs.Quiet.{is_fresh, is_quiet_view}, c104_regs.specs.declared.registers.TheConstants.LINKS}
+use Rattle.c104_switch.specs.{Soundness.IsSound, Switch.{Input, Switch as SwitchState}, Views.{link_view, phase_view}}
+use Rattle.{c104_switch.specs.declared.phase.Phase.{Phase, TheVariants.{Fresh, Head, Sinking, Stream, Want}}, c104_token.specs.Kinds.Kind}
+use Rattle.std.proofs.Common.{Bool, List, Some, [], arith, false, get_or, inl, inr, length, nat_eq, refl, slice_get, subst, sym, true, ℕ}
+use Rattle.std.proofs.{Common.{◌&&◌, ◌+◌, ◌<◌, ◌∙◌, ◌∷◌, ◌≡◌}, lemmas.{Bool.{Decides.nat_tests, cases_eq}, Option.slice_get-get_or}}
 
 -- where one of two is not, not both are
 both : (a b : Bool) → (a && b) ≡ true → (a ≡ true) × (b ≡ true)

@@ -1,27 +1,13 @@
 -- A node with its record: its run goes on by an act; and plain tokens don't tell the number of a terminal.
-use Rattle.c104_token.specs.Kinds.{plain_kind}
-use Rattle.c104_token.specs.declared.tokens.Token.{Token}
-use Rattle.c104_switch.specs.Actions.{Reply, is_ready}
-use Rattle.c104_switch.specs.declared.actions.ReplyOf.{ReplyOf}
-use Rattle.c104_event.specs.declared.faults.EventFault.{EventFault}
-use Rattle.c104_node.specs.declared.acts.ActOf.{ActOf}
-use Rattle.c104_node.specs.declared.acts.ActOf.TheVariants as act
-use Rattle.c104_node.specs.declared.acts.Entry.{Entry}
-use Rattle.c104_node.specs.declared.node.NodeOf.TheVariants as node
-use Rattle.c104_node.specs.declared.stamps.Stamp.{Stamp}
-use Rattle.c104_node.specs.Acts.{IsWithinLimits, done_by, node_act, reply_outcome}
-use Rattle.c104_node.specs.PortActs.{act_limit}
-use Rattle.c104_node.specs.ActLinks.{on_links}
-use Rattle.c104_node.specs.Records.{IsRecorded, IsNodeRun, NodeRecord, MayAct, after_act, fault_first, has_link, is_full, recorded_limit, recorded_step}
-use Rattle.c104_node.specs.Nodes.{Node}
-use Rattle.c104_node.specs.Starts.{start_node}
-use Rattle.c104_node.specs.Terminals.{sent_from}
-use Rattle.c104_node.specs.Traces.{entry_of, trace_limit}
-use Rattle.c104_node.proofs.ReadyActs.{act_ready}
-use Rattle.std.proofs.Common.{Bool, List, None, Option, Some, [], ap, arith, false, is_some, length, length-append, nat_le, refl, subst, suc, sym, true, ℕ, ◌+◌, ◌++◌, ◌∙◌, ◌∷◌, ◌≡◌}
-use Rattle.std.proofs.lemmas.Bool.{both_ways}
-use Rattle.std.proofs.lemmas.Bool.Decides.{nat_tests}
-use Rattle.std.specs.Prelude.{if◌then◌else◌}
+use Rattle.{c104_event.specs.declared.faults.EventFault.EventFault, c104_node.{proofs.ReadyActs.act_ready, specs.ActLinks.on_links}}
+use Rattle.c104_node.specs.{Acts.{IsWithinLimits, done_by, node_act, reply_outcome}, Nodes.Node, PortActs.act_limit, Records.IsNodeRun}
+use Rattle.c104_node.specs.Records.{IsRecorded, MayAct, NodeRecord, after_act, fault_first, has_link, is_full, recorded_limit}
+use Rattle.c104_node.specs.{Records.recorded_step, Starts.start_node, Terminals.sent_from, Traces.{entry_of, trace_limit}}
+use Rattle.c104_node.specs.declared.{acts.{ActOf.ActOf, Entry.Entry}, node.NodeOf.NodeOf, stamps.Stamp.Stamp}
+use Rattle.{c104_switch.specs.{Actions.{Reply, is_ready}, declared.actions.ReplyOf.ReplyOf}, c104_token.specs.Kinds.plain_kind}
+use Rattle.{c104_token.specs.declared.tokens.Token.Token, std.proofs.Common.{Bool, List, None, Option, Some, [], ap, arith, false, is_some}}
+use Rattle.std.proofs.Common.{length, length-append, nat_le, refl, subst, suc, sym, true, ℕ, ◌++◌, ◌+◌, ◌∙◌, ◌∷◌, ◌≡◌}
+use Rattle.std.{proofs.lemmas.Bool.{Decides.nat_tests, both_ways}, specs.Prelude.if◌then◌else◌}
 
 -- an act that was ready is made
 made_ready : {A S : Type 0} (made : Option (ReplyOf A × S)) (r : ReplyOf A) (new old : S) → is_some made ≡ true → ◌≡◌ {A = ReplyOf A × S} (r, new) (reply_outcome made old) → made ≡ Some (r, new)
@@ -79,21 +65,21 @@ same_sent a b n m i j (x ∷ xs) = ap (λ ys. x ∷ ys) (same_sent a b n m (suc 
 
 -- whatever a terminal's number, over plain tokens its acts are the same
 pub number_plain : (a b : ℕ) (x : ActOf Token) (n : Node Token) → node_act plain_kind a x n ≡ node_act plain_kind b x n
-number_plain a b (act.Step y) (node.Switch s) = refl
-number_plain a b (act.Step y) (node.Terminal t) = refl
-number_plain a b (act.Send packet) (node.Switch s) = refl
-number_plain a b (act.Send packet) (node.Terminal t) =
-    ap (λ (items : List Token). done_by {A = Token} {S = Node Token} (Some (node.Terminal (record t { output = record { items = t.output.items ++ items; credit = t.output.credit }; sent = t.sent ++ packet ∷ [] }))))
+number_plain a b (ActOf.Step y) (NodeOf.Switch s) = refl
+number_plain a b (ActOf.Step y) (NodeOf.Terminal t) = refl
+number_plain a b (ActOf.Send packet) (NodeOf.Switch s) = refl
+number_plain a b (ActOf.Send packet) (NodeOf.Terminal t) =
+    ap (λ (items : List Token). done_by {A = Token} {S = Node Token} (Some (NodeOf.Terminal (record t { output = record { items = t.output.items ++ items; credit = t.output.credit }; sent = t.sent ++ packet ∷ [] }))))
     (same_sent a b (length t.sent) (length t.sent) 0 0 _)
-number_plain a b act.Drain n = refl
-number_plain a b act.Leave (node.Switch s) = refl
-number_plain a b act.Leave (node.Terminal t) = refl
-number_plain a b (act.Enter y) (node.Switch s) = refl
-number_plain a b (act.Enter y) (node.Terminal t) = refl
-number_plain a b act.CreditOut (node.Switch s) = refl
-number_plain a b act.CreditOut (node.Terminal t) = refl
-number_plain a b act.CreditIn (node.Switch s) = refl
-number_plain a b act.CreditIn (node.Terminal t) = refl
+number_plain a b ActOf.Drain n = refl
+number_plain a b ActOf.Leave (NodeOf.Switch s) = refl
+number_plain a b ActOf.Leave (NodeOf.Terminal t) = refl
+number_plain a b (ActOf.Enter y) (NodeOf.Switch s) = refl
+number_plain a b (ActOf.Enter y) (NodeOf.Terminal t) = refl
+number_plain a b ActOf.CreditOut (NodeOf.Switch s) = refl
+number_plain a b ActOf.CreditOut (NodeOf.Terminal t) = refl
+number_plain a b ActOf.CreditIn (NodeOf.Switch s) = refl
+number_plain a b ActOf.CreditIn (NodeOf.Terminal t) = refl
 
 -- an act of a node as a place of a network, whatever its number there
 module _ (n : NodeRecord) (number : ℕ) (a : ActOf Token) (linked : on_links (has_link n.wired) a ≡ true) (ready : is_some (node_act plain_kind number a n.state) ≡ true) where

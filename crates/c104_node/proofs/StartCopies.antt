@@ -1,8 +1,7 @@
 -- A switch at a start tells that start.
 use Rattle.c104_switch.specs.Starts.{SwitchStart, link_starts, start_input, start_output, start_switch, switch_start}
-use Rattle.c104_switch.specs.declared.link_start.LinkStart.{LinkStart}
-use Rattle.c104_token.specs.declared.tokens.Token.{Token}
-use Rattle.std.proofs.Common.{List, [], ap, map, refl, ◌∷◌, ◌≡◌}
+use Rattle.{c104_switch.specs.declared.link_start.LinkStart.LinkStart, c104_token.specs.declared.tokens.Token.Token, std.proofs.Common.List}
+use Rattle.std.proofs.Common.{[], ap, map, refl, ◌∷◌, ◌≡◌}
 
 links_back : (links : List LinkStart) → link_starts {A = Token} (map start_input links) (map start_output links) ≡ links
 links_back [] = refl

@@ -1,16 +1,11 @@
 -- What waits, by a place in what was sent: its first token, and what a packet adds.
-use Rattle.std.proofs.Common.{◌≡◌, ◌∙◌, ◌≤◌, ◌<◌, ◌+◌, ◌-◌, ◌++◌, ℕ, zero, suc, List, [], ◌∷◌, Option, Some, None, drop, get_or, length, length-append, append-nil, append_assoc, map, slice_get, refl, subst, sym, ap, arith, ⊎_elim, ◌⊎◌}
+use Rattle.{c104_link.specs.Buffers.Incoming, c104_node.specs.Outboxes.{IsOutbox, IsPlace, TerminalPacket, packet_of, posted_tokens}}
+use Rattle.c104_node.specs.{Outboxes.{taken_of, waiting_from, waiting_taken}, Terminals.{Terminal, sent_from, sent_tokens, terminal_send}}
+use Rattle.c104_token.specs.{Kinds.Kind, Packets.packet_tokens, Tokens.end_token, declared.packets.Packet.Packet}
+use Rattle.{c104_token.specs.declared.tokens.Token.{TheVariants.Byte, Token}, std.proofs.Common.{List, None, Option, Some, [], ap}}
+use Rattle.std.proofs.Common.{append-nil, append_assoc, arith, drop, get_or, length, length-append, map, refl, slice_get, subst, suc, sym}
+use Rattle.std.proofs.{Common.{zero, ℕ, ⊎_elim, ◌++◌, ◌+◌, ◌-◌, ◌<◌, ◌∙◌, ◌∷◌, ◌≡◌, ◌≤◌, ◌⊎◌}, lemmas.List.{length-map, map-append}}
 use Rattle.std.proofs.lemmas.Option.{slice_get-get_or, slice_get_within}
-use Rattle.c104_link.specs.Buffers.{Incoming}
-use Rattle.std.proofs.lemmas.List.{length-map, map-append}
-use Rattle.c104_token.specs.Kinds.{Kind}
-use Rattle.c104_token.specs.Packets.{packet_tokens}
-use Rattle.c104_token.specs.Tokens.{end_token}
-use Rattle.c104_token.specs.declared.packets.Packet.{Packet}
-use Rattle.c104_token.specs.declared.tokens.Token.{Token}
-use Rattle.c104_token.specs.declared.tokens.Token.TheVariants.{Byte}
-use Rattle.c104_node.specs.Terminals.{sent_from, sent_tokens, terminal_send, Terminal}
-use Rattle.c104_node.specs.Outboxes.{packet_of, posted_tokens, taken_of, waiting_from, waiting_taken, IsOutbox, IsPlace, TerminalPacket}
 
 -- a list from a place on begins with the element there
 pub drop_there : {X : Type 0} (xs : List X) (k : ℕ) (x : X) → slice_get xs k ≡ Some x → drop k xs ≡ x ∷ drop (suc k) xs

@@ -1,12 +1,9 @@
 -- A step that the proofs written by hand of `src/history.rt` share: a struct without fields is made. Assumes `Logic`.
-use Rattle.std.proofs.Common.{List, [], ◌∷◌, refl}
+use Rattle.std.proofs.Common.{List, [], refl, ◌∷◌}
+use denote.{RattleType.{RattleType, Valss}, Steps.nothing, Struct.Struct.{Struct, within}}
+use mir.Val.{Val, vnil, vstruct}
 use seplogic.Ra.Ura.{Ura}
-use mir.Val.{Val, vstruct, vnil}
-use types.Logic.{Logic}
-use types.Kit.{Goal, Step, step, Item, ‵, ◌$◌, fjoin, fpack, feq_i}
-use denote.RattleType.{RattleType, Valss}
-use denote.Steps.{nothing}
-use denote.Struct.Struct.{Struct, within}
+use types.{Kit.{Goal, Item, Step, feq_i, fjoin, fpack, step, ‵, ◌$◌}, Logic.Logic}
 
 abbrev pub none : Val
 none = vstruct vnil

@@ -1,5 +1,5 @@
 -- The element at a place of a list in which one was changed.
-use Rattle.std.proofs.Common.{◌≡◌, ◌≢◌, ℕ, zero, suc, List, [], ◌∷◌, Some, slice_get, slice_set, refl, ap}
+use Rattle.std.proofs.Common.{List, Some, [], ap, refl, slice_get, slice_set, suc, zero, ℕ, ◌∷◌, ◌≡◌, ◌≢◌}
 
 -- the element at a place that was changed
 pub get_set_same : {X : Type 0} (xs : List X) (i : ℕ) (x y : X) → slice_get xs i ≡ Some x → slice_get (slice_set xs i y) i ≡ Some y

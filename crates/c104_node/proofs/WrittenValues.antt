@@ -1,10 +1,8 @@
 -- The values of writable registers so far, by address.
-use Rattle.std.proofs.Common.{◌≡◌, ◌∙◌, ◌++◌, ◌+◌, ℕ, List, [], ◌∷◌, Option, ap, append_assoc, sym}
-use Rattle.std.proofs.lemmas.List.Elements.{filter_map-append}
-use Rattle.std.specs.List.{cons_option, filter_map, range_with_len}
-use Rattle.c104_node.specs.StartNumbers.{written_value, written_values}
-use Rattle.c104_node.proofs.Ranges.{range_more}
-use Rattle.c104_regs.specs.declared.settings.Settings.{Settings}
+use Rattle.c104_node.{proofs.Ranges.range_more, specs.StartNumbers.{written_value, written_values}}
+use Rattle.{c104_regs.specs.declared.settings.Settings.Settings, std.proofs.Common.{List, Option, [], ap, append_assoc, sym, ℕ, ◌++◌, ◌+◌}}
+use Rattle.std.{proofs.{Common.{◌∙◌, ◌∷◌, ◌≡◌}, lemmas.List.Elements.filter_map-append}, specs.List.{cons_option, filter_map}}
+use Rattle.std.specs.List.{range_with_len}
 
 module _ (settings : List Settings) where
   abbrev pub so_far : ℕ → List ℕ

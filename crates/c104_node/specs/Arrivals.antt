@@ -1,7 +1,7 @@
 -- What arrived at a terminal, as its bytes, and the tokens that are more than a byte, each with its place.
-use Rattle.std.specs.Prelude.{ℕ, suc, ◌≡◌, ◌<◌, List, [], ◌∷◌, Option, Some, None, length, map, slice_set}
-use Rattle.c104_token.specs.Kinds.{Kind, byte_token}
 pub use Rattle.c104_node.specs.declared.terminal.arrived.OtherOf.{OtherOf}
+use Rattle.c104_token.specs.Kinds.{Kind, byte_token}
+use Rattle.std.specs.Prelude.{List, None, Option, Some, [], length, map, slice_set, suc, ℕ, ◌<◌, ◌∷◌, ◌≡◌}
 
 module _ {A : Type 0} where
   -- a list in which each of these has taken its place

@@ -1,11 +1,7 @@
 -- A node over other tokens: each token is mapped, and all else stays.
+use Rattle.{c104_link.specs.Buffers.{Incoming, Outgoing}, c104_node.specs.{Nodes.Node, Terminals.Terminal, declared.node.NodeOf.NodeOf}}
+use Rattle.c104_switch.specs.{Phases.with_header, Switch.{Input, Switch}}
 use Rattle.std.specs.Prelude.{map}
-use Rattle.c104_link.specs.Buffers.{Incoming, Outgoing}
-use Rattle.c104_switch.specs.Phases.{with_header}
-use Rattle.c104_switch.specs.Switch.{Input, Switch}
-use Rattle.c104_node.specs.declared.node.NodeOf.TheVariants as node
-use Rattle.c104_node.specs.Terminals.{Terminal}
-use Rattle.c104_node.specs.Nodes.{Node}
 
 -- the same over other tokens: each token is mapped, and all else stays
 module _ {A B : Type 0} (f : A → B) where
@@ -40,5 +36,5 @@ module _ {A B : Type 0} (f : A → B) where
   }
 
   abbrev pub map_node : Node A → Node B
-  map_node (node.Switch s) = node.Switch (map_switch s)
-  map_node (node.Terminal t) = node.Terminal (map_terminal t)
+  map_node (NodeOf.Switch s) = NodeOf.Switch (map_switch s)
+  map_node (NodeOf.Terminal t) = NodeOf.Terminal (map_terminal t)

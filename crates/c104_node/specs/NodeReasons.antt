@@ -1,11 +1,8 @@
 -- Why a node isn't ready for an act: the first of its conditions that doesn't hold. None is ready.
-use Rattle.std.specs.Prelude.{ℕ, Option, Some}
-use Rattle.c104_switch.specs.declared.unready.Unready.{Unready}
-use Rattle.c104_switch.specs.declared.unready.Unready.TheVariants.{NoLink}
+use Rattle.{c104_node.specs.{Nodes.Node, declared.node.NodeOf.TheVariants.{Switch, Terminal}}, c104_switch.specs.Reasons.accept_why}
+use Rattle.c104_switch.specs.{Reasons.{credited_why, emit_why, grant_why, take_why}, declared.unready.Unready.{TheVariants.NoLink, Unready}}
+use Rattle.std.specs.Prelude.{Option, Some, ℕ}
 use Rattle.c104_switch.specs.Reasons as switch
-use Rattle.c104_switch.specs.Reasons.{accept_why, take_why, grant_why, emit_why, credited_why}
-use Rattle.c104_node.specs.declared.node.NodeOf.TheVariants.{Switch, Terminal}
-use Rattle.c104_node.specs.Nodes.{Node}
 
 -- why a token doesn't come in over a link's wire
 abbrev pub node_enter_why : {A : Type 0} → ℕ → Node A → Option Unready

@@ -1,18 +1,14 @@
 -- The nodes of a network, switches and terminals, and what each does in an event. A terminal has one
 -- link, whatever its number. None is not ready.
-use Rattle.std.specs.Prelude.{ℕ, List, [], length, slice_get, Option, Some, None, Result, Ok, Err, Bool, true, false, ◌∷◌}
+use Rattle.{c104_link.specs.Steps.◌>>=◌, c104_node.specs.declared.node.NodeOf.{NodeOf, TheVariants.{Switch, Terminal}}}
+use Rattle.{c104_regs.specs.declared.faults.RegFault.RegFault, c104_switch.specs.Peeks.switch_peek, c104_token.specs.Kinds.Kind}
 use Rattle.c104_token.specs.declared.packets.Packet.{Packet}
-use Rattle.c104_token.specs.Kinds.{Kind}
-use Rattle.c104_link.specs.Steps.{◌>>=◌}
-use Rattle.c104_switch.specs.Switch as switch
-use Rattle.c104_switch.specs.Turns as turns
+use Rattle.std.specs.Prelude.{Bool, Err, List, None, Ok, Option, Result, Some, [], false, length, slice_get, true, ℕ, ◌∷◌}
+use Rattle.c104_node.specs.Terminals as terminal
 use Rattle.c104_switch.specs.Claims as claims
 use Rattle.c104_switch.specs.Control as controls
-use Rattle.c104_switch.specs.Peeks.{switch_peek}
-use Rattle.c104_regs.specs.declared.faults.RegFault.{RegFault}
-use Rattle.c104_node.specs.Terminals as terminal
-use Rattle.c104_node.specs.declared.node.NodeOf.{NodeOf}
-use Rattle.c104_node.specs.declared.node.NodeOf.TheVariants.{Switch, Terminal}
+use Rattle.c104_switch.specs.Switch as switch
+use Rattle.c104_switch.specs.Turns as turns
 
 -- a node is a switch or a terminal
 abbrev pub Node : Type 0 → Type 0

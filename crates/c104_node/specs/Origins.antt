@@ -1,9 +1,7 @@
 -- Origins: which packet each terminator among tokens ended.
-use Rattle.std.specs.Prelude.{◌≡◌, ℕ, Bool, true, false, List, flat_map, slice_get, Option, Some, None}
-use Rattle.std.specs.Option.{option_to_list}
-use Rattle.c104_token.specs.Tokens.{is_end}
-use Rattle.c104_node.specs.Traced.{Source, Traced}
 pub use Rattle.c104_node.specs.declared.origins.Origin.{Origin}
+use Rattle.{c104_node.specs.Traced.{Source, Traced}, c104_token.specs.Tokens.is_end}
+use Rattle.std.specs.{Option.option_to_list, Prelude.{Bool, List, None, Option, Some, false, flat_map, slice_get, true, ℕ, ◌≡◌}}
 
 -- the packet that a token of this source belongs to, if the token is a terminator and has a source
 abbrev pub origin_by : Bool → Option Source → Option Origin

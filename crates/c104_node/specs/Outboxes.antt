@@ -1,9 +1,7 @@
 -- What waits to go out of a terminal, as a place in what it sent.
-use Rattle.std.specs.Prelude.{ℕ, suc, ◌≡◌, ◌≤◌, ◌++◌, List, [], ◌∷◌, Option, Some, None, drop, length, slice_get}
-use Rattle.c104_token.specs.Kinds.{Kind}
-use Rattle.c104_token.specs.declared.packets.Packet.{Packet}
-use Rattle.c104_node.specs.Terminals.{sent_tokens, Terminal}
 pub use Rattle.c104_node.specs.declared.terminal.TerminalPacket.{TerminalPacket}
+use Rattle.{c104_node.specs.Terminals.{Terminal, sent_tokens}, c104_token.specs.{Kinds.Kind, declared.packets.Packet.Packet}}
+use Rattle.std.specs.Prelude.{List, None, Option, Some, [], drop, length, slice_get, suc, ℕ, ◌++◌, ◌∷◌, ◌≡◌, ◌≤◌}
 
 module _ {A : Type 0} (kind : Kind A) where
   -- all tokens of packets, the first of which has this number

@@ -2,19 +2,13 @@
 --     HasActed kind keeps number stamp act old reply new      one place, after an act that was answered so
 --     HasTried ..     the same of an act that may not have been ready
 --     AreDone ..      all places, after acts that were answered so; AloneDone and JointDone say it of one act and of two
-use Rattle.std.specs.Prelude.{ℕ, ◌≡◌, ◌||◌, Bool, true, false, List, Option, Some, None, Result, Ok, Err, if◌then◌else◌, is_some, slice_get, unwrap_or}
-use Rattle.c104_token.specs.Kinds.{Kind}
-use Rattle.c104_switch.specs.Actions.{is_ready}
-use Rattle.c104_switch.specs.declared.actions.ReplyOf.{ReplyOf}
-use Rattle.c104_event.specs.declared.faults.EventFault.{EventFault}
-use Rattle.c104_node.specs.declared.acts.ActOf.{ActOf}
-use Rattle.c104_node.specs.declared.crossings.Joint.{Joint}
-use Rattle.c104_node.specs.declared.stamps.Stamp.{Stamp}
-use Rattle.c104_node.specs.Acts.{node_act, nodes_act, plain_reply, reply_outcome, wants_memory}
-use Rattle.c104_node.specs.PortActs.{act_limit, joint_step}
-use Rattle.c104_node.specs.Nodes.{Node}
-use Rattle.c104_node.specs.Places.{Shown, fulls, bases, room_fault, states, traces}
-use Rattle.c104_node.specs.Traces.{Deed, full_at, joint_deeds, kept_entry, kept_of, lone_deed, noted, noted_all, noted_at, plain_act}
+use Rattle.{c104_event.specs.declared.faults.EventFault.EventFault, c104_node.specs.Acts.{node_act, nodes_act, plain_reply, reply_outcome}}
+use Rattle.c104_node.specs.{Acts.wants_memory, Nodes.Node, Places.{Shown, bases, fulls, room_fault, states, traces}, PortActs.act_limit}
+use Rattle.c104_node.specs.{PortActs.joint_step, Traces.{Deed, full_at, joint_deeds, kept_entry, kept_of, lone_deed, noted, noted_all}}
+use Rattle.c104_node.specs.{Traces.{noted_at, plain_act}, declared.{acts.ActOf.ActOf, crossings.Joint.Joint, stamps.Stamp.Stamp}}
+use Rattle.{c104_switch.specs.{Actions.is_ready, declared.actions.ReplyOf.ReplyOf}, c104_token.specs.Kinds.Kind}
+use Rattle.std.specs.Prelude.{Bool, Err, List, None, Ok, Option, Result, Some, false, if◌then◌else◌, is_some, slice_get, true, unwrap_or, ℕ}
+use Rattle.std.specs.Prelude.{◌||◌, ◌≡◌}
 
 -- how acts end: they are answered as is due, and no limit and no full trace was in the way where they are ready; or they
 -- are ready and refused, by a limit, a full trace or where memory is short, and nothing changed

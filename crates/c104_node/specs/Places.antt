@@ -1,11 +1,7 @@
 -- Places of nodes: a node, and whatever is kept beside it; what is shown of it, and room for what is kept.
-use Rattle.std.specs.Prelude.{ℕ, ◌≡◌, ◌&&◌, Bool, true, false, List, [], Option, Some, None, map, slice_get}
-use Rattle.c104_event.specs.declared.faults.EventFault.{EventFault}
-use Rattle.c104_event.specs.declared.faults.EventFault.TheVariants as fault
-use Rattle.c104_node.specs.declared.acts.Entry.{Entry}
-use Rattle.c104_node.specs.declared.starts.NodeStart.{NodeStart}
-use Rattle.c104_node.specs.Nodes.{Node}
-use Rattle.c104_node.specs.Traces.{is_trace_full}
+use Rattle.{c104_event.specs.declared.faults.EventFault.EventFault, c104_node.specs.{Nodes.Node, Traces.is_trace_full}}
+use Rattle.c104_node.specs.declared.{acts.Entry.Entry, starts.NodeStart.NodeStart}
+use Rattle.std.specs.Prelude.{Bool, List, None, Option, Some, [], false, map, slice_get, true, ℕ, ◌&&◌, ◌≡◌}
 
 -- what no act changes of a place: where its node started, if that is kept, and which of its links have wires, if that is
 pub record PlaceBase : Type 0 where
@@ -59,8 +55,8 @@ IsFullByTrace keeps s = s.full ≡ is_kept_full keeps s.trace
 -- what refuses acts that would be done, of which nothing can be kept: a trace that would grow is full, or else memory
 -- has run out
 abbrev pub room_fault : Bool → EventFault
-room_fault true = fault.TraceFull
-room_fault false = fault.NoMemory
+room_fault true = EventFault.TraceFull
+room_fault false = EventFault.NoMemory
 
 -- there is room at a place of a list
 abbrev pub HasRoomAt : {P : Type 0} → (P → Type 0) → List P → ℕ → Type 0

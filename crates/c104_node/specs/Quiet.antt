@@ -1,13 +1,8 @@
 -- Quiet networks: no token stands anywhere, and no packet is under way.
-use Rattle.std.specs.Prelude.{◌≡◌, ◌&&◌, Bool, true, false, [], All, Option, Some, None, nat_eq}
-use Rattle.c104_link.specs.Buffers.{Outgoing}
-use Rattle.c104_switch.specs.Switch.{Input, Switch}
-use Rattle.c104_switch.specs.declared.phase.Phase.{Phase}
-use Rattle.c104_switch.specs.declared.phase.Phase.TheVariants.{Fresh, Head, Want, Stream, Sinking}
-use Rattle.c104_switch.specs.declared.actions.LinkView.{LinkView}
-use Rattle.c104_node.specs.declared.node.NodeOf.TheVariants as node
-use Rattle.c104_node.specs.Nodes.{Node}
-use Rattle.c104_node.specs.Terminals.{terminal_begin}
+use Rattle.{c104_link.specs.Buffers.Outgoing, c104_node.specs.{Nodes.Node, Terminals.terminal_begin, declared.node.NodeOf.NodeOf}}
+use Rattle.c104_switch.specs.{Switch.{Input, Switch}, declared.{actions.LinkView.LinkView, phase.Phase.{Phase, TheVariants.{Fresh, Head}}}}
+use Rattle.c104_switch.specs.declared.phase.Phase.TheVariants.{Sinking, Stream, Want}
+use Rattle.std.specs.Prelude.{All, Bool, None, Option, Some, [], false, nat_eq, true, ◌&&◌, ◌≡◌}
 
 -- no token stands at an input, and it waits for a packet
 abbrev pub IsQuietInput : {A : Type 0} → Input A → Type 0
@@ -23,8 +18,8 @@ IsQuietSwitch s = All IsQuietInput s.inputs × All IsQuietOutput s.outputs
 
 -- the same of a node; a terminal holds the tokens that came in and those that wait to go out
 abbrev pub IsQuietNode : {A : Type 0} → Node A → Type 0
-IsQuietNode (node.Switch s) = IsQuietSwitch s
-IsQuietNode (node.Terminal t) = (t.input.items ≡ []) × (t.output.items ≡ [])
+IsQuietNode (NodeOf.Switch s) = IsQuietSwitch s
+IsQuietNode (NodeOf.Terminal t) = (t.input.items ≡ []) × (t.output.items ≡ [])
 
 -- whether an input waits for a packet
 abbrev pub is_fresh : {H : Type 0} → Phase H → Bool
@@ -41,5 +36,5 @@ is_quiet_view (Some v) = nat_eq v.input_level 0 && (nat_eq v.output_level 0 && i
 
 -- a terminal that forgets what it sent and what arrived; a switch has nothing to forget
 abbrev pub node_begin : {A : Type 0} → Node A → Node A
-node_begin (node.Switch s) = node.Switch s
-node_begin (node.Terminal t) = node.Terminal (terminal_begin t)
+node_begin (NodeOf.Switch s) = NodeOf.Switch s
+node_begin (NodeOf.Terminal t) = NodeOf.Terminal (terminal_begin t)

@@ -1,31 +1,14 @@
 -- A node with its record: the size of its buffers, its wired links, where it started, and the entries of what it did
 -- since. Its type keeps that these are a run from its start to its state, over wired links alone and within all limits.
-use Rattle.std.specs.Prelude.{ℕ, ◌≡◌, ◌≤◌, ◌<◌, ◌++◌, ◌&&◌, All, Bool, true, false, List, [], ◌∷◌, Option, Some, None, if◌then◌else◌}
-use Rattle.std.specs.Prelude.{length, nat_lt}
-use Rattle.c104_crossbar.specs.Groups.{has_bit}
-use Rattle.c104_regs.specs.declared.registers.TheConstants.{LINKS}
-use Rattle.c104_token.specs.Kinds.{plain_kind}
-use Rattle.c104_token.specs.declared.tokens.Token.{Token}
-use Rattle.c104_link.specs.Steps.{◌>>=◌}
-use Rattle.c104_switch.specs.Actions.{Reply}
-use Rattle.c104_switch.specs.declared.link_start.LinkStart.{LinkStart}
-use Rattle.c104_event.specs.declared.faults.EventFault.{EventFault}
-use Rattle.c104_event.specs.declared.faults.EventFault.TheVariants as fault
-use Rattle.c104_node.specs.declared.acts.ActOf.{ActOf}
-use Rattle.c104_node.specs.declared.acts.Entry.{Entry}
-use Rattle.c104_node.specs.declared.crossings.Joint.{Joint}
-use Rattle.c104_node.specs.declared.stamps.Stamp.{Stamp}
-use Rattle.c104_node.specs.declared.starts.NodeStart.{NodeStart}
-use Rattle.c104_node.specs.declared.starts.NodeStart.TheVariants as start
-use Rattle.c104_node.specs.ActLinks.{on_links}
-use Rattle.c104_node.specs.Acts.{IsWithinLimits, node_act}
-use Rattle.c104_node.specs.PortActs.{act_limit, far_act, near_act}
-use Rattle.c104_node.specs.Nodes.{Node}
-use Rattle.c104_node.specs.Places.{Shown}
-use Rattle.c104_node.specs.SpareRooms.{IsEnough, SpareRoom}
-use Rattle.c104_node.specs.Starts.{start_node}
-use Rattle.c104_node.specs.Traces.{entry_of, is_trace_full, trace_limit}
-use Rattle.c104_node.specs.Views.{node_next_token}
+use Rattle.{c104_crossbar.specs.Groups.has_bit, c104_event.specs.declared.faults.EventFault.EventFault, c104_link.specs.Steps.◌>>=◌}
+use Rattle.c104_node.specs.{ActLinks.on_links, Acts.{IsWithinLimits, node_act}, Nodes.Node, Places.Shown, PortActs.{act_limit, far_act}}
+use Rattle.c104_node.specs.{PortActs.near_act, SpareRooms.{IsEnough, SpareRoom}, Starts.start_node, Traces.{entry_of, is_trace_full}}
+use Rattle.c104_node.specs.{Traces.trace_limit, Views.node_next_token, declared.{acts.{ActOf.ActOf, Entry.Entry}, crossings.Joint.Joint}}
+use Rattle.c104_node.specs.declared.{stamps.Stamp.Stamp, starts.NodeStart.NodeStart}
+use Rattle.{c104_regs.specs.declared.registers.TheConstants.LINKS, c104_switch.specs.Actions.Reply}
+use Rattle.{c104_switch.specs.declared.link_start.LinkStart.LinkStart, c104_token.specs.{Kinds.plain_kind, declared.tokens.Token.Token}}
+use Rattle.std.specs.Prelude.{All, Bool, List, None, Option, Some, [], false, if◌then◌else◌, length, nat_lt, true, ℕ, ◌&&◌, ◌++◌, ◌<◌, ◌∷◌}
+use Rattle.std.specs.Prelude.{◌≡◌, ◌≤◌}
 
 -- a node as it is seen: the size of its buffers, the set of its wired links (a terminal's one link is 0), its state,
 -- where it started, and what it did since
@@ -58,8 +41,8 @@ IsNodeRun wired from (e ∷ entries) to =
 
 -- the buffers of a node that starts so are of this size
 abbrev pub HasCap : ℕ → NodeStart → Type 0
-HasCap cap (start.Switch s) = All (λ (l : LinkStart). l.cap ≡ cap) s.links
-HasCap cap (start.Terminal t) = t.cap ≡ cap
+HasCap cap (NodeStart.Switch s) = All (λ (l : LinkStart). l.cap ≡ cap) s.links
+HasCap cap (NodeStart.Terminal t) = t.cap ≡ cap
 
 -- what the type of a node keeps
 pub record IsRecorded (n : NodeRecord) : Type 0 where
@@ -82,7 +65,7 @@ is_full n = is_trace_full n.trace
 -- a fault of a list, or that the trace is full, if either is
 abbrev pub fault_first : Option EventFault → Bool → Option EventFault
 fault_first (Some f) full = Some f
-fault_first None true = Some fault.TraceFull
+fault_first None true = Some EventFault.TraceFull
 fault_first None false = None
 
 -- why a node can't do an act that it is ready for: a list of a terminal, or its trace, would pass its limit

@@ -1,12 +1,7 @@
 -- Memory that is set aside for a node's next act.
-use Rattle.std.specs.Prelude.{ℕ, ◌≡◌, ◌<◌, Option, Some, length}
-use Rattle.c104_token.specs.Kinds.{Kind}
+use Rattle.{c104_node.specs.{Arrivals.others_in, Nodes.Node, declared.{acts.ActOf.ActOf, node.NodeOf.NodeOf}}, c104_token.specs.Kinds.Kind}
 use Rattle.c104_token.specs.declared.packets.Packet.{Packet}
-use Rattle.c104_node.specs.Arrivals.{others_in}
-use Rattle.c104_node.specs.declared.acts.ActOf.{ActOf}
-use Rattle.c104_node.specs.declared.acts.ActOf.TheVariants as act
-use Rattle.c104_node.specs.declared.node.NodeOf.TheVariants as node
-use Rattle.c104_node.specs.Nodes.{Node}
+use Rattle.std.specs.Prelude.{Option, Some, length, ℕ, ◌<◌, ◌≡◌}
 
 -- what is set aside: a copy of a packet, and for how many packets, tokens, and tokens that are more than a byte the spare
 -- lists have room
@@ -19,19 +14,19 @@ pub record SpareRoom : Type 0 where
 module _ {A : Type 0} (kind : Kind A) (room : SpareRoom) where
   -- it is enough for a node to send a packet, or for a token to arrive there; a switch does neither
   abbrev pub IsEnoughToSend : Node A → Packet → Type 0
-  IsEnoughToSend (node.Switch s) packet = Unit {0}
-  IsEnoughToSend (node.Terminal t) packet = (room.copy ≡ Some packet) × (length t.sent < room.sent)
+  IsEnoughToSend (NodeOf.Switch s) packet = Unit {0}
+  IsEnoughToSend (NodeOf.Terminal t) packet = (room.copy ≡ Some packet) × (length t.sent < room.sent)
 
   abbrev pub IsEnoughToDrain : Node A → Type 0
-  IsEnoughToDrain (node.Switch s) = Unit {0}
-  IsEnoughToDrain (node.Terminal t) = (length t.arrived < room.arrived) × (others_in kind t.arrived < room.others)
+  IsEnoughToDrain (NodeOf.Switch s) = Unit {0}
+  IsEnoughToDrain (NodeOf.Terminal t) = (length t.arrived < room.arrived) × (others_in kind t.arrived < room.others)
 
   -- the same of an act; no other act wants memory
   abbrev pub IsEnough : Node A → ActOf A → Type 0
-  IsEnough n (act.Step a) = Unit {0}
-  IsEnough n (act.Send packet) = IsEnoughToSend n packet
-  IsEnough n act.Drain = IsEnoughToDrain n
-  IsEnough n act.Leave = Unit {0}
-  IsEnough n (act.Enter x) = Unit {0}
-  IsEnough n act.CreditOut = Unit {0}
-  IsEnough n act.CreditIn = Unit {0}
+  IsEnough n (ActOf.Step a) = Unit {0}
+  IsEnough n (ActOf.Send packet) = IsEnoughToSend n packet
+  IsEnough n ActOf.Drain = IsEnoughToDrain n
+  IsEnough n ActOf.Leave = Unit {0}
+  IsEnough n (ActOf.Enter x) = Unit {0}
+  IsEnough n ActOf.CreditOut = Unit {0}
+  IsEnough n ActOf.CreditIn = Unit {0}

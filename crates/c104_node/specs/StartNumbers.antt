@@ -1,16 +1,10 @@
 -- Where a node starts, as a list of numbers.
-use Rattle.std.specs.Prelude.{ℕ, ◌++◌, List, [], ◌∷◌, Option, Some, None, if◌then◌else◌, slice_index_or}
-use Rattle.std.specs.List.{filter_map, flat_map, range_with_len}
-use Rattle.c104_regs.specs.declared.addresses.Address.TheVariants.{AtLink, DeviceId, Started}
-use Rattle.c104_regs.specs.declared.addresses.Address.{Address}
-use Rattle.c104_regs.specs.Addresses.{address_of, register_properties}
-use Rattle.c104_regs.specs.KeptValues.{address_end}
-use Rattle.c104_regs.specs.declared.settings.Settings.{Settings}
-use Rattle.c104_regs.specs.Settings.{reset_settings}
-use Rattle.c104_regs.specs.Values.{bit_value, register_read, reset_status}
+use Rattle.{c104_node.specs.declared.starts.NodeStart.NodeStart, c104_regs.specs.Addresses.{address_of, register_properties}}
+use Rattle.c104_regs.specs.{KeptValues.address_end, Settings.reset_settings, Values.{bit_value, register_read, reset_status}}
+use Rattle.c104_regs.specs.declared.{addresses.Address.{Address, TheVariants.{AtLink, DeviceId, Started}}, settings.Settings.Settings}
 use Rattle.c104_switch.specs.declared.link_start.LinkStart.{LinkStart}
-use Rattle.c104_node.specs.declared.starts.NodeStart.{NodeStart}
-use Rattle.c104_node.specs.declared.starts.NodeStart.TheVariants as start
+use Rattle.std.specs.{List.{filter_map, flat_map, range_with_len}, Prelude.{List, None, Option, Some, [], if◌then◌else◌, slice_index_or, ℕ}}
+use Rattle.std.specs.Prelude.{◌++◌, ◌∷◌}
 
 -- what a switch with these settings reads at an address, where it can be written
 abbrev pub written_value : List Settings → ℕ → Option ℕ
@@ -36,5 +30,5 @@ link_start_numbers l = l.sunk ∷ l.short ∷ l.credit ∷ l.granted ∷ []
 -- of a switch whether it is started, its writable registers by address, and the numbers of each link; of a terminal how
 -- many tokens may go out, and how many the other end may send
 abbrev pub start_numbers : NodeStart → List ℕ
-start_numbers (start.Switch s) = bit_value s.started 1 ∷ written_values s.settings ++ flat_map link_start_numbers s.links
-start_numbers (start.Terminal t) = t.credit ∷ t.granted ∷ []
+start_numbers (NodeStart.Switch s) = bit_value s.started 1 ∷ written_values s.settings ++ flat_map link_start_numbers s.links
+start_numbers (NodeStart.Terminal t) = t.credit ∷ t.granted ∷ []

@@ -1,12 +1,9 @@
 -- Tagged tokens: a terminator tells its packet, in few bytes, since numbers are kept by their remainders; any other token
 -- tells nothing.
-use Rattle.std.specs.Prelude.{ℕ, ◌%◌, ◌==◌, ◌&&◌, Bool, true, false, List, Option, Some, None, flat_map, if◌then◌else◌}
-use Rattle.std.specs.Option.{option_to_list}
-use Rattle.c104_token.specs.Kinds.{Kind, plain_byte}
-use Rattle.c104_token.specs.Tokens.{is_end}
+use Rattle.{c104_node.specs.{Origins.Origin, Traced.{Source, Traced}}, c104_token.specs.{Kinds.{Kind, plain_byte}, Tokens.is_end}}
 use Rattle.c104_token.specs.declared.tokens.Token.{Token}
-use Rattle.c104_node.specs.Origins.{Origin}
-use Rattle.c104_node.specs.Traced.{Source, Traced}
+use Rattle.std.specs.{Option.option_to_list, Prelude.{Bool, List, None, Option, Some, false, flat_map, if◌then◌else◌, true, ℕ, ◌%◌, ◌&&◌}}
+use Rattle.std.specs.Prelude.{◌==◌}
 
 -- a token, and where it is a terminator, the terminal that sent its packet and the packet's number there; 0 and 0 where
 -- it is none, or of a random header

@@ -1,23 +1,20 @@
 -- A tagged token in one word: the token in bits 0 to 15, the terminal in bits 16 to 31, the packet's number above them.
 --     word_of_tagged x     the word of a tagged token
 --     tagged_of_word w     the tagged token of a word
-use Rattle.std.specs.Prelude.{ℕ, ◌≡◌, ◌+◌, ◌*◌, ◌/◌, ◌%◌, ◌≤◌, ◌==◌, Bool, true, false, if◌then◌else◌, nat_lt, refl}
-use Rattle.std.proofs.Common.{arith}
-use Rattle.std.proofs.lemmas.Bool.Decides.{nat_tests}
+use Rattle.c104_node.specs.{Tagged.TaggedToken, declared.tagged.TaggedToken.TheInside.Inside}
 use Rattle.c104_token.specs.declared.tokens.Token.{Token}
-use Rattle.c104_token.specs.declared.tokens.Token.TheVariants as token
-use Rattle.c104_node.specs.declared.tagged.TaggedToken.TheInside.{Inside}
-use Rattle.c104_node.specs.Tagged.{TaggedToken}
+use Rattle.std.{proofs.{Common.arith, lemmas.Bool.Decides.nat_tests}, specs.Prelude.{Bool, false, if◌then◌else◌, nat_lt, refl, true, ℕ}}
+use Rattle.std.specs.Prelude.{◌%◌, ◌*◌, ◌+◌, ◌/◌, ◌==◌, ◌≡◌, ◌≤◌}
 
 -- the number of a token: that of its byte, or one above those
 abbrev pub code_of : Token → ℕ
-code_of (token.Byte b) = b
-code_of token.Eop = 256
-code_of token.Eom = 257
+code_of (Token.Byte b) = b
+code_of Token.Eop = 256
+code_of Token.Eom = 257
 
 -- the token of such a number
 abbrev pub token_of_code : ℕ → Token
-token_of_code c = if nat_lt c 256 then token.Byte c else if c == 256 then token.Eop else token.Eom
+token_of_code c = if nat_lt c 256 then Token.Byte c else if c == 256 then Token.Eop else Token.Eom
 
 abbrev pub word_of_tagged : TaggedToken → Inside
 word_of_tagged x = record { word = code_of x.token + 65536 * (x.terminal + 65536 * x.number) }
@@ -36,11 +33,11 @@ IsTaggedWord w = w.word % 65536 ≤ 257
 code_back : (c : ℕ) → c ≤ 257 → code_of (token_of_code c) ≡ c
 code_back c most = by_byte (nat_lt c 256) refl
   where
-    by_eop : (b : Bool) → (c == 256) ≡ b → nat_lt c 256 ≡ false → code_of (if b then token.Eop else token.Eom) ≡ c
+    by_eop : (b : Bool) → (c == 256) ≡ b → nat_lt c 256 ≡ false → code_of (if b then Token.Eop else Token.Eom) ≡ c
     by_eop true is above = grind (arith, nat_tests)
     by_eop false is above = grind (arith, nat_tests)
 
-    by_byte : (b : Bool) → nat_lt c 256 ≡ b → code_of (if b then token.Byte c else if c == 256 then token.Eop else token.Eom) ≡ c
+    by_byte : (b : Bool) → nat_lt c 256 ≡ b → code_of (if b then Token.Byte c else if c == 256 then Token.Eop else Token.Eom) ≡ c
     by_byte true is = refl
     by_byte false is = by_eop (c == 256) refl is
 

@@ -1,9 +1,8 @@
 -- Where terminals start: what is granted and credited where no token waits, as plain data, which is a
 -- terminal over any kind of token.
-use Rattle.std.specs.Prelude.{ℕ, ◌≤◌, []}
-use Rattle.c104_link.specs.Buffers.{start_incoming, start_outgoing, IsValidCap}
-use Rattle.c104_link.specs.declared.outgoing.TheConstants.{CREDIT_LIMIT}
+use Rattle.c104_link.specs.{Buffers.{IsValidCap, start_incoming, start_outgoing}, declared.outgoing.TheConstants.CREDIT_LIMIT}
 use Rattle.c104_node.specs.Terminals.{Terminal}
+use Rattle.std.specs.Prelude.{[], ℕ, ◌≤◌}
 
 -- a terminal where no token waits, and which has sent and received nothing: for how many tokens its input
 -- buffer has room, how many of them are granted, and how many tokens may go out

@@ -1,12 +1,8 @@
 -- A terminal: what it has sent and what arrived, and the two ends of its wire. A terminal needs no start.
-use Rattle.std.specs.Prelude.{ℕ, suc, List, [], ◌∷◌, ◌++◌, length, Option, Some, slice_get}
-use Rattle.c104_token.specs.declared.tokens.Token.{Token}
-use Rattle.c104_token.specs.declared.packets.Packet.{Packet}
-use Rattle.c104_token.specs.Kinds.{Kind}
-use Rattle.c104_token.specs.Packets.{packet_tokens}
-use Rattle.c104_link.specs.Steps.{◌>>=◌}
+use Rattle.c104_link.specs.{Buffers.{Incoming, Outgoing, empty_incoming, empty_outgoing, without_first}, Steps.◌>>=◌}
+use Rattle.c104_token.specs.{Kinds.Kind, Packets.packet_tokens, declared.{packets.Packet.Packet, tokens.Token.Token}}
+use Rattle.std.specs.Prelude.{List, Option, Some, [], length, slice_get, suc, ℕ, ◌++◌, ◌∷◌}
 use Rattle.c104_link.specs.Buffers as buffer
-use Rattle.c104_link.specs.Buffers.{Incoming, Outgoing, without_first, empty_incoming, empty_outgoing}
 
 -- a terminal: the two sides of its one link, what it sent, and what arrived
 pub record Terminal (A : Type 0) : Type 0 where

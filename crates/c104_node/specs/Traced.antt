@@ -1,9 +1,7 @@
 -- Tokens that tell where they came from.
-use Rattle.std.specs.Prelude.{ℕ, Option, Some, None}
-use Rattle.c104_token.specs.Kinds.{Kind, plain_byte}
-use Rattle.c104_token.specs.declared.tokens.Token.{Token}
-pub use Rattle.c104_node.specs.declared.traced.Source.{Source}
-pub use Rattle.c104_node.specs.declared.traced.Traced.{Traced}
+pub use Rattle.c104_node.specs.declared.traced.{Source.Source, Traced.Traced}
+use Rattle.c104_token.specs.{Kinds.{Kind, plain_byte}, declared.tokens.Token.Token}
+use Rattle.std.specs.Prelude.{None, Option, Some, ℕ}
 
 -- the token at a place of a packet of a terminal, which has this number among those that were sent there
 abbrev pub sent_token : ℕ → ℕ → ℕ → Token → Traced

@@ -1,15 +1,8 @@
 -- A node of tagged tokens with its record.
-use Rattle.std.specs.Prelude.{ℕ, ◌≡◌, ◌≤◌, All, List, [], length}
-use Rattle.c104_token.specs.declared.tokens.Token.{Token}
-use Rattle.c104_node.specs.declared.acts.Entry.{Entry}
-use Rattle.c104_node.specs.declared.starts.NodeStart.{NodeStart}
-use Rattle.c104_node.specs.Acts.{IsWithinLimits}
-use Rattle.c104_node.specs.Nodes.{Node}
-use Rattle.c104_node.specs.Places.{Shown, started_base}
-use Rattle.c104_node.specs.Starts.{start_of}
-use Rattle.c104_node.specs.Tagged.{TaggedToken}
-use Rattle.c104_node.specs.MappedNodes.{map_node}
-use Rattle.c104_node.specs.Traces.{is_trace_full, trace_limit}
+use Rattle.c104_node.specs.{Acts.IsWithinLimits, MappedNodes.map_node, Nodes.Node, Places.{Shown, started_base}, Starts.start_of}
+use Rattle.c104_node.specs.{Tagged.TaggedToken, Traces.{is_trace_full, trace_limit}, declared.acts.Entry.Entry}
+use Rattle.{c104_node.specs.declared.starts.NodeStart.NodeStart, c104_token.specs.declared.tokens.Token.Token}
+use Rattle.std.specs.Prelude.{All, List, [], length, ℕ, ◌≡◌, ◌≤◌}
 
 -- a node as it is seen: its state, where it started, and what it did since
 pub record TracedRecord : Type 0 where

@@ -1,21 +1,10 @@
 -- What is kept of acts: entries, which lie in the traces of nodes by the order of events.
-use Rattle.std.specs.Prelude.{ℕ, ◌++◌, List, [], ◌∷◌, Bool, true, false, Option, Some, None, Result, Ok, Err, if◌then◌else◌, length, nat_le}
-use Rattle.std.specs.Prelude.{slice_get, slice_set, unwrap_or}
-use Rattle.c104_token.specs.declared.tokens.Token.{Token}
-use Rattle.c104_token.specs.Kinds.{Kind}
-use Rattle.c104_switch.specs.Actions.{Action, Reply, is_ready}
-use Rattle.c104_switch.specs.declared.actions.ActionOf.{ActionOf}
-use Rattle.c104_switch.specs.declared.actions.ReplyOf.{ReplyOf}
-use Rattle.c104_switch.specs.declared.actions.ActionOf.TheVariants as action
-use Rattle.c104_switch.specs.declared.actions.ReplyOf.TheVariants as reply
-use Rattle.c104_node.specs.declared.acts.ActOf.{ActOf}
-use Rattle.c104_node.specs.declared.acts.ActOf.TheVariants as act
-use Rattle.c104_node.specs.declared.acts.Entry.{Entry}
-use Rattle.c104_node.specs.declared.stamps.Stamp.{Stamp}
-use Rattle.c104_node.specs.Acts.{plain_reply}
-use Rattle.c104_node.specs.declared.crossings.Crossing.{Crossing}
-use Rattle.c104_plan.specs.declared.ports.Port.{Port}
-use Rattle.c104_node.specs.PortActs.{far_act, near_act}
+use Rattle.c104_node.specs.{Acts.plain_reply, PortActs.{far_act, near_act}, declared.acts.{ActOf.ActOf, Entry.Entry}}
+use Rattle.{c104_node.specs.declared.{crossings.Crossing.Crossing, stamps.Stamp.Stamp}, c104_plan.specs.declared.ports.Port.Port}
+use Rattle.c104_switch.specs.{Actions.{Action, Reply, is_ready}, declared.actions.{ActionOf.ActionOf, ReplyOf.ReplyOf}}
+use Rattle.c104_token.specs.{Kinds.Kind, declared.tokens.Token.Token}
+use Rattle.std.specs.Prelude.{Bool, Err, List, None, Ok, Option, Result, Some, [], false, if◌then◌else◌, length, nat_le, slice_get}
+use Rattle.std.specs.Prelude.{slice_set, true, unwrap_or, ℕ, ◌++◌, ◌∷◌}
 
 -- the most entries of a trace
 abbrev pub trace_limit : ℕ
@@ -36,23 +25,23 @@ entry_of stamp a r = record { ticket = stamp.ticket; act = a; reply = r; seat = 
 module _ {A : Type 0} (kind : Kind A) where
   -- an action as it is kept, with a plain token
   abbrev pub plain_action : ActionOf A → Action
-  plain_action (action.Enter l x) = action.Enter l (kind.plain x)
-  plain_action (action.Leave l) = action.Leave l
-  plain_action (action.CreditOut l) = action.CreditOut l
-  plain_action (action.CreditIn l) = action.CreditIn l
-  plain_action (action.Input l word) = action.Input l word
-  plain_action (action.Claim i o) = action.Claim i o
-  plain_action (action.Control bytes) = action.Control bytes
+  plain_action (ActionOf.Enter l x) = ActionOf.Enter l (kind.plain x)
+  plain_action (ActionOf.Leave l) = ActionOf.Leave l
+  plain_action (ActionOf.CreditOut l) = ActionOf.CreditOut l
+  plain_action (ActionOf.CreditIn l) = ActionOf.CreditIn l
+  plain_action (ActionOf.Input l word) = ActionOf.Input l word
+  plain_action (ActionOf.Claim i o) = ActionOf.Claim i o
+  plain_action (ActionOf.Control bytes) = ActionOf.Control bytes
 
   -- an act as it is kept, with a plain token
   abbrev pub plain_act : ActOf A → ActOf Token
-  plain_act (act.Step a) = act.Step (plain_action a)
-  plain_act (act.Send packet) = act.Send packet
-  plain_act act.Drain = act.Drain
-  plain_act act.Leave = act.Leave
-  plain_act (act.Enter x) = act.Enter (kind.plain x)
-  plain_act act.CreditOut = act.CreditOut
-  plain_act act.CreditIn = act.CreditIn
+  plain_act (ActOf.Step a) = ActOf.Step (plain_action a)
+  plain_act (ActOf.Send packet) = ActOf.Send packet
+  plain_act ActOf.Drain = ActOf.Drain
+  plain_act ActOf.Leave = ActOf.Leave
+  plain_act (ActOf.Enter x) = ActOf.Enter (kind.plain x)
+  plain_act ActOf.CreditOut = ActOf.CreditOut
+  plain_act ActOf.CreditIn = ActOf.CreditIn
 
   -- the entry that is kept of an act that was answered so
   abbrev pub kept_entry : Stamp → ActOf A → ReplyOf A → Entry
@@ -94,7 +83,7 @@ lone_deed stamp k a r = if is_ready r then (k, entry_of stamp a r) ∷ [] else [
 abbrev pub joint_deeds : {A : Type 0} → Kind A → Stamp → ℕ → ℕ → Port → Port → Crossing → ReplyOf A → List Deed
 joint_deeds kind stamp near far p q crossing told =
     if is_ready told
-    then (near, kept_entry kind stamp (near_act crossing p) told) ∷ (far, kept_entry kind stamp (far_act q told) reply.Done) ∷ []
+    then (near, kept_entry kind stamp (near_act crossing p) told) ∷ (far, kept_entry kind stamp (far_act q told) ReplyOf.Done) ∷ []
     else []
 
 -- what is kept of an answer: nothing where it was refused

@@ -1,15 +1,11 @@
 -- What can be seen of the nodes of a network: of a switch each of its links, a terminal, the tokens that wait in them,
 -- and the packets that were sent.
-use Rattle.std.specs.Prelude.{ℕ, length, List, Option, Some, None, slice_get}
-use Rattle.c104_token.specs.Kinds.{Kind}
+use Rattle.{c104_link.specs.Steps.◌>>=◌, c104_node.specs.{Nodes.{Node, node_leave}, declared.node.NodeOf.TheVariants.{Switch, Terminal}}}
+use Rattle.{c104_node.specs.declared.terminal.views.TerminalView.TerminalView, c104_switch.specs.Views.{input_token, link_view}}
+use Rattle.{c104_switch.specs.{Views.output_token, declared.actions.LinkView.LinkView}, c104_token.specs.Kinds.Kind}
 use Rattle.c104_token.specs.declared.packets.Packet.{Packet}
-use Rattle.c104_link.specs.Steps.{◌>>=◌}
-use Rattle.c104_switch.specs.Views.{input_token, link_view, output_token}
-use Rattle.c104_switch.specs.declared.actions.LinkView.{LinkView}
+use Rattle.std.specs.Prelude.{List, None, Option, Some, length, slice_get, ℕ}
 use Rattle.c104_node.specs.Terminals as terminal
-use Rattle.c104_node.specs.declared.node.NodeOf.TheVariants.{Switch, Terminal}
-use Rattle.c104_node.specs.declared.terminal.views.TerminalView.{TerminalView}
-use Rattle.c104_node.specs.Nodes.{Node, node_leave}
 
 -- what is seen of a terminal
 abbrev pub terminal_view : {A : Type 0} → terminal.Terminal A → TerminalView

@@ -1,9 +1,6 @@
 -- Which links of a place have wires, where that is kept.
-use Rattle.std.specs.Prelude.{ℕ, Bool, true, List, slice_get}
-use Rattle.c104_node.specs.ActLinks.{on_links}
-use Rattle.c104_node.specs.Places.{PlaceBase}
-use Rattle.c104_node.specs.Traces.{part}
-use Rattle.c104_node.specs.declared.acts.ActOf.{ActOf}
+use Rattle.c104_node.specs.{ActLinks.on_links, Places.PlaceBase, Traces.part, declared.acts.ActOf.ActOf}
+use Rattle.std.specs.Prelude.{Bool, List, slice_get, true, ℕ}
 
 -- whether a link may have a wire
 abbrev pub links_of : PlaceBase → ℕ → Bool

@@ -1,11 +1,8 @@
 -- A search that is limited, step by step: what is left of it, from its first step to its last.
-use Rattle.std.proofs.Common.{◌≡◌, ℕ, suc, ◌<◌, ◌≤◌, ◌+◌, ◌-◌, false, Option, None, ap, arith}
-use Rattle.c104_check.specs.declared.ports.SwitchPort.{SwitchPort}
-use Rattle.c104_node.specs.Tagged.{TaggedToken}
-use Rattle.c104_run.specs.NetRecords.{NetRecord}
-use Rattle.c104_picture.specs.Senders.{after_fit, count_from, counted, fit_of, sending_before}
-use Rattle.c104_picture.specs.Holders.{after_trail, end_or, first_end, packet_from, trail_of}
-use Rattle.c104_picture.specs.Waits.{blocker, claim_blocker, claim_or, meets, meets_by, wait_of}
+use Rattle.{c104_check.specs.declared.ports.SwitchPort.SwitchPort, c104_node.specs.Tagged.TaggedToken}
+use Rattle.c104_picture.specs.{Holders.{after_trail, end_or, first_end, packet_from, trail_of}, Senders.{after_fit, count_from, counted}}
+use Rattle.c104_picture.specs.{Senders.{fit_of, sending_before}, Waits.{blocker, claim_blocker, claim_or, meets, meets_by, wait_of}}
+use Rattle.{c104_run.specs.NetRecords.NetRecord, std.proofs.Common.{None, Option, ap, arith, false, suc, ℕ, ◌+◌, ◌-◌, ◌<◌, ◌≡◌, ◌≤◌}}
 
 -- how many packets there are
 pub count_step : (sizes : ℕ → Option ℕ) (n k : ℕ) → k < n → count_from sizes (n - k) k ≡ counted (sizes k) k (count_from sizes (n - (k + 1)) (k + 1))

@@ -1,26 +1,14 @@
 -- The packet that an input is at: by the first terminator of it or behind it, up to the terminal that sends it.
 --     packet_at r x      the packet that input x is at
 --     packet_out r p      the packet whose token goes out of a port next
-use Rattle.std.specs.Prelude.{ℕ, zero, suc, ◌+◌, Option, Some, None}
-use Rattle.std.specs.Option.{option_map, option_or}
-use Rattle.c104_token.specs.Tokens.{is_end}
-use Rattle.c104_token.specs.Kinds.{plain_kind}
-use Rattle.c104_plan.specs.declared.ports.Port.{Port}
-use Rattle.c104_plan.specs.declared.ports.Port.TheVariants as port
-use Rattle.c104_plan.specs.Wiring.{peer}
-use Rattle.c104_check.specs.declared.ports.SwitchPort.{SwitchPort}
-use Rattle.c104_check.specs.Walks.{port_of}
-use Rattle.c104_switch.specs.declared.actions.LinkView.{LinkView}
-use Rattle.c104_node.specs.Tagged.{TaggedToken, tag, tagged_origin}
-use Rattle.c104_node.specs.declared.origins.Origin.{Origin}
-use Rattle.c104_run.specs.FinishedRecords.{record_finish}
-use Rattle.c104_run.specs.NetRecords.{NetRecord}
-use Rattle.c104_run.specs.NetViews.{network_input_token, network_link_view, network_output_token}
-use Rattle.c104_net.specs.TracedEnds.{traced_end}
-use Rattle.c104_picture.specs.Senders.{Sending, sending_at}
-use Rattle.c104_picture.specs.declared.holders.TheConstants.{BUFFER_LIMIT, MOST_INPUTS}
 pub use Rattle.c104_picture.specs.declared.holders.Trail.{Trail}
-use Rattle.c104_picture.specs.declared.holders.Trail.TheVariants as trail
+use Rattle.{c104_check.specs.{Walks.port_of, declared.ports.SwitchPort.SwitchPort}, c104_net.specs.TracedEnds.traced_end}
+use Rattle.{c104_node.specs.{Tagged.{TaggedToken, tag, tagged_origin}, declared.origins.Origin.Origin}, c104_picture.specs.Senders.Sending}
+use Rattle.{c104_picture.specs.{Senders.sending_at, declared.holders.TheConstants.{BUFFER_LIMIT, MOST_INPUTS}}, c104_plan.specs.Wiring.peer}
+use Rattle.{c104_plan.specs.declared.ports.Port.Port, c104_run.specs.{FinishedRecords.record_finish, NetRecords.NetRecord}}
+use Rattle.c104_run.specs.NetViews.{network_input_token, network_link_view, network_output_token}
+use Rattle.{c104_switch.specs.declared.actions.LinkView.LinkView, c104_token.specs.{Kinds.plain_kind, Tokens.is_end}}
+use Rattle.std.specs.{Option.{option_map, option_or}, Prelude.{None, Option, Some, suc, zero, ℕ, ◌+◌}}
 
 -- the packet of the first terminator among tokens, from place k on
 abbrev pub end_or : Option TaggedToken → Option Origin → Option Origin
@@ -46,39 +34,39 @@ output_end r s l = first_end (output_tokens r s l) BUFFER_LIMIT 0
 
 -- the input to which an output leads back: the one that streams to it
 abbrev pub owner_trail : ℕ → Option ℕ → Trail
-owner_trail s None = trail.Lost
-owner_trail s (Some i) = trail.On (port_of s i)
+owner_trail s None = Trail.Lost
+owner_trail s (Some i) = Trail.On (port_of s i)
 
 abbrev pub view_trail : ℕ → Option LinkView → Trail
-view_trail s None = trail.Lost
+view_trail s None = Trail.Lost
 view_trail s (Some view) = owner_trail s view.owner
 
 -- the packet whose terminator is there, or else where to look on
 abbrev pub found_or : Option Origin → Trail → Trail
 found_or None rest = rest
-found_or (Some origin) rest = trail.Found origin
+found_or (Some origin) rest = Trail.Found origin
 
 -- the packet that a terminal sends
 abbrev pub sent_trail : ℕ → Option Sending → Trail
-sent_trail t None = trail.Lost
-sent_trail t (Some it) = trail.Found (record { terminal = t; number = it.number })
+sent_trail t None = Trail.Lost
+sent_trail t (Some it) = Trail.Found (record { terminal = t; number = it.number })
 
 -- the same behind an input, by the port to which it is wired
 abbrev pub trail_behind : NetRecord → Option Port → Trail
-trail_behind r None = trail.Lost
-trail_behind r (Some (port.Switch s l)) =
+trail_behind r None = Trail.Lost
+trail_behind r (Some (Port.Switch s l)) =
     found_or (output_end r s l) (view_trail s (network_link_view plain_kind r.network s l))
-trail_behind r (Some (port.Terminal t)) = sent_trail t (sending_at r t)
+trail_behind r (Some (Port.Terminal t)) = sent_trail t (sending_at r t)
 
 -- where a packet's end is, from an input on
 abbrev pub trail_of : NetRecord → SwitchPort → Trail
 trail_of r x =
-    found_or (input_end r (port.Switch x.switch x.link)) (trail_behind r (peer r.network.plan (port.Switch x.switch x.link)))
+    found_or (input_end r (Port.Switch x.switch x.link)) (trail_behind r (peer r.network.plan (Port.Switch x.switch x.link)))
 
 abbrev pub after_trail : Trail → (SwitchPort → Option Origin) → Option Origin
-after_trail (trail.Found origin) rest = Some origin
-after_trail trail.Lost rest = None
-after_trail (trail.On x) rest = rest x
+after_trail (Trail.Found origin) rest = Some origin
+after_trail Trail.Lost rest = None
+after_trail (Trail.On x) rest = rest x
 
 -- the packet that an input is at, if it is found over so many inputs
 unfoldable pub packet_from : NetRecord → ℕ → SwitchPort → Option Origin

@@ -1,11 +1,8 @@
 -- How packets are shown: their names, their colours and their patterns.
 --     packet_text plan packet      a packet's name
 --     packet_color packet, pattern packet      its colour and its pattern
-use Rattle.std.specs.Prelude.{ℕ, ◌+◌, ◌%◌, ◌==◌, List, ◌++◌, codes, Option, Some, None, if◌then◌else◌}
-use Rattle.std.specs.Fmt.{decimal}
-use Rattle.c104_plan.specs.Plans.{Plan}
-use Rattle.c104_plan.specs.PortTexts.{terminal_name}
-use Rattle.c104_node.specs.declared.origins.Origin.{Origin}
+use Rattle.{c104_node.specs.declared.origins.Origin.Origin, c104_plan.specs.{Plans.Plan, PortTexts.terminal_name}}
+use Rattle.std.specs.{Fmt.decimal, Prelude.{List, None, Option, Some, codes, if◌then◌else◌, ℕ, ◌%◌, ◌++◌, ◌+◌, ◌==◌}}
 
 -- a packet as the summary names it: the terminal that sent it, and its number there
 abbrev pub packet_text : Plan → Option Origin → List ℕ

@@ -1,15 +1,10 @@
 -- The packet that a terminal sends: the one in which the token stands that goes out next.
 --     sending_at r t      the packet's number, and how many of its tokens have gone out
-use Rattle.std.specs.Prelude.{ℕ, zero, suc, ◌+◌, ◌-◌, ◌==◌, length, nat_le, Option, Some, None, if◌then◌else◌}
-use Rattle.std.specs.Option.{option_map}
+pub use Rattle.c104_picture.specs.declared.senders.{Fit.Fit, Sending.Sending}
+use Rattle.{c104_node.specs.declared.terminal.views.TerminalView.TerminalView, c104_picture.specs.declared.senders.TheConstants.SENT_LIMIT}
+use Rattle.c104_run.specs.{NetRecords.NetRecord, NetViews.{network_sent_packet, network_terminal_view}}
 use Rattle.c104_token.specs.declared.packets.Packet.{Packet}
-use Rattle.c104_node.specs.declared.terminal.views.TerminalView.{TerminalView}
-use Rattle.c104_run.specs.NetRecords.{NetRecord}
-use Rattle.c104_run.specs.NetViews.{network_sent_packet, network_terminal_view}
-use Rattle.c104_picture.specs.declared.senders.TheConstants.{SENT_LIMIT}
-pub use Rattle.c104_picture.specs.declared.senders.Fit.{Fit}
-use Rattle.c104_picture.specs.declared.senders.Fit.TheVariants as fit
-pub use Rattle.c104_picture.specs.declared.senders.Sending.{Sending}
+use Rattle.std.specs.{Option.option_map, Prelude.{None, Option, Some, if◌then◌else◌, length, nat_le, suc, zero, ℕ, ◌+◌, ◌-◌, ◌==◌}}
 
 -- how many tokens a packet has, with its terminator
 abbrev pub packet_size : Packet → ℕ
@@ -31,13 +26,13 @@ count_from sizes (suc more) n = counted (sizes n) n (count_from sizes more (n + 
 -- whether the first of the tokens that wait is one of a packet of this size, if so many wait from it on: then how many of
 -- its tokens have gone out; or else how many wait of the packets before it
 abbrev pub fit_of : Option ℕ → ℕ → Fit
-fit_of None left = fit.Nowhere
-fit_of (Some size) left = if nat_le left size then fit.Here (size - left) else fit.Before (left - size)
+fit_of None left = Fit.Nowhere
+fit_of (Some size) left = if nat_le left size then Fit.Here (size - left) else Fit.Before (left - size)
 
 abbrev pub after_fit : Fit → ℕ → (ℕ → Option Sending) → Option Sending
-after_fit fit.Nowhere n before = None
-after_fit (fit.Here place) n before = Some (record { number = n; place = place })
-after_fit (fit.Before left) n before = before left
+after_fit Fit.Nowhere n before = None
+after_fit (Fit.Here place) n before = Some (record { number = n; place = place })
+after_fit (Fit.Before left) n before = before left
 
 -- the packet in which the first of the tokens stands that wait of the packets below a number
 abbrev pub sending_before : (ℕ → Option ℕ) → ℕ → ℕ → Option Sending

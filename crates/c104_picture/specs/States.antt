@@ -2,34 +2,17 @@
 --     ways r still      the links of each switch, and then the terminals
 --     wishes r still      what inputs want
 --     IsNetState r state      both, where still tells whether the network stands still
-use Rattle.std.specs.Prelude.{ℕ, ◌≡◌, ◌↔◌, ◌+◌, ◌*◌, ◌==◌, ◌&&◌, Bool, true, false, IsTrue, List, [], ◌∷◌, ◌++◌, length, map, min, Option, Some, None, if◌then◌else◌}
-use Rattle.std.specs.List.{flat_map, range_with_len}
-use Rattle.c104_token.specs.Kinds.{plain_kind}
-use Rattle.c104_regs.specs.declared.registers.TheConstants.{LINKS}
-use Rattle.c104_plan.specs.declared.ports.Port.{Port}
-use Rattle.c104_plan.specs.declared.ports.Port.TheVariants as port
-use Rattle.c104_plan.specs.Wiring.{peer}
-use Rattle.c104_check.specs.declared.ports.SwitchPort.{SwitchPort}
-use Rattle.c104_check.specs.Routes.{port_at}
-use Rattle.c104_check.specs.Walks.{port_of}
-use Rattle.c104_switch.specs.Phases.{is_want}
-use Rattle.c104_switch.specs.declared.phase.Phase.{Phase}
-use Rattle.c104_switch.specs.declared.phase.Phase.TheVariants as phase
-use Rattle.c104_switch.specs.declared.actions.LinkView.{LinkView}
-use Rattle.c104_node.specs.declared.origins.Origin.{Origin}
-use Rattle.c104_node.specs.declared.terminal.views.TerminalView.{TerminalView}
-use Rattle.c104_run.specs.NetRecords.{NetRecord}
-use Rattle.c104_run.specs.NetViews.{network_link_view, network_terminal_view}
-use Rattle.c104_run.specs.Rounds.{link_numbers}
-use Rattle.c104_run.specs.Standstill.{StandsStill}
-use Rattle.c104_picture.specs.declared.holders.TheConstants.{BUFFER_LIMIT}
-use Rattle.c104_picture.specs.Senders.{Sending, sending_at}
-use Rattle.c104_picture.specs.Holders.{packet_at}
-use Rattle.c104_picture.specs.Waits.{Wait, is_locked, wait_of}
-pub use Rattle.c104_picture.specs.declared.states.Hold.{Hold}
-pub use Rattle.c104_picture.specs.declared.states.Way.{Way}
-pub use Rattle.c104_picture.specs.declared.states.Wish.{Wish}
-use Rattle.c104_picture.specs.declared.states.NetState.{NetState}
+pub use Rattle.c104_picture.specs.declared.states.{Hold.Hold, Way.Way, Wish.Wish}
+use Rattle.c104_check.specs.{Routes.port_at, Walks.port_of, declared.ports.SwitchPort.SwitchPort}
+use Rattle.c104_node.specs.declared.{origins.Origin.Origin, terminal.views.TerminalView.TerminalView}
+use Rattle.c104_picture.specs.{Holders.packet_at, Senders.{Sending, sending_at}, Waits.{Wait, is_locked, wait_of}}
+use Rattle.{c104_picture.specs.declared.{holders.TheConstants.BUFFER_LIMIT, states.NetState.NetState}, c104_plan.specs.Wiring.peer}
+use Rattle.{c104_plan.specs.declared.ports.Port.Port, c104_regs.specs.declared.registers.TheConstants.LINKS}
+use Rattle.c104_run.specs.{NetRecords.NetRecord, NetViews.{network_link_view, network_terminal_view}, Rounds.link_numbers}
+use Rattle.{c104_run.specs.Standstill.StandsStill, c104_switch.specs.{Phases.is_want, declared.actions.LinkView.LinkView}}
+use Rattle.{c104_switch.specs.declared.phase.Phase.Phase, c104_token.specs.Kinds.plain_kind}
+use Rattle.std.specs.{List.{flat_map, range_with_len}, Prelude.{Bool, IsTrue, List, None, Option, Some, [], false, if◌then◌else◌, length}}
+use Rattle.std.specs.Prelude.{map, min, true, ℕ, ◌&&◌, ◌*◌, ◌++◌, ◌+◌, ◌==◌, ◌↔◌, ◌∷◌, ◌≡◌}
 
 -- a link that no packet holds
 abbrev pub no_hold : Hold
@@ -57,8 +40,8 @@ sent_hold t (Some it) =
 
 -- the packet that holds the link of a port
 abbrev pub hold_of : NetRecord → Bool → Port → Hold
-hold_of r still (port.Switch s l) = view_hold r still s (network_link_view plain_kind r.network s l)
-hold_of r still (port.Terminal t) = sent_hold t (sending_at r t)
+hold_of r still (Port.Switch s l) = view_hold r still s (network_link_view plain_kind r.network s l)
+hold_of r still (Port.Terminal t) = sent_hold t (sending_at r t)
 
 -- how many tokens wait at a port to go out
 abbrev pub view_behind : Option LinkView → ℕ
@@ -70,17 +53,17 @@ sent_behind None = 0
 sent_behind (Some view) = view.waiting
 
 abbrev pub behind : NetRecord → Port → ℕ
-behind r (port.Switch s l) = view_behind (network_link_view plain_kind r.network s l)
-behind r (port.Terminal t) = sent_behind (network_terminal_view r.network t)
+behind r (Port.Switch s l) = view_behind (network_link_view plain_kind r.network s l)
+behind r (Port.Terminal t) = sent_behind (network_terminal_view r.network t)
 
 -- how many tokens came in at a port and wait there, of which an input's buffer holds 64 at most, with those of a header
 -- that is read or wants an output
 abbrev pub header_count : Phase (List ℕ) → ℕ
-header_count (phase.Head bytes) = length bytes
-header_count (phase.Want bytes g) = length bytes
-header_count phase.Fresh = 0
-header_count (phase.Stream o) = 0
-header_count phase.Sinking = 0
+header_count (Phase.Head bytes) = length bytes
+header_count (Phase.Want bytes g) = length bytes
+header_count Phase.Fresh = 0
+header_count (Phase.Stream o) = 0
+header_count Phase.Sinking = 0
 
 abbrev pub view_before : Option LinkView → ℕ
 view_before None = 0
@@ -92,8 +75,8 @@ came_before (Some view) = view.undrained
 
 abbrev pub before : NetRecord → Option Port → ℕ
 before r None = 0
-before r (Some (port.Switch s l)) = view_before (network_link_view plain_kind r.network s l)
-before r (Some (port.Terminal t)) = came_before (network_terminal_view r.network t)
+before r (Some (Port.Switch s l)) = view_before (network_link_view plain_kind r.network s l)
+before r (Some (Port.Terminal t)) = came_before (network_terminal_view r.network t)
 
 -- the way out of a port
 abbrev pub way_of : NetRecord → Bool → Port → Way
@@ -111,10 +94,10 @@ link_count r = LINKS * length r.network.plan.switches
 
 -- the way out of the link at a place, where all links are counted by switch and then by link, and out of a terminal
 abbrev pub link_way : NetRecord → Bool → ℕ → Way
-link_way r still k = let x = port_at k in way_of r still (port.Switch x.switch x.link)
+link_way r still k = let x = port_at k in way_of r still (Port.Switch x.switch x.link)
 
 abbrev pub terminal_way : NetRecord → Bool → ℕ → Way
-terminal_way r still t = way_of r still (port.Terminal t)
+terminal_way r still t = way_of r still (Port.Terminal t)
 
 abbrev pub ways : NetRecord → Bool → List Way
 ways r still = map (link_way r still) (range_with_len 0 (link_count r))
@@ -126,7 +109,7 @@ wish_if r x packet locked o None = []
 wish_if r x packet locked o (Some w) = record {
   input = x;
   output = o;
-  to = peer r.network.plan (port.Switch x.switch o);
+  to = peer r.network.plan (Port.Switch x.switch o);
   packet = packet;
   locked = locked;
 } ∷ []

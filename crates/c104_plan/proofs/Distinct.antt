@@ -1,8 +1,6 @@
 -- Lists of which no two elements are the same, by a test: one more that none is keeps them so.
-use Rattle.std.proofs.Common.{◌≡◌, Bool, false, List, [], ◌∷◌, ◌++◌, ◌∙◌}
-use Rattle.std.specs.List.{AllByRecursion, list_any}
-use Rattle.c104_plan.specs.Distinctness.{AreDistinct}
-use Rattle.std.proofs.lemmas.Bool.{or_parts}
+use Rattle.{c104_plan.specs.Distinctness.AreDistinct, std.proofs.Common.{Bool, List, [], false, ◌++◌, ◌∙◌, ◌∷◌, ◌≡◌}}
+use Rattle.std.{proofs.lemmas.Bool.or_parts, specs.List.{AllByRecursion, list_any}}
 
 each_inserted : {X : Type 0} (P : X → Type 0) (xs ys : List X) (x : X) → AllByRecursion P (xs ++ ys) → P x → AllByRecursion P ((xs ++ x ∷ []) ++ ys)
 each_inserted P [] ys x all here = (here, all)

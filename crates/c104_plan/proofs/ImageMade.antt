@@ -1,14 +1,8 @@
 -- What an image that is made of a plan keeps: its ranges are those of the plan's terminals.
-use Rattle.std.proofs.Common.{◌≡◌, ℕ, List, length, map, All, refl}
-use Rattle.std.proofs.lemmas.List.Elements.{All-map, All-replicate, All-same}
-use Rattle.c104_regs.specs.Registers.{reset_bank}
-use Rattle.c104_regs.specs.Ranges.{IsInRange}
-use Rattle.c104_regs.specs.Settings.{reset_settings}
-use Rattle.c104_regs.specs.declared.settings.Settings.{Settings}
-use Rattle.c104_regs.proofs.RegisterLemmas.{IsInRange-reset}
-use Rattle.c104_plan.specs.Plans.{IsPlan, IsRange, Plan}
-use Rattle.c104_plan.specs.PlanImage.{AreSettings, IsImage, range_of, switch_settings}
-use Rattle.c104_plan.proofs.PlanSettings.{all_have_settings}
+use Rattle.c104_plan.{proofs.PlanSettings.all_have_settings, specs.PlanImage.{AreSettings, IsImage, range_of, switch_settings}}
+use Rattle.{c104_plan.specs.Plans.{IsPlan, IsRange, Plan}, c104_regs.{proofs.RegisterLemmas.IsInRange-reset, specs.Ranges.IsInRange}}
+use Rattle.{c104_regs.specs.{Registers.reset_bank, Settings.reset_settings, declared.settings.Settings.Settings}, std.proofs.Common.All}
+use Rattle.std.proofs.{Common.{List, length, map, refl, ℕ, ◌≡◌}, lemmas.List.Elements.{All-map, All-replicate, All-same}}
 use Rattle.std.specs.List.{range_with_len}
 
 abbrev pub AreRanges : List (ℕ × ℕ) → Type 0

@@ -1,17 +1,12 @@
 -- A value set in one switch of an image, as the whole image has it.
-use Rattle.std.proofs.Common.{◌≡◌, ◌≢◌, ◌⊎◌, inl, inr, ℕ, ◌<◌, Some, Result, Ok, Err, OnErr, OnOk, List, get_or, length, option_map, set, slice_get, refl, sym, ap, ◌∙◌, subst}
-use Rattle.std.proofs.lemmas.Bool.{cases_eq, cases_lt}
-use Rattle.std.proofs.lemmas.List.{get_or-set_other, get_or-set_same, length-set, set-get_or}
-use Rattle.std.proofs.lemmas.List.Elements.{All-set}
-use Rattle.std.proofs.lemmas.Option.{get_or_from_slice_get, slice_get-get_or, slice_get_past, slice_get_within}
-use Rattle.c104_regs.specs.declared.faults.RegFault.{RegFault}
-use Rattle.c104_regs.specs.declared.settings.Settings.{Settings}
-use Rattle.c104_regs.specs.Registers.{RegisterBank, bank_peek, placed_bank, settable}
-use Rattle.c104_regs.proofs.PlacedPokes.{poke_refused, poke_taken}
-use Rattle.c104_plan.specs.declared.image_faults.ImageFault.{ImageFault}
-use Rattle.c104_plan.specs.declared.image_faults.ImageFault.TheVariants as fault
-use Rattle.c104_plan.specs.ImageEdits.{AnswersDue, image_peek, image_set, poke_answer, settings_set}
-use Rattle.c104_plan.specs.PlanImage.{AreSettings, Image, IsImage}
+use Rattle.c104_plan.specs.{ImageEdits.{AnswersDue, image_peek, image_set, poke_answer, settings_set}, PlanImage.{AreSettings, Image}}
+use Rattle.{c104_plan.specs.{PlanImage.IsImage, declared.image_faults.ImageFault.ImageFault}, c104_regs.proofs.PlacedPokes.poke_refused}
+use Rattle.c104_regs.{proofs.PlacedPokes.poke_taken, specs.Registers.{RegisterBank, bank_peek, placed_bank, settable}}
+use Rattle.{c104_regs.specs.declared.{faults.RegFault.RegFault, settings.Settings.Settings}, std.proofs.Common.{Err, List, Ok, OnErr, OnOk}}
+use Rattle.std.proofs.Common.{Result, Some, ap, get_or, inl, inr, length, option_map, refl, set, slice_get, subst, sym, ℕ, ◌<◌, ◌∙◌, ◌≡◌}
+use Rattle.std.proofs.{Common.{◌≢◌, ◌⊎◌}, lemmas.{Bool.{cases_eq, cases_lt}, List.{Elements.All-set, get_or-set_other, get_or-set_same}}}
+use Rattle.std.proofs.lemmas.{List.{length-set, set-get_or}, Option.{get_or_from_slice_get, slice_get-get_or, slice_get_past}}
+use Rattle.std.proofs.lemmas.Option.{slice_get_within}
 
 abbrev image_of : List (ℕ × ℕ) → List (List Settings) → Image
 image_of ranges settings = record { ranges = ranges; settings = settings }
@@ -47,21 +42,21 @@ module _ (ranges : List (ℕ × ℕ)) (xs : List (List Settings)) (i a v : ℕ) 
   answered (inr (refused, due, same)) = inr (refused, rw at due, ap (λ z. image_of ranges (set xs i z)) same ∙ ap (image_of ranges) put_back)
 
   -- the fault of a register is that of its address and value
-  fault_by : (e : RegFault) (s : Result (Unit {0}) RegFault) → settable a v ≡ s → r ≡ (settings_set x a v).0 → r ≡ Err (fault.Register e) → settable a v ≡ Err e
+  fault_by : (e : RegFault) (s : Result (Unit {0}) RegFault) → settable a v ≡ s → r ≡ (settings_set x a v).0 → r ≡ Err (ImageFault.Register e) → settable a v ≡ Err e
   fault_by e (Ok u) is same refused =
       let done : (settings_set x a v).0 ≡ Ok tt = ap poke_answer (poke_taken a v x is) in
-      let both : ◌≡◌ {A = Result (Unit {0}) ImageFault} (Ok tt) (Err (fault.Register e)) = sym done ∙ sym same ∙ refused in
+      let both : ◌≡◌ {A = Result (Unit {0}) ImageFault} (Ok tt) (Err (ImageFault.Register e)) = sym done ∙ sym same ∙ refused in
       cc
   fault_by e (Err f) is same refused =
-      let told : (settings_set x a v).0 ≡ Err (fault.Register f) = ap (λ (p : Result (Unit {0}) RegFault × RegisterBank). poke_answer p.0) (poke_refused a v (placed_bank x) f is) in
-      let both : ◌≡◌ {A = Result (Unit {0}) ImageFault} (Err (fault.Register f)) (Err (fault.Register e)) = sym told ∙ sym same ∙ refused in
+      let told : (settings_set x a v).0 ≡ Err (ImageFault.Register f) = ap (λ (p : Result (Unit {0}) RegFault × RegisterBank). poke_answer p.0) (poke_refused a v (placed_bank x) f is) in
+      let both : ◌≡◌ {A = Result (Unit {0}) ImageFault} (Err (ImageFault.Register f)) (Err (ImageFault.Register e)) = sym told ∙ sym same ∙ refused in
       let one : f ≡ e = cc in
       is ∙ ap Err one
 
-  pub fault_is : AnswersDue x (settings_set x a v) r y → (e : RegFault) → r ≡ Err (fault.Register e) → settable a v ≡ Err e
+  pub fault_is : AnswersDue x (settings_set x a v) r y → (e : RegFault) → r ≡ Err (ImageFault.Register e) → settable a v ≡ Err e
   fault_is (inl same) e refused = fault_by e (settable a v) refl (ap (λ (p : Result (Unit {0}) ImageFault × List Settings). p.0) same) refused
   fault_is (inr (none, due, same)) e refused =
-      let both : ◌≡◌ {A = Result (Unit {0}) ImageFault} (Err fault.NoMemory) (Err (fault.Register e)) = sym none ∙ refused in
+      let both : ◌≡◌ {A = Result (Unit {0}) ImageFault} (Err ImageFault.NoMemory) (Err (ImageFault.Register e)) = sym none ∙ refused in
       cc
 
   -- what the address reads afterwards, and what every other does

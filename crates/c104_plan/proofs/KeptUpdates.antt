@@ -1,20 +1,12 @@
 -- Values in ascending order of addresses, brought up to date at one address.
-use Rattle.std.proofs.Common.{◌≡◌, ◌≢◌, ℕ, zero, ◌+◌, ◌-◌, ◌<◌, ◌≤◌, inl, inr, ◌==◌, ◌&&◌, true, false, nat_lt, Option, Some, None, List, ◌∷◌, ◌++◌, All, get_or, length, refl, sym, ap, ◌∙◌, subst, arith, length-append}
-use Rattle.std.specs.List.{insert, remove}
-use Rattle.std.specs.List.Sorted.{IsPartitionedBy, IsPartitionPoint}
-use Rattle.std.proofs.Math.Seq.{get_or-append_seam}
-use Rattle.std.proofs.lemmas.Bool.{cases_lt}
-use Rattle.std.proofs.lemmas.Bool.Decides.{nat_tests}
-use Rattle.std.proofs.lemmas.List.{get_or-append-add, get_or_append_left}
-use Rattle.std.proofs.lemmas.List.Edits.{insert-append_right, remove-append_right}
-use Rattle.std.proofs.lemmas.List.Elements.{All-cons, All-weaker}
-use Rattle.c104_regs.specs.declared.settings.Settings.{Settings}
-use Rattle.c104_regs.specs.KeptValues.{kept_value, kept_values}
-use Rattle.c104_regs.specs.Registers.{IsRegisterBank, bank_peek, placed_bank}
-use Rattle.c104_regs.proofs.KeptEntries.{IsWithin, entries, entries_around, entries_same, within}
-use Rattle.c104_regs.proofs.KeptLemmas.{entries_all}
-use Rattle.c104_regs.proofs.PlacedPokes.{kept_value_same}
-use Rattle.c104_plan.specs.SwitchImages.{led_by}
+use Rattle.{c104_plan.specs.SwitchImages.led_by, c104_regs.proofs.KeptEntries.{IsWithin, entries, entries_around, entries_same, within}}
+use Rattle.c104_regs.{proofs.{KeptLemmas.entries_all, PlacedPokes.kept_value_same}, specs.KeptValues.{kept_value, kept_values}}
+use Rattle.c104_regs.specs.{Registers.{IsRegisterBank, bank_peek, placed_bank}, declared.settings.Settings.Settings}
+use Rattle.std.proofs.Common.{All, List, None, Option, Some, ap, arith, false, get_or, inl, inr, length, length-append, nat_lt, refl, subst}
+use Rattle.std.proofs.{Common.{sym, true, zero, ℕ, ◌&&◌, ◌++◌, ◌+◌, ◌-◌, ◌<◌, ◌==◌, ◌∙◌, ◌∷◌, ◌≡◌, ◌≢◌, ◌≤◌}, Math.Seq.get_or-append_seam}
+use Rattle.std.proofs.lemmas.{Bool.{Decides.nat_tests, cases_lt}, List.Edits.{insert-append_right, remove-append_right}}
+use Rattle.std.proofs.lemmas.List.{Elements.{All-cons, All-weaker}, get_or-append-add, get_or_append_left}
+use Rattle.std.specs.List.{Sorted.{IsPartitionPoint, IsPartitionedBy}, insert, remove}
 
 -- addresses below one, and those from it on
 module _ (front rest : List (ℕ × ℕ)) (a : ℕ) (below : All (λ x. x.0 < a) front) (above : All (λ x. a ≤ x.0) rest) where

@@ -1,25 +1,16 @@
 -- What is set at the links of switches whose tables are given.
-use Rattle.std.proofs.Common.{◌≡◌, ℕ, ◌<◌, ◌+◌, ◌*◌, Bool, true, false, if◌then◌else◌, List, length, map, get_or, All, ap, refl, ◌∙◌, arith, is_some}
-use Rattle.std.proofs.lemmas.List.{get_or_default}
-use Rattle.std.proofs.lemmas.List.Elements.{All-map, All-same}
-use Rattle.std.proofs.lemmas.List.FromFn.{get_or-range_with_len, length-range_with_len, length-map-range_with_len}
-use Rattle.std.specs.List.{range_with_len}
-use Rattle.c104_interval.specs.declared.intervals.Table.{Table}
-use Rattle.c104_interval.specs.Selection.{reset_table}
-use Rattle.c104_regs.specs.Ranges.{IsInRange, IsTableInRange}
-use Rattle.c104_regs.proofs.RangeNumbers.{IsInRange-from}
-use Rattle.c104_regs.specs.declared.settings.Settings.{Settings}
-use Rattle.c104_plan.specs.declared.ports.Port.TheVariants as port
-use Rattle.c104_plan.specs.Ports.{Port}
-use Rattle.c104_plan.specs.Plans.{IsPlan, IsRange, Plan}
-use Rattle.c104_plan.specs.PlanImage.{AreSettings, Fits, Image, IsImage, settings_of}
-use Rattle.c104_plan.specs.Wiring.{peer}
-use Rattle.c104_plan.specs.LabelledImages.{labelled_image, labelled_settings, labelled_switch, port_labelled_image, port_labelled_switch, port_table, table_in}
-use Rattle.c104_plan.proofs.PlanSettings.{random_in_range, settings_in_range}
+use Rattle.{c104_interval.specs.{Selection.reset_table, declared.intervals.Table.Table}, c104_plan.proofs.PlanSettings.random_in_range}
+use Rattle.c104_plan.{proofs.PlanSettings.settings_in_range, specs.LabelledImages.{labelled_image, labelled_settings, labelled_switch}}
+use Rattle.c104_plan.specs.{LabelledImages.{port_labelled_image, port_labelled_switch, port_table, table_in}, PlanImage.{AreSettings, Fits}}
+use Rattle.c104_plan.specs.{PlanImage.{Image, IsImage, settings_of}, Plans.{IsPlan, IsRange, Plan}, Ports.Port, Wiring.peer}
+use Rattle.c104_regs.{proofs.RangeNumbers.IsInRange-from, specs.{Ranges.{IsInRange, IsTableInRange}, declared.settings.Settings.Settings}}
+use Rattle.std.proofs.Common.{All, Bool, List, ap, arith, false, get_or, if◌then◌else◌, is_some, length, map, refl, true, ℕ, ◌*◌, ◌+◌, ◌<◌}
+use Rattle.std.proofs.{Common.{◌∙◌, ◌≡◌}, lemmas.List.{Elements.{All-map, All-same}, FromFn.get_or-range_with_len}}
+use Rattle.std.{proofs.lemmas.List.{FromFn.{length-map-range_with_len, length-range_with_len}, get_or_default}, specs.List.range_with_len}
 
 -- what is set at a link of a switch with a table
 abbrev pub labelled_at : Plan → Table → ℕ → ℕ → Settings
-labelled_at plan table switch link = labelled_settings plan table (port.Switch switch link)
+labelled_at plan table switch link = labelled_settings plan table (Port.Switch switch link)
 
 -- the settings of all links, after the last
 pub labelled_last : (plan : Plan) (table : Table) (switch links : ℕ) → links ≡ 32 → map (labelled_at plan table switch) (range_with_len 0 links) ≡ labelled_switch plan table switch
@@ -45,7 +36,7 @@ pub are_labelled : (plan : Plan) (table : Table) (switch : ℕ) → IsPlan plan 
 unfolding labelled_switch
 are_labelled plan table switch kept within = (
   length-map-range_with_len (labelled_at plan table switch) 0 32,
-  All-map IsInRange (labelled_at plan table switch) (range_with_len 0 32) (λ k d inside. labelled_in_range plan (port.Switch switch (get_or (range_with_len 0 32) k d)) table kept within),
+  All-map IsInRange (labelled_at plan table switch) (range_with_len 0 32) (λ k d inside. labelled_in_range plan (Port.Switch switch (get_or (range_with_len 0 32) k d)) table kept within),
 )
 
 -- and so has each switch
@@ -78,7 +69,7 @@ labelled_fits plan tables image ranges settings = record {
 -- Where each link has a table of its own
 
 abbrev pub port_labelled_at : Plan → (ℕ → Table) → ℕ → ℕ → Settings
-port_labelled_at plan tables switch link = labelled_settings plan (tables link) (port.Switch switch link)
+port_labelled_at plan tables switch link = labelled_settings plan (tables link) (Port.Switch switch link)
 
 -- the settings of all links, after the last
 pub port_labelled_last : (plan : Plan) (tables : ℕ → Table) (switch links : ℕ) → links ≡ 32 → map (port_labelled_at plan tables switch) (range_with_len 0 links) ≡ port_labelled_switch plan tables switch
@@ -87,8 +78,8 @@ port_labelled_last plan tables switch links all = ap (λ n. map (port_labelled_a
 
 -- what is made of the table of one link
 pub port_link_here : (plan : Plan) (tables : List Table) (switch link : ℕ) (d : Table) (settings : Settings) → switch < length plan.switches → link < 32 → length tables ≡ length plan.switches * 32
-    → settings ≡ labelled_settings plan (get_or tables (switch * 32 + link) d) (port.Switch switch link) → settings ≡ port_labelled_at plan (port_table tables switch) switch link
-port_link_here plan tables switch link d settings inside low many is = is ∙ ap (λ (t : Table). labelled_settings plan t (port.Switch switch link)) (get_or_default tables (switch * 32 + link) d reset_table (omega (arith, inside, low, many)))
+    → settings ≡ labelled_settings plan (get_or tables (switch * 32 + link) d) (Port.Switch switch link) → settings ≡ port_labelled_at plan (port_table tables switch) switch link
+port_link_here plan tables switch link d settings inside low many is = is ∙ ap (λ (t : Table). labelled_settings plan t (Port.Switch switch link)) (get_or_default tables (switch * 32 + link) d reset_table (omega (arith, inside, low, many)))
 
 -- a table of a link among those of all links
 pub link_in_range : (tables : List Table) (n s l : ℕ) → length tables ≡ n * 32 → All IsTableInRange tables → s < n → l < 32 → IsTableInRange (port_table tables s l)
@@ -104,7 +95,7 @@ are_port_labelled plan tables switch kept many all inside = (
     at_link : (k d : ℕ) → k < 32 → IsInRange (port_labelled_at plan (port_table tables switch) switch (get_or (range_with_len 0 32) k d))
     at_link k d below =
         let at : get_or (range_with_len 0 32) k d ≡ k = get_or-range_with_len 0 32 k d below ∙ omega arith in
-        rw at (labelled_in_range plan (port.Switch switch k) (port_table tables switch k) kept (link_in_range tables (length plan.switches) switch k many all inside below))
+        rw at (labelled_in_range plan (Port.Switch switch k) (port_table tables switch k) kept (link_in_range tables (length plan.switches) switch k many all inside below))
 
 abbrev pub port_switch_by : Plan → List Table → ℕ → List Settings
 port_switch_by plan tables switch = port_labelled_switch plan (port_table tables switch) switch

@@ -1,28 +1,25 @@
 -- Meshes and cubes: where a link leads to another switch, that link leads back, and a wire begins at one of
 -- the two.
-use Rattle.std.proofs.Common.{◌≡◌, ◌≢◌, ℕ, zero, suc, ◌<◌, ◌≤◌, ◌+◌, ◌*◌, ◌-◌, ◌/◌, ◌%◌, ◌^◌, ◌==◌, true, false, not, nat_le, nat_lt, Option, Some, None, refl, sym, ap, subst, ◌∙◌, ⊎_elim, arith}
-use Rattle.std.proofs.lemmas.Bool.Decides.{nat_tests}
-use Rattle.std.proofs.lemmas.Bool.{cases_Bool}
-use Rattle.std.proofs.lemmas.Nat.{div_below, pow_pos, mod-mul-add, div-mul-add, mod_below, pow-add}
+use Rattle.c104_plan.{proofs.LayoutNumbers.{next_above, parts, rows_fit, times, whole_below}, specs.Layouts.{Layout, bit, cube, mesh}}
+use Rattle.{c104_plan.specs.{Layouts.mesh_beyond, Ports.Port}, std.proofs.Common.{None, Option, Some, ap, arith, false, nat_le, nat_lt}}
+use Rattle.std.proofs.Common.{not, refl, subst, suc, sym, true, zero, ℕ, ⊎_elim, ◌%◌, ◌*◌, ◌+◌, ◌-◌, ◌/◌, ◌<◌, ◌==◌, ◌^◌, ◌∙◌, ◌≡◌, ◌≢◌}
+use Rattle.std.proofs.{Common.◌≤◌, lemmas.{Bool.{Decides.nat_tests, cases_Bool}, Nat.{div-mul-add, div_below, mod-mul-add, mod_below}}}
+use Rattle.std.proofs.lemmas.Nat.{pow-add, pow_pos}
 use native.Mathlib.Nat.{pow-suc}
-use Rattle.c104_plan.specs.declared.ports.Port.TheVariants as port
-use Rattle.c104_plan.specs.Ports.{Port}
-use Rattle.c104_plan.specs.Layouts.{Layout, bit, cube, mesh, mesh_beyond}
-use Rattle.c104_plan.proofs.LayoutNumbers.{next_above, parts, rows_fit, times, whole_below}
 
 -- link l of switch s and link k of switch t are joined: each leads to the other, and a wire begins at one
 pub record IsJoin (layout : Layout) (s l t k : ℕ) : Type 0 where
   pub inside : t < layout.switches
   pub link : k < layout.links
-  pub back : layout.beyond t k ≡ Some (port.Switch s l)
+  pub back : layout.beyond t k ≡ Some (Port.Switch s l)
   pub one_end : layout.begins t k ≡ not (layout.begins s l)
   pub other : s ≢ t
 
 -- the same where the link is wired
 abbrev pub IsJoined : Layout → ℕ → ℕ → Option Port → Type 0
 IsJoined layout s l None = Unit {0}
-IsJoined layout s l (Some (port.Switch t k)) = IsJoin layout s l t k
-IsJoined layout s l (Some (port.Terminal u)) = ⊥
+IsJoined layout s l (Some (Port.Switch t k)) = IsJoin layout s l t k
+IsJoined layout s l (Some (Port.Terminal u)) = ⊥
 
 -- each link for a switch is joined to another, if it is wired
 abbrev pub AreJoined : Layout → Type 0

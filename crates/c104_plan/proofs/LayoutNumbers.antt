@@ -1,6 +1,6 @@
 -- Quotients, and multiples.
-use Rattle.std.proofs.Common.{◌≡◌, ℕ, zero, suc, ◌<◌, ◌≤◌, ◌+◌, ◌*◌, ◌/◌, ◌%◌, ◌^◌, refl, arith}
-use Rattle.std.proofs.lemmas.Nat.{div_below, div-add-mod', mod_below, mul-le}
+use Rattle.std.proofs.{Common.{arith, refl, suc, zero, ℕ, ◌%◌, ◌*◌, ◌+◌, ◌/◌, ◌<◌, ◌^◌, ◌≡◌, ◌≤◌}, lemmas.Nat.{div-add-mod', div_below}}
+use Rattle.std.proofs.lemmas.Nat.{mod_below, mul-le}
 
 pub times : (a b p : ℕ) → a ≤ b → a * p ≤ b * p
 times a b p le = mul-le a p b p le (omega arith)

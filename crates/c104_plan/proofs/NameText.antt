@@ -1,11 +1,7 @@
 -- A name is text.
-use Rattle.std.proofs.Common.{◌≡◌, ℕ, zero, suc, ◌<◌, true, List, [], ◌∷◌, arith, ◌&&◌, ◌||◌, ◌==◌, length, nat_lt}
-use Rattle.std.proofs.lemmas.Bool.{and_parts}
-use Rattle.std.proofs.lemmas.Bool.Decides.{nat_tests}
-use Rattle.std.specs.List.{list_all}
-use Rattle.std.specs.Str.{IsAscii, IsUtf8}
-use Rattle.std.proofs.lemmas.Str.{IsUtf8-from_ascii}
-use Rattle.c104_plan.specs.TextWords.{is_name, is_name_byte, is_digit, is_letter}
+use Rattle.{c104_plan.specs.TextWords.{is_digit, is_letter, is_name, is_name_byte}, std.proofs.Common.{List, [], arith, length, nat_lt}}
+use Rattle.std.proofs.{Common.{suc, true, zero, ℕ, ◌&&◌, ◌<◌, ◌==◌, ◌||◌, ◌∷◌, ◌≡◌}, lemmas.Bool.{Decides.nat_tests, and_parts}}
+use Rattle.std.{proofs.lemmas.Str.IsUtf8-from_ascii, specs.{List.list_all, Str.{IsAscii, IsUtf8}}}
 
 -- each byte of a name may stand in one
 pub name_bytes : (name : List ℕ) → is_name name ≡ true → list_all is_name_byte name ≡ true

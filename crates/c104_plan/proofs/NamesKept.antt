@@ -1,16 +1,9 @@
 -- A set of vectors of bytes, as the list of its texts.
-use Rattle.std.proofs.Common.{◌≡◌, ℕ, ◌+◌, Bool, true, false, cond, not, List, [], ◌∷◌, ◌++◌, map, position, nat_lt, bytes_eq, if◌then◌else◌, Some, None, refl, sym, ap, ◌∙◌}
-use Rattle.std.specs.List.{AllZip, list_any, prefix_len}
+use Rattle.c104_plan.{proofs.PortLemmas.list_any-map, specs.{PlanIndex.texts, PlanParts.without_first, Plans.Terminal}}
+use Rattle.{indexmap.specs.IndexSet.insert_key, std.proofs.Common.{Bool, List, None, Some, [], ap, bytes_eq, cond, false, if◌then◌else◌}}
+use Rattle.std.proofs.{Common.{map, nat_lt, not, position, refl, sym, true, ℕ, ◌++◌, ◌+◌, ◌∙◌, ◌∷◌, ◌≡◌}, lemmas.Cmp.nat_list_eq_equiv}
+use Rattle.std.{proofs.lemmas.{List.{length-map, map-append}, Simd.map-map}, specs.{Global.Vec, List.{AllZip, list_any, prefix_len}}}
 use Rattle.std.specs.Vec.{vec_len}
-use Rattle.std.specs.Global.{Vec}
-use Rattle.std.proofs.lemmas.Cmp.{nat_list_eq_equiv}
-use Rattle.std.proofs.lemmas.List.{length-map, map-append}
-use Rattle.indexmap.specs.IndexSet.{insert_key}
-use Rattle.c104_plan.proofs.PortLemmas.{list_any-map}
-use Rattle.c104_plan.specs.PlanIndex.{texts}
-use Rattle.c104_plan.specs.PlanParts.{without_first}
-use Rattle.c104_plan.specs.Plans.{Terminal}
-use Rattle.std.proofs.lemmas.Simd.{map-map}
 
 prefix_len-map : {X Y : Type 0} (test : Y → Bool) (f : X → Y) (xs : List X) → prefix_len test (map f xs) ≡ prefix_len (λ x. test (f x)) xs
 prefix_len-map test f [] = refl

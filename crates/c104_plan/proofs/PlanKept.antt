@@ -1,19 +1,15 @@
 -- What the type of a plan keeps, each addition keeps.
-use Rattle.std.proofs.Common.{◌≡◌, ℕ, ◌+◌, ◌<◌, ◌≤◌, ◌==◌, Bool, true, false, cond, List, [], ◌∷◌, ◌++◌, length, map, bytes_eq, All, sym, subst, ◌∙◌, ap, refl, arith, append_assoc, append-nil, length-append}
-use Rattle.std.proofs.lemmas.Bool.{or_from}
-use Rattle.std.proofs.lemmas.Cmp.{nat_list_eq_equiv}
-use Rattle.std.proofs.lemmas.List.{map-append}
-use Rattle.std.proofs.lemmas.List.Elements.{All-cons, All-head, All-tail, All-push, All-weaker, filter-append}
-use Rattle.std.proofs.lemmas.List.Folds.{list_any-append}
-use Rattle.std.specs.List.{list_any}
-use Rattle.c104_plan.specs.Distinctness.{AreDistinct}
-use Rattle.c104_plan.specs.TextWords.{is_name}
-use Rattle.c104_plan.specs.declared.ports.Port.TheVariants as port
-use Rattle.c104_plan.specs.Ports.{Port, Wire, is_port, both_ends, is_any_at, IsSwitchPort}
-use Rattle.c104_plan.specs.declared.plans.Shape.TheVariants.{Hand, Tree, UpDown, Mesh, Cube}
-use Rattle.c104_plan.specs.Plans.{Plan, PlanBase, PlanRandom, PlanRow, Shape, Terminal, IsOfShape, IsPlan, AreNames, AreTerminals, AreContinues, AreDeletes, AreBases, AreRandoms, AreRows, IsPlanWire, IsLaterPort, IsRange, IsPlanSelect, names, host_port, linked_ports, is_taken, is_linked, is_continued, is_deleted, is_row_of, rows_of, is_buffer_size, label_count, most_switches, most_terminals, most_header_bytes}
-use Rattle.c104_plan.proofs.Distinct.{distinct_inserted, distinct_pushed}
-use Rattle.c104_plan.proofs.PortLemmas.{is_port-flips, is_port-true, once-pushed}
+use Rattle.c104_plan.proofs.{Distinct.{distinct_inserted, distinct_pushed}, PortLemmas.{is_port-flips, is_port-true, once-pushed}}
+use Rattle.c104_plan.specs.{Distinctness.AreDistinct, Plans.{AreBases, AreContinues, AreDeletes, AreNames, AreRandoms, AreRows}}
+use Rattle.c104_plan.specs.Plans.{AreTerminals, IsLaterPort, IsOfShape, IsPlan, IsPlanSelect, IsPlanWire, IsRange, Plan, PlanBase}
+use Rattle.c104_plan.specs.Plans.{PlanRandom, PlanRow, Shape, Terminal, host_port, is_buffer_size, is_continued, is_deleted, is_linked}
+use Rattle.c104_plan.specs.Plans.{is_row_of, is_taken, label_count, linked_ports, most_header_bytes, most_switches, most_terminals, names}
+use Rattle.c104_plan.specs.{Plans.rows_of, Ports.{IsSwitchPort, Port, Wire, both_ends, is_any_at, is_port}, TextWords.is_name}
+use Rattle.{c104_plan.specs.declared.plans.Shape.TheVariants.{Cube, Hand, Mesh, Tree, UpDown}, std.proofs.Common.{All, Bool, List, [], ap}}
+use Rattle.std.proofs.Common.{append-nil, append_assoc, arith, bytes_eq, cond, false, length, length-append, map, refl, subst, sym, true, ℕ}
+use Rattle.std.proofs.{Common.{◌++◌, ◌+◌, ◌<◌, ◌==◌, ◌∙◌, ◌∷◌, ◌≡◌, ◌≤◌}, lemmas.{Bool.or_from, Cmp.nat_list_eq_equiv}}
+use Rattle.std.proofs.lemmas.List.{Elements.{All-cons, All-head, All-push, All-tail, All-weaker, filter-append}, Folds.list_any-append}
+use Rattle.std.{proofs.lemmas.List.map-append, specs.List.list_any}
 
 All-inserted : {X : Type 0} (P : X → Type 0) (xs ys : List X) (x : X) → All P (xs ++ ys) → P x → All P ((xs ++ x ∷ []) ++ ys)
 All-inserted P [] ys x all here = All-cons P x ys here all
@@ -26,12 +22,12 @@ names_flip a b = nat_list_eq_equiv.symm a b
 
 module _ (m n : ℕ) (more : m ≤ n) where
   port_of_more : (p : Port) → IsSwitchPort m p → IsSwitchPort n p
-  port_of_more (port.Switch s l) is = (omega (arith, is.0), is.1)
-  port_of_more (port.Terminal t) is = is
+  port_of_more (Port.Switch s l) is = (omega (arith, is.0), is.1)
+  port_of_more (Port.Terminal t) is = is
 
   later_of_more : (p : Port) → IsLaterPort m p → IsLaterPort n p
-  later_of_more (port.Switch s l) is = (omega (arith, is.0), is.1, is.2)
-  later_of_more (port.Terminal t) is = is
+  later_of_more (Port.Switch s l) is = (omega (arith, is.0), is.1, is.2)
+  later_of_more (Port.Terminal t) is = is
 
   terminals_of_more : (terminals : List Terminal) → AreTerminals m terminals → AreTerminals n terminals
   terminals_of_more terminals are = record {

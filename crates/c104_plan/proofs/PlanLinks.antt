@@ -1,10 +1,7 @@
 -- A port of a switch is linked where a terminal or a wire has it.
-use Rattle.std.proofs.Common.{◌≡◌, ◌||◌, Bool, true, false, List, [], ◌∷◌, map, ◌∙◌, ap, refl}
-use Rattle.std.specs.List.{list_any}
-use Rattle.std.proofs.lemmas.List.Folds.{list_any-append}
-use Rattle.c104_plan.specs.Ports.{Port, Wire, is_port, both_ends, is_any_at}
-use Rattle.c104_plan.specs.Plans.{Plan, Terminal, host_port, is_linked}
-use Rattle.c104_plan.proofs.PortLemmas.{list_any-map}
+use Rattle.c104_plan.{proofs.PortLemmas.list_any-map, specs.{Plans.{Plan, Terminal, host_port, is_linked}, Ports.{Port, Wire, both_ends}}}
+use Rattle.{c104_plan.specs.Ports.{is_any_at, is_port}, std.proofs.Common.{Bool, List, [], ap, false, map, refl, true, ◌||◌, ◌∙◌, ◌∷◌, ◌≡◌}}
+use Rattle.std.{proofs.lemmas.List.Folds.list_any-append, specs.List.list_any}
 
 or_assoc : (a b c : Bool) → (a || (b || c)) ≡ ((a || b) || c)
 or_assoc true b c = refl

@@ -1,10 +1,7 @@
 -- A name is taken where a switch or a terminal has it.
-use Rattle.std.proofs.Common.{◌≡◌, ℕ, ◌||◌, false, List, map, bytes_eq, sym, ◌∙◌, ap}
+use Rattle.{c104_plan.{proofs.PortLemmas.list_any-map, specs.Plans.{Plan, Terminal, is_taken}}, std.proofs.Common.{List, ap, bytes_eq}}
+use Rattle.std.proofs.{Common.{false, map, sym, ℕ, ◌||◌, ◌∙◌, ◌≡◌}, lemmas.{Bool.or_parts, List.Folds.list_any-append}}
 use Rattle.std.specs.List.{list_any}
-use Rattle.std.proofs.lemmas.Bool.{or_parts}
-use Rattle.std.proofs.lemmas.List.Folds.{list_any-append}
-use Rattle.c104_plan.specs.Plans.{Plan, Terminal, is_taken}
-use Rattle.c104_plan.proofs.PortLemmas.{list_any-map}
 
 pub taken_either : (plan : Plan) (name : List ℕ) → is_taken plan name ≡ (list_any (λ other. bytes_eq other name) plan.switches || list_any (λ (t : Terminal). bytes_eq t.name name) plan.terminals)
 unfolding is_taken

@@ -1,8 +1,7 @@
 -- Where the ranges of a plan's terminals end.
-use Rattle.std.proofs.Common.{◌≡◌, ◌<◌, ℕ, zero, suc, ◌+◌, ◌-◌, ◌≤◌, List, [], ◌∷◌, length, slice_get, Some, All, ap, lit≤, arith}
-use Rattle.std.proofs.lemmas.List.Elements.{All-head, All-tail}
+use Rattle.{c104_plan.specs.Plans.{IsRange, Terminal, next_first}, std.proofs.Common.{All, List, Some, [], ap, arith, length, lit≤}}
+use Rattle.std.proofs.{Common.{slice_get, suc, zero, ℕ, ◌+◌, ◌-◌, ◌<◌, ◌∷◌, ◌≡◌, ◌≤◌}, lemmas.List.Elements.{All-head, All-tail}}
 use Rattle.std.proofs.lemmas.Option.{slice_get_within}
-use Rattle.c104_plan.specs.Plans.{Terminal, IsRange, next_first}
 
 pub next_first-le : (terminals : List Terminal) → All (λ (t : Terminal). IsRange t.first t.count) terminals → next_first terminals ≤ 65536
 next_first-le [] all = lit≤ tt

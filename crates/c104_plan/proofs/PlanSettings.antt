@@ -1,17 +1,11 @@
 -- What is set at the links of a plan's switches, made link by link and switch by switch.
-use Rattle.std.proofs.Common.{◌≡◌, ℕ, ◌+◌, ◌<◌, ◌≤◌, Bool, true, false, cond, List, [], ◌∷◌, ◌++◌, length, map, get_or, All, subst, sym, ◌∙◌, ap, arith, lit<, lit≤, Option, Some, None, refl}
-use Rattle.std.proofs.lemmas.List.{length-map}
-use Rattle.std.proofs.lemmas.List.Elements.{All-head, All-map, All-same, All-tail}
-use Rattle.std.proofs.lemmas.List.FromFn.{length-map-range_with_len, map-range_with_len_more}
+use Rattle.c104_plan.{proofs.PlanTables.table_in_range, specs.PlanImage.{AreSettings, Fits, Image, is_random_of, plain_settings_of}}
+use Rattle.c104_plan.specs.{PlanImage.{range_of, settings_of, switch_settings, with_random}, Plans.{IsPlan, Plan, PlanRandom}, Ports.Port}
+use Rattle.c104_regs.{proofs.RangeNumbers.IsInRange-from, specs.{Ranges.{IsInRange, IsTableInRange}, declared.settings.Settings.Settings}}
+use Rattle.std.proofs.Common.{All, Bool, List, None, Option, Some, [], ap, arith, cond, false, get_or, length, lit<, lit≤, map, refl, subst}
+use Rattle.std.proofs.{Common.{sym, true, ℕ, ◌++◌, ◌+◌, ◌<◌, ◌∙◌, ◌∷◌, ◌≡◌, ◌≤◌}, lemmas.List.Elements.{All-head, All-map, All-same}}
+use Rattle.std.proofs.lemmas.List.{Elements.All-tail, FromFn.{length-map-range_with_len, map-range_with_len_more}, length-map}
 use Rattle.std.specs.List.{find, range_with_len}
-use Rattle.c104_regs.specs.Ranges.{IsInRange, IsTableInRange}
-use Rattle.c104_regs.proofs.RangeNumbers.{IsInRange-from}
-use Rattle.c104_regs.specs.declared.settings.Settings.{Settings}
-use Rattle.c104_plan.specs.declared.ports.Port.TheVariants as port
-use Rattle.c104_plan.specs.Ports.{Port}
-use Rattle.c104_plan.specs.Plans.{IsPlan, Plan, PlanRandom}
-use Rattle.c104_plan.specs.PlanImage.{AreSettings, Fits, Image, is_random_of, plain_settings_of, range_of, settings_of, switch_settings, with_random}
-use Rattle.c104_plan.proofs.PlanTables.{table_in_range}
 
 -- one more value of a function
 pub made_next : {X : Type 0} (f : ℕ → X) (n : ℕ) (before after : List X) (x : X) → before ≡ map f (range_with_len 0 n) → after ≡ before ++ x ∷ [] → x ≡ f n → after ≡ map f (range_with_len 0 (n + 1))
@@ -20,7 +14,7 @@ made_next f n before after x made pushed is =
 
 -- what is set at a link of a switch
 abbrev pub settings_at : Plan → ℕ → ℕ → Settings
-settings_at plan switch link = settings_of plan (port.Switch switch link)
+settings_at plan switch link = settings_of plan (Port.Switch switch link)
 
 -- the settings of all links, after the last
 pub settings_last : (plan : Plan) (switch links : ℕ) → links ≡ 32 → map (settings_at plan switch) (range_with_len 0 links) ≡ switch_settings plan switch
@@ -63,7 +57,7 @@ pub are_settings : (plan : Plan) (switch : ℕ) → IsPlan plan → AreSettings 
 unfolding switch_settings
 are_settings plan switch kept = (
   length-map-range_with_len (settings_at plan switch) 0 32,
-  All-map IsInRange (settings_at plan switch) (range_with_len 0 32) (λ k d inside. settings_in_range plan (port.Switch switch (get_or (range_with_len 0 32) k d)) kept),
+  All-map IsInRange (settings_at plan switch) (range_with_len 0 32) (λ k d inside. settings_in_range plan (Port.Switch switch (get_or (range_with_len 0 32) k d)) kept),
 )
 
 -- and so has each switch

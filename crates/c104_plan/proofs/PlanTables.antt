@@ -1,23 +1,15 @@
 -- The rows of an input, filled into its table one after another.
-use Rattle.std.proofs.Common.{◌≡◌, ◌||◌, ℕ, suc, ◌+◌, ◌-◌, ◌<◌, ◌≤◌, Bool, true, false, cond, List, [], ◌∷◌, ◌++◌, length, map, filter, take, set, get_or, replicate, All, inl, inr, subst, sym, ◌∙◌, ap, arith, append_assoc, append-nil, length-append, Some, lit<, refl}
-use Rattle.std.proofs.Math.Seq.{set-append_seam}
-use Rattle.std.proofs.lemmas.List.{get_or_past, length-map, length-replicate, map-append, take_all}
-use Rattle.std.proofs.lemmas.List.Elements.{All-head, All-tail, All-append, All-filter, All-map, All-replicate, All-weaker, filter_more}
-use Rattle.std.proofs.lemmas.Bool.{cases_lt}
-use Rattle.std.proofs.lemmas.Bool.Decides.{nat_tests}
-use Rattle.std.specs.List.{find, list_any}
-use Rattle.std.proofs.lemmas.List.Sums.{length-filter, sum_by-take-le}
-use Rattle.c104_regs.specs.Ranges.{IsTableInRange}
-use Rattle.c104_regs.proofs.RangeNumbers.{IsSelectable, IsTableInRange-from}
-use Rattle.c104_interval.specs.declared.intervals.Select.{Select}
-use Rattle.c104_interval.specs.declared.intervals.Select.TheVariants.{Link, Discard, Sink}
-use Rattle.c104_interval.specs.declared.intervals.Row.{Row}
-use Rattle.c104_interval.specs.declared.intervals.Table.{Table}
-use Rattle.c104_interval.specs.Selection.{reset_row}
-use Rattle.c104_plan.specs.Ports.{Port, is_any_at, is_of_switch, is_port}
-use Rattle.c104_plan.specs.declared.ports.Port.TheVariants as port
-use Rattle.c104_plan.specs.Plans.{IsPlan, IsPlanSelect, Plan, PlanBase, PlanRow, is_base_of, is_row_of, rows_of}
-use Rattle.c104_plan.specs.PlanImage.{base_of, base_or_zero, padded_rows, table_of, table_row}
+use Rattle.c104_interval.specs.{Selection.reset_row, declared.intervals.{Row.Row, Select.{Select, TheVariants.{Discard, Link, Sink}}}}
+use Rattle.{c104_interval.specs.declared.intervals.Table.Table, c104_plan.specs.PlanImage.{base_of, base_or_zero, padded_rows, table_of}}
+use Rattle.c104_plan.specs.{PlanImage.table_row, Plans.{IsPlan, IsPlanSelect, Plan, PlanBase, PlanRow, is_base_of, is_row_of, rows_of}}
+use Rattle.{c104_plan.specs.Ports.{Port, is_any_at, is_of_switch, is_port}, c104_regs.proofs.RangeNumbers.IsSelectable}
+use Rattle.{c104_regs.{proofs.RangeNumbers.IsTableInRange-from, specs.Ranges.IsTableInRange}, std.proofs.Common.{All, Bool, List, Some, []}}
+use Rattle.std.proofs.Common.{ap, append-nil, append_assoc, arith, cond, false, filter, get_or, inl, inr, length, length-append, lit<, map}
+use Rattle.std.proofs.Common.{refl, replicate, set, subst, suc, sym, take, true, ℕ, ◌++◌, ◌+◌, ◌-◌, ◌<◌, ◌||◌, ◌∙◌, ◌∷◌, ◌≡◌, ◌≤◌}
+use Rattle.std.proofs.{Math.Seq.set-append_seam, lemmas.{Bool.{Decides.nat_tests, cases_lt}, List.Elements.{All-append, All-filter}}}
+use Rattle.std.proofs.lemmas.List.{Elements.{All-head, All-map, All-replicate, All-tail, All-weaker, filter_more}, Sums.length-filter}
+use Rattle.std.{proofs.lemmas.List.{Sums.sum_by-take-le, get_or_past, length-map, length-replicate, map-append, take_all}, specs.List.find}
+use Rattle.std.specs.List.{list_any}
 
 -- those of the first so many rows that are of this input
 abbrev pub so_far : Port → List PlanRow → ℕ → List Row
@@ -83,12 +75,12 @@ table_last plan p rows i same all =
     ∙ ap (λ (own : List PlanRow). of_rows (base_of plan p) (padded_rows (map table_row own))) same
 
 -- the rows of an input are among those of its switch
-row_among : (s l : ℕ) (q : Port) → is_port q (port.Switch s l) ≡ true → is_of_switch s q ≡ true
-row_among s l (port.Switch t k) is = grind (arith, nat_tests)
-row_among s l (port.Terminal t) is = cc
+row_among : (s l : ℕ) (q : Port) → is_port q (Port.Switch s l) ≡ true → is_of_switch s q ≡ true
+row_among s l (Port.Switch t k) is = grind (arith, nat_tests)
+row_among s l (Port.Terminal t) is = cc
 
-rows_cons : (s l : ℕ) (row : PlanRow) (rows more : List PlanRow) (own of_switch : Bool) → own ≡ is_row_of (port.Switch s l) row → of_switch ≡ is_of_switch s row.port → filter (is_row_of (port.Switch s l)) more ≡ filter (is_row_of (port.Switch s l)) rows
-    → filter (is_row_of (port.Switch s l)) (cond of_switch (row ∷ more) more) ≡ cond own (row ∷ filter (is_row_of (port.Switch s l)) rows) (filter (is_row_of (port.Switch s l)) rows)
+rows_cons : (s l : ℕ) (row : PlanRow) (rows more : List PlanRow) (own of_switch : Bool) → own ≡ is_row_of (Port.Switch s l) row → of_switch ≡ is_of_switch s row.port → filter (is_row_of (Port.Switch s l)) more ≡ filter (is_row_of (Port.Switch s l)) rows
+    → filter (is_row_of (Port.Switch s l)) (cond of_switch (row ∷ more) more) ≡ cond own (row ∷ filter (is_row_of (Port.Switch s l)) rows) (filter (is_row_of (Port.Switch s l)) rows)
 rows_cons s l row rows more true true is of same = rw (sym is) (ap (λ xs. row ∷ xs) same)
 rows_cons s l row rows more false true is of same = rw (sym is) same
 rows_cons s l row rows more false false is of same = same
@@ -96,7 +88,7 @@ rows_cons s l row rows more true false is of same =
     let among : is_of_switch s row.port ≡ true = row_among s l row.port (sym is) in
     cc
 
-pub rows_of_input : (s l : ℕ) (rows : List PlanRow) → rows_of (port.Switch s l) (filter (λ row. is_of_switch s row.port) rows) ≡ rows_of (port.Switch s l) rows
+pub rows_of_input : (s l : ℕ) (rows : List PlanRow) → rows_of (Port.Switch s l) (filter (λ row. is_of_switch s row.port) rows) ≡ rows_of (Port.Switch s l) rows
 unfolding rows_of
 rows_of_input s l [] = refl
 rows_of_input s l (row ∷ rows) = rows_cons s l row rows (filter (λ row. is_of_switch s row.port) rows) _ _ refl refl (rows_of_input s l rows)
@@ -150,8 +142,8 @@ table_in_range plan p kept =
     })
 
 -- and so are its continues
-continues_cons : (s l : ℕ) (q : Port) (ports more : List Port) (own of_switch : Bool) → own ≡ is_port q (port.Switch s l) → of_switch ≡ is_of_switch s q → list_any (λ p. is_port p (port.Switch s l)) more ≡ list_any (λ p. is_port p (port.Switch s l)) ports
-    → list_any (λ p. is_port p (port.Switch s l)) (cond of_switch (q ∷ more) more) ≡ (own || list_any (λ p. is_port p (port.Switch s l)) ports)
+continues_cons : (s l : ℕ) (q : Port) (ports more : List Port) (own of_switch : Bool) → own ≡ is_port q (Port.Switch s l) → of_switch ≡ is_of_switch s q → list_any (λ p. is_port p (Port.Switch s l)) more ≡ list_any (λ p. is_port p (Port.Switch s l)) ports
+    → list_any (λ p. is_port p (Port.Switch s l)) (cond of_switch (q ∷ more) more) ≡ (own || list_any (λ p. is_port p (Port.Switch s l)) ports)
 continues_cons s l q ports more true true is of same = rw (sym is) refl
 continues_cons s l q ports more false true is of same = rw (sym is) same
 continues_cons s l q ports more false false is of same = same
@@ -159,7 +151,7 @@ continues_cons s l q ports more true false is of same =
     let among : is_of_switch s q ≡ true = row_among s l q (sym is) in
     cc
 
-pub continues_of_link : (s l : ℕ) (ports : List Port) → is_any_at (λ q. q) (filter (λ q. is_of_switch s q) ports) (port.Switch s l) ≡ is_any_at (λ q. q) ports (port.Switch s l)
+pub continues_of_link : (s l : ℕ) (ports : List Port) → is_any_at (λ q. q) (filter (λ q. is_of_switch s q) ports) (Port.Switch s l) ≡ is_any_at (λ q. q) ports (Port.Switch s l)
 unfolding is_any_at
 continues_of_link s l [] = refl
 continues_of_link s l (q ∷ ports) = continues_cons s l q ports (filter (λ q. is_of_switch s q) ports) _ _ refl refl (continues_of_link s l ports)

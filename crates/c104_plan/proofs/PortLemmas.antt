@@ -1,34 +1,28 @@
 -- Ports that are tested to be the same are, and lists of what stands at different ports.
-use Rattle.std.proofs.Common.{◌≡◌, ◌≢◌, ◌==◌, ◌||◌, ◌⊎◌, inl, inr, Bool, true, false, List, [], ◌∷◌, ◌++◌, map, subst, sym, ◌∙◌, ap, refl, arith}
-use Rattle.std.specs.List.{list_any}
-use Rattle.c104_plan.specs.Distinctness.{AreDistinct}
-use Rattle.std.proofs.lemmas.Bool.{and_parts}
-use Rattle.std.proofs.lemmas.Bool.Decides.{nat_tests}
-use Rattle.std.proofs.lemmas.List.{map-append}
-use Rattle.c104_plan.specs.declared.ports.Port.TheVariants as port
-use Rattle.c104_plan.specs.Ports.{Port, is_port, is_any_at, AreOncePerPort}
-use Rattle.c104_plan.proofs.Distinct.{distinct_pushed}
+use Rattle.c104_plan.{proofs.Distinct.distinct_pushed, specs.{Distinctness.AreDistinct, Ports.{AreOncePerPort, Port, is_any_at, is_port}}}
+use Rattle.std.proofs.Common.{Bool, List, [], ap, arith, false, inl, inr, map, refl, subst, sym, true, ◌++◌, ◌==◌, ◌||◌, ◌∙◌, ◌∷◌, ◌≡◌, ◌≢◌}
+use Rattle.std.{proofs.{Common.◌⊎◌, lemmas.{Bool.{Decides.nat_tests, and_parts}, List.map-append}}, specs.List.list_any}
 
 -- a port that is tested to be another is that one
 pub is_port-true : (p q : Port) → is_port p q ≡ true → p ≡ q
-is_port-true (port.Switch s l) (port.Switch s' l') is =
+is_port-true (Port.Switch s l) (Port.Switch s' l') is =
     let parts = and_parts (s == s') (l == l') is in
     let switches : (s == s') ≡ true = parts.0 in
     let links : (l == l') ≡ true = parts.1 in
     let same_switch : s ≡ s' = grind (arith, nat_tests) in
     let same_link : l ≡ l' = grind (arith, nat_tests) in
     cc
-is_port-true (port.Terminal t) (port.Terminal t') is = let same : t ≡ t' = grind (arith, nat_tests) in cc
-is_port-true (port.Switch s l) (port.Terminal t) is = cc
-is_port-true (port.Terminal t) (port.Switch s l) is = cc
+is_port-true (Port.Terminal t) (Port.Terminal t') is = let same : t ≡ t' = grind (arith, nat_tests) in cc
+is_port-true (Port.Switch s l) (Port.Terminal t) is = cc
+is_port-true (Port.Terminal t) (Port.Switch s l) is = cc
 
 -- a port is tested to be itself
 pub is_port-refl : (p : Port) → is_port p p ≡ true
-is_port-refl (port.Switch s l) =
+is_port-refl (Port.Switch s l) =
     let switches : (s == s) ≡ true = grind (arith, nat_tests) in
     let links : (l == l) ≡ true = grind (arith, nat_tests) in
     rw (switches, links) refl
-is_port-refl (port.Terminal t) = let same : (t == t) ≡ true = grind (arith, nat_tests) in same
+is_port-refl (Port.Terminal t) = let same : (t == t) ≡ true = grind (arith, nat_tests) in same
 
 -- two ports are one, or tested to differ
 pub cases_port : (p q : Port) → (p ≡ q) ⊎ (is_port p q ≡ false)

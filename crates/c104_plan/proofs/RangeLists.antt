@@ -1,10 +1,8 @@
 -- Lists made of a range of numbers: what holds of each element, and that no two are the same.
-use Rattle.std.proofs.Common.{◌≡◌, ℕ, zero, suc, ◌<◌, ◌≤◌, ◌+◌, ◌||◌, Bool, false, List, [], ◌∷◌, ◌++◌, map, All, refl, sym, ap, ◌∙◌, arith}
-use Rattle.std.specs.List.{AllByRecursion, flat_map, list_any, range_with_len}
-use Rattle.std.proofs.lemmas.List.Elements.{All-cons, All-nil}
-use Rattle.std.proofs.lemmas.List.{flat_map_more}
-use Rattle.std.proofs.lemmas.List.FromFn.{map-range_with_len_more}
-use Rattle.c104_plan.specs.Distinctness.{AreDistinct}
+use Rattle.{c104_plan.specs.Distinctness.AreDistinct, std.proofs.Common.{All, Bool, List, [], ap, arith, false, map, refl, suc, sym, zero}}
+use Rattle.std.proofs.{Common.{ℕ, ◌++◌, ◌+◌, ◌<◌, ◌||◌, ◌∙◌, ◌∷◌, ◌≡◌, ◌≤◌}, lemmas.List.Elements.{All-cons, All-nil}}
+use Rattle.std.{proofs.lemmas.List.{FromFn.map-range_with_len_more, flat_map_more}, specs.List.{AllByRecursion, flat_map, list_any}}
+use Rattle.std.specs.List.{range_with_len}
 
 pub all_range : {X : Type 0} (P : X → Type 0) (f : ℕ → X) (n count : ℕ) → ((i : ℕ) → i < n + count → P (f i)) → All P (map f (range_with_len n count))
 all_range P f n zero each = All-nil P

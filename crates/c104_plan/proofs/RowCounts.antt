@@ -1,26 +1,23 @@
 -- How many rows each input has, counted as they come.
-use Rattle.std.proofs.Common.{◌≡◌, ◌≢◌, ◌<◌, ℕ, ◌+◌, ◌*◌, Bool, true, false, cond, List, [], ◌∷◌, ◌++◌, length, replicate, get_or, set, subst, sym, ◌∙◌, ap, refl, arith, append-nil, length-append}
-use Rattle.std.proofs.lemmas.List.{length-replicate, length-set, get_or-replicate, get_or-set_same, get_or-set_other}
-use Rattle.std.proofs.lemmas.List.Elements.{filter-append}
-use Rattle.c104_regs.specs.declared.registers.TheConstants.{LINKS}
-use Rattle.c104_plan.specs.declared.ports.Port.TheVariants as port
-use Rattle.c104_plan.specs.Ports.{Port, is_port, IsSwitchPort}
-use Rattle.c104_plan.specs.Plans.{PlanRow, is_row_of, most_switches, rows_of}
-use Rattle.c104_plan.specs.PlanIndex.{AreCounted, input_place}
-use Rattle.c104_plan.proofs.PortLemmas.{is_port-refl, is_port-true}
+use Rattle.c104_plan.{proofs.PortLemmas.{is_port-refl, is_port-true}, specs.{PlanIndex.{AreCounted, input_place}, Plans.PlanRow}}
+use Rattle.c104_plan.specs.{Plans.{is_row_of, most_switches, rows_of}, Ports.{IsSwitchPort, Port, is_port}}
+use Rattle.{c104_regs.specs.declared.registers.TheConstants.LINKS, std.proofs.Common.{Bool, List, [], ap, append-nil, arith, cond, false}}
+use Rattle.std.proofs.Common.{get_or, length, length-append, refl, replicate, set, subst, sym, true, ℕ, ◌*◌, ◌++◌, ◌+◌, ◌<◌, ◌∙◌, ◌∷◌, ◌≡◌}
+use Rattle.std.proofs.{Common.◌≢◌, lemmas.List.{Elements.filter-append, get_or-replicate, get_or-set_other, get_or-set_same}}
+use Rattle.std.proofs.lemmas.List.{length-replicate, length-set}
 
 -- each input has a place of its own, below how many there are
 pub place_inside : (p : Port) → IsSwitchPort most_switches p → input_place p < most_switches * LINKS
-place_inside (port.Switch s l) is = omega (arith, is.0, is.1)
-place_inside (port.Terminal t) is = absurd is
+place_inside (Port.Switch s l) is = omega (arith, is.0, is.1)
+place_inside (Port.Terminal t) is = absurd is
 
 one_place : (p q : Port) → IsSwitchPort most_switches p → IsSwitchPort most_switches q → input_place p ≡ input_place q → p ≡ q
-one_place (port.Switch s l) (port.Switch s' l') is is' same =
+one_place (Port.Switch s l) (Port.Switch s' l') is is' same =
     let switch : s ≡ s' = omega (arith, is.1, is'.1, same) in
     let link : l ≡ l' = omega (arith, is.1, is'.1, same) in
     cc
-one_place (port.Switch s l) (port.Terminal t) is is' same = absurd is'
-one_place (port.Terminal t) q is is' same = absurd is
+one_place (Port.Switch s l) (Port.Terminal t) is is' same = absurd is'
+one_place (Port.Terminal t) q is is' same = absurd is
 
 -- no row
 pub counted_none : AreCounted (replicate (most_switches * LINKS) 0) []

@@ -1,22 +1,17 @@
 -- The plan by hand that has an image keeps what every plan does, and is of the same network as the plan that it is made of.
-use Rattle.std.proofs.Common.{◌≡◌, ℕ, zero, suc, ◌<◌, ◌≤◌, ◌&&◌, Bool, true, false, not, if◌then◌else◌, List, [], ◌∷◌, ◌++◌, length, map, nat_le, nat_lt, slice_get, get_or, All, ap, arith, refl, subst, sym, ◌∙◌}
-use Rattle.std.proofs.lemmas.Bool.{and_parts, not-true, ltb-true, leb-true}
-use Rattle.std.proofs.lemmas.List.Elements.{All-cons, All-head, All-nil, All-tail}
-use Rattle.c104_interval.specs.declared.intervals.Row.{Row}
-use Rattle.c104_interval.specs.declared.intervals.Select.{Select}
-use Rattle.c104_interval.specs.declared.intervals.Select.TheVariants.{Link, Discard, Sink}
-use Rattle.c104_interval.specs.Selection.{reset_row}
-use Rattle.c104_regs.specs.declared.settings.Settings.{Settings}
-use Rattle.c104_regs.specs.Settings.{reset_settings}
-use Rattle.c104_plan.specs.declared.plans.Shape.TheVariants.{Hand}
-use Rattle.c104_plan.specs.declared.ports.Port.TheVariants as port
-use Rattle.c104_plan.specs.Distinctness.{AreDistinct}
-use Rattle.c104_plan.specs.Ports.{Port, both_ends, is_any_at, is_port, IsSwitchPort}
-use Rattle.c104_plan.specs.Plans.{Plan, PlanBase, PlanRandom, Terminal, AreNames, IsPlan, IsPlanSelect, IsRange, host_port, is_continued, is_deleted, label_count, rows_of}
-use Rattle.c104_plan.specs.PlanImage.{Fits, Image, IsImage}
-use Rattle.c104_plan.specs.RowPlans.{IsOfNetwork, base_given, continue_given, delete_given, deletes_given, is_deleting_at, is_plan_select, link_given, links_given, random_given, row_given, row_plan, rows_given, settings_in, switches_given, unset_plan, used_rows, with_ranges}
-use Rattle.c104_plan.proofs.PlanKept.{with_base, with_continue, with_delete, with_random, with_row}
-use Rattle.c104_plan.proofs.RowPlanSteps.{hosts-with_ranges, length-with_ranges, names-with_ranges}
+use Rattle.c104_interval.specs.{Selection.reset_row, declared.intervals.{Row.Row, Select.{Select, TheVariants.{Discard, Link, Sink}}}}
+use Rattle.c104_plan.proofs.{PlanKept.{with_base, with_continue, with_delete, with_random, with_row}, RowPlanSteps.hosts-with_ranges}
+use Rattle.c104_plan.{proofs.RowPlanSteps.{length-with_ranges, names-with_ranges}, specs.{Distinctness.AreDistinct, PlanImage.Fits}}
+use Rattle.c104_plan.specs.{PlanImage.{Image, IsImage}, Plans.{AreNames, IsPlan, IsPlanSelect, IsRange, Plan, PlanBase, PlanRandom}}
+use Rattle.c104_plan.specs.{Plans.{Terminal, host_port, is_continued, is_deleted, label_count, rows_of}, Ports.{IsSwitchPort, Port}}
+use Rattle.c104_plan.specs.{Ports.{both_ends, is_any_at, is_port}, RowPlans.{IsOfNetwork, base_given, continue_given, delete_given}}
+use Rattle.c104_plan.specs.RowPlans.{deletes_given, is_deleting_at, is_plan_select, link_given, links_given, random_given, row_given}
+use Rattle.c104_plan.specs.RowPlans.{row_plan, rows_given, settings_in, switches_given, unset_plan, used_rows, with_ranges}
+use Rattle.{c104_plan.specs.declared.plans.Shape.TheVariants.Hand, c104_regs.specs.Settings.reset_settings}
+use Rattle.{c104_regs.specs.declared.settings.Settings.Settings, std.proofs.Common.{All, Bool, List, [], ap, arith, false, get_or}}
+use Rattle.std.proofs.Common.{if◌then◌else◌, length, map, nat_le, nat_lt, not, refl, slice_get, subst, suc, sym, true, zero, ℕ, ◌&&◌, ◌++◌}
+use Rattle.std.proofs.{Common.{◌<◌, ◌∙◌, ◌∷◌, ◌≡◌, ◌≤◌}, lemmas.{Bool.{and_parts, leb-true, ltb-true, not-true}, List.Elements.All-cons}}
+use Rattle.std.proofs.lemmas.List.Elements.{All-head, All-nil, All-tail}
 
 -- a plan line by line with more lines that set something at links
 pub record IsSetFurther (plan next : Plan) : Type 0 where
@@ -49,14 +44,14 @@ selects Sink is = tt
 
 -- one more line
 module _ (plan : Plan) (kept : IsPlan plan) (hand : plan.shape ≡ Hand) where
-  continue_kept : (s l : ℕ) (continues : Bool) → IsSwitchPort (length plan.switches) (port.Switch s l) → IsSetFurther plan (continue_given s l continues plan)
-  continue_kept s l continues of_switch = by_test (continues && (nat_lt 0 l && not (is_continued plan (port.Switch s l)))) refl
+  continue_kept : (s l : ℕ) (continues : Bool) → IsSwitchPort (length plan.switches) (Port.Switch s l) → IsSetFurther plan (continue_given s l continues plan)
+  continue_kept s l continues of_switch = by_test (continues && (nat_lt 0 l && not (is_continued plan (Port.Switch s l)))) refl
     where
-      by_test : (due : Bool) → (continues && (nat_lt 0 l && not (is_continued plan (port.Switch s l)))) ≡ due → IsSetFurther plan (record plan { continues = if due then plan.continues ++ port.Switch s l ∷ [] else plan.continues })
+      by_test : (due : Bool) → (continues && (nat_lt 0 l && not (is_continued plan (Port.Switch s l)))) ≡ due → IsSetFurther plan (record plan { continues = if due then plan.continues ++ Port.Switch s l ∷ [] else plan.continues })
       by_test true is =
-          let parts = and_parts continues (nat_lt 0 l && not (is_continued plan (port.Switch s l))) is in
-          let later = and_parts (nat_lt 0 l) (not (is_continued plan (port.Switch s l))) parts.1 in
-          record { kept = with_continue plan kept (port.Switch s l) hand (of_switch.0, ltb-true _ _ later.0, of_switch.1) (not-true _ later.1); shape = hand; header = refl; cap = refl; switches = refl; terminals = refl; wires = refl }
+          let parts = and_parts continues (nat_lt 0 l && not (is_continued plan (Port.Switch s l))) is in
+          let later = and_parts (nat_lt 0 l) (not (is_continued plan (Port.Switch s l))) parts.1 in
+          record { kept = with_continue plan kept (Port.Switch s l) hand (of_switch.0, ltb-true _ _ later.0, of_switch.1) (not-true _ later.1); shape = hand; header = refl; cap = refl; switches = refl; terminals = refl; wires = refl }
       by_test false is = as_it_was plan kept hand
 
   base_kept : (p : Port) (base : ℕ) → IsSwitchPort (length plan.switches) p → IsSetFurther plan (base_given p base plan)
@@ -103,22 +98,22 @@ module _ (plan : Plan) (kept : IsPlan plan) (hand : plan.shape ≡ Hand) where
       by_test false is = as_it_was plan kept hand
 
 -- a link of a switch of a plan is one of the plan with more lines
-of_next : (plan next : Plan) (s l : ℕ) → IsSetFurther plan next → IsSwitchPort (length plan.switches) (port.Switch s l) → IsSwitchPort (length next.switches) (port.Switch s l)
+of_next : (plan next : Plan) (s l : ℕ) → IsSetFurther plan next → IsSwitchPort (length plan.switches) (Port.Switch s l) → IsSwitchPort (length next.switches) (Port.Switch s l)
 of_next plan next s l is of_switch = (omega (arith, ap length is.switches, of_switch.0), of_switch.1)
 
 -- the lines of rows
-rows_kept : (plan : Plan) → IsPlan plan → plan.shape ≡ Hand → (s l : ℕ) (rows : List Row) (k : ℕ) → IsSwitchPort (length plan.switches) (port.Switch s l) → IsSetFurther plan (rows_given (port.Switch s l) rows k plan)
+rows_kept : (plan : Plan) → IsPlan plan → plan.shape ≡ Hand → (s l : ℕ) (rows : List Row) (k : ℕ) → IsSwitchPort (length plan.switches) (Port.Switch s l) → IsSetFurther plan (rows_given (Port.Switch s l) rows k plan)
 rows_kept plan kept hand s l rows zero of_switch = as_it_was plan kept hand
 rows_kept plan kept hand s l rows (suc k) of_switch =
-    let now : Plan = rows_given (port.Switch s l) rows k plan in
+    let now : Plan = rows_given (Port.Switch s l) rows k plan in
     let before : IsSetFurther plan now = rows_kept plan kept hand s l rows k of_switch in
-    and_then plan now _ before (row_kept now before.kept before.shape (port.Switch s l) (get_or rows k reset_row) (of_next plan now s l before of_switch))
+    and_then plan now _ before (row_kept now before.kept before.shape (Port.Switch s l) (get_or rows k reset_row) (of_next plan now s l before of_switch))
 
 -- the lines of a link
-pub link_kept : (plan : Plan) → IsPlan plan → plan.shape ≡ Hand → (s l : ℕ) (settings : Settings) → IsSwitchPort (length plan.switches) (port.Switch s l) → IsSetFurther plan (link_given s l settings plan)
+pub link_kept : (plan : Plan) → IsPlan plan → plan.shape ≡ Hand → (s l : ℕ) (settings : Settings) → IsSwitchPort (length plan.switches) (Port.Switch s l) → IsSetFurther plan (link_given s l settings plan)
 unfolding link_given
 link_kept plan kept hand s l settings of_switch =
-    let p : Port = port.Switch s l in
+    let p : Port = Port.Switch s l in
     let one : Plan = continue_given s l settings.continue_group plan in
     let two : Plan = base_given p settings.table.base one in
     let three : Plan = rows_given p settings.table.rows (used_rows settings.table.rows) two in

@@ -1,11 +1,9 @@
 -- The lines that give an image, made row by row, link by link and switch by switch.
-use Rattle.std.proofs.Common.{◌≡◌, ℕ, zero, suc, ◌+◌, ◌<◌, ◌≤◌, ◌==◌, ◌&&◌, Bool, true, false, if◌then◌else◌, List, [], ◌∷◌, ◌++◌, length, map, take, set, get_or, slice_get, Some, refl, sym, ap, ◌∙◌, arith}
-use Rattle.std.proofs.lemmas.Bool.Decides.{nat_tests}
-use Rattle.std.proofs.lemmas.List.{length-take-le, take_more}
-use Rattle.c104_interval.specs.declared.intervals.Row.{Row}
-use Rattle.c104_regs.specs.declared.settings.Settings.{Settings}
-use Rattle.c104_plan.specs.Plans.{Plan, Terminal, host_port}
-use Rattle.c104_plan.specs.RowPlans.{is_reset_row, links_given, settings_in, switches_given, used_rows, with_ranges}
+use Rattle.{c104_interval.specs.declared.intervals.Row.Row, c104_plan.specs.{Plans.{Plan, Terminal, host_port}, RowPlans.is_reset_row}}
+use Rattle.c104_plan.specs.RowPlans.{links_given, settings_in, switches_given, used_rows, with_ranges}
+use Rattle.{c104_regs.specs.declared.settings.Settings.Settings, std.proofs.Common.{Bool, List, Some, [], ap, arith, false, get_or}}
+use Rattle.std.proofs.Common.{if◌then◌else◌, length, map, refl, set, slice_get, suc, sym, take, true, zero, ℕ, ◌&&◌, ◌++◌, ◌+◌, ◌<◌, ◌==◌}
+use Rattle.std.proofs.{Common.{◌∙◌, ◌∷◌, ◌≡◌, ◌≤◌}, lemmas.{Bool.Decides.nat_tests, List.{length-take-le, take_more}}}
 
 one_more : (n : ℕ) → n + 1 ≡ suc n
 one_more n = omega arith

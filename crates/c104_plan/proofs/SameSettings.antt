@@ -1,11 +1,7 @@
 -- Rows and ranges that are tested to be the same are.
-use Rattle.std.proofs.Common.{◌≡◌, ℕ, ◌==◌, ◌&&◌, Bool, true, List, ap, refl, subst, arith}
-use Rattle.std.proofs.lemmas.Bool.{and_parts}
-use Rattle.std.proofs.lemmas.Bool.Decides.{nat_tests}
+use Rattle.{c104_interval.specs.declared.intervals.{Row.Row, Select.{Select, TheVariants.{Discard, Link, Sink}}}, std.proofs.Common.Bool}
+use Rattle.std.proofs.{Common.{List, ap, arith, refl, subst, true, ℕ, ◌&&◌, ◌==◌, ◌≡◌}, lemmas.Bool.{Decides.nat_tests, and_parts}}
 use Rattle.std.specs.Cmp.Lexicographic.{pointwise, pointwise_decides}
-use Rattle.c104_interval.specs.declared.intervals.Row.{Row}
-use Rattle.c104_interval.specs.declared.intervals.Select.{Select}
-use Rattle.c104_interval.specs.declared.intervals.Select.TheVariants.{Link, Discard, Sink}
 use Rattle.c104_interval.specs.contracts.intervals.RowPartialEq.TheImpl as row
 use Rattle.c104_interval.specs.contracts.intervals.SelectPartialEq.TheImpl as select
 

@@ -1,15 +1,10 @@
 -- What one switch of an image keeps.
-use Rattle.std.proofs.Common.{◌≡◌, ◌≢◌, ℕ, ◌<◌, true, Option, Result, Ok, List, [], ◌++◌, All, replicate, refl, sym, ap, ◌∙◌, subst}
-use Rattle.c104_regs.specs.KeptValues.{kept_value, IsMapOf}
-use Rattle.c104_regs.specs.declared.faults.RegFault.{RegFault}
-use Rattle.c104_regs.specs.Registers.{IsRegisterBank, RegisterBank, bank_peek, bank_poke, placed_bank, reset_bank, settable}
-use Rattle.c104_regs.proofs.KeptLemmas.{map_of_kept, none_kept_values}
-use Rattle.c104_regs.proofs.PlacedPokes.{poke_placed, poke_taken, settable_below}
-use Rattle.c104_regs.proofs.RegisterLemmas.{IsKept-reset}
-use Rattle.c104_regs.specs.declared.settings.Settings.{Settings}
-use Rattle.c104_plan.specs.ImageEdits.{poke_answer, settings_set}
-use Rattle.c104_plan.specs.SwitchImages.{AreKept, led_by}
-use Rattle.c104_plan.proofs.KeptUpdates.{kept_after}
+use Rattle.c104_plan.{proofs.KeptUpdates.kept_after, specs.{ImageEdits.{poke_answer, settings_set}, SwitchImages.{AreKept, led_by}}}
+use Rattle.c104_regs.proofs.{KeptLemmas.{map_of_kept, none_kept_values}, PlacedPokes.{poke_placed, poke_taken, settable_below}}
+use Rattle.c104_regs.{proofs.RegisterLemmas.IsKept-reset, specs.{KeptValues.{IsMapOf, kept_value}, Registers.IsRegisterBank}}
+use Rattle.c104_regs.specs.Registers.{RegisterBank, bank_peek, bank_poke, placed_bank, reset_bank, settable}
+use Rattle.{c104_regs.specs.declared.{faults.RegFault.RegFault, settings.Settings.Settings}, std.proofs.Common.{All, List, Ok, Option}}
+use Rattle.std.proofs.Common.{Result, [], ap, refl, replicate, subst, sym, true, ℕ, ◌++◌, ◌<◌, ◌∙◌, ◌≡◌, ◌≢◌}
 
 -- a bank that is started
 abbrev started : RegisterBank → RegisterBank

@@ -1,7 +1,5 @@
 -- What holds of the bytes of a text.
-use Rattle.std.proofs.Common.{◌≡◌, ◌&&◌, Bool, true, List, [], ◌∷◌, refl}
-use Rattle.std.proofs.lemmas.Bool.{and_parts}
-use Rattle.std.specs.List.{list_all}
+use Rattle.std.{proofs.{Common.{Bool, List, [], refl, true, ◌&&◌, ◌∷◌, ◌≡◌}, lemmas.Bool.and_parts}, specs.List.list_all}
 
 -- a weaker test holds of all, too
 pub list_all-weaker : {X : Type 0} (q r : X → Bool) → ((x : X) → q x ≡ true → r x ≡ true) → (xs : List X) → list_all q xs ≡ true → list_all r xs ≡ true

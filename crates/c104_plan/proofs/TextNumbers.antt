@@ -1,6 +1,5 @@
 -- The value of so many digits is small.
-use Rattle.std.proofs.Common.{ℕ, ◌^◌, ◌<◌, ◌≤◌, lit<, arith}
-use Rattle.std.proofs.Math.Nat.{pow-le-pow_right}
+use Rattle.std.proofs.{Common.{arith, lit<, ℕ, ◌<◌, ◌^◌, ◌≤◌}, Math.Nat.pow-le-pow_right}
 
 pub below_most : (value digits most : ℕ) → value < 10 ^ digits → digits ≤ most → value < 10 ^ most
 below_most value digits most small few =

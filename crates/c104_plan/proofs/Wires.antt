@@ -1,15 +1,10 @@
 -- The wires of a plan go both ways, join ports of the plan, and no node to itself; and each terminal has one.
-use Rattle.std.proofs.Common.{◌≡◌, ◌≢◌, ◌<◌, ◌+◌, ℕ, zero, suc, inl, inr, false, List, [], ◌∷◌, ◌++◌, Option, Some, None, length, slice_get, All, refl, sym, ap, subst, ◌∙◌, arith, if◌then◌else◌}
-use Rattle.std.specs.Option.{IfSome}
-use Rattle.std.specs.List.{AllByRecursion}
-use Rattle.c104_plan.specs.Distinctness.{AreDistinct}
-use Rattle.std.proofs.lemmas.Bool.{eq-eqb, ne_eqb, cases_Bool}
-use Rattle.std.proofs.lemmas.List.Elements.{All-head, All-tail}
-use Rattle.c104_plan.specs.declared.ports.Port.TheVariants as port
-use Rattle.c104_plan.specs.Ports.{Port, Wire, is_port, other_end, both_ends, AreApart, IsSwitchPort}
-use Rattle.c104_plan.specs.Plans.{Plan, Terminal, IsPlan, IsPlanWire, host_port, linked_ports}
-use Rattle.c104_plan.specs.Wiring.{terminal_wires, peer, wires, IsJoined, IsPlanPort, IsWiring}
-use Rattle.c104_plan.proofs.PortLemmas.{cases_port, is_port-refl, is_port-ne, is_port-flips}
+use Rattle.c104_plan.{proofs.PortLemmas.{cases_port, is_port-flips, is_port-ne, is_port-refl}, specs.Distinctness.AreDistinct}
+use Rattle.c104_plan.specs.{Plans.{IsPlan, IsPlanWire, Plan, Terminal, host_port, linked_ports}, Ports.{AreApart, IsSwitchPort, Port, Wire}}
+use Rattle.c104_plan.specs.{Ports.{both_ends, is_port, other_end}, Wiring.{IsJoined, IsPlanPort, IsWiring, peer, terminal_wires, wires}}
+use Rattle.std.proofs.Common.{All, List, None, Option, Some, [], ap, arith, false, if◌then◌else◌, inl, inr, length, refl, slice_get, subst}
+use Rattle.std.proofs.{Common.{suc, sym, zero, ℕ, ◌++◌, ◌+◌, ◌<◌, ◌∙◌, ◌∷◌, ◌≡◌, ◌≢◌}, lemmas.Bool.{cases_Bool, eq-eqb, ne_eqb}}
+use Rattle.std.{proofs.lemmas.List.Elements.{All-head, All-tail}, specs.{List.AllByRecursion, Option.IfSome}}
 
 -- Any list of wires
 
@@ -83,12 +78,12 @@ terminals_apart n [] = tt
 terminals_apart n (t ∷ ts) = (tt, tt, terminals_apart (suc n) ts)
 
 -- a terminal's wire leads to its link
-terminal_end : (n : ℕ) (ts : List Terminal) (k : ℕ) (t : Terminal) → slice_get ts k ≡ Some t → other_end (terminal_wires n ts) (port.Terminal (n + k)) ≡ Some (host_port t)
+terminal_end : (n : ℕ) (ts : List Terminal) (k : ℕ) (t : Terminal) → slice_get ts k ≡ Some t → other_end (terminal_wires n ts) (Port.Terminal (n + k)) ≡ Some (host_port t)
 terminal_end n [] k t e = absurd (cc)
 terminal_end n (u ∷ ts) zero t e = let same : u ≡ t = cc in rw (eq-eqb n (n + 0) (omega arith)) (ap (λ (v : Terminal). Some (host_port v)) same)
 terminal_end n (u ∷ ts) (suc k) t e =
     let further : suc n + k ≡ n + suc k = omega arith in
-    rw (ne_eqb n (n + suc k) (λ h. (omega (arith, h)))) (subst (λ j. other_end (terminal_wires (suc n) ts) (port.Terminal j) ≡ Some (host_port t)) further (terminal_end (suc n) ts k t e))
+    rw (ne_eqb n (n + suc k) (λ h. (omega (arith, h)))) (subst (λ j. other_end (terminal_wires (suc n) ts) (Port.Terminal j) ≡ Some (host_port t)) further (terminal_end (suc n) ts k t e))
 
 -- terminals' wires join terminals of the plan, and ports of its switches
 terminals_inside : (plan : Plan) (n : ℕ) (ts : List Terminal) → n + length ts ≡ length plan.terminals → All (λ (t : Terminal). IsSwitchPort (length plan.switches) (host_port t)) ts → EachWire (λ p q. IsPlanPort plan p) (terminal_wires n ts)
@@ -98,24 +93,24 @@ terminals_inside plan n (t ∷ ts) all is = (omega (arith, all), All-head (λ (u
 -- Wires between switches
 
 abbrev IsBetween : Port → Port → Type 0
-IsBetween (port.Switch s l) (port.Switch s' l') = s ≢ s'
-IsBetween (port.Switch s l) (port.Terminal t) = ⊥
-IsBetween (port.Terminal t) q = ⊥
+IsBetween (Port.Switch s l) (Port.Switch s' l') = s ≢ s'
+IsBetween (Port.Switch s l) (Port.Terminal t) = ⊥
+IsBetween (Port.Terminal t) q = ⊥
 
 between : (switches : ℕ) (p q : Port) → IsSwitchPort switches p → IsSwitchPort switches q → AreApart p q → IsBetween p q
-between switches (port.Switch s l) (port.Switch s' l') is is' apart = apart
-between switches (port.Switch s l) (port.Terminal t) is is' apart = absurd is'
-between switches (port.Terminal t) q is is' apart = absurd is
+between switches (Port.Switch s l) (Port.Switch s' l') is is' apart = apart
+between switches (Port.Switch s l) (Port.Terminal t) is is' apart = absurd is'
+between switches (Port.Terminal t) q is is' apart = absurd is
 
 apart_flips : (p q : Port) → AreApart p q → AreApart q p
-apart_flips (port.Switch s l) (port.Switch s' l') apart = λ same. apart (sym same)
-apart_flips (port.Switch s l) (port.Terminal t) apart = tt
-apart_flips (port.Terminal t) (port.Switch s l) apart = tt
-apart_flips (port.Terminal t) (port.Terminal u) apart = apart
+apart_flips (Port.Switch s l) (Port.Switch s' l') apart = λ same. apart (sym same)
+apart_flips (Port.Switch s l) (Port.Terminal t) apart = tt
+apart_flips (Port.Terminal t) (Port.Switch s l) apart = tt
+apart_flips (Port.Terminal t) (Port.Terminal u) apart = apart
 
 inside : (plan : Plan) (p : Port) → IsSwitchPort (length plan.switches) p → IsPlanPort plan p
-inside plan (port.Switch s l) is = is
-inside plan (port.Terminal t) is = absurd is
+inside plan (Port.Switch s l) is = is
+inside plan (Port.Terminal t) is = absurd is
 
 wires_apart : (switches : ℕ) (ws : List Wire) → All (IsPlanWire switches) ws → EachWire AreApart ws
 wires_apart switches [] all = tt
@@ -149,21 +144,21 @@ once_of [] h = tt
 once_of (w ∷ ws) h = (h.0.0, none_of ws w.here h.0.1, none_of ws w.there h.1.0, once_of ws h.1.1)
 
 -- wires between switches end at no terminal
-no_end : (ws : List Wire) (t : ℕ) → EachWire IsBetween ws → other_end ws (port.Terminal t) ≡ None
+no_end : (ws : List Wire) (t : ℕ) → EachWire IsBetween ws → other_end ws (Port.Terminal t) ≡ None
 no_end [] t h = refl
 no_end (w ∷ ws) t h = rw (not_here w.here w.there h.0, not_here w.there w.here h.1) (no_end ws t h.2)
   where
-    not_here : (p q : Port) → IsBetween p q → is_port p (port.Terminal t) ≡ false
-    not_here (port.Switch s l) q h = refl
-    not_here (port.Terminal u) q h = absurd h
+    not_here : (p q : Port) → IsBetween p q → is_port p (Port.Terminal t) ≡ false
+    not_here (Port.Switch s l) q h = refl
+    not_here (Port.Terminal u) q h = absurd h
 
-no_terminal : (n m : ℕ) (ts : List Terminal) (ws : List Wire) → n < m → EachWire IsBetween ws → other_end (terminal_wires m ts ++ ws) (port.Terminal n) ≡ None
+no_terminal : (n m : ℕ) (ts : List Terminal) (ws : List Wire) → n < m → EachWire IsBetween ws → other_end (terminal_wires m ts ++ ws) (Port.Terminal n) ≡ None
 no_terminal n m [] ws lt h = no_end ws n h
 no_terminal n m (t ∷ ts) ws lt h = rw (ne_eqb m n (λ e. (omega (arith, lt, e)))) (no_terminal n (suc m) ts ws (omega (arith, lt)) h)
 
-no_link : (m : ℕ) (ts : List Terminal) (ws : List Wire) (s l : ℕ) → IsNone (port.Switch s l) (linked_ports ts ws) → other_end (terminal_wires m ts ++ ws) (port.Switch s l) ≡ None
-no_link m [] ws s l h = none_of ws (port.Switch s l) h
-no_link m (t ∷ ts) ws s l h = rw (is_port-flips (host_port t) (port.Switch s l), h.0) (no_link (suc m) ts ws s l h.1)
+no_link : (m : ℕ) (ts : List Terminal) (ws : List Wire) (s l : ℕ) → IsNone (Port.Switch s l) (linked_ports ts ws) → other_end (terminal_wires m ts ++ ws) (Port.Switch s l) ≡ None
+no_link m [] ws s l h = none_of ws (Port.Switch s l) h
+no_link m (t ∷ ts) ws s l h = rw (is_port-flips (host_port t) (Port.Switch s l), h.0) (no_link (suc m) ts ws s l h.1)
 
 wires_once : (n : ℕ) (ts : List Terminal) (ws : List Wire) → AreDistinct is_port (linked_ports ts ws) → EachWire IsBetween ws → IsOnce (terminal_wires n ts ++ ws)
 wires_once n [] ws h are = once_of ws h
@@ -208,7 +203,7 @@ wiring plan kept = record {
   no_other = λ p q is. of_wires (IsJoined (wires plan)) (wires plan) p q (each_joined (wires plan) (wires plan) 0 (λ k w there. let same : 0 + k ≡ k = omega arith in ap (slice_get (wires plan)) same ∙ there)) is;
   host = λ number t is.
       let first : 0 + number ≡ number = omega arith in
-      other_end-append (terminal_wires 0 plan.terminals) plan.wires (port.Terminal number) (host_port t) (subst (λ k. other_end (terminal_wires 0 plan.terminals) (port.Terminal k) ≡ Some (host_port t)) first (terminal_end 0 plan.terminals number t is));
+      other_end-append (terminal_wires 0 plan.terminals) plan.wires (Port.Terminal number) (host_port t) (subst (λ k. other_end (terminal_wires 0 plan.terminals) (Port.Terminal k) ≡ Some (host_port t)) first (terminal_end 0 plan.terminals number t is));
 }
 
 -- a port's other end, by the wires of terminals first

@@ -1,5 +1,5 @@
 -- Conditions and values in turn, of which the first that fails is answered: a grammar's line.
-use Rattle.std.specs.Prelude.{Bool, true, false, Option, Some, None, Result, Ok, Err}
+use Rattle.std.specs.Prelude.{Bool, Err, None, Ok, Option, Result, Some, false, true}
 
 infixl 20 ◌>>=◌
 infixl 20 ◌>>◌

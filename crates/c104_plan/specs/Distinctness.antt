@@ -1,6 +1,5 @@
 -- Lists without repetition.
-use Rattle.std.specs.Prelude.{◌≡◌, Bool, false, List, [], ◌∷◌}
-use Rattle.std.specs.List.{AllByRecursion}
+use Rattle.std.specs.{List.AllByRecursion, Prelude.{Bool, List, [], false, ◌∷◌, ◌≡◌}}
 
 -- no two elements of a list are the same, by a test
 abbrev pub AreDistinct : {X : Type 0} → (X → X → Bool) → List X → Type 0

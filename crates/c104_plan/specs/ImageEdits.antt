@@ -1,12 +1,9 @@
 -- What is set in an image: what each call answers, and the image after it.
-use Rattle.std.specs.Prelude.{◌≡◌, ◌⊎◌, ℕ, ◌+◌, ◌&&◌, not, Bool, List, length, map, nat_lt, nat_le, Option, Some, None, option_map, Result, Ok, Err, if◌then◌else◌, slice_get, slice_set}
-use Rattle.c104_regs.specs.declared.faults.RegFault.{RegFault}
-use Rattle.c104_regs.specs.Registers.{bank_peek, bank_poke, placed_bank, reset_bank}
+use Rattle.c104_plan.specs.{ImageFaults.ImageFault, PlanImage.{Image, range_of}, Plans.{Plan, label_count}}
+use Rattle.c104_regs.specs.{Registers.{bank_peek, bank_poke, placed_bank, reset_bank}, declared.faults.RegFault.RegFault}
 use Rattle.c104_regs.specs.declared.settings.Settings.{Settings}
-use Rattle.c104_plan.specs.ImageFaults.{ImageFault}
-use Rattle.c104_plan.specs.declared.image_faults.ImageFault.TheVariants as fault
-use Rattle.c104_plan.specs.Plans.{Plan, label_count}
-use Rattle.c104_plan.specs.PlanImage.{Image, range_of}
+use Rattle.std.specs.Prelude.{Bool, Err, List, None, Ok, Option, Result, Some, if◌then◌else◌, length, map, nat_le, nat_lt, not, option_map}
+use Rattle.std.specs.Prelude.{slice_get, slice_set, ℕ, ◌&&◌, ◌+◌, ◌≡◌, ◌⊎◌}
 
 -- the image of a plan with its terminals' ranges, and all switches as after a reset
 abbrev pub new_image : Plan → Image
@@ -18,7 +15,7 @@ new_image plan = record {
 -- what is answered where a poke was answered so
 abbrev pub poke_answer : Result (Unit {0}) RegFault → Result (Unit {0}) ImageFault
 poke_answer (Ok u) = Ok u
-poke_answer (Err e) = Err (fault.Register e)
+poke_answer (Err e) = Err (ImageFault.Register e)
 
 -- setting address a of a switch to v, by its settings: a poke of the switch when it is placed with them
 abbrev pub settings_set : List Settings → ℕ → ℕ → Result (Unit {0}) ImageFault × List Settings
@@ -31,7 +28,7 @@ abbrev pub image_set : Image → ℕ → ℕ → ℕ → Result (Unit {0}) Image
 image_set image switch a v = at (slice_get image.settings switch)
   where
     at : Option (List Settings) → Result (Unit {0}) ImageFault × Image
-    at None = (Err fault.NoNode, image)
+    at None = (Err ImageFault.NoNode, image)
     at (Some settings) =
         let done = settings_set settings a v in
         (done.0, record image { settings = slice_set image.settings switch done.1 })
@@ -43,8 +40,8 @@ is_range first count = nat_lt 0 count && nat_le (first + count) label_count
 -- setting the range of a terminal of an image
 abbrev pub image_set_range : Image → ℕ → ℕ → ℕ → Result (Unit {0}) ImageFault × Image
 image_set_range image terminal first count =
-    if not (nat_lt terminal (length image.ranges)) then (Err fault.NoNode, image)
-    else (if not (is_range first count) then (Err fault.BadRange, image)
+    if not (nat_lt terminal (length image.ranges)) then (Err ImageFault.NoNode, image)
+    else (if not (is_range first count) then (Err ImageFault.BadRange, image)
     else (Ok tt, record image { ranges = slice_set image.ranges terminal (first, count) }))
 
 -- an answer, and what is there after it: what is due, or out of memory where that would have been done, and
@@ -52,7 +49,7 @@ image_set_range image terminal first count =
 abbrev pub AnswersDue : {X : Type 0} → X → Result (Unit {0}) ImageFault × X → Result (Unit {0}) ImageFault → X → Type 0
 AnswersDue {X} before due answer after =
     (◌≡◌ {A = Result (Unit {0}) ImageFault × X} (answer, after) due)
-    ⊎ ((answer ≡ Err fault.NoMemory) × (due.0 ≡ Ok tt) × (after ≡ before))
+    ⊎ ((answer ≡ Err ImageFault.NoMemory) × (due.0 ≡ Ok tt) × (after ≡ before))
 
 -- what an address of a switch reads, where the switch is placed with the image and has told nothing yet
 abbrev pub image_peek : Image → ℕ → ℕ → Option (Result ℕ RegFault)

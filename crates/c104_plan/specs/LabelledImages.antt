@@ -1,16 +1,9 @@
 -- The image of a plan whose switches have tables that are given, as those of labels: the tables, the ranges of
 -- the terminals, and all else as the plan's own lines say.
-use Rattle.std.specs.Prelude.{ℕ, ◌+◌, ◌*◌, List, length, map, if◌then◌else◌, is_some, slice_index_or}
-use Rattle.std.specs.List.{range_with_len}
-use Rattle.c104_interval.specs.declared.intervals.Table.{Table}
-use Rattle.c104_interval.specs.Selection.{reset_table}
-use Rattle.c104_regs.specs.declared.registers.TheConstants.{LINKS}
+use Rattle.{c104_interval.specs.{Selection.reset_table, declared.intervals.Table.Table}, c104_plan.specs.PlanImage.{Image, settings_of}}
+use Rattle.{c104_plan.specs.{Plans.Plan, Ports.Port, Wiring.peer}, c104_regs.specs.declared.registers.TheConstants.LINKS}
 use Rattle.c104_regs.specs.declared.settings.Settings.{Settings}
-use Rattle.c104_plan.specs.declared.ports.Port.TheVariants as port
-use Rattle.c104_plan.specs.Ports.{Port}
-use Rattle.c104_plan.specs.Plans.{Plan}
-use Rattle.c104_plan.specs.PlanImage.{Image, settings_of}
-use Rattle.c104_plan.specs.Wiring.{peer}
+use Rattle.std.specs.{List.range_with_len, Prelude.{List, if◌then◌else◌, is_some, length, map, slice_index_or, ℕ, ◌*◌, ◌+◌}}
 
 -- what is set at a port of a switch that has this table: what the plan's own lines say, and the table where the
 -- port has a wire
@@ -21,7 +14,7 @@ labelled_settings plan table p =
 -- what is set at the links of a switch that has this table
 unfoldable pub labelled_switch : Plan → Table → ℕ → List Settings
 labelled_switch plan table switch =
-    map (λ link. labelled_settings plan table (port.Switch switch link)) (range_with_len 0 LINKS)
+    map (λ link. labelled_settings plan table (Port.Switch switch link)) (range_with_len 0 LINKS)
 
 -- the table of a switch among those of all switches
 abbrev pub table_in : List Table → ℕ → Table
@@ -30,7 +23,7 @@ table_in tables switch = slice_index_or tables switch reset_table
 -- what is set at the links of a switch that have these tables
 unfoldable pub port_labelled_switch : Plan → (ℕ → Table) → ℕ → List Settings
 port_labelled_switch plan tables switch =
-    map (λ link. labelled_settings plan (tables link) (port.Switch switch link)) (range_with_len 0 LINKS)
+    map (λ link. labelled_settings plan (tables link) (Port.Switch switch link)) (range_with_len 0 LINKS)
 
 -- the table of a link of a switch among those of all links, by switch and then by link
 abbrev pub port_table : List Table → ℕ → ℕ → Table

@@ -1,11 +1,8 @@
 -- Layouts: networks in which all switches are alike. A layout says by a rule which links are joined, and so
 -- which switches, terminals and wires a plan of it has.
-use Rattle.std.specs.Prelude.{ℕ, zero, suc, ◌+◌, ◌-◌, ◌*◌, ◌/◌, ◌%◌, ◌^◌, ◌<◌, ◌≤◌, ◌==◌, Bool, List, [], ◌∷◌, map, flat_map, nat_le, nat_lt, Option, Some, None, if◌then◌else◌}
-use Rattle.std.specs.List.{range_with_len}
-use Rattle.std.specs.Fmt.{decimal}
-use Rattle.c104_plan.specs.declared.plans.Terminal.{Terminal}
-use Rattle.c104_plan.specs.declared.ports.Port.TheVariants as port
-use Rattle.c104_plan.specs.Ports.{Port, Wire}
+use Rattle.c104_plan.specs.{Ports.{Port, Wire}, declared.plans.Terminal.Terminal}
+use Rattle.std.specs.{Fmt.decimal, List.range_with_len, Prelude.{Bool, List, None, Option, Some, [], flat_map, if◌then◌else◌, map, nat_le}}
+use Rattle.std.specs.Prelude.{nat_lt, suc, zero, ℕ, ◌%◌, ◌*◌, ◌+◌, ◌-◌, ◌/◌, ◌<◌, ◌==◌, ◌^◌, ◌∷◌, ◌≤◌}
 
 -- how many switches there are; how many links of each, the first ones, are for other switches; where such a
 -- link of a switch leads, if it is wired; and whether a wire begins at it, rather than ends
@@ -45,7 +42,7 @@ wire_to here (Some there) = record { here = here; there = there } ∷ []
 
 -- the wire that begins at a link of a switch
 abbrev pub wire_at : Layout → ℕ → ℕ → List Wire
-wire_at layout s l = if layout.begins s l then wire_to (port.Switch s l) (layout.beyond s l) else []
+wire_at layout s l = if layout.begins s l then wire_to (Port.Switch s l) (layout.beyond s l) else []
 
 -- the wires that begin at a switch, by link
 abbrev pub wires_from : Layout → ℕ → List Wire
@@ -61,10 +58,10 @@ filled_wires layout = flat_map (wires_from layout) (range_with_len 0 layout.swit
 
 -- where link l of switch s of a mesh of w columns and h rows leads, if it is wired
 abbrev pub mesh_beyond : ℕ → ℕ → ℕ → ℕ → Option Port
-mesh_beyond w h s zero = if nat_le w s then Some (port.Switch (s - w) 3) else None
-mesh_beyond w h s (suc zero) = if nat_lt 0 (s % w) then Some (port.Switch (s - 1) 2) else None
-mesh_beyond w h s (suc (suc zero)) = if nat_lt (s % w + 1) w then Some (port.Switch (s + 1) 1) else None
-mesh_beyond w h s (suc (suc (suc zero))) = if nat_lt (s + w) (w * h) then Some (port.Switch (s + w) 0) else None
+mesh_beyond w h s zero = if nat_le w s then Some (Port.Switch (s - w) 3) else None
+mesh_beyond w h s (suc zero) = if nat_lt 0 (s % w) then Some (Port.Switch (s - 1) 2) else None
+mesh_beyond w h s (suc (suc zero)) = if nat_lt (s % w + 1) w then Some (Port.Switch (s + 1) 1) else None
+mesh_beyond w h s (suc (suc (suc zero))) = if nat_lt (s + w) (w * h) then Some (Port.Switch (s + w) 0) else None
 mesh_beyond w h s (suc (suc (suc (suc l)))) = None
 
 -- the layout of a mesh of w columns and h rows, whose switches have 4 links for other switches
@@ -89,7 +86,7 @@ bit x k = x / 2 ^ k % 2
 
 -- where link k of switch x of a cube leads
 abbrev pub cube_beyond : ℕ → ℕ → Option Port
-cube_beyond x k = Some (port.Switch (if bit x k == 0 then x + 2 ^ k else x - 2 ^ k) k)
+cube_beyond x k = Some (Port.Switch (if bit x k == 0 then x + 2 ^ k else x - 2 ^ k) k)
 
 -- the layout of a cube of d dimensions, all of whose links for other switches are wired
 abbrev pub cube : ℕ → Layout

@@ -1,18 +1,10 @@
 -- Images: what is to be loaded into a network's switches, and the labels of its terminals.
-use Rattle.std.specs.Prelude.{◌≡◌, ℕ, ◌-◌, ◌==◌, ◌&&◌, Bool, true, List, ◌++◌, length, map, replicate, All, Option, Some, None, is_some}
-use Rattle.std.specs.List.{find, range_with_len}
-use Rattle.c104_interval.specs.declared.intervals.TheConstants.{ROWS}
-use Rattle.c104_interval.specs.declared.intervals.Row.{Row}
-use Rattle.c104_interval.specs.declared.intervals.Table.{Table}
-use Rattle.c104_interval.specs.Selection.{reset_row}
-use Rattle.c104_regs.specs.declared.registers.TheConstants.{LINKS}
-use Rattle.c104_regs.specs.Ranges.{IsInRange}
-use Rattle.c104_regs.specs.declared.settings.Settings.{Settings}
-use Rattle.c104_regs.specs.Settings.{plain_settings}
-use Rattle.c104_plan.specs.declared.ports.Port.TheVariants as port
-use Rattle.c104_plan.specs.Ports.{Port, is_port}
+use Rattle.c104_interval.specs.{Selection.reset_row, declared.intervals.{Row.Row, Table.Table, TheConstants.ROWS}}
 use Rattle.c104_plan.specs.Plans.{IsRange, Plan, PlanBase, PlanRandom, PlanRow, Terminal, deletes_at, is_base_of, is_continued, rows_of}
-use Rattle.c104_plan.specs.Wiring.{peer}
+use Rattle.{c104_plan.specs.{Ports.{Port, is_port}, Wiring.peer}, c104_regs.specs.{Ranges.IsInRange, Settings.plain_settings}}
+use Rattle.c104_regs.specs.declared.{registers.TheConstants.LINKS, settings.Settings.Settings}
+use Rattle.std.specs.{List.{find, range_with_len}, Prelude.{All, Bool, List, None, Option, Some, is_some, length, map, replicate, true, ℕ}}
+use Rattle.std.specs.Prelude.{◌&&◌, ◌++◌, ◌-◌, ◌==◌, ◌≡◌}
 
 -- a range for each terminal, by its first label and how many they are, and what is set at each link of
 -- each switch
@@ -71,7 +63,7 @@ settings_of plan p =
 -- what is set at the links of a switch
 unfoldable pub switch_settings : Plan → ℕ → List Settings
 switch_settings plan switch =
-    map (λ link. settings_of plan (port.Switch switch link)) (range_with_len 0 LINKS)
+    map (λ link. settings_of plan (Port.Switch switch link)) (range_with_len 0 LINKS)
 
 -- the range of a terminal
 abbrev pub range_of : Terminal → ℕ × ℕ

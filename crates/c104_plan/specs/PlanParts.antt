@@ -1,8 +1,6 @@
 -- The parts in which a plan is kept, and what may be asked of a plan while it is made.
-use Rattle.c104_plan.specs.declared.parts.Parts.{Parts}
-use Rattle.c104_plan.specs.Plans.{Plan, Terminal}
-use Rattle.std.specs.Prelude.{◌==◌, ◌||◌, Bool, not, List, length, []}
-use Rattle.c104_plan.specs.declared.plans.Shape.TheVariants.{Hand}
+use Rattle.c104_plan.specs.{Plans.{Plan, Terminal}, declared.{parts.Parts.Parts, plans.Shape.TheVariants.Hand}}
+use Rattle.std.specs.Prelude.{Bool, List, [], length, not, ◌==◌, ◌||◌}
 
 -- the plan that they are
 abbrev pub plan_of : Parts → Plan

@@ -1,22 +1,14 @@
 -- Plans: a network as it is planned. What the type of a plan keeps is said list by list.
-use Rattle.std.specs.Prelude.{◌≡◌, ℕ, ◌+◌, ◌-◌, ◌%◌, ◌<◌, ◌≤◌, ◌==◌, ◌&&◌, Bool, false, List, [], ◌∷◌, ◌++◌, length, map, filter, position, slice_get, bytes_eq, nat_le, nat_lt, if◌then◌else◌, All, IsTrue, Option, Some, None}
-use Rattle.std.specs.List.{list_any}
-use Rattle.c104_plan.specs.Distinctness.{AreDistinct}
-use Rattle.c104_interval.specs.declared.intervals.TheConstants.{ROWS}
-use Rattle.c104_interval.specs.declared.intervals.Select.{Select}
-use Rattle.c104_interval.specs.declared.intervals.Select.TheVariants.{Link, Discard, Sink}
+pub use Rattle.c104_plan.specs.declared.plans.{PlanBase.PlanBase, PlanRandom.PlanRandom, PlanRow.PlanRow, Shape.Shape, Terminal.Terminal}
+use Rattle.c104_interval.specs.declared.intervals.{Select.{Select, TheVariants.{Discard, Link, Sink}}, TheConstants.ROWS}
+use Rattle.c104_plan.specs.{Distinctness.AreDistinct, Layouts.{IsCube, IsMesh, Layout, cube, filled_switches, filled_terminals}}
+use Rattle.c104_plan.specs.{Layouts.{filled_wires, mesh}, Ports.{AreApart, AreOncePerPort, IsSwitchPort, Port, Wire, both_ends, is_any_at}}
+use Rattle.c104_plan.specs.{Ports.is_port, TextWords.is_name, declared.limits.TheConstants.{LABELS, MAX_HEADER_BYTES, MAX_SWITCHES}}
+use Rattle.c104_plan.specs.declared.{limits.TheConstants.MAX_TERMINALS, plans.Shape.TheVariants.{Cube, Hand, Mesh, Tree, UpDown}}
 use Rattle.c104_regs.specs.declared.registers.TheConstants.{LINKS}
-use Rattle.c104_plan.specs.TextWords.{is_name}
-use Rattle.c104_plan.specs.Layouts.{Layout, mesh, cube, filled_switches, filled_terminals, filled_wires, IsMesh, IsCube}
-use Rattle.c104_plan.specs.declared.limits.TheConstants.{MAX_SWITCHES, MAX_TERMINALS, MAX_HEADER_BYTES, LABELS}
-use Rattle.c104_plan.specs.Ports.{Port, Wire, is_port, both_ends, is_any_at, AreOncePerPort, IsSwitchPort, AreApart}
+use Rattle.std.specs.{List.list_any, Prelude.{All, Bool, IsTrue, List, None, Option, Some, [], bytes_eq, false, filter, if◌then◌else◌}}
+use Rattle.std.specs.Prelude.{length, map, nat_le, nat_lt, position, slice_get, ℕ, ◌%◌, ◌&&◌, ◌++◌, ◌+◌, ◌-◌, ◌<◌, ◌==◌, ◌∷◌, ◌≡◌, ◌≤◌}
 use Rattle.c104_plan.specs.declared.ports.Port.TheVariants as port
-pub use Rattle.c104_plan.specs.declared.plans.Shape.{Shape}
-use Rattle.c104_plan.specs.declared.plans.Shape.TheVariants.{Hand, Tree, UpDown, Mesh, Cube}
-pub use Rattle.c104_plan.specs.declared.plans.Terminal.{Terminal}
-pub use Rattle.c104_plan.specs.declared.plans.PlanBase.{PlanBase}
-pub use Rattle.c104_plan.specs.declared.plans.PlanRow.{PlanRow}
-pub use Rattle.c104_plan.specs.declared.plans.PlanRandom.{PlanRandom}
 
 -- how many bytes the headers have at wired links, the buffer size of all switches and terminals, the
 -- shape, and lists, each in the order in which its items were given. A switch is its name. The wires join

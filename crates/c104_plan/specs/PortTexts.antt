@@ -1,12 +1,7 @@
 -- How a text names the switches, the terminals and the ports of a plan, and what a row selects.
-use Rattle.std.specs.Prelude.{ℕ, List, [], ◌∷◌, ◌++◌, slice_get, codes}
-use Rattle.std.specs.Fmt.{decimal}
-use Rattle.std.specs.Option.{option_map_or, unwrap_or}
-use Rattle.c104_interval.specs.declared.intervals.Select.{Select}
-use Rattle.c104_interval.specs.declared.intervals.Select.TheVariants.{Link, Discard, Sink}
-use Rattle.c104_plan.specs.declared.ports.Port.TheVariants as port
-use Rattle.c104_plan.specs.Ports.{Port}
-use Rattle.c104_plan.specs.Plans.{Plan, Terminal}
+use Rattle.{c104_interval.specs.declared.intervals.Select.{Select, TheVariants.{Discard, Link, Sink}}, c104_plan.specs.Plans.Plan}
+use Rattle.c104_plan.specs.{Plans.Terminal, Ports.Port}
+use Rattle.std.specs.{Fmt.decimal, Option.{option_map_or, unwrap_or}, Prelude.{List, [], codes, slice_get, ℕ, ◌++◌, ◌∷◌}}
 
 -- the name of the switch of this number; where there is none, nothing
 abbrev pub switch_name : Plan → ℕ → List ℕ
@@ -19,8 +14,8 @@ terminal_name plan number = option_map_or (λ (t : Terminal). t.name) (slice_get
 -- a port of a switch: its name, a dot (0x2e) and the link. That of a terminal, which has one link, is
 -- its name, but no line of a plan has such a port
 abbrev pub port_text : Plan → Port → List ℕ
-port_text plan (port.Switch s l) = switch_name plan s ++ 0x2e ∷ decimal l
-port_text plan (port.Terminal t) = terminal_name plan t
+port_text plan (Port.Switch s l) = switch_name plan s ++ 0x2e ∷ decimal l
+port_text plan (Port.Terminal t) = terminal_name plan t
 
 -- what a row selects
 abbrev pub select_text : Select → List ℕ

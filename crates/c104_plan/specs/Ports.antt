@@ -1,29 +1,25 @@
 -- Ports, and the wires that join them.
-use Rattle.std.specs.Prelude.{ℕ, ◌<◌, ◌≢◌, ◌==◌, ◌&&◌, Bool, false, List, [], ◌∷◌, map, Option, Some, None, if◌then◌else◌}
-use Rattle.std.specs.List.{list_any}
-use Rattle.c104_plan.specs.Distinctness.{AreDistinct}
-use Rattle.c104_regs.specs.declared.registers.TheConstants.{LINKS}
-pub use Rattle.c104_plan.specs.declared.ports.Port.{Port}
-use Rattle.c104_plan.specs.declared.ports.Port.TheVariants as port
-pub use Rattle.c104_plan.specs.declared.ports.Wire.{Wire}
+pub use Rattle.c104_plan.specs.declared.ports.{Port.Port, Wire.Wire}
+use Rattle.{c104_plan.specs.Distinctness.AreDistinct, c104_regs.specs.declared.registers.TheConstants.LINKS}
+use Rattle.std.specs.{List.list_any, Prelude.{Bool, List, None, Option, Some, [], false, if◌then◌else◌, map, ℕ, ◌&&◌, ◌<◌, ◌==◌, ◌∷◌, ◌≢◌}}
 
 -- whether two ports are the same
 abbrev pub is_port : Port → Port → Bool
-is_port (port.Switch s l) (port.Switch s' l') = s == s' && l == l'
-is_port (port.Terminal t) (port.Terminal t') = t == t'
-is_port (port.Switch s l) (port.Terminal t) = false
-is_port (port.Terminal t) (port.Switch s l) = false
+is_port (Port.Switch s l) (Port.Switch s' l') = s == s' && l == l'
+is_port (Port.Terminal t) (Port.Terminal t') = t == t'
+is_port (Port.Switch s l) (Port.Terminal t) = false
+is_port (Port.Terminal t) (Port.Switch s l) = false
 
 -- whether two ports are links of one switch
 abbrev pub are_of_one_switch : Port → Port → Bool
-are_of_one_switch (port.Switch s l) (port.Switch s' l') = s == s'
-are_of_one_switch (port.Switch s l) (port.Terminal t) = false
-are_of_one_switch (port.Terminal t) p = false
+are_of_one_switch (Port.Switch s l) (Port.Switch s' l') = s == s'
+are_of_one_switch (Port.Switch s l) (Port.Terminal t) = false
+are_of_one_switch (Port.Terminal t) p = false
 
 -- whether a port is a link of this switch
 abbrev pub is_of_switch : ℕ → Port → Bool
-is_of_switch switch (port.Switch s l) = s == switch
-is_of_switch switch (port.Terminal t) = false
+is_of_switch switch (Port.Switch s l) = s == switch
+is_of_switch switch (Port.Terminal t) = false
 
 -- the other end of the first of these wires that has this port
 abbrev pub other_end : List Wire → Port → Option Port
@@ -48,12 +44,12 @@ AreOncePerPort port_of xs = AreDistinct is_port (map port_of xs)
 
 -- a link of one of a given number of switches
 abbrev pub IsSwitchPort : ℕ → Port → Type 0
-IsSwitchPort switches (port.Switch s l) = (s < switches) × (l < LINKS)
-IsSwitchPort switches (port.Terminal t) = ⊥
+IsSwitchPort switches (Port.Switch s l) = (s < switches) × (l < LINKS)
+IsSwitchPort switches (Port.Terminal t) = ⊥
 
 -- ports of two switches, or of a switch and a terminal
 abbrev pub AreApart : Port → Port → Type 0
-AreApart (port.Switch s l) (port.Switch s' l') = s ≢ s'
-AreApart (port.Switch s l) (port.Terminal t) = Unit {0}
-AreApart (port.Terminal t) (port.Switch s l) = Unit {0}
-AreApart (port.Terminal t) (port.Terminal u) = ⊥
+AreApart (Port.Switch s l) (Port.Switch s' l') = s ≢ s'
+AreApart (Port.Switch s l) (Port.Terminal t) = Unit {0}
+AreApart (Port.Terminal t) (Port.Switch s l) = Unit {0}
+AreApart (Port.Terminal t) (Port.Terminal u) = ⊥

@@ -1,19 +1,12 @@
 -- The plan by hand that has an image: the switches, terminals and wires of another plan, the ranges of the image, and
 -- lines that set at each link what the image has there, as far as lines can say it.
-use Rattle.std.specs.Prelude.{◌≡◌, ℕ, zero, suc, ◌==◌, ◌&&◌, Bool, true, false, not, List, [], ◌∷◌, ◌++◌, length, map, nat_le, nat_lt, Option, Some, None, if◌then◌else◌, slice_get, slice_index_or}
-use Rattle.c104_interval.specs.declared.intervals.TheConstants.{ROWS}
-use Rattle.c104_interval.specs.declared.intervals.Row.{Row}
-use Rattle.c104_interval.specs.declared.intervals.Select.{Select}
-use Rattle.c104_interval.specs.declared.intervals.Select.TheVariants.{Link, Discard, Sink}
-use Rattle.c104_interval.specs.Selection.{reset_row}
-use Rattle.c104_regs.specs.declared.registers.TheConstants.{LINKS}
-use Rattle.c104_regs.specs.declared.settings.Settings.{Settings}
-use Rattle.c104_regs.specs.Settings.{reset_settings}
-use Rattle.c104_plan.specs.declared.plans.Shape.TheVariants.{Hand}
-use Rattle.c104_plan.specs.declared.ports.Port.TheVariants as port
-use Rattle.c104_plan.specs.Ports.{Port, is_any_at}
-use Rattle.c104_plan.specs.Plans.{Plan, PlanBase, PlanRandom, Terminal, host_port, is_continued, is_deleted, label_count, rows_of}
-use Rattle.c104_plan.specs.PlanImage.{Image}
+use Rattle.c104_interval.specs.{Selection.reset_row, declared.intervals.{Row.Row, Select.{Select, TheVariants.{Discard, Link, Sink}}}}
+use Rattle.{c104_interval.specs.declared.intervals.TheConstants.ROWS, c104_plan.specs.{PlanImage.Image, Plans.{Plan, PlanBase, PlanRandom}}}
+use Rattle.c104_plan.specs.{Plans.{Terminal, host_port, is_continued, is_deleted, label_count, rows_of}, Ports.{Port, is_any_at}}
+use Rattle.{c104_plan.specs.declared.plans.Shape.TheVariants.Hand, c104_regs.specs.Settings.reset_settings}
+use Rattle.c104_regs.specs.declared.{registers.TheConstants.LINKS, settings.Settings.Settings}
+use Rattle.std.specs.Prelude.{Bool, List, None, Option, Some, [], false, if◌then◌else◌, length, map, nat_le, nat_lt, not, slice_get}
+use Rattle.std.specs.Prelude.{slice_index_or, suc, true, zero, ℕ, ◌&&◌, ◌++◌, ◌==◌, ◌∷◌, ◌≡◌}
 
 -- terminals with these ranges in place of their own, as far as there are ranges
 abbrev pub with_ranges : List (ℕ × ℕ) → List Terminal → List Terminal
@@ -37,8 +30,8 @@ unset_plan ranges plan = record plan {
 abbrev pub continue_given : ℕ → ℕ → Bool → Plan → Plan
 continue_given s l continues plan = record plan {
   continues =
-      if continues && (nat_lt 0 l && not (is_continued plan (port.Switch s l)))
-      then plan.continues ++ port.Switch s l ∷ []
+      if continues && (nat_lt 0 l && not (is_continued plan (Port.Switch s l)))
+      then plan.continues ++ Port.Switch s l ∷ []
       else plan.continues;
 }
 
@@ -97,9 +90,9 @@ random_given p randomize base range plan = record plan {
 -- the plan with the lines of link l of switch s, which is to have these settings
 unfoldable pub link_given : ℕ → ℕ → Settings → Plan → Plan
 link_given s l settings plan =
-    random_given (port.Switch s l) settings.randomize settings.random_base settings.random_range
-    (rows_given (port.Switch s l) settings.table.rows (used_rows settings.table.rows)
-    (base_given (port.Switch s l) settings.table.base
+    random_given (Port.Switch s l) settings.randomize settings.random_base settings.random_range
+    (rows_given (Port.Switch s l) settings.table.rows (used_rows settings.table.rows)
+    (base_given (Port.Switch s l) settings.table.base
     (continue_given s l settings.continue_group plan)))
 
 -- the plan with the lines of the first n links of switch s

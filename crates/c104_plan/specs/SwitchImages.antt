@@ -1,8 +1,6 @@
 -- What is kept of one switch of an image.
-use Rattle.std.specs.Prelude.{◌≡◌, ℕ, List, Option, option_map}
-use Rattle.std.specs.List.{cons_option}
-use Rattle.c104_regs.specs.KeptValues.{kept_values}
-use Rattle.c104_regs.specs.Registers.{IsRegisterBank, RegisterBank, placed_bank}
+use Rattle.c104_regs.specs.{KeptValues.kept_values, Registers.{IsRegisterBank, RegisterBank, placed_bank}}
+use Rattle.std.specs.{List.cons_option, Prelude.{List, Option, option_map, ℕ, ◌≡◌}}
 
 -- registers of a started switch that has told nothing yet, and beside them what differs from a reset
 pub record AreKept (registers : RegisterBank) (pairs : List (ℕ × ℕ)) : Type 0 where

@@ -1,6 +1,5 @@
 -- How a text is cut: into lines, and a line into words; and how long that of a description may be.
-use Rattle.std.specs.Prelude.{ℕ, ◌==◌, ◌&&◌, ◌||◌, Bool, not, List, length, filter, nat_le}
-use Rattle.std.specs.List.{before_first, list_all, slice_split}
+use Rattle.std.specs.{List.{before_first, list_all, slice_split}, Prelude.{Bool, List, filter, length, nat_le, not, ℕ, ◌&&◌, ◌==◌, ◌||◌}}
 
 -- the lines of a text: the pieces between line feeds (0x0a), the last one too
 abbrev pub lines : List ℕ → List (List ℕ)

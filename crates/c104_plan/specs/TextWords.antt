@@ -1,8 +1,7 @@
 -- What a word may be: a number, a name, or a word with a dot.
-use Rattle.std.specs.Prelude.{ℕ, ◌+◌, ◌-◌, ◌*◌, ◌<◌, ◌==◌, ◌&&◌, ◌||◌, Bool, false, List, [], ◌∷◌, length, drop, fold, position, nat_le, nat_lt, if◌then◌else◌, Option, Some, None}
-use Rattle.std.specs.List.{list_all, list_any}
-use Rattle.c104_plan.specs.declared.text.Dots.{Dots}
-use Rattle.c104_plan.specs.declared.text.Dots.TheVariants.{Without, At, Several}
+use Rattle.c104_plan.specs.declared.text.Dots.{Dots, TheVariants.{At, Several, Without}}
+use Rattle.std.specs.{List.{list_all, list_any}, Prelude.{Bool, List, None, Option, Some, [], drop, false, fold, if◌then◌else◌, length}}
+use Rattle.std.specs.Prelude.{nat_le, nat_lt, position, ℕ, ◌&&◌, ◌*◌, ◌+◌, ◌-◌, ◌<◌, ◌==◌, ◌||◌, ◌∷◌}
 
 -- the most digits of a number
 abbrev pub most_digits : ℕ

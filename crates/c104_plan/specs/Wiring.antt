@@ -1,14 +1,12 @@
 -- The wiring of a plan: which port is wired to which.
-use Rattle.std.specs.Prelude.{◌≡◌, ◌⊎◌, ℕ, suc, ◌<◌, List, [], ◌∷◌, ◌++◌, Option, Some, length, slice_get}
-use Rattle.c104_plan.specs.declared.ports.Port.TheVariants as port
-use Rattle.c104_plan.specs.Ports.{Port, Wire, AreApart, IsSwitchPort, other_end}
-use Rattle.c104_plan.specs.Plans.{Plan, Terminal, host_port}
+use Rattle.c104_plan.specs.{Plans.{Plan, Terminal, host_port}, Ports.{AreApart, IsSwitchPort, Port, Wire, other_end}}
+use Rattle.std.specs.Prelude.{List, Option, Some, [], length, slice_get, suc, ℕ, ◌++◌, ◌<◌, ◌∷◌, ◌≡◌, ◌⊎◌}
 
 -- the wires of terminals, the first of which has number n
 abbrev pub terminal_wires : ℕ → List Terminal → List Wire
 terminal_wires n [] = []
 terminal_wires n (t ∷ terminals) =
-    record { here = port.Terminal n; there = host_port t } ∷ terminal_wires (suc n) terminals
+    record { here = Port.Terminal n; there = host_port t } ∷ terminal_wires (suc n) terminals
 
 -- all wires: terminal k's is at place k, and those between switches follow
 abbrev pub wires : Plan → List Wire
@@ -20,8 +18,8 @@ peer plan p = other_end (wires plan) p
 
 -- one of the plan's ports
 abbrev pub IsPlanPort : Plan → Port → Type 0
-IsPlanPort plan (port.Switch s l) = IsSwitchPort (length plan.switches) (port.Switch s l)
-IsPlanPort plan (port.Terminal t) = t < length plan.terminals
+IsPlanPort plan (Port.Switch s l) = IsSwitchPort (length plan.switches) (Port.Switch s l)
+IsPlanPort plan (Port.Terminal t) = t < length plan.terminals
 
 -- some one of these wires joins two ports
 abbrev pub IsJoined : List Wire → Port → Port → Type 0
@@ -38,4 +36,4 @@ pub record IsWiring (plan : Plan) : Type 0 where
   pub apart : (p q : Port) → peer plan p ≡ Some q → AreApart p q
   pub joined : (k : ℕ) (w : Wire) → slice_get (wires plan) k ≡ Some w → (peer plan w.here ≡ Some w.there) × (peer plan w.there ≡ Some w.here)
   pub no_other : (p q : Port) → peer plan p ≡ Some q → IsJoined (wires plan) p q
-  pub host : (number : ℕ) (t : Terminal) → slice_get plan.terminals number ≡ Some t → peer plan (port.Terminal number) ≡ Some (host_port t)
+  pub host : (number : ℕ) (t : Terminal) → slice_get plan.terminals number ≡ Some t → peer plan (Port.Terminal number) ≡ Some (host_port t)

@@ -1,9 +1,8 @@
 -- An address says what stands there, and that says the address.
-use Rattle.std.proofs.Common.{◌≡◌, ℕ, zero, suc, ◌-◌, ◌/◌, ◌%◌, ◌≤◌, ◌&&◌, Bool, true, false, nat_eq, nat_le, nat_lt, if◌then◌else◌, Option, Some, None, slice_get, option_map, refl, sym, ap, ◌∙◌, arith}
-use Rattle.std.proofs.lemmas.Bool.Decides.{nat_tests}
-use Rattle.c104_regs.specs.Addresses.{Address, Register, address_number, address_of, first_registers, register_properties, register_at}
-use Rattle.c104_regs.specs.declared.addresses.Address.TheVariants.{DeviceId, Started, AtLink}
-use Rattle.c104_regs.specs.declared.addresses.Register.TheVariants.{Base, Limit, Select}
+use Rattle.c104_regs.specs.Addresses.{Address, Register, address_number, address_of, first_registers, register_at, register_properties}
+use Rattle.c104_regs.specs.declared.addresses.{Address.TheVariants.{AtLink, DeviceId, Started}, Register.TheVariants.{Base, Limit, Select}}
+use Rattle.std.proofs.Common.{Bool, None, Option, Some, ap, arith, false, if◌then◌else◌, nat_eq, nat_le, nat_lt, option_map, refl}
+use Rattle.std.proofs.{Common.{slice_get, suc, sym, true, zero, ℕ, ◌%◌, ◌&&◌, ◌-◌, ◌/◌, ◌∙◌, ◌≡◌, ◌≤◌}, lemmas.Bool.Decides.nat_tests}
 
 -- a register stands at its offset
 is_offset : (r q : Register) → Some r ≡ Some q → (register_properties q).offset ≡ (register_properties r).offset

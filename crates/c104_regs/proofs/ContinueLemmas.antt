@@ -1,18 +1,11 @@
 -- The word of the links that continue a group: its bits, and that it fits 32 bits.
-use Rattle.std.proofs.Common.{◌≡◌, ℕ, zero, suc, ◌+◌, ◌-◌, ◌*◌, ◌/◌, ◌%◌, ◌^◌, ◌<◌, ◌≤◌, ◌==◌, Bool, true, false, List, [], ◌∷◌, length, get_or, set, drop, refl, sym, ap, ◌∙◌, arith, add-one, drop-cons, length-drop}
-use Rattle.std.proofs.Math.Seq.{drop-length}
-use Rattle.std.proofs.Math.Nat.{pow-succ'}
-use Rattle.std.proofs.lemmas.Grind.{one_shifted}
-use Rattle.std.proofs.lemmas.List.{length-set}
-use Rattle.std.proofs.lemmas.Nat.{pow_pos}
-use Rattle.std.proofs.lemmas.Nat.Bits.{bit_at-suc, bit_at-zero, bit_at_lowest}
-use Rattle.std.specs.Int.{bit_at}
-use Rattle.c104_regs.specs.Groups.{continue_bits, continues_at}
-use Rattle.c104_regs.specs.Settings.{Settings}
-use Rattle.c104_regs.specs.Values.{bit_value, with_value}
-use Rattle.c104_regs.specs.Addresses.{Register}
-use Rattle.c104_regs.specs.Registers.{waits}
-use Rattle.c104_regs.specs.declared.addresses.Register.TheVariants.{Mode, RandomBase, RandomRange, Sunk, Short, InputLevel, OutputLevel, Credit, Granted, Owner, Base, Limit, Select}
+use Rattle.c104_regs.specs.{Addresses.Register, Groups.{continue_bits, continues_at}, Registers.waits, Settings.Settings, Values.bit_value}
+use Rattle.c104_regs.specs.{Values.with_value, declared.addresses.Register.TheVariants.{Base, Credit, Granted, InputLevel, Limit, Mode}}
+use Rattle.c104_regs.specs.declared.addresses.Register.TheVariants.{OutputLevel, Owner, RandomBase, RandomRange, Select, Short, Sunk}
+use Rattle.std.proofs.Common.{Bool, List, [], add-one, ap, arith, drop, drop-cons, false, get_or, length, length-drop, refl, set, suc, sym}
+use Rattle.std.proofs.{Common.{true, zero, ℕ, ◌%◌, ◌*◌, ◌+◌, ◌-◌, ◌/◌, ◌<◌, ◌==◌, ◌^◌, ◌∙◌, ◌∷◌, ◌≡◌, ◌≤◌}, Math.Nat.pow-succ'}
+use Rattle.std.proofs.{Math.Seq.drop-length, lemmas.{Grind.one_shifted, List.length-set, Nat.Bits.{bit_at-suc, bit_at-zero, bit_at_lowest}}}
+use Rattle.std.{proofs.lemmas.Nat.pow_pos, specs.Int.bit_at}
 
 lowest : (b : Bool) (n : ℕ) → (bit_value b 1 + 2 * n) % 2 ≡ bit_value b 1
 lowest true n = omega arith

@@ -1,11 +1,9 @@
 -- A poke of the registers, by the link and the register that it sets or its first fault.
-use Rattle.std.proofs.Common.{◌≡◌, ℕ, ◌-◌, ◌/◌, ◌&&◌, Bool, true, false, Option, Some, None, Result, Ok, Err, if◌then◌else◌, refl, sym, ap, ◌∙◌}
-use Rattle.c104_regs.specs.Addresses.{Address, Register, address_of, register_properties, register_takes}
-use Rattle.c104_regs.specs.declared.addresses.Address.TheVariants.{DeviceId, Started, AtLink}
-use Rattle.c104_regs.specs.Faults.{RegFault}
-use Rattle.c104_regs.specs.declared.faults.RegFault.TheVariants.{NoRegister, ReadOnly, OutOfRange, Busy}
-use Rattle.c104_regs.specs.Registers.{RegisterBank, bank_poke, free_target, status_at, target, waits, with_register}
-use Rattle.c104_regs.proofs.AddressLemmas.{link_at}
+use Rattle.c104_regs.{proofs.AddressLemmas.link_at, specs.Addresses.{Address, Register, address_of, register_properties, register_takes}}
+use Rattle.c104_regs.specs.{Faults.RegFault, Registers.{RegisterBank, bank_poke, free_target, status_at, target, waits, with_register}}
+use Rattle.c104_regs.specs.declared.{addresses.Address.TheVariants.{AtLink, DeviceId, Started}, faults.RegFault.TheVariants.Busy}
+use Rattle.{c104_regs.specs.declared.faults.RegFault.TheVariants.{NoRegister, OutOfRange, ReadOnly}, std.proofs.Common.{Bool, Err, None}}
+use Rattle.std.proofs.Common.{Ok, Option, Result, Some, ap, false, if◌then◌else◌, refl, sym, true, ℕ, ◌&&◌, ◌-◌, ◌/◌, ◌∙◌, ◌≡◌}
 
 -- what a poke answers and leaves, by its target
 abbrev pub poked_by : RegisterBank → ℕ → Result (ℕ × Register) RegFault → Result (Unit {0}) RegFault × RegisterBank

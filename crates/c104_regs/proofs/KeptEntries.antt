@@ -1,10 +1,9 @@
 -- Entries by address: of a function that gives some addresses a value, the values that it gives the
 -- addresses of a range, each with its address.
-use Rattle.std.proofs.Common.{◌≡◌, ℕ, zero, suc, ◌+◌, ◌<◌, ◌≤◌, ◌⊎◌, inl, inr, Option, Some, None, List, [], ◌∷◌, ◌++◌, All, get_or, option_map, refl, sym, ap, ◌∙◌, subst, arith}
-use Rattle.std.specs.List.{AllPairs, Contains, cons_option, filter_map, range_with_len}
-use Rattle.std.proofs.lemmas.Bool.{cases_eq}
-use Rattle.std.proofs.lemmas.List.Elements.{All-cons, All-nil, All-weaker, Contains-append_cases, Contains-append_right, filter_map-append}
-use Rattle.std.proofs.lemmas.List.Kept.{AllPairs-cons}
+use Rattle.std.proofs.Common.{All, List, None, Option, Some, [], ap, arith, get_or, inl, inr, option_map, refl, subst, suc, sym, zero, ℕ}
+use Rattle.std.proofs.{Common.{◌++◌, ◌+◌, ◌<◌, ◌∙◌, ◌∷◌, ◌≡◌, ◌≤◌, ◌⊎◌}, lemmas.{Bool.cases_eq, List.Elements.{All-cons, All-nil}}}
+use Rattle.std.proofs.lemmas.List.Elements.{All-weaker, Contains-append_cases, Contains-append_right, filter_map-append}
+use Rattle.std.{proofs.lemmas.List.Kept.AllPairs-cons, specs.List.{AllPairs, Contains, cons_option, filter_map, range_with_len}}
 
 -- a value with its address
 abbrev pub entry : (ℕ → Option ℕ) → ℕ → Option (ℕ × ℕ)

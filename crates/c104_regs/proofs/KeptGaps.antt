@@ -1,14 +1,11 @@
 -- Addresses of which no value is kept: those where no register stands, and those of a link that is as after a reset.
-use Rattle.std.proofs.Common.{◌≡◌, ◌⊎◌, ◌∙◌, ◌++◌, ◌+◌, ◌-◌, ◌/◌, ◌%◌, ◌<◌, ◌≤◌, ◌==◌, ◌&&◌, ◌||◌, not, ℕ, Bool, true, false, List, Option, Some, None, get_or, nat_le, nat_lt, option_map, if◌then◌else◌, inl, inr, refl, sym, ap, append-nil, arith}
+use Rattle.c104_regs.{proofs.{KeptEntries.{entries, entries_cut, entries_none_in}, RegisterLemmas.value_reset}, specs.Addresses.Address}
+use Rattle.c104_regs.specs.{Addresses.{Register, address_of, register_at, register_properties}, Gaps.is_gap, KeptValues.kept_value}
+use Rattle.c104_regs.specs.{Settings.{Settings, reset_settings}, Values.{register_read, reset_status}}
+use Rattle.{c104_regs.specs.declared.addresses.Address.TheVariants.{AtLink, DeviceId, Started}, std.proofs.Common.{Bool, List, None}}
+use Rattle.std.proofs.Common.{Option, Some, ap, append-nil, arith, false, get_or, if◌then◌else◌, inl, inr, nat_le, nat_lt, not, option_map}
+use Rattle.std.proofs.Common.{refl, sym, true, ℕ, ◌%◌, ◌&&◌, ◌++◌, ◌+◌, ◌-◌, ◌/◌, ◌<◌, ◌==◌, ◌||◌, ◌∙◌, ◌≡◌, ◌≤◌, ◌⊎◌}
 use Rattle.std.proofs.lemmas.Bool.Decides.{nat_tests}
-use Rattle.c104_regs.specs.Addresses.{Address, Register, address_of, register_at, register_properties}
-use Rattle.c104_regs.specs.declared.addresses.Address.TheVariants.{DeviceId, Started, AtLink}
-use Rattle.c104_regs.specs.Gaps.{is_gap}
-use Rattle.c104_regs.specs.KeptValues.{kept_value}
-use Rattle.c104_regs.specs.Settings.{Settings, reset_settings}
-use Rattle.c104_regs.specs.Values.{register_read, reset_status}
-use Rattle.c104_regs.proofs.KeptEntries.{entries, entries_cut, entries_none_in}
-use Rattle.c104_regs.proofs.RegisterLemmas.{value_reset}
 
 either : (a b : Bool) → (a || b) ≡ true → (a ≡ true) ⊎ (b ≡ true)
 either true b is = inl refl

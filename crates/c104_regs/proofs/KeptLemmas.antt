@@ -1,20 +1,16 @@
 -- The values that are kept of settings are those that a poke may set, that are read, and that aren't read
 -- after a reset; with their addresses they are a finite map.
-use Rattle.std.proofs.Common.{◌≡◌, ◌↔◌, ℕ, zero, suc, ◌+◌, ◌-◌, ◌/◌, ◌%◌, ◌<◌, ◌==◌, ◌&&◌, not, Bool, true, false, nat_le, nat_lt, if◌then◌else◌, IsTrue, Option, Some, None, Result, Ok, Err, List, [], ◌∷◌, ◌++◌, append-nil, get_or, replicate, slice_get, option_map, refl, sym, ap, ◌∙◌, subst, arith}
-use Rattle.std.proofs.lemmas.Bool.Decides.{nat_tests}
-use Rattle.std.specs.List.{Contains, cons_option}
-use Rattle.c104_regs.specs.Addresses.{Address, IsRegister, Register, address_of, first_registers, register_at, register_properties, register_takes}
-use Rattle.c104_regs.specs.declared.addresses.Address.TheVariants.{DeviceId, Started, AtLink}
-use Rattle.c104_regs.specs.declared.addresses.Register.TheVariants.{Base, Limit, Select}
-use Rattle.c104_regs.specs.Faults.{RegFault}
-use Rattle.c104_regs.specs.declared.faults.RegFault.TheVariants.{NoRegister, ReadOnly}
-use Rattle.c104_regs.specs.KeptValues.{IsKept, IsMapOf, kept_value, kept_values, unless_reset}
-use Rattle.c104_regs.specs.Ranges.{IsInRange}
-use Rattle.c104_regs.specs.Registers.{bank_peek, placed_bank, reset_bank, settable}
-use Rattle.c104_regs.specs.Settings.{Settings, reset_settings}
-use Rattle.c104_regs.specs.Values.{Status, register_read, reset_status}
-use Rattle.c104_regs.proofs.RegisterLemmas.{get_or-same, reset_values, value_reset}
 use Rattle.c104_regs.proofs.KeptEntries.{ascending, entries, entries_more, entries_none, entry_has, entry_value}
+use Rattle.c104_regs.{proofs.RegisterLemmas.{get_or-same, reset_values, value_reset}, specs.Addresses.{Address, IsRegister, Register}}
+use Rattle.c104_regs.specs.{Addresses.{address_of, first_registers, register_at, register_properties, register_takes}, Faults.RegFault}
+use Rattle.c104_regs.specs.{KeptValues.{IsKept, IsMapOf, kept_value, kept_values, unless_reset}, Ranges.IsInRange, Registers.bank_peek}
+use Rattle.c104_regs.specs.{Registers.{placed_bank, reset_bank, settable}, Settings.{Settings, reset_settings}, Values.Status}
+use Rattle.c104_regs.specs.{Values.{register_read, reset_status}, declared.addresses.Address.TheVariants.{AtLink, DeviceId, Started}}
+use Rattle.c104_regs.specs.declared.{addresses.Register.TheVariants.{Base, Limit, Select}, faults.RegFault.TheVariants.NoRegister}
+use Rattle.{c104_regs.specs.declared.faults.RegFault.TheVariants.ReadOnly, std.proofs.Common.{Bool, Err, IsTrue, List, None, Ok, Option}}
+use Rattle.std.proofs.Common.{Result, Some, [], ap, append-nil, arith, false, get_or, if◌then◌else◌, nat_le, nat_lt, not, option_map, refl}
+use Rattle.std.proofs.Common.{replicate, slice_get, subst, suc, sym, true, zero, ℕ, ◌%◌, ◌&&◌, ◌++◌, ◌+◌, ◌-◌, ◌/◌, ◌<◌, ◌==◌, ◌↔◌, ◌∙◌}
+use Rattle.std.{proofs.{Common.{◌∷◌, ◌≡◌}, lemmas.Bool.Decides.nat_tests}, specs.List.{Contains, cons_option}}
 
 -- what stands at an address is one of the registers that there are
 is_one : (r q : Register) → Some r ≡ Some q → IsRegister r → IsRegister q

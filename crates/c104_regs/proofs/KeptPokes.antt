@@ -1,23 +1,18 @@
 -- What is kept of settings, poked into registers that were reset, gives what reads as the settings do.
-use Rattle.std.proofs.Common.{slice_set, ◌≡◌, ◌≢◌, ℕ, zero, suc, ◌-◌, ◌/◌, ◌<◌, ◌⊎◌, inl, inr, ◌==◌, Bool, true, false, Option, Some, None, Result, Ok, Err, List, [], ◌∷◌, get_or, length, replicate, refl, sym, ap, ◌∙◌, subst, arith}
-use Rattle.std.proofs.lemmas.Bool.Decides.{nat_tests}
-use Rattle.std.proofs.lemmas.List.{get_or-set_same}
-use Rattle.std.specs.List.{Contains}
-use Rattle.c104_regs.specs.Addresses.{Address, Register, address_of, register_properties, register_takes}
-use Rattle.c104_regs.specs.declared.addresses.Address.TheVariants.{DeviceId, Started, AtLink}
-use Rattle.c104_regs.specs.declared.addresses.Register.TheVariants.{Mode, RandomBase, RandomRange, Sunk, Short, InputLevel, OutputLevel, Credit, Granted, Owner, Base, Limit, Select}
-use Rattle.c104_regs.specs.declared.faults.RegFault.TheVariants.{NoRegister, ReadOnly, OutOfRange}
-use Rattle.c104_regs.specs.Faults.{RegFault}
-use Rattle.c104_regs.specs.KeptValues.{kept_value, kept_values, unless_reset}
-use Rattle.c104_regs.specs.Ranges.{IsInRange}
-use Rattle.c104_regs.specs.Registers.{IsRegisterBank, IsTarget, bank_peek, bank_poke, RegisterBank, placed_bank, reset_bank, settable, status_at, target, with_register}
-use Rattle.c104_regs.specs.Settings.{Settings, reset_settings}
-use Rattle.c104_regs.specs.Values.{Status, register_read, reset_status, with_value}
-use Rattle.c104_regs.proofs.AddressLemmas.{link_at}
-use Rattle.c104_regs.proofs.KeptLemmas.{kept_value_is, map_of_kept, placed_below, placed_register}
-use Rattle.c104_regs.proofs.PlacedPokes.{idle, poke_placed}
-use Rattle.c104_regs.proofs.RegisterLemmas.{IsInRange-reset, IsKept-with_register, get_or-same, peek_other, value_reset}
-use Rattle.c104_regs.proofs.ValueLemmas.{value_same}
+use Rattle.c104_regs.proofs.{AddressLemmas.link_at, KeptLemmas.{kept_value_is, map_of_kept, placed_below, placed_register}}
+use Rattle.c104_regs.proofs.{PlacedPokes.{idle, poke_placed}, RegisterLemmas.{IsInRange-reset, IsKept-with_register, get_or-same}}
+use Rattle.c104_regs.{proofs.{RegisterLemmas.{peek_other, value_reset}, ValueLemmas.value_same}, specs.Addresses.{Address, Register}}
+use Rattle.c104_regs.specs.{Addresses.{address_of, register_properties, register_takes}, Faults.RegFault, KeptValues.kept_value}
+use Rattle.c104_regs.specs.{KeptValues.{kept_values, unless_reset}, Ranges.IsInRange, Registers.{IsRegisterBank, IsTarget, RegisterBank}}
+use Rattle.c104_regs.specs.Registers.{bank_peek, bank_poke, placed_bank, reset_bank, settable, status_at, target, with_register}
+use Rattle.c104_regs.specs.{Settings.{Settings, reset_settings}, Values.{Status, register_read, reset_status, with_value}}
+use Rattle.c104_regs.specs.declared.addresses.{Address.TheVariants.{AtLink, DeviceId, Started}, Register.TheVariants.{Base, Credit}}
+use Rattle.c104_regs.specs.declared.addresses.Register.TheVariants.{Granted, InputLevel, Limit, Mode, OutputLevel, Owner, RandomBase}
+use Rattle.c104_regs.specs.declared.addresses.Register.TheVariants.{RandomRange, Select, Short, Sunk}
+use Rattle.{c104_regs.specs.declared.faults.RegFault.TheVariants.{NoRegister, OutOfRange, ReadOnly}, std.proofs.Common.{Bool, Err, List}}
+use Rattle.std.proofs.Common.{None, Ok, Option, Result, Some, [], ap, arith, false, get_or, inl, inr, length, refl, replicate, slice_set}
+use Rattle.std.proofs.{Common.{subst, suc, sym, true, zero, ℕ, ◌-◌, ◌/◌, ◌<◌, ◌==◌, ◌∙◌, ◌∷◌, ◌≡◌, ◌≢◌, ◌⊎◌}, lemmas.Bool.Decides.nat_tests}
+use Rattle.std.{proofs.lemmas.List.get_or-set_same, specs.List.Contains}
 
 -- what a poke that may be made sets
 module _ (a v : ℕ) where

@@ -1,17 +1,12 @@
 -- Packed settings give back what was packed.
-use Rattle.std.proofs.Common.{◌≡◌, ℕ, ◌+◌, ◌*◌, ◌/◌, ◌%◌, ◌<◌, ◌≤◌, Bool, true, false, List, [], ◌∷◌, All, map, IsTrue, refl, sym, ap, arith}
-use Rattle.std.proofs.lemmas.Bool.Decides.{nat_tests}
-use Rattle.std.proofs.lemmas.List.Elements.{All-from_get_or, All-head, All-map, All-tail, All-weaker}
-use Rattle.c104_interval.specs.Selection.{reset_row}
-use Rattle.c104_interval.specs.declared.intervals.Row.{Row}
+use Rattle.{c104_interval.specs.{Selection.reset_row, declared.intervals.{Row.Row, Table.Table}}, c104_regs.specs.Addresses.Register}
+use Rattle.c104_regs.specs.{Addresses.{register_properties, register_takes}, Packed.{ArePacked, IsPackable, IsRowWord, packed, row_of_word}}
+use Rattle.c104_regs.specs.{Packed.{unpacked, word_of_row}, Ranges.IsInRange, Settings.Settings, Values.{bit_value, mode_of, reset_status}}
+use Rattle.c104_regs.specs.{Values.{select_code, select_of, with_mode}, declared.addresses.Register.TheVariants.{Base, Limit, Mode}}
+use Rattle.{c104_regs.specs.declared.addresses.Register.TheVariants.{RandomBase, RandomRange, Select}, std.proofs.Common.{All, Bool}}
+use Rattle.std.proofs.Common.{IsTrue, List, [], ap, arith, false, map, refl, sym, true, ℕ, ◌%◌, ◌*◌, ◌+◌, ◌/◌, ◌<◌, ◌∷◌, ◌≡◌, ◌≤◌}
+use Rattle.std.proofs.lemmas.{Bool.Decides.nat_tests, List.Elements.{All-from_get_or, All-head, All-map, All-tail, All-weaker}}
 use Rattle.c104_interval.specs.declared.intervals.Select as interval
-use Rattle.c104_interval.specs.declared.intervals.Table.{Table}
-use Rattle.c104_regs.specs.Addresses.{Register, register_properties, register_takes}
-use Rattle.c104_regs.specs.declared.addresses.Register.TheVariants.{Mode, RandomBase, RandomRange, Base, Limit, Select}
-use Rattle.c104_regs.specs.Packed.{ArePacked, IsPackable, IsRowWord, packed, row_of_word, unpacked, word_of_row}
-use Rattle.c104_regs.specs.Ranges.{IsInRange}
-use Rattle.c104_regs.specs.Settings.{Settings}
-use Rattle.c104_regs.specs.Values.{bit_value, mode_of, reset_status, select_code, select_of, with_mode}
 
 -- one row, with its parts as variables
 row_of_parts : (limit : ℕ) (x : interval.Select) → limit < 131072 → select_of (select_code x) ≡ x → row_of_word (limit + 131072 * select_code x) ≡ record { limit = limit; select = x }

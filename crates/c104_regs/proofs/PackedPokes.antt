@@ -1,17 +1,12 @@
 -- What is set in one part of the words of settings is set in the settings that they stand for, and what they
 -- select is what those do.
-use Rattle.std.proofs.Common.{◌≡◌, ℕ, ◌+◌, ◌*◌, ◌/◌, ◌%◌, ◌<◌, ◌≤◌, Bool, true, false, nat_le, nat_lt, if◌then◌else◌, List, [], ◌∷◌, length, get_or, set, map, IsTrue, refl, ◌∙◌, arith}
-use Rattle.std.proofs.lemmas.Bool.Decides.{nat_tests}
-use Rattle.std.proofs.lemmas.List.{get_or-map, map-set}
-use Rattle.c104_interval.specs.Selection.{reset_row, select_from}
-use Rattle.c104_interval.specs.declared.intervals.Row.{Row}
+use Rattle.c104_interval.specs.{Selection.{reset_row, select_from}, declared.intervals.{Row.Row, Select.TheVariants.Sink}}
+use Rattle.c104_regs.specs.{Addresses.{Register, register_takes}, Packed.{first_above, row_of_word, unpacked}, Values.select_of}
+use Rattle.c104_regs.specs.{Values.with_value, declared.addresses.Register.TheVariants.{Limit, Select}}
+use Rattle.{c104_regs.specs.declared.packed.PackedSettings.TheInside.Inside, std.proofs.Common.{Bool, IsTrue, List, [], arith, false}}
+use Rattle.std.proofs.Common.{get_or, if◌then◌else◌, length, map, nat_le, nat_lt, refl, set, true, ℕ, ◌%◌, ◌*◌, ◌+◌, ◌/◌, ◌<◌, ◌∙◌, ◌∷◌}
+use Rattle.std.proofs.{Common.{◌≡◌, ◌≤◌}, lemmas.{Bool.Decides.nat_tests, List.{get_or-map, map-set}}}
 use Rattle.c104_interval.specs.declared.intervals.Select as interval
-use Rattle.c104_interval.specs.declared.intervals.Select.TheVariants.{Sink}
-use Rattle.c104_regs.specs.Addresses.{Register, register_takes}
-use Rattle.c104_regs.specs.declared.addresses.Register.TheVariants.{Limit, Select}
-use Rattle.c104_regs.specs.declared.packed.PackedSettings.TheInside.{Inside}
-use Rattle.c104_regs.specs.Packed.{first_above, row_of_word, unpacked}
-use Rattle.c104_regs.specs.Values.{select_of, with_value}
 
 -- the word of a row of which one part was set
 limit_put : (w v : ℕ) → v < 131072 → row_of_word (w / 131072 * 131072 + v) ≡ record { limit = v; select = select_of (w / 131072) }

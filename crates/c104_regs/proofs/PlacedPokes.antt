@@ -1,17 +1,11 @@
 -- A poke of a switch that was placed and has told nothing yet: it is refused exactly where the address and
 -- the value say so, since no link is busy.
-use Rattle.std.proofs.Common.{◌≡◌, ℕ, ◌<◌, ◌&&◌, Bool, true, false, Option, Some, None, Result, Ok, Err, List, get_or, refl, sym, ap, ◌∙◌}
-use Rattle.c104_regs.specs.Addresses.{Address, Register, address_of}
-use Rattle.c104_regs.specs.declared.addresses.Address.TheVariants.{DeviceId, Started, AtLink}
-use Rattle.c104_regs.specs.Faults.{RegFault}
-use Rattle.c104_regs.specs.declared.faults.RegFault.TheVariants.{NoRegister, ReadOnly}
-use Rattle.c104_regs.specs.KeptValues.{kept_value}
-use Rattle.c104_regs.specs.Ranges.{IsInRange}
-use Rattle.c104_regs.specs.Registers.{RegisterBank, bank_peek, bank_poke, placed_bank, settable, status_at, target, waits}
-use Rattle.c104_regs.specs.Settings.{Settings, reset_settings}
-use Rattle.c104_regs.specs.Values.{Status, reset_status}
-use Rattle.c104_regs.proofs.KeptLemmas.{kept_value_is, placed_below}
-use Rattle.c104_regs.proofs.RegisterLemmas.{get_or-same}
+use Rattle.c104_regs.{proofs.{KeptLemmas.{kept_value_is, placed_below}, RegisterLemmas.get_or-same}, specs.Addresses.{Address, Register}}
+use Rattle.c104_regs.specs.{Addresses.address_of, Faults.RegFault, KeptValues.kept_value, Ranges.IsInRange, Registers.RegisterBank}
+use Rattle.c104_regs.specs.{Registers.{bank_peek, bank_poke, placed_bank, settable, status_at, target, waits}, Settings.Settings}
+use Rattle.c104_regs.specs.{Settings.reset_settings, Values.{Status, reset_status}, declared.addresses.Address.TheVariants.AtLink}
+use Rattle.c104_regs.specs.declared.{addresses.Address.TheVariants.{DeviceId, Started}, faults.RegFault.TheVariants.{NoRegister, ReadOnly}}
+use Rattle.std.proofs.Common.{Bool, Err, List, None, Ok, Option, Result, Some, ap, false, get_or, refl, sym, true, ℕ, ◌&&◌, ◌<◌, ◌∙◌, ◌≡◌}
 
 -- what is answered of a target
 module _ (a v : ℕ) where

@@ -1,12 +1,7 @@
 -- What registers with given settings keep.
-use Rattle.std.proofs.Common.{◌≡◌, ℕ, Bool, List, length, get_or, replicate, inl, inr, sym, ap, ◌∙◌, subst, All}
-use Rattle.std.proofs.lemmas.List.{get_or_past}
-use Rattle.std.proofs.lemmas.Bool.{cases_lt}
-use Rattle.c104_regs.specs.Ranges.{IsInRange}
-use Rattle.c104_regs.specs.Registers.{IsRegisterBank}
-use Rattle.c104_regs.specs.Settings.{Settings, reset_settings}
-use Rattle.c104_regs.specs.Values.{Status, reset_status}
-use Rattle.c104_regs.proofs.RegisterLemmas.{IsInRange-reset}
+use Rattle.c104_regs.{proofs.RegisterLemmas.IsInRange-reset, specs.{Ranges.IsInRange, Registers.IsRegisterBank, Settings.Settings}}
+use Rattle.{c104_regs.specs.{Settings.reset_settings, Values.{Status, reset_status}}, std.proofs.Common.{All, Bool, List, ap, get_or, inl}}
+use Rattle.std.proofs.{Common.{inr, length, replicate, subst, sym, ℕ, ◌∙◌, ◌≡◌}, lemmas.{Bool.cases_lt, List.get_or_past}}
 
 -- past the last link stands what is set after a reset
 link_in_range : (settings : List Settings) → All IsInRange settings → (l : ℕ) → IsInRange (get_or settings l reset_settings)

@@ -1,17 +1,13 @@
 -- Settings stay within the ranges of their registers where a register is set to a value that it takes, and
 -- so does the table of such settings by itself.
-use Rattle.std.proofs.Common.{◌≡◌, ℕ, inl, inr, Bool, true, false, nat_eq, nat_lt, if◌then◌else◌, Some, length, IsTrue, refl, sym, ap, ◌∙◌, arith}
-use Rattle.std.proofs.lemmas.Bool.{cases_eq}
-use Rattle.std.proofs.lemmas.Bool.Decides.{nat_tests}
-use Rattle.std.proofs.lemmas.List.{get_or-set_other, get_or-set_same, length-set}
-use Rattle.c104_interval.specs.Selection.{reset_row, row_at}
-use Rattle.c104_interval.specs.declared.intervals.Select.TheVariants.{Link, Discard, Sink}
-use Rattle.c104_regs.specs.Addresses.{IsRegister, Register, register_at, register_takes, register_properties}
-use Rattle.c104_regs.specs.declared.addresses.Register.TheVariants.{Mode, RandomBase, RandomRange, Sunk, Short, InputLevel, OutputLevel, Credit, Granted, Owner, Base, Limit, Select}
-use Rattle.c104_regs.specs.Ranges.{IsInRange, IsTableInRange}
-use Rattle.c104_regs.specs.Settings.{Settings, plain_settings}
-use Rattle.c104_regs.specs.Values.{Status, register_read, select_code, select_of, with_value}
-use Rattle.c104_regs.proofs.ValueLemmas.{by_writable, select_kept, value_other, value_same}
+use Rattle.c104_interval.specs.{Selection.{reset_row, row_at}, declared.intervals.Select.TheVariants.{Discard, Link, Sink}}
+use Rattle.c104_regs.{proofs.ValueLemmas.{by_writable, select_kept, value_other, value_same}, specs.Addresses.{IsRegister, Register}}
+use Rattle.c104_regs.specs.{Addresses.{register_at, register_properties, register_takes}, Ranges.{IsInRange, IsTableInRange}}
+use Rattle.c104_regs.specs.{Settings.{Settings, plain_settings}, Values.{Status, register_read, select_code, select_of, with_value}}
+use Rattle.c104_regs.specs.declared.addresses.Register.TheVariants.{Base, Credit, Granted, InputLevel, Limit, Mode, OutputLevel, Owner}
+use Rattle.{c104_regs.specs.declared.addresses.Register.TheVariants.{RandomBase, RandomRange, Select, Short, Sunk}, std.proofs.Common.Bool}
+use Rattle.std.proofs.Common.{IsTrue, Some, ap, arith, false, if◌then◌else◌, inl, inr, length, nat_eq, nat_lt, refl, sym, true, ℕ, ◌∙◌, ◌≡◌}
+use Rattle.std.proofs.lemmas.{Bool.{Decides.nat_tests, cases_eq}, List.{get_or-set_other, get_or-set_same, length-set}}
 
 -- a register stands at its offset, so registers of one offset are one
 pub at_offset : (r : Register) → IsRegister r → register_at (register_properties r).offset ≡ Some r

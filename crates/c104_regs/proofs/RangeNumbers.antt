@@ -1,17 +1,11 @@
 -- The ranges of the registers as numbers: what settings within them hold, and which settings are within
 -- them. This follows the table of registers, and changes with it.
-use Rattle.std.proofs.Common.{◌≡◌, ℕ, ◌+◌, ◌<◌, ◌≤◌, Bool, true, false, nat_lt, length, IsTrue, refl, arith}
-use Rattle.std.proofs.lemmas.Bool.Decides.{nat_tests}
-use Rattle.c104_interval.specs.Selection.{row_at}
-use Rattle.c104_interval.specs.declared.intervals.Table.{Table}
+use Rattle.c104_interval.specs.{Selection.row_at, declared.intervals.{Select.TheVariants.{Discard, Link, Sink}, Table.Table}}
+use Rattle.c104_regs.{proofs.ValueLemmas.by_writable, specs.{Addresses.{IsRegister, register_takes}, Ranges.{IsInRange, IsTableInRange}}}
+use Rattle.c104_regs.specs.{Settings.{Settings, plain_settings}, Values.{bit_value, register_read, select_code, select_of}}
+use Rattle.{c104_regs.specs.declared.addresses.Register.TheVariants.{Base, Limit, Mode, Select}, std.proofs.Common.{Bool, IsTrue, arith}}
+use Rattle.std.proofs.{Common.{false, length, nat_lt, refl, true, ℕ, ◌+◌, ◌<◌, ◌≡◌, ◌≤◌}, lemmas.Bool.Decides.nat_tests}
 use Rattle.c104_interval.specs.declared.intervals.Select as interval
-use Rattle.c104_interval.specs.declared.intervals.Select.TheVariants.{Link, Discard, Sink}
-use Rattle.c104_regs.specs.Addresses.{IsRegister, register_takes}
-use Rattle.c104_regs.specs.declared.addresses.Register.TheVariants.{Mode, Base, Limit, Select}
-use Rattle.c104_regs.specs.Ranges.{IsInRange, IsTableInRange}
-use Rattle.c104_regs.specs.Settings.{Settings, plain_settings}
-use Rattle.c104_regs.specs.Values.{bit_value, register_read, select_code, select_of}
-use Rattle.c104_regs.proofs.ValueLemmas.{by_writable}
 
 -- what a row may select: a link that there is, to discard the header, or the sink
 abbrev pub IsSelectable : interval.Select → Type 0

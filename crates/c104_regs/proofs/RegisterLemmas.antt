@@ -1,22 +1,18 @@
 -- The registers of a switch are a map: a poke changes what one address reads, and what every switch's
 -- registers keep stays.
-use Rattle.std.proofs.Common.{◌≡◌, ◌≢◌, ℕ, zero, suc, ◌<◌, ◌≤◌, inl, inr, Bool, true, false, IsTrue, Option, Some, None, Err, Ok, List, [], length, get_or, set, replicate, subst, refl, sym, ap, ◌∙◌, arith}
-use Rattle.std.proofs.lemmas.Bool.{cases_eq}
-use Rattle.std.proofs.lemmas.List.{get_or-set_other, get_or-set_same, get_or_default, get_or_past, length-set}
-use Rattle.c104_regs.proofs.AddressLemmas.{address_number_is}
-use Rattle.c104_regs.proofs.RangeLemmas.{IsInRange-with_value}
-use Rattle.c104_regs.proofs.RangeNumbers.{IsSelectable, IsTableInRange-from}
-use Rattle.c104_regs.proofs.ValueLemmas.{value_other}
-use Rattle.c104_regs.specs.Addresses.{Address, IsRegister, Register, address_number, address_of, register_properties, register_takes}
-use Rattle.c104_regs.specs.declared.addresses.Address.TheVariants.{DeviceId, Started, AtLink}
-use Rattle.c104_regs.specs.declared.faults.RegFault.TheVariants.{ReadOnly, OutOfRange}
-use Rattle.c104_regs.specs.declared.addresses.Register.TheVariants.{Mode, RandomBase, RandomRange, Sunk, Short, InputLevel, OutputLevel, Credit, Granted, Owner, Base, Limit, Select}
-use Rattle.c104_interval.specs.Selection.{reset_row, reset_table}
-use Rattle.c104_interval.specs.declared.intervals.Row.{Row}
-use Rattle.c104_regs.specs.Ranges.{IsInRange}
-use Rattle.c104_regs.specs.Registers.{IsRegisterBank, IsTarget, RegisterBank, bank_peek, address_value, reset_bank, settable, settings_at, status_at, with_register}
-use Rattle.c104_regs.specs.Settings.{Settings, reset_settings}
-use Rattle.c104_regs.specs.Values.{Status, reset_status, select_code, register_read, with_value}
+use Rattle.c104_interval.specs.{Selection.{reset_row, reset_table}, declared.intervals.Row.Row}
+use Rattle.c104_regs.proofs.{AddressLemmas.address_number_is, RangeLemmas.IsInRange-with_value, RangeNumbers.IsSelectable}
+use Rattle.c104_regs.{proofs.{RangeNumbers.IsTableInRange-from, ValueLemmas.value_other}, specs.Addresses.{Address, IsRegister, Register}}
+use Rattle.c104_regs.specs.{Addresses.{address_number, address_of, register_properties, register_takes}, Ranges.IsInRange}
+use Rattle.c104_regs.specs.Registers.{IsRegisterBank, IsTarget, RegisterBank, address_value, bank_peek, reset_bank, settable, settings_at}
+use Rattle.c104_regs.specs.{Registers.{status_at, with_register}, Settings.{Settings, reset_settings}, Values.{Status, register_read}}
+use Rattle.c104_regs.specs.{Values.{reset_status, select_code, with_value}, declared.addresses.Address.TheVariants.{AtLink, DeviceId}}
+use Rattle.c104_regs.specs.declared.addresses.{Address.TheVariants.Started, Register.TheVariants.{Base, Credit, Granted, InputLevel, Limit}}
+use Rattle.c104_regs.specs.declared.addresses.Register.TheVariants.{Mode, OutputLevel, Owner, RandomBase, RandomRange, Select, Short, Sunk}
+use Rattle.{c104_regs.specs.declared.faults.RegFault.TheVariants.{OutOfRange, ReadOnly}, std.proofs.Common.{Bool, Err, IsTrue, List, None}}
+use Rattle.std.proofs.Common.{Ok, Option, Some, [], ap, arith, false, get_or, inl, inr, length, refl, replicate, set, subst, suc, sym, true}
+use Rattle.std.proofs.{Common.{zero, ℕ, ◌<◌, ◌∙◌, ◌≡◌, ◌≢◌, ◌≤◌}, lemmas.{Bool.cases_eq, List.{get_or-set_other, get_or-set_same}}}
+use Rattle.std.proofs.lemmas.List.{get_or_default, get_or_past, length-set}
 
 -- what is set at the link that was poked, and at each other one
 settings_at-same : (b : RegisterBank) (l : ℕ) (r : Register) (v : ℕ) → l < length b.settings → settings_at (with_register b l r v) l ≡ with_value (settings_at b l) r v

@@ -1,23 +1,15 @@
 -- Settings whose registers all read the same are the same.
-use Rattle.std.proofs.Common.{◌≡◌, ℕ, ◌+◌, ◌-◌, ◌*◌, ◌/◌, ◌%◌, ◌<◌, ◌==◌, ◌&&◌, Bool, true, false, nat_le, nat_lt, Some, Result, Ok, List, get_or, option_map, refl, sym, ap, ◌∙◌, arith}
-use Rattle.std.proofs.lemmas.Bool.Decides.{nat_tests}
-use Rattle.std.proofs.lemmas.List.{ext_get_or}
-use Rattle.c104_interval.specs.Selection.{reset_row, row_at}
-use Rattle.c104_interval.specs.declared.intervals.Row.{Row}
+use Rattle.c104_interval.specs.{Selection.{reset_row, row_at}, declared.intervals.{Row.Row, Table.Table}}
+use Rattle.c104_regs.proofs.{KeptPokes.{AreKept, kept_reads, kept_settable, reset_kept, with_kept, with_values}, RangeLemmas.at_offset}
+use Rattle.c104_regs.{proofs.RegisterLemmas.get_or-same, specs.Addresses.{IsRegister, Register, address_of, register_at}}
+use Rattle.c104_regs.specs.{Addresses.register_properties, Faults.RegFault, KeptValues.kept_values, Ranges.IsInRange, Registers.bank_peek}
+use Rattle.c104_regs.specs.{Registers.{placed_bank, reset_bank}, Settings.{Settings, reset_settings}, Values.{Status, bit_value}}
+use Rattle.c104_regs.specs.{Values.{register_read, reset_status, select_of}, declared.addresses.Address.TheVariants.AtLink}
+use Rattle.c104_regs.specs.declared.addresses.Register.TheVariants.{Base, Credit, Granted, InputLevel, Limit, Mode, OutputLevel, Owner}
+use Rattle.{c104_regs.specs.declared.addresses.Register.TheVariants.{RandomBase, RandomRange, Select, Short, Sunk}, std.proofs.Common.Bool}
+use Rattle.std.proofs.Common.{List, Ok, Result, Some, ap, arith, false, get_or, nat_le, nat_lt, option_map, refl, sym, true, ℕ, ◌%◌, ◌&&◌}
+use Rattle.std.proofs.{Common.{◌*◌, ◌+◌, ◌-◌, ◌/◌, ◌<◌, ◌==◌, ◌∙◌, ◌≡◌}, lemmas.{Bool.Decides.nat_tests, List.ext_get_or}}
 use Rattle.c104_interval.specs.declared.intervals.Select as interval
-use Rattle.c104_interval.specs.declared.intervals.Table.{Table}
-use Rattle.c104_regs.specs.Addresses.{IsRegister, Register, address_of, register_at, register_properties}
-use Rattle.c104_regs.specs.declared.addresses.Address.TheVariants.{AtLink}
-use Rattle.c104_regs.specs.declared.addresses.Register.TheVariants.{Mode, RandomBase, RandomRange, Sunk, Short, InputLevel, OutputLevel, Credit, Granted, Owner, Base, Limit, Select}
-use Rattle.c104_regs.specs.Faults.{RegFault}
-use Rattle.c104_regs.specs.KeptValues.{kept_values}
-use Rattle.c104_regs.specs.Ranges.{IsInRange}
-use Rattle.c104_regs.specs.Registers.{bank_peek, placed_bank, reset_bank}
-use Rattle.c104_regs.specs.Settings.{Settings, reset_settings}
-use Rattle.c104_regs.specs.Values.{Status, bit_value, register_read, reset_status, select_of}
-use Rattle.c104_regs.proofs.KeptPokes.{AreKept, kept_reads, kept_settable, reset_kept, with_kept, with_values}
-use Rattle.c104_regs.proofs.RangeLemmas.{at_offset}
-use Rattle.c104_regs.proofs.RegisterLemmas.{get_or-same}
 
 -- a register stands at its address
 offset_small : (r : Register) → IsRegister r → (register_properties r).offset < 256

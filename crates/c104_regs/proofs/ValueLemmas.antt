@@ -1,18 +1,13 @@
 -- The registers of a link are a view of its settings: a register that was set reads what it was set to,
 -- each other one reads what it did, and the settings stay within their ranges.
-use Rattle.std.proofs.Common.{◌≡◌, ◌≢◌, ℕ, ◌<◌, inl, inr, Bool, true, false, nat_eq, nat_lt, if◌then◌else◌, List, length, get_or, set, IsTrue, refl, ap, ◌∙◌, arith}
-use Rattle.std.proofs.lemmas.Bool.{cases_eq}
-use Rattle.std.proofs.lemmas.Bool.Decides.{nat_tests}
-use Rattle.std.proofs.lemmas.List.{get_or-set_other, get_or-set_same}
-use Rattle.c104_interval.specs.Selection.{reset_row, row_at}
-use Rattle.c104_interval.specs.declared.intervals.Row.{Row}
+use Rattle.c104_interval.specs.{Selection.{reset_row, row_at}, declared.intervals.{Row.Row, Select.TheVariants.{Discard, Link, Sink}}}
+use Rattle.c104_regs.specs.{Addresses.{IsRegister, Register, register_properties, register_takes}, PackedWords.mode_back, Settings.Settings}
+use Rattle.c104_regs.specs.Values.{Status, mode_of, register_read, select_code, select_of, with_value}
+use Rattle.c104_regs.specs.declared.addresses.Register.TheVariants.{Base, Credit, Granted, InputLevel, Limit, Mode, OutputLevel, Owner}
+use Rattle.{c104_regs.specs.declared.addresses.Register.TheVariants.{RandomBase, RandomRange, Select, Short, Sunk}, std.proofs.Common.Bool}
+use Rattle.std.proofs.Common.{IsTrue, List, ap, arith, false, get_or, if◌then◌else◌, inl, inr, length, nat_eq, nat_lt, refl, set, true, ℕ}
+use Rattle.std.proofs.{Common.{◌<◌, ◌∙◌, ◌≡◌, ◌≢◌}, lemmas.{Bool.{Decides.nat_tests, cases_eq}, List.{get_or-set_other, get_or-set_same}}}
 use Rattle.c104_interval.specs.declared.intervals.Select as interval
-use Rattle.c104_interval.specs.declared.intervals.Select.TheVariants.{Link, Discard, Sink}
-use Rattle.c104_regs.specs.Addresses.{IsRegister, Register, register_takes, register_properties}
-use Rattle.c104_regs.specs.declared.addresses.Register.TheVariants.{Mode, RandomBase, RandomRange, Sunk, Short, InputLevel, OutputLevel, Credit, Granted, Owner, Base, Limit, Select}
-use Rattle.c104_regs.specs.PackedWords.{mode_back}
-use Rattle.c104_regs.specs.Settings.{Settings}
-use Rattle.c104_regs.specs.Values.{Status, select_of, mode_of, select_code, register_read, with_value}
 
 -- what holds of each register that can be written
 pub by_writable : (P : Register → Type 0) → P Mode → P RandomBase → P RandomRange → P Base → ((k : ℕ) → P (Limit k)) → ((k : ℕ) → P (Select k)) → (r : Register) → IsTrue (register_properties r).is_writable → P r

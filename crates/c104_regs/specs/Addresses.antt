@@ -2,14 +2,14 @@
 --     register_properties r      the table's line of register r
 --     register_takes r v      whether register r may be set to v
 --     address_of a      what stands at address a, if anything does
-use Rattle.std.specs.Prelude.{ℕ, ◌+◌, ◌-◌, ◌*◌, ◌/◌, ◌%◌, ◌<◌, ◌==◌, ◌&&◌, ◌||◌, Bool, true, false, List, [], ◌∷◌, Option, Some, None, option_map, nat_le, nat_lt, if◌then◌else◌, slice_get}
-use Rattle.c104_interval.specs.declared.intervals.TheConstants.{ROWS}
-use Rattle.c104_regs.specs.declared.registers.TheConstants.{LINKS}
+pub use Rattle.c104_regs.specs.declared.addresses.{Address.Address, Register.Register}
+use Rattle.{c104_interval.specs.declared.intervals.TheConstants.ROWS, c104_regs.specs.declared.addresses.Address.TheVariants.AtLink}
+use Rattle.c104_regs.specs.declared.addresses.{Address.TheVariants.{DeviceId, Started}, Register.TheVariants.{Base, Credit, Granted}}
+use Rattle.c104_regs.specs.declared.addresses.Register.TheVariants.{InputLevel, Limit, Mode, OutputLevel, Owner, RandomBase, RandomRange}
+use Rattle.c104_regs.specs.declared.{addresses.Register.TheVariants.{Select, Short, Sunk}, registers.TheConstants.LINKS}
 use Rattle.c104_regs.specs.declared.values.TheConstants.{SINK_CODE}
-pub use Rattle.c104_regs.specs.declared.addresses.Address.{Address}
-use Rattle.c104_regs.specs.declared.addresses.Address.TheVariants.{DeviceId, Started, AtLink}
-pub use Rattle.c104_regs.specs.declared.addresses.Register.{Register}
-use Rattle.c104_regs.specs.declared.addresses.Register.TheVariants.{Mode, RandomBase, RandomRange, Sunk, Short, InputLevel, OutputLevel, Credit, Granted, Owner, Base, Limit, Select}
+use Rattle.std.specs.Prelude.{Bool, List, None, Option, Some, [], false, if◌then◌else◌, nat_le, nat_lt, option_map, slice_get, true, ℕ, ◌%◌}
+use Rattle.std.specs.Prelude.{◌&&◌, ◌*◌, ◌+◌, ◌-◌, ◌/◌, ◌<◌, ◌==◌, ◌||◌, ◌∷◌}
 
 -- a line of the table of a link's registers: how far the register stands from the link's first address,
 -- whether it can be written, the greatest value that it may be set to, and its value after a reset

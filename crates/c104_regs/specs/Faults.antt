@@ -1,7 +1,7 @@
 -- The faults of an address and a value.
-use Rattle.std.specs.Prelude.{ℕ, List, codes}
 pub use Rattle.c104_regs.specs.declared.faults.RegFault.{RegFault}
-use Rattle.c104_regs.specs.declared.faults.RegFault.TheVariants.{NoRegister, ReadOnly, OutOfRange, Busy}
+use Rattle.c104_regs.specs.declared.faults.RegFault.TheVariants.{Busy, NoRegister, OutOfRange, ReadOnly}
+use Rattle.std.specs.Prelude.{List, codes, ℕ}
 
 -- the number that is answered
 abbrev pub register_fault_number : RegFault → ℕ

@@ -1,5 +1,5 @@
 -- The parts of a link's addresses where there is no register.
-use Rattle.std.specs.Prelude.{ℕ, ◌&&◌, ◌||◌, Bool, nat_le, nat_lt}
+use Rattle.std.specs.Prelude.{Bool, nat_le, nat_lt, ℕ, ◌&&◌, ◌||◌}
 
 -- whether no register stands at an offset from a link's first address, between those that do or after them
 abbrev pub is_gap : ℕ → Bool

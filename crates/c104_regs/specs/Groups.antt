@@ -2,9 +2,8 @@
 -- of bits share.
 --     continues_at settings l      whether link l continues the group of the link before it
 --     continue_bits settings      the same of all links, as a word of bits
-use Rattle.std.specs.Prelude.{ℕ, ◌+◌, ◌*◌, Bool, false, List, [], ◌∷◌, Option, Some, None, slice_get}
-use Rattle.c104_regs.specs.Settings.{Settings}
-use Rattle.c104_regs.specs.Values.{bit_value}
+use Rattle.c104_regs.specs.{Settings.Settings, Values.bit_value}
+use Rattle.std.specs.Prelude.{Bool, List, None, Option, Some, [], false, slice_get, ℕ, ◌*◌, ◌+◌, ◌∷◌}
 
 -- whether this link continues the group of the link before it
 abbrev pub continues : Option Settings → Bool

@@ -1,14 +1,11 @@
 -- The values of a switch's registers as a finite map: of its settings what differs from a reset.
 --     kept_value settings a      the value that is kept of address a
 --     kept_values settings      all that are kept, each with its address, in ascending order
-use Rattle.std.specs.Prelude.{◌≡◌, ◌≢◌, ◌↔◌, ℕ, ◌+◌, ◌*◌, ◌<◌, ◌==◌, ◌&&◌, not, List, Option, Some, None, Ok, option_map, if◌then◌else◌, slice_index_or}
-use Rattle.std.specs.List.{AllPairs, Contains, filter_map, range_with_len}
-use Rattle.c104_regs.specs.declared.registers.TheConstants.{LINKS}
-use Rattle.c104_regs.specs.declared.addresses.Address.TheVariants.{DeviceId, Started, AtLink}
-use Rattle.c104_regs.specs.Addresses.{Address, Register, address_of, register_properties}
-use Rattle.c104_regs.specs.Registers.{bank_peek, placed_bank, reset_bank, settable}
-use Rattle.c104_regs.specs.Settings.{Settings, reset_settings}
-use Rattle.c104_regs.specs.Values.{register_read, reset_status}
+use Rattle.c104_regs.specs.{Addresses.{Address, Register, address_of, register_properties}, Registers.{bank_peek, placed_bank, reset_bank}}
+use Rattle.c104_regs.specs.{Registers.settable, Settings.{Settings, reset_settings}, Values.{register_read, reset_status}}
+use Rattle.c104_regs.specs.declared.{addresses.Address.TheVariants.{AtLink, DeviceId, Started}, registers.TheConstants.LINKS}
+use Rattle.std.specs.{List.{AllPairs, Contains, filter_map, range_with_len}, Prelude.{List, None, Ok, Option, Some, if◌then◌else◌, not}}
+use Rattle.std.specs.Prelude.{option_map, slice_index_or, ℕ, ◌&&◌, ◌*◌, ◌+◌, ◌<◌, ◌==◌, ◌↔◌, ◌≡◌, ◌≢◌}
 
 -- a value of register r where it is kept: of one that can be written, and another than after a reset
 abbrev pub unless_reset : Register → ℕ → Option ℕ

@@ -2,15 +2,10 @@
 -- higher one above it.
 --     packed s      the words of these settings
 --     unpacked p      the settings that these words stand for
-use Rattle.std.specs.Prelude.{◌≡◌, ℕ, ◌+◌, ◌*◌, ◌/◌, ◌%◌, ◌<◌, ◌≤◌, false, List, [], ◌∷◌, map, nat_lt, if◌then◌else◌, All}
-use Rattle.c104_interval.specs.declared.intervals.Row.{Row}
-use Rattle.c104_interval.specs.declared.intervals.Select.{Select}
-use Rattle.c104_interval.specs.declared.intervals.Select.TheVariants.{Sink}
-use Rattle.c104_regs.specs.declared.packed.TheConstants.{BASES, LIMITS}
-use Rattle.c104_regs.specs.declared.packed.PackedSettings.TheInside.{Inside}
-use Rattle.c104_regs.specs.declared.values.TheConstants.{SINK_CODE}
-use Rattle.c104_regs.specs.Settings.{Settings}
-use Rattle.c104_regs.specs.Values.{mode_of, select_code, select_of, with_mode}
+use Rattle.{c104_interval.specs.declared.intervals.{Row.Row, Select.{Select, TheVariants.Sink}}, c104_regs.specs.Settings.Settings}
+use Rattle.c104_regs.specs.{Values.{mode_of, select_code, select_of, with_mode}, declared.packed.PackedSettings.TheInside.Inside}
+use Rattle.c104_regs.specs.declared.{packed.TheConstants.{BASES, LIMITS}, values.TheConstants.SINK_CODE}
+use Rattle.std.specs.Prelude.{All, List, [], false, if◌then◌else◌, map, nat_lt, ℕ, ◌%◌, ◌*◌, ◌+◌, ◌/◌, ◌<◌, ◌∷◌, ◌≡◌, ◌≤◌}
 
 -- the word of a row: its limit, and above it the number of what it selects
 abbrev pub word_of_row : Row → ℕ

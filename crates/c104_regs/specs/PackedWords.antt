@@ -1,10 +1,8 @@
 -- The words of packed settings are those of the settings that they stand for, so nothing else is in them.
-use Rattle.std.proofs.Common.{◌≡◌, ℕ, zero, suc, ◌+◌, ◌*◌, ◌/◌, ◌%◌, ◌<◌, ◌==◌, List, [], ◌∷◌, All, map, refl, arith}
+use Rattle.c104_regs.specs.{Packed.{ArePacked, IsRowWord, packed, row_of_word, unpacked, without_mode, word_of_row}, Settings.Settings}
+use Rattle.c104_regs.specs.{Values.{bit_value, mode_of, select_code, select_of, with_mode}, declared.packed.PackedSettings.TheInside.Inside}
+use Rattle.std.proofs.Common.{All, List, [], arith, map, refl, suc, zero, ℕ, ◌%◌, ◌*◌, ◌+◌, ◌/◌, ◌<◌, ◌==◌, ◌∷◌, ◌≡◌}
 use Rattle.std.proofs.lemmas.List.Elements.{All-head, All-tail}
-use Rattle.c104_regs.specs.declared.packed.PackedSettings.TheInside.{Inside}
-use Rattle.c104_regs.specs.Packed.{ArePacked, IsRowWord, packed, row_of_word, unpacked, without_mode, word_of_row}
-use Rattle.c104_regs.specs.Settings.{Settings}
-use Rattle.c104_regs.specs.Values.{bit_value, mode_of, select_code, select_of, with_mode}
 
 -- the words of rows that are words of rows, and the rows of words
 words_back : (ws : List ℕ) → All IsRowWord ws → map word_of_row (map row_of_word ws) ≡ ws

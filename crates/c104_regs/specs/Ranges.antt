@@ -1,11 +1,8 @@
 -- What the settings of every link keep: the values that a poke may set, by the table of registers.
-use Rattle.std.specs.Prelude.{◌≡◌, ℕ, IsTrue, length}
-use Rattle.c104_interval.specs.Selection.{row_at}
-use Rattle.c104_interval.specs.declared.intervals.TheConstants.{ROWS}
-use Rattle.c104_interval.specs.declared.intervals.Table.{Table}
-use Rattle.c104_regs.specs.Addresses.{IsRegister, Register, register_properties, register_takes}
-use Rattle.c104_regs.specs.Settings.{Settings, plain_settings}
+use Rattle.c104_interval.specs.{Selection.row_at, declared.intervals.{Table.Table, TheConstants.ROWS}}
+use Rattle.c104_regs.specs.{Addresses.{IsRegister, Register, register_properties, register_takes}, Settings.{Settings, plain_settings}}
 use Rattle.c104_regs.specs.Values.{Status, register_read, select_code, select_of}
+use Rattle.std.specs.Prelude.{IsTrue, length, ℕ, ◌≡◌}
 
 -- settings within the ranges of their registers
 pub record IsInRange (s : Settings) : Type 0 where

@@ -1,14 +1,11 @@
 -- The registers of a switch, by address.
-use Rattle.std.specs.Prelude.{◌≡◌, ℕ, ◌&&◌, not, Bool, true, false, IsTrue, ◌<◌, List, Option, Some, None, Result, Ok, Err, length, replicate, if◌then◌else◌, slice_index_or, slice_set}
-use Rattle.c104_regs.specs.Addresses.{Address, IsRegister, Register, address_of, register_takes, register_properties}
-use Rattle.c104_regs.specs.declared.registers.TheConstants.{LINKS, DEVICE_ID}
-use Rattle.c104_regs.specs.declared.addresses.Address.TheVariants.{DeviceId, Started, AtLink}
-use Rattle.c104_regs.specs.declared.addresses.Register.TheVariants.{Mode}
-use Rattle.c104_regs.specs.Faults.{RegFault}
-use Rattle.c104_regs.specs.declared.faults.RegFault.TheVariants.{NoRegister, ReadOnly, OutOfRange, Busy}
-use Rattle.c104_regs.specs.Ranges.{IsInRange}
-use Rattle.c104_regs.specs.Settings.{Settings, reset_settings}
-use Rattle.c104_regs.specs.Values.{Status, bit_value, reset_status, register_read, with_value}
+use Rattle.c104_regs.specs.{Addresses.{Address, IsRegister, Register, address_of, register_properties, register_takes}, Faults.RegFault}
+use Rattle.c104_regs.specs.{Ranges.IsInRange, Settings.{Settings, reset_settings}, Values.{Status, bit_value, register_read, reset_status}}
+use Rattle.c104_regs.specs.{Values.with_value, declared.addresses.Address.TheVariants.{AtLink, DeviceId, Started}}
+use Rattle.c104_regs.specs.declared.{addresses.Register.TheVariants.Mode, faults.RegFault.TheVariants.{Busy, NoRegister, OutOfRange}}
+use Rattle.c104_regs.specs.declared.{faults.RegFault.TheVariants.ReadOnly, registers.TheConstants.{DEVICE_ID, LINKS}}
+use Rattle.std.specs.Prelude.{Bool, Err, IsTrue, List, None, Ok, Option, Result, Some, false, if◌then◌else◌, length, not, replicate}
+use Rattle.std.specs.Prelude.{slice_index_or, slice_set, true, ℕ, ◌&&◌, ◌<◌, ◌≡◌}
 
 -- what the registers of a switch hold: whether it is started, and for each link what is set there and
 -- what the switch told of it

@@ -1,9 +1,8 @@
 -- What is set at one link of a switch: the input side's header length, random headers and table, and
 -- the output side's deletion and group.
-use Rattle.std.specs.Prelude.{ℕ, false, if◌then◌else◌}
-use Rattle.c104_interval.specs.Selection.{reset_table}
-use Rattle.c104_interval.specs.declared.intervals.Table.{Table}
 pub use Rattle.c104_regs.specs.declared.settings.Settings.{Settings}
+use Rattle.c104_interval.specs.{Selection.reset_table, declared.intervals.Table.Table}
+use Rattle.std.specs.Prelude.{false, if◌then◌else◌, ℕ}
 
 -- one-byte headers, nothing deleted, no random headers, each link a group by itself, and this table
 abbrev pub plain_settings : Table → Settings

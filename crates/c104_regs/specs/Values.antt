@@ -2,17 +2,14 @@
 -- after it is set.
 --     register_read s t r      what register r reads
 --     with_value s r v      the settings after register r is set to v
-use Rattle.std.specs.Prelude.{ℕ, ◌+◌, ◌/◌, ◌%◌, ◌==◌, Bool, true, false, Option, Some, None, nat_lt, if◌then◌else◌, slice_set}
-use Rattle.c104_interval.specs.Selection.{row_at}
-use Rattle.c104_interval.specs.declared.intervals.Row.{Row}
-use Rattle.c104_interval.specs.declared.intervals.Select.TheVariants.{Link, Discard, Sink}
-use Rattle.c104_interval.specs.declared.intervals.Select as interval
-use Rattle.c104_regs.specs.declared.registers.TheConstants.{LINKS}
-use Rattle.c104_regs.specs.declared.values.TheConstants.{DISCARD_CODE, SINK_CODE}
-use Rattle.c104_regs.specs.Addresses.{Register}
-use Rattle.c104_regs.specs.declared.addresses.Register.TheVariants.{Mode, RandomBase, RandomRange, Sunk, Short, InputLevel, OutputLevel, Credit, Granted, Owner, Base, Limit, Select}
-use Rattle.c104_regs.specs.Settings.{Settings}
 pub use Rattle.c104_regs.specs.declared.status.Status.{Status}
+use Rattle.c104_interval.specs.{Selection.row_at, declared.intervals.{Row.Row, Select.TheVariants.{Discard, Link, Sink}}}
+use Rattle.c104_regs.specs.{Addresses.Register, Settings.Settings, declared.addresses.Register.TheVariants.{Base, Credit, Granted}}
+use Rattle.c104_regs.specs.declared.addresses.Register.TheVariants.{InputLevel, Limit, Mode, OutputLevel, Owner, RandomBase, RandomRange}
+use Rattle.c104_regs.specs.declared.{addresses.Register.TheVariants.{Select, Short, Sunk}, registers.TheConstants.LINKS}
+use Rattle.c104_regs.specs.declared.values.TheConstants.{DISCARD_CODE, SINK_CODE}
+use Rattle.std.specs.Prelude.{Bool, None, Option, Some, false, if◌then◌else◌, nat_lt, slice_set, true, ℕ, ◌%◌, ◌+◌, ◌/◌, ◌==◌}
+use Rattle.c104_interval.specs.declared.intervals.Select as interval
 
 -- a status after a reset, before any token came and any credit was granted
 abbrev pub reset_status : Status

@@ -1,30 +1,15 @@
 -- The acts of an event over any kind of token, as they are kept and answered: with plain tokens.
-use Rattle.c104_plan.specs.Plans.{Plan}
-use Rattle.c104_plan.specs.Wiring.{peer}
-use Rattle.c104_plan.specs.declared.ports.Port.{Port}
-use Rattle.c104_event.specs.declared.events.Event.{Event}
-use Rattle.c104_event.specs.declared.faults.EventFault.{EventFault}
-use Rattle.c104_node.specs.Acts.{plain_reply, reply_outcome}
-use Rattle.c104_run.specs.EventActs.{acts_step, crossing_acts, event_acts}
-use Rattle.c104_node.specs.PortActs.{Acts, acts_limit, far_act, near_act}
-use Rattle.c104_run.specs.EventsAtPlaces.{ActsDone, EventDone, acts_kept, told_answer}
-use Rattle.c104_run.specs.Network.{AnswersWith, Network, event_fault, event_limit, network_apply, network_of, network_step, outcome_if_possible, outcome_if_ready, told_step}
-use Rattle.c104_node.specs.Nodes.{Node}
-use Rattle.c104_node.specs.PlaceActs.{ActsEnd}
-use Rattle.c104_node.specs.Places.{Shown, fulls, room_fault, states, traces}
-use Rattle.c104_node.specs.Traces.{kept_of, noted_all, part, plain_act}
-use Rattle.c104_run.specs.EventDeeds.{acts_deeds, acts_full, event_deeds, event_full}
-use Rattle.c104_node.specs.declared.crossings.Crossing.{Crossing}
-use Rattle.c104_node.specs.declared.crossings.Crossing.TheVariants.{Grant, Token}
-use Rattle.c104_node.specs.declared.stamps.Stamp.{Stamp}
-use Rattle.c104_switch.specs.Actions.{Reply, is_ready}
-use Rattle.c104_switch.specs.declared.actions.ReplyOf.{ReplyOf}
-use Rattle.c104_token.specs.Kinds.{Kind}
-use Rattle.c104_token.specs.declared.tokens.Token.{Token as PlainToken}
-use Rattle.std.proofs.Common.{Bool, Err, IfOk, List, None, Ok, Option, Result, Some, [], ap, false, inl, inr, is_some, option_map, refl, sym, true, unwrap_or, ◌∙◌, ◌≡◌}
-use Rattle.c104_plan.specs.declared.ports.Port.TheVariants as port
-use Rattle.c104_event.specs.declared.events.Event.TheVariants as event
-use Rattle.c104_switch.specs.declared.actions.ReplyOf.TheVariants as reply
+use Rattle.{c104_event.specs.declared.{events.Event.Event, faults.EventFault.EventFault}, c104_node.specs.Acts.{plain_reply, reply_outcome}}
+use Rattle.c104_node.specs.{Nodes.Node, PlaceActs.ActsEnd, Places.{Shown, fulls, room_fault, states, traces}, PortActs.{Acts, acts_limit}}
+use Rattle.c104_node.specs.{PortActs.{far_act, near_act}, Traces.{kept_of, noted_all, part, plain_act}}
+use Rattle.c104_node.specs.declared.{crossings.Crossing.{Crossing, TheVariants.{Grant, Token}}, stamps.Stamp.Stamp}
+use Rattle.{c104_plan.specs.{Plans.Plan, Wiring.peer, declared.ports.Port.Port}, c104_run.specs.EventActs.{acts_step, crossing_acts}}
+use Rattle.c104_run.specs.{EventActs.event_acts, EventDeeds.{acts_deeds, acts_full, event_deeds, event_full}, EventsAtPlaces.ActsDone}
+use Rattle.c104_run.specs.{EventsAtPlaces.{EventDone, acts_kept, told_answer}, Network.{AnswersWith, Network, event_fault, event_limit}}
+use Rattle.c104_run.specs.Network.{network_apply, network_of, network_step, outcome_if_possible, outcome_if_ready, told_step}
+use Rattle.{c104_switch.specs.{Actions.{Reply, is_ready}, declared.actions.ReplyOf.ReplyOf}, c104_token.specs.Kinds.Kind}
+use Rattle.{c104_token.specs.declared.tokens.Token.Token as PlainToken, std.proofs.Common.{Bool, Err, IfOk, List, None, Ok, Option, Result}}
+use Rattle.std.proofs.Common.{Some, [], ap, false, inl, inr, is_some, option_map, refl, sym, true, unwrap_or, ◌∙◌, ◌≡◌}
 
 module _ {A : Type 0} (kind : Kind A) where
   -- acts with plain tokens
@@ -38,22 +23,22 @@ module _ {A : Type 0} (kind : Kind A) where
   crossing_plain crossing p (Some q) = refl
 
   pub acts_plain : (plan : Plan) (e : Event) → event_acts plan e ≡ option_map plain_acts (event_acts plan e)
-  acts_plain plan (event.Cross p) = crossing_plain Token p (peer plan p)
-  acts_plain plan (event.Credit p) = crossing_plain Grant p (peer plan p)
+  acts_plain plan (Event.Cross p) = crossing_plain Token p (peer plan p)
+  acts_plain plan (Event.Credit p) = crossing_plain Grant p (peer plan p)
   acts_plain plan e = refl
 
   near_plain : (crossing : Crossing) (p : Port) → near_act crossing p ≡ plain_act kind (near_act crossing p)
-  near_plain Token (port.Switch s l) = refl
-  near_plain Grant (port.Switch s l) = refl
+  near_plain Token (Port.Switch s l) = refl
+  near_plain Grant (Port.Switch s l) = refl
   near_plain crossing p = refl
 
   far_plain : (q : Port) (r : ReplyOf A) → far_act q (plain_reply kind r) ≡ plain_act kind (far_act q r)
-  far_plain (port.Switch s l) (reply.Token x) = refl
-  far_plain (port.Terminal t) (reply.Token x) = refl
+  far_plain (Port.Switch s l) (ReplyOf.Token x) = refl
+  far_plain (Port.Terminal t) (ReplyOf.Token x) = refl
   far_plain q r = refl
 
   ready_plain : (r : ReplyOf A) → is_ready (plain_reply kind r) ≡ is_ready r
-  ready_plain reply.NotReady = refl
+  ready_plain ReplyOf.NotReady = refl
   ready_plain r = refl
 
   -- what is kept of acts
@@ -128,7 +113,7 @@ module _ {A : Type 0} (kind : Kind A) where
       acts_answer (Err f) ends = refused_told f (acts_limit nodes acts) limit_known ends.0 ends.1 ends.2
 
       done_made : (m : Option (ReplyOf A × List (Node A))) (r : ReplyOf A) → ◌≡◌ {A = ReplyOf A × List (Node A)} (r, after) (reply_outcome m nodes) → is_ready r ≡ true → is_some m ≡ true
-      done_made None r is ready = absurd (let told : r ≡ reply.NotReady = ap (λ (t : ReplyOf A × List (Node A)). t.0) is in let no : is_ready {A = A} reply.NotReady ≡ true = ap is_ready (sym told) ∙ ready in cc)
+      done_made None r is ready = absurd (let told : r ≡ ReplyOf.NotReady = ap (λ (t : ReplyOf A × List (Node A)). t.0) is in let no : is_ready {A = A} ReplyOf.NotReady ≡ true = ap is_ready (sym told) ∙ ready in cc)
       done_made (Some s) r is ready = refl
 
       acts_free : (told : Result (ReplyOf A) EventFault) → ActsEnd (acts_limit nodes acts) made (acts_full plan fulls acts) nodes told after → IfOk (told_answer kind told) (λ r. is_ready r ≡ true → event_full plan fulls e ≡ false)

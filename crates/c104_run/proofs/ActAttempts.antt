@@ -1,35 +1,15 @@
 -- An event that is tried by its acts, as a part of a round.
-use Rattle.std.proofs.Common.{◌≡◌, ◌∙◌, ◌-◌, ◌<◌, ℕ, Bool, true, false, List, [], ◌∷◌, Option, Some, None, Result, arith, if◌then◌else◌, length, map, nat_lt, option_map, refl, sym, ap, subst}
-use Rattle.std.proofs.lemmas.Bool.Decides.{nat_tests}
-use Rattle.c104_token.specs.Kinds.{Kind}
-use Rattle.c104_switch.specs.declared.actions.ReplyOf.{ReplyOf}
-use Rattle.c104_plan.specs.Plans.{Plan}
-use Rattle.c104_plan.specs.Wiring.{peer}
-use Rattle.c104_plan.specs.declared.ports.Port.{Port}
-use Rattle.c104_plan.specs.declared.ports.Port.TheVariants as port
-use Rattle.c104_event.specs.declared.events.Event.{Event}
-use Rattle.c104_event.specs.declared.events.Event.TheVariants as event
-use Rattle.c104_event.specs.declared.faults.EventFault.{EventFault}
-use Rattle.c104_event.specs.declared.faults.EventFault.TheVariants as fault
-use Rattle.c104_node.specs.declared.acts.ActOf.{ActOf}
-use Rattle.c104_node.specs.declared.crossings.Crossing.{Crossing}
-use Rattle.c104_node.specs.declared.crossings.Crossing.TheVariants.{Grant, Token}
-use Rattle.c104_node.specs.declared.ends.End.{End}
-use Rattle.c104_run.specs.EventActs.{crossing_acts, crossing_event, event_acts, port_place}
-use Rattle.c104_node.specs.PortActs.{Acts}
-use Rattle.c104_run.specs.EventsAtPlaces.{ActsDone, told_answer}
-use Rattle.c104_run.specs.Ends.{end_of}
-use Rattle.c104_run.specs.FarEnds.{far_end}
-use Rattle.c104_run.specs.Network.{event_fault, link_fault, wire_fault, wired_fault}
-use Rattle.c104_run.specs.NetRecords.{is_done, ticket_after}
-use Rattle.c104_node.specs.PlaceActs.{AloneDone, JointDone}
-use Rattle.c104_node.specs.Places.{IsFullByTrace, Shown}
-use Rattle.c104_run.specs.RoundParts.{done_answer, PartEnds}
-use Rattle.c104_run.specs.Meters.{meter_told, metered_apply, metered_of, Sees}
-use Rattle.c104_node.specs.Traces.{seatless}
-use Rattle.c104_run.proofs.ActAnswers.{event_done}
-use Rattle.c104_run.proofs.MeteredSteps.{part_done, told_meter}
-use Rattle.c104_run.proofs.StageSteps.{fulls_kept}
+use Rattle.{c104_event.specs.declared.{events.Event.Event, faults.EventFault.EventFault}, c104_node.specs.PlaceActs.{AloneDone, JointDone}}
+use Rattle.c104_node.specs.{Places.{IsFullByTrace, Shown}, PortActs.Acts, Traces.seatless, declared.acts.ActOf.ActOf}
+use Rattle.{c104_node.specs.declared.{crossings.Crossing.{Crossing, TheVariants.{Grant, Token}}, ends.End.End}, c104_plan.specs.Plans.Plan}
+use Rattle.{c104_plan.specs.{Wiring.peer, declared.ports.Port.Port}, c104_run.proofs.{ActAnswers.event_done, MeteredSteps.part_done}}
+use Rattle.c104_run.{proofs.{MeteredSteps.told_meter, StageSteps.fulls_kept}, specs.{Ends.end_of, EventActs.crossing_acts}}
+use Rattle.c104_run.specs.{EventActs.{crossing_event, event_acts, port_place}, EventsAtPlaces.{ActsDone, told_answer}, FarEnds.far_end}
+use Rattle.c104_run.specs.{Meters.{Sees, meter_told, metered_apply, metered_of}, NetRecords.{is_done, ticket_after}, Network.event_fault}
+use Rattle.c104_run.specs.{Network.{link_fault, wire_fault, wired_fault}, RoundParts.{PartEnds, done_answer}}
+use Rattle.{c104_switch.specs.declared.actions.ReplyOf.ReplyOf, c104_token.specs.Kinds.Kind, std.proofs.Common.{Bool, List, None, Option}}
+use Rattle.std.proofs.Common.{Result, Some, [], ap, arith, false, if◌then◌else◌, length, map, nat_lt, option_map, refl, subst, sym, true, ℕ}
+use Rattle.std.proofs.{Common.{◌-◌, ◌<◌, ◌∙◌, ◌∷◌, ◌≡◌}, lemmas.Bool.Decides.nat_tests}
 
 -- what can happen at a wired port: what crosses from there, of whatever kind
 crossing_possible : (plan : Plan) (crossing : Crossing) (p : Port) → wired_fault plan p ≡ None → event_fault plan (crossing_event crossing p) ≡ None
@@ -76,19 +56,19 @@ module _ {A M P : Type 0} (kind : Kind A) (keeps : Bool) (sees : Sees M A) (show
         (subst (λ j. IsEnded (port_place plan p) j) far_place (subst (λ k. IsEnded k far.node) near_place done))
 
 -- what can happen at a wired link: a turn of its input
-pub turn_possible : (plan : Plan) (s l word : ℕ) → wired_fault plan (port.Switch s l) ≡ None → event_fault plan (event.Input s l word) ≡ None
+pub turn_possible : (plan : Plan) (s l word : ℕ) → wired_fault plan (Port.Switch s l) ≡ None → event_fault plan (Event.Input s l word) ≡ None
 turn_possible plan s l word = by_switch (nat_lt s (length plan.switches))
   where
-    by_link : (b : Bool) → (if b then wire_fault (peer plan (port.Switch s l)) else Some fault.NoLink) ≡ None → (if b then None else Some fault.NoLink) ≡ None
+    by_link : (b : Bool) → (if b then wire_fault (peer plan (Port.Switch s l)) else Some EventFault.NoLink) ≡ None → (if b then None else Some EventFault.NoLink) ≡ None
     by_link true is = refl
     by_link false is = is
 
-    by_switch : (b : Bool) → (if b then link_fault l (wire_fault (peer plan (port.Switch s l))) else Some fault.NoNode) ≡ None → (if b then link_fault l None else Some fault.NoNode) ≡ None
+    by_switch : (b : Bool) → (if b then link_fault l (wire_fault (peer plan (Port.Switch s l))) else Some EventFault.NoNode) ≡ None → (if b then link_fault l None else Some EventFault.NoNode) ≡ None
     by_switch true is = by_link (nat_lt l 32) is
     by_switch false is = is
 
 -- a claim at two links of a switch
-pub claim_possible : (plan : Plan) (s i o : ℕ) → s < length plan.switches → i < 32 → o < 32 → event_fault plan (event.Claim s i o) ≡ None
+pub claim_possible : (plan : Plan) (s i o : ℕ) → s < length plan.switches → i < 32 → o < 32 → event_fault plan (Event.Claim s i o) ≡ None
 claim_possible plan s i o switch input output =
     let one : nat_lt s (length plan.switches) ≡ true = grind (arith, nat_tests) in
     let two : nat_lt i 32 ≡ true = grind (arith, nat_tests) in
@@ -96,5 +76,5 @@ claim_possible plan s i o switch input output =
     rw (one, two, three) refl
 
 -- an arrival at a terminal
-pub drain_possible : (plan : Plan) (t : ℕ) → t < length plan.terminals → event_fault plan (event.Drain t) ≡ None
+pub drain_possible : (plan : Plan) (t : ℕ) → t < length plan.terminals → event_fault plan (Event.Drain t) ≡ None
 drain_possible plan t inside = let one : nat_lt t (length plan.terminals) ≡ true = grind (arith, nat_tests) in rw one refl

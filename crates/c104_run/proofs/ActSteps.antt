@@ -1,24 +1,11 @@
 -- The step of some acts: what it answers is a reply, and of what crosses a wire it is what crossed.
-use Rattle.c104_plan.specs.Plans.{Plan}
-use Rattle.c104_plan.specs.declared.ports.Port.{Port}
-use Rattle.c104_link.proofs.MadeSteps.{from_place_made, given}
-use Rattle.c104_plan.specs.Wiring.{peer}
-use Rattle.c104_event.specs.declared.events.Event.{Event}
-use Rattle.c104_event.specs.declared.events.Event.TheVariants as event
-use Rattle.c104_link.specs.Steps.{◌>>=◌}
-use Rattle.c104_run.specs.Network.{Network, told_step}
-use Rattle.c104_node.specs.declared.crossings.Crossing.TheVariants.{Grant, Token}
-use Rattle.c104_node.proofs.JointEnds.{near_answers, ready_answer}
-use Rattle.c104_node.specs.Acts.{node_act, nodes_act}
-use Rattle.c104_run.specs.EventActs.{acts_step, crossing_acts, event_acts, port_place}
-use Rattle.c104_node.specs.PortActs.{Acts, IsAnswerOf, far_act, joint_step, near_act}
-use Rattle.c104_node.specs.Nodes.{Node}
-use Rattle.c104_node.specs.declared.crossings.Crossing.{Crossing}
-use Rattle.c104_switch.specs.Actions.{is_ready}
-use Rattle.c104_switch.specs.declared.actions.ReplyOf.{ReplyOf}
-use Rattle.c104_token.specs.Kinds.{Kind}
-use Rattle.std.proofs.Common.{List, None, Option, Some, ap, length, refl, sym, true, ℕ, ◌-◌, ◌∙◌, ◌≡◌, subst}
-use Rattle.c104_node.proofs.ReadyActs.{act_ready}
+use Rattle.{c104_event.specs.declared.events.Event.Event, c104_link.{proofs.MadeSteps.{from_place_made, given}, specs.Steps.◌>>=◌}}
+use Rattle.c104_node.{proofs.{JointEnds.{near_answers, ready_answer}, ReadyActs.act_ready}, specs.{Acts.{node_act, nodes_act}, Nodes.Node}}
+use Rattle.c104_node.specs.{PortActs.{Acts, IsAnswerOf, far_act, joint_step, near_act}, declared.crossings.Crossing.Crossing}
+use Rattle.{c104_node.specs.declared.crossings.Crossing.TheVariants.{Grant, Token}, c104_plan.specs.{Plans.Plan, Wiring.peer}}
+use Rattle.{c104_plan.specs.declared.ports.Port.Port, c104_run.specs.EventActs.{acts_step, crossing_acts, event_acts, port_place}}
+use Rattle.{c104_run.specs.Network.{Network, told_step}, c104_switch.specs.{Actions.is_ready, declared.actions.ReplyOf.ReplyOf}}
+use Rattle.{c104_token.specs.Kinds.Kind, std.proofs.Common.{List, None, Option, Some, ap, length, refl, subst, sym, true, ℕ, ◌-◌, ◌∙◌, ◌≡◌}}
 
 module _ {A : Type 0} (kind : Kind A) where
   -- what crosses a wire answers that, and nodes stand at both ends
@@ -47,8 +34,8 @@ joint_wired {A} plan e p q crossing is = by_event e is
     by_peer c o (Some r) wired is = let near : o ≡ p = cc in let far : r ≡ q = cc in sym (ap (peer plan) near) ∙ wired ∙ ap Some far
 
     by_event : (e : Event) → ◌≡◌ {A = Option (Acts A)} (event_acts plan e) (Some (Acts.Joint p q crossing)) → peer plan p ≡ Some q
-    by_event (event.Cross o) is = by_peer Token o (peer plan o) refl is
-    by_event (event.Credit o) is = by_peer Grant o (peer plan o) refl is
+    by_event (Event.Cross o) is = by_peer Token o (peer plan o) refl is
+    by_event (Event.Credit o) is = by_peer Grant o (peer plan o) refl is
     by_event e is = absurd (cc)
 
 -- where the near end isn't ready, nothing crosses

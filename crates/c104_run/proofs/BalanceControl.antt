@@ -1,21 +1,12 @@
 -- A control command keeps what each input has granted and what credit each output has.
-use Rattle.std.proofs.Common.{◌≡◌, ℕ, zero, suc, Bool, true, false, List, [], ◌∷◌, Option, Result, Ok, Err, map, slice_get, refl}
-use Rattle.std.proofs.Common.{if◌then◌else◌}
-use Rattle.c104_link.specs.Steps.{◌>>=◌}
-use Rattle.c104_link.specs.Buffers.{outgoing_clear}
-use Rattle.c104_control.specs.declared.commands.Command.{Command}
-use Rattle.c104_control.specs.declared.replies.Answer.{Answer}
-use Rattle.c104_control.specs.declared.commands.Command.TheVariants.{Start, Reset, Identify, CPeek, CPoke}
-use Rattle.c104_control.specs.declared.replies.Answer.TheVariants.{Started, Refused}
-use Rattle.c104_control.specs.declared.faults.CommandFault.{CommandFault}
-use Rattle.c104_control.specs.Reading.{read_command}
+use Rattle.c104_control.specs.{Reading.read_command, declared.commands.Command.{Command, TheVariants.{CPeek, CPoke, Identify, Reset}}}
+use Rattle.c104_control.specs.declared.{commands.Command.TheVariants.Start, faults.CommandFault.CommandFault, replies.Answer.Answer}
+use Rattle.c104_control.specs.declared.replies.{Answer.TheVariants.{Refused, Started}, TheConstants.ALREADY_STARTED}
+use Rattle.{c104_link.specs.{Buffers.outgoing_clear, Steps.◌>>=◌}, c104_node.specs.declared.node.NodeOf.TheVariants.Switch}
+use Rattle.{c104_run.proofs.{BalancePlaces.Rests, BalanceTurns.{credit_seen, granted_seen}}, c104_switch.specs.Commands.input_reset}
+use Rattle.{c104_switch.specs.{Commands.switch_reset, Control.{switch_control, switch_obey, switch_obey_if_read}}, std.proofs.Common.Bool}
+use Rattle.std.proofs.Common.{Err, List, Ok, Option, Result, [], false, if◌then◌else◌, map, refl, slice_get, suc, true, zero, ℕ, ◌∷◌, ◌≡◌}
 use Rattle.c104_switch.specs.Switch as switch
-use Rattle.c104_switch.specs.Commands.{switch_reset, input_reset}
-use Rattle.c104_switch.specs.Control.{switch_control, switch_obey, switch_obey_if_read}
-use Rattle.c104_control.specs.declared.replies.TheConstants.{ALREADY_STARTED}
-use Rattle.c104_node.specs.declared.node.NodeOf.TheVariants.{Switch}
-use Rattle.c104_run.proofs.BalancePlaces.{Rests}
-use Rattle.c104_run.proofs.BalanceTurns.{credit_seen, granted_seen}
 
 -- a number that each element of a list keeps
 seen_of_map : {X : Type 0} (f : X → X) (seen : X → Option ℕ) → ((x : X) → seen (f x) ≡ seen x) → (xs : List X) (k : ℕ) → (slice_get (map f xs) k >>= seen) ≡ (slice_get xs k >>= seen)

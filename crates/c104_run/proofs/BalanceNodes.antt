@@ -1,24 +1,19 @@
 -- What each step of one node does to the credit and what is granted at its links.
-use Rattle.std.proofs.Common.{◌≡◌, ◌∙◌, ◌++◌, ◌∷◌, not, ℕ, List, [], Option, Some, slice_get, slice_set, refl, ap, subst}
-use Rattle.c104_token.specs.declared.packets.Packet.{Packet}
-use Rattle.c104_token.specs.Kinds.{Kind}
-use Rattle.c104_link.specs.Steps.{◌>>=◌, step_at, yield_step_at, joint_step_at}
+use Rattle.c104_link.{proofs.MadeSteps.{at_place_made, from_place_made, given, required, with_place_made}, specs.Buffers.Incoming}
+use Rattle.{c104_link.specs.{Buffers.Outgoing, Steps.{joint_step_at, step_at, yield_step_at, ◌>>=◌}}, c104_node.specs.Nodes.Node}
+use Rattle.c104_node.specs.Nodes.{as_switch, node_claim, node_control, node_credit_in, node_credit_out, node_drain, node_enter, node_input}
+use Rattle.c104_node.specs.{Nodes.{node_leave, node_send}, declared.node.NodeOf.TheVariants.{Switch, Terminal}}
+use Rattle.c104_run.proofs.{BalanceControl.control_keeps, BalancePlaces.{Acts, Rests, lower, raise, seen_changed, seen_kept, seen_other}}
+use Rattle.c104_run.proofs.BalanceTurns.{KeepsSides, accepted_lowers, claimed_keeps, credit_seen, credited_raises, enter_lowers}
+use Rattle.c104_run.{proofs.BalanceTurns.{grant_raises, granted_raises, granted_seen, leave_lowers, turn_keeps}, specs.Balance.credit_of}
+use Rattle.{c104_run.specs.Balance.granted_of, c104_token.specs.{Kinds.Kind, declared.packets.Packet.Packet}, std.proofs.Common.List}
+use Rattle.std.proofs.Common.{Option, Some, [], ap, not, refl, slice_get, slice_set, subst, ℕ, ◌++◌, ◌∙◌, ◌∷◌, ◌≡◌}
 use Rattle.c104_link.specs.Buffers as buffer
-use Rattle.c104_link.specs.Buffers.{Incoming, Outgoing}
-use Rattle.c104_switch.specs.Switch as switch
-use Rattle.c104_switch.specs.Turns as turns
+use Rattle.c104_node.specs.Terminals as terminal
 use Rattle.c104_switch.specs.Claims as claims
 use Rattle.c104_switch.specs.Control as controls
-use Rattle.c104_link.proofs.MadeSteps.{given, required, at_place_made, from_place_made, with_place_made}
-use Rattle.c104_node.specs.declared.node.NodeOf.TheVariants.{Switch, Terminal}
-use Rattle.c104_node.specs.Terminals as terminal
-use Rattle.c104_node.specs.Nodes.{Node, as_switch, node_enter, node_leave, node_credit_out, node_credit_in, node_input, node_claim}
-use Rattle.c104_node.specs.Nodes.{node_control, node_send, node_drain}
-use Rattle.c104_run.specs.Balance.{credit_of, granted_of}
-use Rattle.c104_run.proofs.BalancePlaces.{lower, raise, Acts, Rests, seen_kept, seen_changed, seen_other}
-use Rattle.c104_run.proofs.BalanceControl.{control_keeps}
-use Rattle.c104_run.proofs.BalanceTurns.{credit_seen, granted_seen, KeepsSides, leave_lowers, credited_raises, enter_lowers, grant_raises}
-use Rattle.c104_run.proofs.BalanceTurns.{accepted_lowers, granted_raises, claimed_keeps, turn_keeps}
+use Rattle.c104_switch.specs.Switch as switch
+use Rattle.c104_switch.specs.Turns as turns
 
 module _ {A : Type 0} where
   -- a switch of which the credit of one output changes

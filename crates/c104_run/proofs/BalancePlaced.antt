@@ -1,26 +1,14 @@
 -- A network is in balance at first: no link has any credit, and none has granted any.
-use Rattle.std.proofs.Common.{◌≡◌, ◌<◌, ◌+◌, ℕ, zero, suc, Bool, true, false, List, [], ◌∷◌, ◌++◌, Some, length, map, replicate, slice_get, refl, sym, ◌∙◌, ap, subst, arith}
+use Rattle.{c104_link.specs.{Buffers.empty_outgoing, Steps.◌>>=◌}, c104_node.specs.{Nodes.{Node, is_switch}, Terminals.new_terminal}}
+use Rattle.{c104_node.specs.declared.{ends.End.End, node.NodeOf.TheVariants.{Switch, Terminal}}, c104_plan.specs.PlanImage.{Fits, Image}}
+use Rattle.c104_plan.specs.{Plans.{IsPlan, Plan}, Ports.IsSwitchPort, Wiring.peer, declared.ports.Port.Port}
+use Rattle.{c104_regs.specs.{Settings.reset_settings, declared.settings.Settings.Settings}, c104_run.proofs.BalanceWires.peer_back}
+use Rattle.c104_run.{proofs.BalanceWires.{switch_inside, terminal_inside}, specs.Balance.{IsSteady, credit_at, credit_of, granted_at}}
+use Rattle.c104_run.specs.{Balance.granted_of, Ends.end_of, Network.{network_of, new_switch_nodes, switch_nodes, terminal_nodes}}
+use Rattle.{c104_switch.specs.Switch.{new_input, new_switch_with}, std.proofs.Common.{Bool, List, Some, [], ap, arith, false, length, map}}
+use Rattle.std.proofs.Common.{refl, replicate, slice_get, subst, suc, sym, true, zero, ℕ, ◌++◌, ◌+◌, ◌<◌, ◌∙◌, ◌∷◌, ◌≡◌}
 use Rattle.std.proofs.lemmas.List.{length-map}
-use Rattle.c104_link.specs.Buffers.{empty_outgoing}
-use Rattle.c104_link.specs.Steps.{◌>>=◌}
-use Rattle.c104_regs.specs.declared.settings.Settings.{Settings}
-use Rattle.c104_regs.specs.Settings.{reset_settings}
-use Rattle.c104_switch.specs.Switch.{new_switch_with, new_input}
-use Rattle.c104_plan.specs.declared.ports.Port.{Port}
-use Rattle.c104_plan.specs.Ports.{IsSwitchPort}
-use Rattle.c104_plan.specs.declared.ports.Port.TheVariants as port
-use Rattle.c104_node.specs.declared.ends.End.{End}
-use Rattle.c104_node.specs.declared.node.NodeOf.TheVariants.{Switch, Terminal}
-use Rattle.c104_plan.specs.Plans.{Plan, IsPlan}
 use Rattle.c104_plan.specs.declared.plans.Terminal as plans
-use Rattle.c104_plan.specs.PlanImage.{Image, Fits}
-use Rattle.c104_node.specs.Terminals.{new_terminal}
-use Rattle.c104_node.specs.Nodes.{Node, is_switch}
-use Rattle.c104_plan.specs.Wiring.{peer}
-use Rattle.c104_run.specs.Ends.{end_of}
-use Rattle.c104_run.specs.Network.{network_of, new_switch_nodes, switch_nodes, terminal_nodes}
-use Rattle.c104_run.specs.Balance.{credit_of, granted_of, credit_at, granted_at, IsSteady}
-use Rattle.c104_run.proofs.BalanceWires.{peer_back, switch_inside, terminal_inside}
 
 -- the elements of two lists, one after the other
 get_first : {X : Type 0} (xs ys : List X) (i : ℕ) → i < length xs → slice_get (xs ++ ys) i ≡ slice_get xs i
@@ -98,10 +86,10 @@ module _ (A X : Type 0) (plan : Plan) (xs : List X) (made : X → List Settings 
 
   -- each port that has a wire
   idle_port : IsPlan plan → (p q : Port) → peer plan p ≡ Some q → IsIdle first_nodes (end_of plan p)
-  idle_port is_plan (port.Switch s l) q wired =
-      let exists : IsSwitchPort (length plan.switches) (port.Switch s l) = switch_inside plan is_plan s l q wired in
+  idle_port is_plan (Port.Switch s l) q wired =
+      let exists : IsSwitchPort (length plan.switches) (Port.Switch s l) = switch_inside plan is_plan s l q wired in
       switch_there s exists.0 (λ x is. idle_switch first_nodes plan.cap (made x) s l is exists.1)
-  idle_port is_plan (port.Terminal t) q wired =
+  idle_port is_plan (Port.Terminal t) q wired =
       terminal_there t (terminal_inside plan is_plan t q wired) (λ terminal is. idle_terminal first_nodes plan.cap terminal (length plan.switches + t) 0 is)
 
 -- the kinds of nodes that were made one after the other

@@ -1,16 +1,9 @@
 -- What a change at one place of a list says of a number that is read at the places.
-use Rattle.std.proofs.Common.{◌≡◌, ◌≢◌, ◌<◌, ◌+◌, ◌-◌, ℕ, zero, suc, true, false, nat_lt, inl, inr, List, [], ◌∷◌, Option, Some, length, map, slice_get, slice_set, refl, sym, ◌∙◌, ap, subst, arith}
-use Rattle.std.proofs.lemmas.Bool.{cases_eq}
-use Rattle.std.proofs.lemmas.Bool.Decides.{nat_tests}
-use Rattle.c104_link.specs.Steps.{◌>>=◌}
-use Rattle.c104_node.specs.declared.ends.End.{End}
-use Rattle.c104_node.specs.Nodes.{Node, is_switch}
-use Rattle.c104_plan.specs.Plans.{Plan}
-use Rattle.c104_run.specs.Balance.{credit_of, granted_of, AreInPlace}
-use Rattle.c104_node.proofs.WireEnds.{get_set_same, get_set_other}
-use Rattle.c104_node.specs.Traces.{part}
-use Rattle.c104_run.proofs.BalanceWires.{AreApart}
-use Rattle.c104_run.proofs.RunRecords.{in_place}
+use Rattle.{c104_link.specs.Steps.◌>>=◌, c104_node.{proofs.WireEnds.{get_set_other, get_set_same}, specs.Nodes.{Node, is_switch}}}
+use Rattle.{c104_node.specs.{Traces.part, declared.ends.End.End}, c104_plan.specs.Plans.Plan, c104_run.proofs.BalanceWires.AreApart}
+use Rattle.{c104_run.{proofs.RunRecords.in_place, specs.Balance.{AreInPlace, credit_of, granted_of}}, std.proofs.Common.{List, Option}}
+use Rattle.std.proofs.Common.{Some, [], ap, arith, false, inl, inr, length, map, nat_lt, refl, slice_get, slice_set, subst, suc, sym, true}
+use Rattle.std.proofs.{Common.{zero, ℕ, ◌+◌, ◌-◌, ◌<◌, ◌∙◌, ◌∷◌, ◌≡◌, ◌≢◌}, lemmas.Bool.{Decides.nat_tests, cases_eq}}
 
 -- a number that changes, where there is one
 abbrev pub changed : (ℕ → ℕ) → Option ℕ → Option ℕ

@@ -1,19 +1,12 @@
 -- What crosses a wire keeps every network in balance, and so does each step of one node.
-use Rattle.std.proofs.Common.{◌≡◌, ◌≢◌, ℕ, inl, inr, List, Option, Some, length, slice_get, slice_set, sym, ◌∙◌, ap, subst}
-use Rattle.c104_link.specs.Steps.{step_at, yield_step_at}
-use Rattle.c104_link.proofs.MadeSteps.{given, at_place_made, from_place_made}
-use Rattle.c104_plan.specs.declared.ports.Port.{Port}
-use Rattle.c104_node.specs.declared.ends.End.{End}
-use Rattle.c104_plan.specs.Plans.{Plan, IsPlan}
-use Rattle.c104_node.specs.Nodes.{Node, node_enter, node_leave, node_credit_out, node_credit_in}
-use Rattle.c104_node.proofs.NamedWires.{nodes_cross, nodes_credit}
-use Rattle.c104_plan.specs.Wiring.{peer}
-use Rattle.c104_run.specs.Ends.{end_of}
-use Rattle.c104_run.specs.Network.{network_of}
-use Rattle.c104_run.specs.Balance.{credit_of, granted_of, AreLevel, IsSteady}
-use Rattle.c104_run.proofs.BalanceWires.{port_cases, peer_back, peer_one, ends_apart}
-use Rattle.c104_run.proofs.BalancePlaces.{changed, lower, raise, ActsAt, Rests, acts_at, seen_kept, still_in_place, switches_first}
-use Rattle.c104_run.proofs.BalanceNodes.{leave_acts, enter_acts, credit_out_acts, credit_in_acts}
+use Rattle.c104_link.{proofs.MadeSteps.{at_place_made, from_place_made, given}, specs.Steps.{step_at, yield_step_at}}
+use Rattle.c104_node.{proofs.NamedWires.{nodes_credit, nodes_cross}, specs.Nodes.{Node, node_credit_in, node_credit_out, node_enter}}
+use Rattle.{c104_node.specs.{Nodes.node_leave, declared.ends.End.End}, c104_plan.specs.{Plans.{IsPlan, Plan}, Wiring.peer}}
+use Rattle.{c104_plan.specs.declared.ports.Port.Port, c104_run.proofs.BalanceNodes.{credit_in_acts, credit_out_acts, enter_acts}}
+use Rattle.c104_run.proofs.{BalanceNodes.leave_acts, BalancePlaces.{ActsAt, Rests, acts_at, changed, lower, raise, seen_kept}}
+use Rattle.c104_run.proofs.{BalancePlaces.{still_in_place, switches_first}, BalanceWires.{ends_apart, peer_back, peer_one, port_cases}}
+use Rattle.{c104_run.specs.{Balance.{AreLevel, IsSteady, credit_of, granted_of}, Ends.end_of, Network.network_of}, std.proofs.Common.List}
+use Rattle.std.proofs.Common.{Option, Some, ap, inl, inr, length, slice_get, slice_set, subst, sym, ℕ, ◌∙◌, ◌≡◌, ◌≢◌}
 
 module _ {A : Type 0} (plan : Plan) where
   -- a step of one node that keeps both numbers

@@ -1,20 +1,13 @@
 -- A turn and a claim keep what an input has granted and what credit each output has.
-use Rattle.std.proofs.Common.{◌≡◌, ◌+◌, ◌-◌, ◌++◌, ◌&&◌, not, ℕ, Bool, true, false, List, [], ◌∷◌, Option, Some, slice_get, length, nat_lt}
-use Rattle.std.proofs.Common.{nat_le, drop, refl, sym, ap, subst, if◌then◌else◌}
-use Rattle.c104_token.specs.Tokens.{is_end}
-use Rattle.c104_token.specs.Kinds.{Kind}
-use Rattle.c104_link.specs.Steps.{◌>>=◌, ◌>>◌, require, step_at}
+use Rattle.c104_link.{proofs.MadeSteps.{at_place_made, given, required}, specs.Buffers.{Incoming, Outgoing, outgoing_put, outgoing_put_all}}
+use Rattle.{c104_link.specs.Steps.{require, step_at, ◌>>=◌, ◌>>◌}, c104_run.proofs.BalancePlaces.{lower, raise, seen_kept}}
+use Rattle.c104_switch.specs.{Claims.{input_claim, put_header, streaming_input}, Group.is_in_group, Headers.phase_after_header}
+use Rattle.c104_switch.specs.{Switch.{Input, input_accept, input_grant, with_buffer}, Turns.{header_turn, input_after_token, input_turn}}
+use Rattle.c104_switch.specs.{Turns.{phase_after_token, random_turn, turn_by_phase}, declared.phase.Phase.{Phase, TheVariants.Fresh}}
+use Rattle.{c104_switch.specs.declared.phase.Phase.TheVariants.{Head, Sinking, Stream, Want}, c104_token.specs.{Kinds.Kind, Tokens.is_end}}
+use Rattle.std.proofs.Common.{Bool, List, Option, Some, [], ap, drop, false, if◌then◌else◌, length, nat_le, nat_lt, not, refl, slice_get}
+use Rattle.std.proofs.Common.{subst, sym, true, ℕ, ◌&&◌, ◌++◌, ◌+◌, ◌-◌, ◌∷◌, ◌≡◌}
 use Rattle.c104_link.specs.Buffers as buffer
-use Rattle.c104_link.specs.Buffers.{Incoming, Outgoing, outgoing_put, outgoing_put_all}
-use Rattle.c104_switch.specs.Group.{is_in_group}
-use Rattle.c104_switch.specs.declared.phase.Phase.{Phase}
-use Rattle.c104_switch.specs.declared.phase.Phase.TheVariants.{Fresh, Head, Want, Stream, Sinking}
-use Rattle.c104_switch.specs.Switch.{Input, with_buffer, input_accept, input_grant}
-use Rattle.c104_switch.specs.Headers.{phase_after_header}
-use Rattle.c104_switch.specs.Turns.{input_after_token, phase_after_token, header_turn, random_turn, turn_by_phase, input_turn}
-use Rattle.c104_switch.specs.Claims.{streaming_input, put_header, input_claim}
-use Rattle.c104_link.proofs.MadeSteps.{given, required, at_place_made}
-use Rattle.c104_run.proofs.BalancePlaces.{seen_kept, lower, raise}
 
 -- a number that stays the same in what a step gives under a condition
 same_under : {S : Type 0} (f : S → ℕ) (n : ℕ) (b : Bool) (next s : S) → require b >> Some next ≡ Some s → f next ≡ n → f s ≡ n

@@ -1,18 +1,9 @@
 -- The wires of a plan: each has two ends, and no two ports that have a wire stand at one end.
-use Rattle.std.proofs.Common.{◌≡◌, ◌≢◌, ◌<◌, ◌+◌, ℕ, ◌⊎◌, inl, inr, false, Option, Some, None, length, refl, sym, ◌∙◌, ap, subst, arith}
-use Rattle.std.proofs.lemmas.Bool.{cases_eq}
-use Rattle.c104_plan.specs.declared.ports.Port.TheVariants as port
-use Rattle.c104_plan.specs.declared.ports.Port.{Port}
-use Rattle.std.specs.Option.{option_map}
+use Rattle.{c104_node.specs.declared.ends.End.End, c104_plan.proofs.{PortLemmas.{cases_port, is_port-refl}, Wires.wiring}}
+use Rattle.c104_plan.specs.{Plans.{IsPlan, Plan}, Ports.{IsSwitchPort, is_port}, Wiring.{IsPlanPort, peer}, declared.ports.Port.Port}
+use Rattle.{c104_run.specs.{Ends.end_of, FarEnds.far_end}, std.proofs.Common.{None, Option, Some, ap, arith, false, inl, inr, length, refl}}
+use Rattle.std.{proofs.{Common.{subst, sym, ℕ, ◌+◌, ◌<◌, ◌∙◌, ◌≡◌, ◌≢◌, ◌⊎◌}, lemmas.Bool.cases_eq}, specs.Option.option_map}
 use Rattle.c104_plan.specs.Ports as ports
-use Rattle.c104_plan.specs.Ports.{IsSwitchPort, is_port}
-use Rattle.c104_plan.specs.Plans.{Plan, IsPlan}
-use Rattle.c104_plan.specs.Wiring.{IsPlanPort, peer}
-use Rattle.c104_plan.proofs.PortLemmas.{cases_port, is_port-refl}
-use Rattle.c104_plan.proofs.Wires.{wiring}
-use Rattle.c104_node.specs.declared.ends.End.{End}
-use Rattle.c104_run.specs.Ends.{end_of}
-use Rattle.c104_run.specs.FarEnds.{far_end}
 
 -- two ports are one, or they differ
 pub port_cases : (p q : Port) → (p ≡ q) ⊎ (p ≢ q)
@@ -39,38 +30,38 @@ module _ (plan : Plan) (is_plan : IsPlan plan) where
       cc
 
   -- a switch's port that has a wire is one of the plan's ports
-  pub switch_inside : (s l : ℕ) (q : Port) → peer plan (port.Switch s l) ≡ Some q → IsSwitchPort (length plan.switches) (port.Switch s l)
-  switch_inside s l q is = (wiring plan is_plan).inside (port.Switch s l) q is
+  pub switch_inside : (s l : ℕ) (q : Port) → peer plan (Port.Switch s l) ≡ Some q → IsSwitchPort (length plan.switches) (Port.Switch s l)
+  switch_inside s l q is = (wiring plan is_plan).inside (Port.Switch s l) q is
 
   -- a terminal's port that has a wire is one of the plan's terminals
-  pub terminal_inside : (t : ℕ) (q : Port) → peer plan (port.Terminal t) ≡ Some q → t < length plan.terminals
-  terminal_inside t q is = (wiring plan is_plan).inside (port.Terminal t) q is
+  pub terminal_inside : (t : ℕ) (q : Port) → peer plan (Port.Terminal t) ≡ Some q → t < length plan.terminals
+  terminal_inside t q is = (wiring plan is_plan).inside (Port.Terminal t) q is
 
   -- the ends of two ports that have wires are two
   pub ends_apart : (p q p' q' : Port) → peer plan p ≡ Some q → peer plan p' ≡ Some q' → p ≢ p' → AreApart (length plan.switches) (end_of plan p) (end_of plan p')
-  ends_apart (port.Switch s l) q (port.Switch s' l') q' is is' differ =
+  ends_apart (Port.Switch s l) q (Port.Switch s' l') q' is is' differ =
       elim (cases_eq s s') [
         | inl same ↦ inr ((switch_inside s' l' q' is').0, λ links. differ (cc))
         | inr other ↦ inl other
       ]
-  ends_apart (port.Switch s l) q (port.Terminal t') q' is is' differ =
+  ends_apart (Port.Switch s l) q (Port.Terminal t') q' is is' differ =
       let inside : s < length plan.switches = (switch_inside s l q is).0 in
       inl (λ same. let e : s ≡ length plan.switches + t' = same in omega arith)
-  ends_apart (port.Terminal t) q (port.Switch s' l') q' is is' differ =
+  ends_apart (Port.Terminal t) q (Port.Switch s' l') q' is is' differ =
       let inside : s' < length plan.switches = (switch_inside s' l' q' is').0 in
       inl (λ same. let e : length plan.switches + t ≡ s' = same in omega arith)
-  ends_apart (port.Terminal t) q (port.Terminal t') q' is is' differ =
-      inl (λ same. let e : length plan.switches + t ≡ length plan.switches + t' = same in let number : t ≡ t' = omega arith in differ (ap port.Terminal number))
+  ends_apart (Port.Terminal t) q (Port.Terminal t') q' is is' differ =
+      inl (λ same. let e : length plan.switches + t ≡ length plan.switches + t' = same in let number : t ≡ t' = omega arith in differ (ap Port.Terminal number))
 
   -- the two ends of a wire are at two nodes
   pub nodes_apart : (p q : Port) → peer plan p ≡ Some q → (end_of plan p).node ≢ (end_of plan q).node
   nodes_apart p q is = by_ports p q ((wiring plan is_plan).apart p q is) ((wiring plan is_plan).inside p q is) ((wiring plan is_plan).inside q p (peer_back p q is))
     where
       by_ports : (p q : Port) → ports.AreApart p q → IsPlanPort plan p → IsPlanPort plan q → (end_of plan p).node ≢ (end_of plan q).node
-      by_ports (port.Switch s l) (port.Switch s' l') apart near far = apart
-      by_ports (port.Switch s l) (port.Terminal t) apart near far = λ same. let e : s ≡ length plan.switches + t = same in omega (arith, near.0)
-      by_ports (port.Terminal t) (port.Switch s l) apart near far = λ same. let e : length plan.switches + t ≡ s = same in omega (arith, far.0)
-      by_ports (port.Terminal t) (port.Terminal u) apart near far = absurd apart
+      by_ports (Port.Switch s l) (Port.Switch s' l') apart near far = apart
+      by_ports (Port.Switch s l) (Port.Terminal t) apart near far = λ same. let e : s ≡ length plan.switches + t = same in omega (arith, near.0)
+      by_ports (Port.Terminal t) (Port.Switch s l) apart near far = λ same. let e : length plan.switches + t ≡ s = same in omega (arith, far.0)
+      by_ports (Port.Terminal t) (Port.Terminal u) apart near far = absurd apart
 
   -- the same of the far end as the table has it
   pub far_apart : (p : Port) (near far : End) → near ≡ end_of plan p → far_end plan p ≡ Some far → near.node ≢ far.node

@@ -1,18 +1,10 @@
 -- What is due to an event says that it is done exactly where it would be done and no trace that it adds to is full.
-use Rattle.std.proofs.Common.{◌≡◌, Bool, true, false, Option, Some, None, Err, if◌then◌else◌, is_some, refl, sym, ap, subst}
-use Rattle.c104_token.specs.declared.tokens.Token.{Token}
-use Rattle.c104_token.specs.Kinds.{Kind, plain_kind}
-use Rattle.c104_switch.specs.Actions.{Reply}
-use Rattle.c104_event.specs.declared.events.Event.{Event}
-use Rattle.c104_event.specs.declared.faults.EventFault.{EventFault}
-use Rattle.c104_event.specs.declared.faults.EventFault.TheVariants as fault
-use Rattle.c104_run.specs.Network.{Network, event_fault, event_limit, network_apply, network_step, outcome_if_possible, outcome_if_ready}
-use Rattle.c104_run.specs.Network.{outcome_within_limit, WouldBeDone}
-use Rattle.c104_run.specs.NetRecords.{is_done}
-use Rattle.c104_run.specs.RecordedRuns.{record_stage, DoneLaw}
-use Rattle.c104_run.specs.Stages.{stage_full, unless_full}
-use Rattle.c104_run.proofs.RoundRuns.{Applied}
-use Rattle.c104_run.proofs.StageSteps.{would}
+use Rattle.{c104_event.specs.declared.{events.Event.Event, faults.EventFault.EventFault}, c104_run.proofs.RoundRuns.Applied}
+use Rattle.c104_run.{proofs.StageSteps.would, specs.{NetRecords.is_done, Network.{Network, WouldBeDone, event_fault, event_limit}}}
+use Rattle.c104_run.specs.Network.{network_apply, network_step, outcome_if_possible, outcome_if_ready, outcome_within_limit}
+use Rattle.{c104_run.specs.{RecordedRuns.{DoneLaw, record_stage}, Stages.{stage_full, unless_full}}, c104_switch.specs.Actions.Reply}
+use Rattle.{c104_token.specs.{Kinds.{Kind, plain_kind}, declared.tokens.Token.Token}, std.proofs.Common.{Bool, Err, None, Option, Some, ap}}
+use Rattle.std.proofs.Common.{false, if◌then◌else◌, is_some, refl, subst, sym, true, ◌≡◌}
 
 -- an event that is done is one that would be
 module _ {A : Type 0} (kind : Kind A) (net : Network A) (e : Event) where
@@ -33,7 +25,7 @@ module _ {A : Type 0} (kind : Kind A) (net : Network A) (e : Event) where
 
 -- a full trace refuses what would be done
 module _ (net : Network Token) (due : Applied (Network Token)) where
-  full_refuses : (d : Bool) → is_done due.0 ≡ d → is_done (if d then (Err fault.TraceFull, net) else due).0 ≡ true → ⊥
+  full_refuses : (d : Bool) → is_done due.0 ≡ d → is_done (if d then (Err EventFault.TraceFull, net) else due).0 ≡ true → ⊥
   full_refuses true is done = cc
   full_refuses false is done = cc
 

@@ -1,51 +1,41 @@
 -- The table of the far ends of links, made one wire after the other.
-use Rattle.std.proofs.Common.{◌≡◌, ℕ, suc, ◌<◌, ◌+◌, ◌-◌, ◌*◌, ◌/◌, ◌%◌, inl, inr, Bool, true, false, List, [], ◌∷◌, ◌++◌, length, drop, get_or, replicate, slice_set, if◌then◌else◌, Option, Some, None, refl, sym, ap, ◌∙◌, arith}
+use Rattle.{c104_node.specs.declared.ends.End.End, c104_plan.proofs.{PortLemmas.{is_port-ne, is_port-refl}, Wires.wiring}}
+use Rattle.c104_plan.specs.{Plans.{IsPlan, Plan, host_port}, Ports.{is_port, other_end}, Wiring.{terminal_wires, wires}}
+use Rattle.{c104_plan.specs.declared.{plans.Terminal.Terminal, ports.{Port.Port, Wire.Wire}}, c104_run.specs.{Ends.end_of, FarEnds.end_by}}
+use Rattle.{c104_run.specs.FarEnds.{ends_by, far_end, link_ends, with_end}, std.proofs.Common.{Bool, List, None, Option, Some, [], ap}}
+use Rattle.std.proofs.Common.{arith, drop, false, get_or, if◌then◌else◌, inl, inr, length, refl, replicate, slice_set, suc, sym, true, ℕ}
+use Rattle.std.proofs.{Common.{◌%◌, ◌*◌, ◌++◌, ◌+◌, ◌-◌, ◌/◌, ◌<◌, ◌∙◌, ◌∷◌, ◌≡◌}, lemmas.{Bool.cases_eq, Grind.get_or-set_at}}
+use Rattle.std.proofs.lemmas.List.{FromFn.{fill_by_all, get_or-map-range_with_len, length-map-range_with_len}, drop_all, drop_more}
+use Rattle.std.proofs.lemmas.{List.{ext_get_or, get_or-replicate, get_or-set_other, length-replicate, length-set}, Option.slice_get-get_or}
 use Rattle.std.specs.Option.{option_map}
-use Rattle.std.proofs.lemmas.Bool.{cases_eq}
-use Rattle.std.proofs.lemmas.Grind.{get_or-set_at}
-use Rattle.std.proofs.lemmas.List.{drop_all, drop_more, ext_get_or, get_or-replicate, get_or-set_other, length-replicate, length-set}
-use Rattle.std.proofs.lemmas.List.FromFn.{fill_by_all, get_or-map-range_with_len, length-map-range_with_len}
-use Rattle.std.proofs.lemmas.Option.{slice_get-get_or}
-use Rattle.c104_plan.specs.declared.ports.Port.{Port}
-use Rattle.c104_plan.specs.declared.ports.Port.TheVariants as port
-use Rattle.c104_plan.specs.declared.ports.Wire.{Wire}
-use Rattle.c104_plan.specs.declared.plans.Terminal.{Terminal}
-use Rattle.c104_plan.specs.Ports.{is_port, other_end}
-use Rattle.c104_plan.specs.Plans.{IsPlan, Plan, host_port}
-use Rattle.c104_plan.specs.Wiring.{terminal_wires, wires}
-use Rattle.c104_plan.proofs.PortLemmas.{is_port-ne, is_port-refl}
-use Rattle.c104_plan.proofs.Wires.{wiring}
-use Rattle.c104_node.specs.declared.ends.End.{End}
-use Rattle.c104_run.specs.Ends.{end_of}
-use Rattle.c104_run.specs.FarEnds.{end_by, ends_by, far_end, link_ends, with_end}
 
 pub ends_counted : (far : Port → Option End) (n : ℕ) → length (ends_by far n) ≡ n * 32
-ends_counted far n = length-map-range_with_len (λ place. far (port.Switch (place / 32) (place % 32))) 0 (n * 32)
+ends_counted far n = length-map-range_with_len (λ place. far (Port.Switch (place / 32) (place % 32))) 0 (n * 32)
 
-read : (far : Port → Option End) (n k : ℕ) → k < n * 32 → get_or (ends_by far n) k None ≡ far (port.Switch (k / 32) (k % 32))
-read far n k below = get_or-map-range_with_len (λ place. far (port.Switch (place / 32) (place % 32))) 0 (n * 32) k k None (omega (arith, below)) (omega arith)
+read : (far : Port → Option End) (n k : ℕ) → k < n * 32 → get_or (ends_by far n) k None ≡ far (Port.Switch (k / 32) (k % 32))
+read far n k below = get_or-map-range_with_len (λ place. far (Port.Switch (place / 32) (place % 32))) 0 (n * 32) k k None (omega (arith, below)) (omega arith)
 
 -- without a wire no link has a far end
 pub none_yet : (plan : Plan) (n count : ℕ) → count ≡ n * 32 → replicate count None ≡ ends_by (end_by plan []) n
 none_yet plan n count all =
     ap (λ (m : ℕ). replicate {A = Option End} m None) all
-    ∙ fill_by_all (λ place. end_by plan [] (port.Switch (place / 32) (place % 32))) (replicate (n * 32) None) (n * 32) None (length-replicate {A = Option End} (n * 32) None) (λ k below. get_or-replicate {A = Option End} (n * 32) k None None below)
+    ∙ fill_by_all (λ place. end_by plan [] (Port.Switch (place / 32) (place % 32))) (replicate (n * 32) None) (n * 32) None (length-replicate {A = Option End} (n * 32) None) (λ k below. get_or-replicate {A = Option End} (n * 32) k None None below)
 
 -- one link more has one
 module _ (far : Port → Option End) (n s l : ℕ) (e : End) (inside : s < n) (below : l < 32) where
   abbrev after : Port → Option End
-  after = with_end far (port.Switch s l) e
+  after = with_end far (Port.Switch s l) e
 
-  same : (k : ℕ) → k ≡ s * 32 + l → after (port.Switch (k / 32) (k % 32)) ≡ Some e
+  same : (k : ℕ) → k ≡ s * 32 + l → after (Port.Switch (k / 32) (k % 32)) ≡ Some e
   same k at =
       let switch : k / 32 ≡ s = omega (arith, at, below) in
       let link : k % 32 ≡ l = omega (arith, at, below) in
-      rw (switch, link) (ap (λ b. if b then Some e else far (port.Switch s l)) (is_port-refl (port.Switch s l)))
+      rw (switch, link) (ap (λ b. if b then Some e else far (Port.Switch s l)) (is_port-refl (Port.Switch s l)))
 
-  differs : (k : ℕ) → (k ≡ s * 32 + l → ⊥) → after (port.Switch (k / 32) (k % 32)) ≡ far (port.Switch (k / 32) (k % 32))
+  differs : (k : ℕ) → (k ≡ s * 32 + l → ⊥) → after (Port.Switch (k / 32) (k % 32)) ≡ far (Port.Switch (k / 32) (k % 32))
   differs k apart =
-      ap (λ b. if b then Some e else far (port.Switch (k / 32) (k % 32)))
-      (is_port-ne (port.Switch s l) (port.Switch (k / 32) (k % 32)) (λ is.
+      ap (λ b. if b then Some e else far (Port.Switch (k / 32) (k % 32)))
+      (is_port-ne (Port.Switch s l) (Port.Switch (k / 32) (k % 32)) (λ is.
       let switch : s ≡ k / 32 = cc in
       let link : l ≡ k % 32 = cc in
       apart (omega (arith, switch, link))))
@@ -85,13 +75,13 @@ module _ (plan : Plan) where
   from_terminal ts ws k = end_by plan (terminal_wires k (drop k ts) ++ ws)
 
   pub terminal_added : (ts : List Terminal) (ws : List Wire) (k m : ℕ) (t : Terminal) (p : Port) (n : ℕ) (new : List (Option End)) → k < length ts → m ≡ k + 1 → t ≡ get_or ts k t → p ≡ host_port t →
-      new ≡ ends_by (with_end (from_terminal ts ws m) p (end_of plan (port.Terminal k))) n → new ≡ ends_by (from_terminal ts ws k) n
+      new ≡ ends_by (with_end (from_terminal ts ws m) p (end_of plan (Port.Terminal k))) n → new ≡ ends_by (from_terminal ts ws k) n
   terminal_added ts ws k m t p n new below next is host made =
       let one_more : k + 1 ≡ suc k = omega arith in
       made
-      ∙ ap (λ q. ends_by (with_end (from_terminal ts ws m) q (end_of plan (port.Terminal k))) n) host
-      ∙ ap (λ j. ends_by (with_end (from_terminal ts ws j) (host_port t) (end_of plan (port.Terminal k))) n) next
-      ∙ ap (λ j. ends_by (with_end (end_by plan (terminal_wires j (drop (k + 1) ts) ++ ws)) (host_port t) (end_of plan (port.Terminal k))) n) one_more
+      ∙ ap (λ q. ends_by (with_end (from_terminal ts ws m) q (end_of plan (Port.Terminal k))) n) host
+      ∙ ap (λ j. ends_by (with_end (from_terminal ts ws j) (host_port t) (end_of plan (Port.Terminal k))) n) next
+      ∙ ap (λ j. ends_by (with_end (end_by plan (terminal_wires j (drop (k + 1) ts) ++ ws)) (host_port t) (end_of plan (Port.Terminal k))) n) one_more
       ∙ ap (λ (xs : List Terminal). ends_by (end_by plan (terminal_wires k xs ++ ws)) n) (sym (drop_more ts k t below ∙ ap (λ v. v ∷ drop (k + 1) ts) (sym is)))
 
   -- by wires, the far end is that of the other end
@@ -107,10 +97,10 @@ module _ (plan : Plan) where
   -- so by all wires the table is that of the plan
   pub all_added : (ends : List (Option End)) → ends ≡ ends_by (end_by plan (wires plan)) (length plan.switches) → ends ≡ link_ends plan
   all_added ends are =
-      fill_by_all (λ place. far_end plan (port.Switch (place / 32) (place % 32))) ends (length plan.switches * 32) None
+      fill_by_all (λ place. far_end plan (Port.Switch (place / 32) (place % 32))) ends (length plan.switches * 32) None
       (ap length are ∙ ends_counted (end_by plan (wires plan)) (length plan.switches))
-      (λ k below. ap (λ xs. get_or xs k None) are ∙ read (end_by plan (wires plan)) (length plan.switches) k below ∙ by_wires (wires plan) (port.Switch (k / 32) (k % 32)))
+      (λ k below. ap (λ xs. get_or xs k None) are ∙ read (end_by plan (wires plan)) (length plan.switches) k below ∙ by_wires (wires plan) (Port.Switch (k / 32) (k % 32)))
 
   -- a terminal's wire leads to the link that it is on
-  pub terminal_far : IsPlan plan → (k : ℕ) (t : Terminal) → k < length plan.terminals → t ≡ get_or plan.terminals k t → Some (end_of plan (host_port t)) ≡ far_end plan (port.Terminal k)
+  pub terminal_far : IsPlan plan → (k : ℕ) (t : Terminal) → k < length plan.terminals → t ≡ get_or plan.terminals k t → Some (end_of plan (host_port t)) ≡ far_end plan (Port.Terminal k)
   terminal_far is_plan k t inside is = sym (ap (option_map (end_of plan)) ((wiring plan is_plan).host k t (slice_get-get_or plan.terminals k t inside ∙ ap Some (sym is))))

@@ -1,14 +1,10 @@
 -- The entries of one event: there is a trace for each, which has room for it.
-use Rattle.std.proofs.Common.{◌≡◌, ◌≢◌, ◌∙◌, ◌+◌, ◌*◌, ◌<◌, ◌≤◌, ◌++◌, ℕ, zero, suc, All, true, false, List, [], ◌∷◌, Some, get_or, length}
-use Rattle.std.proofs.Common.{length-append, map, nat_le, slice_get, slice_set, refl, sym, ap, arith}
-use Rattle.std.proofs.lemmas.Bool.Decides.{nat_tests}
-use Rattle.std.proofs.lemmas.List.Elements.{All-head, All-set, All-tail}
-use Rattle.std.proofs.lemmas.Option.{slice_get-get_or, slice_get-map, slice_get_within}
+use Rattle.c104_node.{proofs.WireEnds.get_set_other, specs.Traces.{Deed, full_at, is_trace_full, noted_all, noted_at, trace_limit}}
+use Rattle.{c104_node.specs.declared.acts.Entry.Entry, c104_run.specs.NetRecords.{IsWithinLimit, total_entries}, std.proofs.Common.All}
+use Rattle.std.proofs.Common.{List, Some, [], ap, arith, false, get_or, length, length-append, map, nat_le, refl, slice_get, slice_set, suc}
+use Rattle.std.proofs.{Common.{sym, true, zero, ℕ, ◌*◌, ◌++◌, ◌+◌, ◌<◌, ◌∙◌, ◌∷◌, ◌≡◌, ◌≢◌, ◌≤◌}, lemmas.Bool.Decides.nat_tests}
+use Rattle.std.proofs.lemmas.{List.Elements.{All-head, All-set, All-tail}, Option.{slice_get-get_or, slice_get-map, slice_get_within}}
 use Rattle.std.specs.Option.{option_map}
-use Rattle.c104_node.specs.declared.acts.Entry.{Entry}
-use Rattle.c104_run.specs.NetRecords.{total_entries, IsWithinLimit}
-use Rattle.c104_node.specs.Traces.{Deed, full_at, noted_all, noted_at, trace_limit, is_trace_full}
-use Rattle.c104_node.proofs.WireEnds.{get_set_other}
 
 -- there is a trace at a place, and it has room for an entry
 abbrev pub HasRoom : List (List Entry) → ℕ → Type 0

@@ -1,30 +1,17 @@
 -- A reason of an event holds of the node at its port.
-use Rattle.std.proofs.Common.{◌≡◌, ℕ, List, Option, Some, None, IfSome, length, slice_get, inl, inr, refl, ◌-◌}
-use Rattle.std.specs.Option.{option_map, option_or}
-use Rattle.c104_switch.specs.declared.actions.ActionOf.TheVariants as action
-use Rattle.c104_switch.specs.declared.unready.Unready.{Unready}
-use Rattle.c104_switch.specs.Reasons.{why_at, enter_why}
-use Rattle.c104_switch.specs.ReasonMeanings.{IsReason, IsAcceptReason, IsTakeReason, IsGrantReason, IsEmitReason, IsCreditedReason}
-use Rattle.c104_switch.proofs.ReasonsHold.{reason_holds, accept_says, take_says, grant_says, emit_says, credited_says}
-use Rattle.c104_plan.specs.declared.ports.Port.{Port}
-use Rattle.c104_plan.specs.declared.ports.Port.TheVariants as port
-use Rattle.c104_plan.specs.Wiring.{peer}
-use Rattle.c104_event.specs.declared.events.Event.{Event}
-use Rattle.c104_link.specs.Steps.{◌>>=◌}
-use Rattle.c104_node.specs.PortActs.{Acts}
-use Rattle.c104_node.specs.declared.acts.ActOf.{ActOf}
-use Rattle.c104_node.specs.declared.acts.ActOf.TheVariants as act
-use Rattle.c104_node.specs.declared.crossings.Crossing.{Crossing}
-use Rattle.c104_node.specs.declared.crossings.Crossing.TheVariants.{Token, Grant}
-use Rattle.c104_event.specs.declared.faults.EventFault.{EventFault}
-use Rattle.c104_node.specs.declared.node.NodeOf.TheVariants.{Switch, Terminal}
-use Rattle.c104_node.specs.Nodes.{Node}
-use Rattle.c104_run.specs.Ends.{end_of}
-use Rattle.c104_run.specs.EventActs.{Ask, ask_acts, crossing_acts, event_ask}
-use Rattle.c104_run.specs.Network.{Network, event_fault}
-use Rattle.c104_node.specs.NodeReasons.{node_input_why, node_claim_why, node_drain_why}
-use Rattle.c104_run.specs.Reasons.{acts_why, alone_why, end_why, claim_reason, event_why, far_why, near_why, unless_refused, network_why}
-use Rattle.c104_run.specs.ReasonMeanings.{IsNearReason, IsFarReason, IsInputReason, IsNodeClaimReason, IsDrainReason, IsSaid, IsSaidAt, IsAloneReason, IsAskReason, IsEventReason}
+use Rattle.{c104_event.specs.declared.{events.Event.Event, faults.EventFault.EventFault}, c104_link.specs.Steps.◌>>=◌}
+use Rattle.c104_node.specs.{NodeReasons.{node_claim_why, node_drain_why, node_input_why}, Nodes.Node, PortActs.Acts}
+use Rattle.c104_node.specs.declared.{acts.ActOf.ActOf, crossings.Crossing.{Crossing, TheVariants.{Grant, Token}}}
+use Rattle.{c104_node.specs.declared.node.NodeOf.TheVariants.{Switch, Terminal}, c104_plan.specs.{Wiring.peer, declared.ports.Port.Port}}
+use Rattle.c104_run.specs.{Ends.end_of, EventActs.{Ask, ask_acts, crossing_acts, event_ask}, Network.{Network, event_fault}}
+use Rattle.c104_run.specs.ReasonMeanings.{IsAloneReason, IsAskReason, IsDrainReason, IsEventReason, IsFarReason, IsInputReason}
+use Rattle.c104_run.specs.{ReasonMeanings.{IsNearReason, IsNodeClaimReason, IsSaid, IsSaidAt}, Reasons.{acts_why, alone_why, claim_reason}}
+use Rattle.c104_run.specs.Reasons.{end_why, event_why, far_why, near_why, network_why, unless_refused}
+use Rattle.c104_switch.proofs.ReasonsHold.{accept_says, credited_says, emit_says, grant_says, reason_holds, take_says}
+use Rattle.c104_switch.specs.ReasonMeanings.{IsAcceptReason, IsCreditedReason, IsEmitReason, IsGrantReason, IsReason, IsTakeReason}
+use Rattle.c104_switch.specs.{Reasons.{enter_why, why_at}, declared.{actions.ActionOf.ActionOf, unready.Unready.Unready}}
+use Rattle.std.{proofs.Common.{IfSome, List, None, Option, Some, inl, inr, length, refl, slice_get, ℕ, ◌-◌, ◌≡◌}, specs.Option.option_map}
+use Rattle.std.specs.Option.{option_or}
 
 -- what is said of a reason is said of it at its port
 carried : {X : Type 0} (f : Unready → X) (P : Unready → Type 0) (Q : X → Type 0) → ((u : Unready) → P u → Q (f u)) → (why : Option Unready) → IfSome why P → IfSome (option_map f why) Q
@@ -38,23 +25,23 @@ for_all P (Some u) said = said
 
 module _ {A : Type 0} where
   near_says : (crossing : Crossing) (l : ℕ) (n : Node A) → IfSome (near_why crossing l n) (IsNearReason crossing l n)
-  near_says Token l (Switch s) = reason_holds s (action.Leave l)
+  near_says Token l (Switch s) = reason_holds s (ActionOf.Leave l)
   near_says Token l (Terminal t) = emit_says (IsEmitReason t.output) t.output (λ none. none) (λ some none. (some, none))
-  near_says Grant l (Switch s) = reason_holds s (action.CreditOut l)
+  near_says Grant l (Switch s) = reason_holds s (ActionOf.CreditOut l)
   near_says Grant l (Terminal t) = grant_says (IsGrantReason t.input) t.input (λ full. full)
 
   far_says : (crossing : Crossing) (l : ℕ) (n : Node A) → IfSome (far_why crossing l n) (IsFarReason crossing l n)
-  far_says Token l (Switch s) = for_all (λ x. IsReason s (action.Enter l x)) (enter_why s l) (λ x. reason_holds s (action.Enter l x))
+  far_says Token l (Switch s) = for_all (λ x. IsReason s (ActionOf.Enter l x)) (enter_why s l) (λ x. reason_holds s (ActionOf.Enter l x))
   far_says Token l (Terminal t) = accept_says (IsAcceptReason t.input) t.input (λ none. none)
-  far_says Grant l (Switch s) = reason_holds s (action.CreditIn l)
+  far_says Grant l (Switch s) = reason_holds s (ActionOf.CreditIn l)
   far_says Grant l (Terminal t) = credited_says (IsCreditedReason t.output) t.output (λ full. full)
 
   input_says : (l word : ℕ) (n : Node A) → IfSome (node_input_why l n) (IsInputReason l word n)
-  input_says l word (Switch s) = reason_holds s (action.Input l word)
+  input_says l word (Switch s) = reason_holds s (ActionOf.Input l word)
   input_says l word (Terminal t) = refl
 
   claim_says : (i o : ℕ) (n : Node A) → IfSome (node_claim_why i o n) (IsNodeClaimReason i o n)
-  claim_says i o (Switch s) = reason_holds s (action.Claim i o)
+  claim_says i o (Switch s) = reason_holds s (ActionOf.Claim i o)
   claim_says i o (Terminal t) = refl
 
   drain_says : (n : Node A) → IfSome (node_drain_why n) (IsDrainReason n)
@@ -82,11 +69,11 @@ module _ {A : Type 0} where
             (end_says q (far_why crossing) (IsFarReason crossing) (far_says crossing))
 
     alone_says : (k : ℕ) (a : ActOf A) → IfSome (alone_why net k a) (IsAloneReason net k a)
-    alone_says k (act.Step (action.Input l word)) = carried (λ u. record { port = port.Switch k l; unready = u }) (IsSaid (IsInputReason l word) (slice_get net.nodes k)) (IsAloneReason net k (act.Step (action.Input l word))) (λ u said. (refl, said)) (why_at net.nodes k (node_input_why l))
+    alone_says k (ActOf.Step (ActionOf.Input l word)) = carried (λ u. record { port = Port.Switch k l; unready = u }) (IsSaid (IsInputReason l word) (slice_get net.nodes k)) (IsAloneReason net k (ActOf.Step (ActionOf.Input l word))) (λ u said. (refl, said)) (why_at net.nodes k (node_input_why l))
         (said_at net.nodes k (node_input_why l) (IsInputReason l word) (input_says l word))
-    alone_says k (act.Step (action.Claim i o)) = carried (claim_reason k i o) (IsSaid (IsNodeClaimReason i o) (slice_get net.nodes k)) (IsAloneReason net k (act.Step (action.Claim i o))) (λ u said. (refl, said)) (why_at net.nodes k (node_claim_why i o))
+    alone_says k (ActOf.Step (ActionOf.Claim i o)) = carried (claim_reason k i o) (IsSaid (IsNodeClaimReason i o) (slice_get net.nodes k)) (IsAloneReason net k (ActOf.Step (ActionOf.Claim i o))) (λ u said. (refl, said)) (why_at net.nodes k (node_claim_why i o))
         (said_at net.nodes k (node_claim_why i o) (IsNodeClaimReason i o) (claim_says i o))
-    alone_says k act.Drain = carried (λ u. record { port = port.Terminal (k - length net.plan.switches); unready = u }) (IsSaid IsDrainReason (slice_get net.nodes k)) (IsAloneReason net k act.Drain) (λ u said. (refl, said)) (why_at net.nodes k node_drain_why)
+    alone_says k ActOf.Drain = carried (λ u. record { port = Port.Terminal (k - length net.plan.switches); unready = u }) (IsSaid IsDrainReason (slice_get net.nodes k)) (IsAloneReason net k ActOf.Drain) (λ u said. (refl, said)) (why_at net.nodes k node_drain_why)
         (said_at net.nodes k node_drain_why IsDrainReason drain_says)
     alone_says k a = tt
 

@@ -1,56 +1,38 @@
 -- What an event does, as the steps of nodes that are named for it: the step of its acts is that of a turn, a claim, a
 -- command, a packet or a token's arrival; and, in a network of a plan whose nodes stand in their places, of a crossing.
-use Rattle.c104_plan.specs.Plans.{IsPlan, Plan}
-use Rattle.c104_plan.specs.Wiring.{peer}
-use Rattle.c104_plan.specs.declared.ports.Port.{Port}
-use Rattle.c104_link.proofs.MadeSteps.{at_place_made, from_place_made}
-use Rattle.c104_link.specs.Steps.{◌>>=◌, step_at, yield_step_at}
-use Rattle.c104_run.proofs.BalanceWires.{nodes_apart, peer_back, switch_inside}
-use Rattle.c104_node.proofs.WireEnds.{get_set_other}
-use Rattle.c104_run.proofs.RunRecords.{in_place, is_switch_place}
-use Rattle.c104_node.specs.Acts.{control_by, done_by, node_act, nodes_act, token_by}
-use Rattle.c104_run.specs.Balance.{AreInPlace}
-use Rattle.c104_node.specs.Nodes.{is_switch, Node, node_claim, node_control, node_credit_in, node_credit_out, node_drain, node_enter, node_input, node_leave, node_send}
-use Rattle.c104_run.specs.Ends.{end_of}
-use Rattle.c104_run.specs.EventActs.{acts_step, crossing_acts, port_place}
-use Rattle.c104_node.specs.PortActs.{Acts, act_limit, far_act, port_credit_in, port_credit_out, port_enter, port_leave}
-use Rattle.c104_run.specs.Network.{Network, event_fault, event_limit, network_apply, network_step, outcome_if_possible, outcome_if_ready, outcome_within_limit, terminal_place, told_step, with_nodes}
-use Rattle.c104_node.specs.Traces.{part}
-use Rattle.c104_node.proofs.NamedWires.{nodes_credit, nodes_cross}
-use Rattle.c104_node.specs.declared.acts.ActOf.{ActOf}
-use Rattle.c104_node.specs.declared.crossings.Crossing.TheVariants.{Token, Grant}
-use Rattle.c104_switch.specs.Actions.{Reply}
-use Rattle.c104_switch.specs.Control.{switch_control}
-use Rattle.c104_switch.specs.Switch.{Switch}
-use Rattle.c104_switch.specs.declared.actions.ReplyOf.{ReplyOf}
-use Rattle.c104_token.specs.Kinds.{Kind}
-use Rattle.c104_token.specs.declared.packets.Packet.{Packet}
-use Rattle.std.proofs.Common.{Bool, List, None, Ok, Option, Some, ap, arith, false, length, nat_lt, refl, slice_get, slice_set, sym, true, ℕ, ◌+◌, ◌-◌, ◌<◌, ◌∙◌, ◌≡◌}
+use Rattle.{c104_event.specs.declared.events.Event.Event, c104_link.proofs.MadeSteps.{at_place_made, from_place_made}}
+use Rattle.{c104_link.specs.Steps.{step_at, yield_step_at, ◌>>=◌}, c104_node.proofs.NamedWires.{nodes_credit, nodes_cross}}
+use Rattle.c104_node.{proofs.WireEnds.get_set_other, specs.{Acts.{control_by, done_by, node_act, nodes_act, token_by}, Nodes.Node}}
+use Rattle.c104_node.specs.Nodes.{is_switch, node_claim, node_control, node_credit_in, node_credit_out, node_drain, node_enter, node_input}
+use Rattle.c104_node.specs.{Nodes.{node_leave, node_send}, PortActs.{Acts, act_limit, far_act, port_credit_in, port_credit_out, port_enter}}
+use Rattle.c104_node.specs.{PortActs.port_leave, Traces.part, declared.{acts.ActOf.ActOf, crossings.Crossing.TheVariants.{Grant, Token}}}
+use Rattle.{c104_node.specs.declared.node.NodeOf.NodeOf, c104_plan.specs.{Plans.{IsPlan, Plan}, Wiring.peer, declared.ports.Port.Port}}
+use Rattle.c104_run.proofs.{BalanceWires.{nodes_apart, peer_back, switch_inside}, RunRecords.{in_place, is_switch_place}}
+use Rattle.c104_run.specs.{Balance.AreInPlace, Ends.end_of, EventActs.{acts_step, crossing_acts, port_place}, Network.Network}
+use Rattle.c104_run.specs.Network.{event_fault, event_limit, network_apply, network_step, outcome_if_possible, outcome_if_ready}
+use Rattle.{c104_run.specs.Network.{outcome_within_limit, terminal_place, told_step, with_nodes}, c104_switch.specs.Actions.Reply}
+use Rattle.c104_switch.specs.{Control.switch_control, Switch.Switch, declared.actions.{ActionOf.ActionOf, ReplyOf.ReplyOf}}
+use Rattle.{c104_token.specs.{Kinds.Kind, declared.packets.Packet.Packet}, std.proofs.Common.{Bool, List, None, Ok, Option, Some, ap}}
+use Rattle.std.proofs.Common.{arith, false, length, nat_lt, refl, slice_get, slice_set, sym, true, ℕ, ◌+◌, ◌-◌, ◌<◌, ◌∙◌, ◌≡◌}
 use Rattle.std.proofs.lemmas.Bool.Decides.{nat_tests}
-use Rattle.c104_plan.specs.declared.ports.Port.TheVariants as port
-use Rattle.c104_event.specs.declared.events.Event.TheVariants as event
-use Rattle.c104_node.specs.declared.acts.ActOf.TheVariants as act
-use Rattle.c104_node.specs.declared.node.NodeOf.TheVariants as node
-use Rattle.c104_switch.specs.declared.actions.ActionOf.TheVariants as action
-use Rattle.c104_switch.specs.declared.actions.ReplyOf.TheVariants as reply
 
 module _ {A : Type 0} (kind : Kind A) where
   -- what is left where nothing else comes of an event
   abbrev pub done_step : Network A → Option (List (Node A)) → Option (Reply × Network A)
-  done_step net made = made >>= (λ nodes. Some (reply.Done, with_nodes net nodes))
+  done_step net made = made >>= (λ nodes. Some (ReplyOf.Done, with_nodes net nodes))
 
   -- the same, where a token comes of it
   abbrev pub token_step : Network A → Option (A × List (Node A)) → Option (Reply × Network A)
-  token_step net made = made >>= (λ r. Some (reply.Token (kind.plain r.0), with_nodes net r.1))
+  token_step net made = made >>= (λ r. Some (ReplyOf.Token (kind.plain r.0), with_nodes net r.1))
 
   -- the same, where a switch replies to a command
   abbrev pub control_step : Network A → Option (List ℕ × List (Node A)) → Option (Reply × Network A)
-  control_step net made = made >>= (λ r. Some (reply.Control r.0, with_nodes net r.1))
+  control_step net made = made >>= (λ r. Some (ReplyOf.Control r.0, with_nodes net r.1))
 
 -- whether a port is a switch's
 abbrev pub is_switch_port : Port → Bool
-is_switch_port (port.Switch s l) = true
-is_switch_port (port.Terminal t) = false
+is_switch_port (Port.Switch s l) = true
+is_switch_port (Port.Terminal t) = false
 
 -- an act at a place, as the step that its name says
 module _ {A : Type 0} (nodes : List (Node A)) (k : ℕ) (act_of : Node A → Option (ReplyOf A × Node A)) where
@@ -106,43 +88,43 @@ module _ {A : Type 0} (kind : Kind A) where
     done_alone f same = done_told net (step_at net.nodes k f) ∙ ap (told_step kind net) (sym (done_at net.nodes k (node_act kind number a) f (λ n at. same n)))
 
     token_alone : (f : Node A → Option (A × Node A)) → ((n : Node A) → node_act kind number a n ≡ token_by (f n)) → token_step kind net (yield_step_at net.nodes k f) ≡ told_step kind net (nodes_act kind net.nodes k number a)
-    token_alone f same = token_told net (yield_step_at net.nodes k f) ∙ ap (told_step kind net) (sym (yield_at net.nodes k (node_act kind number a) reply.Token f (λ n at. same n)))
+    token_alone f same = token_told net (yield_step_at net.nodes k f) ∙ ap (told_step kind net) (sym (yield_at net.nodes k (node_act kind number a) ReplyOf.Token f (λ n at. same n)))
 
     control_alone : (f : Node A → Option (List ℕ × Node A)) → ((n : Node A) → node_act kind number a n ≡ control_by (f n)) → control_step kind net (yield_step_at net.nodes k f) ≡ told_step kind net (nodes_act kind net.nodes k number a)
-    control_alone f same = control_told net (yield_step_at net.nodes k f) ∙ ap (told_step kind net) (sym (yield_at net.nodes k (node_act kind number a) reply.Control f (λ n at. same n)))
+    control_alone f same = control_told net (yield_step_at net.nodes k f) ∙ ap (told_step kind net) (sym (yield_at net.nodes k (node_act kind number a) ReplyOf.Control f (λ n at. same n)))
 
-  input_act : (l word number : ℕ) (n : Node A) → node_act kind number (act.Step (action.Input l word)) n ≡ done_by (node_input kind l word n)
-  input_act l word number (node.Switch s) = refl
-  input_act l word number (node.Terminal t) = refl
+  input_act : (l word number : ℕ) (n : Node A) → node_act kind number (ActOf.Step (ActionOf.Input l word)) n ≡ done_by (node_input kind l word n)
+  input_act l word number (NodeOf.Switch s) = refl
+  input_act l word number (NodeOf.Terminal t) = refl
 
-  claim_act : (i o number : ℕ) (n : Node A) → node_act kind number (act.Step (action.Claim i o)) n ≡ done_by (node_claim i o n)
-  claim_act i o number (node.Switch s) = refl
-  claim_act i o number (node.Terminal t) = refl
+  claim_act : (i o number : ℕ) (n : Node A) → node_act kind number (ActOf.Step (ActionOf.Claim i o)) n ≡ done_by (node_claim i o n)
+  claim_act i o number (NodeOf.Switch s) = refl
+  claim_act i o number (NodeOf.Terminal t) = refl
 
-  control_act : (bytes : List ℕ) (number : ℕ) (n : Node A) → node_act kind number (act.Step (action.Control bytes)) n ≡ control_by (node_control bytes n)
-  control_act bytes number (node.Switch s) = refl
-  control_act bytes number (node.Terminal t) = refl
+  control_act : (bytes : List ℕ) (number : ℕ) (n : Node A) → node_act kind number (ActOf.Step (ActionOf.Control bytes)) n ≡ control_by (node_control bytes n)
+  control_act bytes number (NodeOf.Switch s) = refl
+  control_act bytes number (NodeOf.Terminal t) = refl
 
   -- the acts at a port, of a node of its kind
   module _ (plan : Plan) where
     leave_is : (p : Port) (n : Node A) → is_switch n ≡ is_switch_port p → node_act kind 0 (port_leave p) n ≡ token_by (node_leave (end_of plan p).link n)
-    leave_is (port.Switch s l) (node.Switch x) fits = refl
-    leave_is (port.Terminal t) (node.Terminal x) fits = refl
+    leave_is (Port.Switch s l) (NodeOf.Switch x) fits = refl
+    leave_is (Port.Terminal t) (NodeOf.Terminal x) fits = refl
     leave_is p n fits = absurd (cc fits)
 
     enter_is : (p : Port) (x : A) (n : Node A) → is_switch n ≡ is_switch_port p → node_act kind 0 (port_enter x p) n ≡ done_by (node_enter x (end_of plan p).link n)
-    enter_is (port.Switch s l) x (node.Switch y) fits = refl
-    enter_is (port.Terminal t) x (node.Terminal y) fits = refl
+    enter_is (Port.Switch s l) x (NodeOf.Switch y) fits = refl
+    enter_is (Port.Terminal t) x (NodeOf.Terminal y) fits = refl
     enter_is p x n fits = absurd (cc fits)
 
     credit_out_is : (p : Port) (n : Node A) → is_switch n ≡ is_switch_port p → node_act kind 0 (port_credit_out p) n ≡ done_by (node_credit_out (end_of plan p).link n)
-    credit_out_is (port.Switch s l) (node.Switch y) fits = refl
-    credit_out_is (port.Terminal t) (node.Terminal y) fits = refl
+    credit_out_is (Port.Switch s l) (NodeOf.Switch y) fits = refl
+    credit_out_is (Port.Terminal t) (NodeOf.Terminal y) fits = refl
     credit_out_is p n fits = absurd (cc fits)
 
     credit_in_is : (p : Port) (n : Node A) → is_switch n ≡ is_switch_port p → node_act kind 0 (port_credit_in p) n ≡ done_by (node_credit_in (end_of plan p).link n)
-    credit_in_is (port.Switch s l) (node.Switch y) fits = refl
-    credit_in_is (port.Terminal t) (node.Terminal y) fits = refl
+    credit_in_is (Port.Switch s l) (NodeOf.Switch y) fits = refl
+    credit_in_is (Port.Terminal t) (NodeOf.Terminal y) fits = refl
     credit_in_is p n fits = absurd (cc fits)
 
   module _ (plan : Plan) (is_plan : IsPlan plan) (nodes : List (Node A)) (placed : AreInPlace plan nodes) where
@@ -151,8 +133,8 @@ module _ {A : Type 0} (kind : Kind A) where
     fits_there p q n wired at = sym (ap (part false is_switch) at) ∙ in_place plan nodes placed (port_place plan p) ∙ by_port p q wired
       where
         by_port : (p q : Port) → peer plan p ≡ Some q → is_switch_place plan (port_place plan p) ≡ is_switch_port p
-        by_port (port.Switch s l) q wired = let inside : s < length plan.switches = (switch_inside plan is_plan s l q wired).0 in grind (arith, nat_tests)
-        by_port (port.Terminal t) q wired = grind (arith, nat_tests)
+        by_port (Port.Switch s l) q wired = let inside : s < length plan.switches = (switch_inside plan is_plan s l q wired).0 in grind (arith, nat_tests)
+        by_port (Port.Terminal t) q wired = grind (arith, nat_tests)
 
     -- what the act at the far end leaves is answered as at the near one
     abbrev answer_as : ReplyOf A → ReplyOf A × List (Node A) → Option (ReplyOf A × List (Node A))
@@ -172,10 +154,10 @@ module _ {A : Type 0} (kind : Kind A) where
       -- a crossing, as the steps at both ends
       cross_is : acts_step kind plan nodes (Acts.Joint p q Token) ≡ token_by (nodes_cross nodes (end_of plan p) (end_of plan q))
       cross_is =
-          ap (λ (made : Option (ReplyOf A × List (Node A))). made >>= after_near p q) (yield_at nodes (port_place plan p) (node_act kind 0 (port_leave p)) reply.Token (node_leave (end_of plan p).link) (λ n at. leave_is plan p n (fits_there p q n wired at)))
+          ap (λ (made : Option (ReplyOf A × List (Node A))). made >>= after_near p q) (yield_at nodes (port_place plan p) (node_act kind 0 (port_leave p)) ReplyOf.Token (node_leave (end_of plan p).link) (λ n at. leave_is plan p n (fits_there p q n wired at)))
           ∙ by_left (yield_step_at nodes (port_place plan p) (node_leave (end_of plan p).link)) refl
         where
-          by_made : (x : A) (made : Option (List (Node A))) → (done_by {A = A} made >>= answer_as (reply.Token x)) ≡ token_by (made >>= with_token x)
+          by_made : (x : A) (made : Option (List (Node A))) → (done_by {A = A} made >>= answer_as (ReplyOf.Token x)) ≡ token_by (made >>= with_token x)
           by_made x None = refl
           by_made x (Some ns) = refl
 
@@ -183,7 +165,7 @@ module _ {A : Type 0} (kind : Kind A) where
           by_left None left = refl
           by_left (Some r) left = from_place_made nodes (port_place plan p) (node_leave (end_of plan p).link) r left (λ n y here made set.
               (let after : slice_set nodes (port_place plan p) y.1 ≡ r.1 = ap (λ (z : A × List (Node A)). z.1) set in
-              ap (λ (made : Option (ReplyOf A × List (Node A))). made >>= answer_as (reply.Token r.0)) (done_at r.1 (port_place plan q) (node_act kind 0 (port_enter r.0 q)) (node_enter r.0 (end_of plan q).link)
+              ap (λ (made : Option (ReplyOf A × List (Node A))). made >>= answer_as (ReplyOf.Token r.0)) (done_at r.1 (port_place plan q) (node_act kind 0 (port_enter r.0 q)) (node_enter r.0 (end_of plan q).link)
               (λ m at. enter_is plan q r.0 m (far_fits y.1 m (ap (λ ns. slice_get ns (port_place plan q)) after ∙ at))))
               ∙ by_made r.0 (step_at r.1 (port_place plan q) (node_enter r.0 (end_of plan q).link))))
 
@@ -193,45 +175,45 @@ module _ {A : Type 0} (kind : Kind A) where
           ap (λ (made : Option (ReplyOf A × List (Node A))). made >>= after_near p q) (done_at nodes (port_place plan p) (node_act kind 0 (port_credit_out p)) (node_credit_out (end_of plan p).link) (λ n at. credit_out_is plan p n (fits_there p q n wired at)))
           ∙ by_out (step_at nodes (port_place plan p) (node_credit_out (end_of plan p).link)) refl
         where
-          by_made : (made : Option (List (Node A))) → (done_by {A = A} made >>= answer_as reply.Done) ≡ done_by {A = A} made
+          by_made : (made : Option (List (Node A))) → (done_by {A = A} made >>= answer_as ReplyOf.Done) ≡ done_by {A = A} made
           by_made None = refl
           by_made (Some ns) = refl
 
           by_out : (o : Option (List (Node A))) → step_at nodes (port_place plan p) (node_credit_out (end_of plan p).link) ≡ o → (done_by {A = A} o >>= after_near p q) ≡ done_by {A = A} (o >>= (λ granted. step_at granted (port_place plan q) (node_credit_in (end_of plan q).link)))
           by_out None out = refl
           by_out (Some granted) out = at_place_made nodes (port_place plan p) (node_credit_out (end_of plan p).link) granted out (λ n y here made set.
-              ap (λ (made : Option (ReplyOf A × List (Node A))). made >>= answer_as reply.Done) (done_at granted (port_place plan q) (node_act kind 0 (port_credit_in q)) (node_credit_in (end_of plan q).link)
+              ap (λ (made : Option (ReplyOf A × List (Node A))). made >>= answer_as ReplyOf.Done) (done_at granted (port_place plan q) (node_act kind 0 (port_credit_in q)) (node_credit_in (end_of plan q).link)
               (λ m at. credit_in_is plan q m (far_fits y m (ap (λ ns. slice_get ns (port_place plan q)) set ∙ at))))
               ∙ by_made (step_at granted (port_place plan q) (node_credit_in (end_of plan q).link)))
 
   -- what an event of one node answers and leaves
-  pub input_named : (net : Network A) (s l word : ℕ) → done_step kind net (step_at net.nodes s (node_input kind l word)) ≡ network_step kind net (event.Input s l word)
-  input_named net s l word = done_alone net s (s - length net.plan.switches) (act.Step (action.Input l word)) (node_input kind l word) (input_act l word (s - length net.plan.switches))
+  pub input_named : (net : Network A) (s l word : ℕ) → done_step kind net (step_at net.nodes s (node_input kind l word)) ≡ network_step kind net (Event.Input s l word)
+  input_named net s l word = done_alone net s (s - length net.plan.switches) (ActOf.Step (ActionOf.Input l word)) (node_input kind l word) (input_act l word (s - length net.plan.switches))
 
-  pub claim_named : (net : Network A) (s i o : ℕ) → done_step kind net (step_at net.nodes s (node_claim i o)) ≡ network_step kind net (event.Claim s i o)
-  claim_named net s i o = done_alone net s (s - length net.plan.switches) (act.Step (action.Claim i o)) (node_claim i o) (claim_act i o (s - length net.plan.switches))
+  pub claim_named : (net : Network A) (s i o : ℕ) → done_step kind net (step_at net.nodes s (node_claim i o)) ≡ network_step kind net (Event.Claim s i o)
+  claim_named net s i o = done_alone net s (s - length net.plan.switches) (ActOf.Step (ActionOf.Claim i o)) (node_claim i o) (claim_act i o (s - length net.plan.switches))
 
-  pub control_named : (net : Network A) (s : ℕ) (bytes : List ℕ) → control_step kind net (yield_step_at net.nodes s (node_control bytes)) ≡ network_step kind net (event.Control s bytes)
-  control_named net s bytes = control_alone net s (s - length net.plan.switches) (act.Step (action.Control bytes)) (node_control bytes) (control_act bytes (s - length net.plan.switches))
+  pub control_named : (net : Network A) (s : ℕ) (bytes : List ℕ) → control_step kind net (yield_step_at net.nodes s (node_control bytes)) ≡ network_step kind net (Event.Control s bytes)
+  control_named net s bytes = control_alone net s (s - length net.plan.switches) (ActOf.Step (ActionOf.Control bytes)) (node_control bytes) (control_act bytes (s - length net.plan.switches))
 
-  pub send_named : (net : Network A) (t : ℕ) (packet : Packet) → done_step kind net (step_at net.nodes (terminal_place net.plan t) (node_send kind t packet)) ≡ network_step kind net (event.Send t packet)
+  pub send_named : (net : Network A) (t : ℕ) (packet : Packet) → done_step kind net (step_at net.nodes (terminal_place net.plan t) (node_send kind t packet)) ≡ network_step kind net (Event.Send t packet)
   send_named net t packet =
       let number : (length net.plan.switches + t) - length net.plan.switches ≡ t = omega arith in
-      done_alone net (terminal_place net.plan t) (terminal_place net.plan t - length net.plan.switches) (act.Send packet) (node_send kind t packet) (λ n. ap (λ k. node_act kind k (act.Send packet) n) number)
+      done_alone net (terminal_place net.plan t) (terminal_place net.plan t - length net.plan.switches) (ActOf.Send packet) (node_send kind t packet) (λ n. ap (λ k. node_act kind k (ActOf.Send packet) n) number)
 
-  pub drain_named : (net : Network A) (t : ℕ) → token_step kind net (yield_step_at net.nodes (terminal_place net.plan t) node_drain) ≡ network_step kind net (event.Drain t)
-  drain_named net t = token_alone net (terminal_place net.plan t) (terminal_place net.plan t - length net.plan.switches) act.Drain node_drain (λ n. refl)
+  pub drain_named : (net : Network A) (t : ℕ) → token_step kind net (yield_step_at net.nodes (terminal_place net.plan t) node_drain) ≡ network_step kind net (Event.Drain t)
+  drain_named net t = token_alone net (terminal_place net.plan t) (terminal_place net.plan t - length net.plan.switches) ActOf.Drain node_drain (λ n. refl)
 
   -- what crosses a wire, in a network of a plan whose nodes stand in their places
   module _ (net : Network A) (is_plan : IsPlan net.plan) (placed : AreInPlace net.plan net.nodes) (p : Port) where
-    pub cross_named : (peer net.plan p >>= (λ q. token_step kind net (nodes_cross net.nodes (end_of net.plan p) (end_of net.plan q)))) ≡ network_step kind net (event.Cross p)
+    pub cross_named : (peer net.plan p >>= (λ q. token_step kind net (nodes_cross net.nodes (end_of net.plan p) (end_of net.plan q)))) ≡ network_step kind net (Event.Cross p)
     cross_named = by_peer (peer net.plan p) refl
       where
         by_peer : (o : Option Port) → peer net.plan p ≡ o → (o >>= (λ q. token_step kind net (nodes_cross net.nodes (end_of net.plan p) (end_of net.plan q)))) ≡ (crossing_acts Token p o >>= (λ acts. told_step kind net (acts_step kind net.plan net.nodes acts)))
         by_peer None wired = refl
         by_peer (Some q) wired = token_told net (nodes_cross net.nodes (end_of net.plan p) (end_of net.plan q)) ∙ ap (told_step kind net) (sym (cross_is net.plan is_plan net.nodes placed p q wired))
 
-    pub credit_named : (peer net.plan p >>= (λ q. done_step kind net (nodes_credit net.nodes (end_of net.plan p) (end_of net.plan q)))) ≡ network_step kind net (event.Credit p)
+    pub credit_named : (peer net.plan p >>= (λ q. done_step kind net (nodes_credit net.nodes (end_of net.plan p) (end_of net.plan q)))) ≡ network_step kind net (Event.Credit p)
     credit_named = by_peer (peer net.plan p) refl
       where
         by_peer : (o : Option Port) → peer net.plan p ≡ o → (o >>= (λ q. done_step kind net (nodes_credit net.nodes (end_of net.plan p) (end_of net.plan q)))) ≡ (crossing_acts Grant p o >>= (λ acts. told_step kind net (acts_step kind net.plan net.nodes acts)))
@@ -239,23 +221,23 @@ module _ {A : Type 0} (kind : Kind A) where
         by_peer (Some q) wired = done_told net (nodes_credit net.nodes (end_of net.plan p) (end_of net.plan q)) ∙ ap (told_step kind net) (sym (credit_is net.plan is_plan net.nodes placed p q wired))
 
   -- a command of a switch that stands there is replied to
-  module _ (net : Network A) (k : ℕ) (bytes : List ℕ) (s : Switch A) (here : nat_lt k (length net.plan.switches) ≡ true) (there : slice_get net.nodes k ≡ Some (node.Switch s)) where
+  module _ (net : Network A) (k : ℕ) (bytes : List ℕ) (s : Switch A) (here : nat_lt k (length net.plan.switches) ≡ true) (there : slice_get net.nodes k ≡ Some (NodeOf.Switch s)) where
     abbrev after : Network A
-    after = with_nodes net (slice_set net.nodes k (node.Switch (switch_control s bytes).1))
+    after = with_nodes net (slice_set net.nodes k (NodeOf.Switch (switch_control s bytes).1))
 
     abbrev put : ReplyOf A × Node A → Option (ReplyOf A × List (Node A))
     put y = Some (y.0, slice_set net.nodes k y.1)
 
-    made : network_step kind net (event.Control k bytes) ≡ Some (reply.Control (switch_control s bytes).0, after)
-    made = ap (λ (o : Option (Node A)). told_step kind net (o >>= (λ n. node_act kind (k - length net.plan.switches) (act.Step (action.Control bytes)) n >>= put))) there
+    made : network_step kind net (Event.Control k bytes) ≡ Some (ReplyOf.Control (switch_control s bytes).0, after)
+    made = ap (λ (o : Option (Node A)). told_step kind net (o >>= (λ n. node_act kind (k - length net.plan.switches) (ActOf.Step (ActionOf.Control bytes)) n >>= put))) there
 
-    possible : event_fault net.plan (event.Control k bytes) ≡ None
+    possible : event_fault net.plan (Event.Control k bytes) ≡ None
     possible = rw here refl
 
-    unlimited : event_limit net (event.Control k bytes) ≡ None
-    unlimited = ap (λ (o : Option (Node A)). act_limit o (act.Step (action.Control bytes))) there
+    unlimited : event_limit net (Event.Control k bytes) ≡ None
+    unlimited = ap (λ (o : Option (Node A)). act_limit o (ActOf.Step (ActionOf.Control bytes))) there
 
-    pub control_applied : network_apply kind net (event.Control k bytes) ≡ (Ok (reply.Control (switch_control s bytes).0), after)
+    pub control_applied : network_apply kind net (Event.Control k bytes) ≡ (Ok (ReplyOf.Control (switch_control s bytes).0), after)
     control_applied =
-        ap (outcome_if_possible kind net (event.Control k bytes)) possible ∙ ap (outcome_if_ready kind net (event.Control k bytes)) made
-        ∙ ap (λ f. outcome_within_limit kind net f (reply.Control (switch_control s bytes).0, after)) unlimited
+        ap (outcome_if_possible kind net (Event.Control k bytes)) possible ∙ ap (outcome_if_ready kind net (Event.Control k bytes)) made
+        ∙ ap (λ f. outcome_within_limit kind net f (ReplyOf.Control (switch_control s bytes).0, after)) unlimited

@@ -1,9 +1,6 @@
 -- A network with its record leaves a run.
-use Rattle.c104_run.specs.FinishedRecords.{IsFinishedRecord, record_finish}
-use Rattle.c104_run.specs.NetRecords.{IsNetRecord, NetRecord}
-use Rattle.c104_node.specs.Traces.{seatless}
-use Rattle.c104_run.specs.WiredActs.{IsRecordedAt}
-use Rattle.std.proofs.Common.{refl, ℕ}
+use Rattle.{c104_node.specs.Traces.seatless, c104_run.specs.{FinishedRecords.{IsFinishedRecord, record_finish}, NetRecords.IsNetRecord}}
+use Rattle.{c104_run.specs.{NetRecords.NetRecord, WiredActs.IsRecordedAt}, std.proofs.Common.{refl, ℕ}}
 
 pub finished_record : (net : NetRecord) → IsNetRecord net → ((k : ℕ) → IsRecordedAt net k) → IsFinishedRecord (record_finish net)
 finished_record net kept recorded = record {

@@ -1,16 +1,11 @@
 -- What a run leaves: the terminals stand after the switches, each at its place.
-use Rattle.std.proofs.Common.{append_assoc, reverse, ◌≡◌, ◌+◌, ◌++◌, ℕ, zero, suc, Bool, true, false, List, [], ◌∷◌, Option, Some, None, nat_lt, if◌then◌else◌, length, map, replicate, slice_get, refl, sym, ap, ◌∙◌, arith}
-use Rattle.std.proofs.lemmas.Bool.Decides.{nat_tests}
-use Rattle.std.proofs.lemmas.List.{reverse-append}
-use Rattle.std.proofs.lemmas.Option.{slice_get_past}
-use Rattle.c104_link.specs.Steps.{◌>>=◌}
-use Rattle.c104_node.specs.declared.node.NodeOf.TheVariants.{Switch, Terminal}
+use Rattle.{c104_link.specs.Steps.◌>>=◌, c104_node.specs.Nodes.{Node, is_switch, node_arrived, terminals_of}}
+use Rattle.{c104_node.specs.declared.node.NodeOf.TheVariants.{Switch, Terminal}, c104_plan.specs.Plans.Plan}
+use Rattle.c104_run.specs.{Balance.AreInPlace, Finished.{network_finish, run_arrived}, Network.{Network, network_arrived}}
+use Rattle.std.proofs.Common.{Bool, List, None, Option, Some, [], ap, append_assoc, arith, false, if◌then◌else◌, length, map, nat_lt, refl}
+use Rattle.std.proofs.Common.{replicate, reverse, slice_get, suc, sym, true, zero, ℕ, ◌++◌, ◌+◌, ◌∙◌, ◌∷◌, ◌≡◌}
+use Rattle.std.proofs.lemmas.{Bool.Decides.nat_tests, List.reverse-append, Option.slice_get_past}
 use Rattle.c104_node.specs.Terminals as terminal
-use Rattle.c104_plan.specs.Plans.{Plan}
-use Rattle.c104_node.specs.Nodes.{Node, node_arrived, is_switch, terminals_of}
-use Rattle.c104_run.specs.Network.{Network, network_arrived}
-use Rattle.c104_run.specs.Balance.{AreInPlace}
-use Rattle.c104_run.specs.Finished.{network_finish, run_arrived}
 
 module _ {A : Type 0} where
   -- the terminals among nodes one after the other

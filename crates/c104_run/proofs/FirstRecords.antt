@@ -1,32 +1,16 @@
 -- A network with its record, where nothing was done yet.
-use Rattle.std.proofs.Common.{◌≡◌, ◌≤◌, ◌+◌, ◌∙◌, ◌++◌, ℕ, Bool, true, length, take, All, Result, Ok, Err, OnOk, List, [], ◌∷◌, map, refl, slice_get, sym, ap, subst, arith}
-use Rattle.std.proofs.lemmas.List.{length-append, length-map, length-take-le, map-append}
-use Rattle.std.proofs.lemmas.List.Elements.{All-map, All-replicate}
-use Rattle.std.proofs.lemmas.Option.{slice_get-map}
-use Rattle.std.specs.Option.{option_map}
-use Rattle.c104_token.specs.declared.tokens.Token.{Token}
-use Rattle.c104_regs.specs.declared.settings.Settings.{Settings}
-use Rattle.c104_switch.specs.Starts.{new_link, new_start, SwitchStart}
-use Rattle.c104_switch.specs.declared.link_start.LinkStart.{LinkStart}
-use Rattle.c104_switch.specs.Switch.{new_switch, new_switch_with}
-use Rattle.c104_plan.specs.declared.plans.Terminal.{Terminal}
-use Rattle.c104_node.specs.declared.node.NodeOf.TheVariants as node
-use Rattle.c104_node.specs.Terminals.{new_terminal}
-use Rattle.c104_plan.specs.Plans.{Plan}
-use Rattle.c104_plan.specs.PlanImage.{Image}
-use Rattle.c104_node.specs.declared.acts.Entry.{Entry}
-use Rattle.c104_node.specs.Nodes.{Node}
-use Rattle.c104_run.specs.Network.{network_of, new_network, placed_network}
-use Rattle.c104_run.specs.RecordedNets.{IsRecordedNet, places_record, read_trace, Reading}
-use Rattle.c104_run.specs.RecordedPlaces.{node_reading}
-use Rattle.c104_node.specs.Records.{HasCap, NodeRecord, NodeRoom}
-use Rattle.c104_node.specs.declared.starts.NodeStart.TheVariants as start
-use Rattle.c104_run.specs.Balance.{IsSteady}
-use Rattle.c104_node.specs.Starts.{start_node, start_of}
-use Rattle.c104_run.specs.NetRecords.{first_record, fresh_record, shown_record, IsNetRecord, IsWithinLimit}
-use Rattle.c104_run.proofs.BalancePlaced.{steady_copy}
-use Rattle.c104_run.proofs.RecordSteps.{same_record}
-use Rattle.c104_run.proofs.StartsBack.{starts_back}
+use Rattle.c104_node.specs.{Nodes.Node, Records.{HasCap, NodeRecord, NodeRoom}, Starts.{start_node, start_of}, Terminals.new_terminal}
+use Rattle.{c104_node.specs.declared.{acts.Entry.Entry, node.NodeOf.NodeOf, starts.NodeStart.NodeStart}, c104_plan.specs.PlanImage.Image}
+use Rattle.{c104_plan.specs.{Plans.Plan, declared.plans.Terminal.Terminal}, c104_regs.specs.declared.settings.Settings.Settings}
+use Rattle.c104_run.{proofs.{BalancePlaced.steady_copy, RecordSteps.same_record, StartsBack.starts_back}, specs.Balance.IsSteady}
+use Rattle.c104_run.specs.{NetRecords.{IsNetRecord, IsWithinLimit, first_record, fresh_record, shown_record}, Network.network_of}
+use Rattle.c104_run.specs.{Network.{new_network, placed_network}, RecordedNets.{IsRecordedNet, Reading, places_record, read_trace}}
+use Rattle.{c104_run.specs.RecordedPlaces.node_reading, c104_switch.specs.{Starts.{SwitchStart, new_link, new_start}, Switch.new_switch}}
+use Rattle.c104_switch.specs.{Switch.new_switch_with, declared.link_start.LinkStart.LinkStart}
+use Rattle.{c104_token.specs.declared.tokens.Token.Token, std.proofs.Common.{All, Bool, Err, List, Ok, OnOk, Result, [], ap, arith, length}}
+use Rattle.std.proofs.Common.{map, refl, slice_get, subst, sym, take, true, ℕ, ◌++◌, ◌+◌, ◌∙◌, ◌∷◌, ◌≡◌, ◌≤◌}
+use Rattle.std.proofs.lemmas.List.{Elements.{All-map, All-replicate}, length-append, length-map, length-take-le, map-append}
+use Rattle.std.{proofs.lemmas.Option.slice_get-map, specs.Option.option_map}
 
 abbrev Shown : Type 0
 Shown = Node Token × Node Token × List Entry
@@ -39,14 +23,14 @@ map_twice g f [] = refl
 map_twice g f (x ∷ xs) = ap (λ zs. g (f x) ∷ zs) (map_twice g f xs)
 
 abbrev made_switch : ℕ → List Settings → Node Token
-made_switch cap settings = node.Switch (new_switch_with cap settings true)
+made_switch cap settings = NodeOf.Switch (new_switch_with cap settings true)
 
 abbrev made_terminal : ℕ → Terminal → Node Token
-made_terminal cap t = node.Terminal (new_terminal cap)
+made_terminal cap t = NodeOf.Terminal (new_terminal cap)
 
 -- a new switch, for each of a plan
 abbrev made_new : ℕ → List ℕ → Node Token
-made_new cap name = node.Switch (new_switch cap)
+made_new cap name = NodeOf.Switch (new_switch cap)
 
 -- switches and then terminals, as they are made
 all_made : {E X : Type 0} (r : Result (Unit {0}) E) (made : X → Node Token) (xs : List X) (cap : ℕ) (terminals : List Terminal) (mid new : List Shown) → mid ≡ map (λ x. first_record (made x)) xs →
@@ -133,5 +117,5 @@ made_count made before xs i list is inside =
     ∙ ap (λ n. length before + n) (length-map (take i xs) made ∙ length-take-le i xs inside)
 
 -- the buffers of a new switch are of its size
-pub new_sized : (cap : ℕ) (settings : List Settings) (started : Bool) (s : SwitchStart) → s ≡ new_start cap settings started → HasCap cap (start.Switch s)
-new_sized cap settings started s is = subst (λ (r : SwitchStart). HasCap cap (start.Switch r)) (sym is) (All-replicate (λ (l : LinkStart). l.cap ≡ cap) 32 (new_link cap) refl)
+pub new_sized : (cap : ℕ) (settings : List Settings) (started : Bool) (s : SwitchStart) → s ≡ new_start cap settings started → HasCap cap (NodeStart.Switch s)
+new_sized cap settings started s is = subst (λ (r : SwitchStart). HasCap cap (NodeStart.Switch r)) (sym is) (All-replicate (λ (l : LinkStart). l.cap ≡ cap) 32 (new_link cap) refl)

@@ -1,15 +1,8 @@
 -- A network with its record where a run starts keeps what such a network keeps.
-use Rattle.std.proofs.Common.{◌≡◌, ◌∙◌, List, [], map, slice_get, refl, sym, ap, subst, arith}
-use Rattle.std.proofs.lemmas.Option.{slice_get-map}
-use Rattle.std.specs.Option.{option_map}
-use Rattle.c104_token.specs.declared.tokens.Token.{Token}
-use Rattle.c104_node.specs.declared.acts.Entry.{Entry}
-use Rattle.c104_run.specs.Balance.{IsSteady}
-use Rattle.c104_node.specs.Nodes.{Node}
-use Rattle.c104_run.specs.Network.{network_of, Network}
-use Rattle.c104_run.specs.NetRecords.{fresh_record, IsNetRecord, IsWithinLimit}
-use Rattle.c104_node.specs.Starts.{start_node, start_of}
-use Rattle.std.proofs.lemmas.List.Elements.{All-map}
+use Rattle.{c104_node.specs.{Nodes.Node, Starts.{start_node, start_of}, declared.acts.Entry.Entry}, c104_run.specs.Balance.IsSteady}
+use Rattle.c104_run.specs.{NetRecords.{IsNetRecord, IsWithinLimit, fresh_record}, Network.{Network, network_of}}
+use Rattle.{c104_token.specs.declared.tokens.Token.Token, std.proofs.Common.{List, [], ap, arith, map, refl, slice_get, subst, sym, ◌∙◌}}
+use Rattle.std.{proofs.{Common.◌≡◌, lemmas.{List.Elements.All-map, Option.slice_get-map}}, specs.Option.option_map}
 
 abbrev no_entries : Node Token → List Entry
 no_entries n = []

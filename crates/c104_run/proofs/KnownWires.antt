@@ -1,21 +1,10 @@
 -- What is known of the wires of places: no act changes it, and an act that crosses a wire goes over it.
-use Rattle.c104_plan.specs.Plans.{Plan}
-use Rattle.c104_event.specs.declared.events.Event.{Event}
-use Rattle.c104_event.specs.declared.faults.EventFault.{EventFault}
-use Rattle.c104_node.specs.ActLinks.{port_link}
-use Rattle.c104_run.specs.EventRuns.{EventsEnd}
-use Rattle.c104_run.specs.EventActs.{port_place}
-use Rattle.c104_node.specs.Places.{PlaceBase, Shown, base_wired, bases}
-use Rattle.c104_run.specs.RoundParts.{PartEnds}
-use Rattle.c104_run.specs.Meters.{metered_apply, metered_of, Sees}
-use Rattle.c104_node.specs.Traces.{part}
-use Rattle.c104_node.specs.WiredPlaces.{links_at, links_of}
-use Rattle.c104_run.specs.KnownWires.{is_linked_end, KnowWires}
-use Rattle.c104_node.proofs.PlaceSteps.{shown_at}
-use Rattle.c104_run.proofs.MeteredSteps.{ends_bases, part_bases}
-use Rattle.c104_token.specs.Kinds.{Kind}
-use Rattle.std.proofs.Common.{Bool, IfSome, List, None, Option, Result, Some, ap, map, option_map, refl, slice_get, subst, sym, true, ℕ, ◌∙◌, ◌≡◌}
-use Rattle.std.proofs.lemmas.Option.{slice_get-map}
+use Rattle.{c104_event.specs.declared.{events.Event.Event, faults.EventFault.EventFault}, c104_node.proofs.PlaceSteps.shown_at}
+use Rattle.c104_node.specs.{ActLinks.port_link, Places.{PlaceBase, Shown, base_wired, bases}, Traces.part, WiredPlaces.{links_at, links_of}}
+use Rattle.{c104_plan.specs.Plans.Plan, c104_run.{proofs.MeteredSteps.{ends_bases, part_bases}, specs.EventActs.port_place}}
+use Rattle.c104_run.specs.{EventRuns.EventsEnd, KnownWires.{KnowWires, is_linked_end}, Meters.{Sees, metered_apply, metered_of}}
+use Rattle.{c104_run.specs.RoundParts.PartEnds, c104_token.specs.Kinds.Kind, std.proofs.Common.{Bool, IfSome, List, None, Option, Result}}
+use Rattle.std.proofs.{Common.{Some, ap, map, option_map, refl, slice_get, subst, sym, true, ℕ, ◌∙◌, ◌≡◌}, lemmas.Option.slice_get-map}
 
 -- what is known of wires depends on nothing else
 module _ (bs cs : List PlaceBase) (same : map base_wired bs ≡ map base_wired cs) where

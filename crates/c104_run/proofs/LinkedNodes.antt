@@ -1,23 +1,11 @@
 -- Nodes that are given the wired links of their places know the wires of their plan.
-use Rattle.std.proofs.Common.{◌≡◌, ◌∙◌, ◌<◌, ◌≤◌, ◌+◌, ◌-◌, ◌++◌, ◌&&◌, ◌⊎◌, ℕ, Bool, true, false, List, [], ◌∷◌, Option, Some, None}
-use Rattle.std.proofs.Common.{zero, suc, IfSome, inl, inr, is_some, length, map, nat_eq, nat_lt, slice_get, refl, sym, ap, subst, arith}
-use Rattle.std.proofs.lemmas.Bool.{cases_eq}
-use Rattle.std.proofs.lemmas.Bool.Decides.{nat_tests}
-use Rattle.c104_crossbar.specs.Groups.{has_bit}
-use Rattle.c104_token.specs.declared.tokens.Token.{Token}
-use Rattle.c104_plan.specs.declared.ports.Port.{Port}
-use Rattle.c104_plan.specs.declared.ports.Port.TheVariants as port
-use Rattle.c104_plan.specs.Plans.{IsPlan, Plan}
-use Rattle.c104_plan.specs.Wiring.{peer, IsPlanPort}
-use Rattle.c104_plan.proofs.Wires.{wiring}
-use Rattle.c104_node.specs.ActLinks.{port_link}
-use Rattle.c104_node.specs.Places.{PlaceBase, Shown, base_wired, bases}
-use Rattle.c104_node.specs.Records.{has_link, node_shown, NodeRecord, NodeRoom}
-use Rattle.c104_node.specs.WiredPlaces.{links_at}
-use Rattle.c104_node.proofs.PlaceSteps.{shown_at}
-use Rattle.c104_run.specs.EventActs.{port_place}
-use Rattle.c104_run.specs.KnownWires.{is_linked_end, AreLinkedNodes, KnowWires}
-use Rattle.c104_run.specs.Rounds.{is_wired}
+use Rattle.{c104_crossbar.specs.Groups.has_bit, c104_node.{proofs.PlaceSteps.shown_at, specs.{ActLinks.port_link, Places.PlaceBase}}}
+use Rattle.c104_node.specs.{Places.{Shown, base_wired, bases}, Records.{NodeRecord, NodeRoom, has_link, node_shown}, WiredPlaces.links_at}
+use Rattle.c104_plan.{proofs.Wires.wiring, specs.{Plans.{IsPlan, Plan}, Wiring.{IsPlanPort, peer}, declared.ports.Port.Port}}
+use Rattle.c104_run.specs.{EventActs.port_place, KnownWires.{AreLinkedNodes, KnowWires, is_linked_end}, Rounds.is_wired}
+use Rattle.{c104_token.specs.declared.tokens.Token.Token, std.proofs.Common.{Bool, IfSome, List, None, Option, Some, [], ap, arith, false}}
+use Rattle.std.proofs.Common.{inl, inr, is_some, length, map, nat_eq, nat_lt, refl, slice_get, subst, suc, sym, true, zero, ℕ, ◌&&◌, ◌++◌}
+use Rattle.std.proofs.{Common.{◌+◌, ◌-◌, ◌<◌, ◌∙◌, ◌∷◌, ◌≡◌, ◌≤◌, ◌⊎◌}, lemmas.Bool.{Decides.nat_tests, cases_eq}}
 
 -- what is so of each element by its place is so of one more
 each_more : {X : Type 0} (P : ℕ → X → Type 0) (xs : List X) (x : X) → ((k : ℕ) (y : X) → slice_get xs k ≡ Some y → P k y) → P (length xs) x → (k : ℕ) (y : X) → slice_get (xs ++ x ∷ []) k ≡ Some y → P k y
@@ -28,21 +16,21 @@ each_more P (z ∷ xs) x before own (suc k) y here = each_more (λ i. P (suc i))
 
 module _ (plan : Plan) where
   -- a set has the wired links of a switch: it has no link past the last
-  pub linked_switch : IsPlan plan → (k set : ℕ) → k < length plan.switches → ((l : ℕ) → l < 32 → has_bit set l ≡ is_wired plan (port.Switch k l)) → (l : ℕ) → has_link set l ≡ is_linked_end plan k l
+  pub linked_switch : IsPlan plan → (k set : ℕ) → k < length plan.switches → ((l : ℕ) → l < 32 → has_bit set l ≡ is_wired plan (Port.Switch k l)) → (l : ℕ) → has_link set l ≡ is_linked_end plan k l
   linked_switch is_plan k set inside same l =
       let here : nat_lt k (length plan.switches) ≡ true = grind (arith, nat_tests, inside) in
       rw here (by_link (nat_lt l 32) refl)
     where
-      no_wire : (32 ≤ l) → (o : Option Port) → peer plan (port.Switch k l) ≡ o → false ≡ is_some o
+      no_wire : (32 ≤ l) → (o : Option Port) → peer plan (Port.Switch k l) ≡ o → false ≡ is_some o
       no_wire past None is = refl
-      no_wire past (Some q) is = let port_inside : IsPlanPort plan (port.Switch k l) = (wiring plan is_plan).inside (port.Switch k l) q is in absurd (let no : ⊥ = omega (arith, past, port_inside) in no)
+      no_wire past (Some q) is = let port_inside : IsPlanPort plan (Port.Switch k l) = (wiring plan is_plan).inside (Port.Switch k l) q is in absurd (let no : ⊥ = omega (arith, past, port_inside) in no)
 
-      by_link : (b : Bool) → nat_lt l 32 ≡ b → (b && has_bit set l) ≡ is_wired plan (port.Switch k l)
+      by_link : (b : Bool) → nat_lt l 32 ≡ b → (b && has_bit set l) ≡ is_wired plan (Port.Switch k l)
       by_link true is = same l (grind (arith, nat_tests, is))
-      by_link false is = no_wire (grind (arith, nat_tests, is)) (peer plan (port.Switch k l)) refl
+      by_link false is = no_wire (grind (arith, nat_tests, is)) (peer plan (Port.Switch k l)) refl
 
   -- and of a terminal: link 0, where it has a wire
-  pub linked_terminal : (t first set : ℕ) (wired : Bool) → wired ≡ is_wired plan (port.Terminal t) → ((l : ℕ) → has_bit first l ≡ false) → has_bit set 0 ≡ wired → ((l : ℕ) → l < 32 → (l ≡ 0 → ⊥) → has_bit set l ≡ has_bit first l) → (k : ℕ) → length plan.switches ≤ k → k - length plan.switches ≡ t → (l : ℕ) → has_link set l ≡ is_linked_end plan k l
+  pub linked_terminal : (t first set : ℕ) (wired : Bool) → wired ≡ is_wired plan (Port.Terminal t) → ((l : ℕ) → has_bit first l ≡ false) → has_bit set 0 ≡ wired → ((l : ℕ) → l < 32 → (l ≡ 0 → ⊥) → has_bit set l ≡ has_bit first l) → (k : ℕ) → length plan.switches ≤ k → k - length plan.switches ≡ t → (l : ℕ) → has_link set l ≡ is_linked_end plan k l
   linked_terminal t first set wired is none here others k past place l =
       let no_switch : nat_lt k (length plan.switches) ≡ false = grind (arith, nat_tests, past) in
       rw (no_switch, place, sym is) (by_link (cases_eq l 0))
@@ -63,8 +51,8 @@ module _ (plan : Plan) where
 
 module _ (plan : Plan) (is_plan : IsPlan plan) (nodes : List (NodeRecord × NodeRoom)) (linked : AreLinkedNodes plan nodes) where
   linked_port : (p : Port) → IsPlanPort plan p → is_linked_end plan (port_place plan p) (port_link p) ≡ is_wired plan p
-  linked_port (port.Switch s l) inside = let here : nat_lt s (length plan.switches) ≡ true = grind (arith, nat_tests, inside.0) in rw here refl
-  linked_port (port.Terminal t) inside =
+  linked_port (Port.Switch s l) inside = let here : nat_lt s (length plan.switches) ≡ true = grind (arith, nat_tests, inside.0) in rw here refl
+  linked_port (Port.Terminal t) inside =
       let past : nat_lt (length plan.switches + t) (length plan.switches) ≡ false = grind (arith, nat_tests) in
       let back : length plan.switches + t - length plan.switches ≡ t = omega arith in
       rw (past, back) refl

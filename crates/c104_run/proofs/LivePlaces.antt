@@ -1,10 +1,8 @@
 -- Sets of places: what a change of one place changes, and what is passed over; and what they say of nodes.
-use Rattle.std.proofs.Common.{zero, suc, ◌≡◌, ◌≢◌, ◌∙◌, ◌/◌, ◌%◌, ◌<◌, ◌≤◌, ◌||◌, ◌∷◌, [], ℕ, Bool, true, false, List, get_or, length, nat_le, replicate, slice_set, refl, ap, inl, inr, arith}
-use Rattle.std.proofs.lemmas.Bool.{cases_eq, cases_lt}
-use Rattle.std.proofs.lemmas.Bool.Decides.{nat_tests}
-use Rattle.std.proofs.lemmas.List.{get_or-set_other, get_or-set_same}
-use Rattle.c104_crossbar.specs.Groups.{has_bit}
-use Rattle.c104_run.specs.LivePlaces.{is_live}
+use Rattle.{c104_crossbar.specs.Groups.has_bit, c104_run.specs.LivePlaces.is_live, std.proofs.Common.{Bool, List, [], ap, arith, false}}
+use Rattle.std.proofs.Common.{get_or, inl, inr, length, nat_le, refl, replicate, slice_set, suc, true, zero, ℕ, ◌%◌, ◌/◌, ◌<◌, ◌||◌, ◌∙◌}
+use Rattle.std.proofs.{Common.{◌∷◌, ◌≡◌, ◌≢◌, ◌≤◌}, lemmas.{Bool.{Decides.nat_tests, cases_eq, cases_lt}, List.get_or-set_other}}
+use Rattle.std.proofs.lemmas.List.{get_or-set_same}
 
 pub get_or-replicated : {X : Type 0} (n i : ℕ) (x d : X) → i < n → get_or (replicate n x) i d ≡ x
 get_or-replicated zero i x d inside = absurd (omega arith)

@@ -1,31 +1,15 @@
 -- Rounds over sets of places: what is passed over does nothing, and what an event may begin is in the set after it.
-use Rattle.std.proofs.Common.{◌≡◌, ◌≢◌, ◌∙◌, ◌-◌, ◌<◌, ◌∷◌, [], ℕ, Bool, true, false, List, Some, Ok, inl, inr, length, nat_lt, slice_get, sym, ap, subst, arith}
-use Rattle.std.proofs.lemmas.Bool.{cases_eq}
-use Rattle.std.proofs.lemmas.Bool.Decides.{nat_tests}
-use Rattle.c104_token.specs.Kinds.{Kind}
-use Rattle.c104_plan.specs.Plans.{IsPlan, Plan}
-use Rattle.c104_plan.specs.declared.ports.Port.TheVariants as port
-use Rattle.c104_event.specs.declared.events.Event.TheVariants as event
-use Rattle.c104_node.specs.declared.acts.ActOf.TheVariants as act
-use Rattle.c104_node.specs.declared.port_part.PortPart.{PortPart}
-use Rattle.c104_node.specs.declared.port_part.PortPart.TheVariants.{Credit, Cross, Turn}
-use Rattle.c104_node.specs.Idle.{IsIdleNode}
-use Rattle.c104_node.specs.Nodes.{Node}
-use Rattle.c104_node.specs.PortParts.{is_ready_at, part_act}
-use Rattle.c104_node.specs.Records.{has_link}
-use Rattle.c104_node.proofs.IdleNodes.{idle_by, unclaimed_there, unready_there}
-use Rattle.c104_run.specs.KnownWires.{is_linked_end}
-use Rattle.c104_run.specs.LivePlaces.{AreLive, is_live}
-use Rattle.c104_run.specs.Network.{terminal_place}
-use Rattle.c104_run.specs.RoundParts.{AreIdle, PartEnds, port_events, wired_events}
-use Rattle.c104_run.specs.Rounds.{claims_of, is_wired, switch_claims}
-use Rattle.c104_run.specs.Meters.{metered_apply, Metered, Sees}
-use Rattle.c104_run.proofs.IdleEvents.{idle_claim, idle_credit, idle_cross, idle_drain}
-use Rattle.c104_run.proofs.MeteredSteps.{idle_part}
-use Rattle.c104_run.proofs.PartRuns.{numbers_done, numbers_passed, part_empty}
-use Rattle.c104_run.proofs.PortWalks.{idle_link, idle_wired, of_links, of_switch, wired_by}
-use Rattle.c104_run.proofs.RoundJoins.{idle_claims, of_inputs}
-use Rattle.c104_run.proofs.WiredPorts.{has_wire}
+use Rattle.{c104_event.specs.declared.events.Event.Event, c104_node.proofs.IdleNodes.{idle_by, unclaimed_there, unready_there}}
+use Rattle.c104_node.specs.{Idle.IsIdleNode, Nodes.Node, PortParts.{is_ready_at, part_act}, Records.has_link, declared.acts.ActOf.ActOf}
+use Rattle.{c104_node.specs.declared.port_part.PortPart.{PortPart, TheVariants.{Credit, Cross, Turn}}, c104_plan.specs.Plans.{IsPlan, Plan}}
+use Rattle.{c104_plan.specs.declared.ports.Port.Port, c104_run.proofs.IdleEvents.{idle_claim, idle_credit, idle_cross, idle_drain}}
+use Rattle.c104_run.proofs.{MeteredSteps.idle_part, PartRuns.{numbers_done, numbers_passed, part_empty}, PortWalks.{idle_link, idle_wired}}
+use Rattle.c104_run.proofs.{PortWalks.{of_links, of_switch, wired_by}, RoundJoins.{idle_claims, of_inputs}, WiredPorts.has_wire}
+use Rattle.c104_run.specs.{KnownWires.is_linked_end, LivePlaces.{AreLive, is_live}, Meters.{Metered, Sees, metered_apply}}
+use Rattle.c104_run.specs.{Network.terminal_place, RoundParts.{AreIdle, PartEnds, port_events, wired_events}, Rounds.{claims_of, is_wired}}
+use Rattle.{c104_run.specs.Rounds.switch_claims, c104_token.specs.Kinds.Kind, std.proofs.Common.{Bool, List, Ok, Some, [], ap, arith}}
+use Rattle.std.proofs.Common.{false, inl, inr, length, nat_lt, slice_get, subst, sym, true, ℕ, ◌-◌, ◌<◌, ◌∙◌, ◌∷◌, ◌≡◌, ◌≢◌}
+use Rattle.std.proofs.lemmas.Bool.{Decides.nat_tests, cases_eq}
 
 module _ {A : Type 0} (kind : Kind A) (plan : Plan) where
   -- where all places are in the set, nothing is said of any node
@@ -83,24 +67,24 @@ module _ {A M : Type 0} (kind : Kind A) (keeps : Bool) (sees : Sees M A) (s : Me
   abbrev nodes : List (Node A)
   nodes = s.stage.network.nodes
 
-  linked_switch : (k l : ℕ) → k < length plan.switches → is_wired plan (port.Switch k l) ≡ true → is_linked_end plan k l ≡ true
+  linked_switch : (k l : ℕ) → k < length plan.switches → is_wired plan (Port.Switch k l) ≡ true → is_linked_end plan k l ≡ true
   linked_switch k l inside is = let here : nat_lt k (length plan.switches) ≡ true = grind (arith, nat_tests) in rw here is
 
   -- a link of a switch
   module _ (k : ℕ) (inside : k < length plan.switches) (none : is_live blocks k ≡ false) where
-    unready_link : (part : PortPart) (l : ℕ) → is_wired plan (port.Switch k l) ≡ true → is_ready_at kind part nodes k l ≡ false
+    unready_link : (part : PortPart) (l : ℕ) → is_wired plan (Port.Switch k l) ≡ true → is_ready_at kind part nodes k l ≡ false
     unready_link part l is = unready_there kind nodes k 0 (part_act part l) (λ n here. (live.idle k n none here).links part l (linked_switch k l inside is))
 
-    passed_at : (part : PortPart) (l : ℕ) → PartEnds (metered_apply kind keeps sees) s (wired_events plan part (port.Switch k l)) (Ok false) s
-    passed_at part l = idle_part kind keeps sees s (wired_events plan part (port.Switch k l))
-        (idle_wired kind s.stage.network part (port.Switch k l) (λ is. idle_link kind s.stage.network part k l (has_wire plan live.planned (port.Switch k l) is) (unready_link part l is)))
+    passed_at : (part : PortPart) (l : ℕ) → PartEnds (metered_apply kind keeps sees) s (wired_events plan part (Port.Switch k l)) (Ok false) s
+    passed_at part l = idle_part kind keeps sees s (wired_events plan part (Port.Switch k l))
+        (idle_wired kind s.stage.network part (Port.Switch k l) (λ is. idle_link kind s.stage.network part k l (has_wire plan live.planned (Port.Switch k l) is) (unready_link part l is)))
 
     -- all of its links
     pub passed_switch : (part : PortPart) → PartEnds (metered_apply kind keeps sees) s (of_switch plan part k) (Ok false) s
     passed_switch part =
         of_links plan part (metered_apply kind keeps sees) s s (Ok false) k
-        (numbers_done (metered_apply kind keeps sees) (wired_by plan part (port.Switch k)) 32 32 s s false (omega arith)
-        (numbers_passed (metered_apply kind keeps sees) (wired_by plan part (port.Switch k)) 32 0 32 s s false (omega arith) (omega arith) (λ l above below. passed_at part l) (part_empty (metered_apply kind keeps sees) s)))
+        (numbers_done (metered_apply kind keeps sees) (wired_by plan part (Port.Switch k)) 32 32 s s false (omega arith)
+        (numbers_passed (metered_apply kind keeps sees) (wired_by plan part (Port.Switch k)) 32 0 32 s s false (omega arith) (omega arith) (λ l above below. passed_at part l) (part_empty (metered_apply kind keeps sees) s)))
 
     -- its claims
     pub passed_claims : PartEnds (metered_apply kind keeps sees) s (switch_claims k) (Ok false) s
@@ -113,14 +97,14 @@ module _ {A M : Type 0} (kind : Kind A) (keeps : Bool) (sees : Sees M A) (s : Me
 
   -- a terminal
   module _ (t : ℕ) (inside : t < length plan.terminals) (none : is_live blocks (terminal_place plan t) ≡ false) where
-    pub passed_terminal : (part : PortPart) → PartEnds (metered_apply kind keeps sees) s (wired_events plan part (port.Terminal t)) (Ok false) s
-    passed_terminal part = idle_part kind keeps sees s (wired_events plan part (port.Terminal t)) (idle_wired kind s.stage.network part (port.Terminal t) (by_part part))
+    pub passed_terminal : (part : PortPart) → PartEnds (metered_apply kind keeps sees) s (wired_events plan part (Port.Terminal t)) (Ok false) s
+    passed_terminal part = idle_part kind keeps sees s (wired_events plan part (Port.Terminal t)) (idle_wired kind s.stage.network part (Port.Terminal t) (by_part part))
       where
-        by_part : (part : PortPart) → is_wired plan (port.Terminal t) ≡ true → AreIdle kind s.stage.network (port_events part (port.Terminal t))
-        by_part Credit is = idle_credit kind s.stage.network (port.Terminal t) (has_wire plan live.planned (port.Terminal t) is) (unready_there kind nodes (terminal_place plan t) 0 act.CreditOut (λ n here. (live.idle (terminal_place plan t) n none here).grants))
-        by_part Cross is = idle_cross kind s.stage.network (port.Terminal t) (has_wire plan live.planned (port.Terminal t) is) (unready_there kind nodes (terminal_place plan t) 0 act.Leave (λ n here. (live.idle (terminal_place plan t) n none here).leaves))
+        by_part : (part : PortPart) → is_wired plan (Port.Terminal t) ≡ true → AreIdle kind s.stage.network (port_events part (Port.Terminal t))
+        by_part Credit is = idle_credit kind s.stage.network (Port.Terminal t) (has_wire plan live.planned (Port.Terminal t) is) (unready_there kind nodes (terminal_place plan t) 0 ActOf.CreditOut (λ n here. (live.idle (terminal_place plan t) n none here).grants))
+        by_part Cross is = idle_cross kind s.stage.network (Port.Terminal t) (has_wire plan live.planned (Port.Terminal t) is) (unready_there kind nodes (terminal_place plan t) 0 ActOf.Leave (λ n here. (live.idle (terminal_place plan t) n none here).leaves))
         by_part Turn is = record { each = tt }
 
-    pub passed_drain : PartEnds (metered_apply kind keeps sees) s (event.Drain t ∷ []) (Ok false) s
+    pub passed_drain : PartEnds (metered_apply kind keeps sees) s (Event.Drain t ∷ []) (Ok false) s
     passed_drain = idle_drain kind keeps sees s t inside
-        (unready_there kind nodes (terminal_place plan t) (terminal_place plan t - length plan.switches) act.Drain (λ n here. (live.idle (terminal_place plan t) n none here).drains (terminal_place plan t - length plan.switches)))
+        (unready_there kind nodes (terminal_place plan t) (terminal_place plan t - length plan.switches) ActOf.Drain (λ n here. (live.idle (terminal_place plan t) n none here).drains (terminal_place plan t - length plan.switches)))

@@ -1,28 +1,15 @@
 -- What a meter is told of events and of a round over the places of a network whose nodes are seen with their records.
-use Rattle.std.proofs.Common.{◌≡◌, ◌∙◌, ℕ, Bool, true, List, Result, Ok, Err, map, inl, inr, refl, sym, ap, subst}
-use Rattle.c104_switch.specs.Actions.{Reply}
-use Rattle.c104_plan.specs.Plans.{Plan, IsPlan}
-use Rattle.c104_event.specs.declared.events.Event.{Event}
-use Rattle.c104_event.specs.declared.faults.EventFault.{EventFault}
-use Rattle.c104_node.specs.Places.{IsFullByTrace, bases, started_base, states}
-use Rattle.c104_node.specs.declared.starts.NodeStart.{NodeStart}
-use Rattle.c104_node.specs.Traces.{seatless}
-use Rattle.c104_run.specs.EventRuns.{Answers, EventsEnd}
-use Rattle.c104_run.specs.EventsAtPlaces.{EventDone}
-use Rattle.c104_run.specs.MeteredRuns.{AreOwnNodes, MetersEvent, MetersSo}
-use Rattle.c104_run.specs.Meters.{meter_if, metered_apply, metered_of, own_reply, with_meter, Metered, Sees}
-use Rattle.c104_run.specs.Network.{network_of}
-use Rattle.c104_run.specs.NetRecords.{is_done, ticket_after}
-use Rattle.c104_run.specs.RecordedNets.{places_record, read_state, IsRecordedNet, KeepsRecord, Reading}
-use Rattle.c104_run.specs.RecordedRuns.{record_apply, record_at}
-use Rattle.c104_run.specs.RoundParts.{PartEnds}
-use Rattle.c104_run.specs.Stages.{Stage}
-use Rattle.c104_run.proofs.MeteredSteps.{event_metered, part_bases, stage_ends}
-use Rattle.c104_run.proofs.SeenRuns.{answers_while, part_while}
-use Rattle.c104_run.proofs.RecordedNets.{places_plain, places_stage, starts_same, states_shown}
-use Rattle.c104_run.proofs.RecordedPlaces.{goes_on, runs_on, stage_is, stages_are}
-use Rattle.c104_run.proofs.RecordedStages.{plain_stage}
-use Rattle.c104_run.proofs.StageSteps.{fulls_kept}
+use Rattle.{c104_event.specs.declared.{events.Event.Event, faults.EventFault.EventFault}, c104_node.specs.Places.{IsFullByTrace, bases}}
+use Rattle.c104_node.specs.{Places.{started_base, states}, Traces.seatless, declared.starts.NodeStart.NodeStart}
+use Rattle.{c104_plan.specs.Plans.{IsPlan, Plan}, c104_run.proofs.MeteredSteps.{event_metered, part_bases, stage_ends}}
+use Rattle.c104_run.proofs.{RecordedNets.{places_plain, places_stage, starts_same, states_shown}, RecordedPlaces.{goes_on, runs_on}}
+use Rattle.c104_run.proofs.{RecordedPlaces.{stage_is, stages_are}, RecordedStages.plain_stage, SeenRuns.{answers_while, part_while}}
+use Rattle.c104_run.{proofs.StageSteps.fulls_kept, specs.{EventRuns.{Answers, EventsEnd}, EventsAtPlaces.EventDone}}
+use Rattle.c104_run.specs.{MeteredRuns.{AreOwnNodes, MetersEvent, MetersSo}, Meters.{Metered, Sees, meter_if, metered_apply, metered_of}}
+use Rattle.c104_run.specs.{Meters.{own_reply, with_meter}, NetRecords.{is_done, ticket_after}, Network.network_of}
+use Rattle.c104_run.specs.{RecordedNets.{IsRecordedNet, KeepsRecord, Reading, places_record, read_state}, RecordedRuns.record_apply}
+use Rattle.{c104_run.specs.{RecordedRuns.record_at, RoundParts.PartEnds, Stages.Stage}, c104_switch.specs.Actions.Reply}
+use Rattle.std.proofs.Common.{Bool, Err, List, Ok, Result, ap, inl, inr, map, refl, subst, sym, true, ℕ, ◌∙◌, ◌≡◌}
 
 module _ {A M : Type 0} (starts : List NodeStart) where
   -- the same stage, of whose nodes no more is told than where they started

@@ -1,47 +1,32 @@
 -- An event of a metered stage: what it answers, and what a meter is told of it.
-use Rattle.std.proofs.Common.{◌≡◌, ◌∙◌, ℕ, Bool, false, List, [], ◌∷◌, Some, Result, Ok, Err, map, inl, inr, refl, sym, ap}
-use Rattle.c104_token.specs.Kinds.{Kind}
-use Rattle.c104_switch.specs.Actions.{Reply, is_ready}
-use Rattle.c104_switch.specs.declared.actions.ReplyOf.{ReplyOf}
-use Rattle.c104_switch.specs.declared.actions.ReplyOf.TheVariants as reply
-use Rattle.c104_plan.specs.Plans.{Plan}
-use Rattle.c104_event.specs.declared.events.Event.{Event}
-use Rattle.c104_event.specs.declared.events.Event.TheVariants as event
-use Rattle.c104_event.specs.declared.faults.EventFault.{EventFault}
-use Rattle.c104_node.specs.Acts.{plain_reply}
-use Rattle.c104_node.specs.Nodes.{Node}
-use Rattle.c104_node.specs.PortActs.{Acts}
-use Rattle.c104_node.specs.Places.{Shown, fulls, is_kept_full, states, traces}
-use Rattle.c104_node.specs.Traces.{seatless}
-use Rattle.c104_node.specs.declared.stamps.Stamp.{Stamp}
-use Rattle.c104_run.specs.EventActs.{event_acts}
-use Rattle.c104_run.specs.EventRuns.{Answers, EventsEnd}
-use Rattle.c104_run.specs.EventsAtPlaces.{ActsDone, EventDone, told_answer}
-use Rattle.c104_run.specs.Meters.{meter_after, meter_if, meter_told, metered_apply, metered_of, own_answer, own_reply, with_meter, Metered, Sees}
-use Rattle.c104_run.specs.Network.{network_of, Network}
-use Rattle.c104_run.specs.NetRecords.{is_done, ticket_after}
-use Rattle.c104_run.specs.RoundParts.{done_answer, AreIdle, EachIdle, PartEnds}
-use Rattle.c104_run.specs.Stages.{stage_apply, Stage}
-use Rattle.c104_run.proofs.PartRuns.{part_after, part_empty, part_of_reply}
-use Rattle.c104_run.proofs.RoundRuns.{ends_keep, ends_seen, fault_ends, Applied}
-use Rattle.c104_run.proofs.StageSteps.{stage_done, stage_undone, unready_stage}
+use Rattle.{c104_event.specs.declared.{events.Event.Event, faults.EventFault.EventFault}, c104_node.specs.{Acts.plain_reply, Nodes.Node}}
+use Rattle.c104_node.specs.{Places.{Shown, fulls, is_kept_full, states, traces}, PortActs.Acts, Traces.seatless}
+use Rattle.{c104_node.specs.declared.stamps.Stamp.Stamp, c104_plan.specs.Plans.Plan, c104_run.proofs.PartRuns.{part_after, part_empty}}
+use Rattle.c104_run.proofs.{PartRuns.part_of_reply, RoundRuns.{Applied, ends_keep, ends_seen, fault_ends}, StageSteps.stage_done}
+use Rattle.c104_run.{proofs.StageSteps.{stage_undone, unready_stage}, specs.{EventActs.event_acts, EventRuns.{Answers, EventsEnd}}}
+use Rattle.c104_run.specs.{EventsAtPlaces.{ActsDone, EventDone, told_answer}, Meters.{Metered, Sees, meter_after, meter_if, meter_told}}
+use Rattle.c104_run.specs.{Meters.{metered_apply, metered_of, own_answer, own_reply, with_meter}, NetRecords.{is_done, ticket_after}}
+use Rattle.c104_run.specs.{Network.{Network, network_of}, RoundParts.{AreIdle, EachIdle, PartEnds, done_answer}, Stages.Stage}
+use Rattle.{c104_run.specs.Stages.stage_apply, c104_switch.specs.{Actions.{Reply, is_ready}, declared.actions.ReplyOf.ReplyOf}}
+use Rattle.{c104_token.specs.Kinds.Kind, std.proofs.Common.{Bool, Err, List, Ok, Result, Some, [], ap, false, inl, inr, map, refl, sym, ℕ}}
+use Rattle.std.proofs.Common.{◌∙◌, ◌∷◌, ◌≡◌}
 
 -- what a meter is told of acts is what it is told of their event
 module _ {A M : Type 0} (kind : Kind A) (sees : Sees M A) where
   -- of what isn't ready it is told nothing
-  unready_meter : (m : M) (e : Event) → meter_after sees m e reply.NotReady ≡ m
-  unready_meter m (event.Cross p) = refl
-  unready_meter m (event.Drain t) = refl
+  unready_meter : (m : M) (e : Event) → meter_after sees m e ReplyOf.NotReady ≡ m
+  unready_meter m (Event.Cross p) = refl
+  unready_meter m (Event.Drain t) = refl
   unready_meter m e = refl
 
   ready_meter : (m : M) (e : Event) (r : ReplyOf A) → meter_after sees m e r ≡ meter_if sees (is_ready (plain_reply kind r)) m e r
-  ready_meter m e reply.NotReady = unready_meter m e
+  ready_meter m e ReplyOf.NotReady = unready_meter m e
   ready_meter m e r = refl
 
   -- where it is told nothing of the event, whatever is answered
   pub silent_meter : (m : M) (e : Event) → ((r : ReplyOf A) → meter_after sees m e r ≡ m) → (told : Result (ReplyOf A) EventFault) → m ≡ meter_told sees m e told
   silent_meter m e none (Ok r) = sym (none r)
-  silent_meter m e none (Err f) = sym (none reply.NotReady)
+  silent_meter m e none (Err f) = sym (none ReplyOf.NotReady)
 
   module _ (keeps : Bool) (plan : Plan) (e : Event) (acts : Acts A) (known : event_acts plan e ≡ Some acts) (stamp : Stamp) (olds news : List (Shown A)) where
     abbrev net : Network A
@@ -93,7 +78,7 @@ module _ {A M : Type 0} (kind : Kind A) (keeps : Bool) (sees : Sees M A) where
       by_each [] each = part_empty (metered_apply kind keeps sees) x
       by_each (e ∷ events) each =
           part_after (metered_apply kind keeps sees) x x x (e ∷ []) events false false
-          (metered_part x x e (Ok reply.NotReady) refl (λ none. refl) (unready_stage kind keeps x.stage e each.0)) (by_each events each.1)
+          (metered_part x x e (Ok ReplyOf.NotReady) refl (λ none. refl) (unready_stage kind keeps x.stage e each.0)) (by_each events each.1)
 
   -- without its meter a run is one of the stages
   pub stage_ends : (x y : Metered A M) (events : List Event) (result : Result (Unit {0}) EventFault) → EventsEnd (metered_apply kind keeps sees) x events result y → EventsEnd (stage_apply kind keeps) x.stage events result y.stage

@@ -1,9 +1,7 @@
 -- What it says that there is no fault: a node is there, and a link.
-use Rattle.std.proofs.Common.{◌≡◌, ◌<◌, ℕ, Bool, true, false, Option, Some, None, arith, if◌then◌else◌, nat_lt, refl}
+use Rattle.{c104_event.specs.declared.faults.EventFault.EventFault, c104_run.specs.Network.{link_fault, node_fault}, std.proofs.Common.Bool}
+use Rattle.std.proofs.Common.{None, Option, Some, arith, false, if◌then◌else◌, nat_lt, refl, true, ℕ, ◌<◌, ◌≡◌}
 use Rattle.std.proofs.lemmas.Bool.Decides.{nat_tests}
-use Rattle.c104_event.specs.declared.faults.EventFault.{EventFault}
-use Rattle.c104_event.specs.declared.faults.EventFault.TheVariants as fault
-use Rattle.c104_run.specs.Network.{link_fault, node_fault}
 
 module _ (other : Option EventFault) where
   -- where a number isn't below another, there is a fault
@@ -16,13 +14,13 @@ module _ (other : Option EventFault) where
   past f false is = absurd (cc is)
 
   pub node_there : (count n : ℕ) → node_fault count n other ≡ None → n < count
-  node_there count n is = below count n fault.NoNode (nat_lt n count) refl is
+  node_there count n is = below count n EventFault.NoNode (nat_lt n count) refl is
 
   pub past_node : (count n : ℕ) → node_fault count n other ≡ None → other ≡ None
-  past_node count n is = past fault.NoNode (nat_lt n count) is
+  past_node count n is = past EventFault.NoNode (nat_lt n count) is
 
   pub link_there : (l : ℕ) → link_fault l other ≡ None → l < 32
-  link_there l is = below 32 l fault.NoLink (nat_lt l 32) refl is
+  link_there l is = below 32 l EventFault.NoLink (nat_lt l 32) refl is
 
   pub past_link : (l : ℕ) → link_fault l other ≡ None → other ≡ None
-  past_link l is = past fault.NoLink (nat_lt l 32) is
+  past_link l is = past EventFault.NoLink (nat_lt l 32) is

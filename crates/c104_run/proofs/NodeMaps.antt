@@ -1,21 +1,10 @@
 -- A node over other tokens: it is quiet where the node is, of the same kind, and at its start the same.
-use Rattle.c104_link.specs.Buffers.{Outgoing}
-use Rattle.c104_node.specs.Nodes.{Node, is_switch}
-use Rattle.c104_node.specs.Quiet.{IsQuietInput, IsQuietNode, IsQuietOutput}
-use Rattle.c104_node.specs.MappedNodes.{map_input, map_node, map_outgoing}
-use Rattle.c104_switch.specs.Phases.{with_header}
-use Rattle.c104_switch.specs.Switch.{Input, Switch}
-use Rattle.c104_switch.specs.declared.phase.Phase.{Phase}
-use Rattle.c104_switch.specs.declared.phase.Phase.TheVariants.{Fresh}
-use Rattle.std.proofs.Common.{All, List, [], map, refl, ◌∷◌, ◌≡◌, ap, false, true, get_or}
-use Rattle.std.proofs.lemmas.List.Elements.{All-cons, All-head, All-nil, All-tail, All-map}
-use Rattle.c104_node.specs.declared.node.NodeOf.TheVariants as node
-use Rattle.c104_node.specs.Terminals.{Terminal}
-use Rattle.c104_node.specs.Starts.{start_node}
-use Rattle.c104_node.specs.declared.starts.NodeStart.{NodeStart}
-use Rattle.c104_switch.specs.Starts.{start_input, start_output}
-use Rattle.c104_switch.specs.declared.link_start.LinkStart.{LinkStart}
-use Rattle.c104_node.specs.declared.starts.NodeStart.TheVariants as start
+use Rattle.{c104_link.specs.Buffers.Outgoing, c104_node.specs.{MappedNodes.{map_input, map_node, map_outgoing}, Nodes.{Node, is_switch}}}
+use Rattle.c104_node.specs.{Quiet.{IsQuietInput, IsQuietNode, IsQuietOutput}, Starts.start_node, Terminals.Terminal}
+use Rattle.{c104_node.specs.declared.{node.NodeOf.NodeOf, starts.NodeStart.NodeStart}, c104_switch.specs.Phases.with_header}
+use Rattle.c104_switch.specs.{Starts.{start_input, start_output}, Switch.{Input, Switch}, declared.link_start.LinkStart.LinkStart}
+use Rattle.{c104_switch.specs.declared.phase.Phase.{Phase, TheVariants.Fresh}, std.proofs.Common.{All, List, [], ap, false, get_or, map}}
+use Rattle.std.proofs.{Common.{refl, true, ◌∷◌, ◌≡◌}, lemmas.List.Elements.{All-cons, All-head, All-map, All-nil, All-tail}}
 
 -- quiet without where tokens came from is quiet
 map_none : {X Y : Type 0} (f : X → Y) (xs : List X) → map f xs ≡ [] → xs ≡ []
@@ -38,28 +27,28 @@ module _ {A B : Type 0} (f : A → B) where
   output_back q none = map_none f q.items none
 
   pub node_back : (n : Node A) → IsQuietNode (map_node f n) → IsQuietNode n
-  node_back (node.Switch s) (inputs, outputs) = (
+  node_back (NodeOf.Switch s) (inputs, outputs) = (
     all_back (map_input f) (λ (p : Input A). IsQuietInput p) (λ (p : Input B). IsQuietInput p) input_back s.inputs inputs,
     all_back (map_outgoing f) (λ (q : Outgoing A). IsQuietOutput q) (λ (q : Outgoing B). IsQuietOutput q) output_back s.outputs outputs,
   )
-  node_back (node.Terminal t) (input, output) = (map_none f t.input.items input, map_none f t.output.items output)
+  node_back (NodeOf.Terminal t) (input, output) = (map_none f t.input.items input, map_none f t.output.items output)
 
 -- where the nodes stand in place, so do those of the traced run
 pub kinds_plain : {A B : Type 0} (f : A → B) (nodes : List (Node A)) → map is_switch (map (map_node f) nodes) ≡ map is_switch nodes
 kinds_plain f [] = refl
-kinds_plain f (node.Switch s ∷ nodes) = ap (λ bs. true ∷ bs) (kinds_plain f nodes)
-kinds_plain f (node.Terminal t ∷ nodes) = ap (λ bs. false ∷ bs) (kinds_plain f nodes)
+kinds_plain f (NodeOf.Switch s ∷ nodes) = ap (λ bs. true ∷ bs) (kinds_plain f nodes)
+kinds_plain f (NodeOf.Terminal t ∷ nodes) = ap (λ bs. false ∷ bs) (kinds_plain f nodes)
 
 module _ {A B : Type 0} (f : A → B) where
   empty_map : (xs : List A) → xs ≡ [] → map f xs ≡ []
   empty_map xs e = ap (map f) e
 
   pub quiet_map : (n : Node A) → IsQuietNode n → IsQuietNode (map_node f n)
-  quiet_map (node.Switch S) q = (
+  quiet_map (NodeOf.Switch S) q = (
     All-map IsQuietInput (map_input f) S.inputs (λ i d inside. (empty_map (get_or S.inputs i d).buffer.items (q.0 i d inside).0, ap (with_header (map f)) (q.0 i d inside).1)),
     All-map IsQuietOutput (map_outgoing f) S.outputs (λ i d inside. empty_map (get_or S.outputs i d).items (q.1 i d inside)),
   )
-  quiet_map (node.Terminal T) q = (empty_map T.input.items q.0, empty_map T.output.items q.1)
+  quiet_map (NodeOf.Terminal T) q = (empty_map T.input.items q.0, empty_map T.output.items q.1)
 
 module _ {A B : Type 0} (f : A → B) where
   inputs_same : (links : List LinkStart) → map (map_input f) (map start_input links) ≡ map start_input links
@@ -71,8 +60,8 @@ module _ {A B : Type 0} (f : A → B) where
   outputs_same (l ∷ links) = ap (λ z. start_output l ∷ z) (outputs_same links)
 
   node_same : (s : NodeStart) → map_node f (start_node s) ≡ start_node s
-  node_same (start.Switch s) = rw (inputs_same s.links, outputs_same s.links) refl
-  node_same (start.Terminal t) = refl
+  node_same (NodeStart.Switch s) = rw (inputs_same s.links, outputs_same s.links) refl
+  node_same (NodeStart.Terminal t) = refl
 
   -- tokens that are mapped make no other start
   pub starts_same : (starts : List NodeStart) → map (map_node f) (map start_node starts) ≡ map start_node starts

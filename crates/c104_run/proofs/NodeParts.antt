@@ -1,23 +1,12 @@
 -- The part of a node in a round is what its ports and the node itself have in each part of the round.
-use Rattle.std.proofs.Common.{ℕ, zero, suc, ◌≡◌, ◌∙◌, ◌+◌, ◌-◌, ◌<◌, ◌≤◌, ◌++◌, Bool, true, false, List, [], ◌∷◌, if◌then◌else◌}
-use Rattle.std.proofs.Common.{ap, append-nil, append_assoc, arith, filter, length, map, nat_eq, nat_lt, refl, sym}
-use Rattle.std.specs.List.{flat_map, range_with_len}
-use Rattle.std.proofs.lemmas.Bool.Decides.{nat_tests}
-use Rattle.std.proofs.lemmas.List.Elements.{filter-append, filter_agree}
-use Rattle.c104_plan.specs.Plans.{Plan}
-use Rattle.c104_plan.specs.declared.ports.Port.{Port}
-use Rattle.c104_plan.specs.declared.ports.Port.TheVariants as port
-use Rattle.c104_event.specs.declared.events.Event.{Event}
-use Rattle.c104_event.specs.declared.events.Event.TheVariants as event
-use Rattle.c104_node.specs.declared.port_part.PortPart.{PortPart}
-use Rattle.c104_node.specs.declared.port_part.PortPart.TheVariants.{Credit, Cross, Turn}
-use Rattle.c104_run.specs.EventActs.{port_place}
-use Rattle.c104_run.specs.EventPlaces.{event_place}
-use Rattle.c104_run.specs.NodeParts.{events_of, node_ports, own_events, round_part}
-use Rattle.c104_run.specs.RoundParts.{port_events}
-use Rattle.c104_run.specs.Rounds.{all_claims, all_drains, claims_of, is_wired, link_numbers, switch_claims, turn_at}
-use Rattle.c104_run.specs.Rounds.{wired_links, wired_ports, wired_terminals}
-use Rattle.c104_run.proofs.PartRuns.{singles}
+use Rattle.{c104_event.specs.declared.events.Event.Event, c104_node.specs.declared.port_part.PortPart.{PortPart, TheVariants.Credit}}
+use Rattle.{c104_node.specs.declared.port_part.PortPart.TheVariants.{Cross, Turn}, c104_plan.specs.{Plans.Plan, declared.ports.Port.Port}}
+use Rattle.c104_run.{proofs.PartRuns.singles, specs.{EventActs.port_place, EventPlaces.event_place, NodeParts.{events_of, node_ports}}}
+use Rattle.c104_run.specs.{NodeParts.{own_events, round_part}, RoundParts.port_events, Rounds.{all_claims, all_drains, claims_of, is_wired}}
+use Rattle.{c104_run.specs.Rounds.{link_numbers, switch_claims, turn_at, wired_links, wired_ports, wired_terminals}, std.proofs.Common.Bool}
+use Rattle.std.proofs.Common.{List, [], ap, append-nil, append_assoc, arith, false, filter, if◌then◌else◌, length, map, nat_eq, nat_lt}
+use Rattle.std.proofs.{Common.{refl, suc, sym, true, zero, ℕ, ◌++◌, ◌+◌, ◌-◌, ◌<◌, ◌∙◌, ◌∷◌, ◌≡◌, ◌≤◌}, lemmas.Bool.Decides.nat_tests}
+use Rattle.std.{proofs.lemmas.List.Elements.{filter-append, filter_agree}, specs.List.{flat_map, range_with_len}}
 
 -- of lists that are joined, and of which a test passes all or none
 filter_flat : {X Y : Type 0} (q : Y → Bool) (f : X → List Y) (r : X → Bool) → ((x : X) → filter q (f x) ≡ (if r x then f x else [])) → (xs : List X) → filter q (flat_map f xs) ≡ flat_map f (filter r xs)
@@ -145,22 +134,22 @@ module _ (plan : Plan) (k : ℕ) where
   -- the wired ports of the node
   links_here : (s : ℕ) → filter is_here (wired_links plan s) ≡ (if nat_eq s k then wired_links plan s else [])
   links_here s =
-      filter_swap is_here (is_wired plan) (map (port.Switch s) link_numbers)
-      ∙ ap (filter (is_wired plan)) (filter_map_of is_here (port.Switch s) link_numbers ∙ ap (map (port.Switch s)) (filter_all (nat_eq s k) link_numbers))
+      filter_swap is_here (is_wired plan) (map (Port.Switch s) link_numbers)
+      ∙ ap (filter (is_wired plan)) (filter_map_of is_here (Port.Switch s) link_numbers ∙ ap (map (Port.Switch s)) (filter_all (nat_eq s k) link_numbers))
       ∙ by_test (nat_eq s k)
     where
-      by_test : (b : Bool) → filter (is_wired plan) (map (port.Switch s) (if b then link_numbers else [])) ≡ (if b then wired_links plan s else [])
+      by_test : (b : Bool) → filter (is_wired plan) (map (Port.Switch s) (if b then link_numbers else [])) ≡ (if b then wired_links plan s else [])
       by_test true = refl
       by_test false = refl
 
   switch_ports : filter is_here (flat_map (wired_links plan) (range_with_len 0 switches)) ≡ (if nat_lt k switches then wired_links plan k else [])
   switch_ports = filter_flat is_here (wired_links plan) (λ s. nat_eq s k) links_here (range_with_len 0 switches) ∙ number_flat (wired_links plan) switches
 
-  terminal_ports : filter is_here (wired_terminals plan) ≡ here_of (λ t. filter (is_wired plan) (port.Terminal t ∷ []))
+  terminal_ports : filter is_here (wired_terminals plan) ≡ here_of (λ t. filter (is_wired plan) (Port.Terminal t ∷ []))
   terminal_ports =
-      filter_swap is_here (is_wired plan) (map port.Terminal (range_with_len 0 terminals))
-      ∙ ap (filter (is_wired plan)) (filter_map_of is_here port.Terminal (range_with_len 0 terminals) ∙ ap (map port.Terminal) terminal_here)
-      ∙ here_made (λ ts. filter (is_wired plan) (map port.Terminal ts)) (λ t. t ∷ []) refl
+      filter_swap is_here (is_wired plan) (map Port.Terminal (range_with_len 0 terminals))
+      ∙ ap (filter (is_wired plan)) (filter_map_of is_here Port.Terminal (range_with_len 0 terminals) ∙ ap (map Port.Terminal) terminal_here)
+      ∙ here_made (λ ts. filter (is_wired plan) (map Port.Terminal ts)) (λ t. t ∷ []) refl
 
   -- what is of a switch, or else of a terminal
   either : {Y : Type 0} (of_switch : List Y) (of_terminal : ℕ → List Y) → (if nat_lt k switches then of_switch else []) ++ here_of of_terminal ≡ (if nat_lt k switches then of_switch else here_of of_terminal)
@@ -182,12 +171,12 @@ module _ (plan : Plan) (k : ℕ) where
       filter-append is_here (flat_map (wired_links plan) (range_with_len 0 switches)) (wired_terminals plan)
       ∙ ap (λ (ps : List Port). ps ++ filter is_here (wired_terminals plan)) switch_ports
       ∙ ap (λ (ps : List Port). (if nat_lt k switches then wired_links plan k else []) ++ ps) terminal_ports
-      ∙ either (wired_links plan k) (λ t. filter (is_wired plan) (port.Terminal t ∷ []))
-      ∙ either_of (wired_links plan k) (λ t. filter (is_wired plan) (port.Terminal t ∷ []))
+      ∙ either (wired_links plan k) (λ t. filter (is_wired plan) (Port.Terminal t ∷ []))
+      ∙ either_of (wired_links plan k) (λ t. filter (is_wired plan) (Port.Terminal t ∷ []))
 
   -- what a part of a round has at them
   part_here : (part : PortPart) (p : Port) → filter leads (port_events part p) ≡ (if is_here p then port_events part p else [])
-  part_here Turn (port.Terminal t) = by_test (nat_eq (switches + t) k)
+  part_here Turn (Port.Terminal t) = by_test (nat_eq (switches + t) k)
     where
       by_test : (b : Bool) → ◌≡◌ {A = List Event} [] (if b then [] else [])
       by_test true = refl
@@ -200,9 +189,9 @@ module _ (plan : Plan) (k : ℕ) where
   -- the claims of the node
   claim_here : (s i : ℕ) → filter leads (claims_of s i) ≡ (if nat_eq s k then claims_of s i else [])
   claim_here s i =
-      filter_map_of leads (event.Claim s i) link_numbers ∙ ap (map (event.Claim s i)) (filter_all (nat_eq s k) link_numbers) ∙ by_test (nat_eq s k)
+      filter_map_of leads (Event.Claim s i) link_numbers ∙ ap (map (Event.Claim s i)) (filter_all (nat_eq s k) link_numbers) ∙ by_test (nat_eq s k)
     where
-      by_test : (b : Bool) → map (event.Claim s i) (if b then link_numbers else []) ≡ (if b then claims_of s i else [])
+      by_test : (b : Bool) → map (Event.Claim s i) (if b then link_numbers else []) ≡ (if b then claims_of s i else [])
       by_test true = refl
       by_test false = refl
 
@@ -218,15 +207,15 @@ module _ (plan : Plan) (k : ℕ) where
   own_are =
       ap (λ (es : List Event). es ++ filter leads (all_drains terminals)) (filter_flat leads switch_claims (λ s. nat_eq s k) claims_here (range_with_len 0 switches) ∙ number_flat switch_claims switches)
       ∙ ap (λ (es : List Event). (if nat_lt k switches then switch_claims k else []) ++ es)
-      (filter_map_of leads event.Drain (range_with_len 0 terminals) ∙ ap (map event.Drain) terminal_here ∙ here_made (map event.Drain) (λ t. t ∷ []) refl)
-      ∙ either (switch_claims k) (λ t. event.Drain t ∷ [])
-      ∙ either_of (switch_claims k) (λ t. event.Drain t ∷ [])
+      (filter_map_of leads Event.Drain (range_with_len 0 terminals) ∙ ap (map Event.Drain) terminal_here ∙ here_made (map Event.Drain) (λ t. t ∷ []) refl)
+      ∙ either (switch_claims k) (λ t. Event.Drain t ∷ [])
+      ∙ either_of (switch_claims k) (λ t. Event.Drain t ∷ [])
 
   abbrev credits : List Event
-  credits = map event.Credit (wired_ports plan)
+  credits = map Event.Credit (wired_ports plan)
 
   abbrev crosses : List Event
-  crosses = map event.Cross (wired_ports plan)
+  crosses = map Event.Cross (wired_ports plan)
 
   abbrev turns : List Event
   turns = flat_map turn_at (wired_ports plan)
@@ -248,7 +237,7 @@ module _ (plan : Plan) (k : ℕ) where
   round_part_is =
       parted
       ∙ joined (filter leads credits) (filter leads crosses) (filter leads turns) (filter leads claims) (filter leads drains) _ _ _ _
-      (ap (filter leads) (sym (singles event.Credit (wired_ports plan))) ∙ part_events Credit)
-      (ap (filter leads) (sym (singles event.Cross (wired_ports plan))) ∙ part_events Cross)
+      (ap (filter leads) (sym (singles Event.Credit (wired_ports plan))) ∙ part_events Credit)
+      (ap (filter leads) (sym (singles Event.Cross (wired_ports plan))) ∙ part_events Cross)
       (part_events Turn)
       own_are

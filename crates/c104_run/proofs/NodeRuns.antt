@@ -1,22 +1,12 @@
 -- What is left of nodes that were taken out of a network is a run that can be kept: all that is proved of such runs holds
 -- of it.
-use Rattle.std.proofs.Common.{◌≡◌, ◌∙◌, ◌+◌, ◌<◌, ◌++◌, ℕ, All, List, [], ◌∷◌, ap, get_or, length, map, refl, sym, take}
-use Rattle.std.proofs.lemmas.List.{map_more}
-use Rattle.std.proofs.lemmas.List.Elements.{All-head, All-map, All-tail, All-weaker}
-use Rattle.c104_token.specs.declared.tokens.Token.{Token}
-use Rattle.c104_plan.specs.Plans.{IsPlan, Plan}
-use Rattle.c104_node.specs.Records.{node_state, node_trace, NodeRecord, NodeRoom}
-use Rattle.c104_node.specs.Nodes.{is_switch, terminals_of}
-use Rattle.c104_node.specs.Starts.{start_node}
-use Rattle.c104_node.specs.Terminals.{Terminal}
-use Rattle.c104_node.proofs.BegunRecords.{run_kind}
-use Rattle.c104_run.specs.FinishedRecords.{IsFinishedRecord}
-use Rattle.c104_node.specs.Traces.{seatless}
-use Rattle.c104_run.specs.NetParts.{AreParts, Parts}
-use Rattle.c104_run.specs.NetRecords.{IsWithinLimit}
-use Rattle.c104_run.specs.NodeRuns.{IsKeptNode, TellRun, nodes_run, starting_nodes}
-use Rattle.c104_run.proofs.Finishing.{terminals_append}
-use Rattle.c104_run.proofs.WiredTraces.{all_recorded, told_wired}
+use Rattle.c104_node.{proofs.BegunRecords.run_kind, specs.{Nodes.{is_switch, terminals_of}, Records.{NodeRecord, NodeRoom, node_state}}}
+use Rattle.{c104_node.specs.{Records.node_trace, Starts.start_node, Terminals.Terminal, Traces.seatless}, c104_plan.specs.Plans.IsPlan}
+use Rattle.{c104_plan.specs.Plans.Plan, c104_run.proofs.{Finishing.terminals_append, WiredTraces.{all_recorded, told_wired}}}
+use Rattle.c104_run.specs.{FinishedRecords.IsFinishedRecord, NetParts.{AreParts, Parts}, NetRecords.IsWithinLimit, NodeRuns.IsKeptNode}
+use Rattle.{c104_run.specs.NodeRuns.{TellRun, nodes_run, starting_nodes}, c104_token.specs.declared.tokens.Token.Token}
+use Rattle.std.proofs.Common.{All, List, [], ap, get_or, length, map, refl, sym, take, ℕ, ◌++◌, ◌+◌, ◌<◌, ◌∙◌, ◌∷◌, ◌≡◌}
+use Rattle.std.proofs.lemmas.List.{Elements.{All-head, All-map, All-tail, All-weaker}, map_more}
 
 -- the parts of a network tell its run
 pub parts_tell : (p : Parts) → AreParts p → TellRun p.plan p.nodes p.count

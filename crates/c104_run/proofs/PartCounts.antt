@@ -1,14 +1,8 @@
 -- How many events were done of a network that is taken apart.
-use Rattle.std.proofs.Common.{◌≤◌, ℕ, List, arith, map}
-use Rattle.std.proofs.lemmas.List.{length-map}
-use Rattle.c104_plan.specs.Plans.{IsPlan, Plan}
-use Rattle.c104_node.specs.Places.{bases}
-use Rattle.c104_node.specs.Records.{node_shown, node_state, node_trace, NodeRecord, NodeRoom}
-use Rattle.c104_run.specs.KnownWires.{KnowWires}
-use Rattle.c104_run.specs.NetRecords.{net_record, IsNetRecord}
-use Rattle.c104_run.specs.NetParts.{AreParts, Parts}
-use Rattle.c104_run.proofs.RecordSteps.{nodes_counted}
-use Rattle.c104_run.proofs.EntryCounts.{total_below}
+use Rattle.c104_node.specs.{Places.bases, Records.{NodeRecord, NodeRoom, node_shown, node_state, node_trace}}
+use Rattle.{c104_plan.specs.Plans.{IsPlan, Plan}, c104_run.proofs.{EntryCounts.total_below, RecordSteps.nodes_counted}}
+use Rattle.{c104_run.specs.{KnownWires.KnowWires, NetParts.{AreParts, Parts}, NetRecords.{IsNetRecord, net_record}}, std.proofs.Common.List}
+use Rattle.std.proofs.{Common.{arith, map, ℕ, ◌≤◌}, lemmas.List.length-map}
 
 -- there is at least an entry for each event
 pub few_events : (p : Parts) → IsPlan p.plan → AreParts p → p.count ≤ 335544320

@@ -1,16 +1,11 @@
 -- Parts of a round: one goes on from the one before, and an event that isn't ready may be left out.
-use Rattle.std.proofs.Common.{true, false, ℕ, zero, suc, ◌≡◌, ◌+◌, ◌<◌, ◌≤◌, ◌-◌, ◌||◌, Bool, List, [], ◌∷◌, ◌++◌, Result, Ok, Err, get_or, length, IsErr, IsErrAnd, take, drop, map, refl, sym, subst, ap, ◌∙◌, append_assoc, append-nil, arith, inl, inr}
-use Rattle.std.specs.List.{flat_map, range_with_len}
-use Rattle.std.proofs.lemmas.List.{drop_more, take-append-drop, take_all, take_more}
-use Rattle.std.proofs.lemmas.List.FromFn.{get_or-range_with_len, length-range_with_len}
-use Rattle.std.proofs.lemmas.Grind.{flat_map-append}
-use Rattle.c104_switch.specs.Actions.{Reply, is_ready}
-use Rattle.c104_event.specs.declared.events.Event.{Event}
-use Rattle.c104_event.specs.declared.faults.EventFault.{EventFault}
-use Rattle.c104_run.specs.EventRuns.{run_events, unless_fault, Answers, Outcome}
-use Rattle.c104_run.specs.RoundParts.{PartEnds}
-use Rattle.c104_run.proofs.RoundRuns.{run_append, run_from, run_reply, Applied}
-use Rattle.c104_node.proofs.PlaceSteps.{err_is}
+use Rattle.{c104_event.specs.declared.{events.Event.Event, faults.EventFault.EventFault}, c104_node.proofs.PlaceSteps.err_is}
+use Rattle.c104_run.{proofs.RoundRuns.{Applied, run_append, run_from, run_reply}, specs.EventRuns.{Answers, Outcome, run_events}}
+use Rattle.{c104_run.specs.{EventRuns.unless_fault, RoundParts.PartEnds}, c104_switch.specs.Actions.{Reply, is_ready}}
+use Rattle.std.proofs.Common.{Bool, Err, IsErr, IsErrAnd, List, Ok, Result, [], ap, append-nil, append_assoc, arith, drop, false, get_or}
+use Rattle.std.proofs.Common.{inl, inr, length, map, refl, subst, suc, sym, take, true, zero, ℕ, ◌++◌, ◌+◌, ◌-◌, ◌<◌, ◌||◌, ◌∙◌, ◌∷◌, ◌≡◌}
+use Rattle.std.proofs.{Common.◌≤◌, lemmas.{Grind.flat_map-append, List.{FromFn.{get_or-range_with_len, length-range_with_len}, drop_more}}}
+use Rattle.std.{proofs.lemmas.List.{take-append-drop, take_all, take_more}, specs.List.{flat_map, range_with_len}}
 
 -- where one of two is so, and it isn't, neither is
 pub neither : (a b : Bool) → (a || b) ≡ false → (a ≡ false) × (b ≡ false)

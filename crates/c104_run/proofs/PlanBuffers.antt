@@ -1,8 +1,6 @@
 -- The buffer size of a plan is a capacity that buffers may have.
-use Rattle.std.proofs.Common.{◌%◌, ◌==◌, ◌&&◌, nat_le}
+use Rattle.{c104_link.specs.Buffers.IsValidCap, c104_plan.specs.Plans.{IsPlan, Plan}, std.proofs.Common.{nat_le, ◌%◌, ◌&&◌, ◌==◌}}
 use Rattle.std.proofs.lemmas.Bool.{and_parts, eqb-true, leb-true}
-use Rattle.c104_link.specs.Buffers.{IsValidCap}
-use Rattle.c104_plan.specs.Plans.{Plan, IsPlan}
 
 pub valid_cap : (plan : Plan) → IsPlan plan → IsValidCap plan.cap
 valid_cap plan is_plan =

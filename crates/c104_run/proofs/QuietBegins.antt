@@ -1,15 +1,8 @@
 -- A run that begins keeps the balance.
-use Rattle.std.proofs.Common.{◌≡◌, ◌∙◌, ℕ, true, false, List, [], ◌∷◌, Option, Some, map, slice_get, option_map, refl, ap}
-use Rattle.std.proofs.lemmas.Option.{slice_get-map}
-use Rattle.c104_node.specs.Nodes.{Node, is_switch}
-use Rattle.c104_link.specs.Steps.{◌>>=◌}
-use Rattle.c104_node.specs.declared.ends.End.{End}
-use Rattle.c104_node.specs.declared.node.NodeOf.TheVariants.{Switch, Terminal}
-use Rattle.c104_run.specs.Ends.{end_of}
-use Rattle.c104_run.specs.Balance.{credit_of, granted_of, IsSteady}
-use Rattle.c104_run.specs.Network.{Network}
-use Rattle.c104_node.specs.Quiet.{node_begin}
-use Rattle.c104_run.specs.QuietNets.{network_begin}
+use Rattle.{c104_link.specs.Steps.◌>>=◌, c104_node.specs.{Nodes.{Node, is_switch}, Quiet.node_begin, declared.ends.End.End}}
+use Rattle.{c104_node.specs.declared.node.NodeOf.TheVariants.{Switch, Terminal}, c104_run.specs.Balance.{IsSteady, credit_of, granted_of}}
+use Rattle.{c104_run.specs.{Ends.end_of, Network.Network, QuietNets.network_begin}, std.proofs.Common.{List, Option, Some, [], ap, false}}
+use Rattle.std.proofs.{Common.{map, option_map, refl, slice_get, true, ℕ, ◌∙◌, ◌∷◌, ◌≡◌}, lemmas.Option.slice_get-map}
 
 -- what a node forgets is nothing of its links
 module _ {A : Type 0} where

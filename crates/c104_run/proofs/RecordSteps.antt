@@ -1,37 +1,19 @@
 -- An event, done or not, keeps what the type of a network with its record keeps.
-use Rattle.std.proofs.Common.{◌≡◌, ◌∙◌, ◌+◌, ◌-◌, ◌++◌, ◌≤◌, ℕ, All, Bool, true, false, List, [], ◌∷◌, Option, Some, None, Result, Ok, Err, length, map, slice_get, inl, inr, refl, sym, ap, subst, arith}
-use Rattle.c104_token.specs.declared.tokens.Token.{Token}
-use Rattle.c104_token.specs.Kinds.{Kind, plain_kind}
-use Rattle.c104_link.proofs.MadeSteps.{given, from_place_made}
-use Rattle.c104_switch.specs.Actions.{Reply, is_ready}
-use Rattle.c104_switch.specs.declared.actions.ReplyOf.TheVariants as reply
-use Rattle.c104_plan.specs.declared.ports.Port.{Port}
-use Rattle.c104_plan.specs.Plans.{Plan, IsPlan}
-use Rattle.c104_plan.specs.Wiring.{peer}
-use Rattle.c104_event.specs.declared.events.Event.{Event}
-use Rattle.c104_event.specs.declared.faults.EventFault.{EventFault}
-use Rattle.c104_node.specs.declared.stamps.Stamp.{Stamp}
-use Rattle.c104_node.specs.declared.acts.Entry.{Entry}
-use Rattle.c104_run.specs.Balance.{credit_of, granted_of, AreInPlace, IsSteady}
-use Rattle.c104_node.specs.Nodes.{Node}
-use Rattle.c104_run.specs.Ends.{end_of}
-use Rattle.c104_run.proofs.ActSteps.{joint_wired}
-use Rattle.c104_node.specs.Acts.{node_act}
-use Rattle.c104_run.specs.EventActs.{acts_step, event_acts, port_place}
-use Rattle.c104_node.specs.PortActs.{Acts}
-use Rattle.c104_run.specs.Network.{Network, network_apply, network_of, network_step, told_step, event_fault, event_limit, outcome_within_limit, outcome_if_ready, outcome_if_possible, AnswersWith}
-use Rattle.c104_run.specs.Runs.{IsRunRecord, at_node, run_deeds}
-use Rattle.c104_node.specs.Starts.{start_node}
-use Rattle.c104_node.specs.Traces.{Deed, full_at, noted_all, seatless, is_trace_full}
-use Rattle.c104_run.specs.EventDeeds.{acts_deeds, acts_full, event_deeds, event_full}
-use Rattle.c104_run.specs.NetRecords.{is_done, ticket_after, total_entries, IsNetRecord, IsWithinLimit, NetRecord, RecordsEvent}
-use Rattle.c104_run.proofs.BalanceEvents.{applied_with}
-use Rattle.c104_run.proofs.BalanceWires.{nodes_apart}
-use Rattle.c104_run.proofs.EntryCounts.{all_more, all_within, lengths_same, room_there, total_below, HasRoom, HaveRoom}
-use Rattle.c104_run.proofs.RunRecords.{counted, record_on, seatless_order}
-use Rattle.c104_run.proofs.RoundRuns.{undone_stays}
-use Rattle.c104_run.proofs.UndoneEvents.{undone_deeds}
-use Rattle.c104_run.proofs.PartRuns.{neither}
+use Rattle.{c104_event.specs.declared.{events.Event.Event, faults.EventFault.EventFault}, c104_link.proofs.MadeSteps.from_place_made}
+use Rattle.{c104_link.proofs.MadeSteps.given, c104_node.specs.{Acts.node_act, Nodes.Node, PortActs.Acts, Starts.start_node, Traces.Deed}}
+use Rattle.c104_node.specs.{Traces.{full_at, is_trace_full, noted_all, seatless}, declared.{acts.Entry.Entry, stamps.Stamp.Stamp}}
+use Rattle.{c104_plan.specs.{Plans.{IsPlan, Plan}, Wiring.peer, declared.ports.Port.Port}, c104_run.proofs.ActSteps.joint_wired}
+use Rattle.c104_run.proofs.{BalanceEvents.applied_with, BalanceWires.nodes_apart, EntryCounts.{HasRoom, HaveRoom, all_more, all_within}}
+use Rattle.c104_run.proofs.{EntryCounts.{lengths_same, room_there, total_below}, PartRuns.neither, RoundRuns.undone_stays}
+use Rattle.c104_run.{proofs.{RunRecords.{counted, record_on, seatless_order}, UndoneEvents.undone_deeds}, specs.Balance.AreInPlace}
+use Rattle.c104_run.specs.{Balance.{IsSteady, credit_of, granted_of}, Ends.end_of, EventActs.{acts_step, event_acts, port_place}}
+use Rattle.c104_run.specs.{EventDeeds.{acts_deeds, acts_full, event_deeds, event_full}, NetRecords.{IsNetRecord, IsWithinLimit, NetRecord}}
+use Rattle.c104_run.specs.{NetRecords.{RecordsEvent, is_done, ticket_after, total_entries}, Network.{AnswersWith, Network, event_fault}}
+use Rattle.c104_run.specs.Network.{event_limit, network_apply, network_of, network_step, outcome_if_possible, outcome_if_ready}
+use Rattle.c104_run.specs.{Network.{outcome_within_limit, told_step}, Runs.{IsRunRecord, at_node, run_deeds}}
+use Rattle.{c104_switch.specs.{Actions.{Reply, is_ready}, declared.actions.ReplyOf.ReplyOf}, c104_token.specs.Kinds.{Kind, plain_kind}}
+use Rattle.{c104_token.specs.declared.tokens.Token.Token, std.proofs.Common.{All, Bool, Err, List, None, Ok, Option, Result, Some, [], ap}}
+use Rattle.std.proofs.Common.{arith, false, inl, inr, length, map, refl, slice_get, subst, sym, true, ℕ, ◌++◌, ◌+◌, ◌-◌, ◌∙◌, ◌∷◌, ◌≡◌, ◌≤◌}
 
 -- how many nodes there are
 pub nodes_counted : {A : Type 0} (plan : Plan) (nodes : List (Node A)) → AreInPlace plan nodes → length nodes ≡ length plan.switches + length plan.terminals
@@ -49,7 +31,7 @@ module _ {A : Type 0} (kind : Kind A) (net after : Network A) (r : Reply) where
   limit_made (Some f) s was = let told : ◌≡◌ {A = Result Reply EventFault} (Ok r) (Err f) = ap (λ (t : Answered). t.0) was in cc
 
   ready_made : (e : Event) (made : Option (Reply × Network A)) → ◌≡◌ {A = Answered} (Ok r, after) (outcome_if_ready kind net e made) → is_ready r ≡ true → made ≡ Some (r, after)
-  ready_made e None was ready = let told : ◌≡◌ {A = Result Reply EventFault} (Ok r) (Ok reply.NotReady) = ap (λ (t : Answered). t.0) was in let same : r ≡ reply.NotReady = cc in let no : is_ready {A = Token} reply.NotReady ≡ true = ap is_ready (sym same) ∙ ready in cc
+  ready_made e None was ready = let told : ◌≡◌ {A = Result Reply EventFault} (Ok r) (Ok ReplyOf.NotReady) = ap (λ (t : Answered). t.0) was in let same : r ≡ ReplyOf.NotReady = cc in let no : is_ready {A = Token} ReplyOf.NotReady ≡ true = ap is_ready (sym same) ∙ ready in cc
   ready_made e (Some s) was ready = ap Some (limit_made (event_limit net e) s was)
 
   there_made : (e : Event) (fault : Option EventFault) → ◌≡◌ {A = Answered} (Ok r, after) (outcome_if_possible kind net e fault) → is_ready r ≡ true → network_step kind net e ≡ Some (r, after)

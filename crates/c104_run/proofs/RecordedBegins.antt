@@ -1,37 +1,16 @@
 -- A network whose nodes are seen with their records, where it is quiet, and where it begins a run.
-use Rattle.std.proofs.Common.{◌≡◌, ◌∙◌, ◌+◌, ◌≤◌, ◌<◌, ℕ, inl, inr, slice_set, zero, suc, All, List, [], ◌∷◌, Some, map, option_map, slice_get, refl, sym, ap, subst, arith}
-use Rattle.std.proofs.lemmas.Option.{slice_get-map}
-use Rattle.std.proofs.lemmas.Bool.{cases_eq}
-use Rattle.std.proofs.lemmas.List.Elements.{All-cons, All-head, All-nil, All-tail}
-use Rattle.c104_link.proofs.MadeSteps.{All-place}
-use Rattle.c104_link.specs.Buffers.{Outgoing}
-use Rattle.c104_switch.specs.Starts.{link_starts}
-use Rattle.c104_switch.specs.Switch.{Input}
-use Rattle.c104_token.specs.declared.tokens.Token.{Token}
-use Rattle.c104_plan.specs.Plans.{Plan}
-use Rattle.c104_node.specs.declared.acts.Entry.{Entry}
-use Rattle.c104_node.specs.declared.node.NodeOf.TheVariants as node
-use Rattle.c104_node.specs.declared.starts.NodeStart.{NodeStart}
-use Rattle.c104_run.specs.Balance.{IsSteady}
-use Rattle.c104_run.specs.Network.{network_of, Network}
-use Rattle.c104_run.specs.NetRecords.{fresh_record, IsNetRecord}
-use Rattle.c104_node.specs.Nodes.{Node}
-use Rattle.c104_node.specs.Places.{Shown, base_wired, bases, states}
-use Rattle.c104_node.specs.Quiet.{node_begin, IsQuietNode}
-use Rattle.c104_run.specs.QuietNets.{network_begin}
-use Rattle.c104_run.specs.RecordedNets.{Told, begun_told, place_told, places_record, read_state, read_trace, IsReading, IsRecordedNet, Reading}
-use Rattle.c104_run.specs.Runs.{IsRunRecord}
-use Rattle.c104_node.specs.Traces.{seatless}
-use Rattle.c104_node.specs.Starts.{start_node, start_of}
-use Rattle.c104_node.specs.MappedNodes.{map_input, map_node, map_outgoing}
-use Rattle.c104_run.proofs.FreshRecords.{fresh_kept}
-use Rattle.c104_node.proofs.WireEnds.{get_set_other}
-use Rattle.c104_run.proofs.FirstRecords.{map_twice}
-use Rattle.c104_run.proofs.NodeMaps.{all_back, node_back, quiet_map, starts_same}
-use Rattle.c104_run.proofs.QuietBegins.{begun_steady}
-use Rattle.c104_node.proofs.PlaceSteps.{shown_at}
-use Rattle.c104_run.proofs.RecordedNets.{map_same, states_plain, states_shown}
-use Rattle.c104_run.proofs.RecordSteps.{same_record}
+use Rattle.{c104_link.{proofs.MadeSteps.All-place, specs.Buffers.Outgoing}, c104_node.proofs.{PlaceSteps.shown_at, WireEnds.get_set_other}}
+use Rattle.c104_node.specs.{MappedNodes.{map_input, map_node, map_outgoing}, Nodes.Node, Places.{Shown, base_wired, bases, states}}
+use Rattle.c104_node.specs.{Quiet.{IsQuietNode, node_begin}, Starts.{start_node, start_of}, Traces.seatless, declared.acts.Entry.Entry}
+use Rattle.{c104_node.specs.declared.{node.NodeOf.NodeOf, starts.NodeStart.NodeStart}, c104_plan.specs.Plans.Plan}
+use Rattle.c104_run.proofs.{FirstRecords.map_twice, FreshRecords.fresh_kept, NodeMaps.{all_back, node_back, quiet_map, starts_same}}
+use Rattle.c104_run.proofs.{QuietBegins.begun_steady, RecordSteps.same_record, RecordedNets.{map_same, states_plain, states_shown}}
+use Rattle.c104_run.specs.{Balance.IsSteady, NetRecords.{IsNetRecord, fresh_record}, Network.{Network, network_of}, QuietNets.network_begin}
+use Rattle.c104_run.specs.RecordedNets.{IsReading, IsRecordedNet, Reading, Told, begun_told, place_told, places_record, read_state}
+use Rattle.{c104_run.specs.{RecordedNets.read_trace, Runs.IsRunRecord}, c104_switch.specs.{Starts.link_starts, Switch.Input}}
+use Rattle.{c104_token.specs.declared.tokens.Token.Token, std.proofs.Common.{All, List, Some, [], ap, arith, inl, inr, map, option_map}}
+use Rattle.std.proofs.{Common.{refl, slice_get, slice_set, subst, suc, sym, zero, ℕ, ◌+◌, ◌<◌, ◌∙◌, ◌∷◌, ◌≡◌, ◌≤◌}, lemmas.Bool.cases_eq}
+use Rattle.std.proofs.lemmas.{List.Elements.{All-cons, All-head, All-nil, All-tail}, Option.slice_get-map}
 
 -- what holds of each of a list holds of each that it is mapped to
 all_on : {X Y : Type 0} (f : X → Y) (P : X → Type 0) (Q : Y → Type 0) → ((x : X) → P x → Q (f x)) → (xs : List X) → All P xs → All Q (map f xs)
@@ -46,12 +25,12 @@ module _ {A : Type 0} (f : A → Token) where
 
   -- nor does what a run forgets
   start_begun : (n : Node A) → start_of n ≡ start_of (node_begin (map_node f n))
-  start_begun (node.Switch s) = rw (links_plain s.inputs s.outputs) refl
-  start_begun (node.Terminal t) = refl
+  start_begun (NodeOf.Switch s) = rw (links_plain s.inputs s.outputs) refl
+  start_begun (NodeOf.Terminal t) = refl
 
   begin_plain : (n : Node A) → map_node f (node_begin n) ≡ node_begin (map_node f n)
-  begin_plain (node.Switch s) = refl
-  begin_plain (node.Terminal t) = refl
+  begin_plain (NodeOf.Switch s) = refl
+  begin_plain (NodeOf.Terminal t) = refl
 
 abbrev pub no_entries : {A : Type 0} → Node A → List Entry
 no_entries n = []

@@ -1,27 +1,15 @@
 -- A network whose nodes are seen with their records goes on by events.
-use Rattle.std.proofs.Common.{◌≡◌, ◌∙◌, ℕ, Bool, true, List, [], ◌∷◌, Some, Result, is_some, map, inl, inr, refl, sym, ap, subst}
-use Rattle.c104_token.specs.declared.tokens.Token.{Token}
-use Rattle.c104_token.specs.declared.tokens.Token.TheVariants.{Byte}
-use Rattle.c104_token.specs.Kinds.{Kind, plain_kind}
-use Rattle.c104_switch.specs.Actions.{Reply}
-use Rattle.c104_plan.specs.Plans.{Plan, IsPlan}
-use Rattle.c104_event.specs.declared.events.Event.{Event}
-use Rattle.c104_event.specs.declared.faults.EventFault.{EventFault}
-use Rattle.c104_node.specs.declared.acts.Entry.{Entry}
-use Rattle.c104_node.specs.declared.starts.NodeStart.{NodeStart}
-use Rattle.c104_run.specs.EventRuns.{Answers, EventsEnd}
-use Rattle.c104_run.specs.Network.{Network, network_of, network_step, AnswersWith, WouldBeDone}
-use Rattle.c104_run.specs.NetRecords.{is_done, IsNetRecord, NetRecord}
-use Rattle.c104_run.specs.RecordedNets.{places_record, read_state, read_trace, IsReading, IsRecordedNet, KeepsTokens, Reading}
-use Rattle.c104_run.specs.RecordedRuns.{record_apply, record_at, AnswersRecord}
-use Rattle.c104_node.specs.Places.{Shown, base_start, bases, states}
-use Rattle.c104_run.specs.Stages.{stage_apply, Stage}
-use Rattle.c104_node.specs.MappedNodes.{map_node}
-use Rattle.c104_run.proofs.FirstRecords.{map_twice}
-use Rattle.c104_run.proofs.RecordedStages.{after_plan, apply_plain, plain_network, plain_stage, record_plain, stage_on, IsRecordedStage}
-use Rattle.c104_run.proofs.RoundRuns.{ends_keep, ends_seen, Applied}
-use Rattle.c104_run.proofs.StepMaps.{limit_map, step_map}
-use Rattle.c104_run.proofs.WiredPorts.{some_mapped}
+use Rattle.{c104_event.specs.declared.{events.Event.Event, faults.EventFault.EventFault}, c104_node.specs.MappedNodes.map_node}
+use Rattle.c104_node.specs.{Places.{Shown, base_start, bases, states}, declared.{acts.Entry.Entry, starts.NodeStart.NodeStart}}
+use Rattle.{c104_plan.specs.Plans.{IsPlan, Plan}, c104_run.proofs.{FirstRecords.map_twice, RecordedStages.{IsRecordedStage, after_plan}}}
+use Rattle.c104_run.proofs.{RecordedStages.{apply_plain, plain_network, plain_stage, record_plain, stage_on}, RoundRuns.Applied}
+use Rattle.c104_run.proofs.{RoundRuns.{ends_keep, ends_seen}, StepMaps.{limit_map, step_map}, WiredPorts.some_mapped}
+use Rattle.c104_run.specs.{EventRuns.{Answers, EventsEnd}, NetRecords.{IsNetRecord, NetRecord, is_done}, Network.{AnswersWith, Network}}
+use Rattle.c104_run.specs.{Network.{WouldBeDone, network_of, network_step}, RecordedNets.{IsReading, IsRecordedNet, KeepsTokens, Reading}}
+use Rattle.c104_run.specs.{RecordedNets.{places_record, read_state, read_trace}, RecordedRuns.{AnswersRecord, record_apply, record_at}}
+use Rattle.{c104_run.specs.Stages.{Stage, stage_apply}, c104_switch.specs.Actions.Reply, c104_token.specs.Kinds.{Kind, plain_kind}}
+use Rattle.{c104_token.specs.declared.tokens.Token.{TheVariants.Byte, Token}, std.proofs.Common.{Bool, List, Result, Some, [], ap, inl}}
+use Rattle.std.proofs.Common.{inr, is_some, map, refl, subst, sym, true, ℕ, ◌∙◌, ◌∷◌, ◌≡◌}
 
 -- a list that is mapped by two functions that agree
 pub map_same : {X Y : Type 0} (f g : X → Y) → ((x : X) → f x ≡ g x) → (xs : List X) → map f xs ≡ map g xs

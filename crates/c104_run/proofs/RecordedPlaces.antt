@@ -1,25 +1,15 @@
 -- What the answers of a network whose nodes are seen with their records cite: whatever a place keeps when it runs, an
 -- event or rounds over such places are those of the network.
-use Rattle.std.proofs.Common.{◌≡◌, ◌∙◌, ℕ, Bool, true, false, List, Result, IfOk, map, refl, sym, ap, subst}
-use Rattle.c104_switch.specs.Actions.{Reply, is_ready}
-use Rattle.c104_token.specs.Kinds.{plain_kind}
-use Rattle.c104_plan.specs.Plans.{Plan, IsPlan}
-use Rattle.c104_event.specs.declared.events.Event.{Event}
-use Rattle.c104_event.specs.declared.faults.EventFault.{EventFault}
-use Rattle.c104_run.specs.EventRuns.{Answers, EventsEnd}
-use Rattle.c104_run.specs.EventsAtPlaces.{EventDone}
-use Rattle.c104_run.specs.Network.{network_of, AnswersWith}
-use Rattle.c104_run.specs.NetRecords.{is_done, ticket_after, RecordsEvent}
-use Rattle.c104_node.specs.Places.{IsFullByTrace, Shown, fulls, is_kept_full, states, traces}
-use Rattle.c104_run.specs.RecordedNets.{places_record, read_trace, IsRecordedNet, KeepsRecord, Reading}
-use Rattle.c104_run.specs.RecordedRuns.{record_apply, AnswersRecord}
-use Rattle.c104_run.specs.Stages.{stage_apply, stage_of, Stage}
-use Rattle.c104_node.specs.MappedNodes.{map_node}
-use Rattle.c104_node.specs.Traces.{is_trace_full, kept_of, noted_all, seatless}
-use Rattle.c104_run.specs.EventDeeds.{event_deeds, event_full}
-use Rattle.c104_run.proofs.FirstRecords.{map_twice}
-use Rattle.c104_run.proofs.RecordedNets.{answers_plain, event_answers, event_on, events_end, events_on, places_stage, starts_same, states_plain}
-use Rattle.c104_run.proofs.StageSteps.{fulls_kept, same_stage, stage_done}
+use Rattle.{c104_event.specs.declared.{events.Event.Event, faults.EventFault.EventFault}, c104_node.specs.MappedNodes.map_node}
+use Rattle.c104_node.specs.{Places.{IsFullByTrace, Shown, fulls, is_kept_full, states, traces}, Traces.{is_trace_full, kept_of, noted_all}}
+use Rattle.{c104_node.specs.Traces.seatless, c104_plan.specs.Plans.{IsPlan, Plan}, c104_run.proofs.FirstRecords.map_twice}
+use Rattle.c104_run.proofs.RecordedNets.{answers_plain, event_answers, event_on, events_end, events_on, places_stage, starts_same}
+use Rattle.c104_run.{proofs.{RecordedNets.states_plain, StageSteps.{fulls_kept, same_stage, stage_done}}, specs.EventDeeds.event_deeds}
+use Rattle.c104_run.specs.{EventDeeds.event_full, EventRuns.{Answers, EventsEnd}, EventsAtPlaces.EventDone, NetRecords.RecordsEvent}
+use Rattle.c104_run.specs.{NetRecords.{is_done, ticket_after}, Network.{AnswersWith, network_of}, RecordedNets.{IsRecordedNet, KeepsRecord}}
+use Rattle.c104_run.specs.{RecordedNets.{Reading, places_record, read_trace}, RecordedRuns.{AnswersRecord, record_apply}, Stages.Stage}
+use Rattle.{c104_run.specs.Stages.{stage_apply, stage_of}, c104_switch.specs.Actions.{Reply, is_ready}, c104_token.specs.Kinds.plain_kind}
+use Rattle.std.proofs.Common.{Bool, IfOk, List, Result, ap, false, map, refl, subst, sym, true, ℕ, ◌∙◌, ◌≡◌}
 
 -- how a network goes on by an event
 pub record GoesOn {A P : Type 0} (v : Reading A P) (plan : Plan) (old new : List P) (count counted : ℕ) (e : Event) (answer : Result Reply EventFault) : Type 0 where

@@ -1,21 +1,10 @@
 -- A network with its record goes on by events.
-use Rattle.std.proofs.Common.{◌≡◌, ◌&&◌, Bool, true, false, Result, Ok, Err, IfOk, if◌then◌else◌, map, inl, refl}
-use Rattle.c104_token.specs.declared.tokens.Token.{Token}
-use Rattle.c104_token.specs.Kinds.{plain_kind}
-use Rattle.c104_switch.specs.Actions.{Reply, is_ready}
-use Rattle.c104_plan.specs.Plans.{Plan, IsPlan}
-use Rattle.c104_event.specs.declared.events.Event.{Event}
-use Rattle.c104_event.specs.declared.faults.EventFault.{EventFault}
-use Rattle.c104_event.specs.declared.faults.EventFault.TheVariants as fault
-use Rattle.c104_run.specs.Network.{Network, network_apply}
-use Rattle.c104_run.specs.NetRecords.{is_done, IsNetRecord, NetRecord, RecordsEvent}
-use Rattle.c104_run.specs.RecordedRuns.{record_apply, record_at, record_stage}
-use Rattle.c104_run.specs.Stages.{stage_after, stage_full}
-use Rattle.c104_node.specs.Traces.{is_trace_full}
-use Rattle.c104_run.specs.EventDeeds.{event_full}
-use Rattle.c104_run.proofs.RecordSteps.{event_kept}
-use Rattle.c104_run.proofs.RoundJoins.{apply_plan}
-use Rattle.c104_run.proofs.RoundRuns.{Applied}
+use Rattle.{c104_event.specs.declared.{events.Event.Event, faults.EventFault.EventFault}, c104_node.specs.Traces.is_trace_full}
+use Rattle.{c104_plan.specs.Plans.{IsPlan, Plan}, c104_run.proofs.{RecordSteps.event_kept, RoundJoins.apply_plan, RoundRuns.Applied}}
+use Rattle.c104_run.specs.{EventDeeds.event_full, NetRecords.{IsNetRecord, NetRecord, RecordsEvent, is_done}, Network.Network}
+use Rattle.c104_run.specs.{Network.network_apply, RecordedRuns.{record_apply, record_at, record_stage}, Stages.{stage_after, stage_full}}
+use Rattle.{c104_switch.specs.Actions.{Reply, is_ready}, c104_token.specs.{Kinds.plain_kind, declared.tokens.Token.Token}}
+use Rattle.std.proofs.Common.{Bool, Err, IfOk, Ok, Result, false, if◌then◌else◌, inl, map, refl, true, ◌&&◌, ◌≡◌}
 
 module _ (r : NetRecord) (e : Event) where
   abbrev plan : Plan
@@ -48,7 +37,7 @@ module _ (r : NetRecord) (e : Event) where
   pub record_kept : IsPlan plan → IsNetRecord r → IsNetRecord (record_apply r e).1
   record_kept is_plan before = by_full (stage_full true (record_stage r) e && is_done (network_apply plain_kind r.network e).0) refl
     where
-      by_full : (full : Bool) → (stage_full true (record_stage r) e && is_done (network_apply plain_kind r.network e).0) ≡ full → IsNetRecord (after (if full then (Err fault.TraceFull, r.network) else network_apply plain_kind r.network e))
+      by_full : (full : Bool) → (stage_full true (record_stage r) e && is_done (network_apply plain_kind r.network e).0) ≡ full → IsNetRecord (after (if full then (Err EventFault.TraceFull, r.network) else network_apply plain_kind r.network e))
       by_full true is = before
       by_full false is =
           let due : Applied (Network Token) = network_apply plain_kind r.network e in
@@ -57,6 +46,6 @@ module _ (r : NetRecord) (e : Event) where
   pub record_plan : (record_apply r e).1.network.plan ≡ plan
   record_plan = by_full (stage_full true (record_stage r) e && is_done (network_apply plain_kind r.network e).0)
     where
-      by_full : (full : Bool) → (after (if full then (Err fault.TraceFull, r.network) else network_apply plain_kind r.network e)).network.plan ≡ plan
+      by_full : (full : Bool) → (after (if full then (Err EventFault.TraceFull, r.network) else network_apply plain_kind r.network e)).network.plan ≡ plan
       by_full true = refl
       by_full false = apply_plan plain_kind r.network e

@@ -1,35 +1,15 @@
 -- Events over any kind of token, as they are seen over plain tokens; and what they keep of a run.
-use Rattle.std.proofs.Common.{◌≡◌, ◌∙◌, ◌+◌, ◌&&◌, ◌++◌, Bool, true, false, List, [], ◌∷◌, Some, Result, Ok, Err, if◌then◌else◌, map, inl, refl, sym, ap, subst}
-use Rattle.c104_token.specs.declared.tokens.Token.{Token}
-use Rattle.c104_token.specs.declared.tokens.Token.TheVariants.{Byte}
-use Rattle.c104_token.specs.Kinds.{Kind, plain_kind}
-use Rattle.c104_switch.specs.Actions.{Reply, is_ready}
-use Rattle.c104_plan.specs.Plans.{IsPlan}
-use Rattle.c104_event.specs.declared.events.Event.{Event}
-use Rattle.c104_event.specs.declared.faults.EventFault.{EventFault}
-use Rattle.c104_event.specs.declared.faults.EventFault.TheVariants as fault
-use Rattle.c104_node.specs.declared.starts.NodeStart.{NodeStart}
-use Rattle.c104_run.specs.Balance.{AreInPlace}
-use Rattle.c104_run.specs.Network.{Network, network_apply, network_of}
-use Rattle.c104_run.specs.NetRecords.{is_done, ticket_after, IsNetRecord, NetRecord}
-use Rattle.c104_node.specs.Nodes.{Node}
-use Rattle.c104_node.specs.Places.{base_start}
-use Rattle.c104_run.specs.RecordedNets.{KeepsTokens}
-use Rattle.c104_run.specs.RecordedRuns.{record_apply, record_at}
-use Rattle.c104_run.specs.Runs.{IsRunRecord}
-use Rattle.c104_run.specs.Stages.{stage_after, stage_apply, stage_full, unless_full, Stage}
-use Rattle.c104_node.specs.Starts.{start_node}
-use Rattle.c104_run.specs.TracedRuns.{map_network}
-use Rattle.c104_node.specs.Traces.{kept_of, noted_all, seatless}
-use Rattle.c104_run.specs.EventDeeds.{event_deeds}
-use Rattle.c104_run.proofs.RecordedRuns.{record_kept, record_plan}
-use Rattle.c104_run.proofs.RecordSteps.{ticket_left}
-use Rattle.c104_run.proofs.RoundJoins.{apply_plan}
-use Rattle.c104_run.proofs.RoundRuns.{Applied, undone_left}
-use Rattle.c104_run.proofs.NodeMaps.{kinds_plain}
-use Rattle.c104_run.proofs.RunRecords.{record_on, seatless_order}
-use Rattle.c104_run.proofs.StepMaps.{apply_map}
-use Rattle.c104_run.proofs.UndoneEvents.{undone_deeds}
+use Rattle.{c104_event.specs.declared.{events.Event.Event, faults.EventFault.EventFault}, c104_node.specs.{Nodes.Node, Places.base_start}}
+use Rattle.c104_node.specs.{Starts.start_node, Traces.{kept_of, noted_all, seatless}, declared.starts.NodeStart.NodeStart}
+use Rattle.{c104_plan.specs.Plans.IsPlan, c104_run.proofs.{NodeMaps.kinds_plain, RecordSteps.ticket_left, RecordedRuns.record_kept}}
+use Rattle.c104_run.proofs.{RecordedRuns.record_plan, RoundJoins.apply_plan, RoundRuns.{Applied, undone_left}, RunRecords.record_on}
+use Rattle.c104_run.{proofs.{RunRecords.seatless_order, StepMaps.apply_map, UndoneEvents.undone_deeds}, specs.Balance.AreInPlace}
+use Rattle.c104_run.specs.{EventDeeds.event_deeds, NetRecords.{IsNetRecord, NetRecord, is_done, ticket_after}, Network.Network}
+use Rattle.c104_run.specs.{Network.{network_apply, network_of}, RecordedNets.KeepsTokens, RecordedRuns.{record_apply, record_at}}
+use Rattle.c104_run.specs.{Runs.IsRunRecord, Stages.{Stage, stage_after, stage_apply, stage_full, unless_full}, TracedRuns.map_network}
+use Rattle.{c104_switch.specs.Actions.{Reply, is_ready}, c104_token.specs.Kinds.{Kind, plain_kind}}
+use Rattle.{c104_token.specs.declared.tokens.Token.{TheVariants.Byte, Token}, std.proofs.Common.{Bool, Err, List, Ok, Result, Some, [], ap}}
+use Rattle.std.proofs.Common.{false, if◌then◌else◌, inl, map, refl, subst, sym, true, ◌&&◌, ◌++◌, ◌+◌, ◌∙◌, ◌∷◌, ◌≡◌}
 
 module _ {A : Type 0} (kind : Kind A) where
   -- the network over plain tokens
@@ -70,8 +50,8 @@ module _ {A : Type 0} (kind : Kind A) (tokens : KeepsTokens kind) where
         (sym (apply_plain s.network e))
       where
         by_full : (refused : Bool) → ◌≡◌ {A = Applied (Stage Token)}
-            ((stage_after true s e (if refused then (Err fault.TraceFull, s.network) else due)).0, plain_stage kind (stage_after true s e (if refused then (Err fault.TraceFull, s.network) else due)).1)
-            (stage_after true (plain_stage kind s) e (if refused then (Err fault.TraceFull, plain_network kind s.network) else seen due))
+            ((stage_after true s e (if refused then (Err EventFault.TraceFull, s.network) else due)).0, plain_stage kind (stage_after true s e (if refused then (Err EventFault.TraceFull, s.network) else due)).1)
+            (stage_after true (plain_stage kind s) e (if refused then (Err EventFault.TraceFull, plain_network kind s.network) else seen due))
         by_full true = refl
         by_full false = refl
 
@@ -125,7 +105,7 @@ module _ {A : Type 0} (kind : Kind A) (tokens : KeepsTokens kind) where
             (is.events ++ (e, r0) ∷ [], subst (λ c. IsRunRecord kind s.network.plan seatless start net.nodes (noted_all true s.traces (event_deeds s.network.plan (seatless s.count) e r0)) c (is.events ++ (e, r0) ∷ [])) one on)
         by_answer (Err f) net is_due ready = cc
 
-    by_full : (refused : Bool) → Told (left (if refused then (Err fault.TraceFull, s.network) else network_apply kind s.network e))
+    by_full : (refused : Bool) → Told (left (if refused then (Err EventFault.TraceFull, s.network) else network_apply kind s.network e))
     by_full true = (is.events, is.told)
     by_full false = told_on (network_apply kind s.network e) refl (is_done (network_apply kind s.network e).0) refl
 

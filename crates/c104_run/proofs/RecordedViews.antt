@@ -1,46 +1,22 @@
 -- What is seen of a network over any kind of token is what is seen over plain tokens.
-use Rattle.std.proofs.Common.{◌≡◌, ◌∙◌, ◌&&◌, is_some, ℕ, Bool, false, List, [], ◌∷◌, Option, Some, None, if◌then◌else◌, length, map, nat_lt, option_map, slice_get, refl, ap, ◌-◌}
-use Rattle.std.proofs.lemmas.List.{length-map}
-use Rattle.std.proofs.lemmas.Option.{slice_get-map}
-use Rattle.std.specs.Option.{option_map_or, option_or}
-use Rattle.c104_token.specs.declared.tokens.Token.{Token}
-use Rattle.c104_token.specs.Kinds.{Kind, plain_kind}
-use Rattle.c104_token.specs.Tokens.{byte_of}
-use Rattle.c104_link.specs.Buffers.{Incoming, Outgoing}
-use Rattle.c104_link.specs.Steps.{◌>>=◌}
-use Rattle.c104_link.specs.declared.outgoing.TheConstants.{OUTPUT_CAP}
-use Rattle.c104_regs.specs.declared.settings.Settings.{Settings}
-use Rattle.c104_switch.specs.declared.phase.Phase.{Phase}
-use Rattle.c104_switch.specs.Reasons.{emit_why, grant_why, has_room, phase_why, turn_why, unless, wanted_why, why_at}
-use Rattle.c104_switch.specs.Switch.{Input}
-use Rattle.c104_switch.specs.Views.{owner_from, phase_view, sides_view}
-use Rattle.c104_switch.specs.declared.phase.Phase.TheVariants.{Head, Stream, Want}
-use Rattle.c104_switch.specs.declared.unready.Unready.{Unready}
-use Rattle.c104_switch.specs.declared.unready.Unready.TheVariants.{NoLink, NoToken, NotStarted}
-use Rattle.c104_plan.specs.declared.ports.Port.TheVariants as port
-use Rattle.c104_event.specs.declared.events.Event.{Event}
-use Rattle.c104_switch.specs.declared.actions.ActionOf.TheVariants as action
-use Rattle.c104_node.specs.PortActs.{Acts}
-use Rattle.c104_node.specs.declared.acts.ActOf.TheVariants as act
-use Rattle.c104_node.specs.declared.crossings.Crossing.{Crossing}
-use Rattle.c104_node.specs.declared.crossings.Crossing.TheVariants as crossing
-use Rattle.c104_run.specs.EventActs.{event_acts}
-use Rattle.c104_run.proofs.ActAnswers.{acts_plain, plain_acts}
-use Rattle.c104_node.specs.declared.node.NodeOf.TheVariants as node
-use Rattle.c104_run.specs.declared.reason.Reason.{Reason}
-use Rattle.c104_run.specs.Ends.{end_of}
-use Rattle.c104_run.specs.Network.{event_fault, network_peek, terminal_place, Network}
-use Rattle.c104_node.specs.Nodes.{node_peek, Node}
-use Rattle.c104_run.specs.Reasons.{acts_why, claim_reason, end_why, event_why, far_why, near_why, network_why, port_reason, unless_refused}
-use Rattle.c104_node.specs.NodeReasons.{node_claim_why, node_drain_why, node_input_why}
-use Rattle.c104_node.specs.MappedNodes.{map_input, map_node, map_outgoing}
-use Rattle.c104_run.specs.Standstill.{has_reason, have_reasons}
-use Rattle.c104_node.specs.Views.{node_link_view, node_sent_packet, node_terminal_view}
-use Rattle.c104_run.specs.NetViews.{network_link_view, network_sent_packet, network_terminal_view}
-use Rattle.c104_run.proofs.FirstRecords.{map_twice}
-use Rattle.c104_run.proofs.SwitchMaps.{owner_map, registers_map}
-use Rattle.c104_run.proofs.TokenMaps.{map_phase}
-use Rattle.c104_run.proofs.RecordedStages.{plain_network}
+use Rattle.{c104_event.specs.declared.events.Event.Event, c104_link.specs.{Buffers.{Incoming, Outgoing}, Steps.◌>>=◌}}
+use Rattle.{c104_link.specs.declared.outgoing.TheConstants.OUTPUT_CAP, c104_node.specs.MappedNodes.{map_input, map_node, map_outgoing}}
+use Rattle.c104_node.specs.{NodeReasons.{node_claim_why, node_drain_why, node_input_why}, Nodes.{Node, node_peek}, PortActs.Acts}
+use Rattle.c104_node.specs.{Views.{node_link_view, node_sent_packet, node_terminal_view}, declared.acts.ActOf.ActOf}
+use Rattle.{c104_node.specs.declared.{crossings.Crossing.Crossing, node.NodeOf.NodeOf}, c104_plan.specs.declared.ports.Port.Port}
+use Rattle.{c104_regs.specs.declared.settings.Settings.Settings, c104_run.proofs.ActAnswers.{acts_plain, plain_acts}}
+use Rattle.c104_run.proofs.{FirstRecords.map_twice, RecordedStages.plain_network, SwitchMaps.{owner_map, registers_map}}
+use Rattle.c104_run.{proofs.TokenMaps.map_phase, specs.{Ends.end_of, EventActs.event_acts, NetViews.network_link_view}}
+use Rattle.c104_run.specs.{NetViews.{network_sent_packet, network_terminal_view}, Network.{Network, event_fault, network_peek}}
+use Rattle.c104_run.specs.{Network.terminal_place, Reasons.{acts_why, claim_reason, end_why, event_why, far_why, near_why, network_why}}
+use Rattle.c104_run.specs.{Reasons.{port_reason, unless_refused}, Standstill.{has_reason, have_reasons}, declared.reason.Reason.Reason}
+use Rattle.c104_switch.specs.{Reasons.{emit_why, grant_why, has_room, phase_why, turn_why, unless, wanted_why, why_at}, Switch.Input}
+use Rattle.c104_switch.specs.{Views.{owner_from, phase_view, sides_view}, declared.{actions.ActionOf.ActionOf, phase.Phase.Phase}}
+use Rattle.c104_switch.specs.declared.{phase.Phase.TheVariants.{Head, Stream, Want}, unready.Unready.TheVariants.{NoLink, NoToken}}
+use Rattle.{c104_switch.specs.declared.unready.Unready.{TheVariants.NotStarted, Unready}, c104_token.specs.Kinds.{Kind, plain_kind}}
+use Rattle.{c104_token.specs.{Tokens.byte_of, declared.tokens.Token.Token}, std.proofs.Common.{Bool, List, None, Option, Some, [], ap}}
+use Rattle.std.proofs.Common.{false, if◌then◌else◌, is_some, length, map, nat_lt, option_map, refl, slice_get, ℕ, ◌&&◌, ◌-◌, ◌∙◌, ◌∷◌, ◌≡◌}
+use Rattle.std.{proofs.lemmas.{List.length-map, Option.slice_get-map}, specs.Option.{option_map_or, option_or}}
 
 bind_plain : {X Y Z : Type 0} (f : X → Y) (g : X → Option Z) (h : Y → Option Z) → ((x : X) → h (f x) ≡ g x) → (o : Option X) → (option_map f o >>= h) ≡ (o >>= g)
 bind_plain f g h same None = refl
@@ -52,8 +28,8 @@ module _ {A : Type 0} (kind : Kind A) where
   there_plain g h same nodes k = ap (λ o. o >>= h) (slice_get-map (map_node kind.plain) nodes k) ∙ bind_plain (map_node kind.plain) g h same (slice_get nodes k)
 
   peek_plain : (a : ℕ) (n : Node A) → node_peek a (map_node kind.plain n) ≡ node_peek a n
-  peek_plain a (node.Switch s) = rw (registers_map kind.plain s) refl
-  peek_plain a (node.Terminal t) = refl
+  peek_plain a (NodeOf.Switch s) = rw (registers_map kind.plain s) refl
+  peek_plain a (NodeOf.Terminal t) = refl
 
   pub network_peek_plain : (net : Network A) (s a : ℕ) → network_peek (plain_network kind net) s a ≡ network_peek net s a
   network_peek_plain net s a = ap (λ o. if nat_lt s (length net.plan.switches) then o else None) (there_plain (node_peek a) (node_peek a) (peek_plain a) net.nodes s)
@@ -67,8 +43,8 @@ module _ {A : Type 0} (kind : Kind A) where
   sides_plain inputs l p q = rw (length-map p.buffer.items kind.plain, length-map q.items kind.plain, owner_map kind.plain 0 inputs l, phase_plain p.phase) refl
 
   link_plain : (l : ℕ) (n : Node A) → node_link_view plain_kind l (map_node kind.plain n) ≡ node_link_view kind l n
-  link_plain l (node.Terminal t) = refl
-  link_plain l (node.Switch s) =
+  link_plain l (NodeOf.Terminal t) = refl
+  link_plain l (NodeOf.Switch s) =
       rw (slice_get-map (map_input kind.plain) s.inputs l, slice_get-map (map_outgoing kind.plain) s.outputs l)
       (bind_plain (map_input kind.plain) (λ (p : Input A). slice_get s.outputs l >>= (λ (q : Outgoing A). Some (sides_view kind s.inputs l p q)))
       (λ (p : Input Token). option_map (map_outgoing kind.plain) (slice_get s.outputs l) >>= (λ (q : Outgoing Token). Some (sides_view plain_kind (map (map_input kind.plain) s.inputs) l p q)))
@@ -79,15 +55,15 @@ module _ {A : Type 0} (kind : Kind A) where
   network_link_plain net s l = ap (λ o. if nat_lt s (length net.plan.switches) then o else None) (there_plain (node_link_view kind l) (node_link_view plain_kind l) (link_plain l) net.nodes s)
 
   terminal_plain : (n : Node A) → node_terminal_view (map_node kind.plain n) ≡ node_terminal_view n
-  terminal_plain (node.Switch s) = refl
-  terminal_plain (node.Terminal t) = rw (length-map t.output.items kind.plain, length-map t.input.items kind.plain) refl
+  terminal_plain (NodeOf.Switch s) = refl
+  terminal_plain (NodeOf.Terminal t) = rw (length-map t.output.items kind.plain, length-map t.input.items kind.plain) refl
 
   pub network_terminal_plain : (net : Network A) (t : ℕ) → network_terminal_view (plain_network kind net) t ≡ network_terminal_view net t
   network_terminal_plain net t = ap (λ o. if nat_lt t (length net.plan.terminals) then o else None) (there_plain node_terminal_view node_terminal_view terminal_plain net.nodes (terminal_place net.plan t))
 
   sent_plain : (number : ℕ) (n : Node A) → node_sent_packet number (map_node kind.plain n) ≡ node_sent_packet number n
-  sent_plain number (node.Switch s) = refl
-  sent_plain number (node.Terminal t) = refl
+  sent_plain number (NodeOf.Switch s) = refl
+  sent_plain number (NodeOf.Terminal t) = refl
 
   pub network_sent_plain : (net : Network A) (t number : ℕ) → network_sent_packet (plain_network kind net) t number ≡ network_sent_packet net t number
   network_sent_plain net t number = ap (λ o. if nat_lt t (length net.plan.terminals) then o else None) (there_plain (node_sent_packet number) (node_sent_packet number) (sent_plain number) net.nodes (terminal_place net.plan t))
@@ -132,24 +108,24 @@ module _ {A : Type 0} (kind : Kind A) where
   wanted_plain settings o owner t q ph = refl
 
   near_node : (crossing : Crossing) (l : ℕ) (n : Node A) → near_why crossing l (map_node kind.plain n) ≡ near_why crossing l n
-  near_node crossing.Token l (node.Switch s) = why_plain (map_outgoing kind.plain) emit_why emit_why emit_plain s.outputs l
-  near_node crossing.Token l (node.Terminal t) = emit_plain t.output
-  near_node crossing.Grant l (node.Switch s) = why_plain (map_input kind.plain) (λ (p : Input A). unless s.started NotStarted (grant_why p.buffer)) (λ (p : Input Token). unless s.started NotStarted (grant_why p.buffer)) (λ p. ap (unless s.started NotStarted) (grant_plain p.buffer)) s.inputs l
-  near_node crossing.Grant l (node.Terminal t) = grant_plain t.input
+  near_node Crossing.Token l (NodeOf.Switch s) = why_plain (map_outgoing kind.plain) emit_why emit_why emit_plain s.outputs l
+  near_node Crossing.Token l (NodeOf.Terminal t) = emit_plain t.output
+  near_node Crossing.Grant l (NodeOf.Switch s) = why_plain (map_input kind.plain) (λ (p : Input A). unless s.started NotStarted (grant_why p.buffer)) (λ (p : Input Token). unless s.started NotStarted (grant_why p.buffer)) (λ p. ap (unless s.started NotStarted) (grant_plain p.buffer)) s.inputs l
+  near_node Crossing.Grant l (NodeOf.Terminal t) = grant_plain t.input
 
   far_node : (crossing : Crossing) (l : ℕ) (n : Node A) → far_why crossing l (map_node kind.plain n) ≡ far_why crossing l n
-  far_node crossing.Token l (node.Switch s) = why_plain (map_input kind.plain) _ _ (λ p. refl) s.inputs l
-  far_node crossing.Grant l (node.Switch s) = why_plain (map_outgoing kind.plain) _ _ (λ q. refl) s.outputs l
-  far_node crossing.Token l (node.Terminal t) = refl
-  far_node crossing.Grant l (node.Terminal t) = refl
+  far_node Crossing.Token l (NodeOf.Switch s) = why_plain (map_input kind.plain) _ _ (λ p. refl) s.inputs l
+  far_node Crossing.Grant l (NodeOf.Switch s) = why_plain (map_outgoing kind.plain) _ _ (λ q. refl) s.outputs l
+  far_node Crossing.Token l (NodeOf.Terminal t) = refl
+  far_node Crossing.Grant l (NodeOf.Terminal t) = refl
 
   input_node : (l : ℕ) (n : Node A) → node_input_why l (map_node kind.plain n) ≡ node_input_why l n
-  input_node l (node.Switch s) = why_same _ _ (λ t.
+  input_node l (NodeOf.Switch s) = why_same _ _ (λ t.
       why_plain (map_input kind.plain) (λ (p : Input A). unless s.started NotStarted (turn_why s.outputs p)) (λ (p : Input Token). unless s.started NotStarted (turn_why (map (map_outgoing kind.plain) s.outputs) p)) (λ p. ap (unless s.started NotStarted) (turn_plain s.outputs p)) s.inputs l) s.settings l
-  input_node l (node.Terminal t) = refl
+  input_node l (NodeOf.Terminal t) = refl
 
   claim_node : (i o : ℕ) (n : Node A) → node_claim_why i o (map_node kind.plain n) ≡ node_claim_why i o n
-  claim_node i o (node.Switch s) =
+  claim_node i o (NodeOf.Switch s) =
       rw (owner_map kind.plain 0 s.inputs o)
       (why_plain (map_input kind.plain)
       (λ (p : Input A). why_at s.settings o (λ t. why_at s.outputs o (λ q. unless s.started NotStarted (wanted_why s.settings o (owner_from 0 s.inputs o) t q p.phase))))
@@ -159,20 +135,20 @@ module _ {A : Type 0} (kind : Kind A) where
       (λ (q : Outgoing Token). unless s.started NotStarted (wanted_why s.settings o (owner_from 0 s.inputs o) t q (map_phase kind.plain p.phase)))
       (λ q. ap (unless s.started NotStarted) (wanted_plain s.settings o (owner_from 0 s.inputs o) t q p.phase)) s.outputs o) s.settings o)
       s.inputs i)
-  claim_node i o (node.Terminal t) = refl
+  claim_node i o (NodeOf.Terminal t) = refl
 
   drain_node : (n : Node A) → node_drain_why (map_node kind.plain n) ≡ node_drain_why n
-  drain_node (node.Switch s) = refl
-  drain_node (node.Terminal t) = rw (length-map t.input.items kind.plain) refl
+  drain_node (NodeOf.Switch s) = refl
+  drain_node (NodeOf.Terminal t) = rw (length-map t.input.items kind.plain) refl
 
   module _ (net : Network A) where
     at_plain : (g : Node A → Option Unready) (h : Node Token → Option Unready) → ((n : Node A) → h (map_node kind.plain n) ≡ g n) → (k : ℕ) → why_at (map (map_node kind.plain) net.nodes) k h ≡ why_at net.nodes k g
     at_plain g h same k = why_plain (map_node kind.plain) g h same net.nodes k
 
     acts_why_plain : (acts : Acts A) → acts_why (plain_network kind net) (plain_acts kind acts) ≡ acts_why net acts
-    acts_why_plain (Acts.Alone k (act.Step (action.Input l word))) = ap (port_reason (port.Switch k l)) (at_plain (node_input_why l) (node_input_why l) (input_node l) k)
-    acts_why_plain (Acts.Alone k (act.Step (action.Claim i o))) = ap (option_map (claim_reason k i o)) (at_plain (node_claim_why i o) (node_claim_why i o) (claim_node i o) k)
-    acts_why_plain (Acts.Alone k act.Drain) = ap (port_reason (port.Terminal (k - length net.plan.switches))) (at_plain node_drain_why node_drain_why drain_node k)
+    acts_why_plain (Acts.Alone k (ActOf.Step (ActionOf.Input l word))) = ap (port_reason (Port.Switch k l)) (at_plain (node_input_why l) (node_input_why l) (input_node l) k)
+    acts_why_plain (Acts.Alone k (ActOf.Step (ActionOf.Claim i o))) = ap (option_map (claim_reason k i o)) (at_plain (node_claim_why i o) (node_claim_why i o) (claim_node i o) k)
+    acts_why_plain (Acts.Alone k ActOf.Drain) = ap (port_reason (Port.Terminal (k - length net.plan.switches))) (at_plain node_drain_why node_drain_why drain_node k)
     acts_why_plain (Acts.Joint p q c) =
         ap (λ (w : Option Unready). option_or (port_reason p w) (port_reason q (end_why (map (map_node kind.plain) net.nodes) (end_of net.plan q) (far_why c)))) (at_plain (near_why c (end_of net.plan p).link) (near_why c (end_of net.plan p).link) (near_node c (end_of net.plan p).link) (end_of net.plan p).node)
         ∙ ap (λ (w : Option Unready). option_or (port_reason p (end_why net.nodes (end_of net.plan p) (near_why c))) (port_reason q w)) (at_plain (far_why c (end_of net.plan q).link) (far_why c (end_of net.plan q).link) (far_node c (end_of net.plan q).link) (end_of net.plan q).node)

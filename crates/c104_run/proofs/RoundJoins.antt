@@ -1,28 +1,16 @@
 -- The parts of a round make a round.
-use Rattle.std.proofs.Common.{◌≡◌, ◌∙◌, ◌<◌, ℕ, Bool, false, List, [], ◌∷◌, Option, Some, None, Result, Ok, map, refl, sym}
-use Rattle.std.proofs.Common.{ap, subst, arith}
-use Rattle.std.specs.List.{flat_map, range_with_len}
-use Rattle.c104_token.specs.Kinds.{Kind}
-use Rattle.c104_link.proofs.MadeSteps.{given}
-use Rattle.c104_switch.specs.Actions.{Reply}
-use Rattle.c104_event.specs.declared.events.Event.{Event}
-use Rattle.c104_event.specs.declared.events.Event.TheVariants as event
-use Rattle.c104_event.specs.declared.faults.EventFault.{EventFault}
-use Rattle.c104_node.specs.Acts.{plain_reply}
-use Rattle.c104_run.specs.EventActs.{acts_step, event_acts}
-use Rattle.c104_node.specs.Nodes.{Node}
-use Rattle.c104_run.specs.Network.{Network, network_apply, network_step, event_fault, event_limit, outcome_within_limit, outcome_if_ready}
-use Rattle.c104_run.specs.Network.{outcome_if_possible, with_nodes}
-use Rattle.c104_run.specs.Rounds.{claims_of, link_numbers, switch_claims}
-use Rattle.c104_run.specs.RoundParts.{PartEnds}
-use Rattle.c104_run.proofs.PartRuns.{numbers_done, numbers_passed, part_empty, single, singles}
-use Rattle.c104_run.proofs.RoundLists.{links_passed}
-use Rattle.c104_run.proofs.RoundRuns.{Applied}
+use Rattle.{c104_event.specs.declared.{events.Event.Event, faults.EventFault.EventFault}, c104_link.proofs.MadeSteps.given}
+use Rattle.{c104_node.specs.{Acts.plain_reply, Nodes.Node}, c104_run.proofs.PartRuns.{numbers_done, numbers_passed, part_empty, single}}
+use Rattle.c104_run.{proofs.{PartRuns.singles, RoundLists.links_passed, RoundRuns.Applied}, specs.EventActs.{acts_step, event_acts}}
+use Rattle.c104_run.specs.Network.{Network, event_fault, event_limit, network_apply, network_step, outcome_if_possible, outcome_if_ready}
+use Rattle.c104_run.specs.{Network.{outcome_within_limit, with_nodes}, RoundParts.PartEnds, Rounds.{claims_of, link_numbers, switch_claims}}
+use Rattle.{c104_switch.specs.Actions.Reply, c104_token.specs.Kinds.Kind, std.proofs.Common.{Bool, List, None, Ok, Option, Result, Some}}
+use Rattle.std.{proofs.Common.{[], ap, arith, false, map, refl, subst, sym, ℕ, ◌<◌, ◌∙◌, ◌∷◌, ◌≡◌}, specs.List.{flat_map, range_with_len}}
 
 module _ {S : Type 0} (apply : S → Event → Applied S) where
   -- the claims of an input, one by one, and those of a switch, input by input
-  pub of_claims : (net after : S) (s i : ℕ) (result : Result Bool EventFault) → PartEnds apply net (flat_map (single (event.Claim s i)) (range_with_len 0 32)) result after → PartEnds apply net (claims_of s i) result after
-  of_claims net after s i result ends = subst (λ es. PartEnds apply net es result after) (ap (flat_map (single (event.Claim s i))) (links_passed 32 refl) ∙ singles (event.Claim s i) link_numbers) ends
+  pub of_claims : (net after : S) (s i : ℕ) (result : Result Bool EventFault) → PartEnds apply net (flat_map (single (Event.Claim s i)) (range_with_len 0 32)) result after → PartEnds apply net (claims_of s i) result after
+  of_claims net after s i result ends = subst (λ es. PartEnds apply net es result after) (ap (flat_map (single (Event.Claim s i))) (links_passed 32 refl) ∙ singles (Event.Claim s i) link_numbers) ends
 
   pub of_inputs : (net after : S) (s : ℕ) (result : Result Bool EventFault) → PartEnds apply net (flat_map (claims_of s) (range_with_len 0 32)) result after → PartEnds apply net (switch_claims s) result after
   of_inputs net after s result ends = subst (λ es. PartEnds apply net es result after) (ap (flat_map (claims_of s)) (links_passed 32 refl)) ends
@@ -32,10 +20,10 @@ module _ {S : Type 0} (apply : S → Event → Applied S) where
   of_events f xs net after result ends = subst (λ es. PartEnds apply net es result after) (singles f xs) ends
 
   -- all claims of an input, where none of them can be made
-  pub idle_claims : (net : S) (s i : ℕ) → ((o : ℕ) → o < 32 → PartEnds apply net (event.Claim s i o ∷ []) (Ok false) net) → PartEnds apply net (claims_of s i) (Ok false) net
+  pub idle_claims : (net : S) (s i : ℕ) → ((o : ℕ) → o < 32 → PartEnds apply net (Event.Claim s i o ∷ []) (Ok false) net) → PartEnds apply net (claims_of s i) (Ok false) net
   idle_claims net s i idle =
-      of_claims net net s i (Ok false) (numbers_done apply (single (event.Claim s i)) 32 32 net net false (omega arith)
-      (numbers_passed apply (single (event.Claim s i)) 32 0 32 net net false (omega arith) (omega arith) (λ k above below. idle k below) (part_empty apply net)))
+      of_claims net net s i (Ok false) (numbers_done apply (single (Event.Claim s i)) 32 32 net net false (omega arith)
+      (numbers_passed apply (single (Event.Claim s i)) 32 0 32 net net false (omega arith) (omega arith) (λ k above below. idle k below) (part_empty apply net)))
 
 module _ {A : Type 0} (kind : Kind A) where
   -- an event keeps the plan

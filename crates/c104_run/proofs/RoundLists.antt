@@ -1,10 +1,7 @@
 -- Lists that a loop over numbers makes: what each further number adds.
-use Rattle.std.proofs.Common.{ℕ, ◌≡◌, ◌+◌, ◌<◌, Bool, List, [], ◌∷◌, ◌++◌, filter, get_or, length, map, take, sym, ap, ◌∙◌, append_assoc}
-use Rattle.std.specs.List.{range_with_len}
-use Rattle.std.proofs.lemmas.List.{map-append, take_more}
-use Rattle.std.proofs.lemmas.List.Elements.{filter-append}
-use Rattle.c104_run.specs.Rounds.{link_numbers}
-use Rattle.c104_node.proofs.Ranges.{range_more}
+use Rattle.{c104_node.proofs.Ranges.range_more, c104_run.specs.Rounds.link_numbers, std.proofs.Common.{Bool, List, [], ap, append_assoc}}
+use Rattle.std.proofs.Common.{filter, get_or, length, map, sym, take, ℕ, ◌++◌, ◌+◌, ◌<◌, ◌∙◌, ◌∷◌, ◌≡◌}
+use Rattle.std.{proofs.lemmas.List.{Elements.filter-append, map-append, take_more}, specs.List.range_with_len}
 
 -- what is made of each of them
 pub map_next : {X : Type 0} (f : ℕ → X) (n : ℕ) (before so_far next : List X) → so_far ≡ before ++ map f (range_with_len 0 n) → next ≡ so_far ++ f n ∷ [] → next ≡ before ++ map f (range_with_len 0 (n + 1))

@@ -1,27 +1,16 @@
 -- A run that stops at the first fault, by a prefix of its events, and what it keeps; and what leaves a
 -- network as it was.
-use Rattle.std.proofs.Common.{Bool, true, false, ◌≡◌, List, [], ◌∷◌, ◌++◌, Result, Ok, Err, Option, Some, None, refl, sym, ap}
-use Rattle.std.proofs.Common.{◌∙◌, subst, inl, inr}
-use Rattle.c104_token.specs.Kinds.{Kind}
-use Rattle.c104_switch.specs.Actions.{Reply}
-use Rattle.c104_switch.specs.declared.actions.ReplyOf.{ReplyOf}
-use Rattle.c104_switch.specs.declared.actions.ReplyOf.TheVariants as reply
-use Rattle.c104_link.proofs.MadeSteps.{given}
-use Rattle.c104_event.specs.declared.events.Event.{Event}
-use Rattle.c104_event.specs.declared.faults.EventFault.{EventFault}
-use Rattle.c104_event.specs.declared.faults.EventFault.TheVariants as fault
-use Rattle.c104_run.proofs.ActSteps.{step_ready}
-use Rattle.c104_node.specs.Acts.{plain_reply}
-use Rattle.c104_run.specs.EventActs.{acts_step, event_acts}
-use Rattle.c104_run.specs.Network.{AnswersEvent, AnswersWith, Network, event_fault, event_limit, network_apply, network_step, outcome_if_possible}
-use Rattle.c104_run.specs.Network.{outcome_if_ready, outcome_within_limit, with_nodes}
-use Rattle.c104_run.specs.NetRecords.{is_done}
-use Rattle.c104_run.specs.EventRuns.{run_events, unless_fault, Answers, EventsEnd, Outcome}
-use Rattle.c104_switch.specs.Actions.{is_ready}
+use Rattle.{c104_event.specs.declared.{events.Event.Event, faults.EventFault.EventFault}, c104_link.proofs.MadeSteps.given}
+use Rattle.{c104_node.specs.Acts.plain_reply, c104_run.{proofs.ActSteps.step_ready, specs.EventActs.{acts_step, event_acts}}}
+use Rattle.c104_run.specs.{EventRuns.{Answers, EventsEnd, Outcome, run_events, unless_fault}, NetRecords.is_done, Network.AnswersEvent}
+use Rattle.c104_run.specs.Network.{AnswersWith, Network, event_fault, event_limit, network_apply, network_step, outcome_if_possible}
+use Rattle.{c104_run.specs.Network.{outcome_if_ready, outcome_within_limit, with_nodes}, c104_switch.specs.Actions.{Reply, is_ready}}
+use Rattle.{c104_switch.specs.declared.actions.ReplyOf.ReplyOf, c104_token.specs.Kinds.Kind, std.proofs.Common.{Bool, Err, List, None, Ok}}
+use Rattle.std.proofs.Common.{Option, Result, Some, [], ap, false, inl, inr, refl, subst, sym, true, ◌++◌, ◌∙◌, ◌∷◌, ◌≡◌}
 
 -- what isn't NotReady is done
-pub is_told : (r : Reply) → (r ≡ reply.NotReady → ⊥) → is_ready r ≡ true
-is_told reply.NotReady other = absurd (other refl)
+pub is_told : (r : Reply) → (r ≡ ReplyOf.NotReady → ⊥) → is_ready r ≡ true
+is_told ReplyOf.NotReady other = absurd (other refl)
 is_told r other = refl
 
 -- what one event comes to
@@ -61,7 +50,7 @@ module _ {S : Type 0} (apply : S → Event → Applied S) where
       elim answer [
         | inl due ↦ inl (sym (run_one s after e (Err f) due))
         | inr refused ↦ inr (record {
-          refused = same_fault f fault.NoMemory refused.0;
+          refused = same_fault f EventFault.NoMemory refused.0;
           front = [];
           event = e;
           rest = [];
@@ -120,11 +109,11 @@ module _ {S R : Type 0} (apply : S → Event → Applied S) (apply_seen : R → 
 module _ {A : Type 0} (kind : Kind A) where
   -- a step that is ready replies something else than that it isn't
   abbrev Replies : Option (Reply × Network A) → Type 0
-  Replies made = (r : Reply × Network A) → made ≡ Some r → r.0 ≡ reply.NotReady → ⊥
+  Replies made = (r : Reply × Network A) → made ≡ Some r → r.0 ≡ ReplyOf.NotReady → ⊥
 
   -- what is told of a reply that is one
-  plain_replies : (r : ReplyOf A) → is_ready r ≡ true → plain_reply kind r ≡ reply.NotReady → ⊥
-  plain_replies reply.Done ready unready = cc
+  plain_replies : (r : ReplyOf A) → is_ready r ≡ true → plain_reply kind r ≡ ReplyOf.NotReady → ⊥
+  plain_replies ReplyOf.Done ready unready = cc
   plain_replies r ready unready = cc
 
   pub step_replies : (net : Network A) (e : Event) → Replies (network_step kind net e)

@@ -1,12 +1,8 @@
 -- A run of several rounds, round by round.
-use Rattle.std.proofs.Common.{ℕ, zero, suc, ◌≡◌, ◌+◌, ◌<◌, ◌-◌, List, ◌∷◌, ◌++◌, Result, Ok, Err, refl, sym, subst, ap, ◌∙◌, append_assoc}
-use Rattle.std.proofs.Common.{append-nil, arith, inl, inr}
-use Rattle.c104_event.specs.declared.events.Event.{Event}
-use Rattle.c104_event.specs.declared.faults.EventFault.{EventFault}
-use Rattle.c104_plan.specs.Plans.{Plan}
-use Rattle.c104_run.specs.EventRuns.{run_events, unless_fault, EventsEnd, Outcome}
-use Rattle.c104_run.specs.Rounds.{round, rounds}
-use Rattle.c104_run.proofs.RoundRuns.{run_append, run_from, Applied}
+use Rattle.{c104_event.specs.declared.{events.Event.Event, faults.EventFault.EventFault}, c104_plan.specs.Plans.Plan}
+use Rattle.c104_run.{proofs.RoundRuns.{Applied, run_append, run_from}, specs.EventRuns.{EventsEnd, Outcome, run_events, unless_fault}}
+use Rattle.{c104_run.specs.Rounds.{round, rounds}, std.proofs.Common.{Err, List, Ok, Result, ap, append-nil, append_assoc, arith, inl, inr}}
+use Rattle.std.proofs.Common.{refl, subst, suc, sym, zero, ℕ, ◌++◌, ◌+◌, ◌-◌, ◌<◌, ◌∙◌, ◌∷◌, ◌≡◌}
 
 -- rounds in two parts
 pub rounds_parts : (plan : Plan) (m n : ℕ) → rounds plan (m + n) ≡ rounds plan m ++ rounds plan n

@@ -1,16 +1,10 @@
 -- What nodes leave that are retired one after the other, the last first.
-use Rattle.std.proofs.Common.{◌≡◌, ◌∙◌, ◌++◌, ℕ, List, [], ◌∷◌, Option, Some, None, append_assoc, append-nil, map, reverse, sym, ap}
-use Rattle.std.proofs.lemmas.List.{map-append, reverse-append}
+use Rattle.c104_node.specs.{Nodes.terminals_of, Records.{NodeRecord, NodeRoom, node_start, node_state, node_trace}, Terminals.Terminal}
+use Rattle.{c104_node.specs.declared.{acts.Entry.Entry, starts.NodeStart.NodeStart}, c104_plan.specs.Plans.Plan}
+use Rattle.c104_run.specs.{FinishedRecords.{FinishedRecord, record_finish}, NetRecords.net_record}
+use Rattle.{c104_token.specs.declared.tokens.Token.Token, std.proofs.Common.{List, None, Option, Some, [], ap, append-nil, append_assoc}}
+use Rattle.std.proofs.{Common.{map, reverse, sym, ℕ, ◌++◌, ◌∙◌, ◌∷◌, ◌≡◌}, lemmas.List.{map-append, reverse-append}}
 use Rattle.std.specs.Option.{option_to_list}
-use Rattle.c104_token.specs.declared.tokens.Token.{Token}
-use Rattle.c104_plan.specs.Plans.{Plan}
-use Rattle.c104_node.specs.declared.acts.Entry.{Entry}
-use Rattle.c104_node.specs.declared.starts.NodeStart.{NodeStart}
-use Rattle.c104_node.specs.Nodes.{terminals_of}
-use Rattle.c104_run.specs.FinishedRecords.{record_finish, FinishedRecord}
-use Rattle.c104_run.specs.NetRecords.{net_record}
-use Rattle.c104_node.specs.Records.{node_start, node_state, node_trace, NodeRecord, NodeRoom}
-use Rattle.c104_node.specs.Terminals.{Terminal}
 
 -- the last of a list leaves what comes before what was left of those behind it
 pub left_on : {X Y : Type 0} (f : X → Y) (all : List Y) (list rest : List X) (x : X) (left more : List Y) → list ≡ rest ++ x ∷ [] → more ≡ left ++ f x ∷ [] → map f list ++ reverse left ≡ all → map f rest ++ reverse more ≡ all

@@ -1,24 +1,14 @@
 -- What traces tell of a run goes on by an event that was done.
-use Rattle.std.proofs.Common.{◌≡◌, ◌∙◌, ◌+◌, ◌<◌, ◌++◌, ℕ, zero, suc, Bool, true, false, List, [], ◌∷◌, Option, Some, None, Result, Ok, append_assoc, append-nil, if◌then◌else◌, length, length-append, map, nat_eq, nat_lt, replicate, slice_get, inl, inr, refl, sym, ap, subst, arith}
-use Rattle.std.proofs.lemmas.Bool.Decides.{nat_tests}
-use Rattle.std.proofs.lemmas.List.{length-map, length-replicate}
+use Rattle.{c104_event.specs.declared.{events.Event.Event, faults.EventFault.EventFault}, c104_node.proofs.WireEnds.get_set_other}
+use Rattle.c104_node.{proofs.WireEnds.get_set_same, specs.{Nodes.{Node, is_switch}, Traces.{Deed, noted_all, noted_at, part, seatless}}}
+use Rattle.c104_node.specs.declared.{acts.Entry.Entry, node.NodeOf.TheVariants.{Switch, Terminal}, stamps.Stamp.Stamp}
+use Rattle.{c104_plan.specs.Plans.Plan, c104_run.specs.{Balance.AreInPlace, EventDeeds.event_deeds, EventPlaces.event_place}}
+use Rattle.c104_run.specs.{Network.{AnswersWith, Network, network_apply, network_of}, Runs.{AreBehind, AreInOrder, IsDoneRun, IsRunRecord}}
+use Rattle.{c104_run.specs.Runs.{at_node, run_deeds}, c104_switch.specs.Actions.{Reply, is_ready}, c104_token.specs.Kinds.Kind}
+use Rattle.std.proofs.Common.{Bool, List, None, Ok, Option, Result, Some, [], ap, append-nil, append_assoc, arith, false, if◌then◌else◌}
+use Rattle.std.proofs.Common.{inl, inr, length, length-append, map, nat_eq, nat_lt, refl, replicate, slice_get, subst, suc, sym, true, zero}
+use Rattle.std.proofs.{Common.{ℕ, ◌++◌, ◌+◌, ◌<◌, ◌∙◌, ◌∷◌, ◌≡◌}, lemmas.{Bool.Decides.nat_tests, List.{length-map, length-replicate}}}
 use Rattle.std.specs.Option.{option_map}
-use Rattle.c104_token.specs.Kinds.{Kind}
-use Rattle.c104_switch.specs.Actions.{Reply, is_ready}
-use Rattle.c104_plan.specs.Plans.{Plan}
-use Rattle.c104_event.specs.declared.events.Event.{Event}
-use Rattle.c104_event.specs.declared.faults.EventFault.{EventFault}
-use Rattle.c104_node.specs.declared.acts.Entry.{Entry}
-use Rattle.c104_node.specs.declared.stamps.Stamp.{Stamp}
-use Rattle.c104_node.specs.declared.node.NodeOf.TheVariants.{Switch, Terminal}
-use Rattle.c104_run.specs.Balance.{AreInPlace}
-use Rattle.c104_node.specs.Nodes.{is_switch, Node}
-use Rattle.c104_run.specs.EventPlaces.{event_place}
-use Rattle.c104_run.specs.Network.{Network, network_apply, network_of, AnswersWith}
-use Rattle.c104_node.specs.Traces.{Deed, noted_all, noted_at, seatless, part}
-use Rattle.c104_run.specs.EventDeeds.{event_deeds}
-use Rattle.c104_run.specs.Runs.{AreBehind, AreInOrder, IsDoneRun, IsRunRecord, at_node, run_deeds}
-use Rattle.c104_node.proofs.WireEnds.{get_set_same, get_set_other}
 
 -- whether there is a switch at a place
 abbrev is_switch_at : {A : Type 0} → List (Node A) → ℕ → Bool

@@ -1,9 +1,6 @@
 -- A run of events goes on by one event.
-use Rattle.std.proofs.Common.{List, [], ◌∷◌, ◌++◌, Result, refl, subst}
-use Rattle.c104_switch.specs.Actions.{Reply}
-use Rattle.c104_event.specs.declared.events.Event.{Event}
-use Rattle.c104_event.specs.declared.faults.EventFault.{EventFault}
-use Rattle.c104_run.specs.EventRuns.{Answers, AnswersAll}
+use Rattle.{c104_event.specs.declared.{events.Event.Event, faults.EventFault.EventFault}, c104_run.specs.EventRuns.{Answers, AnswersAll}}
+use Rattle.{c104_switch.specs.Actions.Reply, std.proofs.Common.{List, Result, [], refl, subst, ◌++◌, ◌∷◌}}
 
 module _ {S : Type 0} (apply : S → Event → Result Reply EventFault × S) where
   pub run_on : (s mid after : S) (events : List Event) (answers : List (Result Reply EventFault)) (e : Event) (a : Result Reply EventFault) →

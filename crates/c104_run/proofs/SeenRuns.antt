@@ -1,12 +1,8 @@
 -- A run as it is seen, where each event is seen so in every state of which something is kept.
-use Rattle.std.proofs.Common.{◌≡◌, ◌∙◌, Bool, List, Result, Ok, Err, inl, inr, refl, sym, ap}
-use Rattle.c104_switch.specs.Actions.{Reply}
-use Rattle.c104_event.specs.declared.events.Event.{Event}
-use Rattle.c104_event.specs.declared.faults.EventFault.{EventFault}
-use Rattle.c104_run.specs.EventRuns.{run_events, Answers, EventsEnd, Outcome}
-use Rattle.c104_run.specs.NetRecords.{is_done}
-use Rattle.c104_run.specs.RoundParts.{PartEnds}
-use Rattle.c104_run.proofs.RoundRuns.{ends_keep, run_seen, Applied}
+use Rattle.{c104_event.specs.declared.{events.Event.Event, faults.EventFault.EventFault}, c104_run.proofs.RoundRuns.{Applied, ends_keep}}
+use Rattle.c104_run.{proofs.RoundRuns.run_seen, specs.{EventRuns.{Answers, EventsEnd, Outcome, run_events}, NetRecords.is_done}}
+use Rattle.{c104_run.specs.RoundParts.PartEnds, c104_switch.specs.Actions.Reply, std.proofs.Common.{Bool, Err, List, Ok, Result, ap, inl}}
+use Rattle.std.proofs.Common.{inr, refl, sym, ◌∙◌, ◌≡◌}
 
 module _ {S R : Type 0} (apply : S → Event → Applied S) (apply_seen : R → Event → Applied R) (seen : S → R) (Kept : S → Type 0) (keeps : (s : S) (e : Event) → Kept s → Kept (apply s e).1)
     (follows : (s : S) (e : Event) → Kept s → ◌≡◌ {A = Applied R} ((apply s e).0, seen (apply s e).1) (apply_seen (seen s) e)) where

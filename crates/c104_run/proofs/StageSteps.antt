@@ -1,23 +1,14 @@
 -- An event of a stage: what it answers, and what is kept of it.
-use Rattle.std.proofs.Common.{◌≡◌, ◌∙◌, ◌&&◌, ℕ, Bool, true, false, List, [], ◌∷◌, Option, Some, None, Result, Ok, Err, IfOk, if◌then◌else◌, is_some, map, inl, inr, refl, sym, ap}
-use Rattle.c104_token.specs.Kinds.{Kind}
-use Rattle.c104_switch.specs.Actions.{Reply, is_ready}
-use Rattle.c104_switch.specs.declared.actions.ReplyOf.TheVariants as reply
-use Rattle.c104_plan.specs.Plans.{Plan}
-use Rattle.c104_event.specs.declared.events.Event.{Event}
-use Rattle.c104_event.specs.declared.faults.EventFault.{EventFault}
-use Rattle.c104_event.specs.declared.faults.EventFault.TheVariants as fault
-use Rattle.c104_node.specs.declared.acts.Entry.{Entry}
-use Rattle.c104_run.specs.Network.{Network, network_apply, network_step, outcome_if_possible, outcome_if_ready, outcome_within_limit, AnswersWith, WouldBeDone}
-use Rattle.c104_node.specs.Places.{IsFullByTrace, PlaceBase, Shown, fulls, is_kept_full, room_fault, traces}
-use Rattle.c104_run.specs.NetRecords.{is_done, ticket_after}
-use Rattle.c104_run.specs.EventsAtPlaces.{EventDone}
-use Rattle.c104_node.specs.Traces.{kept_of, noted_all, seatless}
-use Rattle.c104_run.specs.EventDeeds.{event_deeds, event_full}
-use Rattle.c104_run.specs.EventRuns.{Answers}
-use Rattle.c104_run.specs.Stages.{stage_after, stage_apply, stage_full, stage_of, unless_full, Stage}
-use Rattle.c104_run.proofs.UndoneEvents.{undone_deeds}
-use Rattle.c104_run.proofs.RoundRuns.{is_told, step_replies, undone_stays, Applied}
+use Rattle.{c104_event.specs.declared.{events.Event.Event, faults.EventFault.EventFault}, c104_node.specs.Places.{IsFullByTrace, PlaceBase}}
+use Rattle.c104_node.specs.{Places.{Shown, fulls, is_kept_full, room_fault, traces}, Traces.{kept_of, noted_all, seatless}}
+use Rattle.{c104_node.specs.declared.acts.Entry.Entry, c104_plan.specs.Plans.Plan, c104_run.proofs.RoundRuns.{Applied, is_told}}
+use Rattle.c104_run.{proofs.{RoundRuns.{step_replies, undone_stays}, UndoneEvents.undone_deeds}, specs.EventDeeds.{event_deeds, event_full}}
+use Rattle.c104_run.specs.{EventRuns.Answers, EventsAtPlaces.EventDone, NetRecords.{is_done, ticket_after}, Network.{AnswersWith, Network}}
+use Rattle.c104_run.specs.Network.{WouldBeDone, network_apply, network_step, outcome_if_possible, outcome_if_ready, outcome_within_limit}
+use Rattle.{c104_run.specs.Stages.{Stage, stage_after, stage_apply, stage_full, stage_of, unless_full}, c104_switch.specs.Actions.Reply}
+use Rattle.{c104_switch.specs.{Actions.is_ready, declared.actions.ReplyOf.ReplyOf}, c104_token.specs.Kinds.Kind, std.proofs.Common.Bool}
+use Rattle.std.proofs.Common.{Err, IfOk, List, None, Ok, Option, Result, Some, [], ap, false, if◌then◌else◌, inl, inr, is_some, map, refl}
+use Rattle.std.proofs.Common.{sym, true, ℕ, ◌&&◌, ◌∙◌, ◌∷◌, ◌≡◌}
 
 -- where each place is full where its trace is, that of all is told by their traces
 pub fulls_kept : {A P : Type 0} (keeps : Bool) (shown : P → Shown A) → ((p : P) → IsFullByTrace keeps (shown p)) → (places : List P) → fulls (map shown places) ≡ map (is_kept_full keeps) (traces (map shown places))
@@ -80,14 +71,14 @@ module _ {A : Type 0} (kind : Kind A) (keeps : Bool) (s after : Stage A) (full :
 
     -- a full trace refuses an event that would be done, and no other
     is_open : (full && is_done due.0) ≡ false → unless_full (stage_full keeps s e) s.network due ≡ due
-    is_open free = ap (λ b. unless_full b s.network due) (sym told) ∙ ap (λ b. if b then (Err fault.TraceFull, s.network) else due) free
+    is_open free = ap (λ b. unless_full b s.network due) (sym told) ∙ ap (λ b. if b then (Err EventFault.TraceFull, s.network) else due) free
 
-    is_refused : full ≡ true → is_done due.0 ≡ true → unless_full (stage_full keeps s e) s.network due ≡ (Err fault.TraceFull, s.network)
-    is_refused is done = ap (λ b. unless_full b s.network due) (sym told ∙ is) ∙ ap (λ b. if b then (Err fault.TraceFull, s.network) else due) done
+    is_refused : full ≡ true → is_done due.0 ≡ true → unless_full (stage_full keeps s e) s.network due ≡ (Err EventFault.TraceFull, s.network)
+    is_refused is done = ap (λ b. unless_full b s.network due) (sym told ∙ is) ∙ ap (λ b. if b then (Err EventFault.TraceFull, s.network) else due) done
 
     refused_stage : (f : Bool) → full ≡ f → (answer : Result Reply EventFault) → Keeps answer → answer ≡ Err (room_fault f) → WouldBeDone kind s.network e → after.network ≡ s.network → Answers (stage_apply kind keeps) s e answer after
     refused_stage true is answer kept refused wanted same =
-        inl (due_stage answer kept (ap (λ (a : Result Reply EventFault). (a, after.network)) refused ∙ ap (λ (n : Network A). (Err fault.TraceFull, n)) same ∙ sym (is_refused is (would kind s.network e wanted))))
+        inl (due_stage answer kept (ap (λ (a : Result Reply EventFault). (a, after.network)) refused ∙ ap (λ (n : Network A). (Err EventFault.TraceFull, n)) same ∙ sym (is_refused is (would kind s.network e wanted))))
     refused_stage false is answer kept refused wanted same =
         inr (
           refused,
@@ -120,7 +111,7 @@ module _ {A : Type 0} (kind : Kind A) (keeps : Bool) (plan : Plan) (olds news : 
 
 module _ {A : Type 0} (kind : Kind A) where
   -- an event that isn't ready
-  pub unready_stage : (keeps : Bool) (s : Stage A) (e : Event) → network_apply kind s.network e ≡ (Ok reply.NotReady, s.network) → Answers (stage_apply kind keeps) s e (Ok reply.NotReady) s
+  pub unready_stage : (keeps : Bool) (s : Stage A) (e : Event) → network_apply kind s.network e ≡ (Ok ReplyOf.NotReady, s.network) → Answers (stage_apply kind keeps) s e (Ok ReplyOf.NotReady) s
   unready_stage keeps s e unready =
-      stage_answers kind keeps s s (stage_full keeps s e) e refl (Ok reply.NotReady)
-      (refl, sym (ap (noted_all keeps s.traces) (undone_deeds s.network.plan (seatless s.count) e (Ok reply.NotReady) refl)), refl) (inl (sym unready)) (λ ready. absurd (cc ready))
+      stage_answers kind keeps s s (stage_full keeps s e) e refl (Ok ReplyOf.NotReady)
+      (refl, sym (ap (noted_all keeps s.traces) (undone_deeds s.network.plan (seatless s.count) e (Ok ReplyOf.NotReady) refl)), refl) (inl (sym unready)) (λ ready. absurd (cc ready))

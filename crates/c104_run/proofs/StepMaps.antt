@@ -1,42 +1,20 @@
 -- Events over one kind of token and over another: what is told of tokens beside themselves can be taken away.
-use Rattle.c104_plan.specs.Wiring.{peer}
-use Rattle.c104_event.specs.declared.events.Event.{Event}
-use Rattle.c104_event.specs.declared.faults.EventFault.{EventFault}
-use Rattle.c104_run.proofs.SwitchMaps.{control_node_map}
-use Rattle.c104_run.proofs.TurnMaps.{claim_node_map, input_node_map}
+use Rattle.{c104_event.specs.declared.{events.Event.Event, faults.EventFault.EventFault}, c104_link.specs.Steps.◌>>=◌}
+use Rattle.c104_node.specs.{Acts.{control_by, done_by, node_act, nodes_act, plain_reply, token_by}, MappedNodes.map_node, Nodes.Node}
+use Rattle.c104_node.specs.{Nodes.{arrived_tokens, node_control, node_send, waiting_tokens}, PortActs.{Acts, act_limit, acts_limit}}
+use Rattle.c104_node.specs.{PortActs.{far_act, near_act}, Terminals.{Terminal, sent_from, sent_tokens}, declared.acts.ActOf.ActOf}
+use Rattle.c104_node.specs.declared.{crossings.Crossing.{Crossing, TheVariants.{Grant, Token}}, node.NodeOf.NodeOf}
+use Rattle.{c104_plan.specs.{Plans.Plan, Wiring.peer, declared.ports.Port.Port}, c104_run.proofs.SwitchMaps.control_node_map}
 use Rattle.c104_run.proofs.TokenMaps.{bind_both, credit_in_node_map, credit_out_node_map, drain_node_map, enter_node_map, leave_node_map}
-use Rattle.c104_plan.specs.Plans.{Plan}
-use Rattle.c104_plan.specs.declared.ports.Port.{Port}
-use Rattle.c104_plan.specs.declared.ports.Port.TheVariants as port
-use Rattle.c104_link.specs.Steps.{◌>>=◌}
-use Rattle.c104_node.specs.Acts.{control_by, done_by, node_act, nodes_act, plain_reply, token_by}
-use Rattle.c104_run.specs.EventActs.{acts_step, crossing_acts, event_acts, port_place}
-use Rattle.c104_node.specs.PortActs.{Acts, act_limit, acts_limit, far_act, near_act}
-use Rattle.c104_run.specs.Network.{Network, event_fault, event_limit, network_apply, network_step, outcome_if_possible, outcome_if_ready, outcome_within_limit, terminal_place, told_step, with_nodes}
-use Rattle.c104_node.specs.declared.acts.ActOf.{ActOf}
-use Rattle.c104_node.specs.declared.acts.ActOf.TheVariants as act
-use Rattle.c104_node.specs.declared.crossings.Crossing.{Crossing}
-use Rattle.c104_node.specs.declared.crossings.Crossing.TheVariants.{Grant, Token}
-use Rattle.c104_switch.specs.declared.actions.ActionOf.{ActionOf}
-use Rattle.c104_switch.specs.declared.actions.ActionOf.TheVariants as action
-use Rattle.c104_switch.specs.declared.actions.ReplyOf.{ReplyOf}
-use Rattle.c104_node.specs.Nodes.{Node, arrived_tokens, node_control, node_send, waiting_tokens}
-use Rattle.c104_run.specs.Runs.{IsDoneRun}
-use Rattle.c104_node.specs.Terminals.{sent_from, sent_tokens, Terminal}
-use Rattle.c104_run.specs.TracedRuns.{map_network}
-use Rattle.c104_node.specs.MappedNodes.{map_node}
-use Rattle.c104_switch.specs.Actions.{Reply}
-use Rattle.c104_token.specs.Kinds.{Kind}
-use Rattle.c104_token.specs.Packets.{packet_tokens}
-use Rattle.c104_token.specs.declared.packets.Packet.{Packet}
-use Rattle.c104_token.specs.declared.tokens.Token.{Token as PlainToken}
-use Rattle.c104_token.specs.declared.tokens.Token.TheVariants.{Byte}
-use Rattle.std.proofs.Common.{arith, IfSome, List, None, Ok, Option, Result, Some, [], ap, length, map, option_map, refl, slice_get, slice_set, subst, suc, sym, ℕ, ◌-◌, ◌∙◌, ◌∷◌, ◌≡◌}
-use Rattle.std.proofs.lemmas.List.{length-map, map-append, map-set}
+use Rattle.c104_run.{proofs.TurnMaps.{claim_node_map, input_node_map}, specs.EventActs.{acts_step, crossing_acts, event_acts, port_place}}
+use Rattle.c104_run.specs.Network.{Network, event_fault, event_limit, network_apply, network_step, outcome_if_possible, outcome_if_ready}
+use Rattle.c104_run.specs.{Network.{outcome_within_limit, terminal_place, told_step, with_nodes}, Runs.IsDoneRun, TracedRuns.map_network}
+use Rattle.{c104_switch.specs.{Actions.Reply, declared.actions.{ActionOf.ActionOf, ReplyOf.ReplyOf}}, c104_token.specs.Kinds.Kind}
+use Rattle.c104_token.specs.{Packets.packet_tokens, declared.{packets.Packet.Packet, tokens.Token.{TheVariants.Byte, Token as PlainToken}}}
+use Rattle.std.proofs.Common.{IfSome, List, None, Ok, Option, Result, Some, [], ap, arith, length, map, option_map, refl, slice_get}
+use Rattle.std.proofs.{Common.{slice_set, subst, suc, sym, ℕ, ◌-◌, ◌∙◌, ◌∷◌, ◌≡◌}, lemmas.List.{length-map, map-append, map-set}}
 use Rattle.std.proofs.lemmas.Option.{slice_get-map}
 use Rattle.c104_event.specs.declared.events.Event.TheVariants as event
-use Rattle.c104_node.specs.declared.node.NodeOf.TheVariants as node
-use Rattle.c104_switch.specs.declared.actions.ReplyOf.TheVariants as reply
 
 module _ {A B : Type 0} (f : A → B) (from : Kind A) (to : Kind B) (plain_is : (x : A) → to.plain (f x) ≡ from.plain x) (random_is : (j b : ℕ) → to.random j (Byte b) ≡ f (from.random j (Byte b))) where
   sent_map : (t n : ℕ) → ((j : ℕ) (x : PlainToken) → to.sent t n j x ≡ f (from.sent t n j x)) → (j : ℕ) (xs : List PlainToken) → sent_from to t n j xs ≡ map f (sent_from from t n j xs)
@@ -45,39 +23,39 @@ module _ {A B : Type 0} (f : A → B) (from : Kind A) (to : Kind B) (plain_is : 
 
   -- what a node sends is the same, mapped
   abbrev IsSentHere : ℕ → Option (Node A) → Type 0
-  IsSentHere t o = (T : Terminal A) → o ≡ Some (node.Terminal T) → (j : ℕ) (x : PlainToken) → to.sent t (length T.sent) j x ≡ f (from.sent t (length T.sent) j x)
+  IsSentHere t o = (T : Terminal A) → o ≡ Some (NodeOf.Terminal T) → (j : ℕ) (x : PlainToken) → to.sent t (length T.sent) j x ≡ f (from.sent t (length T.sent) j x)
 
   send_map : (t : ℕ) (p : Packet) (n : Node A) → IsSentHere t (Some n) → node_send to t p (map_node f n) ≡ option_map (map_node f) (node_send from t p n)
-  send_map t p (node.Switch S) alike = refl
-  send_map t p (node.Terminal T) alike = ap (λ z. Some (node.Terminal z)) (rw (sent_map t (length T.sent) (alike T refl) 0 (packet_tokens p), ← map-append f T.output.items (sent_tokens from t (length T.sent) p)) refl)
+  send_map t p (NodeOf.Switch S) alike = refl
+  send_map t p (NodeOf.Terminal T) alike = ap (λ z. Some (NodeOf.Terminal z)) (rw (sent_map t (length T.sent) (alike T refl) 0 (packet_tokens p), ← map-append f T.output.items (sent_tokens from t (length T.sent) p)) refl)
 
   abbrev pub map_done : Reply × Network A → Reply × Network B
   map_done r = (r.0, map_network f r.1)
 
   -- acts and replies over the other kind
   abbrev map_action : ActionOf A → ActionOf B
-  map_action (action.Enter l x) = action.Enter l (f x)
-  map_action (action.Leave l) = action.Leave l
-  map_action (action.CreditOut l) = action.CreditOut l
-  map_action (action.CreditIn l) = action.CreditIn l
-  map_action (action.Input l word) = action.Input l word
-  map_action (action.Claim i o) = action.Claim i o
-  map_action (action.Control bytes) = action.Control bytes
+  map_action (ActionOf.Enter l x) = ActionOf.Enter l (f x)
+  map_action (ActionOf.Leave l) = ActionOf.Leave l
+  map_action (ActionOf.CreditOut l) = ActionOf.CreditOut l
+  map_action (ActionOf.CreditIn l) = ActionOf.CreditIn l
+  map_action (ActionOf.Input l word) = ActionOf.Input l word
+  map_action (ActionOf.Claim i o) = ActionOf.Claim i o
+  map_action (ActionOf.Control bytes) = ActionOf.Control bytes
 
   abbrev map_act : ActOf A → ActOf B
-  map_act (act.Step a) = act.Step (map_action a)
-  map_act (act.Send packet) = act.Send packet
-  map_act act.Drain = act.Drain
-  map_act act.Leave = act.Leave
-  map_act (act.Enter x) = act.Enter (f x)
-  map_act act.CreditOut = act.CreditOut
-  map_act act.CreditIn = act.CreditIn
+  map_act (ActOf.Step a) = ActOf.Step (map_action a)
+  map_act (ActOf.Send packet) = ActOf.Send packet
+  map_act ActOf.Drain = ActOf.Drain
+  map_act ActOf.Leave = ActOf.Leave
+  map_act (ActOf.Enter x) = ActOf.Enter (f x)
+  map_act ActOf.CreditOut = ActOf.CreditOut
+  map_act ActOf.CreditIn = ActOf.CreditIn
 
   abbrev map_reply : ReplyOf A → ReplyOf B
-  map_reply reply.Done = reply.Done
-  map_reply reply.NotReady = reply.NotReady
-  map_reply (reply.Token x) = reply.Token (f x)
-  map_reply (reply.Control bytes) = reply.Control bytes
+  map_reply ReplyOf.Done = ReplyOf.Done
+  map_reply ReplyOf.NotReady = ReplyOf.NotReady
+  map_reply (ReplyOf.Token x) = ReplyOf.Token (f x)
+  map_reply (ReplyOf.Control bytes) = ReplyOf.Control bytes
 
   abbrev map_acts : Acts A → Acts B
   map_acts (Acts.Alone k a) = Acts.Alone k (map_act a)
@@ -100,44 +78,44 @@ module _ {A B : Type 0} (f : A → B) (from : Kind A) (to : Kind B) (plain_is : 
 
   -- what an act sends is the same, mapped
   abbrev IsSentBy : ℕ → Option (Node A) → ActOf A → Type 0
-  IsSentBy number o (act.Send packet) = IsSentHere number o
+  IsSentBy number o (ActOf.Send packet) = IsSentHere number o
   IsSentBy number o a = Unit {0}
 
   -- an act of a node
   act_map : (number : ℕ) (a : ActOf A) (n : Node A) → IsSentBy number (Some n) a → node_act to number (map_act a) (map_node f n) ≡ option_map map_made (node_act from number a n)
-  act_map number (act.Step (action.Enter l x)) (node.Switch S) alike = done_map _ _ (enter_node_map f x l (node.Switch S))
-  act_map number (act.Step (action.Leave l)) (node.Switch S) alike = moved_map _ _ (leave_node_map f l (node.Switch S))
-  act_map number (act.Step (action.CreditOut l)) (node.Switch S) alike = done_map _ _ (credit_out_node_map f l (node.Switch S))
-  act_map number (act.Step (action.CreditIn l)) (node.Switch S) alike = done_map _ _ (credit_in_node_map f l (node.Switch S))
-  act_map number (act.Step (action.Input l word)) (node.Switch S) alike = done_map _ _ (input_node_map f from to plain_is random_is l word (node.Switch S))
-  act_map number (act.Step (action.Claim i o)) (node.Switch S) alike = done_map _ _ (claim_node_map f from to plain_is random_is i o (node.Switch S))
-  act_map number (act.Step (action.Control bytes)) (node.Switch S) alike = replied_map (node_control bytes (node.Switch S)) (node_control bytes (map_node f (node.Switch S))) (control_node_map f bytes (node.Switch S))
-  act_map number (act.Send packet) n alike = done_map _ _ (send_map number packet n alike)
-  act_map number act.Drain n alike = moved_map _ _ (drain_node_map f n)
-  act_map number act.Leave (node.Terminal T) alike = moved_map _ _ (leave_node_map f 0 (node.Terminal T))
-  act_map number (act.Enter x) (node.Terminal T) alike = done_map _ _ (enter_node_map f x 0 (node.Terminal T))
-  act_map number act.CreditOut (node.Terminal T) alike = done_map _ _ (credit_out_node_map f 0 (node.Terminal T))
-  act_map number act.CreditIn (node.Terminal T) alike = done_map _ _ (credit_in_node_map f 0 (node.Terminal T))
+  act_map number (ActOf.Step (ActionOf.Enter l x)) (NodeOf.Switch S) alike = done_map _ _ (enter_node_map f x l (NodeOf.Switch S))
+  act_map number (ActOf.Step (ActionOf.Leave l)) (NodeOf.Switch S) alike = moved_map _ _ (leave_node_map f l (NodeOf.Switch S))
+  act_map number (ActOf.Step (ActionOf.CreditOut l)) (NodeOf.Switch S) alike = done_map _ _ (credit_out_node_map f l (NodeOf.Switch S))
+  act_map number (ActOf.Step (ActionOf.CreditIn l)) (NodeOf.Switch S) alike = done_map _ _ (credit_in_node_map f l (NodeOf.Switch S))
+  act_map number (ActOf.Step (ActionOf.Input l word)) (NodeOf.Switch S) alike = done_map _ _ (input_node_map f from to plain_is random_is l word (NodeOf.Switch S))
+  act_map number (ActOf.Step (ActionOf.Claim i o)) (NodeOf.Switch S) alike = done_map _ _ (claim_node_map f from to plain_is random_is i o (NodeOf.Switch S))
+  act_map number (ActOf.Step (ActionOf.Control bytes)) (NodeOf.Switch S) alike = replied_map (node_control bytes (NodeOf.Switch S)) (node_control bytes (map_node f (NodeOf.Switch S))) (control_node_map f bytes (NodeOf.Switch S))
+  act_map number (ActOf.Send packet) n alike = done_map _ _ (send_map number packet n alike)
+  act_map number ActOf.Drain n alike = moved_map _ _ (drain_node_map f n)
+  act_map number ActOf.Leave (NodeOf.Terminal T) alike = moved_map _ _ (leave_node_map f 0 (NodeOf.Terminal T))
+  act_map number (ActOf.Enter x) (NodeOf.Terminal T) alike = done_map _ _ (enter_node_map f x 0 (NodeOf.Terminal T))
+  act_map number ActOf.CreditOut (NodeOf.Terminal T) alike = done_map _ _ (credit_out_node_map f 0 (NodeOf.Terminal T))
+  act_map number ActOf.CreditIn (NodeOf.Terminal T) alike = done_map _ _ (credit_in_node_map f 0 (NodeOf.Terminal T))
   act_map number a n alike = refl
 
   near_map : (crossing : Crossing) (p : Port) → near_act crossing p ≡ map_act (near_act crossing p)
-  near_map Token (port.Switch s l) = refl
-  near_map Grant (port.Switch s l) = refl
+  near_map Token (Port.Switch s l) = refl
+  near_map Grant (Port.Switch s l) = refl
   near_map crossing p = refl
 
   far_map : (q : Port) (r : ReplyOf A) → far_act q (map_reply r) ≡ map_act (far_act q r)
-  far_map (port.Switch s l) (reply.Token x) = refl
-  far_map (port.Terminal t) (reply.Token x) = refl
+  far_map (Port.Switch s l) (ReplyOf.Token x) = refl
+  far_map (Port.Terminal t) (ReplyOf.Token x) = refl
   far_map q r = refl
 
   near_alike : (crossing : Crossing) (p : Port) (o : Option (Node A)) → IsSentBy 0 o (near_act crossing p)
-  near_alike Token (port.Switch s l) o = tt
-  near_alike Grant (port.Switch s l) o = tt
+  near_alike Token (Port.Switch s l) o = tt
+  near_alike Grant (Port.Switch s l) o = tt
   near_alike crossing p o = tt
 
   far_alike : (q : Port) (r : ReplyOf A) (o : Option (Node A)) → IsSentBy 0 o (far_act q r)
-  far_alike (port.Switch s l) (reply.Token x) o = tt
-  far_alike (port.Terminal t) (reply.Token x) o = tt
+  far_alike (Port.Switch s l) (ReplyOf.Token x) o = tt
+  far_alike (Port.Terminal t) (ReplyOf.Token x) o = tt
   far_alike q r o = tt
 
   abbrev set_at : {C : Type 0} → List (Node C) → ℕ → ReplyOf C × Node C → Option (ReplyOf C × List (Node C))
@@ -180,7 +158,7 @@ module _ {A B : Type 0} (f : A → B) (from : Kind A) (to : Kind B) (plain_is : 
   events_map plan e = refl
 
   plain_map : (r : ReplyOf A) → plain_reply to (map_reply r) ≡ plain_reply from r
-  plain_map (reply.Token x) = ap reply.Token (plain_is x)
+  plain_map (ReplyOf.Token x) = ap ReplyOf.Token (plain_is x)
   plain_map r = refl
 
   abbrev told_so : Network A → List (Node A) → Reply → Reply × Network B
@@ -194,16 +172,16 @@ module _ {A B : Type 0} (f : A → B) (from : Kind A) (to : Kind B) (plain_is : 
   step_from kind net acts = told_step kind net (acts_step kind net.plan net.nodes acts)
 
   waiting_map : (n : Node A) → length (waiting_tokens (map_node f n)) ≡ length (waiting_tokens n)
-  waiting_map (node.Switch S) = refl
-  waiting_map (node.Terminal T) = length-map T.output.items f
+  waiting_map (NodeOf.Switch S) = refl
+  waiting_map (NodeOf.Terminal T) = length-map T.output.items f
 
   arrived_map : (n : Node A) → arrived_tokens (map_node f n) ≡ map f (arrived_tokens n)
-  arrived_map (node.Switch S) = refl
-  arrived_map (node.Terminal T) = refl
+  arrived_map (NodeOf.Switch S) = refl
+  arrived_map (NodeOf.Terminal T) = refl
 
   act_limit_map : (o : Option (Node A)) (a : ActOf A) → act_limit (option_map (map_node f) o) (map_act a) ≡ act_limit o a
-  act_limit_map (Some n) (act.Send packet) = rw (waiting_map n) refl
-  act_limit_map (Some n) act.Drain = rw (arrived_map n, length-map (arrived_tokens n) f) refl
+  act_limit_map (Some n) (ActOf.Send packet) = rw (waiting_map n) refl
+  act_limit_map (Some n) ActOf.Drain = rw (arrived_map n, length-map (arrived_tokens n) f) refl
   act_limit_map o a = refl
 
   pub limit_map : (net : Network A) (e : Event) → event_limit (map_network f net) e ≡ event_limit net e

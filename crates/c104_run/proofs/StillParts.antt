@@ -1,29 +1,15 @@
 -- A round is walked part by part: each of its events has a reason why it isn't ready exactly where the network stands
 -- still.
-use Rattle.c104_plan.proofs.RangeLists.{all_of_each}
-use Rattle.c104_plan.specs.Plans.{IsPlan, Plan}
-use Rattle.c104_event.specs.declared.events.Event.{Event}
-use Rattle.c104_event.specs.declared.faults.EventFault.{EventFault}
-use Rattle.c104_link.proofs.MadeSteps.{All-place}
-use Rattle.c104_run.proofs.PartRuns.{single, singles}
-use Rattle.c104_run.proofs.PortWalks.{of_switch, switches_each, wired_by, wired_each}
-use Rattle.c104_run.proofs.RoundLists.{links_passed}
-use Rattle.c104_run.proofs.UnreadyEvents.{unready_answered}
-use Rattle.c104_run.specs.Balance.{IsSteady}
-use Rattle.c104_run.specs.Network.{Network, network_apply}
-use Rattle.c104_run.specs.RoundParts.{port_events}
-use Rattle.c104_run.specs.Reasons.{is_unready}
+use Rattle.{c104_event.specs.declared.{events.Event.Event, faults.EventFault.EventFault}, c104_link.proofs.MadeSteps.All-place}
+use Rattle.{c104_node.specs.declared.port_part.PortPart.PortPart, c104_plan.{proofs.RangeLists.all_of_each, specs.Plans.{IsPlan, Plan}}}
+use Rattle.{c104_plan.specs.declared.ports.Port.Port, c104_run.proofs.{PartRuns.{single, singles}, PortWalks.{of_switch, switches_each}}}
+use Rattle.c104_run.proofs.{PortWalks.{wired_by, wired_each}, RoundLists.links_passed, UnreadyEvents.unready_answered}
+use Rattle.c104_run.specs.{Balance.IsSteady, Network.{Network, network_apply}, Reasons.is_unready, RoundParts.port_events}
 use Rattle.c104_run.specs.Rounds.{all_drains, claims_of, link_numbers, round, switch_claims, wired_links, wired_terminals}
-use Rattle.c104_run.specs.Standstill.{IsUnready, StandsStill, has_reason, have_reasons}
-use Rattle.c104_node.specs.declared.port_part.PortPart.{PortPart}
-use Rattle.c104_switch.specs.Actions.{Reply}
-use Rattle.c104_token.specs.Kinds.{Kind}
-use Rattle.std.specs.List.{AllByRecursion, flat_map, list_all, range_with_len}
-use Rattle.std.proofs.Common.{Bool, List, Ok, Result, Some, [], ap, arith, false, length, refl, slice_get, suc, sym, true, ℕ, ◌&&◌, ◌+◌, ◌-◌, ◌<◌, ◌∙◌, ◌∷◌, ◌≡◌, ◌≤◌}
-use Rattle.std.proofs.lemmas.List.Folds.{list_all-append}
-use Rattle.c104_plan.specs.declared.ports.Port.TheVariants as port
-use Rattle.c104_event.specs.declared.events.Event.TheVariants as event
-use Rattle.c104_switch.specs.declared.actions.ReplyOf.TheVariants as reply
+use Rattle.{c104_run.specs.Standstill.{IsUnready, StandsStill, has_reason, have_reasons}, c104_switch.specs.Actions.Reply}
+use Rattle.{c104_switch.specs.declared.actions.ReplyOf.ReplyOf, c104_token.specs.Kinds.Kind, std.proofs.Common.{Bool, List, Ok, Result}}
+use Rattle.std.proofs.Common.{Some, [], ap, arith, false, length, refl, slice_get, suc, sym, true, ℕ, ◌&&◌, ◌+◌, ◌-◌, ◌<◌, ◌∙◌, ◌∷◌, ◌≡◌}
+use Rattle.std.{proofs.{Common.◌≤◌, lemmas.List.Folds.list_all-append}, specs.List.{AllByRecursion, flat_map, list_all, range_with_len}}
 
 -- a test of all events of the numbers below n: those that are left tell it, so far as none has failed
 module _ (p : Event → Bool) where
@@ -59,28 +45,28 @@ module _ (p : Event → Bool) where
     left_none i past so_far = let count : n - i ≡ 0 = omega (arith, past) in ap (λ m. list_all p (flat_map part (range_with_len i m))) (sym count) ∙ so_far
 
   -- what the numbers are of
-  pub of_links : (plan : Plan) (part : PortPart) (s : ℕ) → tested (wired_by plan part (port.Switch s)) 32 ≡ list_all p (of_switch plan part s)
-  of_links plan part s = ap (list_all p) (ap (flat_map (wired_by plan part (port.Switch s))) (links_passed 32 refl) ∙ wired_each plan part (port.Switch s) link_numbers)
+  pub of_links : (plan : Plan) (part : PortPart) (s : ℕ) → tested (wired_by plan part (Port.Switch s)) 32 ≡ list_all p (of_switch plan part s)
+  of_links plan part s = ap (list_all p) (ap (flat_map (wired_by plan part (Port.Switch s))) (links_passed 32 refl) ∙ wired_each plan part (Port.Switch s) link_numbers)
 
   pub of_switches : (plan : Plan) (part : PortPart) → tested (of_switch plan part) (length plan.switches) ≡ list_all p (flat_map (port_events part) (flat_map (wired_links plan) (range_with_len 0 (length plan.switches))))
   of_switches plan part = ap (list_all p) (switches_each plan part (range_with_len 0 (length plan.switches)))
 
-  pub of_terminals : (plan : Plan) (part : PortPart) → tested (wired_by plan part port.Terminal) (length plan.terminals) ≡ list_all p (flat_map (port_events part) (wired_terminals plan))
-  of_terminals plan part = ap (list_all p) (wired_each plan part port.Terminal (range_with_len 0 (length plan.terminals)))
+  pub of_terminals : (plan : Plan) (part : PortPart) → tested (wired_by plan part Port.Terminal) (length plan.terminals) ≡ list_all p (flat_map (port_events part) (wired_terminals plan))
+  of_terminals plan part = ap (list_all p) (wired_each plan part Port.Terminal (range_with_len 0 (length plan.terminals)))
 
-  pub of_claims : (s i : ℕ) → tested (single (event.Claim s i)) 32 ≡ list_all p (claims_of s i)
-  of_claims s i = ap (list_all p) (ap (flat_map (single (event.Claim s i))) (links_passed 32 refl) ∙ singles (event.Claim s i) link_numbers)
+  pub of_claims : (s i : ℕ) → tested (single (Event.Claim s i)) 32 ≡ list_all p (claims_of s i)
+  of_claims s i = ap (list_all p) (ap (flat_map (single (Event.Claim s i))) (links_passed 32 refl) ∙ singles (Event.Claim s i) link_numbers)
 
   pub of_inputs : (s : ℕ) → tested (claims_of s) 32 ≡ list_all p (switch_claims s)
   of_inputs s = ap (λ ns. list_all p (flat_map (claims_of s) ns)) (links_passed 32 refl)
 
-  pub of_drains : (n : ℕ) → tested (single event.Drain) n ≡ list_all p (all_drains n)
-  of_drains n = ap (list_all p) (singles event.Drain (range_with_len 0 n))
+  pub of_drains : (n : ℕ) → tested (single Event.Drain) n ≡ list_all p (all_drains n)
+  of_drains n = ap (list_all p) (singles Event.Drain (range_with_len 0 n))
 
 -- a network stands still exactly where each event of a round has a reason
 module _ {A : Type 0} (kind : Kind A) (net : Network A) (is_plan : IsPlan net.plan) (steady : IsSteady net) where
-  unready_is : (answer : Result Reply EventFault) → is_unready answer ≡ true → answer ≡ Ok reply.NotReady
-  unready_is (Ok reply.NotReady) is = refl
+  unready_is : (answer : Result Reply EventFault) → is_unready answer ≡ true → answer ≡ Ok ReplyOf.NotReady
+  unready_is (Ok ReplyOf.NotReady) is = refl
   unready_is answer is = absurd (cc is)
 
   reason_unready : (e : Event) → has_reason net e ≡ true → IsUnready kind net e

@@ -1,30 +1,15 @@
 -- Switches over one kind of token and over another: commands, and what a switch tells of itself.
-use Rattle.c104_control.specs.Reading.{read_command}
-use Rattle.c104_control.specs.Table.{reply_bytes}
-use Rattle.c104_control.specs.declared.commands.Command.{Command}
-use Rattle.c104_control.specs.declared.faults.CommandFault.{CommandFault}
-use Rattle.c104_control.specs.declared.replies.Answer.{Answer}
-use Rattle.c104_interval.specs.declared.intervals.Select.{Select}
-use Rattle.c104_interval.specs.declared.intervals.Select.TheVariants.{Link}
-use Rattle.c104_link.specs.Buffers.{Outgoing, outgoing_clear}
-use Rattle.c104_run.proofs.TokenMaps.{if_map, map_phase}
-use Rattle.c104_node.specs.Nodes.{Node, node_control}
-use Rattle.c104_node.specs.MappedNodes.{map_input, map_node, map_outgoing, map_switch}
-use Rattle.c104_regs.specs.declared.status.Status.{Status}
-use Rattle.c104_switch.specs.Commands.{input_reset}
-use Rattle.c104_switch.specs.Control.{switch_control, switch_obey, switch_obey_if_read}
-use Rattle.c104_switch.specs.Headers.{decided_phase}
-use Rattle.c104_switch.specs.Peeks.{is_busy, link_status, registers, sides_status, status_of, statuses_from}
-use Rattle.c104_switch.specs.Phases.{is_stream}
-use Rattle.c104_switch.specs.Switch.{Input, Switch, is_owned}
-use Rattle.c104_switch.specs.Views.{owner_from}
-use Rattle.c104_switch.specs.declared.phase.Phase.{Phase}
-use Rattle.c104_switch.specs.declared.phase.Phase.TheVariants.{Fresh}
-use Rattle.std.proofs.Common.{Err, List, Ok, Option, Result, Some, [], ap, map, option_map, refl, slice_get, suc, zero, ℕ, ◌∷◌, ◌≡◌}
-use Rattle.std.proofs.lemmas.List.{length-map}
+use Rattle.c104_control.specs.{Reading.read_command, Table.reply_bytes, declared.commands.Command.Command}
+use Rattle.c104_control.specs.declared.{faults.CommandFault.CommandFault, replies.Answer.Answer}
+use Rattle.{c104_interval.specs.declared.intervals.Select.{Select, TheVariants.Link}, c104_link.specs.Buffers.{Outgoing, outgoing_clear}}
+use Rattle.c104_node.specs.{MappedNodes.{map_input, map_node, map_outgoing, map_switch}, Nodes.{Node, node_control}}
+use Rattle.{c104_node.specs.declared.node.NodeOf.NodeOf, c104_regs.specs.declared.status.Status.Status, c104_run.proofs.TokenMaps.if_map}
+use Rattle.{c104_run.proofs.TokenMaps.map_phase, c104_switch.specs.{Commands.input_reset, Control.{switch_control, switch_obey}}}
+use Rattle.c104_switch.specs.{Control.switch_obey_if_read, Headers.decided_phase, Peeks.{is_busy, link_status, registers, sides_status}}
+use Rattle.c104_switch.specs.{Peeks.{status_of, statuses_from}, Phases.is_stream, Switch.{Input, Switch, is_owned}, Views.owner_from}
+use Rattle.{c104_switch.specs.declared.phase.Phase.{Phase, TheVariants.Fresh}, std.proofs.Common.{Err, List, Ok, Option, Result, Some, []}}
+use Rattle.std.proofs.{Common.{ap, map, option_map, refl, slice_get, suc, zero, ℕ, ◌∷◌, ◌≡◌}, lemmas.List.length-map}
 use Rattle.std.proofs.lemmas.Option.{slice_get-map}
-use Rattle.c104_control.specs.declared.commands.Command.TheVariants as command
-use Rattle.c104_node.specs.declared.node.NodeOf.TheVariants as node
 
 module _ {A B : Type 0} (f : A → B) where
   pub streams_map : (o : ℕ) (ph : Phase (List A)) → is_stream o (map_phase f ph) ≡ is_stream o ph
@@ -75,11 +60,11 @@ module _ {A B : Type 0} (f : A → B) where
   reset_outputs (q ∷ l) = ap (λ z. outgoing_clear (map_outgoing f q) ∷ z) (reset_outputs l)
 
   pub obeyed_map : (S : Switch A) (c : Command) → ◌≡◌ {A = Answer × Switch B} (switch_obey (map_switch f S) c) ((switch_obey S c).0, map_switch f (switch_obey S c).1)
-  obeyed_map S command.Start = if_map (λ (z : Answer × Switch A). (z.0, map_switch f z.1)) S.started S.started _ _ _ _ refl refl refl
-  obeyed_map S command.Reset = rw (reset_inputs S.inputs, reset_outputs S.outputs) refl
-  obeyed_map S command.Identify = refl
-  obeyed_map S (command.CPeek a) = rw (registers_map S) refl
-  obeyed_map S (command.CPoke a v) = rw (registers_map S) refl
+  obeyed_map S Command.Start = if_map (λ (z : Answer × Switch A). (z.0, map_switch f z.1)) S.started S.started _ _ _ _ refl refl refl
+  obeyed_map S Command.Reset = rw (reset_inputs S.inputs, reset_outputs S.outputs) refl
+  obeyed_map S Command.Identify = refl
+  obeyed_map S (Command.CPeek a) = rw (registers_map S) refl
+  obeyed_map S (Command.CPoke a v) = rw (registers_map S) refl
 
   pub read_command_map : (S : Switch A) (c : Result Command CommandFault) → ◌≡◌ {A = Answer × Switch B} (switch_obey_if_read (map_switch f S) c) ((switch_obey_if_read S c).0, map_switch f (switch_obey_if_read S c).1)
   read_command_map S (Ok c) = obeyed_map S c
@@ -89,5 +74,5 @@ module _ {A B : Type 0} (f : A → B) where
   control_map S bytes = ap (λ (z : Answer × Switch B). (reply_bytes z.0, z.1)) (read_command_map S (read_command bytes))
 
   pub control_node_map : (bytes : List ℕ) (n : Node A) → node_control bytes (map_node f n) ≡ option_map (λ (z : List ℕ × Node A). (z.0, map_node f z.1)) (node_control bytes n)
-  control_node_map bytes (node.Switch S) = ap (λ (z : List ℕ × Switch B). Some (z.0, node.Switch z.1)) (control_map S bytes)
-  control_node_map bytes (node.Terminal T) = refl
+  control_node_map bytes (NodeOf.Switch S) = ap (λ (z : List ℕ × Switch B). Some (z.0, NodeOf.Switch z.1)) (control_map S bytes)
+  control_node_map bytes (NodeOf.Terminal T) = refl

@@ -1,21 +1,11 @@
 -- A run over tagged tokens is that over tokens that all tell where they came from.
-use Rattle.std.proofs.Common.{◌≡◌, ◌∙◌, ◌<◌, ◌%◌, ◌++◌, ℕ, Bool, true, false, List, [], ◌∷◌, Option, Some, None, Result, map, slice_get, suc, refl, sym, ap, arith}
-use Rattle.std.specs.Option.{option_to_list}
-use Rattle.c104_token.specs.declared.tokens.Token.{Token}
-use Rattle.c104_token.specs.Tokens.{is_end}
-use Rattle.c104_switch.specs.Actions.{Reply}
-use Rattle.c104_event.specs.declared.events.Event.{Event}
-use Rattle.c104_event.specs.declared.faults.EventFault.{EventFault}
-use Rattle.c104_node.specs.Tagged.{tag, tagged_by, tagged_kind, tagged_origin, tagged_origins}
-use Rattle.c104_node.specs.declared.tagged.TaggedToken.{TaggedToken}
-use Rattle.c104_run.specs.Network.{network_apply, Network}
-use Rattle.c104_node.specs.Origins.{origin_by, origin_of, origins_in, AreSure, IsSure}
-use Rattle.c104_node.specs.Traced.{traced_kind}
-use Rattle.c104_node.specs.declared.traced.Source.{Source}
-use Rattle.c104_node.specs.declared.traced.Traced.{Traced}
-use Rattle.c104_run.specs.TracedRuns.{map_network}
-use Rattle.c104_run.proofs.StepMaps.{apply_map}
-use Rattle.c104_run.specs.RecordedPlaces.{plain_by}
+use Rattle.{c104_event.specs.declared.{events.Event.Event, faults.EventFault.EventFault}, c104_node.specs.Origins.{AreSure, IsSure}}
+use Rattle.c104_node.specs.{Origins.{origin_by, origin_of, origins_in}, Tagged.{tag, tagged_by, tagged_kind, tagged_origin, tagged_origins}}
+use Rattle.c104_node.specs.{Traced.traced_kind, declared.{tagged.TaggedToken.TaggedToken, traced.{Source.Source, Traced.Traced}}}
+use Rattle.c104_run.{proofs.StepMaps.apply_map, specs.{Network.{Network, network_apply}, RecordedPlaces.plain_by, TracedRuns.map_network}}
+use Rattle.{c104_switch.specs.Actions.Reply, c104_token.specs.{Tokens.is_end, declared.tokens.Token.Token}, std.proofs.Common.{Bool, List}}
+use Rattle.std.proofs.Common.{None, Option, Result, Some, [], ap, arith, false, map, refl, slice_get, suc, sym, true, ℕ, ◌%◌, ◌++◌, ◌<◌}
+use Rattle.std.{proofs.Common.{◌∙◌, ◌∷◌, ◌≡◌}, specs.Option.option_to_list}
 
 plain_tagged : (x : Token) (o : Option Source) → (tag (record { token = x; source = o })).token ≡ x
 plain_tagged x None = refl

@@ -1,18 +1,15 @@
 -- Networks over one kind of token and over another: the tokens are mapped, and all else is the same.
-use Rattle.c104_link.specs.Buffers.{Incoming, Outgoing, incoming_accept, incoming_grant, outgoing_credited, outgoing_emit, outgoing_put, outgoing_put_all}
-use Rattle.c104_link.specs.Steps.{joint_step_at, require, step_at, yield_step_at, ◌>>=◌, ◌>>◌}
-use Rattle.c104_link.specs.declared.TheConstants.{TOKENS_OF_A_GRANT}
-use Rattle.c104_link.specs.declared.outgoing.TheConstants.{CREDIT_LIMIT, OUTPUT_CAP}
-use Rattle.c104_node.specs.Nodes.{Node, node_credit_in, node_credit_out, node_drain, node_enter, node_leave}
-use Rattle.c104_node.specs.Terminals.{Terminal, terminal_credit_in, terminal_credit_out, terminal_drain, terminal_enter, terminal_leave}
-use Rattle.c104_node.specs.MappedNodes.{map_incoming, map_input, map_node, map_outgoing, map_switch, map_terminal}
-use Rattle.c104_switch.specs.Phases.{with_header}
-use Rattle.c104_switch.specs.Switch.{Switch, input_accept, input_grant, switch_credit_in, switch_credit_out, switch_enter, switch_leave}
-use Rattle.c104_switch.specs.declared.phase.Phase.{Phase}
-use Rattle.std.proofs.Common.{Bool, List, None, Option, Some, [], ap, drop, false, if◌then◌else◌, length, map, nat_le, nat_lt, option_map, refl, slice_get, true, ℕ, ◌+◌, ◌∙◌, ◌∷◌, ◌≡◌}
-use Rattle.std.proofs.lemmas.List.{length-map, map-append, map-set}
+use Rattle.c104_link.specs.Buffers.{Incoming, Outgoing, incoming_accept, incoming_grant, outgoing_credited, outgoing_emit, outgoing_put}
+use Rattle.c104_link.specs.{Buffers.outgoing_put_all, Steps.{joint_step_at, require, step_at, yield_step_at, ◌>>=◌, ◌>>◌}}
+use Rattle.c104_link.specs.declared.{TheConstants.TOKENS_OF_A_GRANT, outgoing.TheConstants.{CREDIT_LIMIT, OUTPUT_CAP}}
+use Rattle.c104_node.specs.{MappedNodes.{map_incoming, map_input, map_node, map_outgoing, map_switch, map_terminal}, Nodes.Node}
+use Rattle.c104_node.specs.{Nodes.{node_credit_in, node_credit_out, node_drain, node_enter, node_leave}, Terminals.Terminal}
+use Rattle.c104_node.specs.Terminals.{terminal_credit_in, terminal_credit_out, terminal_drain, terminal_enter, terminal_leave}
+use Rattle.{c104_node.specs.declared.node.NodeOf.NodeOf, c104_switch.specs.{Phases.with_header, Switch.{Switch, input_accept, input_grant}}}
+use Rattle.c104_switch.specs.{Switch.{switch_credit_in, switch_credit_out, switch_enter, switch_leave}, declared.phase.Phase.Phase}
+use Rattle.std.proofs.Common.{Bool, List, None, Option, Some, [], ap, drop, false, if◌then◌else◌, length, map, nat_le, nat_lt, option_map}
+use Rattle.std.proofs.{Common.{refl, slice_get, true, ℕ, ◌+◌, ◌∙◌, ◌∷◌, ◌≡◌}, lemmas.List.{length-map, map-append, map-set}}
 use Rattle.std.proofs.lemmas.Option.{slice_get-map}
-use Rattle.c104_node.specs.declared.node.NodeOf.TheVariants as node
 
 pub bind_map : {X X' Y Y' : Type 0} (u : X → X') (v : Y → Y') (m : Option X) (h : X → Option Y) (h' : X' → Option Y') → ((x : X) → h' (u x) ≡ option_map v (h x)) → ◌>>=◌ (option_map u m) h' ≡ option_map v (◌>>=◌ m h)
 bind_map u v None h h' e = refl
@@ -88,24 +85,24 @@ module _ {A B : Type 0} (f : A → B) where
 
   -- the four actions of nodes
   pub enter_node_map : (x : A) (l : ℕ) (n : Node A) → node_enter (f x) l (map_node f n) ≡ option_map (map_node f) (node_enter x l n)
-  enter_node_map x l (node.Switch S) = bind_both (map_switch f) (map_node f) (switch_enter S l x) _ _ _ (s_enter_map x l S) (λ s. refl)
-  enter_node_map x l (node.Terminal T) = bind_both (map_terminal f) (map_node f) (terminal_enter x T) _ _ _ (bind_both (map_incoming f) (map_terminal f) (incoming_accept x T.input) _ _ _ (enter_map x T.input) (λ b. refl)) (λ t. refl)
+  enter_node_map x l (NodeOf.Switch S) = bind_both (map_switch f) (map_node f) (switch_enter S l x) _ _ _ (s_enter_map x l S) (λ s. refl)
+  enter_node_map x l (NodeOf.Terminal T) = bind_both (map_terminal f) (map_node f) (terminal_enter x T) _ _ _ (bind_both (map_incoming f) (map_terminal f) (incoming_accept x T.input) _ _ _ (enter_map x T.input) (λ b. refl)) (λ t. refl)
 
   pub leave_node_map : (l : ℕ) (n : Node A) → node_leave l (map_node f n) ≡ option_map (λ (z : A × Node A). (f z.0, map_node f z.1)) (node_leave l n)
-  leave_node_map l (node.Switch S) = bind_both _ _ (switch_leave S l) _ _ _ (s_leave_map l S) (λ r. refl)
-  leave_node_map l (node.Terminal T) = bind_both (λ (z : A × Terminal A). (f z.0, map_terminal f z.1)) _ (terminal_leave T) _ _ _ (bind_both (λ (z : A × Outgoing A). (f z.0, map_outgoing f z.1)) _ (outgoing_emit T.output) _ _ _ (leave_map T.output) (λ q. refl)) (λ r. refl)
+  leave_node_map l (NodeOf.Switch S) = bind_both _ _ (switch_leave S l) _ _ _ (s_leave_map l S) (λ r. refl)
+  leave_node_map l (NodeOf.Terminal T) = bind_both (λ (z : A × Terminal A). (f z.0, map_terminal f z.1)) _ (terminal_leave T) _ _ _ (bind_both (λ (z : A × Outgoing A). (f z.0, map_outgoing f z.1)) _ (outgoing_emit T.output) _ _ _ (leave_map T.output) (λ q. refl)) (λ r. refl)
 
   pub credit_out_node_map : (l : ℕ) (n : Node A) → node_credit_out l (map_node f n) ≡ option_map (map_node f) (node_credit_out l n)
-  credit_out_node_map l (node.Switch S) = bind_both (map_switch f) (map_node f) (switch_credit_out S l) _ _ _ (s_credit_out_map l S) (λ s. refl)
-  credit_out_node_map l (node.Terminal T) = bind_both (map_terminal f) (map_node f) (terminal_credit_out T) _ _ _ (bind_both (map_incoming f) (map_terminal f) (incoming_grant T.input) _ _ _ (grant_map T.input) (λ b. refl)) (λ t. refl)
+  credit_out_node_map l (NodeOf.Switch S) = bind_both (map_switch f) (map_node f) (switch_credit_out S l) _ _ _ (s_credit_out_map l S) (λ s. refl)
+  credit_out_node_map l (NodeOf.Terminal T) = bind_both (map_terminal f) (map_node f) (terminal_credit_out T) _ _ _ (bind_both (map_incoming f) (map_terminal f) (incoming_grant T.input) _ _ _ (grant_map T.input) (λ b. refl)) (λ t. refl)
 
   pub credit_in_node_map : (l : ℕ) (n : Node A) → node_credit_in l (map_node f n) ≡ option_map (map_node f) (node_credit_in l n)
-  credit_in_node_map l (node.Switch S) = bind_both (map_switch f) (map_node f) (switch_credit_in S l) _ _ _ (s_credit_in_map l S) (λ s. refl)
-  credit_in_node_map l (node.Terminal T) = bind_both (map_terminal f) (map_node f) (terminal_credit_in T) _ _ _ (bind_both (map_outgoing f) (map_terminal f) (outgoing_credited T.output) _ _ _ (credited_map T.output) (λ q. refl)) (λ t. refl)
+  credit_in_node_map l (NodeOf.Switch S) = bind_both (map_switch f) (map_node f) (switch_credit_in S l) _ _ _ (s_credit_in_map l S) (λ s. refl)
+  credit_in_node_map l (NodeOf.Terminal T) = bind_both (map_terminal f) (map_node f) (terminal_credit_in T) _ _ _ (bind_both (map_outgoing f) (map_terminal f) (outgoing_credited T.output) _ _ _ (credited_map T.output) (λ q. refl)) (λ t. refl)
 
   pub drained_map : (T : Terminal A) → terminal_drain (map_terminal f T) ≡ option_map (λ (z : A × Terminal A). (f z.0, map_terminal f z.1)) (terminal_drain T)
   drained_map T = bind_both f _ (slice_get T.input.items 0) _ _ _ (first_map T.input.items) (λ x. ap Some (rw (drop_map T.input.items, map-append f T.arrived (x ∷ [])) refl))
 
   pub drain_node_map : (n : Node A) → node_drain (map_node f n) ≡ option_map (λ (z : A × Node A). (f z.0, map_node f z.1)) (node_drain n)
-  drain_node_map (node.Switch S) = refl
-  drain_node_map (node.Terminal T) = bind_both (λ (z : A × Terminal A). (f z.0, map_terminal f z.1)) _ (terminal_drain T) _ _ _ (drained_map T) (λ r. refl)
+  drain_node_map (NodeOf.Switch S) = refl
+  drain_node_map (NodeOf.Terminal T) = bind_both (λ (z : A × Terminal A). (f z.0, map_terminal f z.1)) _ (terminal_drain T) _ _ _ (drained_map T) (λ r. refl)

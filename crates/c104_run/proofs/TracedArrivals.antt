@@ -1,26 +1,15 @@
 -- What arrived in a network of tagged tokens is what arrived over plain tokens.
-use Rattle.std.proofs.Common.{◌≡◌, ◌∙◌, ℕ, Bool, true, false, List, Option, Some, None, if◌then◌else◌, length, map, nat_lt, option_map, slice_get, refl, ap}
-use Rattle.std.proofs.lemmas.Option.{slice_get-map}
-use Rattle.c104_token.specs.declared.tokens.Token.{Token}
-use Rattle.c104_link.specs.Steps.{◌>>=◌}
-use Rattle.c104_plan.specs.Plans.{Plan}
-use Rattle.c104_node.specs.declared.node.NodeOf.TheVariants as node
-use Rattle.c104_run.specs.NetRecords.{NetRecord}
-use Rattle.c104_run.specs.Network.{network_arrived, network_of, terminal_place, Network}
-use Rattle.c104_node.specs.Nodes.{node_arrived, Node}
-use Rattle.c104_node.specs.Places.{states}
-use Rattle.c104_run.specs.RecordedNets.{places_record}
-use Rattle.c104_run.specs.RecordedPlaces.{counted_keeps, counted_reading}
-use Rattle.c104_node.specs.TracedRecords.{counted_shown}
-use Rattle.c104_node.specs.declared.tagged.TaggedToken.{TaggedToken}
-use Rattle.c104_node.specs.TracedRecords.{TracedRecord}
-use Rattle.c104_node.specs.MappedNodes.{map_node}
-use Rattle.c104_run.proofs.RecordedNets.{seen_plain}
-use Rattle.c104_run.proofs.TaggedRuns.{plain_network, token_of}
+use Rattle.{c104_link.specs.Steps.◌>>=◌, c104_node.specs.{MappedNodes.map_node, Nodes.{Node, node_arrived}, Places.states}}
+use Rattle.c104_node.specs.{TracedRecords.{TracedRecord, counted_shown}, declared.{node.NodeOf.NodeOf, tagged.TaggedToken.TaggedToken}}
+use Rattle.{c104_plan.specs.Plans.Plan, c104_run.proofs.{RecordedNets.seen_plain, TaggedRuns.{plain_network, token_of}}}
+use Rattle.c104_run.specs.{NetRecords.NetRecord, Network.{Network, network_arrived, network_of, terminal_place}, RecordedNets.places_record}
+use Rattle.{c104_run.specs.RecordedPlaces.{counted_keeps, counted_reading}, c104_token.specs.declared.tokens.Token.Token}
+use Rattle.std.proofs.Common.{Bool, List, None, Option, Some, ap, false, if◌then◌else◌, length, map, nat_lt, option_map, refl, slice_get}
+use Rattle.std.proofs.{Common.{true, ℕ, ◌∙◌, ◌≡◌}, lemmas.Option.slice_get-map}
 
 arrived_plain : (n : Node TaggedToken) → node_arrived (map_node token_of n) ≡ option_map (map token_of) (node_arrived n)
-arrived_plain (node.Switch s) = refl
-arrived_plain (node.Terminal t) = refl
+arrived_plain (NodeOf.Switch s) = refl
+arrived_plain (NodeOf.Terminal t) = refl
 
 map_there : (o : Option (Node TaggedToken)) → (option_map (map_node token_of) o >>= node_arrived) ≡ option_map (map token_of) (o >>= node_arrived)
 map_there None = refl

@@ -1,38 +1,27 @@
 -- A new network of tagged tokens.
-use Rattle.std.proofs.Common.{◌≡◌, ◌∙◌, ◌++◌, ℕ, List, [], ◌∷◌, map, refl, sym, ap}
+use Rattle.c104_node.specs.{Nodes.Node, Starts.{start_node, start_of}, Terminals.new_terminal, TracedRecords.{TracedRecord, first_traced}}
+use Rattle.c104_node.specs.{TracedRecords.{plain_node, traced_start, traced_state, traced_trace}, declared.acts.Entry.Entry}
+use Rattle.{c104_node.specs.declared.{node.NodeOf.NodeOf, tagged.TaggedToken.TaggedToken}, c104_plan.specs.Plans.{IsPlan, Plan}}
+use Rattle.{c104_plan.specs.declared.plans.Terminal.Terminal, c104_run.proofs.{BalancePlaced.steady_new, FirstRecords.first_is}}
+use Rattle.c104_run.proofs.{FirstRecords.{map_twice, record_first}, RecordedBegins.{no_entries, told_first}}
+use Rattle.c104_run.specs.{NetRecords.{first_record, fresh_record}, Network.new_network, RecordedNets.{IsRecordedNet, places_record}}
+use Rattle.{c104_run.specs.RecordedPlaces.counted_reading, c104_switch.specs.Switch.new_switch}
+use Rattle.{c104_token.specs.declared.tokens.Token.Token, std.proofs.Common.{List, [], ap, map, refl, sym, ℕ, ◌++◌, ◌∙◌, ◌∷◌, ◌≡◌}}
 use Rattle.std.proofs.lemmas.List.{map-append}
-use Rattle.c104_token.specs.declared.tokens.Token.{Token}
-use Rattle.c104_switch.specs.Switch.{new_switch}
-use Rattle.c104_plan.specs.declared.plans.Terminal.{Terminal}
-use Rattle.c104_plan.specs.Plans.{Plan, IsPlan}
-use Rattle.c104_node.specs.declared.acts.Entry.{Entry}
-use Rattle.c104_node.specs.declared.node.NodeOf.TheVariants as node
-use Rattle.c104_run.specs.Network.{new_network}
-use Rattle.c104_run.specs.NetRecords.{first_record, fresh_record}
-use Rattle.c104_node.specs.Nodes.{Node}
-use Rattle.c104_run.specs.RecordedNets.{places_record, IsRecordedNet}
-use Rattle.c104_run.specs.RecordedPlaces.{counted_reading}
-use Rattle.c104_node.specs.Starts.{start_node, start_of}
-use Rattle.c104_node.specs.Terminals.{new_terminal}
-use Rattle.c104_node.specs.declared.tagged.TaggedToken.{TaggedToken}
-use Rattle.c104_node.specs.TracedRecords.{first_traced, plain_node, traced_start, traced_state, traced_trace, TracedRecord}
-use Rattle.c104_run.proofs.BalancePlaced.{steady_new}
-use Rattle.c104_run.proofs.FirstRecords.{first_is, map_twice, record_first}
-use Rattle.c104_run.proofs.RecordedBegins.{no_entries, told_first}
 
 -- new nodes stand at their starts, over any kind of token
 module _ (A : Type 0) (cap : ℕ) where
-  switch_new : start_node {A = A} (start_of (node.Switch (new_switch {A = A} cap))) ≡ node.Switch (new_switch cap)
+  switch_new : start_node {A = A} (start_of (NodeOf.Switch (new_switch {A = A} cap))) ≡ NodeOf.Switch (new_switch cap)
   switch_new = refl
 
-  terminal_new : start_node {A = A} (start_of (node.Terminal (new_terminal {A = A} cap))) ≡ node.Terminal (new_terminal cap)
+  terminal_new : start_node {A = A} (start_of (NodeOf.Terminal (new_terminal {A = A} cap))) ≡ NodeOf.Terminal (new_terminal cap)
   terminal_new = refl
 
 abbrev made_switch : ℕ → List ℕ → TracedRecord
-made_switch cap name = first_traced (node.Switch (new_switch cap))
+made_switch cap name = first_traced (NodeOf.Switch (new_switch cap))
 
 abbrev made_terminal : ℕ → Terminal → TracedRecord
-made_terminal cap t = first_traced (node.Terminal (new_terminal cap))
+made_terminal cap t = first_traced (NodeOf.Terminal (new_terminal cap))
 
 abbrev made : Plan → List TracedRecord
 made plan = map (made_switch plan.cap) plan.switches ++ map (made_terminal plan.cap) plan.terminals
@@ -50,10 +39,10 @@ made_map g h k plan one two =
 -- a new network of them keeps what such a network keeps, and is a new network over plain tokens
 module _ (plan wires : Plan) (list : List TracedRecord) (same : wires ≡ plan) (is : list ≡ made plan) (is_plan : IsPlan plan) where
   abbrev names_node : List ℕ → Node TaggedToken
-  names_node name = node.Switch (new_switch plan.cap)
+  names_node name = NodeOf.Switch (new_switch plan.cap)
 
   abbrev terminals_node : Terminal → Node TaggedToken
-  terminals_node t = node.Terminal (new_terminal plan.cap)
+  terminals_node t = NodeOf.Terminal (new_terminal plan.cap)
 
   states_new : map traced_state list ≡ map names_node plan.switches ++ map terminals_node plan.terminals
   states_new = ap (map traced_state) is ∙ made_map traced_state names_node terminals_node plan (λ name. refl) (λ t. refl)
@@ -71,10 +60,10 @@ module _ (plan wires : Plan) (list : List TracedRecord) (same : wires ≡ plan) 
       ∙ sym (map_twice no_entries traced_state (made plan)) ∙ ap (λ ns. map no_entries (map traced_state ns)) (sym is)
 
   abbrev first_switch : List ℕ → Node Token × Node Token × List Entry
-  first_switch name = first_record (node.Switch (new_switch plan.cap))
+  first_switch name = first_record (NodeOf.Switch (new_switch plan.cap))
 
   abbrev first_terminal : Terminal → Node Token × Node Token × List Entry
-  first_terminal t = first_record (node.Terminal (new_terminal plan.cap))
+  first_terminal t = first_record (NodeOf.Terminal (new_terminal plan.cap))
 
   abbrev shown : TracedRecord → Node Token × Node Token × List Entry
   shown n = (plain_node n.state, start_node n.start, n.trace)
@@ -83,9 +72,9 @@ module _ (plan wires : Plan) (list : List TracedRecord) (same : wires ≡ plan) 
   shown_new =
       ap (map shown) is
       ∙ made_map shown first_switch first_terminal plan (λ name. refl) (λ t. refl)
-      ∙ ap (λ xs. xs ++ map first_terminal plan.terminals) (sym (map_twice first_record (λ (name : List ℕ). node.Switch (new_switch plan.cap)) plan.switches))
-      ∙ ap (λ ys. map first_record (map (λ (name : List ℕ). node.Switch (new_switch plan.cap)) plan.switches) ++ ys) (sym (map_twice first_record (λ (t : Terminal). node.Terminal (new_terminal plan.cap)) plan.terminals))
-      ∙ sym (map-append first_record (map (λ (name : List ℕ). node.Switch (new_switch plan.cap)) plan.switches) (map (λ (t : Terminal). node.Terminal (new_terminal plan.cap)) plan.terminals))
+      ∙ ap (λ xs. xs ++ map first_terminal plan.terminals) (sym (map_twice first_record (λ (name : List ℕ). NodeOf.Switch (new_switch plan.cap)) plan.switches))
+      ∙ ap (λ ys. map first_record (map (λ (name : List ℕ). NodeOf.Switch (new_switch plan.cap)) plan.switches) ++ ys) (sym (map_twice first_record (λ (t : Terminal). NodeOf.Terminal (new_terminal plan.cap)) plan.terminals))
+      ∙ sym (map-append first_record (map (λ (name : List ℕ). NodeOf.Switch (new_switch plan.cap)) plan.switches) (map (λ (t : Terminal). NodeOf.Terminal (new_terminal plan.cap)) plan.terminals))
 
   pub traced_new : IsRecordedNet counted_reading wires list 0
   traced_new = record {

@@ -1,26 +1,16 @@
 -- Turns and claims over one kind of token and over another.
-use Rattle.c104_switch.specs.Group.{is_in_group}
-use Rattle.c104_link.specs.Buffers.{Outgoing, outgoing_put}
-use Rattle.c104_run.proofs.SwitchMaps.{decided_map, owned_map}
-use Rattle.c104_run.proofs.TokenMaps.{bind_both, bind_same, drop_map, first_map, if_map, map_phase, place_map, put_all_map, put_map, require_map, with_map}
-use Rattle.c104_link.specs.Steps.{joint_step_at, step_at}
-use Rattle.c104_node.specs.Nodes.{Node, node_claim, node_input}
-use Rattle.c104_node.specs.MappedNodes.{map_input, map_node, map_outgoing, map_switch}
-use Rattle.c104_regs.specs.Settings.{header_length}
-use Rattle.c104_regs.specs.declared.settings.Settings.{Settings}
-use Rattle.c104_switch.specs.Claims.{input_claim, inputs_claim, put_header, switch_claim}
-use Rattle.c104_switch.specs.Headers.{header_value, phase_after_header, random_bytes, random_from, random_header}
-use Rattle.c104_switch.specs.Switch.{Input, Switch, is_owned}
+use Rattle.{c104_link.specs.{Buffers.{Outgoing, outgoing_put}, Steps.{joint_step_at, step_at}}, c104_node.specs.MappedNodes.map_input}
+use Rattle.c104_node.specs.{MappedNodes.{map_node, map_outgoing, map_switch}, Nodes.{Node, node_claim, node_input}}
+use Rattle.{c104_node.specs.declared.node.NodeOf.NodeOf, c104_regs.specs.{Settings.header_length, declared.settings.Settings.Settings}}
+use Rattle.c104_run.proofs.{SwitchMaps.{decided_map, owned_map}, TokenMaps.{bind_both, bind_same, drop_map, first_map, if_map, map_phase}}
+use Rattle.{c104_run.proofs.TokenMaps.{place_map, put_all_map, put_map, require_map, with_map}, c104_switch.specs.Claims.input_claim}
+use Rattle.c104_switch.specs.{Claims.{inputs_claim, put_header, switch_claim}, Group.is_in_group, Headers.header_value}
+use Rattle.c104_switch.specs.{Headers.{phase_after_header, random_bytes, random_from, random_header}, Switch.{Input, Switch, is_owned}}
 use Rattle.c104_switch.specs.Turns.{header_turn, input_after_token, input_turn, phase_after_token, switch_input, turn_by_phase}
-use Rattle.c104_switch.specs.declared.phase.Phase.{Phase}
-use Rattle.c104_switch.specs.declared.phase.Phase.TheVariants.{Fresh, Head, Sinking, Stream, Want}
-use Rattle.c104_token.specs.Kinds.{Kind}
-use Rattle.c104_token.specs.Tokens.{byte_of, is_end}
-use Rattle.c104_token.specs.declared.tokens.Token.TheVariants.{Byte}
-use Rattle.std.proofs.Common.{Bool, List, Some, [], ap, false, length, map, nat_le, not, option_map, refl, slice_get, suc, true, ℕ, ⊎_elim, ◌&&◌, ◌++◌, ◌∷◌, ◌≡◌}
-use Rattle.std.proofs.lemmas.Bool.{cases_Bool}
-use Rattle.std.proofs.lemmas.List.{length-map, map-append}
-use Rattle.c104_node.specs.declared.node.NodeOf.TheVariants as node
+use Rattle.{c104_switch.specs.declared.phase.Phase.{Phase, TheVariants.{Fresh, Head, Sinking, Stream, Want}}, c104_token.specs.Kinds.Kind}
+use Rattle.{c104_token.specs.{Tokens.{byte_of, is_end}, declared.tokens.Token.TheVariants.Byte}, std.proofs.Common.{Bool, List, Some, []}}
+use Rattle.std.proofs.Common.{ap, false, length, map, nat_le, not, option_map, refl, slice_get, suc, true, ℕ, ⊎_elim, ◌&&◌, ◌++◌, ◌∷◌, ◌≡◌}
+use Rattle.std.proofs.lemmas.{Bool.cases_Bool, List.{length-map, map-append}}
 use Rattle.c104_interval.specs.Selection as table
 
 module _ {A B : Type 0} (f : A → B) (from : Kind A) (to : Kind B) (plain_is : (x : A) → to.plain (f x) ≡ from.plain x) (random_is : (j b : ℕ) → to.random j (Byte b) ≡ f (from.random j (Byte b))) where
@@ -91,9 +81,9 @@ module _ {A B : Type 0} (f : A → B) (from : Kind A) (to : Kind B) (plain_is : 
       claimed_at_map settings ps qs i o = rw (owned_map f ps o) (require_map _ (not (is_owned ps o)) _ _ (with_map (map_input f) (map (map_outgoing f)) ps i (λ p. input_claim settings p qs o p.phase) (λ p. input_claim settings p (map (map_outgoing f) qs) o p.phase) (λ p. claimed_map settings p qs o p.phase)))
 
   pub input_node_map : (i word : ℕ) (n : Node A) → node_input to i word (map_node f n) ≡ option_map (map_node f) (node_input from i word n)
-  input_node_map i word (node.Switch S) = bind_both (map_switch f) (map_node f) (switch_input from S i word) _ _ _ (input_map i word S) (λ s. refl)
-  input_node_map i word (node.Terminal T) = refl
+  input_node_map i word (NodeOf.Switch S) = bind_both (map_switch f) (map_node f) (switch_input from S i word) _ _ _ (input_map i word S) (λ s. refl)
+  input_node_map i word (NodeOf.Terminal T) = refl
 
   pub claim_node_map : (i o : ℕ) (n : Node A) → node_claim i o (map_node f n) ≡ option_map (map_node f) (node_claim i o n)
-  claim_node_map i o (node.Switch S) = bind_both (map_switch f) (map_node f) (switch_claim S i o) _ _ _ (claim_map i o S) (λ s. refl)
-  claim_node_map i o (node.Terminal T) = refl
+  claim_node_map i o (NodeOf.Switch S) = bind_both (map_switch f) (map_node f) (switch_claim S i o) _ _ _ (claim_map i o S) (λ s. refl)
+  claim_node_map i o (NodeOf.Terminal T) = refl

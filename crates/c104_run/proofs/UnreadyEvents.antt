@@ -1,41 +1,20 @@
 -- An event of a network has a reason exactly where it is answered with NotReady.
-use Rattle.std.proofs.Common.{◌≡◌, ◌<◌, ◌+◌, ◌-◌, ◌++◌, ◌∙◌, ℕ, inl, inr, nat_lt, not, Bool, true, false, List, Option, Some, None, map, replicate, length, slice_get, is_some, is_none, refl, sym, ap, arith}
-use Rattle.std.specs.Option.{option_map}
-use Rattle.c104_token.specs.declared.packets.Packet.{Packet}
-use Rattle.c104_token.specs.Kinds.{Kind}
-use Rattle.c104_switch.specs.Actions.{Reply, is_ready}
-use Rattle.c104_switch.specs.declared.actions.ActionOf.TheVariants as action
-use Rattle.c104_switch.specs.declared.actions.ReplyOf.{ReplyOf}
-use Rattle.c104_switch.specs.declared.actions.ReplyOf.TheVariants as reply
-use Rattle.c104_switch.specs.declared.unready.Unready.{Unready}
-use Rattle.c104_switch.specs.Reasons.{why_at}
-use Rattle.c104_plan.specs.declared.ports.Port.{Port}
-use Rattle.c104_plan.specs.declared.ports.Port.TheVariants as port
-use Rattle.c104_plan.specs.Plans.{IsPlan, Plan}
-use Rattle.c104_plan.specs.Wiring.{peer}
-use Rattle.c104_event.specs.declared.events.Event.{Event}
-use Rattle.c104_event.specs.declared.faults.EventFault.{EventFault}
-use Rattle.c104_node.specs.Acts.{node_act, plain_reply}
-use Rattle.c104_node.specs.PortActs.{Acts}
-use Rattle.c104_node.specs.declared.acts.ActOf.{ActOf}
-use Rattle.c104_node.specs.declared.acts.ActOf.TheVariants as act
-use Rattle.c104_node.specs.declared.crossings.Crossing.{Crossing}
-use Rattle.c104_node.specs.declared.node.NodeOf.TheVariants.{Switch, Terminal}
-use Rattle.c104_node.specs.Nodes.{Node, is_switch}
-use Rattle.c104_run.specs.declared.reason.Reason.{Reason}
-use Rattle.c104_run.specs.EventActs.{Ask, acts_step, ask_acts, crossing_acts, event_ask}
-use Rattle.c104_run.proofs.ActSteps.{step_ready as acts_ready}
-use Rattle.c104_run.proofs.AskCases.{AreCases, of_event}
-use Rattle.c104_run.specs.Network.{Network, with_nodes, network_apply, network_step, told_step, event_fault, terminal_place, outcome_within_limit, outcome_if_possible, outcome_if_ready, event_limit, link_fault, wire_fault, wired_fault}
-use Rattle.c104_run.specs.Balance.{IsSteady}
-use Rattle.c104_run.specs.Reasons.{acts_why, alone_why, claim_reason, event_why, unless_refused, network_why, is_unready}
-use Rattle.c104_node.specs.NodeReasons.{node_input_why, node_claim_why, node_drain_why}
-use Rattle.c104_run.proofs.UnreadyNodes.{claim_here, drain_here, input_here, joint_told, step_ready}
-use Rattle.c104_run.proofs.NoFaults.{node_there, past_link, past_node}
-use Rattle.c104_run.proofs.RunRecords.{by_counts, counted}
-use Rattle.c104_node.specs.Traces.{part}
-use Rattle.std.proofs.lemmas.Bool.Decides.{nat_tests}
-use Rattle.std.proofs.lemmas.Option.{slice_get_cases}
+use Rattle.{c104_event.specs.declared.{events.Event.Event, faults.EventFault.EventFault}, c104_node.specs.Acts.{node_act, plain_reply}}
+use Rattle.c104_node.specs.{NodeReasons.{node_claim_why, node_drain_why, node_input_why}, Nodes.{Node, is_switch}, PortActs.Acts}
+use Rattle.c104_node.specs.{Traces.part, declared.{acts.ActOf.ActOf, crossings.Crossing.Crossing, node.NodeOf.TheVariants.Switch}}
+use Rattle.{c104_node.specs.declared.node.NodeOf.TheVariants.Terminal, c104_plan.specs.{Plans.{IsPlan, Plan}, Wiring.peer}}
+use Rattle.{c104_plan.specs.declared.ports.Port.Port, c104_run.proofs.{ActSteps.step_ready as acts_ready, AskCases.{AreCases, of_event}}}
+use Rattle.c104_run.proofs.{NoFaults.{node_there, past_link, past_node}, RunRecords.{by_counts, counted}, UnreadyNodes.claim_here}
+use Rattle.c104_run.{proofs.UnreadyNodes.{drain_here, input_here, joint_told, step_ready}, specs.{Balance.IsSteady, EventActs.Ask}}
+use Rattle.c104_run.specs.{EventActs.{acts_step, ask_acts, crossing_acts, event_ask}, Network.{Network, event_fault, event_limit}}
+use Rattle.c104_run.specs.Network.{link_fault, network_apply, network_step, outcome_if_possible, outcome_if_ready, outcome_within_limit}
+use Rattle.c104_run.specs.{Network.{terminal_place, told_step, wire_fault, wired_fault, with_nodes}, Reasons.{acts_why, alone_why}}
+use Rattle.c104_run.specs.{Reasons.{claim_reason, event_why, is_unready, network_why, unless_refused}, declared.reason.Reason.Reason}
+use Rattle.c104_switch.specs.{Actions.{Reply, is_ready}, Reasons.why_at, declared.actions.{ActionOf.ActionOf, ReplyOf.ReplyOf}}
+use Rattle.{c104_switch.specs.declared.unready.Unready.Unready, c104_token.specs.{Kinds.Kind, declared.packets.Packet.Packet}}
+use Rattle.std.proofs.Common.{Bool, List, None, Option, Some, ap, arith, false, inl, inr, is_none, is_some, length, map, nat_lt, not, refl}
+use Rattle.std.proofs.{Common.{replicate, slice_get, sym, true, ℕ, ◌++◌, ◌+◌, ◌-◌, ◌<◌, ◌∙◌, ◌≡◌}, lemmas.Bool.Decides.nat_tests}
+use Rattle.std.{proofs.lemmas.Option.slice_get_cases, specs.Option.option_map}
 
 -- a switch stands at the first places, and a terminal at those behind them
 module _ {A : Type 0} where
@@ -62,8 +41,8 @@ module _ {A : Type 0} where
 
 -- what a fault that there isn't says
 wired : (plan : Plan) (p : Port) (other : Option Port) → peer plan p ≡ other → wired_fault plan p ≡ None → wire_fault other ≡ None
-wired plan (port.Switch s l) other is none = ap wire_fault (sym is) ∙ past_link (wire_fault (peer plan (port.Switch s l))) l (past_node (link_fault l (wire_fault (peer plan (port.Switch s l)))) (length plan.switches) s none)
-wired plan (port.Terminal t) other is none = ap wire_fault (sym is) ∙ past_node (wire_fault (peer plan (port.Terminal t))) (length plan.terminals) t none
+wired plan (Port.Switch s l) other is none = ap wire_fault (sym is) ∙ past_link (wire_fault (peer plan (Port.Switch s l))) l (past_node (link_fault l (wire_fault (peer plan (Port.Switch s l)))) (length plan.switches) s none)
+wired plan (Port.Terminal t) other is none = ap wire_fault (sym is) ∙ past_node (wire_fault (peer plan (Port.Terminal t))) (length plan.terminals) t none
 
 mapped : {X Y : Type 0} (f : X → Y) (o : Option X) → is_some (option_map f o) ≡ not (is_none o)
 mapped f None = refl
@@ -74,10 +53,10 @@ module _ {A : Type 0} (kind : Kind A) (net : Network A) where
   told e made = is_unready (outcome_if_ready kind net e made).0
 
   within : (r : ReplyOf A) (after : Network A) → is_ready r ≡ true → (limit : Option EventFault) → is_unready (outcome_within_limit kind net limit (plain_reply kind r, after)).0 ≡ false
-  within reply.NotReady after ready limit = absurd (cc ready)
-  within reply.Done after ready None = refl
-  within (reply.Token x) after ready None = refl
-  within (reply.Control bytes) after ready None = refl
+  within ReplyOf.NotReady after ready limit = absurd (cc ready)
+  within ReplyOf.Done after ready None = refl
+  within (ReplyOf.Token x) after ready None = refl
+  within (ReplyOf.Control bytes) after ready None = refl
   within r after ready (Some f) = refl
 
   -- an event is told to be unready where the step of its acts can't be made
@@ -110,22 +89,22 @@ module _ {A : Type 0} (kind : Kind A) (net : Network A) where
     }
 
     -- a command and a packet that is sent always are ready
-    control_ready : (s : ℕ) (bytes : List ℕ) → StandsAt net.nodes s true → IsHindered (Ask.Alone s (act.Step (action.Control bytes)))
-    control_ready s bytes (Switch w, is, here) = record { acts = Acts.Alone s (act.Step (action.Control bytes)); known = refl; why = rw is refl }
+    control_ready : (s : ℕ) (bytes : List ℕ) → StandsAt net.nodes s true → IsHindered (Ask.Alone s (ActOf.Step (ActionOf.Control bytes)))
+    control_ready s bytes (Switch w, is, here) = record { acts = Acts.Alone s (ActOf.Step (ActionOf.Control bytes)); known = refl; why = rw is refl }
     control_ready s bytes (Terminal t, is, here) = absurd (cc here)
 
-    send_ready : (k : ℕ) (packet : Packet) → StandsAt net.nodes k false → IsHindered (Ask.Alone k (act.Send packet))
+    send_ready : (k : ℕ) (packet : Packet) → StandsAt net.nodes k false → IsHindered (Ask.Alone k (ActOf.Send packet))
     send_ready k packet (Switch w, is, here) = absurd (cc here)
-    send_ready k packet (Terminal t, is, here) = record { acts = Acts.Alone k (act.Send packet); known = refl; why = rw is refl }
+    send_ready k packet (Terminal t, is, here) = record { acts = Acts.Alone k (ActOf.Send packet); known = refl; why = rw is refl }
 
     steps_hindered : AreCases net.plan IsHinderedAt
     steps_hindered = record {
       over = over_hindered;
-      turn = λ s l word other none. alone_hindered s (act.Step (action.Input l word)) (node_input_why l) (λ u. record { port = port.Switch s l; unready = u }) refl (input_here kind l word (s - length net.plan.switches));
-      claim = λ s i o other none. alone_hindered s (act.Step (action.Claim i o)) (node_claim_why i o) (claim_reason s i o) refl (claim_here kind i o (s - length net.plan.switches));
+      turn = λ s l word other none. alone_hindered s (ActOf.Step (ActionOf.Input l word)) (node_input_why l) (λ u. record { port = Port.Switch s l; unready = u }) refl (input_here kind l word (s - length net.plan.switches));
+      claim = λ s i o other none. alone_hindered s (ActOf.Step (ActionOf.Claim i o)) (node_claim_why i o) (claim_reason s i o) refl (claim_here kind i o (s - length net.plan.switches));
       control = λ s bytes other none. control_ready s bytes (switch_there (length net.plan.switches) (length net.plan.terminals) net.nodes steady.in_place s (node_there other (length net.plan.switches) s none));
       send = λ t packet other none. send_ready (terminal_place net.plan t) packet (terminal_there (length net.plan.switches) (length net.plan.terminals) net.nodes steady.in_place t (terminal_place net.plan t) refl (node_there other (length net.plan.terminals) t none));
-      drain = λ t other none. (let k : ℕ = terminal_place net.plan t in alone_hindered k act.Drain node_drain_why (λ u. record { port = port.Terminal (k - length net.plan.switches); unready = u }) refl (drain_here kind (k - length net.plan.switches)));
+      drain = λ t other none. (let k : ℕ = terminal_place net.plan t in alone_hindered k ActOf.Drain node_drain_why (λ u. record { port = Port.Terminal (k - length net.plan.switches); unready = u }) refl (drain_here kind (k - length net.plan.switches)));
     }
 
     possible : (e : Event) → event_fault net.plan e ≡ None → is_some (event_why net e) ≡ told e (network_step kind net e)

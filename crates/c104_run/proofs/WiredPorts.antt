@@ -1,19 +1,9 @@
 -- The wired ports of a plan: they have wires, and the sets of links have those of the switches.
-use Rattle.std.proofs.Common.{◌≡◌, ◌∙◌, ◌<◌, ◌+◌, ◌-◌, ℕ, true, List, [], ◌∷◌, ◌++◌, Option, Some, None, get_or, is_some, length, inl, inr}
-use Rattle.std.proofs.Common.{refl, sym, ap, subst, arith}
-use Rattle.std.specs.Option.{option_map}
-use Rattle.std.proofs.lemmas.Bool.{cases_eq}
-use Rattle.std.proofs.lemmas.List.{get_or_append_left, get_or-append_right, length-append}
-use Rattle.c104_crossbar.specs.Groups.{has_bit}
-use Rattle.c104_plan.specs.declared.ports.Port.{Port}
-use Rattle.c104_plan.specs.declared.ports.Port.TheVariants as port
-use Rattle.c104_plan.specs.Plans.{Plan, IsPlan}
-use Rattle.c104_plan.specs.Wiring.{peer}
-use Rattle.c104_plan.proofs.Wires.{wiring}
-use Rattle.c104_run.specs.LinkedSets.{AreLinked}
-use Rattle.c104_run.specs.Network.{wired_fault}
-use Rattle.c104_run.specs.Rounds.{is_wired}
-use Rattle.c104_run.proofs.IdleEvents.{wired_inside}
+use Rattle.{c104_crossbar.specs.Groups.has_bit, c104_plan.{proofs.Wires.wiring, specs.{Plans.{IsPlan, Plan}, Wiring.peer}}}
+use Rattle.{c104_plan.specs.declared.ports.Port.Port, c104_run.{proofs.IdleEvents.wired_inside, specs.LinkedSets.AreLinked}}
+use Rattle.{c104_run.specs.{Network.wired_fault, Rounds.is_wired}, std.proofs.Common.{List, None, Option, Some, [], ap, arith, get_or, inl}}
+use Rattle.std.proofs.{Common.{inr, is_some, length, refl, subst, sym, true, ℕ, ◌++◌, ◌+◌, ◌-◌, ◌<◌, ◌∙◌, ◌∷◌, ◌≡◌}, lemmas.Bool.cases_eq}
+use Rattle.std.{proofs.lemmas.List.{get_or-append_right, get_or_append_left, length-append}, specs.Option.option_map}
 
 module _ (plan : Plan) (is_plan : IsPlan plan) where
   pub has_wire : (p : Port) → is_wired plan p ≡ true → wired_fault plan p ≡ None
@@ -28,20 +18,20 @@ some_mapped f None = refl
 some_mapped f (Some x) = refl
 
 -- one link more is in a set as it is wired
-pub linked_more : (plan : Plan) (s i : ℕ) (old new : ℕ) → ((l : ℕ) → l < 32 → l < i → has_bit old l ≡ is_wired plan (port.Switch s l)) → (i < 32 → has_bit new i ≡ is_wired plan (port.Switch s i)) → ((l : ℕ) → l < 32 → (l ≡ i → ⊥) → has_bit new l ≡ has_bit old l) → (l : ℕ) → l < 32 → l < i + 1 → has_bit new l ≡ is_wired plan (port.Switch s l)
+pub linked_more : (plan : Plan) (s i : ℕ) (old new : ℕ) → ((l : ℕ) → l < 32 → l < i → has_bit old l ≡ is_wired plan (Port.Switch s l)) → (i < 32 → has_bit new i ≡ is_wired plan (Port.Switch s i)) → ((l : ℕ) → l < 32 → (l ≡ i → ⊥) → has_bit new l ≡ has_bit old l) → (l : ℕ) → l < 32 → l < i + 1 → has_bit new l ≡ is_wired plan (Port.Switch s l)
 linked_more plan s i old new so_far here others = λ l below upto.
     elim (cases_eq l i) [
-      | inl same ↦ subst (λ k. has_bit new k ≡ is_wired plan (port.Switch s k)) (sym same) (here (subst (λ k. k < 32) same below))
+      | inl same ↦ subst (λ k. has_bit new k ≡ is_wired plan (Port.Switch s k)) (sym same) (here (subst (λ k. k < 32) same below))
       | inr other ↦ others l below other ∙ so_far l below (omega arith)
     ]
 
 -- the set of one switch more
-pub linked_next : (plan : Plan) (n set : ℕ) (sets more : List ℕ) → AreLinked plan n sets → ((l : ℕ) → l < 32 → has_bit set l ≡ is_wired plan (port.Switch n l)) → more ≡ sets ++ set ∷ [] → AreLinked plan (n + 1) more
+pub linked_next : (plan : Plan) (n set : ℕ) (sets more : List ℕ) → AreLinked plan n sets → ((l : ℕ) → l < 32 → has_bit set l ≡ is_wired plan (Port.Switch n l)) → more ≡ sets ++ set ∷ [] → AreLinked plan (n + 1) more
 linked_next plan n set sets more before own is = record {
   counted = ap length is ∙ length-append sets (set ∷ []) ∙ ap (λ k. k + 1) before.counted;
   linked = λ s l inside below.
       elim (cases_eq s n) [
-        | inl same ↦ subst (λ k. has_bit (get_or more k 0) l ≡ is_wired plan (port.Switch k l)) (sym same) (ap (λ w. has_bit w l) (last is) ∙ own l below)
+        | inl same ↦ subst (λ k. has_bit (get_or more k 0) l ≡ is_wired plan (Port.Switch k l)) (sym same) (ap (λ w. has_bit w l) (last is) ∙ own l below)
         | inr other ↦ ap (λ w. has_bit w l) (ap (λ xs. get_or xs s 0) is ∙ get_or_append_left sets (set ∷ []) 0 s (let counted = before.counted in omega arith)) ∙ before.linked s l (omega arith) below
       ];
 }

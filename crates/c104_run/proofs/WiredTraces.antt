@@ -1,51 +1,30 @@
 -- The acts of a run go over wired links, since tokens and credits cross wires alone.
-use Rattle.std.proofs.Common.{◌≡◌, ◌∙◌, ◌++◌, ◌+◌, ℕ, suc, Bool, true, false, All, List, [], ◌∷◌, Option, Some, None, if◌then◌else◌, length, map, nat_eq, slice_get, refl, sym, ap, subst, arith}
-use Rattle.std.proofs.lemmas.Bool.Decides.{nat_tests}
-use Rattle.std.proofs.lemmas.List.Elements.{All-cons, All-nil}
-use Rattle.std.proofs.lemmas.Option.{slice_get-map}
-use Rattle.std.specs.Option.{option_map}
-use Rattle.c104_token.specs.declared.tokens.Token.{Token as PlainToken}
-use Rattle.c104_link.proofs.MadeSteps.{All-place}
-use Rattle.c104_switch.specs.Actions.{Reply, is_ready}
-use Rattle.c104_switch.specs.declared.actions.ReplyOf.TheVariants as reply
-use Rattle.c104_plan.specs.declared.ports.Port.{Port}
-use Rattle.c104_plan.specs.declared.ports.Port.TheVariants as port
-use Rattle.c104_plan.specs.Plans.{Plan, IsPlan}
-use Rattle.c104_plan.specs.Wiring.{peer}
-use Rattle.c104_event.specs.declared.events.Event.{Event}
-use Rattle.c104_event.specs.declared.events.Event.TheVariants as event
-use Rattle.c104_node.specs.declared.stamps.Stamp.{Stamp}
-use Rattle.c104_node.specs.declared.acts.ActOf.{ActOf}
-use Rattle.c104_node.specs.declared.acts.Entry.{Entry}
-use Rattle.c104_run.specs.Ends.{end_of}
-use Rattle.c104_run.specs.EventActs.{crossing_acts, port_place}
-use Rattle.c104_node.specs.PortActs.{far_act, near_act}
-use Rattle.c104_node.specs.declared.crossings.Crossing.{Crossing}
-use Rattle.c104_node.specs.declared.crossings.Crossing.TheVariants.{Grant, Token}
-use Rattle.c104_run.specs.NetRecords.{net_record, IsNetRecord, NetRecord}
-use Rattle.c104_node.specs.Records.{node_start, node_state, node_trace, IsRecorded, NodeRecord, NodeRoom}
-use Rattle.c104_node.specs.Nodes.{Node}
-use Rattle.c104_run.specs.Runs.{at_node, run_deeds}
-use Rattle.c104_node.specs.Starts.{start_node}
-use Rattle.c104_node.specs.Traces.{entry_of, lone_deed, part, Deed, seatless}
-use Rattle.c104_run.specs.EventDeeds.{acts_deeds, event_deeds}
-use Rattle.c104_node.specs.ActLinks.{act_link}
-use Rattle.c104_run.specs.WiredActs.{AreWiredLinks, IsRecordedAt, IsRecordedNode, IsWiredAct}
-use Rattle.c104_run.proofs.BalanceWires.{peer_back}
+use Rattle.{c104_event.specs.declared.events.Event.Event, c104_link.proofs.MadeSteps.All-place, c104_node.specs.ActLinks.act_link}
+use Rattle.c104_node.specs.{Nodes.Node, PortActs.{far_act, near_act}, Records.{IsRecorded, NodeRecord, NodeRoom, node_start, node_state}}
+use Rattle.c104_node.specs.{Records.node_trace, Starts.start_node, Traces.{Deed, entry_of, lone_deed, part, seatless}}
+use Rattle.c104_node.specs.declared.{acts.{ActOf.ActOf, Entry.Entry}, crossings.Crossing.{Crossing, TheVariants.{Grant, Token}}}
+use Rattle.{c104_node.specs.declared.stamps.Stamp.Stamp, c104_plan.specs.{Plans.{IsPlan, Plan}, Wiring.peer, declared.ports.Port.Port}}
+use Rattle.c104_run.{proofs.BalanceWires.peer_back, specs.{Ends.end_of, EventActs.{crossing_acts, port_place}, EventDeeds.acts_deeds}}
+use Rattle.c104_run.specs.{EventDeeds.event_deeds, NetRecords.{IsNetRecord, NetRecord, net_record}, Runs.{at_node, run_deeds}}
+use Rattle.{c104_run.specs.WiredActs.{AreWiredLinks, IsRecordedAt, IsRecordedNode, IsWiredAct}, c104_switch.specs.Actions.{Reply, is_ready}}
+use Rattle.{c104_switch.specs.declared.actions.ReplyOf.ReplyOf, c104_token.specs.declared.tokens.Token.Token as PlainToken}
+use Rattle.std.proofs.Common.{All, Bool, List, None, Option, Some, [], ap, arith, false, if◌then◌else◌, length, map, nat_eq, refl}
+use Rattle.std.proofs.{Common.{slice_get, subst, suc, sym, true, ℕ, ◌++◌, ◌+◌, ◌∙◌, ◌∷◌, ◌≡◌}, lemmas.Bool.Decides.nat_tests}
+use Rattle.std.{proofs.lemmas.{List.Elements.{All-cons, All-nil}, Option.slice_get-map}, specs.Option.option_map}
 
 module _ (plan : Plan) (is_plan : IsPlan plan) where
   -- the act at a port that is wired goes over a wired link
   near_wired : (crossing : Crossing) (p q : Port) → peer plan p ≡ Some q → (stamp : Stamp) (r : Reply) → IsWiredAct plan (port_place plan p) (entry_of stamp (near_act crossing p) r)
-  near_wired Token (port.Switch s i) q wired stamp r = λ l is. (let link : i ≡ l = cc in (port.Switch s i, q, ap (λ (x : ℕ). record { node = s; link = x }) link, wired))
-  near_wired Token (port.Terminal t) q wired stamp r = λ l is. (let link : 0 ≡ l = cc in (port.Terminal t, q, ap (λ (x : ℕ). record { node = length plan.switches + t; link = x }) link, wired))
-  near_wired Grant (port.Switch s i) q wired stamp r = λ l is. (let link : i ≡ l = cc in (port.Switch s i, q, ap (λ (x : ℕ). record { node = s; link = x }) link, wired))
-  near_wired Grant (port.Terminal t) q wired stamp r = λ l is. (let link : 0 ≡ l = cc in (port.Terminal t, q, ap (λ (x : ℕ). record { node = length plan.switches + t; link = x }) link, wired))
+  near_wired Token (Port.Switch s i) q wired stamp r = λ l is. (let link : i ≡ l = cc in (Port.Switch s i, q, ap (λ (x : ℕ). record { node = s; link = x }) link, wired))
+  near_wired Token (Port.Terminal t) q wired stamp r = λ l is. (let link : 0 ≡ l = cc in (Port.Terminal t, q, ap (λ (x : ℕ). record { node = length plan.switches + t; link = x }) link, wired))
+  near_wired Grant (Port.Switch s i) q wired stamp r = λ l is. (let link : i ≡ l = cc in (Port.Switch s i, q, ap (λ (x : ℕ). record { node = s; link = x }) link, wired))
+  near_wired Grant (Port.Terminal t) q wired stamp r = λ l is. (let link : 0 ≡ l = cc in (Port.Terminal t, q, ap (λ (x : ℕ). record { node = length plan.switches + t; link = x }) link, wired))
 
   far_link : (told : Reply) (q : Port) → act_link (far_act q told) ≡ Some (end_of plan q).link
-  far_link (reply.Token x) (port.Switch s l) = refl
-  far_link (reply.Token x) (port.Terminal t) = refl
-  far_link r (port.Switch s l) = refl
-  far_link r (port.Terminal t) = refl
+  far_link (ReplyOf.Token x) (Port.Switch s l) = refl
+  far_link (ReplyOf.Token x) (Port.Terminal t) = refl
+  far_link r (Port.Switch s l) = refl
+  far_link r (Port.Terminal t) = refl
 
   far_wired : (told : Reply) (q p : Port) → peer plan q ≡ Some p → (stamp : Stamp) (r : Reply) → IsWiredAct plan (port_place plan q) (entry_of stamp (far_act q told) r)
   far_wired told q p wired stamp r = λ l is. (let both : Some (end_of plan q).link ≡ Some l = sym (far_link told q) ∙ is in let link : (end_of plan q).link ≡ l = cc in (q, p, ap (λ (x : ℕ). record { node = (end_of plan q).node; link = x }) link, wired))
@@ -71,13 +50,13 @@ module _ (plan : Plan) (is_plan : IsPlan plan) where
   joint_wired_deeds stamp crossing p r None wired = tt
   joint_wired_deeds stamp crossing p r (Some q) wired = by_reply (is_ready r)
     where
-      by_reply : (done : Bool) → AreWired (if done then (port_place plan p, entry_of stamp (near_act crossing p) r) ∷ (port_place plan q, entry_of stamp (far_act q r) reply.Done) ∷ [] else [])
+      by_reply : (done : Bool) → AreWired (if done then (port_place plan p, entry_of stamp (near_act crossing p) r) ∷ (port_place plan q, entry_of stamp (far_act q r) ReplyOf.Done) ∷ [] else [])
       by_reply false = tt
-      by_reply true = (near_wired crossing p q wired stamp r, (far_wired r q p (peer_back plan is_plan p q wired) stamp reply.Done, tt))
+      by_reply true = (near_wired crossing p q wired stamp r, (far_wired r q p (peer_back plan is_plan p q wired) stamp ReplyOf.Done, tt))
 
   event_wired : (stamp : Stamp) (e : Event) (r : Reply) → AreWired (event_deeds plan stamp e r)
-  event_wired stamp (event.Cross p) r = joint_wired_deeds stamp Token p r (peer plan p) refl
-  event_wired stamp (event.Credit p) r = joint_wired_deeds stamp Grant p r (peer plan p) refl
+  event_wired stamp (Event.Cross p) r = joint_wired_deeds stamp Token p r (peer plan p) refl
+  event_wired stamp (Event.Credit p) r = joint_wired_deeds stamp Grant p r (peer plan p) refl
   event_wired stamp e r = lone_wired stamp _ _ r refl
 
   -- those of a run, and the part of a node of them

@@ -1,15 +1,9 @@
 -- What every network keeps: at the two ends of each wire the credit of the one is what the other has
 -- granted.
-use Rattle.std.specs.Prelude.{ℕ, ◌≡◌, ◌++◌, true, false, List, Option, Some, length, map, replicate, slice_get}
-use Rattle.c104_link.specs.Steps.{◌>>=◌}
-use Rattle.c104_node.specs.declared.node.NodeOf.TheVariants.{Switch, Terminal}
-use Rattle.c104_plan.specs.declared.ports.Port.{Port}
-use Rattle.c104_node.specs.declared.ends.End.{End}
-use Rattle.c104_node.specs.Nodes.{Node, is_switch}
-use Rattle.c104_plan.specs.Plans.{Plan}
-use Rattle.c104_plan.specs.Wiring.{peer}
-use Rattle.c104_run.specs.Ends.{end_of}
-use Rattle.c104_run.specs.Network.{Network}
+use Rattle.{c104_link.specs.Steps.◌>>=◌, c104_node.specs.{Nodes.{Node, is_switch}, declared.{ends.End.End, node.NodeOf.TheVariants.Switch}}}
+use Rattle.{c104_node.specs.declared.node.NodeOf.TheVariants.Terminal, c104_plan.specs.{Plans.Plan, Wiring.peer, declared.ports.Port.Port}}
+use Rattle.c104_run.specs.{Ends.end_of, Network.Network}
+use Rattle.std.specs.Prelude.{List, Option, Some, false, length, map, replicate, slice_get, true, ℕ, ◌++◌, ◌≡◌}
 
 -- how many tokens a node may send over a link
 abbrev pub credit_of : {A : Type 0} → ℕ → Node A → Option ℕ

@@ -1,23 +1,10 @@
 -- What an event asks of the nodes of a network: an act of one node, or one at each end of a wire. The acts are made of
 -- the plan's ports alone, so they are known before any node is looked at.
-use Rattle.std.specs.Prelude.{ℕ, ◌-◌, List, Option, Some, None, length}
-use Rattle.c104_token.specs.Kinds.{Kind}
-use Rattle.c104_switch.specs.declared.actions.ReplyOf.{ReplyOf}
-use Rattle.c104_switch.specs.declared.actions.ActionOf.TheVariants as action
-use Rattle.c104_plan.specs.Plans.{Plan}
-use Rattle.c104_plan.specs.Wiring.{peer}
-use Rattle.c104_plan.specs.declared.ports.Port.{Port}
-use Rattle.c104_plan.specs.declared.ports.Port.TheVariants as port
-use Rattle.c104_event.specs.declared.events.Event.{Event}
-use Rattle.c104_event.specs.declared.events.Event.TheVariants as event
-use Rattle.c104_node.specs.declared.acts.ActOf.{ActOf}
-use Rattle.c104_node.specs.declared.acts.ActOf.TheVariants as act
-use Rattle.c104_node.specs.declared.crossings.Crossing.{Crossing}
-use Rattle.c104_node.specs.declared.crossings.Crossing.TheVariants.{Token, Grant}
-use Rattle.c104_node.specs.Acts.{nodes_act}
-use Rattle.c104_run.specs.Ends.{end_of}
-use Rattle.c104_node.specs.Nodes.{Node}
-use Rattle.c104_node.specs.PortActs.{Acts, joint_step}
+use Rattle.{c104_event.specs.declared.events.Event.Event, c104_node.specs.{Acts.nodes_act, Nodes.Node, PortActs.{Acts, joint_step}}}
+use Rattle.c104_node.specs.declared.{acts.ActOf.ActOf, crossings.Crossing.{Crossing, TheVariants.{Grant, Token}}}
+use Rattle.{c104_plan.specs.{Plans.Plan, Wiring.peer, declared.ports.Port.Port}, c104_run.specs.Ends.end_of}
+use Rattle.{c104_switch.specs.declared.actions.{ActionOf.ActionOf, ReplyOf.ReplyOf}, c104_token.specs.Kinds.Kind}
+use Rattle.std.specs.Prelude.{List, None, Option, Some, length, ℕ, ◌-◌}
 
 -- what crosses from a port to the other end of its wire, if it has one
 abbrev pub crossing_acts : {A : Type 0} → Crossing → Port → Option Port → Option (Acts A)
@@ -26,8 +13,8 @@ crossing_acts crossing p (Some q) = Some (Acts.Joint p q crossing)
 
 -- the event of what crosses from a port
 abbrev pub crossing_event : Crossing → Port → Event
-crossing_event Token p = event.Cross p
-crossing_event Grant p = event.Credit p
+crossing_event Token p = Event.Cross p
+crossing_event Grant p = Event.Credit p
 
 -- the place of a port among the nodes
 abbrev pub port_place : Plan → Port → ℕ
@@ -40,13 +27,13 @@ pub data Ask (A : Type 0) : Type 0 where
 
 -- what each event asks
 abbrev pub event_ask : {A : Type 0} → Plan → Event → Ask A
-event_ask plan (event.Cross p) = Ask.Over p Token
-event_ask plan (event.Credit p) = Ask.Over p Grant
-event_ask plan (event.Input s l word) = Ask.Alone s (act.Step (action.Input l word))
-event_ask plan (event.Claim s i o) = Ask.Alone s (act.Step (action.Claim i o))
-event_ask plan (event.Control s bytes) = Ask.Alone s (act.Step (action.Control bytes))
-event_ask plan (event.Send t packet) = Ask.Alone (port_place plan (port.Terminal t)) (act.Send packet)
-event_ask plan (event.Drain t) = Ask.Alone (port_place plan (port.Terminal t)) act.Drain
+event_ask plan (Event.Cross p) = Ask.Over p Token
+event_ask plan (Event.Credit p) = Ask.Over p Grant
+event_ask plan (Event.Input s l word) = Ask.Alone s (ActOf.Step (ActionOf.Input l word))
+event_ask plan (Event.Claim s i o) = Ask.Alone s (ActOf.Step (ActionOf.Claim i o))
+event_ask plan (Event.Control s bytes) = Ask.Alone s (ActOf.Step (ActionOf.Control bytes))
+event_ask plan (Event.Send t packet) = Ask.Alone (port_place plan (Port.Terminal t)) (ActOf.Send packet)
+event_ask plan (Event.Drain t) = Ask.Alone (port_place plan (Port.Terminal t)) ActOf.Drain
 
 -- the acts of what is asked; there are none where a port has no wire
 abbrev pub ask_acts : {A : Type 0} → Plan → Ask A → Option (Acts A)

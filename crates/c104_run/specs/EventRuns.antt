@@ -1,10 +1,7 @@
 -- Events in turn, of any kind of state, up to the first that a fault refuses.
-use Rattle.std.specs.Prelude.{◌≡◌, ◌⊎◌, true, List, [], ◌∷◌, ◌++◌, Result, Ok, Err}
+use Rattle.{c104_event.specs.declared.{events.Event.Event, faults.EventFault.EventFault}, c104_run.specs.NetRecords.is_done}
 use Rattle.c104_switch.specs.Actions.{Reply}
-use Rattle.c104_event.specs.declared.events.Event.{Event}
-use Rattle.c104_event.specs.declared.faults.EventFault.{EventFault}
-use Rattle.c104_event.specs.declared.faults.EventFault.TheVariants as fault
-use Rattle.c104_run.specs.NetRecords.{is_done}
+use Rattle.std.specs.Prelude.{Err, List, Ok, Result, [], true, ◌++◌, ◌∷◌, ◌≡◌, ◌⊎◌}
 
 -- what a run comes to: whether a fault stopped it, and the state after it
 abbrev pub Outcome : (S : Type 0) → Type 0
@@ -28,7 +25,7 @@ module _ {S : Type 0} (apply : S → Event → Result Reply EventFault × S) whe
   abbrev pub Answers : S → Event → Result Reply EventFault → S → Type 0
   Answers s e answer after =
       (◌≡◌ {A = Result Reply EventFault × S} (answer, after) (apply s e))
-      ⊎ ((answer ≡ Err fault.NoMemory) × (is_done (apply s e).0 ≡ true) × (after ≡ s))
+      ⊎ ((answer ≡ Err EventFault.NoMemory) × (is_done (apply s e).0 ≡ true) × (after ≡ s))
 
   -- the answers to events in turn
   abbrev pub AnswersAll : S → List Event → List (Result Reply EventFault) → S → Type 0
@@ -41,7 +38,7 @@ module _ {S : Type 0} (apply : S → Event → Result Reply EventFault × S) whe
   -- out of memory for an event that would be done, and each event before it stands
   pub record StopsShort (s : S) (events : List Event)
       (result : Result (Unit {0}) EventFault) (after : S) : Type 0 where
-    pub refused : result ≡ Err fault.NoMemory
+    pub refused : result ≡ Err EventFault.NoMemory
     pub front : List Event
     pub event : Event
     pub rest : List Event

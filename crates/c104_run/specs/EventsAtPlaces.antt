@@ -1,20 +1,11 @@
 -- What the acts of an event, and the event, leave at all places of a network.
-use Rattle.std.specs.Prelude.{◌≡◌, Bool, true, false, List, IfOk, Result, Ok, Err}
-use Rattle.c104_token.specs.Kinds.{Kind}
-use Rattle.c104_switch.specs.Actions.{Reply, is_ready}
-use Rattle.c104_switch.specs.declared.actions.ReplyOf.{ReplyOf}
-use Rattle.c104_plan.specs.Plans.{Plan}
-use Rattle.c104_event.specs.declared.events.Event.{Event}
-use Rattle.c104_event.specs.declared.faults.EventFault.{EventFault}
-use Rattle.c104_node.specs.declared.stamps.Stamp.{Stamp}
-use Rattle.c104_node.specs.Acts.{plain_reply}
-use Rattle.c104_run.specs.EventActs.{acts_step, port_place}
-use Rattle.c104_node.specs.PortActs.{Acts, acts_limit}
-use Rattle.c104_run.specs.Network.{AnswersWith, network_of}
-use Rattle.c104_node.specs.PlaceActs.{AreDone}
-use Rattle.c104_node.specs.Places.{Shown, bases, fulls, states, traces}
-use Rattle.c104_node.specs.Traces.{Deed, joint_deeds, kept_of, lone_deed, noted_all, plain_act}
-use Rattle.c104_run.specs.EventDeeds.{acts_full, event_deeds, event_full}
+use Rattle.{c104_event.specs.declared.{events.Event.Event, faults.EventFault.EventFault}, c104_node.specs.Acts.plain_reply}
+use Rattle.c104_node.specs.{PlaceActs.AreDone, Places.{Shown, bases, fulls, states, traces}, PortActs.{Acts, acts_limit}, Traces.Deed}
+use Rattle.c104_node.specs.{Traces.{joint_deeds, kept_of, lone_deed, noted_all, plain_act}, declared.stamps.Stamp.Stamp}
+use Rattle.{c104_plan.specs.Plans.Plan, c104_run.specs.{EventActs.{acts_step, port_place}, EventDeeds.{acts_full, event_deeds, event_full}}}
+use Rattle.{c104_run.specs.Network.{AnswersWith, network_of}, c104_switch.specs.Actions.{Reply, is_ready}}
+use Rattle.{c104_switch.specs.declared.actions.ReplyOf.ReplyOf, c104_token.specs.Kinds.Kind}
+use Rattle.std.specs.Prelude.{Bool, Err, IfOk, List, Ok, Result, false, true, ◌≡◌}
 
 -- the entries of some acts that were answered so
 abbrev pub acts_kept : {A : Type 0} → Kind A → Plan → Stamp → Acts A → ReplyOf A → List Deed

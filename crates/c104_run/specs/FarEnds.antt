@@ -1,15 +1,8 @@
 -- The table of wires: the far end of the wire at each port.
-use Rattle.std.specs.Prelude.{ℕ, ◌*◌, ◌/◌, ◌%◌, List, [], ◌∷◌, Option, Some, None, if◌then◌else◌, length, map, option_map}
-use Rattle.std.specs.List.{range_with_len}
-use Rattle.c104_regs.specs.declared.registers.TheConstants.{LINKS}
-use Rattle.c104_plan.specs.declared.ports.Port.TheVariants as port
-use Rattle.c104_plan.specs.declared.ports.Port.{Port}
-use Rattle.c104_plan.specs.Plans.{Plan}
-use Rattle.c104_plan.specs.declared.ports.Wire.{Wire}
-use Rattle.c104_plan.specs.Ports.{is_port}
-use Rattle.c104_plan.specs.Wiring.{peer}
-use Rattle.c104_node.specs.declared.ends.End.{End}
-use Rattle.c104_run.specs.Ends.{end_of}
+use Rattle.{c104_node.specs.declared.ends.End.End, c104_plan.specs.{Plans.Plan, Ports.is_port, Wiring.peer, declared.ports.Port.Port}}
+use Rattle.{c104_plan.specs.declared.ports.Wire.Wire, c104_regs.specs.declared.registers.TheConstants.LINKS, c104_run.specs.Ends.end_of}
+use Rattle.std.specs.{List.range_with_len, Prelude.{List, None, Option, Some, [], if◌then◌else◌, length, map, option_map, ℕ, ◌%◌, ◌*◌, ◌/◌}}
+use Rattle.std.specs.Prelude.{◌∷◌}
 
 -- the far end of the wire at a port, if it has one
 abbrev pub far_end : Plan → Port → Option End
@@ -18,13 +11,13 @@ far_end plan p = option_map (end_of plan) (peer plan p)
 -- the far ends of all links, by switch and link: that of link l of switch s is at place 32 s + l
 abbrev pub link_ends : Plan → List (Option End)
 link_ends plan =
-    map (λ place. far_end plan (port.Switch (place / LINKS) (place % LINKS)))
+    map (λ place. far_end plan (Port.Switch (place / LINKS) (place % LINKS)))
     (range_with_len 0 (length plan.switches * LINKS))
 
 -- the far ends of the terminals, in order
 abbrev pub terminal_ends : Plan → List (Option End)
 terminal_ends plan =
-    map (λ t. far_end plan (port.Terminal t)) (range_with_len 0 (length plan.terminals))
+    map (λ t. far_end plan (Port.Terminal t)) (range_with_len 0 (length plan.terminals))
 
 -- The table, made one wire after the other
 
@@ -40,4 +33,4 @@ end_by plan (w ∷ ws) p =
 
 -- the far ends of all links of n switches, where this tells that at each port
 abbrev pub ends_by : (Port → Option End) → ℕ → List (Option End)
-ends_by far n = map (λ place. far (port.Switch (place / LINKS) (place % LINKS))) (range_with_len 0 (n * LINKS))
+ends_by far n = map (λ place. far (Port.Switch (place / LINKS) (place % LINKS))) (range_with_len 0 (n * LINKS))

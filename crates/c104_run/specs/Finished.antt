@@ -1,10 +1,7 @@
 -- What a run leaves: the plan of its network, and the state of its terminals at its end.
-use Rattle.std.specs.Prelude.{ℕ, List, Option, Some, slice_get}
-use Rattle.c104_link.specs.Steps.{◌>>=◌}
-use Rattle.c104_plan.specs.Plans.{Plan}
-use Rattle.c104_node.specs.Terminals.{Terminal}
-use Rattle.c104_node.specs.Nodes.{terminals_of}
+use Rattle.{c104_link.specs.Steps.◌>>=◌, c104_node.specs.{Nodes.terminals_of, Terminals.Terminal}, c104_plan.specs.Plans.Plan}
 use Rattle.c104_run.specs.Network.{Network}
+use Rattle.std.specs.Prelude.{List, Option, Some, slice_get, ℕ}
 
 -- a run that is finished: the plan of its network, and the terminals at its end, in order
 pub record FinishedRun (A : Type 0) : Type 0 where

@@ -1,23 +1,11 @@
 -- What is left of a run of a network whose nodes keep what they do: the plan and the terminals at its end, where
 -- its nodes started, what they did since, and how many events were done.
-use Rattle.std.specs.Prelude.{ℕ, All, ◌+◌, ◌≡◌, ◌≤◌, List, [], length, map}
-use Rattle.c104_token.specs.declared.tokens.Token.{Token}
-use Rattle.c104_plan.specs.Plans.{Plan}
-use Rattle.c104_node.specs.declared.acts.Entry.{Entry}
-use Rattle.c104_node.specs.declared.starts.NodeStart.{NodeStart}
-use Rattle.c104_run.specs.Finished.{FinishedRun, network_finish}
-use Rattle.c104_event.specs.declared.events.Event.{Event}
-use Rattle.c104_run.specs.Balance.{AreInPlace, IsSteady}
-use Rattle.c104_run.specs.NetRecords.{IsWithinLimit, NetRecord}
-use Rattle.c104_run.specs.Network.{network_of}
-use Rattle.c104_node.specs.Nodes.{Node}
-use Rattle.c104_run.specs.Runs.{IsRunRecord}
-use Rattle.c104_node.specs.Starts.{start_node}
-use Rattle.c104_node.specs.declared.stamps.Stamp.{Stamp}
-use Rattle.c104_switch.specs.Actions.{Reply}
-use Rattle.c104_token.specs.Kinds.{plain_kind}
-use Rattle.c104_node.specs.Terminals.{Terminal}
-use Rattle.c104_run.specs.WiredActs.{IsRecordedAt}
+use Rattle.{c104_event.specs.declared.events.Event.Event, c104_node.specs.{Nodes.Node, Starts.start_node, Terminals.Terminal}}
+use Rattle.{c104_node.specs.declared.{acts.Entry.Entry, stamps.Stamp.Stamp, starts.NodeStart.NodeStart}, c104_plan.specs.Plans.Plan}
+use Rattle.c104_run.specs.{Balance.{AreInPlace, IsSteady}, Finished.{FinishedRun, network_finish}, NetRecords.{IsWithinLimit, NetRecord}}
+use Rattle.{c104_run.specs.{Network.network_of, Runs.IsRunRecord, WiredActs.IsRecordedAt}, c104_switch.specs.Actions.Reply}
+use Rattle.c104_token.specs.{Kinds.plain_kind, declared.tokens.Token.Token}
+use Rattle.std.specs.Prelude.{All, List, [], length, map, ℕ, ◌+◌, ◌≡◌, ◌≤◌}
 
 -- a run that is finished, with its record
 pub record FinishedRecord : Type 0 where

@@ -1,21 +1,13 @@
 -- What places keep of the links of their nodes: those that have wires in the plan.
-use Rattle.std.specs.Prelude.{ℕ, ◌≡◌, ◌-◌, ◌&&◌, Bool, true, List, Some, IfSome, if◌then◌else◌, length, nat_eq, nat_lt, slice_get}
-use Rattle.c104_plan.specs.Plans.{Plan}
-use Rattle.c104_plan.specs.Wiring.{peer}
-use Rattle.c104_plan.specs.declared.ports.Port.{Port}
-use Rattle.c104_plan.specs.declared.ports.Port.TheVariants as port
-use Rattle.c104_node.specs.ActLinks.{port_link}
-use Rattle.c104_node.specs.Places.{PlaceBase}
-use Rattle.c104_node.specs.Records.{has_link, NodeRecord, NodeRoom}
-use Rattle.c104_node.specs.WiredPlaces.{links_at}
-use Rattle.c104_run.specs.EventActs.{port_place}
-use Rattle.c104_run.specs.Rounds.{is_wired}
+use Rattle.c104_node.specs.{ActLinks.port_link, Places.PlaceBase, Records.{NodeRecord, NodeRoom, has_link}, WiredPlaces.links_at}
+use Rattle.{c104_plan.specs.{Plans.Plan, Wiring.peer, declared.ports.Port.Port}, c104_run.specs.{EventActs.port_place, Rounds.is_wired}}
+use Rattle.std.specs.Prelude.{Bool, IfSome, List, Some, if◌then◌else◌, length, nat_eq, nat_lt, slice_get, true, ℕ, ◌&&◌, ◌-◌, ◌≡◌}
 
 -- whether a link of the node at this place has a wire; a terminal's one link is 0
 abbrev pub is_linked_end : Plan → ℕ → ℕ → Bool
 is_linked_end plan k l =
-    if nat_lt k (length plan.switches) then is_wired plan (port.Switch k l)
-    else nat_eq l 0 && is_wired plan (port.Terminal (k - length plan.switches))
+    if nat_lt k (length plan.switches) then is_wired plan (Port.Switch k l)
+    else nat_eq l 0 && is_wired plan (Port.Terminal (k - length plan.switches))
 
 -- what is kept of the places of a plan's nodes knows each wire at both its ends, and, where it is kept, exactly the
 -- links that have wires

@@ -1,12 +1,7 @@
 -- The places of a network's nodes at which something of a round may begin.
-use Rattle.std.specs.Prelude.{ℕ, ◌≡◌, ◌/◌, ◌%◌, ◌||◌, Bool, false, List, Some, nat_le, slice_get, slice_index_or}
-use Rattle.c104_crossbar.specs.Groups.{has_bit}
-use Rattle.c104_regs.specs.declared.registers.TheConstants.{LINKS}
-use Rattle.c104_token.specs.Kinds.{Kind}
-use Rattle.c104_plan.specs.Plans.{IsPlan, Plan}
-use Rattle.c104_node.specs.Idle.{IsIdleNode}
-use Rattle.c104_node.specs.Nodes.{Node}
-use Rattle.c104_run.specs.KnownWires.{is_linked_end}
+use Rattle.{c104_crossbar.specs.Groups.has_bit, c104_node.specs.{Idle.IsIdleNode, Nodes.Node}, c104_plan.specs.Plans.{IsPlan, Plan}}
+use Rattle.{c104_regs.specs.declared.registers.TheConstants.LINKS, c104_run.specs.KnownWires.is_linked_end, c104_token.specs.Kinds.Kind}
+use Rattle.std.specs.Prelude.{Bool, List, Some, false, nat_le, slice_get, slice_index_or, ℕ, ◌%◌, ◌/◌, ◌||◌, ◌≡◌}
 
 -- how many places are told apart
 abbrev pub told_places : ℕ

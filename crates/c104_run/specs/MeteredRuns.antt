@@ -1,23 +1,10 @@
 -- What a meter is told of a network with its record: by the tokens that the network carries itself.
-use Rattle.std.specs.Prelude.{◌≡◌, Bool, true, List, Result, map}
-use Rattle.c104_token.specs.Kinds.{Kind}
-use Rattle.c104_switch.specs.Actions.{Reply}
-use Rattle.c104_event.specs.declared.events.Event.{Event}
-use Rattle.c104_event.specs.declared.faults.EventFault.{EventFault}
-use Rattle.c104_node.specs.MappedNodes.{map_node}
-use Rattle.c104_node.specs.Nodes.{Node}
-use Rattle.c104_node.specs.Places.{started_base}
-use Rattle.c104_node.specs.Starts.{start_node}
-use Rattle.c104_node.specs.Traces.{seatless}
-use Rattle.c104_run.specs.EventRuns.{Answers}
-use Rattle.c104_run.specs.Meters.{metered_apply, with_meter, Metered, Sees}
-use Rattle.c104_run.specs.NetRecords.{NetRecord}
-use Rattle.c104_run.specs.Network.{network_of}
-use Rattle.c104_run.specs.RecordedRuns.{record_apply}
-use Rattle.c104_run.specs.RoundParts.{PartEnds}
-use Rattle.c104_run.specs.Rounds.{round}
-use Rattle.c104_run.specs.Runs.{IsRunRecord}
-use Rattle.c104_run.specs.Stages.{Stage}
+use Rattle.{c104_event.specs.declared.{events.Event.Event, faults.EventFault.EventFault}, c104_node.specs.MappedNodes.map_node}
+use Rattle.{c104_node.specs.{Nodes.Node, Places.started_base, Starts.start_node, Traces.seatless}, c104_run.specs.EventRuns.Answers}
+use Rattle.c104_run.specs.{Meters.{Metered, Sees, metered_apply, with_meter}, NetRecords.NetRecord, Network.network_of}
+use Rattle.c104_run.specs.{RecordedRuns.record_apply, RoundParts.PartEnds, Rounds.round, Runs.IsRunRecord, Stages.Stage}
+use Rattle.{c104_switch.specs.Actions.Reply, c104_token.specs.Kinds.Kind}
+use Rattle.std.specs.Prelude.{Bool, List, Result, map, true, ◌≡◌}
 
 -- the stage that a network with its record is at, where its nodes over its own tokens are these
 abbrev pub own_stage : {A : Type 0} → NetRecord → List (Node A) → Stage A

@@ -1,21 +1,9 @@
 -- Meters, which are told of each token that crosses a wire and of each that arrives, and what they are told of events.
-use Rattle.std.specs.Prelude.{ℕ, Bool, List, Option, Some, None, Result, Ok, Err, if◌then◌else◌}
-use Rattle.c104_token.specs.Kinds.{Kind}
-use Rattle.c104_switch.specs.Actions.{Reply}
-use Rattle.c104_switch.specs.declared.actions.ReplyOf.{ReplyOf}
-use Rattle.c104_switch.specs.declared.actions.ReplyOf.TheVariants as reply
-use Rattle.c104_plan.specs.Plans.{Plan}
-use Rattle.c104_plan.specs.declared.ports.Port.{Port}
-use Rattle.c104_event.specs.declared.events.Event.{Event}
-use Rattle.c104_event.specs.declared.events.Event.TheVariants as event
-use Rattle.c104_event.specs.declared.faults.EventFault.{EventFault}
-use Rattle.c104_node.specs.Acts.{reply_outcome}
-use Rattle.c104_node.specs.PortActs.{Acts}
-use Rattle.c104_node.specs.Places.{Shown}
-use Rattle.c104_run.specs.EventActs.{acts_step, event_acts}
-use Rattle.c104_run.specs.Network.{Network}
-use Rattle.c104_run.specs.NetRecords.{is_done}
-use Rattle.c104_run.specs.Stages.{stage_apply, stage_of, Stage}
+use Rattle.{c104_event.specs.declared.{events.Event.Event, faults.EventFault.EventFault}, c104_node.specs.Acts.reply_outcome}
+use Rattle.{c104_node.specs.{Places.Shown, PortActs.Acts}, c104_plan.specs.{Plans.Plan, declared.ports.Port.Port}}
+use Rattle.c104_run.specs.{EventActs.{acts_step, event_acts}, NetRecords.is_done, Network.Network, Stages.{Stage, stage_apply, stage_of}}
+use Rattle.{c104_switch.specs.{Actions.Reply, declared.actions.ReplyOf.ReplyOf}, c104_token.specs.Kinds.Kind}
+use Rattle.std.specs.Prelude.{Bool, Err, List, None, Ok, Option, Result, Some, if◌then◌else◌, ℕ}
 
 -- what a meter comes to when it is told that a token crosses the wire at a port, from there, or arrives at a terminal
 pub record Sees (M A : Type 0) : Type 0 where
@@ -28,26 +16,26 @@ unseen = record { crossed = λ m p x. m; arrived = λ m t x. m }
 
 -- what comes of an answer that is a token, or else
 abbrev pub of_token : {M A : Type 0} → (A → M) → M → ReplyOf A → M
-of_token seen m reply.Done = m
-of_token seen m reply.NotReady = m
-of_token seen m (reply.Token x) = seen x
-of_token seen m (reply.Control bytes) = m
+of_token seen m ReplyOf.Done = m
+of_token seen m ReplyOf.NotReady = m
+of_token seen m (ReplyOf.Token x) = seen x
+of_token seen m (ReplyOf.Control bytes) = m
 
 -- an answer without its fault: what was refused wasn't ready
 abbrev pub reply_given : {A : Type 0} → Result (ReplyOf A) EventFault → ReplyOf A
 reply_given (Ok r) = r
-reply_given (Err f) = reply.NotReady
+reply_given (Err f) = ReplyOf.NotReady
 
 module _ {M A : Type 0} (sees : Sees M A) where
   -- a meter after an event that the network's own tokens answered so
   abbrev pub meter_after : M → Event → ReplyOf A → M
-  meter_after m (event.Cross p) r = of_token (sees.crossed m p) m r
-  meter_after m (event.Credit p) r = m
-  meter_after m (event.Input s l word) r = m
-  meter_after m (event.Claim s i o) r = m
-  meter_after m (event.Control s bytes) r = m
-  meter_after m (event.Send t packet) r = m
-  meter_after m (event.Drain t) r = of_token (sees.arrived m t) m r
+  meter_after m (Event.Cross p) r = of_token (sees.crossed m p) m r
+  meter_after m (Event.Credit p) r = m
+  meter_after m (Event.Input s l word) r = m
+  meter_after m (Event.Claim s i o) r = m
+  meter_after m (Event.Control s bytes) r = m
+  meter_after m (Event.Send t packet) r = m
+  meter_after m (Event.Drain t) r = of_token (sees.arrived m t) m r
 
   -- the same where it may have been refused
   abbrev pub meter_told : M → Event → Result (ReplyOf A) EventFault → M
@@ -60,7 +48,7 @@ module _ {M A : Type 0} (sees : Sees M A) where
 module _ {A : Type 0} (kind : Kind A) where
   -- what acts answer over the network's own tokens; where there are none nothing is ready
   abbrev pub own_answer : Network A → Option (Acts A) → ReplyOf A
-  own_answer net None = reply.NotReady
+  own_answer net None = ReplyOf.NotReady
   own_answer net (Some acts) = (reply_outcome (acts_step kind net.plan net.nodes acts) net.nodes).0
 
   -- what an event answers over them, where no limit is in the way

@@ -1,10 +1,7 @@
 -- What a network comes to that is taken apart: its plan, its nodes, and how many events were done.
-use Rattle.std.specs.Prelude.{ℕ, ◌≡◌, ◌+◌, List, length, map}
-use Rattle.c104_plan.specs.Plans.{Plan}
-use Rattle.c104_node.specs.Places.{bases}
-use Rattle.c104_node.specs.Records.{node_shown, NodeRecord, NodeRoom}
-use Rattle.c104_run.specs.KnownWires.{KnowWires}
-use Rattle.c104_run.specs.NetRecords.{net_record, IsNetRecord, NetRecord}
+use Rattle.{c104_node.specs.{Places.bases, Records.{NodeRecord, NodeRoom, node_shown}}, c104_plan.specs.Plans.Plan}
+use Rattle.c104_run.specs.{KnownWires.KnowWires, NetRecords.{IsNetRecord, NetRecord, net_record}}
+use Rattle.std.specs.Prelude.{List, length, map, ℕ, ◌+◌, ◌≡◌}
 
 -- the parts of a network
 pub record Parts : Type 0 where

@@ -1,22 +1,11 @@
 -- A network with its record: its nodes with their starts and their traces, and how many events were done.
-use Rattle.std.specs.Prelude.{ℕ, ◌+◌, ◌≡◌, ◌≤◌, All, Bool, true, false, List, [], ◌∷◌, Result, Ok, Err, IfOk, length, map, min}
-use Rattle.c104_token.specs.declared.tokens.Token.{Token}
-use Rattle.c104_token.specs.Kinds.{plain_kind}
-use Rattle.c104_switch.specs.Actions.{Reply, is_ready}
-use Rattle.c104_plan.specs.Plans.{Plan}
-use Rattle.c104_event.specs.declared.events.Event.{Event}
-use Rattle.c104_event.specs.declared.faults.EventFault.{EventFault}
-use Rattle.c104_node.specs.declared.acts.Entry.{Entry}
-use Rattle.c104_node.specs.declared.starts.NodeStart.{NodeStart}
-use Rattle.c104_run.specs.Balance.{IsSteady}
-use Rattle.c104_node.specs.Nodes.{Node}
-use Rattle.c104_run.specs.Network.{Network, network_of, AnswersWith}
-use Rattle.c104_node.specs.Records.{NodeRecord, NodeRoom, node_state, node_start, node_trace}
-use Rattle.c104_run.specs.Runs.{IsRunRecord}
-use Rattle.c104_run.specs.QuietNets.{network_begin}
-use Rattle.c104_node.specs.Starts.{start_node, start_of}
-use Rattle.c104_node.specs.Traces.{is_trace_full, kept_of, noted_all, seatless, trace_limit}
-use Rattle.c104_run.specs.EventDeeds.{event_deeds, event_full}
+use Rattle.{c104_event.specs.declared.{events.Event.Event, faults.EventFault.EventFault}, c104_node.specs.{Nodes.Node, Records.NodeRecord}}
+use Rattle.c104_node.specs.{Records.{NodeRoom, node_start, node_state, node_trace}, Starts.{start_node, start_of}, Traces.is_trace_full}
+use Rattle.c104_node.specs.{Traces.{kept_of, noted_all, seatless, trace_limit}, declared.{acts.Entry.Entry, starts.NodeStart.NodeStart}}
+use Rattle.{c104_plan.specs.Plans.Plan, c104_run.specs.{Balance.IsSteady, EventDeeds.{event_deeds, event_full}, Network.AnswersWith}}
+use Rattle.{c104_run.specs.{Network.{Network, network_of}, QuietNets.network_begin, Runs.IsRunRecord}, c104_switch.specs.Actions.Reply}
+use Rattle.{c104_switch.specs.Actions.is_ready, c104_token.specs.{Kinds.plain_kind, declared.tokens.Token.Token}}
+use Rattle.std.specs.Prelude.{All, Bool, Err, IfOk, List, Ok, Result, [], false, length, map, min, true, ℕ, ◌+◌, ◌∷◌, ◌≡◌, ◌≤◌}
 
 -- a network, where its nodes started, what they did since, and how many events were done
 pub record NetRecord : Type 0 where

@@ -1,14 +1,9 @@
 -- What can be seen of the nodes of a network, by their numbers in its plan.
-use Rattle.std.specs.Prelude.{ℕ, length, nat_lt, Option, None, if◌then◌else◌}
-use Rattle.c104_token.specs.Kinds.{Kind}
-use Rattle.c104_token.specs.declared.packets.Packet.{Packet}
-use Rattle.c104_switch.specs.declared.actions.LinkView.{LinkView}
-use Rattle.c104_plan.specs.declared.ports.Port.{Port}
-use Rattle.c104_plan.specs.declared.ports.Port.TheVariants as port
-use Rattle.c104_node.specs.declared.node.NodeOf.TheVariants.{Switch, Terminal}
-use Rattle.c104_node.specs.declared.terminal.views.TerminalView.{TerminalView}
-use Rattle.c104_run.specs.Network.{Network, terminal_place}
-use Rattle.c104_node.specs.Views.{nodes_terminal_view, nodes_input_token, nodes_output_token, nodes_sent_packet, nodes_link_view}
+use Rattle.c104_node.specs.Views.{nodes_input_token, nodes_link_view, nodes_output_token, nodes_sent_packet, nodes_terminal_view}
+use Rattle.c104_node.specs.declared.{node.NodeOf.TheVariants.{Switch, Terminal}, terminal.views.TerminalView.TerminalView}
+use Rattle.{c104_plan.specs.declared.ports.Port.Port, c104_run.specs.Network.{Network, terminal_place}}
+use Rattle.{c104_switch.specs.declared.actions.LinkView.LinkView, c104_token.specs.{Kinds.Kind, declared.packets.Packet.Packet}}
+use Rattle.std.specs.Prelude.{None, Option, if◌then◌else◌, length, nat_lt, ℕ}
 
 -- what is seen of a terminal of the network
 abbrev pub network_terminal_view : {A : Type 0} → Network A → ℕ → Option TerminalView
@@ -19,9 +14,9 @@ network_terminal_view net t =
 
 -- the token at place k of what came in at a port of the network
 abbrev pub network_input_token : {A : Type 0} → Network A → Port → ℕ → Option A
-network_input_token net (port.Switch s l) k =
+network_input_token net (Port.Switch s l) k =
     if nat_lt s (length net.plan.switches) then nodes_input_token net.nodes s l k else None
-network_input_token net (port.Terminal t) k =
+network_input_token net (Port.Terminal t) k =
     if nat_lt t (length net.plan.terminals)
     then nodes_input_token net.nodes (terminal_place net.plan t) 0 k
     else None

@@ -1,32 +1,13 @@
 -- A network: a plan, and its nodes; and what each event does and answers.
-use Rattle.std.specs.Prelude.{ℕ, ◌+◌, ◌≡◌, ◌⊎◌, Bool, true, false, List, ◌++◌, length, map, nat_lt, nat_le, Option, Some, None, is_some}
-use Rattle.std.specs.Prelude.{Result, Ok, Err, if◌then◌else◌}
-use Rattle.c104_token.specs.declared.text.TheConstants.{MAX_PACKET_BYTES}
-use Rattle.c104_token.specs.Kinds.{Kind}
-use Rattle.c104_link.specs.Steps.{◌>>=◌}
-use Rattle.c104_switch.specs.Actions.{Reply}
-use Rattle.c104_switch.specs.declared.actions.ReplyOf.TheVariants as reply
-use Rattle.c104_regs.specs.declared.registers.TheConstants.{LINKS}
-use Rattle.c104_regs.specs.declared.settings.Settings.{Settings}
-use Rattle.c104_switch.specs.Switch.{new_switch, new_switch_with}
-use Rattle.c104_plan.specs.declared.plans.Terminal.{Terminal}
-use Rattle.c104_plan.specs.Plans.{Plan}
-use Rattle.c104_plan.specs.PlanImage.{Image}
-use Rattle.c104_node.specs.Terminals.{new_terminal}
-use Rattle.c104_node.specs.declared.node.NodeOf.TheVariants as node
-use Rattle.c104_plan.specs.declared.ports.Port.{Port}
-use Rattle.c104_plan.specs.declared.ports.Port.TheVariants as port
-use Rattle.c104_event.specs.declared.events.Event.{Event}
-use Rattle.c104_event.specs.declared.events.Event.TheVariants as event
-use Rattle.c104_event.specs.declared.faults.EventFault.{EventFault}
-use Rattle.c104_event.specs.declared.faults.EventFault.TheVariants as fault
-use Rattle.c104_switch.specs.declared.actions.ReplyOf.{ReplyOf}
-use Rattle.c104_node.specs.Acts.{plain_reply}
-use Rattle.c104_run.specs.EventActs.{acts_step, event_acts}
-use Rattle.c104_node.specs.PortActs.{acts_limit}
-use Rattle.c104_node.specs.Nodes.{Node, nodes_arrived, nodes_peek}
-use Rattle.c104_node.specs.Places.{room_fault}
-use Rattle.c104_plan.specs.Wiring.{peer}
+use Rattle.{c104_event.specs.declared.{events.Event.Event, faults.EventFault.EventFault}, c104_link.specs.Steps.◌>>=◌}
+use Rattle.c104_node.specs.{Acts.plain_reply, Nodes.{Node, nodes_arrived, nodes_peek}, Places.room_fault, PortActs.acts_limit}
+use Rattle.{c104_node.specs.{Terminals.new_terminal, declared.node.NodeOf.NodeOf}, c104_plan.specs.{PlanImage.Image, Plans.Plan}}
+use Rattle.c104_plan.specs.{Wiring.peer, declared.{plans.Terminal.Terminal, ports.Port.Port}}
+use Rattle.{c104_regs.specs.declared.{registers.TheConstants.LINKS, settings.Settings.Settings}, c104_run.specs.EventActs.acts_step}
+use Rattle.{c104_run.specs.EventActs.event_acts, c104_switch.specs.{Actions.Reply, Switch.{new_switch, new_switch_with}}}
+use Rattle.{c104_switch.specs.declared.actions.ReplyOf.ReplyOf, c104_token.specs.{Kinds.Kind, declared.text.TheConstants.MAX_PACKET_BYTES}}
+use Rattle.std.specs.Prelude.{Bool, Err, List, None, Ok, Option, Result, Some, false, if◌then◌else◌, is_some, length, map, nat_le, nat_lt}
+use Rattle.std.specs.Prelude.{true, ℕ, ◌++◌, ◌+◌, ◌≡◌, ◌⊎◌}
 
 -- a network: its plan, and the state of its nodes
 pub record Network (A : Type 0) : Type 0 where
@@ -60,15 +41,15 @@ network_peek net s a =
 
 -- switches at first, with buffers of this size, each started with these settings
 abbrev pub switch_nodes : {A : Type 0} → ℕ → List (List Settings) → List (Node A)
-switch_nodes cap switches = map (λ settings. node.Switch (new_switch_with cap settings true)) switches
+switch_nodes cap switches = map (λ settings. NodeOf.Switch (new_switch_with cap settings true)) switches
 
 -- terminals at first, with buffers of this size, one for each of these of a plan
 abbrev pub terminal_nodes : {A : Type 0} → ℕ → List Terminal → List (Node A)
-terminal_nodes cap terminals = map (λ (t : Terminal). node.Terminal (new_terminal cap)) terminals
+terminal_nodes cap terminals = map (λ (t : Terminal). NodeOf.Terminal (new_terminal cap)) terminals
 
 -- switches at first, with buffers of this size: each is reset, and not started
 abbrev pub new_switch_nodes : {A : Type 0} → ℕ → List (List ℕ) → List (Node A)
-new_switch_nodes cap names = map (λ name. node.Switch (new_switch cap)) names
+new_switch_nodes cap names = map (λ name. NodeOf.Switch (new_switch cap)) names
 
 -- a new network: no switch is started, and nothing is anywhere. All buffers have the plan's size.
 abbrev pub new_network : {A : Type 0} → Plan → Network A
@@ -87,20 +68,20 @@ placed_network plan image = record {
 
 -- no such node, where n isn't below count; and else the other fault, if there is one
 abbrev pub node_fault : ℕ → ℕ → Option EventFault → Option EventFault
-node_fault count n other = if nat_lt n count then other else Some fault.NoNode
+node_fault count n other = if nat_lt n count then other else Some EventFault.NoNode
 
 -- no such link, where a switch has none of number l; and else the other fault, if there is one
 abbrev pub link_fault : ℕ → Option EventFault → Option EventFault
-link_fault l other = if nat_lt l LINKS then other else Some fault.NoLink
+link_fault l other = if nat_lt l LINKS then other else Some EventFault.NoLink
 
 -- no such node or link, where the plan has no such port; and else the other fault, if there is one
 abbrev pub port_fault : Plan → Port → Option EventFault → Option EventFault
-port_fault plan (port.Switch s l) other = node_fault (length plan.switches) s (link_fault l other)
-port_fault plan (port.Terminal t) other = node_fault (length plan.terminals) t other
+port_fault plan (Port.Switch s l) other = node_fault (length plan.switches) s (link_fault l other)
+port_fault plan (Port.Terminal t) other = node_fault (length plan.terminals) t other
 
 -- not wired, where there is no port at the other end of a wire
 abbrev pub wire_fault : Option Port → Option EventFault
-wire_fault None = Some fault.NotWired
+wire_fault None = Some EventFault.NotWired
 wire_fault (Some q) = None
 
 -- why an event about the wire at a port can't happen: there is no such port, or it isn't wired
@@ -109,15 +90,15 @@ wired_fault plan p = port_fault plan p (wire_fault (peer plan p))
 
 -- why an event can't happen in a network of this plan, whatever its nodes hold
 abbrev pub event_fault : Plan → Event → Option EventFault
-event_fault plan (event.Cross p) = wired_fault plan p
-event_fault plan (event.Credit p) = wired_fault plan p
-event_fault plan (event.Input s l word) = node_fault (length plan.switches) s (link_fault l None)
-event_fault plan (event.Claim s i o) =
+event_fault plan (Event.Cross p) = wired_fault plan p
+event_fault plan (Event.Credit p) = wired_fault plan p
+event_fault plan (Event.Input s l word) = node_fault (length plan.switches) s (link_fault l None)
+event_fault plan (Event.Claim s i o) =
     node_fault (length plan.switches) s (link_fault i (link_fault o None))
-event_fault plan (event.Control s bytes) = node_fault (length plan.switches) s None
-event_fault plan (event.Send t packet) = node_fault (length plan.terminals) t
-    (if nat_le (length packet.bytes) MAX_PACKET_BYTES then None else Some fault.TooLong)
-event_fault plan (event.Drain t) = node_fault (length plan.terminals) t None
+event_fault plan (Event.Control s bytes) = node_fault (length plan.switches) s None
+event_fault plan (Event.Send t packet) = node_fault (length plan.terminals) t
+    (if nat_le (length packet.bytes) MAX_PACKET_BYTES then None else Some EventFault.TooLong)
+event_fault plan (Event.Drain t) = node_fault (length plan.terminals) t None
 
 -- why an event that is ready can't happen now: a terminal's list would pass its limit
 abbrev pub event_limit : {A : Type 0} → Network A → Event → Option EventFault
@@ -139,7 +120,7 @@ module _ {A : Type 0} (kind : Kind A) where
 
   -- an event that isn't ready changes nothing; one that is ready is done, if no limit is passed
   abbrev pub outcome_if_ready : Network A → Event → Option (Reply × Network A) → Result Reply EventFault × Network A
-  outcome_if_ready net e None = (Ok reply.NotReady, net)
+  outcome_if_ready net e None = (Ok ReplyOf.NotReady, net)
   outcome_if_ready net e (Some r) = outcome_within_limit net (event_limit net e) r
 
   -- an event that can't happen is refused, and changes nothing; any other is done if it is ready

@@ -1,16 +1,9 @@
 -- The part of a node in a round: the events that lead at its place, in the round's order. What crosses a wire is of its
 -- near node alone. And what these are, without the other events of the round.
-use Rattle.std.specs.Prelude.{ℕ, ◌-◌, List, [], ◌∷◌, ◌++◌, if◌then◌else◌, filter, length, nat_eq, nat_lt}
-use Rattle.std.specs.List.{flat_map}
-use Rattle.c104_plan.specs.Plans.{Plan}
-use Rattle.c104_plan.specs.declared.ports.Port.{Port}
-use Rattle.c104_plan.specs.declared.ports.Port.TheVariants as port
-use Rattle.c104_event.specs.declared.events.Event.{Event}
-use Rattle.c104_event.specs.declared.events.Event.TheVariants as event
-use Rattle.c104_node.specs.declared.port_part.PortPart.TheVariants.{Credit, Cross, Turn}
-use Rattle.c104_run.specs.EventPlaces.{event_place}
-use Rattle.c104_run.specs.RoundParts.{port_events}
+use Rattle.{c104_event.specs.declared.events.Event.Event, c104_node.specs.declared.port_part.PortPart.TheVariants.{Credit, Cross, Turn}}
+use Rattle.{c104_plan.specs.{Plans.Plan, declared.ports.Port.Port}, c104_run.specs.{EventPlaces.event_place, RoundParts.port_events}}
 use Rattle.c104_run.specs.Rounds.{is_wired, round, switch_claims, wired_links}
+use Rattle.std.specs.{List.flat_map, Prelude.{List, [], filter, if◌then◌else◌, length, nat_eq, nat_lt, ℕ, ◌++◌, ◌-◌, ◌∷◌}}
 
 -- the part of the node at a place
 abbrev pub round_part : Plan → ℕ → List Event
@@ -22,7 +15,7 @@ node_ports plan k =
     if nat_lt k (length plan.switches)
     then wired_links plan k
     else if nat_lt (k - length plan.switches) (length plan.terminals)
-    then filter (is_wired plan) (port.Terminal (k - length plan.switches) ∷ [])
+    then filter (is_wired plan) (Port.Terminal (k - length plan.switches) ∷ [])
     else []
 
 -- what a round has for the node at a place beside its ports: a switch's claims, or a token's arrival at a terminal
@@ -31,7 +24,7 @@ own_events plan k =
     if nat_lt k (length plan.switches)
     then switch_claims k
     else if nat_lt (k - length plan.switches) (length plan.terminals)
-    then event.Drain (k - length plan.switches) ∷ []
+    then Event.Drain (k - length plan.switches) ∷ []
     else []
 
 -- the events of a node with these wired ports: those of each part of a round at the ports, and then its own

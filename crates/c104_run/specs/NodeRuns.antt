@@ -1,19 +1,10 @@
 -- The run that the traces of nodes tell which were taken out of a network, and what is left of it.
-use Rattle.std.specs.Prelude.{ℕ, List, map}
-use Rattle.c104_token.specs.declared.tokens.Token.{Token}
-use Rattle.c104_token.specs.Kinds.{plain_kind}
-use Rattle.c104_switch.specs.Actions.{Reply}
-use Rattle.c104_plan.specs.Plans.{Plan}
-use Rattle.c104_event.specs.declared.events.Event.{Event}
-use Rattle.c104_node.specs.declared.stamps.Stamp.{Stamp}
-use Rattle.c104_node.specs.Records.{node_start, node_state, node_trace, IsRecorded, NodeRecord, NodeRoom}
-use Rattle.c104_node.specs.Nodes.{Node}
-use Rattle.c104_node.specs.Starts.{start_node}
-use Rattle.c104_run.specs.Balance.{IsSteady}
-use Rattle.c104_run.specs.FinishedRecords.{record_finish, FinishedRecord}
-use Rattle.c104_run.specs.NetRecords.{net_record}
-use Rattle.c104_run.specs.Network.{network_of}
-use Rattle.c104_run.specs.Runs.{IsRunRecord}
+use Rattle.{c104_event.specs.declared.events.Event.Event, c104_node.specs.{Nodes.Node, Records.{IsRecorded, NodeRecord, NodeRoom}}}
+use Rattle.c104_node.specs.{Records.{node_start, node_state, node_trace}, Starts.start_node, declared.stamps.Stamp.Stamp}
+use Rattle.{c104_plan.specs.Plans.Plan, c104_run.specs.{Balance.IsSteady, FinishedRecords.{FinishedRecord, record_finish}}}
+use Rattle.{c104_run.specs.{NetRecords.net_record, Network.network_of, Runs.IsRunRecord}, c104_switch.specs.Actions.Reply}
+use Rattle.c104_token.specs.{Kinds.plain_kind, declared.tokens.Token.Token}
+use Rattle.std.specs.Prelude.{List, map, ℕ}
 
 -- what the type of a node keeps
 abbrev pub IsKeptNode : NodeRecord × NodeRoom → Type 0

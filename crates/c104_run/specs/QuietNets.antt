@@ -1,7 +1,6 @@
 -- Quiet networks, and a network at the start of a run.
+use Rattle.{c104_node.specs.Quiet.{IsQuietNode, node_begin}, c104_run.specs.Network.{Network, with_nodes}}
 use Rattle.std.specs.Prelude.{All, map}
-use Rattle.c104_run.specs.Network.{Network, with_nodes}
-use Rattle.c104_node.specs.Quiet.{IsQuietNode, node_begin}
 
 -- the same of all nodes of a network
 abbrev pub IsQuiet : {A : Type 0} → Network A → Type 0

@@ -1,43 +1,30 @@
 -- What the reason of an event says of the network: it holds of the node at its port.
-use Rattle.std.specs.Prelude.{ℕ, ◌-◌, length, ◌≡◌, ◌⊎◌, Option, Some, None, slice_get}
-use Rattle.c104_switch.specs.ReasonMeanings.{IsReason, IsAcceptReason, IsTakeReason, IsGrantReason, IsEmitReason, IsCreditedReason}
-use Rattle.c104_switch.specs.declared.actions.ActionOf.TheVariants as action
-use Rattle.c104_switch.specs.declared.unready.Unready.{Unready}
-use Rattle.c104_switch.specs.declared.unready.Unready.TheVariants.{NoLink}
-use Rattle.c104_plan.specs.declared.ports.Port.{Port}
-use Rattle.c104_plan.specs.declared.ports.Port.TheVariants as port
-use Rattle.c104_plan.specs.Wiring.{peer}
-use Rattle.c104_event.specs.declared.events.Event.{Event}
-use Rattle.c104_node.specs.declared.acts.ActOf.{ActOf}
-use Rattle.c104_node.specs.declared.acts.ActOf.TheVariants as act
-use Rattle.c104_node.specs.declared.crossings.Crossing.{Crossing}
-use Rattle.c104_node.specs.declared.crossings.Crossing.TheVariants.{Token, Grant}
-use Rattle.c104_node.specs.declared.node.NodeOf.TheVariants.{Switch, Terminal}
-use Rattle.c104_run.specs.declared.reason.Reason.{Reason}
-use Rattle.c104_node.specs.Nodes.{Node}
-use Rattle.c104_run.specs.Ends.{end_of}
-use Rattle.c104_run.specs.EventActs.{Ask, event_ask}
-use Rattle.c104_run.specs.Network.{Network}
-use Rattle.c104_run.specs.Reasons.{claim_link}
+use Rattle.{c104_event.specs.declared.events.Event.Event, c104_node.specs.{Nodes.Node, declared.acts.ActOf.ActOf}}
+use Rattle.c104_node.specs.declared.{crossings.Crossing.{Crossing, TheVariants.{Grant, Token}}, node.NodeOf.TheVariants.{Switch, Terminal}}
+use Rattle.{c104_plan.specs.{Wiring.peer, declared.ports.Port.Port}, c104_run.specs.{Ends.end_of, EventActs.{Ask, event_ask}}}
+use Rattle.c104_run.specs.{Network.Network, Reasons.claim_link, declared.reason.Reason.Reason}
+use Rattle.c104_switch.specs.ReasonMeanings.{IsAcceptReason, IsCreditedReason, IsEmitReason, IsGrantReason, IsReason, IsTakeReason}
+use Rattle.c104_switch.specs.declared.{actions.ActionOf.ActionOf, unready.Unready.{TheVariants.NoLink, Unready}}
+use Rattle.std.specs.Prelude.{None, Option, Some, length, slice_get, ℕ, ◌-◌, ◌≡◌, ◌⊎◌}
 
 -- no token goes out of a node over a link's wire
 abbrev pub IsLeaveReason : {A : Type 0} → ℕ → Node A → Unready → Type 0
-IsLeaveReason l (Switch s) reason = IsReason s (action.Leave l) reason
+IsLeaveReason l (Switch s) reason = IsReason s (ActionOf.Leave l) reason
 IsLeaveReason l (Terminal t) reason = IsEmitReason t.output reason
 
 -- no token comes in there, whatever the token
 abbrev pub IsEnterReason : {A : Type 0} → ℕ → Node A → Unready → Type 0
-IsEnterReason {A} l (Switch s) reason = (x : A) → IsReason s (action.Enter l x) reason
+IsEnterReason {A} l (Switch s) reason = (x : A) → IsReason s (ActionOf.Enter l x) reason
 IsEnterReason l (Terminal t) reason = IsAcceptReason t.input reason
 
 -- a link doesn't grant eight more tokens
 abbrev pub IsCreditOutReason : {A : Type 0} → ℕ → Node A → Unready → Type 0
-IsCreditOutReason l (Switch s) reason = IsReason s (action.CreditOut l) reason
+IsCreditOutReason l (Switch s) reason = IsReason s (ActionOf.CreditOut l) reason
 IsCreditOutReason l (Terminal t) reason = IsGrantReason t.input reason
 
 -- a link may not send eight more tokens
 abbrev pub IsCreditInReason : {A : Type 0} → ℕ → Node A → Unready → Type 0
-IsCreditInReason l (Switch s) reason = IsReason s (action.CreditIn l) reason
+IsCreditInReason l (Switch s) reason = IsReason s (ActionOf.CreditIn l) reason
 IsCreditInReason l (Terminal t) reason = IsCreditedReason t.output reason
 
 -- the end of a wire from which something would cross can't act
@@ -52,12 +39,12 @@ IsFarReason Grant = IsCreditInReason
 
 -- an input takes no turn; a terminal has none that could
 abbrev pub IsInputReason : {A : Type 0} → ℕ → ℕ → Node A → Unready → Type 0
-IsInputReason l word (Switch s) reason = IsReason s (action.Input l word) reason
+IsInputReason l word (Switch s) reason = IsReason s (ActionOf.Input l word) reason
 IsInputReason l word (Terminal t) reason = reason ≡ NoLink
 
 -- an input doesn't claim an output; a terminal has none that could
 abbrev pub IsNodeClaimReason : {A : Type 0} → ℕ → ℕ → Node A → Unready → Type 0
-IsNodeClaimReason i o (Switch s) reason = IsReason s (action.Claim i o) reason
+IsNodeClaimReason i o (Switch s) reason = IsReason s (ActionOf.Claim i o) reason
 IsNodeClaimReason i o (Terminal t) reason = reason ≡ NoLink
 
 -- no token arrives; at a switch none does
@@ -76,12 +63,12 @@ IsSaidAt net Says p reason = IsSaid (Says (end_of net.plan p).link) (slice_get n
 
 -- of the node at a place that is asked for an act alone, this is said; a command and a packet that is sent have no reason
 abbrev pub IsAloneReason : {A : Type 0} → Network A → ℕ → ActOf A → Reason → Type 0
-IsAloneReason net k (act.Step (action.Input l word)) r =
-    (r.port ≡ port.Switch k l) × IsSaid (IsInputReason l word) (slice_get net.nodes k) r.unready
-IsAloneReason net k (act.Step (action.Claim i o)) r =
-    (r.port ≡ port.Switch k (claim_link i o r.unready)) × IsSaid (IsNodeClaimReason i o) (slice_get net.nodes k) r.unready
-IsAloneReason net k act.Drain r =
-    (r.port ≡ port.Terminal (k - length net.plan.switches)) × IsSaid IsDrainReason (slice_get net.nodes k) r.unready
+IsAloneReason net k (ActOf.Step (ActionOf.Input l word)) r =
+    (r.port ≡ Port.Switch k l) × IsSaid (IsInputReason l word) (slice_get net.nodes k) r.unready
+IsAloneReason net k (ActOf.Step (ActionOf.Claim i o)) r =
+    (r.port ≡ Port.Switch k (claim_link i o r.unready)) × IsSaid (IsNodeClaimReason i o) (slice_get net.nodes k) r.unready
+IsAloneReason net k ActOf.Drain r =
+    (r.port ≡ Port.Terminal (k - length net.plan.switches)) × IsSaid IsDrainReason (slice_get net.nodes k) r.unready
 IsAloneReason net k a r = ⊥
 
 -- of what is asked, this is said; of a wire, at the port that it would cross from, or at the other end

@@ -1,31 +1,15 @@
 -- Why an event isn't ready, and where: the first of its conditions that doesn't hold. None is ready, or
 -- refused.
-use Rattle.std.specs.Prelude.{ℕ, ◌-◌, length, Bool, true, false, List, Option, Some, None, Result, Ok, Err}
-use Rattle.std.specs.Option.{option_map, option_or}
-use Rattle.c104_link.specs.Steps.{◌>>=◌}
-use Rattle.c104_switch.specs.Actions.{Reply}
-use Rattle.c104_switch.specs.declared.actions.ActionOf.TheVariants as action
-use Rattle.c104_switch.specs.declared.actions.ReplyOf.TheVariants as reply
+use Rattle.{c104_event.specs.declared.{events.Event.Event, faults.EventFault.EventFault}, c104_link.specs.Steps.◌>>=◌}
+use Rattle.c104_node.specs.NodeReasons.{node_claim_why, node_credit_in_why, node_credit_out_why, node_drain_why, node_enter_why}
+use Rattle.c104_node.specs.{NodeReasons.{node_input_why, node_leave_why}, Nodes.Node, PortActs.Acts, declared.acts.ActOf.ActOf}
+use Rattle.c104_node.specs.declared.{crossings.Crossing.{Crossing, TheVariants.{Grant, Token}}, ends.End.End}
+use Rattle.{c104_plan.specs.declared.ports.Port.Port, c104_run.specs.{Ends.end_of, EventActs.event_acts, Network.{Network, event_fault}}}
+use Rattle.{c104_run.specs.declared.reason.Reason.Reason, c104_switch.specs.{Actions.Reply, Reasons.why_at}}
+use Rattle.c104_switch.specs.declared.{actions.{ActionOf.ActionOf, ReplyOf.ReplyOf}, unready.Unready.TheVariants.{NoRoomForHeader, Owned}}
 use Rattle.c104_switch.specs.declared.unready.Unready.{Unready}
-use Rattle.c104_switch.specs.declared.unready.Unready.TheVariants.{Owned, NoRoomForHeader}
-use Rattle.c104_switch.specs.Reasons.{why_at}
-use Rattle.c104_plan.specs.declared.ports.Port.{Port}
-use Rattle.c104_plan.specs.declared.ports.Port.TheVariants as port
-use Rattle.c104_event.specs.declared.events.Event.{Event}
-use Rattle.c104_event.specs.declared.faults.EventFault.{EventFault}
-use Rattle.c104_node.specs.PortActs.{Acts}
-use Rattle.c104_node.specs.declared.acts.ActOf.{ActOf}
-use Rattle.c104_node.specs.declared.acts.ActOf.TheVariants as act
-use Rattle.c104_node.specs.declared.crossings.Crossing.{Crossing}
-use Rattle.c104_node.specs.declared.crossings.Crossing.TheVariants.{Token, Grant}
-use Rattle.c104_node.specs.declared.ends.End.{End}
-use Rattle.c104_run.specs.declared.reason.Reason.{Reason}
-use Rattle.c104_node.specs.Nodes.{Node}
-use Rattle.c104_run.specs.Ends.{end_of}
-use Rattle.c104_run.specs.EventActs.{event_acts}
-use Rattle.c104_run.specs.Network.{Network, event_fault}
-use Rattle.c104_node.specs.NodeReasons.{node_enter_why, node_leave_why, node_credit_out_why, node_credit_in_why, node_input_why}
-use Rattle.c104_node.specs.NodeReasons.{node_claim_why, node_drain_why}
+use Rattle.std.specs.{Option.{option_map, option_or}, Prelude.{Bool, Err, List, None, Ok, Option, Result, Some, false, length, true, ℕ}}
+use Rattle.std.specs.Prelude.{◌-◌}
 
 -- a reason, at this port
 abbrev pub port_reason : Port → Option Unready → Option Reason
@@ -53,14 +37,14 @@ claim_link i o reason = i
 
 -- a reason of a claim, at its port
 abbrev pub claim_reason : ℕ → ℕ → ℕ → Unready → Reason
-claim_reason s i o u = record { port = port.Switch s (claim_link i o u); unready = u }
+claim_reason s i o u = record { port = Port.Switch s (claim_link i o u); unready = u }
 
 -- why the node at a place isn't ready for an act that it is asked alone; a command and a packet that is sent always are
 abbrev pub alone_why : {A : Type 0} → Network A → ℕ → ActOf A → Option Reason
-alone_why net k (act.Step (action.Input l word)) = port_reason (port.Switch k l) (why_at net.nodes k (node_input_why l))
-alone_why net k (act.Step (action.Claim i o)) = option_map (claim_reason k i o) (why_at net.nodes k (node_claim_why i o))
-alone_why net k act.Drain =
-    port_reason (port.Terminal (k - length net.plan.switches)) (why_at net.nodes k node_drain_why)
+alone_why net k (ActOf.Step (ActionOf.Input l word)) = port_reason (Port.Switch k l) (why_at net.nodes k (node_input_why l))
+alone_why net k (ActOf.Step (ActionOf.Claim i o)) = option_map (claim_reason k i o) (why_at net.nodes k (node_claim_why i o))
+alone_why net k ActOf.Drain =
+    port_reason (Port.Terminal (k - length net.plan.switches)) (why_at net.nodes k node_drain_why)
 alone_why net k a = None
 
 -- why some acts aren't ready; of what crosses a wire, the end that it goes out of can't act, or else the other one
@@ -85,8 +69,8 @@ network_why net e = unless_refused (event_fault net.plan e) (event_why net e)
 
 -- whether an event was answered with NotReady
 abbrev pub is_unready : Result Reply EventFault → Bool
-is_unready (Ok reply.Done) = false
-is_unready (Ok reply.NotReady) = true
-is_unready (Ok (reply.Token x)) = false
-is_unready (Ok (reply.Control bytes)) = false
+is_unready (Ok ReplyOf.Done) = false
+is_unready (Ok ReplyOf.NotReady) = true
+is_unready (Ok (ReplyOf.Token x)) = false
+is_unready (Ok (ReplyOf.Control bytes)) = false
 is_unready (Err f) = false

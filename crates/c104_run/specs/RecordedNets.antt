@@ -1,22 +1,11 @@
 -- Networks whose nodes are seen with their records over plain tokens, whatever kind of token they carry, and whatever
 -- is kept beside a node when they run.
-use Rattle.std.specs.Prelude.{ℕ, ◌≡◌, true, Bool, List, [], Option, Some, map}
-use Rattle.c104_token.specs.declared.tokens.Token.{Token}
-use Rattle.c104_token.specs.Kinds.{Kind}
-use Rattle.c104_switch.specs.Actions.{Reply}
-use Rattle.c104_plan.specs.Plans.{Plan}
-use Rattle.c104_event.specs.declared.events.Event.{Event}
-use Rattle.c104_node.specs.declared.acts.Entry.{Entry}
-use Rattle.c104_node.specs.declared.starts.NodeStart.{NodeStart}
-use Rattle.c104_run.specs.Network.{network_of}
-use Rattle.c104_run.specs.NetRecords.{IsNetRecord, NetRecord}
-use Rattle.c104_node.specs.Nodes.{Node}
-use Rattle.c104_node.specs.Places.{Shown}
-use Rattle.c104_run.specs.Runs.{IsRunRecord}
-use Rattle.c104_node.specs.Quiet.{node_begin}
-use Rattle.c104_node.specs.Starts.{start_node, start_of}
-use Rattle.c104_node.specs.MappedNodes.{map_node}
-use Rattle.c104_node.specs.Traces.{seatless}
+use Rattle.{c104_event.specs.declared.events.Event.Event, c104_node.specs.{MappedNodes.map_node, Nodes.Node, Places.Shown}}
+use Rattle.c104_node.specs.{Quiet.node_begin, Starts.{start_node, start_of}, Traces.seatless, declared.acts.Entry.Entry}
+use Rattle.{c104_node.specs.declared.starts.NodeStart.NodeStart, c104_plan.specs.Plans.Plan, c104_run.specs.NetRecords.IsNetRecord}
+use Rattle.{c104_run.specs.{NetRecords.NetRecord, Network.network_of, Runs.IsRunRecord}, c104_switch.specs.Actions.Reply}
+use Rattle.c104_token.specs.{Kinds.Kind, declared.tokens.Token.Token}
+use Rattle.std.specs.Prelude.{Bool, List, Option, Some, [], map, true, ℕ, ◌≡◌}
 
 -- how a place is read: what kind of token its node carries, what the place shows, the node over plain tokens, and where
 -- it started

@@ -1,26 +1,13 @@
 -- The two places of nodes with their records: a node of plain tokens that keeps its entries, and one of tagged tokens
 -- that counts them.
-use Rattle.std.specs.Prelude.{ℕ, ◌≡◌, true, false, Bool, List, [], ◌∷◌, map, refl}
-use Rattle.std.proofs.Common.{ap, sym, ◌∙◌}
-use Rattle.c104_token.specs.declared.tokens.Token.{Token}
-use Rattle.c104_token.specs.Kinds.{plain_kind}
-use Rattle.c104_token.specs.Tokens.{is_end}
-use Rattle.c104_link.specs.Buffers.{Outgoing}
-use Rattle.c104_switch.specs.Switch.{Input, Switch}
-use Rattle.c104_switch.specs.Phases.{with_header}
-use Rattle.c104_switch.specs.declared.phase.Phase.{Phase}
-use Rattle.c104_switch.specs.declared.phase.Phase.TheVariants.{Fresh, Head, Want, Stream, Sinking}
-use Rattle.c104_node.specs.declared.node.NodeOf.TheVariants as node
-use Rattle.c104_node.specs.Records.{node_start, node_state, NodeRecord, NodeRoom}
-use Rattle.c104_node.specs.Nodes.{Node}
-use Rattle.c104_run.specs.RecordedNets.{reading, KeepsRecord, Reading}
-use Rattle.c104_node.specs.Tagged.{tagged_by, tagged_kind}
-use Rattle.c104_node.specs.declared.tagged.TaggedToken.{TaggedToken}
-use Rattle.c104_node.specs.Terminals.{Terminal}
-use Rattle.c104_node.specs.TracedRecords.{plain_node, traced_start, TracedRecord}
-use Rattle.c104_node.specs.MappedNodes.{map_input, map_node, map_outgoing, map_switch, map_terminal}
-use Rattle.c104_node.specs.Records.{node_shown}
-use Rattle.c104_node.specs.TracedRecords.{counted_shown}
+use Rattle.{c104_link.specs.Buffers.Outgoing, c104_node.specs.MappedNodes.{map_input, map_node, map_outgoing, map_switch, map_terminal}}
+use Rattle.c104_node.specs.{Nodes.Node, Records.{NodeRecord, NodeRoom, node_shown, node_start, node_state}, Tagged.{tagged_by, tagged_kind}}
+use Rattle.c104_node.specs.{Terminals.Terminal, TracedRecords.{TracedRecord, counted_shown, plain_node, traced_start}}
+use Rattle.{c104_node.specs.declared.{node.NodeOf.NodeOf, tagged.TaggedToken.TaggedToken}, c104_run.specs.RecordedNets.KeepsRecord}
+use Rattle.{c104_run.specs.RecordedNets.{Reading, reading}, c104_switch.specs.{Phases.with_header, Switch.{Input, Switch}}}
+use Rattle.c104_switch.specs.declared.phase.Phase.{Phase, TheVariants.{Fresh, Head, Sinking, Stream, Want}}
+use Rattle.c104_token.specs.{Kinds.plain_kind, Tokens.is_end, declared.tokens.Token.Token}
+use Rattle.std.{proofs.Common.{ap, sym, ◌∙◌}, specs.Prelude.{Bool, List, [], false, map, refl, true, ℕ, ◌∷◌, ◌≡◌}}
 
 -- mapping each token to itself changes no node
 map_self : (xs : List Token) → map (λ (x : Token). x) xs ≡ xs
@@ -65,8 +52,8 @@ terminal_self t =
     ∙ ap (λ (xs : List Token). record t { arrived = xs }) (map_self t.arrived)
 
 node_self : (n : Node Token) → n ≡ map_node (λ (x : Token). x) n
-node_self (node.Switch s) = sym (ap node.Switch (switch_self s))
-node_self (node.Terminal t) = sym (ap node.Terminal (terminal_self t))
+node_self (NodeOf.Switch s) = sym (ap NodeOf.Switch (switch_self s))
+node_self (NodeOf.Terminal t) = sym (ap NodeOf.Terminal (terminal_self t))
 
 -- how it is read
 abbrev pub node_reading : Reading Token (NodeRecord × NodeRoom)

@@ -1,19 +1,10 @@
 -- What events come to in a network with its record, one alone or in turn.
-use Rattle.std.specs.Prelude.{ℕ, ◌≡◌, ◌↔◌, true, false, List, Result, map}
+use Rattle.{c104_event.specs.declared.{events.Event.Event, faults.EventFault.EventFault}, c104_node.specs.Places.started_base}
+use Rattle.{c104_node.specs.{Traces.is_trace_full, declared.starts.NodeStart.NodeStart}, c104_run.specs.EventDeeds.event_full}
+use Rattle.c104_run.specs.{EventRuns.{Answers, EventsEnd}, NetRecords.{NetRecord, is_done}, Network.WouldBeDone, Rounds.rounds}
+use Rattle.{c104_run.specs.Stages.{Stage, stage_apply}, c104_switch.specs.Actions.Reply, c104_token.specs.Kinds.plain_kind}
 use Rattle.c104_token.specs.declared.tokens.Token.{Token}
-use Rattle.c104_token.specs.Kinds.{plain_kind}
-use Rattle.c104_switch.specs.Actions.{Reply}
-use Rattle.c104_event.specs.declared.events.Event.{Event}
-use Rattle.c104_event.specs.declared.faults.EventFault.{EventFault}
-use Rattle.c104_node.specs.declared.starts.NodeStart.{NodeStart}
-use Rattle.c104_run.specs.EventRuns.{Answers, EventsEnd}
-use Rattle.c104_run.specs.Network.{WouldBeDone}
-use Rattle.c104_run.specs.NetRecords.{is_done, NetRecord}
-use Rattle.c104_node.specs.Places.{started_base}
-use Rattle.c104_run.specs.Rounds.{rounds}
-use Rattle.c104_run.specs.Stages.{stage_apply, Stage}
-use Rattle.c104_node.specs.Traces.{is_trace_full}
-use Rattle.c104_run.specs.EventDeeds.{event_full}
+use Rattle.std.specs.Prelude.{List, Result, false, map, true, ℕ, ◌↔◌, ◌≡◌}
 
 -- the stage that a network with its record is at
 abbrev pub record_stage : NetRecord → Stage Token

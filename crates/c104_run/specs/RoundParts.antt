@@ -1,19 +1,11 @@
 -- Parts of a round: how a run of some events ends that tells whether any of them was done.
-use Rattle.std.specs.Prelude.{◌≡◌, Bool, false, List, Result, Ok, Err, [], ◌∷◌, filter}
+use Rattle.c104_event.specs.declared.{events.Event.Event, faults.EventFault.EventFault}
+use Rattle.{c104_node.specs.declared.port_part.PortPart.{PortPart, TheVariants.{Credit, Cross, Turn}}, c104_plan.specs.Plans.Plan}
+use Rattle.{c104_plan.specs.declared.ports.Port.Port, c104_run.specs.{EventRuns.{EventsEnd, run_events}, Network.{Network, network_apply}}}
+use Rattle.{c104_run.specs.Rounds.{is_wired, turn_at}, c104_switch.specs.{Actions.{Reply, is_ready}, declared.actions.ReplyOf.ReplyOf}}
 use Rattle.c104_token.specs.Kinds.{Kind}
-use Rattle.c104_switch.specs.Actions.{Reply, is_ready}
-use Rattle.c104_switch.specs.declared.actions.ReplyOf.TheVariants as reply
-use Rattle.c104_event.specs.declared.events.Event.{Event}
-use Rattle.c104_event.specs.declared.faults.EventFault.{EventFault}
-use Rattle.c104_run.specs.EventRuns.{EventsEnd, run_events}
-use Rattle.c104_run.specs.Network.{network_apply, Network}
-use Rattle.std.specs.List.{flat_map}
-use Rattle.c104_plan.specs.Plans.{Plan}
-use Rattle.c104_plan.specs.declared.ports.Port.{Port}
+use Rattle.std.specs.{List.flat_map, Prelude.{Bool, Err, List, Ok, Result, [], false, filter, ◌∷◌, ◌≡◌}}
 use Rattle.c104_event.specs.declared.events.Event.TheVariants as event
-use Rattle.c104_node.specs.declared.port_part.PortPart.{PortPart}
-use Rattle.c104_node.specs.declared.port_part.PortPart.TheVariants.{Credit, Cross, Turn}
-use Rattle.c104_run.specs.Rounds.{is_wired, turn_at}
 
 -- whether an event was done, by its answer, or its fault
 abbrev pub done_answer : Result Reply EventFault → Result Bool EventFault
@@ -35,7 +27,7 @@ module _ {A : Type 0} (kind : Kind A) (net : Network A) where
   -- each of some events is answered with NotReady, and changes nothing
   abbrev pub EachIdle : List Event → Type 0
   EachIdle [] = Unit {0}
-  EachIdle (e ∷ events) = (network_apply kind net e ≡ (Ok reply.NotReady, net)) × EachIdle events
+  EachIdle (e ∷ events) = (network_apply kind net e ≡ (Ok ReplyOf.NotReady, net)) × EachIdle events
 
   pub record AreIdle (events : List Event) : Type 0 where
     pub each : EachIdle events

@@ -1,13 +1,7 @@
 -- Rounds: the events in which every part of a network takes its turn.
-use Rattle.std.specs.Prelude.{ℕ, suc, zero, Bool, List, [], ◌∷◌, ◌++◌, length, map, filter, is_some}
-use Rattle.std.specs.List.{range_with_len, flat_map}
+use Rattle.{c104_event.specs.declared.events.Event.Event, c104_plan.specs.{Plans.Plan, Wiring.peer, declared.ports.Port.Port}}
 use Rattle.c104_regs.specs.declared.registers.TheConstants.{LINKS}
-use Rattle.c104_plan.specs.Plans.{Plan}
-use Rattle.c104_plan.specs.declared.ports.Port.{Port}
-use Rattle.c104_plan.specs.declared.ports.Port.TheVariants as port
-use Rattle.c104_event.specs.declared.events.Event.{Event}
-use Rattle.c104_event.specs.declared.events.Event.TheVariants as event
-use Rattle.c104_plan.specs.Wiring.{peer}
+use Rattle.std.specs.{List.{flat_map, range_with_len}, Prelude.{Bool, List, [], filter, is_some, length, map, suc, zero, ℕ, ◌++◌, ◌∷◌}}
 
 -- the numbers of a switch's links
 unfoldable pub link_numbers : List ℕ
@@ -19,12 +13,12 @@ is_wired plan p = is_some (peer plan p)
 
 -- the wired ports of a switch, by link
 abbrev pub wired_links : Plan → ℕ → List Port
-wired_links plan s = filter (is_wired plan) (map (port.Switch s) link_numbers)
+wired_links plan s = filter (is_wired plan) (map (Port.Switch s) link_numbers)
 
 -- the wired ports of the terminals
 abbrev pub wired_terminals : Plan → List Port
 wired_terminals plan =
-    filter (is_wired plan) (map port.Terminal (range_with_len 0 (length plan.terminals)))
+    filter (is_wired plan) (map Port.Terminal (range_with_len 0 (length plan.terminals)))
 
 -- the wired ports: those of the switches by switch and link, and then the terminals
 abbrev pub wired_ports : Plan → List Port
@@ -33,12 +27,12 @@ wired_ports plan =
 
 -- a turn of the input at a port, with word 0; a terminal has no input
 abbrev pub turn_at : Port → List Event
-turn_at (port.Switch s l) = event.Input s l 0 ∷ []
-turn_at (port.Terminal t) = []
+turn_at (Port.Switch s l) = Event.Input s l 0 ∷ []
+turn_at (Port.Terminal t) = []
 
 -- the claims of an input: of each output
 abbrev pub claims_of : ℕ → ℕ → List Event
-claims_of s i = map (event.Claim s i) link_numbers
+claims_of s i = map (Event.Claim s i) link_numbers
 
 -- the claims of a switch, by input and output
 abbrev pub switch_claims : ℕ → List Event
@@ -50,14 +44,14 @@ all_claims switches = flat_map switch_claims (range_with_len 0 switches)
 
 -- a token's arrival at each of a given number of terminals
 abbrev pub all_drains : ℕ → List Event
-all_drains terminals = map event.Drain (range_with_len 0 terminals)
+all_drains terminals = map Event.Drain (range_with_len 0 terminals)
 
 -- a round: credit at every wired port, crossings from every wired port, a turn of every wired input,
 -- all claims of every switch, and a token's arrival at every terminal
 abbrev pub round : Plan → List Event
 round plan =
-    map event.Credit (wired_ports plan)
-    ++ map event.Cross (wired_ports plan)
+    map Event.Credit (wired_ports plan)
+    ++ map Event.Cross (wired_ports plan)
     ++ flat_map turn_at (wired_ports plan)
     ++ all_claims (length plan.switches)
     ++ all_drains (length plan.terminals)

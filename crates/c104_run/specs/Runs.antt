@@ -1,18 +1,10 @@
 -- Runs: events that were done, and what the traces of the nodes tell of them.
-use Rattle.std.specs.Prelude.{ℕ, suc, ◌≡◌, ◌<◌, ◌⊎◌, ◌++◌, true, List, [], ◌∷◌, Result, Ok, if◌then◌else◌, length, nat_eq, slice_get}
-use Rattle.std.specs.Option.{option_map}
-use Rattle.c104_token.specs.Kinds.{Kind}
-use Rattle.c104_switch.specs.Actions.{Reply, is_ready}
-use Rattle.c104_plan.specs.Plans.{Plan}
-use Rattle.c104_event.specs.declared.events.Event.{Event}
-use Rattle.c104_event.specs.declared.faults.EventFault.{EventFault}
-use Rattle.c104_node.specs.declared.acts.Entry.{Entry}
-use Rattle.c104_node.specs.declared.stamps.Stamp.{Stamp}
-use Rattle.c104_run.specs.EventPlaces.{event_place}
-use Rattle.c104_node.specs.Nodes.{Node}
-use Rattle.c104_run.specs.Network.{Network, network_apply, network_of}
-use Rattle.c104_node.specs.Traces.{Deed}
-use Rattle.c104_run.specs.EventDeeds.{event_deeds}
+use Rattle.{c104_event.specs.declared.{events.Event.Event, faults.EventFault.EventFault}, c104_node.specs.{Nodes.Node, Traces.Deed}}
+use Rattle.{c104_node.specs.declared.{acts.Entry.Entry, stamps.Stamp.Stamp}, c104_plan.specs.Plans.Plan}
+use Rattle.c104_run.specs.{EventDeeds.event_deeds, EventPlaces.event_place, Network.{Network, network_apply, network_of}}
+use Rattle.{c104_switch.specs.Actions.{Reply, is_ready}, c104_token.specs.Kinds.Kind}
+use Rattle.std.specs.{Option.option_map, Prelude.{List, Ok, Result, [], if◌then◌else◌, length, nat_eq, slice_get, suc, true, ℕ, ◌++◌, ◌<◌}}
+use Rattle.std.specs.Prelude.{◌∷◌, ◌≡◌, ◌⊎◌}
 
 -- a run of events from one network to another: each was done, and answered so
 abbrev pub IsDoneRun : {A : Type 0} → Kind A → Network A → List (Event × Reply) → Network A → Type 0

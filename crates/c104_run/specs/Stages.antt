@@ -1,18 +1,10 @@
 -- Stages of a run: a network, what is kept beside its nodes, and how many events were done; and what an
 -- event answers and leaves there.
-use Rattle.std.specs.Prelude.{ℕ, ◌&&◌, Bool, List, Result, Err, if◌then◌else◌, map}
-use Rattle.c104_token.specs.Kinds.{Kind}
-use Rattle.c104_switch.specs.Actions.{Reply}
-use Rattle.c104_plan.specs.Plans.{Plan}
-use Rattle.c104_event.specs.declared.events.Event.{Event}
-use Rattle.c104_event.specs.declared.faults.EventFault.{EventFault}
-use Rattle.c104_event.specs.declared.faults.EventFault.TheVariants as fault
-use Rattle.c104_node.specs.declared.acts.Entry.{Entry}
-use Rattle.c104_run.specs.Network.{Network, network_apply, network_of}
-use Rattle.c104_run.specs.NetRecords.{is_done, ticket_after}
-use Rattle.c104_node.specs.Places.{PlaceBase, Shown, bases, is_kept_full, states, traces}
-use Rattle.c104_node.specs.Traces.{kept_of, noted_all, seatless}
-use Rattle.c104_run.specs.EventDeeds.{event_deeds, event_full}
+use Rattle.{c104_event.specs.declared.{events.Event.Event, faults.EventFault.EventFault}, c104_node.specs.Places.{PlaceBase, Shown, bases}}
+use Rattle.c104_node.specs.{Places.{is_kept_full, states, traces}, Traces.{kept_of, noted_all, seatless}, declared.acts.Entry.Entry}
+use Rattle.{c104_plan.specs.Plans.Plan, c104_run.specs.{EventDeeds.{event_deeds, event_full}, NetRecords.{is_done, ticket_after}}}
+use Rattle.{c104_run.specs.Network.{Network, network_apply, network_of}, c104_switch.specs.Actions.Reply, c104_token.specs.Kinds.Kind}
+use Rattle.std.specs.Prelude.{Bool, Err, List, Result, if◌then◌else◌, map, ℕ, ◌&&◌}
 
 -- a stage of a run: the network, what no act changes of the places of its nodes, the entries that are kept of
 -- them, and how many events were done
@@ -34,7 +26,7 @@ stage_of plan shown count = record {
 -- an event that would be done is refused, with nothing changed, where a trace that would grow is full
 abbrev pub unless_full : {A : Type 0} → Bool → Network A → Result Reply EventFault × Network A →
     Result Reply EventFault × Network A
-unless_full full net due = if full && is_done due.0 then (Err fault.TraceFull, net) else due
+unless_full full net due = if full && is_done due.0 then (Err EventFault.TraceFull, net) else due
 
 module _ {A : Type 0} (keeps : Bool) where
   -- whether a trace is full that an event would add to

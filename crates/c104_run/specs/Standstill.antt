@@ -3,28 +3,16 @@
 --     IsDeadlocked kind net      it stands still, and isn't quiet
 --     IsStartedStart      where a node starts, with every switch started
 --     IsAcyclicRun      a run in an accepted network that nobody changed, without a cycle of channel dependencies
-use Rattle.std.specs.Prelude.{ℕ, ◌≡◌, ◌<◌, ◌≤◌, All, Bool, true, List, Some, Ok, is_some, length, slice_get}
-use Rattle.std.specs.List.{list_all}
-use Rattle.c104_token.specs.Kinds.{Kind}
-use Rattle.c104_link.specs.declared.TheConstants.{TOKENS_OF_A_GRANT}
-use Rattle.c104_regs.specs.declared.registers.TheConstants.{LINKS}
-use Rattle.c104_switch.specs.Switch.{Input, Switch}
-use Rattle.c104_switch.specs.declared.actions.ReplyOf.TheVariants as reply
-use Rattle.c104_plan.specs.Wiring.{peer}
-use Rattle.c104_plan.specs.declared.ports.Port.{Port}
-use Rattle.c104_plan.specs.declared.ports.Port.TheVariants as port
-use Rattle.c104_event.specs.declared.events.Event.{Event}
-use Rattle.c104_event.specs.declared.events.Event.TheVariants as event
-use Rattle.c104_node.specs.declared.node.NodeOf.TheVariants as node
-use Rattle.c104_node.specs.Nodes.{Node}
-use Rattle.c104_run.specs.Network.{Network, network_apply}
-use Rattle.c104_run.specs.QuietNets.{IsQuiet}
-use Rattle.c104_run.specs.Reasons.{network_why}
-use Rattle.c104_run.specs.Rounds.{round}
+use Rattle.{c104_event.specs.declared.events.Event.Event, c104_link.specs.declared.TheConstants.TOKENS_OF_A_GRANT}
+use Rattle.{c104_node.specs.{Nodes.Node, declared.node.NodeOf.NodeOf}, c104_plan.specs.{Wiring.peer, declared.ports.Port.Port}}
+use Rattle.{c104_regs.specs.declared.registers.TheConstants.LINKS, c104_run.specs.{Network.{Network, network_apply}, QuietNets.IsQuiet}}
+use Rattle.{c104_run.specs.{Reasons.network_why, Rounds.round}, c104_switch.specs.Switch.{Input, Switch}}
+use Rattle.{c104_switch.specs.declared.actions.ReplyOf.ReplyOf, c104_token.specs.Kinds.Kind}
+use Rattle.std.specs.{List.list_all, Prelude.{All, Bool, List, Ok, Some, is_some, length, slice_get, true, ℕ, ◌<◌, ◌≡◌, ◌≤◌}}
 
 -- an event is answered with NotReady
 abbrev pub IsUnready : {A : Type 0} → Kind A → Network A → Event → Type 0
-IsUnready kind net e = (network_apply kind net e).0 ≡ Ok reply.NotReady
+IsUnready kind net e = (network_apply kind net e).0 ≡ Ok ReplyOf.NotReady
 
 -- no event of a round can be done: each is answered with NotReady
 abbrev pub StandsStill : {A : Type 0} → Kind A → Network A → Type 0
@@ -44,11 +32,11 @@ have_reasons net es = list_all (has_reason net) es
 
 -- the same, event by event
 pub record IsStill {A : Type 0} (kind : Kind A) (net : Network A) : Type 0 where
-  pub credits : (p q : Port) → peer net.plan p ≡ Some q → IsUnready kind net (event.Credit p)
-  pub crosses : (p q : Port) → peer net.plan p ≡ Some q → IsUnready kind net (event.Cross p)
-  pub inputs : (s l : ℕ) (q : Port) → peer net.plan (port.Switch s l) ≡ Some q → IsUnready kind net (event.Input s l 0)
-  pub claims : (s i o : ℕ) → s < length net.plan.switches → i < LINKS → o < LINKS → IsUnready kind net (event.Claim s i o)
-  pub drains : (t : ℕ) → t < length net.plan.terminals → IsUnready kind net (event.Drain t)
+  pub credits : (p q : Port) → peer net.plan p ≡ Some q → IsUnready kind net (Event.Credit p)
+  pub crosses : (p q : Port) → peer net.plan p ≡ Some q → IsUnready kind net (Event.Cross p)
+  pub inputs : (s l : ℕ) (q : Port) → peer net.plan (Port.Switch s l) ≡ Some q → IsUnready kind net (Event.Input s l 0)
+  pub claims : (s i o : ℕ) → s < length net.plan.switches → i < LINKS → o < LINKS → IsUnready kind net (Event.Claim s i o)
+  pub drains : (t : ℕ) → t < length net.plan.terminals → IsUnready kind net (Event.Drain t)
 
 -- a switch that is started, with its links, and with buffers that have room for a grant
 pub record IsStartedSwitch {A : Type 0} (s : Switch A) : Type 0 where
@@ -59,8 +47,8 @@ pub record IsStartedSwitch {A : Type 0} (s : Switch A) : Type 0 where
   pub room : (l : ℕ) (p : Input A) → slice_get s.inputs l ≡ Some p → TOKENS_OF_A_GRANT ≤ p.buffer.cap
 
 abbrev pub IsStartedNode : {A : Type 0} → Node A → Type 0
-IsStartedNode (node.Switch s) = IsStartedSwitch s
-IsStartedNode (node.Terminal t) = TOKENS_OF_A_GRANT ≤ t.input.cap
+IsStartedNode (NodeOf.Switch s) = IsStartedSwitch s
+IsStartedNode (NodeOf.Terminal t) = TOKENS_OF_A_GRANT ≤ t.input.cap
 
 -- each switch of a network is started
 abbrev pub IsStarted : {A : Type 0} → Network A → Type 0

@@ -1,17 +1,9 @@
 -- Runs once more, over tokens that tell where they came from.
-use Rattle.std.specs.Prelude.{◌≡◌, List, map}
+use Rattle.{c104_event.specs.declared.events.Event.Event, c104_node.specs.{MappedNodes.map_node, Nodes.Node, Starts.start_node}}
+use Rattle.{c104_node.specs.{Traced.traced_kind, declared.{starts.NodeStart.NodeStart, traced.Traced.Traced}}, c104_plan.specs.Plans.Plan}
+use Rattle.{c104_run.specs.{Network.{Network, network_of}, Runs.IsDoneRun}, c104_switch.specs.Actions.Reply}
 use Rattle.c104_token.specs.declared.tokens.Token.{Token}
-use Rattle.c104_switch.specs.Actions.{Reply}
-use Rattle.c104_plan.specs.Plans.{Plan}
-use Rattle.c104_event.specs.declared.events.Event.{Event}
-use Rattle.c104_node.specs.declared.starts.NodeStart.{NodeStart}
-use Rattle.c104_node.specs.Nodes.{Node}
-use Rattle.c104_run.specs.Network.{Network, network_of}
-use Rattle.c104_run.specs.Runs.{IsDoneRun}
-use Rattle.c104_node.specs.Starts.{start_node}
-use Rattle.c104_node.specs.Traced.{traced_kind}
-use Rattle.c104_node.specs.declared.traced.Traced.{Traced}
-use Rattle.c104_node.specs.MappedNodes.{map_node}
+use Rattle.std.specs.Prelude.{List, map, ◌≡◌}
 
 -- the same over other tokens: each token is mapped, and all else stays
 module _ {A B : Type 0} (f : A → B) where

@@ -1,14 +1,7 @@
 -- The acts of a node that go over a link: tokens and credits come in and go out there, and such a link has a wire.
-use Rattle.std.specs.Prelude.{ℕ, ◌≡◌, All, List, Some, slice_get}
-use Rattle.c104_plan.specs.declared.ports.Port.{Port}
-use Rattle.c104_plan.specs.Plans.{Plan}
-use Rattle.c104_plan.specs.Wiring.{peer}
-use Rattle.c104_node.specs.declared.acts.Entry.{Entry}
-use Rattle.c104_node.specs.declared.ends.End.{End}
-use Rattle.c104_node.specs.ActLinks.{act_link}
-use Rattle.c104_run.specs.Ends.{end_of}
-use Rattle.c104_run.specs.NetRecords.{NetRecord}
-use Rattle.c104_node.specs.Records.{IsRecorded, NodeRecord}
+use Rattle.c104_node.specs.{ActLinks.act_link, Records.{IsRecorded, NodeRecord}, declared.{acts.Entry.Entry, ends.End.End}}
+use Rattle.{c104_plan.specs.{Plans.Plan, Wiring.peer, declared.ports.Port.Port}, c104_run.specs.{Ends.end_of, NetRecords.NetRecord}}
+use Rattle.std.specs.Prelude.{All, List, Some, slice_get, ℕ, ◌≡◌}
 
 -- there is a port at this end of a wire, and another at the wire's other end
 abbrev pub IsWiredEnd : Plan → End → Type 0

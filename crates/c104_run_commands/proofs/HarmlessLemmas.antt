@@ -1,42 +1,20 @@
 -- A script whose lines are harmless leaves a network as it was set up.
-use Rattle.std.proofs.Common.{◌≡◌, ◌∙◌, ◌≤◌, ◌++◌, ◌==◌, ℕ, zero, suc, All, Bool, IfOk, true, false, List, [], ◌∷◌, Option, Some, Result, Ok, Err, inl, inr, append-nil, append_assoc, if◌then◌else◌, length, refl, slice_get, sym, ap, subst, take}
-use Rattle.std.proofs.Common.{arith, cond}
-use Rattle.std.specs.List.{onto_first, slice_split}
-use Rattle.std.proofs.lemmas.List.Elements.{All-head, All-tail}
-use Rattle.c104_token.specs.declared.faults.NoMemory.{NoMemory}
-use Rattle.c104_token.specs.declared.packets.Packet.{Packet}
-use Rattle.c104_switch.specs.Actions.{Reply}
-use Rattle.c104_switch.specs.Headers.{header_number}
-use Rattle.c104_regs.specs.Settings.{header_length}
-use Rattle.c104_regs.specs.declared.settings.Settings.{Settings}
-use Rattle.c104_plan.specs.Plans.{IsPlan, Plan}
-use Rattle.c104_plan.specs.PlanImage.{Fits, Image}
-use Rattle.c104_plan.specs.TextCut.{lines}
-use Rattle.c104_plan.specs.Wiring.{peer}
-use Rattle.c104_plan.specs.declared.ports.Port.{Port}
-use Rattle.c104_plan.specs.declared.ports.Port.TheVariants as port
 use Rattle.c104_check.specs.Routes.{IsAccepted, IsRandomIn, Routes, has_label, link_settings, or_no_settings, routes_of}
-use Rattle.c104_event.specs.declared.events.Event.{Event}
-use Rattle.c104_label.proofs.HeaderLengths.{none_passes}
-use Rattle.c104_net.proofs.RandomOwners.{random_unowned}
-use Rattle.c104_net.specs.Deliveries.{header_of}
-use Rattle.c104_net.specs.Unchanged.{MayBeSent, MayHappen}
-use Rattle.c104_node.specs.declared.starts.NodeStart.{NodeStart}
-use Rattle.c104_stream.specs.ScriptLines.{lines_within, most_script, script_lines}
-use Rattle.c104_script.specs.Script.{GivesLineOrNoMemory, read_script_line}
-use Rattle.c104_script.specs.declared.answers.Answer.{Answer}
-use Rattle.c104_script.specs.declared.answers.Answer.TheVariants.{Replied}
-use Rattle.c104_script.specs.declared.faults.LineFault.{LineFault}
-use Rattle.c104_script.specs.declared.places.Request.{Request}
-use Rattle.c104_script.specs.declared.places.Request.TheVariants as ask
-use Rattle.c104_session.specs.PrintedPackets.{LeaveUnchanged, MayAsk, lines_sent}
-use Rattle.c104_session.specs.Shown.{line_answer, line_outcome, new_session}
-use Rattle.c104_session.specs.declared.session.Session.{Session}
-use Rattle.c104_session.proofs.PlacedNets.{placed_starts, placed_unchanged}
-use Rattle.c104_session.proofs.UnchangedNets.{IsUnchangedNet, keeps_nothing, nothing}
-use Rattle.c104_session.proofs.UnchangedScripts.{lines_leave}
-use Rattle.c104_run_commands.specs.HarmlessScripts.{AreHarmless, IsHarmless, IsLabel}
-use Rattle.c104_run_commands.specs.Lockups.{EndsLocked, LocksUp}
+use Rattle.{c104_event.specs.declared.events.Event.Event, c104_label.proofs.HeaderLengths.none_passes}
+use Rattle.c104_net.{proofs.RandomOwners.random_unowned, specs.{Deliveries.header_of, Unchanged.{MayBeSent, MayHappen}}}
+use Rattle.{c104_node.specs.declared.starts.NodeStart.NodeStart, c104_plan.specs.{PlanImage.{Fits, Image}, Plans.{IsPlan, Plan}}}
+use Rattle.{c104_plan.specs.{TextCut.lines, Wiring.peer, declared.ports.Port.Port}, c104_regs.specs.Settings.header_length}
+use Rattle.{c104_regs.specs.declared.settings.Settings.Settings, c104_run_commands.specs.HarmlessScripts.{AreHarmless, IsHarmless, IsLabel}}
+use Rattle.{c104_run_commands.specs.Lockups.{EndsLocked, LocksUp}, c104_script.specs.Script.{GivesLineOrNoMemory, read_script_line}}
+use Rattle.c104_script.specs.declared.{answers.Answer.{Answer, TheVariants.Replied}, faults.LineFault.LineFault, places.Request.Request}
+use Rattle.c104_session.proofs.{PlacedNets.{placed_starts, placed_unchanged}, UnchangedNets.{IsUnchangedNet, keeps_nothing, nothing}}
+use Rattle.c104_session.{proofs.UnchangedScripts.lines_leave, specs.PrintedPackets.{LeaveUnchanged, MayAsk, lines_sent}}
+use Rattle.c104_session.specs.{Shown.{line_answer, line_outcome, new_session}, declared.session.Session.Session}
+use Rattle.{c104_stream.specs.ScriptLines.{lines_within, most_script, script_lines}, c104_switch.specs.Actions.Reply}
+use Rattle.{c104_switch.specs.Headers.header_number, c104_token.specs.declared.{faults.NoMemory.NoMemory, packets.Packet.Packet}}
+use Rattle.std.proofs.Common.{All, Bool, Err, IfOk, List, Ok, Option, Result, Some, [], ap, append-nil, append_assoc, arith, cond, false}
+use Rattle.std.proofs.Common.{if◌then◌else◌, inl, inr, length, refl, slice_get, subst, suc, sym, take, true, zero, ℕ, ◌++◌, ◌==◌, ◌∙◌, ◌∷◌}
+use Rattle.std.{proofs.{Common.{◌≡◌, ◌≤◌}, lemmas.List.Elements.{All-head, All-tail}}, specs.List.{onto_first, slice_split}}
 
 -- The lines of a script are those of its text
 
@@ -81,7 +59,7 @@ all_lines script short = within most_script [] script short ∙ some_part script
 
 -- What lines ask
 
-pub event_asked : (routes : Routes) (e : Event) → ((r : Reply) → MayHappen routes e r) → IsHarmless routes (Ok (Some (ask.Asked e)))
+pub event_asked : (routes : Routes) (e : Event) → ((r : Reply) → MayHappen routes e r) → IsHarmless routes (Ok (Some (Request.Asked e)))
 event_asked routes e may (Some (Replied r)) = may r
 event_asked routes e may answer = tt
 
@@ -96,12 +74,12 @@ label_not_random plan image p accepted (t, range, at, label) (u, q, entry, rando
     none_passes (λ r. has_label r (header_of (routes_of plan image) p)) image.ranges t range (random_unowned (routes_of plan image) u q (header_of (routes_of plan image) p) accepted entry random) at label
 
 pub may_send : (plan : Plan) (image : Image) (t s l : ℕ) (back : Port) (links : List Settings) (x : Settings) (p : Packet) → IsAccepted (routes_of plan image)
-    → peer plan (port.Terminal t) ≡ Some (port.Switch s l) → peer plan (port.Switch s l) ≡ Some back
+    → peer plan (Port.Terminal t) ≡ Some (Port.Switch s l) → peer plan (Port.Switch s l) ≡ Some back
     → slice_get image.settings s ≡ Some links → slice_get links l ≡ Some x
     → (x.randomize ≡ true → IsLabel image (header_number (take (header_length x) p.bytes)))
     → MayBeSent (routes_of plan image) t p
 may_send plan image t s l back links x p accepted wired back_is switch at labelled q entry (y, there, randomized) has random =
-    let place : Some (port.Switch s l) ≡ Some (port.Switch q.switch q.link) = sym wired ∙ entry in
+    let place : Some (Port.Switch s l) ≡ Some (Port.Switch q.switch q.link) = sym wired ∙ entry in
     let same_switch : q.switch ≡ s = cc in
     let same_link : q.link ≡ l = cc in
     let here : link_settings image.settings (record { switch = s; link = l }) ≡ Some x =

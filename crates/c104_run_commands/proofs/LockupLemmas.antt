@@ -1,23 +1,11 @@
 -- A script that locks a network up: how the command ends where labels are refused, and what running a script has shown.
-use Rattle.std.proofs.Common.{◌≡◌, ℕ, Bool, false, true, List, [], Option, Some, Result, Err, Ok, inl, refl, subst, sym}
-use Rattle.std.specs.Prelude.{IfOk}
-use Rattle.std.specs.Io.KnownBytes.{prepend_known}
-use Rattle.c104_token.specs.Kinds.{plain_kind}
-use Rattle.c104_token.specs.declared.faults.NoMemory.{NoMemory}
-use Rattle.c104_plan.specs.Plans.{Plan}
-use Rattle.c104_plan.specs.PlanImage.{Image}
-use Rattle.c104_describe.specs.declared.faults.PlanFault.{PlanFault}
-use Rattle.c104_run.specs.Standstill.{IsDeadlocked}
-use Rattle.c104_stream.specs.declared.halt.Halt.{Halt}
-use Rattle.c104_stream.specs.Scripts.{AnswersScript}
-use Rattle.c104_session.specs.Shown.{line_outcome, new_session}
-use Rattle.c104_session.specs.declared.session.Session.{Session}
-use Rattle.c104_commands.specs.Checks.{LabelRefusalEnds}
-use Rattle.c104_commands.specs.Endings.{CommandEnds}
-use Rattle.c104_commands.specs.Setups.{ComesTo}
-use Rattle.c104_commands.specs.declared.status.Status.{Status}
-use Rattle.c104_commands.proofs.Refusals.{labels_refused}
-use Rattle.c104_run_commands.specs.Lockups.{EndsLocked, PrintsLockup}
+use Rattle.c104_commands.{proofs.Refusals.labels_refused, specs.{Checks.LabelRefusalEnds, Endings.CommandEnds, Setups.ComesTo}}
+use Rattle.{c104_commands.specs.declared.status.Status.Status, c104_describe.specs.declared.faults.PlanFault.PlanFault}
+use Rattle.{c104_plan.specs.{PlanImage.Image, Plans.Plan}, c104_run.specs.Standstill.IsDeadlocked}
+use Rattle.{c104_run_commands.specs.Lockups.{EndsLocked, PrintsLockup}, c104_session.specs.Shown.{line_outcome, new_session}}
+use Rattle.{c104_session.specs.declared.session.Session.Session, c104_stream.specs.{Scripts.AnswersScript, declared.halt.Halt.Halt}}
+use Rattle.{c104_token.specs.{Kinds.plain_kind, declared.faults.NoMemory.NoMemory}, std.proofs.Common.{Bool, Err, List, Ok, Option, Result}}
+use Rattle.std.{proofs.Common.{Some, [], false, inl, refl, subst, sym, true, ℕ, ◌≡◌}, specs.{Io.KnownBytes.prepend_known, Prelude.IfOk}}
 
 pub lockup_label_refused : (due : Result Plan PlanFault) (plan : Plan) (image : Image) (held holds : Option (List ℕ)) (ended : Status) → ComesTo due (Ok (plan, image)) → LabelRefusalEnds plan image held holds ended → CommandEnds PrintsLockup due held holds ended
 lockup_label_refused due plan image held holds ended = labels_refused PrintsLockup due plan image held holds ended (λ text by. inl (by, refl))

@@ -1,19 +1,11 @@
 -- The picture of a run over its rounds: how it ends where nothing is drawn.
-use Rattle.std.proofs.Common.{◌≡◌, ◌≢◌, ℕ, List, Option, Result, Ok, Err, inl, inr, subst, sym}
-use Rattle.std.proofs.KnownBytes.{Keeps-refl}
-use Rattle.c104_plan.specs.Plans.{Plan}
-use Rattle.c104_plan.specs.PlanImage.{Image}
-use Rattle.c104_stream.specs.declared.halt.Halt.{Halt}
-use Rattle.c104_stream.specs.declared.halt.Halt.TheVariants as halt
-use Rattle.c104_timeline.specs.declared.periods.Asked.{Asked}
-use Rattle.c104_commands.specs.Endings.{IsSetup}
-use Rattle.c104_run_commands.specs.OverTime.{OverTimeEnds, OverTimeRuns}
-use Rattle.c104_run_commands.specs.StatePictures.{IsUndrawn}
-use Rattle.c104_commands.specs.Statuses.{halt_status}
-use Rattle.c104_commands.specs.declared.status.Status.{Status}
-use Rattle.c104_run_commands.proofs.StateLemmas.{undrawn}
+use Rattle.{c104_commands.specs.{Endings.IsSetup, Statuses.halt_status, declared.status.Status.Status}, c104_plan.specs.PlanImage.Image}
+use Rattle.{c104_plan.specs.Plans.Plan, c104_run_commands.{proofs.StateLemmas.undrawn, specs.OverTime.{OverTimeEnds, OverTimeRuns}}}
+use Rattle.{c104_run_commands.specs.StatePictures.IsUndrawn, c104_stream.specs.declared.halt.Halt.Halt}
+use Rattle.{c104_timeline.specs.declared.periods.Asked.Asked, std.proofs.Common.{Err, List, Ok, Option, Result, inl, inr, subst, sym, ℕ}}
+use Rattle.std.proofs.{Common.{◌≡◌, ◌≢◌}, KnownBytes.Keeps-refl}
 
-pub timed_halts : {X : Type 0} (asked : Asked) (plan : Plan) (image : Image) (script held : Option (List ℕ)) (kind : Halt) (ended : Status) → ◌≢◌ {A = Result X Halt} (Err kind) (Err halt.CannotWrite) → ended ≡ halt_status kind 1 → OverTimeRuns asked plan image script held held ended
+pub timed_halts : {X : Type 0} (asked : Asked) (plan : Plan) (image : Image) (script held : Option (List ℕ)) (kind : Halt) (ended : Status) → ◌≢◌ {A = Result X Halt} (Err kind) (Err Halt.CannotWrite) → ended ≡ halt_status kind 1 → OverTimeRuns asked plan image script held held ended
 timed_halts asked plan image script held kind ended wrote is = inl (subst IsUndrawn (sym is) (undrawn kind wrote), Keeps-refl held)
 
 -- where there is a network, and nothing was written before, all ends as for that network

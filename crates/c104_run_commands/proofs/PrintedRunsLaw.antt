@@ -1,32 +1,16 @@
 -- What a run of texts prints of packets: every description that is read gives a plan, and every image fits its plan.
-use Rattle.std.proofs.Common.{◌≡◌, ℕ, All, Bool, true, false, List, get_or, Result, Ok, Err, if◌then◌else◌, length, map, nat_le, refl, sym, ap, subst}
-use Rattle.std.proofs.lemmas.List.{length-map}
-use Rattle.std.proofs.lemmas.List.Elements.{All-map}
-use Rattle.std.specs.List.{range_with_len}
-use Rattle.c104_regs.specs.declared.registers.TheConstants.{LINKS}
-use Rattle.c104_regs.specs.declared.settings.Settings.{Settings}
-use Rattle.std.proofs.lemmas.List.FromFn.{length-map-range_with_len}
-use Rattle.c104_plan.specs.PlanImage.{Fits, Image, range_of, settings_of, switch_settings}
-use Rattle.c104_plan.specs.Plans.{IsPlan, Plan}
+use Rattle.{c104_commands.specs.Setups.ComesTo, c104_describe.{proofs.DraftsKept.{empty-kept, read_lines-kept}, specs.PlanDrafts.finished}}
+use Rattle.c104_describe.specs.{PlanFaults.fault_at, PlanLines.Draft, PlanText.{empty_draft, plan_of_draft, read_description}}
+use Rattle.c104_describe.specs.{PlanText.read_plan_lines, declared.faults.{PlanFault.PlanFault, PlanFaultKind.TheVariants.TooLong}}
+use Rattle.{c104_interval.specs.declared.intervals.Table.Table, c104_label.specs.Images.{IsImageBy, IsImageOf}}
 use Rattle.c104_plan.specs.LabelledImages.{labelled_image, labelled_settings, labelled_switch, port_labelled_switch, table_in}
-use Rattle.c104_plan.specs.TextCut.{lines, most_bytes}
-use Rattle.c104_plan.specs.declared.ports.Port.TheVariants as port
-use Rattle.c104_plan.specs.declared.plans.Shape.{Shape}
-use Rattle.c104_plan.specs.declared.plans.Shape.TheVariants.{Hand, Tree, UpDown, Mesh, Cube}
-use Rattle.c104_interval.specs.declared.intervals.Table.{Table}
-use Rattle.c104_describe.specs.PlanDrafts.{finished}
-use Rattle.c104_describe.specs.PlanText.{empty_draft, plan_of_draft, read_description, read_plan_lines}
-use Rattle.c104_describe.specs.PlanLines.{Draft}
-use Rattle.c104_describe.specs.PlanFaults.{fault_at}
-use Rattle.c104_describe.specs.declared.faults.PlanFault.{PlanFault}
-use Rattle.c104_describe.specs.declared.faults.PlanFaultKind.TheVariants.{TooLong}
-use Rattle.c104_describe.proofs.DraftsKept.{empty-kept, read_lines-kept}
-use Rattle.c104_label.specs.Images.{IsImageBy, IsImageOf}
-use Rattle.c104_commands.specs.Setups.{ComesTo}
-use Rattle.c104_session.proofs.PrintedLaw.{printed_law}
-use Rattle.c104_session.proofs.DeliveredLaw.{delivered_law}
-use Rattle.c104_session.proofs.PlacedNets.{IsOfLinks}
-use Rattle.c104_run_commands.specs.PrintedRuns.{PrintsAllOf, PrintsPacketsOf}
+use Rattle.c104_plan.specs.{PlanImage.{Fits, Image, range_of, settings_of, switch_settings}, Plans.{IsPlan, Plan}, TextCut.lines}
+use Rattle.c104_plan.specs.{TextCut.most_bytes, declared.plans.Shape.{Shape, TheVariants.{Cube, Hand, Mesh, Tree, UpDown}}}
+use Rattle.{c104_plan.specs.declared.ports.Port.Port, c104_regs.specs.declared.{registers.TheConstants.LINKS, settings.Settings.Settings}}
+use Rattle.{c104_run_commands.specs.PrintedRuns.{PrintsAllOf, PrintsPacketsOf}, c104_session.proofs.DeliveredLaw.delivered_law}
+use Rattle.{c104_session.proofs.{PlacedNets.IsOfLinks, PrintedLaw.printed_law}, std.proofs.Common.{All, Bool, Err, List, Ok, Result, ap}}
+use Rattle.std.proofs.Common.{false, get_or, if◌then◌else◌, length, map, nat_le, refl, subst, sym, true, ℕ, ◌≡◌}
+use Rattle.std.{proofs.lemmas.List.{Elements.All-map, FromFn.length-map-range_with_len, length-map}, specs.List.range_with_len}
 
 -- an image with labels fits its plan
 labelled_fits : (plan : Plan) (ranges : List (ℕ × ℕ)) (tables : List Table) (image : Image) → length ranges ≡ length plan.terminals → image ≡ labelled_image plan ranges tables → Fits image plan
@@ -47,15 +31,15 @@ image_fits plan image is = by_shape plan image plan.shape is
 -- and has settings for each link of each switch
 by_own : (plan : Plan) (switch : ℕ) → IsOfLinks (switch_settings plan switch)
 unfolding switch_settings
-by_own plan switch = length-map-range_with_len (λ link. settings_of plan (port.Switch switch link)) 0 LINKS
+by_own plan switch = length-map-range_with_len (λ link. settings_of plan (Port.Switch switch link)) 0 LINKS
 
 by_label : (plan : Plan) (table : Table) (switch : ℕ) → IsOfLinks (labelled_switch plan table switch)
 unfolding labelled_switch
-by_label plan table switch = length-map-range_with_len (λ link. labelled_settings plan table (port.Switch switch link)) 0 LINKS
+by_label plan table switch = length-map-range_with_len (λ link. labelled_settings plan table (Port.Switch switch link)) 0 LINKS
 
 by_ports : (plan : Plan) (tables : ℕ → Table) (switch : ℕ) → IsOfLinks (port_labelled_switch plan tables switch)
 unfolding port_labelled_switch
-by_ports plan tables switch = length-map-range_with_len (λ link. labelled_settings plan (tables link) (port.Switch switch link)) 0 LINKS
+by_ports plan tables switch = length-map-range_with_len (λ link. labelled_settings plan (tables link) (Port.Switch switch link)) 0 LINKS
 
 of_each : (f : ℕ → List Settings) → ((s : ℕ) → IsOfLinks (f s)) → (ns : List ℕ) → All IsOfLinks (map f ns)
 of_each f each ns = All-map IsOfLinks f ns (λ i s inside. each (get_or ns i s))

@@ -1,8 +1,6 @@
 -- Whose reader failed.
-use Rattle.std.proofs.Common.{◌≤◌, ℕ, List, length, Option, inl, inr, arith}
-use Rattle.std.specs.Io.KnownBytes.{IsAtEnd}
-use Rattle.c104_plan.specs.TextCut.{most_bytes}
-use Rattle.c104_stream.specs.Reading.{TakesUpTo}
+use Rattle.{c104_plan.specs.TextCut.most_bytes, c104_stream.specs.Reading.TakesUpTo, std.proofs.Common.{List, Option, arith, inl, inr}}
+use Rattle.std.{proofs.Common.{length, ℕ, ◌≤◌}, specs.Io.KnownBytes.IsAtEnd}
 
 -- a text that is no longer than it may be was read to its end
 pub read_to_end : (old new : Option (List ℕ)) (taken : List ℕ) → TakesUpTo most_bytes old new taken → length taken ≤ most_bytes → IsAtEnd new

@@ -1,25 +1,16 @@
 -- The picture of a network after a script: whether the script is refused, and how it ends where nothing is drawn.
-use Rattle.std.proofs.Common.{◌≡◌, ◌≢◌, ◌||◌, ℕ, Bool, List, Option, None, Some, Result, Ok, Err, inl, inr, refl, ap, subst, sym, ◌∙◌}
-use Rattle.std.proofs.KnownBytes.{Keeps-refl}
-use Rattle.c104_plan.specs.Plans.{Plan}
-use Rattle.c104_plan.specs.PlanImage.{Image}
-use Rattle.c104_stream.specs.declared.halt.Halt.{Halt}
-use Rattle.c104_stream.specs.declared.halt.Halt.TheVariants as halt
-use Rattle.c104_stream.specs.ScriptLines.{is_long}
-use Rattle.c104_stream.specs.Scripts.{AnswersScript}
-use Rattle.c104_session.specs.Shown.{line_outcome, new_session}
-use Rattle.c104_session.specs.declared.session.Session.{Session}
-use Rattle.c104_commands.specs.Statuses.{halt_status}
-use Rattle.c104_commands.specs.Endings.{IsSetup}
-use Rattle.c104_run_commands.specs.StatePictures.{IsRefusedAfter, IsUndrawn, StateEnds, StateRuns}
-use Rattle.c104_commands.specs.declared.status.Status.{Status}
+use Rattle.{c104_commands.specs.{Endings.IsSetup, Statuses.halt_status, declared.status.Status.Status}, c104_plan.specs.PlanImage.Image}
+use Rattle.{c104_plan.specs.Plans.Plan, c104_run_commands.specs.StatePictures.{IsRefusedAfter, IsUndrawn, StateEnds, StateRuns}}
+use Rattle.{c104_session.specs.{Shown.{line_outcome, new_session}, declared.session.Session.Session}, c104_stream.specs.ScriptLines.is_long}
+use Rattle.{c104_stream.specs.{Scripts.AnswersScript, declared.halt.Halt.Halt}, std.proofs.Common.{Bool, Err, List, None, Ok, Option}}
+use Rattle.std.proofs.{Common.{Result, Some, ap, inl, inr, refl, subst, sym, ℕ, ◌||◌, ◌∙◌, ◌≡◌, ◌≢◌}, KnownBytes.Keeps-refl}
 
-pub undrawn : {X : Type 0} (kind : Halt) → ◌≢◌ {A = Result X Halt} (Err kind) (Err halt.CannotWrite) → IsUndrawn (halt_status kind 1)
-undrawn halt.CannotRead wrote = refl
-undrawn halt.CannotWrite wrote = wrote refl
-undrawn halt.NoMemory wrote = tt
+pub undrawn : {X : Type 0} (kind : Halt) → ◌≢◌ {A = Result X Halt} (Err kind) (Err Halt.CannotWrite) → IsUndrawn (halt_status kind 1)
+undrawn Halt.CannotRead wrote = refl
+undrawn Halt.CannotWrite wrote = wrote refl
+undrawn Halt.NoMemory wrote = tt
 
-pub state_halts : {X : Type 0} (plan : Plan) (image : Image) (script held : Option (List ℕ)) (kind : Halt) (ended : Status) → ◌≢◌ {A = Result X Halt} (Err kind) (Err halt.CannotWrite) → ended ≡ halt_status kind 1 → StateRuns plan image script held held ended
+pub state_halts : {X : Type 0} (plan : Plan) (image : Image) (script held : Option (List ℕ)) (kind : Halt) (ended : Status) → ◌≢◌ {A = Result X Halt} (Err kind) (Err Halt.CannotWrite) → ended ≡ halt_status kind 1 → StateRuns plan image script held held ended
 state_halts plan image script held kind ended wrote is = inl (subst IsUndrawn (sym is) (undrawn kind wrote), Keeps-refl held)
 
 -- where there is a network, and nothing was written before, all ends as for that network

@@ -1,20 +1,13 @@
 -- What `cycles --script` prints of a network: a script that locks it up, or that none was found, or that it has no cycle.
 --     LocksUp plan image script      run on the network from its start, a script that changes no switch leaves it deadlocked
 --     PrintsLockup plan image text refused
-use Rattle.std.specs.Prelude.{ℕ, ◌≡◌, ◌⊎◌, Bool, true, false, List, codes}
+use Rattle.c104_check.specs.{ChannelDependencies.{IsAcyclic, IsCycle}, Routes.{IsAccepted, routes_of}}
+use Rattle.{c104_check.specs.declared.cycles.ChannelDependency.ChannelDependency, c104_commands.specs.Checks.IsRefusedBy}
+use Rattle.{c104_commands.specs.CycleTexts.acyclic_text, c104_plan.specs.{PlanImage.Image, Plans.Plan}}
+use Rattle.{c104_run.specs.Standstill.IsDeadlocked, c104_run_commands.specs.StatePictures.after_script}
+use Rattle.{c104_session.specs.{PrintedPackets.LeaveUnchanged, Shown.new_session}, c104_stream.specs.ScriptLines.{is_long, script_lines}}
 use Rattle.c104_token.specs.Kinds.{plain_kind}
-use Rattle.c104_plan.specs.Plans.{Plan}
-use Rattle.c104_plan.specs.PlanImage.{Image}
-use Rattle.c104_check.specs.ChannelDependencies.{IsAcyclic, IsCycle}
-use Rattle.c104_check.specs.declared.cycles.ChannelDependency.{ChannelDependency}
-use Rattle.c104_check.specs.Routes.{IsAccepted, routes_of}
-use Rattle.c104_run.specs.Standstill.{IsDeadlocked}
-use Rattle.c104_stream.specs.ScriptLines.{is_long, script_lines}
-use Rattle.c104_session.specs.PrintedPackets.{LeaveUnchanged}
-use Rattle.c104_session.specs.Shown.{new_session}
-use Rattle.c104_commands.specs.Checks.{IsRefusedBy}
-use Rattle.c104_commands.specs.CycleTexts.{acyclic_text}
-use Rattle.c104_run_commands.specs.StatePictures.{after_script}
+use Rattle.std.specs.Prelude.{Bool, List, codes, false, true, ℕ, ◌≡◌, ◌⊎◌}
 
 -- a script is no longer than it may be, and none of its lines is faulty; and where `run` has answered them all, no event of
 -- a round can be done, though there are tokens or packets in the network

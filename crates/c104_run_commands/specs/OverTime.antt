@@ -1,15 +1,10 @@
 -- How `draw` ends where it draws the run of a script over its rounds, and what it has written then, where its readers and its
 -- writer tell their bytes.
 --     OverTimeEnds asked description script held holds status      of what the two readers have left
-use Rattle.std.specs.Prelude.{ℕ, ◌⊎◌, Bool, List, Option, Ok}
-use Rattle.std.specs.Io.KnownBytes.{Keeps}
-use Rattle.c104_plan.specs.Plans.{Plan}
-use Rattle.c104_plan.specs.PlanImage.{Image}
-use Rattle.c104_timeline.specs.declared.periods.Asked.{Asked}
-use Rattle.c104_session.specs.TimedRuns.{IsTimedPlan}
-use Rattle.c104_commands.specs.Endings.{EndsBefore, IsSetup}
-use Rattle.c104_run_commands.specs.StatePictures.{IsUndrawn, WritesDrawn}
-use Rattle.c104_commands.specs.declared.status.Status.{Status}
+use Rattle.{c104_commands.specs.{Endings.{EndsBefore, IsSetup}, declared.status.Status.Status}, c104_plan.specs.PlanImage.Image}
+use Rattle.{c104_plan.specs.Plans.Plan, c104_run_commands.specs.StatePictures.{IsUndrawn, WritesDrawn}}
+use Rattle.{c104_session.specs.TimedRuns.IsTimedPlan, c104_timeline.specs.declared.periods.Asked.Asked}
+use Rattle.std.specs.{Io.KnownBytes.Keeps, Prelude.{Bool, List, Ok, Option, ℕ, ◌⊎◌}}
 
 -- what is written where a script was run on the network of a plan with an image: the picture, or the line that refuses it, or
 -- a prefix of either; or nothing

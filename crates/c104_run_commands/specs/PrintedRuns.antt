@@ -1,11 +1,7 @@
 -- What a run of texts prints of packets: the theorems about packets and about deadlock, of the text that is written.
-use Rattle.std.specs.Prelude.{ℕ, List, Ok}
-use Rattle.c104_plan.specs.Plans.{Plan}
-use Rattle.c104_plan.specs.PlanImage.{Image}
-use Rattle.c104_describe.specs.PlanText.{read_description}
-use Rattle.c104_commands.specs.Setups.{ComesTo}
-use Rattle.c104_session.specs.DeliveredRuns.{PrintsAllSent}
-use Rattle.c104_session.specs.PrintedPackets.{PrintsSentPackets}
+use Rattle.{c104_commands.specs.Setups.ComesTo, c104_describe.specs.PlanText.read_description, c104_plan.specs.PlanImage.Image}
+use Rattle.{c104_plan.specs.Plans.Plan, c104_session.specs.{DeliveredRuns.PrintsAllSent, PrintedPackets.PrintsSentPackets}}
+use Rattle.std.specs.Prelude.{List, Ok, ℕ}
 
 -- where a description comes to a network with an image, what the run of a script prints behind its answers are, byte for
 -- byte, lines of packets that the script sent: if the labels are accepted, and the script leaves the network as it was set

@@ -1,16 +1,10 @@
 -- How a run ends, and what it has written then, where its reader and its writer tell their bytes.
-use Rattle.std.specs.Prelude.{ℕ, ◌≡◌, ◌⊎◌, ⊤, Bool, true, false, List, Option, Some, None, Result, Ok, Err}
-use Rattle.std.specs.Io.KnownBytes.{Appends, Keeps}
-use Rattle.c104_plan.specs.Plans.{Plan}
-use Rattle.c104_describe.specs.declared.faults.PlanFault.{PlanFault}
-use Rattle.c104_describe.specs.PlanText.{read_description}
-use Rattle.c104_stream.specs.Scripts.{AnswersPrefix, StopsAnswered}
-use Rattle.c104_stream.specs.Writing.{AppendsPrefix}
-use Rattle.c104_script.specs.Parts.{parts}
-use Rattle.c104_session.specs.Shown.{line_outcome, new_session, run_output}
-use Rattle.c104_commands.specs.Setups.{ComesTo, SetupResult, refused_text}
-use Rattle.c104_commands.specs.declared.status.Status.{Status}
-use Rattle.c104_commands.specs.declared.status.Status.TheVariants as status
+use Rattle.c104_commands.specs.{Setups.{ComesTo, SetupResult, refused_text}, declared.status.Status.Status}
+use Rattle.{c104_describe.specs.{PlanText.read_description, declared.faults.PlanFault.PlanFault}, c104_plan.specs.Plans.Plan}
+use Rattle.{c104_script.specs.Parts.parts, c104_session.specs.Shown.{line_outcome, new_session, run_output}}
+use Rattle.c104_stream.specs.{Scripts.{AnswersPrefix, StopsAnswered}, Writing.AppendsPrefix}
+use Rattle.std.specs.{Io.KnownBytes.{Appends, Keeps}, Prelude.{Bool, Err, List, None, Ok, Option, Result, Some, false, true, ℕ, ⊤, ◌≡◌}}
+use Rattle.std.specs.Prelude.{◌⊎◌}
 
 -- what a run shows, by what its description comes to, and whether any of it was refused: the one line of a
 -- description or labels that are refused, or else what the run on the network shows
@@ -33,11 +27,11 @@ StopsInScript (Ok both) script left held holds = StopsAnswered line_outcome (new
 -- each of them whole; where the script's reader failed, the answers to the lines that had ended; and where the
 -- description's reader failed, nothing
 abbrev pub DescriptionEnds : Result Plan PlanFault → List ℕ → Option (List ℕ) → Option (List ℕ) → Option (List ℕ) → Status → Type 0
-DescriptionEnds due script left held holds status.Done = (setup : SetupResult) × ComesTo due setup × Appends held holds (setup_output setup script).0 × ((setup_output setup script).1 ≡ false)
-DescriptionEnds due script left held holds status.Refused = (setup : SetupResult) × ComesTo due setup × Appends held holds (setup_output setup script).0 × ((setup_output setup script).1 ≡ true)
-DescriptionEnds due script left held holds (status.CannotRead n) = ((n ≡ 0) × Keeps held holds) ⊎ ((n ≡ 1) × ((setup : SetupResult) × ComesTo due setup × FailsInScript setup script left held holds))
-DescriptionEnds due script left held holds status.CannotWrite = (setup : SetupResult) × ComesTo due setup × AppendsPrefix held holds (setup_output setup script).0
-DescriptionEnds due script left held holds status.NoMemory = Keeps held holds ⊎ ((setup : SetupResult) × ComesTo due setup × StopsInScript setup script left held holds)
+DescriptionEnds due script left held holds Status.Done = (setup : SetupResult) × ComesTo due setup × Appends held holds (setup_output setup script).0 × ((setup_output setup script).1 ≡ false)
+DescriptionEnds due script left held holds Status.Refused = (setup : SetupResult) × ComesTo due setup × Appends held holds (setup_output setup script).0 × ((setup_output setup script).1 ≡ true)
+DescriptionEnds due script left held holds (Status.CannotRead n) = ((n ≡ 0) × Keeps held holds) ⊎ ((n ≡ 1) × ((setup : SetupResult) × ComesTo due setup × FailsInScript setup script left held holds))
+DescriptionEnds due script left held holds Status.CannotWrite = (setup : SetupResult) × ComesTo due setup × AppendsPrefix held holds (setup_output setup script).0
+DescriptionEnds due script left held holds Status.NoMemory = Keeps held holds ⊎ ((setup : SetupResult) × ComesTo due setup × StopsInScript setup script left held holds)
 
 -- the same where nothing may be known of the script
 abbrev pub RunsDescription : Result Plan PlanFault → Option (List ℕ) → Option (List ℕ) → Option (List ℕ) → Option (List ℕ) → Status → Type 0

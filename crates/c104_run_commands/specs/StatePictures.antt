@@ -2,18 +2,10 @@
 -- and its writer tell their bytes.
 --     StateEnds description script held holds status      of what the two readers have left
 --     is_refused_script plan image script      whether the script is refused
-use Rattle.std.specs.Prelude.{ℕ, ◌≡◌, ◌⊎◌, ◌||◌, ⊤, Bool, true, false, List, Option, Some, None, Ok}
-use Rattle.std.specs.Io.KnownBytes.{Appends, Keeps}
-use Rattle.c104_plan.specs.Plans.{Plan}
-use Rattle.c104_plan.specs.PlanImage.{Image}
-use Rattle.c104_stream.specs.ScriptLines.{is_long}
-use Rattle.c104_stream.specs.Scripts.{script_outcome}
-use Rattle.c104_stream.specs.Writing.{AppendsPrefix}
-use Rattle.c104_session.specs.Shown.{line_outcome, new_session}
-use Rattle.c104_session.specs.declared.session.Session.{Session}
-use Rattle.c104_commands.specs.Endings.{EndsBefore, IsSetup}
-use Rattle.c104_commands.specs.declared.status.Status.{Status}
-use Rattle.c104_commands.specs.declared.status.Status.TheVariants as status
+use Rattle.{c104_commands.specs.{Endings.{EndsBefore, IsSetup}, declared.status.Status.Status}, c104_plan.specs.PlanImage.Image}
+use Rattle.{c104_plan.specs.Plans.Plan, c104_session.specs.{Shown.{line_outcome, new_session}, declared.session.Session.Session}}
+use Rattle.c104_stream.specs.{ScriptLines.is_long, Scripts.script_outcome, Writing.AppendsPrefix}
+use Rattle.std.specs.{Io.KnownBytes.{Appends, Keeps}, Prelude.{Bool, List, None, Ok, Option, Some, false, true, ℕ, ⊤, ◌||◌, ◌≡◌, ◌⊎◌}}
 
 -- the run of a script on the network of a plan with an image, after its lines
 abbrev pub after_script : Plan → Image → List ℕ → Session
@@ -30,20 +22,20 @@ IsRefusedAfter plan image (Some script) refused = refused ≡ is_refused_script 
 
 -- the picture is written, and the status tells whether the script is refused; or a prefix of it where the writer failed
 abbrev pub WritesDrawn : List ℕ → Bool → Option (List ℕ) → Option (List ℕ) → Status → Type 0
-WritesDrawn text refused held holds status.Done = Appends held holds text × (refused ≡ false)
-WritesDrawn text refused held holds status.Refused = Appends held holds text × (refused ≡ true)
-WritesDrawn text refused held holds (status.CannotRead n) = ⊥
-WritesDrawn text refused held holds status.CannotWrite = AppendsPrefix held holds text
-WritesDrawn text refused held holds status.NoMemory = ⊥
+WritesDrawn text refused held holds Status.Done = Appends held holds text × (refused ≡ false)
+WritesDrawn text refused held holds Status.Refused = Appends held holds text × (refused ≡ true)
+WritesDrawn text refused held holds (Status.CannotRead n) = ⊥
+WritesDrawn text refused held holds Status.CannotWrite = AppendsPrefix held holds text
+WritesDrawn text refused held holds Status.NoMemory = ⊥
 
 -- it has drawn nothing: the script can't be read, or it is out of memory. The writer of answers takes all of them and
 -- keeps nothing, so only that of the picture can fail
 abbrev pub IsUndrawn : Status → Type 0
-IsUndrawn status.Done = ⊥
-IsUndrawn status.Refused = ⊥
-IsUndrawn (status.CannotRead n) = n ≡ 1
-IsUndrawn status.CannotWrite = ⊥
-IsUndrawn status.NoMemory = ⊤
+IsUndrawn Status.Done = ⊥
+IsUndrawn Status.Refused = ⊥
+IsUndrawn (Status.CannotRead n) = n ≡ 1
+IsUndrawn Status.CannotWrite = ⊥
+IsUndrawn Status.NoMemory = ⊤
 
 -- what is written where a script was run on the network of a plan with an image: a text, which is the picture's, or a
 -- prefix of it, or nothing

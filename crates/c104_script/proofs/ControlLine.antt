@@ -1,12 +1,8 @@
 -- The bytes of a control line are read word by word.
-use Rattle.std.proofs.Common.{◌≡◌, ◌<◌, ◌≤◌, ℕ, ◌+◌, List, [], ◌∷◌, ◌++◌, length, map, drop, get_or, Bor, Option, Some, None, Result, Ok, Err, refl, sym, ◌∙◌, ap, add-one, arith}
-use Rattle.std.proofs.Math.Seq.{drop-cons}
+use Rattle.{c104_plan.specs.Checks.{value_or_fault, ◌>>=◌}, c104_script.specs.{Script.bytes_after, declared.faults.LineFault.LineFault}}
+use Rattle.{c104_token.specs.Text.spelled_byte, std.proofs.Common.{Bor, Err, List, None, Ok, Option, Result, Some, [], add-one, ap, arith}}
+use Rattle.std.proofs.{Common.{drop, get_or, length, map, refl, sym, ℕ, ◌++◌, ◌+◌, ◌<◌, ◌∙◌, ◌∷◌, ◌≡◌, ◌≤◌}, Math.Seq.drop-cons}
 use Rattle.std.proofs.lemmas.List.{at_drop_all, get_or-map, length-map}
-use Rattle.c104_token.specs.Text.{spelled_byte}
-use Rattle.c104_script.specs.declared.faults.LineFault.{LineFault}
-use Rattle.c104_script.specs.declared.faults.LineFault.TheVariants as fault
-use Rattle.c104_plan.specs.Checks.{value_or_fault, ◌>>=◌}
-use Rattle.c104_script.specs.Script.{bytes_after}
 
 -- the words of lent slices
 abbrev pub texts : List (Bor (List ℕ)) → List (List ℕ)
@@ -23,7 +19,7 @@ module _ (list : List (Bor (List ℕ))) (i : ℕ) (d : Bor (List ℕ)) (inside :
 
   -- what is due, by the byte that it spells, if it does
   abbrev then_more : Option ℕ → Result (List ℕ) LineFault
-  then_more o = value_or_fault o fault.BadHex >>= (λ byte. bytes_after (bytes ++ byte ∷ []) (drop (i + 1) (texts list)))
+  then_more o = value_or_fault o LineFault.BadHex >>= (λ byte. bytes_after (bytes ++ byte ∷ []) (drop (i + 1) (texts list)))
 
   by_word : (o : Option ℕ) → o ≡ spelled_byte (get_or list i d).now → bytes_after [] (texts list) ≡ then_more o
   by_word o is = sym due ∙ ap (bytes_after bytes) from_place ∙ ap then_more (sym is)
@@ -31,7 +27,7 @@ module _ (list : List (Bor (List ℕ))) (i : ℕ) (d : Bor (List ℕ)) (inside :
   pub next_byte : (b : ℕ) → Some b ≡ spelled_byte (get_or list i d).now → bytes_after (bytes ++ b ∷ []) (drop (i + 1) (texts list)) ≡ bytes_after [] (texts list)
   next_byte b is = sym (by_word (Some b) is)
 
-  pub no_byte : None ≡ spelled_byte (get_or list i d).now → Err fault.BadHex ≡ bytes_after [] (texts list)
+  pub no_byte : None ≡ spelled_byte (get_or list i d).now → Err LineFault.BadHex ≡ bytes_after [] (texts list)
   no_byte is = sym (by_word None is)
 
 -- at the end all is read

@@ -1,13 +1,10 @@
 -- How the first part of a text is read, byte by byte.
-use Rattle.std.proofs.Common.{◌≡◌, ◌==◌, ℕ, suc, Bool, true, false, List, [], ◌∷◌, ◌++◌, if◌then◌else◌, Option, None, Some, refl, sym, ap, subst, ◌∙◌, inl}
-use Rattle.std.proofs.lemmas.List.{append-nil}
-use Rattle.std.proofs.KnownBytes.{Consumes-nil, Consumes-trans}
+use Rattle.{c104_plan.specs.TextCut.most_bytes, c104_script.proofs.PartsLaw.{is_feed, line_on, lines_on, no_lines}}
+use Rattle.c104_script.specs.{Parts.{AreOtherLines, TakesByte, TakesFirstPart, is_script_line, parts, parts_within}, TextLines.is_line}
+use Rattle.std.proofs.Common.{Bool, List, None, Option, Some, [], ap, false, if◌then◌else◌, inl, refl, subst, suc, sym, true, ℕ, ◌++◌, ◌==◌}
+use Rattle.std.proofs.{Common.{◌∙◌, ◌∷◌, ◌≡◌}, KnownBytes.{Consumes-nil, Consumes-trans}, lemmas.List.append-nil}
+use Rattle.std.specs.Io.KnownBytes.{Consumes, IsAtEnd, Keeps}
 use mathlib.Core.List.{append_assoc}
-use Rattle.std.specs.Io.KnownBytes.{Consumes, Keeps, IsAtEnd}
-use Rattle.c104_plan.specs.TextCut.{most_bytes}
-use Rattle.c104_script.specs.TextLines.{is_line}
-use Rattle.c104_script.specs.Parts.{parts, parts_within, is_script_line, AreOtherLines, TakesByte, TakesFirstPart}
-use Rattle.c104_script.proofs.PartsLaw.{is_feed, line_on, lines_on, no_lines}
 
 -- with a given number of bytes to go, what is left gives the parts of the whole text
 abbrev pub GivesParts : ℕ → Option (List ℕ) → Option (List ℕ) → List ℕ → List ℕ → Type 0

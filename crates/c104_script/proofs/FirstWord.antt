@@ -1,6 +1,6 @@
 -- A line that begins with another word isn't the line `script`.
-use Rattle.std.proofs.Common.{◌≡◌, ℕ, false, List, [], ◌∷◌, bytes_eq, codes, slice_get, Some, None, refl, subst}
-use Rattle.c104_script.specs.Parts.{is_script_word}
+use Rattle.{c104_script.specs.Parts.is_script_word, std.proofs.Common.{List, None, Some, [], bytes_eq, codes, false, refl, slice_get}}
+use Rattle.std.proofs.Common.{subst, ℕ, ◌∷◌, ◌≡◌}
 
 pub no_word : (words : List (List ℕ)) → None ≡ slice_get words 0 → is_script_word words ≡ false
 no_word [] none = refl

@@ -1,14 +1,11 @@
 -- What the parts of a text are, whatever way they are computed.
-use Rattle.std.proofs.Common.{◌≡◌, ◌⊎◌, ◌+◌, ◌-◌, ◌<◌, ◌≤◌, ◌==◌, ◌&&◌, ◌||◌, ℕ, zero, suc, Bool, true, false, not, List, [], ◌∷◌, ◌++◌, length, if◌then◌else◌, refl, sym, ap, ◌∙◌, subst, inl, inr, arith}
+use Rattle.{c104_plan.specs.TextCut.most_bytes, c104_script.specs.Parts.{AreOnlyParts, AreOtherLines, AreParts, HasNoScript, IsParted}}
+use Rattle.{c104_script.specs.{Parts.{Parts, is_script_line, parts, parts_within}, TextLines.{ended, is_line}}, std.proofs.Common.Bool}
+use Rattle.std.proofs.Common.{List, [], ap, arith, false, if◌then◌else◌, inl, inr, length, not, refl, subst, suc, sym, true, zero, ℕ, ◌&&◌}
+use Rattle.std.proofs.{Common.{◌++◌, ◌+◌, ◌-◌, ◌<◌, ◌==◌, ◌||◌, ◌∙◌, ◌∷◌, ◌≡◌, ◌≤◌, ◌⊎◌}, lemmas.Bool.Decides.nat_tests}
+use Rattle.std.proofs.lemmas.{Grind.flat_map-append, List.{Folds.{list_all-append, list_any-append}, append-nil, length-append}}
 use Rattle.std.specs.List.{list_all, list_any}
-use Rattle.std.proofs.lemmas.Bool.Decides.{nat_tests}
-use Rattle.std.proofs.lemmas.List.{append-nil, length-append}
-use Rattle.std.proofs.lemmas.List.Folds.{list_all-append, list_any-append}
-use Rattle.std.proofs.lemmas.Grind.{flat_map-append}
 use mathlib.Core.List.{append_assoc}
-use Rattle.c104_plan.specs.TextCut.{most_bytes}
-use Rattle.c104_script.specs.TextLines.{is_line, ended}
-use Rattle.c104_script.specs.Parts.{Parts, parts, parts_within, is_script_line, AreOtherLines, IsParted, HasNoScript, AreParts, AreOnlyParts}
 
 -- by both outcomes of a test
 pub by_test : {A : Type 0} (P : A → Type 0) (test : Bool) (x y : A) → (test ≡ true → P x) → (test ≡ false → P y) → P (if test then x else y)

@@ -1,9 +1,7 @@
 -- Of rows that are all as after a reset nothing is told.
-use Rattle.std.proofs.Common.{◌≡◌, ◌-◌, Bool, true, List, [], ◌∷◌, ◌++◌, if◌then◌else◌, ℕ, drop, length, take, refl, ap, sym, ◌∙◌}
-use Rattle.std.specs.List.{list_all}
-use Rattle.std.proofs.lemmas.List.{append-nil, take_rest}
-use Rattle.c104_interval.specs.declared.intervals.Row.{Row}
-use Rattle.c104_script.specs.Findings.{is_reset_row, row_text, rows_text}
+use Rattle.{c104_interval.specs.declared.intervals.Row.Row, c104_script.specs.Findings.{is_reset_row, row_text, rows_text}}
+use Rattle.std.proofs.Common.{Bool, List, [], ap, drop, if◌then◌else◌, length, refl, sym, take, true, ℕ, ◌++◌, ◌-◌, ◌∙◌, ◌∷◌, ◌≡◌}
+use Rattle.std.{proofs.lemmas.List.{append-nil, take_rest}, specs.List.list_all}
 
 none_told : (rows : List Row) → list_all is_reset_row rows ≡ true → rows_text rows ≡ []
 none_told [] all = refl

@@ -1,32 +1,21 @@
 -- What a line of a script sends is bytes, since two digits spell each.
-use Rattle.std.proofs.Common.{◌&&◌, ◌≡◌, ◌<◌, ℕ, Bool, true, false, All, List, [], ◌∷◌, Option, Some, None, Result, Ok, Err, IfOk, if◌then◌else◌, inl, inr, length, nat_le, refl, sym, ap, subst, arith}
-use Rattle.std.proofs.lemmas.List.Elements.{All-cons, All-nil}
-use Rattle.c104_token.specs.declared.faults.TokenFault.{TokenFault}
-use Rattle.c104_token.specs.declared.packets.Packet.{Packet}
-use Rattle.c104_token.specs.Text.{IsHexDigit, SpellBytes, SpellsByte, parse_words}
-use Rattle.c104_token.proofs.Spelling.{Spelled, accepted}
-use Rattle.c104_control.specs.declared.bytes.TheConstants.{MAX_CONTROL_BYTES}
-use Rattle.c104_plan.specs.Checks.{◌>>=◌, ◌>>◌, require, value_or_fault}
-use Rattle.c104_plan.specs.Plans.{Plan}
-use Rattle.c104_plan.specs.TextCut.{is_plain_line, line_words, uncommented_line}
-use Rattle.c104_event.specs.declared.events.Event.{Event}
-use Rattle.c104_event.specs.declared.events.Event.TheVariants as event
-use Rattle.c104_event.specs.declared.faults.EventFault.{EventFault}
-use Rattle.c104_script.specs.HexWords.{address_word, register_word}
-use Rattle.c104_script.specs.Script.{bytes_after, claim_line, control_line, credit_line, cross_line, drain_line, input_at, input_line, link_line, most_line, most_rounds, number_word, packet_of, peek_line, place_word, poke_line, port_at, probe_line, probe_of, read_script_line, read_script_words, request_of, rounds_line, send_line, some_request, switch_at, table_line, terminal_at, verb_line, verb_of}
-use Rattle.c104_script.specs.declared.faults.LineFault.{LineFault}
-use Rattle.c104_script.specs.declared.faults.LineFault.TheVariants as fault
-use Rattle.c104_script.specs.declared.places.Request.{Request}
+use Rattle.{c104_control.specs.declared.bytes.TheConstants.MAX_CONTROL_BYTES, c104_event.specs.declared.events.Event.Event}
+use Rattle.{c104_event.specs.declared.faults.EventFault.EventFault, c104_plan.specs.Checks.{require, value_or_fault, ◌>>=◌, ◌>>◌}}
+use Rattle.{c104_plan.specs.{Plans.Plan, TextCut.{is_plain_line, line_words, uncommented_line}}, c104_script.specs.HexWords.address_word}
+use Rattle.c104_script.specs.{HexWords.register_word, Script.{bytes_after, claim_line, control_line, credit_line, cross_line, drain_line}}
+use Rattle.c104_script.specs.Script.{input_at, input_line, link_line, most_line, most_rounds, number_word, packet_of, peek_line, place_word}
+use Rattle.c104_script.specs.Script.{poke_line, port_at, probe_line, probe_of, read_script_line, read_script_words, request_of, rounds_line}
+use Rattle.c104_script.specs.Script.{send_line, some_request, switch_at, table_line, terminal_at, verb_line, verb_of}
+use Rattle.c104_script.specs.declared.{faults.LineFault.LineFault, places.Request.Request, probes.Probe.Probe, words.ProbeVerb.ProbeVerb}
+use Rattle.{c104_script.specs.declared.words.Verb.Verb, c104_token.{proofs.Spelling.{Spelled, accepted}, specs.Text.IsHexDigit}}
+use Rattle.c104_token.specs.{Text.{SpellBytes, SpellsByte, parse_words}, declared.{faults.TokenFault.TokenFault, packets.Packet.Packet}}
+use Rattle.std.proofs.Common.{All, Bool, Err, IfOk, List, None, Ok, Option, Result, Some, [], ap, arith, false, if◌then◌else◌, inl, inr}
+use Rattle.std.proofs.{Common.{length, nat_le, refl, subst, sym, true, ℕ, ◌&&◌, ◌<◌, ◌∷◌, ◌≡◌}, lemmas.List.Elements.{All-cons, All-nil}}
 use Rattle.c104_script.specs.declared.places.Request.TheVariants as ask
-use Rattle.c104_script.specs.declared.probes.Probe.{Probe}
-use Rattle.c104_script.specs.declared.words.ProbeVerb.{ProbeVerb}
-use Rattle.c104_script.specs.declared.words.ProbeVerb.TheVariants as asks
-use Rattle.c104_script.specs.declared.words.Verb.{Verb}
-use Rattle.c104_script.specs.declared.words.Verb.TheVariants as verb
 
 -- what an event sends, if it sends something, is bytes
 abbrev pub SendsBytes : Event → Type 0
-SendsBytes (event.Send t p) = All (λ (b : ℕ). b < 256) p.bytes
+SendsBytes (Event.Send t p) = All (λ (b : ℕ). b < 256) p.bytes
 SendsBytes e = Unit {0}
 
 -- a digit's value
@@ -83,28 +72,28 @@ was_packet (Err kind) packet is = cc
 module _ (plan : Plan) where
   send_fine : (place : List ℕ) (list : List (List ℕ)) → Fine (send_line plan place list)
   send_fine place list = chained RequestBytes (place_word place) _ (λ at was. chained RequestBytes (packet_of (parse_words list)) _ (λ packet is.
-      asked (terminal_at plan at) (λ t. event.Send t packet) (λ t. packet_small list packet (was_packet (parse_words list) packet is))))
+      asked (terminal_at plan at) (λ t. Event.Send t packet) (λ t. packet_small list packet (was_packet (parse_words list) packet is))))
 
   drain_fine : (place : List ℕ) → Fine (drain_line plan place)
-  drain_fine place = chained RequestBytes (place_word place) _ (λ at was. asked (terminal_at plan at) event.Drain (λ t. tt))
+  drain_fine place = chained RequestBytes (place_word place) _ (λ at was. asked (terminal_at plan at) Event.Drain (λ t. tt))
 
   cross_fine : (place : List ℕ) → Fine (cross_line plan place)
-  cross_fine place = chained RequestBytes (place_word place) _ (λ at was. asked (port_at plan at) event.Cross (λ p. tt))
+  cross_fine place = chained RequestBytes (place_word place) _ (λ at was. asked (port_at plan at) Event.Cross (λ p. tt))
 
   credit_fine : (place : List ℕ) → Fine (credit_line plan place)
-  credit_fine place = chained RequestBytes (place_word place) _ (λ at was. asked (port_at plan at) event.Credit (λ p. tt))
+  credit_fine place = chained RequestBytes (place_word place) _ (λ at was. asked (port_at plan at) Event.Credit (λ p. tt))
 
   input_fine : (place : List ℕ) (handed : Result ℕ LineFault) → Fine (input_line plan place handed)
-  input_fine place handed = chained RequestBytes (place_word place) _ (λ at was. chained RequestBytes handed _ (λ word is. asked (input_at plan at) (λ r. event.Input r.0 r.1 word) (λ r. tt)))
+  input_fine place handed = chained RequestBytes (place_word place) _ (λ at was. chained RequestBytes handed _ (λ word is. asked (input_at plan at) (λ r. Event.Input r.0 r.1 word) (λ r. tt)))
 
   claim_fine : (place a b : List ℕ) → Fine (claim_line plan place a b)
-  claim_fine place a b = chained RequestBytes (place_word place) _ (λ at was. chained RequestBytes (number_word a) _ (λ i is. chained RequestBytes (number_word b) _ (λ o is'. asked (switch_at plan at) (λ s. event.Claim s i o) (λ s. tt))))
+  claim_fine place a b = chained RequestBytes (place_word place) _ (λ at was. chained RequestBytes (number_word a) _ (λ i is. chained RequestBytes (number_word b) _ (λ o is'. asked (switch_at plan at) (λ s. Event.Claim s i o) (λ s. tt))))
 
   control_fine : (place : List ℕ) (list : List (List ℕ)) → Fine (control_line plan place list)
-  control_fine place list = checked RequestBytes (nat_le (length list) MAX_CONTROL_BYTES) fault.BadShape _ (chained RequestBytes (place_word place) _ (λ at was. chained RequestBytes (bytes_after [] list) _ (λ bytes is. asked (switch_at plan at) (λ s. event.Control s bytes) (λ s. tt))))
+  control_fine place list = checked RequestBytes (nat_le (length list) MAX_CONTROL_BYTES) LineFault.BadShape _ (chained RequestBytes (place_word place) _ (λ at was. chained RequestBytes (bytes_after [] list) _ (λ bytes is. asked (switch_at plan at) (λ s. Event.Control s bytes) (λ s. tt))))
 
   rounds_fine : (word : List ℕ) → Fine (rounds_line word)
-  rounds_fine word = chained RequestBytes (number_word word) _ (λ count is. checked RequestBytes (nat_le 1 count && nat_le count most_rounds) fault.BadNumber (Ok (ask.Rounds count)) tt)
+  rounds_fine word = chained RequestBytes (number_word word) _ (λ count is. checked RequestBytes (nat_le 1 count && nat_le count most_rounds) LineFault.BadNumber (Ok (ask.Rounds count)) tt)
 
   peek_fine : (place addr : List ℕ) → Fine (peek_line plan place addr)
   peek_fine place addr = chained RequestBytes (place_word place) _ (λ at was. chained RequestBytes (address_word addr) _ (λ a is. probed (switch_at plan at) _))
@@ -119,24 +108,24 @@ module _ (plan : Plan) where
   table_fine place = chained RequestBytes (place_word place) _ (λ at was. probed (input_at plan at) _)
 
   probe_fine : (word : ProbeVerb) (rest : List (List ℕ)) → Fine (probe_line word plan rest)
-  probe_fine asks.Peek (place ∷ addr ∷ []) = peek_fine place addr
-  probe_fine asks.Poke (place ∷ addr ∷ value ∷ []) = poke_fine place addr value
-  probe_fine asks.Link (place ∷ []) = link_fine place
-  probe_fine asks.Table (place ∷ []) = table_fine place
-  probe_fine asks.Verify [] = tt
+  probe_fine ProbeVerb.Peek (place ∷ addr ∷ []) = peek_fine place addr
+  probe_fine ProbeVerb.Poke (place ∷ addr ∷ value ∷ []) = poke_fine place addr value
+  probe_fine ProbeVerb.Link (place ∷ []) = link_fine place
+  probe_fine ProbeVerb.Table (place ∷ []) = table_fine place
+  probe_fine ProbeVerb.Verify [] = tt
   probe_fine word rest = tt
 
   verb_fine : (word : Verb) (rest : List (List ℕ)) → Fine (verb_line word plan rest)
-  verb_fine verb.Send (place ∷ list) = send_fine place list
-  verb_fine verb.Drain (place ∷ []) = drain_fine place
-  verb_fine verb.Cross (place ∷ []) = cross_fine place
-  verb_fine verb.Credit (place ∷ []) = credit_fine place
-  verb_fine verb.Input (place ∷ []) = input_fine place (Ok 0)
-  verb_fine verb.Input (place ∷ word ∷ []) = input_fine place (number_word word)
-  verb_fine verb.Claim (place ∷ a ∷ b ∷ []) = claim_fine place a b
-  verb_fine verb.Control (place ∷ list) = control_fine place list
-  verb_fine verb.Rounds (word ∷ []) = rounds_fine word
-  verb_fine (verb.Probe word) rest = probe_fine word rest
+  verb_fine Verb.Send (place ∷ list) = send_fine place list
+  verb_fine Verb.Drain (place ∷ []) = drain_fine place
+  verb_fine Verb.Cross (place ∷ []) = cross_fine place
+  verb_fine Verb.Credit (place ∷ []) = credit_fine place
+  verb_fine Verb.Input (place ∷ []) = input_fine place (Ok 0)
+  verb_fine Verb.Input (place ∷ word ∷ []) = input_fine place (number_word word)
+  verb_fine Verb.Claim (place ∷ a ∷ b ∷ []) = claim_fine place a b
+  verb_fine Verb.Control (place ∷ list) = control_fine place list
+  verb_fine Verb.Rounds (word ∷ []) = rounds_fine word
+  verb_fine (Verb.Probe word) rest = probe_fine word rest
   verb_fine word rest = tt
 
   -- what a line asks sends bytes
@@ -152,12 +141,12 @@ module _ (plan : Plan) where
 
   words_fine : (is_plain : Bool) (list : List (List ℕ)) → IfOk (read_script_words plan is_plain list) AskedBytes
   words_fine is_plain [] = tt
-  words_fine is_plain (first ∷ rest) = chained AskedBytes (value_or_fault (verb_of first) fault.UnknownWord) _ (λ word is. checked AskedBytes is_plain fault.BadShape _ (some_fine (verb_line word plan rest) (verb_fine word rest)))
+  words_fine is_plain (first ∷ rest) = chained AskedBytes (value_or_fault (verb_of first) LineFault.UnknownWord) _ (λ word is. checked AskedBytes is_plain LineFault.BadShape _ (some_fine (verb_line word plan rest) (verb_fine word rest)))
 
   pub line_bytes : (line : List ℕ) → IfOk (read_script_line plan line) AskedBytes
   unfolding read_script_line
   line_bytes line = by_test (nat_le (length line) most_line)
     where
-      by_test : (b : Bool) → IfOk (if b then read_script_words plan (is_plain_line (uncommented_line line)) (line_words (uncommented_line line)) else Err fault.LineTooLong) AskedBytes
+      by_test : (b : Bool) → IfOk (if b then read_script_words plan (is_plain_line (uncommented_line line)) (line_words (uncommented_line line)) else Err LineFault.LineTooLong) AskedBytes
       by_test true = words_fine (is_plain_line (uncommented_line line)) (line_words (uncommented_line line))
       by_test false = tt

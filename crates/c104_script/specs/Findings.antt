@@ -1,17 +1,10 @@
 -- What is printed of what the debugger found.
-use Rattle.std.specs.Prelude.{ℕ, ◌/◌, ◌%◌, ◌==◌, ◌&&◌, Bool, true, false, List, [], ◌∷◌, ◌++◌, codes, if◌then◌else◌}
-use Rattle.std.specs.List.{list_all}
-use Rattle.std.specs.Fmt.{decimal}
-use Rattle.c104_plan.specs.PortTexts.{select_text}
-use Rattle.c104_interval.specs.declared.intervals.Row.{Row}
-use Rattle.c104_interval.specs.declared.intervals.Select.{Select}
-use Rattle.c104_interval.specs.declared.intervals.Select.TheVariants.{Sink}
-use Rattle.c104_interval.specs.declared.intervals.Table.{Table}
-use Rattle.c104_regs.specs.declared.faults.RegFault.{RegFault}
-use Rattle.c104_regs.specs.Faults.{register_fault_number, register_fault_name}
-use Rattle.c104_token.specs.Text.{hex_digit}
 pub use Rattle.c104_script.specs.declared.findings.Finding.{Finding}
-use Rattle.c104_script.specs.declared.findings.Finding.TheVariants as finding
+use Rattle.c104_interval.specs.declared.intervals.{Row.Row, Select.{Select, TheVariants.Sink}, Table.Table}
+use Rattle.{c104_plan.specs.PortTexts.select_text, c104_regs.specs.Faults.{register_fault_name, register_fault_number}}
+use Rattle.{c104_regs.specs.declared.faults.RegFault.RegFault, c104_token.specs.Text.hex_digit}
+use Rattle.std.specs.{Fmt.decimal, List.list_all, Prelude.{Bool, List, [], codes, false, if◌then◌else◌, true, ℕ, ◌%◌, ◌&&◌, ◌++◌, ◌/◌}}
+use Rattle.std.specs.Prelude.{◌==◌, ◌∷◌}
 
 -- a byte: its two hexadecimal digits
 abbrev pub byte_text : ℕ → List ℕ
@@ -73,10 +66,10 @@ refusal_text kind = codes "refused register " ++ fault_words (register_fault_num
 
 -- what was found
 abbrev pub finding_text : Finding → List ℕ
-finding_text (finding.Value value) = word_text value
-finding_text (finding.Link input_level output_level credit granted owner sunk short) =
+finding_text (Finding.Value value) = word_text value
+finding_text (Finding.Link input_level output_level credit granted owner sunk short) =
     link_text input_level output_level credit granted owner sunk short
-finding_text (finding.Table table) = table_text table
-finding_text finding.Verified = codes "verified"
-finding_text (finding.Differs switch addr value) = difference_text switch addr value
-finding_text (finding.Refused kind) = refusal_text kind
+finding_text (Finding.Table table) = table_text table
+finding_text Finding.Verified = codes "verified"
+finding_text (Finding.Differs switch addr value) = difference_text switch addr value
+finding_text (Finding.Refused kind) = refusal_text kind

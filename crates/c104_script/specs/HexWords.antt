@@ -1,11 +1,7 @@
 -- Words of hexadecimal digits.
-use Rattle.std.specs.Prelude.{ℕ, ◌+◌, ◌*◌, ◌&&◌, Bool, List, length, fold, nat_le, if◌then◌else◌, Option, Some, None, is_some, Result}
-use Rattle.std.specs.List.{list_all}
-use Rattle.std.specs.Option.{unwrap_or}
-use Rattle.c104_token.specs.Text.{hex_value}
-use Rattle.c104_plan.specs.Checks.{value_or_fault}
-use Rattle.c104_script.specs.declared.faults.LineFault.{LineFault}
-use Rattle.c104_script.specs.declared.faults.LineFault.TheVariants as fault
+use Rattle.{c104_plan.specs.Checks.value_or_fault, c104_script.specs.declared.faults.LineFault.LineFault, c104_token.specs.Text.hex_value}
+use Rattle.std.specs.{List.list_all, Option.unwrap_or, Prelude.{Bool, List, None, Option, Result, Some, fold, if◌then◌else◌, is_some}}
+use Rattle.std.specs.Prelude.{length, nat_le, ℕ, ◌&&◌, ◌*◌, ◌+◌}
 
 -- a hexadecimal digit, of either case
 abbrev pub is_hex_digit : ℕ → Bool
@@ -24,8 +20,8 @@ hex_number most word =
 
 -- a register's address, in 1 to 4 digits, or that a word spells none
 abbrev pub address_word : List ℕ → Result ℕ LineFault
-address_word word = value_or_fault (hex_number 4 word) fault.BadHex
+address_word word = value_or_fault (hex_number 4 word) LineFault.BadHex
 
 -- a register's value, in 1 to 8 digits, or that a word spells none
 abbrev pub register_word : List ℕ → Result ℕ LineFault
-register_word word = value_or_fault (hex_number 8 word) fault.BadHex
+register_word word = value_or_fault (hex_number 8 word) LineFault.BadHex

@@ -1,8 +1,7 @@
 -- The two parts of a text that comes byte by byte: a description, and a script.
-use Rattle.std.specs.Prelude.{ℕ, zero, suc, ◌+◌, ◌==◌, ◌≡◌, ◌<◌, ◌≤◌, ◌⊎◌, ⊤, Bool, true, false, List, [], ◌∷◌, ◌++◌, length, bytes_eq, codes, if◌then◌else◌, Option, Some, None}
-use Rattle.std.specs.List.{list_all, list_any}
-use Rattle.c104_plan.specs.TextCut.{uncommented_line, line_words, most_bytes}
-use Rattle.c104_script.specs.TextLines.{is_line, ended}
+use Rattle.{c104_plan.specs.TextCut.{line_words, most_bytes, uncommented_line}, c104_script.specs.TextLines.{ended, is_line}}
+use Rattle.std.specs.{List.{list_all, list_any}, Prelude.{Bool, List, None, Option, Some, [], bytes_eq, codes, false, if◌then◌else◌}}
+use Rattle.std.specs.Prelude.{length, suc, true, zero, ℕ, ⊤, ◌++◌, ◌+◌, ◌<◌, ◌==◌, ◌∷◌, ◌≡◌, ◌≤◌, ◌⊎◌}
 
 -- whether the only one of a line's words is `script`
 abbrev pub is_script_word : List (List ℕ) → Bool

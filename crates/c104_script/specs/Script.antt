@@ -1,45 +1,26 @@
 -- The grammar of a script: what a line asks of a network of this plan. Of all that is wrong with a
 -- line the fault of the least number is answered, so conditions stand in the order of the faults'
 -- numbers; but a packet's words are read from the left, after all else.
-use Rattle.std.specs.Prelude.{ℕ, ◌+◌, ◌&&◌, ◌≡◌, ◌⊎◌, Bool, List, [], ◌∷◌, ◌++◌, length, take, drop, nat_le, bytes_eq, codes, if◌then◌else◌, Option, Some, None, Result, Ok, Err}
-use Rattle.std.specs.Map.{lookup}
-use Rattle.c104_token.specs.declared.faults.TokenFault.{TokenFault}
-use Rattle.c104_token.specs.declared.faults.TokenFault.TheVariants as token_fault
-use Rattle.c104_token.specs.Text.{spelled_byte, parse_words}
-use Rattle.c104_token.specs.declared.packets.Packet.{Packet}
-use Rattle.c104_control.specs.declared.bytes.TheConstants.{MAX_CONTROL_BYTES}
-use Rattle.c104_plan.specs.declared.text.Dots.{Dots}
-use Rattle.c104_plan.specs.declared.text.Dots.TheVariants.{Without, At, Several}
-use Rattle.c104_plan.specs.declared.ports.Port.{Port}
-use Rattle.c104_plan.specs.declared.ports.Port.TheVariants as port
-use Rattle.c104_event.specs.declared.events.Event.{Event}
-use Rattle.c104_event.specs.declared.events.Event.TheVariants as event
-use Rattle.c104_event.specs.declared.faults.EventFault.{EventFault}
-use Rattle.c104_event.specs.declared.faults.EventFault.TheVariants.{NoNode, NoLink}
-use Rattle.c104_plan.specs.Checks.{◌>>=◌, ◌>>◌, require, value_or_fault}
-use Rattle.c104_plan.specs.TextCut.{uncommented_line, line_words, is_plain_line}
-use Rattle.c104_plan.specs.TextWords.{read_number, dots}
-use Rattle.c104_plan.specs.Plans.{Plan, switch_number, terminal_number}
-pub use Rattle.c104_script.specs.declared.faults.LineFault.{LineFault}
-use Rattle.c104_script.specs.declared.faults.LineFault.TheVariants as fault
-pub use Rattle.c104_script.specs.declared.words.Verb.{Verb}
-use Rattle.c104_script.specs.declared.words.Verb.TheVariants as verb
-pub use Rattle.c104_script.specs.declared.words.ProbeVerb.{ProbeVerb}
-use Rattle.c104_script.specs.declared.words.ProbeVerb.TheVariants as asks
-pub use Rattle.c104_script.specs.declared.places.Request.{Request}
-use Rattle.c104_script.specs.declared.places.Request.TheVariants.{Asked, Refused, Rounds, Probed}
-pub use Rattle.c104_script.specs.declared.probes.Probe.{Probe}
-use Rattle.c104_script.specs.declared.probes.Probe.TheVariants as probe
-use Rattle.c104_script.specs.HexWords.{address_word, register_word}
+pub use Rattle.c104_script.specs.declared.{faults.LineFault.LineFault, places.Request.Request, probes.Probe.Probe}
+pub use Rattle.c104_script.specs.declared.words.{ProbeVerb.ProbeVerb, Verb.Verb}
+use Rattle.{c104_control.specs.declared.bytes.TheConstants.MAX_CONTROL_BYTES, c104_event.specs.declared.events.Event.Event}
+use Rattle.{c104_event.specs.declared.faults.EventFault.{EventFault, TheVariants.{NoLink, NoNode}}, c104_plan.specs.Checks.require}
+use Rattle.c104_plan.specs.{Checks.{value_or_fault, ◌>>=◌, ◌>>◌}, Plans.{Plan, switch_number, terminal_number}, TextCut.is_plain_line}
+use Rattle.c104_plan.specs.{TextCut.{line_words, uncommented_line}, TextWords.{dots, read_number}, declared.ports.Port.Port}
+use Rattle.{c104_plan.specs.declared.text.Dots.{Dots, TheVariants.{At, Several, Without}}, c104_script.specs.HexWords.address_word}
+use Rattle.c104_script.specs.{HexWords.register_word, declared.places.Request.TheVariants.{Asked, Probed, Refused, Rounds}}
+use Rattle.c104_token.specs.{Text.{parse_words, spelled_byte}, declared.{faults.TokenFault.TokenFault, packets.Packet.Packet}}
+use Rattle.std.specs.{Map.lookup, Prelude.{Bool, Err, List, None, Ok, Option, Result, Some, [], bytes_eq, codes, drop, if◌then◌else◌}}
+use Rattle.std.specs.Prelude.{length, nat_le, take, ℕ, ◌&&◌, ◌++◌, ◌+◌, ◌∷◌, ◌≡◌, ◌⊎◌}
 
 -- the number that a word spells, or that it spells none
 abbrev pub number_word : List ℕ → Result ℕ LineFault
-number_word word = value_or_fault (read_number word) fault.BadNumber
+number_word word = value_or_fault (read_number word) LineFault.BadNumber
 
 -- the two sides of a word's dot, by where it is; a word without a dot names no link
 abbrev pub place_at : List ℕ → Dots → Result (List ℕ × Option ℕ) LineFault
 place_at word Without = Ok (word, None)
-place_at word Several = Err fault.BadShape
+place_at word Several = Err LineFault.BadShape
 place_at word (At at) = do
   link ← number_word (drop (at + 1) word)
   Ok (take at word, Some link)
@@ -74,12 +55,12 @@ input_at plan place = input_with (switch_number plan place.0) place.1
 
 -- the port of an input: its switch's link
 abbrev pub port_of_input : Result (ℕ × ℕ) EventFault → Result Port EventFault
-port_of_input (Ok r) = Ok (port.Switch r.0 r.1)
+port_of_input (Ok r) = Ok (Port.Switch r.0 r.1)
 port_of_input (Err f) = Err f
 
 -- a port is a terminal, named without a link, or a switch's link
 abbrev pub port_with : Option ℕ → Option ℕ → Option ℕ → Result Port EventFault
-port_with (Some t) switch None = Ok (port.Terminal t)
+port_with (Some t) switch None = Ok (Port.Terminal t)
 port_with (Some t) switch (Some l) = Err NoLink
 port_with None switch link = port_of_input (input_with switch link)
 
@@ -94,11 +75,11 @@ request_of (Err kind) f = Refused kind
 
 -- what is wrong with a packet's words
 abbrev pub packet_fault : TokenFault → LineFault
-packet_fault token_fault.BadHex = fault.BadHex
-packet_fault token_fault.NoEnd = fault.NoEnd
-packet_fault token_fault.AfterEnd = fault.AfterEnd
-packet_fault token_fault.TooLong = fault.PacketTooLong
-packet_fault token_fault.NoMemory = fault.NoMemory
+packet_fault TokenFault.BadHex = LineFault.BadHex
+packet_fault TokenFault.NoEnd = LineFault.NoEnd
+packet_fault TokenFault.AfterEnd = LineFault.AfterEnd
+packet_fault TokenFault.TooLong = LineFault.PacketTooLong
+packet_fault TokenFault.NoMemory = LineFault.NoMemory
 
 -- the packet that was read, or what is wrong with its words
 abbrev pub packet_of : Result Packet TokenFault → Result Packet LineFault
@@ -110,32 +91,32 @@ abbrev pub send_line : Plan → List ℕ → List (List ℕ) → Result Request 
 send_line plan node packet_words = do
   place ← place_word node
   packet ← packet_of (parse_words packet_words)
-  Ok (request_of (terminal_at plan place) (λ t. event.Send t packet))
+  Ok (request_of (terminal_at plan place) (λ t. Event.Send t packet))
 
 -- `drain T`
 abbrev pub drain_line : Plan → List ℕ → Result Request LineFault
 drain_line plan node = do
   place ← place_word node
-  Ok (request_of (terminal_at plan place) event.Drain)
+  Ok (request_of (terminal_at plan place) Event.Drain)
 
 -- `cross P`
 abbrev pub cross_line : Plan → List ℕ → Result Request LineFault
 cross_line plan node = do
   place ← place_word node
-  Ok (request_of (port_at plan place) event.Cross)
+  Ok (request_of (port_at plan place) Event.Cross)
 
 -- `credit P`
 abbrev pub credit_line : Plan → List ℕ → Result Request LineFault
 credit_line plan node = do
   place ← place_word node
-  Ok (request_of (port_at plan place) event.Credit)
+  Ok (request_of (port_at plan place) Event.Credit)
 
 -- `input S.l`, with the word that is handed in
 abbrev pub input_line : Plan → List ℕ → Result ℕ LineFault → Result Request LineFault
 input_line plan node handed = do
   place ← place_word node
   word ← handed
-  Ok (request_of (input_at plan place) (λ r. event.Input r.0 r.1 word))
+  Ok (request_of (input_at plan place) (λ r. Event.Input r.0 r.1 word))
 
 -- `claim S i o`
 abbrev pub claim_line : Plan → List ℕ → List ℕ → List ℕ → Result Request LineFault
@@ -143,22 +124,22 @@ claim_line plan node input_word output_word = do
   place ← place_word node
   input ← number_word input_word
   output ← number_word output_word
-  Ok (request_of (switch_at plan place) (λ s. event.Claim s input output))
+  Ok (request_of (switch_at plan place) (λ s. Event.Claim s input output))
 
 -- the bytes that words spell, after these: each is two hexadecimal digits
 abbrev pub bytes_after : List ℕ → List (List ℕ) → Result (List ℕ) LineFault
 bytes_after bytes [] = Ok bytes
 bytes_after bytes (word ∷ more) = do
-  byte ← value_or_fault (spelled_byte word) fault.BadHex
+  byte ← value_or_fault (spelled_byte word) LineFault.BadHex
   bytes_after (bytes ++ byte ∷ []) more
 
 -- `control S HEX..`
 abbrev pub control_line : Plan → List ℕ → List (List ℕ) → Result Request LineFault
 control_line plan node byte_words = do
-  require (nat_le (length byte_words) MAX_CONTROL_BYTES) fault.BadShape
+  require (nat_le (length byte_words) MAX_CONTROL_BYTES) LineFault.BadShape
   place ← place_word node
   bytes ← bytes_after [] byte_words
-  Ok (request_of (switch_at plan place) (λ s. event.Control s bytes))
+  Ok (request_of (switch_at plan place) (λ s. Event.Control s bytes))
 
 -- the most rounds that a line asks for
 abbrev pub most_rounds : ℕ
@@ -168,7 +149,7 @@ most_rounds = 10000
 abbrev pub rounds_line : List ℕ → Result Request LineFault
 rounds_line count_word = do
   count ← number_word count_word
-  require (nat_le 1 count && nat_le count most_rounds) fault.BadNumber
+  require (nat_le 1 count && nat_le count most_rounds) LineFault.BadNumber
   Ok (Rounds count)
 
 -- what is asked of what was found, or the refusal where nothing was
@@ -181,7 +162,7 @@ abbrev pub peek_line : Plan → List ℕ → List ℕ → Result Request LineFau
 peek_line plan node addr_word = do
   place ← place_word node
   addr ← address_word addr_word
-  Ok (probe_of (switch_at plan place) (λ s. probe.Peek s addr))
+  Ok (probe_of (switch_at plan place) (λ s. Probe.Peek s addr))
 
 -- `poke S ADDR VALUE`
 abbrev pub poke_line : Plan → List ℕ → List ℕ → List ℕ → Result Request LineFault
@@ -189,50 +170,50 @@ poke_line plan node addr_word value_word = do
   place ← place_word node
   addr ← address_word addr_word
   value ← register_word value_word
-  Ok (probe_of (switch_at plan place) (λ s. probe.Poke s addr value))
+  Ok (probe_of (switch_at plan place) (λ s. Probe.Poke s addr value))
 
 -- `link S.l`
 abbrev pub link_line : Plan → List ℕ → Result Request LineFault
 link_line plan node = do
   place ← place_word node
-  Ok (probe_of (input_at plan place) (λ r. probe.Link r.0 r.1))
+  Ok (probe_of (input_at plan place) (λ r. Probe.Link r.0 r.1))
 
 -- `table S.l`
 abbrev pub table_line : Plan → List ℕ → Result Request LineFault
 table_line plan node = do
   place ← place_word node
-  Ok (probe_of (input_at plan place) (λ r. probe.Table r.0 r.1))
+  Ok (probe_of (input_at plan place) (λ r. Probe.Table r.0 r.1))
 
 -- a line of the debugger, by what its first word asks for and the words after it
 abbrev pub probe_line : ProbeVerb → Plan → List (List ℕ) → Result Request LineFault
-probe_line asks.Peek plan (node ∷ addr_word ∷ []) = peek_line plan node addr_word
-probe_line asks.Poke plan (node ∷ addr_word ∷ value_word ∷ []) = poke_line plan node addr_word value_word
-probe_line asks.Link plan (node ∷ []) = link_line plan node
-probe_line asks.Table plan (node ∷ []) = table_line plan node
-probe_line asks.Verify plan [] = Ok (Probed probe.Verify)
-probe_line verb plan rest = Err fault.BadShape
+probe_line ProbeVerb.Peek plan (node ∷ addr_word ∷ []) = peek_line plan node addr_word
+probe_line ProbeVerb.Poke plan (node ∷ addr_word ∷ value_word ∷ []) = poke_line plan node addr_word value_word
+probe_line ProbeVerb.Link plan (node ∷ []) = link_line plan node
+probe_line ProbeVerb.Table plan (node ∷ []) = table_line plan node
+probe_line ProbeVerb.Verify plan [] = Ok (Probed Probe.Verify)
+probe_line verb plan rest = Err LineFault.BadShape
 
 -- the words with which lines of the debugger begin
 abbrev pub probe_verbs : List (List ℕ × ProbeVerb)
 probe_verbs =
-    (codes "peek", asks.Peek)
-    ∷ (codes "poke", asks.Poke)
-    ∷ (codes "link", asks.Link)
-    ∷ (codes "table", asks.Table)
-    ∷ (codes "verify", asks.Verify)
+    (codes "peek", ProbeVerb.Peek)
+    ∷ (codes "poke", ProbeVerb.Poke)
+    ∷ (codes "link", ProbeVerb.Link)
+    ∷ (codes "table", ProbeVerb.Table)
+    ∷ (codes "verify", ProbeVerb.Verify)
     ∷ []
 
 -- the words with which other lines begin
 abbrev pub verbs : List (List ℕ × Verb)
 verbs =
-    (codes "send", verb.Send)
-    ∷ (codes "drain", verb.Drain)
-    ∷ (codes "cross", verb.Cross)
-    ∷ (codes "credit", verb.Credit)
-    ∷ (codes "input", verb.Input)
-    ∷ (codes "claim", verb.Claim)
-    ∷ (codes "control", verb.Control)
-    ∷ (codes "rounds", verb.Rounds)
+    (codes "send", Verb.Send)
+    ∷ (codes "drain", Verb.Drain)
+    ∷ (codes "cross", Verb.Cross)
+    ∷ (codes "credit", Verb.Credit)
+    ∷ (codes "input", Verb.Input)
+    ∷ (codes "claim", Verb.Claim)
+    ∷ (codes "control", Verb.Control)
+    ∷ (codes "rounds", Verb.Rounds)
     ∷ []
 
 -- what the first word of a line asks of the debugger
@@ -245,7 +226,7 @@ other_verb_of word = lookup (λ known. bytes_eq known word) verbs
 
 -- the debugger's, or else the other
 abbrev pub either_verb : Option ProbeVerb → Option Verb → Option Verb
-either_verb (Some asked) other = Some (verb.Probe asked)
+either_verb (Some asked) other = Some (Verb.Probe asked)
 either_verb None other = other
 
 -- what the first word of a line asks for
@@ -254,17 +235,17 @@ verb_of word = either_verb (probe_verb_of word) (other_verb_of word)
 
 -- a line, by what its first word asks for and the words after it
 abbrev pub verb_line : Verb → Plan → List (List ℕ) → Result Request LineFault
-verb_line verb.Send plan (node ∷ packet_words) = send_line plan node packet_words
-verb_line verb.Drain plan (node ∷ []) = drain_line plan node
-verb_line verb.Cross plan (node ∷ []) = cross_line plan node
-verb_line verb.Credit plan (node ∷ []) = credit_line plan node
-verb_line verb.Input plan (node ∷ []) = input_line plan node (Ok 0)
-verb_line verb.Input plan (node ∷ word ∷ []) = input_line plan node (number_word word)
-verb_line verb.Claim plan (node ∷ input_word ∷ output_word ∷ []) = claim_line plan node input_word output_word
-verb_line verb.Control plan (node ∷ byte_words) = control_line plan node byte_words
-verb_line verb.Rounds plan (count_word ∷ []) = rounds_line count_word
-verb_line (verb.Probe word) plan rest = probe_line word plan rest
-verb_line verb plan rest = Err fault.BadShape
+verb_line Verb.Send plan (node ∷ packet_words) = send_line plan node packet_words
+verb_line Verb.Drain plan (node ∷ []) = drain_line plan node
+verb_line Verb.Cross plan (node ∷ []) = cross_line plan node
+verb_line Verb.Credit plan (node ∷ []) = credit_line plan node
+verb_line Verb.Input plan (node ∷ []) = input_line plan node (Ok 0)
+verb_line Verb.Input plan (node ∷ word ∷ []) = input_line plan node (number_word word)
+verb_line Verb.Claim plan (node ∷ input_word ∷ output_word ∷ []) = claim_line plan node input_word output_word
+verb_line Verb.Control plan (node ∷ byte_words) = control_line plan node byte_words
+verb_line Verb.Rounds plan (count_word ∷ []) = rounds_line count_word
+verb_line (Verb.Probe word) plan rest = probe_line word plan rest
+verb_line verb plan rest = Err LineFault.BadShape
 
 -- a line with words
 abbrev pub some_request : Result Request LineFault → Result (Option Request) LineFault
@@ -275,8 +256,8 @@ some_request (Err kind) = Err kind
 abbrev pub read_script_words : Plan → Bool → List (List ℕ) → Result (Option Request) LineFault
 read_script_words plan is_plain [] = Ok None
 read_script_words plan is_plain (first ∷ rest) = do
-  verb ← value_or_fault (verb_of first) fault.UnknownWord
-  require is_plain fault.BadShape
+  verb ← value_or_fault (verb_of first) LineFault.UnknownWord
+  require is_plain LineFault.BadShape
   some_request (verb_line verb plan rest)
 
 -- the most bytes of a line, its line feed left out
@@ -287,8 +268,8 @@ most_line = 16384
 unfoldable pub read_script_line : Plan → List ℕ → Result (Option Request) LineFault
 read_script_line plan line =
     if nat_le (length line) most_line then read_script_words plan (is_plain_line (uncommented_line line)) (line_words (uncommented_line line))
-    else Err fault.LineTooLong
+    else Err LineFault.LineTooLong
 
 -- what is due, or out of memory
 abbrev pub GivesLineOrNoMemory : {X : Type 0} → Result X LineFault → Result X LineFault → Type 0
-GivesLineOrNoMemory result due = (result ≡ due) ⊎ (result ≡ Err fault.NoMemory)
+GivesLineOrNoMemory result due = (result ≡ due) ⊎ (result ≡ Err LineFault.NoMemory)

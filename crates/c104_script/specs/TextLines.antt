@@ -1,6 +1,5 @@
 -- The lines of a text, and the line feeds that end or part them.
-use Rattle.std.specs.Prelude.{ℕ, ◌==◌, ◌≡◌, Bool, not, true, List, [], ◌∷◌, ◌++◌, flat_map}
-use Rattle.std.specs.List.{list_all}
+use Rattle.std.specs.{List.list_all, Prelude.{Bool, List, [], flat_map, not, true, ℕ, ◌++◌, ◌==◌, ◌∷◌, ◌≡◌}}
 
 -- no byte of a line is a line feed
 abbrev pub is_line : List ℕ → Bool

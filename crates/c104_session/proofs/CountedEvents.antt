@@ -1,19 +1,10 @@
 -- Events that are counted: the network goes on as by itself, and what is told of it is counted.
-use Rattle.std.proofs.Common.{◌≡◌, ◌⊎◌, ◌∙◌, ◌&&◌, ℕ, Bool, Result, Err, OnErr, ap, inl, inr}
-use Rattle.c104_switch.specs.Actions.{Reply}
-use Rattle.c104_event.specs.declared.events.Event.{Event}
-use Rattle.c104_event.specs.declared.faults.EventFault.{EventFault}
-use Rattle.c104_event.specs.declared.faults.EventFault.TheVariants as fault
-use Rattle.c104_run.specs.EventRuns.{Answers}
-use Rattle.c104_run.specs.NetRecords.{is_done, NetRecord}
-use Rattle.c104_run.specs.RecordedRuns.{record_apply, AnswersRecord}
-use Rattle.c104_net.specs.MeteredRecords.{at_meter, record_metered}
-use Rattle.c104_stats.proofs.TakenCounts.{taken_back}
-use Rattle.c104_stats.specs.Counts.{counts_noted, counts_sent, counts_taken, Counts}
-use Rattle.c104_stats.specs.Metering.{counting}
-use Rattle.c104_session.specs.Counted.{counted_event, counts_told, cut_if, event_counts, sent_if, Counted}
-use Rattle.c104_session.specs.Driven.{DoesEvent}
-use Rattle.c104_session.proofs.Leavings.{event_kept}
+use Rattle.{c104_event.specs.declared.{events.Event.Event, faults.EventFault.EventFault}, c104_net.specs.MeteredRecords.at_meter}
+use Rattle.{c104_net.specs.MeteredRecords.record_metered, c104_run.specs.{EventRuns.Answers, NetRecords.{NetRecord, is_done}}}
+use Rattle.{c104_run.specs.RecordedRuns.{AnswersRecord, record_apply}, c104_session.{proofs.Leavings.event_kept, specs.Counted.Counted}}
+use Rattle.c104_session.specs.{Counted.{counted_event, counts_told, cut_if, event_counts, sent_if}, Driven.DoesEvent}
+use Rattle.c104_stats.{proofs.TakenCounts.taken_back, specs.{Counts.{Counts, counts_noted, counts_sent, counts_taken}, Metering.counting}}
+use Rattle.{c104_switch.specs.Actions.Reply, std.proofs.Common.{Bool, Err, OnErr, Result, ap, inl, inr, ℕ, ◌&&◌, ◌∙◌, ◌≡◌, ◌⊎◌}}
 
 -- what an event came to, alone or with what is counted
 abbrev pub Told : NetRecord → Counts → Event → Result Reply EventFault → NetRecord → Counts → Type 0
@@ -35,21 +26,21 @@ module _ (net : NetRecord) (e : Event) (answer : Result Reply EventFault) (after
     pub told_kept : Told net c e answer after d → OnErr answer (after ≡ net)
     told_kept told = event_kept net e answer after (of_record told)
 
-    pub told_counts : Told net c e answer after d → (d ≡ counts_told c net e) ⊎ (answer ≡ Err fault.NoMemory)
+    pub told_counts : Told net c e answer after d → (d ≡ counts_told c net e) ⊎ (answer ≡ Err EventFault.NoMemory)
     told_counts (inl due) = inl (ap (λ (x : Result Reply EventFault × Counted). x.1.meter) due)
     told_counts (inr short) = inr short.0
 
     -- a packet that was counted stays where it was sent
     pub sent_counts : (t bytes : ℕ) → AnswersRecord net e answer after → d ≡ sent_if (is_done answer) c t bytes
-        → (d ≡ sent_if (is_done (record_apply net e).0) c t bytes) ⊎ (answer ≡ Err fault.NoMemory)
+        → (d ≡ sent_if (is_done (record_apply net e).0) c t bytes) ⊎ (answer ≡ Err EventFault.NoMemory)
     sent_counts t bytes (inl due) is =
         inl (is ∙ ap (λ (x : Result Reply EventFault × NetRecord). sent_if (is_done x.0) c t bytes) due)
     sent_counts t bytes (inr short) is = inr short.0
 
     -- a switch that was reset is cut
     pub reset_counts : (s : ℕ) (reset : Bool) (b : Counts) → DoesEvent net e answer after
-        → (d ≡ counts_told c net e) ⊎ (answer ≡ Err fault.NoMemory) → b ≡ cut_if (is_done answer && reset) d s
-        → (b ≡ cut_if (is_done (record_apply net e).0 && reset) (counts_told c net e) s) ⊎ (answer ≡ Err fault.NoMemory)
+        → (d ≡ counts_told c net e) ⊎ (answer ≡ Err EventFault.NoMemory) → b ≡ cut_if (is_done answer && reset) d s
+        → (b ≡ cut_if (is_done (record_apply net e).0 && reset) (counts_told c net e) s) ⊎ (answer ≡ Err EventFault.NoMemory)
     reset_counts s reset b (inl due) (inl told) is =
         inl (is ∙ ap (λ (m : Counts). cut_if (is_done answer && reset) m s) told
         ∙ ap (λ (x : Result Reply EventFault × NetRecord). cut_if (is_done x.0 && reset) (counts_told c net e) s) due)
@@ -58,8 +49,8 @@ module _ (net : NetRecord) (e : Event) (answer : Result Reply EventFault) (after
 
     -- and whether it was done is noted
     pub noted_counts : (b : Counts) → DoesEvent net e answer after
-        → (d ≡ event_counts c net e) ⊎ (answer ≡ Err fault.NoMemory) → b ≡ counts_noted d (is_done answer)
-        → (b ≡ counted_event c net e) ⊎ (answer ≡ Err fault.NoMemory)
+        → (d ≡ event_counts c net e) ⊎ (answer ≡ Err EventFault.NoMemory) → b ≡ counts_noted d (is_done answer)
+        → (b ≡ counted_event c net e) ⊎ (answer ≡ Err EventFault.NoMemory)
     noted_counts b (inl due) (inl counted) is =
         inl (is ∙ ap (λ (m : Counts). counts_noted m (is_done answer)) counted
         ∙ ap (λ (x : Result Reply EventFault × NetRecord). counts_noted (event_counts c net e) (is_done x.0)) due)

@@ -1,29 +1,15 @@
 -- Rounds that are counted in a loop: a round as it is counted, and how the loop ends.
-use Rattle.std.proofs.Common.{◌≡◌, ◌+◌, ◌-◌, ◌<◌, ◌∙◌, ℕ, Bool, true, false, List, ◌∷◌, Result, Ok, Err}
-use Rattle.std.proofs.Common.{append-nil, ap, inl, inr, refl, sym}
-use Rattle.c104_event.specs.declared.events.Event.{Event}
-use Rattle.c104_event.specs.declared.faults.EventFault.{EventFault}
-use Rattle.c104_event.specs.declared.faults.EventFault.TheVariants as fault
-use Rattle.c104_net.proofs.RecordedRounds.{starts_stay}
-use Rattle.c104_net.specs.MeteredRecords.{at_meter, record_metered}
-use Rattle.c104_run.proofs.RoundRuns.{run_seen}
-use Rattle.c104_run.specs.EventRuns.{run_events, EventsEnd, Outcome}
-use Rattle.c104_run.specs.NetRecords.{NetRecord}
-use Rattle.c104_run.specs.RecordedRuns.{record_apply}
-use Rattle.c104_run.specs.RoundParts.{PartEnds}
-use Rattle.c104_run.specs.Rounds.{round, rounds}
-use Rattle.c104_stats.specs.Counts.{counts_begun, counts_passed, Counts}
-use Rattle.c104_stats.specs.Metering.{counting}
-use Rattle.c104_stats.specs.Sights.{counts_of_net}
-use Rattle.c104_session.specs.Counted.{counted_rounds, Counted, CountsRound}
-use Rattle.c104_session.specs.Driven.{DoesRounds}
-use Rattle.c104_session.specs.Leavings.{LeavesRounds}
-use Rattle.c104_session.proofs.CountedRounds.{fault_ends, goes_on, idle_counts, idle_ends, round_runs, Going}
-use Rattle.c104_session.proofs.Leavings.{rounds_left}
-use Rattle.c104_session.proofs.RoundLeavings.{later_left}
-use Rattle.c104_session.proofs.StillCounts.{none_later}
+use Rattle.{c104_event.specs.declared.{events.Event.Event, faults.EventFault.EventFault}, c104_net.proofs.RecordedRounds.starts_stay}
+use Rattle.{c104_net.specs.MeteredRecords.{at_meter, record_metered}, c104_run.{proofs.RoundRuns.run_seen, specs.EventRuns.EventsEnd}}
+use Rattle.c104_run.specs.{EventRuns.{Outcome, run_events}, NetRecords.NetRecord, RecordedRuns.record_apply, RoundParts.PartEnds}
+use Rattle.{c104_run.specs.Rounds.{round, rounds}, c104_session.proofs.CountedRounds.{Going, fault_ends, goes_on, idle_counts, idle_ends}}
+use Rattle.c104_session.proofs.{CountedRounds.round_runs, Leavings.rounds_left, RoundLeavings.later_left, StillCounts.none_later}
+use Rattle.c104_session.specs.{Counted.{Counted, CountsRound, counted_rounds}, Driven.DoesRounds, Leavings.LeavesRounds}
+use Rattle.c104_stats.specs.{Counts.{Counts, counts_begun, counts_passed}, Metering.counting, Sights.counts_of_net}
+use Rattle.std.proofs.Common.{Bool, Err, List, Ok, Result, ap, append-nil, false, inl, inr, refl, sym, true, ℕ, ◌+◌, ◌-◌, ◌<◌, ◌∙◌, ◌∷◌}
+use Rattle.std.proofs.Common.{◌≡◌}
 
-same_fault : (f : EventFault) → ◌≡◌ {A = Result (Unit {0}) EventFault} (Err f) (Err fault.NoMemory) → f ≡ fault.NoMemory
+same_fault : (f : EventFault) → ◌≡◌ {A = Result (Unit {0}) EventFault} (Err f) (Err EventFault.NoMemory) → f ≡ EventFault.NoMemory
 same_fault f is = cc
 
 -- a round that was told of

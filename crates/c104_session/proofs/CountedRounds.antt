@@ -1,18 +1,10 @@
 -- Rounds that are counted, one by one: what is counted of them, and how the network goes on beside that.
-use Rattle.std.proofs.Common.{◌≡◌, ◌+◌, ◌-◌, ◌<◌, ◌∙◌, ℕ, suc, Bool, true, false, Result, Ok, Err}
-use Rattle.std.proofs.Common.{if◌then◌else◌, ap, arith, inl, refl, sym}
-use Rattle.c104_event.specs.declared.faults.EventFault.{EventFault}
-use Rattle.c104_net.specs.MeteredRecords.{at_meter, record_metered}
-use Rattle.c104_run.specs.EventRuns.{run_events, EventsEnd, Outcome}
-use Rattle.c104_run.specs.NetRecords.{NetRecord}
-use Rattle.c104_run.specs.RecordedRuns.{record_apply}
-use Rattle.c104_run.specs.Rounds.{round, rounds}
-use Rattle.c104_run.proofs.RoundRuns.{run_seen}
-use Rattle.c104_run.proofs.RoundsTaken.{round_idle, round_refused, round_taken}
-use Rattle.c104_stats.specs.Counts.{counts_begun, counts_noted, counts_passed, Counts}
-use Rattle.c104_stats.specs.Metering.{counting}
-use Rattle.c104_stats.specs.Sights.{counts_of_net}
-use Rattle.c104_session.specs.Counted.{counted_on, counted_round, rounds_counted, Counted, CountsRound}
+use Rattle.{c104_event.specs.declared.faults.EventFault.EventFault, c104_net.specs.MeteredRecords.{at_meter, record_metered}}
+use Rattle.c104_run.{proofs.{RoundRuns.run_seen, RoundsTaken.{round_idle, round_refused, round_taken}}, specs.EventRuns.EventsEnd}
+use Rattle.c104_run.specs.{EventRuns.{Outcome, run_events}, NetRecords.NetRecord, RecordedRuns.record_apply, Rounds.{round, rounds}}
+use Rattle.{c104_session.specs.Counted.{Counted, CountsRound, counted_on, counted_round, rounds_counted}, c104_stats.specs.Counts.Counts}
+use Rattle.c104_stats.specs.{Counts.{counts_begun, counts_noted, counts_passed}, Metering.counting, Sights.counts_of_net}
+use Rattle.std.proofs.Common.{Bool, Err, Ok, Result, ap, arith, false, if◌then◌else◌, inl, refl, suc, sym, true, ℕ, ◌+◌, ◌-◌, ◌<◌, ◌∙◌, ◌≡◌}
 
 -- the network of a round that is counted goes on as by itself
 record_of : (net : NetRecord) (c : Counts)

@@ -1,27 +1,13 @@
 -- What is printed of the counts of a run, and how the run ends.
-use Rattle.std.proofs.Common.{◌≡◌, ◌||◌, ◌∙◌, ℕ, Bool, true, false, List, [], ◌++◌, Option, None, Some, Result, Ok, Err, OnOk}
-use Rattle.std.proofs.Common.{append-nil, ap, inl, inr, refl, subst, sym}
-use Rattle.c104_token.specs.Kinds.{plain_kind}
-use Rattle.c104_plan.specs.Plans.{Plan}
-use Rattle.c104_plan.specs.PlanImage.{Image}
-use Rattle.c104_run.specs.NetRecords.{NetRecord}
-use Rattle.c104_run.specs.Standstill.{IsDeadlocked}
-use Rattle.c104_stats.specs.Counts.{new_counts, Counts}
-use Rattle.c104_stats.specs.Sights.{counts_at_end}
-use Rattle.c104_stats.specs.declared.formats.Format.{Format}
-use Rattle.c104_stats.specs.declared.formats.Format.TheVariants as format
-use Rattle.c104_stream.specs.ScriptLines.{is_long}
-use Rattle.c104_stream.specs.Scripts.{script_outcome}
-use Rattle.c104_stream.specs.declared.halt.Halt.{Halt}
-use Rattle.c104_stream.specs.declared.halt.Halt.TheVariants as halt
-use Rattle.c104_session.specs.Counted.{counts_kept}
-use Rattle.c104_session.specs.CountedRuns.{counted_script, is_for_people, still_line, CountsPlan, CountsScript, CountsSession}
-use Rattle.c104_session.specs.CountedRuns.{GrewBehind, IsCountsText, IsPrinted, WritesCounts}
-use Rattle.c104_session.specs.Driven.{driven_outcome, DrivesScript}
-use Rattle.c104_session.specs.Shown.{new_session}
-use Rattle.c104_session.specs.declared.counted_runs.CountedText.{CountedText}
-use Rattle.c104_session.specs.declared.counted_runs.Printing.{Printing}
-use Rattle.c104_session.specs.declared.session.Session.{Session}
+use Rattle.{c104_plan.specs.{PlanImage.Image, Plans.Plan}, c104_run.specs.{NetRecords.NetRecord, Standstill.IsDeadlocked}}
+use Rattle.c104_session.specs.{Counted.counts_kept, CountedRuns.{CountsPlan, CountsScript, CountsSession, GrewBehind, IsCountsText}}
+use Rattle.c104_session.specs.{CountedRuns.{IsPrinted, WritesCounts, counted_script, is_for_people, still_line}, Driven.DrivesScript}
+use Rattle.c104_session.specs.{Driven.driven_outcome, Shown.new_session, declared.counted_runs.{CountedText.CountedText, Printing.Printing}}
+use Rattle.{c104_session.specs.declared.session.Session.Session, c104_stats.specs.{Counts.{Counts, new_counts}, Sights.counts_at_end}}
+use Rattle.{c104_stats.specs.declared.formats.Format.Format, c104_stream.specs.{ScriptLines.is_long, Scripts.script_outcome}}
+use Rattle.{c104_stream.specs.declared.halt.Halt.Halt, c104_token.specs.Kinds.plain_kind, std.proofs.Common.{Bool, Err, List, None, Ok}}
+use Rattle.std.proofs.Common.{OnOk, Option, Result, Some, [], ap, append-nil, false, inl, inr, refl, subst, sym, true, ℕ, ◌++◌, ◌||◌, ◌∙◌}
+use Rattle.std.proofs.Common.{◌≡◌}
 
 not_both : (b : Bool) → b ≡ true → b ≡ false → ⊥
 not_both b is isnt = cc
@@ -50,7 +36,7 @@ module _ (p : Printing) (net : NetRecord) (c : Counts) (text : List ℕ) (is : I
 module _ (net : NetRecord) (round : ℕ) (before : List ℕ) (locked : IsDeadlocked plain_kind net.network) where
   pub people_told : {X E : Type 0} (result : Result X E) (after : List ℕ)
       → OnOk result ((waits : List ℕ) × (after ≡ before ++ (still_line round ++ waits)))
-      → OnOk result (GrewBehind format.Table net round before after)
+      → OnOk result (GrewBehind Format.Table net round before after)
   people_told (Ok x) after joined = (still_line round ++ joined.0, inr (refl, locked, (joined.0, refl)), joined.1)
   people_told (Err e) after joined = joined
 
@@ -78,11 +64,11 @@ module _ (p : Printing) (session after : Session) (begun driven : Counts) (left 
 
 -- or stopped before anything was written
 module _ (p : Printing) (session : Session) where
-  pub script_unread : (all : Option (List ℕ)) → CountsScript p session all (Err halt.CannotRead)
+  pub script_unread : (all : Option (List ℕ)) → CountsScript p session all (Err Halt.CannotRead)
   script_unread None = tt
   script_unread (Some script) = λ is. cc
 
-  pub script_short : (all : Option (List ℕ)) → CountsScript p session all (Err halt.NoMemory)
+  pub script_short : (all : Option (List ℕ)) → CountsScript p session all (Err Halt.NoMemory)
   script_short None = tt
   script_short (Some script) = λ is. cc
 
@@ -90,18 +76,18 @@ module _ (p : Printing) (session : Session) where
   pub session_counted : (all held holds : Option (List ℕ)) (came : Result CountedText Halt) (result : Result Bool Halt)
       → CountsScript p session all came → WritesCounts came held holds result → CountsSession p session all held holds result
   session_counted None held holds came result counts wrote = tt
-  session_counted (Some script) held holds (Err halt.CannotRead) result counts wrote =
+  session_counted (Some script) held holds (Err Halt.CannotRead) result counts wrote =
       subst (λ r. CountsSession p session (Some script) held holds r) (sym wrote.0) wrote.1
-  session_counted (Some script) held holds (Err halt.CannotWrite) result counts wrote = absurd (counts refl)
-  session_counted (Some script) held holds (Err halt.NoMemory) result counts wrote =
+  session_counted (Some script) held holds (Err Halt.CannotWrite) result counts wrote = absurd (counts refl)
+  session_counted (Some script) held holds (Err Halt.NoMemory) result counts wrote =
       subst (λ r. CountsSession p session (Some script) held holds r) (sym wrote.0) wrote.1
   session_counted (Some script) held holds (Ok counted) (Ok refused) counts wrote =
       ((counted.text.items, counts.0, wrote.1), wrote.0 ∙ counts.1)
-  session_counted (Some script) held holds (Ok counted) (Err halt.CannotRead) counts wrote = absurd wrote
-  session_counted (Some script) held holds (Ok counted) (Err halt.CannotWrite) counts wrote = (counted.text.items, counts.0, wrote)
-  session_counted (Some script) held holds (Ok counted) (Err halt.NoMemory) counts wrote = absurd wrote
+  session_counted (Some script) held holds (Ok counted) (Err Halt.CannotRead) counts wrote = absurd wrote
+  session_counted (Some script) held holds (Ok counted) (Err Halt.CannotWrite) counts wrote = (counted.text.items, counts.0, wrote)
+  session_counted (Some script) held holds (Ok counted) (Err Halt.NoMemory) counts wrote = absurd wrote
 
-  pub session_short : (all held : Option (List ℕ)) → CountsSession p session all held held (Err halt.NoMemory)
+  pub session_short : (all held : Option (List ℕ)) → CountsSession p session all held held (Err Halt.NoMemory)
   session_short None held = tt
   session_short (Some script) held = refl
 

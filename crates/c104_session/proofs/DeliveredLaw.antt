@@ -1,35 +1,19 @@
 -- A script that ends with rounds enough leaves an acyclic network quiet, so that all that was sent is printed.
-use Rattle.std.proofs.Common.{◌≡◌, ◌∙◌, ◌+◌, ◌*◌, ◌++◌, ◌≤◌, ℕ, suc, All, List, [], ◌∷◌, arith, inr, length, refl, sym, ap, subst}
-use Rattle.c104_token.specs.declared.packets.Packet.{Packet}
-use Rattle.c104_token.specs.declared.tokens.Token.{Token}
-use Rattle.c104_token.specs.Kinds.{plain_kind}
-use Rattle.c104_check.specs.ChannelDependencies.{IsAcyclic}
-use Rattle.c104_check.specs.Routes.{Routes, routes_of}
-use Rattle.c104_check.specs.declared.ports.SwitchPort.{SwitchPort}
-use Rattle.c104_plan.specs.PlanImage.{Fits, Image}
-use Rattle.c104_plan.specs.Plans.{IsPlan, Plan}
-use Rattle.c104_node.specs.Nodes.{Node}
-use Rattle.c104_node.specs.declared.starts.NodeStart.{NodeStart}
-use Rattle.c104_run.specs.NetRecords.{NetRecord}
-use Rattle.c104_run.specs.Network.{network_of, placed_network}
-use Rattle.c104_run.specs.QuietNets.{IsQuiet}
-use Rattle.c104_run.specs.Standstill.{StandsStill}
-use Rattle.c104_net.specs.DeadlockFreedom.{IsAcyclicRun}
-use Rattle.c104_net.specs.HeaderWork.{random_bound, random_work}
-use Rattle.c104_net.specs.Unchanged.{AreStartsOf}
-use Rattle.c104_net.proofs.FullWork.{random_within}
-use Rattle.c104_net.proofs.StandingRuns.{stands_quiet}
-use Rattle.c104_stream.specs.Scripts.{lines_outcome}
-use Rattle.c104_session.specs.DeliveredRuns.{EndsWithRounds, PrintsAllPackets, sends_weight, session_after, token_weight}
-use Rattle.c104_session.specs.PrintedPackets.{IsUnchangedRun, LeaveUnchanged, PrintsPackets, line_sends, lines_sent, script_end, script_sent}
-use Rattle.c104_session.specs.Shown.{line_answer, line_outcome, new_session}
-use Rattle.c104_session.specs.declared.session.Session.{Session}
-use Rattle.c104_session.proofs.FallingWork.{IsFalling, lines_left}
-use Rattle.c104_session.proofs.PlacedNets.{IsOfLinks, placed_set, placed_started, placed_starts, placed_steady, placed_unchanged}
-use Rattle.c104_session.proofs.PrintedLaw.{printed_law}
-use Rattle.c104_session.proofs.UnchangedNets.{IsUnchangedNet, nothing, of_fact, run_so_far}
-use Rattle.c104_session.proofs.UnchangedScripts.{lines_leave}
-use Rattle.c104_session.proofs.WorkGrowth.{IsWorkWithin, keeps_within, weight_parts, work_falls, work_grows}
+use Rattle.c104_check.specs.{ChannelDependencies.IsAcyclic, Routes.{Routes, routes_of}, declared.ports.SwitchPort.SwitchPort}
+use Rattle.c104_net.{proofs.{FullWork.random_within, StandingRuns.stands_quiet}, specs.DeadlockFreedom.IsAcyclicRun}
+use Rattle.{c104_net.specs.{HeaderWork.{random_bound, random_work}, Unchanged.AreStartsOf}, c104_node.specs.Nodes.Node}
+use Rattle.{c104_node.specs.declared.starts.NodeStart.NodeStart, c104_plan.specs.{PlanImage.{Fits, Image}, Plans.{IsPlan, Plan}}}
+use Rattle.c104_run.specs.{NetRecords.NetRecord, Network.{network_of, placed_network}, QuietNets.IsQuiet, Standstill.StandsStill}
+use Rattle.c104_session.proofs.{FallingWork.{IsFalling, lines_left}, PlacedNets.{IsOfLinks, placed_set, placed_started, placed_starts}}
+use Rattle.c104_session.proofs.{PlacedNets.{placed_steady, placed_unchanged}, PrintedLaw.printed_law, UnchangedNets.IsUnchangedNet}
+use Rattle.c104_session.proofs.{UnchangedNets.{nothing, of_fact, run_so_far}, UnchangedScripts.lines_leave, WorkGrowth.IsWorkWithin}
+use Rattle.c104_session.{proofs.WorkGrowth.{keeps_within, weight_parts, work_falls, work_grows}, specs.DeliveredRuns.EndsWithRounds}
+use Rattle.c104_session.specs.{DeliveredRuns.{PrintsAllPackets, sends_weight, session_after, token_weight}, PrintedPackets.IsUnchangedRun}
+use Rattle.c104_session.specs.PrintedPackets.{LeaveUnchanged, PrintsPackets, line_sends, lines_sent, script_end, script_sent}
+use Rattle.c104_session.specs.{Shown.{line_answer, line_outcome, new_session}, declared.session.Session.Session}
+use Rattle.{c104_stream.specs.Scripts.lines_outcome, c104_token.specs.{Kinds.plain_kind, declared.packets.Packet.Packet}}
+use Rattle.{c104_token.specs.declared.tokens.Token.Token, std.proofs.Common.{All, List, [], ap, arith, inr, length, refl, subst, suc, sym}}
+use Rattle.std.proofs.Common.{ℕ, ◌*◌, ◌++◌, ◌+◌, ◌∙◌, ◌∷◌, ◌≡◌, ◌≤◌}
 
 -- lines in two parts
 lines_parts : (front back : List (List ℕ)) (number : ℕ) (session : Session) → (later : ℕ) × ((lines_outcome line_outcome number session (front ++ back)).1 ≡ (lines_outcome line_outcome later (lines_outcome line_outcome number session front).1 back).1)

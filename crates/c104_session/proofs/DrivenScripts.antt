@@ -1,14 +1,9 @@
 -- A script that a driver answers, as one without a driver: what lines show, and the run after them, is the same.
-use Rattle.std.proofs.Common.{◌≡◌, ℕ, suc, Bool, List, [], ◌∷◌, ◌++◌, Option, None, Some, Result, Ok, Err, ap, ◌∙◌, refl, subst}
+use Rattle.c104_session.specs.{Driven.{DrivesLine, DrivesScript, Driving, driven_outcome, line_driven}, Shown.line_outcome}
+use Rattle.{c104_session.specs.declared.session.Session.Session, c104_stream.specs.ScriptLines.{script_lines, whole_lines}}
+use Rattle.c104_stream.specs.{Scripts.{AnswersLine, AnswersScript, lines_outcome}, Writing.AppendsPrefix, declared.halt.Halt.Halt}
+use Rattle.std.proofs.Common.{Bool, Err, List, None, Ok, Option, Result, Some, [], ap, refl, subst, suc, ℕ, ◌++◌, ◌∙◌, ◌∷◌, ◌≡◌}
 use Rattle.std.specs.Io.KnownBytes.{Appends}
-use Rattle.c104_stream.specs.ScriptLines.{script_lines, whole_lines}
-use Rattle.c104_stream.specs.Scripts.{AnswersLine, AnswersScript, lines_outcome}
-use Rattle.c104_stream.specs.Writing.{AppendsPrefix}
-use Rattle.c104_stream.specs.declared.halt.Halt.{Halt}
-use Rattle.c104_stream.specs.declared.halt.Halt.TheVariants as halt
-use Rattle.c104_session.specs.Driven.{driven_outcome, line_driven, Driving, DrivesLine, DrivesScript}
-use Rattle.c104_session.specs.Shown.{line_outcome}
-use Rattle.c104_session.specs.declared.session.Session.{Session}
 
 module _ {D : Type 0} (drives : Driving D) where
   -- a line is answered, and the driver has done it
@@ -34,7 +29,7 @@ module _ {D : Type 0} (drives : Driving D) where
     ap (λ (s : Session × D). s.0) answered.1 ∙ run_seen 1 session driver (script_lines script),
     subst (λ text. Appends held holds text) (text_seen 1 session driver (script_lines script)) answered.2,
   )
-  script_seen session after driver driven (Some script) left held holds (Err halt.CannotRead) answered = record {
+  script_seen session after driver driven (Some script) left held holds (Err Halt.CannotRead) answered = record {
     front = answered.front;
     rest = answered.rest;
     is_prefix = answered.is_prefix;
@@ -42,9 +37,9 @@ module _ {D : Type 0} (drives : Driving D) where
     is_within = answered.is_within;
     wrote = subst (λ text. Appends held holds text) (text_seen 1 session driver (whole_lines [] answered.front)) answered.wrote;
   }
-  script_seen session after driver driven (Some script) left held holds (Err halt.CannotWrite) answered =
+  script_seen session after driver driven (Some script) left held holds (Err Halt.CannotWrite) answered =
       subst (λ text. AppendsPrefix held holds text) (text_seen 1 session driver (script_lines script)) answered
-  script_seen session after driver driven (Some script) left held holds (Err halt.NoMemory) answered = record {
+  script_seen session after driver driven (Some script) left held holds (Err Halt.NoMemory) answered = record {
     front = answered.front;
     ahead = answered.ahead;
     rest = answered.rest;

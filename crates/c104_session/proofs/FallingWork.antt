@@ -1,48 +1,25 @@
 -- Lines that send nothing leave no more work, and each of their rounds leaves less, till the network is quiet: whatever else
 -- they ask between the rounds.
-use Rattle.std.proofs.Common.{◌≡◌, ◌∙◌, ◌+◌, ◌++◌, ◌<◌, ◌≤◌, ◌⊎◌, ℕ, suc, zero, All, Bool, true, false, List, [], ◌∷◌, Option, Some, None, Result, Ok, Err, append-nil, arith, if◌then◌else◌, inl, inr, length, length-append, refl, sym, ap, subst}
-use Rattle.std.specs.List.{AllByRecursion}
-use Rattle.c104_token.specs.declared.packets.Packet.{Packet}
-use Rattle.c104_token.specs.declared.tokens.Token.{Token}
-use Rattle.c104_token.specs.Kinds.{plain_kind}
-use Rattle.c104_switch.specs.Actions.{Reply, is_ready}
-use Rattle.c104_switch.specs.declared.actions.ReplyOf.TheVariants as reply
-use Rattle.c104_plan.specs.Plans.{IsPlan, Plan}
-use Rattle.c104_plan.proofs.RangeLists.{all_of_each}
-use Rattle.c104_check.specs.Routes.{Routes}
-use Rattle.c104_event.specs.declared.events.Event.{Event}
-use Rattle.c104_event.specs.declared.faults.EventFault.{EventFault}
-use Rattle.c104_node.specs.Nodes.{Node}
-use Rattle.c104_node.specs.Quiet.{IsQuietNode}
-use Rattle.c104_node.specs.declared.starts.NodeStart.{NodeStart}
-use Rattle.c104_run.specs.EventRuns.{Outcome, run_events, unless_fault}
-use Rattle.c104_run.specs.NetRecords.{NetRecord}
-use Rattle.c104_run.specs.Network.{Network, network_apply}
-use Rattle.c104_run.specs.QuietNets.{IsQuiet}
-use Rattle.c104_run.specs.RecordedRuns.{record_apply}
-use Rattle.c104_run.specs.Rounds.{round, rounds}
-use Rattle.c104_run.specs.Standstill.{IsUnready, StandsStill}
-use Rattle.c104_run.proofs.RecordSteps.{done_made}
-use Rattle.c104_run.proofs.RoundRuns.{Applied, run_append, undone_leaves}
-use Rattle.c104_net.specs.RoundEvents.{IsOfRound}
-use Rattle.c104_net.specs.Unchanged.{MayHappen}
-use Rattle.c104_net.proofs.RecordedRounds.{applied_plain, starts_stay}
-use Rattle.c104_net.proofs.SentBytes.{SendsBytes}
-use Rattle.c104_stream.specs.Scripts.{lines_outcome}
-use Rattle.c104_script.specs.Script.{read_script_line}
-use Rattle.c104_script.specs.declared.faults.LineFault.{LineFault}
-use Rattle.c104_script.specs.declared.places.Request.{Request}
-use Rattle.c104_script.specs.declared.places.Request.TheVariants as ask
-use Rattle.c104_session.specs.DeliveredRuns.{line_rounds, lines_rounds, rounds_asked}
-use Rattle.c104_session.specs.PrintedPackets.{LeaveUnchanged, MayAsk, event_sends, line_sends, lines_sent, was_done}
-use Rattle.c104_session.specs.Shown.{answer_of_read, event_answer, line_answer, line_outcome, rounds_answer}
-use Rattle.c104_session.specs.declared.session.Session.{Session}
-use Rattle.c104_session.proofs.QuietEvents.{stays_quiet}
-use Rattle.c104_session.proofs.UnchangedNets.{Fact, IsUnchangedNet, Keeps, events_leave, keeps_nothing, nothing, of_fact, of_round, round_event}
-use Rattle.c104_session.proofs.UnchangedScripts.{line_leaves}
+use Rattle.{c104_check.specs.Routes.Routes, c104_event.specs.declared.{events.Event.Event, faults.EventFault.EventFault}}
+use Rattle.c104_net.{proofs.{RecordedRounds.{applied_plain, starts_stay}, SentBytes.SendsBytes}, specs.RoundEvents.IsOfRound}
+use Rattle.{c104_net.specs.Unchanged.MayHappen, c104_node.specs.{Nodes.Node, Quiet.IsQuietNode, declared.starts.NodeStart.NodeStart}}
+use Rattle.{c104_plan.{proofs.RangeLists.all_of_each, specs.Plans.{IsPlan, Plan}}, c104_run.proofs.RecordSteps.done_made}
+use Rattle.c104_run.{proofs.RoundRuns.{Applied, run_append, undone_leaves}, specs.EventRuns.{Outcome, run_events, unless_fault}}
+use Rattle.c104_run.specs.{NetRecords.NetRecord, Network.{Network, network_apply}, QuietNets.IsQuiet, RecordedRuns.record_apply}
+use Rattle.{c104_run.specs.{Rounds.{round, rounds}, Standstill.{IsUnready, StandsStill}}, c104_script.specs.Script.read_script_line}
+use Rattle.{c104_script.specs.declared.{faults.LineFault.LineFault, places.Request.Request}, c104_session.proofs.QuietEvents.stays_quiet}
+use Rattle.c104_session.proofs.UnchangedNets.{Fact, IsUnchangedNet, Keeps, events_leave, keeps_nothing, nothing, of_fact, of_round}
+use Rattle.c104_session.{proofs.{UnchangedNets.round_event, UnchangedScripts.line_leaves}, specs.DeliveredRuns.{line_rounds, lines_rounds}}
+use Rattle.c104_session.specs.{DeliveredRuns.rounds_asked, PrintedPackets.{LeaveUnchanged, MayAsk, event_sends, line_sends, lines_sent}}
+use Rattle.c104_session.specs.{PrintedPackets.was_done, Shown.{answer_of_read, event_answer, line_answer, line_outcome, rounds_answer}}
+use Rattle.{c104_session.specs.declared.session.Session.Session, c104_stream.specs.Scripts.lines_outcome, c104_switch.specs.Actions.Reply}
+use Rattle.{c104_switch.specs.{Actions.is_ready, declared.actions.ReplyOf.ReplyOf}, c104_token.specs.Kinds.plain_kind}
+use Rattle.{c104_token.specs.declared.{packets.Packet.Packet, tokens.Token.Token}, std.proofs.Common.{All, Bool, Err, List, None, Ok}}
+use Rattle.std.proofs.Common.{Option, Result, Some, [], ap, append-nil, arith, false, if◌then◌else◌, inl, inr, length, length-append, refl}
+use Rattle.std.{proofs.Common.{subst, suc, sym, true, zero, ℕ, ◌++◌, ◌+◌, ◌<◌, ◌∙◌, ◌∷◌, ◌≡◌, ◌≤◌, ◌⊎◌}, specs.List.AllByRecursion}
 
-not_ready : (r : Reply) → is_ready r ≡ false → r ≡ reply.NotReady
-not_ready reply.NotReady is = refl
+not_ready : (r : Reply) → is_ready r ≡ false → r ≡ ReplyOf.NotReady
+not_ready ReplyOf.NotReady is = refl
 not_ready r is = absurd (cc is)
 
 both_empty : {X : Type 0} (xs ys : List X) → xs ++ ys ≡ [] → (xs ≡ []) × (ys ≡ [])
@@ -74,11 +51,11 @@ answer_counts net count (Ok u) told = inr (ap (λ (o : Result (Unit {0}) EventFa
 answer_counts net count (Err f) told = inl refl
 
 read_counts : (session : Session) (asked : Result (Option Request) LineFault) → CountsRounds session (read_rounds session asked) (answer_of_read session asked).1
-read_counts session (Ok (Some (ask.Rounds count))) = answer_counts session.net count (run_events record_apply session.net (rounds session.net.network.plan count)).0 refl
+read_counts session (Ok (Some (Request.Rounds count))) = answer_counts session.net count (run_events record_apply session.net (rounds session.net.network.plan count)).0 refl
 read_counts session (Ok None) = inl refl
-read_counts session (Ok (Some (ask.Asked e))) = inl (none_either (was_done (answer_of_read session (Ok (Some (ask.Asked e)))).0))
-read_counts session (Ok (Some (ask.Probed it))) = inl (none_either (was_done (answer_of_read session (Ok (Some (ask.Probed it)))).0))
-read_counts session (Ok (Some (ask.Refused kind))) = inl refl
+read_counts session (Ok (Some (Request.Asked e))) = inl (none_either (was_done (answer_of_read session (Ok (Some (Request.Asked e)))).0))
+read_counts session (Ok (Some (Request.Probed it))) = inl (none_either (was_done (answer_of_read session (Ok (Some (Request.Probed it)))).0))
+read_counts session (Ok (Some (Request.Refused kind))) = inl refl
 read_counts session (Err kind) = inl refl
 
 line_counts : (session : Session) (line : List ℕ) → CountsRounds session (line_rounds session line) (line_answer session line).1

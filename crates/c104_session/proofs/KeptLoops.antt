@@ -1,29 +1,16 @@
 -- Rounds of which something is kept in a loop: a round as it is kept, and how the loop ends.
-use Rattle.std.proofs.Common.{◌≡◌, ◌+◌, ◌-◌, ◌<◌, ◌∙◌, ℕ, Bool, true, false, List, [], ◌∷◌, Result, Ok, Err}
-use Rattle.std.proofs.Common.{append-nil, ap, inl, inr, refl, sym}
-use Rattle.c104_event.specs.declared.events.Event.{Event}
-use Rattle.c104_event.specs.declared.faults.EventFault.{EventFault}
-use Rattle.c104_event.specs.declared.faults.EventFault.TheVariants as fault
-use Rattle.c104_net.proofs.RecordedRounds.{starts_stay}
-use Rattle.c104_net.specs.MeteredRecords.{at_meter, record_metered, MeteredRecord}
-use Rattle.c104_node.specs.declared.tagged.TaggedToken.{TaggedToken}
-use Rattle.c104_run.proofs.RoundRuns.{run_seen}
-use Rattle.c104_run.specs.EventRuns.{run_events, EventsEnd, Outcome}
-use Rattle.c104_run.specs.Meters.{Sees}
-use Rattle.c104_run.specs.NetRecords.{NetRecord}
-use Rattle.c104_run.specs.RecordedRuns.{record_apply}
-use Rattle.c104_run.specs.RoundParts.{PartEnds}
-use Rattle.c104_run.specs.Rounds.{round, rounds}
-use Rattle.c104_session.specs.Driven.{DoesRounds}
-use Rattle.c104_session.specs.Keepers.{rounds_kept, Keeping, KeepsRound}
-use Rattle.c104_session.specs.Leavings.{LeavesRounds}
-use Rattle.c104_session.proofs.KeptRounds.{fault_ends, goes_on, idle_counts, idle_ends, round_runs, Going}
-use Rattle.c104_session.proofs.Leavings.{rounds_left}
-use Rattle.c104_session.proofs.RoundLeavings.{later_left}
-use Rattle.c104_session.proofs.StillCounts.{none_later}
+use Rattle.{c104_event.specs.declared.{events.Event.Event, faults.EventFault.EventFault}, c104_net.proofs.RecordedRounds.starts_stay}
+use Rattle.c104_net.specs.MeteredRecords.{MeteredRecord, at_meter, record_metered}
+use Rattle.{c104_node.specs.declared.tagged.TaggedToken.TaggedToken, c104_run.{proofs.RoundRuns.run_seen, specs.EventRuns.EventsEnd}}
+use Rattle.c104_run.specs.{EventRuns.{Outcome, run_events}, Meters.Sees, NetRecords.NetRecord, RecordedRuns.record_apply}
+use Rattle.{c104_run.specs.{RoundParts.PartEnds, Rounds.{round, rounds}}, c104_session.proofs.KeptRounds.{Going, fault_ends, goes_on}}
+use Rattle.c104_session.proofs.{KeptRounds.{idle_counts, idle_ends, round_runs}, Leavings.rounds_left, RoundLeavings.later_left}
+use Rattle.c104_session.{proofs.StillCounts.none_later, specs.{Driven.DoesRounds, Keepers.{Keeping, KeepsRound, rounds_kept}}}
+use Rattle.{c104_session.specs.Leavings.LeavesRounds, std.proofs.Common.{Bool, Err, List, Ok, Result, [], ap, append-nil, false, inl, inr}}
+use Rattle.std.proofs.Common.{refl, sym, true, ℕ, ◌+◌, ◌-◌, ◌<◌, ◌∙◌, ◌∷◌, ◌≡◌}
 
 module _ {M : Type 0} (sees : Sees M TaggedToken) (keeps : Keeping M) where
-  same_fault : (f : EventFault) → ◌≡◌ {A = Result (Unit {0}) EventFault} (Err f) (Err fault.NoMemory) → f ≡ fault.NoMemory
+  same_fault : (f : EventFault) → ◌≡◌ {A = Result (Unit {0}) EventFault} (Err f) (Err EventFault.NoMemory) → f ≡ EventFault.NoMemory
   same_fault f is = cc
 
   -- a round that was told of
@@ -35,7 +22,7 @@ module _ {M : Type 0} (sees : Sees M TaggedToken) (keeps : Keeping M) where
     RoundTold result e = PartEnds (record_metered sees) begun (round net.network.plan) result (at_meter after e)
 
     -- it began not, or stopped at a fault, or it is done
-    pub round_unbegun : (d : M) → KeepsRound sees keeps net c (Err fault.NoMemory) net d
+    pub round_unbegun : (d : M) → KeepsRound sees keeps net c (Err EventFault.NoMemory) net d
     round_unbegun d = inr (refl, ([], rounds net.network.plan 1, refl, refl))
 
     front_left : (d : M) (front : List Event) → run_events (record_metered sees) begun front ≡ (Ok tt, at_meter after d)

@@ -1,17 +1,10 @@
 -- Rounds of which something is kept, one by one: what is kept of them, and how the network goes on beside that.
-use Rattle.std.proofs.Common.{◌≡◌, ◌+◌, ◌-◌, ◌<◌, ◌∙◌, ℕ, suc, Bool, true, false, Result, Ok, Err}
-use Rattle.std.proofs.Common.{if◌then◌else◌, ap, arith, inl, refl, sym}
-use Rattle.c104_event.specs.declared.faults.EventFault.{EventFault}
-use Rattle.c104_net.specs.MeteredRecords.{at_meter, record_metered, MeteredRecord}
-use Rattle.c104_node.specs.declared.tagged.TaggedToken.{TaggedToken}
-use Rattle.c104_run.specs.EventRuns.{run_events, EventsEnd, Outcome}
-use Rattle.c104_run.specs.Meters.{Sees}
-use Rattle.c104_run.specs.NetRecords.{NetRecord}
-use Rattle.c104_run.specs.RecordedRuns.{record_apply}
-use Rattle.c104_run.specs.Rounds.{round, rounds}
-use Rattle.c104_run.proofs.RoundRuns.{run_seen}
-use Rattle.c104_run.proofs.RoundsTaken.{round_idle, round_refused, round_taken}
-use Rattle.c104_session.specs.Keepers.{kept_on, round_kept, rounds_kept, Keeping, KeepsRound}
+use Rattle.{c104_event.specs.declared.faults.EventFault.EventFault, c104_net.specs.MeteredRecords.{MeteredRecord, at_meter, record_metered}}
+use Rattle.{c104_node.specs.declared.tagged.TaggedToken.TaggedToken, c104_run.proofs.{RoundRuns.run_seen, RoundsTaken.round_idle}}
+use Rattle.c104_run.{proofs.RoundsTaken.{round_refused, round_taken}, specs.{EventRuns.{EventsEnd, Outcome, run_events}, Meters.Sees}}
+use Rattle.{c104_run.specs.{NetRecords.NetRecord, RecordedRuns.record_apply, Rounds.{round, rounds}}, c104_session.specs.Keepers.Keeping}
+use Rattle.{c104_session.specs.Keepers.{KeepsRound, kept_on, round_kept, rounds_kept}, std.proofs.Common.{Bool, Err, Ok, Result, ap, arith}}
+use Rattle.std.proofs.Common.{false, if◌then◌else◌, inl, refl, suc, sym, true, ℕ, ◌+◌, ◌-◌, ◌<◌, ◌∙◌, ◌≡◌}
 
 module _ {M : Type 0} (sees : Sees M TaggedToken) (keeps : Keeping M) where
   -- the network of a round of which something is kept goes on as by itself

@@ -1,21 +1,12 @@
 -- What is left of a network where there was no memory for what a line asks.
-use Rattle.std.proofs.Common.{◌≡◌, ℕ, ◌&&◌, Bool, true, false, if◌then◌else◌, [], ◌∷◌, Option, Some, None, Result, Ok, Err, OnErr, inl, inr, sym, ap, ◌∙◌, refl, subst}
-use Rattle.std.proofs.lemmas.List.{append-nil}
-use Rattle.c104_token.specs.Kinds.{plain_kind}
-use Rattle.c104_token.specs.declared.tokens.Token.{Token}
-use Rattle.c104_switch.specs.Actions.{Reply}
-use Rattle.c104_event.specs.declared.events.Event.{Event}
-use Rattle.c104_event.specs.declared.faults.EventFault.{EventFault}
-use Rattle.c104_event.specs.declared.faults.EventFault.TheVariants as fault
-use Rattle.c104_run.specs.NetRecords.{NetRecord, is_done}
-use Rattle.c104_run.specs.Network.{Network, event_fault, event_limit, network_apply, network_step, outcome_if_possible, outcome_if_ready, outcome_within_limit}
-use Rattle.c104_run.specs.RecordedRuns.{AnswersRecord, RecordsRounds, record_apply, record_at, record_stage}
-use Rattle.c104_run.specs.Rounds.{rounds}
-use Rattle.c104_run.specs.Stages.{stage_after, stage_full}
-use Rattle.c104_script.specs.declared.faults.LineFault.{LineFault}
-use Rattle.c104_script.specs.declared.places.Request.{Request}
-use Rattle.c104_script.specs.declared.places.Request.TheVariants as ask
-use Rattle.c104_session.specs.Leavings.{LeavesNet, LeavesRead, LeavesRounds}
+use Rattle.{c104_event.specs.declared.{events.Event.Event, faults.EventFault.EventFault}, c104_run.specs.NetRecords.{NetRecord, is_done}}
+use Rattle.c104_run.specs.Network.{Network, event_fault, event_limit, network_apply, network_step, outcome_if_possible, outcome_if_ready}
+use Rattle.c104_run.specs.{Network.outcome_within_limit, RecordedRuns.{AnswersRecord, RecordsRounds, record_apply, record_at, record_stage}}
+use Rattle.{c104_run.specs.{Rounds.rounds, Stages.{stage_after, stage_full}}, c104_script.specs.declared.faults.LineFault.LineFault}
+use Rattle.{c104_script.specs.declared.places.Request.Request, c104_session.specs.Leavings.{LeavesNet, LeavesRead, LeavesRounds}}
+use Rattle.{c104_switch.specs.Actions.Reply, c104_token.specs.{Kinds.plain_kind, declared.tokens.Token.Token}, std.proofs.Common.Bool}
+use Rattle.std.proofs.Common.{Err, None, Ok, OnErr, Option, Result, Some, [], ap, false, if◌then◌else◌, inl, inr, refl, subst, sym, true, ℕ}
+use Rattle.std.proofs.{Common.{◌&&◌, ◌∙◌, ◌∷◌, ◌≡◌}, lemmas.List.append-nil}
 
 abbrev Came : Type 0
 Came = Result Reply EventFault × Network Token
@@ -34,7 +25,7 @@ possible_keeps net event None f is = ready_keeps net event (network_step plain_k
 possible_keeps net event (Some g) f is = refl
 
 -- or since a trace is full
-test_keeps : (test : Bool) (net : Network Token) (due : Came) (f : EventFault) → (due.0 ≡ Err f → due.1 ≡ net) → (if◌then◌else◌ {A = Came} test (Err fault.TraceFull, net) due).0 ≡ Err f → (if◌then◌else◌ {A = Came} test (Err fault.TraceFull, net) due).1 ≡ net
+test_keeps : (test : Bool) (net : Network Token) (due : Came) (f : EventFault) → (due.0 ≡ Err f → due.1 ≡ net) → (if◌then◌else◌ {A = Came} test (Err EventFault.TraceFull, net) due).0 ≡ Err f → (if◌then◌else◌ {A = Came} test (Err EventFault.TraceFull, net) due).1 ≡ net
 test_keeps true net due f keeps is = refl
 test_keeps false net due f keeps is = keeps is
 
@@ -47,7 +38,7 @@ refused_keeps : (net : NetRecord) (event : Event) (f : EventFault) → (record_a
 refused_keeps net event f is =
     let due : Came = network_apply plain_kind net.network event in
     let full : Bool = stage_full true (record_stage net) event && is_done due.0 in
-    let came : Came = if◌then◌else◌ {A = Came} full (Err fault.TraceFull, net.network) due in
+    let came : Came = if◌then◌else◌ {A = Came} full (Err EventFault.TraceFull, net.network) due in
     record_keeps net event came f is (test_keeps full net.network due f (possible_keeps net.network event (event_fault net.network.plan event) f) is)
 
 -- an event that isn't done, for a fault or when out of memory, leaves all as it was
@@ -64,10 +55,10 @@ rounds_left net count result left (inr short) = (short.front, short.event ∷ sh
 
 -- nothing was done
 nothing_asked : (net : NetRecord) (request : Request) → LeavesNet net request net
-nothing_asked net (ask.Asked event) = refl
-nothing_asked net (ask.Rounds count) = ([], rounds net.network.plan count, refl, refl)
-nothing_asked net (ask.Probed it) = tt
-nothing_asked net (ask.Refused kind) = refl
+nothing_asked net (Request.Asked event) = refl
+nothing_asked net (Request.Rounds count) = ([], rounds net.network.plan count, refl, refl)
+nothing_asked net (Request.Probed it) = tt
+nothing_asked net (Request.Refused kind) = refl
 
 pub nothing_left : (net : NetRecord) (due : Result (Option Request) LineFault) → LeavesRead net due net
 nothing_left net (Ok None) = refl

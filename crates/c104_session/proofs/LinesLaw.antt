@@ -1,14 +1,11 @@
 -- What the lines of a script are, whatever way they are computed.
-use Rattle.std.proofs.Common.{◌≡◌, ◌⊎◌, ◌+◌, ◌-◌, ◌<◌, ◌≤◌, ◌==◌, ◌&&◌, ℕ, zero, suc, true, false, List, [], ◌∷◌, ◌++◌, length, take, refl, sym, ap, ◌∙◌, subst, if◌then◌else◌, inl, inr, arith}
-use Rattle.std.specs.List.{list_all}
-use Rattle.std.proofs.lemmas.Bool.{cases_lt}
-use Rattle.std.proofs.lemmas.List.{append-nil, length-append}
-use Rattle.std.proofs.Math.Seq.{take-append_seam}
+use Rattle.c104_script.{proofs.PartsLaw.{both_are, by_test, first_is, is_feed, line_on}, specs.TextLines.{AreLinesOf, ended, is_line}}
+use Rattle.{c104_script.specs.TextLines.joined, c104_session.specs.Lines.{AreFirstLines, AreOnlyLines, AreScriptLines}}
+use Rattle.{c104_stream.specs.ScriptLines.{lines_within, most_script, script_lines}, std.proofs.Common.{List, [], ap, arith, false}}
+use Rattle.std.proofs.Common.{if◌then◌else◌, inl, inr, length, refl, subst, suc, sym, take, true, zero, ℕ, ◌&&◌, ◌++◌, ◌+◌, ◌-◌, ◌<◌, ◌==◌}
+use Rattle.std.proofs.{Common.{◌∙◌, ◌∷◌, ◌≡◌, ◌≤◌, ◌⊎◌}, Math.Seq.take-append_seam, lemmas.{Bool.cases_lt, List.append-nil}}
+use Rattle.std.{proofs.lemmas.List.length-append, specs.List.list_all}
 use mathlib.Core.List.{append_assoc}
-use Rattle.c104_script.specs.TextLines.{is_line, ended, joined, AreLinesOf}
-use Rattle.c104_script.proofs.PartsLaw.{both_are, by_test, first_is, is_feed, line_on}
-use Rattle.c104_stream.specs.ScriptLines.{lines_within, script_lines, most_script}
-use Rattle.c104_session.specs.Lines.{AreFirstLines, AreScriptLines, AreOnlyLines}
 
 -- one line before these
 line_before : (line text : List ℕ) (lines : List (List ℕ)) → is_line line ≡ true → AreLinesOf text lines → AreLinesOf (line ++ 10 ∷ text) (line ∷ lines)

@@ -1,22 +1,12 @@
 -- The lines of what a terminal received, packet by packet, with the origins of what arrived at their side.
-use Rattle.c104_plan.specs.Plans.{Plan}
-use Rattle.c104_net.proofs.OriginPieces.{one_origin, piece_origins}
-use Rattle.c104_node.specs.Origins.{AreSure, origins_in}
-use Rattle.c104_node.specs.declared.origins.Origin.{Origin}
-use Rattle.c104_node.specs.declared.traced.Traced.{Traced}
-use Rattle.c104_session.specs.Shown.{packet_line, packets_text, received_text}
-use Rattle.c104_token.specs.Cut.{whole_pieces}
-use Rattle.c104_token.specs.Packets.{packet_tokens}
-use Rattle.c104_token.specs.Tokens.{is_end}
-use Rattle.c104_token.specs.declared.packets.Packet.{Packet}
-use Rattle.c104_token.specs.declared.tokens.Token.{Token}
-use Rattle.std.proofs.Common.{Bool, Bor, IfSome, List, MatchOption, None, Option, Some, [], ap, append-nil, append_assoc, arith, drop, false, flat_map, get_or, if◌then◌else◌, length, map, refl, slice_get, subst, suc, sym, true, zero, ℕ, ◌++◌, ◌+◌, ◌<◌, ◌∙◌, ◌∷◌, ◌≡◌, ◌≤◌}
-use Rattle.std.proofs.lemmas.List.{map-append}
-use Rattle.std.proofs.Math.Seq.{drop-cons}
-use Rattle.std.proofs.lemmas.Option.{slice_get_past, slice_get_read}
-use Rattle.std.specs.List.{HoldsAt}
-use Rattle.std.specs.Option.{option_copied}
-use Rattle.std.specs.Prelude.{option_to_list}
+use Rattle.{c104_net.proofs.OriginPieces.{one_origin, piece_origins}, c104_node.specs.Origins.{AreSure, origins_in}}
+use Rattle.{c104_node.specs.declared.{origins.Origin.Origin, traced.Traced.Traced}, c104_plan.specs.Plans.Plan}
+use Rattle.{c104_session.specs.Shown.{packet_line, packets_text, received_text}, c104_token.specs.{Cut.whole_pieces, Packets.packet_tokens}}
+use Rattle.{c104_token.specs.{Tokens.is_end, declared.{packets.Packet.Packet, tokens.Token.Token}}, std.proofs.Common.{Bool, Bor, IfSome}}
+use Rattle.std.proofs.Common.{List, MatchOption, None, Option, Some, [], ap, append-nil, append_assoc, arith, drop, false, flat_map, get_or}
+use Rattle.std.proofs.Common.{if◌then◌else◌, length, map, refl, slice_get, subst, suc, sym, true, zero, ℕ, ◌++◌, ◌+◌, ◌<◌, ◌∙◌, ◌∷◌, ◌≡◌}
+use Rattle.std.proofs.{Common.◌≤◌, Math.Seq.drop-cons, lemmas.{List.map-append, Option.{slice_get_past, slice_get_read}}}
+use Rattle.std.specs.{List.HoldsAt, Option.option_copied, Prelude.option_to_list}
 
 -- the token alone
 abbrev pub token_of : Traced → Token

@@ -1,38 +1,18 @@
 -- A network that is placed starts a run: nobody changed it, and nothing was sent.
-use Rattle.std.proofs.Common.{◌≡◌, ◌∙◌, ◌++◌, ◌≤◌, ℕ, suc, zero, All, IsTrue, true, List, [], ◌∷◌, Option, Some, None, length, map, refl, replicate, slice_get, sym, ap, subst, arith}
-use Rattle.std.proofs.lemmas.Bool.Decides.{nat_tests}
-use Rattle.std.proofs.lemmas.List.{length-replicate, map-append}
-use Rattle.std.proofs.lemmas.List.Elements.{All-head, All-replicate, All-tail}
-use Rattle.std.proofs.lemmas.Option.{slice_get-map}
-use Rattle.std.specs.Option.{option_map}
-use Rattle.c104_token.specs.declared.tokens.Token.{Token}
-use Rattle.c104_link.specs.Buffers.{Outgoing, empty_outgoing}
-use Rattle.c104_link.proofs.MadeSteps.{All-place}
-use Rattle.c104_regs.specs.declared.registers.TheConstants.{LINKS}
-use Rattle.c104_regs.specs.declared.settings.Settings.{Settings}
-use Rattle.c104_switch.specs.Starts.{SwitchStart, link_start, link_starts, start_input, start_output}
-use Rattle.c104_switch.specs.Switch.{Input, new_input, new_switch_with}
-use Rattle.c104_check.specs.Routes.{Routes, settings_in}
-use Rattle.c104_plan.specs.PlanImage.{Fits, Image}
-use Rattle.c104_plan.specs.Plans.{IsPlan, Plan, is_buffer_size}
-use Rattle.c104_plan.specs.declared.plans.Terminal.{Terminal}
-use Rattle.c104_node.specs.Nodes.{Node}
-use Rattle.c104_node.specs.Starts.{start_node, start_of}
-use Rattle.c104_node.specs.Traces.{part}
-use Rattle.c104_node.specs.declared.acts.Entry.{Entry}
-use Rattle.c104_node.specs.declared.node.NodeOf.TheVariants as node
-use Rattle.c104_node.specs.declared.starts.NodeStart.{NodeStart}
-use Rattle.c104_node.specs.declared.starts.NodeStart.TheVariants as start
-use Rattle.c104_run.specs.Balance.{IsSteady}
-use Rattle.c104_run.specs.NetRecords.{IsNetRecord, fresh_record}
-use Rattle.c104_run.specs.Network.{Network, network_of, placed_network, switch_nodes, terminal_nodes, terminal_place}
-use Rattle.c104_run.specs.Standstill.{IsStarted, IsStartedNode, IsStartedSwitch}
-use Rattle.c104_node.specs.Terminals.{new_terminal}
-use Rattle.c104_run.proofs.BalancePlaced.{steady_made}
-use Rattle.c104_run.proofs.FreshRecords.{fresh_kept}
-use Rattle.c104_net.specs.Deliveries.{sent_packets}
-use Rattle.c104_net.specs.Unchanged.{AreStartsOf}
-use Rattle.c104_session.proofs.UnchangedNets.{Fact, IsUnchangedNet}
+use Rattle.{c104_check.specs.Routes.{Routes, settings_in}, c104_link.{proofs.MadeSteps.All-place, specs.Buffers.{Outgoing, empty_outgoing}}}
+use Rattle.{c104_net.specs.{Deliveries.sent_packets, Unchanged.AreStartsOf}, c104_node.specs.{Nodes.Node, Starts.{start_node, start_of}}}
+use Rattle.c104_node.specs.{Terminals.new_terminal, Traces.part, declared.{acts.Entry.Entry, node.NodeOf.NodeOf}}
+use Rattle.{c104_node.specs.declared.starts.NodeStart.NodeStart, c104_plan.specs.{PlanImage.{Fits, Image}, Plans.{IsPlan, Plan}}}
+use Rattle.{c104_plan.specs.{Plans.is_buffer_size, declared.plans.Terminal.Terminal}, c104_regs.specs.declared.registers.TheConstants.LINKS}
+use Rattle.{c104_regs.specs.declared.settings.Settings.Settings, c104_run.proofs.{BalancePlaced.steady_made, FreshRecords.fresh_kept}}
+use Rattle.c104_run.specs.{Balance.IsSteady, NetRecords.{IsNetRecord, fresh_record}, Network.{Network, network_of, placed_network}}
+use Rattle.c104_run.specs.{Network.{switch_nodes, terminal_nodes, terminal_place}, Standstill.{IsStarted, IsStartedNode, IsStartedSwitch}}
+use Rattle.{c104_session.proofs.UnchangedNets.{Fact, IsUnchangedNet}, c104_switch.specs.Starts.{SwitchStart, link_start, link_starts}}
+use Rattle.c104_switch.specs.{Starts.{start_input, start_output}, Switch.{Input, new_input, new_switch_with}}
+use Rattle.{c104_token.specs.declared.tokens.Token.Token, std.proofs.Common.{All, IsTrue, List, None, Option, Some, [], ap, arith, length}}
+use Rattle.std.proofs.Common.{map, refl, replicate, slice_get, subst, suc, sym, true, zero, ℕ, ◌++◌, ◌∙◌, ◌∷◌, ◌≡◌, ◌≤◌}
+use Rattle.std.proofs.lemmas.{Bool.Decides.nat_tests, List.{Elements.{All-head, All-replicate, All-tail}, length-replicate, map-append}}
+use Rattle.std.{proofs.lemmas.Option.slice_get-map, specs.Option.option_map}
 
 -- a new switch stands at its start
 inputs_back : (n : ℕ) (p : Input Token) (q : Outgoing Token) → start_input (link_start p q) ≡ p → map start_input (link_starts (replicate n p) (replicate n q)) ≡ replicate n p
@@ -45,14 +25,14 @@ outputs_back (suc n) p q is = ap (λ x. x ∷ map start_output (link_starts (rep
 
 switches_back : (cap : ℕ) (all : List (List Settings)) → map (start_node {A = Token}) (map start_of (switch_nodes {A = Token} cap all)) ≡ switch_nodes cap all
 switches_back cap [] = refl
-switches_back cap (x ∷ all) = ap (λ n. n ∷ map (start_node {A = Token}) (map start_of (switch_nodes {A = Token} cap all))) one ∙ ap (λ ns. node.Switch (new_switch_with cap x true) ∷ ns) (switches_back cap all)
+switches_back cap (x ∷ all) = ap (λ n. n ∷ map (start_node {A = Token}) (map start_of (switch_nodes {A = Token} cap all))) one ∙ ap (λ ns. NodeOf.Switch (new_switch_with cap x true) ∷ ns) (switches_back cap all)
   where
-    one : start_node {A = Token} (start_of {A = Token} (node.Switch (new_switch_with cap x true))) ≡ node.Switch (new_switch_with cap x true)
+    one : start_node {A = Token} (start_of {A = Token} (NodeOf.Switch (new_switch_with cap x true))) ≡ NodeOf.Switch (new_switch_with cap x true)
     one = refl
 
 terminals_back : (cap : ℕ) (terminals : List Terminal) → map (start_node {A = Token}) (map start_of (terminal_nodes {A = Token} cap terminals)) ≡ terminal_nodes cap terminals
 terminals_back cap [] = refl
-terminals_back cap (t ∷ terminals) = ap (λ ns. node.Terminal (new_terminal cap) ∷ ns) (terminals_back cap terminals)
+terminals_back cap (t ∷ terminals) = ap (λ ns. NodeOf.Terminal (new_terminal cap) ∷ ns) (terminals_back cap terminals)
 
 -- no terminal has sent anything
 none_at : (nodes : List (Node Token)) → ((n : Node Token) (k : ℕ) → slice_get nodes k ≡ Some n → sent_packets n ≡ []) → (k : ℕ) → part [] sent_packets (slice_get nodes k) ≡ []
@@ -64,20 +44,20 @@ none_at nodes none k = by_node (slice_get nodes k) refl
 
 terminals_none : (cap : ℕ) (terminals : List Terminal) (n : Node Token) (k : ℕ) → slice_get (terminal_nodes cap terminals) k ≡ Some n → sent_packets n ≡ []
 terminals_none cap [] n k is = cc
-terminals_none cap (t ∷ terminals) n zero is = let same : node.Terminal (new_terminal cap) ≡ n = cc in sym (ap sent_packets same)
+terminals_none cap (t ∷ terminals) n zero is = let same : NodeOf.Terminal (new_terminal cap) ≡ n = cc in sym (ap sent_packets same)
 terminals_none cap (t ∷ terminals) n (suc k) is = terminals_none cap terminals n k is
 
 all_none : (cap : ℕ) (all : List (List Settings)) (terminals : List Terminal) (n : Node Token) (k : ℕ) → slice_get (switch_nodes cap all ++ terminal_nodes cap terminals) k ≡ Some n → sent_packets n ≡ []
 all_none cap [] terminals n k is = terminals_none cap terminals n k is
-all_none cap (x ∷ all) terminals n zero is = let same : node.Switch (new_switch_with cap x true) ≡ n = cc in sym (ap sent_packets same)
+all_none cap (x ∷ all) terminals n zero is = let same : NodeOf.Switch (new_switch_with cap x true) ≡ n = cc in sym (ap sent_packets same)
 all_none cap (x ∷ all) terminals n (suc k) is = all_none cap all terminals n k is
 
-no_switch : (cap : ℕ) (terminals : List Terminal) (k : ℕ) (s : SwitchStart) → slice_get (map (start_of {A = Token}) (terminal_nodes cap terminals)) k ≡ Some (start.Switch s) → ⊥
+no_switch : (cap : ℕ) (terminals : List Terminal) (k : ℕ) (s : SwitchStart) → slice_get (map (start_of {A = Token}) (terminal_nodes cap terminals)) k ≡ Some (NodeStart.Switch s) → ⊥
 no_switch cap [] k s is = cc
 no_switch cap (t ∷ terminals) zero s is = cc
 no_switch cap (t ∷ terminals) (suc k) s is = no_switch cap terminals k s is
 
-set_first : (cap : ℕ) (all : List (List Settings)) (terminals : List Terminal) (k : ℕ) (s : SwitchStart) → slice_get (map (start_of {A = Token}) (switch_nodes cap all ++ terminal_nodes cap terminals)) k ≡ Some (start.Switch s) → s.settings ≡ settings_in all k
+set_first : (cap : ℕ) (all : List (List Settings)) (terminals : List Terminal) (k : ℕ) (s : SwitchStart) → slice_get (map (start_of {A = Token}) (switch_nodes cap all ++ terminal_nodes cap terminals)) k ≡ Some (NodeStart.Switch s) → s.settings ≡ settings_in all k
 set_first cap [] terminals k s is = absurd (no_switch cap terminals k s is)
 set_first cap (x ∷ all) terminals zero s is = cc
 set_first cap (x ∷ all) terminals (suc k) s is = set_first cap all terminals k s is
@@ -100,12 +80,12 @@ switch_started cap room x sized = record {
 
 terminals_started : (cap : ℕ) → 8 ≤ cap → (terminals : List Terminal) (n : Node Token) (k : ℕ) → slice_get (terminal_nodes cap terminals) k ≡ Some n → IsStartedNode n
 terminals_started cap room [] n k is = absurd (cc)
-terminals_started cap room (t ∷ terminals) n zero is = let same : node.Terminal (new_terminal cap) ≡ n = cc in subst IsStartedNode same room
+terminals_started cap room (t ∷ terminals) n zero is = let same : NodeOf.Terminal (new_terminal cap) ≡ n = cc in subst IsStartedNode same room
 terminals_started cap room (t ∷ terminals) n (suc k) is = terminals_started cap room terminals n k is
 
 all_started : (cap : ℕ) → 8 ≤ cap → (all : List (List Settings)) (terminals : List Terminal) → All IsOfLinks all → (n : Node Token) (k : ℕ) → slice_get (switch_nodes cap all ++ terminal_nodes cap terminals) k ≡ Some n → IsStartedNode n
 all_started cap room [] terminals sized n k is = terminals_started cap room terminals n k is
-all_started cap room (x ∷ all) terminals sized n zero is = let same : node.Switch (new_switch_with cap x true) ≡ n = cc in subst IsStartedNode same (switch_started cap room x (All-head IsOfLinks x all sized))
+all_started cap room (x ∷ all) terminals sized n zero is = let same : NodeOf.Switch (new_switch_with cap x true) ≡ n = cc in subst IsStartedNode same (switch_started cap room x (All-head IsOfLinks x all sized))
 all_started cap room (x ∷ all) terminals sized n (suc k) is = all_started cap room all terminals (All-tail IsOfLinks x all sized) n k is
 
 module _ (plan : Plan) (image : Image) (is_plan : IsPlan plan) (fits : Fits image plan) where

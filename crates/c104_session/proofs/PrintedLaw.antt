@@ -1,42 +1,20 @@
 -- What a run prints of packets: the theorem about packets, joined with the text of the summary.
-use Rattle.std.proofs.Common.{◌≡◌, ◌∙◌, ◌++◌, ℕ, suc, zero, List, [], ◌∷◌, Option, Some, None, drop, flat_map, map, option_map, refl, slice_get, sym, ap, subst}
-use Rattle.std.proofs.lemmas.Option.{slice_get-map}
-use Rattle.c104_token.specs.Packets.{packet_tokens}
-use Rattle.c104_token.specs.declared.packets.Packet.{Packet}
-use Rattle.c104_token.specs.declared.tokens.Token.{Token}
-use Rattle.c104_check.specs.Routes.{Routes, routes_of}
-use Rattle.c104_plan.specs.PlanImage.{Fits, Image}
-use Rattle.c104_plan.specs.Plans.{IsPlan, Plan}
-use Rattle.c104_plan.specs.declared.plans.Terminal.{Terminal}
-use Rattle.c104_plan.specs.declared.ports.Port.TheVariants as port
-use Rattle.c104_node.specs.Nodes.{Node}
-use Rattle.c104_node.specs.Origins.{origins_in}
-use Rattle.c104_node.specs.Starts.{start_node}
-use Rattle.c104_node.specs.Terminals.{sent_from, sent_tokens}
-use Rattle.c104_node.specs.Traced.{traced_kind}
-use Rattle.c104_node.specs.Traces.{part, seatless}
-use Rattle.c104_node.specs.declared.origins.Origin.{Origin}
-use Rattle.c104_node.specs.declared.traced.Traced.{Traced}
-use Rattle.c104_run.specs.FinishedRecords.{record_finish}
-use Rattle.c104_run.specs.NetRecords.{NetRecord}
-use Rattle.c104_run.specs.Network.{Network, network_of}
-use Rattle.c104_run.specs.QuietNets.{IsQuiet}
-use Rattle.c104_run.specs.Runs.{IsDoneRun}
-use Rattle.c104_node.specs.MappedNodes.{map_node}
-use Rattle.c104_net.specs.Deliveries.{IsDelivered, Promise, cut_at, received, sent_at}
-use Rattle.c104_net.specs.TracedEnds.{traced_end}
-use Rattle.c104_net.proofs.NamedOrigins.{quiet_traced, sent_plain}
-use Rattle.c104_net.proofs.OriginPieces.{delivered_origin, packet_origin}
-use Rattle.c104_net.proofs.Promises.{headline}
-use Rattle.c104_net.proofs.RunOrigins.{IsKeptRun, ends_traced, traced}
-use Rattle.c104_net.proofs.StartMaps.{starts_are}
-use Rattle.c104_stream.specs.ScriptLines.{script_lines}
-use Rattle.c104_stream.specs.Scripts.{script_outcome}
-use Rattle.c104_session.specs.PrintedPackets.{IsSentTo, IsUnchangedRun, PrintsPackets, origin_line, origins_text, packets_of, script_end, script_sent, sent_line}
+use Rattle.{c104_check.specs.Routes.{Routes, routes_of}, c104_net.proofs.NamedOrigins.{quiet_traced, sent_plain}}
+use Rattle.c104_net.proofs.{OriginPieces.{delivered_origin, packet_origin}, Promises.headline, RunOrigins.{IsKeptRun, ends_traced, traced}}
+use Rattle.c104_net.{proofs.StartMaps.starts_are, specs.Deliveries.{IsDelivered, Promise, cut_at, received, sent_at}}
+use Rattle.{c104_net.specs.TracedEnds.traced_end, c104_node.specs.{MappedNodes.map_node, Nodes.Node, Origins.origins_in, Starts.start_node}}
+use Rattle.c104_node.specs.{Terminals.{sent_from, sent_tokens}, Traced.traced_kind, Traces.{part, seatless}, declared.origins.Origin.Origin}
+use Rattle.{c104_node.specs.declared.traced.Traced.Traced, c104_plan.specs.{PlanImage.{Fits, Image}, Plans.{IsPlan, Plan}}}
+use Rattle.{c104_plan.specs.declared.{plans.Terminal.Terminal, ports.Port.Port}, c104_run.specs.FinishedRecords.record_finish}
+use Rattle.c104_run.specs.{NetRecords.NetRecord, Network.{Network, network_of}, QuietNets.IsQuiet, Runs.IsDoneRun}
+use Rattle.c104_session.proofs.{PlacedNets.{placed_set, placed_starts, placed_unchanged}, UnchangedNets.{IsUnchangedNet, keeps_nothing}}
+use Rattle.c104_session.{proofs.{UnchangedNets.nothing, UnchangedScripts.lines_leave}, specs.PrintedPackets.{IsSentTo, IsUnchangedRun}}
+use Rattle.c104_session.specs.PrintedPackets.{PrintsPackets, origin_line, origins_text, packets_of, script_end, script_sent, sent_line}
 use Rattle.c104_session.specs.Shown.{line_outcome, new_session, output_with_summary, packet_line, received_text, summary, terminals_text}
-use Rattle.c104_session.proofs.PlacedNets.{placed_set, placed_starts, placed_unchanged}
-use Rattle.c104_session.proofs.UnchangedNets.{IsUnchangedNet, keeps_nothing, nothing}
-use Rattle.c104_session.proofs.UnchangedScripts.{lines_leave}
+use Rattle.{c104_stream.specs.{ScriptLines.script_lines, Scripts.script_outcome}, c104_token.specs.Packets.packet_tokens}
+use Rattle.{c104_token.specs.declared.{packets.Packet.Packet, tokens.Token.Token}, std.proofs.Common.{List, None, Option, Some, [], ap}}
+use Rattle.std.proofs.Common.{drop, flat_map, map, option_map, refl, slice_get, subst, suc, sym, zero, ℕ, ◌++◌, ◌∙◌, ◌∷◌, ◌≡◌}
+use Rattle.std.proofs.lemmas.Option.{slice_get-map}
 
 abbrev token_of : Traced → Token
 token_of x = x.token
@@ -70,9 +48,9 @@ module _ (routes : Routes) (net : Network Traced) (sends : List (ℕ × Packet))
   -- so its line is that of the packet
   one_line : (plan : Plan) (name : List ℕ) (t : ℕ) (piece : List Traced) (d : IsDelivered routes net t piece) → received_text plan name piece ≡ origin_line plan routes sends t name (piece_origin piece)
   one_line plan name t piece d =
-      let tokens : map token_of piece ≡ drop (cut_at routes (routes.peer (port.Terminal t))) (packet_tokens d.packet) =
-      ap (map token_of) d.whole ∙ map_drop token_of (cut_at routes (routes.peer (port.Terminal t))) (sent_tokens traced_kind d.terminal d.number d.packet)
-      ∙ ap (drop (cut_at routes (routes.peer (port.Terminal t)))) (own_tokens d.terminal d.number 0 (packet_tokens d.packet)) in
+      let tokens : map token_of piece ≡ drop (cut_at routes (routes.peer (Port.Terminal t))) (packet_tokens d.packet) =
+      ap (map token_of) d.whole ∙ map_drop token_of (cut_at routes (routes.peer (Port.Terminal t))) (sent_tokens traced_kind d.terminal d.number d.packet)
+      ∙ ap (drop (cut_at routes (routes.peer (Port.Terminal t)))) (own_tokens d.terminal d.number 0 (packet_tokens d.packet)) in
       ap (λ (os : List Origin). packet_line plan name (map token_of piece) os) (delivered_origin routes net t piece d)
       ∙ ap (λ (ts : List Token). packet_line plan name ts (packet_origin d.terminal d.number ∷ [])) tokens
       ∙ ap (part [] (sent_line plan routes t name (packet_origin d.terminal d.number))) (sym (was_sent t piece d))

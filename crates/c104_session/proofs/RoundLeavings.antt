@@ -1,14 +1,8 @@
 -- What is left of rounds that are done one by one, where one of them stopped after some of its events.
-use Rattle.std.proofs.Common.{◌≡◌, ◌+◌, ◌-◌, ◌<◌, ◌∙◌, ℕ, List, ◌++◌, Ok, append_assoc, ap, arith, sym}
-use Rattle.c104_event.specs.declared.events.Event.{Event}
-use Rattle.c104_plan.specs.Plans.{Plan}
-use Rattle.c104_run.specs.EventRuns.{run_events, Outcome}
-use Rattle.c104_run.specs.NetRecords.{NetRecord}
-use Rattle.c104_run.specs.RecordedRuns.{record_apply}
-use Rattle.c104_run.specs.Rounds.{rounds}
-use Rattle.c104_run.proofs.RoundRuns.{run_from}
-use Rattle.c104_run.proofs.RoundsTaken.{rounds_parts}
-use Rattle.c104_session.specs.Leavings.{LeavesRounds}
+use Rattle.{c104_event.specs.declared.events.Event.Event, c104_plan.specs.Plans.Plan, c104_run.proofs.RoundRuns.run_from}
+use Rattle.c104_run.{proofs.RoundsTaken.rounds_parts, specs.{EventRuns.{Outcome, run_events}, NetRecords.NetRecord}}
+use Rattle.{c104_run.specs.{RecordedRuns.record_apply, Rounds.rounds}, c104_session.specs.Leavings.LeavesRounds, std.proofs.Common.List}
+use Rattle.std.proofs.Common.{Ok, ap, append_assoc, arith, sym, ℕ, ◌++◌, ◌+◌, ◌-◌, ◌<◌, ◌∙◌, ◌≡◌}
 
 -- i rounds, the next one, and those after it
 rounds_around : (plan : Plan) (i n : ℕ) → i < n → rounds plan n ≡ rounds plan i ++ (rounds plan 1 ++ rounds plan (n - (i + 1)))

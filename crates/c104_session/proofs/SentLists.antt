@@ -1,32 +1,21 @@
 -- What each terminal has sent: a Send that is done adds its packet there, and nothing else changes it.
-use Rattle.std.proofs.Common.{◌≡◌, ◌∙◌, ◌++◌, ℕ, suc, zero, Bool, true, false, List, [], ◌∷◌, Option, Some, None, append-nil, if◌then◌else◌, map, nat_eq, option_map, slice_get, slice_set, refl, sym, ap, subst, arith}
-use Rattle.std.proofs.lemmas.Bool.Decides.{nat_tests}
-use Rattle.std.proofs.lemmas.List.{map-set}
-use Rattle.std.proofs.lemmas.Option.{slice_get-map}
-use Rattle.c104_token.specs.declared.packets.Packet.{Packet}
-use Rattle.c104_token.specs.Kinds.{Kind}
+use Rattle.{c104_event.specs.declared.events.Event.Event, c104_link.proofs.MadeSteps.{at_place_made, from_place_made, given}}
+use Rattle.{c104_link.specs.Steps.{step_at, yield_step_at, ◌>>=◌}, c104_net.proofs.JointKeeps.{IsOfRound, round_keeps}}
+use Rattle.{c104_net.specs.Deliveries.{sent_at, sent_packets}, c104_node.{proofs.WireEnds.{get_set_other, get_set_same}, specs.Nodes.Node}}
+use Rattle.c104_node.specs.Nodes.{as_terminal, node_claim, node_control, node_credit_in, node_credit_out, node_drain, node_enter}
+use Rattle.c104_node.specs.{Nodes.{node_input, node_leave, node_send}, Traces.part, declared.node.NodeOf.TheVariants.{Switch, Terminal}}
+use Rattle.{c104_plan.specs.Plans.Plan, c104_run.{proofs.EventSteps.{control_named, send_named}, specs.Network.{Network, network_of}}}
+use Rattle.{c104_run.specs.Network.{network_step, terminal_place}, c104_session.specs.PrintedPackets.{event_sends, packets_of}}
+use Rattle.{c104_switch.specs.{Actions.Reply, declared.actions.ReplyOf.ReplyOf}, c104_token.specs.Kinds.Kind}
+use Rattle.{c104_token.specs.declared.packets.Packet.Packet, std.proofs.Common.{Bool, List, None, Option, Some, [], ap, append-nil, arith}}
+use Rattle.std.proofs.Common.{false, if◌then◌else◌, map, nat_eq, option_map, refl, slice_get, slice_set, subst, suc, sym, true, zero, ℕ}
+use Rattle.std.proofs.{Common.{◌++◌, ◌∙◌, ◌∷◌, ◌≡◌}, lemmas.{Bool.Decides.nat_tests, List.map-set, Option.slice_get-map}}
 use Rattle.c104_link.specs.Buffers as buffer
-use Rattle.c104_link.specs.Steps.{step_at, yield_step_at, ◌>>=◌}
-use Rattle.c104_link.proofs.MadeSteps.{given, at_place_made, from_place_made}
-use Rattle.c104_switch.specs.Actions.{Reply}
-use Rattle.c104_switch.specs.declared.actions.ReplyOf.TheVariants as reply
-use Rattle.c104_switch.specs.Switch as switch
-use Rattle.c104_switch.specs.Turns as turns
+use Rattle.c104_node.specs.Terminals as terminal
 use Rattle.c104_switch.specs.Claims as claims
 use Rattle.c104_switch.specs.Control as controls
-use Rattle.c104_plan.specs.Plans.{Plan}
-use Rattle.c104_event.specs.declared.events.Event.{Event}
-use Rattle.c104_event.specs.declared.events.Event.TheVariants as event
-use Rattle.c104_node.specs.declared.node.NodeOf.TheVariants.{Switch, Terminal}
-use Rattle.c104_run.specs.Network.{Network, network_of, network_step, terminal_place}
-use Rattle.c104_node.specs.Nodes.{Node, as_terminal, node_claim, node_control, node_credit_in, node_credit_out, node_drain, node_enter, node_input, node_leave, node_send}
-use Rattle.c104_node.specs.Terminals as terminal
-use Rattle.c104_node.specs.Traces.{part}
-use Rattle.c104_node.proofs.WireEnds.{get_set_other, get_set_same}
-use Rattle.c104_run.proofs.EventSteps.{control_named, send_named}
-use Rattle.c104_net.proofs.JointKeeps.{IsOfRound, round_keeps}
-use Rattle.c104_net.specs.Deliveries.{sent_at, sent_packets}
-use Rattle.c104_session.specs.PrintedPackets.{event_sends, packets_of}
+use Rattle.c104_switch.specs.Switch as switch
+use Rattle.c104_switch.specs.Turns as turns
 
 -- a list of a list of lists, or none
 abbrev list_at : List (List Packet) → ℕ → List Packet
@@ -108,7 +97,7 @@ module _ {A : Type 0} where
 
 -- what an event does to the lists
 abbrev AddsSent : Plan → Event → List (List Packet) → List (List Packet) → Type 0
-AddsSent plan (event.Send t packet) before after = (sent : List Packet) × (slice_get before (terminal_place plan t) ≡ Some sent) × (after ≡ slice_set before (terminal_place plan t) (sent ++ packet ∷ []))
+AddsSent plan (Event.Send t packet) before after = (sent : List Packet) × (slice_get before (terminal_place plan t) ≡ Some sent) × (after ≡ slice_set before (terminal_place plan t) (sent ++ packet ∷ []))
 AddsSent plan e before after = after ≡ before
 
 module _ {A : Type 0} (kind : Kind A) (plan : Plan) (nodes : List (Node A)) where
@@ -123,10 +112,10 @@ module _ {A : Type 0} (kind : Kind A) (plan : Plan) (nodes : List (Node A)) wher
       (λ ns. sents ns ≡ sents nodes) (λ ns k n m here keeps same. set_sents ns k n m here keeps ∙ same) plan nodes e of r is refl
 
   step_sents : (e : Event) (r : Reply × Network A) → network_step kind (network_of plan nodes) e ≡ Some r → AddsSent plan e (sents nodes) (sents r.1.nodes)
-  step_sents (event.Control s bytes) r is = given (yield_step_at nodes s (node_control bytes)) _ r (control_named kind (network_of plan nodes) s bytes ∙ is) (λ v made last.
-      by_last (reply.Control v.0) v.1 r (λ cs. cs ≡ sents nodes) last (yield_kept nodes s (node_control bytes) v made (control_keeps bytes)))
-  step_sents (event.Send t packet) r is = given (step_at nodes (terminal_place plan t) (node_send kind t packet)) _ r (send_named kind (network_of plan nodes) t packet ∙ is) (λ v made last.
-      by_last reply.Done v r (λ cs. AddsSent plan (event.Send t packet) (sents nodes) cs) last (at_place_made nodes (terminal_place plan t) (node_send kind t packet) v made (λ n m here step set. (
+  step_sents (Event.Control s bytes) r is = given (yield_step_at nodes s (node_control bytes)) _ r (control_named kind (network_of plan nodes) s bytes ∙ is) (λ v made last.
+      by_last (ReplyOf.Control v.0) v.1 r (λ cs. cs ≡ sents nodes) last (yield_kept nodes s (node_control bytes) v made (control_keeps bytes)))
+  step_sents (Event.Send t packet) r is = given (step_at nodes (terminal_place plan t) (node_send kind t packet)) _ r (send_named kind (network_of plan nodes) t packet ∙ is) (λ v made last.
+      by_last ReplyOf.Done v r (λ cs. AddsSent plan (Event.Send t packet) (sents nodes) cs) last (at_place_made nodes (terminal_place plan t) (node_send kind t packet) v made (λ n m here step set. (
         sent_packets n,
         slice_get-map sent_packets nodes (terminal_place plan t) ∙ ap (option_map sent_packets) here,
         ap sents (sym set) ∙ set_there (terminal_place plan t) m ∙ ap (slice_set (sents nodes) (terminal_place plan t)) (send_adds kind t packet n m step),
@@ -138,7 +127,7 @@ module _ {A : Type 0} (kind : Kind A) (plan : Plan) (nodes : List (Node A)) wher
 
 -- the list of each terminal after an event
 adds_at : (plan : Plan) (e : Event) (before after : List (List Packet)) (t : ℕ) → AddsSent plan e before after → list_at after (terminal_place plan t) ≡ list_at before (terminal_place plan t) ++ packets_of t (event_sends e)
-adds_at plan (event.Send a p) before after t adds = by_test (nat_eq a t) refl
+adds_at plan (Event.Send a p) before after t adds = by_test (nat_eq a t) refl
   where
     by_test : (b : Bool) → nat_eq a t ≡ b → list_at after (terminal_place plan t) ≡ list_at before (terminal_place plan t) ++ (if b then p ∷ [] else [])
     by_test true is =

@@ -1,18 +1,10 @@
 -- A new network into which an image was loaded begins a run as the network that is placed with the image.
-use Rattle.std.proofs.Common.{◌≡◌, ◌↔◌, Bool, IsTrue, Some, Result, Ok, Err, MatchResult, length, sym, subst}
-use Rattle.c104_plan.specs.PlanImage.{Fits, Image}
-use Rattle.c104_plan.specs.Plans.{IsPlan, Plan}
-use Rattle.c104_event.specs.declared.faults.EventFault.TheVariants as event_fault
-use Rattle.c104_run.specs.NetRecords.{IsNetRecord, NetRecord, fresh_record, record_begun_if}
-use Rattle.c104_run.specs.Network.{new_network, placed_network}
-use Rattle.c104_run.specs.QuietNets.{IsQuiet}
-use Rattle.c104_tools.proofs.FreshLoads.{fresh_load}
-use Rattle.c104_tools.proofs.NetLoads.{begun_so}
-use Rattle.c104_tools.specs.declared.faults.LoadFault.{LoadFault}
-use Rattle.c104_tools.specs.declared.faults.LoadFault.TheVariants as fault
-use Rattle.c104_tools.specs.Loaded.{IsUnansweredFault, each_with, loaded}
-use Rattle.c104_tools.specs.NetCommands.{net_switch_count, net_switches, switches_of}
-use Rattle.c104_tools.specs.NetOutcomes.{EndsSo, net_load}
+use Rattle.{c104_event.specs.declared.faults.EventFault.EventFault, c104_plan.specs.{PlanImage.{Fits, Image}, Plans.{IsPlan, Plan}}}
+use Rattle.c104_run.specs.{NetRecords.{IsNetRecord, NetRecord, fresh_record, record_begun_if}, Network.{new_network, placed_network}}
+use Rattle.{c104_run.specs.QuietNets.IsQuiet, c104_tools.proofs.{FreshLoads.fresh_load, NetLoads.begun_so}}
+use Rattle.c104_tools.specs.{Loaded.{IsUnansweredFault, each_with, loaded}, NetCommands.{net_switch_count, net_switches, switches_of}}
+use Rattle.{c104_tools.specs.{NetOutcomes.{EndsSo, net_load}, declared.faults.LoadFault.LoadFault}, std.proofs.Common.{Bool, Err, IsTrue}}
+use Rattle.std.proofs.Common.{MatchResult, Ok, Result, Some, length, subst, sym, ◌↔◌, ◌≡◌}
 
 abbrev Came : Type 0
 Came = Result (Unit {0}) LoadFault
@@ -20,7 +12,7 @@ Came = Result (Unit {0}) LoadFault
 module _ (plan : Plan) (image : Image) (is_plan : IsPlan plan) (fits : Fits image plan) where
   -- what comes of a load: a run begins; or there was no memory
   abbrev Begins : Came → NetRecord → Type 0
-  Begins result after = MatchResult result (λ u. (began : Bool) → IsTrue began ↔ IsQuiet after.network → record_begun_if began after ≡ fresh_record (placed_network plan image)) (λ f. f ≡ fault.Port event_fault.NoMemory)
+  Begins result after = MatchResult result (λ u. (began : Bool) → IsTrue began ↔ IsQuiet after.network → record_begun_if began after ≡ fresh_record (placed_network plan image)) (λ f. f ≡ LoadFault.Port EventFault.NoMemory)
 
   abbrev Shows : NetRecord → Came → NetRecord → Type 0
   Shows old result after = MatchResult result (λ u. net_switches after ≡ Some (each_with loaded (switches_of old.network.nodes) image.settings)) IsUnansweredFault

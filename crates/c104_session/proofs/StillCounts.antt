@@ -1,22 +1,11 @@
 -- Whether anything was done, by how many events were: where no more were than before, nothing has changed.
-use Rattle.std.proofs.Common.{◌≡◌, ◌&&◌, ◌+◌, ◌<◌, ◌≤◌, ◌∙◌, ℕ, Bool, true, false, List, [], ◌∷◌, Result, Ok, Err}
-use Rattle.std.proofs.Common.{if◌then◌else◌, ap, arith, inl, refl, sym}
-use Rattle.std.proofs.lemmas.Bool.Decides.{nat_tests}
-use Rattle.c104_token.specs.Kinds.{plain_kind}
-use Rattle.c104_token.specs.declared.tokens.Token.{Token}
-use Rattle.c104_switch.specs.Actions.{Reply}
-use Rattle.c104_event.specs.declared.events.Event.{Event}
-use Rattle.c104_event.specs.declared.faults.EventFault.{EventFault}
-use Rattle.c104_event.specs.declared.faults.EventFault.TheVariants as fault
-use Rattle.c104_node.specs.Traces.{noted_all, seatless}
-use Rattle.c104_run.proofs.RoundRuns.{ends_keep, undone_left}
-use Rattle.c104_run.proofs.UndoneEvents.{undone_deeds}
-use Rattle.c104_run.specs.EventRuns.{run_events, unless_fault, Outcome}
-use Rattle.c104_run.specs.NetRecords.{is_done, largest_ticket, ticket_after, NetRecord}
-use Rattle.c104_run.specs.Network.{network_apply, Network}
-use Rattle.c104_run.specs.RecordedRuns.{record_apply, record_stage}
-use Rattle.c104_run.specs.Stages.{stage_full}
-use Rattle.c104_session.specs.Counted.{is_later}
+use Rattle.{c104_event.specs.declared.{events.Event.Event, faults.EventFault.EventFault}, c104_node.specs.Traces.{noted_all, seatless}}
+use Rattle.c104_run.{proofs.{RoundRuns.{ends_keep, undone_left}, UndoneEvents.undone_deeds}, specs.EventRuns.{Outcome, run_events}}
+use Rattle.c104_run.specs.{EventRuns.unless_fault, NetRecords.{NetRecord, is_done, largest_ticket, ticket_after}, Network.Network}
+use Rattle.c104_run.specs.{Network.network_apply, RecordedRuns.{record_apply, record_stage}, Stages.stage_full}
+use Rattle.{c104_session.specs.Counted.is_later, c104_switch.specs.Actions.Reply, c104_token.specs.Kinds.plain_kind}
+use Rattle.{c104_token.specs.declared.tokens.Token.Token, std.proofs.Common.{Bool, Err, List, Ok, Result, [], ap, arith, false}}
+use Rattle.std.proofs.{Common.{if◌then◌else◌, inl, refl, sym, true, ℕ, ◌&&◌, ◌+◌, ◌<◌, ◌∙◌, ◌∷◌, ◌≡◌, ◌≤◌}, lemmas.Bool.Decides.nat_tests}
 
 abbrev Came : Type 0
 Came = Result Reply EventFault × Network Token
@@ -24,7 +13,7 @@ Came = Result Reply EventFault × Network Token
 -- an event that isn't done changes nothing
 module _ (net : NetRecord) (e : Event) where
   abbrev came_if : Bool → Came → Came
-  came_if full due = if full then (Err fault.TraceFull, net.network) else due
+  came_if full due = if full then (Err EventFault.TraceFull, net.network) else due
 
   stays_if : (full : Bool) (due : Came) → (is_done due.0 ≡ false → due.1 ≡ net.network)
       → is_done (came_if full due).0 ≡ false → (came_if full due).1 ≡ net.network

@@ -1,5 +1,5 @@
 -- A text that some lines join.
-use Rattle.std.proofs.Common.{◌≡◌, ◌∙◌, ℕ, List, [], ◌∷◌, ◌++◌, Result, Ok, Err, OnOk, append-nil, append_assoc, ap, sym}
+use Rattle.std.proofs.Common.{Err, List, Ok, OnOk, Result, [], ap, append-nil, append_assoc, sym, ℕ, ◌++◌, ◌∙◌, ◌∷◌, ◌≡◌}
 
 -- some text, of which nothing is said, joined another
 abbrev pub Joined : List ℕ → List ℕ → Type 0

@@ -1,16 +1,9 @@
 -- A packet's tokens are printed as the packet is.
-use Rattle.std.proofs.Common.{◌≡◌, ℕ, List, [], ◌∷◌, ◌++◌, ◌/◌, ◌%◌, map, flat_map, codes, sym, ap, ◌∙◌, refl}
+use Rattle.{c104_script.specs.Texts.token_text, c104_session.specs.Shown.tokens_text, c104_token.specs.Packets.packet_tokens}
+use Rattle.c104_token.specs.{Text.{hex_digit, mark_word, packet_text}, Tokens.end_token, declared.{packets.Packet.Packet, tokens.Mark.Mark}}
+use Rattle.{c104_token.specs.declared.tokens.Token.{TheVariants.Byte, Token}, std.proofs.Common.{List, [], ap, codes, flat_map, map, refl}}
+use Rattle.std.proofs.Common.{sym, ℕ, ◌%◌, ◌++◌, ◌/◌, ◌∙◌, ◌∷◌, ◌≡◌}
 use mathlib.Core.List.{append_assoc}
-use Rattle.c104_token.specs.declared.packets.Packet.{Packet}
-use Rattle.c104_token.specs.declared.tokens.Mark.{Mark}
-use Rattle.c104_token.specs.declared.tokens.Mark.TheVariants as mark
-use Rattle.c104_token.specs.declared.tokens.Token.{Token}
-use Rattle.c104_token.specs.declared.tokens.Token.TheVariants.{Byte}
-use Rattle.c104_token.specs.Tokens.{end_token}
-use Rattle.c104_token.specs.Packets.{packet_tokens}
-use Rattle.c104_token.specs.Text.{hex_digit, mark_word, packet_text}
-use Rattle.c104_script.specs.Texts.{token_text}
-use Rattle.c104_session.specs.Shown.{tokens_text}
 
 -- a space stands before whatever follows a token
 after_one : (x : Token) (bytes : List ℕ) (end : Token) → tokens_text (x ∷ (map Byte bytes ++ end ∷ [])) ≡ token_text x ++ 32 ∷ tokens_text (map Byte bytes ++ end ∷ [])
@@ -18,8 +11,8 @@ after_one x [] end = refl
 after_one x (b ∷ bytes) end = refl
 
 of_end : (m : Mark) → tokens_text (end_token m ∷ []) ≡ mark_word m
-of_end mark.Eop = refl
-of_end mark.Eom = refl
+of_end Mark.Eop = refl
+of_end Mark.Eom = refl
 
 of_bytes : (bytes : List ℕ) (m : Mark) → tokens_text (map Byte bytes ++ end_token m ∷ []) ≡ flat_map (λ b. hex_digit (b / 16) ∷ hex_digit (b % 16) ∷ 32 ∷ []) bytes ++ mark_word m
 of_bytes [] m = of_end m

@@ -1,12 +1,7 @@
 -- Texts that are written one after the other.
-use Rattle.c104_session.specs.Shown.{joined_texts}
-use Rattle.c104_stream.proofs.Prefixes.{prefix_after}
-use Rattle.c104_stream.specs.Writing.{AppendsPrefix}
-use Rattle.std.proofs.Common.{List, Option, ap, append_assoc, arith, drop, get_or, length, subst, suc, sym, ℕ, ◌++◌, ◌+◌, ◌<◌, ◌∙◌, ◌∷◌, ◌≡◌}
-use Rattle.std.proofs.KnownBytes.{Appends-trans}
-use Rattle.std.proofs.Math.Seq.{drop-cons}
-use Rattle.std.specs.Global.{Vec}
-use Rattle.std.specs.Io.KnownBytes.{Appends}
+use Rattle.{c104_session.specs.Shown.joined_texts, c104_stream.{proofs.Prefixes.prefix_after, specs.Writing.AppendsPrefix}}
+use Rattle.std.proofs.Common.{List, Option, ap, append_assoc, arith, drop, get_or, length, subst, suc, sym, ℕ, ◌++◌, ◌+◌, ◌<◌, ◌∙◌, ◌∷◌}
+use Rattle.std.{proofs.{Common.◌≡◌, KnownBytes.Appends-trans, Math.Seq.drop-cons}, specs.{Global.Vec, Io.KnownBytes.Appends}}
 
 -- what is left of them begins with the next one
 next_text : (texts : List (Vec ℕ)) (at : ℕ) (text : Vec ℕ) (written : List ℕ) → at < length texts → text ≡ get_or texts at text → joined_texts texts ≡ written ++ joined_texts (drop at texts) → joined_texts texts ≡ written ++ (text.items ++ joined_texts (drop (at + 1) texts))

@@ -1,16 +1,9 @@
 -- The picture of the run of a script, by what its parts come to.
-use Rattle.std.proofs.Common.{◌≡◌, ◌||◌, ◌∙◌, ℕ, Bool, List, Option, None, Some, Ok, ap, subst}
-use Rattle.c104_plan.specs.Plans.{Plan}
-use Rattle.c104_stream.specs.ScriptLines.{is_long}
-use Rattle.c104_stream.specs.Scripts.{script_outcome}
-use Rattle.c104_timeline.specs.declared.periods.Asked.{Asked}
-use Rattle.c104_timeline.specs.Closing.{closed_all}
-use Rattle.c104_timeline.specs.Periods.{period_of}
-use Rattle.c104_timeline.specs.Timelines.{new_timeline, Timeline}
-use Rattle.c104_session.specs.Driven.{driven_outcome, DrivesScript}
-use Rattle.c104_session.specs.Timed.{timeline_kept}
-use Rattle.c104_session.specs.TimedRuns.{timed_script, IsAskedText, IsRunText, IsTimedAfter}
-use Rattle.c104_session.specs.declared.session.Session.{Session}
+use Rattle.{c104_plan.specs.Plans.Plan, c104_session.specs.{Driven.{DrivesScript, driven_outcome}, Timed.timeline_kept}}
+use Rattle.c104_session.specs.{TimedRuns.{IsAskedText, IsRunText, IsTimedAfter, timed_script}, declared.session.Session.Session}
+use Rattle.{c104_stream.specs.{ScriptLines.is_long, Scripts.script_outcome}, c104_timeline.specs.{Closing.closed_all, Periods.period_of}}
+use Rattle.{c104_timeline.specs.{Timelines.{Timeline, new_timeline}, declared.periods.Asked.Asked}, std.proofs.Common.{Bool, List, None}}
+use Rattle.std.proofs.Common.{Ok, Option, Some, ap, subst, ℕ, ◌||◌, ◌∙◌, ◌≡◌}
 
 -- a script that was done
 abbrev Ran : Type 0

@@ -1,19 +1,9 @@
 -- Events of which a meter is told: the network goes on as by itself, and the meter comes to what it is told.
-use Rattle.std.proofs.Common.{◌≡◌, ◌⊎◌, ◌∙◌, Result, Err, OnErr, ap, inl, inr}
-use Rattle.c104_switch.specs.Actions.{Reply}
-use Rattle.c104_event.specs.declared.events.Event.{Event}
-use Rattle.c104_event.specs.declared.faults.EventFault.{EventFault}
-use Rattle.c104_event.specs.declared.faults.EventFault.TheVariants as fault
-use Rattle.c104_net.specs.MeteredRecords.{at_meter, record_metered, MeteredRecord}
-use Rattle.c104_run.specs.EventRuns.{Answers}
-use Rattle.c104_run.specs.NetRecords.{is_done, NetRecord}
-use Rattle.c104_run.specs.RecordedRuns.{AnswersRecord}
-use Rattle.c104_timeline.specs.Metering.{watching}
-use Rattle.c104_timeline.specs.Timelines.{timeline_ended, Timeline}
-use Rattle.c104_session.specs.Driven.{DoesEvent}
-use Rattle.c104_session.specs.Timed.{told_event}
-use Rattle.c104_session.proofs.CountedEvents.{asked_due}
-use Rattle.c104_session.proofs.Leavings.{event_kept}
+use Rattle.{c104_event.specs.declared.{events.Event.Event, faults.EventFault.EventFault}, c104_net.specs.MeteredRecords.MeteredRecord}
+use Rattle.{c104_net.specs.MeteredRecords.{at_meter, record_metered}, c104_run.specs.{EventRuns.Answers, NetRecords.{NetRecord, is_done}}}
+use Rattle.{c104_run.specs.RecordedRuns.AnswersRecord, c104_session.proofs.{CountedEvents.asked_due, Leavings.event_kept}}
+use Rattle.{c104_session.specs.{Driven.DoesEvent, Timed.told_event}, c104_switch.specs.Actions.Reply, c104_timeline.specs.Metering.watching}
+use Rattle.{c104_timeline.specs.Timelines.{Timeline, timeline_ended}, std.proofs.Common.{Err, OnErr, Result, ap, inl, inr, ◌∙◌, ◌≡◌, ◌⊎◌}}
 
 abbrev pub Timed : NetRecord → Timeline → Event → Result Reply EventFault → NetRecord → Timeline → Type 0
 Timed net t e answer after u = Answers (record_metered watching) (at_meter net t) e answer (at_meter after u)
@@ -34,6 +24,6 @@ module _ (net : NetRecord) (e : Event) (answer : Result Reply EventFault) (after
 
   -- and then whether it was done
   pub timed_told : (v : Timeline) → Timed net t e answer after u → v ≡ timeline_ended u (is_done answer)
-      → (v ≡ told_event t net e) ⊎ (answer ≡ Err fault.NoMemory)
+      → (v ≡ told_event t net e) ⊎ (answer ≡ Err EventFault.NoMemory)
   timed_told v (inl due) is = inl (is ∙ ap (λ (x : Ended). timeline_ended x.1.meter (is_done x.0)) due)
   timed_told v (inr short) is = inr short.0

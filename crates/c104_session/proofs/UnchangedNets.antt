@@ -1,42 +1,19 @@
 -- A network that nobody changed, with what its terminals have sent: by an event, by rounds, and by the debugger's peeks.
-use Rattle.std.proofs.Common.{◌≡◌, ◌∙◌, ◌+◌, ◌++◌, ◌&&◌, ℕ, suc, zero, Bool, true, false, List, [], ◌∷◌, Result, Ok, Err, append-nil, if◌then◌else◌, map, refl, sym, ap, subst, inl}
+use Rattle.{c104_check.specs.Routes.Routes, c104_event.specs.declared.{events.Event.Event, faults.EventFault.EventFault}}
+use Rattle.c104_net.proofs.{JointKeeps.IsOfRound, RoundMembers.each_of_round, SentBytes.{AreBytesSent, SendsBytes}}
+use Rattle.{c104_net.specs.{Deliveries.sent_at, Unchanged.{IsUnchanged, MayHappen}}, c104_node.specs.{Nodes.Node, Starts.start_node}}
+use Rattle.{c104_node.specs.{Traces.{noted_all, seatless}, declared.starts.NodeStart.NodeStart}, c104_plan.proofs.RangeLists.each_append}
+use Rattle.{c104_plan.specs.Plans.{IsPlan, Plan}, c104_run.proofs.RecordSteps.{done_made, same_record, ticket_left}}
+use Rattle.c104_run.proofs.{RecordedRuns.record_kept, RoundJoins.apply_plan, RoundRuns.{Applied, undone_left}, RunRecords.record_on}
+use Rattle.c104_run.{proofs.{RunRecords.seatless_order, UndoneEvents.undone_deeds}, specs.{EventDeeds.event_deeds, EventRuns.run_events}}
+use Rattle.c104_run.specs.{EventRuns.unless_fault, NetRecords.{IsNetRecord, NetRecord, is_done, ticket_after}, Network.Network}
+use Rattle.c104_run.specs.{Network.{network_apply, network_of}, RecordedRuns.{record_apply, record_at, record_stage}, Rounds.round}
+use Rattle.c104_run.specs.{Rounds.rounds, Runs.{IsDoneRun, IsRunRecord}, Stages.{stage_after, stage_full}}
+use Rattle.c104_session.{proofs.SentLists.{packets_append, sent_after}, specs.PrintedPackets.{event_sends, packets_of}}
+use Rattle.{c104_switch.specs.Actions.{Reply, is_ready}, c104_token.specs.{Kinds.plain_kind, declared.packets.Packet.Packet}}
+use Rattle.{c104_token.specs.declared.tokens.Token.Token, std.proofs.Common.{Bool, Err, List, Ok, Result, [], ap, append-nil, false}}
+use Rattle.std.proofs.Common.{if◌then◌else◌, inl, map, refl, subst, suc, sym, true, zero, ℕ, ◌&&◌, ◌++◌, ◌+◌, ◌∙◌, ◌∷◌, ◌≡◌}
 use Rattle.std.specs.List.{AllByRecursion}
-use Rattle.c104_token.specs.declared.packets.Packet.{Packet}
-use Rattle.c104_token.specs.declared.tokens.Token.{Token}
-use Rattle.c104_token.specs.Kinds.{plain_kind}
-use Rattle.c104_switch.specs.Actions.{Reply, is_ready}
-use Rattle.c104_plan.specs.Plans.{IsPlan, Plan}
-use Rattle.c104_plan.proofs.RangeLists.{each_append}
-use Rattle.c104_check.specs.Routes.{Routes}
-use Rattle.c104_event.specs.declared.events.Event.{Event}
-use Rattle.c104_event.specs.declared.events.Event.TheVariants as event
-use Rattle.c104_event.specs.declared.faults.EventFault.{EventFault}
-use Rattle.c104_event.specs.declared.faults.EventFault.TheVariants as fault
-use Rattle.c104_node.specs.declared.starts.NodeStart.{NodeStart}
-use Rattle.c104_node.specs.Starts.{start_node}
-use Rattle.c104_node.specs.Traces.{noted_all, seatless}
-use Rattle.c104_run.specs.EventDeeds.{event_deeds}
-use Rattle.c104_run.specs.EventRuns.{run_events, unless_fault}
-use Rattle.c104_run.specs.NetRecords.{IsNetRecord, NetRecord, is_done, ticket_after}
-use Rattle.c104_run.specs.Network.{Network, network_apply, network_of}
-use Rattle.c104_run.specs.RecordedRuns.{record_apply, record_at, record_stage}
-use Rattle.c104_run.specs.Rounds.{round, rounds}
-use Rattle.c104_run.specs.Runs.{IsDoneRun, IsRunRecord}
-use Rattle.c104_run.specs.Stages.{stage_after, stage_full}
-use Rattle.c104_run.proofs.RecordSteps.{done_made, same_record, ticket_left}
-use Rattle.c104_run.proofs.RecordedRuns.{record_kept}
-use Rattle.c104_run.proofs.RoundJoins.{apply_plan}
-use Rattle.c104_run.proofs.RoundRuns.{Applied, undone_left}
-use Rattle.c104_run.proofs.RunRecords.{record_on, seatless_order}
-use Rattle.c104_run.proofs.UndoneEvents.{undone_deeds}
-use Rattle.c104_net.specs.Deliveries.{sent_at}
-use Rattle.c104_net.specs.Unchanged.{IsUnchanged, MayHappen}
-use Rattle.c104_net.proofs.JointKeeps.{IsOfRound}
-use Rattle.c104_net.proofs.RoundMembers.{each_of_round}
-use Rattle.c104_net.proofs.SentBytes.{AreBytesSent, SendsBytes}
-use Rattle.c104_node.specs.Nodes.{Node}
-use Rattle.c104_session.specs.PrintedPackets.{event_sends, packets_of}
-use Rattle.c104_session.proofs.SentLists.{packets_append, sent_after}
 
 -- what is said of the nodes of a network whose terminals sent these packets
 abbrev pub Fact : Type 1
@@ -161,7 +138,7 @@ module _ (routes : Routes) (plan : Plan) (is_plan : IsPlan plan) (starts : List 
         by_ready false not = subst (λ (s : List (ℕ × Packet)). Is s (after (Ok r, next))) (none_more sends) (undone (Ok r) next due not)
 
     abbrev or_full : Bool → Applied (Network Token)
-    or_full full = if full then (Err fault.TraceFull, net.network) else network_apply plain_kind net.network e
+    or_full full = if full then (Err EventFault.TraceFull, net.network) else network_apply plain_kind net.network e
 
     -- what an event leaves that may happen
     pub event_leaves : ((r : Reply) → (record_apply net e).0 ≡ Ok r → MayHappen routes e r) → Is (sends ++ sends_if (is_done (record_apply net e).0) e) (record_apply net e).1
@@ -173,18 +150,18 @@ module _ (routes : Routes) (plan : Plan) (is_plan : IsPlan plan) (starts : List 
 
   -- events of a round send nothing, and may happen
   none_sent : (e : Event) → IsOfRound e → (b : Bool) → sends_if b e ≡ []
-  none_sent (event.Send t p) of b = absurd of
-  none_sent (event.Control s bytes) of b = absurd of
+  none_sent (Event.Send t p) of b = absurd of
+  none_sent (Event.Control s bytes) of b = absurd of
   none_sent e of true = refl
   none_sent e of false = refl
 
   no_bytes : (e : Event) → IsOfRound e → SendsBytes e
-  no_bytes (event.Send t p) of = absurd of
+  no_bytes (Event.Send t p) of = absurd of
   no_bytes e of = tt
 
   may_happen : (e : Event) → IsOfRound e → (r : Reply) → MayHappen routes e r
-  may_happen (event.Send t p) of r = absurd of
-  may_happen (event.Control s bytes) of r = absurd of
+  may_happen (Event.Send t p) of r = absurd of
+  may_happen (Event.Control s bytes) of r = absurd of
   may_happen e of r = tt
 
   pub round_event : (sends : List (ℕ × Packet)) (net : NetRecord) (e : Event) → IsOfRound e → Is sends net → Is sends (record_apply net e).1

@@ -1,36 +1,22 @@
 -- A script that changes nothing leaves a network that nobody changed, whose terminals sent what its lines sent.
-use Rattle.std.proofs.Common.{◌≡◌, ◌∙◌, ◌++◌, ℕ, suc, Bool, true, false, IfOk, List, [], ◌∷◌, Option, Some, None, Result, Ok, Err, append-nil, append_assoc, if◌then◌else◌, refl, sym, ap, subst}
-use Rattle.c104_token.specs.declared.packets.Packet.{Packet}
-use Rattle.c104_switch.specs.Actions.{Reply}
-use Rattle.c104_plan.specs.Plans.{IsPlan, Plan}
-use Rattle.c104_check.specs.Routes.{Routes}
-use Rattle.c104_event.specs.declared.events.Event.{Event}
-use Rattle.c104_event.specs.declared.faults.EventFault.{EventFault}
-use Rattle.c104_node.specs.declared.starts.NodeStart.{NodeStart}
-use Rattle.c104_run.specs.NetRecords.{NetRecord, is_done}
-use Rattle.c104_run.specs.RecordedRuns.{record_apply}
-use Rattle.c104_run.specs.Rounds.{rounds}
-use Rattle.c104_net.specs.Unchanged.{MayHappen}
-use Rattle.c104_net.proofs.SentBytes.{SendsBytes}
-use Rattle.c104_stream.specs.Scripts.{lines_outcome}
-use Rattle.c104_script.specs.Script.{read_script_line}
-use Rattle.c104_script.specs.declared.faults.LineFault.{LineFault}
-use Rattle.c104_script.specs.declared.places.Request.{Request}
-use Rattle.c104_script.specs.declared.places.Request.TheVariants as ask
-use Rattle.c104_script.specs.declared.probes.Probe.{Probe}
-use Rattle.c104_script.specs.declared.probes.Probe.TheVariants as probe
-use Rattle.c104_session.specs.PrintedPackets.{LeaveUnchanged, MayAsk, asked_sends, line_sends, lines_sent, was_done}
-use Rattle.c104_session.specs.Shown.{answer_of_read, event_answer, line_answer, line_outcome}
-use Rattle.c104_session.specs.declared.session.Session.{Session}
-use Rattle.c104_session.proofs.PeekedNets.{IsNoPoke, probe_leaves}
-use Rattle.c104_script.proofs.ScriptBytes.{AskedBytes, line_bytes}
-use Rattle.c104_session.proofs.UnchangedNets.{Fact, IsUnchangedNet, Keeps, event_leaves, events_leave, of_rounds, sends_if}
+use Rattle.{c104_check.specs.Routes.Routes, c104_event.specs.declared.{events.Event.Event, faults.EventFault.EventFault}}
+use Rattle.{c104_net.{proofs.SentBytes.SendsBytes, specs.Unchanged.MayHappen}, c104_node.specs.declared.starts.NodeStart.NodeStart}
+use Rattle.{c104_plan.specs.Plans.{IsPlan, Plan}, c104_run.specs.{NetRecords.{NetRecord, is_done}, RecordedRuns.record_apply}}
+use Rattle.{c104_run.specs.Rounds.rounds, c104_script.{proofs.ScriptBytes.{AskedBytes, line_bytes}, specs.Script.read_script_line}}
+use Rattle.c104_script.specs.declared.{faults.LineFault.LineFault, places.Request.Request, probes.Probe.Probe}
+use Rattle.c104_session.proofs.{PeekedNets.{IsNoPoke, probe_leaves}, UnchangedNets.{Fact, IsUnchangedNet, Keeps, event_leaves}}
+use Rattle.c104_session.{proofs.UnchangedNets.{events_leave, of_rounds, sends_if}, specs.PrintedPackets.{LeaveUnchanged, MayAsk}}
+use Rattle.c104_session.specs.{PrintedPackets.{asked_sends, line_sends, lines_sent, was_done}, Shown.{answer_of_read, event_answer}}
+use Rattle.c104_session.specs.{Shown.{line_answer, line_outcome}, declared.session.Session.Session}
+use Rattle.{c104_stream.specs.Scripts.lines_outcome, c104_switch.specs.Actions.Reply, c104_token.specs.declared.packets.Packet.Packet}
+use Rattle.std.proofs.Common.{Bool, Err, IfOk, List, None, Ok, Option, Result, Some, [], ap, append-nil, append_assoc, false, if◌then◌else◌}
+use Rattle.std.proofs.Common.{refl, subst, suc, sym, true, ℕ, ◌++◌, ◌∙◌, ◌∷◌, ◌≡◌}
 
 done_same : (a : Result Reply EventFault) → is_done a ≡ was_done (Some (event_answer a))
 done_same (Ok r) = refl
 done_same (Err f) = refl
 
-may_of : (routes : Routes) (e : Event) (a : Result Reply EventFault) → MayAsk routes (Ok (Some (ask.Asked e))) (Some (event_answer a)) → (r : Reply) → a ≡ Ok r → MayHappen routes e r
+may_of : (routes : Routes) (e : Event) (a : Result Reply EventFault) → MayAsk routes (Ok (Some (Request.Asked e))) (Some (event_answer a)) → (r : Reply) → a ≡ Ok r → MayHappen routes e r
 may_of routes e (Ok q) may r is = let same : q ≡ r = cc in subst (MayHappen routes e) same may
 may_of routes e (Err f) may r is = absurd (cc is)
 
@@ -53,21 +39,21 @@ module _ (routes : Routes) (plan : Plan) (is_plan : IsPlan plan) (starts : List 
     nothing : (b : Bool) (net : NetRecord) → Is sends net → Is (sends ++ (if b then [] else [])) net
     nothing b net left = subst (λ (l : List (ℕ × Packet)). Is l net) (sym (ap (λ (l : List (ℕ × Packet)). sends ++ l) (none_if b) ∙ append-nil sends)) left
 
-    event_done : (e : Event) → SendsBytes e → MayAsk routes (Ok (Some (ask.Asked e))) (answer_of_read session (Ok (Some (ask.Asked e)))).0 → IsAfter (Ok (Some (ask.Asked e)))
+    event_done : (e : Event) → SendsBytes e → MayAsk routes (Ok (Some (Request.Asked e))) (answer_of_read session (Ok (Some (Request.Asked e)))).0 → IsAfter (Ok (Some (Request.Asked e)))
     event_done e bytes may =
         subst (λ b. Is (sends ++ sends_if b e) (record_apply session.net e).1) (done_same (record_apply session.net e).0)
         (event_leaves routes plan is_plan starts fact keeps sends session.net e bytes was (may_of routes e (record_apply session.net e).0 may))
 
-    poked : (it : Probe) → MayAsk routes (Ok (Some (ask.Probed it))) (answer_of_read session (Ok (Some (ask.Probed it)))).0 → IsNoPoke routes plan is_plan starts fact keeps sends it
-    poked (probe.Poke switch addr value) may = may
+    poked : (it : Probe) → MayAsk routes (Ok (Some (Request.Probed it))) (answer_of_read session (Ok (Some (Request.Probed it)))).0 → IsNoPoke routes plan is_plan starts fact keeps sends it
+    poked (Probe.Poke switch addr value) may = may
     poked it may = tt
 
     read_leaves : (asked : Result (Option Request) LineFault) → IfOk asked (AskedBytes plan) → MayAsk routes asked (answer_of_read session asked).0 → IsAfter asked
     read_leaves (Ok None) bytes may = nothing false session.net was
-    read_leaves (Ok (Some (ask.Asked e))) bytes may = event_done e bytes may
-    read_leaves (Ok (Some (ask.Rounds count))) bytes may = nothing (was_done (answer_of_read session (Ok (Some (ask.Rounds count)))).0) _ (events_leave routes plan is_plan starts fact keeps sends (rounds session.net.network.plan count) session.net (of_rounds session.net.network.plan count) was)
-    read_leaves (Ok (Some (ask.Probed it))) bytes may = nothing (was_done (answer_of_read session (Ok (Some (ask.Probed it)))).0) _ (probe_leaves routes plan is_plan starts fact keeps sends session.net session.image it (poked it may) was)
-    read_leaves (Ok (Some (ask.Refused kind))) bytes may = nothing false session.net was
+    read_leaves (Ok (Some (Request.Asked e))) bytes may = event_done e bytes may
+    read_leaves (Ok (Some (Request.Rounds count))) bytes may = nothing (was_done (answer_of_read session (Ok (Some (Request.Rounds count)))).0) _ (events_leave routes plan is_plan starts fact keeps sends (rounds session.net.network.plan count) session.net (of_rounds session.net.network.plan count) was)
+    read_leaves (Ok (Some (Request.Probed it))) bytes may = nothing (was_done (answer_of_read session (Ok (Some (Request.Probed it)))).0) _ (probe_leaves routes plan is_plan starts fact keeps sends session.net session.image it (poked it may) was)
+    read_leaves (Ok (Some (Request.Refused kind))) bytes may = nothing false session.net was
     read_leaves (Err kind) bytes may = nothing false session.net was
 
     -- a line that changes nothing

@@ -1,69 +1,28 @@
 -- An event that may happen makes the work that is left larger by no more than the weight of the tokens that it sends; and one
 -- of a round leaves less.
-use Rattle.std.proofs.Common.{◌≡◌, ◌∙◌, ◌+◌, ◌*◌, ◌-◌, ◌++◌, ◌≤◌, ◌<◌, ℕ, suc, zero, true, false, List, [], ◌∷◌, Option, Some, None, Result, Ok, arith, length, length-append, map, refl, slice_get, slice_set, sym, ap, subst, ⊎_elim}
-use Rattle.std.proofs.Math.Nat.{suc-mul, zero-mul}
-use Rattle.std.proofs.lemmas.Bool.{cases_Bool}
-use Rattle.std.proofs.lemmas.List.{length-map}
-use Rattle.std.proofs.lemmas.Option.{some_pair_parts}
-use Rattle.c104_token.specs.Kinds.{Kind, plain_kind}
-use Rattle.c104_token.specs.Packets.{packet_tokens}
-use Rattle.c104_token.specs.Tokens.{end_token}
-use Rattle.c104_token.specs.declared.packets.Packet.{Packet}
-use Rattle.c104_token.specs.declared.tokens.Token.{Token}
-use Rattle.c104_token.specs.declared.tokens.Token.TheVariants.{Byte}
-use Rattle.c104_control.specs.Reading.{read_command}
-use Rattle.c104_regs.specs.declared.settings.Settings.{Settings}
-use Rattle.c104_link.specs.Steps.{step_at, yield_step_at}
-use Rattle.c104_link.proofs.MadeSteps.{at_place_made, from_place_made, given}
-use Rattle.c104_switch.specs.Actions.{Reply, is_ready}
-use Rattle.c104_switch.specs.Control.{switch_control}
-use Rattle.c104_switch.specs.declared.actions.ReplyOf.TheVariants as reply
-use Rattle.c104_check.specs.ChannelDependencies.{IsRanking}
-use Rattle.c104_check.specs.Routes.{IsAccepted, Routes, link_settings, routes_of}
-use Rattle.c104_check.specs.Walks.{port_of}
-use Rattle.c104_check.specs.declared.ports.SwitchPort.{SwitchPort}
-use Rattle.c104_plan.specs.PlanImage.{Image}
-use Rattle.c104_plan.specs.Plans.{IsPlan, Plan}
-use Rattle.c104_plan.specs.Wiring.{peer}
-use Rattle.c104_plan.specs.declared.ports.Port.{Port}
-use Rattle.c104_plan.specs.declared.ports.Port.TheVariants as port
-use Rattle.c104_event.specs.declared.events.Event.{Event}
-use Rattle.c104_event.specs.declared.events.Event.TheVariants as event
-use Rattle.c104_event.specs.declared.faults.EventFault.{EventFault}
-use Rattle.c104_node.specs.Nodes.{Node, node_control, node_send}
-use Rattle.c104_node.specs.Starts.{start_node}
-use Rattle.c104_node.specs.Terminals.{sent_from, sent_tokens, terminal_send}
-use Rattle.c104_node.specs.Traced.{traced_kind}
-use Rattle.c104_node.specs.declared.node.NodeOf.TheVariants as node
-use Rattle.c104_node.specs.declared.starts.NodeStart.{NodeStart}
-use Rattle.c104_node.specs.declared.traced.Traced.{Traced}
-use Rattle.c104_run.specs.NetRecords.{NetRecord}
-use Rattle.c104_run.specs.Network.{Network, network_apply, network_of, network_step, placed_network, terminal_place}
-use Rattle.c104_run.specs.Runs.{IsDoneRun}
-use Rattle.c104_run.specs.TracedRuns.{map_network}
-use Rattle.c104_run.proofs.EventSteps.{control_named, send_named}
-use Rattle.c104_run.proofs.RecordSteps.{done_made}
-use Rattle.c104_run.proofs.RoundRuns.{Applied}
-use Rattle.c104_run.proofs.StepMaps.{apply_map}
-use Rattle.c104_net.specs.HeaderWork.{ahead_at, ahead_by, full_node, random_ahead, random_bound, random_work}
-use Rattle.c104_net.specs.RoundEvents.{IsOfRound}
-use Rattle.c104_net.specs.Unchanged.{AreStartsOf, IsHarmless, IsUnchanged, MayHappen}
-use Rattle.c104_net.specs.Work.{level, weigh}
-use Rattle.c104_net.proofs.CommandEvents.{read_sides}
-use Rattle.c104_net.proofs.PacketInvariant.{IsLabelled}
-use Rattle.c104_net.proofs.Promises.{each, starts}
-use Rattle.c104_net.proofs.RoundsEnd.{work_map}
-use Rattle.c104_net.proofs.RunSteps.{header_positive}
-use Rattle.c104_net.proofs.SentBytes.{AreBytesSent, SendsBytes}
-use Rattle.c104_net.proofs.StartMaps.{starts_are}
-use Rattle.c104_net.proofs.TracedRuns.{token_of, traced_from}
-use Rattle.c104_net.proofs.WorkBounds.{weigh_is, weigh_more}
-use Rattle.c104_net.proofs.WorkEvents.{event_less}
-use Rattle.c104_net.proofs.WorkRounds.{falling}
-use Rattle.c104_net.proofs.WorkSteps.{sum_set, weigh-append}
-use Rattle.c104_session.specs.DeliveredRuns.{sends_weight, token_weight}
-use Rattle.c104_session.specs.PrintedPackets.{event_sends}
-use Rattle.c104_session.proofs.UnchangedNets.{Fact, IsUnchangedNet, Keeps, run_so_far}
+use Rattle.c104_check.specs.{ChannelDependencies.IsRanking, Routes.{IsAccepted, Routes, link_settings, routes_of}, Walks.port_of}
+use Rattle.{c104_check.specs.declared.ports.SwitchPort.SwitchPort, c104_control.specs.Reading.read_command}
+use Rattle.{c104_event.specs.declared.{events.Event.Event, faults.EventFault.EventFault}, c104_link.proofs.MadeSteps.at_place_made}
+use Rattle.c104_link.{proofs.MadeSteps.{from_place_made, given}, specs.Steps.{step_at, yield_step_at}}
+use Rattle.c104_net.proofs.{CommandEvents.read_sides, PacketInvariant.IsLabelled, Promises.{each, starts}, RoundsEnd.work_map}
+use Rattle.c104_net.proofs.{RunSteps.header_positive, SentBytes.{AreBytesSent, SendsBytes}, StartMaps.starts_are, TracedRuns.token_of}
+use Rattle.c104_net.proofs.{TracedRuns.traced_from, WorkBounds.{weigh_is, weigh_more}, WorkEvents.event_less, WorkRounds.falling}
+use Rattle.c104_net.{proofs.WorkSteps.{sum_set, weigh-append}, specs.HeaderWork.{ahead_at, ahead_by, full_node, random_ahead, random_bound}}
+use Rattle.c104_net.specs.{HeaderWork.random_work, RoundEvents.IsOfRound, Unchanged.{AreStartsOf, IsHarmless, IsUnchanged, MayHappen}}
+use Rattle.{c104_net.specs.Work.{level, weigh}, c104_node.specs.{Nodes.{Node, node_control, node_send}, Starts.start_node}}
+use Rattle.c104_node.specs.{Terminals.{sent_from, sent_tokens, terminal_send}, Traced.traced_kind, declared.node.NodeOf.NodeOf}
+use Rattle.{c104_node.specs.declared.{starts.NodeStart.NodeStart, traced.Traced.Traced}, c104_plan.specs.{PlanImage.Image, Plans.IsPlan}}
+use Rattle.{c104_plan.specs.{Plans.Plan, Wiring.peer, declared.ports.Port.Port}, c104_regs.specs.declared.settings.Settings.Settings}
+use Rattle.c104_run.proofs.{EventSteps.{control_named, send_named}, RecordSteps.done_made, RoundRuns.Applied, StepMaps.apply_map}
+use Rattle.c104_run.specs.{NetRecords.NetRecord, Network.{Network, network_apply, network_of, network_step, placed_network, terminal_place}}
+use Rattle.{c104_run.specs.{Runs.IsDoneRun, TracedRuns.map_network}, c104_session.proofs.UnchangedNets.{Fact, IsUnchangedNet, Keeps}}
+use Rattle.c104_session.{proofs.UnchangedNets.run_so_far, specs.{DeliveredRuns.{sends_weight, token_weight}, PrintedPackets.event_sends}}
+use Rattle.c104_switch.specs.{Actions.{Reply, is_ready}, Control.switch_control, declared.actions.ReplyOf.ReplyOf}
+use Rattle.c104_token.specs.{Kinds.{Kind, plain_kind}, Packets.packet_tokens, Tokens.end_token, declared.packets.Packet.Packet}
+use Rattle.{c104_token.specs.declared.tokens.Token.{TheVariants.Byte, Token}, std.proofs.Common.{List, None, Ok, Option, Result, Some, []}}
+use Rattle.std.proofs.Common.{ap, arith, false, length, length-append, map, refl, slice_get, slice_set, subst, suc, sym, true, zero, ℕ}
+use Rattle.std.proofs.{Common.{⊎_elim, ◌*◌, ◌++◌, ◌+◌, ◌-◌, ◌<◌, ◌∙◌, ◌∷◌, ◌≡◌, ◌≤◌}, Math.Nat.{suc-mul, zero-mul}, lemmas.Bool.cases_Bool}
+use Rattle.std.proofs.lemmas.{List.length-map, Option.some_pair_parts}
 
 times_more : (n a b : ℕ) → a ≤ b → n * a ≤ n * b
 times_more zero a b less = let one = zero-mul a in let other = zero-mul b in omega (arith, one, other)
@@ -112,8 +71,8 @@ module _ (plan : Plan) (image : Image) (is_plan : IsPlan plan) (accepted : IsAcc
 
   port_low : (q : Option Port) → 8 * level plan rank q + 4 + ahead_at plan rank ahead q ≤ weight
   port_low None = omega arith
-  port_low (Some (port.Terminal t)) = omega arith
-  port_low (Some (port.Switch s l)) =
+  port_low (Some (Port.Terminal t)) = omega arith
+  port_low (Some (Port.Switch s l)) =
       let low = within (port_of s l) in
       let more = ahead_low (port_of s l) (link_settings routes.settings (port_of s l)) in
       omega (arith, low, more)
@@ -129,46 +88,46 @@ module _ (plan : Plan) (image : Image) (is_plan : IsPlan plan) (accepted : IsAcc
     IsGrown e = work next.nodes ≤ work nodes + sends_weight weight (event_sends e)
 
     -- a packet is sent
-    send_grows : (t : ℕ) (p : Packet) → Step (event.Send t p) → IsGrown (event.Send t p)
+    send_grows : (t : ℕ) (p : Packet) → Step (Event.Send t p) → IsGrown (Event.Send t p)
     send_grows t p is =
         given (step_at nodes (terminal_place plan t) (node_send plain_kind t p)) _ (r, next) (send_named plain_kind (network_of plan nodes) t p ∙ is) (λ after made last.
         at_place_made nodes (terminal_place plan t) (node_send plain_kind t p) after made (λ n m here sent put.
-        (let same : network_of plan after ≡ next = (some_pair_parts reply.Done r (network_of plan after) next last).1 in
-        subst (λ (net : Network Token). work net.nodes ≤ work nodes + sends_weight weight (event_sends (event.Send t p))) same
-        (subst (λ ns. work ns ≤ work nodes + sends_weight weight (event_sends (event.Send t p))) put (by_node n m here sent)))))
+        (let same : network_of plan after ≡ next = (some_pair_parts ReplyOf.Done r (network_of plan after) next last).1 in
+        subst (λ (net : Network Token). work net.nodes ≤ work nodes + sends_weight weight (event_sends (Event.Send t p))) same
+        (subst (λ ns. work ns ≤ work nodes + sends_weight weight (event_sends (Event.Send t p))) put (by_node n m here sent)))))
       where
-        by_node : (n m : Node Token) → slice_get nodes (terminal_place plan t) ≡ Some n → node_send plain_kind t p n ≡ Some m → work (slice_set nodes (terminal_place plan t) m) ≤ work nodes + sends_weight weight (event_sends (event.Send t p))
-        by_node (node.Switch S) m here sent = absurd (cc)
-        by_node (node.Terminal T) m here sent =
-            let same : node.Terminal (terminal_send plain_kind t p T) ≡ m = cc in
+        by_node : (n m : Node Token) → slice_get nodes (terminal_place plan t) ≡ Some n → node_send plain_kind t p n ≡ Some m → work (slice_set nodes (terminal_place plan t) m) ≤ work nodes + sends_weight weight (event_sends (Event.Send t p))
+        by_node (NodeOf.Switch S) m here sent = absurd (cc)
+        by_node (NodeOf.Terminal T) m here sent =
+            let same : NodeOf.Terminal (terminal_send plain_kind t p T) ≡ m = cc in
             let k : ℕ = terminal_place plan t in
-            let q : Option Port = peer plan (port.Terminal (k - length plan.switches)) in
+            let q : Option Port = peer plan (Port.Terminal (k - length plan.switches)) in
             let each : ℕ = 8 * level plan rank q + 4 + ahead_at plan rank ahead q in
             let tokens : List Token = sent_tokens plain_kind t (length T.sent) p in
-            let all = sum_set (full_node plan rank ahead) nodes k (node.Terminal T) (node.Terminal (terminal_send plain_kind t p T)) here in
+            let all = sum_set (full_node plan rank ahead) nodes k (NodeOf.Terminal T) (NodeOf.Terminal (terminal_send plain_kind t p T)) here in
             let more = weigh-append each T.output.items tokens in
             let heavy = weigh_more each weight (port_low q) tokens in
             let counted : weigh weight tokens ≡ (length p.bytes + 1) * weight = sym (weigh_is weight tokens) ∙ ap (λ n. n * weight) (length_tokens t (length T.sent) p) in
-            subst (λ n. work (slice_set nodes k n) ≤ work nodes + sends_weight weight (event_sends (event.Send t p))) same (omega (arith, all, more, heavy, counted))
+            subst (λ n. work (slice_set nodes k n) ≤ work nodes + sends_weight weight (event_sends (Event.Send t p))) same (omega (arith, all, more, heavy, counted))
 
     -- a command is harmless
-    control_grows : (s : ℕ) (bytes : List ℕ) → IsHarmless bytes r → Step (event.Control s bytes) → IsGrown (event.Control s bytes)
+    control_grows : (s : ℕ) (bytes : List ℕ) → IsHarmless bytes r → Step (Event.Control s bytes) → IsGrown (Event.Control s bytes)
     control_grows s bytes may is =
         given (yield_step_at nodes s (node_control bytes)) _ (r, next) (control_named plain_kind (network_of plan nodes) s bytes ∙ is) (λ v ev e2.
         from_place_made nodes s (node_control bytes) v ev (λ n y en ey hv. by_node n y en ey v hv e2))
       where
-        by_node : (n : Node Token) (y : List ℕ × Node Token) → slice_get nodes s ≡ Some n → node_control bytes n ≡ Some y → (v : List ℕ × List (Node Token)) → ◌≡◌ {A = List ℕ × List (Node Token)} (y.0, slice_set nodes s y.1) v → ◌≡◌ {A = Option (Reply × Network Token)} (Some (reply.Control v.0, network_of plan v.1)) (Some (r, next)) → IsGrown (event.Control s bytes)
-        by_node (node.Terminal T) y en ey v hv e2 = absurd (cc)
-        by_node (node.Switch S) y en ey v hv e2 =
-            let parts = some_pair_parts (reply.Control v.0) r (network_of plan v.1) next e2 in
+        by_node : (n : Node Token) (y : List ℕ × Node Token) → slice_get nodes s ≡ Some n → node_control bytes n ≡ Some y → (v : List ℕ × List (Node Token)) → ◌≡◌ {A = List ℕ × List (Node Token)} (y.0, slice_set nodes s y.1) v → ◌≡◌ {A = Option (Reply × Network Token)} (Some (ReplyOf.Control v.0, network_of plan v.1)) (Some (r, next)) → IsGrown (Event.Control s bytes)
+        by_node (NodeOf.Terminal T) y en ey v hv e2 = absurd (cc)
+        by_node (NodeOf.Switch S) y en ey v hv e2 =
+            let parts = some_pair_parts (ReplyOf.Control v.0) r (network_of plan v.1) next e2 in
             let made = switch_control S bytes in
-            let dy : ◌≡◌ {A = List ℕ × Node Token} (made.0, node.Switch made.1) y = cc in
-            let told : reply.Control made.0 ≡ r = ap (λ (z : List ℕ × Node Token). reply.Control z.0) dy ∙ ap (λ (z : List ℕ × List (Node Token)). reply.Control z.0) hv ∙ parts.0 in
-            let same = read_sides S (read_command bytes) may.0 (λ e. may.1 (sym told ∙ ap reply.Control e)) in
-            let dv : slice_set nodes s (node.Switch made.1) ≡ v.1 = ap (λ (w : List ℕ × Node Token). slice_set nodes s w.1) dy ∙ ap (λ (w : List ℕ × List (Node Token)). w.1) hv in
-            let all = sum_set (full_node plan rank ahead) nodes s (node.Switch S) (node.Switch made.1) en in
-            let inputs : full_node plan rank ahead s (node.Switch made.1) ≡ full_node plan rank ahead s (node.Switch (record S { outputs = made.1.outputs })) = ap (λ ps. full_node plan rank ahead s (node.Switch (record S { inputs = ps; outputs = made.1.outputs }))) same.inputs in
-            let outputs : full_node plan rank ahead s (node.Switch (record S { outputs = made.1.outputs })) ≡ full_node plan rank ahead s (node.Switch S) = ap (λ qs. full_node plan rank ahead s (node.Switch (record S { outputs = qs }))) same.outputs in
+            let dy : ◌≡◌ {A = List ℕ × Node Token} (made.0, NodeOf.Switch made.1) y = cc in
+            let told : ReplyOf.Control made.0 ≡ r = ap (λ (z : List ℕ × Node Token). ReplyOf.Control z.0) dy ∙ ap (λ (z : List ℕ × List (Node Token)). ReplyOf.Control z.0) hv ∙ parts.0 in
+            let same = read_sides S (read_command bytes) may.0 (λ e. may.1 (sym told ∙ ap ReplyOf.Control e)) in
+            let dv : slice_set nodes s (NodeOf.Switch made.1) ≡ v.1 = ap (λ (w : List ℕ × Node Token). slice_set nodes s w.1) dy ∙ ap (λ (w : List ℕ × List (Node Token)). w.1) hv in
+            let all = sum_set (full_node plan rank ahead) nodes s (NodeOf.Switch S) (NodeOf.Switch made.1) en in
+            let inputs : full_node plan rank ahead s (NodeOf.Switch made.1) ≡ full_node plan rank ahead s (NodeOf.Switch (record S { outputs = made.1.outputs })) = ap (λ ps. full_node plan rank ahead s (NodeOf.Switch (record S { inputs = ps; outputs = made.1.outputs }))) same.inputs in
+            let outputs : full_node plan rank ahead s (NodeOf.Switch (record S { outputs = made.1.outputs })) ≡ full_node plan rank ahead s (NodeOf.Switch S) = ap (λ qs. full_node plan rank ahead s (NodeOf.Switch (record S { outputs = qs }))) same.outputs in
             subst (λ (net : Network Token). work net.nodes ≤ work nodes + 0) parts.1 (subst (λ ns. work ns ≤ work nodes + 0) dv (omega (arith, all, inputs, outputs)))
 
   -- an event of a round leaves less
@@ -206,8 +165,8 @@ module _ (plan : Plan) (image : Image) (is_plan : IsPlan plan) (accepted : IsAcc
     work_falls e of due = round_less net.network.nodes was.events (run_so_far routes plan first fact sends net was) was.unchanged was.bytes e r next of (there e due) ready
 
     pub work_grows : (e : Event) → IsDue e → MayHappen routes e r → SendsBytes e → random_work plan routes rank next.nodes ≤ random_work plan routes rank net.network.nodes + sends_weight weight (event_sends e)
-    work_grows (event.Send t p) due may bytes = send_grows net.network.nodes next r t p (step (event.Send t p) due)
-    work_grows (event.Control s command) due may bytes = control_grows net.network.nodes next r s command may (step (event.Control s command) due)
+    work_grows (Event.Send t p) due may bytes = send_grows net.network.nodes next r t p (step (Event.Send t p) due)
+    work_grows (Event.Control s command) due may bytes = control_grows net.network.nodes next r s command may (step (Event.Control s command) due)
     work_grows e due may bytes = let less = work_falls e tt due in omega (arith, less)
 
   pub keeps_within : Keeps routes plan first (IsWorkWithin plan image rank)

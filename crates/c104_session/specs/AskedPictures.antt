@@ -1,7 +1,7 @@
 -- The pictures of a network that a person asks for among the lines of a script.
 --     asked_file line      the file that a line names
-use Rattle.std.specs.Prelude.{ℕ, List, [], ◌∷◌, Option, Some, None, bytes_eq, codes, if◌then◌else◌}
-use Rattle.c104_plan.specs.TextCut.{uncommented_line, line_words}
+use Rattle.c104_plan.specs.TextCut.{line_words, uncommented_line}
+use Rattle.std.specs.Prelude.{List, None, Option, Some, [], bytes_eq, codes, if◌then◌else◌, ℕ, ◌∷◌}
 
 -- the file that these words name: the second of two, of which the first is `draw`
 abbrev pub file_among : List (List ℕ) → Option (List ℕ)

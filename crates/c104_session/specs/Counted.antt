@@ -1,22 +1,12 @@
 -- The counts of a run: what an event that is asked of a network adds to them, and what rounds do.
 --     counted_event c net e      an event
 --     counted_rounds c net n      n rounds
-use Rattle.std.specs.Prelude.{ℕ, suc, zero, ◌≡◌, ◌⊎◌, ◌&&◌, ◌||◌, Bool, true, false, Result, Ok, Err, if◌then◌else◌, length, nat_le, nat_lt}
-use Rattle.c104_event.specs.declared.events.Event.{Event}
-use Rattle.c104_event.specs.declared.events.Event.TheVariants as event
-use Rattle.c104_event.specs.declared.faults.EventFault.{EventFault}
-use Rattle.c104_event.specs.declared.faults.EventFault.TheVariants as fault
-use Rattle.c104_run.specs.EventRuns.{run_events, Outcome}
-use Rattle.c104_run.specs.NetRecords.{is_done, largest_ticket, NetRecord}
-use Rattle.c104_run.specs.RecordedRuns.{record_apply}
-use Rattle.c104_run.specs.Rounds.{round}
-use Rattle.c104_net.specs.MeteredRecords.{at_meter, record_metered, MeteredRecord}
-use Rattle.c104_stats.specs.Counts.{counts_begun, counts_cut, counts_noted, counts_passed, counts_sent, Counts}
-use Rattle.c104_stats.specs.Metering.{counting}
-use Rattle.c104_stats.specs.Sights.{counts_of_net}
-use Rattle.c104_session.specs.Driven.{Driving}
-use Rattle.c104_session.specs.Leavings.{LeavesRounds}
-use Rattle.c104_session.specs.Resets.{is_reset}
+use Rattle.{c104_event.specs.declared.{events.Event.Event, faults.EventFault.EventFault}, c104_net.specs.MeteredRecords.MeteredRecord}
+use Rattle.{c104_net.specs.MeteredRecords.{at_meter, record_metered}, c104_run.specs.EventRuns.{Outcome, run_events}}
+use Rattle.c104_run.specs.{NetRecords.{NetRecord, is_done, largest_ticket}, RecordedRuns.record_apply, Rounds.round}
+use Rattle.{c104_session.specs.{Driven.Driving, Leavings.LeavesRounds, Resets.is_reset}, c104_stats.specs.Counts.{Counts, counts_begun}}
+use Rattle.c104_stats.specs.{Counts.{counts_cut, counts_noted, counts_passed, counts_sent}, Metering.counting, Sights.counts_of_net}
+use Rattle.std.specs.Prelude.{Bool, Err, Ok, Result, false, if◌then◌else◌, length, nat_le, nat_lt, suc, true, zero, ℕ, ◌&&◌, ◌||◌, ◌≡◌, ◌⊎◌}
 
 -- a network with its record, and what is counted of its run
 abbrev pub Counted : Type 0
@@ -38,10 +28,10 @@ cut_if false c s = c
 
 -- after an event, before it is noted whether it was done
 abbrev pub event_counts : Counts → NetRecord → Event → Counts
-event_counts c net (event.Send t packet) =
-    sent_if (is_done (record_apply net (event.Send t packet)).0) c t (length packet.bytes)
-event_counts c net (event.Control s bytes) =
-    cut_if (is_done (record_apply net (event.Control s bytes)).0 && is_reset bytes) (counts_told c net (event.Control s bytes)) s
+event_counts c net (Event.Send t packet) =
+    sent_if (is_done (record_apply net (Event.Send t packet)).0) c t (length packet.bytes)
+event_counts c net (Event.Control s bytes) =
+    cut_if (is_done (record_apply net (Event.Control s bytes)).0 && is_reset bytes) (counts_told c net (Event.Control s bytes)) s
 event_counts c net e = counts_told c net e
 
 -- after an event
@@ -85,4 +75,4 @@ CountsRound net c (Ok done) after counted =
     (e : Counts) × (counted_round (at_meter net c) ≡ (Ok tt, at_meter after e)) × (done ≡ is_later net.count after.count)
     × (counted ≡ counts_noted e done)
 CountsRound net c (Err f) after counted =
-    (counted_round (at_meter net c) ≡ (Err f, at_meter after counted)) ⊎ ((f ≡ fault.NoMemory) × LeavesRounds net 1 after)
+    (counted_round (at_meter net c) ≡ (Err f, at_meter after counted)) ⊎ ((f ≡ EventFault.NoMemory) × LeavesRounds net 1 after)

@@ -1,31 +1,13 @@
 -- What is printed of the counts of a run, and how a run ends whose counts are printed.
-use Rattle.std.specs.Prelude.{ℕ, [], ◌≡◌, ◌≢◌, ◌⊎◌, ◌||◌, ⊤, Bool, true, false, List, ◌++◌, codes, decimal, Option, Some, None, Result, Ok, Err}
-use Rattle.std.specs.Io.KnownBytes.{Appends}
+use Rattle.{c104_plan.specs.{PlanImage.Image, Plans.Plan}, c104_run.specs.{NetRecords.NetRecord, Standstill.IsDeadlocked}}
+use Rattle.c104_session.specs.{Counted.counts_kept, Driven.driven_outcome, Shown.new_session, declared.counted_runs.CountedText.CountedText}
+use Rattle.{c104_session.specs.declared.{counted_runs.Printing.Printing, session.Session.Session}, c104_stats.specs.Counts.Counts}
+use Rattle.c104_stats.specs.{Counts.new_counts, Sights.counts_at_end, Summaries.{IsSummary, summary_text}, Tables.links_text}
+use Rattle.c104_stats.specs.{Tables.{packets_text, rounds_text}, declared.{formats.{Format.Format, What.What}, summaries.Summary.Summary}}
+use Rattle.c104_stream.specs.{ScriptLines.is_long, Scripts.script_outcome, Writing.AppendsPrefix, declared.halt.Halt.Halt}
 use Rattle.c104_token.specs.Kinds.{plain_kind}
-use Rattle.c104_plan.specs.Plans.{Plan}
-use Rattle.c104_plan.specs.PlanImage.{Image}
-use Rattle.c104_run.specs.NetRecords.{NetRecord}
-use Rattle.c104_run.specs.Standstill.{IsDeadlocked}
-use Rattle.c104_stats.specs.declared.formats.Format.{Format}
-use Rattle.c104_stats.specs.Counts.{new_counts, Counts}
-use Rattle.c104_stats.specs.Sights.{counts_at_end}
-use Rattle.c104_stats.specs.Summaries.{summary_text, IsSummary}
-use Rattle.c104_stats.specs.declared.summaries.Summary.{Summary}
-use Rattle.c104_stats.specs.Tables.{links_text, packets_text, rounds_text}
-use Rattle.c104_stats.specs.declared.formats.Format.TheVariants as format
-use Rattle.c104_stats.specs.declared.formats.What.{What}
-use Rattle.c104_stats.specs.declared.formats.What.TheVariants as what
-use Rattle.c104_stream.specs.ScriptLines.{is_long}
-use Rattle.c104_stream.specs.Scripts.{script_outcome}
-use Rattle.c104_stream.specs.Writing.{AppendsPrefix}
-use Rattle.c104_stream.specs.declared.halt.Halt.{Halt}
-use Rattle.c104_stream.specs.declared.halt.Halt.TheVariants as halt
-use Rattle.c104_session.specs.Counted.{counts_kept}
-use Rattle.c104_session.specs.Driven.{driven_outcome}
-use Rattle.c104_session.specs.Shown.{new_session}
-use Rattle.c104_session.specs.declared.counted_runs.CountedText.{CountedText}
-use Rattle.c104_session.specs.declared.counted_runs.Printing.{Printing}
-use Rattle.c104_session.specs.declared.session.Session.{Session}
+use Rattle.std.specs.{Io.KnownBytes.Appends, Prelude.{Bool, Err, List, None, Ok, Option, Result, Some, [], codes, decimal, false, true, ℕ}}
+use Rattle.std.specs.Prelude.{⊤, ◌++◌, ◌||◌, ◌≡◌, ◌≢◌, ◌⊎◌}
 
 -- the run of a script from a session on: the session and the counts at its end
 abbrev pub counted_script : Printing → Session → List ℕ → Session × Counts
@@ -34,9 +16,9 @@ counted_script p session script =
 
 -- what is printed of counts: a table, or the summary
 abbrev pub IsTextOf : Option What → Format → Plan → Counts → List ℕ → Type 0
-IsTextOf (Some what.Packets) f plan c text = text ≡ packets_text f plan c
-IsTextOf (Some what.Links) f plan c text = text ≡ links_text f plan c
-IsTextOf (Some what.Rounds) f plan c text = text ≡ rounds_text f c
+IsTextOf (Some What.Packets) f plan c text = text ≡ packets_text f plan c
+IsTextOf (Some What.Links) f plan c text = text ≡ links_text f plan c
+IsTextOf (Some What.Rounds) f plan c text = text ≡ rounds_text f c
 IsTextOf None f plan c text = (s : Summary) × IsSummary plan.header c s × (text ≡ summary_text f plan s)
 
 abbrev pub IsCountsText : Printing → Plan → Counts → List ℕ → Type 0
@@ -48,9 +30,9 @@ still_line round = codes "stands still after round " ++ (decimal round ++ codes 
 
 -- whether people read it, rather than a program
 abbrev pub is_for_people : Format → Bool
-is_for_people format.Table = true
-is_for_people format.Csv = false
-is_for_people format.Json = false
+is_for_people Format.Table = true
+is_for_people Format.Csv = false
+is_for_people Format.Json = false
 
 -- what is printed behind it: where the network stands still, with tokens in it, that it does, and lines of what waits there.
 -- For programs nothing is
@@ -87,15 +69,15 @@ abbrev pub CountsScript : Printing → Session → Option (List ℕ) → Result 
 CountsScript p session None came = ⊤
 CountsScript p session (Some script) (Ok counted) =
     PrintsScript p session script counted.text.items × (counted.is_refused ≡ is_script_refused p session script)
-CountsScript p session (Some script) (Err kind) = kind ≢ halt.CannotWrite
+CountsScript p session (Some script) (Err kind) = kind ≢ Halt.CannotWrite
 
 -- what came of it is written; or it stopped, and nothing is
 abbrev pub WritesCounts : Result CountedText Halt → Option (List ℕ) → Option (List ℕ) → Result Bool Halt → Type 0
 WritesCounts (Err kind) held holds result = (result ≡ Err kind) × (holds ≡ held)
 WritesCounts (Ok counted) held holds (Ok refused) = (refused ≡ counted.is_refused) × Appends held holds counted.text.items
-WritesCounts (Ok counted) held holds (Err halt.CannotRead) = ⊥
-WritesCounts (Ok counted) held holds (Err halt.CannotWrite) = AppendsPrefix held holds counted.text.items
-WritesCounts (Ok counted) held holds (Err halt.NoMemory) = ⊥
+WritesCounts (Ok counted) held holds (Err Halt.CannotRead) = ⊥
+WritesCounts (Ok counted) held holds (Err Halt.CannotWrite) = AppendsPrefix held holds counted.text.items
+WritesCounts (Ok counted) held holds (Err Halt.NoMemory) = ⊥
 
 -- how a run ends whose counts are printed: all is written, or a prefix where the writer fails, and nothing where reading
 -- fails or memory runs out
@@ -103,10 +85,10 @@ abbrev pub CountingEnds : Printing → Session → List ℕ → Option (List ℕ
 CountingEnds p session script held holds (Ok refused) =
     ((text : List ℕ) × PrintsScript p session script text × Appends held holds text)
     × (refused ≡ is_script_refused p session script)
-CountingEnds p session script held holds (Err halt.CannotRead) = holds ≡ held
-CountingEnds p session script held holds (Err halt.CannotWrite) =
+CountingEnds p session script held holds (Err Halt.CannotRead) = holds ≡ held
+CountingEnds p session script held holds (Err Halt.CannotWrite) =
     (text : List ℕ) × PrintsScript p session script text × AppendsPrefix held holds text
-CountingEnds p session script held holds (Err halt.NoMemory) = holds ≡ held
+CountingEnds p session script held holds (Err Halt.NoMemory) = holds ≡ held
 
 -- the same where nothing may be known of the script, and on the network of a plan with an image
 abbrev pub CountsSession : Printing → Session → Option (List ℕ) → Option (List ℕ) → Option (List ℕ) → Result Bool Halt → Type 0

@@ -2,30 +2,19 @@
 -- with rounds enough: each packet that was sent with a whole header that a terminal owns.
 --     EndsWithRounds plan image script      there are rounds enough
 --     PrintsAllSent plan image script      what follows
-use Rattle.std.specs.Prelude.{ℕ, ◌+◌, ◌*◌, ◌≡◌, ◌<◌, length, List, [], ◌∷◌, ◌++◌, if◌then◌else◌, slice_get, Option, Some, Result, Ok}
-use Rattle.c104_plan.specs.Plans.{Plan}
-use Rattle.c104_plan.specs.PlanImage.{Image}
-use Rattle.c104_check.specs.ChannelDependencies.{IsAcyclic}
-use Rattle.c104_check.specs.Routes.{Routes, routes_of}
-use Rattle.c104_regs.specs.declared.registers.TheConstants.{LINKS}
-use Rattle.c104_run.specs.Network.{placed_network}
-use Rattle.c104_token.specs.declared.packets.Packet.{Packet}
-use Rattle.c104_token.specs.declared.tokens.Token.{Token}
-use Rattle.c104_net.specs.HeaderWork.{random_bound}
-use Rattle.c104_node.specs.declared.origins.Origin.{Origin}
-use Rattle.c104_stream.specs.ScriptLines.{script_lines}
-use Rattle.c104_stream.specs.Scripts.{lines_outcome}
-use Rattle.c104_script.specs.Script.{read_script_line}
-use Rattle.c104_script.specs.declared.faults.LineFault.{LineFault}
-use Rattle.c104_script.specs.declared.places.Request.{Request}
-use Rattle.c104_script.specs.declared.places.Request.TheVariants as ask
+use Rattle.{c104_check.specs.{ChannelDependencies.IsAcyclic, Routes.{Routes, routes_of}}, c104_net.specs.HeaderWork.random_bound}
+use Rattle.{c104_node.specs.declared.origins.Origin.Origin, c104_plan.specs.{PlanImage.Image, Plans.Plan}}
+use Rattle.{c104_regs.specs.declared.registers.TheConstants.LINKS, c104_run.specs.Network.placed_network}
+use Rattle.c104_script.specs.{Script.read_script_line, declared.{faults.LineFault.LineFault, places.Request.Request}}
 use Rattle.c104_session.specs.PrintedPackets.{IsSentTo, IsUnchangedRun, PrintsPackets, lines_sent, script_sent, was_done}
-use Rattle.c104_session.specs.Shown.{line_answer, line_outcome, new_session}
-use Rattle.c104_session.specs.declared.session.Session.{Session}
+use Rattle.c104_session.specs.{Shown.{line_answer, line_outcome, new_session}, declared.session.Session.Session}
+use Rattle.{c104_stream.specs.{ScriptLines.script_lines, Scripts.lines_outcome}, c104_token.specs.declared.packets.Packet.Packet}
+use Rattle.c104_token.specs.declared.tokens.Token.{Token}
+use Rattle.std.specs.Prelude.{List, Ok, Option, Result, Some, [], if◌then◌else◌, length, slice_get, ℕ, ◌*◌, ◌++◌, ◌+◌, ◌<◌, ◌∷◌, ◌≡◌}
 
 -- how many rounds a line asks for
 abbrev pub rounds_asked : Result (Option Request) LineFault → ℕ
-rounds_asked (Ok (Some (ask.Rounds count))) = count
+rounds_asked (Ok (Some (Request.Rounds count))) = count
 rounds_asked asked = 0
 
 -- how many a line did: all that it asks for, where it is answered that they were done

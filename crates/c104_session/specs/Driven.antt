@@ -1,21 +1,10 @@
 -- What a driver keeps of what a network is asked, line by line of a script, beside what the network does and answers.
-use Rattle.std.specs.Prelude.{ℕ, ◌≡◌, ◌⊎◌, Bool, List, Option, Some, None, Result, Ok, Err}
-use Rattle.c104_switch.specs.Actions.{Reply}
-use Rattle.c104_event.specs.declared.events.Event.{Event}
-use Rattle.c104_event.specs.declared.faults.EventFault.{EventFault}
-use Rattle.c104_event.specs.declared.faults.EventFault.TheVariants as fault
-use Rattle.c104_run.specs.EventRuns.{run_events}
-use Rattle.c104_run.specs.NetRecords.{NetRecord}
-use Rattle.c104_run.specs.RecordedRuns.{record_apply}
-use Rattle.c104_run.specs.Rounds.{rounds}
-use Rattle.c104_script.specs.Script.{read_script_line}
-use Rattle.c104_script.specs.declared.faults.LineFault.{LineFault}
-use Rattle.c104_script.specs.declared.places.Request.{Request}
-use Rattle.c104_script.specs.declared.places.Request.TheVariants as ask
-use Rattle.c104_stream.specs.Scripts.{AnswersLine, AnswersLines, AnswersScript, Known, LineStops}
-use Rattle.c104_stream.specs.declared.halt.Halt.{Halt}
-use Rattle.c104_session.specs.declared.session.Session.{Session}
-use Rattle.c104_session.specs.Shown.{line_outcome}
+use Rattle.{c104_event.specs.declared.{events.Event.Event, faults.EventFault.EventFault}, c104_run.specs.EventRuns.run_events}
+use Rattle.{c104_run.specs.{NetRecords.NetRecord, RecordedRuns.record_apply, Rounds.rounds}, c104_script.specs.Script.read_script_line}
+use Rattle.{c104_script.specs.declared.{faults.LineFault.LineFault, places.Request.Request}, c104_session.specs.Shown.line_outcome}
+use Rattle.{c104_session.specs.declared.session.Session.Session, c104_stream.specs.Scripts.{AnswersLine, AnswersLines, AnswersScript}}
+use Rattle.{c104_stream.specs.{Scripts.{Known, LineStops}, declared.halt.Halt.Halt}, c104_switch.specs.Actions.Reply}
+use Rattle.std.specs.Prelude.{Bool, Err, List, None, Ok, Option, Result, Some, ℕ, ◌≡◌, ◌⊎◌}
 
 -- what a driver keeps: its state after it did an event, or as many rounds, on a network that was in this state. That is
 -- said of all that memory suffices for
@@ -26,13 +15,13 @@ pub record Driving (D : Type 0) : Type 0 where
 -- an event was done, or refused, as is due; or there was no memory for it
 abbrev pub DoesEvent : NetRecord → Event → Result Reply EventFault → NetRecord → Type 0
 DoesEvent net event result after =
-    (◌≡◌ {A = Result Reply EventFault × NetRecord} (result, after) (record_apply net event)) ⊎ (result ≡ Err fault.NoMemory)
+    (◌≡◌ {A = Result Reply EventFault × NetRecord} (result, after) (record_apply net event)) ⊎ (result ≡ Err EventFault.NoMemory)
 
 -- the same of rounds
 abbrev pub DoesRounds : NetRecord → ℕ → Result (Unit {0}) EventFault → NetRecord → Type 0
 DoesRounds net count result after =
     (◌≡◌ {A = Result (Unit {0}) EventFault × NetRecord} (result, after) (run_events record_apply net (rounds net.network.plan count)))
-    ⊎ (result ≡ Err fault.NoMemory)
+    ⊎ (result ≡ Err EventFault.NoMemory)
 
 -- a driver that keeps nothing
 abbrev pub keeps_nothing : {D : Type 0} → Driving D
@@ -41,10 +30,10 @@ keeps_nothing = record { event = λ driver net e. driver; rounds = λ driver net
 module _ {D : Type 0} (drives : Driving D) where
   -- the driver after a request: it does events and rounds, and has no part in anything else
   abbrev pub request_driven : D → NetRecord → Request → D
-  request_driven driver net (ask.Asked event) = drives.event driver net event
-  request_driven driver net (ask.Rounds count) = drives.rounds driver net count
-  request_driven driver net (ask.Probed it) = driver
-  request_driven driver net (ask.Refused kind) = driver
+  request_driven driver net (Request.Asked event) = drives.event driver net event
+  request_driven driver net (Request.Rounds count) = drives.rounds driver net count
+  request_driven driver net (Request.Probed it) = driver
+  request_driven driver net (Request.Refused kind) = driver
 
   -- the same of what was read of a line
   abbrev pub read_driven : D → NetRecord → Result (Option Request) LineFault → D

@@ -1,17 +1,10 @@
 -- What is kept of the rounds of a run, by a meter that is told of their tokens: before each round something begins, behind it
 -- is told whether anything was done, and rounds in which nothing would be done pass.
 --     rounds_kept n s      of n rounds
-use Rattle.std.specs.Prelude.{ℕ, suc, zero, ◌≡◌, ◌⊎◌, Bool, true, false, Result, Ok, Err, if◌then◌else◌}
-use Rattle.c104_event.specs.declared.faults.EventFault.{EventFault}
-use Rattle.c104_event.specs.declared.faults.EventFault.TheVariants as fault
-use Rattle.c104_node.specs.declared.tagged.TaggedToken.{TaggedToken}
-use Rattle.c104_run.specs.EventRuns.{run_events, Outcome}
-use Rattle.c104_run.specs.Meters.{Sees}
-use Rattle.c104_run.specs.NetRecords.{NetRecord}
-use Rattle.c104_run.specs.Rounds.{round}
-use Rattle.c104_net.specs.MeteredRecords.{at_meter, record_metered, MeteredRecord}
-use Rattle.c104_session.specs.Counted.{is_later}
-use Rattle.c104_session.specs.Leavings.{LeavesRounds}
+use Rattle.{c104_event.specs.declared.faults.EventFault.EventFault, c104_net.specs.MeteredRecords.{MeteredRecord, at_meter, record_metered}}
+use Rattle.{c104_node.specs.declared.tagged.TaggedToken.TaggedToken, c104_run.specs.{EventRuns.{Outcome, run_events}, Meters.Sees}}
+use Rattle.{c104_run.specs.{NetRecords.NetRecord, Rounds.round}, c104_session.specs.{Counted.is_later, Leavings.LeavesRounds}}
+use Rattle.std.specs.Prelude.{Bool, Err, Ok, Result, false, if◌then◌else◌, suc, true, zero, ℕ, ◌≡◌, ◌⊎◌}
 
 -- what a meter comes to before a round, behind one in which something was done or not, and as many rounds pass
 pub record Keeping (M : Type 0) : Type 0 where
@@ -42,4 +35,4 @@ module _ {M : Type 0} (sees : Sees M TaggedToken) (keeps : Keeping M) where
       (e : M) × (round_kept (at_meter net m) ≡ (Ok tt, at_meter after e)) × (done ≡ is_later net.count after.count)
       × (kept ≡ keeps.ended e done)
   KeepsRound net m (Err f) after kept =
-      (round_kept (at_meter net m) ≡ (Err f, at_meter after kept)) ⊎ ((f ≡ fault.NoMemory) × LeavesRounds net 1 after)
+      (round_kept (at_meter net m) ≡ (Err f, at_meter after kept)) ⊎ ((f ≡ EventFault.NoMemory) × LeavesRounds net 1 after)

@@ -1,15 +1,9 @@
 -- What is left of a session where there was no memory to answer a line.
-use Rattle.std.specs.Prelude.{ℕ, ◌≡◌, ⊤, List, ◌++◌, Option, Some, None, Result, Ok, Err}
-use Rattle.c104_event.specs.declared.events.Event.{Event}
-use Rattle.c104_run.specs.EventRuns.{run_events}
-use Rattle.c104_run.specs.NetRecords.{NetRecord}
-use Rattle.c104_run.specs.RecordedRuns.{record_apply}
-use Rattle.c104_run.specs.Rounds.{rounds}
-use Rattle.c104_script.specs.Script.{read_script_line}
-use Rattle.c104_script.specs.declared.faults.LineFault.{LineFault}
-use Rattle.c104_script.specs.declared.places.Request.{Request}
-use Rattle.c104_script.specs.declared.places.Request.TheVariants as ask
+use Rattle.{c104_event.specs.declared.events.Event.Event, c104_run.specs.{EventRuns.run_events, NetRecords.NetRecord}}
+use Rattle.{c104_run.specs.{RecordedRuns.record_apply, Rounds.rounds}, c104_script.specs.Script.read_script_line}
+use Rattle.c104_script.specs.declared.{faults.LineFault.LineFault, places.Request.Request}
 use Rattle.c104_session.specs.declared.session.Session.{Session}
+use Rattle.std.specs.Prelude.{Err, List, None, Ok, Option, Result, Some, ℕ, ⊤, ◌++◌, ◌≡◌}
 
 -- the network after the first of the events of a given number of rounds: none, some or all of them, and no others
 abbrev pub LeavesRounds : NetRecord → ℕ → NetRecord → Type 0
@@ -20,10 +14,10 @@ LeavesRounds net count left = (front : List Event) × (rest : List Event)
 -- the network that a request leaves for which there was no memory: an event isn't done, rounds may be done in part, and
 -- what the debugger has done by then isn't said
 abbrev pub LeavesNet : NetRecord → Request → NetRecord → Type 0
-LeavesNet net (ask.Asked event) left = left ≡ net
-LeavesNet net (ask.Rounds count) left = LeavesRounds net count left
-LeavesNet net (ask.Probed it) left = ⊤
-LeavesNet net (ask.Refused kind) left = left ≡ net
+LeavesNet net (Request.Asked event) left = left ≡ net
+LeavesNet net (Request.Rounds count) left = LeavesRounds net count left
+LeavesNet net (Request.Probed it) left = ⊤
+LeavesNet net (Request.Refused kind) left = left ≡ net
 
 -- the network that a line leaves which asks this: one that asks nothing, or is faulty, leaves it as it was
 abbrev pub LeavesRead : NetRecord → Result (Option Request) LineFault → NetRecord → Type 0

@@ -1,8 +1,6 @@
 -- What the lines of a script are, however they are computed.
-use Rattle.std.specs.Prelude.{ℕ, ◌-◌, ◌≡◌, ◌<◌, ◌≤◌, true, List, ◌++◌, length, take}
-use Rattle.std.specs.List.{list_all}
-use Rattle.c104_stream.specs.ScriptLines.{most_script}
-use Rattle.c104_script.specs.TextLines.{is_line, ended, AreLinesOf}
+use Rattle.{c104_script.specs.TextLines.{AreLinesOf, ended, is_line}, c104_stream.specs.ScriptLines.most_script}
+use Rattle.std.specs.{List.list_all, Prelude.{List, length, take, true, ℕ, ◌++◌, ◌-◌, ◌<◌, ◌≡◌, ◌≤◌}}
 
 -- the lines of a text that a line feed ends within a given number of bytes: with their line feeds they begin the
 -- text, and within that number no other line feed follows

@@ -2,44 +2,28 @@
 -- packets, of the printed text.
 --     IsUnchangedRun plan image script      the premises
 --     PrintsPackets plan image script      what follows
-use Rattle.std.specs.Prelude.{ℕ, suc, ◌≡◌, Bool, true, false, List, [], ◌∷◌, ◌++◌, drop, flat_map, if◌then◌else◌, nat_eq, slice_get, Option, Some, Result, Ok}
-use Rattle.c104_token.specs.Packets.{packet_tokens}
+use Rattle.{c104_check.specs.Routes.{IsAccepted, Routes, owner, routes_of}, c104_event.specs.declared.events.Event.Event}
+use Rattle.{c104_net.specs.{Deliveries.{cut_at, has_header, header_of}, Unchanged.MayHappen}, c104_node.specs.Traces.part}
+use Rattle.{c104_node.specs.declared.origins.Origin.Origin, c104_plan.specs.{PlanImage.Image, Plans.Plan, declared.plans.Terminal.Terminal}}
+use Rattle.{c104_plan.specs.declared.ports.Port.Port, c104_run.specs.QuietNets.IsQuiet, c104_script.specs.Script.read_script_line}
+use Rattle.c104_script.specs.declared.{answers.Answer.{Answer, TheVariants.Replied}, faults.LineFault.LineFault, places.Request.Request}
+use Rattle.{c104_script.specs.declared.probes.Probe.Probe, c104_session.specs.Shown.{line_answer, line_outcome, new_session, packet_line}}
+use Rattle.{c104_session.specs.{Shown.run_output, declared.session.Session.Session}, c104_stream.specs.ScriptLines.{is_long, script_lines}}
+use Rattle.{c104_stream.specs.Scripts.script_outcome, c104_switch.specs.Actions.is_ready, c104_token.specs.Packets.packet_tokens}
 use Rattle.c104_token.specs.declared.packets.Packet.{Packet}
-use Rattle.c104_switch.specs.Actions.{is_ready}
-use Rattle.c104_plan.specs.Plans.{Plan}
-use Rattle.c104_plan.specs.PlanImage.{Image}
-use Rattle.c104_plan.specs.declared.plans.Terminal.{Terminal}
-use Rattle.c104_plan.specs.declared.ports.Port.TheVariants as port
-use Rattle.c104_check.specs.Routes.{IsAccepted, Routes, owner, routes_of}
-use Rattle.c104_event.specs.declared.events.Event.{Event}
-use Rattle.c104_event.specs.declared.events.Event.TheVariants as event
-use Rattle.c104_node.specs.Traces.{part}
-use Rattle.c104_node.specs.declared.origins.Origin.{Origin}
-use Rattle.c104_run.specs.QuietNets.{IsQuiet}
-use Rattle.c104_net.specs.Deliveries.{cut_at, has_header, header_of}
-use Rattle.c104_net.specs.Unchanged.{MayHappen}
-use Rattle.c104_stream.specs.ScriptLines.{is_long, script_lines}
-use Rattle.c104_stream.specs.Scripts.{script_outcome}
-use Rattle.c104_script.specs.Script.{read_script_line}
-use Rattle.c104_script.specs.declared.answers.Answer.{Answer}
-use Rattle.c104_script.specs.declared.answers.Answer.TheVariants.{Replied}
-use Rattle.c104_script.specs.declared.faults.LineFault.{LineFault}
-use Rattle.c104_script.specs.declared.places.Request.{Request}
-use Rattle.c104_script.specs.declared.places.Request.TheVariants as ask
-use Rattle.c104_script.specs.declared.probes.Probe.TheVariants as probe
-use Rattle.c104_session.specs.Shown.{line_answer, line_outcome, new_session, packet_line, run_output}
-use Rattle.c104_session.specs.declared.session.Session.{Session}
+use Rattle.std.specs.Prelude.{Bool, List, Ok, Option, Result, Some, [], drop, false, flat_map, if◌then◌else◌, nat_eq, slice_get, suc, true}
+use Rattle.std.specs.Prelude.{ℕ, ◌++◌, ◌∷◌, ◌≡◌}
 
 -- What a script sends
 
 -- the packet that an event sends, with its terminal
 abbrev pub event_sends : Event → List (ℕ × Packet)
-event_sends (event.Send t packet) = (t, packet) ∷ []
+event_sends (Event.Send t packet) = (t, packet) ∷ []
 event_sends e = []
 
 -- the same of what a line asks
 abbrev pub asked_sends : Result (Option Request) LineFault → List (ℕ × Packet)
-asked_sends (Ok (Some (ask.Asked e))) = event_sends e
+asked_sends (Ok (Some (Request.Asked e))) = event_sends e
 asked_sends asked = []
 
 -- what a line asks was done, by its answer
@@ -71,8 +55,8 @@ packets_of t (s ∷ sends) = if nat_eq s.0 t then s.1 ∷ packets_of t sends els
 -- a line that is answered so leaves the network as it was set up: it is no command that resets a switch, or is answered
 -- that it set a register, and no poke; and it sends nothing that mayn't be sent where random headers are put
 abbrev pub MayAsk : Routes → Result (Option Request) LineFault → Option Answer → Type 0
-MayAsk routes (Ok (Some (ask.Asked e))) (Some (Replied r)) = MayHappen routes e r
-MayAsk routes (Ok (Some (ask.Probed (probe.Poke switch addr value)))) answer = ⊥
+MayAsk routes (Ok (Some (Request.Asked e))) (Some (Replied r)) = MayHappen routes e r
+MayAsk routes (Ok (Some (Request.Probed (Probe.Poke switch addr value)))) answer = ⊥
 MayAsk routes asked answer = Unit {0}
 
 -- so does each of these lines
@@ -102,7 +86,7 @@ IsSentTo routes sends t o = (packet : Packet)
 -- terminal deletes it, and where it came from
 abbrev pub sent_line : Plan → Routes → ℕ → List ℕ → Origin → Packet → List ℕ
 sent_line plan routes t name o packet =
-    packet_line plan name (drop (cut_at routes (routes.peer (port.Terminal t))) (packet_tokens packet)) (o ∷ [])
+    packet_line plan name (drop (cut_at routes (routes.peer (Port.Terminal t))) (packet_tokens packet)) (o ∷ [])
 
 -- the same of the packet that was sent of this origin
 abbrev pub origin_line : Plan → Routes → List (ℕ × Packet) → ℕ → List ℕ → Origin → List ℕ

@@ -1,5 +1,5 @@
 -- Commands that reset a switch.
-use Rattle.std.specs.Prelude.{ℕ, Bool, false, List, [], ◌∷◌, nat_eq}
+use Rattle.std.specs.Prelude.{Bool, List, [], false, nat_eq, ℕ, ◌∷◌}
 
 -- whether these bytes are the command that resets a switch
 abbrev pub is_reset : List ℕ → Bool

@@ -1,38 +1,16 @@
 -- What a run shows: the answers to the script's lines in turn, and then what arrived.
-use Rattle.std.specs.Prelude.{ℕ, suc, Bool, true, false, List, [], ◌∷◌, ◌++◌, flat_map, map, codes, decimal, Option, Some, None, Result, Ok}
-use Rattle.std.specs.Prelude.{Err}
-use Rattle.std.specs.Global.{Vec}
-use Rattle.c104_token.specs.declared.tokens.Token.{Token}
-use Rattle.c104_token.specs.Cut.{whole_pieces}
-use Rattle.c104_switch.specs.Actions.{Reply}
-use Rattle.c104_switch.specs.declared.actions.ReplyOf.TheVariants.{Done}
-use Rattle.c104_event.specs.declared.faults.EventFault.{EventFault}
-use Rattle.c104_plan.specs.Plans.{Plan}
-use Rattle.c104_plan.specs.declared.plans.Terminal.{Terminal}
-use Rattle.c104_plan.specs.PlanImage.{Image}
-use Rattle.c104_plan.specs.PortTexts.{terminal_name}
-use Rattle.c104_run.specs.EventRuns.{run_events}
-use Rattle.c104_net.specs.Deliveries.{arrived_at}
-use Rattle.c104_run.specs.FinishedRecords.{FinishedRecord, record_finish}
-use Rattle.c104_run.specs.NetRecords.{NetRecord, fresh_record}
-use Rattle.c104_run.specs.Network.{Network, placed_network}
-use Rattle.c104_node.specs.Origins.{origins_in}
-use Rattle.c104_node.specs.declared.origins.Origin.{Origin}
-use Rattle.c104_run.specs.RecordedRuns.{record_apply}
-use Rattle.c104_run.specs.Rounds.{rounds}
-use Rattle.c104_net.specs.TracedEnds.{traced_end}
-use Rattle.c104_node.specs.declared.traced.Traced.{Traced}
-use Rattle.c104_stream.specs.ScriptLines.{is_long, script_too_long}
-use Rattle.c104_stream.specs.Scripts.{script_outcome}
-use Rattle.c104_script.specs.Script.{read_script_line}
-use Rattle.c104_script.specs.declared.faults.LineFault.{LineFault}
-use Rattle.c104_script.specs.declared.places.Request.{Request}
-use Rattle.c104_script.specs.declared.places.Request.TheVariants as ask
-use Rattle.c104_script.specs.declared.answers.Answer.TheVariants.{Replied, Refused, Faulty}
-use Rattle.c104_session.specs.declared.session.Session.{Session}
-use Rattle.c104_session.specs.Probing.{probe_answer}
-use Rattle.c104_script.specs.declared.answers.Answer.{Answer}
-use Rattle.c104_script.specs.Texts.{shown, token_text}
+use Rattle.{c104_event.specs.declared.faults.EventFault.EventFault, c104_net.specs.{Deliveries.arrived_at, TracedEnds.traced_end}}
+use Rattle.{c104_node.specs.{Origins.origins_in, declared.{origins.Origin.Origin, traced.Traced.Traced}}, c104_plan.specs.PlanImage.Image}
+use Rattle.{c104_plan.specs.{Plans.Plan, PortTexts.terminal_name, declared.plans.Terminal.Terminal}, c104_run.specs.EventRuns.run_events}
+use Rattle.c104_run.specs.{FinishedRecords.{FinishedRecord, record_finish}, NetRecords.{NetRecord, fresh_record}, Network.Network}
+use Rattle.{c104_run.specs.{Network.placed_network, RecordedRuns.record_apply, Rounds.rounds}, c104_script.specs.Script.read_script_line}
+use Rattle.c104_script.specs.{Texts.{shown, token_text}, declared.answers.Answer.{Answer, TheVariants.{Faulty, Refused, Replied}}}
+use Rattle.{c104_script.specs.declared.{faults.LineFault.LineFault, places.Request.Request}, c104_session.specs.Probing.probe_answer}
+use Rattle.{c104_session.specs.declared.session.Session.Session, c104_stream.specs.ScriptLines.{is_long, script_too_long}}
+use Rattle.{c104_stream.specs.Scripts.script_outcome, c104_switch.specs.{Actions.Reply, declared.actions.ReplyOf.TheVariants.Done}}
+use Rattle.c104_token.specs.{Cut.whole_pieces, declared.tokens.Token.Token}
+use Rattle.std.specs.{Global.Vec, Prelude.{Bool, Err, List, None, Ok, Option, Result, Some, [], codes, decimal, false, flat_map, map, suc}}
+use Rattle.std.specs.Prelude.{true, ℕ, ◌++◌, ◌∷◌}
 
 -- a network of this plan with an image, before the first line
 abbrev pub new_session : Plan → Image → Session
@@ -63,10 +41,10 @@ probe_after session r = (r.0, record session { net = r.1 })
 
 -- what answers a request, and the run after it
 abbrev pub request_answer : Session → Request → Answer × Session
-request_answer session (ask.Asked event) = answer_after session (record_apply session.net event)
-request_answer session (ask.Rounds count) = answer_after session (rounds_outcome session.net count)
-request_answer session (ask.Probed it) = probe_after session (probe_answer session.net session.image it)
-request_answer session (ask.Refused kind) = (Refused kind, session)
+request_answer session (Request.Asked event) = answer_after session (record_apply session.net event)
+request_answer session (Request.Rounds count) = answer_after session (rounds_outcome session.net count)
+request_answer session (Request.Probed it) = probe_after session (probe_answer session.net session.image it)
+request_answer session (Request.Refused kind) = (Refused kind, session)
 
 -- a line without words has no answer; a faulty one changes nothing but that there was one
 abbrev pub answer_of_read : Session → Result (Option Request) LineFault → Option Answer × Session

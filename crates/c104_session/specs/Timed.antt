@@ -1,17 +1,11 @@
 -- The timeline of a run: what an event that is asked of a network adds to it, and what rounds do.
 --     timed_event t net e      an event
 --     timed_rounds t net n      n rounds
-use Rattle.std.specs.Prelude.{ℕ, List, if◌then◌else◌}
-use Rattle.c104_event.specs.declared.events.Event.{Event}
-use Rattle.c104_event.specs.declared.events.Event.TheVariants as event
-use Rattle.c104_run.specs.NetRecords.{is_done, NetRecord}
-use Rattle.c104_run.specs.RecordedRuns.{record_apply}
-use Rattle.c104_net.specs.MeteredRecords.{at_meter, record_metered}
-use Rattle.c104_timeline.specs.Metering.{watching}
-use Rattle.c104_timeline.specs.Timelines.{timeline_begun, timeline_cut, timeline_ended, timeline_passed, timeline_settled, Timeline}
-use Rattle.c104_session.specs.Driven.{Driving}
-use Rattle.c104_session.specs.Keepers.{rounds_kept, Keeping}
-use Rattle.c104_session.specs.Resets.{is_reset}
+use Rattle.{c104_event.specs.declared.events.Event.Event, c104_net.specs.MeteredRecords.{at_meter, record_metered}}
+use Rattle.{c104_run.specs.{NetRecords.{NetRecord, is_done}, RecordedRuns.record_apply}, c104_session.specs.Driven.Driving}
+use Rattle.{c104_session.specs.{Keepers.{Keeping, rounds_kept}, Resets.is_reset}, c104_timeline.specs.Metering.watching}
+use Rattle.c104_timeline.specs.Timelines.{Timeline, timeline_begun, timeline_cut, timeline_ended, timeline_passed, timeline_settled}
+use Rattle.std.specs.Prelude.{List, if◌then◌else◌, ℕ}
 
 -- what rounds do beside their tokens
 abbrev pub timeline_keeps : Keeping Timeline
@@ -27,13 +21,13 @@ before_command t s bytes = if is_reset bytes then timeline_cut t s else t
 
 -- before an event: what crossed at its port has become part of the timeline
 abbrev pub before_event : Timeline → Event → Timeline
-before_event t (event.Cross p) = timeline_settled t p
-before_event t (event.Credit p) = t
-before_event t (event.Input s l word) = t
-before_event t (event.Claim s i o) = t
-before_event t (event.Control s bytes) = before_command t s bytes
-before_event t (event.Send terminal packet) = t
-before_event t (event.Drain terminal) = t
+before_event t (Event.Cross p) = timeline_settled t p
+before_event t (Event.Credit p) = t
+before_event t (Event.Input s l word) = t
+before_event t (Event.Claim s i o) = t
+before_event t (Event.Control s bytes) = before_command t s bytes
+before_event t (Event.Send terminal packet) = t
+before_event t (Event.Drain terminal) = t
 
 -- what the timeline is told of an event: what crosses, and whether anything was done
 abbrev pub told_event : Timeline → NetRecord → Event → Timeline

@@ -1,22 +1,10 @@
 -- The picture of the run of a script over its rounds, or the table of what that shows.
-use Rattle.std.specs.Prelude.{ℕ, ◌≡◌, ◌||◌, ⊤, Bool, true, false, List, ◌++◌, codes, decimal, Option, Some, None}
-use Rattle.c104_plan.specs.Plans.{Plan}
-use Rattle.c104_plan.specs.PlanImage.{Image}
-use Rattle.c104_run.specs.NetRecords.{NetRecord}
-use Rattle.c104_stats.specs.declared.formats.Format.{Format}
-use Rattle.c104_stream.specs.ScriptLines.{is_long}
-use Rattle.c104_stream.specs.Scripts.{script_outcome}
-use Rattle.c104_timeline.specs.Bars.{bars_text}
-use Rattle.c104_timeline.specs.Closing.{closed_all}
-use Rattle.c104_timeline.specs.declared.periods.Asked.{Asked}
-use Rattle.c104_timeline.specs.declared.periods.Period.{Period}
-use Rattle.c104_timeline.specs.Periods.{period_of}
-use Rattle.c104_timeline.specs.TimePictures.{picture_text, IsTimeText, IsTooLarge}
-use Rattle.c104_timeline.specs.Timelines.{new_timeline, Timeline}
-use Rattle.c104_session.specs.Driven.{driven_outcome}
-use Rattle.c104_session.specs.Shown.{new_session}
-use Rattle.c104_session.specs.Timed.{timeline_kept}
-use Rattle.c104_session.specs.declared.session.Session.{Session}
+use Rattle.{c104_plan.specs.{PlanImage.Image, Plans.Plan}, c104_run.specs.NetRecords.NetRecord, c104_session.specs.Driven.driven_outcome}
+use Rattle.c104_session.specs.{Shown.new_session, Timed.timeline_kept, declared.session.Session.Session}
+use Rattle.{c104_stats.specs.declared.formats.Format.Format, c104_stream.specs.{ScriptLines.is_long, Scripts.script_outcome}}
+use Rattle.c104_timeline.specs.{Bars.bars_text, Closing.closed_all, Periods.period_of, TimePictures.{IsTimeText, IsTooLarge, picture_text}}
+use Rattle.c104_timeline.specs.{Timelines.{Timeline, new_timeline}, declared.periods.{Asked.Asked, Period.Period}}
+use Rattle.std.specs.Prelude.{Bool, List, None, Option, Some, codes, decimal, false, true, ℕ, ⊤, ◌++◌, ◌||◌, ◌≡◌}
 
 -- the run of a script from a session on: the session and the timeline at its end
 abbrev pub timed_script : Session → List ℕ → Session × Timeline

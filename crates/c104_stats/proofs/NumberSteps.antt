@@ -1,6 +1,5 @@
 -- A step for each number below one, number by number.
-use Rattle.std.proofs.Common.{◌≡◌, ◌+◌, ◌-◌, ◌<◌, ◌≤◌, ◌∙◌, ℕ, zero, suc, refl, sym, ap, arith}
-use Rattle.c104_stats.specs.Numbers.{each_number}
+use Rattle.{c104_stats.specs.Numbers.each_number, std.proofs.Common.{ap, arith, refl, suc, sym, zero, ℕ, ◌+◌, ◌-◌, ◌<◌, ◌∙◌, ◌≡◌, ◌≤◌}}
 
 module _ {X : Type 0} (step : ℕ → X → X) where
   pub none_yet : (x : X) → x ≡ each_number step 0 x

@@ -1,8 +1,6 @@
 -- From the packets of one terminal to those of all.
-use Rattle.std.proofs.Common.{◌≡◌, ◌<◌, ◌∙◌, ℕ, zero, suc, List, [], ◌∷◌, Result, Ok, Err, OnOk, OnErr, get_or, length, slice_set, refl}
-use Rattle.std.proofs.Common.{sym, ap}
-use Rattle.std.proofs.lemmas.Option.{slice_get-get_or}
-use Rattle.c104_stats.specs.Packets.{change_at, changed_by}
+use Rattle.{c104_stats.specs.Packets.{change_at, changed_by}, std.proofs.Common.{Err, List, Ok, OnErr, OnOk, Result, [], ap, get_or}}
+use Rattle.std.proofs.{Common.{length, refl, slice_set, suc, sym, zero, ℕ, ◌<◌, ◌∙◌, ◌∷◌, ◌≡◌}, lemmas.Option.slice_get-get_or}
 
 module _ {X : Type 0} where
   set_back : (xs : List X) (i : ℕ) (d : X) → slice_set xs i (get_or xs i d) ≡ xs

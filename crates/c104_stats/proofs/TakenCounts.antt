@@ -1,10 +1,7 @@
 -- A packet that was sent and taken back leaves what was counted before.
-use Rattle.std.proofs.Common.{◌≡◌, ◌∙◌, ◌-◌, ℕ, zero, suc, List, [], ◌∷◌, ◌++◌, Option, Some, None, length, slice_get, slice_set, take}
-use Rattle.std.proofs.Common.{ap, arith, refl}
-use Rattle.std.proofs.lemmas.List.{length-append}
-use Rattle.c104_stats.specs.Counts.{counts_sent, counts_taken, Counts}
-use Rattle.c104_stats.specs.Numbers.{few}
-use Rattle.c104_stats.specs.Packets.{all_but_last, change_at, changed_by, sent_packet, PacketRow}
+use Rattle.c104_stats.specs.{Counts.{Counts, counts_sent, counts_taken}, Numbers.few, Packets.{PacketRow, all_but_last, change_at}}
+use Rattle.{c104_stats.specs.Packets.{changed_by, sent_packet}, std.proofs.Common.{List, None, Option, Some, [], ap, arith, length, refl}}
+use Rattle.std.proofs.{Common.{slice_get, slice_set, suc, take, zero, ℕ, ◌++◌, ◌-◌, ◌∙◌, ◌∷◌, ◌≡◌}, lemmas.List.length-append}
 
 module _ {X : Type 0} where
   -- a change of a thing that is there, and another one

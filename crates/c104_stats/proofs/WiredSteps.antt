@@ -1,16 +1,9 @@
 -- What is seen at a link of a switch, where it has a wire and where it has none.
-use Rattle.std.proofs.Common.{◌≡◌, ◌+◌, ◌<◌, ◌≤◌, ◌∙◌, ◌&&◌, Bool, true, false, ℕ, if◌then◌else◌, ap, arith, refl, sym}
-use Rattle.c104_token.specs.Kinds.{plain_kind}
-use Rattle.c104_token.specs.declared.tokens.Token.{Token}
-use Rattle.c104_plan.specs.Plans.{Plan}
-use Rattle.c104_plan.specs.declared.ports.Port.TheVariants as port
-use Rattle.c104_run.specs.NetViews.{network_link_view}
-use Rattle.c104_run.specs.Network.{Network}
-use Rattle.c104_run.specs.Rounds.{is_wired}
-use Rattle.c104_stats.specs.Counts.{Counts}
-use Rattle.c104_stats.specs.Numbers.{each_number}
-use Rattle.c104_stats.specs.Sights.{link_seen, wired_seen}
-use Rattle.c104_stats.proofs.NumberSteps.{one_more, passed_to}
+use Rattle.{c104_plan.specs.{Plans.Plan, declared.ports.Port.Port}, c104_run.specs.{NetViews.network_link_view, Network.Network}}
+use Rattle.{c104_run.specs.Rounds.is_wired, c104_stats.{proofs.NumberSteps.{one_more, passed_to}, specs.Counts.Counts}}
+use Rattle.{c104_stats.specs.{Numbers.each_number, Sights.{link_seen, wired_seen}}, c104_token.specs.Kinds.plain_kind}
+use Rattle.{c104_token.specs.declared.tokens.Token.Token, std.proofs.Common.{Bool, ap, arith, false, if◌then◌else◌, refl, sym, true, ℕ}}
+use Rattle.std.proofs.Common.{◌&&◌, ◌+◌, ◌<◌, ◌∙◌, ◌≡◌, ◌≤◌}
 
 of_both : (b : Bool) → (b && b) ≡ false → b ≡ false
 of_both true both = both
@@ -24,19 +17,19 @@ module _ (net : Network Token) (s l : ℕ) (c : Counts) where
   seen_if : Bool → Counts
   seen_if wired = if wired then link_seen (network_link_view plain_kind net s l) s l c else c
 
-  not_wired : is_wired net.plan (port.Switch s l) ≡ false → wired_seen net s l c ≡ c
+  not_wired : is_wired net.plan (Port.Switch s l) ≡ false → wired_seen net s l c ≡ c
   unfolding seen_if
   not_wired none = ap seen_if none
 
-  wired : is_wired net.plan (port.Switch s l) ≡ true → link_seen (network_link_view plain_kind net s l) s l c ≡ wired_seen net s l c
+  wired : is_wired net.plan (Port.Switch s l) ≡ true → link_seen (network_link_view plain_kind net s l) s l c ≡ wired_seen net s l c
   unfolding seen_if
   wired is = sym (ap seen_if is)
 
 -- the links of a switch that have wires are a set, by which its links are walked
 module _ (net : Network Token) (s : ℕ) (plan : Plan) (set : ℕ → Bool) (same : plan ≡ net.plan)
-    (linked : (l : ℕ) → l < 32 → set l ≡ is_wired plan (port.Switch s l)) where
-  is_in : (l : ℕ) (b : Bool) → l < 32 → set l ≡ b → is_wired net.plan (port.Switch s l) ≡ b
-  is_in l b inside is = sym (ap (λ p. is_wired p (port.Switch s l)) same) ∙ sym (linked l inside) ∙ is
+    (linked : (l : ℕ) → l < 32 → set l ≡ is_wired plan (Port.Switch s l)) where
+  is_in : (l : ℕ) (b : Bool) → l < 32 → set l ≡ b → is_wired net.plan (Port.Switch s l) ≡ b
+  is_in l b inside is = sym (ap (λ p. is_wired p (Port.Switch s l)) same) ∙ sym (linked l inside) ∙ is
 
   past : (from to : ℕ) (c at : Counts) → from ≤ to → to ≤ 32 → at ≡ each_number (wired_seen net s) from c
       → ((l : ℕ) → from ≤ l → l < to → (set l && set l) ≡ false) → at ≡ each_number (wired_seen net s) to c

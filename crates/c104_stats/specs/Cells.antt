@@ -1,12 +1,8 @@
 -- How a cell, a row and a table are printed.
-use Rattle.std.specs.Prelude.{ℕ, ◌-◌, ◌/◌, ◌%◌, Bool, true, false, List, [], ◌∷◌, ◌++◌, Option, Some, None, codes, if◌then◌else◌, length}
-use Rattle.std.specs.Prelude.{map, nat_eq, replicate}
-use Rattle.std.specs.Fmt.{decimal}
-use Rattle.c104_stats.specs.Columns.{column_name, Column}
-pub use Rattle.c104_stats.specs.declared.formats.Format.{Format}
-use Rattle.c104_stats.specs.declared.formats.Format.TheVariants.{Table, Csv, Json}
-pub use Rattle.c104_stats.specs.declared.cells.Cell.{Cell}
-use Rattle.c104_stats.specs.declared.cells.Cell.TheVariants as cell
+pub use Rattle.c104_stats.specs.declared.{cells.Cell.Cell, formats.Format.Format}
+use Rattle.c104_stats.specs.{Columns.{Column, column_name}, declared.formats.Format.TheVariants.{Csv, Json, Table}}
+use Rattle.std.specs.{Fmt.decimal, Prelude.{Bool, List, None, Option, Some, [], codes, false, if◌then◌else◌, length, map, nat_eq}}
+use Rattle.std.specs.Prelude.{replicate, true, ℕ, ◌%◌, ◌++◌, ◌-◌, ◌/◌, ◌∷◌}
 
 -- what a cell shows in its column: a number, one of thousandths, a word, or nothing
 pub data Shown : Type 0 where
@@ -16,10 +12,10 @@ pub data Shown : Type 0 where
   Nothing : Column → Shown
 
 abbrev pub shown : Cell → Shown
-shown (cell.Count c n) = Shown.Count c n
-shown (cell.Share c n) = Shown.Share c n
-shown (cell.Word c w) = Shown.Word c w.now
-shown (cell.Nothing c) = Shown.Nothing c
+shown (Cell.Count c n) = Shown.Count c n
+shown (Cell.Share c n) = Shown.Share c n
+shown (Cell.Word c w) = Shown.Word c w.now
+shown (Cell.Nothing c) = Shown.Nothing c
 
 abbrev pub column_of : Shown → Column
 column_of (Shown.Count c n) = c

@@ -1,19 +1,13 @@
 -- What is counted of a run: a step for each thing that is told, in the order in which it happened.
-use Rattle.std.specs.Prelude.{ℕ, ◌+◌, ◌*◌, ◌/◌, ◌&&◌, Bool, true, false, List, [], ◌∷◌, ◌++◌, Option, Some, None, if◌then◌else◌, is_some, length, map}
-use Rattle.std.specs.Prelude.{nat_lt, replicate, slice_get}
-use Rattle.c104_regs.specs.declared.registers.TheConstants.{LINKS}
-use Rattle.c104_plan.specs.Plans.{Plan}
-use Rattle.c104_plan.specs.declared.plans.Terminal.{Terminal}
-use Rattle.c104_plan.specs.declared.ports.Port.{Port}
-use Rattle.c104_plan.specs.declared.ports.Port.TheVariants as port
-use Rattle.c104_node.specs.declared.origins.Origin.{Origin}
-use Rattle.c104_stats.specs.declared.formats.What.{What}
+use Rattle.{c104_node.specs.declared.origins.Origin.Origin, c104_plan.specs.{Plans.Plan, declared.plans.Terminal.Terminal}}
+use Rattle.{c104_plan.specs.declared.ports.Port.Port, c104_regs.specs.declared.registers.TheConstants.LINKS, c104_stats.specs.Links.LinkRow}
+use Rattle.c104_stats.specs.{Links.{link_after, link_cut, link_idle, link_level, new_link}, Numbers.{each_number, few}, Packets.Arrival}
+use Rattle.c104_stats.specs.Packets.{PacketRow, all_but_last, arrived_packet, change_at, crossed_packet, inside_packet, left_packet}
+use Rattle.c104_stats.specs.{Packets.sent_packet, Rounds.{Levels, RoundRow, arrived_round, ended_round, later_round, moved_round}}
+use Rattle.c104_stats.specs.{Rounds.{new_round, no_levels}, declared.formats.What.What}
+use Rattle.std.specs.Prelude.{Bool, List, None, Option, Some, [], false, if◌then◌else◌, is_some, length, map, nat_lt, replicate, slice_get}
+use Rattle.std.specs.Prelude.{true, ℕ, ◌&&◌, ◌*◌, ◌++◌, ◌+◌, ◌/◌, ◌∷◌}
 use Rattle.c104_stats.specs.declared.formats.What.TheVariants as what
-use Rattle.c104_stats.specs.Numbers.{each_number, few}
-use Rattle.c104_stats.specs.Links.{link_after, link_cut, link_idle, link_level, new_link, LinkRow}
-use Rattle.c104_stats.specs.Packets.{all_but_last, arrived_packet, change_at, crossed_packet, inside_packet, left_packet, sent_packet}
-use Rattle.c104_stats.specs.Packets.{Arrival, PacketRow}
-use Rattle.c104_stats.specs.Rounds.{arrived_round, ended_round, later_round, moved_round, new_round, no_levels, Levels, RoundRow}
 
 pub record Counts : Type 0 where
   -- what is to be printed of them: a table, or the summary
@@ -91,13 +85,13 @@ counts_taken c t = record c { senders = change_at c.senders t all_but_last }
 
 -- a token crossed the wire at a port, which ended this packet, or none
 abbrev pub counts_crossed : Counts → Port → Option Origin → Counts
-counts_crossed c (port.Switch s l) ended = record c {
+counts_crossed c (Port.Switch s l) ended = record c {
   links = change_link c.links s l (λ row. link_after row (record { round = c.current.round; ends = is_some ended }));
   senders = crossed_senders c.senders (idle_of (link_row c.links s l) c.current.round) ended;
   current = moved_round c.current;
   active = c.current.round;
 }
-counts_crossed c (port.Terminal t) ended = record c {
+counts_crossed c (Port.Terminal t) ended = record c {
   wires = change_at c.wires t (λ row. link_after row (record { round = c.current.round; ends = is_some ended }));
   senders = crossed_senders (left_senders c.senders t c.current.round (slice_get c.wires t))
       (idle_of (slice_get c.wires t) c.current.round) ended;
@@ -138,8 +132,8 @@ counts_passed c times = record c { current = later_round times c.current }
 
 -- this many tokens wait to cross at a port, before the next round begins or at the end of all
 abbrev pub counts_level : Counts → Port → ℕ → Counts
-counts_level c (port.Switch s l) level = record c { links = change_link c.links s l (link_level level) }
-counts_level c (port.Terminal t) level = record c { wires = change_at c.wires t (link_level level) }
+counts_level c (Port.Switch s l) level = record c { links = change_link c.links s l (link_level level) }
+counts_level c (Port.Terminal t) level = record c { wires = change_at c.wires t (link_level level) }
 
 -- the terminator of a packet was found in the network
 abbrev pub counts_found : Counts → Origin → Counts

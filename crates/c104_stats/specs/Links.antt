@@ -1,10 +1,8 @@
 -- What is counted of a link, by the tokens that cross at its port, one after the other.
 --     link_after row x      what is counted after one token more
-use Rattle.std.specs.Prelude.{ℕ, ◌+◌, ◌-◌, ◌||◌, Bool, true, false, Option, Some, None, if◌then◌else◌, max, nat_eq}
+pub use Rattle.c104_stats.specs.declared.links.{Crossing.Crossing, Holder.Holder, LinkRow.LinkRow}
 use Rattle.c104_stats.specs.Numbers.{few, told}
-pub use Rattle.c104_stats.specs.declared.links.Crossing.{Crossing}
-pub use Rattle.c104_stats.specs.declared.links.Holder.{Holder}
-pub use Rattle.c104_stats.specs.declared.links.LinkRow.{LinkRow}
+use Rattle.std.specs.Prelude.{Bool, None, Option, Some, false, if◌then◌else◌, max, nat_eq, true, ℕ, ◌+◌, ◌-◌, ◌||◌}
 
 -- a link over which nothing has crossed
 abbrev pub new_link : LinkRow

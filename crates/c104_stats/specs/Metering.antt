@@ -1,8 +1,6 @@
 -- What is counted of the tokens that a network tells of.
-use Rattle.c104_node.specs.Tagged.{TaggedToken}
-use Rattle.c104_run.specs.Meters.{Sees}
-use Rattle.c104_stats.specs.Counts.{counts_arrived, counts_crossed, Counts}
-use Rattle.c104_stats.specs.Sights.{ended_by}
+use Rattle.{c104_node.specs.Tagged.TaggedToken, c104_run.specs.Meters.Sees, c104_stats.specs.Counts.{Counts, counts_arrived}}
+use Rattle.c104_stats.specs.{Counts.counts_crossed, Sights.ended_by}
 
 -- a token crosses the wire at a port, or arrives at a terminal
 abbrev pub counting : Sees Counts TaggedToken

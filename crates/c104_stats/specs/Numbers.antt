@@ -1,5 +1,5 @@
 -- Counts as they are told: they stop at the largest number of their size, which none comes near.
-use Rattle.std.specs.Prelude.{ℕ, suc, zero, min}
+use Rattle.std.specs.Prelude.{min, suc, zero, ℕ}
 
 -- a count in 64 bits
 abbrev pub told : ℕ → ℕ

@@ -1,9 +1,7 @@
 -- What is counted of a packet.
-use Rattle.std.specs.Prelude.{ℕ, ◌+◌, ◌-◌, true, false, List, Option, Some, None, length, slice_get, slice_set, take}
-use Rattle.c104_stats.specs.Links.{first_of}
-use Rattle.c104_stats.specs.Numbers.{few}
-pub use Rattle.c104_stats.specs.declared.packets.Arrival.{Arrival}
-pub use Rattle.c104_stats.specs.declared.packets.PacketRow.{PacketRow}
+pub use Rattle.c104_stats.specs.declared.packets.{Arrival.Arrival, PacketRow.PacketRow}
+use Rattle.c104_stats.specs.{Links.first_of, Numbers.few}
+use Rattle.std.specs.Prelude.{List, None, Option, Some, false, length, slice_get, slice_set, take, true, ℕ, ◌+◌, ◌-◌}
 
 -- a packet of this many bytes that is sent in this round
 abbrev pub sent_packet : ℕ → ℕ → PacketRow

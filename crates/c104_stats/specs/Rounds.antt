@@ -1,8 +1,7 @@
 -- What is counted of a round.
-use Rattle.std.specs.Prelude.{ℕ, ◌+◌}
+pub use Rattle.c104_stats.specs.declared.rounds.{Levels.Levels, RoundRow.RoundRow}
 use Rattle.c104_stats.specs.Numbers.{few, told}
-pub use Rattle.c104_stats.specs.declared.rounds.Levels.{Levels}
-pub use Rattle.c104_stats.specs.declared.rounds.RoundRow.{RoundRow}
+use Rattle.std.specs.Prelude.{ℕ, ◌+◌}
 
 -- what there is in a network in which nothing is
 abbrev pub no_levels : Levels

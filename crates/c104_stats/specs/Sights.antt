@@ -2,33 +2,16 @@
 -- each port that has a wire; and at the end the packets whose terminators are there.
 --     counts_of_net net c      the counts after what is there was seen
 --     counts_at_end net c      the same, with the packets that are in the network
-use Rattle.std.specs.Prelude.{ℕ, ◌+◌, List, Option, Some, None, if◌then◌else◌, length, nat_le, slice_get}
-use Rattle.std.specs.Option.{option_map}
-use Rattle.c104_token.specs.Kinds.{plain_kind}
-use Rattle.c104_token.specs.Tokens.{is_end}
-use Rattle.c104_token.specs.declared.tokens.Token.{Token}
-use Rattle.c104_regs.specs.declared.registers.TheConstants.{LINKS}
-use Rattle.c104_switch.specs.declared.phase.Phase.{Phase}
-use Rattle.c104_switch.specs.declared.phase.Phase.TheVariants.{Fresh, Head, Want, Stream, Sinking}
-use Rattle.c104_switch.specs.declared.actions.LinkView.{LinkView}
-use Rattle.c104_plan.specs.declared.ports.Port.{Port}
-use Rattle.c104_plan.specs.declared.ports.Port.TheVariants as port
-use Rattle.c104_node.specs.Tagged.{tag, tagged_origin, TaggedToken}
-use Rattle.c104_node.specs.declared.origins.Origin.{Origin}
-use Rattle.c104_node.specs.declared.terminal.views.TerminalView.{TerminalView}
-use Rattle.c104_run.specs.FinishedRecords.{record_finish}
-use Rattle.c104_run.specs.NetRecords.{NetRecord}
-use Rattle.c104_run.specs.NetViews.{network_input_token, network_link_view, network_output_token, network_terminal_view}
-use Rattle.c104_run.specs.Network.{Network}
-use Rattle.c104_run.specs.Rounds.{is_wired}
-use Rattle.c104_net.specs.TracedEnds.{traced_end}
-use Rattle.c104_stats.specs.declared.formats.What.{What}
-use Rattle.c104_stats.specs.declared.formats.What.TheVariants as what
-use Rattle.c104_stats.specs.Numbers.{each_number, told}
-use Rattle.c104_stats.specs.Counts.{counts_found, counts_level, counts_seen, Counts}
-use Rattle.c104_stats.specs.Links.{LinkRow}
-use Rattle.c104_stats.specs.Packets.{PacketRow}
-use Rattle.c104_stats.specs.Rounds.{no_levels, Levels}
+use Rattle.{c104_net.specs.TracedEnds.traced_end, c104_node.specs.Tagged.{TaggedToken, tag, tagged_origin}}
+use Rattle.c104_node.specs.declared.{origins.Origin.Origin, terminal.views.TerminalView.TerminalView}
+use Rattle.{c104_plan.specs.declared.ports.Port.Port, c104_regs.specs.declared.registers.TheConstants.LINKS}
+use Rattle.c104_run.specs.{FinishedRecords.record_finish, NetRecords.NetRecord, NetViews.{network_input_token, network_link_view}}
+use Rattle.c104_run.specs.{NetViews.{network_output_token, network_terminal_view}, Network.Network, Rounds.is_wired}
+use Rattle.c104_stats.specs.{Counts.{Counts, counts_found, counts_level, counts_seen}, Links.LinkRow, Numbers.{each_number, told}}
+use Rattle.c104_stats.specs.{Packets.PacketRow, Rounds.{Levels, no_levels}, declared.formats.What.What}
+use Rattle.c104_switch.specs.declared.{actions.LinkView.LinkView, phase.Phase.{Phase, TheVariants.{Fresh, Head, Sinking, Stream, Want}}}
+use Rattle.c104_token.specs.{Kinds.plain_kind, Tokens.is_end, declared.tokens.Token.Token}
+use Rattle.std.specs.{Option.option_map, Prelude.{List, None, Option, Some, if◌then◌else◌, length, nat_le, slice_get, ℕ, ◌+◌}}
 
 -- how many tokens of a header an input has read, or has that waits, and how many outputs it holds
 abbrev pub header_tokens : Phase (List ℕ) → ℕ
@@ -86,16 +69,16 @@ levels_of net = terminals_levels net (switches_levels net no_levels)
 -- how many tokens wait at a port
 abbrev pub link_seen : Option LinkView → ℕ → ℕ → Counts → Counts
 link_seen None s l c = c
-link_seen (Some v) s l c = counts_level c (port.Switch s l) v.output_level
+link_seen (Some v) s l c = counts_level c (Port.Switch s l) v.output_level
 
 abbrev pub terminal_seen : Option TerminalView → ℕ → Counts → Counts
 terminal_seen None t c = c
-terminal_seen (Some v) t c = counts_level c (port.Terminal t) v.waiting
+terminal_seen (Some v) t c = counts_level c (Port.Terminal t) v.waiting
 
 -- the same of a link of a switch, if it has a wire
 abbrev pub wired_seen : Network Token → ℕ → ℕ → Counts → Counts
 wired_seen net s l c =
-    if is_wired net.plan (port.Switch s l) then link_seen (network_link_view plain_kind net s l) s l c else c
+    if is_wired net.plan (Port.Switch s l) then link_seen (network_link_view plain_kind net s l) s l c else c
 
 abbrev pub links_seen : Network Token → ℕ → Counts → Counts
 links_seen net s c = each_number (wired_seen net s) LINKS c
@@ -108,9 +91,9 @@ terminals_seen net c = each_number (λ t. terminal_seen (network_terminal_view n
 
 -- the counts after a network was seen for what is to be printed: of packets, and for the summary, nothing is looked at
 abbrev pub seen_for : Option What → Network Token → Counts → Counts
-seen_for (Some what.Rounds) net c = counts_seen c (levels_of net)
-seen_for (Some what.Links) net c = terminals_seen net (switches_seen net c)
-seen_for (Some what.Packets) net c = c
+seen_for (Some What.Rounds) net c = counts_seen c (levels_of net)
+seen_for (Some What.Links) net c = terminals_seen net (switches_seen net c)
+seen_for (Some What.Packets) net c = c
 seen_for None net c = c
 
 abbrev pub counts_of_net : Network Token → Counts → Counts
@@ -158,11 +141,11 @@ waiting_found t c = waiting_of t (slice_get c.wires t) (slice_get c.senders t) c
 -- the tokens at a link, and at a terminal
 abbrev pub link_found : NetRecord → Option LinkView → ℕ → ℕ → Counts → Counts
 link_found net None s l c = c
-link_found net (Some v) s l c = found_out net s l v.output_level (found_in net (port.Switch s l) v.input_level c)
+link_found net (Some v) s l c = found_out net s l v.output_level (found_in net (Port.Switch s l) v.input_level c)
 
 abbrev pub terminal_found : NetRecord → Option TerminalView → ℕ → Counts → Counts
 terminal_found net None t c = c
-terminal_found net (Some v) t c = found_in net (port.Terminal t) v.undrained (waiting_found t c)
+terminal_found net (Some v) t c = found_in net (Port.Terminal t) v.undrained (waiting_found t c)
 
 abbrev pub links_found : NetRecord → ℕ → Counts → Counts
 links_found net s c = each_number (λ l. link_found net (network_link_view plain_kind net.network s l) s l) LINKS c

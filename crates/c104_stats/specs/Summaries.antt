@@ -1,24 +1,12 @@
 -- What the counts of a run come to.
-use Rattle.std.specs.Prelude.{ℕ, ◌+◌, ◌-◌, ◌*◌, ◌/◌, ◌%◌, ◌≡◌, Bool, true, List, [], ◌∷◌, ◌++◌, Option, Some, None, if◌then◌else◌, length}
-use Rattle.std.specs.Prelude.{nat_lt, slice_get, IsPermutation, IsSorted}
-use Rattle.std.specs.Ordering.{nat_cmp}
-use Rattle.c104_plan.specs.Plans.{Plan}
-use Rattle.c104_plan.specs.PortTexts.{port_text}
-use Rattle.c104_plan.specs.declared.ports.Port.TheVariants as port
-use Rattle.c104_stats.specs.Numbers.{told}
-use Rattle.c104_stats.specs.Links.{LinkRow}
-use Rattle.c104_stats.specs.Packets.{latency, Arrival, PacketRow}
-use Rattle.c104_stats.specs.Counts.{Counts}
-use Rattle.c104_stats.specs.Tables.{ending_of, port_at, share, Ending}
-use Rattle.c104_stats.specs.declared.endings.Ending.TheVariants.{Arrived, Unfinished, Short, Sunk}
-use Rattle.c104_stats.specs.Cells.{close_text, lines_text, names_row, open_text, row_text, some_count, Format, Shown}
-use Rattle.c104_stats.specs.declared.formats.Format.TheVariants.{Table, Csv, Json}
-use Rattle.c104_stats.specs.Columns.{Column}
-use Rattle.c104_stats.specs.declared.columns.Column.TheVariants as column
-pub use Rattle.c104_stats.specs.declared.tops.Busy.{Busy}
-pub use Rattle.c104_stats.specs.declared.summaries.Summary.{Summary}
-pub use Rattle.c104_stats.specs.declared.tops.Top.{Top}
-pub use Rattle.c104_stats.specs.declared.summaries.Endings.{Endings}
+pub use Rattle.c104_stats.specs.declared.{summaries.{Endings.Endings, Summary.Summary}, tops.{Busy.Busy, Top.Top}}
+use Rattle.{c104_plan.specs.{Plans.Plan, PortTexts.port_text, declared.ports.Port.Port}, c104_stats.specs.Cells.{Format, Shown, close_text}}
+use Rattle.c104_stats.specs.{Cells.{lines_text, names_row, open_text, row_text, some_count}, Columns.Column, Counts.Counts, Links.LinkRow}
+use Rattle.c104_stats.specs.{Numbers.told, Packets.{Arrival, PacketRow, latency}, Tables.{Ending, ending_of, port_at, share}}
+use Rattle.c104_stats.specs.declared.{endings.Ending.TheVariants.{Arrived, Short, Sunk, Unfinished}, formats.Format.TheVariants.{Csv, Json}}
+use Rattle.c104_stats.specs.declared.formats.Format.TheVariants.{Table}
+use Rattle.std.specs.{Ordering.nat_cmp, Prelude.{Bool, IsPermutation, IsSorted, List, None, Option, Some, [], if◌then◌else◌, length}}
+use Rattle.std.specs.Prelude.{nat_lt, slice_get, true, ℕ, ◌%◌, ◌*◌, ◌++◌, ◌+◌, ◌-◌, ◌/◌, ◌∷◌, ◌≡◌}
 
 -- how many packets came to each end
 abbrev pub no_endings : Endings
@@ -84,7 +72,7 @@ top_links k t (row ∷ rows) = top_links (k + 1) (top_with (record { port = port
 
 abbrev pub top_wires : ℕ → Top → List LinkRow → Top
 top_wires k t [] = t
-top_wires k t (row ∷ rows) = top_wires (k + 1) (top_with (record { port = port.Terminal k; busy = row.busy }) t) rows
+top_wires k t (row ∷ rows) = top_wires (k + 1) (top_with (record { port = Port.Terminal k; busy = row.busy }) t) rows
 
 abbrev pub top_of : Counts → Top
 top_of c = top_wires 0 (top_links 0 no_top c.links) c.wires
@@ -123,19 +111,19 @@ busy_name plan (Some b) = port_text plan b.port
 -- the cells of a summary: the last three pairs are the busiest links
 abbrev pub summary_cells : Plan → Summary → List Shown
 summary_cells plan s =
-    Shown.Count column.Rounds s.rounds ∷ Shown.Count column.Sent (sent_count s.endings)
-    ∷ Shown.Count column.Arrived s.endings.arrived ∷ Shown.Count column.Lost s.endings.lost
-    ∷ some_count column.Least s.least ∷ some_count column.Median s.median ∷ some_count column.NinetyFive s.ninety_five
-    ∷ some_count column.Most s.most ∷ Shown.Share column.Rate (share s.tokens s.rounds)
-    ∷ name_cell column.Busiest s.top.first (busy_name plan s.top.first) ∷ share_cell column.BusiestShare s.top.first s.rounds
-    ∷ name_cell column.Second s.top.second (busy_name plan s.top.second) ∷ share_cell column.SecondShare s.top.second s.rounds
-    ∷ name_cell column.Third s.top.third (busy_name plan s.top.third) ∷ share_cell column.ThirdShare s.top.third s.rounds ∷ []
+    Shown.Count Column.Rounds s.rounds ∷ Shown.Count Column.Sent (sent_count s.endings)
+    ∷ Shown.Count Column.Arrived s.endings.arrived ∷ Shown.Count Column.Lost s.endings.lost
+    ∷ some_count Column.Least s.least ∷ some_count Column.Median s.median ∷ some_count Column.NinetyFive s.ninety_five
+    ∷ some_count Column.Most s.most ∷ Shown.Share Column.Rate (share s.tokens s.rounds)
+    ∷ name_cell Column.Busiest s.top.first (busy_name plan s.top.first) ∷ share_cell Column.BusiestShare s.top.first s.rounds
+    ∷ name_cell Column.Second s.top.second (busy_name plan s.top.second) ∷ share_cell Column.SecondShare s.top.second s.rounds
+    ∷ name_cell Column.Third s.top.third (busy_name plan s.top.third) ∷ share_cell Column.ThirdShare s.top.third s.rounds ∷ []
 
 abbrev pub summary_columns : List Column
 summary_columns =
-    column.Rounds ∷ column.Sent ∷ column.Arrived ∷ column.Lost ∷ column.Least ∷ column.Median ∷ column.NinetyFive
-    ∷ column.Most ∷ column.Rate ∷ column.Busiest ∷ column.BusiestShare ∷ column.Second ∷ column.SecondShare
-    ∷ column.Third ∷ column.ThirdShare ∷ []
+    Column.Rounds ∷ Column.Sent ∷ Column.Arrived ∷ Column.Lost ∷ Column.Least ∷ Column.Median ∷ Column.NinetyFive
+    ∷ Column.Most ∷ Column.Rate ∷ Column.Busiest ∷ Column.BusiestShare ∷ Column.Second ∷ Column.SecondShare
+    ∷ Column.Third ∷ Column.ThirdShare ∷ []
 
 -- cells as the only row below these names
 abbrev pub alone_text : Format → List Column → List Shown → List ℕ

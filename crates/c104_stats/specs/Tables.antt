@@ -1,22 +1,12 @@
 -- The tables of packets, links and rounds.
-use Rattle.std.specs.Prelude.{ℕ, ◌+◌, ◌*◌, ◌/◌, ◌%◌, ◌&&◌, Bool, true, false, List, [], ◌∷◌, ◌++◌, Option, Some, None, codes, if◌then◌else◌}
-use Rattle.std.specs.Prelude.{is_some, length, nat_eq, nat_lt}
-use Rattle.c104_regs.specs.declared.registers.TheConstants.{LINKS}
-use Rattle.c104_plan.specs.Plans.{Plan}
-use Rattle.c104_plan.specs.PortTexts.{port_text, terminal_name}
-use Rattle.c104_plan.specs.Wiring.{peer}
-use Rattle.c104_plan.specs.declared.ports.Port.{Port}
-use Rattle.c104_plan.specs.declared.ports.Port.TheVariants as port
-use Rattle.c104_stats.specs.Numbers.{told}
-use Rattle.c104_stats.specs.Links.{longest_at, LinkRow}
-use Rattle.c104_stats.specs.Packets.{latency, Arrival, PacketRow}
-use Rattle.c104_stats.specs.Rounds.{RoundRow}
-use Rattle.c104_stats.specs.Counts.{Counts}
-use Rattle.c104_stats.specs.Cells.{close_text, names_row, open_text, row_text, some_count, Format, Shown}
-use Rattle.c104_stats.specs.Columns.{Column}
-use Rattle.c104_stats.specs.declared.columns.Column.TheVariants as column
 pub use Rattle.c104_stats.specs.declared.endings.Ending.{Ending}
-use Rattle.c104_stats.specs.declared.endings.Ending.TheVariants.{Arrived, Unfinished, Short, Sunk}
+use Rattle.c104_plan.specs.{Plans.Plan, PortTexts.{port_text, terminal_name}, Wiring.peer, declared.ports.Port.Port}
+use Rattle.{c104_regs.specs.declared.registers.TheConstants.LINKS, c104_stats.specs.Cells.{Format, Shown, close_text, names_row, open_text}}
+use Rattle.c104_stats.specs.{Cells.{row_text, some_count}, Columns.Column, Counts.Counts, Links.{LinkRow, longest_at}, Numbers.told}
+use Rattle.c104_stats.specs.{Packets.{Arrival, PacketRow, latency}, Rounds.RoundRow, declared.endings.Ending.TheVariants.{Arrived, Short}}
+use Rattle.c104_stats.specs.declared.endings.Ending.TheVariants.{Sunk, Unfinished}
+use Rattle.std.specs.Prelude.{Bool, List, None, Option, Some, [], codes, false, if◌then◌else◌, is_some, length, nat_eq, nat_lt, true, ℕ}
+use Rattle.std.specs.Prelude.{◌%◌, ◌&&◌, ◌*◌, ◌++◌, ◌+◌, ◌/◌, ◌∷◌}
 
 -- what became of a packet, where headers have this many bytes: it arrived; its terminator is in the network or at its
 -- sender; or it is gone, with fewer bytes than a header, or else dropped by an input or cleared by a Reset
@@ -32,42 +22,42 @@ ending_word Sunk = codes "sunk"
 
 -- where a packet arrived, when, and how long it took
 abbrev pub receiver_cell : Plan → Option Arrival → Shown
-receiver_cell plan None = Shown.Nothing column.Receiver
-receiver_cell plan (Some a) = Shown.Word column.Receiver (terminal_name plan a.terminal)
+receiver_cell plan None = Shown.Nothing Column.Receiver
+receiver_cell plan (Some a) = Shown.Word Column.Receiver (terminal_name plan a.terminal)
 
 abbrev pub arrived_cell : Option Arrival → Shown
-arrived_cell None = Shown.Nothing column.Arrived
-arrived_cell (Some a) = Shown.Count column.Arrived a.round
+arrived_cell None = Shown.Nothing Column.Arrived
+arrived_cell (Some a) = Shown.Count Column.Arrived a.round
 
 abbrev pub latency_cell : PacketRow → Option Arrival → Shown
-latency_cell p None = Shown.Nothing column.Latency
-latency_cell p (Some a) = Shown.Count column.Latency (latency p a)
+latency_cell p None = Shown.Nothing Column.Latency
+latency_cell p (Some a) = Shown.Count Column.Latency (latency p a)
 
 abbrev pub sender_cell : Plan → ℕ → Shown
-sender_cell plan t = Shown.Word column.Sender (terminal_name plan t)
+sender_cell plan t = Shown.Word Column.Sender (terminal_name plan t)
 
 abbrev pub ending_cell : Plan → PacketRow → Shown
-ending_cell plan p = Shown.Word column.Ending (ending_word (ending_of plan.header p))
+ending_cell plan p = Shown.Word Column.Ending (ending_word (ending_of plan.header p))
 
 -- the cells of packet n of terminal t
 abbrev pub packet_cells : Plan → ℕ → ℕ → PacketRow → List Shown
 packet_cells plan t n p =
-    sender_cell plan t ∷ Shown.Count column.Number n ∷ receiver_cell plan p.arrival
-    ∷ Shown.Count column.Bytes p.bytes ∷ Shown.Count column.Wires p.wires ∷ Shown.Count column.Sent p.sent
-    ∷ some_count column.Left p.left ∷ arrived_cell p.arrival ∷ latency_cell p p.arrival ∷ Shown.Count column.Idle p.idle
+    sender_cell plan t ∷ Shown.Count Column.Number n ∷ receiver_cell plan p.arrival
+    ∷ Shown.Count Column.Bytes p.bytes ∷ Shown.Count Column.Wires p.wires ∷ Shown.Count Column.Sent p.sent
+    ∷ some_count Column.Left p.left ∷ arrived_cell p.arrival ∷ latency_cell p p.arrival ∷ Shown.Count Column.Idle p.idle
     ∷ ending_cell plan p ∷ []
 
 -- the columns of a table, as its rows have them
 abbrev pub packet_columns : List Column
 packet_columns =
-    column.Sender ∷ column.Number ∷ column.Receiver ∷ column.Bytes ∷ column.Wires ∷ column.Sent ∷ column.Left
-    ∷ column.Arrived ∷ column.Latency ∷ column.Idle ∷ column.Ending ∷ []
+    Column.Sender ∷ Column.Number ∷ Column.Receiver ∷ Column.Bytes ∷ Column.Wires ∷ Column.Sent ∷ Column.Left
+    ∷ Column.Arrived ∷ Column.Latency ∷ Column.Idle ∷ Column.Ending ∷ []
 
 abbrev pub link_columns : List Column
-link_columns = column.Port ∷ column.Tokens ∷ column.Share ∷ column.Packets ∷ column.Longest ∷ column.Waiting ∷ []
+link_columns = Column.Port ∷ Column.Tokens ∷ Column.Share ∷ Column.Packets ∷ Column.Longest ∷ Column.Waiting ∷ []
 
 abbrev pub round_columns : List Column
-round_columns = column.Round ∷ column.Waiting ∷ column.Inside ∷ column.Moved ∷ column.Arrived ∷ column.Held ∷ []
+round_columns = Column.Round ∷ Column.Waiting ∷ Column.Inside ∷ Column.Moved ∷ Column.Arrived ∷ Column.Held ∷ []
 
 -- the rows of the packets of terminal t from number n on, and those of terminals from t on; the first of all is the first
 abbrev pub packet_rows : Format → Plan → Bool → ℕ → ℕ → List PacketRow → List ℕ
@@ -92,9 +82,9 @@ share part whole = if nat_eq whole 0 then 0 else told (part * 1000) / whole
 -- the cells of a link, of a run in which something was done up to this round
 abbrev pub link_cells : Plan → ℕ → Port → LinkRow → List Shown
 link_cells plan last p row =
-    Shown.Word column.Port (port_text plan p) ∷ Shown.Count column.Tokens row.tokens
-    ∷ Shown.Share column.Share (share row.busy last) ∷ Shown.Count column.Packets row.packets
-    ∷ Shown.Count column.Longest (longest_at row last) ∷ Shown.Count column.Waiting row.waiting ∷ []
+    Shown.Word Column.Port (port_text plan p) ∷ Shown.Count Column.Tokens row.tokens
+    ∷ Shown.Share Column.Share (share row.busy last) ∷ Shown.Count Column.Packets row.packets
+    ∷ Shown.Count Column.Longest (longest_at row last) ∷ Shown.Count Column.Waiting row.waiting ∷ []
 
 -- a link has a row if it has a wire, and then the next row isn't the first
 abbrev pub wired_row : Format → Plan → ℕ → Bool → Port → LinkRow → List ℕ
@@ -105,7 +95,7 @@ first_after plan first p = if is_some (peer plan p) then false else first
 
 -- the port at a place among the links of all switches
 abbrev pub port_at : ℕ → Port
-port_at k = port.Switch (k / LINKS) (k % LINKS)
+port_at k = Port.Switch (k / LINKS) (k % LINKS)
 
 -- the rows of the links of switches from place k on, 32 of each switch, and those of terminals from t on
 abbrev pub switch_rows : Format → Plan → ℕ → Bool → ℕ → List LinkRow → List ℕ
@@ -116,8 +106,8 @@ switch_rows format plan last first k (row ∷ rows) =
 abbrev pub terminal_rows : Format → Plan → ℕ → Bool → ℕ → List LinkRow → List ℕ
 terminal_rows format plan last first t [] = []
 terminal_rows format plan last first t (row ∷ rows) =
-    wired_row format plan last first (port.Terminal t) row
-    ++ terminal_rows format plan last (first_after plan first (port.Terminal t)) (t + 1) rows
+    wired_row format plan last first (Port.Terminal t) row
+    ++ terminal_rows format plan last (first_after plan first (Port.Terminal t)) (t + 1) rows
 
 -- whether the rows of terminals are the first behind those of switches from place k on
 abbrev pub first_behind : Plan → Bool → ℕ → List LinkRow → Bool
@@ -135,8 +125,8 @@ links_text format plan c =
 -- the cells of a round
 abbrev pub round_cells : RoundRow → List Shown
 round_cells r =
-    Shown.Count column.Round r.round ∷ Shown.Count column.Waiting r.levels.waiting ∷ Shown.Count column.Inside r.levels.inside
-    ∷ Shown.Count column.Moved r.moved ∷ Shown.Count column.Arrived r.arrived ∷ Shown.Count column.Held r.levels.held ∷ []
+    Shown.Count Column.Round r.round ∷ Shown.Count Column.Waiting r.levels.waiting ∷ Shown.Count Column.Inside r.levels.inside
+    ∷ Shown.Count Column.Moved r.moved ∷ Shown.Count Column.Arrived r.arrived ∷ Shown.Count Column.Held r.levels.held ∷ []
 
 abbrev pub round_rows : Format → Bool → List RoundRow → List ℕ
 round_rows format first [] = []

@@ -1,5 +1,5 @@
 -- The line of a packet that arrived is printed part by part.
-use Rattle.std.proofs.Common.{◌≡◌, ℕ, List, ◌++◌, codes}
+use Rattle.std.proofs.Common.{List, codes, ℕ, ◌++◌, ◌≡◌}
 use mathlib.Core.List.{append_assoc}
 
 -- the parts of a packet's line, each joined to what stood before

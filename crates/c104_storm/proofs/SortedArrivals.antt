@@ -1,28 +1,15 @@
 -- The packets that arrived at a terminal, sorted, and their lines.
-use Rattle.std.proofs.Common.{◌≡◌, ◌⊎◌, ◌+◌, ◌<◌, ◌≤◌, ◌==◌, ℕ, suc, Bool, true, false, Bor, List, [], ◌∷◌, ◌++◌, cond, flat_map, get_or, if◌then◌else◌, length, map, nat_lt, take, take_all, inl, inr, refl, sym, ap, ◌∙◌, subst, arith}
-use Rattle.std.proofs.lemmas.Bool.Decides.{nat_tests}
-use Rattle.std.proofs.lemmas.List.{length-map, map-append, take_more}
-use Rattle.std.proofs.lemmas.List.Folds.{flat_map-map}
-use Rattle.std.proofs.lemmas.List.Sorted.{IsPermutation-map}
-use Rattle.std.specs.List.Sorted.{IsPermutation, IsSortedByKey}
-use Rattle.std.specs.Ordering.{is_lt, nat_cmp, ordering_then}
-use Rattle.std.specs.declared.cmp.Ordering.{Ordering}
+use Rattle.c104_net.{proofs.OriginPieces.{one_origin, piece_origins}, specs.{Deliveries.arrived_at, TracedEnds.traced_end}}
+use Rattle.c104_node.specs.{Origins.{AreSure, origins_in}, declared.{origins.Origin.Origin, traced.Traced.Traced}}
+use Rattle.{c104_plan.specs.Plans.Plan, c104_run.specs.FinishedRecords.FinishedRecord, c104_storm.specs.Arrivals.{AreAll, AreSorted}}
+use Rattle.c104_storm.specs.Arrivals.{Arrived, IsSortedOf, JoinArrivals, JoinSorted, arrived_line, arrived_of}
+use Rattle.{c104_storm.specs.declared.packets.Arrival.Arrival, c104_token.specs.{Cut.whole_pieces, Packets.packet_tokens, Tokens.is_end}}
+use Rattle.{c104_token.specs.declared.{packets.Packet.Packet, tokens.Token.Token}, std.proofs.Common.{Bool, Bor, List, [], ap, arith, cond}}
+use Rattle.std.proofs.Common.{false, flat_map, get_or, if◌then◌else◌, inl, inr, length, map, nat_lt, refl, subst, suc, sym, take, take_all}
+use Rattle.std.proofs.{Common.{true, ℕ, ◌++◌, ◌+◌, ◌<◌, ◌==◌, ◌∙◌, ◌∷◌, ◌≡◌, ◌≤◌, ◌⊎◌}, lemmas.Bool.Decides.nat_tests}
+use Rattle.std.proofs.lemmas.List.{Folds.flat_map-map, Sorted.IsPermutation-map, length-map, map-append, take_more}
+use Rattle.std.specs.{List.Sorted.{IsPermutation, IsSortedByKey}, Ordering.{is_lt, nat_cmp, ordering_then}, declared.cmp.Ordering.Ordering}
 use Rattle.std.specs.declared.cmp.Ordering.TheVariants.{Equal, Greater, Less}
-use Rattle.c104_token.specs.Cut.{whole_pieces}
-use Rattle.c104_token.specs.Packets.{packet_tokens}
-use Rattle.c104_token.specs.Tokens.{is_end}
-use Rattle.c104_token.specs.declared.packets.Packet.{Packet}
-use Rattle.c104_token.specs.declared.tokens.Token.{Token}
-use Rattle.c104_plan.specs.Plans.{Plan}
-use Rattle.c104_node.specs.Origins.{AreSure, origins_in}
-use Rattle.c104_node.specs.declared.origins.Origin.{Origin}
-use Rattle.c104_node.specs.declared.traced.Traced.{Traced}
-use Rattle.c104_run.specs.FinishedRecords.{FinishedRecord}
-use Rattle.c104_net.proofs.OriginPieces.{one_origin, piece_origins}
-use Rattle.c104_net.specs.Deliveries.{arrived_at}
-use Rattle.c104_net.specs.TracedEnds.{traced_end}
-use Rattle.c104_storm.specs.Arrivals.{AreAll, AreSorted, Arrived, IsSortedOf, JoinArrivals, JoinSorted, arrived_line, arrived_of}
-use Rattle.c104_storm.specs.declared.packets.Arrival.{Arrival}
 
 -- the lines of one terminal more
 pub joined_next : (run : FinishedRecord) (old text new : List ℕ) (n : ℕ) → JoinArrivals run old n text → JoinSorted run.finished.plan n (arrived_at (traced_end run) n) text new → JoinArrivals run old (n + 1) new

@@ -1,25 +1,14 @@
 -- The ends of a storm: of its answers, and of what follows them.
-use Rattle.std.proofs.Common.{◌≡◌, ℕ, Bool, List, [], ◌++◌, Option, None, Some, Result, Ok, Err, inl, inr, refl, subst, sym}
-use Rattle.std.specs.Io.KnownBytes.{Appends, prepend_known}
-use Rattle.std.proofs.KnownBytes.{Appends-trans}
-use Rattle.c104_plan.specs.PlanImage.{Image}
-use Rattle.c104_plan.specs.Plans.{Plan}
-use Rattle.c104_stream.proofs.Growing.{grew_none, grew_prefix, grew_then}
-use Rattle.c104_stream.proofs.Prefixes.{prefix_next}
-use Rattle.c104_stream.proofs.ScriptEnds.{nothing_answered}
-use Rattle.c104_stream.specs.ScriptLines.{is_long}
-use Rattle.c104_stream.specs.Scripts.{AnswersScript, script_outcome}
-use Rattle.c104_stream.specs.Writing.{Grew}
-use Rattle.c104_stream.specs.declared.halt.Halt.{Halt}
-use Rattle.c104_stream.specs.declared.halt.Halt.TheVariants as halt
-use Rattle.c104_workers.specs.Fabrics.{Handed, Left, handed_of}
-use Rattle.c104_storm.specs.Endings.{WritesEnd}
-use Rattle.c104_storm.specs.Sends.{new_sending, send_outcome}
-use Rattle.c104_storm.specs.Storms.{MayEndAfter, MayWrite, StormsOn, StormsPlan}
-use Rattle.c104_storm.specs.declared.sends.Sending.{Sending}
+use Rattle.{c104_plan.specs.{PlanImage.Image, Plans.Plan}, c104_storm.specs.{Endings.WritesEnd, Sends.{new_sending, send_outcome}}}
+use Rattle.c104_storm.specs.{Storms.{MayEndAfter, MayWrite, StormsOn, StormsPlan}, declared.sends.Sending.Sending}
+use Rattle.c104_stream.proofs.{Growing.{grew_none, grew_prefix, grew_then}, Prefixes.prefix_next, ScriptEnds.nothing_answered}
+use Rattle.c104_stream.specs.{ScriptLines.is_long, Scripts.{AnswersScript, script_outcome}, Writing.Grew, declared.halt.Halt.Halt}
+use Rattle.{c104_workers.specs.Fabrics.{Handed, Left, handed_of}, std.proofs.Common.{Bool, Err, List, None, Ok, Option, Result, Some, []}}
+use Rattle.std.{proofs.{Common.{inl, inr, refl, subst, sym, ℕ, ◌++◌, ◌≡◌}, KnownBytes.Appends-trans}, specs.Io.KnownBytes.Appends}
+use Rattle.std.specs.Io.KnownBytes.{prepend_known}
 
 -- nothing was answered, and nothing was read
-pub nothing_sent : (start : Sending) (known held : Option (List ℕ)) → AnswersScript send_outcome start known known held held start (Err halt.NoMemory)
+pub nothing_sent : (start : Sending) (known held : Option (List ℕ)) → AnswersScript send_outcome start known known held held start (Err Halt.NoMemory)
 nothing_sent start None held = grew_none held
 nothing_sent start (Some rest) held = nothing_answered send_outcome start (Some rest) held []
 
@@ -32,9 +21,9 @@ from_reader start after (Some rest) left held holds before result none answered 
 -- what is written at the end, by what was known when the workers began
 pub storms_on : (left : Left) (handed : Handed) (long faulty : Bool) (held holds : Option (List ℕ)) (result : Result Bool Halt) → left.handed ≡ handed → WritesEnd left long faulty held holds result → StormsOn handed long faulty held holds result
 storms_on left handed long faulty held holds (Ok refused) is ends = (ends.0, record { left = left; handed_so = is; ends = ends.1 }, ends.2)
-storms_on left handed long faulty held holds (Err halt.CannotRead) is ends = absurd ends
-storms_on left handed long faulty held holds (Err halt.CannotWrite) is ends = (ends.0, ends.1, record { left = left; handed_so = is; ends = ends.2 }, ends.3)
-storms_on left handed long faulty held holds (Err halt.NoMemory) is ends = ends
+storms_on left handed long faulty held holds (Err Halt.CannotRead) is ends = absurd ends
+storms_on left handed long faulty held holds (Err Halt.CannotWrite) is ends = (ends.0, ends.1, record { left = left; handed_so = is; ends = ends.2 }, ends.3)
+storms_on left handed long faulty held holds (Err Halt.NoMemory) is ends = ends
 
 module _ (plan : Plan) (image : Image) where
   -- the sending by its plan
@@ -44,13 +33,13 @@ module _ (plan : Plan) (image : Image) where
   -- the script came to no end
   pub storm_stops : (all left held holds : Option (List ℕ)) (after : Sending) (kind : Halt) → AnswersScript send_outcome (new_sending plan image) all left held holds after (Err kind) → StormsPlan plan image all left held holds (Err kind)
   storm_stops None left held holds after kind stopped = stopped
-  storm_stops (Some script) left held holds after halt.CannotRead stopped = stopped
-  storm_stops (Some script) left held holds after halt.CannotWrite stopped = inl stopped
-  storm_stops (Some script) left held holds after halt.NoMemory stopped = inl stopped
+  storm_stops (Some script) left held holds after Halt.CannotRead stopped = stopped
+  storm_stops (Some script) left held holds after Halt.CannotWrite stopped = inl stopped
+  storm_stops (Some script) left held holds after Halt.NoMemory stopped = inl stopped
 
   -- no memory for the network: nothing was read and nothing is written
-  pub nothing_stormed : (known held : Option (List ℕ)) → StormsPlan plan image known known held held (Err halt.NoMemory)
-  nothing_stormed known held = storm_stops known known held held (new_sending plan image) halt.NoMemory (nothing_sent (new_sending plan image) known held)
+  pub nothing_stormed : (known held : Option (List ℕ)) → StormsPlan plan image known known held held (Err Halt.NoMemory)
+  nothing_stormed known held = storm_stops known known held held (new_sending plan image) Halt.NoMemory (nothing_sent (new_sending plan image) known held)
 
   -- an end after the answers to this script
   whole : (script end : List ℕ) (after : Sending) (long refused : Bool) → long ≡ is_long script → after ≡ (script_outcome send_outcome (new_sending plan image) script).1 → MayEndAfter after long end refused
@@ -66,15 +55,15 @@ module _ (plan : Plan) (image : Image) where
       → StormsPlan plan image all left held holds result
   storm_ends None left held now holds after long (Ok refused) answered ends =
       (after, long, answered.written, ends.0, ends.1, Appends-trans held now holds answered.written ends.0 answered.grew ends.2)
-  storm_ends None left held now holds after long (Err halt.CannotRead) answered ends = absurd ends
-  storm_ends None left held now holds after long (Err halt.CannotWrite) answered ends = grew_then held now holds answered (grew_prefix now holds ends.0 ends.3)
-  storm_ends None left held now holds after long (Err halt.NoMemory) answered ends = subst (λ h. Grew held h) (sym ends) answered
+  storm_ends None left held now holds after long (Err Halt.CannotRead) answered ends = absurd ends
+  storm_ends None left held now holds after long (Err Halt.CannotWrite) answered ends = grew_then held now holds answered (grew_prefix now holds ends.0 ends.3)
+  storm_ends None left held now holds after long (Err Halt.NoMemory) answered ends = subst (λ h. Grew held h) (sym ends) answered
   storm_ends (Some script) left held now holds after long (Ok refused) answered ends =
       let shown : List ℕ = (script_outcome send_outcome (new_sending plan image) script).0 in
       (shown ++ ends.0, whole script ends.0 after long refused answered.0 answered.1 ends.1, Appends-trans held now holds shown ends.0 answered.2 ends.2)
-  storm_ends (Some script) left held now holds after long (Err halt.CannotRead) answered ends = absurd ends
-  storm_ends (Some script) left held now holds after long (Err halt.CannotWrite) answered ends =
+  storm_ends (Some script) left held now holds after long (Err Halt.CannotRead) answered ends = absurd ends
+  storm_ends (Some script) left held now holds after long (Err Halt.CannotWrite) answered ends =
       let shown : List ℕ = (script_outcome send_outcome (new_sending plan image) script).0 in
       inr (shown ++ ends.0, ends.1, whole script ends.0 after long ends.1 answered.0 answered.1 ends.2, prefix_next held now holds shown ends.0 answered.2 ends.3)
-  storm_ends (Some script) left held now holds after long (Err halt.NoMemory) answered ends =
+  storm_ends (Some script) left held now holds after long (Err Halt.NoMemory) answered ends =
       inr (subst (λ h. Appends held h (script_outcome send_outcome (new_sending plan image) script).0) (sym ends) answered.2)

@@ -1,18 +1,9 @@
 -- The packets that arrived in a run, sorted.
-use Rattle.std.specs.Prelude.{ℕ, zero, suc, ◌≡◌, ◌<◌, ◌≤◌, ◌⊎◌, List, [], ◌∷◌, ◌++◌, flat_map, map}
-use Rattle.std.specs.List.Sorted.{IsPermutation}
-use Rattle.c104_token.specs.Cut.{whole_pieces}
-use Rattle.c104_token.specs.Packets.{packet_tokens}
-use Rattle.c104_token.specs.declared.packets.Packet.{Packet}
-use Rattle.c104_plan.specs.Plans.{Plan}
-use Rattle.c104_node.specs.Origins.{origins_in}
-use Rattle.c104_node.specs.declared.origins.Origin.{Origin}
-use Rattle.c104_node.specs.declared.traced.Traced.{Traced}
-use Rattle.c104_run.specs.FinishedRecords.{FinishedRecord}
-use Rattle.c104_net.specs.Deliveries.{arrived_at}
-use Rattle.c104_net.specs.TracedEnds.{traced_end}
-use Rattle.c104_storm.specs.Texts.{arrival_line}
-use Rattle.c104_storm.specs.declared.packets.Arrival.{Arrival}
+use Rattle.{c104_net.specs.{Deliveries.arrived_at, TracedEnds.traced_end}, c104_node.specs.Origins.origins_in}
+use Rattle.{c104_node.specs.declared.{origins.Origin.Origin, traced.Traced.Traced}, c104_plan.specs.Plans.Plan}
+use Rattle.{c104_run.specs.FinishedRecords.FinishedRecord, c104_storm.specs.{Texts.arrival_line, declared.packets.Arrival.Arrival}}
+use Rattle.c104_token.specs.{Cut.whole_pieces, Packets.packet_tokens, declared.packets.Packet.Packet}
+use Rattle.std.specs.{List.Sorted.IsPermutation, Prelude.{List, [], flat_map, map, suc, zero, ℕ, ◌++◌, ◌<◌, ◌∷◌, ◌≡◌, ◌≤◌, ◌⊎◌}}
 
 -- a whole packet that arrived, and where it came from
 pub record Arrived : Type 0 where

@@ -1,24 +1,12 @@
 -- What the lines of a storm's script ask, and what a network answers: those of a script that begin with `send`.
-use Rattle.std.specs.Prelude.{ℕ, ◌&&◌, ◌||◌, Bool, false, true, List, bytes_eq, codes, length, nat_le, not, slice_get, if◌then◌else◌}
-use Rattle.std.specs.Prelude.{Option, Some, None, Result, Ok, Err}
-use Rattle.c104_switch.specs.Actions.{Reply}
-use Rattle.c104_event.specs.declared.events.Event.{Event}
-use Rattle.c104_event.specs.declared.faults.EventFault.{EventFault}
-use Rattle.c104_plan.specs.PlanImage.{Image}
-use Rattle.c104_plan.specs.Plans.{Plan}
-use Rattle.c104_plan.specs.TextCut.{uncommented_line, line_words}
-use Rattle.c104_run.specs.NetRecords.{NetRecord, fresh_record}
-use Rattle.c104_run.specs.Network.{placed_network}
-use Rattle.c104_run.specs.RecordedRuns.{record_apply}
-use Rattle.c104_script.specs.Script.{most_line, read_script_line}
-use Rattle.c104_script.specs.declared.answers.Answer.{Answer}
-use Rattle.c104_script.specs.declared.answers.Answer.TheVariants.{Replied, Refused, Faulty}
-use Rattle.c104_script.specs.declared.faults.LineFault.{LineFault}
-use Rattle.c104_script.specs.declared.faults.LineFault.TheVariants as fault
-use Rattle.c104_script.specs.declared.places.Request.{Request}
-use Rattle.c104_script.specs.declared.places.Request.TheVariants as ask
-use Rattle.c104_script.specs.Texts.{shown}
-use Rattle.c104_storm.specs.declared.sends.Sending.{Sending}
+use Rattle.{c104_event.specs.declared.{events.Event.Event, faults.EventFault.EventFault}, c104_plan.specs.{PlanImage.Image, Plans.Plan}}
+use Rattle.{c104_plan.specs.TextCut.{line_words, uncommented_line}, c104_run.specs.NetRecords.{NetRecord, fresh_record}}
+use Rattle.{c104_run.specs.{Network.placed_network, RecordedRuns.record_apply}, c104_script.specs.Script.{most_line, read_script_line}}
+use Rattle.c104_script.specs.{Texts.shown, declared.answers.Answer.{Answer, TheVariants.{Faulty, Refused, Replied}}}
+use Rattle.c104_script.specs.declared.{faults.LineFault.LineFault, places.Request.Request}
+use Rattle.{c104_storm.specs.declared.sends.Sending.Sending, c104_switch.specs.Actions.Reply}
+use Rattle.std.specs.Prelude.{Bool, Err, List, None, Ok, Option, Result, Some, bytes_eq, codes, false, if◌then◌else◌, length, nat_le, not}
+use Rattle.std.specs.Prelude.{slice_get, true, ℕ, ◌&&◌, ◌||◌}
 
 -- a first word that isn't `send`
 abbrev pub is_another : Option (List ℕ) → Bool
@@ -32,7 +20,7 @@ begins_otherwise line = is_another (slice_get (line_words (uncommented_line line
 -- what a line asks, or what is wrong with it: an unknown word where it begins otherwise, unless it is too long
 abbrev pub read_send_line : Plan → List ℕ → Result (Option Request) LineFault
 read_send_line plan line =
-    if nat_le (length line) most_line && begins_otherwise line then Err fault.UnknownWord
+    if nat_le (length line) most_line && begins_otherwise line then Err LineFault.UnknownWord
     else read_script_line plan line
 
 -- what answers an event
@@ -46,10 +34,10 @@ event_outcome net event = let r = record_apply net event in (event_answer r.0, r
 
 -- what answers a request, and the network after it: only an event may be asked
 abbrev pub request_answer : NetRecord → Request → Answer × NetRecord
-request_answer net (ask.Asked event) = event_outcome net event
-request_answer net (ask.Rounds count) = (Faulty fault.UnknownWord, net)
-request_answer net (ask.Probed it) = (Faulty fault.UnknownWord, net)
-request_answer net (ask.Refused kind) = (Refused kind, net)
+request_answer net (Request.Asked event) = event_outcome net event
+request_answer net (Request.Rounds count) = (Faulty LineFault.UnknownWord, net)
+request_answer net (Request.Probed it) = (Faulty LineFault.UnknownWord, net)
+request_answer net (Request.Refused kind) = (Refused kind, net)
 
 -- the same of a line that was read so: it has no answer where it has no words
 abbrev pub answer_of_read : NetRecord → Result (Option Request) LineFault → Option Answer × NetRecord

@@ -1,17 +1,9 @@
 -- What a storm over the network of a plan writes, where its reader and its writer tell their bytes.
-use Rattle.std.specs.Prelude.{ℕ, ◌≡◌, ◌⊎◌, Bool, List, ◌++◌, Option, Some, None, Result, Ok, Err}
-use Rattle.std.specs.Io.KnownBytes.{Appends}
-use Rattle.c104_plan.specs.PlanImage.{Image}
-use Rattle.c104_plan.specs.Plans.{Plan}
-use Rattle.c104_stream.specs.ScriptLines.{is_long}
-use Rattle.c104_stream.specs.Scripts.{AnswersPrefix, StopsAnswered, script_outcome}
-use Rattle.c104_stream.specs.Writing.{AppendsPrefix, Grew}
-use Rattle.c104_stream.specs.declared.halt.Halt.{Halt}
-use Rattle.c104_stream.specs.declared.halt.Halt.TheVariants as halt
+use Rattle.{c104_plan.specs.{PlanImage.Image, Plans.Plan}, c104_storm.specs.{Endings.MayEnd, Sends.{new_sending, send_outcome}}}
+use Rattle.{c104_storm.specs.declared.sends.Sending.Sending, c104_stream.specs.{ScriptLines.is_long, Scripts.AnswersPrefix}}
+use Rattle.c104_stream.specs.{Scripts.{StopsAnswered, script_outcome}, Writing.{AppendsPrefix, Grew}, declared.halt.Halt.Halt}
 use Rattle.c104_workers.specs.Fabrics.{Handed, Left, handed_of}
-use Rattle.c104_storm.specs.Endings.{MayEnd}
-use Rattle.c104_storm.specs.Sends.{new_sending, send_outcome}
-use Rattle.c104_storm.specs.declared.sends.Sending.{Sending}
+use Rattle.std.specs.{Io.KnownBytes.Appends, Prelude.{Bool, Err, List, None, Ok, Option, Result, Some, ℕ, ◌++◌, ◌≡◌, ◌⊎◌}}
 
 -- a storm may end with a text, and be refused or not, of which this was known when its workers began: what they left is
 -- that of a fabric of such a network
@@ -25,10 +17,10 @@ pub record MayStorm (handed : Handed) (long faulty : Bool) (text : List ℕ) (re
 abbrev pub StormsOn : Handed → Bool → Bool → Option (List ℕ) → Option (List ℕ) → Result Bool Halt → Type 0
 StormsOn handed long faulty held holds (Ok refused) =
     (text : List ℕ) × MayStorm handed long faulty text refused × Appends held holds text
-StormsOn handed long faulty held holds (Err halt.CannotRead) = ⊥
-StormsOn handed long faulty held holds (Err halt.CannotWrite) =
+StormsOn handed long faulty held holds (Err Halt.CannotRead) = ⊥
+StormsOn handed long faulty held holds (Err Halt.CannotWrite) =
     (text : List ℕ) × (refused : Bool) × MayStorm handed long faulty text refused × AppendsPrefix held holds text
-StormsOn handed long faulty held holds (Err halt.NoMemory) = holds ≡ held
+StormsOn handed long faulty held holds (Err Halt.NoMemory) = holds ≡ held
 
 -- the end of a storm over a network into which a script's packets were sent
 abbrev pub MayEndAfter : Sending → Bool → List ℕ → Bool → Type 0
@@ -46,12 +38,12 @@ pub record MayWrite (plan : Plan) (image : Image) (script : List ℕ) (text : Li
 abbrev pub PlanStorms : Plan → Image → List ℕ → Option (List ℕ) → Option (List ℕ) → Option (List ℕ) → Result Bool Halt → Type 0
 PlanStorms plan image script left held holds (Ok refused) =
     (text : List ℕ) × MayWrite plan image script text refused × Appends held holds text
-PlanStorms plan image script left held holds (Err halt.CannotRead) =
+PlanStorms plan image script left held holds (Err Halt.CannotRead) =
     AnswersPrefix send_outcome (new_sending plan image) script left held holds
-PlanStorms plan image script left held holds (Err halt.CannotWrite) =
+PlanStorms plan image script left held holds (Err Halt.CannotWrite) =
     AppendsPrefix held holds (script_outcome send_outcome (new_sending plan image) script).0
     ⊎ ((text : List ℕ) × (refused : Bool) × MayWrite plan image script text refused × AppendsPrefix held holds text)
-PlanStorms plan image script left held holds (Err halt.NoMemory) =
+PlanStorms plan image script left held holds (Err Halt.NoMemory) =
     StopsAnswered send_outcome (new_sending plan image) script left held holds
 
 -- a storm of a script of which nothing is known: some answers, and then the end of a storm

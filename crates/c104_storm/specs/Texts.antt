@@ -1,15 +1,8 @@
 -- What a storm prints at its end.
-use Rattle.std.specs.Prelude.{ℕ, List, [], ◌++◌, codes}
-use Rattle.std.specs.Fmt.{decimal}
-use Rattle.c104_token.specs.Text.{packet_text}
-use Rattle.c104_token.specs.declared.packets.Packet.{Packet}
-use Rattle.c104_plan.specs.Plans.{Plan}
-use Rattle.c104_plan.specs.PortTexts.{terminal_name}
-use Rattle.c104_node.specs.declared.origins.Origin.{Origin}
-use Rattle.c104_event.specs.EventFaults.{event_fault_name, event_fault_number}
-use Rattle.c104_event.specs.declared.faults.EventFault.{EventFault}
-use Rattle.c104_audit.specs.declared.faults.AuditFault.{AuditFault}
-use Rattle.c104_audit.specs.declared.faults.AuditFault.TheVariants as audit
+use Rattle.{c104_audit.specs.declared.faults.AuditFault.AuditFault, c104_event.specs.EventFaults.{event_fault_name, event_fault_number}}
+use Rattle.{c104_event.specs.declared.faults.EventFault.EventFault, c104_node.specs.declared.origins.Origin.Origin}
+use Rattle.{c104_plan.specs.{Plans.Plan, PortTexts.terminal_name}, c104_token.specs.{Text.packet_text, declared.packets.Packet.Packet}}
+use Rattle.std.specs.{Fmt.decimal, Prelude.{List, [], codes, ℕ, ◌++◌}}
 
 -- the line of a storm whose tokens go nowhere
 abbrev pub not_quiet_line : List ℕ
@@ -27,12 +20,12 @@ numbered_line words number = words ++ (decimal number ++ codes "\n")
 
 -- the line of an audit that finds no run; out of memory there is none
 abbrev pub audit_line : AuditFault → List ℕ
-audit_line (audit.Shape node) = numbered_line (codes "audit 1 Shape ") node
-audit_line (audit.Order node) = numbered_line (codes "audit 2 Order ") node
-audit_line (audit.Ends wire) = numbered_line (codes "audit 3 Ends ") wire
-audit_line (audit.Calls seat) = numbered_line (codes "audit 4 Calls ") seat
-audit_line (audit.Before node) = numbered_line (codes "audit 5 Before ") node
-audit_line audit.NoMemory = []
+audit_line (AuditFault.Shape node) = numbered_line (codes "audit 1 Shape ") node
+audit_line (AuditFault.Order node) = numbered_line (codes "audit 2 Order ") node
+audit_line (AuditFault.Ends wire) = numbered_line (codes "audit 3 Ends ") wire
+audit_line (AuditFault.Calls seat) = numbered_line (codes "audit 4 Calls ") seat
+audit_line (AuditFault.Before node) = numbered_line (codes "audit 5 Before ") node
+audit_line AuditFault.NoMemory = []
 
 -- the line of an audit that finds a run
 abbrev pub audited_line : List ℕ

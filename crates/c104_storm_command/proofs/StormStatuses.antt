@@ -1,18 +1,12 @@
 -- How the command of a storm ends where the storm stopped.
-use Rattle.std.proofs.Common.{◌≡◌, ℕ, List, Option, Err, refl, subst, sym}
-use Rattle.c104_plan.specs.Plans.{Plan}
-use Rattle.c104_plan.specs.PlanImage.{Image}
-use Rattle.c104_stream.specs.declared.halt.Halt.{Halt}
-use Rattle.c104_stream.specs.declared.halt.Halt.TheVariants as halt
-use Rattle.c104_storm.specs.Storms.{StormsPlan}
-use Rattle.c104_commands.specs.Statuses.{halt_status}
-use Rattle.c104_storm_command.specs.StormEnds.{StormRuns}
-use Rattle.c104_commands.specs.declared.status.Status.{Status}
+use Rattle.{c104_commands.specs.{Statuses.halt_status, declared.status.Status.Status}, c104_plan.specs.{PlanImage.Image, Plans.Plan}}
+use Rattle.{c104_storm.specs.Storms.StormsPlan, c104_storm_command.specs.StormEnds.StormRuns, c104_stream.specs.declared.halt.Halt.Halt}
+use Rattle.std.proofs.Common.{Err, List, Option, refl, subst, sym, ℕ, ◌≡◌}
 
 by_halt : (plan : Plan) (image : Image) (script left held holds : Option (List ℕ)) (kind : Halt) → StormsPlan plan image script left held holds (Err kind) → StormRuns plan image script left held holds (halt_status kind 1)
-by_halt plan image script left held holds halt.CannotRead stopped = (refl, stopped)
-by_halt plan image script left held holds halt.CannotWrite stopped = stopped
-by_halt plan image script left held holds halt.NoMemory stopped = stopped
+by_halt plan image script left held holds Halt.CannotRead stopped = (refl, stopped)
+by_halt plan image script left held holds Halt.CannotWrite stopped = stopped
+by_halt plan image script left held holds Halt.NoMemory stopped = stopped
 
 pub storm_halts : (plan : Plan) (image : Image) (script left held holds : Option (List ℕ)) (kind : Halt) (ended : Status) → ended ≡ halt_status kind 1 → StormsPlan plan image script left held holds (Err kind) → StormRuns plan image script left held holds ended
 storm_halts plan image script left held holds kind ended is stopped = subst (StormRuns plan image script left held holds) (sym is) (by_halt plan image script left held holds kind stopped)

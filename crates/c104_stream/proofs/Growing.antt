@@ -1,11 +1,6 @@
 -- What a writer holds grows by what is written to it. These lemmas are for the crates above too.
-use Rattle.std.proofs.Common.{ℕ, List, [], ◌++◌, Option}
-use Rattle.std.specs.Io.KnownBytes.{Appends}
-use Rattle.std.proofs.KnownBytes.{Appends-nil, Appends-trans}
-use Rattle.c104_stream.specs.Scripts.{ReadStops, TextStops}
-use Rattle.c104_stream.specs.Writing.{AppendsAndKeeps, AppendsPrefix, Grew}
-use Rattle.c104_stream.specs.declared.halt.Halt.{Halt}
-use Rattle.c104_stream.specs.declared.halt.Halt.TheVariants as halt
+use Rattle.c104_stream.specs.{Scripts.{ReadStops, TextStops}, Writing.{AppendsAndKeeps, AppendsPrefix, Grew}, declared.halt.Halt.Halt}
+use Rattle.std.{proofs.{Common.{List, Option, [], ℕ, ◌++◌}, KnownBytes.{Appends-nil, Appends-trans}}, specs.Io.KnownBytes.Appends}
 
 pub grew_none : (held : Option (List ℕ)) → Grew held held
 grew_none held = record { written = []; grew = Appends-nil held }
@@ -27,12 +22,12 @@ grew_kept held holds keeps text was = record { written = was.written; grew = was
 
 -- where no further byte was read
 pub read_grew : (now remains held holds : Option (List ℕ)) (kept keeps : List ℕ) (kind : Halt) → ReadStops now remains held holds kept keeps kind → Grew held holds
-read_grew now remains held holds kept keeps halt.CannotRead stopped = grew_text held holds kept stopped.1
-read_grew now remains held holds kept keeps halt.CannotWrite stopped = grew_prefix held holds kept stopped.1
-read_grew now remains held holds kept keeps halt.NoMemory stopped = grew_text held holds kept stopped.1
+read_grew now remains held holds kept keeps Halt.CannotRead stopped = grew_text held holds kept stopped.1
+read_grew now remains held holds kept keeps Halt.CannotWrite stopped = grew_prefix held holds kept stopped.1
+read_grew now remains held holds kept keeps Halt.NoMemory stopped = grew_text held holds kept stopped.1
 
 -- where a text doesn't join what is kept
 pub text_grew : (text : List ℕ) (held holds : Option (List ℕ)) (kept keeps : List ℕ) (kind : Halt) → TextStops text held holds kept keeps kind → Grew held holds
-text_grew text held holds kept keeps halt.CannotRead stopped = absurd stopped
-text_grew text held holds kept keeps halt.CannotWrite stopped = grew_prefix held holds (kept ++ text) stopped.1
-text_grew text held holds kept keeps halt.NoMemory stopped = grew_kept held holds keeps kept stopped
+text_grew text held holds kept keeps Halt.CannotRead stopped = absurd stopped
+text_grew text held holds kept keeps Halt.CannotWrite stopped = grew_prefix held holds (kept ++ text) stopped.1
+text_grew text held holds kept keeps Halt.NoMemory stopped = grew_kept held holds keeps kept stopped

@@ -1,9 +1,8 @@
 -- How a reader's known bytes go to those read ahead, and from there one by one to what was taken.
-use Rattle.std.proofs.Common.{◌≡◌, ℕ, suc, ◌<◌, ◌≤◌, ◌+◌, ◌-◌, List, [], ◌∷◌, ◌++◌, Option, None, Some, length, take, drop, get_or, min, slice_range, zero, ◌==◌, sym, ap, ◌∙◌, refl, arith, drop-cons, take-append-drop}
-use Rattle.std.specs.List.{before_first}
-use Rattle.std.proofs.lemmas.List.{drop-drop, drop-take, take_min}
-use Rattle.c104_stream.specs.Reading.{piece_before}
-use Rattle.std.specs.Io.KnownBytes.{Keeps, Consumes, prepend_known}
+use Rattle.{c104_stream.specs.Reading.piece_before, std.proofs.Common.{List, None, Option, Some, [], ap, arith, drop, drop-cons, get_or}}
+use Rattle.std.proofs.Common.{length, min, refl, slice_range, suc, sym, take, take-append-drop, zero, ℕ, ◌++◌, ◌+◌, ◌-◌, ◌<◌, ◌==◌, ◌∙◌}
+use Rattle.std.{proofs.{Common.{◌∷◌, ◌≡◌, ◌≤◌}, lemmas.List.{drop-drop, drop-take, take_min}}, specs.Io.KnownBytes.{Consumes, Keeps}}
+use Rattle.std.specs.{Io.KnownBytes.prepend_known, List.before_first}
 
 -- a piece that was read stands before what the reader has left
 pub filled : (old new : Option (List ℕ)) (before piece : List ℕ) → before ≡ [] → Consumes old new piece → Keeps (prepend_known before old) (prepend_known piece new)

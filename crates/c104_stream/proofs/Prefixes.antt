@@ -1,11 +1,9 @@
 -- A prefix of what was to be written, before and after other pieces. These lemmas are for the crates
 -- above too.
-use Rattle.std.proofs.Common.{◌≡◌, ◌<◌, ◌+◌, List, [], ℕ, ◌++◌, length, Option, sym, ap, ◌∙◌, refl, subst, arith}
-use Rattle.std.proofs.lemmas.List.{length-append}
-use mathlib.Core.List.{append_assoc, append-nil}
+use Rattle.{c104_stream.specs.Writing.{AppendsAndKeeps, AppendsPrefix}, std.proofs.Common.{List, Option, [], ap, arith, length, refl}}
+use Rattle.std.proofs.{Common.{subst, sym, ℕ, ◌++◌, ◌+◌, ◌<◌, ◌∙◌, ◌≡◌}, KnownBytes.{Appends-nil, Appends-trans}, lemmas.List.length-append}
 use Rattle.std.specs.Io.KnownBytes.{Appends}
-use Rattle.std.proofs.KnownBytes.{Appends-trans, Appends-nil}
-use Rattle.c104_stream.specs.Writing.{AppendsPrefix, AppendsAndKeeps}
+use mathlib.Core.List.{append-nil, append_assoc}
 
 -- more is left where something was
 more_left : (xs more : List ℕ) → 0 < length xs → 0 < length (xs ++ more)

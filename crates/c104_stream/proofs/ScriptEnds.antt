@@ -1,15 +1,12 @@
 -- The ends of a script that is read and answered, whatever is known of it. These lemmas are for the crates above.
-use Rattle.std.proofs.Common.{◌≡◌, ℕ, ◌<◌, false, true, List, [], ◌∷◌, ◌++◌, Option, None, Some, Result, Ok, Err, IsErr, IsErrAnd, Bool, sym, ap, ◌∙◌, refl, subst, arith}
-use Rattle.std.proofs.lemmas.List.{append-nil}
-use Rattle.std.specs.Io.KnownBytes.{Appends, Consumes, Keeps, IsAtEnd, prepend_known}
-use Rattle.c104_stream.specs.Writing.{AppendsAndKeeps, AppendsPrefix}
-use Rattle.c104_stream.specs.declared.halt.Halt.{Halt}
-use Rattle.c104_stream.specs.declared.halt.Halt.TheVariants as halt
+use Rattle.c104_stream.proofs.{Growing.{grew_kept, grew_none, grew_prefix, grew_text, grew_then, read_grew, text_grew}, Prefixes.kept_all}
+use Rattle.c104_stream.proofs.{Prefixes.{kept_fails, kept_none, kept_on, kept_only, none_short}, ScriptSoFar.{Reached, all_answered}}
+use Rattle.c104_stream.proofs.ScriptSoFar.{begins_with, fed, longer, memory_stops, stops_at, within, writer_fails}
 use Rattle.c104_stream.specs.Scripts.{Answering, AnswersLine, AnswersLines, AnswersScript, LineStops, ReadStops, script_outcome}
-use Rattle.c104_stream.proofs.Growing.{grew_kept, grew_none, grew_prefix, grew_text, grew_then, read_grew, text_grew}
-use Rattle.c104_stream.proofs.Prefixes.{kept_all, kept_fails, kept_none, kept_on, kept_only, none_short}
-use Rattle.std.proofs.KnownBytes.{Appends-nil, Appends-trans}
-use Rattle.c104_stream.proofs.ScriptSoFar.{Reached, begins_with, fed, within, memory_stops, writer_fails, stops_at, all_answered, longer}
+use Rattle.{c104_stream.specs.{Writing.{AppendsAndKeeps, AppendsPrefix}, declared.halt.Halt.Halt}, std.proofs.Common.{Bool, Err, IsErr}}
+use Rattle.std.proofs.Common.{IsErrAnd, List, None, Ok, Option, Result, Some, [], ap, arith, false, refl, subst, sym, true, ℕ, ◌++◌, ◌<◌}
+use Rattle.std.proofs.{Common.{◌∙◌, ◌∷◌, ◌≡◌}, KnownBytes.{Appends-nil, Appends-trans}, lemmas.List.append-nil}
+use Rattle.std.specs.Io.KnownBytes.{Appends, Consumes, IsAtEnd, Keeps, prepend_known}
 
 -- an answer that is this error
 pub err_is : {A E : Type 0} (result : Result A E) (kind : E) → IsErr result × IsErrAnd result (λ e. e ≡ kind) → result ≡ Err kind
@@ -28,17 +25,17 @@ module _ {S : Type 0} (answer : Answering S) where
   read_halts None now held holds wrote remains kept keeps start state number left line kind reached stopped =
       grew_then held holds wrote (grew_kept held holds kept _ reached.wrote) (read_grew now remains holds wrote kept keeps kind stopped)
   read_halts (Some script) None held holds wrote remains kept keeps start state number left line kind reached stopped = absurd reached.consumed
-  read_halts (Some script) (Some rest) held holds wrote None kept keeps start state number left line halt.CannotRead reached stopped = absurd stopped.2
-  read_halts (Some script) (Some rest) held holds wrote (Some last) kept keeps start state number left line halt.CannotRead reached stopped =
+  read_halts (Some script) (Some rest) held holds wrote None kept keeps start state number left line Halt.CannotRead reached stopped = absurd stopped.2
+  read_halts (Some script) (Some rest) held holds wrote (Some last) kept keeps start state number left line Halt.CannotRead reached stopped =
       (stopped.0, record { front = reached.read; rest = rest; is_prefix = reached.consumed; is_left = ap Some stopped.2; is_within = within reached; wrote = kept_all held holds wrote kept _ reached.wrote stopped.1 })
-  read_halts (Some script) (Some rest) held holds wrote remains kept keeps start state number left line halt.CannotWrite reached stopped = writer_fails reached script rest remains wrote keeps state reached.consumed stopped
-  read_halts (Some script) (Some rest) held holds wrote None kept keeps start state number left line halt.NoMemory reached stopped = absurd stopped.2
-  read_halts (Some script) (Some rest) held holds wrote (Some last) kept keeps start state number left line halt.NoMemory reached stopped =
+  read_halts (Some script) (Some rest) held holds wrote remains kept keeps start state number left line Halt.CannotWrite reached stopped = writer_fails reached script rest remains wrote keeps state reached.consumed stopped
+  read_halts (Some script) (Some rest) held holds wrote None kept keeps start state number left line Halt.NoMemory reached stopped = absurd stopped.2
+  read_halts (Some script) (Some rest) held holds wrote (Some last) kept keeps start state number left line Halt.NoMemory reached stopped =
       memory_stops reached script [] rest (Some last) wrote keeps state reached.consumed (ap Some stopped.2) (kept_none holds wrote keeps kept stopped.0 stopped.1)
 
   -- no memory for a byte
   pub byte_halts : (all now held holds remains : Option (List ℕ)) (before kept : List ℕ) (start state : S) (number left : ℕ) (line : List ℕ) (byte : ℕ) → Reached answer all now held holds kept start state number line left → Consumes now (prepend_known before remains) (byte ∷ [])
-      → AnswersLines answer start all remains held holds kept state (Err halt.NoMemory)
+      → AnswersLines answer start all remains held holds kept state (Err Halt.NoMemory)
   byte_halts None now held holds remains before kept start state number left line byte reached took = grew_kept held holds kept _ reached.wrote
   byte_halts (Some script) None held holds remains before kept start state number left line byte reached took = absurd reached.consumed
   byte_halts (Some script) (Some rest) held holds None before kept start state number left line byte reached took = absurd took
@@ -87,7 +84,7 @@ module _ {S : Type 0} (answer : Answering S) where
       longer reached script next remains byte none (reached.consumed ∙ ap (λ xs. reached.read ++ xs) took)
 
   -- nothing was answered, and nothing was read
-  pub nothing_answered : (start : S) (known held : Option (List ℕ)) (before : List ℕ) → AnswersScript answer start (prepend_known before known) known held held start (Err halt.NoMemory)
+  pub nothing_answered : (start : S) (known held : Option (List ℕ)) (before : List ℕ) → AnswersScript answer start (prepend_known before known) known held held start (Err Halt.NoMemory)
   nothing_answered start None held before = grew_none held
   nothing_answered start (Some rest) held before = record { front = []; ahead = before; rest = rest; is_front = refl; is_left = refl; is_within = omega arith; wrote = Appends-nil held }
 
@@ -95,24 +92,24 @@ module _ {S : Type 0} (answer : Answering S) where
   pub script_flushed : (start after : S) (all left held now holds : Option (List ℕ)) (keeps : List ℕ) (result : Result Bool Halt) → AnswersLines answer start all left held now keeps after result → Appends now holds keeps → AnswersScript answer start all left held holds after result
   script_flushed start after None left held now holds keeps result answered wrote = grew_then held now holds answered (grew_text now holds keeps wrote)
   script_flushed start after (Some script) left held now holds keeps (Ok long) answered wrote = (answered.0, answered.1, kept_all held now holds keeps (script_outcome answer start script).0 answered.2 wrote)
-  script_flushed start after (Some script) left held now holds keeps (Err halt.CannotRead) answered wrote =
+  script_flushed start after (Some script) left held now holds keeps (Err Halt.CannotRead) answered wrote =
       let was = answered.1 in
       record { front = was.front; rest = was.rest; is_prefix = was.is_prefix; is_left = was.is_left; is_within = was.is_within; wrote = still held now holds _ keeps was.wrote answered.0 wrote }
-  script_flushed start after (Some script) left held now holds keeps (Err halt.CannotWrite) answered wrote =
+  script_flushed start after (Some script) left held now holds keeps (Err Halt.CannotWrite) answered wrote =
       let was = answered.1 in
       record { written = was.written; unwritten = was.unwritten; grew = still held now holds was.written keeps was.grew answered.0 wrote; is_prefix = was.is_prefix; is_short = was.is_short }
-  script_flushed start after (Some script) left held now holds keeps (Err halt.NoMemory) answered wrote =
+  script_flushed start after (Some script) left held now holds keeps (Err Halt.NoMemory) answered wrote =
       record { front = answered.front; ahead = answered.ahead; rest = answered.rest; is_front = answered.is_front; is_left = answered.is_left; is_within = answered.is_within; wrote = kept_all held now holds keeps _ answered.grew wrote }
 
   -- or a prefix of it, and that is a write fault, also where memory had run out
-  pub script_unflushed : (start after : S) (all left held now holds : Option (List ℕ)) (keeps : List ℕ) (result : Result Bool Halt) → AnswersLines answer start all left held now keeps after result → AppendsPrefix now holds keeps → AnswersScript answer start all left held holds after (Err halt.CannotWrite)
+  pub script_unflushed : (start after : S) (all left held now holds : Option (List ℕ)) (keeps : List ℕ) (result : Result Bool Halt) → AnswersLines answer start all left held now keeps after result → AppendsPrefix now holds keeps → AnswersScript answer start all left held holds after (Err Halt.CannotWrite)
   script_unflushed start after None left held now holds keeps result answered front = grew_then held now holds answered (grew_prefix now holds keeps front)
   script_unflushed start after (Some script) left held now holds keeps (Ok long) answered front =
       let all : List ℕ = (script_outcome answer start script).0 in
       subst (λ text. AppendsPrefix held holds text) (append-nil all) (kept_fails held now holds keeps all [] answered.2 front)
-  script_unflushed start after (Some script) left held now holds keeps (Err halt.CannotRead) answered front = none_short now holds keeps answered.0 front
-  script_unflushed start after (Some script) left held now holds keeps (Err halt.CannotWrite) answered front = none_short now holds keeps answered.0 front
-  script_unflushed start after (Some script) left held now holds keeps (Err halt.NoMemory) answered front =
+  script_unflushed start after (Some script) left held now holds keeps (Err Halt.CannotRead) answered front = none_short now holds keeps answered.0 front
+  script_unflushed start after (Some script) left held now holds keeps (Err Halt.CannotWrite) answered front = none_short now holds keeps answered.0 front
+  script_unflushed start after (Some script) left held now holds keeps (Err Halt.NoMemory) answered front =
       subst (λ text. AppendsPrefix held holds text) (sym (begins_with answer start script answered.front (answered.ahead ++ answered.rest) answered.is_front answered.is_within)) (kept_fails held now holds keeps _ _ answered.grew front)
 
   -- what is kept was flushed for a message
@@ -122,7 +119,7 @@ module _ {S : Type 0} (answer : Answering S) where
 
   -- or a prefix of it
   pub untold_line : (state after : S) (number : ℕ) (line : List ℕ) (held now holds : Option (List ℕ)) (kept keeps more : List ℕ) → AnswersLine answer state number line held now kept keeps after → more ≡ [] → AppendsPrefix now holds keeps
-      → LineStops answer state number line held holds kept more halt.CannotWrite
+      → LineStops answer state number line held holds kept more Halt.CannotWrite
   untold_line state after number line held now holds kept keeps more answered none front =
       let all : List ℕ = kept ++ (answer number state line).0 in
       (none, subst (λ text. AppendsPrefix held holds text) (append-nil all) (kept_fails held now holds keeps all [] answered.1 front))

@@ -1,9 +1,8 @@
 -- Lines, as a text grows byte by byte, and what they show.
-use Rattle.std.proofs.Common.{◌≡◌, ℕ, zero, suc, ◌+◌, ◌-◌, ◌≤◌, ◌==◌, Bool, true, false, not, cond, List, [], ◌∷◌, ◌++◌, length, take, if◌then◌else◌, sym, ap, ◌∙◌, refl, subst, arith}
-use Rattle.std.specs.List.{before_first}
-use mathlib.Core.List.{append_assoc, append-nil}
-use Rattle.c104_stream.specs.ScriptLines.{whole_lines, last_line, lines_within}
-use Rattle.c104_stream.specs.Scripts.{Answering, lines_outcome}
+use Rattle.c104_stream.specs.{ScriptLines.{last_line, lines_within, whole_lines}, Scripts.{Answering, lines_outcome}}
+use Rattle.std.proofs.Common.{Bool, List, [], ap, arith, cond, false, if◌then◌else◌, length, not, refl, subst, suc, sym, take, true, zero}
+use Rattle.std.{proofs.Common.{ℕ, ◌++◌, ◌+◌, ◌-◌, ◌==◌, ◌∙◌, ◌∷◌, ◌≡◌, ◌≤◌}, specs.List.before_first}
+use mathlib.Core.List.{append-nil, append_assoc}
 
 -- a choice on both sides, by the same test
 by_test : {A B C : Type 0} (f : B → C → A) (test : Bool) (x y : A) (u v : B) (s t : C) → x ≡ f u s → y ≡ f v t → (if test then x else y) ≡ f (if test then u else v) (if test then s else t)

@@ -1,18 +1,13 @@
 -- A script as it is read and answered: how far it is, and what it comes to.
-use Rattle.std.proofs.Common.{◌≡◌, ℕ, zero, suc, ◌+◌, ◌-◌, ◌<◌, ◌≤◌, ◌==◌, false, true, List, [], ◌∷◌, ◌++◌, length, nat_lt, take, Option, Some, None, Ok, Err, sym, ap, ◌∙◌, subst, arith}
-use Rattle.std.proofs.lemmas.Bool.Decides.{nat_tests}
-use mathlib.Core.List.{append-nil, append_assoc}
-use Rattle.std.proofs.lemmas.List.{length-append}
+use Rattle.c104_stream.proofs.{Prefixes.{kept_fails, kept_next, kept_on, kept_stops, prefix_longer}, ScriptLines.{HasNoFeed, before_feed}}
+use Rattle.c104_stream.proofs.ScriptLines.{last_feed, last_piece, lines_after, shown_after, state_on, text_on, whole_feed, whole_piece}
+use Rattle.c104_stream.specs.{Reading.piece_before, ScriptLines.{JoinsLine, last_line, lines_within, most_script, script_lines}}
+use Rattle.c104_stream.specs.{ScriptLines.whole_lines, Scripts.{Answering, LineStops, LinesEnd, lines_outcome}, Writing.AppendsAndKeeps}
+use Rattle.{c104_stream.specs.{Writing.AppendsPrefix, declared.halt.Halt.Halt}, std.proofs.Common.{Err, List, None, Ok, Option, Some, []}}
+use Rattle.std.proofs.Common.{ap, arith, false, length, nat_lt, subst, suc, sym, take, true, zero, ℕ, ◌++◌, ◌+◌, ◌-◌, ◌<◌, ◌==◌, ◌∙◌, ◌∷◌}
+use Rattle.std.proofs.{Common.{◌≡◌, ◌≤◌}, KnownBytes.Consumes-trans, lemmas.{Bool.Decides.nat_tests, List.length-append}}
 use Rattle.std.specs.Io.KnownBytes.{Consumes, prepend_known}
-use Rattle.c104_stream.specs.Reading.{piece_before}
-use Rattle.c104_stream.specs.declared.halt.Halt.{Halt}
-use Rattle.c104_stream.specs.declared.halt.Halt.TheVariants as halt
-use Rattle.c104_stream.specs.ScriptLines.{JoinsLine, whole_lines, last_line, lines_within, script_lines, most_script}
-use Rattle.c104_stream.specs.Scripts.{Answering, LinesEnd, LineStops, lines_outcome}
-use Rattle.c104_stream.specs.Writing.{AppendsAndKeeps, AppendsPrefix}
-use Rattle.std.proofs.KnownBytes.{Consumes-trans}
-use Rattle.c104_stream.proofs.Prefixes.{kept_next, kept_on, kept_stops, kept_fails, prefix_longer}
-use Rattle.c104_stream.proofs.ScriptLines.{HasNoFeed, before_feed, whole_piece, last_piece, whole_feed, last_feed, lines_after, shown_after, text_on, state_on}
+use mathlib.Core.List.{append-nil, append_assoc}
 
 -- one more line after these
 module _ {S : Type 0} (answer : Answering S) (start state : S) (lines : List (List ℕ)) (number : ℕ) (line : List ℕ) (is_number : number ≡ 1 + length lines) (is_state : state ≡ (lines_outcome answer 1 start lines).1) where
@@ -118,27 +113,27 @@ module _ {S : Type 0} {answer : Answering S} {all now held holds : Option (List 
   begins script rest is = ap (λ xs. (lines_outcome answer 1 start xs).0) (cut script rest is) ∙ text_on answer 1 start (whole_lines [] reached.read) (lines_within left line rest)
 
   -- no more is answered
-  pub memory_stops : (script ahead rest : List ℕ) (remains wrote : Option (List ℕ)) (keeps : List ℕ) (after : S) → script ≡ reached.read ++ (ahead ++ rest) → remains ≡ Some rest → AppendsAndKeeps holds wrote keeps kept → LinesEnd answer start script remains held wrote keeps after (Err halt.NoMemory)
+  pub memory_stops : (script ahead rest : List ℕ) (remains wrote : Option (List ℕ)) (keeps : List ℕ) (after : S) → script ≡ reached.read ++ (ahead ++ rest) → remains ≡ Some rest → AppendsAndKeeps holds wrote keeps kept → LinesEnd answer start script remains held wrote keeps after (Err Halt.NoMemory)
   memory_stops script ahead rest remains wrote keeps after is is_left on =
       record { front = reached.read; ahead = ahead; rest = rest; is_front = is; is_left = is_left; is_within = within; grew = kept_on held holds wrote kept keeps so_far.0 reached.wrote on }
 
   -- the writer failed, of what was kept
-  pub writer_fails : (script rest : List ℕ) (remains wrote : Option (List ℕ)) (keeps : List ℕ) (after : S) → script ≡ reached.read ++ rest → (keeps ≡ []) × AppendsPrefix holds wrote kept → LinesEnd answer start script remains held wrote keeps after (Err halt.CannotWrite)
+  pub writer_fails : (script rest : List ℕ) (remains wrote : Option (List ℕ)) (keeps : List ℕ) (after : S) → script ≡ reached.read ++ rest → (keeps ≡ []) × AppendsPrefix holds wrote kept → LinesEnd answer start script remains held wrote keeps after (Err Halt.CannotWrite)
   writer_fails script rest remains wrote keeps after is front =
       (front.0, subst (λ text. AppendsPrefix held wrote text) (sym (begins script rest is)) (kept_fails held holds wrote kept so_far.0 (shown_after answer 1 start (whole_lines [] reached.read) (lines_within left line rest)).0 reached.wrote front.1))
 
   -- the answer to the next line isn't written, or a prefix of it
   pub stops_at : (script rest ahead tail : List ℕ) (more : List (List ℕ)) (remains wrote : Option (List ℕ)) (keeps : List ℕ) (last : S) (kind : Halt) → script ≡ reached.read ++ rest → lines_within left line rest ≡ line ∷ more
       → script ≡ reached.read ++ (ahead ++ tail) → remains ≡ Some tail → LineStops answer state number line holds wrote kept keeps kind → LinesEnd answer start script remains held wrote keeps last (Err kind)
-  stops_at script rest ahead tail more remains wrote keeps last halt.CannotRead is next parts is_left stopped = absurd stopped
-  stops_at script rest ahead tail more remains wrote keeps last halt.CannotWrite is next parts is_left stopped =
+  stops_at script rest ahead tail more remains wrote keeps last Halt.CannotRead is next parts is_left stopped = absurd stopped
+  stops_at script rest ahead tail more remains wrote keeps last Halt.CannotWrite is next parts is_left stopped =
       let shown : List ℕ = (answer number state line).0 in
       let others : List ℕ = (lines_outcome answer (suc (1 + length (whole_lines [] reached.read))) (answer number state line).1 more).0 in (
         stopped.0,
         subst (λ text. AppendsPrefix held wrote text) (sym (ap (λ xs. (lines_outcome answer 1 start xs).0) (cut script rest is ∙ ap (λ xs. whole_lines [] reached.read ++ xs) next) ∙ text_with answer start state (whole_lines [] reached.read) number line reached.is_number reached.is_state more ∙ sym (append_assoc so_far.0 shown others)))
             (prefix_longer held wrote (so_far.0 ++ shown) others (kept_stops held holds wrote kept so_far.0 shown reached.wrote stopped.1)),
       )
-  stops_at script rest ahead tail more remains wrote keeps last halt.NoMemory is next parts is_left stopped = memory_stops script ahead tail remains wrote keeps last parts is_left stopped
+  stops_at script rest ahead tail more remains wrote keeps last Halt.NoMemory is next parts is_left stopped = memory_stops script ahead tail remains wrote keeps last parts is_left stopped
 
   -- the whole script is read and answered
   pub all_answered : (script : List ℕ) (remains wrote : Option (List ℕ)) (keeps : List ℕ) (after : S) → script ≡ reached.read ++ [] → after ≡ (answer number state line).1 → AppendsAndKeeps holds wrote keeps (kept ++ (answer number state line).0) → LinesEnd answer start script remains held wrote keeps after (Ok false)

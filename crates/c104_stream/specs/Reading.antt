@@ -1,7 +1,6 @@
 -- What is known of the bytes that a reader gives.
-use Rattle.std.specs.Prelude.{ℕ, ◌+◌, ◌==◌, ◌≡◌, ◌≤◌, ◌⊎◌, List, [], ◌∷◌, ◌++◌, length, take, Option, Some, None, IfSome}
-use Rattle.std.specs.List.{before_first}
-use Rattle.std.specs.Io.KnownBytes.{Consumes, Keeps, IsAtEnd}
+use Rattle.std.specs.{Io.KnownBytes.{Consumes, IsAtEnd, Keeps}, List.before_first, Prelude.{IfSome, List, None, Option, Some, [], length}}
+use Rattle.std.specs.Prelude.{take, ℕ, ◌++◌, ◌+◌, ◌==◌, ◌∷◌, ◌≡◌, ◌≤◌, ◌⊎◌}
 
 -- a byte was taken, or none is left
 abbrev pub GivesByte : Option (List ℕ) → Option (List ℕ) → Option ℕ → Type 0

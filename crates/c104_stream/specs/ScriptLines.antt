@@ -1,6 +1,6 @@
 -- The lines of a script that comes byte by byte.
-use Rattle.std.specs.Prelude.{ℕ, zero, suc, ◌==◌, ◌≡◌, ◌≤◌, Bool, List, [], ◌∷◌, ◌++◌, codes, length, nat_lt, if◌then◌else◌}
 use Rattle.c104_stream.specs.Reading.{piece_before}
+use Rattle.std.specs.Prelude.{Bool, List, [], codes, if◌then◌else◌, length, nat_lt, suc, zero, ℕ, ◌++◌, ◌==◌, ◌∷◌, ◌≡◌, ◌≤◌}
 
 -- the lines of a text that end in a line feed; front is what was read of the first
 abbrev pub whole_lines : List ℕ → List ℕ → List (List ℕ)

@@ -1,11 +1,9 @@
 -- How a script that is answered line by line ends, and what is written then, where its reader and its writer tell their
 -- bytes: for any state that lines change, whatever says what a line shows.
-use Rattle.std.specs.Prelude.{ℕ, suc, ◌≡◌, ◌≤◌, ◌⊎◌, Bool, List, [], ◌∷◌, ◌++◌, length, Option, Some, None, Result, Ok, Err}
-use Rattle.std.specs.Io.KnownBytes.{Appends, Keeps}
-use Rattle.c104_stream.specs.ScriptLines.{whole_lines, script_lines, is_long, most_script}
-use Rattle.c104_stream.specs.Writing.{AppendsAndKeeps, AppendsPrefix, Grew}
+use Rattle.c104_stream.specs.{ScriptLines.{is_long, most_script, script_lines, whole_lines}, Writing.{AppendsAndKeeps, AppendsPrefix, Grew}}
 use Rattle.c104_stream.specs.declared.halt.Halt.{Halt}
-use Rattle.c104_stream.specs.declared.halt.Halt.TheVariants as halt
+use Rattle.std.specs.{Io.KnownBytes.{Appends, Keeps}, Prelude.{Bool, Err, List, None, Ok, Option, Result, Some, [], length, suc, ℕ, ◌++◌}}
+use Rattle.std.specs.Prelude.{◌∷◌, ◌≡◌, ◌≤◌, ◌⊎◌}
 
 -- the bytes of a reader or a writer, if it tells them
 abbrev pub Known : Type 0
@@ -35,9 +33,9 @@ AnswersLine answer state number line held holds kept keeps after =
 -- a text doesn't join what is kept: out of memory, and what was kept is written or kept; or the writer
 -- failed, and a prefix of what was kept and of the text was written
 abbrev pub TextStops : List ℕ → Known → Known → List ℕ → List ℕ → Halt → Type 0
-TextStops text held holds kept keeps halt.CannotRead = ⊥
-TextStops text held holds kept keeps halt.CannotWrite = (keeps ≡ []) × AppendsPrefix held holds (kept ++ text)
-TextStops text held holds kept keeps halt.NoMemory = AppendsAndKeeps held holds keeps kept
+TextStops text held holds kept keeps Halt.CannotRead = ⊥
+TextStops text held holds kept keeps Halt.CannotWrite = (keeps ≡ []) × AppendsPrefix held holds (kept ++ text)
+TextStops text held holds kept keeps Halt.NoMemory = AppendsAndKeeps held holds keeps kept
 
 -- the answering of a line stopped, so that its answer doesn't join what is kept
 abbrev pub LineStops : {S : Type 0} → Answering S → S → ℕ → List ℕ → Known → Known → List ℕ → List ℕ → Halt → Type 0
@@ -47,9 +45,9 @@ LineStops answer state number line held holds kept keeps kind =
 -- no further byte was read: what was kept is written before the reader is asked, or a prefix of it where
 -- the writer fails
 abbrev pub ReadStops : Known → Known → Known → Known → List ℕ → List ℕ → Halt → Type 0
-ReadStops now remains held holds kept keeps halt.CannotRead = (keeps ≡ []) × Appends held holds kept × Keeps now remains
-ReadStops now remains held holds kept keeps halt.CannotWrite = (keeps ≡ []) × AppendsPrefix held holds kept
-ReadStops now remains held holds kept keeps halt.NoMemory = (keeps ≡ []) × Appends held holds kept × Keeps now remains
+ReadStops now remains held holds kept keeps Halt.CannotRead = (keeps ≡ []) × Appends held holds kept × Keeps now remains
+ReadStops now remains held holds kept keeps Halt.CannotWrite = (keeps ≡ []) × AppendsPrefix held holds kept
+ReadStops now remains held holds kept keeps Halt.NoMemory = (keeps ≡ []) × Appends held holds kept × Keeps now remains
 
 -- out of memory after a front of the script, no longer than a script may be: what is written are the answers to the
 -- lines that had ended there, each of them whole. The front had been read, and what was read ahead of it isn't answered
@@ -94,11 +92,11 @@ abbrev pub ScriptEnds : {S : Type 0} → Answering S → S → List ℕ → Know
 ScriptEnds answer state script left held holds after (Ok long) =
     (long ≡ is_long script) × (after ≡ (script_outcome answer state script).1)
     × Appends held holds (script_outcome answer state script).0
-ScriptEnds answer state script left held holds after (Err halt.CannotRead) =
+ScriptEnds answer state script left held holds after (Err Halt.CannotRead) =
     AnswersPrefix answer state script left held holds
-ScriptEnds answer state script left held holds after (Err halt.CannotWrite) =
+ScriptEnds answer state script left held holds after (Err Halt.CannotWrite) =
     AppendsPrefix held holds (script_outcome answer state script).0
-ScriptEnds answer state script left held holds after (Err halt.NoMemory) =
+ScriptEnds answer state script left held holds after (Err Halt.NoMemory) =
     AnswersFront answer state script left held holds
 
 -- the same where nothing may be known of the script: then what the writer holds grew
@@ -112,11 +110,11 @@ abbrev pub LinesEnd : {S : Type 0} → Answering S → S → List ℕ → Known 
 LinesEnd answer state script left held holds keeps after (Ok long) =
     (long ≡ is_long script) × (after ≡ (script_outcome answer state script).1)
     × AppendsAndKeeps held holds keeps (script_outcome answer state script).0
-LinesEnd answer state script left held holds keeps after (Err halt.CannotRead) =
+LinesEnd answer state script left held holds keeps after (Err Halt.CannotRead) =
     (keeps ≡ []) × AnswersPrefix answer state script left held holds
-LinesEnd answer state script left held holds keeps after (Err halt.CannotWrite) =
+LinesEnd answer state script left held holds keeps after (Err Halt.CannotWrite) =
     (keeps ≡ []) × AppendsPrefix held holds (script_outcome answer state script).0
-LinesEnd answer state script left held holds keeps after (Err halt.NoMemory) =
+LinesEnd answer state script left held holds keeps after (Err Halt.NoMemory) =
     KeepsAnswers answer state script left held holds keeps
 
 -- the same where nothing may be known of the script

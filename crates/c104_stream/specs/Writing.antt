@@ -1,6 +1,5 @@
 -- What is known of the bytes that a writer gets.
-use Rattle.std.specs.Prelude.{ℕ, ◌≡◌, ◌<◌, List, ◌++◌, length, Option}
-use Rattle.std.specs.Io.KnownBytes.{Appends}
+use Rattle.std.specs.{Io.KnownBytes.Appends, Prelude.{List, Option, length, ℕ, ◌++◌, ◌<◌, ◌≡◌}}
 
 -- what a writer holds grew by a prefix of these bytes, and something was left to write
 pub record AppendsPrefix (old new : Option (List ℕ)) (bytes : List ℕ) : Type 0 where

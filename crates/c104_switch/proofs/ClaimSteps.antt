@@ -1,18 +1,12 @@
 -- Which outputs can be claimed at all, by the crossbar's marks.
-use Rattle.std.proofs.Common.{◌≡◌, ◌<◌, ℕ, not, Bool, true, false, List, Option, Some, None, if◌then◌else◌, get_or, length, slice_get, slice_set, is_some, inl, inr, refl, sym, ◌∙◌, ap, arith}
-use Rattle.std.proofs.lemmas.Bool.{cases_lt}
-use Rattle.std.proofs.lemmas.Option.{slice_get_past}
+use Rattle.{c104_crossbar.specs.Marks.{ArePartition, is_free}, c104_link.{proofs.Lifts.lift_beside, specs.Buffers.Outgoing}}
+use Rattle.c104_link.specs.Steps.{bool_outcome, joint_step_at, require, step_at, ◌>>=◌, ◌>>◌}
+use Rattle.{c104_regs.specs.declared.settings.Settings.Settings, c104_switch.proofs.HeldClaims.{free_unowned, taken_owned}}
+use Rattle.c104_switch.specs.{Claims.{input_claim, inputs_claim, put_header, streaming_input}, Group.is_in_group, Holding.held_claims}
+use Rattle.{c104_switch.specs.Switch.{Fresh, Head, Input, Phase, Sinking, Stream, Want, is_owned}, std.proofs.Common.{Bool, List, None}}
+use Rattle.std.proofs.Common.{Option, Some, ap, arith, false, get_or, if◌then◌else◌, inl, inr, is_some, length, not, refl, slice_get}
+use Rattle.std.proofs.{Common.{slice_set, sym, true, ℕ, ◌<◌, ◌∙◌, ◌≡◌}, lemmas.{Bool.cases_lt, Option.slice_get_past}}
 use Rattle.c104_crossbar.specs.Marks as crossbar
-use Rattle.c104_crossbar.specs.Marks.{ArePartition, is_free}
-use Rattle.c104_link.specs.Steps.{◌>>=◌, ◌>>◌, require, step_at, joint_step_at, bool_outcome}
-use Rattle.c104_link.specs.Buffers.{Outgoing}
-use Rattle.c104_regs.specs.declared.settings.Settings.{Settings}
-use Rattle.c104_switch.specs.Group.{is_in_group}
-use Rattle.c104_switch.specs.Switch.{Phase, Fresh, Head, Want, Stream, Sinking, Input, is_owned}
-use Rattle.c104_switch.specs.Claims.{streaming_input, put_header, input_claim, inputs_claim}
-use Rattle.c104_switch.specs.Holding.{held_claims}
-use Rattle.c104_link.proofs.Lifts.{lift_beside}
-use Rattle.c104_switch.proofs.HeldClaims.{free_unowned, taken_owned}
 
 module _ {A : Type 0} (settings : List Settings) (ps : List (Input A)) (qs : List (Outgoing A)) (i o : ℕ) where
   -- no input claims an output past the last

@@ -1,15 +1,9 @@
 -- The group by the word that the registers give is the group by the settings.
-use Rattle.std.proofs.Common.{◌≡◌, ◌==◌, ◌+◌, ◌-◌, ◌^◌, ◌<◌, ◌≤◌, ℕ, zero, suc, Bool, false, List, refl, sym, ap, ◌∙◌, arith}
-use Rattle.std.proofs.lemmas.Bool.{lt-leb}
-use Rattle.std.proofs.lemmas.Nat.Bits.{bit_at_above}
-use Rattle.std.specs.Int.{bit_at}
+use Rattle.{c104_crossbar.specs.Groups.{has_bit, is_joined_run}, c104_regs.proofs.ContinueLemmas.bit-continues_at}
+use Rattle.c104_regs.specs.{Groups.continues_at, Values.bit_value, declared.settings.Settings.Settings}
+use Rattle.{c104_switch.specs.Group.is_in_group, std.proofs.Common.{Bool, List, ap, arith, false, refl, suc, sym, zero, ℕ, ◌+◌, ◌-◌, ◌<◌}}
+use Rattle.std.{proofs.{Common.{◌==◌, ◌^◌, ◌∙◌, ◌≡◌, ◌≤◌}, lemmas.{Bool.lt-leb, Nat.Bits.bit_at_above}}, specs.Int.bit_at}
 use Rattle.c104_crossbar.specs.Groups as groups
-use Rattle.c104_crossbar.specs.Groups.{has_bit, is_joined_run}
-use Rattle.c104_regs.specs.declared.settings.Settings.{Settings}
-use Rattle.c104_regs.specs.Groups.{continues_at}
-use Rattle.c104_regs.specs.Values.{bit_value}
-use Rattle.c104_regs.proofs.ContinueLemmas.{bit-continues_at}
-use Rattle.c104_switch.specs.Group.{is_in_group}
 
 -- links that continue by one test as by another are joined by both
 joined_same : (f h : ℕ → Bool) → ((l : ℕ) → f l ≡ h l) → (low n : ℕ) → is_joined_run f low n ≡ is_joined_run h low n

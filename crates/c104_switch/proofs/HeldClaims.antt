@@ -1,11 +1,8 @@
 -- The claims that inputs hold: how often each output is among them, where one input changes.
-use Rattle.std.proofs.Common.{◌≡◌, ◌==◌, ◌+◌, ◌<◌, ◌||◌, ℕ, zero, suc, Bool, true, false, List, [], ◌∷◌, ◌++◌, Some, nat_lt, replicate, slice_get, slice_set, refl, sym, ap, ◌∙◌, arith}
-use Rattle.std.proofs.lemmas.Bool.{or_parts}
-use Rattle.std.proofs.lemmas.Bool.Decides.{nat_tests}
-use Rattle.c104_crossbar.specs.Marks.{ArePartition, is_free, bool_number, times}
-use Rattle.c104_switch.specs.Phases.{is_stream}
-use Rattle.c104_switch.specs.Switch.{Phase, Fresh, Head, Want, Stream, Sinking, Input, is_owned, new_input}
-use Rattle.c104_switch.specs.Holding.{phase_claims, held_claims}
+use Rattle.{c104_crossbar.specs.Marks.{ArePartition, bool_number, is_free, times}, c104_switch.specs.Holding.{held_claims, phase_claims}}
+use Rattle.c104_switch.specs.{Phases.is_stream, Switch.{Fresh, Head, Input, Phase, Sinking, Stream, Want, is_owned, new_input}}
+use Rattle.std.proofs.Common.{Bool, List, Some, [], ap, arith, false, nat_lt, refl, replicate, slice_get, slice_set, suc, sym, true, zero}
+use Rattle.std.proofs.{Common.{ℕ, ◌++◌, ◌+◌, ◌<◌, ◌==◌, ◌||◌, ◌∙◌, ◌∷◌, ◌≡◌}, lemmas.Bool.{Decides.nat_tests, or_parts}}
 
 -- claims one after the other
 pub times_append : (o : ℕ) (xs ys : List ℕ) → times o (xs ++ ys) ≡ times o xs + times o ys

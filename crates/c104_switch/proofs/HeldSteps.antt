@@ -1,14 +1,11 @@
 -- The partition of the outputs into claims and free ones, where one input changes.
-use Rattle.std.proofs.Common.{◌≡◌, ◌+◌, ◌<◌, ℕ, Bool, List, [], ◌∷◌, ◌++◌, Option, Some, None, length, get_or, slice_get, slice_set, refl, sym, ap, ◌∙◌, arith}
+use Rattle.{c104_crossbar.specs.Marks.{ArePartition, times}, c104_link.specs.Buffers.{Incoming, incoming_accept, incoming_grant}}
+use Rattle.{c104_link.specs.Steps.{bool_outcome, ◌>>=◌}, c104_switch.proofs.HeldClaims.{held_append, held_set, partition_same}}
+use Rattle.c104_switch.{proofs.HeldClaims.times_append, specs.{Commands.input_reset, Holding.{held_claims, phase_claims}, Switch.Input}}
+use Rattle.{c104_switch.specs.Switch.{input_accept, input_grant, with_buffer}, std.proofs.Common.{Bool, List, None, Option, Some, [], ap}}
+use Rattle.std.proofs.Common.{arith, get_or, length, refl, slice_get, slice_set, sym, ℕ, ◌++◌, ◌+◌, ◌<◌, ◌∙◌, ◌∷◌, ◌≡◌}
 use Rattle.std.proofs.lemmas.Option.{slice_get_read}
 use mathlib.Core.List.{append-nil}
-use Rattle.c104_crossbar.specs.Marks.{ArePartition, times}
-use Rattle.c104_link.specs.Steps.{◌>>=◌, bool_outcome}
-use Rattle.c104_link.specs.Buffers.{Incoming, incoming_accept, incoming_grant}
-use Rattle.c104_switch.specs.Switch.{Input, with_buffer, input_accept, input_grant}
-use Rattle.c104_switch.specs.Commands.{input_reset}
-use Rattle.c104_switch.specs.Holding.{phase_claims, held_claims}
-use Rattle.c104_switch.proofs.HeldClaims.{times_append, partition_same, held_append, held_set}
 
 -- the last input leaves a list, with the claims that it held
 pub partition_popped : {A : Type 0} (ps : List (Input A)) (p : Input A) (claims : List ℕ) (marks : List Bool) → claims ≡ phase_claims p.phase → ArePartition (held_claims (ps ++ p ∷ [])) marks → ArePartition (claims ++ held_claims ps) marks

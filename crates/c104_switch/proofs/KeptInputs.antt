@@ -1,17 +1,10 @@
 -- What is kept of an input after a token came in, and after one of a packet that streams has gone on.
-use Rattle.std.proofs.Common.{◌≡◌, ◌≢◌, ◌<◌, ◌≤◌, ◌+◌, ◌-◌, ◌&&◌, ◌||◌, ℕ, not, Bool, true, false, List, [], ◌∷◌, ◌++◌, Option, Some, None, length, slice_get, slice_set, is_some, nat_lt, nat_le, drop, get_or, length-append, length-drop, refl, sym, ap, ◌∙◌, subst, arith}
-use Rattle.std.proofs.lemmas.Bool.Decides.{nat_tests}
-use Rattle.std.proofs.lemmas.List.{set-get_or}
-use Rattle.std.proofs.lemmas.Option.{slice_get-get_or}
-use Rattle.c104_crossbar.specs.Groups.{has_bit}
-use Rattle.c104_link.specs.Buffers.{without_first}
-use Rattle.c104_link.specs.Steps.{bool_outcome}
-use Rattle.c104_switch.specs.Switch.{input_accept, input_grant, with_buffer, Input}
-use Rattle.c104_switch.specs.Phases.{is_want}
-use Rattle.c104_switch.specs.Readiness.{AgreeOn, AreKept, IsKept, may_turn}
-use Rattle.c104_switch.specs.Sides.{IsOutcome}
-use Rattle.c104_switch.specs.declared.input_sets.InputSets.{InputSets}
-use Rattle.c104_switch.proofs.KeptSets.{kept_set}
+use Rattle.{c104_crossbar.specs.Groups.has_bit, c104_link.specs.{Buffers.without_first, Steps.bool_outcome}}
+use Rattle.c104_switch.{proofs.KeptSets.kept_set, specs.{Phases.is_want, Readiness.{AgreeOn, AreKept, IsKept, may_turn}, Sides.IsOutcome}}
+use Rattle.c104_switch.specs.{Switch.{Input, input_accept, input_grant, with_buffer}, declared.input_sets.InputSets.InputSets}
+use Rattle.std.proofs.Common.{Bool, List, None, Option, Some, [], ap, arith, drop, false, get_or, is_some, length, length-append}
+use Rattle.std.proofs.Common.{length-drop, nat_le, nat_lt, not, refl, slice_get, slice_set, subst, sym, true, ℕ, ◌&&◌, ◌++◌, ◌+◌, ◌-◌, ◌<◌}
+use Rattle.std.proofs.{Common.{◌||◌, ◌∙◌, ◌∷◌, ◌≡◌, ◌≢◌, ◌≤◌}, lemmas.{Bool.Decides.nat_tests, List.set-get_or, Option.slice_get-get_or}}
 
 -- what was tried of an input and wasn't made leaves it
 pub unmade : {P Q : Type 0} (step : Option (P × Q)) (p new_p : P) (q new_q : Q) → IsOutcome step p q false new_p new_q → new_p ≡ p

@@ -1,13 +1,9 @@
 -- The set of the outputs that can send, where a token joins one of them or leaves it.
-use Rattle.std.proofs.Common.{◌≡◌, ◌≢◌, ◌<◌, ◌≤◌, ◌&&◌, ◌||◌, ℕ, Bool, true, false, List, [], ◌∷◌, ◌++◌, Option, Some, None, length, slice_get, slice_set, is_some, nat_lt, get_or, refl, sym, ap, ◌∙◌, arith}
-use Rattle.std.proofs.lemmas.Bool.Decides.{nat_tests}
-use Rattle.std.proofs.lemmas.Option.{slice_get-get_or}
-use Rattle.std.specs.Option.{option_map_or}
-use Rattle.c104_crossbar.specs.Groups.{has_bit}
-use Rattle.c104_link.specs.Buffers.{Outgoing, outgoing_emit, outgoing_put}
-use Rattle.c104_link.specs.Steps.{bool_outcome, option_outcome}
-use Rattle.c104_switch.specs.Readiness.{AreSending}
-use Rattle.c104_switch.proofs.KeptSets.{tested_set}
+use Rattle.{c104_crossbar.specs.Groups.has_bit, c104_link.specs.{Buffers.{Outgoing, outgoing_emit, outgoing_put}, Steps.bool_outcome}}
+use Rattle.{c104_link.specs.Steps.option_outcome, c104_switch.{proofs.KeptSets.tested_set, specs.Readiness.AreSending}}
+use Rattle.std.proofs.Common.{Bool, List, None, Option, Some, [], ap, arith, false, get_or, is_some, length, nat_lt, refl, slice_get}
+use Rattle.std.proofs.{Common.{slice_set, sym, true, ℕ, ◌&&◌, ◌++◌, ◌<◌, ◌||◌, ◌∙◌, ◌∷◌, ◌≡◌, ◌≢◌, ◌≤◌}, lemmas.Bool.Decides.nat_tests}
+use Rattle.std.{proofs.lemmas.Option.slice_get-get_or, specs.Option.option_map_or}
 
 module _ {A : Type 0} where
   abbrev sends : Outgoing A → Bool

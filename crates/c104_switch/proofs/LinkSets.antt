@@ -1,10 +1,7 @@
 -- The links of a set as the bits of a word.
-use Rattle.std.proofs.Common.{◌≡◌, ◌<◌, ◌≤◌, ◌==◌, ◌-◌, ◌^◌, ◌*◌, ◌%◌, ℕ, ◌&&◌, true, false, min, inl, inr, refl, sym, ap, ◌∙◌, arith}
-use Rattle.std.specs.Prelude.{bit_and}
-use Rattle.std.specs.Int.{bit_at}
-use Rattle.std.proofs.lemmas.Bool.{cases_lt}
-use Rattle.std.proofs.lemmas.Nat.Bits.{bit_at_and, bit_at-lt, bit_at_mask_inside, bit_at_mask_below, ones_shl}
-use Rattle.c104_crossbar.specs.Groups.{has_bit}
+use Rattle.{c104_crossbar.specs.Groups.has_bit, std.proofs.Common.{ap, arith, false, inl, inr, min, refl, sym, true, ℕ, ◌%◌, ◌&&◌, ◌*◌}}
+use Rattle.std.proofs.{Common.{◌-◌, ◌<◌, ◌==◌, ◌^◌, ◌∙◌, ◌≡◌, ◌≤◌}, lemmas.{Bool.cases_lt, Nat.Bits.{bit_at-lt, bit_at_and}}}
+use Rattle.std.{proofs.lemmas.Nat.Bits.{bit_at_mask_below, bit_at_mask_inside, ones_shl}, specs.{Int.bit_at, Prelude.bit_and}}
 
 -- two bits are both one where the least of them and of a one is
 by_bits : (a b : ℕ) → a < 2 → b < 2 → min (min a b) 1 ≡ 0 → ((a == 1) && (b == 1)) ≡ false

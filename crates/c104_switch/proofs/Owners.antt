@@ -1,8 +1,6 @@
 -- An output is owned where its owner is found.
-use Rattle.std.proofs.Common.{◌≡◌, ℕ, suc, ◌||◌, Bool, true, false, List, [], ◌∷◌, Some, is_some, if◌then◌else◌, refl}
-use Rattle.c104_switch.specs.Phases.{is_stream}
-use Rattle.c104_switch.specs.Switch.{Input, is_owned}
-use Rattle.c104_switch.specs.Views.{owner_from}
+use Rattle.{c104_switch.specs.{Phases.is_stream, Switch.{Input, is_owned}, Views.owner_from}, std.proofs.Common.{Bool, List, Some, []}}
+use Rattle.std.proofs.Common.{false, if◌then◌else◌, is_some, refl, suc, true, ℕ, ◌||◌, ◌∷◌, ◌≡◌}
 
 pub owner_found : {A : Type 0} (n : ℕ) (ps : List (Input A)) (o : ℕ) → is_some (owner_from n ps o) ≡ is_owned ps o
 owner_found n [] o = refl

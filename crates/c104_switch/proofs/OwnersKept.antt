@@ -1,20 +1,12 @@
 -- What is kept of the owners of outputs where one input changes.
-use Rattle.std.proofs.Common.{◌≡◌, ◌≢◌, ◌==◌, ◌+◌, ◌||◌, ◌<◌, ◌≤◌, ℕ, zero, suc, Bool, true, false, List, [], ◌∷◌, Option, Some, None, length, replicate, map, get_or, take, slice_get, slice_set, slice_index_or, nat_lt, if◌then◌else◌, is_some, inl, inr, refl, sym, ap, ◌∙◌, arith}
-use Rattle.std.proofs.lemmas.Bool.{cases_eq, cases_lt}
-use Rattle.std.proofs.lemmas.Bool.Decides.{nat_tests}
-use Rattle.std.proofs.lemmas.List.{get_or-set_other, get_or-set_same, length-map, length-replicate, length-set, length-take}
-use Rattle.std.proofs.lemmas.Option.{slice_get_read}
-use Rattle.c104_crossbar.specs.Marks.{ArePartition, bool_number, is_free, times}
-use Rattle.c104_switch.specs.Commands.{input_reset}
-use Rattle.c104_switch.specs.Holding.{phase_claims, held_claims}
-use Rattle.c104_switch.specs.Owners.{AreOwners}
-use Rattle.c104_switch.specs.Phases.{is_stream}
-use Rattle.c104_switch.specs.Switch.{Input, is_owned, new_input}
-use Rattle.c104_switch.specs.Starts.{start_input}
-use Rattle.c104_switch.specs.declared.link_start.LinkStart.{LinkStart}
-use Rattle.c104_switch.specs.Views.{owner_from}
-use Rattle.c104_switch.proofs.HeldClaims.{holds_stream, unowned_unheld}
-use Rattle.c104_switch.proofs.Owners.{owner_found}
+use Rattle.{c104_crossbar.specs.Marks.{ArePartition, bool_number, is_free, times}, c104_switch.proofs.HeldClaims.holds_stream}
+use Rattle.c104_switch.{proofs.{HeldClaims.unowned_unheld, Owners.owner_found}, specs.{Commands.input_reset, Holding.held_claims}}
+use Rattle.c104_switch.specs.{Holding.phase_claims, Owners.AreOwners, Phases.is_stream, Starts.start_input, Switch.{Input, is_owned}}
+use Rattle.{c104_switch.specs.{Switch.new_input, Views.owner_from, declared.link_start.LinkStart.LinkStart}, std.proofs.Common.{Bool, List}}
+use Rattle.std.proofs.Common.{None, Option, Some, [], ap, arith, false, get_or, if◌then◌else◌, inl, inr, is_some, length, map, nat_lt, refl}
+use Rattle.std.proofs.Common.{replicate, slice_get, slice_index_or, slice_set, suc, sym, take, true, zero, ℕ, ◌+◌, ◌<◌, ◌==◌, ◌||◌, ◌∙◌}
+use Rattle.std.proofs.{Common.{◌∷◌, ◌≡◌, ◌≢◌, ◌≤◌}, lemmas.{Bool.{Decides.nat_tests, cases_eq, cases_lt}, List.get_or-set_other}}
+use Rattle.std.proofs.lemmas.{List.{get_or-set_same, length-map, length-replicate, length-set, length-take}, Option.slice_get_read}
 
 -- numbers of truth that are the same are of the same
 number_same : (a b : Bool) → bool_number a ≡ bool_number b → a ≡ b

@@ -1,13 +1,8 @@
 -- What a switch tells of each of its links, among what it tells of all.
-use Rattle.std.proofs.Common.{◌≡◌, ℕ, zero, suc, ◌+◌, ◌<◌, ◌≤◌, inl, inr, slice_get, length, get_or, ap, ◌∙◌, refl, sym, arith}
-use Rattle.std.proofs.lemmas.Bool.{cases_lt}
-use Rattle.std.proofs.lemmas.List.{get_or_past}
-use Rattle.std.proofs.lemmas.Option.{slice_get_past}
-use Rattle.c104_regs.specs.declared.status.Status.{Status}
-use Rattle.c104_regs.specs.Values.{reset_status}
-use Rattle.c104_switch.specs.Peeks.{link_status, registers, sides_status, statuses_from}
-use Rattle.c104_switch.specs.Switch.{Switch}
-use Rattle.c104_switch.specs.Soundness.{IsSound}
+use Rattle.{c104_regs.specs.{Values.reset_status, declared.status.Status.Status}, c104_switch.specs.Peeks.{link_status, registers}}
+use Rattle.{c104_switch.specs.{Peeks.{sides_status, statuses_from}, Soundness.IsSound, Switch.Switch}, std.proofs.Common.{ap, arith}}
+use Rattle.std.proofs.{Common.{get_or, inl, inr, length, refl, slice_get, suc, sym, zero, ℕ, ◌+◌, ◌<◌, ◌∙◌, ◌≡◌, ◌≤◌}, lemmas.Bool.cases_lt}
+use Rattle.std.proofs.lemmas.{List.get_or_past, Option.slice_get_past}
 
 module _ {A : Type 0} (s : Switch A) where
   told_length : (l n : ℕ) → length (statuses_from s l n) ≡ n

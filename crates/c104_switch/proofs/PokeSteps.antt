@@ -1,13 +1,9 @@
 -- What a poke of the registers leaves, and so what it leaves of a switch.
-use Rattle.std.proofs.Common.{◌≡◌, ◌&&◌, ℕ, Bool, true, false, List, length, Result, Ok, Err, if◌then◌else◌, length-set, refl, ◌∙◌, ap}
-use Rattle.c104_regs.specs.declared.faults.RegFault.{RegFault}
-use Rattle.c104_regs.specs.declared.faults.RegFault.TheVariants.{Busy}
+use Rattle.c104_regs.specs.{Registers.{RegisterBank, status_at, target, waits, with_register}, declared.faults.RegFault.RegFault}
+use Rattle.{c104_regs.specs.declared.{faults.RegFault.TheVariants.Busy, settings.Settings.Settings}, c104_switch.specs.Commands.switch_poke}
+use Rattle.{c104_switch.specs.{Peeks.registers, Switch.Switch}, std.proofs.Common.{Bool, Err, List, Ok, Result, ap, false, if◌then◌else◌}}
+use Rattle.std.proofs.Common.{length, length-set, refl, true, ℕ, ◌&&◌, ◌∙◌, ◌≡◌}
 use Rattle.c104_regs.specs.Registers as regs
-use Rattle.c104_regs.specs.Registers.{RegisterBank, target, waits, status_at, with_register}
-use Rattle.c104_regs.specs.declared.settings.Settings.{Settings}
-use Rattle.c104_switch.specs.Switch.{Switch}
-use Rattle.c104_switch.specs.Peeks.{registers}
-use Rattle.c104_switch.specs.Commands.{switch_poke}
 
 -- registers that came of others: of a switch that is started or not as it was, with as many links
 pub record KeepsBank (old new : RegisterBank) : Type 0 where

@@ -1,11 +1,7 @@
 -- Whether an input can take a turn, from the parts of the switch.
-use Rattle.std.proofs.Common.{◌≡◌, ℕ, Bool, true, false, List, Option, Some, None, slice_get, is_some, refl}
-use Rattle.c104_token.specs.Kinds.{Kind}
-use Rattle.c104_link.specs.Buffers.{Outgoing}
-use Rattle.c104_link.specs.Steps.{joint_step_at}
-use Rattle.c104_regs.specs.declared.settings.Settings.{Settings}
-use Rattle.c104_switch.specs.Switch.{Input, Switch}
-use Rattle.c104_switch.specs.Turns.{input_turn, switch_input}
+use Rattle.{c104_link.specs.{Buffers.Outgoing, Steps.joint_step_at}, c104_regs.specs.declared.settings.Settings.Settings}
+use Rattle.{c104_switch.specs.{Switch.{Input, Switch}, Turns.{input_turn, switch_input}}, c104_token.specs.Kinds.Kind}
+use Rattle.std.proofs.Common.{Bool, List, None, Option, Some, false, is_some, refl, slice_get, true, ℕ, ◌≡◌}
 
 module _ {A : Type 0} (kind : Kind A) (s : Switch A) (i word : ℕ) where
   -- at a link of a switch that is started it can where the input's turn can

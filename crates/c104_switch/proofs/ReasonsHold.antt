@@ -1,19 +1,14 @@
 -- A reason that is told holds: it says what is so of the switch.
-use Rattle.std.proofs.Common.{◌≡◌, ◌<◌, ◌≤◌, ◌+◌, ◌||◌, ℕ, suc, Bool, true, false, List, [], ◌∷◌, length, Option, Some, None, IfSome, IsSomeAnd, nat_lt, nat_le, if◌then◌else◌, slice_get, inl, inr, refl, subst, arith}
-use Rattle.std.proofs.lemmas.Bool.Decides.{nat_tests}
-use Rattle.std.proofs.lemmas.Option.{slice_get_cases}
-use Rattle.c104_link.specs.Buffers.{Incoming, Outgoing}
-use Rattle.c104_regs.specs.declared.settings.Settings.{Settings}
-use Rattle.c104_switch.specs.Group.{is_in_group}
-use Rattle.c104_switch.specs.Phases.{is_stream}
-use Rattle.c104_switch.specs.Switch.{Phase, Fresh, Head, Want, Stream, Sinking, Input, Switch}
-use Rattle.c104_switch.specs.Views.{owner_from}
-use Rattle.c104_switch.specs.declared.actions.ActionOf.{ActionOf}
-use Rattle.c104_switch.specs.declared.actions.ActionOf.TheVariants as action
-use Rattle.c104_switch.specs.declared.unready.Unready.{Unready}
-use Rattle.c104_switch.specs.declared.unready.Unready.TheVariants.{NoLink, NotStarted, NoToken, NoCredit, NotGranted, NoRoom, CreditFull, WantsOutput, OutputFull, WantsNothing, OutsideGroup, Owned, NoRoomForHeader}
-use Rattle.c104_switch.specs.Reasons.{unless, why_at, accept_why, take_why, grant_why, emit_why, credited_why, has_room, phase_why, turn_why, owned_why, header_why, wanted_why, switch_why}
-use Rattle.c104_switch.specs.ReasonMeanings.{IsClaimReason, IsTurnReason, IsReason}
+use Rattle.{c104_link.specs.Buffers.{Incoming, Outgoing}, c104_regs.specs.declared.settings.Settings.Settings}
+use Rattle.c104_switch.specs.{Group.is_in_group, Phases.is_stream, ReasonMeanings.{IsClaimReason, IsReason, IsTurnReason}}
+use Rattle.c104_switch.specs.Reasons.{accept_why, credited_why, emit_why, grant_why, has_room, header_why, owned_why, phase_why, switch_why}
+use Rattle.c104_switch.specs.{Reasons.{take_why, turn_why, unless, wanted_why, why_at}, Switch.{Fresh, Head, Input, Phase, Sinking, Stream}}
+use Rattle.c104_switch.specs.{Switch.{Switch, Want}, Views.owner_from, declared.actions.ActionOf.ActionOf}
+use Rattle.c104_switch.specs.declared.unready.Unready.TheVariants.{CreditFull, NoCredit, NoLink, NoRoom, NoRoomForHeader, NoToken}
+use Rattle.c104_switch.specs.declared.unready.Unready.TheVariants.{NotGranted, NotStarted, OutputFull, OutsideGroup, Owned, WantsNothing}
+use Rattle.{c104_switch.specs.declared.unready.Unready.{TheVariants.WantsOutput, Unready}, std.proofs.Common.{Bool, IfSome, IsSomeAnd}}
+use Rattle.std.proofs.Common.{List, None, Option, Some, [], arith, false, if◌then◌else◌, inl, inr, length, nat_le, nat_lt, refl, slice_get}
+use Rattle.std.proofs.{Common.{subst, suc, true, ℕ, ◌+◌, ◌<◌, ◌||◌, ◌∷◌, ◌≡◌, ◌≤◌}, lemmas.{Bool.Decides.nat_tests, Option.slice_get_cases}}
 
 module _ (P : Unready → Type 0) where
   -- the condition doesn't hold, or a later one doesn't
@@ -95,44 +90,44 @@ module _ {A : Type 0} (s : Switch A) where
   abbrev Holds : ActionOf A → Type 0
   Holds a = IfSome (switch_why s a) (IsReason s a)
 
-  enter_holds : (l : ℕ) (x : A) → Holds (action.Enter l x)
-  enter_holds l x = at_says (IsReason s (action.Enter l x)) s.inputs l (λ p. accept_why p.buffer)
+  enter_holds : (l : ℕ) (x : A) → Holds (ActionOf.Enter l x)
+  enter_holds l x = at_says (IsReason s (ActionOf.Enter l x)) s.inputs l (λ p. accept_why p.buffer)
       (λ past. past)
-      (λ p is. accept_says (IsReason s (action.Enter l x)) p.buffer (and_here s.inputs l p (λ (p : Input A). p.buffer.granted ≡ 0) is))
+      (λ p is. accept_says (IsReason s (ActionOf.Enter l x)) p.buffer (and_here s.inputs l p (λ (p : Input A). p.buffer.granted ≡ 0) is))
 
-  leave_holds : (l : ℕ) → Holds (action.Leave l)
-  leave_holds l = at_says (IsReason s (action.Leave l)) s.outputs l emit_why
+  leave_holds : (l : ℕ) → Holds (ActionOf.Leave l)
+  leave_holds l = at_says (IsReason s (ActionOf.Leave l)) s.outputs l emit_why
       (λ past. past)
-      (λ q is. emit_says (IsReason s (action.Leave l)) q
+      (λ q is. emit_says (IsReason s (ActionOf.Leave l)) q
       (and_here s.outputs l q (λ (q : Outgoing A). q.items ≡ []) is)
       (λ some none. and_here s.outputs l q (λ (q : Outgoing A). (0 < length q.items) × (q.credit ≡ 0)) is (some, none)))
 
-  credit_out_holds : (l : ℕ) → Holds (action.CreditOut l)
-  credit_out_holds l = at_says (IsReason s (action.CreditOut l)) s.inputs l (λ p. unless s.started NotStarted (grant_why p.buffer))
+  credit_out_holds : (l : ℕ) → Holds (ActionOf.CreditOut l)
+  credit_out_holds l = at_says (IsReason s (ActionOf.CreditOut l)) s.inputs l (λ p. unless s.started NotStarted (grant_why p.buffer))
       (λ past. past)
-      (λ p is. unless_says (IsReason s (action.CreditOut l)) s.started NotStarted (grant_why p.buffer) (λ fails. fails)
-      (λ goes. grant_says (IsReason s (action.CreditOut l)) p.buffer (and_here s.inputs l p (λ (p : Input A). p.buffer.cap < length p.buffer.items + p.buffer.granted + 8) is)))
+      (λ p is. unless_says (IsReason s (ActionOf.CreditOut l)) s.started NotStarted (grant_why p.buffer) (λ fails. fails)
+      (λ goes. grant_says (IsReason s (ActionOf.CreditOut l)) p.buffer (and_here s.inputs l p (λ (p : Input A). p.buffer.cap < length p.buffer.items + p.buffer.granted + 8) is)))
 
-  credit_in_holds : (l : ℕ) → Holds (action.CreditIn l)
-  credit_in_holds l = at_says (IsReason s (action.CreditIn l)) s.outputs l credited_why
+  credit_in_holds : (l : ℕ) → Holds (ActionOf.CreditIn l)
+  credit_in_holds l = at_says (IsReason s (ActionOf.CreditIn l)) s.outputs l credited_why
       (λ past. past)
-      (λ q is. credited_says (IsReason s (action.CreditIn l)) q (and_here s.outputs l q (λ (q : Outgoing A). 64 < q.credit + 8) is))
+      (λ q is. credited_says (IsReason s (ActionOf.CreditIn l)) q (and_here s.outputs l q (λ (q : Outgoing A). 64 < q.credit + 8) is))
 
-  input_holds : (l word : ℕ) → Holds (action.Input l word)
-  input_holds l word = at_says (IsReason s (action.Input l word)) s.settings l (λ t. why_at s.inputs l (λ p. unless s.started NotStarted (turn_why s.outputs p)))
+  input_holds : (l word : ℕ) → Holds (ActionOf.Input l word)
+  input_holds l word = at_says (IsReason s (ActionOf.Input l word)) s.settings l (λ t. why_at s.inputs l (λ p. unless s.started NotStarted (turn_why s.outputs p)))
       (λ past. inl past)
-      (λ t set. at_says (IsReason s (action.Input l word)) s.inputs l (λ p. unless s.started NotStarted (turn_why s.outputs p))
+      (λ t set. at_says (IsReason s (ActionOf.Input l word)) s.inputs l (λ p. unless s.started NotStarted (turn_why s.outputs p))
       (λ past. inr past)
-      (λ p is. unless_says (IsReason s (action.Input l word)) s.started NotStarted (turn_why s.outputs p) (λ fails. fails)
-      (λ goes. unless_says (IsReason s (action.Input l word)) (nat_lt 0 (length p.buffer.items)) NoToken (phase_why s.outputs p.phase)
-      (λ none. and_here s.inputs l p (λ (p : Input A). p.buffer.items ≡ []) is (empty (IsReason s (action.Input l word)) p.buffer.items none))
-      (λ some. phase_says (IsReason s (action.Input l word)) s.outputs p.phase
+      (λ p is. unless_says (IsReason s (ActionOf.Input l word)) s.started NotStarted (turn_why s.outputs p) (λ fails. fails)
+      (λ goes. unless_says (IsReason s (ActionOf.Input l word)) (nat_lt 0 (length p.buffer.items)) NoToken (phase_why s.outputs p.phase)
+      (λ none. and_here s.inputs l p (λ (p : Input A). p.buffer.items ≡ []) is (empty (IsReason s (ActionOf.Input l word)) p.buffer.items none))
+      (λ some. phase_says (IsReason s (ActionOf.Input l word)) s.outputs p.phase
       (λ b g wants. and_here s.inputs l p (λ p. IsTurnReason s.outputs p (WantsOutput g)) is (b, wants))
       (λ o streams no_room. and_here s.inputs l p (λ p. IsTurnReason s.outputs p (OutputFull o)) is (streams, no_room))))))
 
   module _ (i o : ℕ) (p : Input A) (t : Settings) (q : Outgoing A) (is : slice_get s.inputs i ≡ Some p) (set : slice_get s.settings o ≡ Some t) (at : slice_get s.outputs o ≡ Some q) where
     abbrev Says : Unready → Type 0
-    Says = IsReason s (action.Claim i o)
+    Says = IsReason s (ActionOf.Claim i o)
 
     claims : (reason : Unready) → IsClaimReason s o p reason → IsSomeAnd (slice_get s.inputs i) (λ p. IsClaimReason s o p reason)
     claims reason holds = and_here s.inputs i p (λ p. IsClaimReason s o p reason) is holds
@@ -175,21 +170,21 @@ module _ {A : Type 0} (s : Switch A) where
     wanted_says (Stream d) has = claims WantsNothing (rw has refl)
     wanted_says Sinking has = claims WantsNothing (rw has refl)
 
-  claim_holds : (i o : ℕ) → Holds (action.Claim i o)
-  claim_holds i o = at_says (IsReason s (action.Claim i o)) s.inputs i (λ p. why_at s.settings o (λ t. why_at s.outputs o (λ q. unless s.started NotStarted (wanted_why s.settings o (owner_from 0 s.inputs o) t q p.phase))))
+  claim_holds : (i o : ℕ) → Holds (ActionOf.Claim i o)
+  claim_holds i o = at_says (IsReason s (ActionOf.Claim i o)) s.inputs i (λ p. why_at s.settings o (λ t. why_at s.outputs o (λ q. unless s.started NotStarted (wanted_why s.settings o (owner_from 0 s.inputs o) t q p.phase))))
       (λ past. inl past)
-      (λ p is. at_says (IsReason s (action.Claim i o)) s.settings o (λ t. why_at s.outputs o (λ q. unless s.started NotStarted (wanted_why s.settings o (owner_from 0 s.inputs o) t q p.phase)))
+      (λ p is. at_says (IsReason s (ActionOf.Claim i o)) s.settings o (λ t. why_at s.outputs o (λ q. unless s.started NotStarted (wanted_why s.settings o (owner_from 0 s.inputs o) t q p.phase)))
       (λ past. inr (inl past))
-      (λ t set. at_says (IsReason s (action.Claim i o)) s.outputs o (λ q. unless s.started NotStarted (wanted_why s.settings o (owner_from 0 s.inputs o) t q p.phase))
+      (λ t set. at_says (IsReason s (ActionOf.Claim i o)) s.outputs o (λ q. unless s.started NotStarted (wanted_why s.settings o (owner_from 0 s.inputs o) t q p.phase))
       (λ past. inr (inr past))
-      (λ q at. unless_says (IsReason s (action.Claim i o)) s.started NotStarted (wanted_why s.settings o (owner_from 0 s.inputs o) t q p.phase) (λ fails. fails)
+      (λ q at. unless_says (IsReason s (ActionOf.Claim i o)) s.started NotStarted (wanted_why s.settings o (owner_from 0 s.inputs o) t q p.phase) (λ fails. fails)
       (λ goes. wanted_says i o p t q is set at p.phase refl))))
 
   pub reason_holds : (a : ActionOf A) → IfSome (switch_why s a) (IsReason s a)
-  reason_holds (action.Enter l x) = enter_holds l x
-  reason_holds (action.Leave l) = leave_holds l
-  reason_holds (action.CreditOut l) = credit_out_holds l
-  reason_holds (action.CreditIn l) = credit_in_holds l
-  reason_holds (action.Input l word) = input_holds l word
-  reason_holds (action.Claim i o) = claim_holds i o
-  reason_holds (action.Control bytes) = tt
+  reason_holds (ActionOf.Enter l x) = enter_holds l x
+  reason_holds (ActionOf.Leave l) = leave_holds l
+  reason_holds (ActionOf.CreditOut l) = credit_out_holds l
+  reason_holds (ActionOf.CreditIn l) = credit_in_holds l
+  reason_holds (ActionOf.Input l word) = input_holds l word
+  reason_holds (ActionOf.Claim i o) = claim_holds i o
+  reason_holds (ActionOf.Control bytes) = tt

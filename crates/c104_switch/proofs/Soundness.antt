@@ -1,21 +1,16 @@
 -- Each action of a switch keeps what every switch keeps.
-use Rattle.std.proofs.Common.{◌≡◌, not, ℕ, Bool, false, List, Option, Some, length, replicate, slice_get, slice_set, refl, sym, ◌∙◌, subst}
-use Rattle.std.proofs.lemmas.Bool.{not-true}
-use Rattle.std.proofs.lemmas.List.{length-set, length-replicate}
-use Rattle.std.proofs.lemmas.List.Elements.{All-set, All-replicate}
-use Rattle.c104_token.specs.Kinds.{Kind}
-use Rattle.c104_link.specs.Steps.{step_at, yield_step_at, joint_step_at}
+use Rattle.c104_link.{proofs.MadeSteps.{All-place, at_place_made, from_place_made, required, with_place_made}, specs.Buffers.IsValidCap}
+use Rattle.c104_link.specs.{Buffers.{IsWithinCap, IsWithinLimits, Outgoing, empty_outgoing, outgoing_credited}, Steps.joint_step_at}
+use Rattle.{c104_link.specs.Steps.{step_at, yield_step_at}, c104_regs.specs.declared.settings.Settings.Settings}
+use Rattle.c104_switch.proofs.{SoundnessBuffers.{within_credited, within_empty_in, within_empty_out, within_leave}, SoundnessInputs.IsAlone}
+use Rattle.c104_switch.proofs.SoundnessInputs.{KeepsInput, alone_at, exclusive_set, keeps_accepted, keeps_granted, unowned}
+use Rattle.c104_switch.{proofs.SoundnessTurns.{KeepsOutputs, claimed_gives, keeps_at_place, keeps_turn}, specs.Claims.input_claim}
+use Rattle.c104_switch.specs.{Claims.{inputs_claim, streaming_input}, Soundness.{IsExclusive, IsSound}, Switch.{Fresh, Input, Stream}}
+use Rattle.c104_switch.specs.Switch.{Switch, input_accept, input_grant, is_owned, new_input, new_switch_with, with_inputs, with_outputs}
+use Rattle.{c104_switch.specs.{Switch.with_sides, Turns.input_turn}, c104_token.specs.Kinds.Kind, std.proofs.Common.{Bool, List, Option}}
+use Rattle.std.proofs.Common.{Some, false, length, not, refl, replicate, slice_get, slice_set, subst, sym, ℕ, ◌∙◌, ◌≡◌}
+use Rattle.std.proofs.lemmas.{Bool.not-true, List.{Elements.{All-replicate, All-set}, length-replicate, length-set}}
 use Rattle.c104_link.specs.Buffers as buffer
-use Rattle.c104_link.specs.Buffers.{Outgoing, IsValidCap, IsWithinCap, IsWithinLimits, empty_outgoing, outgoing_credited}
-use Rattle.c104_regs.specs.declared.settings.Settings.{Settings}
-use Rattle.c104_switch.specs.Switch.{Fresh, Stream, Input, Switch, is_owned, with_inputs, with_outputs, with_sides, input_accept, input_grant, new_input, new_switch_with}
-use Rattle.c104_switch.specs.Turns.{input_turn}
-use Rattle.c104_switch.specs.Claims.{streaming_input, input_claim, inputs_claim}
-use Rattle.c104_switch.specs.Soundness.{IsExclusive, IsSound}
-use Rattle.c104_link.proofs.MadeSteps.{required, at_place_made, from_place_made, with_place_made, All-place}
-use Rattle.c104_switch.proofs.SoundnessBuffers.{within_empty_in, within_empty_out, within_leave, within_credited}
-use Rattle.c104_switch.proofs.SoundnessInputs.{IsAlone, KeepsInput, exclusive_set, alone_at, unowned, keeps_accepted, keeps_granted}
-use Rattle.c104_switch.proofs.SoundnessTurns.{KeepsOutputs, keeps_at_place, keeps_turn, claimed_gives}
 
 -- the inputs and the outputs of a switch
 abbrev pub Sides : Type 0 → Type 0

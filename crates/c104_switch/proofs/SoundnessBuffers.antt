@@ -1,9 +1,9 @@
 -- Each step of a buffer keeps it within its bounds.
-use Rattle.std.proofs.Common.{◌≡◌, ◌+◌, ◌-◌, ℕ, List, [], ◌∷◌, ◌++◌, Some, nat_lt, nat_le, drop, length, slice_get, arith, length-append, length-drop}
-use Rattle.std.proofs.lemmas.Bool.Decides.{nat_tests}
-use Rattle.std.proofs.lemmas.List.{length_push}
-use Rattle.c104_link.specs.Buffers.{Incoming, Outgoing, IsValidCap, IsWithinCap, IsWithinLimits, empty_incoming, empty_outgoing, incoming_grant, incoming_accept, without_first, outgoing_put, outgoing_put_all, outgoing_emit, outgoing_credited}
-use Rattle.c104_link.proofs.MadeSteps.{given, holds_under}
+use Rattle.c104_link.{proofs.MadeSteps.{given, holds_under}, specs.Buffers.{Incoming, IsValidCap, IsWithinCap, IsWithinLimits, Outgoing}}
+use Rattle.c104_link.specs.Buffers.{empty_incoming, empty_outgoing, incoming_accept, incoming_grant, outgoing_credited, outgoing_emit}
+use Rattle.{c104_link.specs.Buffers.{outgoing_put, outgoing_put_all, without_first}, std.proofs.Common.{List, Some, [], arith, drop}}
+use Rattle.std.proofs.Common.{length, length-append, length-drop, nat_le, nat_lt, slice_get, ℕ, ◌++◌, ◌+◌, ◌-◌, ◌∷◌, ◌≡◌}
+use Rattle.std.proofs.lemmas.{Bool.Decides.nat_tests, List.length_push}
 
 module _ {A : Type 0} where
   -- a new input buffer is within its capacity

@@ -1,13 +1,9 @@
 -- What a reset, the start and a poke leave of a switch: what every switch keeps.
-use Rattle.std.proofs.Common.{◌≡◌, Bool, List, All, length, map, refl, sym, ◌∙◌, ap, subst, arith}
+use Rattle.c104_link.{proofs.MadeSteps.All-place, specs.Buffers.{Incoming, IsWithinCap, IsWithinLimits, Outgoing, incoming_clear}}
+use Rattle.{c104_link.specs.Buffers.outgoing_clear, c104_regs.specs.declared.settings.Settings.Settings}
+use Rattle.c104_switch.specs.{Commands.input_reset, Soundness.{IsExclusive, IsSound}, Switch.{Fresh, Input, Switch}}
+use Rattle.std.proofs.{Common.{All, Bool, List, ap, arith, length, map, refl, subst, sym, ◌∙◌, ◌≡◌}, lemmas.List.Elements.All-map}
 use Rattle.std.proofs.lemmas.List.{length-map}
-use Rattle.std.proofs.lemmas.List.Elements.{All-map}
-use Rattle.c104_link.specs.Buffers.{Incoming, Outgoing, IsWithinCap, IsWithinLimits, incoming_clear, outgoing_clear}
-use Rattle.c104_regs.specs.declared.settings.Settings.{Settings}
-use Rattle.c104_switch.specs.Switch.{Fresh, Input, Switch}
-use Rattle.c104_switch.specs.Commands.{input_reset}
-use Rattle.c104_switch.specs.Soundness.{IsExclusive, IsSound}
-use Rattle.c104_link.proofs.MadeSteps.{All-place}
 
 module _ {A : Type 0} where
   -- a buffer without its tokens is within the same bounds

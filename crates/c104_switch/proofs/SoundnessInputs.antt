@@ -1,13 +1,9 @@
 -- Inputs that stay within their capacity, no two of which stream to one output, where one of them changes.
-use Rattle.std.proofs.Common.{◌≡◌, ◌==◌, ℕ, zero, suc, true, false, List, [], ◌∷◌, Some, slice_get, slice_set, sym, ◌∙◌, ap, subst, inl, inr, arith}
-use Rattle.std.proofs.lemmas.Bool.{or_parts}
-use Rattle.std.proofs.lemmas.Bool.Decides.{nat_tests}
-use Rattle.c104_link.specs.Buffers.{IsWithinCap, incoming_accept, incoming_grant}
-use Rattle.c104_switch.specs.Phases.{is_stream}
-use Rattle.c104_switch.specs.Switch.{Phase, Stream, Input, is_owned, with_buffer, input_accept, input_grant}
-use Rattle.c104_switch.specs.Soundness.{IsExclusive}
-use Rattle.c104_link.proofs.MadeSteps.{given, place_after_set}
-use Rattle.c104_switch.proofs.SoundnessBuffers.{within_enter, within_grant}
+use Rattle.c104_link.{proofs.MadeSteps.{given, place_after_set}, specs.Buffers.{IsWithinCap, incoming_accept, incoming_grant}}
+use Rattle.c104_switch.{proofs.SoundnessBuffers.{within_enter, within_grant}, specs.{Phases.is_stream, Soundness.IsExclusive, Switch.Input}}
+use Rattle.{c104_switch.specs.Switch.{Phase, Stream, input_accept, input_grant, is_owned, with_buffer}, std.proofs.Common.{List, Some, []}}
+use Rattle.std.proofs.Common.{ap, arith, false, inl, inr, slice_get, slice_set, subst, suc, sym, true, zero, ℕ, ◌==◌, ◌∙◌, ◌∷◌, ◌≡◌}
+use Rattle.std.proofs.lemmas.Bool.{Decides.nat_tests, or_parts}
 
 module _ {A : Type 0} where
   -- no input but that at place i streams to output o

@@ -1,16 +1,12 @@
 -- What a method of the switch leaves that made its parts or tried a step of one side: what every switch keeps.
-use Rattle.std.proofs.Common.{◌≡◌, ℕ, Bool, true, List, Option, Some, None, length, replicate, slice_get, sym, ap, subst}
-use Rattle.c104_token.specs.Kinds.{Kind}
-use Rattle.c104_link.specs.Steps.{◌>>=◌, ◌>>◌, require, bool_outcome, option_outcome, step_at, yield_step_at, joint_step_at}
+use Rattle.c104_link.{proofs.MadeSteps.{holds_taken, holds_tried}, specs.Buffers.{IsValidCap, Outgoing, empty_outgoing, outgoing_credited}}
+use Rattle.c104_link.specs.Steps.{bool_outcome, joint_step_at, option_outcome, require, step_at, yield_step_at, ◌>>=◌, ◌>>◌}
+use Rattle.{c104_regs.specs.declared.settings.Settings.Settings, c104_switch.proofs.Soundness.{Sides, sound_accepted, sound_claimed}}
+use Rattle.c104_switch.{proofs.Soundness.{sound_credited, sound_first, sound_granted, sound_left, sound_turned}, specs.Claims.inputs_claim}
+use Rattle.c104_switch.specs.{Soundness.IsSound, Switch.{Input, Switch, input_accept, input_grant, new_input, new_switch_with, with_inputs}}
+use Rattle.{c104_switch.specs.{Switch.{with_outputs, with_sides}, Turns.{input_turn, switch_input}}, c104_token.specs.Kinds.Kind}
+use Rattle.std.proofs.Common.{Bool, List, None, Option, Some, ap, length, replicate, slice_get, subst, sym, true, ℕ, ◌≡◌}
 use Rattle.c104_link.specs.Buffers as buffer
-use Rattle.c104_link.specs.Buffers.{Outgoing, IsValidCap, empty_outgoing, outgoing_credited}
-use Rattle.c104_regs.specs.declared.settings.Settings.{Settings}
-use Rattle.c104_switch.specs.Switch.{Input, Switch, with_inputs, with_outputs, with_sides, input_accept, input_grant, new_input, new_switch_with}
-use Rattle.c104_switch.specs.Turns.{input_turn, switch_input}
-use Rattle.c104_switch.specs.Claims.{inputs_claim}
-use Rattle.c104_switch.specs.Soundness.{IsSound}
-use Rattle.c104_link.proofs.MadeSteps.{holds_tried, holds_taken}
-use Rattle.c104_switch.proofs.Soundness.{Sides, sound_first, sound_accepted, sound_granted, sound_credited, sound_left, sound_turned, sound_claimed}
 
 -- a switch that is made of 32 settings, inputs and outputs at first
 pub sound_made : {A : Type 0} (cap : ℕ) (started : Bool) (settings : List Settings) (ps : List (Input A)) (qs : List (Outgoing A)) → IsValidCap cap → length settings ≡ 32 → ps ≡ replicate 32 (new_input cap) → qs ≡ replicate 32 empty_outgoing → IsSound (with_sides (new_switch_with cap settings started) (ps, qs))

@@ -1,22 +1,14 @@
 -- What a turn and a claim of an input keep, of the input and of the outputs.
-use Rattle.std.proofs.Common.{◌≡◌, ◌&&◌, not, ℕ, Bool, true, false, List, [], ◌∷◌, ◌++◌, Option, Some, All, if◌then◌else◌, nat_le, length, slice_get, refl, ◌∙◌, ap, subst}
-use Rattle.c104_token.specs.Tokens.{is_end}
-use Rattle.c104_token.specs.Kinds.{Kind}
-use Rattle.c104_interval.specs.Selection.{select}
-use Rattle.c104_interval.specs.declared.intervals.Select.{Select}
-use Rattle.c104_interval.specs.declared.intervals.Select.TheVariants.{Link, Discard, Sink}
-use Rattle.c104_link.specs.Steps.{step_at}
-use Rattle.c104_link.specs.Buffers.{Outgoing, IsWithinLimits, outgoing_put, outgoing_put_all}
-use Rattle.c104_regs.specs.declared.settings.Settings.{Settings}
-use Rattle.c104_regs.specs.Settings.{header_length}
-use Rattle.c104_switch.specs.Group.{is_in_group}
-use Rattle.c104_switch.specs.Switch.{Phase, Fresh, Head, Want, Stream, Sinking, Input}
-use Rattle.c104_switch.specs.Headers.{decided_phase, is_sink, header_value, phase_after_header, random_header}
-use Rattle.c104_switch.specs.Turns.{input_after_token, phase_after_token, header_turn, random_turn, turn_by_phase, input_turn}
-use Rattle.c104_switch.specs.Claims.{streaming_input, put_header, input_claim}
-use Rattle.c104_link.proofs.MadeSteps.{given, required, All-at_place, length-at_place}
-use Rattle.c104_switch.proofs.SoundnessBuffers.{within_without_first, within_put, within_put_all}
-use Rattle.c104_switch.proofs.SoundnessInputs.{KeepsInput}
+use Rattle.c104_interval.specs.{Selection.select, declared.intervals.Select.{Select, TheVariants.{Discard, Link, Sink}}}
+use Rattle.c104_link.{proofs.MadeSteps.{All-at_place, given, length-at_place, required}, specs.Buffers.{IsWithinLimits, Outgoing}}
+use Rattle.{c104_link.specs.{Buffers.{outgoing_put, outgoing_put_all}, Steps.step_at}, c104_regs.specs.Settings.header_length}
+use Rattle.{c104_regs.specs.declared.settings.Settings.Settings, c104_switch.proofs.SoundnessBuffers.{within_put, within_put_all}}
+use Rattle.c104_switch.{proofs.{SoundnessBuffers.within_without_first, SoundnessInputs.KeepsInput}, specs.Claims.{input_claim, put_header}}
+use Rattle.c104_switch.specs.{Claims.streaming_input, Group.is_in_group, Headers.{decided_phase, header_value, is_sink, phase_after_header}}
+use Rattle.c104_switch.specs.{Headers.random_header, Switch.{Fresh, Head, Input, Phase, Sinking, Stream, Want}, Turns.header_turn}
+use Rattle.c104_switch.specs.Turns.{input_after_token, input_turn, phase_after_token, random_turn, turn_by_phase}
+use Rattle.{c104_token.specs.{Kinds.Kind, Tokens.is_end}, std.proofs.Common.{All, Bool, List, Option, Some, [], ap, false, if◌then◌else◌}}
+use Rattle.std.proofs.Common.{length, nat_le, not, refl, slice_get, subst, true, ℕ, ◌&&◌, ◌++◌, ◌∙◌, ◌∷◌, ◌≡◌}
 
 module _ {A : Type 0} where
   -- a phase in which an input streams to no output

@@ -1,15 +1,11 @@
 -- Switches at their starts: what every switch keeps, and what every start does.
-use Rattle.std.proofs.Common.{◌≡◌, ◌∙◌, ◌+◌, ◌++◌, ℕ, zero, suc, All, Bool, List, [], ◌∷◌, Some, length, map, slice_get, take, refl, sym, ap, subst, arith}
-use Rattle.std.proofs.lemmas.List.{length-map, length-replicate}
-use Rattle.std.proofs.lemmas.List.Elements.{All-cons, All-head, All-map, All-nil, All-replicate, All-tail}
-use Rattle.c104_link.specs.Buffers.{Outgoing, IsValidCap, IsWithinCap, IsWithinLimits}
-use Rattle.c104_regs.specs.declared.settings.Settings.{Settings}
-use Rattle.c104_switch.specs.declared.link_start.LinkStart.{LinkStart}
-use Rattle.c104_switch.specs.declared.phase.Phase.TheVariants.{Fresh}
-use Rattle.c104_switch.specs.Holding.{held_claims}
-use Rattle.c104_switch.specs.Soundness.{IsSound}
-use Rattle.c104_switch.specs.Starts.{link_start, link_starts, new_link, new_start, start_input, start_output, start_switch, switch_start, IsLinkStart, IsSwitchStart, SwitchStart}
-use Rattle.c104_switch.specs.Switch.{Input, Switch}
+use Rattle.c104_link.specs.Buffers.{IsValidCap, IsWithinCap, IsWithinLimits, Outgoing}
+use Rattle.{c104_regs.specs.declared.settings.Settings.Settings, c104_switch.specs.{Holding.held_claims, Soundness.IsSound}}
+use Rattle.c104_switch.specs.Starts.{IsLinkStart, IsSwitchStart, SwitchStart, link_start, link_starts, new_link, new_start, start_input}
+use Rattle.c104_switch.specs.{Starts.{start_output, start_switch, switch_start}, Switch.{Input, Switch}}
+use Rattle.{c104_switch.specs.declared.{link_start.LinkStart.LinkStart, phase.Phase.TheVariants.Fresh}, std.proofs.Common.{All, Bool, List}}
+use Rattle.std.proofs.Common.{Some, [], ap, arith, length, map, refl, slice_get, subst, suc, sym, take, zero, ℕ, ◌++◌, ◌+◌, ◌∙◌, ◌∷◌, ◌≡◌}
+use Rattle.std.proofs.lemmas.List.{Elements.{All-cons, All-head, All-map, All-nil, All-replicate, All-tail}, length-map, length-replicate}
 
 -- a new start
 pub new_kept : (cap : ℕ) (settings : List Settings) (started : Bool) → IsValidCap cap → length settings ≡ 32 → IsSwitchStart (new_start cap settings started)

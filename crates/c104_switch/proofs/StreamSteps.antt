@@ -1,11 +1,8 @@
 -- A turn of an input that streams to an output.
-use Rattle.std.proofs.Common.{◌≡◌, ℕ, Bool, true, false, List, Option, Some, None, slice_get, is_some, refl, ap, subst, sym, ◌∙◌}
-use Rattle.c104_token.specs.Kinds.{Kind}
-use Rattle.c104_link.specs.Steps.{◌>>=◌, bool_outcome, option_outcome, step_at}
-use Rattle.c104_link.specs.Buffers.{Incoming, Outgoing, incoming_take, outgoing_put, without_first}
-use Rattle.c104_regs.specs.declared.settings.Settings.{Settings}
-use Rattle.c104_switch.specs.Switch.{Phase, Stream, Input}
-use Rattle.c104_switch.specs.Turns.{IsTurn, input_after_token, phase_after_token}
+use Rattle.c104_link.specs.{Buffers.{Incoming, Outgoing, incoming_take, outgoing_put, without_first}, Steps.{bool_outcome, option_outcome}}
+use Rattle.{c104_link.specs.Steps.{step_at, ◌>>=◌}, c104_regs.specs.declared.settings.Settings.Settings, c104_switch.specs.Switch.Input}
+use Rattle.{c104_switch.specs.{Switch.{Phase, Stream}, Turns.{IsTurn, input_after_token, phase_after_token}}, c104_token.specs.Kinds.Kind}
+use Rattle.std.proofs.Common.{Bool, List, None, Option, Some, ap, false, is_some, refl, slice_get, subst, sym, true, ℕ, ◌∙◌, ◌≡◌}
 
 -- what was taken is the first token
 pub taken_first : {A : Type 0} (b c : Incoming A) (o : Option A) → ◌≡◌ {A = Option A × Incoming A} (o, c) (option_outcome (incoming_take b) b) → slice_get b.items 0 ≡ o

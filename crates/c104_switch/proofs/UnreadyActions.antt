@@ -1,17 +1,12 @@
 -- An action of a switch has no reason exactly where the switch is ready for it.
-use Rattle.std.proofs.Common.{◌≡◌, ◌∙◌, ℕ, Bool, true, false, List, Option, Some, None, slice_get, is_some, is_none, refl}
-use Rattle.c104_token.specs.Kinds.{Kind}
-use Rattle.c104_link.specs.Buffers.{Incoming, Outgoing, incoming_accept, incoming_grant, outgoing_emit, outgoing_credited}
-use Rattle.c104_regs.specs.declared.settings.Settings.{Settings}
-use Rattle.c104_switch.specs.Switch.{Input, Switch, switch_enter, switch_leave, switch_credit_out, switch_credit_in}
-use Rattle.c104_switch.specs.Turns.{input_turn, switch_input}
-use Rattle.c104_switch.specs.Claims.{switch_claim}
-use Rattle.c104_switch.specs.Actions.{switch_step, done_outcome, token_outcome, is_ready}
-use Rattle.c104_switch.specs.declared.actions.ActionOf.{ActionOf}
-use Rattle.c104_switch.specs.declared.actions.ActionOf.TheVariants as action
-use Rattle.c104_switch.specs.Reasons.{accept_why, grant_why, emit_why, credited_why, turn_why, enter_why, leave_why, credit_out_why, credit_in_why, input_why, switch_why}
-use Rattle.c104_switch.proofs.UnreadySteps.{accept_ready, grant_ready, emit_ready, credited_ready, turn_ready}
-use Rattle.c104_switch.proofs.UnreadyClaims.{claim_ready}
+use Rattle.c104_link.specs.Buffers.{Incoming, Outgoing, incoming_accept, incoming_grant, outgoing_credited, outgoing_emit}
+use Rattle.{c104_regs.specs.declared.settings.Settings.Settings, c104_switch.proofs.{UnreadyClaims.claim_ready, UnreadySteps.accept_ready}}
+use Rattle.c104_switch.{proofs.UnreadySteps.{credited_ready, emit_ready, grant_ready, turn_ready}, specs.Actions.{done_outcome, is_ready}}
+use Rattle.c104_switch.specs.{Actions.{switch_step, token_outcome}, Claims.switch_claim, Reasons.{accept_why, credit_in_why}}
+use Rattle.c104_switch.specs.Reasons.{credit_out_why, credited_why, emit_why, enter_why, grant_why, input_why, leave_why, switch_why}
+use Rattle.c104_switch.specs.{Reasons.turn_why, Switch.{Input, Switch, switch_credit_in, switch_credit_out, switch_enter, switch_leave}}
+use Rattle.{c104_switch.specs.{Turns.{input_turn, switch_input}, declared.actions.ActionOf.ActionOf}, c104_token.specs.Kinds.Kind}
+use Rattle.std.proofs.Common.{Bool, List, None, Option, Some, false, is_none, is_some, refl, slice_get, true, ℕ, ◌∙◌, ◌≡◌}
 
 module _ {A : Type 0} (kind : Kind A) (s : Switch A) where
   pub enter_ready : (l : ℕ) (x : A) → is_none (enter_why s l) ≡ is_some (switch_enter s l x)
@@ -84,10 +79,10 @@ module _ {A : Type 0} (kind : Kind A) (s : Switch A) where
   by_token (Some r) = refl
 
   pub unready_told : (a : ActionOf A) → is_none (switch_why s a) ≡ is_ready (switch_step kind s a).0
-  unready_told (action.Enter l x) = enter_ready l x ∙ by_done (switch_enter s l x)
-  unready_told (action.Leave l) = leave_ready l ∙ by_token (switch_leave s l)
-  unready_told (action.CreditOut l) = credit_out_ready l ∙ by_done (switch_credit_out s l)
-  unready_told (action.CreditIn l) = credit_in_ready l ∙ by_done (switch_credit_in s l)
-  unready_told (action.Input l word) = input_ready l word ∙ by_done (switch_input kind s l word)
-  unready_told (action.Claim i o) = claim_ready s i o ∙ by_done (switch_claim s i o)
-  unready_told (action.Control bytes) = refl
+  unready_told (ActionOf.Enter l x) = enter_ready l x ∙ by_done (switch_enter s l x)
+  unready_told (ActionOf.Leave l) = leave_ready l ∙ by_token (switch_leave s l)
+  unready_told (ActionOf.CreditOut l) = credit_out_ready l ∙ by_done (switch_credit_out s l)
+  unready_told (ActionOf.CreditIn l) = credit_in_ready l ∙ by_done (switch_credit_in s l)
+  unready_told (ActionOf.Input l word) = input_ready l word ∙ by_done (switch_input kind s l word)
+  unready_told (ActionOf.Claim i o) = claim_ready s i o ∙ by_done (switch_claim s i o)
+  unready_told (ActionOf.Control bytes) = refl

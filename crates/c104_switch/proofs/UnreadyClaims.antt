@@ -1,14 +1,9 @@
 -- A claim has no reason exactly where it can be made.
-use Rattle.std.proofs.Common.{◌≡◌, ◌∙◌, ℕ, ◌+◌, not, Bool, true, false, List, length, Option, Some, None, nat_le, slice_get, is_some, is_none, refl, sym, ap}
-use Rattle.c104_link.specs.Steps.{◌>>=◌, ◌>>◌, require}
-use Rattle.c104_link.specs.Buffers.{Outgoing}
-use Rattle.c104_regs.specs.declared.settings.Settings.{Settings}
-use Rattle.c104_switch.specs.Group.{is_in_group}
-use Rattle.c104_switch.specs.Switch.{Phase, Fresh, Head, Want, Stream, Sinking, Input, Switch, is_owned}
-use Rattle.c104_switch.specs.Claims.{input_claim, switch_claim}
-use Rattle.c104_switch.specs.Views.{owner_from}
-use Rattle.c104_switch.specs.Reasons.{wanted_why, claim_why}
-use Rattle.c104_switch.proofs.Owners.{owner_found}
+use Rattle.{c104_link.specs.{Buffers.Outgoing, Steps.{require, ◌>>=◌, ◌>>◌}}, c104_regs.specs.declared.settings.Settings.Settings}
+use Rattle.c104_switch.{proofs.Owners.owner_found, specs.{Claims.{input_claim, switch_claim}, Group.is_in_group, Reasons.claim_why}}
+use Rattle.c104_switch.specs.{Reasons.wanted_why, Switch.{Fresh, Head, Input, Phase, Sinking, Stream, Switch, Want, is_owned}}
+use Rattle.{c104_switch.specs.Views.owner_from, std.proofs.Common.{Bool, List, None, Option, Some, ap, false, is_none, is_some, length}}
+use Rattle.std.proofs.Common.{nat_le, not, refl, slice_get, sym, true, ℕ, ◌+◌, ◌∙◌, ◌≡◌}
 
 module _ {A : Type 0} where
   -- an input claims what no input owns, in its phase

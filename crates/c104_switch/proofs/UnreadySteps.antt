@@ -1,14 +1,11 @@
 -- An action has no reason exactly where it is ready.
-use Rattle.std.proofs.Common.{◌≡◌, ◌∙◌, ℕ, ◌+◌, ◌&&◌, not, Bool, true, false, List, [], ◌∷◌, length, Option, Some, None, nat_lt, nat_le, if◌then◌else◌, slice_get, is_some, is_none, refl, ap, arith}
-use Rattle.std.proofs.lemmas.Bool.Decides.{nat_tests}
-use Rattle.c104_token.specs.Tokens.{is_end}
-use Rattle.c104_token.specs.Kinds.{Kind}
-use Rattle.c104_link.specs.Steps.{◌>>=◌, step_at}
-use Rattle.c104_link.specs.Buffers.{Incoming, Outgoing, incoming_accept, incoming_grant, outgoing_put, outgoing_emit, outgoing_credited}
-use Rattle.c104_regs.specs.declared.settings.Settings.{Settings}
-use Rattle.c104_switch.specs.Switch.{Phase, Fresh, Head, Want, Stream, Sinking, Input}
-use Rattle.c104_switch.specs.Turns.{random_turn, header_turn, input_after_token, phase_after_token, input_turn, turn_by_phase}
-use Rattle.c104_switch.specs.Reasons.{accept_why, take_why, grant_why, emit_why, credited_why, put_why, phase_why, turn_why}
+use Rattle.c104_link.specs.Buffers.{Incoming, Outgoing, incoming_accept, incoming_grant, outgoing_credited, outgoing_emit, outgoing_put}
+use Rattle.{c104_link.specs.Steps.{step_at, ◌>>=◌}, c104_regs.specs.declared.settings.Settings.Settings}
+use Rattle.c104_switch.specs.{Reasons.{accept_why, credited_why, emit_why, grant_why, phase_why, put_why, take_why, turn_why}, Switch.Fresh}
+use Rattle.c104_switch.specs.{Switch.{Head, Input, Phase, Sinking, Stream, Want}, Turns.{header_turn, input_after_token, input_turn}}
+use Rattle.{c104_switch.specs.Turns.{phase_after_token, random_turn, turn_by_phase}, c104_token.specs.{Kinds.Kind, Tokens.is_end}}
+use Rattle.std.proofs.Common.{Bool, List, None, Option, Some, [], ap, arith, false, if◌then◌else◌, is_none, is_some, length, nat_le, nat_lt}
+use Rattle.std.proofs.{Common.{not, refl, slice_get, true, ℕ, ◌&&◌, ◌+◌, ◌∙◌, ◌∷◌, ◌≡◌}, lemmas.Bool.Decides.nat_tests}
 
 -- a list with an element isn't empty
 positive : {X : Type 0} (x : X) (xs : List X) → nat_lt 0 (length (x ∷ xs)) ≡ true

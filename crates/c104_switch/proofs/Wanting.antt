@@ -1,17 +1,12 @@
 -- Claims that aren't ready: of an input that can't make its own, outside of a group, and in a switch that isn't
 -- started.
-use Rattle.std.proofs.Common.{◌≡◌, ◌∙◌, ◌<◌, ◌&&◌, ℕ, not, nat_le, Bool, true, false, List, Option, Some, None, is_some, slice_get, refl, sym, ap, arith}
-use Rattle.std.proofs.lemmas.Bool.Decides.{nat_tests}
-use Rattle.c104_link.specs.Buffers.{Outgoing, outgoing_emit}
-use Rattle.c104_link.specs.Steps.{◌>>=◌, ◌>>◌, require, joint_step_at, step_at, yield_step_at}
-use Rattle.c104_token.specs.Kinds.{Kind}
-use Rattle.std.specs.Option.{option_map_or}
-use Rattle.c104_regs.specs.declared.settings.Settings.{Settings}
-use Rattle.c104_switch.specs.Switch.{Input, Switch, Phase, Fresh, Head, Want, Stream, Sinking, input_grant, is_owned, switch_credit_out, switch_leave, with_inputs, with_sides}
-use Rattle.c104_switch.specs.Phases.{is_want}
-use Rattle.c104_switch.specs.Readiness.{may_turn, may_turn_at}
-use Rattle.c104_switch.specs.Turns.{input_turn, inputs_turn, switch_input, turn_by_phase}
-use Rattle.c104_switch.specs.Claims.{input_claim, inputs_claim, switch_claim, IsNextLink}
+use Rattle.c104_link.specs.{Buffers.{Outgoing, outgoing_emit}, Steps.{joint_step_at, require, step_at, yield_step_at, ◌>>=◌, ◌>>◌}}
+use Rattle.{c104_regs.specs.declared.settings.Settings.Settings, c104_switch.specs.Claims.{IsNextLink, input_claim, inputs_claim}}
+use Rattle.c104_switch.specs.{Claims.switch_claim, Phases.is_want, Readiness.{may_turn, may_turn_at}, Switch.{Fresh, Head, Input, Phase}}
+use Rattle.c104_switch.specs.Switch.{Sinking, Stream, Switch, Want, input_grant, is_owned, switch_credit_out, switch_leave, with_inputs}
+use Rattle.c104_switch.specs.{Switch.with_sides, Turns.{input_turn, inputs_turn, switch_input, turn_by_phase}}
+use Rattle.{c104_token.specs.Kinds.Kind, std.proofs.Common.{Bool, List, None, Option, Some, ap, arith, false, is_some, nat_le, not, refl}}
+use Rattle.std.{proofs.{Common.{slice_get, sym, true, ℕ, ◌&&◌, ◌<◌, ◌∙◌, ◌≡◌}, lemmas.Bool.Decides.nat_tests}, specs.Option.option_map_or}
 
 module _ {A : Type 0} (settings : List Settings) (ps : List (Input A)) (qs : List (Outgoing A)) (i o : ℕ) where
   -- the input at a place claims no output, where its own claim isn't ready

@@ -1,15 +1,11 @@
 -- A claim: an input that wants a group gets one output of it, until its packet's terminator has passed.
-use Rattle.std.specs.Prelude.{ℕ, ◌≡◌, ◌<◌, ◌≤◌, Bool, false, true, not, List, Option, Some, None, IfSome, unwrap_or, if◌then◌else◌, slice_get}
-use Rattle.c104_regs.specs.declared.registers.TheConstants.{LINKS}
-use Rattle.std.specs.Option.{option_map_or}
-use Rattle.c104_link.specs.Steps.{◌>>=◌, ◌>>◌, require, step_at, joint_step_at}
+use Rattle.c104_link.specs.{Buffers.Outgoing, Steps.{joint_step_at, require, step_at, ◌>>=◌, ◌>>◌}}
+use Rattle.{c104_regs.specs.declared.{registers.TheConstants.LINKS, settings.Settings.Settings}, c104_switch.specs.Group.is_in_group}
+use Rattle.c104_switch.specs.{Phases.is_want, Sides.IsOutcome, Switch.{Fresh, Head, Input, Phase, Sinking, Stream, Switch, Want, is_owned}}
+use Rattle.c104_switch.specs.Switch.{with_sides}
+use Rattle.std.specs.{Option.option_map_or, Prelude.{Bool, IfSome, List, None, Option, Some, false, if◌then◌else◌, not, slice_get, true}}
+use Rattle.std.specs.Prelude.{unwrap_or, ℕ, ◌<◌, ◌≡◌, ◌≤◌}
 use Rattle.c104_link.specs.Buffers as buffer
-use Rattle.c104_link.specs.Buffers.{Outgoing}
-use Rattle.c104_regs.specs.declared.settings.Settings.{Settings}
-use Rattle.c104_switch.specs.Group.{is_in_group}
-use Rattle.c104_switch.specs.Phases.{is_want}
-use Rattle.c104_switch.specs.Sides.{IsOutcome}
-use Rattle.c104_switch.specs.Switch.{Phase, Fresh, Head, Want, Stream, Sinking, Input, Switch, is_owned, with_sides}
 
 -- the input, which from now on owns output o and streams to it
 abbrev pub streaming_input : {A : Type 0} → Input A → ℕ → Input A

@@ -1,12 +1,9 @@
 -- What commands change in a switch: a reset, a poke of a register, and the start.
-use Rattle.std.specs.Prelude.{ℕ, true, false, map, replicate, Result}
-use Rattle.c104_link.specs.Buffers.{incoming_clear, outgoing_clear}
-use Rattle.c104_regs.specs.declared.faults.RegFault.{RegFault}
-use Rattle.c104_regs.specs.Registers as regs
-use Rattle.c104_regs.specs.declared.registers.TheConstants.{LINKS}
-use Rattle.c104_regs.specs.Settings.{reset_settings}
+use Rattle.{c104_link.specs.Buffers.{incoming_clear, outgoing_clear}, c104_regs.specs.Settings.reset_settings}
+use Rattle.{c104_regs.specs.declared.{faults.RegFault.RegFault, registers.TheConstants.LINKS}, c104_switch.specs.Peeks.registers}
 use Rattle.c104_switch.specs.Switch.{Fresh, Input, Switch}
-use Rattle.c104_switch.specs.Peeks.{registers}
+use Rattle.std.specs.Prelude.{Result, false, map, replicate, true, ℕ}
+use Rattle.c104_regs.specs.Registers as regs
 
 -- an input after a reset: no token, no packet under way, and nothing counted. What it granted stays
 abbrev pub input_reset : {A : Type 0} → Input A → Input A

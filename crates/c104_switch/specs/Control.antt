@@ -1,19 +1,12 @@
 -- Control commands: what each does, and what is answered. A refused command changes nothing.
-use Rattle.std.specs.Prelude.{ℕ, List, Result, Ok, Err, if◌then◌else◌}
-use Rattle.c104_control.specs.Table.{device_id, reply_bytes}
-use Rattle.c104_control.specs.declared.commands.Command.{Command}
-use Rattle.c104_control.specs.declared.replies.Answer.{Answer}
-use Rattle.c104_control.specs.declared.commands.Command.TheVariants.{Start, Reset, Identify, CPeek, CPoke}
-use Rattle.c104_control.specs.declared.replies.Answer.TheVariants.{Started, WasReset, Identity, Value, Poked, Refused}
-use Rattle.c104_control.specs.Reading.{read_command}
-use Rattle.c104_control.specs.declared.replies.TheConstants.{ALREADY_STARTED}
-use Rattle.c104_control.specs.declared.faults.CommandFault.{CommandFault}
+use Rattle.c104_control.specs.{Reading.read_command, Table.{device_id, reply_bytes}, declared.commands.Command.{Command, TheVariants.CPeek}}
+use Rattle.c104_control.specs.declared.{commands.Command.TheVariants.{CPoke, Identify, Reset, Start}, faults.CommandFault.CommandFault}
+use Rattle.c104_control.specs.declared.replies.Answer.{Answer, TheVariants.{Identity, Poked, Refused, Started, Value, WasReset}}
+use Rattle.{c104_control.specs.declared.replies.TheConstants.ALREADY_STARTED, c104_regs.specs.declared.faults.RegFault.RegFault}
+use Rattle.c104_switch.specs.{Commands.{switch_poke, switch_reset, switch_start}, Peeks.switch_peek, Switch.Switch}
+use Rattle.std.specs.Prelude.{Err, List, Ok, Result, if◌then◌else◌, ℕ}
 use Rattle.c104_control.specs.Faults as command
-use Rattle.c104_regs.specs.declared.faults.RegFault.{RegFault}
 use Rattle.c104_regs.specs.Faults as register
-use Rattle.c104_switch.specs.Switch.{Switch}
-use Rattle.c104_switch.specs.Peeks.{switch_peek}
-use Rattle.c104_switch.specs.Commands.{switch_reset, switch_poke, switch_start}
 
 -- what is answered of a register that was to be read: its value, or the number of the fault
 abbrev pub peek_answer : Result ℕ RegFault → Answer

@@ -1,14 +1,8 @@
 -- Headers: their number, what follows one that is complete, and random ones.
-use Rattle.std.specs.Prelude.{ℕ, suc, ◌+◌, ◌*◌, ◌/◌, ◌%◌, ◌==◌, Bool, true, false, List, [], ◌∷◌, length, map, nat_le, if◌then◌else◌}
-use Rattle.c104_token.specs.Tokens.{byte_of}
-use Rattle.c104_token.specs.declared.tokens.Token.TheVariants.{Byte}
-use Rattle.c104_token.specs.Kinds.{Kind}
-use Rattle.c104_interval.specs.Selection.{select}
-use Rattle.c104_interval.specs.declared.intervals.Select.{Select}
-use Rattle.c104_interval.specs.declared.intervals.Select.TheVariants.{Link, Discard, Sink}
-use Rattle.c104_regs.specs.declared.settings.Settings.{Settings}
-use Rattle.c104_regs.specs.Settings.{header_length}
-use Rattle.c104_switch.specs.Switch.{Phase, Head, Want, Sinking}
+use Rattle.c104_interval.specs.{Selection.select, declared.intervals.Select.{Select, TheVariants.{Discard, Link, Sink}}}
+use Rattle.{c104_regs.specs.{Settings.header_length, declared.settings.Settings.Settings}, c104_switch.specs.Switch.{Head, Phase, Sinking}}
+use Rattle.{c104_switch.specs.Switch.Want, c104_token.specs.{Kinds.Kind, Tokens.byte_of, declared.tokens.Token.TheVariants.Byte}}
+use Rattle.std.specs.Prelude.{Bool, List, [], false, if◌then◌else◌, length, map, nat_le, suc, true, ℕ, ◌%◌, ◌*◌, ◌+◌, ◌/◌, ◌==◌, ◌∷◌}
 
 -- the number of a header, low byte first
 abbrev pub header_number : List ℕ → ℕ

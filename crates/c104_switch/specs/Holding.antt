@@ -1,11 +1,7 @@
 -- Which claims the inputs hold: an input holds the claim of an output exactly while it streams to it.
-use Rattle.std.specs.Prelude.{◌≡◌, option_to_list, ℕ, Bool, true, false, List, [], ◌∷◌, ◌++◌, Option, slice_get}
-use Rattle.c104_link.specs.Buffers.{without_first}
-use Rattle.c104_link.specs.Steps.{◌>>=◌}
-use Rattle.c104_switch.specs.Phases.{Phase, streamed_output}
-use Rattle.c104_switch.specs.Switch.{Input, Switch, with_buffer}
-use Rattle.c104_switch.specs.declared.input.turns.Turn.{Turn}
-use Rattle.c104_switch.specs.declared.input.turns.Turn.TheVariants as turn
+use Rattle.{c104_link.specs.{Buffers.without_first, Steps.◌>>=◌}, c104_switch.specs.{Phases.{Phase, streamed_output}, Switch.Input}}
+use Rattle.c104_switch.specs.{Switch.{Switch, with_buffer}, declared.input.turns.Turn.Turn}
+use Rattle.std.specs.Prelude.{Bool, List, Option, [], false, option_to_list, slice_get, true, ℕ, ◌++◌, ◌∷◌, ◌≡◌}
 
 -- the claims that go with a phase: one or none
 abbrev pub phase_claims : {H : Type 0} → Phase H → List ℕ
@@ -22,19 +18,19 @@ claim_at s i = slice_get s.inputs i >>= (λ p. streamed_output p.phase)
 
 -- whether a turn did something
 abbrev pub is_done_turn : Turn → Bool
-is_done_turn turn.NotReady = false
-is_done_turn turn.Streamed = true
-is_done_turn turn.Done = true
-is_done_turn (turn.Freed claim) = true
+is_done_turn Turn.NotReady = false
+is_done_turn Turn.Streamed = true
+is_done_turn Turn.Done = true
+is_done_turn (Turn.Freed claim) = true
 
 -- the claim that a turn gave back
 abbrev pub freed_claims : Turn → List ℕ
-freed_claims turn.NotReady = []
-freed_claims turn.Streamed = []
-freed_claims turn.Done = []
-freed_claims (turn.Freed claim) = claim ∷ []
+freed_claims Turn.NotReady = []
+freed_claims Turn.Streamed = []
+freed_claims Turn.Done = []
+freed_claims (Turn.Freed claim) = claim ∷ []
 
 -- a turn by which a token of a packet streams on leaves all of the input but that token
 abbrev pub HasStreamed : {A : Type 0} → Turn → Input A → Input A → Type 0
-HasStreamed turn.Streamed p q = q ≡ with_buffer p (without_first p.buffer)
+HasStreamed Turn.Streamed p q = q ≡ with_buffer p (without_first p.buffer)
 HasStreamed turn p q = Unit {0}

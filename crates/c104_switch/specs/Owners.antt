@@ -1,8 +1,6 @@
 -- Owners as they are kept: for each output the input that streams to it, if one does.
-use Rattle.std.specs.Prelude.{ℕ, ◌≡◌, List, Option, None, length, slice_index_or}
-use Rattle.c104_regs.specs.declared.registers.TheConstants.{LINKS}
-use Rattle.c104_switch.specs.Switch.{Input}
-use Rattle.c104_switch.specs.Views.{owner_from}
+use Rattle.{c104_regs.specs.declared.registers.TheConstants.LINKS, c104_switch.specs.{Switch.Input, Views.owner_from}}
+use Rattle.std.specs.Prelude.{List, None, Option, length, slice_index_or, ℕ, ◌≡◌}
 
 -- what is kept of each of the 32 outputs is the input that streams to it, if one does; past the last output there is none
 pub record AreOwners {A : Type 0} (owners : List (Option ℕ)) (ps : List (Input A)) : Type 0 where

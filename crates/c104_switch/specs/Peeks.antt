@@ -1,14 +1,9 @@
 -- The registers of a switch: those that are set, and those that tell its state.
-use Rattle.std.specs.Prelude.{ℕ, zero, suc, ◌||◌, Bool, true, false, List, [], ◌∷◌, length, Option, Some, None, Result, slice_get}
-use Rattle.c104_link.specs.Buffers.{Outgoing}
-use Rattle.c104_regs.specs.declared.status.Status.{Status}
-use Rattle.c104_regs.specs.declared.faults.RegFault.{RegFault}
-use Rattle.c104_regs.specs.declared.registers.TheConstants.{LINKS}
+use Rattle.{c104_link.specs.Buffers.Outgoing, c104_regs.specs.{Registers.RegisterBank, Values.reset_status}}
+use Rattle.c104_regs.specs.declared.{faults.RegFault.RegFault, registers.TheConstants.LINKS, status.Status.Status}
+use Rattle.c104_switch.specs.{Switch.{Fresh, Head, Input, Phase, Sinking, Stream, Switch, Want, is_owned}, Views.owner_from}
+use Rattle.std.specs.Prelude.{Bool, List, None, Option, Result, Some, [], false, length, slice_get, suc, true, zero, ℕ, ◌||◌, ◌∷◌}
 use Rattle.c104_regs.specs.Registers as regs
-use Rattle.c104_regs.specs.Registers.{RegisterBank}
-use Rattle.c104_regs.specs.Values.{reset_status}
-use Rattle.c104_switch.specs.Switch.{Phase, Fresh, Head, Want, Stream, Sinking, Input, Switch, is_owned}
-use Rattle.c104_switch.specs.Views.{owner_from}
 
 -- a packet is on its way through the input
 abbrev pub is_busy : {H : Type 0} → Phase H → Bool

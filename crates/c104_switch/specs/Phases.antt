@@ -1,9 +1,7 @@
 -- Phases: where an input is with its packet, with what is known of a header that is read or that waits.
-use Rattle.std.specs.Prelude.{ℕ, ◌<◌, ◌==◌, Bool, false, true, List, [], length, Option, Some, None}
-use Rattle.std.specs.Option.{option_map_or}
+pub use Rattle.c104_switch.specs.declared.phase.Phase.{Phase, TheVariants.{Fresh, Head, Sinking, Stream, Want}}
 use Rattle.c104_switch.specs.declared.header.TheConstants.{HEADER_LIMIT}
-pub use Rattle.c104_switch.specs.declared.phase.Phase.{Phase}
-pub use Rattle.c104_switch.specs.declared.phase.Phase.TheVariants.{Fresh, Head, Want, Stream, Sinking}
+use Rattle.std.specs.{Option.option_map_or, Prelude.{Bool, List, None, Option, Some, [], false, length, true, ℕ, ◌<◌, ◌==◌}}
 
 module _ {H : Type 0} where
   -- the output that is streamed to, whose claim the input holds

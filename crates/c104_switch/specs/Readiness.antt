@@ -1,12 +1,8 @@
 -- Which links may be ready, as sets of links: what is kept beside the inputs and the outputs of a switch.
-use Rattle.std.specs.Prelude.{ℕ, ◌≡◌, ◌<◌, ◌&&◌, not, Bool, false, List, Option, is_some, slice_get}
-use Rattle.std.specs.Option.{option_map_or}
-use Rattle.c104_crossbar.specs.Groups.{has_bit}
-use Rattle.c104_link.specs.Buffers.{Outgoing, outgoing_emit}
-use Rattle.c104_regs.specs.declared.registers.TheConstants.{LINKS}
-use Rattle.c104_switch.specs.Phases.{is_want}
-use Rattle.c104_switch.specs.Switch.{Input, input_grant}
+use Rattle.{c104_crossbar.specs.Groups.has_bit, c104_link.specs.Buffers.{Outgoing, outgoing_emit}}
+use Rattle.{c104_regs.specs.declared.registers.TheConstants.LINKS, c104_switch.specs.{Phases.is_want, Switch.{Input, input_grant}}}
 use Rattle.c104_switch.specs.declared.input_sets.InputSets.{InputSets}
+use Rattle.std.specs.{Option.option_map_or, Prelude.{Bool, List, Option, false, is_some, not, slice_get, ℕ, ◌&&◌, ◌<◌, ◌≡◌}}
 
 -- whether an input has a token and doesn't want an output; else it isn't ready for a turn
 abbrev pub may_turn : {A : Type 0} → Input A → Bool

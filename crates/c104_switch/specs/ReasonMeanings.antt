@@ -1,15 +1,11 @@
 -- What each reason says of the switch, by itself.
-use Rattle.std.specs.Prelude.{ℕ, ◌≡◌, ◌<◌, ◌≤◌, ◌+◌, ◌⊎◌, false, List, [], length, Some, IsSomeAnd, slice_get}
-use Rattle.c104_link.specs.Buffers.{Incoming, Outgoing}
-use Rattle.c104_link.specs.declared.TheConstants.{TOKENS_OF_A_GRANT}
-use Rattle.c104_link.specs.declared.outgoing.TheConstants.{OUTPUT_CAP, CREDIT_LIMIT}
-use Rattle.c104_switch.specs.Group.{is_in_group}
-use Rattle.c104_switch.specs.Phases.{is_want}
-use Rattle.c104_switch.specs.Switch.{Want, Stream, Input, Switch}
-use Rattle.c104_switch.specs.declared.actions.ActionOf.{ActionOf}
-use Rattle.c104_switch.specs.declared.actions.ActionOf.TheVariants as action
+use Rattle.c104_link.specs.{Buffers.{Incoming, Outgoing}, declared.{TheConstants.TOKENS_OF_A_GRANT, outgoing.TheConstants.CREDIT_LIMIT}}
+use Rattle.{c104_link.specs.declared.outgoing.TheConstants.OUTPUT_CAP, c104_switch.specs.{Group.is_in_group, Phases.is_want, Switch.Input}}
+use Rattle.c104_switch.specs.{Switch.{Stream, Switch, Want}, declared.{actions.ActionOf.ActionOf, unready.Unready.TheVariants.CreditFull}}
+use Rattle.c104_switch.specs.declared.unready.Unready.TheVariants.{NoCredit, NoLink, NoRoom, NoRoomForHeader, NoToken, NotGranted}
+use Rattle.c104_switch.specs.declared.unready.Unready.TheVariants.{NotStarted, OutputFull, OutsideGroup, Owned, WantsNothing, WantsOutput}
 use Rattle.c104_switch.specs.declared.unready.Unready.{Unready}
-use Rattle.c104_switch.specs.declared.unready.Unready.TheVariants.{NoLink, NotStarted, NoToken, NoCredit, NotGranted, NoRoom, CreditFull, WantsOutput, OutputFull, WantsNothing, OutsideGroup, Owned, NoRoomForHeader}
+use Rattle.std.specs.Prelude.{IsSomeAnd, List, Some, [], false, length, slice_get, ℕ, ◌+◌, ◌<◌, ◌≡◌, ◌≤◌, ◌⊎◌}
 
 -- a buffer takes no token in: none is granted
 abbrev pub IsAcceptReason : {A : Type 0} → Incoming A → Unready → Type 0
@@ -59,20 +55,20 @@ IsClaimReason s o p reason = ⊥
 
 -- what a reason says of an action: there is no such link, the switch isn't started, or one of the above
 abbrev pub IsReason : {A : Type 0} → Switch A → ActionOf A → Unready → Type 0
-IsReason s (action.Enter l x) NoLink = length s.inputs ≤ l
-IsReason s (action.Enter l x) reason = IsSomeAnd (slice_get s.inputs l) (λ p. IsAcceptReason p.buffer reason)
-IsReason s (action.Leave l) NoLink = length s.outputs ≤ l
-IsReason s (action.Leave l) reason = IsSomeAnd (slice_get s.outputs l) (λ q. IsEmitReason q reason)
-IsReason s (action.CreditOut l) NoLink = length s.inputs ≤ l
-IsReason s (action.CreditOut l) NotStarted = s.started ≡ false
-IsReason s (action.CreditOut l) reason = IsSomeAnd (slice_get s.inputs l) (λ p. IsGrantReason p.buffer reason)
-IsReason s (action.CreditIn l) NoLink = length s.outputs ≤ l
-IsReason s (action.CreditIn l) reason = IsSomeAnd (slice_get s.outputs l) (λ q. IsCreditedReason q reason)
-IsReason s (action.Input l word) NoLink = (length s.settings ≤ l) ⊎ (length s.inputs ≤ l)
-IsReason s (action.Input l word) NotStarted = s.started ≡ false
-IsReason s (action.Input l word) reason = IsSomeAnd (slice_get s.inputs l) (λ p. IsTurnReason s.outputs p reason)
-IsReason s (action.Claim i o) NoLink =
+IsReason s (ActionOf.Enter l x) NoLink = length s.inputs ≤ l
+IsReason s (ActionOf.Enter l x) reason = IsSomeAnd (slice_get s.inputs l) (λ p. IsAcceptReason p.buffer reason)
+IsReason s (ActionOf.Leave l) NoLink = length s.outputs ≤ l
+IsReason s (ActionOf.Leave l) reason = IsSomeAnd (slice_get s.outputs l) (λ q. IsEmitReason q reason)
+IsReason s (ActionOf.CreditOut l) NoLink = length s.inputs ≤ l
+IsReason s (ActionOf.CreditOut l) NotStarted = s.started ≡ false
+IsReason s (ActionOf.CreditOut l) reason = IsSomeAnd (slice_get s.inputs l) (λ p. IsGrantReason p.buffer reason)
+IsReason s (ActionOf.CreditIn l) NoLink = length s.outputs ≤ l
+IsReason s (ActionOf.CreditIn l) reason = IsSomeAnd (slice_get s.outputs l) (λ q. IsCreditedReason q reason)
+IsReason s (ActionOf.Input l word) NoLink = (length s.settings ≤ l) ⊎ (length s.inputs ≤ l)
+IsReason s (ActionOf.Input l word) NotStarted = s.started ≡ false
+IsReason s (ActionOf.Input l word) reason = IsSomeAnd (slice_get s.inputs l) (λ p. IsTurnReason s.outputs p reason)
+IsReason s (ActionOf.Claim i o) NoLink =
     (length s.inputs ≤ i) ⊎ ((length s.settings ≤ o) ⊎ (length s.outputs ≤ o))
-IsReason s (action.Claim i o) NotStarted = s.started ≡ false
-IsReason s (action.Claim i o) reason = IsSomeAnd (slice_get s.inputs i) (λ p. IsClaimReason s o p reason)
-IsReason s (action.Control bytes) reason = ⊥
+IsReason s (ActionOf.Claim i o) NotStarted = s.started ≡ false
+IsReason s (ActionOf.Claim i o) reason = IsSomeAnd (slice_get s.inputs i) (λ p. IsClaimReason s o p reason)
+IsReason s (ActionOf.Control bytes) reason = ⊥

@@ -1,17 +1,12 @@
 -- Why an action isn't ready: the first of its conditions that doesn't hold. None is ready.
-use Rattle.std.specs.Prelude.{ℕ, ◌+◌, ◌||◌, Bool, false, List, length, Option, Some, None, nat_lt, nat_le, if◌then◌else◌, slice_get}
-use Rattle.std.specs.Option.{option_map_or}
-use Rattle.c104_link.specs.Buffers.{Incoming, Outgoing}
-use Rattle.c104_link.specs.declared.TheConstants.{TOKENS_OF_A_GRANT}
-use Rattle.c104_link.specs.declared.outgoing.TheConstants.{OUTPUT_CAP, CREDIT_LIMIT}
-use Rattle.c104_regs.specs.declared.settings.Settings.{Settings}
-use Rattle.c104_switch.specs.Group.{is_in_group}
-use Rattle.c104_switch.specs.Switch.{Phase, Fresh, Head, Want, Stream, Sinking, Input, Switch}
-use Rattle.c104_switch.specs.Views.{owner_from}
-use Rattle.c104_switch.specs.declared.actions.ActionOf.{ActionOf}
-use Rattle.c104_switch.specs.declared.actions.ActionOf.TheVariants as action
-use Rattle.c104_switch.specs.declared.unready.Unready.{Unready}
-use Rattle.c104_switch.specs.declared.unready.Unready.TheVariants.{NoLink, NotStarted, NoToken, NoCredit, NotGranted, NoRoom, CreditFull, WantsOutput, OutputFull, WantsNothing, OutsideGroup, Owned, NoRoomForHeader}
+use Rattle.c104_link.specs.{Buffers.{Incoming, Outgoing}, declared.{TheConstants.TOKENS_OF_A_GRANT, outgoing.TheConstants.CREDIT_LIMIT}}
+use Rattle.{c104_link.specs.declared.outgoing.TheConstants.OUTPUT_CAP, c104_regs.specs.declared.settings.Settings.Settings}
+use Rattle.c104_switch.specs.{Group.is_in_group, Switch.{Fresh, Head, Input, Phase, Sinking, Stream, Switch, Want}, Views.owner_from}
+use Rattle.c104_switch.specs.declared.{actions.ActionOf.ActionOf, unready.Unready.TheVariants.{CreditFull, NoCredit, NoLink, NoRoom}}
+use Rattle.c104_switch.specs.declared.unready.Unready.TheVariants.{NoRoomForHeader, NoToken, NotGranted, NotStarted, OutputFull}
+use Rattle.c104_switch.specs.declared.unready.Unready.{TheVariants.{OutsideGroup, Owned, WantsNothing, WantsOutput}, Unready}
+use Rattle.std.specs.{Option.option_map_or, Prelude.{Bool, List, None, Option, Some, false, if◌then◌else◌, length, nat_le, nat_lt}}
+use Rattle.std.specs.Prelude.{slice_get, ℕ, ◌+◌, ◌||◌}
 
 -- this reason, where the condition doesn't hold, and else what the later conditions say
 abbrev pub unless : Bool → Unready → Option Unready → Option Unready
@@ -107,10 +102,10 @@ claim_why s i o = why_at s.inputs i (λ p. why_at s.settings o (λ t. why_at s.o
 
 -- why an action isn't ready; a control command always is
 abbrev pub switch_why : {A : Type 0} → Switch A → ActionOf A → Option Unready
-switch_why s (action.Enter l x) = enter_why s l
-switch_why s (action.Leave l) = leave_why s l
-switch_why s (action.CreditOut l) = credit_out_why s l
-switch_why s (action.CreditIn l) = credit_in_why s l
-switch_why s (action.Input l word) = input_why s l
-switch_why s (action.Claim i o) = claim_why s i o
-switch_why s (action.Control bytes) = None
+switch_why s (ActionOf.Enter l x) = enter_why s l
+switch_why s (ActionOf.Leave l) = leave_why s l
+switch_why s (ActionOf.CreditOut l) = credit_out_why s l
+switch_why s (ActionOf.CreditIn l) = credit_in_why s l
+switch_why s (ActionOf.Input l word) = input_why s l
+switch_why s (ActionOf.Claim i o) = claim_why s i o
+switch_why s (ActionOf.Control bytes) = None

@@ -1,8 +1,6 @@
 -- How many more tokens an input could grant.
-use Rattle.std.specs.Prelude.{ℕ, ◌+◌, ◌-◌, Option, length, slice_get}
-use Rattle.std.specs.Option.{option_map}
-use Rattle.c104_link.specs.Buffers.{Incoming}
-use Rattle.c104_switch.specs.Switch.{Switch}
+use Rattle.{c104_link.specs.Buffers.Incoming, c104_switch.specs.Switch.Switch}
+use Rattle.std.specs.{Option.option_map, Prelude.{Option, length, slice_get, ℕ, ◌+◌, ◌-◌}}
 
 -- how many more tokens a buffer could grant: as many as it has room for, beside those that it holds and has granted
 abbrev pub room_left : {A : Type 0} → Incoming A → ℕ

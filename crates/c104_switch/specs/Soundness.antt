@@ -1,8 +1,7 @@
 -- What every switch keeps: as many links as there are, buffers within their bounds, and no output with two owners.
-use Rattle.std.specs.Prelude.{ℕ, ◌≡◌, List, Some, All, length, slice_get}
-use Rattle.c104_link.specs.Buffers.{IsWithinCap, IsWithinLimits}
-use Rattle.c104_regs.specs.declared.registers.TheConstants.{LINKS}
+use Rattle.{c104_link.specs.Buffers.{IsWithinCap, IsWithinLimits}, c104_regs.specs.declared.registers.TheConstants.LINKS}
 use Rattle.c104_switch.specs.Switch.{Input, Stream, Switch}
+use Rattle.std.specs.Prelude.{All, List, Some, length, slice_get, ℕ, ◌≡◌}
 
 -- no two inputs stream to one output
 abbrev pub IsExclusive : {A : Type 0} → List (Input A) → Type 0

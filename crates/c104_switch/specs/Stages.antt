@@ -1,9 +1,7 @@
 -- Stages: what an input keeps of its phase, with the tokens of a header beside it.
-use Rattle.std.specs.Prelude.{ℕ, List, Option, Some, None}
+use Rattle.c104_switch.specs.{Phases.Phase, declared.input.stage.Stage.{Stage, TheVariants.{Fresh, Head, Sinking, Stream, Want}}}
+use Rattle.std.specs.Prelude.{List, None, Option, Some, ℕ}
 use Rattle.c104_switch.specs.Phases as phases
-use Rattle.c104_switch.specs.Phases.{Phase}
-use Rattle.c104_switch.specs.declared.input.stage.Stage.{Stage}
-use Rattle.c104_switch.specs.declared.input.stage.Stage.TheVariants.{Fresh, Head, Want, Stream, Sinking}
 
 -- the phase of a stage, with these tokens of a header
 abbrev pub stage_phase : {A : Type 0} → Stage → List A → Phase (List A)

@@ -1,13 +1,9 @@
 -- Where switches start: what is set, granted, credited and counted where no token stands, as plain data,
 -- which is a switch over any kind of token.
-use Rattle.std.specs.Prelude.{ℕ, ◌≡◌, ◌≤◌, All, Bool, List, [], ◌∷◌, length, map, replicate}
-use Rattle.c104_link.specs.Buffers.{Outgoing, start_incoming, start_outgoing, IsValidCap}
-use Rattle.c104_link.specs.declared.outgoing.TheConstants.{CREDIT_LIMIT}
-use Rattle.c104_regs.specs.declared.registers.TheConstants.{LINKS}
-use Rattle.c104_regs.specs.declared.settings.Settings.{Settings}
-use Rattle.c104_switch.specs.Switch.{Input, Switch}
-use Rattle.c104_switch.specs.declared.link_start.LinkStart.{LinkStart}
-use Rattle.c104_switch.specs.declared.phase.Phase.TheVariants.{Fresh}
+use Rattle.c104_link.specs.{Buffers.{IsValidCap, Outgoing, start_incoming, start_outgoing}, declared.outgoing.TheConstants.CREDIT_LIMIT}
+use Rattle.{c104_regs.specs.declared.{registers.TheConstants.LINKS, settings.Settings.Settings}, c104_switch.specs.Switch.{Input, Switch}}
+use Rattle.c104_switch.specs.declared.{link_start.LinkStart.LinkStart, phase.Phase.TheVariants.Fresh}
+use Rattle.std.specs.Prelude.{All, Bool, List, [], length, map, replicate, ℕ, ◌∷◌, ◌≡◌, ◌≤◌}
 
 -- a switch in which no token stands and no packet is under way
 pub record SwitchStart : Type 0 where

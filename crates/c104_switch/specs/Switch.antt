@@ -1,14 +1,11 @@
 -- The state of one switch, over any kind of token, and the actions on one side of one link.
 -- A step answers None where it is not ready.
-use Rattle.std.specs.Prelude.{ℕ, ◌+◌, ◌-◌, ◌^◌, ◌||◌, Bool, true, false, List, [], ◌∷◌, Option, Some, min, replicate}
-use Rattle.c104_link.specs.Steps.{◌>>=◌, ◌>>◌, require, step_at, yield_step_at}
+pub use Rattle.c104_switch.specs.Phases.{Fresh, Head, Phase, Sinking, Stream, Want}
+use Rattle.c104_link.specs.{Buffers.{Incoming, Outgoing, empty_incoming, empty_outgoing}, Steps.{require, step_at, yield_step_at, ◌>>=◌}}
+use Rattle.{c104_link.specs.Steps.◌>>◌, c104_regs.specs.{Settings.reset_settings, declared.registers.TheConstants.LINKS}}
+use Rattle.{c104_regs.specs.declared.settings.Settings.Settings, c104_switch.specs.Phases.is_stream}
+use Rattle.std.specs.Prelude.{Bool, List, Option, Some, [], false, min, replicate, true, ℕ, ◌+◌, ◌-◌, ◌^◌, ◌||◌, ◌∷◌}
 use Rattle.c104_link.specs.Buffers as buffer
-use Rattle.c104_link.specs.Buffers.{Incoming, Outgoing, empty_incoming, empty_outgoing}
-use Rattle.c104_regs.specs.declared.settings.Settings.{Settings}
-use Rattle.c104_regs.specs.declared.registers.TheConstants.{LINKS}
-use Rattle.c104_regs.specs.Settings.{reset_settings}
-pub use Rattle.c104_switch.specs.Phases.{Phase, Fresh, Head, Want, Stream, Sinking}
-use Rattle.c104_switch.specs.Phases.{is_stream}
 
 -- the input side of a link: its buffer, what it does with its next token (with the tokens of a header that
 -- it reads or that waits), and how many packets it dropped and found too short

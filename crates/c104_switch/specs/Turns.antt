@@ -1,14 +1,10 @@
 -- One turn of an input: what it does with its first token.
-use Rattle.std.specs.Prelude.{ℕ, ◌&&◌, not, Bool, true, false, List, [], ◌∷◌, ◌++◌, Option, Some, None, if◌then◌else◌, slice_get}
-use Rattle.c104_token.specs.Tokens.{is_end}
-use Rattle.c104_token.specs.Kinds.{Kind}
-use Rattle.c104_link.specs.Steps.{◌>>=◌, ◌>>◌, require, step_at, joint_step_at}
+use Rattle.c104_link.specs.{Buffers.{Outgoing, without_first}, Steps.{joint_step_at, require, step_at, ◌>>=◌, ◌>>◌}}
+use Rattle.{c104_regs.specs.declared.settings.Settings.Settings, c104_switch.specs.Headers.{phase_after_header, random_header}}
+use Rattle.c104_switch.specs.{Sides.IsOutcome, Switch.{Fresh, Head, Input, Phase, Sinking, Stream, Switch, Want, count_after, with_sides}}
+use Rattle.c104_token.specs.{Kinds.Kind, Tokens.is_end}
+use Rattle.std.specs.Prelude.{Bool, List, None, Option, Some, [], false, if◌then◌else◌, not, slice_get, true, ℕ, ◌&&◌, ◌++◌, ◌∷◌}
 use Rattle.c104_link.specs.Buffers as buffer
-use Rattle.c104_link.specs.Buffers.{Outgoing, without_first}
-use Rattle.c104_regs.specs.declared.settings.Settings.{Settings}
-use Rattle.c104_switch.specs.Sides.{IsOutcome}
-use Rattle.c104_switch.specs.Switch.{Phase, Fresh, Head, Want, Stream, Sinking, Input, Switch, count_after, with_sides}
-use Rattle.c104_switch.specs.Headers.{phase_after_header, random_header}
 
 -- the input in this phase; one more packet is counted as dropped where sunk says so, and one more as too
 -- short where short says so

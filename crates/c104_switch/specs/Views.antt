@@ -1,12 +1,7 @@
 -- What can be seen of a switch.
-use Rattle.std.specs.Prelude.{ℕ, suc, List, [], ◌∷◌, Option, Some, None, length, map, if◌then◌else◌, slice_get}
-use Rattle.c104_token.specs.Tokens.{byte_of}
-use Rattle.c104_token.specs.Kinds.{Kind}
-use Rattle.c104_link.specs.Steps.{◌>>=◌}
-use Rattle.c104_link.specs.Buffers.{Outgoing}
-use Rattle.c104_switch.specs.Phases.{Phase, is_stream, with_header}
-use Rattle.c104_switch.specs.Switch.{Input, Switch}
-use Rattle.c104_switch.specs.declared.actions.LinkView.{LinkView}
+use Rattle.{c104_link.specs.{Buffers.Outgoing, Steps.◌>>=◌}, c104_switch.specs.{Phases.{Phase, is_stream, with_header}, Switch.Input}}
+use Rattle.{c104_switch.specs.{Switch.Switch, declared.actions.LinkView.LinkView}, c104_token.specs.{Kinds.Kind, Tokens.byte_of}}
+use Rattle.std.specs.Prelude.{List, None, Option, Some, [], if◌then◌else◌, length, map, slice_get, suc, ℕ, ◌∷◌}
 
 -- the first input, counted from n, that streams to output o
 abbrev pub owner_from : {A : Type 0} → ℕ → List (Input A) → ℕ → Option ℕ

@@ -1,80 +1,49 @@
 -- In a run whose traces tell of no change nobody changed the network, so its switches end as they started.
-use Rattle.c104_check.specs.Routes.{IsAccepted, Routes, routes_of, settings_at, settings_in}
-use Rattle.c104_plan.specs.PlanImage.{Image}
-use Rattle.c104_plan.specs.Plans.{IsPlan, Plan}
-use Rattle.c104_event.specs.declared.events.Event.{Event}
-use Rattle.c104_link.proofs.MadeSteps.{All-place}
-use Rattle.c104_net.proofs.EventEntries.{all_events, lone_is}
-use Rattle.c104_net.proofs.LedEvents.{IsTold}
-use Rattle.c104_net.proofs.NodeViews.{node_settings, settings_seen}
-use Rattle.c104_net.proofs.PacketInvariant.{IsLabelled}
-use Rattle.c104_net.proofs.Promises.{each, starts}
-use Rattle.c104_net.proofs.RunSteps.{header_positive}
-use Rattle.c104_net.proofs.SentBytes.{AreBytesSent, SendsBytes}
-use Rattle.c104_net.proofs.StartMaps.{starts_are}
-use Rattle.c104_net.proofs.TracedRuns.{traced_from}
-use Rattle.c104_run.specs.Balance.{AreInPlace}
-use Rattle.c104_run.specs.EventPlaces.{event_place}
-use Rattle.c104_run.specs.NetRecords.{IsNetRecord, NetRecord, fresh_record, record_begun_if}
-use Rattle.c104_run.specs.Network.{Network, network_of}
-use Rattle.c104_node.specs.Nodes.{Node}
-use Rattle.c104_node.specs.Quiet.{node_begin}
-use Rattle.c104_run.specs.QuietNets.{network_begin}
-use Rattle.c104_run.specs.Runs.{IsRunRecord, at_node}
-use Rattle.c104_node.specs.Starts.{start_node, start_of}
-use Rattle.c104_node.specs.MappedNodes.{map_node, map_switch}
-use Rattle.c104_node.specs.Traces.{Deed, part, seatless}
-use Rattle.c104_run.specs.EventDeeds.{event_deeds}
-use Rattle.c104_net.specs.Unchanged.{AreStartsOf, IsUnchanged, MayHappen}
-use Rattle.c104_node.specs.declared.acts.Entry.{Entry}
-use Rattle.c104_node.specs.declared.stamps.Stamp.{Stamp}
-use Rattle.c104_node.specs.declared.starts.NodeStart.{NodeStart}
-use Rattle.c104_node.specs.declared.traced.Traced.{Traced}
-use Rattle.c104_regs.specs.declared.settings.Settings.{Settings}
-use Rattle.c104_switch.specs.Actions.{Reply}
-use Rattle.c104_switch.specs.Starts.{SwitchStart, switch_start}
-use Rattle.c104_switch.specs.Switch.{Switch}
-use Rattle.c104_tests_net.proofs.CalmSteps.{no_entries}
-use Rattle.c104_tests_net.specs.CalmNets.{IsCalm, IsCalmDone, IsCalmEntry, IsCalmTrace}
-use Rattle.c104_token.specs.Kinds.{plain_kind}
-use Rattle.c104_token.specs.declared.tokens.Token.{Token}
-use Rattle.std.proofs.Common.{All, Bool, List, None, Option, Some, [], ap, false, map, option_map, refl, slice_get, subst, sym, true, ℕ, ◌++◌, ◌∙◌, ◌∷◌, ◌≡◌}
-use Rattle.std.proofs.lemmas.Option.{slice_get-map}
-use Rattle.std.specs.List.{AllByRecursion}
-use Rattle.c104_event.specs.declared.events.Event.TheVariants as event
-use Rattle.c104_node.specs.declared.acts.ActOf.TheVariants as act
-use Rattle.c104_node.specs.declared.node.NodeOf.TheVariants as node
-use Rattle.c104_node.specs.declared.starts.NodeStart.TheVariants as start
-use Rattle.c104_switch.specs.declared.actions.ActionOf.TheVariants as action
+use Rattle.{c104_check.specs.Routes.{IsAccepted, Routes, routes_of, settings_at, settings_in}, c104_event.specs.declared.events.Event.Event}
+use Rattle.{c104_link.proofs.MadeSteps.All-place, c104_net.proofs.{EventEntries.{all_events, lone_is}, LedEvents.IsTold}}
+use Rattle.c104_net.proofs.{NodeViews.{node_settings, settings_seen}, PacketInvariant.IsLabelled, Promises.{each, starts}}
+use Rattle.c104_net.proofs.{RunSteps.header_positive, SentBytes.{AreBytesSent, SendsBytes}, StartMaps.starts_are, TracedRuns.traced_from}
+use Rattle.{c104_net.specs.Unchanged.{AreStartsOf, IsUnchanged, MayHappen}, c104_node.specs.MappedNodes.{map_node, map_switch}}
+use Rattle.c104_node.specs.{Nodes.Node, Quiet.node_begin, Starts.{start_node, start_of}, Traces.{Deed, part, seatless}}
+use Rattle.c104_node.specs.declared.{acts.{ActOf.ActOf, Entry.Entry}, node.NodeOf.NodeOf, stamps.Stamp.Stamp, starts.NodeStart.NodeStart}
+use Rattle.{c104_node.specs.declared.traced.Traced.Traced, c104_plan.specs.{PlanImage.Image, Plans.{IsPlan, Plan}}}
+use Rattle.{c104_regs.specs.declared.settings.Settings.Settings, c104_run.specs.{Balance.AreInPlace, EventDeeds.event_deeds}}
+use Rattle.c104_run.specs.{EventPlaces.event_place, NetRecords.{IsNetRecord, NetRecord, fresh_record, record_begun_if}, Network.Network}
+use Rattle.{c104_run.specs.{Network.network_of, QuietNets.network_begin, Runs.{IsRunRecord, at_node}}, c104_switch.specs.Actions.Reply}
+use Rattle.c104_switch.specs.{Starts.{SwitchStart, switch_start}, Switch.Switch, declared.actions.ActionOf.ActionOf}
+use Rattle.c104_tests_net.{proofs.CalmSteps.no_entries, specs.CalmNets.{IsCalm, IsCalmDone, IsCalmEntry, IsCalmTrace}}
+use Rattle.{c104_token.specs.{Kinds.plain_kind, declared.tokens.Token.Token}, std.proofs.Common.{All, Bool, List, None, Option, Some, []}}
+use Rattle.std.proofs.Common.{ap, false, map, option_map, refl, slice_get, subst, sym, true, ℕ, ◌++◌, ◌∙◌, ◌∷◌, ◌≡◌}
+use Rattle.std.{proofs.lemmas.Option.slice_get-map, specs.List.AllByRecursion}
 
 -- an event whose entry is calm
 was_calm : (routes : Routes) (plan : Plan) (stamp : Stamp) (e : Event) (r : Reply) (es : List Deed) → IsTold plan e r → All (IsCalmEntry routes) (at_node (event_place plan e) (event_deeds plan stamp e r ++ es)) → IsCalmDone routes e r
-was_calm routes plan stamp (event.Cross p) r es told all = tt
-was_calm routes plan stamp (event.Credit p) r es told all = tt
-was_calm routes plan stamp (event.Input s l word) r es told all = tt
-was_calm routes plan stamp (event.Claim s i o) r es told all = tt
-was_calm routes plan stamp (event.Control s bytes) r es told all = lone_is (IsCalmEntry routes) stamp s (act.Step (action.Control bytes)) r es told all
-was_calm routes plan stamp (event.Send t p) r es told all = lone_is (IsCalmEntry routes) stamp _ (act.Send p) r es told all
-was_calm routes plan stamp (event.Drain t) r es told all = tt
+was_calm routes plan stamp (Event.Cross p) r es told all = tt
+was_calm routes plan stamp (Event.Credit p) r es told all = tt
+was_calm routes plan stamp (Event.Input s l word) r es told all = tt
+was_calm routes plan stamp (Event.Claim s i o) r es told all = tt
+was_calm routes plan stamp (Event.Control s bytes) r es told all = lone_is (IsCalmEntry routes) stamp s (ActOf.Step (ActionOf.Control bytes)) r es told all
+was_calm routes plan stamp (Event.Send t p) r es told all = lone_is (IsCalmEntry routes) stamp _ (ActOf.Send p) r es told all
+was_calm routes plan stamp (Event.Drain t) r es told all = tt
 
 -- such an event may happen
 may_happen : (routes : Routes) (e : Event) (r : Reply) → IsCalmDone routes e r → MayHappen routes e r
-may_happen routes (event.Cross p) r calm = tt
-may_happen routes (event.Credit p) r calm = tt
-may_happen routes (event.Input s l word) r calm = tt
-may_happen routes (event.Claim s i o) r calm = tt
-may_happen routes (event.Control s bytes) r calm = calm
-may_happen routes (event.Send t p) r calm = λ q entry random has header. calm.1 has header
-may_happen routes (event.Drain t) r calm = tt
+may_happen routes (Event.Cross p) r calm = tt
+may_happen routes (Event.Credit p) r calm = tt
+may_happen routes (Event.Input s l word) r calm = tt
+may_happen routes (Event.Claim s i o) r calm = tt
+may_happen routes (Event.Control s bytes) r calm = calm
+may_happen routes (Event.Send t p) r calm = λ q entry random has header. calm.1 has header
+may_happen routes (Event.Drain t) r calm = tt
 
 sends_bytes : (routes : Routes) (e : Event) (r : Reply) → IsCalmDone routes e r → SendsBytes e
-sends_bytes routes (event.Cross p) r calm = tt
-sends_bytes routes (event.Credit p) r calm = tt
-sends_bytes routes (event.Input s l word) r calm = tt
-sends_bytes routes (event.Claim s i o) r calm = tt
-sends_bytes routes (event.Control s bytes) r calm = tt
-sends_bytes routes (event.Send t p) r calm = calm.0
-sends_bytes routes (event.Drain t) r calm = tt
+sends_bytes routes (Event.Cross p) r calm = tt
+sends_bytes routes (Event.Credit p) r calm = tt
+sends_bytes routes (Event.Input s l word) r calm = tt
+sends_bytes routes (Event.Claim s i o) r calm = tt
+sends_bytes routes (Event.Control s bytes) r calm = tt
+sends_bytes routes (Event.Send t p) r calm = calm.0
+sends_bytes routes (Event.Drain t) r calm = tt
 
 abbrev AreCalm : Routes → List (Event × Reply) → Type 0
 AreCalm routes events = AllByRecursion (λ (e : Event × Reply). IsCalmDone routes e.0 e.1) events
@@ -100,7 +69,7 @@ module _ (routes : Routes) (plan : Plan) (stamps : ℕ → Stamp) (starts : List
 
 module _ (plan : Plan) (image : Image) (is_plan : IsPlan plan) (accepted : IsAccepted (routes_of plan image)) where
   -- where such a run ended each switch is set as it was
-  still_set : (first : List NodeStart) (nodes : List (Node Token)) (traces : List (List Entry)) (count : ℕ) (events : List (Event × Reply)) → AreStartsOf plan image first → All (IsCalmTrace (routes_of plan image)) traces → IsRunRecord plain_kind plan seatless (map start_node first) nodes traces count events → (k : ℕ) (s : Switch Token) → slice_get nodes k ≡ Some (node.Switch s) → s.settings ≡ settings_in image.settings k
+  still_set : (first : List NodeStart) (nodes : List (Node Token)) (traces : List (List Entry)) (count : ℕ) (events : List (Event × Reply)) → AreStartsOf plan image first → All (IsCalmTrace (routes_of plan image)) traces → IsRunRecord plain_kind plan seatless (map start_node first) nodes traces count events → (k : ℕ) (s : Switch Token) → slice_get nodes k ≡ Some (NodeOf.Switch s) → s.settings ≡ settings_in image.settings k
   still_set first nodes traces count events are calm told k s at =
       let labelled : IsLabelled (routes_of plan image) = record { accepted = accepted; positive = header_positive plan image } in
       let traced = traced_from plan first nodes events told.run in
@@ -109,23 +78,23 @@ module _ (plan : Plan) (image : Image) (is_plan : IsPlan plan) (accepted : IsAcc
       let sent = bytes_sent (routes_of plan image) plan seatless first nodes traces count events are.in_place calm told in
       let ended = each plan image is_plan labelled begun (network_of plan traced.0) events traced.1.run quiet sent (starts plan image is_plan labelled begun (starts_are plan image first are)) in
       let same : ended.0 ≡ traced.0 = ap (λ (net : Network Traced). net.nodes) ended.1 in
-      let there : option_map (map_node (λ (x : Traced). x.token)) (slice_get traced.0 k) ≡ Some (node.Switch s) = sym (slice_get-map (map_node (λ (x : Traced). x.token)) traced.0 k) ∙ ap (λ ns. slice_get ns k) traced.1.plain ∙ at in
+      let there : option_map (map_node (λ (x : Traced). x.token)) (slice_get traced.0 k) ≡ Some (NodeOf.Switch s) = sym (slice_get-map (map_node (λ (x : Traced). x.token)) traced.0 k) ∙ ap (λ ns. slice_get ns k) traced.1.plain ∙ at in
       by_node (slice_get traced.0 k) there (λ settings seen. ended.2.set k settings (ap (λ ns. settings_seen plan ns k) same ∙ seen))
     where
-      by_node : (o : Option (Node Traced)) → option_map (map_node (λ (x : Traced). x.token)) o ≡ Some (node.Switch s) → ((settings : List Settings) → part None node_settings o ≡ Some settings → settings ≡ settings_at (routes_of plan image) k) → s.settings ≡ settings_in image.settings k
+      by_node : (o : Option (Node Traced)) → option_map (map_node (λ (x : Traced). x.token)) o ≡ Some (NodeOf.Switch s) → ((settings : List Settings) → part None node_settings o ≡ Some settings → settings ≡ settings_at (routes_of plan image) k) → s.settings ≡ settings_in image.settings k
       by_node None is set = absurd (cc)
-      by_node (Some (node.Terminal t)) is set = absurd (cc)
-      by_node (Some (node.Switch x)) is set = let same : map_switch (λ (x : Traced). x.token) x ≡ s = cc in ap (λ (z : Switch Token). z.settings) (sym same) ∙ set x.settings refl
+      by_node (Some (NodeOf.Terminal t)) is set = absurd (cc)
+      by_node (Some (NodeOf.Switch x)) is set = let same : map_switch (λ (x : Traced). x.token) x ≡ s = cc in ap (λ (z : Switch Token). z.settings) (sym same) ∙ set x.settings refl
 
-  set_again : (nodes : List (Node Token)) → ((k : ℕ) (s : Switch Token) → slice_get nodes k ≡ Some (node.Switch s) → s.settings ≡ settings_in image.settings k) → (k : ℕ) (s : SwitchStart) → slice_get (map start_of (map node_begin nodes)) k ≡ Some (start.Switch s) → s.settings ≡ settings_in image.settings k
+  set_again : (nodes : List (Node Token)) → ((k : ℕ) (s : Switch Token) → slice_get nodes k ≡ Some (NodeOf.Switch s) → s.settings ≡ settings_in image.settings k) → (k : ℕ) (s : SwitchStart) → slice_get (map start_of (map node_begin nodes)) k ≡ Some (NodeStart.Switch s) → s.settings ≡ settings_in image.settings k
   set_again nodes set k s at =
-      let there : option_map (start_of {A = Token}) (option_map node_begin (slice_get nodes k)) ≡ Some (start.Switch s) = ap (option_map (start_of {A = Token})) (sym (slice_get-map node_begin nodes k)) ∙ sym (slice_get-map (start_of {A = Token}) (map node_begin nodes) k) ∙ at in
+      let there : option_map (start_of {A = Token}) (option_map node_begin (slice_get nodes k)) ≡ Some (NodeStart.Switch s) = ap (option_map (start_of {A = Token})) (sym (slice_get-map node_begin nodes k)) ∙ sym (slice_get-map (start_of {A = Token}) (map node_begin nodes) k) ∙ at in
       by_node (slice_get nodes k) refl there
     where
-      by_node : (o : Option (Node Token)) → slice_get nodes k ≡ o → option_map (start_of {A = Token}) (option_map node_begin o) ≡ Some (start.Switch s) → s.settings ≡ settings_in image.settings k
+      by_node : (o : Option (Node Token)) → slice_get nodes k ≡ o → option_map (start_of {A = Token}) (option_map node_begin o) ≡ Some (NodeStart.Switch s) → s.settings ≡ settings_in image.settings k
       by_node None is there = absurd (cc)
-      by_node (Some (node.Terminal t)) is there = absurd (cc)
-      by_node (Some (node.Switch x)) is there = let same : switch_start x ≡ s = cc in ap (λ (z : SwitchStart). z.settings) (sym same) ∙ set k x is
+      by_node (Some (NodeOf.Terminal t)) is there = absurd (cc)
+      by_node (Some (NodeOf.Switch x)) is there = let same : switch_start x ≡ s = cc in ap (λ (z : SwitchStart). z.settings) (sym same) ∙ set k x is
 
   -- and a further run starts with the image's settings
   pub begun_calm : (b : Bool) (old new : NetRecord) → IsNetRecord old → IsNetRecord new → new ≡ record_begun_if b old → IsCalm plan image old → IsCalm plan image new

@@ -1,48 +1,22 @@
 -- A network that nobody changed stays so by each event that leaves registers as they were, and by rounds.
-use Rattle.c104_plan.proofs.RangeLists.{each_append}
-use Rattle.c104_plan.specs.PlanImage.{Image}
-use Rattle.c104_plan.specs.Plans.{Plan}
-use Rattle.c104_plan.specs.declared.plans.Terminal.{Terminal}
-use Rattle.c104_plan.specs.declared.ports.Port.{Port}
-use Rattle.c104_event.specs.declared.events.Event.{Event}
-use Rattle.c104_event.specs.declared.faults.EventFault.{EventFault}
-use Rattle.c104_link.proofs.MadeSteps.{All-place}
-use Rattle.c104_run.proofs.RecordedRuns.{record_plan}
-use Rattle.c104_run.specs.EventActs.{crossing_acts, port_place}
-use Rattle.c104_node.specs.PortActs.{far_act, near_act}
-use Rattle.c104_run.specs.EventRuns.{EventsEnd, Outcome, run_events, unless_fault}
-use Rattle.c104_run.specs.NetRecords.{IsNetRecord, NetRecord, fresh_record}
-use Rattle.c104_run.specs.Network.{network_apply, placed_network, switch_nodes, terminal_nodes}
-use Rattle.c104_node.specs.Nodes.{Node}
-use Rattle.c104_run.specs.RecordedRuns.{AnswersRecord, RecordsRounds, record_apply, record_stage}
-use Rattle.c104_run.specs.Rounds.{all_claims, all_drains, claims_of, link_numbers, round, rounds, switch_claims, turn_at, wired_ports}
-use Rattle.c104_run.specs.Stages.{stage_full, unless_full}
-use Rattle.c104_node.specs.Starts.{start_of}
-use Rattle.c104_node.specs.Traces.{Deed, entry_of, kept_of, lone_deed, noted_all, noted_at, noted_in, part, seatless}
-use Rattle.c104_run.specs.EventDeeds.{acts_deeds, event_deeds}
-use Rattle.c104_node.specs.declared.acts.ActOf.{ActOf}
-use Rattle.c104_node.specs.declared.acts.Entry.{Entry}
-use Rattle.c104_node.specs.declared.crossings.Crossing.{Crossing}
-use Rattle.c104_node.specs.declared.crossings.Crossing.TheVariants as crossing
-use Rattle.c104_node.specs.declared.stamps.Stamp.{Stamp}
-use Rattle.c104_check.specs.Routes.{Routes, routes_of, settings_in}
-use Rattle.c104_plan.specs.Wiring.{peer}
-use Rattle.c104_regs.specs.declared.settings.Settings.{Settings}
-use Rattle.c104_switch.specs.Actions.{Reply, is_ready}
-use Rattle.c104_switch.specs.Starts.{SwitchStart}
+use Rattle.{c104_check.specs.Routes.{Routes, routes_of, settings_in}, c104_event.specs.declared.events.Event.Event}
+use Rattle.{c104_event.specs.declared.faults.EventFault.EventFault, c104_link.proofs.MadeSteps.All-place, c104_node.specs.Nodes.Node}
+use Rattle.c104_node.specs.{PortActs.{far_act, near_act}, Starts.start_of, Traces.{Deed, entry_of, kept_of, lone_deed, noted_all, noted_at}}
+use Rattle.c104_node.specs.{Traces.{noted_in, part, seatless}, declared.{acts.{ActOf.ActOf, Entry.Entry}, crossings.Crossing.Crossing}}
+use Rattle.{c104_node.specs.declared.{stamps.Stamp.Stamp, starts.NodeStart.NodeStart}, c104_plan.proofs.RangeLists.each_append}
+use Rattle.c104_plan.specs.{PlanImage.Image, Plans.Plan, Wiring.peer, declared.{plans.Terminal.Terminal, ports.Port.Port}}
+use Rattle.{c104_regs.specs.declared.settings.Settings.Settings, c104_run.{proofs.RecordedRuns.record_plan, specs.EventActs.crossing_acts}}
+use Rattle.c104_run.specs.{EventActs.port_place, EventDeeds.{acts_deeds, event_deeds}, EventRuns.{EventsEnd, Outcome, run_events}}
+use Rattle.c104_run.specs.{EventRuns.unless_fault, NetRecords.{IsNetRecord, NetRecord, fresh_record}, Network.network_apply}
+use Rattle.c104_run.specs.{Network.{placed_network, switch_nodes, terminal_nodes}, RecordedRuns.{AnswersRecord, RecordsRounds}}
+use Rattle.c104_run.specs.{RecordedRuns.{record_apply, record_stage}, Rounds.{all_claims, all_drains, claims_of, link_numbers, round}}
+use Rattle.c104_run.specs.{Rounds.{rounds, switch_claims, turn_at, wired_ports}, Stages.{stage_full, unless_full}}
+use Rattle.c104_switch.specs.{Actions.{Reply, is_ready}, Starts.SwitchStart, declared.actions.{ActionOf.ActionOf, ReplyOf.ReplyOf}}
 use Rattle.c104_tests_net.specs.CalmNets.{IsCalm, IsCalmAct, IsCalmDone, IsCalmEntry, IsCalmEvent, IsCalmTrace, IsNotRandom}
-use Rattle.c104_token.specs.Kinds.{plain_kind}
-use Rattle.c104_token.specs.declared.packets.Packet.{Packet}
-use Rattle.c104_token.specs.declared.tokens.Token.{Token}
-use Rattle.std.proofs.Common.{All, Bool, Err, List, None, Ok, Option, Result, Some, [], ap, false, flat_map, if◌then◌else◌, length, map, refl, slice_get, subst, suc, sym, true, zero, ℕ, ◌++◌, ◌<◌, ◌∙◌, ◌∷◌, ◌≡◌, inl, inr}
-use Rattle.std.proofs.lemmas.List.Elements.{All-append, All-cons, All-map, All-nil, All-set}
-use Rattle.std.specs.List.{AllByRecursion, range_with_len}
-use Rattle.c104_event.specs.declared.events.Event.TheVariants as event
-use Rattle.c104_node.specs.declared.acts.ActOf.TheVariants as act
-use Rattle.c104_node.specs.declared.starts.NodeStart.TheVariants as start
-use Rattle.c104_switch.specs.declared.actions.ActionOf.TheVariants as action
-use Rattle.c104_switch.specs.declared.actions.ReplyOf.TheVariants as reply
-use Rattle.c104_plan.specs.declared.ports.Port.TheVariants as port
+use Rattle.{c104_token.specs.{Kinds.plain_kind, declared.{packets.Packet.Packet, tokens.Token.Token}}, std.proofs.Common.{All, Bool, Err}}
+use Rattle.std.proofs.Common.{List, None, Ok, Option, Result, Some, [], ap, false, flat_map, if◌then◌else◌, inl, inr, length, map, refl}
+use Rattle.std.proofs.{Common.{slice_get, subst, suc, sym, true, zero, ℕ, ◌++◌, ◌<◌, ◌∙◌, ◌∷◌, ◌≡◌}, lemmas.List.Elements.All-append}
+use Rattle.std.{proofs.lemmas.List.Elements.{All-cons, All-map, All-nil, All-set}, specs.List.{AllByRecursion, range_with_len}}
 
 -- an entry that joins the traces
 module _ (routes : Routes) where
@@ -70,37 +44,37 @@ module _ (routes : Routes) (plan : Plan) (stamp : Stamp) where
       by_test false = tt
 
   near_calm : (c : Crossing) (p : Port) (r : Reply) → IsCalmAct routes (near_act c p) r
-  near_calm crossing.Token (port.Switch s l) r = tt
-  near_calm crossing.Token (port.Terminal t) r = tt
-  near_calm crossing.Grant (port.Switch s l) r = tt
-  near_calm crossing.Grant (port.Terminal t) r = tt
+  near_calm Crossing.Token (Port.Switch s l) r = tt
+  near_calm Crossing.Token (Port.Terminal t) r = tt
+  near_calm Crossing.Grant (Port.Switch s l) r = tt
+  near_calm Crossing.Grant (Port.Terminal t) r = tt
 
   far_calm : (q : Port) (told r : Reply) → IsCalmAct routes (far_act q told) r
-  far_calm (port.Switch s l) reply.Done r = tt
-  far_calm (port.Switch s l) reply.NotReady r = tt
-  far_calm (port.Switch s l) (reply.Token x) r = tt
-  far_calm (port.Switch s l) (reply.Control bytes) r = tt
-  far_calm (port.Terminal t) reply.Done r = tt
-  far_calm (port.Terminal t) reply.NotReady r = tt
-  far_calm (port.Terminal t) (reply.Token x) r = tt
-  far_calm (port.Terminal t) (reply.Control bytes) r = tt
+  far_calm (Port.Switch s l) ReplyOf.Done r = tt
+  far_calm (Port.Switch s l) ReplyOf.NotReady r = tt
+  far_calm (Port.Switch s l) (ReplyOf.Token x) r = tt
+  far_calm (Port.Switch s l) (ReplyOf.Control bytes) r = tt
+  far_calm (Port.Terminal t) ReplyOf.Done r = tt
+  far_calm (Port.Terminal t) ReplyOf.NotReady r = tt
+  far_calm (Port.Terminal t) (ReplyOf.Token x) r = tt
+  far_calm (Port.Terminal t) (ReplyOf.Control bytes) r = tt
 
   joint_calm : (c : Crossing) (p : Port) (r : Reply) (o : Option Port) → AllByRecursion (IsCalmDeed routes) (part [] (λ acts. acts_deeds plan stamp acts r) (crossing_acts c p o))
   joint_calm c p r None = tt
   joint_calm c p r (Some q) = by_test (is_ready r)
     where
-      by_test : (b : Bool) → AllByRecursion (IsCalmDeed routes) (if b then (port_place plan p, entry_of stamp (near_act c p) r) ∷ (port_place plan q, entry_of stamp (far_act q r) reply.Done) ∷ [] else [])
-      by_test true = (near_calm c p r, (far_calm q r reply.Done, tt))
+      by_test : (b : Bool) → AllByRecursion (IsCalmDeed routes) (if b then (port_place plan p, entry_of stamp (near_act c p) r) ∷ (port_place plan q, entry_of stamp (far_act q r) ReplyOf.Done) ∷ [] else [])
+      by_test true = (near_calm c p r, (far_calm q r ReplyOf.Done, tt))
       by_test false = tt
 
   event_calm : (e : Event) (r : Reply) → IsCalmDone routes e r → AllByRecursion (IsCalmDeed routes) (event_deeds plan stamp e r)
-  event_calm (event.Cross p) r may = joint_calm crossing.Token p r (peer plan p)
-  event_calm (event.Credit p) r may = joint_calm crossing.Grant p r (peer plan p)
-  event_calm (event.Input s l word) r may = lone_calm s (act.Step (action.Input l word)) r tt
-  event_calm (event.Claim s i o) r may = lone_calm s (act.Step (action.Claim i o)) r tt
-  event_calm (event.Control s bytes) r may = lone_calm s (act.Step (action.Control bytes)) r may
-  event_calm (event.Send t p) r may = lone_calm _ (act.Send p) r may
-  event_calm (event.Drain t) r may = lone_calm _ act.Drain r tt
+  event_calm (Event.Cross p) r may = joint_calm Crossing.Token p r (peer plan p)
+  event_calm (Event.Credit p) r may = joint_calm Crossing.Grant p r (peer plan p)
+  event_calm (Event.Input s l word) r may = lone_calm s (ActOf.Step (ActionOf.Input l word)) r tt
+  event_calm (Event.Claim s i o) r may = lone_calm s (ActOf.Step (ActionOf.Claim i o)) r tt
+  event_calm (Event.Control s bytes) r may = lone_calm s (ActOf.Step (ActionOf.Control bytes)) r may
+  event_calm (Event.Send t p) r may = lone_calm _ (ActOf.Send p) r may
+  event_calm (Event.Drain t) r may = lone_calm _ ActOf.Drain r tt
 
   kept_calm : (e : Event) (answer : Result Reply EventFault) → IsCalmEvent routes e → AllByRecursion (IsCalmDeed routes) (kept_of (event_deeds plan stamp e) answer)
   kept_calm e (Ok r) calm = event_calm e r (calm r)
@@ -128,8 +102,8 @@ module _ (plan : Plan) (image : Image) where
       ]
 
   -- what a packet that is sent leaves
-  pub send_kept : (old new : NetRecord) (t : ℕ) (p : Packet) (answer : Result Reply EventFault) → All (λ (b : ℕ). b < 256) p.bytes → IsNotRandom net_routes p → AnswersRecord old (event.Send t p) answer new → IsCalm plan image old → IsCalm plan image new
-  send_kept old new t p answer bytes not_random is calm = event_kept old new (event.Send t p) answer (λ r. (bytes, not_random)) is calm
+  pub send_kept : (old new : NetRecord) (t : ℕ) (p : Packet) (answer : Result Reply EventFault) → All (λ (b : ℕ). b < 256) p.bytes → IsNotRandom net_routes p → AnswersRecord old (Event.Send t p) answer new → IsCalm plan image old → IsCalm plan image new
+  send_kept old new t p answer bytes not_random is calm = event_kept old new (Event.Send t p) answer (λ r. (bytes, not_random)) is calm
 
   -- what a run of such events leaves
   run_kept : (events : List Event) (net : NetRecord) → AllByRecursion (IsCalmEvent net_routes) events → IsCalm plan image net → IsCalm plan image (run_events record_apply net events).1
@@ -162,21 +136,21 @@ module _ (routes : Routes) where
   of_flat f (x ∷ xs) each = each_append (IsCalmEvent routes) (f x) (flat_map f xs) (each x) (of_flat f xs each)
 
   turn_calm : (p : Port) → AllByRecursion (IsCalmEvent routes) (turn_at p)
-  turn_calm (port.Switch s l) = (λ r. tt, tt)
-  turn_calm (port.Terminal t) = tt
+  turn_calm (Port.Switch s l) = (λ r. tt, tt)
+  turn_calm (Port.Terminal t) = tt
 
   round_calm : (plan : Plan) → AllByRecursion (IsCalmEvent routes) (round plan)
   round_calm plan =
       let ports : List Port = wired_ports plan in
-      let drains : AllByRecursion (IsCalmEvent routes) (all_drains (length plan.terminals)) = of_map event.Drain (range_with_len 0 (length plan.terminals)) (λ t r. tt) in
-      let claims : AllByRecursion (IsCalmEvent routes) (all_claims (length plan.switches)) = of_flat switch_claims (range_with_len 0 (length plan.switches)) (λ s. of_flat (claims_of s) link_numbers (λ i. of_map (event.Claim s i) link_numbers (λ o r. tt))) in
+      let drains : AllByRecursion (IsCalmEvent routes) (all_drains (length plan.terminals)) = of_map Event.Drain (range_with_len 0 (length plan.terminals)) (λ t r. tt) in
+      let claims : AllByRecursion (IsCalmEvent routes) (all_claims (length plan.switches)) = of_flat switch_claims (range_with_len 0 (length plan.switches)) (λ s. of_flat (claims_of s) link_numbers (λ i. of_map (Event.Claim s i) link_numbers (λ o r. tt))) in
       let turns : AllByRecursion (IsCalmEvent routes) (flat_map turn_at ports) = of_flat turn_at ports turn_calm in
-      let credits : AllByRecursion (IsCalmEvent routes) (map event.Credit ports) = of_map event.Credit ports (λ p r. tt) in
-      let crossings : AllByRecursion (IsCalmEvent routes) (map event.Cross ports) = of_map event.Cross ports (λ p r. tt) in
-      let moved = each_append (IsCalmEvent routes) (map event.Credit ports) (map event.Cross ports) credits crossings in
-      let turned = each_append (IsCalmEvent routes) (map event.Credit ports ++ map event.Cross ports) (flat_map turn_at ports) moved turns in
-      let claimed = each_append (IsCalmEvent routes) ((map event.Credit ports ++ map event.Cross ports) ++ flat_map turn_at ports) (all_claims (length plan.switches)) turned claims in
-      each_append (IsCalmEvent routes) (((map event.Credit ports ++ map event.Cross ports) ++ flat_map turn_at ports) ++ all_claims (length plan.switches)) (all_drains (length plan.terminals)) claimed drains
+      let credits : AllByRecursion (IsCalmEvent routes) (map Event.Credit ports) = of_map Event.Credit ports (λ p r. tt) in
+      let crossings : AllByRecursion (IsCalmEvent routes) (map Event.Cross ports) = of_map Event.Cross ports (λ p r. tt) in
+      let moved = each_append (IsCalmEvent routes) (map Event.Credit ports) (map Event.Cross ports) credits crossings in
+      let turned = each_append (IsCalmEvent routes) (map Event.Credit ports ++ map Event.Cross ports) (flat_map turn_at ports) moved turns in
+      let claimed = each_append (IsCalmEvent routes) ((map Event.Credit ports ++ map Event.Cross ports) ++ flat_map turn_at ports) (all_claims (length plan.switches)) turned claims in
+      each_append (IsCalmEvent routes) (((map Event.Credit ports ++ map Event.Cross ports) ++ flat_map turn_at ports) ++ all_claims (length plan.switches)) (all_drains (length plan.terminals)) claimed drains
 
   rounds_calm : (plan : Plan) (n : ℕ) → AllByRecursion (IsCalmEvent routes) (rounds plan n)
   rounds_calm plan zero = tt
@@ -186,12 +160,12 @@ pub rounds_kept : (plan : Plan) (image : Image) (old new : NetRecord) (n : ℕ) 
 rounds_kept plan image old new n result ends calm = events_kept plan image old new (rounds old.network.plan n) result (rounds_calm (routes_of plan image) old.network.plan n) ends calm
 
 -- a network that was placed
-no_switch : (cap : ℕ) (terminals : List Terminal) (k : ℕ) (s : SwitchStart) → slice_get (map (start_of {A = Token}) (terminal_nodes cap terminals)) k ≡ Some (start.Switch s) → ⊥
+no_switch : (cap : ℕ) (terminals : List Terminal) (k : ℕ) (s : SwitchStart) → slice_get (map (start_of {A = Token}) (terminal_nodes cap terminals)) k ≡ Some (NodeStart.Switch s) → ⊥
 no_switch cap [] k s is = cc
 no_switch cap (t ∷ terminals) zero s is = cc
 no_switch cap (t ∷ terminals) (suc k) s is = no_switch cap terminals k s is
 
-set_first : (cap : ℕ) (all : List (List Settings)) (terminals : List Terminal) (k : ℕ) (s : SwitchStart) → slice_get (map (start_of {A = Token}) (switch_nodes cap all ++ terminal_nodes cap terminals)) k ≡ Some (start.Switch s) → s.settings ≡ settings_in all k
+set_first : (cap : ℕ) (all : List (List Settings)) (terminals : List Terminal) (k : ℕ) (s : SwitchStart) → slice_get (map (start_of {A = Token}) (switch_nodes cap all ++ terminal_nodes cap terminals)) k ≡ Some (NodeStart.Switch s) → s.settings ≡ settings_in all k
 set_first cap [] terminals k s is = absurd (no_switch cap terminals k s is)
 set_first cap (x ∷ all) terminals zero s is = cc
 set_first cap (x ∷ all) terminals (suc k) s is = set_first cap all terminals k s is

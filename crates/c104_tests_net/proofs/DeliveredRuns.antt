@@ -1,26 +1,13 @@
 -- In a network that nobody changed all is delivered after enough rounds, by the theorem.
-use Rattle.c104_check.specs.ChannelDependencies.{AreRanksWithin, IsAcyclic, IsNeverRandomized, IsRanking, input_count}
-use Rattle.c104_check.specs.Routes.{IsAccepted, routes_of}
-use Rattle.c104_check.specs.declared.ports.SwitchPort.{SwitchPort}
-use Rattle.c104_plan.specs.PlanImage.{Fits, Image}
-use Rattle.c104_plan.specs.Plans.{Plan}
-use Rattle.c104_event.specs.declared.faults.EventFault.{EventFault}
-use Rattle.c104_net.proofs.WorkBounds.{told_below}
-use Rattle.c104_net.specs.DeadlockFreedom.{IsAcyclicNet, IsAllDelivered, IsFreeOfDeadlock}
-use Rattle.c104_run.specs.NetRecords.{NetRecord}
-use Rattle.c104_run.specs.RecordedRuns.{RecordsRounds}
-use Rattle.c104_run.specs.QuietNets.{IsQuiet}
-use Rattle.c104_run.specs.Standstill.{StandsStill}
-use Rattle.c104_node.specs.Starts.{IsStartedStart}
-use Rattle.c104_net.specs.Unchanged.{AreStartsOf}
-use Rattle.c104_net.specs.HeaderWork.{work, work_bound}
-use Rattle.c104_net.specs.Work.{told_work}
-use Rattle.c104_tests_net.proofs.CalmRuns.{unchanged}
-use Rattle.c104_tests_net.specs.CalmNets.{IsCalm, IsCalmTrace}
-use Rattle.c104_tests_net.specs.DeliveredNets.{DeliversByRanks, DeliversWithin}
-use Rattle.c104_token.specs.Kinds.{plain_kind}
-use Rattle.c104_node.specs.Traces.{seatless}
-use Rattle.std.proofs.Common.{All, Err, IfOk, Ok, Result, arith, subst, sym, ℕ, ◌<◌}
+use Rattle.c104_check.specs.{ChannelDependencies.{AreRanksWithin, IsAcyclic, IsNeverRandomized, IsRanking, input_count}, Routes.IsAccepted}
+use Rattle.c104_check.specs.{Routes.routes_of, declared.ports.SwitchPort.SwitchPort}
+use Rattle.{c104_event.specs.declared.faults.EventFault.EventFault, c104_net.proofs.WorkBounds.told_below}
+use Rattle.c104_net.specs.{DeadlockFreedom.{IsAcyclicNet, IsAllDelivered, IsFreeOfDeadlock}, HeaderWork.{work, work_bound}}
+use Rattle.{c104_net.specs.{Unchanged.AreStartsOf, Work.told_work}, c104_node.specs.{Starts.IsStartedStart, Traces.seatless}}
+use Rattle.{c104_plan.specs.{PlanImage.{Fits, Image}, Plans.Plan}, c104_run.specs.{NetRecords.NetRecord, QuietNets.IsQuiet}}
+use Rattle.{c104_run.specs.{RecordedRuns.RecordsRounds, Standstill.StandsStill}, c104_tests_net.proofs.CalmRuns.unchanged}
+use Rattle.c104_tests_net.specs.{CalmNets.{IsCalm, IsCalmTrace}, DeliveredNets.{DeliversByRanks, DeliversWithin}}
+use Rattle.{c104_token.specs.Kinds.plain_kind, std.proofs.Common.{All, Err, IfOk, Ok, Result, arith, subst, sym, ℕ, ◌<◌}}
 
 -- what such a network keeps is what the theorem asks for
 pub acyclic_net : (plan : Plan) (image : Image) (net : NetRecord) → IsCalm plan image net → Fits image plan → IsAccepted (routes_of plan image) → IsAcyclic (routes_of plan image) → All IsStartedStart net.starts → IsAcyclicNet image net

@@ -1,39 +1,17 @@
 -- Of a network that was quiet when it was finished, no packet is missing, and none is there twice.
-use Rattle.c104_check.specs.Routes.{IsAccepted, owner, routes_of}
-use Rattle.c104_plan.specs.PlanImage.{Image}
-use Rattle.c104_plan.specs.Plans.{Plan}
-use Rattle.c104_net.proofs.OriginPieces.{delivered_origin, received_origins}
-use Rattle.c104_net.proofs.ToldRuns.{same_events}
-use Rattle.c104_net.specs.Deliveries.{IsDelivered, Promise, arrived_at, has_header, header_of, received, sent_at}
-use Rattle.c104_run.specs.FinishedRecords.{FinishedRecord, record_finish}
-use Rattle.c104_run.specs.NetRecords.{IsNetRecord, NetRecord}
-use Rattle.c104_run.specs.Network.{Network, network_of}
-use Rattle.c104_node.specs.Origins.{origins_in}
-use Rattle.c104_run.specs.QuietNets.{IsQuiet}
-use Rattle.c104_run.specs.Runs.{IsRunRecord}
-use Rattle.c104_switch.specs.Actions.{Reply}
-use Rattle.c104_event.specs.declared.events.Event.{Event}
-use Rattle.c104_token.specs.Kinds.{plain_kind}
-use Rattle.c104_token.specs.declared.tokens.Token.{Token}
-use Rattle.c104_net.specs.RunOrigins.{AreOrigins}
-use Rattle.c104_net.specs.ToldRuns.{TellsEachRun}
-use Rattle.c104_net.specs.TracedEnds.{traced_end}
-use Rattle.c104_node.specs.Traces.{seatless}
-use Rattle.c104_net.specs.Unchanged.{AreStartsOf, IsUnchanged}
-use Rattle.c104_node.specs.Nodes.{Node}
-use Rattle.c104_node.specs.Starts.{start_node}
-use Rattle.c104_node.specs.declared.origins.Origin.{Origin}
-use Rattle.c104_node.specs.declared.stamps.Stamp.{Stamp}
-use Rattle.c104_node.specs.declared.traced.Traced.{Traced}
-use Rattle.c104_tests_net.proofs.CalmRuns.{unchanged}
-use Rattle.c104_tests_net.proofs.NamedPackets.{list_there, same_origin}
-use Rattle.c104_tests_net.specs.CalmNets.{IsCalm, IsCalmTrace, IsListed}
-use Rattle.c104_tests_net.specs.FoundPackets.{AreFoundOnce}
-use Rattle.c104_token.specs.declared.packets.Packet.{Packet}
-use Rattle.std.proofs.Common.{All, Err, List, Ok, Result, Some, [], ap, arith, flat_map, length, map, option_map, refl, slice_get, subst, suc, sym, true, zero, ℕ, ◌<◌, ◌∙◌, ◌∷◌, ◌≡◌}
-use Rattle.std.proofs.lemmas.Option.{slice_get-map, slice_get_within}
-use Rattle.std.specs.Global.{Vec as Kept}
-use Rattle.std.specs.Prelude.{IfOk}
+use Rattle.{c104_check.specs.Routes.{IsAccepted, owner, routes_of}, c104_event.specs.declared.events.Event.Event}
+use Rattle.c104_net.{proofs.{OriginPieces.{delivered_origin, received_origins}, ToldRuns.same_events}, specs.Deliveries.IsDelivered}
+use Rattle.c104_net.specs.{Deliveries.{Promise, arrived_at, has_header, header_of, received, sent_at}, RunOrigins.AreOrigins}
+use Rattle.{c104_net.specs.{ToldRuns.TellsEachRun, TracedEnds.traced_end, Unchanged.{AreStartsOf, IsUnchanged}}, c104_node.specs.Nodes.Node}
+use Rattle.c104_node.specs.{Origins.origins_in, Starts.start_node, Traces.seatless, declared.{origins.Origin.Origin, stamps.Stamp.Stamp}}
+use Rattle.{c104_node.specs.declared.traced.Traced.Traced, c104_plan.specs.{PlanImage.Image, Plans.Plan}}
+use Rattle.c104_run.specs.{FinishedRecords.{FinishedRecord, record_finish}, NetRecords.{IsNetRecord, NetRecord}, Network.Network}
+use Rattle.{c104_run.specs.{Network.network_of, QuietNets.IsQuiet, Runs.IsRunRecord}, c104_switch.specs.Actions.Reply}
+use Rattle.c104_tests_net.{proofs.{CalmRuns.unchanged, NamedPackets.{list_there, same_origin}}, specs.CalmNets.{IsCalm, IsCalmTrace}}
+use Rattle.{c104_tests_net.specs.{CalmNets.IsListed, FoundPackets.AreFoundOnce}, c104_token.specs.Kinds.plain_kind}
+use Rattle.{c104_token.specs.declared.{packets.Packet.Packet, tokens.Token.Token}, std.proofs.Common.{All, Err, List, Ok, Result, Some, []}}
+use Rattle.std.proofs.Common.{ap, arith, flat_map, length, map, option_map, refl, slice_get, subst, suc, sym, true, zero, ℕ, ◌<◌, ◌∙◌, ◌∷◌}
+use Rattle.std.{proofs.{Common.◌≡◌, lemmas.Option.{slice_get-map, slice_get_within}}, specs.{Global.Vec as Kept, Prelude.IfOk}}
 
 -- a list as it is told is that of one that is given back
 listed_there : (lists : List (Kept Origin)) (t : ℕ) (list : List Origin) → slice_get (map (λ (l : Kept Origin). l.items) lists) t ≡ Some list → (l : Kept Origin) × (slice_get lists t ≡ Some l) × (l.items ≡ list)

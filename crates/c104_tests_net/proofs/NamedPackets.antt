@@ -1,41 +1,19 @@
 -- What the theorem about packets says of one received packet, in plain tokens.
-use Rattle.c104_check.specs.Routes.{IsAccepted, Routes, routes_of}
-use Rattle.c104_plan.specs.PlanImage.{Image}
-use Rattle.c104_plan.specs.Plans.{Plan}
-use Rattle.c104_label.specs.Images.{IsImageOf}
-use Rattle.c104_net.proofs.NamedOrigins.{sent_plain}
-use Rattle.c104_net.proofs.OriginPieces.{delivered_origin, received_origins}
-use Rattle.c104_net.proofs.ToldRuns.{same_events}
-use Rattle.c104_net.specs.Deliveries.{IsDelivered, arrived_at, cut_at, received}
-use Rattle.c104_run.specs.FinishedRecords.{FinishedRecord, IsFinishedRecord, record_finish}
-use Rattle.c104_run.specs.NetRecords.{NetRecord}
-use Rattle.c104_run.specs.Network.{Network, network_of, terminal_place}
-use Rattle.c104_node.specs.Nodes.{Node, arrived_tokens}
-use Rattle.c104_node.specs.Origins.{origins_in}
-use Rattle.c104_net.specs.RunOrigins.{AreOrigins}
-use Rattle.c104_net.specs.ToldRuns.{TellsEachRun}
-use Rattle.c104_node.specs.Terminals.{sent_from, sent_tokens}
-use Rattle.c104_node.specs.Traced.{traced_kind}
-use Rattle.c104_net.specs.TracedEnds.{traced_end}
-use Rattle.c104_node.specs.MappedNodes.{map_node}
-use Rattle.c104_node.specs.Traces.{part}
-use Rattle.c104_net.specs.Unchanged.{AreStartsOf, IsUnchanged}
-use Rattle.c104_node.specs.declared.origins.Origin.{Origin}
-use Rattle.c104_node.specs.declared.traced.Traced.{Traced}
-use Rattle.c104_tests_net.proofs.CalmRuns.{unchanged}
-use Rattle.c104_tests_net.specs.CalmNets.{IsCalm, IsCalmTrace, IsNamed, IsNamedByCheck, IsNamedByLabels, IsWhole, received_tokens}
-use Rattle.c104_token.specs.Cut.{whole_pieces}
-use Rattle.c104_token.specs.Kinds.{plain_kind}
-use Rattle.c104_token.specs.Packets.{packet_tokens}
-use Rattle.c104_token.specs.Tokens.{is_end}
-use Rattle.c104_token.specs.declared.tokens.Token.{Token}
-use Rattle.std.proofs.Common.{All, Bool, Err, List, None, Ok, Option, Result, Some, [], ap, arith, drop, false, flat_map, if◌then◌else◌, length, map, option_map, refl, slice_get, subst, suc, sym, true, zero, ℕ, ◌++◌, ◌<◌, ◌∙◌, ◌∷◌, ◌≡◌}
-use Rattle.std.proofs.lemmas.List.{drop-map, map-append}
+use Rattle.{c104_check.specs.Routes.{IsAccepted, Routes, routes_of}, c104_label.specs.Images.IsImageOf}
+use Rattle.c104_net.proofs.{NamedOrigins.sent_plain, OriginPieces.{delivered_origin, received_origins}, ToldRuns.same_events}
+use Rattle.c104_net.specs.{Deliveries.{IsDelivered, arrived_at, cut_at, received}, RunOrigins.AreOrigins, ToldRuns.TellsEachRun}
+use Rattle.{c104_net.specs.{TracedEnds.traced_end, Unchanged.{AreStartsOf, IsUnchanged}}, c104_node.specs.MappedNodes.map_node}
+use Rattle.c104_node.specs.{Nodes.{Node, arrived_tokens}, Origins.origins_in, Terminals.{sent_from, sent_tokens}, Traced.traced_kind}
+use Rattle.c104_node.specs.{Traces.part, declared.{node.NodeOf.NodeOf, origins.Origin.Origin, traced.Traced.Traced}}
+use Rattle.{c104_plan.specs.{PlanImage.Image, Plans.Plan, declared.ports.Port.Port}, c104_run.specs.FinishedRecords.FinishedRecord}
+use Rattle.c104_run.specs.{FinishedRecords.{IsFinishedRecord, record_finish}, NetRecords.NetRecord, Network.{Network, network_of}}
+use Rattle.{c104_run.specs.Network.terminal_place, c104_tests_net.{proofs.CalmRuns.unchanged, specs.CalmNets.{IsCalm, IsCalmTrace}}}
+use Rattle.c104_tests_net.specs.CalmNets.{IsNamed, IsNamedByCheck, IsNamedByLabels, IsWhole, received_tokens}
+use Rattle.c104_token.specs.{Cut.whole_pieces, Kinds.plain_kind, Packets.packet_tokens, Tokens.is_end, declared.tokens.Token.Token}
+use Rattle.std.proofs.Common.{All, Bool, Err, List, None, Ok, Option, Result, Some, [], ap, arith, drop, false, flat_map, if◌then◌else◌}
+use Rattle.std.proofs.Common.{length, map, option_map, refl, slice_get, subst, suc, sym, true, zero, ℕ, ◌++◌, ◌<◌, ◌∙◌, ◌∷◌, ◌≡◌}
+use Rattle.std.{proofs.lemmas.{List.{drop-map, map-append}, Option.{slice_get-map, slice_get_within}}, specs.Global.Vec as Kept}
 use Rattle.std.specs.Prelude.{IfOk}
-use Rattle.std.specs.Global.{Vec as Kept}
-use Rattle.std.proofs.lemmas.Option.{slice_get-map, slice_get_within}
-use Rattle.c104_node.specs.declared.node.NodeOf.TheVariants as node
-use Rattle.c104_plan.specs.declared.ports.Port.TheVariants as port
 
 abbrev token_of : Traced → Token
 token_of x = x.token
@@ -60,8 +38,8 @@ sent_map a n j (x ∷ xs) = ap (λ ys. x ∷ ys) (sent_map a n (suc j) xs)
 -- what arrived, without the sources
 arrived_map : (o : Option (Node Traced)) → part [] arrived_tokens (option_map (map_node token_of) o) ≡ map token_of (part [] arrived_tokens o)
 arrived_map None = refl
-arrived_map (Some (node.Switch s)) = refl
-arrived_map (Some (node.Terminal t)) = refl
+arrived_map (Some (NodeOf.Switch s)) = refl
+arrived_map (Some (NodeOf.Terminal t)) = refl
 
 module _ (plan : Plan) (nodes : List (Node Token)) (traced : List (Node Traced)) (plain : map (map_node (λ (x : Traced). x.token)) traced ≡ nodes) where
   node_there : (k : ℕ) → slice_get nodes k ≡ option_map (map_node token_of) (slice_get traced k)
@@ -76,7 +54,7 @@ module _ (plan : Plan) (nodes : List (Node Token)) (traced : List (Node Traced))
   -- a delivered packet is the whole packet of its origin
   whole_of : (routes : Routes) (t : ℕ) (piece : List Token) (q : List Traced) → piece ≡ map token_of q → (d : IsDelivered routes (network_of plan traced) t q) → IsWhole routes (network_of plan nodes) t piece (record { terminal = d.terminal; number = d.number })
   whole_of routes t piece q is d =
-      let cut : ℕ = cut_at routes (routes.peer (port.Terminal t)) in
+      let cut : ℕ = cut_at routes (routes.peer (Port.Terminal t)) in
       record {
         packet = d.packet;
         sent = ap (λ ps. slice_get ps d.number) (sent_plain plan traced nodes plain d.terminal) ∙ d.sent;

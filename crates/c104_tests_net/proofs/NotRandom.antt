@@ -1,20 +1,11 @@
 -- When the header that a packet begins with is no random one: where no link puts random headers before packets, and where
 -- it is a label that the check accepts.
-use Rattle.std.proofs.Common.{List, Some, ap, slice_get, sym, take, true, ℕ, ◌∙◌, ◌≡◌}
-use Rattle.c104_check.specs.ChannelDependencies.{IsNeverRandomized}
-use Rattle.c104_check.specs.Routes.{IsAccepted, Routes, has_label, or_no_settings, routes_of}
-use Rattle.c104_plan.specs.PlanImage.{Image}
-use Rattle.c104_plan.specs.Plans.{Plan}
-use Rattle.c104_plan.specs.declared.ports.Port.{Port}
-use Rattle.c104_plan.specs.declared.ports.Port.TheVariants as port
-use Rattle.c104_label.proofs.HeaderLengths.{none_passes}
-use Rattle.c104_net.proofs.RandomOwners.{random_unowned}
-use Rattle.c104_net.specs.Deliveries.{header_of}
-use Rattle.c104_regs.specs.Settings.{header_length}
-use Rattle.c104_regs.specs.declared.settings.Settings.{Settings}
-use Rattle.c104_switch.specs.Headers.{header_number}
-use Rattle.c104_tests_net.specs.CalmNets.{HasLabel, IsNotRandom}
-use Rattle.c104_token.specs.declared.packets.Packet.{Packet}
+use Rattle.c104_check.specs.{ChannelDependencies.IsNeverRandomized, Routes.{IsAccepted, Routes, has_label, or_no_settings, routes_of}}
+use Rattle.{c104_label.proofs.HeaderLengths.none_passes, c104_net.{proofs.RandomOwners.random_unowned, specs.Deliveries.header_of}}
+use Rattle.{c104_plan.specs.{PlanImage.Image, Plans.Plan, declared.ports.Port.Port}, c104_regs.specs.Settings.header_length}
+use Rattle.{c104_regs.specs.declared.settings.Settings.Settings, c104_switch.specs.Headers.header_number}
+use Rattle.{c104_tests_net.specs.CalmNets.{HasLabel, IsNotRandom}, c104_token.specs.declared.packets.Packet.Packet, std.proofs.Common.List}
+use Rattle.std.proofs.Common.{Some, ap, slice_get, sym, take, true, ℕ, ◌∙◌, ◌≡◌}
 
 pub never_random : (routes : Routes) (p : Packet) → IsNeverRandomized routes → IsNotRandom routes p
 never_random routes p never has (t, q, entry, (x, at, is)) = never q (x, at, is.0)
@@ -32,6 +23,6 @@ two_byte_label plan image p t n h accepted length two is (range, at, label) =
     label_not_random (routes_of plan image) p t range accepted at (ap (has_label range) (sym same) ∙ label)
 
 -- headers are as long as at any link that is wired
-pub length_there : (routes : Routes) (s l : ℕ) (other : Port) (all : List Settings) (x : Settings) → IsAccepted routes → Some other ≡ routes.peer (port.Switch s l) → Some all ≡ slice_get routes.settings s → slice_get all l ≡ Some x → header_length x ≡ routes.header
+pub length_there : (routes : Routes) (s l : ℕ) (other : Port) (all : List Settings) (x : Settings) → IsAccepted routes → Some other ≡ routes.peer (Port.Switch s l) → Some all ≡ slice_get routes.settings s → slice_get all l ≡ Some x → header_length x ≡ routes.header
 length_there routes s l other all x accepted wired switch at =
     accepted.one_length (record { switch = s; link = l }) other x (sym wired) (ap (λ o. slice_get (or_no_settings o) l) (sym switch) ∙ at)

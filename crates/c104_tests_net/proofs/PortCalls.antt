@@ -1,11 +1,8 @@
 -- Calls of the loader through a port: what each command keeps, the whole call keeps.
-use Rattle.c104_tools.specs.Outcomes.{Given, Judge, Outcome}
-use Rattle.c104_tools.specs.Steps.{Step}
-use Rattle.c104_tools.specs.declared.faults.LoadFault.{LoadFault}
-use Rattle.c104_workers.proofs.PortRuns.{all_keep}
+use Rattle.c104_tools.specs.{Outcomes.{Given, Judge, Outcome}, Steps.Step, declared.faults.LoadFault.LoadFault}
+use Rattle.{c104_workers.proofs.PortRuns.all_keep, std.proofs.Common.{Bool, List, Result, false, nat_eq, refl, subst, sym, true, ℕ, ◌≡◌}}
+use Rattle.std.proofs.{Common.◌≢◌, lemmas.Bool.Decides.nat_tests}
 use native.Mathlib.Omega.{arith}
-use Rattle.std.proofs.lemmas.Bool.Decides.{nat_tests}
-use Rattle.std.proofs.Common.{Bool, List, Result, false, nat_eq, refl, subst, sym, true, ℕ, ◌≡◌, ◌≢◌}
 
 module _ {P : Type 0} (due : P → ℕ → List ℕ → Given → P → Type 0) (Keeps : P → P → Type 0) (at_once : (p : P) → Keeps p p) (on : (p q r : P) → Keeps p q → Keeps q r → Keeps p r) (each : (p q : P) (s : ℕ) (bytes : List ℕ) (given : Given) → due p s bytes given q → Keeps p q) where
   pub call_keeps : {X : Type 0} (judge : Judge) (make : List ℕ → Result X LoadFault) (steps : List Step) (p q : P) (result : Result X LoadFault) (count wanted : ℕ) → (count ≢ wanted → q ≡ p) → (count ≡ wanted → Outcome due judge make p steps result q) → Keeps p q

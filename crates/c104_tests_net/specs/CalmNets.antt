@@ -3,32 +3,15 @@
 --     IsCalm plan image net      what such a network keeps
 --     IsListed lists t k o       an origin stands at a place of a terminal's list
 --     IsNamed routes run t k o     one received packet is that of an origin
-use Rattle.std.specs.Global.{Vec as Kept}
-use Rattle.std.specs.Prelude.{ℕ, ◌<◌, ◌≡◌, All, List, Some, [], drop, slice_get, true}
 use Rattle.c104_check.specs.Routes.{IsAccepted, IsRandomIn, Routes, has_label, owner, routes_of}
-use Rattle.c104_plan.specs.PlanImage.{Image}
-use Rattle.c104_plan.specs.Plans.{Plan}
-use Rattle.c104_plan.specs.declared.ports.Port.TheVariants as port
-use Rattle.c104_event.specs.declared.events.Event.{Event}
-use Rattle.c104_event.specs.declared.events.Event.TheVariants as event
-use Rattle.c104_label.specs.Images.{IsImageOf}
-use Rattle.c104_net.specs.Deliveries.{arrived_at, cut_at, has_header, header_of, sent_at}
-use Rattle.c104_run.specs.Finished.{network_finish}
-use Rattle.c104_run.specs.FinishedRecords.{FinishedRecord}
-use Rattle.c104_run.specs.NetRecords.{NetRecord}
-use Rattle.c104_run.specs.Network.{Network}
-use Rattle.c104_node.specs.Terminals.{sent_tokens}
-use Rattle.c104_net.specs.Unchanged.{AreStartsOf, IsHarmless}
-use Rattle.c104_node.specs.declared.acts.ActOf.{ActOf}
-use Rattle.c104_node.specs.declared.acts.ActOf.TheVariants as act
-use Rattle.c104_node.specs.declared.acts.Entry.{Entry}
-use Rattle.c104_node.specs.declared.origins.Origin.{Origin}
-use Rattle.c104_switch.specs.Actions.{Action, Reply}
-use Rattle.c104_switch.specs.declared.actions.ActionOf.TheVariants as action
-use Rattle.c104_token.specs.Cut.{whole_pieces}
-use Rattle.c104_token.specs.Kinds.{plain_kind}
-use Rattle.c104_token.specs.declared.packets.Packet.{Packet}
-use Rattle.c104_token.specs.declared.tokens.Token.{Token}
+use Rattle.{c104_event.specs.declared.events.Event.Event, c104_label.specs.Images.IsImageOf, c104_net.specs.Deliveries.{arrived_at, cut_at}}
+use Rattle.c104_net.specs.{Deliveries.{has_header, header_of, sent_at}, Unchanged.{AreStartsOf, IsHarmless}}
+use Rattle.c104_node.specs.{Terminals.sent_tokens, declared.{acts.{ActOf.ActOf, Entry.Entry}, origins.Origin.Origin}}
+use Rattle.{c104_plan.specs.{PlanImage.Image, Plans.Plan, declared.ports.Port.Port}, c104_run.specs.Finished.network_finish}
+use Rattle.{c104_run.specs.{FinishedRecords.FinishedRecord, NetRecords.NetRecord, Network.Network}, c104_switch.specs.Actions.Action}
+use Rattle.{c104_switch.specs.{Actions.Reply, declared.actions.ActionOf.ActionOf}, c104_token.specs.{Cut.whole_pieces, Kinds.plain_kind}}
+use Rattle.c104_token.specs.declared.{packets.Packet.Packet, tokens.Token.Token}
+use Rattle.std.specs.{Global.Vec as Kept, Prelude.{All, List, Some, [], drop, slice_get, true, ℕ, ◌<◌, ◌≡◌}}
 
 -- the header that a packet begins with, where that is whole, is no random one of the network
 abbrev pub IsNotRandom : Routes → Packet → Type 0
@@ -42,13 +25,13 @@ HasLabel image t label = (range : ℕ × ℕ) × (slice_get image.ranges t ≡ S
 -- begins, the packets of the run before it are followed by this; and it may be sent by any terminal, since a node's
 -- trace doesn't tell whose it is.
 abbrev pub IsCalmDone : Routes → Event → Reply → Type 0
-IsCalmDone routes (event.Send t p) r = All (λ (b : ℕ). b < 256) p.bytes × IsNotRandom routes p
-IsCalmDone routes (event.Control s bytes) r = IsHarmless bytes r
-IsCalmDone routes (event.Cross p) r = Unit {0}
-IsCalmDone routes (event.Credit p) r = Unit {0}
-IsCalmDone routes (event.Input s l word) r = Unit {0}
-IsCalmDone routes (event.Claim s i o) r = Unit {0}
-IsCalmDone routes (event.Drain t) r = Unit {0}
+IsCalmDone routes (Event.Send t p) r = All (λ (b : ℕ). b < 256) p.bytes × IsNotRandom routes p
+IsCalmDone routes (Event.Control s bytes) r = IsHarmless bytes r
+IsCalmDone routes (Event.Cross p) r = Unit {0}
+IsCalmDone routes (Event.Credit p) r = Unit {0}
+IsCalmDone routes (Event.Input s l word) r = Unit {0}
+IsCalmDone routes (Event.Claim s i o) r = Unit {0}
+IsCalmDone routes (Event.Drain t) r = Unit {0}
 
 -- the same, whatever is answered
 abbrev pub IsCalmEvent : Routes → Event → Type 0
@@ -56,22 +39,22 @@ IsCalmEvent routes e = (r : Reply) → IsCalmDone routes e r
 
 -- an act that was answered so, and left registers as they were
 abbrev pub IsCalmAction : Action → Reply → Type 0
-IsCalmAction (action.Enter l x) r = Unit {0}
-IsCalmAction (action.Leave l) r = Unit {0}
-IsCalmAction (action.CreditOut l) r = Unit {0}
-IsCalmAction (action.CreditIn l) r = Unit {0}
-IsCalmAction (action.Input l word) r = Unit {0}
-IsCalmAction (action.Claim i o) r = Unit {0}
-IsCalmAction (action.Control bytes) r = IsHarmless bytes r
+IsCalmAction (ActionOf.Enter l x) r = Unit {0}
+IsCalmAction (ActionOf.Leave l) r = Unit {0}
+IsCalmAction (ActionOf.CreditOut l) r = Unit {0}
+IsCalmAction (ActionOf.CreditIn l) r = Unit {0}
+IsCalmAction (ActionOf.Input l word) r = Unit {0}
+IsCalmAction (ActionOf.Claim i o) r = Unit {0}
+IsCalmAction (ActionOf.Control bytes) r = IsHarmless bytes r
 
 abbrev pub IsCalmAct : Routes → ActOf Token → Reply → Type 0
-IsCalmAct routes (act.Step a) r = IsCalmAction a r
-IsCalmAct routes (act.Send p) r = All (λ (b : ℕ). b < 256) p.bytes × IsNotRandom routes p
-IsCalmAct routes act.Drain r = Unit {0}
-IsCalmAct routes act.Leave r = Unit {0}
-IsCalmAct routes (act.Enter x) r = Unit {0}
-IsCalmAct routes act.CreditOut r = Unit {0}
-IsCalmAct routes act.CreditIn r = Unit {0}
+IsCalmAct routes (ActOf.Step a) r = IsCalmAction a r
+IsCalmAct routes (ActOf.Send p) r = All (λ (b : ℕ). b < 256) p.bytes × IsNotRandom routes p
+IsCalmAct routes ActOf.Drain r = Unit {0}
+IsCalmAct routes ActOf.Leave r = Unit {0}
+IsCalmAct routes (ActOf.Enter x) r = Unit {0}
+IsCalmAct routes ActOf.CreditOut r = Unit {0}
+IsCalmAct routes ActOf.CreditIn r = Unit {0}
 
 abbrev pub IsCalmEntry : Routes → Entry → Type 0
 IsCalmEntry routes e = IsCalmAct routes e.act e.reply
@@ -95,7 +78,7 @@ received_tokens net t = whole_pieces (λ x. x) [] (arrived_at net t)
 pub record IsWhole (routes : Routes) (net : Network Token) (t : ℕ) (piece : List Token) (o : Origin) : Type 0 where
   pub packet : Packet
   pub sent : slice_get (sent_at net o.terminal) o.number ≡ Some packet
-  pub whole : piece ≡ drop (cut_at routes (routes.peer (port.Terminal t))) (sent_tokens plain_kind o.terminal o.number packet)
+  pub whole : piece ≡ drop (cut_at routes (routes.peer (Port.Terminal t))) (sent_tokens plain_kind o.terminal o.number packet)
   pub owned : owner routes (header_of routes packet) ≡ Some t
 
 -- an origin stands at a place of a terminal's list

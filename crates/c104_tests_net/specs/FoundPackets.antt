@@ -1,14 +1,9 @@
 -- What is known of the packets of a network that was quiet when it was finished.
 --     AreFoundOnce routes net lists      each packet that was sent to a terminal is in its list, and none stands there twice
-use Rattle.std.specs.Global.{Vec as Kept}
-use Rattle.std.specs.Prelude.{ℕ, ◌<◌, ◌≡◌, List, Some, length, slice_get, true}
-use Rattle.c104_check.specs.Routes.{Routes, owner}
-use Rattle.c104_net.specs.Deliveries.{has_header, header_of, sent_at}
-use Rattle.c104_run.specs.Network.{Network}
-use Rattle.c104_node.specs.declared.origins.Origin.{Origin}
-use Rattle.c104_tests_net.specs.CalmNets.{IsListed}
-use Rattle.c104_token.specs.declared.packets.Packet.{Packet}
-use Rattle.c104_token.specs.declared.tokens.Token.{Token}
+use Rattle.{c104_check.specs.Routes.{Routes, owner}, c104_net.specs.Deliveries.{has_header, header_of, sent_at}}
+use Rattle.{c104_node.specs.declared.origins.Origin.Origin, c104_run.specs.Network.Network, c104_tests_net.specs.CalmNets.IsListed}
+use Rattle.c104_token.specs.declared.{packets.Packet.Packet, tokens.Token.Token}
+use Rattle.std.specs.{Global.Vec as Kept, Prelude.{List, Some, length, slice_get, true, ℕ, ◌<◌, ◌≡◌}}
 
 pub record AreFoundOnce (routes : Routes) (net : Network Token) (lists : List (Kept Origin)) : Type 0 where
   -- each packet that was sent with the header of a terminal stands in that terminal's list

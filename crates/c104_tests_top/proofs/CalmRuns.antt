@@ -1,42 +1,25 @@
 -- A script that is calm has the premises of the theorem about packets, where no link puts random headers.
-use Rattle.std.proofs.Common.{◌≡◌, ◌∙◌, ◌≤◌, ℕ, false, List, [], Option, Some, None, Result, Ok, Err, arith, length, refl, sym, ap, subst}
-use Rattle.std.proofs.lemmas.Bool.Decides.{nat_tests}
+use Rattle.c104_check.specs.{ChannelDependencies.IsNeverRandomized, Routes.{IsAccepted, Routes, routes_of}}
+use Rattle.c104_commands.specs.{Setups.{ComesTo, SetupResult}, declared.status.Status.TheVariants.Done}
+use Rattle.{c104_describe.specs.PlanText.read_description, c104_event.specs.declared.events.Event.Event, c104_label.specs.Images.IsImageBy}
+use Rattle.{c104_label.specs.Images.IsImageOf, c104_net.specs.Unchanged.MayHappen, c104_plan.specs.{PlanImage.{Fits, Image}, Plans.IsPlan}}
+use Rattle.c104_plan.specs.{Plans.Plan, TextCut.lines, declared.plans.Shape.{Shape, TheVariants.Hand}}
+use Rattle.c104_run_commands.{proofs.HarmlessLemmas.{all_lines, event_asked, harmless_leaves}, specs.HarmlessScripts.AreHarmless}
+use Rattle.c104_run_commands.specs.{HarmlessScripts.IsHarmless, PrintedRuns.PrintsPacketsOf, Runs.{DescriptionEnds, setup_output}}
+use Rattle.c104_script.specs.{Script.read_script_line, declared.{faults.LineFault.LineFault, places.Request.Request}}
+use Rattle.{c104_session.specs.PrintedPackets.IsUnchangedRun, c104_stream.specs.ScriptLines.most_script, c104_switch.specs.Actions.Reply}
+use Rattle.{c104_tests_top.specs.PrintedTexts.{AreCalm, IsCalm, IsPrinted}, std.proofs.Common.{Err, List, None, Ok, Option, Result, Some}}
+use Rattle.std.proofs.{Common.{[], ap, arith, false, length, refl, subst, sym, ℕ, ◌∙◌, ◌≡◌, ◌≤◌}, lemmas.Bool.Decides.nat_tests}
 use Rattle.std.proofs.lemmas.List.Elements.{All-weaker}
-use Rattle.c104_switch.specs.Actions.{Reply}
-use Rattle.c104_plan.specs.PlanImage.{Fits, Image}
-use Rattle.c104_plan.specs.Plans.{IsPlan, Plan}
-use Rattle.c104_plan.specs.TextCut.{lines}
-use Rattle.c104_plan.specs.declared.plans.Shape.{Shape}
-use Rattle.c104_plan.specs.declared.plans.Shape.TheVariants.{Hand}
-use Rattle.c104_describe.specs.PlanText.{read_description}
-use Rattle.c104_check.specs.ChannelDependencies.{IsNeverRandomized}
-use Rattle.c104_check.specs.Routes.{IsAccepted, Routes, routes_of}
-use Rattle.c104_label.specs.Images.{IsImageBy, IsImageOf}
-use Rattle.c104_event.specs.declared.events.Event.{Event}
-use Rattle.c104_event.specs.declared.events.Event.TheVariants as event
-use Rattle.c104_net.specs.Unchanged.{MayHappen}
-use Rattle.c104_stream.specs.ScriptLines.{most_script}
-use Rattle.c104_script.specs.Script.{read_script_line}
-use Rattle.c104_script.specs.declared.faults.LineFault.{LineFault}
-use Rattle.c104_script.specs.declared.places.Request.{Request}
-use Rattle.c104_script.specs.declared.places.Request.TheVariants as ask
-use Rattle.c104_session.specs.PrintedPackets.{IsUnchangedRun}
-use Rattle.c104_commands.specs.Setups.{ComesTo, SetupResult}
-use Rattle.c104_commands.specs.declared.status.Status.TheVariants.{Done}
-use Rattle.c104_run_commands.specs.HarmlessScripts.{AreHarmless, IsHarmless}
-use Rattle.c104_run_commands.specs.PrintedRuns.{PrintsPacketsOf}
-use Rattle.c104_run_commands.specs.Runs.{DescriptionEnds, setup_output}
-use Rattle.c104_run_commands.proofs.HarmlessLemmas.{all_lines, event_asked, harmless_leaves}
-use Rattle.c104_tests_top.specs.PrintedTexts.{AreCalm, IsCalm, IsPrinted}
 
-event_may : (routes : Routes) → IsNeverRandomized routes → (e : Event) (r : Reply) → IsCalm (Ok (Some (ask.Asked e))) → MayHappen routes e r
-event_may routes plain (event.Send t packet) r calm = λ q entry random whole header. plain q random
-event_may routes plain (event.Control s bytes) r calm = absurd calm
+event_may : (routes : Routes) → IsNeverRandomized routes → (e : Event) (r : Reply) → IsCalm (Ok (Some (Request.Asked e))) → MayHappen routes e r
+event_may routes plain (Event.Send t packet) r calm = λ q entry random whole header. plain q random
+event_may routes plain (Event.Control s bytes) r calm = absurd calm
 event_may routes plain e r calm = tt
 
 calm_harmless : (routes : Routes) → IsNeverRandomized routes → (asked : Result (Option Request) LineFault) → IsCalm asked → IsHarmless routes asked
-calm_harmless routes plain (Ok (Some (ask.Asked e))) calm = event_asked routes e (λ r. event_may routes plain e r calm)
-calm_harmless routes plain (Ok (Some (ask.Probed probe))) calm = absurd calm
+calm_harmless routes plain (Ok (Some (Request.Asked e))) calm = event_asked routes e (λ r. event_may routes plain e r calm)
+calm_harmless routes plain (Ok (Some (Request.Probed probe))) calm = absurd calm
 calm_harmless routes plain asked calm = λ answer. tt
 
 pub unchanged_run : (plan : Plan) (image : Image) (script : List ℕ) → IsPlan plan → Fits image plan → IsAccepted (routes_of plan image) → IsNeverRandomized (routes_of plan image) → length script ≤ most_script → AreCalm plan (lines script) → IsUnchangedRun plan image script

@@ -1,15 +1,10 @@
 -- Numbers in the lists of all views: how often one stands in them, and how many there are, where one view comes in the
 -- place of another or behind the others.
-use Rattle.c104_tickets.specs.Tickets.{AreFrom, all_drawn, all_numbers, count_of, one_within, spent}
-use Rattle.c104_tickets.specs.declared.TheConstants.{TICKET_LIMIT}
-use Rattle.c104_tickets.specs.declared.views.View.{View}
-use Rattle.std.proofs.Common.{All, List, [], ap, arith, cond, get_or, length, refl, set, subst, suc, sym, zero, ℕ, ◌++◌, ◌+◌, ◌*◌, ◌<◌, ◌∙◌, ◌∷◌, ◌≡◌, ◌≤◌}
-use Rattle.std.proofs.lemmas.Bool.Decides.{nat_tests}
-use Rattle.std.proofs.lemmas.List.{length-append}
-use Rattle.std.proofs.lemmas.List.Concat.{flat_map-append, length-flat_map}
-use Rattle.std.proofs.lemmas.List.Sums.{count_by-le-length, get_or-le-sum_by, sum_by-append, sum_by-cons, sum_by-set}
-use Rattle.std.specs.List.{flat_map, sum_by}
-use Rattle.std.specs.Prelude.{◌==◌}
+use Rattle.c104_tickets.specs.{Tickets.{AreFrom, all_drawn, all_numbers, count_of, one_within, spent}, declared.TheConstants.TICKET_LIMIT}
+use Rattle.{c104_tickets.specs.declared.views.View.View, std.proofs.Common.{All, List, [], ap, arith, cond, get_or, length, refl, set}}
+use Rattle.std.proofs.{Common.{subst, suc, sym, zero, ℕ, ◌*◌, ◌++◌, ◌+◌, ◌<◌, ◌∙◌, ◌∷◌, ◌≡◌, ◌≤◌}, lemmas.Bool.Decides.nat_tests}
+use Rattle.std.proofs.lemmas.List.{Concat.{flat_map-append, length-flat_map}, Sums.{count_by-le-length, get_or-le-sum_by, sum_by-append}}
+use Rattle.std.{proofs.lemmas.List.{Sums.{sum_by-cons, sum_by-set}, length-append}, specs.{List.{flat_map, sum_by}, Prelude.◌==◌}}
 use lib.ListN.{get_elem?}
 use mathlib.Core.Option.{some, some-injective, some-ne-none}
 

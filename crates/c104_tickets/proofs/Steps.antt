@@ -1,15 +1,11 @@
 -- The rule of the word goes on through each kind of step, and what it tells of a pass.
-use Rattle.atomic_table.proofs.Lists.{at_set, at_snoc, set_else}
-use Rattle.c104_tickets.proofs.Counts.{AreSame, HasMore, below, bounded, count_all, count_le_length, from_more, from_same, more_push, more_set, part_le, replaced, same_join, same_push, same_set, sum_set}
-use Rattle.c104_tickets.specs.Tickets.{AreNoneTwice, AreOnce, HasSeat, IsViewOf, IsWordOf, after_draw, after_join, after_split, all_drawn, all_numbers, count_of, new_seat, one_within, spent}
-use Rattle.c104_tickets.specs.declared.TheConstants.{TICKET_LIMIT}
-use Rattle.c104_tickets.specs.declared.views.Terms.{Terms}
-use Rattle.c104_tickets.specs.declared.views.View.{View}
-use Rattle.std.proofs.Common.{All, List, [], ap, arith, length, refl, set, subst, sym, ℕ, ◌++◌, ◌+◌, ◌*◌, ◌<◌, ◌%◌, ◌^◌, ◌∙◌, ◌∷◌, ◌≡◌, ◌≢◌, ◌≤◌, ⊎_elim}
-use Rattle.std.proofs.Math.Nat.{mod-eq_of_lt}
-use Rattle.std.proofs.lemmas.List.{length-append}
-use Rattle.std.proofs.lemmas.List.Sums.{sum_by_push}
-use Rattle.std.specs.Prelude.{slice_index}
+use Rattle.{atomic_table.proofs.Lists.{at_set, at_snoc, set_else}, c104_tickets.proofs.Counts.{AreSame, HasMore, below, bounded, count_all}}
+use Rattle.c104_tickets.proofs.Counts.{count_le_length, from_more, from_same, more_push, more_set, part_le, replaced, same_join, same_push}
+use Rattle.c104_tickets.{proofs.Counts.{same_set, sum_set}, specs.Tickets.{AreNoneTwice, AreOnce, HasSeat, IsViewOf, IsWordOf, after_draw}}
+use Rattle.c104_tickets.specs.Tickets.{after_join, after_split, all_drawn, all_numbers, count_of, new_seat, one_within, spent}
+use Rattle.{c104_tickets.specs.declared.{TheConstants.TICKET_LIMIT, views.{Terms.Terms, View.View}}, std.proofs.Common.{All, List, [], ap}}
+use Rattle.std.proofs.Common.{arith, length, refl, set, subst, sym, ℕ, ⊎_elim, ◌%◌, ◌*◌, ◌++◌, ◌+◌, ◌<◌, ◌^◌, ◌∙◌, ◌∷◌, ◌≡◌, ◌≢◌, ◌≤◌}
+use Rattle.std.{proofs.{Math.Nat.mod-eq_of_lt, lemmas.List.{Sums.sum_by_push, length-append}}, specs.Prelude.slice_index}
 use lib.ListN.{get_elem?}
 use mathlib.Core.Option.{some, some-injective}
 

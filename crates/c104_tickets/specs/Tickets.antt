@@ -1,13 +1,11 @@
 -- A word from which tickets are drawn, as plain data: what a pass knows of it, its view, how each step changes views,
 -- and the rule, which holds between any two steps and says that each ticket was drawn once.
-use Rattle.std.specs.Prelude.{ℕ, ◌≡◌, ◌<◌, ◌≤◌, ◌+◌, ◌*◌, ◌==◌, ◌++◌, ◌&&◌, List, [], ◌∷◌, if◌then◌else◌, length, nat_le, nat_lt}
-use Rattle.std.specs.List.{count_by, flat_map, sum_by}
-use mathlib.Core.Option.{some}
-use lib.ListN.{get_elem?}
 pub use Rattle.atomic_table.specs.Seated.{TableId}
-use Rattle.c104_tickets.specs.declared.TheConstants.{FIRST_LIMIT, SEAT_LIMIT, TICKET_LIMIT}
-use Rattle.c104_tickets.specs.declared.views.Terms.{Terms}
-use Rattle.c104_tickets.specs.declared.views.View.{View}
+use Rattle.c104_tickets.specs.declared.{TheConstants.{FIRST_LIMIT, SEAT_LIMIT, TICKET_LIMIT}, views.{Terms.Terms, View.View}}
+use Rattle.std.specs.{List.{count_by, flat_map, sum_by}, Prelude.{List, [], if◌then◌else◌, length, nat_le, nat_lt, ℕ, ◌&&◌, ◌*◌, ◌++◌, ◌+◌}}
+use Rattle.std.specs.Prelude.{◌<◌, ◌==◌, ◌∷◌, ◌≡◌, ◌≤◌}
+use lib.ListN.{get_elem?}
+use mathlib.Core.Option.{some}
 
 -- how often a number stands in a list
 abbrev pub count_of : ℕ → List ℕ → ℕ

@@ -1,11 +1,7 @@
 -- A text that stands among others makes these as long at least.
-use Rattle.std.proofs.Common.{◌≡◌, ◌<◌, ◌+◌, ◌∙◌, ℕ, List, ◌++◌, Option, ap, arith, length}
-use Rattle.std.proofs.lemmas.List.{length-append}
-use Rattle.c104_node.specs.declared.origins.Origin.{Origin}
-use Rattle.c104_plan.specs.Plans.{Plan}
-use Rattle.c104_timeline.specs.Frames.{Frame}
-use Rattle.c104_timeline.specs.FrameTexts.{head_text, tail_text}
-use Rattle.c104_timeline.specs.TimePictures.{around}
+use Rattle.{c104_node.specs.declared.origins.Origin.Origin, c104_plan.specs.Plans.Plan, c104_timeline.specs.FrameTexts.head_text}
+use Rattle.{c104_timeline.specs.{FrameTexts.tail_text, Frames.Frame, TimePictures.around}, std.proofs.Common.{List, Option, ap, arith}}
+use Rattle.std.proofs.{Common.{length, ℕ, ◌++◌, ◌+◌, ◌<◌, ◌∙◌, ◌≡◌}, lemmas.List.length-append}
 
 among : (n : ℕ) (before text behind : List ℕ) → n < length text → n < length (before ++ (text ++ behind))
 among n before text behind long =

@@ -1,25 +1,12 @@
 -- What a picture shows, as a table: a row for each rectangle in the rows of its wires, in the order of the picture.
 --     bars_of plan t p      the rectangles
 --     bars_text format plan t p      the table
-use Rattle.std.specs.Prelude.{ℕ, Bool, true, false, List, [], ◌∷◌, ◌++◌, codes, Option, Some, None, if◌then◌else◌}
-use Rattle.std.specs.List.{flat_map}
-use Rattle.c104_node.specs.declared.origins.Origin.{Origin}
-use Rattle.c104_plan.specs.Plans.{Plan}
-use Rattle.c104_plan.specs.PortTexts.{port_text, terminal_name}
-use Rattle.c104_plan.specs.Wiring.{peer}
-use Rattle.c104_plan.specs.declared.ports.Port.{Port}
-use Rattle.c104_stats.specs.Cells.{close_text, names_row, open_text, row_text, Shown}
-use Rattle.c104_stats.specs.declared.formats.Format.{Format}
-use Rattle.c104_stats.specs.declared.columns.Column.{Column}
-use Rattle.c104_stats.specs.declared.columns.Column.TheVariants as column
-use Rattle.c104_timeline.specs.Lanes.{packet_of, Lane, Stretch}
-use Rattle.c104_timeline.specs.Timelines.{Timeline}
-use Rattle.c104_timeline.specs.Periods.{idle_in, is_in, moved_in, Period}
-use Rattle.c104_timeline.specs.Rows.{lane_at, rows_of, Row}
-use Rattle.c104_timeline.specs.Shapes.{Fill}
 pub use Rattle.c104_timeline.specs.declared.bars.Bar.{Bar}
-use Rattle.c104_timeline.specs.declared.rows.Row.TheVariants as row
-use Rattle.c104_timeline.specs.declared.shapes.Fill.TheVariants as fill
+use Rattle.{c104_node.specs.declared.origins.Origin.Origin, c104_plan.specs.{Plans.Plan, PortTexts.{port_text, terminal_name}, Wiring.peer}}
+use Rattle.{c104_plan.specs.declared.ports.Port.Port, c104_stats.specs.Cells.{Shown, close_text, names_row, open_text, row_text}}
+use Rattle.{c104_stats.specs.declared.{columns.Column.Column, formats.Format.Format}, c104_timeline.specs.Lanes.{Lane, Stretch, packet_of}}
+use Rattle.c104_timeline.specs.{Periods.{Period, idle_in, is_in, moved_in}, Rows.{Row, lane_at, rows_of}, Shapes.Fill, Timelines.Timeline}
+use Rattle.std.specs.{List.flat_map, Prelude.{Bool, List, None, Option, Some, [], codes, false, if◌then◌else◌, true, ℕ, ◌++◌, ◌∷◌}}
 
 -- rounds of a packet on the wire at a port, from there, if there are some
 abbrev pub bar_of : Port → Option Origin → Fill → Option Period → List Bar
@@ -28,7 +15,7 @@ bar_of q packet f (Some rounds) = record { port = q; packet = packet; fill = f; 
 
 -- the rectangles of a stretch, as `packet_bars` draws them
 abbrev pub both_bars : Period → Port → Option Origin → Stretch → List Bar
-both_bars p q packet s = bar_of q packet fill.Idle (idle_in p s) ++ bar_of q packet fill.Moved (moved_in p s)
+both_bars p q packet s = bar_of q packet Fill.Idle (idle_in p s) ++ bar_of q packet Fill.Moved (moved_in p s)
 
 abbrev pub stretch_bars : Period → Port → Lane → Stretch → List Bar
 stretch_bars p q lane s = if is_in p s then both_bars p q (packet_of lane s) s else []
@@ -39,8 +26,8 @@ lane_bars p q None = []
 lane_bars p q (Some lane) = flat_map (stretch_bars p q lane) lane.stretches
 
 abbrev pub row_bars : Timeline → Period → Row → List Bar
-row_bars t p (row.Switch s) = []
-row_bars t p (row.Wire q) = lane_bars p q (lane_at t q)
+row_bars t p (Row.Switch s) = []
+row_bars t p (Row.Wire q) = lane_bars p q (lane_at t q)
 
 abbrev pub bars_of : Plan → Timeline → Period → List Bar
 bars_of plan t p = flat_map (row_bars t p) (rows_of plan t p)
@@ -52,29 +39,29 @@ far_text plan None = []
 far_text plan (Some q) = port_text plan q
 
 abbrev pub sender_cell : Plan → Option Origin → Shown
-sender_cell plan None = Shown.Nothing column.Sender
-sender_cell plan (Some packet) = Shown.Word column.Sender (terminal_name plan packet.terminal)
+sender_cell plan None = Shown.Nothing Column.Sender
+sender_cell plan (Some packet) = Shown.Word Column.Sender (terminal_name plan packet.terminal)
 
 abbrev pub number_cell : Option Origin → Shown
-number_cell None = Shown.Nothing column.Number
-number_cell (Some packet) = Shown.Count column.Number packet.number
+number_cell None = Shown.Nothing Column.Number
+number_cell (Some packet) = Shown.Count Column.Number packet.number
 
 abbrev pub fill_word : Fill → List ℕ
-fill_word fill.Moved = codes "moves"
-fill_word fill.Idle = codes "holds"
+fill_word Fill.Moved = codes "moves"
+fill_word Fill.Idle = codes "holds"
 
 abbrev pub end_cells : Plan → List ℕ → List ℕ → Bar → List Shown
 end_cells plan here there b =
-    Shown.Word column.Port here ∷ Shown.Word column.To there ∷ sender_cell plan b.packet ∷ number_cell b.packet
-    ∷ Shown.Count column.First b.rounds.from ∷ Shown.Count column.Last b.rounds.to
-    ∷ Shown.Word column.State (fill_word b.fill) ∷ []
+    Shown.Word Column.Port here ∷ Shown.Word Column.To there ∷ sender_cell plan b.packet ∷ number_cell b.packet
+    ∷ Shown.Count Column.First b.rounds.from ∷ Shown.Count Column.Last b.rounds.to
+    ∷ Shown.Word Column.State (fill_word b.fill) ∷ []
 
 abbrev pub bar_cells : Plan → Bar → List Shown
 bar_cells plan b = end_cells plan (port_text plan b.port) (far_text plan (peer plan b.port)) b
 
 abbrev pub bar_columns : List Column
 bar_columns =
-    column.Port ∷ column.To ∷ column.Sender ∷ column.Number ∷ column.First ∷ column.Last ∷ column.State ∷ []
+    Column.Port ∷ Column.To ∷ Column.Sender ∷ Column.Number ∷ Column.First ∷ Column.Last ∷ Column.State ∷ []
 
 -- rows of rectangles, of which the first is the first of all or not
 abbrev pub bar_rows : Format → Plan → Bool → List Bar → List ℕ

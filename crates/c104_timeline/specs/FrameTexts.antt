@@ -1,19 +1,11 @@
 -- What stands around the rows of a picture, in SVG: before them the patterns, a line of what the picture shows, and the
 -- numbers of rounds; behind them the list of packets.
-use Rattle.std.specs.Prelude.{ℕ, ◌+◌, ◌*◌, List, ◌++◌, codes, Option, None}
-use Rattle.std.specs.Fmt.{decimal}
-use Rattle.std.specs.List.{flat_map, range_with_len}
-use Rattle.c104_node.specs.declared.origins.Origin.{Origin}
-use Rattle.c104_picture.specs.PacketTexts.{color_by, packet_color}
-use Rattle.c104_plan.specs.Plans.{Plan}
-use Rattle.c104_stats.specs.Numbers.{told}
-use Rattle.c104_timeline.specs.Frames.{bottom_line, height, last_line, left, tick_count, tick_step, total_width, Frame}
-use Rattle.c104_timeline.specs.Legends.{entry_lines}
-use Rattle.c104_timeline.specs.Shapes.{line_top}
-use Rattle.c104_timeline.specs.declared.shapes.TheConstants.{CELL}
-use Rattle.c104_timeline.specs.declared.frame_texts.TheConstants.{COLORS}
 pub use Rattle.c104_timeline.specs.declared.frame_texts.Pattern.{Pattern}
-use Rattle.c104_timeline.specs.declared.frame_texts.Pattern.TheVariants as pattern
+use Rattle.{c104_node.specs.declared.origins.Origin.Origin, c104_picture.specs.PacketTexts.{color_by, packet_color}}
+use Rattle.{c104_plan.specs.Plans.Plan, c104_stats.specs.Numbers.told, c104_timeline.specs.Frames.{Frame, bottom_line, height, last_line}}
+use Rattle.c104_timeline.specs.{Frames.{left, tick_count, tick_step, total_width}, Legends.entry_lines, Shapes.line_top}
+use Rattle.c104_timeline.specs.declared.{frame_texts.TheConstants.COLORS, shapes.TheConstants.CELL}
+use Rattle.std.specs.{Fmt.decimal, List.{flat_map, range_with_len}, Prelude.{List, None, Option, codes, ℕ, ◌*◌, ◌++◌, ◌+◌}}
 
 -- what a picture begins with, and its ground
 unfoldable pub ground_text : ℕ → ℕ → ℕ → List ℕ
@@ -37,22 +29,22 @@ opening_text f high =
 
 -- a pattern of a colour: its name behind the colour's, its path, and what of that has the colour
 unfoldable pub pattern_name : Pattern → List ℕ
-pattern_name pattern.Dashed = codes "1"
-pattern_name pattern.Double = codes "2"
-pattern_name pattern.DoubleDashed = codes "3"
-pattern_name pattern.Hatched = codes "idle"
+pattern_name Pattern.Dashed = codes "1"
+pattern_name Pattern.Double = codes "2"
+pattern_name Pattern.DoubleDashed = codes "3"
+pattern_name Pattern.Hatched = codes "idle"
 
 unfoldable pub pattern_path : Pattern → List ℕ
-pattern_path pattern.Dashed = codes "M0 0h6v14H0z"
-pattern_path pattern.Double = codes "M0 0h8v6H0zM0 8h8v6H0z"
-pattern_path pattern.DoubleDashed = codes "M0 0h6v6H0zM0 8h6v6H0z"
-pattern_path pattern.Hatched = codes "M0 14L8 0M0 2.5H8M0 11.5H8"
+pattern_path Pattern.Dashed = codes "M0 0h6v14H0z"
+pattern_path Pattern.Double = codes "M0 0h8v6H0zM0 8h8v6H0z"
+pattern_path Pattern.DoubleDashed = codes "M0 0h6v6H0zM0 8h6v6H0z"
+pattern_path Pattern.Hatched = codes "M0 14L8 0M0 2.5H8M0 11.5H8"
 
 unfoldable pub pattern_part : Pattern → List ℕ
-pattern_part pattern.Dashed = codes "fill"
-pattern_part pattern.Double = codes "fill"
-pattern_part pattern.DoubleDashed = codes "fill"
-pattern_part pattern.Hatched = codes "stroke"
+pattern_part Pattern.Dashed = codes "fill"
+pattern_part Pattern.Double = codes "fill"
+pattern_part Pattern.DoubleDashed = codes "fill"
+pattern_part Pattern.Hatched = codes "stroke"
 
 unfoldable pub pattern_text : List ℕ → List ℕ → List ℕ → List ℕ → List ℕ
 pattern_text color name path part =
@@ -66,8 +58,8 @@ fill_by color p = pattern_text color (pattern_name p) (pattern_path p) (pattern_
 -- the patterns of a colour
 unfoldable pub color_fills : List ℕ → List ℕ
 color_fills color =
-    fill_by color pattern.Dashed ++ (fill_by color pattern.Double
-    ++ (fill_by color pattern.DoubleDashed ++ fill_by color pattern.Hatched))
+    fill_by color Pattern.Dashed ++ (fill_by color Pattern.Double
+    ++ (fill_by color Pattern.DoubleDashed ++ fill_by color Pattern.Hatched))
 
 -- of the colours of packets, and of all
 unfoldable pub fills_of : ℕ → List ℕ

@@ -1,14 +1,10 @@
 -- How large a picture is, and where its parts stand: a line for what it is and one for the numbers of rounds, the rows, and
 -- the list of packets.
-use Rattle.std.specs.Prelude.{ℕ, ◌+◌, ◌-◌, ◌*◌, ◌/◌, List, [], ◌∷◌, length, max, min}
-use Rattle.c104_plan.specs.Plans.{Plan}
-use Rattle.c104_plan.specs.declared.plans.Terminal.{Terminal}
-use Rattle.c104_stats.specs.Numbers.{told}
-use Rattle.c104_timeline.specs.Periods.{Period}
-use Rattle.c104_timeline.specs.Shapes.{line_top}
-use Rattle.c104_timeline.specs.declared.shapes.TheConstants.{CELL}
-use Rattle.c104_timeline.specs.declared.frames.TheConstants.{LEAST_WIDTH, LETTER, MOST_LETTERS}
 pub use Rattle.c104_timeline.specs.declared.frames.Frame.{Frame}
+use Rattle.{c104_plan.specs.{Plans.Plan, declared.plans.Terminal.Terminal}, c104_stats.specs.Numbers.told}
+use Rattle.c104_timeline.specs.{Periods.Period, Shapes.line_top, declared.frames.TheConstants.{LEAST_WIDTH, LETTER, MOST_LETTERS}}
+use Rattle.c104_timeline.specs.declared.shapes.TheConstants.{CELL}
+use Rattle.std.specs.Prelude.{List, [], length, max, min, ℕ, ◌*◌, ◌+◌, ◌-◌, ◌/◌, ◌∷◌}
 
 -- how many letters the longest name of a plan has
 abbrev pub longest_switch : ℕ → List (List ℕ) → ℕ

@@ -3,13 +3,10 @@
 --     lane_settled l      the token that crossed last has become part of a stretch
 --     lane_cut round l      the tokens behind it are thrown away
 --     lane_closed end packet l      the run is at its end
-use Rattle.std.specs.Prelude.{ℕ, ◌+◌, ◌==◌, ◌&&◌, Bool, true, false, List, [], ◌∷◌, ◌++◌, Option, Some, None, if◌then◌else◌, length, nat_le, nat_lt, slice_get}
-use Rattle.std.specs.Option.{option_to_list, unwrap_or}
-use Rattle.c104_node.specs.declared.origins.Origin.{Origin}
-use Rattle.c104_stats.specs.Numbers.{few}
-pub use Rattle.c104_timeline.specs.declared.lanes.Crossing.{Crossing}
-pub use Rattle.c104_timeline.specs.declared.lanes.Step.{Step}
-pub use Rattle.c104_timeline.specs.declared.lanes.Stretch.{Stretch}
+pub use Rattle.c104_timeline.specs.declared.lanes.{Crossing.Crossing, Step.Step, Stretch.Stretch}
+use Rattle.{c104_node.specs.declared.origins.Origin.Origin, c104_stats.specs.Numbers.few}
+use Rattle.std.specs.{Option.{option_to_list, unwrap_or}, Prelude.{Bool, List, None, Option, Some, [], false, if◌then◌else◌, length}}
+use Rattle.std.specs.Prelude.{nat_le, nat_lt, slice_get, true, ℕ, ◌&&◌, ◌++◌, ◌+◌, ◌==◌, ◌∷◌}
 
 pub record Lane : Type 0 where
   -- the stretches that are past

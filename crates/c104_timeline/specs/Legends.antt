@@ -1,19 +1,11 @@
 -- The packets that a picture shows, and the list of them in SVG.
 --     packets_of t p      the packets, in the order in which the lanes have them
 --     entry_lines plan f line number packets      the list
-use Rattle.std.specs.Prelude.{ℕ, ◌+◌, ◌*◌, ◌/◌, ◌%◌, ◌==◌, ◌&&◌, Bool, true, false, List, [], ◌∷◌, ◌++◌, codes, Option, Some, None, if◌then◌else◌}
-use Rattle.std.specs.Fmt.{decimal}
-use Rattle.std.specs.List.{list_any}
-use Rattle.c104_node.specs.declared.origins.Origin.{Origin}
-use Rattle.c104_picture.specs.PacketTexts.{packet_text}
-use Rattle.c104_plan.specs.Plans.{Plan}
-use Rattle.c104_stats.specs.Numbers.{told}
-use Rattle.c104_timeline.specs.Lanes.{packet_of, Lane, Stretch}
-use Rattle.c104_timeline.specs.Timelines.{Timeline}
-use Rattle.c104_timeline.specs.Periods.{is_in, Period}
-use Rattle.c104_timeline.specs.Frames.{columns, entry_width, Frame}
-use Rattle.c104_timeline.specs.Shapes.{fill_text, line_top}
-use Rattle.c104_timeline.specs.declared.shapes.Fill.TheVariants as fill
+use Rattle.{c104_node.specs.declared.origins.Origin.Origin, c104_picture.specs.PacketTexts.packet_text, c104_plan.specs.Plans.Plan}
+use Rattle.{c104_stats.specs.Numbers.told, c104_timeline.specs.{Frames.{Frame, columns, entry_width}, Lanes.{Lane, Stretch, packet_of}}}
+use Rattle.c104_timeline.specs.{Periods.{Period, is_in}, Shapes.{fill_text, line_top}, Timelines.Timeline, declared.shapes.Fill.Fill}
+use Rattle.std.specs.{Fmt.decimal, List.list_any, Prelude.{Bool, List, None, Option, Some, [], codes, false, if◌then◌else◌, true, ℕ, ◌%◌}}
+use Rattle.std.specs.Prelude.{◌&&◌, ◌*◌, ◌++◌, ◌+◌, ◌/◌, ◌==◌, ◌∷◌}
 
 -- whether two packets are the same one
 abbrev pub is_same_packet : Option Origin → Option Origin → Bool
@@ -52,7 +44,7 @@ mark_text x y right base filled =
     ++ (codes "\" y=\"" ++ (decimal base ++ codes "\">")))))))))
 
 abbrev pub entry_mark : ℕ → ℕ → Option Origin → List ℕ
-entry_mark x top packet = mark_text x (told (top + 2)) (told (x + 30)) (told (top + 10)) (fill_text packet fill.Moved)
+entry_mark x top packet = mark_text x (told (top + 2)) (told (x + 30)) (told (top + 10)) (fill_text packet Fill.Moved)
 
 -- the packet of this number in a list that begins at a line: as many stand side by side as there is room for
 abbrev pub entry_text : Plan → Frame → ℕ → ℕ → Option Origin → List ℕ

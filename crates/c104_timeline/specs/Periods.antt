@@ -1,11 +1,9 @@
 -- The rounds that a picture shows.
 --     period_of t asked      those that are asked for, as far as they are drawn
-use Rattle.std.specs.Prelude.{ℕ, ◌-◌, ◌&&◌, Bool, List, [], ◌∷◌, Option, Some, None, if◌then◌else◌, max, min, nat_le, nat_lt, slice_get}
-use Rattle.std.specs.Option.{unwrap_or}
-use Rattle.c104_timeline.specs.Lanes.{Lane, Stretch}
-use Rattle.c104_timeline.specs.Timelines.{last_round, Timeline}
-pub use Rattle.c104_timeline.specs.declared.periods.Asked.{Asked}
-pub use Rattle.c104_timeline.specs.declared.periods.Period.{Period}
+pub use Rattle.c104_timeline.specs.declared.periods.{Asked.Asked, Period.Period}
+use Rattle.c104_timeline.specs.{Lanes.{Lane, Stretch}, Timelines.{Timeline, last_round}}
+use Rattle.std.specs.{Option.unwrap_or, Prelude.{Bool, List, None, Option, Some, [], if◌then◌else◌, max, min, nat_le, nat_lt, slice_get, ℕ}}
+use Rattle.std.specs.Prelude.{◌&&◌, ◌-◌, ◌∷◌}
 
 -- the earlier of a round and the first of a stretch, of which either may not be there
 abbrev pub earlier : Option ℕ → Option Stretch → Option ℕ

@@ -1,29 +1,18 @@
 -- The rows of a picture, in SVG: the name of a switch, or the two ends of a wire, and what crossed it.
-use Rattle.std.specs.Prelude.{ℕ, ◌+◌, List, [], ◌∷◌, ◌++◌, codes, Option, Some, None}
-use Rattle.std.specs.Fmt.{decimal}
-use Rattle.c104_plan.specs.Plans.{Plan}
-use Rattle.c104_plan.specs.PortTexts.{port_text, switch_name}
-use Rattle.c104_plan.specs.Wiring.{peer}
-use Rattle.c104_plan.specs.declared.ports.Port.{Port}
-use Rattle.c104_stats.specs.Numbers.{told}
-use Rattle.c104_timeline.specs.Lanes.{Lane}
-use Rattle.c104_timeline.specs.Timelines.{Timeline}
-use Rattle.c104_timeline.specs.Periods.{Period}
-use Rattle.c104_timeline.specs.Frames.{width, Frame}
-use Rattle.c104_timeline.specs.Rows.{lane_at, Row}
-use Rattle.c104_timeline.specs.Shapes.{line_top, stretches_text}
 pub use Rattle.c104_timeline.specs.declared.row_texts.Look.{Look}
-use Rattle.c104_timeline.specs.declared.row_texts.Look.TheVariants as look
-use Rattle.c104_timeline.specs.declared.rows.Row.TheVariants as row
+use Rattle.c104_plan.specs.{Plans.Plan, PortTexts.{port_text, switch_name}, Wiring.peer, declared.ports.Port.Port}
+use Rattle.{c104_stats.specs.Numbers.told, c104_timeline.specs.{Frames.{Frame, width}, Lanes.Lane, Periods.Period, Rows.{Row, lane_at}}}
+use Rattle.c104_timeline.specs.{Shapes.{line_top, stretches_text}, Timelines.Timeline}
+use Rattle.std.specs.{Fmt.decimal, Prelude.{List, None, Option, Some, [], codes, ℕ, ◌++◌, ◌+◌, ◌∷◌}}
 
 -- how the row of a switch looks, and that of a wire: the colour of its upper edge, and what makes its name bold
 abbrev pub line_color : Look → List ℕ
-line_color look.Switch = codes "gray"
-line_color look.Wire = codes "gainsboro"
+line_color Look.Switch = codes "gray"
+line_color Look.Wire = codes "gainsboro"
 
 abbrev pub name_weight : Look → List ℕ
-name_weight look.Switch = codes " font-weight=\"bold\""
-name_weight look.Wire = []
+name_weight Look.Switch = codes " font-weight=\"bold\""
+name_weight Look.Wire = []
 
 -- the upper edge of a row of this width, and what stands before its name, with the line on which that is written
 unfoldable pub line_text : ℕ → ℕ → ℕ → Look → List ℕ
@@ -35,7 +24,7 @@ line_text wide top base look =
 -- the row of a switch
 abbrev pub switch_line : Plan → Frame → ℕ → ℕ → List ℕ
 switch_line plan f top s =
-    line_text (width f) top (told (top + 10)) look.Switch ++ (switch_name plan s ++ codes "</text>\n")
+    line_text (width f) top (told (top + 10)) Look.Switch ++ (switch_name plan s ++ codes "</text>\n")
 
 -- the row of a wire: its two ends, and what crossed it
 abbrev pub far_text : Plan → Option Port → List ℕ
@@ -46,7 +35,7 @@ abbrev pub wire_label : Plan → Port → List ℕ
 wire_label plan p = port_text plan p ++ far_text plan (peer plan p)
 
 abbrev pub wire_line : Plan → Frame → ℕ → Port → List ℕ
-wire_line plan f top p = line_text (width f) top (told (top + 10)) look.Wire ++ (wire_label plan p ++ codes "</text>\n")
+wire_line plan f top p = line_text (width f) top (told (top + 10)) Look.Wire ++ (wire_label plan p ++ codes "</text>\n")
 
 abbrev pub lane_text : Plan → Period → ℕ → Option Lane → List ℕ
 lane_text plan p top None = []
@@ -57,8 +46,8 @@ abbrev pub row_top : ℕ → ℕ
 row_top number = line_top (told (number + 2))
 
 abbrev pub row_line : Plan → Timeline → Frame → ℕ → Row → List ℕ
-row_line plan t f number (row.Switch s) = switch_line plan f (row_top number) s
-row_line plan t f number (row.Wire p) =
+row_line plan t f number (Row.Switch s) = switch_line plan f (row_top number) s
+row_line plan t f number (Row.Wire p) =
     wire_line plan f (row_top number) p ++ lane_text plan f.period (row_top number) (lane_at t p)
 
 -- rows from this number on

@@ -1,18 +1,11 @@
 -- The rows of a picture: for each switch its name, and then the wires at it, by link: what a terminal there sends, and what
 -- goes out of the link. A wire over which nothing goes has no row, nor has a switch at which none does.
 --     rows_of plan t p      the rows
-use Rattle.std.specs.Prelude.{ℕ, Bool, false, List, [], ◌∷◌, ◌++◌, Option, Some, None, if◌then◌else◌, length, map, slice_get}
-use Rattle.std.specs.List.{flat_map, list_any, range_with_len}
-use Rattle.c104_plan.specs.Plans.{Plan}
-use Rattle.c104_plan.specs.Wiring.{peer}
-use Rattle.c104_plan.specs.declared.ports.Port.{Port}
-use Rattle.c104_plan.specs.declared.ports.Port.TheVariants as port
-use Rattle.c104_run.specs.Rounds.{link_numbers}
-use Rattle.c104_timeline.specs.Lanes.{Lane, Stretch}
-use Rattle.c104_timeline.specs.Timelines.{place_of, Timeline}
-use Rattle.c104_timeline.specs.Periods.{is_in, Period}
 pub use Rattle.c104_timeline.specs.declared.rows.Row.{Row}
-use Rattle.c104_timeline.specs.declared.rows.Row.TheVariants as row
+use Rattle.{c104_plan.specs.{Plans.Plan, Wiring.peer, declared.ports.Port.Port}, c104_run.specs.Rounds.link_numbers}
+use Rattle.c104_timeline.specs.{Lanes.{Lane, Stretch}, Periods.{Period, is_in}, Timelines.{Timeline, place_of}}
+use Rattle.std.specs.{List.{flat_map, list_any, range_with_len}, Prelude.{Bool, List, None, Option, Some, [], false, if◌then◌else◌, length}}
+use Rattle.std.specs.Prelude.{map, slice_get, ℕ, ◌++◌, ◌∷◌}
 
 -- what crossed at a port, if there is such a port
 abbrev pub lane_in : List Lane → Option ℕ → Option Lane
@@ -39,14 +32,14 @@ drawn_if t p q = if is_drawn t p q then q ∷ [] else []
 -- the ports at the wire of a link from which something is drawn
 abbrev pub drawn_in : Timeline → Period → Option Port → List Port
 drawn_in t p None = []
-drawn_in t p (Some (port.Terminal k)) = drawn_if t p (port.Terminal k)
-drawn_in t p (Some (port.Switch s l)) = []
+drawn_in t p (Some (Port.Terminal k)) = drawn_if t p (Port.Terminal k)
+drawn_in t p (Some (Port.Switch s l)) = []
 
 abbrev pub drawn_at : Plan → Timeline → Period → Port → List Port
 drawn_at plan t p q = drawn_in t p (peer plan q) ++ drawn_if t p q
 
 abbrev pub link_ports : Plan → Timeline → Period → ℕ → ℕ → List Port
-link_ports plan t p s l = drawn_at plan t p (port.Switch s l)
+link_ports plan t p s l = drawn_at plan t p (Port.Switch s l)
 
 abbrev pub drawn_ports : Plan → Timeline → Period → ℕ → List Port
 drawn_ports plan t p s = flat_map (link_ports plan t p s) link_numbers
@@ -54,7 +47,7 @@ drawn_ports plan t p s = flat_map (link_ports plan t p s) link_numbers
 -- the rows of a switch
 abbrev pub group_rows : ℕ → List Port → List Row
 group_rows s [] = []
-group_rows s (q ∷ ports) = row.Switch s ∷ map row.Wire (q ∷ ports)
+group_rows s (q ∷ ports) = Row.Switch s ∷ map Row.Wire (q ∷ ports)
 
 abbrev pub switch_rows : Plan → Timeline → Period → ℕ → List Row
 switch_rows plan t p s = group_rows s (drawn_ports plan t p s)

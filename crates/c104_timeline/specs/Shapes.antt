@@ -1,17 +1,11 @@
 -- What is drawn of stretches, in SVG: a rectangle in the packet's colour and pattern over rounds in which its tokens crossed,
 -- and a hatched one over rounds in which it held the wire and nothing crossed.
-use Rattle.std.specs.Prelude.{ℕ, ◌+◌, ◌-◌, ◌*◌, ◌==◌, List, [], ◌++◌, codes, Option, Some, None, if◌then◌else◌}
-use Rattle.std.specs.Fmt.{decimal}
-use Rattle.std.specs.List.{flat_map}
-use Rattle.c104_node.specs.declared.origins.Origin.{Origin}
-use Rattle.c104_picture.specs.PacketTexts.{packet_color, packet_text, pattern}
-use Rattle.c104_plan.specs.Plans.{Plan}
-use Rattle.c104_stats.specs.Numbers.{told}
-use Rattle.c104_timeline.specs.Lanes.{packet_of, Lane, Stretch}
-use Rattle.c104_timeline.specs.Periods.{idle_in, is_in, moved_in, Period}
-use Rattle.c104_timeline.specs.declared.shapes.TheConstants.{CELL, ROW}
 pub use Rattle.c104_timeline.specs.declared.shapes.Fill.{Fill}
-use Rattle.c104_timeline.specs.declared.shapes.Fill.TheVariants as fill
+use Rattle.{c104_node.specs.declared.origins.Origin.Origin, c104_picture.specs.PacketTexts.{packet_color, packet_text, pattern}}
+use Rattle.{c104_plan.specs.Plans.Plan, c104_stats.specs.Numbers.told, c104_timeline.specs.Lanes.{Lane, Stretch, packet_of}}
+use Rattle.c104_timeline.specs.{Periods.{Period, idle_in, is_in, moved_in}, declared.shapes.TheConstants.{CELL, ROW}}
+use Rattle.std.specs.{Fmt.decimal, List.flat_map, Prelude.{List, None, Option, Some, [], codes, if◌then◌else◌, ℕ, ◌*◌, ◌++◌, ◌+◌, ◌-◌}}
+use Rattle.std.specs.Prelude.{◌==◌}
 
 -- the upper edge of a line
 abbrev pub line_top : ℕ → ℕ
@@ -22,8 +16,8 @@ abbrev pub moved_fill : List ℕ → ℕ → List ℕ
 moved_fill color k = if k == 0 then color else codes "url(#" ++ (color ++ (codes "-" ++ (decimal k ++ codes ")")))
 
 abbrev pub fill_text : Option Origin → Fill → List ℕ
-fill_text packet fill.Moved = moved_fill (packet_color packet) (pattern packet)
-fill_text packet fill.Idle = codes "url(#" ++ (packet_color packet ++ codes "-idle)")
+fill_text packet Fill.Moved = moved_fill (packet_color packet) (pattern packet)
+fill_text packet Fill.Idle = codes "url(#" ++ (packet_color packet ++ codes "-idle)")
 
 -- a rectangle at a place, of this width
 unfoldable pub rect_by : ℕ → ℕ → ℕ → List ℕ → List ℕ
@@ -42,7 +36,7 @@ bar_text from top packet f (Some rounds) = rect_text from top (fill_text packet 
 
 abbrev pub packet_bars : Period → ℕ → Option Origin → Stretch → List ℕ
 packet_bars p top packet s =
-    bar_text p.from top packet fill.Idle (idle_in p s) ++ bar_text p.from top packet fill.Moved (moved_in p s)
+    bar_text p.from top packet Fill.Idle (idle_in p s) ++ bar_text p.from top packet Fill.Moved (moved_in p s)
 
 -- what is drawn of a stretch: the packet's name is shown where a reader points at it
 abbrev pub named_bars : Plan → Period → ℕ → Option Origin → Stretch → List ℕ

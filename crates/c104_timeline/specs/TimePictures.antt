@@ -1,17 +1,10 @@
 -- The text of a picture of a run over its rounds.
 --     picture_text plan t p      the text, of these rounds
 --     IsTooLarge plan t p fits      it is too long, and these rounds fit, but not one more
-use Rattle.std.specs.Prelude.{ℕ, ◌≡◌, ◌+◌, ◌<◌, ◌≤◌, List, ◌++◌, Option, Some, None, length}
-use Rattle.c104_node.specs.declared.origins.Origin.{Origin}
-use Rattle.c104_plan.specs.Plans.{Plan}
-use Rattle.c104_timeline.specs.Timelines.{Timeline}
-use Rattle.c104_timeline.specs.Periods.{Period}
-use Rattle.c104_timeline.specs.Frames.{frame_of, Frame}
-use Rattle.c104_timeline.specs.FrameTexts.{head_text, tail_text}
-use Rattle.c104_timeline.specs.Legends.{packets_of}
-use Rattle.c104_timeline.specs.Rows.{rows_of, Row}
-use Rattle.c104_timeline.specs.RowTexts.{row_lines}
-use Rattle.c104_timeline.specs.declared.time_pictures.TheConstants.{TIME_TEXT_LIMIT}
+use Rattle.{c104_node.specs.declared.origins.Origin.Origin, c104_plan.specs.Plans.Plan, c104_timeline.specs.FrameTexts.head_text}
+use Rattle.c104_timeline.specs.{FrameTexts.tail_text, Frames.{Frame, frame_of}, Legends.packets_of, Periods.Period, RowTexts.row_lines}
+use Rattle.c104_timeline.specs.{Rows.{Row, rows_of}, Timelines.Timeline, declared.time_pictures.TheConstants.TIME_TEXT_LIMIT}
+use Rattle.std.specs.Prelude.{List, None, Option, Some, length, ℕ, ◌++◌, ◌+◌, ◌<◌, ◌≡◌, ◌≤◌}
 
 -- a picture's rows, with what stands around them
 abbrev pub around : Plan → Frame → ℕ → List (Option Origin) → List ℕ → List ℕ

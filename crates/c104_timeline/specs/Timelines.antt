@@ -1,14 +1,10 @@
 -- What crossed the wires of a network, round by round: a step for each thing that is told, in the order in which it happened.
-use Rattle.std.specs.Prelude.{ℕ, ◌+◌, ◌-◌, ◌*◌, ◌/◌, ◌%◌, ◌&&◌, Bool, List, Option, Some, None, if◌then◌else◌, length, map, min, nat_lt, replicate}
-use Rattle.c104_regs.specs.declared.registers.TheConstants.{LINKS}
-use Rattle.c104_plan.specs.Plans.{Plan}
-use Rattle.c104_plan.specs.declared.ports.Port.{Port}
-use Rattle.c104_plan.specs.declared.ports.Port.TheVariants as port
-use Rattle.c104_node.specs.declared.origins.Origin.{Origin}
-use Rattle.c104_stats.specs.Numbers.{each_number, few}
-use Rattle.c104_stats.specs.Packets.{change_at}
-use Rattle.c104_timeline.specs.Lanes.{lane_closed, lane_crossed, lane_cut, lane_settled, new_lane, next_round, Lane}
+use Rattle.{c104_node.specs.declared.origins.Origin.Origin, c104_plan.specs.{Plans.Plan, declared.ports.Port.Port}}
+use Rattle.{c104_regs.specs.declared.registers.TheConstants.LINKS, c104_stats.specs.{Numbers.{each_number, few}, Packets.change_at}}
+use Rattle.c104_timeline.specs.Lanes.{Lane, lane_closed, lane_crossed, lane_cut, lane_settled, new_lane, next_round}
 use Rattle.c104_timeline.specs.declared.timelines.TheConstants.{BEYOND}
+use Rattle.std.specs.Prelude.{Bool, List, None, Option, Some, if◌then◌else◌, length, map, min, nat_lt, replicate, ℕ, ◌%◌, ◌&&◌, ◌*◌, ◌+◌}
+use Rattle.std.specs.Prelude.{◌-◌, ◌/◌}
 
 pub record Timeline : Type 0 where
   -- how many terminals there are
@@ -37,13 +33,13 @@ abbrev pub has_link : Timeline → ℕ → ℕ → Bool
 has_link t s l = nat_lt l LINKS && nat_lt s ((length t.lanes - t.terminals) / LINKS)
 
 abbrev pub place_of : Timeline → Port → Option ℕ
-place_of t (port.Switch s l) = if has_link t s l then Some (t.terminals + (s * LINKS + l)) else None
-place_of t (port.Terminal k) = if nat_lt k t.terminals then Some k else None
+place_of t (Port.Switch s l) = if has_link t s l then Some (t.terminals + (s * LINKS + l)) else None
+place_of t (Port.Terminal k) = if nat_lt k t.terminals then Some k else None
 
 abbrev pub port_at : Timeline → ℕ → Port
 port_at t place =
-    if nat_lt place t.terminals then port.Terminal place
-    else port.Switch ((place - t.terminals) / LINKS) ((place - t.terminals) % LINKS)
+    if nat_lt place t.terminals then Port.Terminal place
+    else Port.Switch ((place - t.terminals) / LINKS) ((place - t.terminals) % LINKS)
 
 -- a change of what crossed at a place, if there is one
 abbrev pub changed : Timeline → Option ℕ → (Lane → Lane) → Timeline
@@ -61,7 +57,7 @@ timeline_settled t p = changed t (place_of t p) lane_settled
 
 -- the tokens in a switch are thrown away: a packet that holds the wire at this link of it is cut, and so is one at any link
 abbrev pub link_cut : ℕ → ℕ → Timeline → Timeline
-link_cut s l t = changed t (place_of t (port.Switch s l)) (lane_cut t.round)
+link_cut s l t = changed t (place_of t (Port.Switch s l)) (lane_cut t.round)
 
 abbrev pub timeline_cut : Timeline → ℕ → Timeline
 timeline_cut t s = each_number (link_cut s) LINKS t

@@ -1,11 +1,8 @@
 -- The cut of a list loses nothing.
-use Rattle.std.proofs.Common.{◌≡◌, ℕ, ◌-◌, true, false, List, [], ◌∷◌, ◌++◌, length, drop, flat_map, map, if◌then◌else◌, sym, ◌∙◌, ap, subst, refl, Bool, All, arith, append_assoc, append-nil, length-append}
-use Rattle.std.proofs.lemmas.List.{drop_at}
-use Rattle.std.proofs.lemmas.List.Elements.{All-nil, All-push}
-use Rattle.std.proofs.lemmas.List.Folds.{flat_map-map}
-use Rattle.c104_token.specs.Tokens.{Token, is_end}
-use Rattle.c104_token.specs.Packets.{Packet, packet_tokens}
-use Rattle.c104_token.specs.Cut.{whole_pieces, unfinished_piece}
+use Rattle.c104_token.specs.{Cut.{unfinished_piece, whole_pieces}, Packets.{Packet, packet_tokens}, Tokens.{Token, is_end}}
+use Rattle.std.proofs.Common.{All, Bool, List, [], ap, append-nil, append_assoc, arith, drop, false, flat_map, if◌then◌else◌, length}
+use Rattle.std.proofs.{Common.{length-append, map, refl, subst, sym, true, ℕ, ◌++◌, ◌-◌, ◌∙◌, ◌∷◌, ◌≡◌}, lemmas.List.Elements.All-nil}
+use Rattle.std.proofs.lemmas.List.{Elements.All-push, Folds.flat_map-map, drop_at}
 
 -- the pieces, and then what is unfinished, are what was read of the first and the list
 pieces_joined : {A : Type 0} (plain : A → Token) (front xs : List A) → flat_map (λ p. p) (whole_pieces plain front xs) ++ unfinished_piece plain front xs ≡ front ++ xs

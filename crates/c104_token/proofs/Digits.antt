@@ -1,7 +1,6 @@
 -- What a digit and a word say, both ways.
-use Rattle.std.proofs.Common.{◌≡◌, ◌<◌, ℕ, ◌==◌, false, Some, arith}
+use Rattle.{c104_token.specs.Text.{IsHexDigit, hex_digit, hex_value}, std.proofs.Common.{Some, arith, false, ℕ, ◌<◌, ◌==◌, ◌≡◌}}
 use Rattle.std.proofs.lemmas.Bool.Decides.{nat_tests}
-use Rattle.c104_token.specs.Text.{hex_value, hex_digit, IsHexDigit}
 
 -- the value that is read is that of the digit
 pub digit_read : (c v : ℕ) → hex_value c ≡ Some v → IsHexDigit c v

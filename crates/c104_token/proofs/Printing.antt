@@ -1,11 +1,8 @@
 -- What is printed spells the packet.
-use Rattle.std.proofs.Common.{◌≡◌, ◌<◌, ◌≤◌, ℕ, ◌/◌, ◌%◌, ◌==◌, false, List, [], ◌∷◌, ◌++◌, length, map, flat_map, All, Ok, ◌∙◌, ap, arith, refl, suc}
-use Rattle.c104_token.specs.Packets.{Packet}
-use Rattle.c104_token.specs.Tokens.{Mark}
-use Rattle.c104_token.specs.Text.{packet_words, hex_digit, packet_text, parse_packet, SpellsByte, SpellBytes, mark_word}
-use Rattle.c104_token.specs.declared.tokens.Mark.TheVariants as mark
-use Rattle.c104_token.proofs.Digits.{digit_written, digit_no_space}
-use Rattle.c104_token.proofs.Spelling.{text_complete}
+use Rattle.c104_token.{proofs.{Digits.{digit_no_space, digit_written}, Spelling.text_complete}, specs.{Packets.Packet, Text.SpellBytes}}
+use Rattle.c104_token.specs.{Text.{SpellsByte, hex_digit, mark_word, packet_text, packet_words, parse_packet}, Tokens.Mark}
+use Rattle.std.proofs.Common.{All, List, Ok, [], ap, arith, false, flat_map, length, map, refl, suc, ℕ, ◌%◌, ◌++◌, ◌/◌, ◌<◌, ◌==◌, ◌∙◌, ◌∷◌}
+use Rattle.std.proofs.Common.{◌≡◌, ◌≤◌}
 
 -- the two digits of a byte
 abbrev pub digits : ℕ → List ℕ
@@ -15,8 +12,8 @@ abbrev spaced : ℕ → List ℕ
 spaced b = hex_digit (b / 16) ∷ hex_digit (b % 16) ∷ 32 ∷ []
 
 mark_cut : (m : Mark) → packet_words (mark_word m) ≡ mark_word m ∷ []
-mark_cut mark.Eop = refl
-mark_cut mark.Eom = refl
+mark_cut Mark.Eop = refl
+mark_cut Mark.Eom = refl
 
 -- one byte and a space are one word
 byte_cut : (b : ℕ) (rest : List ℕ) → b < 256 → packet_words (spaced b ++ rest) ≡ digits b ∷ packet_words rest

@@ -1,21 +1,17 @@
 -- One word read: what the rest says after it is what was due before it.
-use Rattle.std.proofs.Common.{◌≡◌, ◌<◌, ℕ, ◌+◌, true, false, List, [], ◌∷◌, ◌++◌, length, map, drop, get_or, nat_lt, Bor, Err, refl, sym, ◌∙◌, ap, add-one, arith}
-use Rattle.std.proofs.Math.Seq.{drop-cons}
+use Rattle.c104_token.specs.{Text.{packet_from_words, parse_words, word_of}, Tokens.Mark, declared.faults.TokenFault.TokenFault}
+use Rattle.{c104_token.specs.declared.text.Word.Word, std.proofs.Common.{Bor, Err, List, [], add-one, ap, arith, drop, false, get_or}}
+use Rattle.std.proofs.{Common.{length, map, nat_lt, refl, sym, true, ℕ, ◌++◌, ◌+◌, ◌<◌, ◌∙◌, ◌∷◌, ◌≡◌}, Math.Seq.drop-cons}
 use Rattle.std.proofs.lemmas.List.{get_or-map, length-map}
-use Rattle.c104_token.specs.Text.{packet_from_words, word_of, parse_words}
-use Rattle.c104_token.specs.declared.faults.TokenFault.TheVariants as fault
-use Rattle.c104_token.specs.declared.text.Word.{Word}
-use Rattle.c104_token.specs.declared.text.Word.TheVariants as word
-use Rattle.c104_token.specs.Tokens.{Mark}
 
 -- the words of lent slices
 abbrev pub texts : List (Bor (List ℕ)) → List (List ℕ)
 texts list = map (λ w. w.now) list
 
-reads_byte : (b : ℕ) (more : List Word) (bytes : List ℕ) → nat_lt (length bytes) 4096 ≡ true → packet_from_words (word.Byte b ∷ more) bytes ≡ packet_from_words more (bytes ++ b ∷ [])
+reads_byte : (b : ℕ) (more : List Word) (bytes : List ℕ) → nat_lt (length bytes) 4096 ≡ true → packet_from_words (Word.Byte b ∷ more) bytes ≡ packet_from_words more (bytes ++ b ∷ [])
 reads_byte b more bytes room = rw room refl
 
-reads_no_more : (b : ℕ) (more : List Word) (bytes : List ℕ) → nat_lt (length bytes) 4096 ≡ false → packet_from_words (word.Byte b ∷ more) bytes ≡ Err fault.TooLong
+reads_no_more : (b : ℕ) (more : List Word) (bytes : List ℕ) → nat_lt (length bytes) 4096 ≡ false → packet_from_words (Word.Byte b ∷ more) bytes ≡ Err TokenFault.TooLong
 reads_no_more b more bytes full = rw full refl
 
 -- the words from a place on begin with the word there
@@ -32,14 +28,14 @@ module _ (list : List (Bor (List ℕ))) (i : ℕ) (d : Bor (List ℕ)) (inside :
   by_word : (w : Word) → w ≡ word_of (get_or list i d).now → parse_words (texts list) ≡ packet_from_words (w ∷ map word_of (drop (i + 1) (texts list))) bytes
   by_word w is = sym due ∙ ap (λ ws. packet_from_words ws bytes) (from_place list i d inside ∙ ap (λ v. v ∷ map word_of (drop (i + 1) (texts list))) (sym is))
 
-  pub after_byte : (b : ℕ) → word.Byte b ≡ word_of (get_or list i d).now → nat_lt (length bytes) 4096 ≡ true → packet_from_words (map word_of (drop (i + 1) (texts list))) (bytes ++ b ∷ []) ≡ parse_words (texts list)
-  after_byte b is room = sym (by_word (word.Byte b) is ∙ reads_byte b (map word_of (drop (i + 1) (texts list))) bytes room)
+  pub after_byte : (b : ℕ) → Word.Byte b ≡ word_of (get_or list i d).now → nat_lt (length bytes) 4096 ≡ true → packet_from_words (map word_of (drop (i + 1) (texts list))) (bytes ++ b ∷ []) ≡ parse_words (texts list)
+  after_byte b is room = sym (by_word (Word.Byte b) is ∙ reads_byte b (map word_of (drop (i + 1) (texts list))) bytes room)
 
-  pub at_full : (b : ℕ) → word.Byte b ≡ word_of (get_or list i d).now → nat_lt (length bytes) 4096 ≡ false → Err fault.TooLong ≡ parse_words (texts list)
-  at_full b is full = sym (by_word (word.Byte b) is ∙ reads_no_more b (map word_of (drop (i + 1) (texts list))) bytes full)
+  pub at_full : (b : ℕ) → Word.Byte b ≡ word_of (get_or list i d).now → nat_lt (length bytes) 4096 ≡ false → Err TokenFault.TooLong ≡ parse_words (texts list)
+  at_full b is full = sym (by_word (Word.Byte b) is ∙ reads_no_more b (map word_of (drop (i + 1) (texts list))) bytes full)
 
-  pub at_other : word.Other ≡ word_of (get_or list i d).now → Err fault.BadHex ≡ parse_words (texts list)
-  at_other is = sym (by_word word.Other is)
+  pub at_other : Word.Other ≡ word_of (get_or list i d).now → Err TokenFault.BadHex ≡ parse_words (texts list)
+  at_other is = sym (by_word Word.Other is)
 
-  pub at_early_end : (m : Mark) → word.End m ≡ word_of (get_or list i d).now → i + 1 < length list → Err fault.AfterEnd ≡ parse_words (texts list)
-  at_early_end m is more = sym (by_word (word.End m) is ∙ ap (λ ws. packet_from_words (word.End m ∷ ws) bytes) (from_place list (i + 1) d more))
+  pub at_early_end : (m : Mark) → Word.End m ≡ word_of (get_or list i d).now → i + 1 < length list → Err TokenFault.AfterEnd ≡ parse_words (texts list)
+  at_early_end m is more = sym (by_word (Word.End m) is ∙ ap (λ ws. packet_from_words (Word.End m ∷ ws) bytes) (from_place list (i + 1) d more))

@@ -1,21 +1,16 @@
 -- A packet is accepted exactly where the words spell it.
-use Rattle.std.proofs.Common.{◌≡◌, ◌≤◌, inl, inr, ℕ, ◌&&◌, ◌==◌, Bool, true, false, nat_lt, List, [], ◌∷◌, ◌++◌, length, map, Option, Some, None, Result, Ok, Err, if◌then◌else◌, sym, ◌∙◌, ap, subst, arith, refl, append-nil, append_assoc, length-append, lit≤}
-use Rattle.std.specs.Result.{IfOk}
-use Rattle.std.proofs.lemmas.Bool.Decides.{nat_tests}
-use Rattle.c104_token.specs.Packets.{Packet}
-use Rattle.c104_token.specs.Tokens.{Mark}
-use Rattle.c104_token.specs.Text.{TokenFault, packet_from_words, word_of, byte_word, hex_value, SpellsByte, SpellBytes, mark_word, packet_words, parse_packet, IsPacketText, GivesPacketOrNoMemory}
-use Rattle.c104_token.specs.declared.faults.TokenFault.TheVariants as fault
-use Rattle.c104_token.specs.declared.text.Word.{Word}
-use Rattle.c104_token.specs.declared.text.Word.TheVariants as word
-use Rattle.c104_token.specs.declared.tokens.Mark.TheVariants as mark
-use Rattle.c104_token.proofs.Digits.{digit_read, digit_value}
+use Rattle.c104_token.{proofs.Digits.{digit_read, digit_value}, specs.{Packets.Packet, Text.{GivesPacketOrNoMemory, IsPacketText}}}
+use Rattle.c104_token.specs.Text.{SpellBytes, SpellsByte, TokenFault, byte_word, hex_value, mark_word, packet_from_words, packet_words}
+use Rattle.{c104_token.specs.{Text.{parse_packet, word_of}, Tokens.Mark, declared.text.Word.Word}, std.proofs.Common.{Bool, Err, List}}
+use Rattle.std.proofs.Common.{None, Ok, Option, Result, Some, [], ap, append-nil, append_assoc, arith, false, if◌then◌else◌, inl, inr}
+use Rattle.std.proofs.Common.{length, length-append, lit≤, map, nat_lt, refl, subst, sym, true, ℕ, ◌&&◌, ◌++◌, ◌==◌, ◌∙◌, ◌∷◌, ◌≡◌, ◌≤◌}
+use Rattle.std.{proofs.lemmas.Bool.Decides.nat_tests, specs.Result.IfOk}
 
 -- what it means for a word to say this
 abbrev Says : List ℕ → Word → Type 0
-Says w (word.Byte b) = SpellsByte w b
-Says w (word.End m) = w ≡ mark_word m
-Says w word.Other = Unit {0}
+Says w (Word.Byte b) = SpellsByte w b
+Says w (Word.End m) = w ≡ mark_word m
+Says w Word.Other = Unit {0}
 
 -- two digits, by what each was read as
 pair_says : (a b : ℕ) (x y : Option ℕ) → hex_value a ≡ x → hex_value b ≡ y → Says (a ∷ b ∷ []) (byte_word x y)
@@ -31,7 +26,7 @@ three_say : (a b c : ℕ) → Says (a ∷ b ∷ c ∷ []) (word_of (a ∷ b ∷ 
 three_say a b c = by_eop (a == 101 && (b == 111 && c == 112)) (a == 101 && (b == 111 && c == 109)) refl refl
   where
     by_eop : (is_eop is_eom : Bool) → (a == 101 && (b == 111 && c == 112)) ≡ is_eop → (a == 101 && (b == 111 && c == 109)) ≡ is_eom →
-        Says (a ∷ b ∷ c ∷ []) (if is_eop then word.End mark.Eop else (if is_eom then word.End mark.Eom else word.Other))
+        Says (a ∷ b ∷ c ∷ []) (if is_eop then Word.End Mark.Eop else (if is_eom then Word.End Mark.Eom else Word.Other))
     by_eop true is_eom p q = letters a b c 112 p
     by_eop false true p q = letters a b c 109 q
     by_eop false false p q = tt
@@ -43,12 +38,12 @@ word_says (a ∷ b ∷ []) = pair_says a b (hex_value a) (hex_value b) refl refl
 word_says (a ∷ b ∷ c ∷ []) = three_say a b c
 word_says (a ∷ b ∷ c ∷ d ∷ more) = tt
 
-mark_read : (m : Mark) → word_of (mark_word m) ≡ word.End m
-mark_read mark.Eop = refl
-mark_read mark.Eom = refl
+mark_read : (m : Mark) → word_of (mark_word m) ≡ Word.End m
+mark_read Mark.Eop = refl
+mark_read Mark.Eom = refl
 
-byte_read : (w : List ℕ) (b : ℕ) → SpellsByte w b → word_of w ≡ word.Byte b
-byte_read w b s = rw (s.spelled, digit_value s.high s.high_value s.is_high, digit_value s.low s.low_value s.is_low) (ap word.Byte (sym s.valued))
+byte_read : (w : List ℕ) (b : ℕ) → SpellsByte w b → word_of w ≡ Word.Byte b
+byte_read w b s = rw (s.spelled, digit_value s.high s.high_value s.is_high, digit_value s.low s.low_value s.is_low) (ap Word.Byte (sym s.valued))
 
 -- words that spell these bytes after the ones read, and then the mark
 pub record Spelled (list : List (List ℕ)) (bytes : List ℕ) (packet : Packet) : Type 0 where
@@ -60,7 +55,7 @@ pub record Spelled (list : List (List ℕ)) (bytes : List ℕ) (packet : Packet)
   pub short : length packet.bytes ≤ 4096
 
 -- a terminator ends the words
-at_end : (w : List ℕ) (m : Mark) (list : List (List ℕ)) (bytes : List ℕ) (packet : Packet) → w ≡ mark_word m → length bytes ≤ 4096 → packet_from_words (word.End m ∷ map word_of list) bytes ≡ Ok packet → Spelled (w ∷ list) bytes packet
+at_end : (w : List ℕ) (m : Mark) (list : List (List ℕ)) (bytes : List ℕ) (packet : Packet) → w ≡ mark_word m → length bytes ≤ 4096 → packet_from_words (Word.End m ∷ map word_of list) bytes ≡ Ok packet → Spelled (w ∷ list) bytes packet
 at_end w m (another ∷ list) bytes packet is short end = cc
 at_end w m [] bytes packet is short end =
     let same : record { bytes = bytes; mark = m } ≡ packet = cc in
@@ -69,7 +64,7 @@ at_end w m [] bytes packet is short end =
 
 -- where the same holds of the rest of the words, after one more byte
 module _ (w : List ℕ) (list : List (List ℕ)) (bytes : List ℕ) (packet : Packet) (more : (read_now : List ℕ) → length read_now ≤ 4096 → packet_from_words (map word_of list) read_now ≡ Ok packet → Spelled list read_now packet) (short : length bytes ≤ 4096) where
-  by_room : (b : ℕ) (room : Bool) → nat_lt (length bytes) 4096 ≡ room → SpellsByte w b → (if room then packet_from_words (map word_of list) (bytes ++ b ∷ []) else Err fault.TooLong) ≡ Ok packet → Spelled (w ∷ list) bytes packet
+  by_room : (b : ℕ) (room : Bool) → nat_lt (length bytes) 4096 ≡ room → SpellsByte w b → (if room then packet_from_words (map word_of list) (bytes ++ b ∷ []) else Err TokenFault.TooLong) ≡ Ok packet → Spelled (w ∷ list) bytes packet
   by_room b false full says here = cc
   by_room b true room says here =
       let fits : length (bytes ++ b ∷ []) ≤ 4096 = rw (length-append bytes (b ∷ [])) (grind (arith, nat_tests)) in
@@ -84,9 +79,9 @@ module _ (w : List ℕ) (list : List (List ℕ)) (bytes : List ℕ) (packet : Pa
       }
 
   by_word : (said : Word) → Says w said → packet_from_words (said ∷ map word_of list) bytes ≡ Ok packet → Spelled (w ∷ list) bytes packet
-  by_word (word.Byte b) says here = by_room b (nat_lt (length bytes) 4096) refl says here
-  by_word (word.End m) says here = at_end w m list bytes packet says short here
-  by_word word.Other says here = cc
+  by_word (Word.Byte b) says here = by_room b (nat_lt (length bytes) 4096) refl says here
+  by_word (Word.End m) says here = at_end w m list bytes packet says short here
+  by_word Word.Other says here = cc
 
 -- what is accepted is spelled so
 pub accepted : (list : List (List ℕ)) (bytes : List ℕ) (packet : Packet) → length bytes ≤ 4096 → packet_from_words (map word_of list) bytes ≡ Ok packet → Spelled list bytes packet

@@ -1,7 +1,6 @@
 -- The cut of a list of tokens into packets: each piece goes up to the next mark, and is one packet.
-use Rattle.std.specs.Prelude.{ℕ, ◌-◌, ◌≡◌, false, List, [], ◌∷◌, ◌++◌, length, drop, flat_map, All, map, if◌then◌else◌}
-use Rattle.c104_token.specs.Tokens.{Token, is_end}
-use Rattle.c104_token.specs.Packets.{Packet, packet_tokens}
+use Rattle.c104_token.specs.{Packets.{Packet, packet_tokens}, Tokens.{Token, is_end}}
+use Rattle.std.specs.Prelude.{All, List, [], drop, false, flat_map, if◌then◌else◌, length, map, ℕ, ◌++◌, ◌-◌, ◌∷◌, ◌≡◌}
 
 -- the whole pieces of a list of any kind of tokens, each up to a mark and with it; plain says which
 -- token an element is, and prefix is what was read of the first piece

@@ -1,7 +1,7 @@
 -- The faults of a packet's text.
-use Rattle.std.specs.Prelude.{ℕ}
 pub use Rattle.c104_token.specs.declared.faults.TokenFault.{TokenFault}
-use Rattle.c104_token.specs.declared.faults.TokenFault.TheVariants.{BadHex, NoEnd, AfterEnd, TooLong, NoMemory}
+use Rattle.c104_token.specs.declared.faults.TokenFault.TheVariants.{AfterEnd, BadHex, NoEnd, NoMemory, TooLong}
+use Rattle.std.specs.Prelude.{ℕ}
 
 -- the number of a fault
 abbrev pub token_fault_number : TokenFault → ℕ

@@ -1,7 +1,6 @@
 -- Kinds of tokens: what the machine asks of whatever its links carry.
-use Rattle.std.specs.Prelude.{ℕ, Option, Some, None}
-use Rattle.c104_token.specs.Tokens.{Token, Byte}
-use Rattle.c104_token.specs.declared.tokens.Token.TheVariants as token
+use Rattle.c104_token.specs.Tokens.{Byte, Token}
+use Rattle.std.specs.Prelude.{None, Option, Some, ℕ}
 
 -- what is asked of a kind of tokens: which token each is, and how those that a switch or a terminal
 -- brings in are made
@@ -22,8 +21,8 @@ byte_token kind b = kind.random 0 (Byte b)
 -- the byte of a plain token, if it is one
 abbrev pub plain_byte : Token → Option ℕ
 plain_byte (Byte b) = Some b
-plain_byte token.Eop = None
-plain_byte token.Eom = None
+plain_byte Token.Eop = None
+plain_byte Token.Eom = None
 
 -- tokens that tell nothing else
 abbrev pub plain_kind : Kind Token

@@ -1,7 +1,7 @@
 -- Packets, and the tokens of a packet.
-use Rattle.std.specs.Prelude.{List, [], ◌∷◌, ◌++◌, map}
 pub use Rattle.c104_token.specs.declared.packets.Packet.{Packet}
-use Rattle.c104_token.specs.Tokens.{Token, Byte, end_token}
+use Rattle.c104_token.specs.Tokens.{Byte, Token, end_token}
+use Rattle.std.specs.Prelude.{List, [], map, ◌++◌, ◌∷◌}
 
 -- one token for each byte, and then the mark
 abbrev pub packet_tokens : Packet → List Token

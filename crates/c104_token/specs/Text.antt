@@ -1,14 +1,8 @@
 -- The text of a packet: how its words are cut and read, and how it is printed.
-use Rattle.std.specs.Prelude.{ℕ, ◌+◌, ◌-◌, ◌*◌, ◌/◌, ◌%◌, ◌≡◌, ◌<◌, ◌≤◌, ◌⊎◌, ◌==◌, ◌&&◌, not, List, [], ◌∷◌, ◌++◌, length, map, filter, flat_map, nat_lt, nat_le, if◌then◌else◌, Option, Some, None, Result, Ok, Err}
-use Rattle.std.specs.List.{slice_split}
-use Rattle.c104_token.specs.declared.text.TheConstants.{MAX_PACKET_BYTES}
 pub use Rattle.c104_token.specs.declared.faults.TokenFault.{TokenFault}
-use Rattle.c104_token.specs.declared.faults.TokenFault.TheVariants as fault
-use Rattle.c104_token.specs.declared.text.Word.{Word}
-use Rattle.c104_token.specs.declared.text.Word.TheVariants as word
-use Rattle.c104_token.specs.declared.tokens.Mark.TheVariants as mark
-use Rattle.c104_token.specs.Tokens.{Mark}
-use Rattle.c104_token.specs.Packets.{Packet}
+use Rattle.c104_token.specs.{Packets.Packet, Tokens.Mark, declared.text.{TheConstants.MAX_PACKET_BYTES, Word.Word}}
+use Rattle.std.specs.{List.slice_split, Prelude.{Err, List, None, Ok, Option, Result, Some, [], filter, flat_map, if◌then◌else◌, length}}
+use Rattle.std.specs.Prelude.{map, nat_le, nat_lt, not, ℕ, ◌%◌, ◌&&◌, ◌*◌, ◌++◌, ◌+◌, ◌-◌, ◌/◌, ◌<◌, ◌==◌, ◌∷◌, ◌≡◌, ◌≤◌, ◌⊎◌}
 
 -- the words of a text: the pieces between spaces that aren't empty
 abbrev pub packet_words : List ℕ → List (List ℕ)
@@ -24,20 +18,20 @@ hex_value c =
 
 -- the word of two digits by their values: their byte, high digit first, where both are digits
 abbrev pub byte_word : Option ℕ → Option ℕ → Word
-byte_word None low = word.Other
-byte_word (Some x) None = word.Other
-byte_word (Some x) (Some y) = word.Byte (16 * x + y)
+byte_word None low = Word.Other
+byte_word (Some x) None = Word.Other
+byte_word (Some x) (Some y) = Word.Byte (16 * x + y)
 
 -- what a word says: `eop`, `eom`, a byte, or nothing that a packet has
 abbrev pub word_of : List ℕ → Word
-word_of [] = word.Other
-word_of (a ∷ []) = word.Other
+word_of [] = Word.Other
+word_of (a ∷ []) = Word.Other
 word_of (a ∷ b ∷ []) = byte_word (hex_value a) (hex_value b)
 word_of (a ∷ b ∷ c ∷ []) =
-    if a == 0x65 && (b == 0x6f && c == 0x70) then word.End mark.Eop
-    else (if a == 0x65 && (b == 0x6f && c == 0x6d) then word.End mark.Eom
-    else word.Other)
-word_of (a ∷ b ∷ c ∷ d ∷ more) = word.Other
+    if a == 0x65 && (b == 0x6f && c == 0x70) then Word.End Mark.Eop
+    else (if a == 0x65 && (b == 0x6f && c == 0x6d) then Word.End Mark.Eom
+    else Word.Other)
+word_of (a ∷ b ∷ c ∷ d ∷ more) = Word.Other
 
 -- the byte of two digits by their values, high digit first, where both are digits
 abbrev pub byte_of_digits : Option ℕ → Option ℕ → Option ℕ
@@ -52,12 +46,12 @@ spelled_byte word = None
 
 -- the packet that words say after these bytes, or the first fault from the left
 abbrev pub packet_from_words : List Word → List ℕ → Result Packet TokenFault
-packet_from_words [] bytes = Err fault.NoEnd
-packet_from_words (word.Byte b ∷ more) bytes =
-    if nat_lt (length bytes) MAX_PACKET_BYTES then packet_from_words more (bytes ++ b ∷ []) else Err fault.TooLong
-packet_from_words (word.End m ∷ []) bytes = Ok (record { bytes = bytes; mark = m })
-packet_from_words (word.End m ∷ next ∷ more) bytes = Err fault.AfterEnd
-packet_from_words (word.Other ∷ more) bytes = Err fault.BadHex
+packet_from_words [] bytes = Err TokenFault.NoEnd
+packet_from_words (Word.Byte b ∷ more) bytes =
+    if nat_lt (length bytes) MAX_PACKET_BYTES then packet_from_words more (bytes ++ b ∷ []) else Err TokenFault.TooLong
+packet_from_words (Word.End m ∷ []) bytes = Ok (record { bytes = bytes; mark = m })
+packet_from_words (Word.End m ∷ next ∷ more) bytes = Err TokenFault.AfterEnd
+packet_from_words (Word.Other ∷ more) bytes = Err TokenFault.BadHex
 
 -- the packet that words say, or the first fault from the left
 abbrev pub parse_words : List (List ℕ) → Result Packet TokenFault
@@ -69,7 +63,7 @@ parse_packet text = parse_words (packet_words text)
 
 -- what is due, or out of memory
 abbrev pub GivesPacketOrNoMemory : Result Packet TokenFault → Result Packet TokenFault → Type 0
-GivesPacketOrNoMemory result due = (result ≡ due) ⊎ (result ≡ Err fault.NoMemory)
+GivesPacketOrNoMemory result due = (result ≡ due) ⊎ (result ≡ Err TokenFault.NoMemory)
 
 -- c is a digit, of either case, and v is its value
 abbrev pub IsHexDigit : ℕ → ℕ → Type 0
@@ -96,8 +90,8 @@ SpellBytes (w ∷ list) (b ∷ bytes) = SpellsByte w b × SpellBytes list bytes
 
 -- the word of a terminator: `eop`, `eom`
 abbrev pub mark_word : Mark → List ℕ
-mark_word mark.Eop = 0x65 ∷ 0x6f ∷ 0x70 ∷ []
-mark_word mark.Eom = 0x65 ∷ 0x6f ∷ 0x6d ∷ []
+mark_word Mark.Eop = 0x65 ∷ 0x6f ∷ 0x70 ∷ []
+mark_word Mark.Eom = 0x65 ∷ 0x6f ∷ 0x6d ∷ []
 
 -- a text that spells a packet: a word for each byte, of which there are no more than a packet may
 -- have, and then its mark

@@ -1,15 +1,12 @@
 -- Tokens: bytes, and the marks that end packets.
-use Rattle.std.specs.Prelude.{ℕ, Bool, true, false}
-pub use Rattle.c104_token.specs.declared.tokens.Mark.{Mark}
-pub use Rattle.c104_token.specs.declared.tokens.Token.{Token}
-pub use Rattle.c104_token.specs.declared.tokens.Token.TheVariants.{Byte}
+pub use Rattle.c104_token.specs.declared.tokens.{Mark.Mark, Token.{TheVariants.Byte, Token}}
+use Rattle.std.specs.Prelude.{Bool, false, true, ℕ}
 use Rattle.c104_token.specs.declared.tokens.Token.TheVariants as token
-use Rattle.c104_token.specs.declared.tokens.Mark.TheVariants as mark
 
 -- the token that ends a packet with this mark
 abbrev pub end_token : Mark → Token
-end_token mark.Eop = token.Eop
-end_token mark.Eom = token.Eom
+end_token Mark.Eop = token.Eop
+end_token Mark.Eom = token.Eom
 
 -- whether a token ends a packet
 abbrev pub is_end : Token → Bool

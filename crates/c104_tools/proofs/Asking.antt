@@ -1,10 +1,8 @@
 -- Steps that are asked through a port, one after the other: what the steps that are left come to, all come to.
-use Rattle.std.proofs.Common.{◌≡◌, ℕ, List, [], ◌∷◌, ◌++◌, Result, Ok, Err, refl, sym, ap, ◌∙◌, subst}
-use Rattle.std.proofs.lemmas.Result.{err_from_is_err_and}
-use Rattle.std.specs.Result.{IsErr, IsErrAnd}
-use Rattle.c104_tools.specs.declared.faults.LoadFault.{LoadFault}
 use Rattle.c104_tools.specs.Outcomes.{ComesTo, GoesOn, IsTold, Judge, Outcome, and_then, nothing_made, step_result, with_value}
-use Rattle.c104_tools.specs.Steps.{Given, Step}
+use Rattle.{c104_tools.specs.{Steps.{Given, Step}, declared.faults.LoadFault.LoadFault}, std.proofs.Common.{Err, List, Ok, Result, [], ap}}
+use Rattle.std.{proofs.{Common.{refl, subst, sym, ℕ, ◌++◌, ◌∙◌, ◌∷◌, ◌≡◌}, lemmas.Result.err_from_is_err_and}, specs.Result.IsErr}
+use Rattle.std.specs.Result.{IsErrAnd}
 
 abbrev pub Read : Type 0
 Read = Result (List ℕ) LoadFault

@@ -1,48 +1,22 @@
 -- A load of a new network of a plan never meets a full trace: all its steps are fewer than a trace holds.
-use Rattle.std.proofs.Common.{◌≡◌, ◌<◌, ◌≤◌, ◌+◌, ◌*◌, ◌++◌, ℕ, zero, suc, Bool, true, false, Option, Some, None, Result, Ok, Err, MatchResult, inl, inr, List, [], ◌∷◌, length, map, nat_eq, nat_le, nat_lt, slice_get, slice_set, refl, sym, ap, subst, arith}
-use Rattle.std.proofs.lemmas.Bool.Decides.{nat_tests}
-use Rattle.std.proofs.lemmas.List.{length-append, length-map}
-use Rattle.std.specs.List.{cons_option, filter_map, range_with_len}
-use Rattle.c104_control.specs.declared.commands.Command.{Command}
-use Rattle.c104_control.specs.declared.commands.Command.TheVariants.{Start, Reset, CPoke}
-use Rattle.c104_control.specs.Reading.{read_reply}
-use Rattle.c104_control.specs.Table.{command_bytes}
-use Rattle.c104_plan.specs.PlanImage.{Fits, Image}
-use Rattle.c104_plan.specs.Plans.{IsPlan, Plan}
-use Rattle.c104_event.specs.declared.events.Event.TheVariants as event
-use Rattle.c104_event.specs.declared.faults.EventFault.{EventFault}
-use Rattle.c104_event.specs.declared.faults.EventFault.TheVariants as event_fault
-use Rattle.c104_node.specs.declared.stamps.Stamp.{Stamp}
-use Rattle.c104_node.specs.Traces.{seatless, full_at, kept_of, lone_deed, noted_all, noted_in, trace_limit}
-use Rattle.c104_run.specs.Balance.{AreInPlace}
-use Rattle.c104_run.specs.NetRecords.{NetRecord, fresh_record}
-use Rattle.c104_run.proofs.EventSteps.{control_applied}
-use Rattle.c104_run.specs.Network.{Network, network_apply, new_network, with_nodes}
-use Rattle.c104_run.specs.Stages.{unless_full}
-use Rattle.c104_node.specs.Places.{is_kept_full}
-use Rattle.c104_run.specs.EventDeeds.{event_deeds}
-use Rattle.c104_node.specs.declared.acts.ActOf.{ActOf}
-use Rattle.c104_node.specs.declared.acts.ActOf.TheVariants as act
-use Rattle.c104_node.specs.declared.acts.Entry.{Entry}
-use Rattle.c104_node.specs.declared.node.NodeOf.TheVariants as node
-use Rattle.c104_regs.specs.declared.settings.Settings.{Settings}
-use Rattle.c104_regs.specs.KeptValues.{kept_entry, kept_values}
-use Rattle.c104_switch.specs.Actions.{Reply, is_ready}
-use Rattle.c104_switch.specs.Control.{switch_control}
-use Rattle.c104_switch.specs.declared.actions.ActionOf.TheVariants as action
-use Rattle.c104_switch.specs.declared.actions.ReplyOf.TheVariants as reply
-use Rattle.c104_token.specs.declared.tokens.Token.{Token}
-use Rattle.c104_token.specs.Kinds.{plain_kind}
-use Rattle.c104_tools.proofs.LoadSteps.{IsReplied, StepsBelow, below_load, judged_replied}
-use Rattle.c104_tools.proofs.NetLoads.{command_keeps, still_placed}
-use Rattle.c104_tools.proofs.NetSwitches.{stands_at}
-use Rattle.c104_tools.specs.declared.faults.LoadFault.{LoadFault}
-use Rattle.c104_tools.specs.declared.faults.LoadFault.TheVariants as fault
-use Rattle.c104_tools.specs.Loaded.{IsUnansweredFault}
-use Rattle.c104_tools.specs.Loads.{for_each, load_list, order, steps_from, switch_pokes}
-use Rattle.c104_tools.specs.NetOutcomes.{EndsSo, control_given, net_command, net_load}
-use Rattle.c104_tools.specs.Outcomes.{and_then, any_value, nothing_made, run_steps, step_result, unless_failed, with_value}
-use Rattle.c104_tools.specs.Steps.{Step}
+use Rattle.c104_control.specs.{Reading.read_reply, Table.command_bytes, declared.commands.Command.{Command, TheVariants.{CPoke, Reset}}}
+use Rattle.{c104_control.specs.declared.commands.Command.TheVariants.Start, c104_event.specs.declared.events.Event.Event}
+use Rattle.{c104_event.specs.declared.faults.EventFault.EventFault, c104_node.specs.{Places.is_kept_full, Traces.{full_at, kept_of}}}
+use Rattle.c104_node.specs.{Traces.{lone_deed, noted_all, noted_in, seatless, trace_limit}, declared.acts.{ActOf.ActOf, Entry.Entry}}
+use Rattle.{c104_node.specs.declared.{node.NodeOf.NodeOf, stamps.Stamp.Stamp}, c104_plan.specs.{PlanImage.{Fits, Image}, Plans.IsPlan}}
+use Rattle.{c104_plan.specs.Plans.Plan, c104_regs.specs.{KeptValues.{kept_entry, kept_values}, declared.settings.Settings.Settings}}
+use Rattle.c104_run.{proofs.EventSteps.control_applied, specs.{Balance.AreInPlace, EventDeeds.event_deeds, NetRecords.NetRecord}}
+use Rattle.c104_run.specs.{NetRecords.fresh_record, Network.{Network, network_apply, new_network, with_nodes}, Stages.unless_full}
+use Rattle.c104_switch.specs.{Actions.{Reply, is_ready}, Control.switch_control, declared.actions.{ActionOf.ActionOf, ReplyOf.ReplyOf}}
+use Rattle.{c104_token.specs.{Kinds.plain_kind, declared.tokens.Token.Token}, c104_tools.proofs.LoadSteps.{IsReplied, StepsBelow}}
+use Rattle.c104_tools.proofs.{LoadSteps.{below_load, judged_replied}, NetLoads.{command_keeps, still_placed}, NetSwitches.stands_at}
+use Rattle.c104_tools.specs.{Loaded.IsUnansweredFault, Loads.{for_each, load_list, order, steps_from, switch_pokes}, NetOutcomes.EndsSo}
+use Rattle.c104_tools.specs.{NetOutcomes.{control_given, net_command, net_load}, Outcomes.{and_then, any_value, nothing_made, run_steps}}
+use Rattle.c104_tools.specs.{Outcomes.{step_result, unless_failed, with_value}, Steps.Step, declared.faults.LoadFault.LoadFault}
+use Rattle.std.proofs.Common.{Bool, Err, List, MatchResult, None, Ok, Option, Result, Some, [], ap, arith, false, inl, inr, length, map}
+use Rattle.std.proofs.Common.{nat_eq, nat_le, nat_lt, refl, slice_get, slice_set, subst, suc, sym, true, zero, ℕ, ◌*◌, ◌++◌, ◌+◌, ◌<◌, ◌∷◌}
+use Rattle.std.{proofs.{Common.{◌≡◌, ◌≤◌}, lemmas.{Bool.Decides.nat_tests, List.{length-append, length-map}}}, specs.List.cons_option}
+use Rattle.std.specs.List.{filter_map, range_with_len}
 
 -- a reply to each command of a run is one to the run
 with_replied : (v : ℕ) (rest : Result (List ℕ) LoadFault) → IsReplied rest → IsReplied (with_value v rest)
@@ -87,8 +61,8 @@ lone_short : (n : ℕ) (traces : List (List Entry)) (stamp : Stamp) (k : ℕ) (a
 lone_short n traces stamp k a r true is short = rw is (noted_short n traces k _ (slice_get traces k) refl short)
 lone_short n traces stamp k a r false is short = rw is (still_short n traces short)
 
-kept_short : (n : ℕ) (r : NetRecord) (k : ℕ) (bytes : List ℕ) (answer : Result Reply EventFault) → AreShort n r.traces → AreShort (n + 1) (noted_all true r.traces (kept_of (event_deeds r.network.plan (seatless r.count) (event.Control k bytes)) answer))
-kept_short n r k bytes (Ok told) short = lone_short n r.traces (seatless r.count) k (act.Step (action.Control bytes)) told (is_ready told) refl short
+kept_short : (n : ℕ) (r : NetRecord) (k : ℕ) (bytes : List ℕ) (answer : Result Reply EventFault) → AreShort n r.traces → AreShort (n + 1) (noted_all true r.traces (kept_of (event_deeds r.network.plan (seatless r.count) (Event.Control k bytes)) answer))
+kept_short n r k bytes (Ok told) short = lone_short n r.traces (seatless r.count) k (ActOf.Step (ActionOf.Control bytes)) told (is_ready told) refl short
 kept_short n r k bytes (Err f) short = still_short n r.traces short
 
 command_short : (n : ℕ) (r : NetRecord) (k : ℕ) (bytes : List ℕ) → AreShort n r.traces → AreShort (n + 1) (net_command r k bytes).1.traces
@@ -114,10 +88,10 @@ module _ (r : NetRecord) (k : ℕ) (bytes : List ℕ) (are : AreInPlace r.networ
       let at = stands_at (length net.plan.switches) (length net.plan.terminals) net.nodes are k inside in
       let done = switch_control at.switch bytes in
       let here : nat_lt k (length net.plan.switches) ≡ true = grind (arith, nat_tests) in
-      let made : network_apply plain_kind net (event.Control k bytes) ≡ (Ok (reply.Control done.0), with_nodes net (slice_set net.nodes k (node.Switch done.1))) = control_applied plain_kind net k bytes at.switch here at.there in
-      (done.0, by_due (network_apply plain_kind net (event.Control k bytes)) done.0 (ap (λ (t : Answered). t.0) made) _ (none_full n r.traces k low short))
+      let made : network_apply plain_kind net (Event.Control k bytes) ≡ (Ok (ReplyOf.Control done.0), with_nodes net (slice_set net.nodes k (NodeOf.Switch done.1))) = control_applied plain_kind net k bytes at.switch here at.there in
+      (done.0, by_due (network_apply plain_kind net (Event.Control k bytes)) done.0 (ap (λ (t : Answered). t.0) made) _ (none_full n r.traces k low short))
     where
-      by_due : (due : Answered) (told : List ℕ) → due.0 ≡ Ok (reply.Control told) → (full : Bool) → full ≡ false → control_given (unless_full full r.network due).0 ≡ Ok told
+      by_due : (due : Answered) (told : List ℕ) → due.0 ≡ Ok (ReplyOf.Control told) → (full : Bool) → full ≡ false → control_given (unless_full full r.network due).0 ≡ Ok told
       by_due due told is true not = absurd (cc not)
       by_due due told is false not = ap control_given is
 
@@ -190,9 +164,9 @@ module _ (plan : Plan) (image : Image) (is_plan : IsPlan plan) (fits : Fits imag
       (subst (λ n. StepsBelow n (load_list image.settings)) same (below_load image.settings))))
 
   -- so it is done, or out of memory
-  pub fresh_load : (result : Result (Unit {0}) LoadFault) (after : NetRecord) → EndsSo (net_load (fresh_record (new_network plan)) image) result after → MatchResult result (λ _. Unit {0}) IsUnansweredFault → MatchResult result (λ u. ◌≡◌ {A = Result (Unit {0}) LoadFault × NetRecord} (Ok u, after) (net_load (fresh_record (new_network plan)) image)) (λ f. f ≡ fault.Port event_fault.NoMemory)
+  pub fresh_load : (result : Result (Unit {0}) LoadFault) (after : NetRecord) → EndsSo (net_load (fresh_record (new_network plan)) image) result after → MatchResult result (λ _. Unit {0}) IsUnansweredFault → MatchResult result (λ u. ◌≡◌ {A = Result (Unit {0}) LoadFault × NetRecord} (Ok u, after) (net_load (fresh_record (new_network plan)) image)) (λ f. f ≡ LoadFault.Port EventFault.NoMemory)
   fresh_load (Ok u) after (inl due) answered = due
   fresh_load (Ok u) after (inr none) answered = absurd (cc none)
-  fresh_load (Err f) after (inr none) answered = let same : f ≡ fault.Port event_fault.NoMemory = cc in same
-  fresh_load (Err (fault.Port e)) after (inl due) answered = absurd (subst IsReplied (sym (ap (λ (x : Result (Unit {0}) LoadFault × NetRecord). x.0) due)) fresh_replied e refl)
+  fresh_load (Err f) after (inr none) answered = let same : f ≡ LoadFault.Port EventFault.NoMemory = cc in same
+  fresh_load (Err (LoadFault.Port e)) after (inl due) answered = absurd (subst IsReplied (sym (ap (λ (x : Result (Unit {0}) LoadFault × NetRecord). x.0) due)) fresh_replied e refl)
   fresh_load (Err f) after (inl due) answered = absurd answered

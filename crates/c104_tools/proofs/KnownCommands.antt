@@ -1,20 +1,11 @@
 -- What is known of each command that is asked through a port, of all of them.
-use Rattle.std.proofs.Common.{◌≡◌, ◌++◌, ℕ, List, [], ◌∷◌, MatchResult, Option, Some, Result, Ok, Err, slice_get, slice_set, refl, sym, ap, ◌∙◌, subst}
-use Rattle.c104_control.specs.Table.{command_bytes}
-use Rattle.c104_control.specs.Reading.{read_reply}
-use Rattle.c104_event.specs.declared.faults.EventFault.{EventFault}
-use Rattle.c104_switch.specs.Control.{switch_control}
-use Rattle.c104_switch.specs.Switch.{Switch}
-use Rattle.c104_token.specs.declared.tokens.Token.{Token}
-use Rattle.c104_tools.specs.declared.faults.LoadFault.{LoadFault}
-use Rattle.c104_tools.specs.declared.faults.LoadFault.TheVariants as fault
-use Rattle.c104_tools.specs.declared.ports.Asked.{Asked}
-use Rattle.c104_tools.specs.Loaded.{IsLeftBySwitch, IsUnansweredFault}
-use Rattle.c104_tools.specs.Outcomes.{ComesTo, GoesOn, Judge, Outcome, and_then, any_value, nothing_made, step_result, with_value}
-use Rattle.c104_tools.specs.Ports.{Commanded, Obeyed, Switches, command_asked}
-use Rattle.c104_tools.specs.Steps.{Given, Step}
-use Rattle.c104_tools.proofs.Asking.{Read}
-use Rattle.c104_tools.proofs.LoadSteps.{IsReplied, StepsBelow, judged_replied}
+use Rattle.{c104_control.specs.{Reading.read_reply, Table.command_bytes}, c104_event.specs.declared.faults.EventFault.EventFault}
+use Rattle.{c104_switch.specs.{Control.switch_control, Switch.Switch}, c104_token.specs.declared.tokens.Token.Token}
+use Rattle.c104_tools.{proofs.{Asking.Read, LoadSteps.{IsReplied, StepsBelow, judged_replied}}, specs.Loaded.IsLeftBySwitch}
+use Rattle.c104_tools.specs.{Loaded.IsUnansweredFault, Outcomes.{ComesTo, GoesOn, Judge, Outcome, and_then, any_value, nothing_made}}
+use Rattle.c104_tools.specs.{Outcomes.{step_result, with_value}, Ports.{Commanded, Obeyed, Switches, command_asked}, Steps.{Given, Step}}
+use Rattle.{c104_tools.specs.declared.{faults.LoadFault.LoadFault, ports.Asked.Asked}, std.proofs.Common.{Err, List, MatchResult, Ok}}
+use Rattle.std.proofs.Common.{Option, Result, Some, [], ap, refl, slice_get, slice_set, subst, sym, ℕ, ◌++◌, ◌∙◌, ◌∷◌, ◌≡◌}
 
 -- these switches do steps in order, each as it is to be done, and those are the switches after it
 abbrev pub AreDone : Switches → List Step → Switches → Type 0
@@ -69,7 +60,7 @@ module _ {P : Type 0} (commands : P → List Asked) (switch_count : P → ℕ) (
 
   -- the switch of one that the port leaves unanswered
   left_fault : (n : ℕ) (f : LoadFault) → IsReplied {X = ℕ} (Err f) → IsLeftBySwitch switch_count unanswered n f
-  left_fault n (fault.Port e) replied = absurd (replied e refl)
+  left_fault n (LoadFault.Port e) replied = absurd (replied e refl)
   left_fault n f replied = tt
 
   module _ (n : ℕ) where

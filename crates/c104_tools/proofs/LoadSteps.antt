@@ -1,18 +1,11 @@
 -- The steps of a load name switches of its image. And what is told of a reply is no fault of the port.
-use Rattle.std.proofs.Common.{◌≡◌, ◌≢◌, ◌<◌, ◌≤◌, ◌+◌, ◌++◌, ℕ, zero, suc, Bool, true, false, IfErr, Option, Some, None, Result, Err, if◌then◌else◌, List, [], ◌∷◌, length, map, sym, ap, ◌∙◌, arith}
-use Rattle.std.specs.List.{range_with_len}
-use Rattle.c104_control.specs.declared.commands.Command.{Command}
-use Rattle.c104_control.specs.declared.commands.Command.TheVariants.{Start, Reset}
-use Rattle.c104_control.specs.declared.replies.Answer.{Answer}
-use Rattle.c104_control.specs.declared.replies.Answer.TheVariants.{Refused}
-use Rattle.c104_event.specs.declared.faults.EventFault.{EventFault}
-use Rattle.c104_regs.specs.declared.settings.Settings.{Settings}
-use Rattle.c104_regs.specs.KeptValues.{kept_values}
-use Rattle.c104_tools.specs.declared.faults.LoadFault.{LoadFault}
-use Rattle.c104_tools.specs.declared.faults.LoadFault.TheVariants as fault
-use Rattle.c104_tools.specs.Loads.{for_each, load_list, order, pokes, steps_from, switch_pokes}
-use Rattle.c104_tools.specs.Outcomes.{and_then, any_value}
-use Rattle.c104_tools.specs.Steps.{Step, judged, may_refuse, named_address, told_value, value_or_bad}
+use Rattle.c104_control.specs.declared.{commands.Command.{Command, TheVariants.{Reset, Start}}, replies.Answer.Answer}
+use Rattle.{c104_control.specs.declared.replies.Answer.TheVariants.Refused, c104_event.specs.declared.faults.EventFault.EventFault}
+use Rattle.{c104_regs.specs.{KeptValues.kept_values, declared.settings.Settings.Settings}, c104_tools.specs.Loads.{for_each, load_list}}
+use Rattle.c104_tools.specs.{Loads.{order, pokes, steps_from, switch_pokes}, Outcomes.{and_then, any_value}, Steps.{Step, judged}}
+use Rattle.c104_tools.specs.{Steps.{may_refuse, named_address, told_value, value_or_bad}, declared.faults.LoadFault.LoadFault}
+use Rattle.std.proofs.Common.{Bool, Err, IfErr, List, None, Option, Result, Some, [], ap, arith, false, if◌then◌else◌, length, map, suc}
+use Rattle.std.{proofs.Common.{sym, true, zero, ℕ, ◌++◌, ◌+◌, ◌<◌, ◌∙◌, ◌∷◌, ◌≡◌, ◌≢◌, ◌≤◌}, specs.List.range_with_len}
 
 -- steps name switches below a number
 abbrev pub StepsBelow : ℕ → List Step → Type 0
@@ -51,13 +44,13 @@ load_parts count kept image many same = sym (ap (λ n. for_each n Reset ++ (step
 
 -- the port gave a reply to each command
 abbrev pub IsReplied : {X : Type 0} → Result X LoadFault → Type 0
-IsReplied x = IfErr x (λ f. (e : EventFault) → f ≢ fault.Port e)
+IsReplied x = IfErr x (λ f. (e : EventFault) → f ≢ LoadFault.Port e)
 
 value_replied : (t : Step) (o : Option ℕ) → IsReplied (and_then (value_or_bad t.switch o) (any_value t))
 value_replied t None = λ e same. cc
 value_replied t (Some v) = tt
 
-refused_replied : (t : Step) (a n : ℕ) (may : Bool) → IsReplied {X = ℕ} (and_then (if may then Err (fault.Refused t.switch a n) else Err (fault.BadReply t.switch)) (any_value t))
+refused_replied : (t : Step) (a n : ℕ) (may : Bool) → IsReplied {X = ℕ} (and_then (if may then Err (LoadFault.Refused t.switch a n) else Err (LoadFault.BadReply t.switch)) (any_value t))
 refused_replied t a n true = λ e same. cc
 refused_replied t a n false = λ e same. cc
 

@@ -1,24 +1,13 @@
 -- Switches do the steps of a load, each answered as it is to be.
-use Rattle.std.proofs.Common.{◌≡◌, ℕ, zero, suc, ◌+◌, ◌^◌, ◌<◌, Ok, Some, List, [], ◌∷◌, ◌++◌, append_assoc, length, map, slice_get, slice_set, refl, sym, ap, ◌∙◌, subst, arith}
-use Rattle.std.proofs.Math.Seq.{set-append_seam}
-use Rattle.std.specs.List.{range_with_len}
-use Rattle.c104_control.specs.declared.commands.Command.TheVariants.{Start, Reset, CPoke}
-use Rattle.c104_regs.proofs.KeptPokes.{AreKept, AreSettable, kept_settable, with_values}
-use Rattle.c104_regs.proofs.SameSettings.{kept_back}
-use Rattle.c104_regs.proofs.PlacedPokes.{settable_below}
-use Rattle.c104_regs.specs.KeptValues.{kept_values}
-use Rattle.c104_regs.specs.Registers.{bank_poke, placed_bank, reset_bank}
-use Rattle.c104_regs.specs.declared.settings.Settings.{Settings}
-use Rattle.c104_switch.specs.Commands.{switch_reset}
-use Rattle.c104_switch.specs.Switch.{Switch}
-use Rattle.c104_token.specs.declared.tokens.Token.{Token}
-use Rattle.c104_tools.specs.Loaded.{each_with, loaded, reset_with}
-use Rattle.c104_tools.specs.Loads.{for_each, load_list, order, pokes, steps_from, switch_pokes}
-use Rattle.c104_tools.specs.Outcomes.{any_value, step_result}
-use Rattle.c104_tools.specs.Ports.{Switches}
-use Rattle.c104_tools.specs.Steps.{Step}
-use Rattle.c104_tools.proofs.KnownCommands.{AreDone, done_on}
-use Rattle.c104_tools.proofs.ResetSwitches.{poke_obeyed, settable_small}
+use Rattle.{c104_control.specs.declared.commands.Command.TheVariants.{CPoke, Reset, Start}, c104_regs.proofs.KeptPokes.AreKept}
+use Rattle.c104_regs.proofs.{KeptPokes.{AreSettable, kept_settable, with_values}, PlacedPokes.settable_below, SameSettings.kept_back}
+use Rattle.c104_regs.specs.{KeptValues.kept_values, Registers.{bank_poke, placed_bank, reset_bank}, declared.settings.Settings.Settings}
+use Rattle.{c104_switch.specs.{Commands.switch_reset, Switch.Switch}, c104_token.specs.declared.tokens.Token.Token}
+use Rattle.c104_tools.{proofs.{KnownCommands.{AreDone, done_on}, ResetSwitches.{poke_obeyed, settable_small}}, specs.Loaded.each_with}
+use Rattle.c104_tools.specs.{Loaded.{loaded, reset_with}, Loads.{for_each, load_list, order, pokes, steps_from, switch_pokes}}
+use Rattle.{c104_tools.specs.{Outcomes.{any_value, step_result}, Ports.Switches, Steps.Step}, std.proofs.Common.{List, Ok, Some, [], ap}}
+use Rattle.std.proofs.Common.{append_assoc, arith, length, map, refl, slice_get, slice_set, subst, suc, sym, zero, ℕ, ◌++◌, ◌+◌, ◌<◌, ◌^◌}
+use Rattle.std.{proofs.{Common.{◌∙◌, ◌∷◌, ◌≡◌}, Math.Seq.set-append_seam}, specs.List.range_with_len}
 
 -- the switch behind others
 seam_get : (front rest : Switches) (s : Switch Token) → slice_get (front ++ s ∷ rest) (length front) ≡ Some s

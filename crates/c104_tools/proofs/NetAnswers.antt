@@ -1,37 +1,24 @@
 -- What a network with its record answers to a command, as a port.
-use Rattle.std.proofs.Common.{◌≡◌, ◌∙◌, ◌++◌, ◌<◌, ℕ, suc, true, List, [], ◌∷◌, Some, Ok, length, map, slice_get, slice_set, refl, ap, arith}
-use Rattle.std.specs.Option.{option_map}
-use Rattle.c104_token.specs.declared.tokens.Token.{Token}
-use Rattle.c104_switch.specs.Actions.{Reply}
-use Rattle.c104_switch.specs.Control.{switch_control}
-use Rattle.c104_switch.specs.declared.actions.ActionOf.TheVariants as action
-use Rattle.c104_switch.specs.declared.actions.ReplyOf.TheVariants as reply
-use Rattle.c104_event.specs.declared.events.Event.TheVariants as event
-use Rattle.c104_node.specs.Traces.{seatless}
-use Rattle.c104_node.specs.declared.acts.ActOf.TheVariants as act
-use Rattle.c104_node.specs.declared.acts.Entry.{Entry}
-use Rattle.c104_run.specs.NetRecords.{IsNetRecord, NetRecord, RecordsEvent, ticket_after}
-use Rattle.c104_node.specs.Nodes.{Node}
-use Rattle.c104_run.specs.Runs.{at_node, run_deeds}
-use Rattle.c104_node.specs.Starts.{start_node}
-use Rattle.c104_node.specs.Traces.{entry_of}
-use Rattle.c104_node.proofs.WireEnds.{get_set_same}
-use Rattle.c104_tools.proofs.NetCommands.{commands_on, last_below, traces_below}
-use Rattle.c104_tools.proofs.NetSwitches.{IsObeyed, obeyed, stands_at}
-use Rattle.c104_tools.specs.NetCommands.{first_commands, net_commands, net_switches}
-use Rattle.c104_tools.specs.Ports.{Obeyed, command_asked}
+use Rattle.{c104_event.specs.declared.events.Event.Event, c104_node.{proofs.WireEnds.get_set_same, specs.{Nodes.Node, Starts.start_node}}}
+use Rattle.{c104_node.specs.{Traces.{entry_of, seatless}, declared.acts.{ActOf.ActOf, Entry.Entry}}, c104_run.specs.NetRecords.IsNetRecord}
+use Rattle.{c104_run.specs.{NetRecords.{NetRecord, RecordsEvent, ticket_after}, Runs.{at_node, run_deeds}}, c104_switch.specs.Actions.Reply}
+use Rattle.c104_switch.specs.{Control.switch_control, declared.actions.{ActionOf.ActionOf, ReplyOf.ReplyOf}}
+use Rattle.{c104_token.specs.declared.tokens.Token.Token, c104_tools.proofs.NetCommands.{commands_on, last_below, traces_below}}
+use Rattle.c104_tools.{proofs.NetSwitches.{IsObeyed, obeyed, stands_at}, specs.NetCommands.{first_commands, net_commands, net_switches}}
+use Rattle.{c104_tools.specs.Ports.{Obeyed, command_asked}, std.proofs.Common.{List, Ok, Some, [], ap, arith, length, map, refl, slice_get}}
+use Rattle.std.{proofs.Common.{slice_set, suc, true, ℕ, ◌++◌, ◌<◌, ◌∙◌, ◌∷◌, ◌≡◌}, specs.Option.option_map}
 
 module _ (old new : NetRecord) (before : IsNetRecord old) (after : IsNetRecord new) (k : ℕ) (bytes : List ℕ) where
-  module _ (r : Reply) (recorded : RecordsEvent old (event.Control k bytes) (Ok r) new) where
+  module _ (r : Reply) (recorded : RecordsEvent old (Event.Control k bytes) (Ok r) new) where
     pub by_switch : IsObeyed old.network new.network k bytes r
     by_switch = obeyed old.network new.network _ k bytes r before.steady.in_place recorded.answers
 
-  module _ (told : List ℕ) (recorded : RecordsEvent old (event.Control k bytes) (Ok (reply.Control told)) new) where
-    it : IsObeyed old.network new.network k bytes (reply.Control told)
-    it = by_switch (reply.Control told) recorded
+  module _ (told : List ℕ) (recorded : RecordsEvent old (Event.Control k bytes) (Ok (ReplyOf.Control told)) new) where
+    it : IsObeyed old.network new.network k bytes (ReplyOf.Control told)
+    it = by_switch (ReplyOf.Control told) recorded
 
     abbrev newest : Entry
-    newest = entry_of (seatless old.count) (act.Step (action.Control bytes)) (reply.Control told)
+    newest = entry_of (seatless old.count) (ActOf.Step (ActionOf.Control bytes)) (ReplyOf.Control told)
 
     -- there is a trace for each switch
     trace_there : (trace : List Entry) × (slice_get old.traces k ≡ Some trace)
@@ -60,8 +47,8 @@ module _ (old new : NetRecord) (before : IsNetRecord old) (after : IsNetRecord n
         (it.at.switch, it.at.seen, same, ap Some it.shown)
       where
         bytes_of : Reply → List ℕ
-        bytes_of (reply.Control b) = b
+        bytes_of (ReplyOf.Control b) = b
         bytes_of r = []
 
-        replied_so : {b : List ℕ} → ◌≡◌ {A = Reply} (reply.Control told) (reply.Control b) → told ≡ b
+        replied_so : {b : List ℕ} → ◌≡◌ {A = Reply} (ReplyOf.Control told) (ReplyOf.Control b) → told ≡ b
         replied_so is = ap bytes_of is

@@ -1,64 +1,43 @@
 -- A new network into which an image is loaded is the network that is placed with the image.
-use Rattle.std.proofs.Common.{◌≡◌, ◌↔◌, ◌<◌, ◌++◌, ℕ, zero, suc, All, Bool, true, false, IsTrue, Option, Some, Result, Ok, Err, List, [], ◌∷◌, if◌then◌else◌, length, map, nat_eq, nat_lt, replicate, slice_get, slice_set, refl, sym, ap, ◌∙◌, subst, arith}
-use Rattle.std.proofs.lemmas.Bool.Decides.{nat_tests}
-use Rattle.c104_token.specs.declared.tokens.Token.{Token}
-use Rattle.c104_token.specs.Kinds.{plain_kind}
-use Rattle.c104_control.specs.Table.{command_bytes}
-use Rattle.c104_plan.specs.declared.plans.Terminal.{Terminal as PlanTerminal}
-use Rattle.c104_plan.specs.PlanImage.{Fits, Image}
-use Rattle.c104_plan.specs.Plans.{Plan}
-use Rattle.c104_event.specs.declared.events.Event.TheVariants as event
-use Rattle.c104_event.specs.declared.faults.EventFault.{EventFault}
-use Rattle.c104_event.specs.declared.faults.EventFault.TheVariants as event_fault
-use Rattle.c104_link.specs.Buffers.{empty_outgoing}
-use Rattle.c104_run.proofs.BalancePlaces.{still_in_place}
-use Rattle.c104_run.specs.Balance.{AreInPlace}
-use Rattle.c104_node.specs.Nodes.{is_switch, Node}
-use Rattle.c104_run.specs.NetRecords.{NetRecord, fresh_record, record_begun_if}
-use Rattle.c104_run.proofs.EventSteps.{control_applied}
-use Rattle.c104_run.proofs.FirstRecords.{map_twice}
-use Rattle.c104_run.specs.Network.{Network, network_apply, network_of, new_network, new_switch_nodes, placed_network, switch_nodes, terminal_nodes, with_nodes}
-use Rattle.c104_node.specs.Quiet.{IsQuietInput, IsQuietNode, IsQuietOutput, IsQuietSwitch, node_begin}
-use Rattle.c104_run.specs.QuietNets.{IsQuiet, network_begin}
-use Rattle.c104_node.specs.Terminals.{Terminal, new_terminal}
-use Rattle.c104_node.specs.declared.node.NodeOf.TheVariants as node
-use Rattle.c104_regs.specs.declared.settings.Settings.{Settings}
-use Rattle.c104_switch.specs.Actions.{Reply}
-use Rattle.c104_switch.specs.Control.{switch_control}
-use Rattle.c104_switch.specs.Switch.{Switch, new_input, new_switch, new_switch_with}
-use Rattle.c104_switch.specs.declared.actions.ReplyOf.TheVariants as reply
-use Rattle.c104_tools.proofs.NetSwitches.{stands_at}
-use Rattle.c104_tools.specs.declared.faults.LoadFault.{LoadFault}
-use Rattle.c104_tools.specs.Loaded.{each_with, loaded}
-use Rattle.c104_tools.specs.Loads.{load_list}
-use Rattle.c104_tools.specs.NetCommands.{net_switches, switches_of}
-use Rattle.c104_tools.specs.NetOutcomes.{net_command, net_load, net_outcome}
-use Rattle.c104_tools.specs.Outcomes.{Judge, any_value, nothing_made, run_steps, step_result, unless_failed}
-use Rattle.c104_tools.specs.Ports.{Switches}
-use Rattle.c104_tools.specs.Steps.{Step}
+use Rattle.{c104_control.specs.Table.command_bytes, c104_event.specs.declared.{events.Event.Event, faults.EventFault.EventFault}}
+use Rattle.{c104_link.specs.Buffers.empty_outgoing, c104_node.specs.{Nodes.{Node, is_switch}, Quiet.{IsQuietInput, IsQuietNode}}}
+use Rattle.c104_node.specs.{Quiet.{IsQuietOutput, IsQuietSwitch, node_begin}, Terminals.{Terminal, new_terminal}}
+use Rattle.{c104_node.specs.declared.node.NodeOf.NodeOf, c104_plan.specs.{PlanImage.{Fits, Image}, Plans.Plan}}
+use Rattle.{c104_plan.specs.declared.plans.Terminal.Terminal as PlanTerminal, c104_regs.specs.declared.settings.Settings.Settings}
+use Rattle.c104_run.{proofs.{BalancePlaces.still_in_place, EventSteps.control_applied, FirstRecords.map_twice}, specs.Balance.AreInPlace}
+use Rattle.c104_run.specs.{NetRecords.{NetRecord, fresh_record, record_begun_if}, Network.{Network, network_apply, network_of, new_network}}
+use Rattle.c104_run.specs.{Network.{new_switch_nodes, placed_network, switch_nodes, terminal_nodes, with_nodes}, QuietNets.IsQuiet}
+use Rattle.{c104_run.specs.QuietNets.network_begin, c104_switch.specs.{Actions.Reply, Control.switch_control, Switch.{Switch, new_input}}}
+use Rattle.{c104_switch.specs.{Switch.{new_switch, new_switch_with}, declared.actions.ReplyOf.ReplyOf}, c104_token.specs.Kinds.plain_kind}
+use Rattle.{c104_token.specs.declared.tokens.Token.Token, c104_tools.{proofs.NetSwitches.stands_at, specs.Loaded.{each_with, loaded}}}
+use Rattle.c104_tools.specs.{Loads.load_list, NetCommands.{net_switches, switches_of}, NetOutcomes.{net_command, net_load, net_outcome}}
+use Rattle.c104_tools.specs.{Outcomes.{Judge, any_value, nothing_made, run_steps, step_result, unless_failed}, Ports.Switches, Steps.Step}
+use Rattle.{c104_tools.specs.declared.faults.LoadFault.LoadFault, std.proofs.Common.{All, Bool, Err, IsTrue, List, Ok, Option, Result}}
+use Rattle.std.proofs.Common.{Some, [], ap, arith, false, if◌then◌else◌, length, map, nat_eq, nat_lt, refl, replicate, slice_get, slice_set}
+use Rattle.std.proofs.{Common.{subst, suc, sym, true, zero, ℕ, ◌++◌, ◌<◌, ◌↔◌, ◌∙◌, ◌∷◌, ◌≡◌}, lemmas.Bool.Decides.nat_tests}
 
 -- the terminals among nodes, in order
 abbrev pub terminals_of : List (Node Token) → List (Terminal Token)
 terminals_of [] = []
-terminals_of (node.Switch s ∷ nodes) = terminals_of nodes
-terminals_of (node.Terminal t ∷ nodes) = t ∷ terminals_of nodes
+terminals_of (NodeOf.Switch s ∷ nodes) = terminals_of nodes
+terminals_of (NodeOf.Terminal t ∷ nodes) = t ∷ terminals_of nodes
 
 -- nodes in their places are the switches, and then the terminals
-only_terminals : (b : ℕ) (nodes : List (Node Token)) → map is_switch nodes ≡ replicate b false → (switches_of nodes ≡ []) × (nodes ≡ map node.Terminal (terminals_of nodes))
+only_terminals : (b : ℕ) (nodes : List (Node Token)) → map is_switch nodes ≡ replicate b false → (switches_of nodes ≡ []) × (nodes ≡ map NodeOf.Terminal (terminals_of nodes))
 only_terminals b [] are = (refl, refl)
-only_terminals (suc b) (node.Terminal t ∷ nodes) are =
+only_terminals (suc b) (NodeOf.Terminal t ∷ nodes) are =
     let rest : map is_switch nodes ≡ replicate b false = cc in
     let more = only_terminals b nodes rest in
-    (more.0, ap (λ ns. node.Terminal t ∷ ns) more.1)
+    (more.0, ap (λ ns. NodeOf.Terminal t ∷ ns) more.1)
 only_terminals b nodes are = absurd (cc are)
 
-nodes_are : (a b : ℕ) (nodes : List (Node Token)) → map is_switch nodes ≡ replicate a true ++ replicate b false → nodes ≡ map node.Switch (switches_of nodes) ++ map node.Terminal (terminals_of nodes)
+nodes_are : (a b : ℕ) (nodes : List (Node Token)) → map is_switch nodes ≡ replicate a true ++ replicate b false → nodes ≡ map NodeOf.Switch (switches_of nodes) ++ map NodeOf.Terminal (terminals_of nodes)
 nodes_are zero b nodes are =
     let all = only_terminals b nodes are in
-    all.1 ∙ ap (λ (ss : Switches). map node.Switch ss ++ map node.Terminal (terminals_of nodes)) (sym all.0)
-nodes_are (suc a) b (node.Switch s ∷ nodes) are =
+    all.1 ∙ ap (λ (ss : Switches). map NodeOf.Switch ss ++ map NodeOf.Terminal (terminals_of nodes)) (sym all.0)
+nodes_are (suc a) b (NodeOf.Switch s ∷ nodes) are =
     let rest : map is_switch nodes ≡ replicate a true ++ replicate b false = cc in
-    ap (λ ns. node.Switch s ∷ ns) (nodes_are a b nodes rest)
+    ap (λ ns. NodeOf.Switch s ∷ ns) (nodes_are a b nodes rest)
 nodes_are a b nodes are = absurd (cc are)
 
 -- what a command keeps of a network: all but its switches
@@ -76,37 +55,37 @@ keeps_on old mid new one other = record { plan = other.plan ∙ one.plan; kinds 
 pub still_placed : (old new : Network Token) → AreInPlace old.plan old.nodes → Keeps old new → AreInPlace new.plan new.nodes
 still_placed old new are kept = kept.kinds ∙ are ∙ ap (λ (p : Plan). replicate (length p.switches) true ++ replicate (length p.terminals) false) (sym kept.plan)
 
-terminals_set : (nodes : List (Node Token)) (k : ℕ) (s t : Switch Token) → slice_get nodes k ≡ Some (node.Switch s) → terminals_of (slice_set nodes k (node.Switch t)) ≡ terminals_of nodes
+terminals_set : (nodes : List (Node Token)) (k : ℕ) (s t : Switch Token) → slice_get nodes k ≡ Some (NodeOf.Switch s) → terminals_of (slice_set nodes k (NodeOf.Switch t)) ≡ terminals_of nodes
 terminals_set [] k s t is = refl
-terminals_set (node.Switch x ∷ nodes) zero s t is = refl
-terminals_set (node.Terminal x ∷ nodes) zero s t is = absurd (cc is)
-terminals_set (node.Switch x ∷ nodes) (suc k) s t is = terminals_set nodes k s t is
-terminals_set (node.Terminal x ∷ nodes) (suc k) s t is = ap (λ ts. x ∷ ts) (terminals_set nodes k s t is)
+terminals_set (NodeOf.Switch x ∷ nodes) zero s t is = refl
+terminals_set (NodeOf.Terminal x ∷ nodes) zero s t is = absurd (cc is)
+terminals_set (NodeOf.Switch x ∷ nodes) (suc k) s t is = terminals_set nodes k s t is
+terminals_set (NodeOf.Terminal x ∷ nodes) (suc k) s t is = ap (λ ts. x ∷ ts) (terminals_set nodes k s t is)
 
 abbrev Answered : Type 0
 Answered = Result Reply EventFault × Network Token
 
-apply_keeps : (net : Network Token) (k : ℕ) (bytes : List ℕ) → AreInPlace net.plan net.nodes → Keeps net (network_apply plain_kind net (event.Control k bytes)).1
+apply_keeps : (net : Network Token) (k : ℕ) (bytes : List ℕ) → AreInPlace net.plan net.nodes → Keeps net (network_apply plain_kind net (Event.Control k bytes)).1
 apply_keeps net k bytes are = by_inside (nat_lt k (length net.plan.switches)) refl
   where
-    by_inside : (b : Bool) → nat_lt k (length net.plan.switches) ≡ b → Keeps net (network_apply plain_kind net (event.Control k bytes)).1
+    by_inside : (b : Bool) → nat_lt k (length net.plan.switches) ≡ b → Keeps net (network_apply plain_kind net (Event.Control k bytes)).1
     by_inside false is =
-        let none : network_apply plain_kind net (event.Control k bytes) ≡ (Err event_fault.NoNode, net) = rw is refl in
+        let none : network_apply plain_kind net (Event.Control k bytes) ≡ (Err EventFault.NoNode, net) = rw is refl in
         subst (λ (t : Answered). Keeps net t.1) (sym none) (keeps_all net)
     by_inside true is =
         let inside : k < length net.plan.switches = grind (arith, nat_tests) in
         let at = stands_at (length net.plan.switches) (length net.plan.terminals) net.nodes are k inside in
         let done = switch_control at.switch bytes in
-        let made : network_apply plain_kind net (event.Control k bytes) ≡ (Ok (reply.Control done.0), with_nodes net (slice_set net.nodes k (node.Switch done.1))) = control_applied plain_kind net k bytes at.switch is at.there in
+        let made : network_apply plain_kind net (Event.Control k bytes) ≡ (Ok (ReplyOf.Control done.0), with_nodes net (slice_set net.nodes k (NodeOf.Switch done.1))) = control_applied plain_kind net k bytes at.switch is at.there in
         subst (λ (t : Answered). Keeps net t.1) (sym made)
-        (record { plan = refl; kinds = still_in_place net.nodes k (node.Switch at.switch) (node.Switch done.1) at.there refl; terminals = terminals_set net.nodes k at.switch done.1 at.there })
+        (record { plan = refl; kinds = still_in_place net.nodes k (NodeOf.Switch at.switch) (NodeOf.Switch done.1) at.there refl; terminals = terminals_set net.nodes k at.switch done.1 at.there })
 
-full_keeps : (net : Network Token) (b : Bool) (due : Answered) → Keeps net due.1 → Keeps net (if b then (Err event_fault.TraceFull, net) else due).1
+full_keeps : (net : Network Token) (b : Bool) (due : Answered) → Keeps net due.1 → Keeps net (if b then (Err EventFault.TraceFull, net) else due).1
 full_keeps net true due kept = keeps_all net
 full_keeps net false due kept = kept
 
 pub command_keeps : (r : NetRecord) (k : ℕ) (bytes : List ℕ) → AreInPlace r.network.plan r.network.nodes → Keeps r.network (net_command r k bytes).1.network
-command_keeps r k bytes are = full_keeps r.network _ (network_apply plain_kind r.network (event.Control k bytes)) (apply_keeps r.network k bytes are)
+command_keeps r k bytes are = full_keeps r.network _ (network_apply plain_kind r.network (Event.Control k bytes)) (apply_keeps r.network k bytes are)
 
 module _ (judge : Judge) where
   failed_or_on : (x : Result ℕ LoadFault) (net : Network Token) (s : NetRecord) (f : NetRecord → Result (List ℕ) LoadFault × NetRecord) → Keeps net s.network → Keeps s.network (f s).1.network → Keeps net (unless_failed x s f).1.network
@@ -161,8 +140,8 @@ module _ (cap : ℕ) where
 
   nodes_begin : (image : List (List Settings)) (terminals : List PlanTerminal) → map node_begin (switch_nodes {A = Token} cap image ++ terminal_nodes cap terminals) ≡ switch_nodes cap image ++ terminal_nodes cap terminals
   nodes_begin [] [] = refl
-  nodes_begin [] (t ∷ terminals) = ap (λ ns. node.Terminal (new_terminal cap) ∷ ns) (nodes_begin [] terminals)
-  nodes_begin (settings ∷ image) terminals = ap (λ ns. node.Switch (new_switch_with cap settings true) ∷ ns) (nodes_begin image terminals)
+  nodes_begin [] (t ∷ terminals) = ap (λ ns. NodeOf.Terminal (new_terminal cap) ∷ ns) (nodes_begin [] terminals)
+  nodes_begin (settings ∷ image) terminals = ap (λ ns. NodeOf.Switch (new_switch_with cap settings true) ∷ ns) (nodes_begin image terminals)
 
 abbrev Ended : Type 0
 Ended = Result (Unit {0}) LoadFault × NetRecord
@@ -188,10 +167,10 @@ module _ (plan : Plan) (image : Image) (fits : Fits image plan) (in_place : AreI
       let terminals : terminals_of after.network.nodes ≡ map (λ (t : PlanTerminal). new_terminal plan.cap) plan.terminals =
       kept.terminals ∙ terminals_after plan.cap plan.switches plan.terminals in
       nodes_are (length plan.switches) (length plan.terminals) after.network.nodes (kept.kinds ∙ in_place)
-      ∙ ap (λ (ss : Switches). map node.Switch ss ++ map node.Terminal (terminals_of after.network.nodes)) switches
-      ∙ ap (λ (ts : List (Terminal Token)). map node.Switch (map (λ settings. new_switch_with plan.cap settings true) image.settings) ++ map node.Terminal ts) terminals
-      ∙ ap (λ (ns : List (Node Token)). ns ++ map node.Terminal (map (λ (t : PlanTerminal). new_terminal plan.cap) plan.terminals)) (map_twice node.Switch (λ settings. new_switch_with plan.cap settings true) image.settings)
-      ∙ ap (λ (ns : List (Node Token)). switch_nodes plan.cap image.settings ++ ns) (map_twice node.Terminal (λ (t : PlanTerminal). new_terminal plan.cap) plan.terminals)
+      ∙ ap (λ (ss : Switches). map NodeOf.Switch ss ++ map NodeOf.Terminal (terminals_of after.network.nodes)) switches
+      ∙ ap (λ (ts : List (Terminal Token)). map NodeOf.Switch (map (λ settings. new_switch_with plan.cap settings true) image.settings) ++ map NodeOf.Terminal ts) terminals
+      ∙ ap (λ (ns : List (Node Token)). ns ++ map NodeOf.Terminal (map (λ (t : PlanTerminal). new_terminal plan.cap) plan.terminals)) (map_twice NodeOf.Switch (λ settings. new_switch_with plan.cap settings true) image.settings)
+      ∙ ap (λ (ns : List (Node Token)). switch_nodes plan.cap image.settings ++ ns) (map_twice NodeOf.Terminal (λ (t : PlanTerminal). new_terminal plan.cap) plan.terminals)
     where
       some_same : {X : Type 0} {x y : X} → ◌≡◌ {A = Option X} (Some x) (Some y) → x ≡ y
       some_same is = cc

@@ -1,26 +1,17 @@
 -- What comes of steps on a network with its record is what its record tells, unless memory runs out.
-use Rattle.std.proofs.Common.{◌≡◌, ◌≢◌, ◌↔◌, ◌<◌, ◌≤◌, ℕ, Bool, true, false, List, [], ◌∷◌, Result, Ok, Err, if◌then◌else◌, inl, inr, length, nat_eq, nat_lt, refl, sym, ap, ◌∙◌, subst, arith}
-use Rattle.std.proofs.lemmas.Bool.Decides.{nat_tests}
-use Rattle.c104_control.specs.Table.{command_bytes}
-use Rattle.c104_plan.specs.PlanImage.{Image}
-use Rattle.c104_event.specs.declared.events.Event.TheVariants as event
-use Rattle.c104_event.specs.declared.faults.EventFault.{EventFault}
-use Rattle.c104_event.specs.declared.faults.EventFault.TheVariants as event_fault
-use Rattle.c104_interval.specs.declared.intervals.Table.{Table}
-use Rattle.c104_run.specs.NetRecords.{NetRecord}
-use Rattle.c104_run.specs.RecordedRuns.{AnswersRecord}
-use Rattle.c104_switch.specs.Actions.{Reply}
-use Rattle.c104_tools.specs.declared.faults.LoadFault.{LoadFault}
-use Rattle.c104_tools.specs.declared.faults.LoadFault.TheVariants as fault
-use Rattle.c104_tools.specs.declared.reading.LinkNumbers.{LinkNumbers}
-use Rattle.c104_tools.specs.Loads.{load_list, pokes, verify_list}
-use Rattle.c104_tools.specs.NetCommands.{net_switch_count}
-use Rattle.c104_tools.specs.NetOutcomes.{EndsSo, MayGive, control_given, net_command, net_link, net_load, net_outcome, net_poke, net_table, net_verify}
-use Rattle.c104_tools.specs.Outcomes.{ComesTo, Given, GoesOn, Judge, Outcome, and_then, any_value, due_value_only, link_made, link_peeks, nothing_made, run_steps, step_result, table_made, table_peeks, unless_failed, with_value}
-use Rattle.c104_tools.specs.Steps.{Step}
+use Rattle.{c104_control.specs.Table.command_bytes, c104_event.specs.declared.{events.Event.Event, faults.EventFault.EventFault}}
+use Rattle.{c104_interval.specs.declared.intervals.Table.Table, c104_plan.specs.PlanImage.Image, c104_run.specs.NetRecords.NetRecord}
+use Rattle.{c104_run.specs.RecordedRuns.AnswersRecord, c104_switch.specs.Actions.Reply, c104_tools.specs.Loads.{load_list, pokes}}
+use Rattle.c104_tools.specs.{Loads.verify_list, NetCommands.net_switch_count, NetOutcomes.{EndsSo, MayGive, control_given, net_command}}
+use Rattle.c104_tools.specs.{NetOutcomes.{net_link, net_load, net_outcome, net_poke, net_table, net_verify}, Outcomes.{ComesTo, Given}}
+use Rattle.c104_tools.specs.Outcomes.{GoesOn, Judge, Outcome, and_then, any_value, due_value_only, link_made, link_peeks, nothing_made}
+use Rattle.c104_tools.specs.{Outcomes.{run_steps, step_result, table_made, table_peeks, unless_failed, with_value}, Steps.Step}
+use Rattle.{c104_tools.specs.declared.{faults.LoadFault.LoadFault, reading.LinkNumbers.LinkNumbers}, std.proofs.Common.{Bool, Err, List}}
+use Rattle.std.proofs.Common.{Ok, Result, [], ap, arith, false, if◌then◌else◌, inl, inr, length, nat_eq, nat_lt, refl, subst, sym, true, ℕ}
+use Rattle.std.proofs.{Common.{◌<◌, ◌↔◌, ◌∙◌, ◌∷◌, ◌≡◌, ◌≢◌, ◌≤◌}, lemmas.Bool.Decides.nat_tests}
 
 -- what a network may give for a command, by what its event is answered
-pub may_give : (r after : NetRecord) (k : ℕ) (bytes : List ℕ) (answer : Result Reply EventFault) (given : Given) → control_given answer ≡ given → AnswersRecord r (event.Control k bytes) answer after → MayGive r k bytes given after
+pub may_give : (r after : NetRecord) (k : ℕ) (bytes : List ℕ) (answer : Result Reply EventFault) (given : Given) → control_given answer ≡ given → AnswersRecord r (Event.Control k bytes) answer after → MayGive r k bytes given after
 may_give r after k bytes answer given is (inl due) = inl (ap (λ (g : Given). (g, after)) (sym is) ∙ ap (λ (x : Result Reply EventFault × NetRecord). (control_given x.0, x.1)) due)
 may_give r after k bytes answer given is (inr (none, wanted, same)) = inr (sym is ∙ ap control_given none, wanted, same)
 
@@ -47,7 +38,7 @@ module _ (judge : Judge) where
           subst (λ (x : Given × NetRecord). EndsSo (unless_failed (step_result judge t x.0) x.1 (λ s. run_steps net_command judge s steps)) result after) due
           (goes_so next after (λ s rest. ComesTo MayGive judge s steps rest after) (λ s. run_steps net_command judge s steps) each (step_result judge t given) result goes)
       by_given each (inr (none, wanted, same)) =
-          let stopped : GoesOn {P = NetRecord} (step_result judge t (Err event_fault.NoMemory)) next result after (λ s rest. ComesTo MayGive judge s steps rest after) = subst (λ (g : Given). GoesOn (step_result judge t g) next result after (λ s rest. ComesTo MayGive judge s steps rest after)) none goes in
+          let stopped : GoesOn {P = NetRecord} (step_result judge t (Err EventFault.NoMemory)) next result after (λ s rest. ComesTo MayGive judge s steps rest after) = subst (λ (g : Given). GoesOn (step_result judge t g) next result after (λ s rest. ComesTo MayGive judge s steps rest after)) none goes in
           inr stopped.0
 
   module _ {X : Type 0} (make : List ℕ → Result X LoadFault) (r after : NetRecord) (steps : List Step) (result : Result X LoadFault) where
@@ -60,9 +51,9 @@ module _ (judge : Judge) where
 
 -- a call that is told there is no such switch, or else asks its steps
 module _ {X : Type 0} (r after : NetRecord) (result : Result X LoadFault) (due : Result X LoadFault × NetRecord) where
-  by_test : (fits : Bool) → (fits ≡ false → (result ≡ Err fault.NoSwitch) × (after ≡ r)) → (fits ≡ true → EndsSo due result after) → EndsSo (if fits then due else (Err fault.NoSwitch, r)) result after
+  by_test : (fits : Bool) → (fits ≡ false → (result ≡ Err LoadFault.NoSwitch) × (after ≡ r)) → (fits ≡ true → EndsSo due result after) → EndsSo (if fits then due else (Err LoadFault.NoSwitch, r)) result after
   by_test true refused asked = asked refl
-  by_test false refused asked = inl (ap (λ (x : Result X LoadFault). (x, after)) (refused refl).0 ∙ ap (λ (x : NetRecord). (Err fault.NoSwitch, x)) (refused refl).1)
+  by_test false refused asked = inl (ap (λ (x : Result X LoadFault). (x, after)) (refused refl).0 ∙ ap (λ (x : NetRecord). (Err LoadFault.NoSwitch, x)) (refused refl).1)
 
 -- the numbers of switches are tested
 differ : (a b : ℕ) → nat_eq a b ≡ false → a ≢ b
@@ -79,8 +70,8 @@ below a b is = grind (arith, nat_tests)
 
 -- what each call of the loader and the debugger says of a network, by its clauses
 module _ (r after : NetRecord) where
-  module _ (image : Image) (result : Result (Unit {0}) LoadFault) (unfitting : (result ≡ Err fault.NoSwitch) ↔ (net_switch_count r ≢ length image.settings)) (not_asked : net_switch_count r ≢ length image.settings → after ≡ r) where
-    refused : nat_eq (net_switch_count r) (length image.settings) ≡ false → (result ≡ Err fault.NoSwitch) × (after ≡ r)
+  module _ (image : Image) (result : Result (Unit {0}) LoadFault) (unfitting : (result ≡ Err LoadFault.NoSwitch) ↔ (net_switch_count r ≢ length image.settings)) (not_asked : net_switch_count r ≢ length image.settings → after ≡ r) where
+    refused : nat_eq (net_switch_count r) (length image.settings) ≡ false → (result ≡ Err LoadFault.NoSwitch) × (after ≡ r)
     refused is = let no = differ (net_switch_count r) (length image.settings) is in (unfitting.1 no, not_asked no)
 
     pub load_ends : (net_switch_count r ≡ length image.settings → Outcome MayGive any_value nothing_made r (load_list image.settings) result after) → EndsSo (net_load r image) result after
@@ -95,22 +86,22 @@ module _ (r after : NetRecord) where
         by_test r after result (net_outcome due_value_only nothing_made r (verify_list image.settings)) (nat_eq (net_switch_count r) (length image.settings)) refused
         (λ is. outcome_ends due_value_only nothing_made r after (verify_list image.settings) result (due (equal (net_switch_count r) (length image.settings) is)))
 
-  module _ {X : Type 0} (switch : ℕ) (result : Result X LoadFault) (unknown : (result ≡ Err fault.NoSwitch) ↔ (net_switch_count r ≤ switch)) (not_asked : net_switch_count r ≤ switch → after ≡ r) where
-    called : (judge : Judge) (make : List ℕ → Result X LoadFault) (steps : List Step) → (switch < net_switch_count r → Outcome MayGive judge make r steps result after) → EndsSo (if nat_lt switch (net_switch_count r) then net_outcome judge make r steps else (Err fault.NoSwitch, r)) result after
+  module _ {X : Type 0} (switch : ℕ) (result : Result X LoadFault) (unknown : (result ≡ Err LoadFault.NoSwitch) ↔ (net_switch_count r ≤ switch)) (not_asked : net_switch_count r ≤ switch → after ≡ r) where
+    called : (judge : Judge) (make : List ℕ → Result X LoadFault) (steps : List Step) → (switch < net_switch_count r → Outcome MayGive judge make r steps result after) → EndsSo (if nat_lt switch (net_switch_count r) then net_outcome judge make r steps else (Err LoadFault.NoSwitch, r)) result after
     called judge make steps due =
         by_test r after result (net_outcome judge make r steps) (nat_lt switch (net_switch_count r))
         (λ is. let no = past switch (net_switch_count r) is in (unknown.1 no, not_asked no))
         (λ is. outcome_ends judge make r after steps result (due (below switch (net_switch_count r) is)))
 
   module _ (switch : ℕ) where
-    pub poke_ends : (addr value : ℕ) (result : Result (Unit {0}) LoadFault) → (result ≡ Err fault.NoSwitch) ↔ (net_switch_count r ≤ switch) → (net_switch_count r ≤ switch → after ≡ r) → (switch < net_switch_count r → Outcome MayGive any_value nothing_made r (pokes switch ((addr, value) ∷ [])) result after) → EndsSo (net_poke r switch addr value) result after
+    pub poke_ends : (addr value : ℕ) (result : Result (Unit {0}) LoadFault) → (result ≡ Err LoadFault.NoSwitch) ↔ (net_switch_count r ≤ switch) → (net_switch_count r ≤ switch → after ≡ r) → (switch < net_switch_count r → Outcome MayGive any_value nothing_made r (pokes switch ((addr, value) ∷ [])) result after) → EndsSo (net_poke r switch addr value) result after
     unfolding net_poke
     poke_ends addr value result unknown not_asked due = called switch result unknown not_asked any_value nothing_made (pokes switch ((addr, value) ∷ [])) due
 
-    pub link_ends : (link : ℕ) (result : Result LinkNumbers LoadFault) → (result ≡ Err fault.NoSwitch) ↔ (net_switch_count r ≤ switch) → (net_switch_count r ≤ switch → after ≡ r) → (switch < net_switch_count r → Outcome MayGive any_value link_made r (link_peeks switch link) result after) → EndsSo (net_link r switch link) result after
+    pub link_ends : (link : ℕ) (result : Result LinkNumbers LoadFault) → (result ≡ Err LoadFault.NoSwitch) ↔ (net_switch_count r ≤ switch) → (net_switch_count r ≤ switch → after ≡ r) → (switch < net_switch_count r → Outcome MayGive any_value link_made r (link_peeks switch link) result after) → EndsSo (net_link r switch link) result after
     unfolding net_link
     link_ends link result unknown not_asked due = called switch result unknown not_asked any_value link_made (link_peeks switch link) due
 
-    pub table_ends : (link : ℕ) (result : Result Table LoadFault) → (result ≡ Err fault.NoSwitch) ↔ (net_switch_count r ≤ switch) → (net_switch_count r ≤ switch → after ≡ r) → (switch < net_switch_count r → Outcome MayGive any_value (table_made switch) r (table_peeks switch link) result after) → EndsSo (net_table r switch link) result after
+    pub table_ends : (link : ℕ) (result : Result Table LoadFault) → (result ≡ Err LoadFault.NoSwitch) ↔ (net_switch_count r ≤ switch) → (net_switch_count r ≤ switch → after ≡ r) → (switch < net_switch_count r → Outcome MayGive any_value (table_made switch) r (table_peeks switch link) result after) → EndsSo (net_table r switch link) result after
     unfolding net_table
     table_ends link result unknown not_asked due = called switch result unknown not_asked any_value (table_made switch) (table_peeks switch link) due

@@ -1,23 +1,13 @@
 -- Registers that are read one after the other, and what is made of their values.
-use Rattle.std.proofs.Common.{◌≡◌, ℕ, suc, ◌+◌, ◌<◌, true, false, not, IsTrue, List, [], ◌∷◌, ◌++◌, append-nil, append_assoc, drop, get_or, length, set, take, Ok, Err, refl, sym, ap, ◌∙◌, subst, arith}
-use Rattle.std.proofs.lemmas.List.{map-append}
-use Rattle.std.proofs.Math.Seq.{drop-append_seam, take-append_seam, take-length, take-suc-set}
-use Rattle.std.specs.List.{list_any, range_with_len}
-use Rattle.c104_control.specs.declared.commands.Command.TheVariants.{CPeek}
-use Rattle.c104_interval.specs.declared.intervals.Row.{Row}
-use Rattle.c104_interval.specs.declared.intervals.Select.{Select}
-use Rattle.c104_interval.specs.Selection.{reset_row}
-use Rattle.c104_regs.specs.Addresses.{address_number}
-use Rattle.c104_regs.specs.declared.addresses.Address.TheVariants.{AtLink}
-use Rattle.c104_regs.specs.declared.addresses.Register.TheVariants as register
-use Rattle.c104_regs.specs.Values.{select_of}
-use Rattle.c104_tools.specs.declared.faults.LoadFault.{LoadFault}
-use Rattle.c104_tools.specs.declared.faults.LoadFault.TheVariants as fault
-use Rattle.c104_tools.specs.Loads.{order}
-use Rattle.c104_tools.specs.Outcomes.{ComesTo, IsTold, any_value, link_peeks, peeks_at, rows_with, table_made, table_peeks, table_with, with_value}
-use Rattle.c104_tools.specs.Steps.{Given, Step}
-use Rattle.c104_tools.specs.Tables.{is_select}
-use Rattle.c104_tools.proofs.Asking.{Read, asked_step, came_then, joined, joined_none}
+use Rattle.{c104_control.specs.declared.commands.Command.TheVariants.CPeek, c104_interval.specs.Selection.reset_row}
+use Rattle.{c104_interval.specs.declared.intervals.{Row.Row, Select.Select}, c104_regs.specs.{Addresses.address_number, Values.select_of}}
+use Rattle.{c104_regs.specs.declared.addresses.{Address.TheVariants.AtLink, Register.Register}, c104_tools.proofs.Asking.{Read, asked_step}}
+use Rattle.c104_tools.{proofs.Asking.{came_then, joined, joined_none}, specs.{Loads.order, Outcomes.{ComesTo, IsTold, any_value}}}
+use Rattle.c104_tools.specs.{Outcomes.{link_peeks, peeks_at, rows_with, table_made, table_peeks, table_with, with_value}, Steps.Given}
+use Rattle.{c104_tools.specs.{Steps.Step, Tables.is_select, declared.faults.LoadFault.LoadFault}, std.proofs.Common.{Err, IsTrue, List, Ok}}
+use Rattle.std.proofs.Common.{[], ap, append-nil, append_assoc, arith, drop, false, get_or, length, not, refl, set, subst, suc, sym, take}
+use Rattle.std.proofs.{Common.{true, ℕ, ◌++◌, ◌+◌, ◌<◌, ◌∙◌, ◌∷◌, ◌≡◌}, Math.Seq.{drop-append_seam, take-append_seam, take-length}}
+use Rattle.std.{proofs.{Math.Seq.take-suc-set, lemmas.List.map-append}, specs.List.{list_any, range_with_len}}
 
 one_more : (values : List ℕ) (i v : ℕ) (rest : Read) → i < length values → joined (Ok (take i values)) (with_value v rest) ≡ joined (Ok (take (i + 1) (set values i v))) rest
 one_more values i v (Err f) inside = refl
@@ -61,16 +51,16 @@ module _ {P : Type 0} (due : P → ℕ → List ℕ → Given → P → Type 0) 
   abbrev Part : ℕ → ℕ → List Step
   Part a n = peeks_at switch (range_with_len a n)
 
-  pub link_came : (n : ℕ) (old new : P) (read : Read) → first ≡ address_number (AtLink link register.Sunk) → n ≡ 7 → Comes due old (Part first n) new read → Comes due old (link_peeks switch link) new read
+  pub link_came : (n : ℕ) (old new : P) (read : Read) → first ≡ address_number (AtLink link Register.Sunk) → n ≡ 7 → Comes due old (Part first n) new read → Comes due old (link_peeks switch link) new read
   link_came n old new read is seven came = subst (λ a. Comes due old (Part a 7) new read) is (subst (λ k. Comes due old (Part first k) new read) seven came)
 
   -- the two parts of a table
-  module _ (n second m : ℕ) (many : n ≡ 37) (rows : m ≡ 36) (first_is : first ≡ address_number (AtLink link register.Base)) (second_is : second ≡ address_number (AtLink link (register.Select 0))) where
+  module _ (n second m : ℕ) (many : n ≡ 37) (rows : m ≡ 36) (first_is : first ≡ address_number (AtLink link Register.Base)) (second_is : second ≡ address_number (AtLink link (Register.Select 0))) where
     parts : table_peeks switch link ≡ Part first n ++ Part second m
     parts =
-        map-append (λ a. order switch (CPeek a)) (range_with_len (address_number (AtLink link register.Base)) 37) (range_with_len (address_number (AtLink link (register.Select 0))) 36)
-        ∙ sym (ap (λ a. Part a n ++ Part second m) first_is ∙ ap (λ k. Part (address_number (AtLink link register.Base)) k ++ Part second m) many
-        ∙ ap (λ a. Part (address_number (AtLink link register.Base)) 37 ++ Part a m) second_is ∙ ap (λ k. Part (address_number (AtLink link register.Base)) 37 ++ Part (address_number (AtLink link (register.Select 0))) k) rows)
+        map-append (λ a. order switch (CPeek a)) (range_with_len (address_number (AtLink link Register.Base)) 37) (range_with_len (address_number (AtLink link (Register.Select 0))) 36)
+        ∙ sym (ap (λ a. Part a n ++ Part second m) first_is ∙ ap (λ k. Part (address_number (AtLink link Register.Base)) k ++ Part second m) many
+        ∙ ap (λ a. Part (address_number (AtLink link Register.Base)) 37 ++ Part a m) second_is ∙ ap (λ k. Part (address_number (AtLink link Register.Base)) 37 ++ Part (address_number (AtLink link (Register.Select 0))) k) rows)
 
     pub table_first_fault : (old new : P) (f : LoadFault) → Comes due old (Part first n) new (Err f) → Comes due old (table_peeks switch link) new (Err f)
     table_first_fault old new f came =
@@ -96,7 +86,7 @@ table_is switch (v ∷ limits) codes rest rows many is made good =
     let rows_are : rows_with limits codes ≡ rows = sym (made ∙ ap (λ xs. rows_with xs codes) same) in
     rw good (ap (λ (xs : List Row). Ok (record { base = v; rows = xs })) rows_are)
 
-pub table_bad : (switch : ℕ) (limits codes : List ℕ) → IsTrue (list_any (λ code. not (is_select code)) codes) → table_with switch limits codes ≡ Err (fault.BadReply switch)
+pub table_bad : (switch : ℕ) (limits codes : List ℕ) → IsTrue (list_any (λ code. not (is_select code)) codes) → table_with switch limits codes ≡ Err (LoadFault.BadReply switch)
 table_bad switch limits codes bad = rw bad refl
 
 -- rows by their limits and selects

@@ -1,14 +1,11 @@
 -- What a reply tells is what the table of commands has it say.
-use Rattle.std.proofs.Common.{◌≡◌, ◌≢◌, ◌↔◌, ℕ, inl, inr, ◌==◌, Bool, true, false, IsTrue, List, Option, Some, None, Result, Err, if◌then◌else◌, refl, sym, ap, ◌∙◌, subst, arith}
-use Rattle.std.proofs.lemmas.Bool.Decides.{nat_tests}
-use Rattle.c104_control.specs.declared.commands.Command.{Command}
-use Rattle.c104_control.specs.declared.commands.Command.TheVariants.{Start, Reset, Identify, CPeek, CPoke}
-use Rattle.c104_control.specs.declared.replies.Answer.{Answer}
-use Rattle.c104_control.specs.declared.replies.Answer.TheVariants.{Started, WasReset, Identity, Value, Poked, Refused}
-use Rattle.c104_control.specs.Table.{IsAnswer, IsAnswerTo, command_format, device_id, reply_bytes}
-use Rattle.c104_tools.specs.declared.faults.LoadFault.{LoadFault}
-use Rattle.c104_tools.specs.declared.faults.LoadFault.TheVariants as fault
+use Rattle.c104_control.specs.{Table.{IsAnswer, IsAnswerTo, command_format, device_id, reply_bytes}, declared.commands.Command.Command}
+use Rattle.c104_control.specs.declared.{commands.Command.TheVariants.{CPeek, CPoke, Identify, Reset, Start}, replies.Answer.Answer}
+use Rattle.c104_control.specs.declared.replies.Answer.TheVariants.{Identity, Poked, Refused, Started, Value, WasReset}
 use Rattle.c104_tools.specs.Steps.{IsMeant, judged, may_refuse, named_address, told_value, value_or_bad}
+use Rattle.{c104_tools.specs.declared.faults.LoadFault.LoadFault, std.proofs.Common.{Bool, Err, IsTrue, List, None, Option, Result, Some}}
+use Rattle.std.proofs.Common.{ap, arith, false, if◌then◌else◌, inl, inr, refl, subst, sym, true, ℕ, ◌==◌, ◌↔◌, ◌∙◌, ◌≡◌, ◌≢◌}
+use Rattle.std.proofs.lemmas.Bool.Decides.{nat_tests}
 
 -- an answer by which a command was done
 identity_by : (n v : ℕ) (is : Bool) → (n == device_id) ≡ is → (if is then Some 0 else None) ≡ Some v → Identity n ≡ Identity device_id
@@ -54,7 +51,7 @@ module _ (switch : ℕ) (c : Command) (reply : List ℕ) (o : Option Answer) (ta
       none b (inl (v, fits, is_done)) same = told_done c v (ap (told_value c) (sym is_done ∙ same) ∙ told)
       none b (inr (n, refuses, refused)) same = may n (sym same ∙ refused)
 
-  refused_so : (n : ℕ) → o ≡ Some (Refused n) → (may : Bool) → may_refuse c n ≡ may → IsMeant switch c reply (if may then Err (fault.Refused switch (named_address c) n) else Err (fault.BadReply switch))
+  refused_so : (n : ℕ) → o ≡ Some (Refused n) → (may : Bool) → may_refuse c n ≡ may → IsMeant switch c reply (if may then Err (LoadFault.Refused switch (named_address c) n) else Err (LoadFault.BadReply switch))
   refused_so n is true may = (refl, refl, may, sym ((table (Refused n)).0 is).1)
   refused_so n is false may = (refl, λ b answers same. none b answers (one_answer (Refused n) b is answers same))
     where

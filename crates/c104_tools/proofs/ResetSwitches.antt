@@ -1,32 +1,17 @@
 -- A switch that was reset takes every value that may be set: nothing is under way, so no link is busy.
-use Rattle.std.proofs.Common.{◌≡◌, ℕ, zero, suc, ◌<◌, ◌^◌, ◌&&◌, Bool, true, false, IsTrue, Option, Some, None, Result, Ok, Err, List, [], ◌∷◌, get_or, map, option_map, slice_get, refl, ap, ◌∙◌, arith}
-use Rattle.std.proofs.lemmas.Bool.Decides.{nat_tests}
-use Rattle.std.proofs.lemmas.Option.{slice_get-map}
-use Rattle.c104_control.proofs.ReadCommands.{read_back}
-use Rattle.c104_control.specs.declared.commands.Command.{Command}
-use Rattle.c104_control.specs.declared.commands.Command.TheVariants.{CPoke}
-use Rattle.c104_control.specs.declared.faults.CommandFault.{CommandFault}
-use Rattle.c104_control.specs.declared.replies.Answer.TheVariants.{Poked}
-use Rattle.c104_control.specs.Table.{command_bytes, reply_bytes}
-use Rattle.c104_link.specs.Buffers.{Outgoing}
-use Rattle.c104_regs.specs.declared.addresses.Register.{Register}
-use Rattle.c104_regs.specs.declared.addresses.Register.TheVariants.{Mode}
-use Rattle.c104_regs.specs.declared.addresses.Address.{Address}
-use Rattle.c104_regs.specs.declared.addresses.Address.TheVariants.{DeviceId, Started, AtLink}
-use Rattle.c104_regs.specs.Addresses.{address_of, register_properties, register_takes}
-use Rattle.c104_regs.specs.declared.faults.RegFault.{RegFault}
-use Rattle.c104_regs.specs.declared.faults.RegFault.TheVariants.{NoRegister, ReadOnly, OutOfRange}
-use Rattle.c104_regs.specs.declared.settings.Settings.{Settings}
-use Rattle.c104_regs.specs.declared.status.Status.{Status}
-use Rattle.c104_regs.specs.Registers.{bank_poke, placed_bank, settable, status_at, target, waits}
-use Rattle.c104_regs.specs.Values.{reset_status}
-use Rattle.c104_regs.proofs.RegisterLemmas.{get_or-same}
-use Rattle.c104_switch.specs.Commands.{input_reset, switch_poke, switch_reset}
-use Rattle.c104_switch.specs.Control.{poke_answer, switch_control, switch_obey_if_read}
-use Rattle.c104_switch.specs.Peeks.{link_status, registers, sides_status, statuses_from}
-use Rattle.c104_switch.specs.Switch.{Input, Switch, is_owned}
-use Rattle.c104_token.specs.declared.tokens.Token.{Token}
-use Rattle.c104_tools.specs.Loaded.{reset_with}
+use Rattle.c104_control.{proofs.ReadCommands.read_back, specs.{Table.{command_bytes, reply_bytes}, declared.commands.Command.Command}}
+use Rattle.c104_control.specs.declared.{commands.Command.TheVariants.CPoke, faults.CommandFault.CommandFault}
+use Rattle.{c104_control.specs.declared.replies.Answer.TheVariants.Poked, c104_link.specs.Buffers.Outgoing}
+use Rattle.c104_regs.{proofs.RegisterLemmas.get_or-same, specs.Addresses.{address_of, register_properties, register_takes}}
+use Rattle.c104_regs.specs.{Registers.{bank_poke, placed_bank, settable, status_at, target, waits}, Values.reset_status}
+use Rattle.c104_regs.specs.declared.addresses.{Address.{Address, TheVariants.{AtLink, DeviceId, Started}}, Register.Register}
+use Rattle.c104_regs.specs.declared.{addresses.Register.TheVariants.Mode, faults.RegFault.{RegFault, TheVariants.{NoRegister, OutOfRange}}}
+use Rattle.c104_regs.specs.declared.{faults.RegFault.TheVariants.ReadOnly, settings.Settings.Settings, status.Status.Status}
+use Rattle.c104_switch.specs.{Commands.{input_reset, switch_poke, switch_reset}, Control.{poke_answer, switch_control, switch_obey_if_read}}
+use Rattle.c104_switch.specs.{Peeks.{link_status, registers, sides_status, statuses_from}, Switch.{Input, Switch, is_owned}}
+use Rattle.{c104_token.specs.declared.tokens.Token.Token, c104_tools.specs.Loaded.reset_with, std.proofs.Common.{Bool, Err, IsTrue, List}}
+use Rattle.std.proofs.Common.{None, Ok, Option, Result, Some, [], ap, arith, false, get_or, map, option_map, refl, slice_get, suc, true}
+use Rattle.std.proofs.{Common.{zero, ℕ, ◌&&◌, ◌<◌, ◌^◌, ◌∙◌, ◌∷◌, ◌≡◌}, lemmas.{Bool.Decides.nat_tests, Option.slice_get-map}}
 
 -- no input of a switch that was reset streams
 none_owned : (inputs : List (Input Token)) (o : ℕ) → is_owned (map input_reset inputs) o ≡ false

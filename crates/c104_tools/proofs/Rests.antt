@@ -1,10 +1,8 @@
 -- What is left of the steps of each loop: the next ones, and the rest.
-use Rattle.std.proofs.Common.{◌≡◌, ℕ, zero, suc, ◌+◌, ◌-◌, ◌<◌, ◌≤◌, List, [], ◌∷◌, ◌++◌, drop, get_or, length, map, Option, refl, sym, ap, ◌∙◌, arith, drop-cons}
-use Rattle.std.proofs.lemmas.List.{map-append}
-use Rattle.std.specs.List.{flat_map, range_with_len}
-use Rattle.c104_regs.specs.declared.settings.Settings.{Settings}
-use Rattle.c104_tools.specs.Loads.{due_entry, due_value, peeks, steps_from}
-use Rattle.c104_tools.specs.Steps.{Step}
+use Rattle.{c104_regs.specs.declared.settings.Settings.Settings, c104_tools.specs.Loads.{due_entry, due_value, peeks, steps_from}}
+use Rattle.{c104_tools.specs.Steps.Step, std.proofs.Common.{List, Option, [], ap, arith, drop, drop-cons, get_or, length, map, refl, suc}}
+use Rattle.std.{proofs.{Common.{sym, zero, ℕ, ◌++◌, ◌+◌, ◌-◌, ◌<◌, ◌∙◌, ◌∷◌, ◌≡◌, ◌≤◌}, lemmas.List.map-append}, specs.List.flat_map}
+use Rattle.std.specs.List.{range_with_len}
 
 -- the numbers from a up to n
 abbrev pub numbers_left : ℕ → ℕ → List ℕ

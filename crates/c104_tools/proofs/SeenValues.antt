@@ -1,35 +1,17 @@
 -- What is read of a port that shows its switches is what the registers of the switch have.
-use Rattle.std.proofs.Common.{◌≡◌, ℕ, zero, suc, ◌+◌, ◌*◌, ◌<◌, ◌≤◌, ◌^◌, Option, Some, None, Result, Ok, Err, List, [], ◌∷◌, ◌++◌, get_or, slice_get, slice_set, refl, sym, ap, ◌∙◌, subst, arith}
-use Rattle.std.proofs.lemmas.Nat.{le_bytes_4}
-use Rattle.std.specs.Int.{from_le_bytes, to_le_bytes, w32}
-use Rattle.std.specs.List.{AllByRecursion, range_with_len, zip}
-use Rattle.c104_control.proofs.ReadCommands.{read_back}
-use Rattle.c104_control.specs.declared.commands.Command.{Command}
-use Rattle.c104_control.specs.declared.commands.Command.TheVariants.{CPeek}
-use Rattle.c104_control.specs.declared.faults.CommandFault.{CommandFault}
-use Rattle.c104_control.specs.declared.replies.Answer.TheVariants.{Value}
-use Rattle.c104_control.specs.Table.{command_bytes, reply_bytes}
-use Rattle.c104_event.specs.declared.faults.EventFault.{EventFault}
-use Rattle.c104_node.proofs.WireEnds.{get_set_same}
-use Rattle.c104_regs.specs.Addresses.{address_number}
-use Rattle.c104_regs.specs.declared.addresses.Address.TheVariants.{AtLink}
-use Rattle.c104_regs.specs.declared.addresses.Register.TheVariants as register
-use Rattle.c104_regs.specs.declared.faults.RegFault.{RegFault}
-use Rattle.c104_regs.specs.declared.faults.RegFault.TheVariants.{NoRegister}
-use Rattle.c104_regs.specs.declared.registers.TheConstants.{LINKS}
-use Rattle.c104_switch.specs.Control.{peek_answer, switch_control, switch_obey_if_read}
-use Rattle.c104_switch.specs.Peeks.{switch_peek}
-use Rattle.c104_switch.specs.Switch.{Switch}
-use Rattle.c104_token.specs.declared.tokens.Token.{Token}
-use Rattle.c104_tools.specs.declared.faults.LoadFault.{LoadFault}
-use Rattle.c104_tools.specs.declared.ports.Asked.{Asked}
-use Rattle.c104_tools.specs.Loads.{order}
-use Rattle.c104_tools.specs.Outcomes.{ComesTo, GoesOn, any_value, peeks_at, step_result}
-use Rattle.c104_tools.specs.Ports.{Commanded, Switches}
-use Rattle.c104_tools.specs.Reads.{AreSeen, HasValue, link_addresses}
-use Rattle.c104_tools.specs.Steps.{Given}
-use Rattle.c104_tools.specs.Tables.{table_addresses}
-use Rattle.c104_tools.proofs.KnownCommands.{obeyed_one}
+use Rattle.c104_control.{proofs.ReadCommands.read_back, specs.{Table.{command_bytes, reply_bytes}, declared.commands.Command.Command}}
+use Rattle.c104_control.specs.declared.{commands.Command.TheVariants.CPeek, faults.CommandFault.CommandFault}
+use Rattle.{c104_control.specs.declared.replies.Answer.TheVariants.Value, c104_event.specs.declared.faults.EventFault.EventFault}
+use Rattle.{c104_node.proofs.WireEnds.get_set_same, c104_regs.specs.Addresses.address_number}
+use Rattle.c104_regs.specs.declared.{addresses.{Address.TheVariants.AtLink, Register.Register}, faults.RegFault.RegFault}
+use Rattle.c104_regs.specs.declared.{faults.RegFault.TheVariants.NoRegister, registers.TheConstants.LINKS}
+use Rattle.c104_switch.specs.{Control.{peek_answer, switch_control, switch_obey_if_read}, Peeks.switch_peek, Switch.Switch}
+use Rattle.{c104_token.specs.declared.tokens.Token.Token, c104_tools.{proofs.KnownCommands.obeyed_one, specs.Loads.order}}
+use Rattle.c104_tools.specs.{Outcomes.{ComesTo, GoesOn, any_value, peeks_at, step_result}, Ports.{Commanded, Switches}, Reads.AreSeen}
+use Rattle.c104_tools.specs.{Reads.{HasValue, link_addresses}, Steps.Given, Tables.table_addresses, declared.faults.LoadFault.LoadFault}
+use Rattle.{c104_tools.specs.declared.ports.Asked.Asked, std.proofs.Common.{Err, List, None, Ok, Option, Result, Some, [], ap, arith}}
+use Rattle.std.proofs.Common.{get_or, refl, slice_get, slice_set, subst, suc, sym, zero, ℕ, ◌*◌, ◌++◌, ◌+◌, ◌<◌, ◌^◌, ◌∙◌, ◌∷◌, ◌≡◌, ◌≤◌}
+use Rattle.std.{proofs.lemmas.Nat.le_bytes_4, specs.{Int.{from_le_bytes, to_le_bytes, w32}, List.{AllByRecursion, range_with_len, zip}}}
 
 -- an address that a command can name
 abbrev pub IsNamed : ℕ → Type 0
@@ -99,17 +81,17 @@ named_on (a ∷ first) second (low, one) other = (low, named_on first second one
 pub link_named : (link : ℕ) → link < LINKS → AllByRecursion IsNamed (link_addresses link)
 link_named link inside =
     let low : link < 32 = inside in
-    let is : address_number (AtLink link register.Sunk) ≡ 256 * (link + 1) + 3 = refl in
-    range_named (address_number (AtLink link register.Sunk)) 7 (omega (arith, low, is))
+    let is : address_number (AtLink link Register.Sunk) ≡ 256 * (link + 1) + 3 = refl in
+    range_named (address_number (AtLink link Register.Sunk)) 7 (omega (arith, low, is))
 
 pub table_named : (link : ℕ) → link < LINKS → AllByRecursion IsNamed (table_addresses link)
 table_named link inside =
     let low : link < 32 = inside in
-    let first : address_number (AtLink link register.Base) ≡ 256 * (link + 1) + 63 = refl in
-    let second : address_number (AtLink link (register.Select 0)) ≡ 256 * (link + 1) + 128 = refl in
-    named_on (range_with_len (address_number (AtLink link register.Base)) 37) (range_with_len (address_number (AtLink link (register.Select 0))) 36)
-    (range_named (address_number (AtLink link register.Base)) 37 (omega (arith, low, first)))
-    (range_named (address_number (AtLink link (register.Select 0))) 36 (omega (arith, low, second)))
+    let first : address_number (AtLink link Register.Base) ≡ 256 * (link + 1) + 63 = refl in
+    let second : address_number (AtLink link (Register.Select 0)) ≡ 256 * (link + 1) + 128 = refl in
+    named_on (range_with_len (address_number (AtLink link Register.Base)) 37) (range_with_len (address_number (AtLink link (Register.Select 0))) 36)
+    (range_named (address_number (AtLink link Register.Base)) 37 (omega (arith, low, first)))
+    (range_named (address_number (AtLink link (Register.Select 0))) 36 (omega (arith, low, second)))
 
 pub are_seen : {P : Type 0} (commands : P → List Asked) (switch_count : P → ℕ) (shown : P → Option Switches) (unanswered : P → ℕ → List ℕ → EventFault → Type 0) (due : P → ℕ → List ℕ → Given → P → Type 0) (switch : ℕ) (addresses values told : List ℕ) (p q : P) → AllByRecursion IsNamed addresses → ComesTo (Commanded commands switch_count shown unanswered due) any_value p (peeks_at switch addresses) (Ok values) q → values ≡ told → AreSeen (shown p) switch addresses told
 are_seen commands switch_count shown unanswered due switch addresses values told p q named came same = by_shown (shown p) refl

@@ -1,18 +1,9 @@
 -- What a load comes to at a port that shows its switches.
-use Rattle.std.proofs.Common.{◌≡◌, ℕ, zero, suc, inl, inr, All, Option, Some, MatchOption, List, [], ◌∷◌, get_or, length, refl, sym, ◌∙◌, subst, arith}
-use Rattle.std.proofs.lemmas.Bool.{cases_lt}
-use Rattle.std.proofs.lemmas.List.{get_or_past}
-use Rattle.c104_plan.specs.PlanImage.{AreSettings}
-use Rattle.c104_regs.proofs.KeptPokes.{AreKept}
-use Rattle.c104_regs.proofs.RegisterLemmas.{IsInRange-reset}
-use Rattle.c104_regs.specs.Ranges.{IsInRange}
-use Rattle.c104_regs.specs.Settings.{reset_settings}
-use Rattle.c104_regs.specs.declared.settings.Settings.{Settings}
-use Rattle.c104_tools.specs.Loaded.{each_with, loaded}
-use Rattle.c104_tools.specs.Loads.{load_list}
-use Rattle.c104_tools.specs.Ports.{Switches}
-use Rattle.c104_tools.proofs.KnownCommands.{AreDone}
-use Rattle.c104_tools.proofs.LoadedSwitches.{AreLoadable, load_done}
+use Rattle.{c104_plan.specs.PlanImage.AreSettings, c104_regs.proofs.{KeptPokes.AreKept, RegisterLemmas.IsInRange-reset}}
+use Rattle.c104_regs.specs.{Ranges.IsInRange, Settings.reset_settings, declared.settings.Settings.Settings}
+use Rattle.c104_tools.{proofs.{KnownCommands.AreDone, LoadedSwitches.{AreLoadable, load_done}}, specs.Loaded.{each_with, loaded}}
+use Rattle.{c104_tools.specs.{Loads.load_list, Ports.Switches}, std.proofs.Common.{All, List, MatchOption, Option, Some, [], arith, get_or}}
+use Rattle.std.proofs.{Common.{inl, inr, length, refl, subst, suc, sym, zero, ℕ, ◌∙◌, ◌∷◌, ◌≡◌}, lemmas.{Bool.cases_lt, List.get_or_past}}
 
 -- the settings of an image are those that a switch may have
 module _ (settings : List Settings) (all : AreSettings settings) where

@@ -1,13 +1,8 @@
 -- What a load leaves of the switches of a port that shows them.
-use Rattle.std.specs.Prelude.{◌≡◌, ◌<◌, ℕ, true, List, ◌∷◌}
-use Rattle.c104_event.specs.declared.faults.EventFault.{EventFault}
-use Rattle.c104_regs.specs.declared.settings.Settings.{Settings}
-use Rattle.c104_token.specs.declared.tokens.Token.{Token}
-use Rattle.c104_switch.specs.Commands.{switch_reset}
-use Rattle.c104_switch.specs.Switch.{Switch}
-use Rattle.c104_tools.specs.declared.faults.LoadFault.{LoadFault}
-use Rattle.c104_tools.specs.declared.faults.LoadFault.TheVariants as fault
-use Rattle.c104_tools.specs.Ports.{Switches}
+use Rattle.{c104_event.specs.declared.faults.EventFault.EventFault, c104_regs.specs.declared.settings.Settings.Settings}
+use Rattle.{c104_switch.specs.{Commands.switch_reset, Switch.Switch}, c104_token.specs.declared.tokens.Token.Token}
+use Rattle.c104_tools.specs.{Ports.Switches, declared.faults.LoadFault.LoadFault}
+use Rattle.std.specs.Prelude.{List, true, ℕ, ◌<◌, ◌∷◌, ◌≡◌}
 
 -- a switch that was reset, with these settings, before it is started
 abbrev pub reset_with : Switch Token → List Settings → Switch Token
@@ -24,12 +19,12 @@ each_with f switches image = switches
 
 -- the port gave no reply
 abbrev pub IsUnansweredFault : LoadFault → Type 0
-IsUnansweredFault (fault.Port e) = Unit {0}
+IsUnansweredFault (LoadFault.Port e) = Unit {0}
 IsUnansweredFault f = ⊥
 
 -- where the port gave no reply, it has this number of switches, and may leave a command of one of them unanswered so
 abbrev pub IsLeftBySwitch : {P : Type 0} → (P → ℕ) → (P → ℕ → List ℕ → EventFault → Type 0) → ℕ → LoadFault → Type 0
-IsLeftBySwitch {P} switch_count unanswered count (fault.Port e) =
+IsLeftBySwitch {P} switch_count unanswered count (LoadFault.Port e) =
     (p : P) × (switch : ℕ) × (command : List ℕ)
     × (switch_count p ≡ count) × (switch < count) × unanswered p switch command e
 IsLeftBySwitch switch_count unanswered count f = Unit {0}

@@ -1,14 +1,10 @@
 -- What the loader asks for an image, and what it asks to see whether the image is loaded.
-use Rattle.std.specs.Prelude.{ℕ, ◌+◌, List, [], ◌∷◌, ◌++◌, length, map, Option, Some, None, if◌then◌else◌}
-use Rattle.std.specs.List.{flat_map, range_with_len}
-use Rattle.c104_control.specs.declared.commands.Command.{Command}
-use Rattle.c104_control.specs.declared.commands.Command.TheVariants.{Start, Reset, CPeek, CPoke}
-use Rattle.c104_regs.specs.declared.addresses.Address.{Address}
-use Rattle.c104_regs.specs.Addresses.{address_of, is_writable_address}
-use Rattle.c104_regs.specs.KeptValues.{address_end, kept_values}
-use Rattle.c104_regs.specs.Registers.{address_value, placed_bank}
-use Rattle.c104_regs.specs.declared.settings.Settings.{Settings}
+use Rattle.c104_control.specs.declared.commands.Command.{Command, TheVariants.{CPeek, CPoke, Reset, Start}}
+use Rattle.c104_regs.specs.{Addresses.{address_of, is_writable_address}, KeptValues.{address_end, kept_values}, Registers.address_value}
+use Rattle.c104_regs.specs.{Registers.placed_bank, declared.{addresses.Address.Address, settings.Settings.Settings}}
 use Rattle.c104_tools.specs.Steps.{Step}
+use Rattle.std.specs.{List.{flat_map, range_with_len}, Prelude.{List, None, Option, Some, [], if◌then◌else◌, length, map, ℕ, ◌++◌, ◌+◌}}
+use Rattle.std.specs.Prelude.{◌∷◌}
 
 -- a command that reads nothing
 abbrev pub order : ℕ → Command → Step

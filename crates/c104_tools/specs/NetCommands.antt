@@ -1,32 +1,20 @@
 -- A network whose nodes keep what they do, as a port: the commands that it was asked, by what its switches
 -- kept of them.
-use Rattle.std.specs.Prelude.{◌≡◌, ◌⊎◌, ◌<◌, ◌≤◌, ℕ, zero, suc, ◌+◌, List, [], ◌∷◌, ◌++◌, Option, Some, if◌then◌else◌, length, map, nat_eq}
-use Rattle.c104_token.specs.declared.tokens.Token.{Token}
-use Rattle.c104_switch.specs.Actions.{Reply}
-use Rattle.c104_switch.specs.declared.actions.ActionOf.TheVariants as action
-use Rattle.c104_switch.specs.declared.actions.ReplyOf.TheVariants as reply
-use Rattle.c104_event.specs.declared.faults.EventFault.{EventFault}
-use Rattle.c104_event.specs.declared.faults.EventFault.TheVariants as fault
-use Rattle.c104_node.specs.declared.acts.ActOf.{ActOf}
-use Rattle.c104_node.specs.declared.acts.ActOf.TheVariants as act
-use Rattle.c104_node.specs.declared.acts.Entry.{Entry}
-use Rattle.c104_node.specs.declared.node.NodeOf.TheVariants as node
-use Rattle.c104_node.specs.Places.{room_fault}
-use Rattle.c104_run.specs.NetRecords.{NetRecord}
-use Rattle.c104_node.specs.Nodes.{Node}
-use Rattle.c104_node.specs.Traces.{full_at, is_trace_full}
-use Rattle.c104_tools.specs.Ports.{Switches, command_asked}
-use Rattle.c104_tools.specs.declared.ports.Asked.{Asked}
+use Rattle.{c104_event.specs.declared.faults.EventFault.EventFault, c104_node.specs.{Nodes.Node, Places.room_fault, Traces.full_at}}
+use Rattle.c104_node.specs.{Traces.is_trace_full, declared.{acts.{ActOf.ActOf, Entry.Entry}, node.NodeOf.NodeOf}}
+use Rattle.{c104_run.specs.NetRecords.NetRecord, c104_switch.specs.{Actions.Reply, declared.actions.{ActionOf.ActionOf, ReplyOf.ReplyOf}}}
+use Rattle.{c104_token.specs.declared.tokens.Token.Token, c104_tools.specs.{Ports.{Switches, command_asked}, declared.ports.Asked.Asked}}
+use Rattle.std.specs.Prelude.{List, Option, Some, [], if◌then◌else◌, length, map, nat_eq, suc, zero, ℕ, ◌++◌, ◌+◌, ◌<◌, ◌∷◌, ◌≡◌, ◌≤◌, ◌⊎◌}
 
 -- the switches among nodes, in order
 abbrev pub switches_of : List (Node Token) → Switches
 switches_of [] = []
-switches_of (node.Switch s ∷ nodes) = s ∷ switches_of nodes
-switches_of (node.Terminal t ∷ nodes) = switches_of nodes
+switches_of (NodeOf.Switch s ∷ nodes) = s ∷ switches_of nodes
+switches_of (NodeOf.Terminal t ∷ nodes) = switches_of nodes
 
 -- the command, with its reply, that an entry of a switch is of; none where it is of another act
 abbrev pub asked_by : ℕ → ActOf Token → Reply → List Asked
-asked_by switch (act.Step (action.Control command)) (reply.Control bytes) = command_asked switch command bytes ∷ []
+asked_by switch (ActOf.Step (ActionOf.Control command)) (ReplyOf.Control bytes) = command_asked switch command bytes ∷ []
 asked_by switch a r = []
 
 -- the commands with a ticket in the trace of a switch: one, or none
@@ -60,10 +48,10 @@ net_switches r = Some (switches_of r.network.nodes)
 -- switch is full, or else memory has run out
 abbrev pub IsNetUnanswered : NetRecord → ℕ → List ℕ → EventFault → Type 0
 IsNetUnanswered r switch command f =
-    ((f ≡ fault.NoNode) × (net_switch_count r ≤ switch))
+    ((f ≡ EventFault.NoNode) × (net_switch_count r ≤ switch))
     ⊎ ((f ≡ room_fault (full_at (map is_trace_full r.traces) switch)) × (switch < net_switch_count r))
 
 -- a switch's reply to a command
 abbrev pub IsControlReply : Reply → Type 0
-IsControlReply (reply.Control bytes) = Unit {0}
+IsControlReply (ReplyOf.Control bytes) = Unit {0}
 IsControlReply r = ⊥

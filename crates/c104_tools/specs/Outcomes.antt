@@ -1,20 +1,10 @@
 -- What comes of steps that are asked through a port: of each in turn, up to the first fault.
-use Rattle.std.specs.Prelude.{◌≡◌, ℕ, ◌==◌, List, [], ◌∷◌, Result, Ok, Err, drop, get_or, if◌then◌else◌, map, not, take}
-use Rattle.std.specs.List.{list_any}
-use Rattle.c104_control.specs.Table.{command_bytes}
-use Rattle.c104_control.specs.declared.commands.Command.{Command}
-use Rattle.c104_control.specs.declared.commands.Command.TheVariants.{CPeek}
-use Rattle.c104_interval.specs.declared.intervals.Row.{Row}
-use Rattle.c104_interval.specs.declared.intervals.Table.{Table}
-use Rattle.c104_regs.specs.Values.{select_of}
-use Rattle.c104_tools.specs.declared.faults.LoadFault.{LoadFault}
-use Rattle.c104_tools.specs.declared.faults.LoadFault.TheVariants as fault
-use Rattle.c104_tools.specs.declared.reading.LinkNumbers.{LinkNumbers}
-use Rattle.c104_tools.specs.Loads.{order}
-use Rattle.c104_tools.specs.Reads.{link_addresses}
 pub use Rattle.c104_tools.specs.Steps.{Given}
-use Rattle.c104_tools.specs.Steps.{Step, named_address, told}
-use Rattle.c104_tools.specs.Tables.{is_select, table_addresses}
+use Rattle.c104_control.specs.{Table.command_bytes, declared.commands.Command.{Command, TheVariants.CPeek}}
+use Rattle.{c104_interval.specs.declared.intervals.{Row.Row, Table.Table}, c104_regs.specs.Values.select_of, c104_tools.specs.Loads.order}
+use Rattle.c104_tools.specs.{Reads.link_addresses, Steps.{Step, named_address, told}, Tables.{is_select, table_addresses}}
+use Rattle.c104_tools.specs.declared.{faults.LoadFault.LoadFault, reading.LinkNumbers.LinkNumbers}
+use Rattle.std.specs.{List.list_any, Prelude.{Err, List, Ok, Result, [], drop, get_or, if◌then◌else◌, map, not, take, ℕ, ◌==◌, ◌∷◌, ◌≡◌}}
 
 -- what is made of what was read, unless that failed
 abbrev pub and_then : {X Y : Type 0} → Result X LoadFault → (X → Result Y LoadFault) → Result Y LoadFault
@@ -38,7 +28,7 @@ any_value t v = Ok v
 -- only the value will do that the step is to read
 abbrev pub due_value_only : Judge
 due_value_only t v =
-    if v == t.value then Ok v else Err (fault.Differs t.switch (named_address t.command) v)
+    if v == t.value then Ok v else Err (LoadFault.Differs t.switch (named_address t.command) v)
 
 -- what a step comes to, by what the port gave
 abbrev pub step_result : Judge → Step → Given → Result ℕ LoadFault
@@ -119,7 +109,7 @@ rows_with limits codes = []
 abbrev pub table_with : ℕ → List ℕ → List ℕ → Result Table LoadFault
 table_with switch limits codes =
     if list_any (λ code. not (is_select code)) codes
-    then Err (fault.BadReply switch)
+    then Err (LoadFault.BadReply switch)
     else Ok (record { base = get_or limits 0 0; rows = rows_with (drop 1 limits) codes })
 
 -- the table of an input, by the values of its registers: 37 are the base and the limits, then follow the selects

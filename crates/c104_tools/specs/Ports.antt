@@ -1,11 +1,8 @@
 -- Control commands that were asked through a port, and what they come to at switches.
-use Rattle.std.specs.Prelude.{◌≡◌, ℕ, List, [], ◌∷◌, ◌++◌, MatchResult, Option, Some, None, slice_get, slice_set}
-use Rattle.c104_event.specs.declared.faults.EventFault.{EventFault}
-use Rattle.c104_token.specs.declared.tokens.Token.{Token}
-use Rattle.c104_switch.specs.Control.{switch_control}
-use Rattle.c104_switch.specs.Switch.{Switch}
-use Rattle.c104_tools.specs.Steps.{Given}
 pub use Rattle.c104_tools.specs.declared.ports.Asked.{Asked}
+use Rattle.{c104_event.specs.declared.faults.EventFault.EventFault, c104_switch.specs.{Control.switch_control, Switch.Switch}}
+use Rattle.{c104_token.specs.declared.tokens.Token.Token, c104_tools.specs.Steps.Given}
+use Rattle.std.specs.Prelude.{List, MatchResult, None, Option, Some, [], slice_get, slice_set, ℕ, ◌++◌, ◌∷◌, ◌≡◌}
 
 -- the switches of a network, in order
 abbrev pub Switches : Type 0

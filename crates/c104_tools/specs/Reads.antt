@@ -1,16 +1,9 @@
 -- What the debugger reads, by the registers that a switch has.
-use Rattle.std.specs.Prelude.{◌≡◌, ℕ, List, [], ◌∷◌, Option, Some, None, Ok, slice_get}
-use Rattle.std.specs.List.{AllByRecursion, range_with_len, zip}
-use Rattle.c104_control.specs.Table.{reply_bytes}
-use Rattle.c104_control.specs.declared.replies.Answer.TheVariants.{Value}
-use Rattle.c104_regs.specs.Addresses.{address_number}
-use Rattle.c104_regs.specs.declared.addresses.Address.TheVariants.{AtLink}
-use Rattle.c104_regs.specs.declared.addresses.Register.TheVariants.{Sunk}
-use Rattle.c104_switch.specs.Peeks.{switch_peek}
-use Rattle.c104_switch.specs.Switch.{Switch}
-use Rattle.c104_token.specs.declared.tokens.Token.{Token}
+use Rattle.{c104_control.specs.{Table.reply_bytes, declared.replies.Answer.TheVariants.Value}, c104_regs.specs.Addresses.address_number}
+use Rattle.{c104_regs.specs.declared.addresses.{Address.TheVariants.AtLink, Register.TheVariants.Sunk}, c104_switch.specs.Peeks.switch_peek}
+use Rattle.{c104_switch.specs.Switch.Switch, c104_token.specs.declared.tokens.Token.Token, c104_tools.specs.Ports.Switches}
 use Rattle.c104_tools.specs.declared.reading.LinkNumbers.{LinkNumbers}
-use Rattle.c104_tools.specs.Ports.{Switches}
+use Rattle.std.specs.{List.{AllByRecursion, range_with_len, zip}, Prelude.{List, None, Ok, Option, Some, [], slice_get, ℕ, ◌∷◌, ◌≡◌}}
 
 -- the addresses of what a link tells of itself
 abbrev pub link_addresses : ℕ → List ℕ

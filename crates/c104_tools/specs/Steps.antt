@@ -1,16 +1,10 @@
 -- Steps of the loader and of the debugger: a command that is asked, what its reply tells, and the fault where it is
 -- answered otherwise.
-use Rattle.std.specs.Prelude.{◌≡◌, ◌≢◌, ℕ, ◌==◌, Bool, IsTrue, List, Option, Some, None, Result, Ok, Err, if◌then◌else◌}
-use Rattle.std.specs.List.{list_any}
-use Rattle.c104_control.specs.declared.commands.Command.{Command}
-use Rattle.c104_control.specs.declared.replies.Answer.{Answer}
-use Rattle.c104_control.specs.Reading.{read_reply}
-use Rattle.c104_control.specs.Table.{IsAnswerTo, command_format, device_id, reply_bytes}
-use Rattle.c104_control.specs.declared.commands.Command.TheVariants.{Start, Reset, Identify, CPeek, CPoke}
-use Rattle.c104_control.specs.declared.replies.Answer.TheVariants.{Started, WasReset, Identity, Value, Poked, Refused}
-use Rattle.c104_event.specs.declared.faults.EventFault.{EventFault}
-use Rattle.c104_tools.specs.declared.faults.LoadFault.{LoadFault}
-use Rattle.c104_tools.specs.declared.faults.LoadFault.TheVariants as fault
+use Rattle.c104_control.specs.{Reading.read_reply, Table.{IsAnswerTo, command_format, device_id, reply_bytes}}
+use Rattle.c104_control.specs.declared.commands.Command.{Command, TheVariants.{CPeek, CPoke, Identify, Reset, Start}}
+use Rattle.c104_control.specs.declared.replies.Answer.{Answer, TheVariants.{Identity, Poked, Refused, Started, Value, WasReset}}
+use Rattle.{c104_event.specs.declared.faults.EventFault.EventFault, c104_tools.specs.declared.faults.LoadFault.LoadFault}
+use Rattle.std.specs.{List.list_any, Prelude.{Bool, Err, IsTrue, List, None, Ok, Option, Result, Some, if◌then◌else◌, ℕ, ◌==◌, ◌≡◌, ◌≢◌}}
 
 -- a step: a command for a switch and, where it is a peek, what is to be read
 pub record Step : Type 0 where
@@ -40,14 +34,14 @@ told_value c a = None
 
 -- a value, or else the fault of a reply that is no answer to its command
 abbrev pub value_or_bad : ℕ → Option ℕ → Result ℕ LoadFault
-value_or_bad switch None = Err (fault.BadReply switch)
+value_or_bad switch None = Err (LoadFault.BadReply switch)
 value_or_bad switch (Some v) = Ok v
 
 -- what comes of what a switch answered to a command, if it was an answer
 abbrev pub judged : ℕ → Command → Option Answer → Result ℕ LoadFault
-judged switch c None = Err (fault.BadReply switch)
+judged switch c None = Err (LoadFault.BadReply switch)
 judged switch c (Some (Refused n)) =
-    if may_refuse c n then Err (fault.Refused switch (named_address c) n) else Err (fault.BadReply switch)
+    if may_refuse c n then Err (LoadFault.Refused switch (named_address c) n) else Err (LoadFault.BadReply switch)
 judged switch c (Some a) = value_or_bad switch (told_value c a)
 
 -- what a port gave for a command: the bytes of a reply, or no reply
@@ -57,14 +51,14 @@ Given = Result (List ℕ) EventFault
 -- what that tells of a command of a switch: the value that it read, or 0; or why it failed
 abbrev pub told : ℕ → Command → Given → Result ℕ LoadFault
 told switch c (Ok bytes) = judged switch c (read_reply bytes)
-told switch c (Err e) = Err (fault.Port e)
+told switch c (Err e) = Err (LoadFault.Port e)
 
 -- what a reply tells is what the table of commands has it say: a command is done by its own answer, refused by a
 -- refusal that it can meet, and badly replied to where no answer to it has these bytes
 abbrev pub IsMeant : ℕ → Command → List ℕ → Result ℕ LoadFault → Type 0
 IsMeant switch c reply (Ok v) = reply ≡ reply_bytes ((command_format c).answer v)
-IsMeant switch c reply (Err (fault.Refused s a n)) =
+IsMeant switch c reply (Err (LoadFault.Refused s a n)) =
     (s ≡ switch) × (a ≡ named_address c) × IsTrue (may_refuse c n) × (reply ≡ reply_bytes (Refused n))
-IsMeant switch c reply (Err (fault.BadReply s)) =
+IsMeant switch c reply (Err (LoadFault.BadReply s)) =
     (s ≡ switch) × ((a : Answer) → IsAnswerTo c a → reply_bytes a ≢ reply)
 IsMeant switch c reply (Err f) = ⊥

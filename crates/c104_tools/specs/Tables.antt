@@ -1,13 +1,8 @@
 -- An input's table, as the debugger reads it.
-use Rattle.std.specs.Prelude.{ℕ, ◌==◌, ◌||◌, nat_le, Bool, List, ◌∷◌, ◌++◌, map}
-use Rattle.std.specs.List.{range_with_len}
-use Rattle.c104_interval.specs.declared.intervals.Row.{Row}
-use Rattle.c104_interval.specs.declared.intervals.Table.{Table}
-use Rattle.c104_regs.specs.Addresses.{address_number}
-use Rattle.c104_regs.specs.declared.addresses.Address.TheVariants.{AtLink}
-use Rattle.c104_regs.specs.declared.addresses.Register.TheVariants.{Base, Select}
+use Rattle.{c104_interval.specs.declared.intervals.{Row.Row, Table.Table}, c104_regs.specs.{Addresses.address_number, Values.select_code}}
+use Rattle.c104_regs.specs.declared.addresses.{Address.TheVariants.AtLink, Register.TheVariants.{Base, Select}}
 use Rattle.c104_regs.specs.declared.values.TheConstants.{DISCARD_CODE, SINK_CODE}
-use Rattle.c104_regs.specs.Values.{select_code}
+use Rattle.std.specs.{List.range_with_len, Prelude.{Bool, List, map, nat_le, ℕ, ◌++◌, ◌==◌, ◌||◌, ◌∷◌}}
 
 -- whether a number selects something: a link, to discard, or the sink
 abbrev pub is_select : ℕ → Bool

@@ -1,35 +1,23 @@
 -- Where the packets of traffic go: from a terminal to a terminal, which is another one unless that is asked for.
-use Rattle.std.proofs.Common.{◌≡◌, ◌≢◌, ◌⊎◌, inl, inr, ℕ, zero, suc, ◌+◌, ◌-◌, ◌*◌, ◌/◌, ◌%◌, ◌<◌, ◌≤◌, Bool, true, false, cond, length, map, get_or, slice_get, take, nat_lt, Some, IfSome, sym, subst, ap, ◌∙◌, refl, arith}
-use Rattle.std.specs.List.{range_with_len}
-use Rattle.std.proofs.lemmas.Bool.{cases_lt}
-use Rattle.std.proofs.lemmas.Bool.Decides.{nat_tests}
-use Rattle.std.proofs.lemmas.List.Elements.{filter_passes}
-use Rattle.std.proofs.lemmas.List.FromFn.{length-map-range_with_len}
-use Rattle.std.proofs.lemmas.Nat.{mod_below}
-use Rattle.std.proofs.lemmas.Option.{slice_get-get_or, unwrap_or-slice_get}
-use Rattle.std.specs.Option.{option_map_or}
-use Rattle.c104_switch.specs.Headers.{header_number}
-use Rattle.c104_plan.specs.Plans.{IsPlan, IsRange, Plan}
-use Rattle.c104_plan.specs.PlanImage.{Fits, Image}
-use Rattle.c104_check.specs.Routes.{Owns, has_label, routes_of}
-use Rattle.c104_check.proofs.RangeLemmas.{is_has}
-use Rattle.c104_traffic.specs.Packets.{Traffic, byte_at, first_label, packet_of, packet_word, sender_at, target_at}
-use Rattle.c104_traffic.specs.Patterns.{IsPatternFor, Pattern}
-use Rattle.c104_traffic.specs.Directions.{AreDirected}
-use Rattle.c104_traffic.specs.Schedules.{AreLabelled, HaveRanges}
-use Rattle.c104_traffic.specs.Targets.{behind, choices, is_sender, pick, senders_of, target_of}
-use Rattle.c104_traffic.specs.declared.patterns.Pattern.TheVariants as pattern
-use Rattle.c104_traffic.proofs.Senders.{sender_inside}
-use Rattle.c104_traffic.proofs.Squares.{reversed_below, transposed_inside}
+use Rattle.{c104_check.{proofs.RangeLemmas.is_has, specs.Routes.{Owns, has_label, routes_of}}, c104_plan.specs.PlanImage.{Fits, Image}}
+use Rattle.{c104_plan.specs.Plans.{IsPlan, IsRange, Plan}, c104_switch.specs.Headers.header_number}
+use Rattle.c104_traffic.{proofs.{Senders.sender_inside, Squares.{reversed_below, transposed_inside}}, specs.Directions.AreDirected}
+use Rattle.c104_traffic.specs.{Packets.{Traffic, byte_at, first_label, packet_of, packet_word, sender_at, target_at}, Patterns.IsPatternFor}
+use Rattle.c104_traffic.specs.{Patterns.Pattern, Schedules.{AreLabelled, HaveRanges}, Targets.{behind, choices, is_sender, pick}}
+use Rattle.{c104_traffic.specs.Targets.{senders_of, target_of}, std.proofs.Common.{Bool, IfSome, Some, ap, arith, cond, false, get_or, inl}}
+use Rattle.std.proofs.Common.{inr, length, map, nat_lt, refl, slice_get, subst, suc, sym, take, true, zero, ℕ, ◌%◌, ◌*◌, ◌+◌, ◌-◌, ◌/◌, ◌<◌}
+use Rattle.std.proofs.{Common.{◌∙◌, ◌≡◌, ◌≢◌, ◌≤◌, ◌⊎◌}, lemmas.{Bool.{Decides.nat_tests, cases_lt}, List.Elements.filter_passes}}
+use Rattle.std.proofs.lemmas.{List.FromFn.length-map-range_with_len, Nat.mod_below, Option.{slice_get-get_or, unwrap_or-slice_get}}
+use Rattle.std.specs.{List.range_with_len, Option.option_map_or}
 
 -- every target is one of the terminals
 pub target_inside : (p : Pattern) (own : Bool) (count s turn word : ℕ) → IsPatternFor count p → s < count → target_of p own count s turn word < count
-target_inside pattern.Uniform own count s turn word fits inside = mod_below (s + 1 + pick (choices own count) word) count (omega arith)
-target_inside (pattern.Transpose side) own count s turn word fits inside = subst (λ n. target_of (pattern.Transpose side) own count s turn word < n) fits (transposed_inside side s (omega (arith, inside, fits)))
-target_inside (pattern.Reverse bits) own count s turn word fits inside = omega (arith, reversed_below bits 0 s, fits)
-target_inside pattern.Neighbour own count s turn word fits inside = mod_below (s + 1 + 0) count (omega arith)
-target_inside (pattern.HotSpot t) own count s turn word fits inside = fits
-target_inside pattern.AllToAll own count s turn word fits inside = mod_below (s + 1 + pick (choices own count) turn) count (omega arith)
+target_inside Pattern.Uniform own count s turn word fits inside = mod_below (s + 1 + pick (choices own count) word) count (omega arith)
+target_inside (Pattern.Transpose side) own count s turn word fits inside = subst (λ n. target_of (Pattern.Transpose side) own count s turn word < n) fits (transposed_inside side s (omega (arith, inside, fits)))
+target_inside (Pattern.Reverse bits) own count s turn word fits inside = omega (arith, reversed_below bits 0 s, fits)
+target_inside Pattern.Neighbour own count s turn word fits inside = mod_below (s + 1 + 0) count (omega arith)
+target_inside (Pattern.HotSpot t) own count s turn word fits inside = fits
+target_inside Pattern.AllToAll own count s turn word fits inside = mod_below (s + 1 + pick (choices own count) turn) count (omega arith)
 
 -- by fewer places than there are others none comes round to itself
 behind_apart : (count s places : ℕ) → s < count → places + 1 < count → behind count s places ≢ s
@@ -56,12 +44,12 @@ ring_apart count s number inside first = by_count (cases_lt 1 count)
         subst (λ n. behind count s (pick n number) ≢ s) (sym none) (subst (λ n. behind count s (pick n 0) ≢ s) none first)
 
 target_apart : (p : Pattern) (count s turn word : ℕ) → s < count → target_of p false count s 0 0 ≢ s → target_of p false count s turn word ≢ s
-target_apart pattern.Uniform count s turn word inside first = ring_apart count s word inside first
-target_apart (pattern.Transpose side) count s turn word inside first = first
-target_apart (pattern.Reverse bits) count s turn word inside first = first
-target_apart pattern.Neighbour count s turn word inside first = first
-target_apart (pattern.HotSpot t) count s turn word inside first = first
-target_apart pattern.AllToAll count s turn word inside first = ring_apart count s turn inside first
+target_apart Pattern.Uniform count s turn word inside first = ring_apart count s word inside first
+target_apart (Pattern.Transpose side) count s turn word inside first = first
+target_apart (Pattern.Reverse bits) count s turn word inside first = first
+target_apart Pattern.Neighbour count s turn word inside first = first
+target_apart (Pattern.HotSpot t) count s turn word inside first = first
+target_apart Pattern.AllToAll count s turn word inside first = ring_apart count s turn inside first
 
 -- who sends passes the test of those that do
 sender_passes : (p : Pattern) (own : Bool) (count number : ℕ) → 0 < length (senders_of p own count) → is_sender p own count (sender_at (senders_of p own count) number) ≡ true

@@ -1,9 +1,8 @@
 -- Two texts that join what is kept, one after the other.
-use Rattle.std.proofs.Common.{◌≡◌, ℕ, List, [], ◌++◌, Option, Result, Ok, Err, IsErr, IsErrAnd, OnErr, ap, subst, sym}
-use mathlib.Core.List.{append_assoc, append-nil}
-use Rattle.std.specs.Io.KnownBytes.{Appends}
-use Rattle.c104_stream.specs.Writing.{AppendsAndKeeps, AppendsPrefix}
 use Rattle.c104_stream.proofs.Prefixes.{kept_all, kept_fails, kept_next, kept_only, kept_stops, prefix_longer}
+use Rattle.{c104_stream.specs.Writing.{AppendsAndKeeps, AppendsPrefix}, std.proofs.Common.{Err, IsErr, IsErrAnd, List, Ok, OnErr, Option}}
+use Rattle.std.{proofs.Common.{Result, [], ap, subst, sym, ℕ, ◌++◌, ◌≡◌}, specs.Io.KnownBytes.Appends}
+use mathlib.Core.List.{append-nil, append_assoc}
 
 -- where it is known at every result, it is at an error
 pub at_error : {T E : Type 0} (P : Type 0) (result : Result T E) → P → OnErr result P

@@ -1,9 +1,8 @@
 -- Texts that are written one number after the other.
-use Rattle.std.proofs.Common.{◌≡◌, ℕ, suc, ◌+◌, ◌-◌, ◌<◌, ◌≤◌, List, [], ◌∷◌, ◌++◌, flat_map, map, Option, ap, sym, subst, ◌∙◌, refl, arith}
+use Rattle.c104_stream.{proofs.Prefixes.{kept_next, kept_only, kept_stops, prefix_longer}, specs.Writing.{AppendsAndKeeps, AppendsPrefix}}
+use Rattle.std.proofs.Common.{List, Option, [], ap, arith, flat_map, map, refl, subst, suc, sym, ℕ, ◌++◌, ◌+◌, ◌-◌, ◌<◌, ◌∙◌, ◌∷◌, ◌≡◌, ◌≤◌}
 use Rattle.std.specs.List.{range_with_len}
-use mathlib.Core.List.{append_assoc, append-nil}
-use Rattle.c104_stream.specs.Writing.{AppendsAndKeeps, AppendsPrefix}
-use Rattle.c104_stream.proofs.Prefixes.{kept_next, kept_only, kept_stops, prefix_longer}
+use mathlib.Core.List.{append-nil, append_assoc}
 
 -- the numbers from one on that are left below a count
 pub range_next : (number count : ℕ) → number < count → range_with_len number (count - number) ≡ number ∷ range_with_len (number + 1) (count - (number + 1))

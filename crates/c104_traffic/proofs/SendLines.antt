@@ -1,16 +1,9 @@
 -- Lines are written part by part.
-use Rattle.std.proofs.Common.{◌≡◌, ◌≢◌, ℕ, ◌+◌, List, [], ◌++◌, codes, flat_map, if◌then◌else◌, map, ap, sym, ◌∙◌}
-use Rattle.std.specs.Fmt.{decimal}
-use Rattle.std.specs.List.{range_with_len}
-use Rattle.std.proofs.lemmas.Bool.{ne_eqb}
+use Rattle.{c104_plan.specs.{Plans.Plan, PortTexts.terminal_name}, c104_token.specs.{Text.mark_word, declared.tokens.Mark.Mark}}
+use Rattle.c104_traffic.{proofs.Numbered.flat_map_map, specs.{Packets.{byte_at, packet_of}, Texts.{hex_word, rounds_text, send_text}}}
+use Rattle.std.proofs.{Common.{List, [], ap, codes, flat_map, if◌then◌else◌, map, sym, ℕ, ◌++◌, ◌+◌, ◌∙◌, ◌≡◌, ◌≢◌}, lemmas.Bool.ne_eqb}
+use Rattle.std.specs.{Fmt.decimal, List.range_with_len}
 use mathlib.Core.List.{append_assoc}
-use Rattle.c104_token.specs.Text.{mark_word}
-use Rattle.c104_token.specs.declared.tokens.Mark.TheVariants as mark
-use Rattle.c104_plan.specs.Plans.{Plan}
-use Rattle.c104_plan.specs.PortTexts.{terminal_name}
-use Rattle.c104_traffic.specs.Packets.{byte_at, packet_of}
-use Rattle.c104_traffic.specs.Texts.{hex_word, rounds_text, send_text}
-use Rattle.c104_traffic.proofs.Numbered.{flat_map_map}
 
 -- the line of some rounds
 pub rounds_are : (count : ℕ) (digits : List ℕ) → count ≢ 0 → digits ≡ decimal count → codes "rounds " ++ (digits ++ codes "\n") ≡ rounds_text count
@@ -19,10 +12,10 @@ rounds_are count digits some is =
     ∙ ap (λ b. if b then [] else codes "rounds " ++ (decimal count ++ codes "\n")) (sym (ne_eqb count 0 some))
 
 -- the line of a packet: its front, its bytes and its end
-parts_are : (name bytes : List ℕ) → (codes "send " ++ (name ++ codes " ")) ++ (bytes ++ codes "eop\n") ≡ codes "send " ++ (name ++ (codes " " ++ ((bytes ++ mark_word mark.Eop) ++ codes "\n")))
+parts_are : (name bytes : List ℕ) → (codes "send " ++ (name ++ codes " ")) ++ (bytes ++ codes "eop\n") ≡ codes "send " ++ (name ++ (codes " " ++ ((bytes ++ mark_word Mark.Eop) ++ codes "\n")))
 parts_are name bytes =
     ap (λ xs. codes "send " ++ xs)
-    (append_assoc name (codes " ") (bytes ++ codes "eop\n") ∙ ap (λ xs. name ++ (codes " " ++ xs)) (sym (append_assoc bytes (mark_word mark.Eop) (codes "\n"))))
+    (append_assoc name (codes " ") (bytes ++ codes "eop\n") ∙ ap (λ xs. name ++ (codes " " ++ xs)) (sym (append_assoc bytes (mark_word Mark.Eop) (codes "\n"))))
 
 -- the front of a line, and the bytes of a packet
 abbrev pub front_of : List ℕ → List ℕ
@@ -36,5 +29,5 @@ pub line_is : (plan : Plan) (sender bytes label number : ℕ) (name : List ℕ) 
 line_is plan sender bytes label number name header is same =
     ap (λ h. front_of name ++ (bytes_of h bytes label number ++ codes "eop\n")) same
     ∙ parts_are name (flat_map (λ place. hex_word (byte_at plan.header label number place)) (range_with_len 0 (plan.header + bytes)))
-    ∙ ap (λ words. codes "send " ++ (name ++ (codes " " ++ ((words ++ mark_word mark.Eop) ++ codes "\n")))) (sym (flat_map_map (byte_at plan.header label number) hex_word (range_with_len 0 (plan.header + bytes))))
-    ∙ ap (λ (xs : List ℕ). codes "send " ++ (xs ++ (codes " " ++ ((flat_map hex_word (map (byte_at plan.header label number) (range_with_len 0 (plan.header + bytes))) ++ mark_word mark.Eop) ++ codes "\n")))) is
+    ∙ ap (λ words. codes "send " ++ (name ++ (codes " " ++ ((words ++ mark_word Mark.Eop) ++ codes "\n")))) (sym (flat_map_map (byte_at plan.header label number) hex_word (range_with_len 0 (plan.header + bytes))))
+    ∙ ap (λ (xs : List ℕ). codes "send " ++ (xs ++ (codes " " ++ ((flat_map hex_word (map (byte_at plan.header label number) (range_with_len 0 (plan.header + bytes))) ++ mark_word Mark.Eop) ++ codes "\n")))) is

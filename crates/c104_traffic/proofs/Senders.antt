@@ -1,17 +1,10 @@
 -- The terminals that send, as far as they are found, and that each of them is there.
-use Rattle.std.proofs.Common.{◌≡◌, ℕ, suc, ◌+◌, ◌-◌, ◌%◌, ◌<◌, ◌≤◌, ◌==◌, Bool, true, false, cond, List, [], ◌∷◌, ◌++◌, filter, length, All, ap, sym, subst, ◌∙◌, arith}
-use Rattle.std.specs.List.{range_with_len}
-use mathlib.Core.List.{append_assoc, append-nil}
-use Rattle.std.proofs.lemmas.Bool.Decides.{nat_tests}
-use Rattle.std.proofs.lemmas.List.Elements.{All-filter}
-use Rattle.std.proofs.lemmas.List.FromFn.{get_or-range_with_len, length-range_with_len}
-use Rattle.std.proofs.lemmas.Nat.{mod_below}
-use Rattle.std.proofs.lemmas.Option.{unwrap_or-slice_get}
-use Rattle.rand_xoshiro.specs.SplitMix64.{mix_u64}
-use Rattle.c104_traffic.specs.Packets.{generator_at, sender_at}
-use Rattle.c104_traffic.specs.Patterns.{Pattern}
-use Rattle.c104_traffic.specs.Targets.{is_sender, senders_of}
-use Rattle.c104_traffic.proofs.Numbered.{range_last, range_next}
+use Rattle.c104_traffic.{proofs.Numbered.{range_last, range_next}, specs.{Packets.{generator_at, sender_at}, Patterns.Pattern}}
+use Rattle.{c104_traffic.specs.Targets.{is_sender, senders_of}, rand_xoshiro.specs.SplitMix64.mix_u64, std.proofs.Common.{All, Bool, List}}
+use Rattle.std.proofs.Common.{[], ap, arith, cond, false, filter, length, subst, suc, sym, true, ℕ, ◌%◌, ◌++◌, ◌+◌, ◌-◌, ◌<◌, ◌==◌, ◌∙◌}
+use Rattle.std.proofs.{Common.{◌∷◌, ◌≡◌, ◌≤◌}, lemmas.{Bool.Decides.nat_tests, List.{Elements.All-filter, FromFn.get_or-range_with_len}}}
+use Rattle.std.{proofs.lemmas.{List.FromFn.length-range_with_len, Nat.mod_below, Option.unwrap_or-slice_get}, specs.List.range_with_len}
+use mathlib.Core.List.{append-nil, append_assoc}
 
 -- one more is found
 pub senders_next : (test : ℕ → Bool) (count number : ℕ) (found all : List ℕ) → number < count → test number ≡ true → found ++ filter test (range_with_len number (count - number)) ≡ all

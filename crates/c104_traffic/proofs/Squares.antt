@@ -1,8 +1,7 @@
 -- Squares, powers of two, and bits in reverse.
-use Rattle.std.proofs.Common.{◌≡◌, ◌≢◌, ℕ, zero, suc, ◌+◌, ◌-◌, ◌*◌, ◌/◌, ◌%◌, ◌^◌, ◌<◌, ◌≤◌, ap, sym, subst, ◌∙◌, inl, inr, arith}
-use Rattle.std.proofs.lemmas.Bool.{cases_lt}
-use Rattle.std.proofs.lemmas.Nat.{div_below, mod_below, mul-le, pow-add, pow_below}
-use Rattle.c104_traffic.specs.Targets.{reversed_onto, transposed}
+use Rattle.{c104_traffic.specs.Targets.{reversed_onto, transposed}, std.proofs.Common.{ap, arith, inl, inr, subst, suc, sym, zero, ℕ, ◌%◌}}
+use Rattle.std.proofs.{Common.{◌*◌, ◌+◌, ◌-◌, ◌/◌, ◌<◌, ◌^◌, ◌∙◌, ◌≡◌, ◌≢◌, ◌≤◌}, lemmas.{Bool.cases_lt, Nat.{div_below, mod_below}}}
+use Rattle.std.proofs.lemmas.Nat.{mul-le, pow-add, pow_below}
 
 -- a square with a place has a side
 pub side_some : (side place : ℕ) → place < side * side → 0 < side

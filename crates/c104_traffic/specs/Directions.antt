@@ -1,14 +1,9 @@
 -- Where the packets of traffic go.
 --     AreDirected plan image pattern traffic      each packet goes from a terminal to a terminal, by a label of that
-use Rattle.std.specs.Prelude.{◌≡◌, ◌≢◌, ℕ, ◌+◌, ◌<◌, Bool, false, length, take}
-use Rattle.c104_token.specs.declared.packets.Packet.{Packet}
-use Rattle.c104_switch.specs.Headers.{header_number}
-use Rattle.c104_plan.specs.Plans.{Plan}
-use Rattle.c104_plan.specs.PlanImage.{Image}
-use Rattle.c104_check.specs.Routes.{Owns, routes_of}
-use Rattle.c104_traffic.specs.Packets.{Traffic, first_label, packet_of, sender_at, target_at}
-use Rattle.c104_traffic.specs.Patterns.{Pattern}
-use Rattle.c104_traffic.specs.Targets.{senders_of}
+use Rattle.{c104_check.specs.Routes.{Owns, routes_of}, c104_plan.specs.{PlanImage.Image, Plans.Plan}}
+use Rattle.{c104_switch.specs.Headers.header_number, c104_token.specs.declared.packets.Packet.Packet, c104_traffic.specs.Packets.Traffic}
+use Rattle.c104_traffic.specs.{Packets.{first_label, packet_of, sender_at, target_at}, Patterns.Pattern, Targets.senders_of}
+use Rattle.std.specs.Prelude.{Bool, false, length, take, ℕ, ◌+◌, ◌<◌, ◌≡◌, ◌≢◌}
 
 -- a packet goes from a terminal to a terminal: its header is the first label of that, which that terminal owns, and a given
 -- number of bytes is behind it; and the two are different ones, unless a terminal may send to itself

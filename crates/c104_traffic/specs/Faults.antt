@@ -1,44 +1,37 @@
 -- Why a network can't have traffic of a pattern.
 --     IsTrafficFault plan image name target own why      this is why a schedule isn't found
-use Rattle.std.specs.Prelude.{◌≡◌, ⊤, ℕ, ◌<◌, ◌≤◌, Bool, List, [], ◌++◌, length, codes}
-use Rattle.std.specs.Fmt.{decimal}
-use Rattle.c104_plan.specs.Plans.{Plan, header_values}
-use Rattle.c104_plan.specs.PlanImage.{Image}
-use Rattle.c104_plan.specs.PortTexts.{terminal_name}
 pub use Rattle.c104_traffic.specs.declared.faults.TrafficFault.{TrafficFault}
-use Rattle.c104_traffic.specs.declared.faults.TrafficFault.TheVariants as fault
-use Rattle.c104_traffic.specs.declared.patterns.Pattern.{Pattern}
+use Rattle.{c104_plan.specs.{PlanImage.Image, Plans.{Plan, header_values}, PortTexts.terminal_name}, c104_traffic.specs.Packets.first_label}
+use Rattle.c104_traffic.specs.{Patterns.{IsNoPattern, IsPatternOf}, Targets.senders_of, declared.patterns.Pattern.Pattern}
 use Rattle.c104_traffic.specs.declared.patterns.PatternName.{PatternName}
-use Rattle.c104_traffic.specs.Packets.{first_label}
-use Rattle.c104_traffic.specs.Patterns.{IsNoPattern, IsPatternOf}
-use Rattle.c104_traffic.specs.Targets.{senders_of}
+use Rattle.std.specs.{Fmt.decimal, Prelude.{Bool, List, [], codes, length, ℕ, ⊤, ◌++◌, ◌<◌, ◌≡◌, ◌≤◌}}
 
 -- the number that is printed
 abbrev pub traffic_fault_number : TrafficFault → ℕ
-traffic_fault_number fault.NotSquare = 1
-traffic_fault_number fault.NotPowerOfTwo = 2
-traffic_fault_number fault.NoTerminal = 3
-traffic_fault_number fault.NoTarget = 4
-traffic_fault_number (fault.NoLabel t) = 5
-traffic_fault_number fault.NoMemory = 6
+traffic_fault_number TrafficFault.NotSquare = 1
+traffic_fault_number TrafficFault.NotPowerOfTwo = 2
+traffic_fault_number TrafficFault.NoTerminal = 3
+traffic_fault_number TrafficFault.NoTarget = 4
+traffic_fault_number (TrafficFault.NoLabel t) = 5
+traffic_fault_number TrafficFault.NoMemory = 6
 
 -- the name that is printed
 abbrev pub traffic_fault_name : TrafficFault → List ℕ
-traffic_fault_name fault.NotSquare = codes "NotSquare"
-traffic_fault_name fault.NotPowerOfTwo = codes "NotPowerOfTwo"
-traffic_fault_name fault.NoTerminal = codes "NoTerminal"
-traffic_fault_name fault.NoTarget = codes "NoTarget"
-traffic_fault_name (fault.NoLabel t) = codes "NoLabel"
-traffic_fault_name fault.NoMemory = codes "NoMemory"
+traffic_fault_name TrafficFault.NotSquare = codes "NotSquare"
+traffic_fault_name TrafficFault.NotPowerOfTwo = codes "NotPowerOfTwo"
+traffic_fault_name TrafficFault.NoTerminal = codes "NoTerminal"
+traffic_fault_name TrafficFault.NoTarget = codes "NoTarget"
+traffic_fault_name (TrafficFault.NoLabel t) = codes "NoLabel"
+traffic_fault_name TrafficFault.NoMemory = codes "NoMemory"
 
 -- where a fault is: at a terminal, or nowhere
 abbrev pub traffic_fault_place : Plan → TrafficFault → List ℕ
-traffic_fault_place plan fault.NotSquare = []
-traffic_fault_place plan fault.NotPowerOfTwo = []
-traffic_fault_place plan fault.NoTerminal = []
-traffic_fault_place plan fault.NoTarget = []
-traffic_fault_place plan (fault.NoLabel t) = codes ": " ++ terminal_name plan t
-traffic_fault_place plan fault.NoMemory = []
+traffic_fault_place plan TrafficFault.NotSquare = []
+traffic_fault_place plan TrafficFault.NotPowerOfTwo = []
+traffic_fault_place plan TrafficFault.NoTerminal = []
+traffic_fault_place plan TrafficFault.NoTarget = []
+traffic_fault_place plan (TrafficFault.NoLabel t) = codes ": " ++ terminal_name plan t
+traffic_fault_place plan TrafficFault.NoMemory = []
 
 -- the line of a fault: its number, its name, and where it is
 abbrev pub traffic_fault_text : Plan → TrafficFault → List ℕ
@@ -66,9 +59,9 @@ pub record HasSender (plan : Plan) (name : PatternName) (target : List ℕ) (own
 -- this is why a network has no schedule for a pattern of this name: the first of several faults. That a label is no header
 -- is told only of a pattern that the network can have, and by which some terminal sends
 abbrev pub IsTrafficFault : Plan → Image → PatternName → List ℕ → Bool → TrafficFault → Type 0
-IsTrafficFault plan image name target own fault.NotSquare = IsNoPattern plan name target fault.NotSquare
-IsTrafficFault plan image name target own fault.NotPowerOfTwo = IsNoPattern plan name target fault.NotPowerOfTwo
-IsTrafficFault plan image name target own fault.NoTerminal = IsNoPattern plan name target fault.NoTerminal
-IsTrafficFault plan image name target own fault.NoTarget = HasNoSender plan name target own
-IsTrafficFault plan image name target own (fault.NoLabel t) = HasSender plan name target own × IsFirstUnlabelled plan image t
-IsTrafficFault plan image name target own fault.NoMemory = ⊤
+IsTrafficFault plan image name target own TrafficFault.NotSquare = IsNoPattern plan name target TrafficFault.NotSquare
+IsTrafficFault plan image name target own TrafficFault.NotPowerOfTwo = IsNoPattern plan name target TrafficFault.NotPowerOfTwo
+IsTrafficFault plan image name target own TrafficFault.NoTerminal = IsNoPattern plan name target TrafficFault.NoTerminal
+IsTrafficFault plan image name target own TrafficFault.NoTarget = HasNoSender plan name target own
+IsTrafficFault plan image name target own (TrafficFault.NoLabel t) = HasSender plan name target own × IsFirstUnlabelled plan image t
+IsTrafficFault plan image name target own TrafficFault.NoMemory = ⊤

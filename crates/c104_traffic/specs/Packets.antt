@@ -1,18 +1,11 @@
 -- The packets of traffic: from which terminal each comes, to which it goes, of which bytes it is, and when it is sent.
 --     packet_of plan bytes label number      the packet of this number, counted from 0, to a label
-use Rattle.std.specs.Prelude.{ℕ, zero, suc, ◌+◌, ◌-◌, ◌*◌, ◌/◌, ◌%◌, ◌<◌, ◌≤◌, ◌==◌, List, length, map, nat_lt, slice_get, if◌then◌else◌, Option, Some, None, IfSome}
-use Rattle.std.specs.List.{range_with_len}
-use Rattle.std.specs.Option.{option_map_or, unwrap_or}
+pub use Rattle.c104_traffic.specs.declared.{amounts.Traffic.Traffic, packets.Sent.Sent}
+use Rattle.{c104_plan.specs.{PlanImage.Image, Plans.Plan}, c104_token.specs.declared.{packets.Packet.Packet, tokens.Mark.Mark}}
+use Rattle.c104_traffic.specs.{Patterns.Pattern, Targets.target_of, declared.amounts.TheConstants.{MAX_DATA, MAX_PACKETS}}
 use Rattle.rand_xoshiro.specs.SplitMix64.{mix_u64}
-use Rattle.c104_token.specs.declared.packets.Packet.{Packet}
-use Rattle.c104_token.specs.declared.tokens.Mark.TheVariants as mark
-use Rattle.c104_plan.specs.Plans.{Plan}
-use Rattle.c104_plan.specs.PlanImage.{Image}
-use Rattle.c104_traffic.specs.Patterns.{Pattern}
-use Rattle.c104_traffic.specs.Targets.{target_of}
-pub use Rattle.c104_traffic.specs.declared.amounts.Traffic.{Traffic}
-use Rattle.c104_traffic.specs.declared.amounts.TheConstants.{MAX_DATA, MAX_PACKETS}
-pub use Rattle.c104_traffic.specs.declared.packets.Sent.{Sent}
+use Rattle.std.specs.{List.range_with_len, Option.{option_map_or, unwrap_or}, Prelude.{IfSome, List, None, Option, Some, if◌then◌else◌}}
+use Rattle.std.specs.Prelude.{length, map, nat_lt, slice_get, suc, zero, ℕ, ◌%◌, ◌*◌, ◌+◌, ◌-◌, ◌/◌, ◌<◌, ◌==◌, ◌≤◌}
 
 -- traffic within the limits
 pub record IsTraffic (traffic : Traffic) : Type 0 where
@@ -53,7 +46,7 @@ byte_at header label number place =
 abbrev pub packet_of : Plan → ℕ → ℕ → ℕ → Packet
 packet_of plan bytes label number = record {
   bytes = map (byte_at plan.header label number) (range_with_len 0 (plan.header + bytes));
-  mark = mark.Eop;
+  mark = Mark.Eop;
 }
 
 -- how many rounds are done in all before a packet is sent, by a number of senders

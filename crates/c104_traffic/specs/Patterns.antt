@@ -1,23 +1,19 @@
 -- The patterns by which terminals choose where their packets go, and which of them a network can have.
 --     IsPatternOf plan name target pattern      what the pattern of this name is in a network
 --     IsNoPattern plan name target why      it can't have that pattern
-use Rattle.std.specs.Prelude.{◌≡◌, ◌≢◌, ⊤, ℕ, ◌*◌, ◌^◌, ◌<◌, List, length, Some, None}
-use Rattle.c104_plan.specs.Plans.{Plan, terminal_number}
-pub use Rattle.c104_traffic.specs.declared.patterns.Pattern.{Pattern}
+pub use Rattle.c104_traffic.specs.declared.patterns.{Pattern.Pattern, PatternName.PatternName}
+use Rattle.{c104_plan.specs.Plans.{Plan, terminal_number}, c104_traffic.specs.declared.faults.TrafficFault.TrafficFault}
+use Rattle.std.specs.Prelude.{List, None, Some, length, ℕ, ⊤, ◌*◌, ◌<◌, ◌^◌, ◌≡◌, ◌≢◌}
 use Rattle.c104_traffic.specs.declared.patterns.Pattern.TheVariants as pattern
-pub use Rattle.c104_traffic.specs.declared.patterns.PatternName.{PatternName}
-use Rattle.c104_traffic.specs.declared.patterns.PatternName.TheVariants as asked
-use Rattle.c104_traffic.specs.declared.faults.TrafficFault.{TrafficFault}
-use Rattle.c104_traffic.specs.declared.faults.TrafficFault.TheVariants as fault
 
 -- the name of a pattern
 abbrev pub name_of : Pattern → PatternName
-name_of pattern.Uniform = asked.Uniform
-name_of (pattern.Transpose side) = asked.Transpose
-name_of (pattern.Reverse bits) = asked.Reverse
-name_of pattern.Neighbour = asked.Neighbour
-name_of (pattern.HotSpot t) = asked.HotSpot
-name_of pattern.AllToAll = asked.AllToAll
+name_of pattern.Uniform = PatternName.Uniform
+name_of (pattern.Transpose side) = PatternName.Transpose
+name_of (pattern.Reverse bits) = PatternName.Reverse
+name_of pattern.Neighbour = PatternName.Neighbour
+name_of (pattern.HotSpot t) = PatternName.HotSpot
+name_of pattern.AllToAll = PatternName.AllToAll
 
 -- a pattern is one of a given number of terminals: those of a transpose are a square of its side, those of a reverse are
 -- all the numbers of its bits, and a hot spot is one of them
@@ -46,9 +42,9 @@ pub record IsPatternOf (plan : Plan) (name : PatternName) (target : List ℕ) (p
 
 -- a network can't have the pattern of this name
 abbrev pub IsNoPattern : Plan → PatternName → List ℕ → TrafficFault → Type 0
-IsNoPattern plan name target fault.NotSquare = (name ≡ asked.Transpose) × ((side : ℕ) → side * side ≢ length plan.terminals)
-IsNoPattern plan name target fault.NotPowerOfTwo = (name ≡ asked.Reverse) × ((bits : ℕ) → 2 ^ bits ≢ length plan.terminals)
-IsNoPattern plan name target fault.NoTerminal = (name ≡ asked.HotSpot) × (terminal_number plan target ≡ None)
-IsNoPattern plan name target fault.NoTarget = ⊥
-IsNoPattern plan name target (fault.NoLabel t) = ⊥
-IsNoPattern plan name target fault.NoMemory = ⊥
+IsNoPattern plan name target TrafficFault.NotSquare = (name ≡ PatternName.Transpose) × ((side : ℕ) → side * side ≢ length plan.terminals)
+IsNoPattern plan name target TrafficFault.NotPowerOfTwo = (name ≡ PatternName.Reverse) × ((bits : ℕ) → 2 ^ bits ≢ length plan.terminals)
+IsNoPattern plan name target TrafficFault.NoTerminal = (name ≡ PatternName.HotSpot) × (terminal_number plan target ≡ None)
+IsNoPattern plan name target TrafficFault.NoTarget = ⊥
+IsNoPattern plan name target (TrafficFault.NoLabel t) = ⊥
+IsNoPattern plan name target TrafficFault.NoMemory = ⊥

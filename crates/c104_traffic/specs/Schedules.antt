@@ -1,11 +1,8 @@
 -- Who sends by a pattern in a network.
-use Rattle.std.specs.Prelude.{◌≡◌, ℕ, ◌<◌, Bool, length, slice_get, IfSome}
-use Rattle.c104_plan.specs.Plans.{IsPlan, IsRange, Plan, header_values}
-use Rattle.c104_plan.specs.PlanImage.{Image}
 pub use Rattle.c104_traffic.specs.declared.schedules.Schedule.{Schedule}
-use Rattle.c104_traffic.specs.Packets.{first_label}
-use Rattle.c104_traffic.specs.Patterns.{IsPatternFor}
-use Rattle.c104_traffic.specs.Targets.{senders_of}
+use Rattle.{c104_plan.specs.{PlanImage.Image, Plans.{IsPlan, IsRange, Plan, header_values}}, c104_traffic.specs.Packets.first_label}
+use Rattle.c104_traffic.specs.{Patterns.IsPatternFor, Targets.senders_of}
+use Rattle.std.specs.Prelude.{Bool, IfSome, length, slice_get, ℕ, ◌<◌, ◌≡◌}
 
 -- the first label of each terminal is a header
 abbrev pub AreLabelled : Plan → Image → Type 0

@@ -1,10 +1,9 @@
 -- Which terminals send by a pattern, and to which terminal a packet goes. Terminals are counted from 0.
 --     target_of pattern own count s turn word      the target of terminal s
 --     senders_of pattern own count      the terminals that send
-use Rattle.std.specs.Prelude.{ℕ, zero, suc, ◌+◌, ◌-◌, ◌*◌, ◌/◌, ◌%◌, ◌==◌, ◌||◌, Bool, not, List, filter, if◌then◌else◌}
-use Rattle.std.specs.List.{range_with_len}
 use Rattle.c104_traffic.specs.Patterns.{Pattern}
-use Rattle.c104_traffic.specs.declared.patterns.Pattern.TheVariants as pattern
+use Rattle.std.specs.{List.range_with_len, Prelude.{Bool, List, filter, if◌then◌else◌, not, suc, zero, ℕ, ◌%◌, ◌*◌, ◌+◌, ◌-◌, ◌/◌, ◌==◌}}
+use Rattle.std.specs.Prelude.{◌||◌}
 
 -- how many of the terminals a packet may go to: its sender is among them if that is asked for
 abbrev pub choices : Bool → ℕ → ℕ
@@ -30,12 +29,12 @@ reversed_onto done (suc bits) number = reversed_onto (2 * done + number % 2) bit
 -- to which terminal terminal s sends, of a number of them: turn is how many packets it sent before, and word is a word of
 -- the generator
 abbrev pub target_of : Pattern → Bool → ℕ → ℕ → ℕ → ℕ → ℕ
-target_of pattern.Uniform own count s turn word = behind count s (pick (choices own count) word)
-target_of (pattern.Transpose side) own count s turn word = transposed side s
-target_of (pattern.Reverse bits) own count s turn word = reversed_onto 0 bits s
-target_of pattern.Neighbour own count s turn word = behind count s 0
-target_of (pattern.HotSpot t) own count s turn word = t
-target_of pattern.AllToAll own count s turn word = behind count s (pick (choices own count) turn)
+target_of Pattern.Uniform own count s turn word = behind count s (pick (choices own count) word)
+target_of (Pattern.Transpose side) own count s turn word = transposed side s
+target_of (Pattern.Reverse bits) own count s turn word = reversed_onto 0 bits s
+target_of Pattern.Neighbour own count s turn word = behind count s 0
+target_of (Pattern.HotSpot t) own count s turn word = t
+target_of Pattern.AllToAll own count s turn word = behind count s (pick (choices own count) turn)
 
 -- whether a terminal sends: it has a target that is another terminal, or may be its own
 abbrev pub is_sender : Pattern → Bool → ℕ → ℕ → Bool

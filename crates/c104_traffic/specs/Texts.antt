@@ -1,16 +1,10 @@
 -- The script of traffic: its text, as a function of the network, the pattern and the traffic.
 --     traffic_text plan image pattern traffic      the whole of it
-use Rattle.std.specs.Prelude.{ℕ, ◌/◌, ◌%◌, ◌==◌, List, [], ◌∷◌, ◌++◌, length, flat_map, codes, if◌then◌else◌}
-use Rattle.std.specs.Fmt.{decimal}
-use Rattle.std.specs.List.{range_with_len}
-use Rattle.c104_token.specs.declared.packets.Packet.{Packet}
-use Rattle.c104_token.specs.Text.{hex_digit, packet_text}
-use Rattle.c104_plan.specs.Plans.{Plan}
-use Rattle.c104_plan.specs.PlanImage.{Image}
-use Rattle.c104_plan.specs.PortTexts.{terminal_name}
-use Rattle.c104_traffic.specs.Packets.{Sent, Traffic, packet_of, sent_at}
-use Rattle.c104_traffic.specs.Patterns.{Pattern}
-use Rattle.c104_traffic.specs.Targets.{senders_of}
+use Rattle.{c104_plan.specs.{PlanImage.Image, Plans.Plan, PortTexts.terminal_name}, c104_token.specs.Text.{hex_digit, packet_text}}
+use Rattle.{c104_token.specs.declared.packets.Packet.Packet, c104_traffic.specs.Packets.{Sent, Traffic, packet_of, sent_at}}
+use Rattle.c104_traffic.specs.{Patterns.Pattern, Targets.senders_of}
+use Rattle.std.specs.{Fmt.decimal, List.range_with_len, Prelude.{List, [], codes, flat_map, if◌then◌else◌, length, ℕ, ◌%◌, ◌++◌, ◌/◌, ◌==◌}}
+use Rattle.std.specs.Prelude.{◌∷◌}
 
 -- a byte of a packet: its two hexadecimal digits, and the space (0x20) behind them
 abbrev pub hex_word : ℕ → List ℕ

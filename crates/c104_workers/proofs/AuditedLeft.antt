@@ -1,52 +1,33 @@
 -- What a fabric leaves can be audited, and where it audits well it tells a run.
-use Rattle.c104_audit.proofs.AuditedRuns.{audited_run, tell_run}
-use Rattle.c104_audit.proofs.Matches.{end_place}
-use Rattle.c104_audit.specs.AuditedRuns.{AreGathered, IsWholeNode, WereBefore, node_shape}
-use Rattle.c104_audit.specs.Audits.{AreLists, IsAudited, IsEndAmong, lists_events}
-use Rattle.c104_node.specs.Records.{node_trace}
-use Rattle.c104_node.specs.Starts.{start_node}
-use Rattle.c104_node.specs.Traces.{seatless}
-use Rattle.c104_plan.proofs.Wires.{wiring}
-use Rattle.c104_plan.specs.Plans.{IsPlan, Plan, host_port}
-use Rattle.c104_plan.specs.Wiring.{IsPlanPort, terminal_wires}
-use Rattle.c104_plan.specs.declared.ports.Port.TheVariants as port
-use Rattle.c104_plan.specs.declared.ports.Port.{Port}
-use Rattle.c104_plan.specs.declared.plans.Terminal.{Terminal}
-use Rattle.c104_plan.specs.declared.ports.Wire.{Wire}
-use Rattle.c104_run.proofs.BalanceWires.{nodes_apart}
-use Rattle.c104_run.proofs.RecordSteps.{nodes_counted}
-use Rattle.c104_run.proofs.EntryCounts.{lengths_same}
-use Rattle.c104_run.specs.Balance.{IsSteady}
-use Rattle.c104_run.specs.FinishedRecords.{FinishedRecord}
-use Rattle.c104_run.specs.NetRecords.{NetRecord}
-use Rattle.c104_run.specs.Network.{network_of}
-use Rattle.c104_run.specs.NodeRuns.{TellRun, nodes_run}
-use Rattle.c104_run.specs.Runs.{IsRunRecord, at_node, run_deeds}
-use Rattle.c104_token.specs.Kinds.{plain_kind}
-use Rattle.c104_token.specs.declared.tokens.Token.{Token}
-use Rattle.c104_workers.specs.Audited.{TellsSeats, lists_of}
-use Rattle.c104_workers.specs.Fabrics.{Handed, IsLeft, Left}
-use Rattle.std.proofs.Common.{All, List, Some, [], ap, arith, length, map, refl, slice_get, subst, suc, sym, take, zero, ℕ, ◌++◌, ◌∷◌, ◌+◌, ◌∙◌, ◌≡◌}
-use Rattle.std.proofs.lemmas.List.{length-map}
+use Rattle.c104_audit.{proofs.{AuditedRuns.{audited_run, tell_run}, Matches.end_place}, specs.AuditedRuns.{AreGathered, IsWholeNode}}
+use Rattle.c104_audit.specs.{AuditedRuns.{WereBefore, node_shape}, Audits.{AreLists, IsAudited, IsEndAmong, lists_events}}
+use Rattle.{c104_node.specs.{Records.node_trace, Starts.start_node, Traces.seatless}, c104_plan.{proofs.Wires.wiring, specs.Plans.IsPlan}}
+use Rattle.c104_plan.specs.{Plans.{Plan, host_port}, Wiring.{IsPlanPort, terminal_wires}, declared.plans.Terminal.Terminal}
+use Rattle.{c104_plan.specs.declared.ports.{Port.Port, Wire.Wire}, c104_run.proofs.{BalanceWires.nodes_apart, EntryCounts.lengths_same}}
+use Rattle.c104_run.{proofs.RecordSteps.nodes_counted, specs.{Balance.IsSteady, FinishedRecords.FinishedRecord, NetRecords.NetRecord}}
+use Rattle.c104_run.specs.{Network.network_of, NodeRuns.{TellRun, nodes_run}, Runs.{IsRunRecord, at_node, run_deeds}}
+use Rattle.{c104_token.specs.{Kinds.plain_kind, declared.tokens.Token.Token}, c104_workers.specs.Audited.{TellsSeats, lists_of}}
+use Rattle.{c104_workers.specs.Fabrics.{Handed, IsLeft, Left}, std.proofs.Common.{All, List, Some, [], ap, arith, length, map, refl}}
+use Rattle.std.proofs.{Common.{slice_get, subst, suc, sym, take, zero, ℕ, ◌++◌, ◌+◌, ◌∙◌, ◌∷◌, ◌≡◌}, lemmas.List.length-map}
 
 -- the wire of one terminal more
-wires_more : (n k : ℕ) (ts : List Terminal) (t : Terminal) → slice_get ts k ≡ Some t → terminal_wires n (take (suc k) ts) ≡ terminal_wires n (take k ts) ++ record { here = port.Terminal (n + k); there = host_port t } ∷ []
+wires_more : (n k : ℕ) (ts : List Terminal) (t : Terminal) → slice_get ts k ≡ Some t → terminal_wires n (take (suc k) ts) ≡ terminal_wires n (take k ts) ++ record { here = Port.Terminal (n + k); there = host_port t } ∷ []
 wires_more n k [] t at = absurd (cc)
 wires_more n zero (s ∷ ts) t at =
     let same : s ≡ t = cc in
     let none : n ≡ n + 0 = omega arith in
-    ap (λ m. record { here = port.Terminal m; there = host_port s } ∷ []) none ∙ ap (λ (u : Terminal). record { here = port.Terminal (n + 0); there = host_port u } ∷ []) same
+    ap (λ m. record { here = Port.Terminal m; there = host_port s } ∷ []) none ∙ ap (λ (u : Terminal). record { here = Port.Terminal (n + 0); there = host_port u } ∷ []) same
 wires_more n (suc k) (s ∷ ts) t at =
     let next : suc n + k ≡ n + suc k = omega arith in
-    ap (λ ws. record { here = port.Terminal n; there = host_port s } ∷ ws) (wires_more (suc n) k ts t at ∙ ap (λ m. terminal_wires (suc n) (take k ts) ++ record { here = port.Terminal m; there = host_port t } ∷ []) next)
+    ap (λ ws. record { here = Port.Terminal n; there = host_port s } ∷ ws) (wires_more (suc n) k ts t at ∙ ap (λ m. terminal_wires (suc n) (take k ts) ++ record { here = Port.Terminal m; there = host_port t } ∷ []) next)
 
-pub wire_next : (k : ℕ) (ts : List Terminal) (t : Terminal) (there : Port) (made next : List Wire) → slice_get ts k ≡ Some t → there ≡ host_port t → made ≡ terminal_wires 0 (take k ts) → next ≡ made ++ record { here = port.Terminal k; there = there } ∷ [] → next ≡ terminal_wires 0 (take (k + 1) ts)
+pub wire_next : (k : ℕ) (ts : List Terminal) (t : Terminal) (there : Port) (made next : List Wire) → slice_get ts k ≡ Some t → there ≡ host_port t → made ≡ terminal_wires 0 (take k ts) → next ≡ made ++ record { here = Port.Terminal k; there = there } ∷ [] → next ≡ terminal_wires 0 (take (k + 1) ts)
 wire_next k ts t there made next at host so grown =
     let same : k ≡ 0 + k = omega arith in
     let next_is : suc k ≡ k + 1 = omega arith in
-    grown ∙ ap (λ ws. ws ++ record { here = port.Terminal k; there = there } ∷ []) so
-    ∙ ap (λ p. terminal_wires 0 (take k ts) ++ record { here = port.Terminal k; there = p } ∷ []) host
-    ∙ ap (λ n. terminal_wires 0 (take k ts) ++ record { here = port.Terminal n; there = host_port t } ∷ []) same
+    grown ∙ ap (λ ws. ws ++ record { here = Port.Terminal k; there = there } ∷ []) so
+    ∙ ap (λ p. terminal_wires 0 (take k ts) ++ record { here = Port.Terminal k; there = p } ∷ []) host
+    ∙ ap (λ n. terminal_wires 0 (take k ts) ++ record { here = Port.Terminal n; there = host_port t } ∷ []) same
     ∙ sym (wires_more 0 k ts t at) ∙ ap (λ n. terminal_wires 0 (take n ts)) next_is
 
 module _ (left : Left) (is : IsLeft left) (is_plan : IsPlan left.handed.plan) where
@@ -73,8 +54,8 @@ module _ (left : Left) (is : IsLeft left) (is_plan : IsPlan left.handed.plan) wh
   shapes_counted = length-map left.nodes node_shape ∙ is.nodes
 
   port_inside : (p : Port) → IsPlanPort P p → IsEndAmong (length P.switches) (length (map node_shape left.nodes)) p
-  port_inside (port.Switch s l) inside = inside
-  port_inside (port.Terminal t) inside = omega (arith, inside, shapes_counted)
+  port_inside (Port.Switch s l) inside = inside
+  port_inside (Port.Terminal t) inside = omega (arith, inside, shapes_counted)
 
   -- what an audit asks of lists
   pub are_lists : AreLists (lists_of left)

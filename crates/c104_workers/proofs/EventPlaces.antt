@@ -1,27 +1,11 @@
 -- The places of an event's nodes are the network's, the lower first.
-use Rattle.c104_plan.specs.Plans.{IsPlan, Plan}
-use Rattle.c104_plan.specs.Wiring.{IsPlanPort, peer}
-use Rattle.c104_plan.specs.declared.ports.Port.{Port}
-use Rattle.c104_plan.specs.declared.ports.Port.TheVariants as port
-use Rattle.c104_plan.proofs.Wires.{wiring}
-use Rattle.c104_event.specs.declared.events.Event.{Event}
-use Rattle.c104_event.specs.declared.events.Event.TheVariants as event
-use Rattle.c104_node.specs.PortActs.{Acts}
-use Rattle.c104_node.specs.declared.acts.ActOf.{ActOf}
-use Rattle.c104_node.specs.declared.acts.ActOf.TheVariants as act
-use Rattle.c104_node.specs.declared.crossings.Crossing.{Crossing}
-use Rattle.c104_node.specs.declared.crossings.Crossing.TheVariants as crossing
-use Rattle.c104_run.specs.AskedActs.{AreEnds, acts_asked}
-use Rattle.c104_run.specs.EventActs.{crossing_acts, event_acts, port_place}
-use Rattle.c104_run.specs.NetParts.{node_count}
-use Rattle.c104_run.specs.Network.{event_fault}
-use Rattle.c104_run.specs.declared.asked.Asked.{Asked}
-use Rattle.c104_run.specs.declared.asked.Asked.TheVariants as asked
-use Rattle.c104_run.proofs.NoFaults.{node_there}
-use Rattle.c104_token.specs.declared.tokens.Token.{Token}
-use Rattle.c104_workers.specs.LentCalls.{AreBelow, AreLentFor, asked_places, event_places}
-use Rattle.std.proofs.Common.{Bool, None, Option, Some, arith, false, length, nat_lt, refl, subst, sym, true, ℕ, ◌+◌, ◌<◌, ◌≡◌, ◌≢◌}
-use Rattle.std.proofs.lemmas.Bool.Decides.{nat_tests}
+use Rattle.{c104_event.specs.declared.events.Event.Event, c104_node.specs.{PortActs.Acts, declared.acts.ActOf.ActOf}}
+use Rattle.{c104_node.specs.declared.crossings.Crossing.Crossing, c104_plan.{proofs.Wires.wiring, specs.Plans.{IsPlan, Plan}}}
+use Rattle.{c104_plan.specs.{Wiring.{IsPlanPort, peer}, declared.ports.Port.Port}, c104_run.proofs.NoFaults.node_there}
+use Rattle.c104_run.specs.{AskedActs.{AreEnds, acts_asked}, EventActs.{crossing_acts, event_acts, port_place}, NetParts.node_count}
+use Rattle.{c104_run.specs.{Network.event_fault, declared.asked.Asked.Asked}, c104_token.specs.declared.tokens.Token.Token}
+use Rattle.{c104_workers.specs.LentCalls.{AreBelow, AreLentFor, asked_places, event_places}, std.proofs.Common.{Bool, None, Option, Some}}
+use Rattle.std.proofs.{Common.{arith, false, length, nat_lt, refl, subst, sym, true, ℕ, ◌+◌, ◌<◌, ◌≡◌, ◌≢◌}, lemmas.Bool.Decides.nat_tests}
 use Rattle.std.specs.Prelude.{if◌then◌else◌}
 
 -- an event of one node isn't about a wire
@@ -45,17 +29,17 @@ module _ (plan : Plan) where
   terminal_below t k is below = omega (arith, is, below)
 
   alone_below : (e : Event) (k : ℕ) (a : ActOf Token) → event_fault plan e ≡ None → event_acts plan e ≡ Some (Acts.Alone k a) → k < node_count plan
-  alone_below (event.Cross p) k a fault is = absurd (no_crossing crossing.Token p (peer plan p) k a is)
-  alone_below (event.Credit p) k a fault is = absurd (no_crossing crossing.Grant p (peer plan p) k a is)
-  alone_below (event.Input s l word) k a fault is = switch_below s k (same_place s k _ a is) (node_there _ (length plan.switches) s fault)
-  alone_below (event.Claim s i o) k a fault is = switch_below s k (same_place s k _ a is) (node_there _ (length plan.switches) s fault)
-  alone_below (event.Control s bytes) k a fault is = switch_below s k (same_place s k _ a is) (node_there _ (length plan.switches) s fault)
-  alone_below (event.Send t packet) k a fault is = terminal_below t k (same_place (length plan.switches + t) k _ a is) (node_there _ (length plan.terminals) t fault)
-  alone_below (event.Drain t) k a fault is = terminal_below t k (same_place (length plan.switches + t) k _ a is) (node_there _ (length plan.terminals) t fault)
+  alone_below (Event.Cross p) k a fault is = absurd (no_crossing Crossing.Token p (peer plan p) k a is)
+  alone_below (Event.Credit p) k a fault is = absurd (no_crossing Crossing.Grant p (peer plan p) k a is)
+  alone_below (Event.Input s l word) k a fault is = switch_below s k (same_place s k _ a is) (node_there _ (length plan.switches) s fault)
+  alone_below (Event.Claim s i o) k a fault is = switch_below s k (same_place s k _ a is) (node_there _ (length plan.switches) s fault)
+  alone_below (Event.Control s bytes) k a fault is = switch_below s k (same_place s k _ a is) (node_there _ (length plan.switches) s fault)
+  alone_below (Event.Send t packet) k a fault is = terminal_below t k (same_place (length plan.switches + t) k _ a is) (node_there _ (length plan.terminals) t fault)
+  alone_below (Event.Drain t) k a fault is = terminal_below t k (same_place (length plan.switches + t) k _ a is) (node_there _ (length plan.terminals) t fault)
 
   port_below : (p : Port) → IsPlanPort plan p → port_place plan p < node_count plan
-  port_below (port.Switch s l) inside = switch_below s s refl inside.0
-  port_below (port.Terminal t) inside = terminal_below t (length plan.switches + t) refl inside
+  port_below (Port.Switch s l) inside = switch_below s s refl inside.0
+  port_below (Port.Terminal t) inside = terminal_below t (length plan.switches + t) refl inside
 
   -- two different places, the lower first
   in_order : (n near far : ℕ) → near ≢ far → near < n → far < n → AreBelow n (if nat_lt near far then (near, Some far) else (far, Some near))
@@ -79,17 +63,17 @@ module _ (plan : Plan) where
   both_lent false p q crossing near far = tt
 
   pub placed : IsPlan plan → (e : Event) (ask : Asked Token) → event_fault plan e ≡ None → event_acts plan e ≡ Some (acts_asked ask) → AreEnds plan ask → Placed e (asked_places ask)
-  placed is_plan e (asked.Alone k a) fault acts ends = record {
+  placed is_plan e (Asked.Alone k a) fault acts ends = record {
     are = rw acts refl;
     lent = rw acts tt;
     inside = alone_below e k a fault acts;
   }
-  placed is_plan e (asked.Send k packet) fault acts ends = record {
+  placed is_plan e (Asked.Send k packet) fault acts ends = record {
     are = rw acts refl;
     lent = rw acts tt;
-    inside = alone_below e k (act.Send packet.now) fault acts;
+    inside = alone_below e k (ActOf.Send packet.now) fault acts;
   }
-  placed is_plan e (asked.Joint near far joint) fault acts ends =
+  placed is_plan e (Asked.Joint near far joint) fault acts ends =
       let wires = wiring plan is_plan in
       let near_below : near < node_count plan = subst (λ k. k < node_count plan) (sym ends.0) (port_below joint.near (wires.inside joint.near joint.far ends.3)) in
       let far_below : far < node_count plan = subst (λ k. k < node_count plan) (sym ends.1) (port_below joint.far (wires.inside joint.far joint.near (wires.back joint.near joint.far ends.3))) in

@@ -1,34 +1,14 @@
 -- What an event that is done is answered, and for which of its limits it is refused.
-use Rattle.c104_plan.specs.Plans.{Plan}
-use Rattle.c104_plan.specs.Wiring.{peer}
-use Rattle.c104_plan.specs.declared.ports.Port.{Port}
-use Rattle.c104_plan.specs.declared.ports.Port.TheVariants as port
-use Rattle.c104_event.specs.declared.events.Event.{Event}
-use Rattle.c104_event.specs.declared.events.Event.TheVariants as event
-use Rattle.c104_event.specs.declared.faults.EventFault.{EventFault}
-use Rattle.c104_event.specs.declared.faults.EventFault.TheVariants as fault
-use Rattle.c104_link.specs.Steps.{◌>>=◌}
-use Rattle.c104_node.specs.Acts.{control_by, done_by, node_act, token_by}
-use Rattle.c104_node.specs.ActLinks.{on_links}
-use Rattle.c104_node.specs.Records.{Crossed, NodeRecord, crossed, has_link, pair_step, recorded_step}
-use Rattle.c104_node.specs.Nodes.{Node, node_control, node_claim, node_credit_out, node_drain, node_input, node_leave, node_send}
-use Rattle.c104_node.specs.PortActs.{Acts, act_limit, far_act, near_act}
-use Rattle.c104_node.specs.declared.acts.ActOf.{ActOf}
-use Rattle.c104_node.specs.declared.acts.ActOf.TheVariants as act
-use Rattle.c104_node.specs.declared.crossings.Crossing.{Crossing}
-use Rattle.c104_node.specs.declared.crossings.Crossing.TheVariants as crossing
-use Rattle.c104_node.specs.declared.node.NodeOf.TheVariants as node
-use Rattle.c104_run.specs.EventActs.{crossing_acts, event_acts}
-use Rattle.c104_switch.specs.Actions.{Reply}
-use Rattle.c104_switch.specs.declared.actions.ActionOf.TheVariants as action
-use Rattle.c104_switch.specs.declared.actions.ReplyOf.TheVariants as reply
-use Rattle.c104_token.specs.Kinds.{plain_kind}
-use Rattle.c104_token.specs.declared.tokens.Token.{Token}
-use Rattle.c104_workers.specs.LentCalls.{joint_of}
-use Rattle.c104_workers.specs.SeatGrowth.{IsCommandReply, IsDoneReply, IsLaterFault, IsReplyTo, IsTokenReply}
-use Rattle.c104_workers.proofs.EventPlaces.{no_crossing, same_act}
-use Rattle.std.proofs.Common.{Bool, List, None, Option, Some, ap, false, refl, subst, sym, true, ℕ, ◌∙◌, ◌≡◌}
-use Rattle.std.specs.Prelude.{if◌then◌else◌}
+use Rattle.{c104_event.specs.declared.{events.Event.Event, faults.EventFault.EventFault}, c104_link.specs.Steps.◌>>=◌}
+use Rattle.c104_node.specs.{ActLinks.on_links, Acts.{control_by, done_by, node_act, token_by}, Nodes.{Node, node_claim, node_control}}
+use Rattle.c104_node.specs.{Nodes.{node_credit_out, node_drain, node_input, node_leave, node_send}, PortActs.{Acts, act_limit, far_act}}
+use Rattle.c104_node.specs.{PortActs.near_act, Records.{Crossed, NodeRecord, crossed, has_link, pair_step, recorded_step}}
+use Rattle.{c104_node.specs.declared.{acts.ActOf.ActOf, crossings.Crossing.Crossing, node.NodeOf.NodeOf}, c104_plan.specs.Plans.Plan}
+use Rattle.{c104_plan.specs.{Wiring.peer, declared.ports.Port.Port}, c104_run.specs.EventActs.{crossing_acts, event_acts}}
+use Rattle.{c104_switch.specs.{Actions.Reply, declared.actions.{ActionOf.ActionOf, ReplyOf.ReplyOf}}, c104_token.specs.Kinds.plain_kind}
+use Rattle.{c104_token.specs.declared.tokens.Token.Token, c104_workers.proofs.EventPlaces.{no_crossing, same_act}}
+use Rattle.c104_workers.specs.{LentCalls.joint_of, SeatGrowth.{IsCommandReply, IsDoneReply, IsLaterFault, IsReplyTo, IsTokenReply}}
+use Rattle.std.{proofs.Common.{Bool, List, None, Option, Some, ap, false, refl, subst, sym, true, ℕ, ◌∙◌, ◌≡◌}, specs.Prelude.if◌then◌else◌}
 
 -- what is answered and left is one pair
 first_same : (x y : Reply) (s m : Node Token) → ◌≡◌ {A = Option (Reply × Node Token)} (Some (x, s)) (Some (y, m)) → x ≡ y
@@ -37,41 +17,41 @@ first_same x y s m is = let both : ◌≡◌ {A = Reply × Node Token} (x, s) (y
 -- replies of steps
 by_done : (o : Option (Node Token)) (r : Reply) (m : Node Token) → done_by o ≡ Some (r, m) → IsDoneReply r
 by_done None r m is = absurd (cc is)
-by_done (Some s) r m is = subst IsDoneReply (first_same reply.Done r s m is) tt
+by_done (Some s) r m is = subst IsDoneReply (first_same ReplyOf.Done r s m is) tt
 
 by_token : (o : Option (Token × Node Token)) (r : Reply) (m : Node Token) → token_by o ≡ Some (r, m) → IsTokenReply r
 by_token None r m is = absurd (cc is)
-by_token (Some s) r m is = subst IsTokenReply (first_same (reply.Token s.0) r s.1 m is) tt
+by_token (Some s) r m is = subst IsTokenReply (first_same (ReplyOf.Token s.0) r s.1 m is) tt
 
 by_control : (o : Option (List ℕ × Node Token)) (r : Reply) (m : Node Token) → control_by o ≡ Some (r, m) → IsCommandReply r
 by_control None r m is = absurd (cc is)
-by_control (Some s) r m is = subst IsCommandReply (first_same (reply.Control s.0) r s.1 m is) tt
+by_control (Some s) r m is = subst IsCommandReply (first_same (ReplyOf.Control s.0) r s.1 m is) tt
 
 -- replies of acts of one node
-input_reply : (n : Node Token) (l word : ℕ) (r : Reply) (m : Node Token) → node_act plain_kind 0 (act.Step (action.Input l word)) n ≡ Some (r, m) → IsDoneReply r
-input_reply (node.Switch s) l word r m is = by_done (node_input plain_kind l word (node.Switch s)) r m is
-input_reply (node.Terminal t) l word r m is = absurd (cc is)
+input_reply : (n : Node Token) (l word : ℕ) (r : Reply) (m : Node Token) → node_act plain_kind 0 (ActOf.Step (ActionOf.Input l word)) n ≡ Some (r, m) → IsDoneReply r
+input_reply (NodeOf.Switch s) l word r m is = by_done (node_input plain_kind l word (NodeOf.Switch s)) r m is
+input_reply (NodeOf.Terminal t) l word r m is = absurd (cc is)
 
-claim_reply : (n : Node Token) (i o : ℕ) (r : Reply) (m : Node Token) → node_act plain_kind 0 (act.Step (action.Claim i o)) n ≡ Some (r, m) → IsDoneReply r
-claim_reply (node.Switch s) i o r m is = by_done (node_claim i o (node.Switch s)) r m is
-claim_reply (node.Terminal t) i o r m is = absurd (cc is)
+claim_reply : (n : Node Token) (i o : ℕ) (r : Reply) (m : Node Token) → node_act plain_kind 0 (ActOf.Step (ActionOf.Claim i o)) n ≡ Some (r, m) → IsDoneReply r
+claim_reply (NodeOf.Switch s) i o r m is = by_done (node_claim i o (NodeOf.Switch s)) r m is
+claim_reply (NodeOf.Terminal t) i o r m is = absurd (cc is)
 
-control_reply : (n : Node Token) (bytes : List ℕ) (r : Reply) (m : Node Token) → node_act plain_kind 0 (act.Step (action.Control bytes)) n ≡ Some (r, m) → IsCommandReply r
-control_reply (node.Switch s) bytes r m is = by_control (node_control bytes (node.Switch s)) r m is
-control_reply (node.Terminal t) bytes r m is = absurd (cc is)
+control_reply : (n : Node Token) (bytes : List ℕ) (r : Reply) (m : Node Token) → node_act plain_kind 0 (ActOf.Step (ActionOf.Control bytes)) n ≡ Some (r, m) → IsCommandReply r
+control_reply (NodeOf.Switch s) bytes r m is = by_control (node_control bytes (NodeOf.Switch s)) r m is
+control_reply (NodeOf.Terminal t) bytes r m is = absurd (cc is)
 
 -- replies of what crosses a wire, at its near end
-leave_reply : (n : Node Token) (p : Port) (r : Reply) (m : Node Token) → node_act plain_kind 0 (near_act crossing.Token p) n ≡ Some (r, m) → IsTokenReply r
-leave_reply (node.Switch s) (port.Switch k l) r m is = by_token (node_leave l (node.Switch s)) r m is
-leave_reply (node.Switch s) (port.Terminal t) r m is = absurd (cc is)
-leave_reply (node.Terminal t) (port.Switch k l) r m is = absurd (cc is)
-leave_reply (node.Terminal t) (port.Terminal k) r m is = by_token (node_leave 0 (node.Terminal t)) r m is
+leave_reply : (n : Node Token) (p : Port) (r : Reply) (m : Node Token) → node_act plain_kind 0 (near_act Crossing.Token p) n ≡ Some (r, m) → IsTokenReply r
+leave_reply (NodeOf.Switch s) (Port.Switch k l) r m is = by_token (node_leave l (NodeOf.Switch s)) r m is
+leave_reply (NodeOf.Switch s) (Port.Terminal t) r m is = absurd (cc is)
+leave_reply (NodeOf.Terminal t) (Port.Switch k l) r m is = absurd (cc is)
+leave_reply (NodeOf.Terminal t) (Port.Terminal k) r m is = by_token (node_leave 0 (NodeOf.Terminal t)) r m is
 
-grant_reply : (n : Node Token) (p : Port) (r : Reply) (m : Node Token) → node_act plain_kind 0 (near_act crossing.Grant p) n ≡ Some (r, m) → IsDoneReply r
-grant_reply (node.Switch s) (port.Switch k l) r m is = by_done (node_credit_out l (node.Switch s)) r m is
-grant_reply (node.Switch s) (port.Terminal t) r m is = absurd (cc is)
-grant_reply (node.Terminal t) (port.Switch k l) r m is = absurd (cc is)
-grant_reply (node.Terminal t) (port.Terminal k) r m is = by_done (node_credit_out 0 (node.Terminal t)) r m is
+grant_reply : (n : Node Token) (p : Port) (r : Reply) (m : Node Token) → node_act plain_kind 0 (near_act Crossing.Grant p) n ≡ Some (r, m) → IsDoneReply r
+grant_reply (NodeOf.Switch s) (Port.Switch k l) r m is = by_done (node_credit_out l (NodeOf.Switch s)) r m is
+grant_reply (NodeOf.Switch s) (Port.Terminal t) r m is = absurd (cc is)
+grant_reply (NodeOf.Terminal t) (Port.Switch k l) r m is = absurd (cc is)
+grant_reply (NodeOf.Terminal t) (Port.Terminal k) r m is = by_done (node_credit_out 0 (NodeOf.Terminal t)) r m is
 
 -- a step of a node that is lent is one of its state
 stepped : (n : NodeRecord) (a : ActOf Token) (r : Reply) (m : Node Token) → recorded_step n a ≡ Some (r, m) → node_act plain_kind 0 a n.state ≡ Some (r, m)
@@ -103,13 +83,13 @@ module _ (plan : Plan) where
       given b is made = subst (λ x. node_act plain_kind 0 x n.state ≡ Some (r, m)) (sym is) made
 
       by_event : (e : Event) → event_acts {A = Token} plan e ≡ Some (Acts.Alone k a) → node_act plain_kind 0 a n.state ≡ Some (r, m) → IsReplyTo e r
-      by_event (event.Cross p) is made = absurd (no_crossing crossing.Token p (peer plan p) k a is)
-      by_event (event.Credit p) is made = absurd (no_crossing crossing.Grant p (peer plan p) k a is)
-      by_event (event.Input s l word) is made = input_reply n.state l word r m (given (act.Step (action.Input l word)) (same_act s k _ a is) made)
-      by_event (event.Claim s i o) is made = claim_reply n.state i o r m (given (act.Step (action.Claim i o)) (same_act s k _ a is) made)
-      by_event (event.Control s bytes) is made = control_reply n.state bytes r m (given (act.Step (action.Control bytes)) (same_act s k _ a is) made)
-      by_event (event.Send t packet) is made = by_done (node_send plain_kind 0 packet n.state) r m (given (act.Send packet) (same_act _ k _ a is) made)
-      by_event (event.Drain t) is made = by_token (node_drain n.state) r m (given act.Drain (same_act _ k _ a is) made)
+      by_event (Event.Cross p) is made = absurd (no_crossing Crossing.Token p (peer plan p) k a is)
+      by_event (Event.Credit p) is made = absurd (no_crossing Crossing.Grant p (peer plan p) k a is)
+      by_event (Event.Input s l word) is made = input_reply n.state l word r m (given (ActOf.Step (ActionOf.Input l word)) (same_act s k _ a is) made)
+      by_event (Event.Claim s i o) is made = claim_reply n.state i o r m (given (ActOf.Step (ActionOf.Claim i o)) (same_act s k _ a is) made)
+      by_event (Event.Control s bytes) is made = control_reply n.state bytes r m (given (ActOf.Step (ActionOf.Control bytes)) (same_act s k _ a is) made)
+      by_event (Event.Send t packet) is made = by_done (node_send plain_kind 0 packet n.state) r m (given (ActOf.Send packet) (same_act _ k _ a is) made)
+      by_event (Event.Drain t) is made = by_token (node_drain n.state) r m (given ActOf.Drain (same_act _ k _ a is) made)
 
   same_crossing : (c d : Crossing) (p p' q' : Port) (o : Option Port) → crossing_acts {A = Token} c p o ≡ Some (Acts.Joint p' q' d) → c ≡ d
   same_crossing c d p p' q' None is = absurd (cc is)
@@ -125,13 +105,13 @@ module _ (plan : Plan) where
       given d is made = subst (λ x. node_act plain_kind 0 (near_act x p) near.state ≡ Some (r, n)) (sym is) made
 
       by_event : (e : Event) → event_acts {A = Token} plan e ≡ Some (Acts.Joint p q c) → node_act plain_kind 0 (near_act c p) near.state ≡ Some (r, n) → IsReplyTo e r
-      by_event (event.Cross s) is made = leave_reply near.state p r n (given crossing.Token (same_crossing crossing.Token c s p q (peer plan s) is) made)
-      by_event (event.Credit s) is made = grant_reply near.state p r n (given crossing.Grant (same_crossing crossing.Grant c s p q (peer plan s) is) made)
-      by_event (event.Input s l word) is made = absurd (cc is)
-      by_event (event.Claim s i o) is made = absurd (cc is)
-      by_event (event.Control s bytes) is made = absurd (cc is)
-      by_event (event.Send t packet) is made = absurd (cc is)
-      by_event (event.Drain t) is made = absurd (cc is)
+      by_event (Event.Cross s) is made = leave_reply near.state p r n (given Crossing.Token (same_crossing Crossing.Token c s p q (peer plan s) is) made)
+      by_event (Event.Credit s) is made = grant_reply near.state p r n (given Crossing.Grant (same_crossing Crossing.Grant c s p q (peer plan s) is) made)
+      by_event (Event.Input s l word) is made = absurd (cc is)
+      by_event (Event.Claim s i o) is made = absurd (cc is)
+      by_event (Event.Control s bytes) is made = absurd (cc is)
+      by_event (Event.Send t packet) is made = absurd (cc is)
+      by_event (Event.Drain t) is made = absurd (cc is)
 
 -- a limit is one of the event's
 abbrev pub AreLater : Event → Option EventFault → Type 0
@@ -143,10 +123,10 @@ if_later e true f later = tt
 if_later e false f later = later
 
 pub act_later : (plan : Plan) (e : Event) (k : ℕ) (a : ActOf Token) (n : Node Token) → event_acts {A = Token} plan e ≡ Some (Acts.Alone k a) → AreLater e (act_limit (Some n) a)
-act_later plan (event.Cross p) k a n is = absurd (no_crossing crossing.Token p (peer plan p) k a is)
-act_later plan (event.Credit p) k a n is = absurd (no_crossing crossing.Grant p (peer plan p) k a is)
-act_later plan (event.Input s l word) k a n is = subst (λ b. AreLater (event.Input s l word) (act_limit (Some n) b)) (same_act s k _ a is) tt
-act_later plan (event.Claim s i o) k a n is = subst (λ b. AreLater (event.Claim s i o) (act_limit (Some n) b)) (same_act s k _ a is) tt
-act_later plan (event.Control s bytes) k a n is = subst (λ b. AreLater (event.Control s bytes) (act_limit (Some n) b)) (same_act s k _ a is) tt
-act_later plan (event.Send t packet) k a n is = subst (λ b. AreLater (event.Send t packet) (act_limit (Some n) b)) (same_act _ k _ a is) (if_later (event.Send t packet) _ fault.OutboxFull refl)
-act_later plan (event.Drain t) k a n is = subst (λ b. AreLater (event.Drain t) (act_limit (Some n) b)) (same_act _ k _ a is) (if_later (event.Drain t) _ fault.InboxFull refl)
+act_later plan (Event.Cross p) k a n is = absurd (no_crossing Crossing.Token p (peer plan p) k a is)
+act_later plan (Event.Credit p) k a n is = absurd (no_crossing Crossing.Grant p (peer plan p) k a is)
+act_later plan (Event.Input s l word) k a n is = subst (λ b. AreLater (Event.Input s l word) (act_limit (Some n) b)) (same_act s k _ a is) tt
+act_later plan (Event.Claim s i o) k a n is = subst (λ b. AreLater (Event.Claim s i o) (act_limit (Some n) b)) (same_act s k _ a is) tt
+act_later plan (Event.Control s bytes) k a n is = subst (λ b. AreLater (Event.Control s bytes) (act_limit (Some n) b)) (same_act s k _ a is) tt
+act_later plan (Event.Send t packet) k a n is = subst (λ b. AreLater (Event.Send t packet) (act_limit (Some n) b)) (same_act _ k _ a is) (if_later (Event.Send t packet) _ EventFault.OutboxFull refl)
+act_later plan (Event.Drain t) k a n is = subst (λ b. AreLater (Event.Drain t) (act_limit (Some n) b)) (same_act _ k _ a is) (if_later (Event.Drain t) _ EventFault.InboxFull refl)

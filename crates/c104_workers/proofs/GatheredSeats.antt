@@ -1,14 +1,9 @@
 -- Seats that are taken in from the last one on.
-use Rattle.c104_tickets.specs.Tickets.{TableId, count_of}
-use Rattle.c104_tickets.specs.declared.views.Terms.{Terms}
-use Rattle.c104_workers.specs.Calls.{SeatView}
-use Rattle.c104_audit.specs.Calls.{tickets_of}
-use Rattle.c104_workers.specs.Fabrics.{AreSeatsOf, IsSeatOf, all_tickets, calls_of, first_seat, first_seats, seat_view}
-use Rattle.c104_workers.specs.declared.calls.SeatCalls.{SeatCalls}
-use Rattle.std.specs.List.{range_with_len}
-use Rattle.std.proofs.Common.{List, [], ap, arith, cond, length, map, refl, reverse, sym, ℕ, ◌++◌, ◌+◌, ◌-◌, ◌∙◌, ◌∷◌, ◌≡◌, ◌==◌}
-use Rattle.std.proofs.lemmas.List.{append_assoc, map-append, reverse-append}
-use Rattle.std.proofs.lemmas.List.Sums.{sum_by-append}
+use Rattle.{c104_audit.specs.Calls.tickets_of, c104_tickets.specs.{Tickets.{TableId, count_of}, declared.views.Terms.Terms}}
+use Rattle.c104_workers.specs.{Calls.SeatView, Fabrics.{AreSeatsOf, IsSeatOf, all_tickets, calls_of, first_seat, first_seats, seat_view}}
+use Rattle.{c104_workers.specs.declared.calls.SeatCalls.SeatCalls, std.proofs.Common.{List, [], ap, arith, cond, length, map, refl}}
+use Rattle.std.proofs.{Common.{reverse, sym, ℕ, ◌++◌, ◌+◌, ◌-◌, ◌==◌, ◌∙◌, ◌∷◌, ◌≡◌}, lemmas.List.{Sums.sum_by-append, append_assoc}}
+use Rattle.std.{proofs.lemmas.List.{map-append, reverse-append}, specs.List.range_with_len}
 
 -- how often a number stands in two lists
 pub count_append : (x : ℕ) (xs ys : List ℕ) → count_of x (xs ++ ys) ≡ count_of x xs + count_of x ys

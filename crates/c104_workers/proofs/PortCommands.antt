@@ -1,16 +1,8 @@
 -- The commands of a seat grow by the one that a call is of.
-use Rattle.c104_event.specs.declared.events.Event.TheVariants as event
-use Rattle.c104_switch.specs.declared.actions.ReplyOf.TheVariants as reply
-use Rattle.c104_tools.specs.Outcomes.{Given}
-use Rattle.c104_tools.specs.Ports.{command_asked}
-use Rattle.c104_workers.specs.Calls.{SeatView}
-use Rattle.c104_audit.specs.Calls.{call_of}
-use Rattle.c104_workers.specs.SeatCommands.{IsOneCall, seat_commands, told_command}
-use Rattle.c104_workers.specs.SeatGrowth.{GrewBy}
-use Rattle.c104_audit.specs.declared.calls.Call.{Call}
-use Rattle.std.proofs.Common.{Err, List, Ok, [], ap, sym, ℕ}
-use Rattle.std.proofs.Common.{◌++◌, ◌∙◌, ◌∷◌, ◌≡◌}
-use Rattle.std.proofs.lemmas.List.{append-nil, append_assoc}
+use Rattle.{c104_audit.specs.{Calls.call_of, declared.calls.Call.Call}, c104_event.specs.declared.events.Event.Event}
+use Rattle.{c104_switch.specs.declared.actions.ReplyOf.ReplyOf, c104_tools.specs.{Outcomes.Given, Ports.command_asked}}
+use Rattle.c104_workers.specs.{Calls.SeatView, SeatCommands.{IsOneCall, seat_commands, told_command}, SeatGrowth.GrewBy}
+use Rattle.std.proofs.{Common.{Err, List, Ok, [], ap, sym, ℕ, ◌++◌, ◌∙◌, ◌∷◌, ◌≡◌}, lemmas.List.{append-nil, append_assoc}}
 use Rattle.std.specs.Prelude.{MatchResult}
 
 commands_last : (calls : List Call) (c : Call) → seat_commands (calls ++ c ∷ []) ≡ seat_commands calls ++ told_command c.event c.reply
@@ -18,8 +10,8 @@ commands_last [] c = append-nil (told_command c.event c.reply)
 commands_last (d ∷ calls) c = ap (λ xs. told_command d.event d.reply ++ xs) (commands_last calls c) ∙ sym (append_assoc (told_command d.event d.reply) (seat_commands calls) (told_command c.event c.reply))
 
 module _ (old new : SeatView) (s : ℕ) (bytes : List ℕ) where
-  pub commands_grew : (told : List ℕ) → GrewBy old new (event.Control s bytes) (reply.Control told) → seat_commands new.calls ≡ seat_commands old.calls ++ command_asked s bytes told ∷ []
-  commands_grew told by = ap (λ (t : SeatView). seat_commands t.calls) by.listed ∙ commands_last old.calls (call_of (event.Control s bytes) by.ticket (reply.Control told))
+  pub commands_grew : (told : List ℕ) → GrewBy old new (Event.Control s bytes) (ReplyOf.Control told) → seat_commands new.calls ≡ seat_commands old.calls ++ command_asked s bytes told ∷ []
+  commands_grew told by = ap (λ (t : SeatView). seat_commands t.calls) by.listed ∙ commands_last old.calls (call_of (Event.Control s bytes) by.ticket (ReplyOf.Control told))
 
   -- and by none where no reply is given
   pub commands_by : (given : Given) → IsOneCall old new s bytes given → MatchResult given (λ told. seat_commands new.calls ≡ seat_commands old.calls ++ command_asked s bytes told ∷ []) (λ f. seat_commands new.calls ≡ seat_commands old.calls)

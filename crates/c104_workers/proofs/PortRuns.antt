@@ -1,8 +1,6 @@
 -- Commands through a port, one after the other: what each of them keeps, all of them keep. So a port to a fabric stays one
 -- to the same fabric, through the same seat.
-use Rattle.c104_tools.specs.Outcomes.{ComesTo, Given, GoesOn, Judge, step_result}
-use Rattle.c104_tools.specs.Steps.{Step}
-use Rattle.c104_tools.specs.declared.faults.LoadFault.{LoadFault}
+use Rattle.c104_tools.specs.{Outcomes.{ComesTo, Given, GoesOn, Judge, step_result}, Steps.Step, declared.faults.LoadFault.LoadFault}
 use Rattle.std.proofs.Common.{Err, List, Ok, Result, [], subst, sym, ℕ, ◌∷◌}
 
 module _ {P : Type 0} (due : P → ℕ → List ℕ → Given → P → Type 0) (Keeps : P → P → Type 0) (at_once : (p : P) → Keeps p p) (on : (p q r : P) → Keeps p q → Keeps q r → Keeps p r) (each : (p q : P) (s : ℕ) (bytes : List ℕ) (given : Given) → due p s bytes given q → Keeps p q) where

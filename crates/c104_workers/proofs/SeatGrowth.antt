@@ -1,22 +1,14 @@
 -- What a call on lent nodes does to the seat alone: its list grew by the call, or it is as it was; and which faults it is
 -- answered.
-use Rattle.c104_plan.specs.Plans.{Plan}
-use Rattle.c104_event.specs.declared.events.Event.{Event}
-use Rattle.c104_event.specs.declared.faults.EventFault.{EventFault}
-use Rattle.c104_node.specs.Records.{NodeRecord, fault_first, is_full, recorded_limit, pair_step, recorded_step}
-use Rattle.c104_node.specs.PortActs.{Acts, act_limit}
-use Rattle.c104_node.specs.declared.acts.ActOf.{ActOf}
-use Rattle.c104_node.specs.declared.crossings.Crossing.{Crossing}
-use Rattle.c104_run.specs.EventActs.{event_acts, port_place}
-use Rattle.c104_switch.specs.Actions.{Reply, is_ready}
-use Rattle.c104_token.specs.declared.tokens.Token.{Token}
-use Rattle.c104_plan.specs.declared.ports.Port.{Port}
-use Rattle.c104_workers.specs.Calls.{IsSameSeat, SeatView, is_seat_full}
-use Rattle.c104_workers.specs.LentCalls.{CallsNode, CallsOne, CallsPair, CallsPairBy, CallsTwo, IfDone, IsRefusal}
-use Rattle.c104_workers.specs.LentCalls.{NodeActed, PairActed, SameNode, SamePair, joint_of, node_limit, pair_limit}
-use Rattle.c104_workers.specs.SeatGrowth.{FaultsAs, Grew, GrewBy, IsLaterFault}
-use Rattle.c104_workers.proofs.EventReplies.{AreLater, act_later, alone_suits, pair_suits}
-use Rattle.std.proofs.Common.{Bool, Err, None, Ok, Option, Result, Some, ap, false, nat_lt, refl, subst, sym, true, ℕ, ◌∙◌, ◌≡◌, ◌||◌}
+use Rattle.{c104_event.specs.declared.{events.Event.Event, faults.EventFault.EventFault}, c104_node.specs.PortActs.{Acts, act_limit}}
+use Rattle.c104_node.specs.{Records.{NodeRecord, fault_first, is_full, pair_step, recorded_limit, recorded_step}, declared.acts.ActOf.ActOf}
+use Rattle.{c104_node.specs.declared.crossings.Crossing.Crossing, c104_plan.specs.{Plans.Plan, declared.ports.Port.Port}}
+use Rattle.{c104_run.specs.EventActs.{event_acts, port_place}, c104_switch.specs.Actions.{Reply, is_ready}}
+use Rattle.{c104_token.specs.declared.tokens.Token.Token, c104_workers.proofs.EventReplies.{AreLater, act_later, alone_suits, pair_suits}}
+use Rattle.c104_workers.specs.{Calls.{IsSameSeat, SeatView, is_seat_full}, LentCalls.{CallsNode, CallsOne, CallsPair, CallsPairBy}}
+use Rattle.c104_workers.specs.LentCalls.{CallsTwo, IfDone, IsRefusal, NodeActed, PairActed, SameNode, SamePair, joint_of, node_limit}
+use Rattle.{c104_workers.specs.{LentCalls.pair_limit, SeatGrowth.{FaultsAs, Grew, GrewBy, IsLaterFault}}, std.proofs.Common.{Bool, Err}}
+use Rattle.std.proofs.Common.{None, Ok, Option, Result, Some, ap, false, nat_lt, refl, subst, sym, true, ℕ, ◌||◌, ◌∙◌, ◌≡◌}
 
 -- what is known of a seat after a call
 pub record Follows (old new : SeatView) (e : Event) (answer : Result Reply EventFault) : Type 0 where

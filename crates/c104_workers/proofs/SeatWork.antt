@@ -1,20 +1,11 @@
 -- What workers do to their seats: event by event, each of a node of their own.
-use Rattle.c104_plan.specs.Plans.{Plan}
-use Rattle.c104_event.specs.declared.events.Event.{Event}
-use Rattle.c104_event.specs.declared.faults.EventFault.{EventFault}
-use Rattle.c104_switch.specs.Actions.{Reply, is_ready}
-use Rattle.c104_tickets.specs.Tickets.{TableId}
-use Rattle.c104_workers.specs.Calls.{IsSameSeat, SeatView}
-use Rattle.c104_audit.specs.Calls.{call_of}
-use Rattle.c104_workers.specs.Fabrics.{AreSeatsOf, IsSeatOf}
-use Rattle.c104_workers.specs.LentCalls.{IfDone}
-use Rattle.c104_workers.specs.SeatGrowth.{Grew, GrewBy}
-use Rattle.c104_workers.specs.Working.{HasWorked, IsOwnEvent}
-use Rattle.c104_audit.specs.declared.calls.Call.{Call}
-use Rattle.c104_workers.proofs.SeatGrowth.{same_on, same_seat, same_self}
-use Rattle.std.proofs.Common.{Bool, Err, List, Ok, Result, [], ap, arith, false, length, slice_index_or, subst, suc, sym, true, zero, ℕ, ◌++◌, ◌<◌, ◌∙◌, ◌∷◌, ◌≡◌}
-use Rattle.std.proofs.lemmas.List.{append-nil, append_assoc}
-use Rattle.std.proofs.lemmas.List.Elements.{All-append, All-cons, All-nil}
+use Rattle.{c104_audit.specs.{Calls.call_of, declared.calls.Call.Call}, c104_event.specs.declared.events.Event.Event}
+use Rattle.{c104_event.specs.declared.faults.EventFault.EventFault, c104_plan.specs.Plans.Plan, c104_switch.specs.Actions.{Reply, is_ready}}
+use Rattle.{c104_tickets.specs.Tickets.TableId, c104_workers.{proofs.SeatGrowth.{same_on, same_seat, same_self}, specs.Calls.IsSameSeat}}
+use Rattle.c104_workers.specs.{Calls.SeatView, Fabrics.{AreSeatsOf, IsSeatOf}, LentCalls.IfDone, SeatGrowth.{Grew, GrewBy}}
+use Rattle.{c104_workers.specs.Working.{HasWorked, IsOwnEvent}, std.proofs.Common.{Bool, Err, List, Ok, Result, [], ap, arith, false}}
+use Rattle.std.proofs.Common.{length, slice_index_or, subst, suc, sym, true, zero, ℕ, ◌++◌, ◌<◌, ◌∙◌, ◌∷◌, ◌≡◌}
+use Rattle.std.proofs.lemmas.List.{Elements.{All-append, All-cons, All-nil}, append-nil, append_assoc}
 
 -- what holds of all seats holds of each, and the other way round
 pub seat_at : (word_id : TableId) (seats : List (SeatView × ℕ)) (i : ℕ) (d : SeatView × ℕ) → AreSeatsOf word_id seats → i < length seats → IsSeatOf word_id (slice_index_or seats i d)

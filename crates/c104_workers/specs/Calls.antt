@@ -1,14 +1,9 @@
 -- Seats: each keeps the calls that were done through it, in the order of their tickets.
-use Rattle.std.specs.Prelude.{ℕ, ◌≡◌, ◌≤◌, ◌++◌, Bool, List, [], ◌∷◌, Option, Some, length, nat_le}
-use Rattle.c104_event.specs.declared.events.Event.{Event}
-use Rattle.c104_event.specs.declared.faults.EventFault.{EventFault}
-use Rattle.c104_node.specs.declared.stamps.Stamp.{Stamp}
-use Rattle.c104_switch.specs.Actions.{Reply}
-use Rattle.c104_tickets.specs.Tickets.{PassValue, TableId}
-use Rattle.c104_tickets.specs.declared.TheConstants.{TICKET_LIMIT}
+use Rattle.{c104_audit.specs.{Calls.{call_of, tickets_of}, declared.calls.Call.Call}, c104_event.specs.declared.events.Event.Event}
+use Rattle.{c104_event.specs.declared.faults.EventFault.EventFault, c104_node.specs.declared.stamps.Stamp.Stamp}
+use Rattle.{c104_switch.specs.Actions.Reply, c104_tickets.specs.{Tickets.{PassValue, TableId}, declared.TheConstants.TICKET_LIMIT}}
 use Rattle.c104_tickets.specs.declared.views.Terms.{Terms}
-use Rattle.c104_audit.specs.Calls.{call_of, tickets_of}
-use Rattle.c104_audit.specs.declared.calls.Call.{Call}
+use Rattle.std.specs.Prelude.{Bool, List, Option, Some, [], length, nat_le, ℕ, ◌++◌, ◌∷◌, ◌≡◌, ◌≤◌}
 
 -- a seat as it is seen: from which word of tickets it draws and what that was told, its number, its calls, and why the last
 -- worker stopped that used it

@@ -1,21 +1,11 @@
 -- Fabrics: the plan, the word of tickets, and what the nodes had done when the fabric was made; and what a fabric leaves.
-use Rattle.std.specs.Prelude.{ℕ, ◌≡◌, ◌+◌, ◌-◌, ◌≤◌, ◌&&◌, ◌++◌, List, [], ◌∷◌, None, if◌then◌else◌, length, map, nat_le}
-use Rattle.std.specs.List.{range_with_len}
-use Rattle.c104_plan.specs.Plans.{Plan}
-use Rattle.c104_node.specs.Records.{NodeRecord, NodeRoom}
-use Rattle.c104_node.specs.declared.acts.Entry.{Entry}
-use Rattle.c104_node.specs.declared.starts.NodeStart.{NodeStart}
-use Rattle.c104_run.specs.NetRecords.{IsNetRecord, NetRecord}
-use Rattle.c104_run.specs.NetParts.{node_count}
-use Rattle.c104_tickets.specs.Tickets.{TableId, first_view}
-use Rattle.c104_tickets.specs.declared.TheConstants.{SEAT_LIMIT}
-use Rattle.c104_tickets.specs.declared.views.Terms.{Terms}
-use Rattle.c104_tickets.specs.declared.views.View.{View}
-use Rattle.c104_workers.specs.Calls.{SeatView}
-use Rattle.c104_audit.specs.Calls.{tickets_of}
-use Rattle.c104_workers.specs.declared.calls.SeatCalls.{SeatCalls}
-use Rattle.c104_workers.specs.declared.making.FabricFault.{FabricFault}
-use Rattle.c104_workers.specs.declared.making.FabricFault.TheVariants as fault
+use Rattle.{c104_audit.specs.Calls.tickets_of, c104_node.specs.{Records.{NodeRecord, NodeRoom}, declared.acts.Entry.Entry}}
+use Rattle.{c104_node.specs.declared.starts.NodeStart.NodeStart, c104_plan.specs.Plans.Plan, c104_run.specs.NetParts.node_count}
+use Rattle.{c104_run.specs.NetRecords.{IsNetRecord, NetRecord}, c104_tickets.specs.Tickets.{TableId, first_view}}
+use Rattle.{c104_tickets.specs.declared.{TheConstants.SEAT_LIMIT, views.{Terms.Terms, View.View}}, c104_workers.specs.Calls.SeatView}
+use Rattle.c104_workers.specs.declared.{calls.SeatCalls.SeatCalls, making.FabricFault.FabricFault}
+use Rattle.std.specs.{List.range_with_len, Prelude.{List, None, [], if◌then◌else◌, length, map, nat_le, ℕ, ◌&&◌, ◌++◌, ◌+◌, ◌-◌, ◌∷◌, ◌≡◌}}
+use Rattle.std.specs.Prelude.{◌≤◌}
 
 -- what is known of the network of a fabric: its plan, how many events it had done, where its nodes started, and what they
 -- had done since
@@ -90,7 +80,7 @@ abbrev pub IsSeatCount : ℕ → Type 0
 IsSeatCount seats = (1 ≤ seats) × (seats ≤ SEAT_LIMIT)
 
 abbrev pub fabric_fault : ℕ → FabricFault
-fabric_fault seats = if nat_le 1 seats && nat_le seats SEAT_LIMIT then fault.NoMemory else fault.SeatCount
+fabric_fault seats = if nat_le 1 seats && nat_le seats SEAT_LIMIT then FabricFault.NoMemory else FabricFault.SeatCount
 
 -- what a fabric leaves
 pub record Left : Type 0 where

@@ -1,27 +1,14 @@
 -- What one call does to the nodes that are lent to it: one, or the two at the ends of a wire.
-use Rattle.std.specs.Prelude.{ℕ, ◌≡◌, ◌≤◌, ◌<◌, ◌||◌, ◌⊎◌, All, Bool, true, false, Option, Some, None, Result, Ok, Err}
-use Rattle.std.specs.Prelude.{if◌then◌else◌, is_some, nat_lt, option_map}
-use Rattle.std.proofs.Common.{inl, inr}
-use denote.MutBor.{MutBor}
-use Rattle.c104_plan.specs.Plans.{Plan}
-use Rattle.c104_plan.specs.declared.ports.Port.{Port}
-use Rattle.c104_event.specs.declared.events.Event.{Event}
-use Rattle.c104_event.specs.declared.faults.EventFault.{EventFault}
-use Rattle.c104_event.specs.declared.faults.EventFault.TheVariants as fault
-use Rattle.c104_node.specs.Records.{NodeRecord, NodeRoom, after_act, crossed, fault_first, is_full, recorded_limit, pair_step}
-use Rattle.c104_node.specs.Records.{recorded_step}
-use Rattle.c104_node.specs.PortActs.{Acts, far_act, near_act}
-use Rattle.c104_node.specs.declared.acts.ActOf.{ActOf}
-use Rattle.c104_node.specs.declared.crossings.Crossing.{Crossing}
-use Rattle.c104_node.specs.declared.crossings.Joint.{Joint}
-use Rattle.c104_run.specs.EventActs.{event_acts, port_place}
-use Rattle.c104_run.specs.declared.asked.Asked.{Asked}
-use Rattle.c104_run.specs.declared.asked.Asked.TheVariants as asked
-use Rattle.c104_switch.specs.Actions.{Reply, is_ready}
-use Rattle.c104_switch.specs.declared.actions.ReplyOf.TheVariants as reply
-use Rattle.c104_token.specs.declared.tokens.Token.{Token}
+use Rattle.{c104_audit.specs.Calls.tickets_of, c104_event.specs.declared.{events.Event.Event, faults.EventFault.EventFault}}
+use Rattle.c104_node.specs.{PortActs.{Acts, far_act, near_act}, Records.{NodeRecord, NodeRoom, after_act, crossed, fault_first, is_full}}
+use Rattle.c104_node.specs.{Records.{pair_step, recorded_limit, recorded_step}, declared.{acts.ActOf.ActOf, crossings.Crossing.Crossing}}
+use Rattle.{c104_node.specs.declared.crossings.Joint.Joint, c104_plan.specs.{Plans.Plan, declared.ports.Port.Port}}
+use Rattle.{c104_run.specs.{EventActs.{event_acts, port_place}, declared.asked.Asked.Asked}, c104_switch.specs.Actions.{Reply, is_ready}}
+use Rattle.{c104_switch.specs.declared.actions.ReplyOf.ReplyOf, c104_token.specs.declared.tokens.Token.Token}
 use Rattle.c104_workers.specs.Calls.{SeatView, after_call, is_seat_full, seat_stamp}
-use Rattle.c104_audit.specs.Calls.{tickets_of}
+use Rattle.std.{proofs.Common.{inl, inr}, specs.Prelude.{All, Bool, Err, None, Ok, Option, Result, Some, false, if◌then◌else◌, is_some}}
+use Rattle.std.specs.Prelude.{nat_lt, option_map, true, ℕ, ◌<◌, ◌||◌, ◌≡◌, ◌≤◌, ◌⊎◌}
+use denote.MutBor.{MutBor}
 
 -- the ticket of a call: it is above all that the seat drew before, and no network before the fabric had it
 pub record IsFresh (s : SeatView) (ticket : ℕ) : Type 0 where
@@ -44,7 +31,7 @@ pub record PairActed (old new : SeatView) (near near' far far' : NodeRecord) (e 
   pub listed : new ≡ after_call old e ticket r
   pub made : pair_step joint near far ≡ Some (crossed r near'.state far'.state)
   pub near_acted : near' ≡ after_act near (seat_stamp ticket old.number) (near_act joint.crossing joint.near) r near'.state
-  pub far_acted : far' ≡ after_act far (seat_stamp ticket old.number) (far_act joint.far r) reply.Done far'.state
+  pub far_acted : far' ≡ after_act far (seat_stamp ticket old.number) (far_act joint.far r) ReplyOf.Done far'.state
 
 -- nothing changed
 pub record SameNode (old new : SeatView) (n m : NodeRecord) : Type 0 where
@@ -67,7 +54,7 @@ pair_limit s near far = fault_first None (is_full near || (is_full far || is_sea
 -- a refusal of what is ready: for a limit; where there is none, out of memory
 abbrev pub IsRefusal : Option EventFault → EventFault → Type 0
 IsRefusal (Some g) f = f ≡ g
-IsRefusal None f = f ≡ fault.NoMemory
+IsRefusal None f = f ≡ EventFault.NoMemory
 
 -- one thing where a call was done, another where it wasn't
 abbrev pub IfDone : Bool → Type 0 → Type 0 → Type 0
@@ -112,9 +99,9 @@ event_places plan e = option_map (acts_places plan) (event_acts plan e)
 
 -- the places of what an event asks, as it is held, the lower first
 abbrev pub asked_places : Asked Token → ℕ × Option ℕ
-asked_places (asked.Alone k a) = (k, None)
-asked_places (asked.Send k packet) = (k, None)
-asked_places (asked.Joint near far joint) = if nat_lt near far then (near, Some far) else (far, Some near)
+asked_places (Asked.Alone k a) = (k, None)
+asked_places (Asked.Send k packet) = (k, None)
+asked_places (Asked.Joint near far joint) = if nat_lt near far then (near, Some far) else (far, Some near)
 
 -- places are below a number, the lower first
 abbrev pub AreBelow : ℕ → ℕ × Option ℕ → Type 0

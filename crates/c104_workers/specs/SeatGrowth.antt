@@ -1,32 +1,27 @@
 -- What a call does to a seat alone, whatever nodes it was about; what an event may be answered, and with which faults.
-use Rattle.std.specs.Prelude.{ℕ, ◌≡◌, Bool, true, false, Option, Some, None, Result, Ok, Err}
-use Rattle.c104_event.specs.declared.events.Event.{Event}
-use Rattle.c104_event.specs.declared.events.Event.TheVariants as event
-use Rattle.c104_event.specs.declared.faults.EventFault.{EventFault}
-use Rattle.c104_event.specs.declared.faults.EventFault.TheVariants as fault
-use Rattle.c104_switch.specs.Actions.{Reply, is_ready}
-use Rattle.c104_switch.specs.declared.actions.ReplyOf.TheVariants as reply
-use Rattle.c104_workers.specs.Calls.{SeatView, after_call}
-use Rattle.c104_workers.specs.LentCalls.{IfDone, IsFresh}
+use Rattle.{c104_event.specs.declared.{events.Event.Event, faults.EventFault.EventFault}, c104_switch.specs.Actions.{Reply, is_ready}}
+use Rattle.{c104_switch.specs.declared.actions.ReplyOf.ReplyOf, c104_workers.specs.{Calls.{SeatView, after_call}, LentCalls.IfDone}}
+use Rattle.c104_workers.specs.LentCalls.{IsFresh}
+use Rattle.std.specs.Prelude.{Bool, Err, None, Ok, Option, Result, Some, false, true, ℕ, ◌≡◌}
 
 -- the reply is that something was done, a token, or a switch's reply to a command
 abbrev pub IsDoneReply : Reply → Type 0
-IsDoneReply reply.Done = Unit {0}
+IsDoneReply ReplyOf.Done = Unit {0}
 IsDoneReply r = ⊥
 
 abbrev pub IsTokenReply : Reply → Type 0
-IsTokenReply (reply.Token x) = Unit {0}
+IsTokenReply (ReplyOf.Token x) = Unit {0}
 IsTokenReply r = ⊥
 
 abbrev pub IsCommandReply : Reply → Type 0
-IsCommandReply (reply.Control bytes) = Unit {0}
+IsCommandReply (ReplyOf.Control bytes) = Unit {0}
 IsCommandReply r = ⊥
 
 -- what an event that was done is answered
 abbrev pub IsReplyTo : Event → Reply → Type 0
-IsReplyTo (event.Cross p) r = IsTokenReply r
-IsReplyTo (event.Drain t) r = IsTokenReply r
-IsReplyTo (event.Control s bytes) r = IsCommandReply r
+IsReplyTo (Event.Cross p) r = IsTokenReply r
+IsReplyTo (Event.Drain t) r = IsTokenReply r
+IsReplyTo (Event.Control s bytes) r = IsCommandReply r
 IsReplyTo e r = IsDoneReply r
 
 -- a seat's list grew by one call, of this event and with this reply, whose ticket was drawn for it
@@ -43,20 +38,20 @@ Grew old new e (Err f) = new ≡ old
 
 -- whether an event is that a terminal sends a packet, or that a token arrives
 abbrev pub is_send : Event → Bool
-is_send (event.Send t packet) = true
+is_send (Event.Send t packet) = true
 is_send e = false
 
 abbrev pub is_drain : Event → Bool
-is_drain (event.Drain t) = true
+is_drain (Event.Drain t) = true
 is_drain e = false
 
 -- a fault of an event that can happen: a terminal's list is full that the event adds to, or a trace or the seat's list
 -- is, or memory has run out
 abbrev pub IsLaterFault : Event → EventFault → Type 0
-IsLaterFault e fault.OutboxFull = is_send e ≡ true
-IsLaterFault e fault.InboxFull = is_drain e ≡ true
-IsLaterFault e fault.TraceFull = Unit {0}
-IsLaterFault e fault.NoMemory = Unit {0}
+IsLaterFault e EventFault.OutboxFull = is_send e ≡ true
+IsLaterFault e EventFault.InboxFull = is_drain e ≡ true
+IsLaterFault e EventFault.TraceFull = Unit {0}
+IsLaterFault e EventFault.NoMemory = Unit {0}
 IsLaterFault e f = ⊥
 
 -- where an event can't happen, its fault is answered; else no other fault than these

@@ -1,13 +1,8 @@
 -- Workers: threads that do the parts of rounds, each through a seat. Of n workers number i has the nodes k with k mod n ≡ i.
-use Rattle.std.specs.Prelude.{ℕ, ◌≡◌, ◌%◌, ◌<◌, ◌++◌, All, Contains, List, Some, None, Result, Ok, Err, length, slice_index_or, take}
-use Rattle.c104_plan.specs.Plans.{Plan}
-use Rattle.c104_event.specs.declared.events.Event.{Event}
-use Rattle.c104_event.specs.declared.faults.EventFault.{EventFault}
-use Rattle.c104_run.specs.NodeParts.{round_part}
-use Rattle.c104_workers.specs.Calls.{IsSameSeat, SeatView}
-use Rattle.c104_audit.specs.declared.calls.Call.{Call}
+use Rattle.{c104_audit.specs.declared.calls.Call.Call, c104_event.specs.declared.{events.Event.Event, faults.EventFault.EventFault}}
+use Rattle.{c104_plan.specs.Plans.Plan, c104_run.specs.NodeParts.round_part, c104_workers.specs.Calls.{IsSameSeat, SeatView}}
 use Rattle.c104_workers.specs.declared.workers.RunFault.{RunFault}
-use Rattle.c104_workers.specs.declared.workers.RunFault.TheVariants as run
+use Rattle.std.specs.Prelude.{All, Contains, Err, List, None, Ok, Result, Some, length, slice_index_or, take, ℕ, ◌%◌, ◌++◌, ◌<◌, ◌≡◌}
 
 -- an event is in the part that a round has for a node of worker i, of n workers
 pub record IsOwnEvent (plan : Plan) (n i : ℕ) (e : Event) : Type 0 where
@@ -35,4 +30,4 @@ pub record StoppedFirst (seats : List (SeatView × ℕ)) (i : ℕ) (f : EventFau
 -- what is answered when all workers have ended
 abbrev pub EndsAs : List (SeatView × ℕ) → Result (Unit {0}) RunFault → Type 0
 EndsAs seats (Ok done) = All WentOn seats
-EndsAs seats (Err (run.Event i f)) = StoppedFirst seats i f
+EndsAs seats (Err (RunFault.Event i f)) = StoppedFirst seats i f

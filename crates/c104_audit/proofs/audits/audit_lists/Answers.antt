@@ -1,8 +1,6 @@
-use Rattle.c104_audit.proofs.FirstFailures.{first_none}
-use Rattle.c104_audit.specs.Audits.{IsCalled}
-use Rattle.c104_audit.proofs.audits.audit_lists.Goals as goal
+use Rattle.c104_audit.{proofs.FirstFailures.first_none, specs.Audits.IsCalled}
 
-pub returns-clause-audited : goal.returns-clause-audited
+pub returns-clause-audited : Rattle.c104_audit.proofs.audits.audit_lists.Goals.returns-clause-audited
 returns-clause-audited c = record {
   shaped = c.in_default.ensures;
   ordered = c.in_default-first_unordered.ensures;

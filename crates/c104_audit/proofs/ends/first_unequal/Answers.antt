@@ -1,17 +1,13 @@
-use Rattle.std.proofs.Common.{arith, get_or, length, subst, ◌≤◌}
-use Rattle.c104_audit.proofs.FirstFailures.{below_all, below_next, fails_by, none_there, only_there}
-use Rattle.c104_audit.proofs.KeptElements.{read_there}
-use Rattle.c104_audit.specs.Audits.{AgreeAtEnds, AgreeOneByOne, passing_at}
-use Rattle.c104_audit.specs.declared.lists.Lists.{Lists}
-use Rattle.c104_plan.specs.declared.ports.Wire.{Wire}
-use Rattle.c104_plan.specs.declared.ports.Port.TheVariants as port
+use Rattle.c104_audit.proofs.{FirstFailures.{below_all, below_next, fails_by, none_there, only_there}, KeptElements.read_there}
+use Rattle.c104_audit.specs.{Audits.{AgreeAtEnds, AgreeOneByOne, passing_at}, declared.lists.Lists.Lists}
+use Rattle.{c104_plan.specs.declared.ports.{Port.Port, Wire.Wire}, std.proofs.Common.{arith, get_or, length, subst, ◌≤◌}}
 use Rattle.c104_audit.proofs.ends.first_unequal.Goals as goal
 
 abbrev Agrees : Lists → Wire → Type 0
 Agrees lists w = AgreeOneByOne (passing_at lists.switches lists.traces w.here) (passing_at lists.switches lists.traces w.there)
 
 abbrev none : Wire
-none = record { here = port.Switch 0 0; there = port.Switch 0 0 }
+none = record { here = Port.Switch 0 0; there = Port.Switch 0 0 }
 
 pub returns-then-not-ends_agree : goal.returns-then-not-ends_agree
 returns-then-not-ends_agree c =

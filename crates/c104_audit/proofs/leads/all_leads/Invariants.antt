@@ -1,12 +1,8 @@
-use Rattle.std.proofs.Common.{◌≡◌, ◌++◌, drop, map}
-use Rattle.c104_audit.specs.Tests.{lead_in}
-use Rattle.c104_audit.specs.Audits.{is_leading}
-use Rattle.c104_audit.specs.Leads.{leads_from}
-use Rattle.c104_node.specs.declared.acts.Entry.{Entry}
-use Rattle.c104_audit.proofs.leads.all_leads.Given as goal
+use Rattle.{c104_audit.specs.{Audits.is_leading, Leads.leads_from, Tests.lead_in}, c104_node.specs.declared.acts.Entry.Entry}
+use Rattle.std.proofs.Common.{drop, map, ◌++◌, ◌≡◌}
 
 -- what was added, and what leads in the traces that are left, is all
-abbrev pub invariant-loop-place : goal.invariant-loop-place
+abbrev pub invariant-loop-place : Rattle.c104_audit.proofs.leads.all_leads.Given.invariant-loop-place
 invariant-loop-place l =
     map (lead_in l.lists.traces) l.leads.items ++ leads_from (λ (e : Entry). e.ticket) (is_leading l.lists.switches l.lists.wires) l.place (drop l.place l.lists.traces)
     ≡ leads_from (λ (e : Entry). e.ticket) (is_leading l.lists.switches l.lists.wires) 0 l.lists.traces

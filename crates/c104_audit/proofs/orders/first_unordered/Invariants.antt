@@ -1,7 +1,5 @@
-use Rattle.std.proofs.Common.{ℕ, ◌<◌}
-use Rattle.c104_audit.specs.Audits.{IsOrdered}
-use Rattle.c104_audit.proofs.orders.first_unordered.Given as goal
+use Rattle.{c104_audit.specs.Audits.IsOrdered, std.proofs.Common.{ℕ, ◌<◌}}
 
 -- the traces so far rise
-abbrev pub invariant-loop-node : goal.invariant-loop-node
+abbrev pub invariant-loop-node : Rattle.c104_audit.proofs.orders.first_unordered.Given.invariant-loop-node
 invariant-loop-node l = (k : ℕ) → k < l.node → IsOrdered l.lists k

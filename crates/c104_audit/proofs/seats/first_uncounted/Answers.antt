@@ -1,8 +1,5 @@
+use Rattle.c104_audit.{proofs.{CalledSeats.called_past, FirstFailures.below_next}, specs.{Audits.IsCalled, Firsts.IsFirst}}
 use Rattle.std.proofs.Common.{arith, subst, sym}
-use Rattle.c104_audit.proofs.CalledSeats.{called_past}
-use Rattle.c104_audit.proofs.FirstFailures.{below_next}
-use Rattle.c104_audit.specs.Audits.{IsCalled}
-use Rattle.c104_audit.specs.Firsts.{IsFirst}
 use Rattle.c104_audit.proofs.seats.first_uncounted.Goals as goal
 
 pub loop-seat-preserved : goal.loop-seat-preserved

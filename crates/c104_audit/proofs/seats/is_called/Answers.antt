@@ -1,7 +1,5 @@
-use Rattle.std.proofs.Common.{IsTrue, false, true, ◌≡◌, ◌↔◌}
-use Rattle.c104_audit.proofs.CalledSeats.{called_by_tests, ends_agree_by, told_of_called}
-use Rattle.c104_audit.proofs.FirstFailures.{fails_by}
-use Rattle.c104_audit.specs.Tests.{CarryAtAllEnds, IsToldAt}
+use Rattle.c104_audit.proofs.{CalledSeats.{called_by_tests, ends_agree_by, told_of_called}, FirstFailures.fails_by}
+use Rattle.{c104_audit.specs.Tests.{CarryAtAllEnds, IsToldAt}, std.proofs.Common.{IsTrue, false, true, ◌↔◌, ◌≡◌}}
 use Rattle.c104_audit.proofs.seats.is_called.Goals as goal
 
 pub returns-then-not-ends_agree_on : goal.returns-then-not-ends_agree_on

@@ -1,15 +1,10 @@
-use Rattle.std.proofs.Common.{ap, get_or, ◌∙◌}
-use Rattle.std.proofs.lemmas.Option.{slice_get-get_or}
-use Rattle.c104_audit.proofs.CalledLeads.{told_on}
-use Rattle.c104_net.specs.Replays.{lead_event}
-use Rattle.c104_net.specs.ToldEvents.{told_event}
-use Rattle.c104_net.specs.declared.leading.Lead.{Lead as Leading}
-use Rattle.c104_audit.proofs.tellings.events_of.Goals as goal
+use Rattle.{c104_audit.proofs.CalledLeads.told_on, c104_net.specs.{Replays.lead_event, ToldEvents.told_event}}
+use Rattle.{c104_net.specs.declared.leading.Lead.Lead as Leading, std.proofs.{Common.{ap, get_or, ◌∙◌}, lemmas.Option.slice_get-get_or}}
 
 abbrev none : Leading
 none = record { ticket = 0; place = 0; at = 0 }
 
-pub loop-lead-preserved : goal.loop-lead-preserved
+pub loop-lead-preserved : Rattle.c104_audit.proofs.tellings.events_of.Goals.loop-lead-preserved
 loop-lead-preserved c =
     let lead : Leading = get_or c.args.leads.now c.loop-lead.lead-index none in
     told_on c.args.lists.now c.args.leads.now c.requires c.loop-lead.lead-index lead c.in_ok-event.event c.loop-lead.events.items c.push.new.self.items _

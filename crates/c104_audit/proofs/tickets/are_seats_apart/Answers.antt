@@ -1,8 +1,5 @@
-use Rattle.std.proofs.Common.{IsTrue, get_or, subst, ◌≡◌}
-use Rattle.c104_audit.specs.Leads.{AreRising, list_at}
-use Rattle.c104_audit.specs.declared.calls.Call.{Call}
-use Rattle.c104_audit.proofs.ApartCalls.{apart_by, list_lent}
-use Rattle.c104_audit.proofs.KeptElements.{got}
+use Rattle.c104_audit.{proofs.{ApartCalls.{apart_by, list_lent}, KeptElements.got}, specs.Leads.{AreRising, list_at}}
+use Rattle.{c104_audit.specs.declared.calls.Call.Call, std.proofs.Common.{IsTrue, get_or, subst, ◌≡◌}}
 use Rattle.c104_audit.proofs.tickets.are_seats_apart.Goals as goal
 
 pub are_apart-requires-clause-calls : goal.are_apart-requires-clause-calls

@@ -1,6 +1,4 @@
-use Rattle.std.proofs.Common.{false, true, ◌≡◌}
-use Rattle.c104_audit.proofs.FirstFailures.{below_next, fails_by}
-use Rattle.c104_audit.specs.Tests.{AreApart}
+use Rattle.{c104_audit.{proofs.FirstFailures.{below_next, fails_by}, specs.Tests.AreApart}, std.proofs.Common.{false, true, ◌≡◌}}
 use Rattle.c104_audit.proofs.tickets.is_apart.Goals as goal
 
 pub returns-then-not-are_seats_apart : goal.returns-then-not-are_seats_apart

@@ -1,7 +1,5 @@
-use Rattle.std.proofs.Common.{ℕ, ◌<◌}
-use Rattle.c104_audit.specs.Audits.{IsShaped}
-use Rattle.c104_audit.proofs.wired.first_misshapen.Given as goal
+use Rattle.{c104_audit.specs.Audits.IsShaped, std.proofs.Common.{ℕ, ◌<◌}}
 
 -- the nodes so far are shaped
-abbrev pub invariant-loop-node : goal.invariant-loop-node
+abbrev pub invariant-loop-node : Rattle.c104_audit.proofs.wired.first_misshapen.Given.invariant-loop-node
 invariant-loop-node l = (k : ℕ) → k < l.node → IsShaped l.lists k

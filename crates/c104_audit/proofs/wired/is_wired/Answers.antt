@@ -1,10 +1,7 @@
-use Rattle.std.proofs.Common.{ap, get_or, subst, sym, ◌≡◌, ◌∙◌}
-use Rattle.c104_audit.proofs.KeptElements.{got}
-use Rattle.c104_audit.proofs.WiredLinks.{kept_wired}
-use Rattle.c104_audit.specs.declared.lists.NodeShape.{NodeShape}
-use Rattle.c104_audit.proofs.wired.is_wired.Goals as goal
+use Rattle.{c104_audit.{proofs.{KeptElements.got, WiredLinks.kept_wired}, specs.declared.lists.NodeShape.NodeShape}, std.proofs.Common.ap}
+use Rattle.std.proofs.Common.{get_or, subst, sym, ◌∙◌, ◌≡◌}
 
-pub returns : goal.returns
+pub returns : Rattle.c104_audit.proofs.wired.is_wired.Goals.returns
 returns c =
     let node = c.index-nodes-node.result in
     c.is_set.ensures

@@ -1,5 +1,4 @@
-use Rattle.std.proofs.Common.{slice_index_or, refl, arith}
-use Rattle.c104_check.proofs.MarkLemmas.{changes_all, changes_next}
+use Rattle.{c104_check.proofs.MarkLemmas.{changes_all, changes_next}, std.proofs.Common.{arith, refl, slice_index_or}}
 use Rattle.c104_check.proofs.breaks.mark_among.Goals as goal
 
 pub loop-header-preserved : goal.loop-header-preserved

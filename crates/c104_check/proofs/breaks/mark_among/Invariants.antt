@@ -1,8 +1,5 @@
-use Rattle.std.proofs.Common.{take}
-use Rattle.c104_check.specs.Breaks.{AddsMarks}
-use Rattle.c104_check.proofs.MarkLemmas.{ChangeAmong}
-use Rattle.c104_check.proofs.breaks.mark_among.Given as goal
+use Rattle.{c104_check.{proofs.MarkLemmas.ChangeAmong, specs.Breaks.AddsMarks}, std.proofs.Common.take}
 
 -- the changes among the headers so far are marked
-abbrev pub invariant-loop-header : goal.invariant-loop-header
+abbrev pub invariant-loop-header : Rattle.c104_check.proofs.breaks.mark_among.Given.invariant-loop-header
 invariant-loop-header l = AddsMarks l.initial.marks l.marks (ChangeAmong l.table (take l.header-index l.headers))

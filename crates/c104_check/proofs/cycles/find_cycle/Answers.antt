@@ -1,15 +1,9 @@
-use Rattle.std.proofs.Common.{◌≡◌, ◌<◌, ◌∙◌, ◌*◌, List, Option, ℕ, ap, length, sym, subst}
-use Rattle.c104_check.specs.Checks.{IsFirstLink}
-use Rattle.c104_check.specs.Cycles.{AreAllRanked, ArePartialRanks}
-use Rattle.c104_check.specs.Dependencies.{AreDependencies, AreListedBelow, Dependency}
-use Rattle.c104_check.specs.FirstCycles.{LeadsToCycle}
-use Rattle.c104_check.specs.Ranks.{rank_at, rank_in}
-use Rattle.c104_check.specs.Routes.{IsAccepted, Routes, SwitchPort, header_count, routes_of}
-use Rattle.c104_check.specs.Trails.{IsNetwork, routes_in}
-use Rattle.c104_check.specs.ChannelDependencies.{AreRanksWithin, IsRanking, input_count}
-use Rattle.c104_check.proofs.AcyclicLemmas.{by_labels, never_both}
-use Rattle.c104_check.proofs.FirstCycleLemmas.{one_cycle}
-use Rattle.c104_check.proofs.TableRanks.{all_ranked, first_in, first_leading, stuck_in, table_ranking, table_ranks_within}
+use Rattle.c104_check.proofs.{AcyclicLemmas.{by_labels, never_both}, FirstCycleLemmas.one_cycle, TableRanks.{all_ranked, first_in}}
+use Rattle.c104_check.proofs.TableRanks.{first_leading, stuck_in, table_ranking, table_ranks_within}
+use Rattle.c104_check.specs.{ChannelDependencies.{AreRanksWithin, IsRanking, input_count}, Checks.IsFirstLink, Cycles.AreAllRanked}
+use Rattle.c104_check.specs.{Cycles.ArePartialRanks, Dependencies.{AreDependencies, AreListedBelow, Dependency}, FirstCycles.LeadsToCycle}
+use Rattle.c104_check.specs.{Ranks.{rank_at, rank_in}, Routes.{IsAccepted, Routes, SwitchPort, header_count, routes_of}, Trails.IsNetwork}
+use Rattle.{c104_check.specs.Trails.routes_in, std.proofs.Common.{List, Option, ap, length, subst, sym, ℕ, ◌*◌, ◌<◌, ◌∙◌, ◌≡◌}}
 use Rattle.c104_check.proofs.cycles.find_cycle.Goals as goal
 
 pub follow-requires-clause-dependencies : goal.follow-requires-clause-dependencies

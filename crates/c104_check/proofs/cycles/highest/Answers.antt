@@ -1,11 +1,8 @@
-use Rattle.std.proofs.Common.{◌≡◌, ◌+◌, ◌*◌, ap, ◌∙◌, arith}
-use Rattle.c104_check.specs.Ranks.{rank_at, rank_in}
-use Rattle.c104_check.specs.Routes.{place}
-use Rattle.c104_check.proofs.RankSteps.{above_next, above_one, above_none}
-use Rattle.c104_check.proofs.cycles.highest.Goals.{in-Some+then-rank-most, in-Some+else-rank-most, in_default}
-use Rattle.c104_check.proofs.cycles.highest.Goals as goal
+use Rattle.c104_check.{proofs.RankSteps.{above_next, above_none, above_one}, specs.{Ranks.{rank_at, rank_in}, Routes.place}}
+use Rattle.std.proofs.Common.{ap, arith, ◌*◌, ◌+◌, ◌∙◌, ◌≡◌}
+use Rattle.c104_check.proofs.cycles.highest.Goals.{in-Some+else-rank-most, in-Some+then-rank-most, in_default}
 
-pub loop-link-preserved : goal.loop-link-preserved
+pub loop-link-preserved : Rattle.c104_check.proofs.cycles.highest.Goals.loop-link-preserved
 loop-link-preserved c =
     let table = c.args.table.now in
     let ranks = c.args.ranks.now in

@@ -1,5 +1,4 @@
-use Rattle.std.proofs.Common.{◌≡◌, length}
-use Rattle.c104_check.specs.Cycles.{ArePartialRanks, unranked_count}
+use Rattle.{c104_check.specs.Cycles.{ArePartialRanks, unranked_count}, std.proofs.Common.{length, ◌≡◌}}
 use Rattle.c104_check.proofs.cycles.rank_all.Given as goal
 
 -- each pass leaves fewer inputs without a rank

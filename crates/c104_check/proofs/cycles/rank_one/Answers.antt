@@ -1,5 +1,4 @@
-use Rattle.std.proofs.Common.{arith}
-use Rattle.c104_check.proofs.RankSteps.{low_most, pass_one}
+use Rattle.{c104_check.proofs.RankSteps.{low_most, pass_one}, std.proofs.Common.arith}
 use Rattle.c104_check.proofs.cycles.rank_one.Goals as goal
 
 pub overflow_add-ranks : goal.overflow_add-ranks

@@ -1,9 +1,6 @@
-use Rattle.std.proofs.Common.{◌≡◌, ◌∙◌, ◌*◌, List, Option, ap, length, sym, subst}
-use Rattle.c104_check.specs.Dependencies.{AreDependencies, AreListedBelow, Dependency}
-use Rattle.c104_check.specs.Edges.{AreAllEdges, AreEdgesBefore, DependencyEdge}
-use Rattle.c104_check.specs.Routes.{Routes, header_count, routes_of}
-use Rattle.c104_check.proofs.AcyclicLemmas.{by_labels}
-use Rattle.c104_check.proofs.EdgeLemmas.{all_edges}
+use Rattle.c104_check.{proofs.{AcyclicLemmas.by_labels, EdgeLemmas.all_edges}, specs.Dependencies.{AreDependencies, AreListedBelow}}
+use Rattle.c104_check.specs.{Dependencies.Dependency, Edges.{AreAllEdges, AreEdgesBefore, DependencyEdge}, Routes.{Routes, header_count}}
+use Rattle.{c104_check.specs.Routes.routes_of, std.proofs.Common.{List, Option, ap, length, subst, sym, ◌*◌, ◌∙◌, ◌≡◌}}
 use Rattle.c104_check.proofs.edges.channel_dependencies.Goals as goal
 
 pub returns-clause-edges : goal.returns-clause-edges

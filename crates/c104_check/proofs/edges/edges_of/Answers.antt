@@ -1,10 +1,8 @@
-use Rattle.std.proofs.Common.{◌+◌, ◌∙◌, List, [], ◌∷◌, ◌++◌, ap, subst, sym}
-use Rattle.c104_check.specs.Edges.{AreEdgesBefore, DependencyEdge}
-use Rattle.c104_check.proofs.EdgeLemmas.{edges_more, edges_past}
+use Rattle.{c104_check.{proofs.EdgeLemmas.{edges_more, edges_past}, specs.Edges.{AreEdgesBefore, DependencyEdge}}, std.proofs.Common.List}
+use Rattle.std.proofs.Common.{[], ap, subst, sym, ◌++◌, ◌+◌, ◌∙◌, ◌∷◌}
 use Rattle.c104_check.proofs.edges.edges_of.Goals.{in-Some+in_ok-push, in_default}
-use Rattle.c104_check.proofs.edges.edges_of.Goals as goal
 
-pub loop-place-preserved : goal.loop-place-preserved
+pub loop-place-preserved : Rattle.c104_check.proofs.edges.edges_of.Goals.loop-place-preserved
 loop-place-preserved c =
     let table = c.args.table.now in
     let at = c.loop-place.place in

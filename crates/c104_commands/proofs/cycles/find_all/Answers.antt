@@ -1,9 +1,7 @@
-use Rattle.std.proofs.Common.{◌++◌, ap, ◌∙◌}
-use Rattle.c104_commands.specs.CycleTexts.{edges_text}
-use Rattle.c104_commands.proofs.cycles.find_all.Goals as goal
+use Rattle.{c104_commands.specs.CycleTexts.edges_text, std.proofs.Common.{ap, ◌++◌, ◌∙◌}}
 
 -- what is printed is the lines of the dependencies, and then the line on cycles
-pub returns : goal.returns
+pub returns : Rattle.c104_commands.proofs.cycles.find_all.Goals.returns
 returns c = (
   _,
   c.in_ok-edges.ensures.edges,

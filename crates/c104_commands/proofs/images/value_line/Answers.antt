@@ -1,6 +1,4 @@
-use Rattle.std.proofs.Common.{rules}
-use Rattle.c104_commands.proofs.ImageLines.{hex_written}
-use Rattle.c104_commands.proofs.images.value_line.Goals as goal
+use Rattle.{c104_commands.proofs.ImageLines.hex_written, std.proofs.Common.rules}
 
-pub returns : goal.returns
+pub returns : Rattle.c104_commands.proofs.images.value_line.Goals.returns
 returns c = search (rules, hex_written)

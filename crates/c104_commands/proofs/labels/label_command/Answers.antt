@@ -1,6 +1,4 @@
-use Rattle.c104_commands.specs.Labels.{PrintsLabels}
-use Rattle.c104_commands.proofs.Refusals.{runs_on}
-use Rattle.c104_commands.proofs.labels.label_command.Goals as goal
+use Rattle.c104_commands.{proofs.Refusals.runs_on, specs.Labels.PrintsLabels}
 
-pub returns-in-Ok : goal.returns-in-Ok
+pub returns-in-Ok : Rattle.c104_commands.proofs.labels.label_command.Goals.returns-in-Ok
 returns-in-Ok g c = runs_on PrintsLabels _ _ _ _ _ _ _ c.in-Ok.ensures.unwritten c.in-Ok.ensures.network c.show_setup.ensures

@@ -1,10 +1,7 @@
-use Rattle.std.proofs.Common.{inl}
+use Rattle.{c104_check.specs.Routes.routes_of, c104_commands.proofs.CycleLemmas.ranked_acyclic, std.proofs.Common.inl}
 use Rattle.std.proofs.lemmas.Result.{IfOk-weaker}
-use Rattle.c104_check.specs.Routes.{routes_of}
-use Rattle.c104_commands.proofs.CycleLemmas.{ranked_acyclic}
-use Rattle.c104_commands.proofs.pictures.accepted_picture.Goals as goal
 
 -- ranks leave no cycle
-pub returns-in-Ranks : goal.returns-in-Ranks
+pub returns-in-Ranks : Rattle.c104_commands.proofs.pictures.accepted_picture.Goals.returns-in-Ranks
 returns-in-Ranks c =
     IfOk-weaker c.plain_picture.result _ _ (λ picture is. inl (ranked_acyclic (routes_of c.args.plan.now c.args.image.now) _ _ c.in_ok-found.ensures.found c.in-Ranks.is, is)) c.plain_picture.ensures

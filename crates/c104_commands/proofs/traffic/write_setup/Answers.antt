@@ -1,8 +1,5 @@
-use Rattle.std.proofs.Common.{ℕ, ◌<◌, List, length, refl, subst}
-use Rattle.c104_traffic.specs.Faults.{IsTrafficFault}
-use Rattle.c104_traffic.specs.Patterns.{IsPatternOf}
-use Rattle.c104_traffic.specs.Texts.{traffic_text}
-use Rattle.c104_commands.proofs.TrafficEnds.{fault_ends, script_ends}
+use Rattle.{c104_commands.proofs.TrafficEnds.{fault_ends, script_ends}, c104_traffic.specs.{Faults.IsTrafficFault, Patterns.IsPatternOf}}
+use Rattle.{c104_traffic.specs.Texts.traffic_text, std.proofs.Common.{List, length, refl, subst, ℕ, ◌<◌}}
 use Rattle.c104_commands.proofs.traffic.write_setup.Goals as goal
 
 pub returns-in-Ok : goal.returns-in-Ok

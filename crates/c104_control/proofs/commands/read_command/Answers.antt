@@ -1,8 +1,6 @@
-use Rattle.std.proofs.Common.{arith}
-use Rattle.c104_control.proofs.ReadCommands.{AreBytes, is_table, is_unknown}
-use Rattle.c104_control.proofs.commands.read_command.Goals as goal
+use Rattle.{c104_control.proofs.ReadCommands.{AreBytes, is_table, is_unknown}, std.proofs.Common.arith}
 
-pub returns : goal.returns
+pub returns : Rattle.c104_control.proofs.commands.read_command.Goals.returns
 returns c =
     let are : AreBytes c.args.bytes.now = λ i. let fits = c.type_inv.bytes i in grind arith in
     record {

@@ -1,5 +1,4 @@
-use Rattle.std.proofs.Common.{sym, subst}
-use Rattle.c104_crossbar.proofs.GroupScans.{IsLast, last_found}
+use Rattle.{c104_crossbar.proofs.GroupScans.{IsLast, last_found}, std.proofs.Common.{subst, sym}}
 use Rattle.c104_crossbar.proofs.group.last_of.Goals as goal
 
 last : (c : goal.After-trailing_ones) → IsLast c.args.continues c.args.link c.requires c.ranges.continues.fits c.trailing_ones.result

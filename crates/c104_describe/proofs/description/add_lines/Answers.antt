@@ -1,10 +1,6 @@
-use Rattle.std.proofs.Common.{◌+◌, ◌∙◌, ap, sym, subst, inl, inr, Err}
-use Rattle.c104_describe.specs.PlanFaults.{fault_at}
-use Rattle.c104_describe.specs.PlanLines.{Draft}
-use Rattle.c104_describe.specs.PlanText.{read_plan_lines}
-use Rattle.c104_describe.specs.PlanDrafts.{draft_of}
-use Rattle.c104_describe.proofs.DraftsKept.{IsDraft, empty-kept, line_kept}
-use Rattle.c104_describe.proofs.PlanReading.{after_line, at_fault, texts}
+use Rattle.c104_describe.proofs.{DraftsKept.{IsDraft, empty-kept, line_kept}, PlanReading.{after_line, at_fault, texts}}
+use Rattle.c104_describe.specs.{PlanDrafts.draft_of, PlanFaults.fault_at, PlanLines.Draft, PlanText.read_plan_lines}
+use Rattle.std.proofs.Common.{Err, ap, inl, inr, subst, sym, ◌+◌, ◌∙◌}
 use Rattle.c104_describe.proofs.description.add_lines.Goals as goal
 
 pub loop-index-init : goal.loop-index-init

@@ -1,11 +1,6 @@
-use Rattle.c104_describe.specs.PlanDrafts.{draft_of}
-use Rattle.std.proofs.Common.{◌≡◌, Ok, rules, sym, subst}
-use Rattle.c104_plan.specs.Plans.{IsPlan}
-use Rattle.c104_plan.specs.TextCut.{lines}
-use Rattle.c104_describe.specs.PlanText.{read_description, empty_draft, read_plan_lines, GivesPlanOrNoMemory}
-use Rattle.c104_describe.proofs.PlanDue.{due, faultless_lines}
-use Rattle.c104_describe.proofs.DraftsKept.{empty-kept, read_lines-kept}
-use Rattle.c104_describe.proofs.PlanReading.{texts}
+use Rattle.c104_describe.proofs.{DraftsKept.{empty-kept, read_lines-kept}, PlanDue.{due, faultless_lines}, PlanReading.texts}
+use Rattle.c104_describe.specs.{PlanDrafts.draft_of, PlanText.{GivesPlanOrNoMemory, empty_draft, read_description, read_plan_lines}}
+use Rattle.{c104_plan.specs.{Plans.IsPlan, TextCut.lines}, std.proofs.Common.{Ok, rules, subst, sym, ◌≡◌}}
 use Rattle.c104_describe.proofs.description.read_description.Goals as goal
 
 pub finish-requires : goal.finish-requires

@@ -1,9 +1,6 @@
-use Rattle.std.proofs.Common.{◌≡◌, ◌<◌, ◌^◌, ◌∙◌, true, bytes_eq, sym, subst, rules, arith}
-use Rattle.std.specs.List.{list_any}
-use Rattle.c104_plan.specs.TextWords.{is_name}
-use Rattle.c104_plan.specs.Layouts.{filled_name}
-use Rattle.c104_describe.proofs.FilledNames.{numbers_differ, switch_named}
-use Rattle.c104_plan.proofs.RangeLists.{map_next, none_in_range}
+use Rattle.{c104_describe.proofs.FilledNames.{numbers_differ, switch_named}, c104_plan.proofs.RangeLists.{map_next, none_in_range}}
+use Rattle.{c104_plan.specs.{Layouts.filled_name, TextWords.is_name}, std.proofs.Common.{arith, bytes_eq, rules, subst, sym, true, ◌<◌}}
+use Rattle.std.{proofs.Common.{◌^◌, ◌∙◌, ◌≡◌}, specs.List.list_any}
 use Rattle.c104_describe.proofs.fills.filled_switches.Goals as goal
 
 pub push-requires-clause-named : goal.push-requires-clause-named

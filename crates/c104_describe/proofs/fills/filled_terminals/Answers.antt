@@ -1,10 +1,6 @@
-use Rattle.std.proofs.Common.{◌∷◌, ◌<◌, ◌^◌, ◌∙◌, ap, bytes_eq, arith}
-use Rattle.std.specs.Fmt.{decimal}
-use Rattle.std.specs.List.{list_any}
-use Rattle.c104_plan.specs.Layouts.{filled_terminal}
-use Rattle.c104_plan.specs.declared.plans.Terminal.{Terminal}
-use Rattle.c104_describe.proofs.FilledNames.{numbers_differ}
-use Rattle.c104_plan.proofs.RangeLists.{map_next, none_in_range}
+use Rattle.{c104_describe.proofs.FilledNames.numbers_differ, c104_plan.proofs.RangeLists.{map_next, none_in_range}}
+use Rattle.{c104_plan.specs.{Layouts.filled_terminal, declared.plans.Terminal.Terminal}, std.proofs.Common.{ap, arith, bytes_eq, ◌<◌, ◌^◌}}
+use Rattle.std.{proofs.Common.{◌∙◌, ◌∷◌}, specs.{Fmt.decimal, List.list_any}}
 use Rattle.c104_describe.proofs.fills.filled_terminals.Goals as goal
 
 -- the names so far have other numbers

@@ -1,8 +1,5 @@
-use Rattle.std.proofs.Common.{◌≡◌}
-use Rattle.std.specs.List.{flat_map, range_with_len}
-use Rattle.c104_plan.specs.Layouts.{mesh, wires_from}
-use Rattle.c104_describe.proofs.fills.mesh_wires.Given as goal
+use Rattle.{c104_plan.specs.Layouts.{mesh, wires_from}, std.{proofs.Common.◌≡◌, specs.List.{flat_map, range_with_len}}}
 
 -- the wires of the switches so far are made
-abbrev pub invariant-loop-switch : goal.invariant-loop-switch
+abbrev pub invariant-loop-switch : Rattle.c104_describe.proofs.fills.mesh_wires.Given.invariant-loop-switch
 invariant-loop-switch l = l.wires.items ≡ flat_map (wires_from (mesh l.width l.height)) (range_with_len 0 l.switch)

@@ -1,12 +1,8 @@
-use Rattle.std.proofs.Common.{◌≡◌, ◌==◌, Some, inl, rules, true, false}
-use Rattle.c104_plan.specs.Plans.{last_link, switch_number}
-use Rattle.c104_plan.specs.TextWords.{is_name}
-use Rattle.c104_describe.specs.PlanDrafts.{draft_of}
-use Rattle.c104_describe.specs.PlanLines.{is_bad_number, is_from_to, port_link, port_name}
-use Rattle.c104_describe.proofs.LineSteps.{wire_self}
-use Rattle.c104_describe.proofs.lines.add_wire.Goals as goal
+use Rattle.c104_describe.{proofs.LineSteps.wire_self, specs.{PlanDrafts.draft_of, PlanLines.{is_bad_number, is_from_to, port_link}}}
+use Rattle.{c104_describe.specs.PlanLines.port_name, c104_plan.specs.{Plans.{last_link, switch_number}, TextWords.is_name}}
+use Rattle.std.proofs.Common.{Some, false, inl, rules, true, ◌==◌, ◌≡◌}
 
-pub returns-then-is_self_wire : goal.returns-then-is_self_wire
+pub returns-then-is_self_wire : Rattle.c104_describe.proofs.lines.add_wire.Goals.returns-then-is_self_wire
 returns-then-is_self_wire c =
     let draft = draft_of c.args.draft.now in
     let here = c.args.here.now in

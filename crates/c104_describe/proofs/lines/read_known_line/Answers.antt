@@ -1,7 +1,5 @@
-use Rattle.std.proofs.Common.{◌∙◌, inl, sym}
-use Rattle.c104_describe.specs.PlanDrafts.{draft_of}
-use Rattle.c104_describe.proofs.MixedLast.{known_mixed, known_or_memory}
-use Rattle.c104_describe.proofs.PlanReading.{texts}
+use Rattle.c104_describe.{proofs.{MixedLast.{known_mixed, known_or_memory}, PlanReading.texts}, specs.PlanDrafts.draft_of}
+use Rattle.std.proofs.Common.{inl, sym, ◌∙◌}
 use Rattle.c104_describe.proofs.lines.read_known_line.Goals as goal
 
 pub returns-in-Err : goal.returns-in-Err

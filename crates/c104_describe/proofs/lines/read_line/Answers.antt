@@ -1,12 +1,9 @@
-use Rattle.std.proofs.Common.{◌≡◌, ◌∙◌, ap, subst, map, Bool, List, ℕ, Bor}
-use Rattle.c104_plan.specs.TextCut.{uncommented_line, line_words, is_plain_line}
-use Rattle.c104_describe.specs.LineFaults.{read_plan_words}
-use Rattle.c104_describe.specs.PlanDrafts.{draft_of}
-use Rattle.c104_describe.specs.PlanText.{ReadsLine}
-use Rattle.c104_describe.proofs.lines.read_line.Goals as goal
+use Rattle.c104_describe.specs.{LineFaults.read_plan_words, PlanDrafts.draft_of, PlanText.ReadsLine}
+use Rattle.{c104_plan.specs.TextCut.{is_plain_line, line_words, uncommented_line}, std.proofs.Common.{Bool, Bor, List, ap, map, subst, ℕ}}
+use Rattle.std.proofs.Common.{◌∙◌, ◌≡◌}
 
 -- the words that were cut are those of the line without its comment
-pub returns : goal.returns
+pub returns : Rattle.c104_describe.proofs.lines.read_line.Goals.returns
 returns c =
     let text : List ℕ = uncommented_line c.args.line.now in
     let cut : map (λ (w : Bor (List ℕ)). w.now) c.as_slice.result.now ≡ line_words text = ap (map (λ (w : Bor (List ℕ)). w.now)) c.as_slice.ensures ∙ c.in_ok-words.ensures ∙ ap line_words c.uncommented-line.ensures in

@@ -1,8 +1,5 @@
-use Rattle.std.proofs.Common.{◌≡◌, ◌++◌, drop, map}
-use Rattle.std.specs.String.{string_bytes}
-use Rattle.c104_describe.specs.PlanPrint.{counted_words, text_of}
-use Rattle.c104_describe.proofs.print.add_counted_terminals.Given as goal
+use Rattle.{c104_describe.specs.PlanPrint.{counted_words, text_of}, std.{proofs.Common.{drop, map, ◌++◌, ◌≡◌}, specs.String.string_bytes}}
 
 -- the text so far and the lines that are left are what the text becomes
-abbrev pub invariant-loop-terminal : goal.invariant-loop-terminal
+abbrev pub invariant-loop-terminal : Rattle.c104_describe.proofs.print.add_counted_terminals.Given.invariant-loop-terminal
 invariant-loop-terminal l = string_bytes l.text ++ text_of (map (counted_words l.plan) (drop l.terminal-index l.terminal-items)) ≡ string_bytes l.fn.text ++ text_of (map (counted_words l.plan) l.plan.terminals)

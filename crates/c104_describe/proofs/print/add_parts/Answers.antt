@@ -1,8 +1,7 @@
 use Rattle.c104_describe.proofs.PrintedParts.{parts_are_text}
-use Rattle.c104_describe.proofs.print.add_parts.Goals as goal
 
 -- one kind after the other
-pub returns : goal.returns
+pub returns : Rattle.c104_describe.proofs.print.add_parts.Goals.returns
 returns c =
     parts_are_text c.args.plan.now _ _ _ _ _ _ _ c.requires
     c.in_ok-add_network.ensures

@@ -1,8 +1,5 @@
-use Rattle.std.proofs.Common.{ap, map, ◌∙◌, arith}
-use Rattle.std.proofs.lemmas.List.{take_all}
-use Rattle.c104_draw.specs.Edges.{first_beside}
-use Rattle.c104_draw.proofs.BesideLemmas.{firsts}
-use Rattle.c104_draw.proofs.EdgeLemmas.{edges_next, is_some_beside}
+use Rattle.c104_draw.{proofs.{BesideLemmas.firsts, EdgeLemmas.{edges_next, is_some_beside}}, specs.Edges.first_beside}
+use Rattle.std.proofs.{Common.{ap, arith, map, ◌∙◌}, lemmas.List.take_all}
 use Rattle.c104_draw.proofs.edges.edges_of.Goals as goal
 
 pub unreachable-requires : goal.unreachable-requires

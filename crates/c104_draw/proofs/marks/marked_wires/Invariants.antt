@@ -1,11 +1,8 @@
-use Rattle.std.proofs.Common.{◌≡◌, Some, map, take}
+use Rattle.{c104_draw.specs.{Drawings.{DrawnWire, IsDrawn}, Marks.marking_by}, std.proofs.Common.{Some, map, take, ◌≡◌}}
 use Rattle.std.specs.List.{AllByRecursion}
-use Rattle.c104_draw.specs.Drawings.{DrawnWire, IsDrawn}
-use Rattle.c104_draw.specs.Marks.{marking_by}
-use Rattle.c104_draw.proofs.marks.marked_wires.Given as goal
 
 -- the wires so far are there
-abbrev pub invariant-loop-wire : goal.invariant-loop-wire
+abbrev pub invariant-loop-wire : Rattle.c104_draw.proofs.marks.marked_wires.Given.invariant-loop-wire
 invariant-loop-wire l = record {
   wires : map (λ (d : DrawnWire). d.wire) l.drawn.items ≡ take l.wire-index l.wires;
   strokes : AllByRecursion (IsDrawn (Some (marking_by l.reach l.walk))) l.drawn.items;

@@ -1,10 +1,7 @@
-use Rattle.std.proofs.Common.{ℕ, IfOk, MatchOption, subst}
-use Rattle.c104_check.specs.Parts.{IsNeverRefused, TellsFirst}
-use Rattle.c104_check.specs.Reach.{routes_for}
-use Rattle.c104_check.specs.Routes.{Routes}
-use Rattle.c104_draw.proofs.pictures.draw_header.Goals as goal
+use Rattle.{c104_check.specs.{Parts.{IsNeverRefused, TellsFirst}, Reach.routes_for, Routes.Routes}, std.proofs.Common.{IfOk, MatchOption}}
+use Rattle.std.proofs.Common.{subst, ℕ}
 
-pub returns-clause-fault : goal.returns-clause-fault
+pub returns-clause-fault : Rattle.c104_draw.proofs.pictures.draw_header.Goals.returns-clause-fault
 returns-clause-fault c =
     let reach = c.in_ok-reach in
     subst (λ (r : Routes). IfOk c.draw_reach.result (λ drawn. MatchOption drawn.fault (IsNeverRefused r c.args.header) (TellsFirst r c.args.header))) reach.ensures.routes

@@ -1,7 +1,7 @@
-use Rattle.std.proofs.Common.{◌≡◌, ◌∙◌, ap, sym, ℕ, suc, ◌<◌, ◌*◌, ◌+◌, ◌-◌, ◌/◌, ◌%◌, ◌^◌, refl, arith}
-use Rattle.c104_label.specs.LabelRows.{label_row, with_row}
-use Rattle.c104_plan.proofs.LayoutNumbers.{power_is}
-use Rattle.c104_label.proofs.CubeRows.{cube_down, cube_own, cube_up, double_is, down_first, down_next, own_first, own_next, up_first, up_last, up_next, up_small}
+use Rattle.c104_label.proofs.CubeRows.{cube_down, cube_own, cube_up, double_is, down_first, down_next, own_first, own_next, up_first}
+use Rattle.c104_label.{proofs.CubeRows.{up_last, up_next, up_small}, specs.LabelRows.{label_row, with_row}}
+use Rattle.{c104_plan.proofs.LayoutNumbers.power_is, std.proofs.Common.{ap, arith, refl, suc, sym, ℕ, ◌%◌, ◌*◌, ◌+◌, ◌-◌, ◌/◌, ◌<◌, ◌^◌}}
+use Rattle.std.proofs.Common.{◌∙◌, ◌≡◌}
 use Rattle.c104_label.proofs.cubes.cube_rows.Goals as goal
 
 pub loop-passed-init : goal.loop-passed-init

@@ -1,5 +1,4 @@
-use Rattle.std.proofs.Common.{◌≡◌}
-use Rattle.c104_label.proofs.CubeRows.{cube_down, cube_own, cube_up}
+use Rattle.{c104_label.proofs.CubeRows.{cube_down, cube_own, cube_up}, std.proofs.Common.◌≡◌}
 use Rattle.c104_label.proofs.cubes.cube_rows.Given as goal
 
 abbrev pub invariant-loop-passed : goal.invariant-loop-passed

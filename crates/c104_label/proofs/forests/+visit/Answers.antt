@@ -1,7 +1,5 @@
-use Rattle.std.proofs.Common.{◌<◌, ◌≤◌, length, arith}
-use Rattle.c104_label.specs.Forests.{ends_of}
-use Rattle.c104_label.specs.Trees.{forest_of}
 use Rattle.c104_label.proofs.VisitLemmas.{ends_inside, found, passed, visit_more, visit_one, visit_skip, visit_take}
+use Rattle.{c104_label.specs.{Forests.ends_of, Trees.forest_of}, std.proofs.Common.{arith, length, ◌<◌, ◌≤◌}}
 use Rattle.c104_label.proofs.forests.+visit.Goals as goal
 
 pub returns-in_default-clause-grown : goal.returns-in_default-clause-grown

@@ -1,7 +1,5 @@
-use Rattle.std.proofs.Common.{◌≡◌, ◌<◌, ℕ, true}
-use Rattle.c104_label.specs.Forests.{is_met}
-use Rattle.c104_label.proofs.forests.first_missing.Given as goal
+use Rattle.{c104_label.specs.Forests.is_met, std.proofs.Common.{true, ℕ, ◌<◌, ◌≡◌}}
 
 -- those so far were visited
-abbrev pub invariant-loop-switch : goal.invariant-loop-switch
+abbrev pub invariant-loop-switch : Rattle.c104_label.proofs.forests.first_missing.Given.invariant-loop-switch
 invariant-loop-switch l = (s : ℕ) → s < l.switch → is_met l.seen.items s ≡ true

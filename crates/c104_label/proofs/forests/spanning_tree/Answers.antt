@@ -1,6 +1,4 @@
-use Rattle.std.proofs.Common.{length, ap}
-use Rattle.c104_label.specs.Trees.{forest_of}
-use Rattle.c104_label.proofs.VisitLemmas.{all_wired, missing_is, none_missing}
+use Rattle.{c104_label.{proofs.VisitLemmas.{all_wired, missing_is, none_missing}, specs.Trees.forest_of}, std.proofs.Common.{ap, length}}
 use Rattle.c104_label.proofs.forests.spanning_tree.Goals as goal
 
 pub returns-then-is_some-clause-refused : goal.returns-then-is_some-clause-refused

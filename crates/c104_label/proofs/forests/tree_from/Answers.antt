@@ -1,6 +1,4 @@
-use Rattle.std.proofs.Common.{length}
-use Rattle.c104_label.specs.Forests.{ends_of}
-use Rattle.c104_label.proofs.VisitLemmas.{tree_root, visit_root}
+use Rattle.{c104_label.{proofs.VisitLemmas.{tree_root, visit_root}, specs.Forests.ends_of}, std.proofs.Common.length}
 use Rattle.c104_label.proofs.forests.tree_from.Goals as goal
 
 pub visit-requires-clause-visited : goal.visit-requires-clause-visited

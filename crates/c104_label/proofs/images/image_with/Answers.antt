@@ -1,8 +1,5 @@
-use Rattle.std.proofs.Common.{◌≡◌, ◌∙◌, ℕ, List, length, ap, subst, IfOk}
-use Rattle.std.proofs.lemmas.List.{length-map}
-use Rattle.c104_plan.specs.LabelledImages.{labelled_image}
-use Rattle.c104_plan.specs.PlanImage.{Image, range_of}
-use Rattle.c104_plan.proofs.ImageMade.{ranges_kept}
+use Rattle.c104_plan.{proofs.ImageMade.ranges_kept, specs.{LabelledImages.labelled_image, PlanImage.{Image, range_of}}}
+use Rattle.std.proofs.{Common.{IfOk, List, ap, length, subst, ℕ, ◌∙◌, ◌≡◌}, lemmas.List.length-map}
 use Rattle.c104_label.proofs.images.image_with.Goals as goal
 
 pub with_tables-requires-clause-terminals : goal.with_tables-requires-clause-terminals

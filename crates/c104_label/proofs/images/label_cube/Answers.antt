@@ -1,10 +1,6 @@
-use Rattle.std.proofs.Common.{refl, sym, subst}
-use Rattle.c104_check.specs.Routes.{routes_of}
-use Rattle.c104_label.specs.Crossings.{AreCrossings}
-use Rattle.c104_label.proofs.AcceptedCubes.{cube_accepted, cube_crossed}
-use Rattle.c104_label.proofs.CubeRanks.{cube_acyclic}
-use Rattle.c104_plan.specs.declared.plans.Shape.TheVariants.{Cube}
-use Rattle.c104_label.proofs.NeverRandomized.{by_shape}
+use Rattle.{c104_check.specs.Routes.routes_of, c104_label.proofs.{AcceptedCubes.{cube_accepted, cube_crossed}, CubeRanks.cube_acyclic}}
+use Rattle.c104_label.{proofs.NeverRandomized.by_shape, specs.Crossings.AreCrossings}
+use Rattle.{c104_plan.specs.declared.plans.Shape.TheVariants.Cube, std.proofs.Common.{refl, subst, sym}}
 use Rattle.c104_label.proofs.images.label_cube.Goals as goal
 
 pub returns-in_ok-image-in-Cube-clause-accepted : goal.returns-in_ok-image-in-Cube-clause-accepted

@@ -1,10 +1,6 @@
-use Rattle.std.proofs.Common.{refl, sym, subst}
-use Rattle.c104_check.specs.Routes.{routes_of}
-use Rattle.c104_label.specs.Crossings.{AreCrossings}
-use Rattle.c104_label.proofs.AcceptedMeshes.{mesh_accepted, mesh_crossed}
-use Rattle.c104_label.proofs.MeshRanks.{mesh_acyclic}
-use Rattle.c104_plan.specs.declared.plans.Shape.TheVariants.{Mesh}
-use Rattle.c104_label.proofs.NeverRandomized.{by_shape}
+use Rattle.{c104_check.specs.Routes.routes_of, c104_label.proofs.{AcceptedMeshes.{mesh_accepted, mesh_crossed}, MeshRanks.mesh_acyclic}}
+use Rattle.c104_label.{proofs.NeverRandomized.by_shape, specs.Crossings.AreCrossings}
+use Rattle.{c104_plan.specs.declared.plans.Shape.TheVariants.Mesh, std.proofs.Common.{refl, subst, sym}}
 use Rattle.c104_label.proofs.images.label_mesh.Goals as goal
 
 pub returns-in_ok-image-in-Mesh-clause-accepted : goal.returns-in_ok-image-in-Mesh-clause-accepted

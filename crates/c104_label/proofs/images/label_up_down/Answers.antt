@@ -1,6 +1,4 @@
-use Rattle.c104_label.proofs.TreeAccepted.{up_down_plan}
-use Rattle.c104_label.proofs.UpDownImages.{up_down_accepted, up_down_acyclic}
-use Rattle.c104_label.proofs.NeverRandomized.{up_down_plain}
+use Rattle.c104_label.proofs.{NeverRandomized.up_down_plain, TreeAccepted.up_down_plan, UpDownImages.{up_down_accepted, up_down_acyclic}}
 use Rattle.c104_label.proofs.images.label_up_down.Goals as goal
 
 pub up_down_image-requires : goal.up_down_image-requires

@@ -1,10 +1,6 @@
-use Rattle.std.proofs.Common.{◌≡◌, ◌∙◌, ◌*◌, List, map, length, ap, subst, sym, IfOk}
-use Rattle.std.proofs.lemmas.List.FromFn.{length-map-range_with_len}
-use Rattle.c104_interval.specs.declared.intervals.Table.{Table}
-use Rattle.c104_plan.specs.LabelledImages.{labelled_image}
-use Rattle.c104_plan.specs.PlanImage.{Image, range_of}
-use Rattle.c104_label.specs.MeshLabels.{mesh_table}
-use Rattle.c104_label.proofs.ShapeTables.{mesh_in_range}
+use Rattle.{c104_interval.specs.declared.intervals.Table.Table, c104_label.{proofs.ShapeTables.mesh_in_range, specs.MeshLabels.mesh_table}}
+use Rattle.{c104_plan.specs.{LabelledImages.labelled_image, PlanImage.{Image, range_of}}, std.proofs.Common.{IfOk, List, ap, length, map}}
+use Rattle.std.proofs.{Common.{subst, sym, ◌*◌, ◌∙◌, ◌≡◌}, lemmas.List.FromFn.length-map-range_with_len}
 use Rattle.c104_label.proofs.meshes.mesh_image.Goals as goal
 
 pub image_with-requires-clause-switches : goal.image_with-requires-clause-switches

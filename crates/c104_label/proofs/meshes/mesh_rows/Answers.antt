@@ -1,9 +1,7 @@
-use Rattle.std.proofs.Common.{◌≡◌, ◌∙◌, ap, ◌*◌, ◌+◌, ◌/◌, refl, arith}
-use Rattle.c104_label.specs.LabelRows.{label_row, with_row}
-use Rattle.c104_label.proofs.MeshRows.{front_last, mesh_front}
-use Rattle.c104_label.proofs.meshes.mesh_rows.Goals as goal
+use Rattle.{c104_label.{proofs.MeshRows.{front_last, mesh_front}, specs.LabelRows.{label_row, with_row}}, std.proofs.Common.{ap, arith}}
+use Rattle.std.proofs.Common.{refl, ◌*◌, ◌+◌, ◌/◌, ◌∙◌, ◌≡◌}
 
-pub returns : goal.returns
+pub returns : Rattle.c104_label.proofs.meshes.mesh_rows.Goals.returns
 returns c =
     let w = c.args.width in
     let h = c.args.height in

@@ -1,9 +1,6 @@
-use Rattle.std.proofs.Common.{arith}
-use Rattle.c104_label.specs.TreeLabels.{net_of}
-use Rattle.c104_label.proofs.TreeCounts.{labels_next}
-use Rattle.c104_label.proofs.numbers.labels_before.Goals as goal
+use Rattle.{c104_label.{proofs.TreeCounts.labels_next, specs.TreeLabels.net_of}, std.proofs.Common.arith}
 
-pub loop-link-preserved : goal.loop-link-preserved
+pub loop-link-preserved : Rattle.c104_label.proofs.numbers.labels_before.Goals.loop-link-preserved
 loop-link-preserved c =
     let next = labels_next (net_of c.args.plan.now) c.args.switch c.loop-link.link in
     record {

@@ -1,9 +1,5 @@
-use Rattle.std.proofs.Common.{◌∙◌, ap, arith, length, refl}
-use Rattle.c104_plan.proofs.Wires.{wiring}
-use Rattle.c104_label.specs.TreeLabels.{net_of, own_labels}
-use Rattle.c104_label.proofs.FilledTables.{made_next}
-use Rattle.c104_label.proofs.TreeAdded.{own_all}
-use Rattle.c104_label.proofs.TreeCounts.{counts_are}
+use Rattle.c104_label.{proofs.{FilledTables.made_next, TreeAdded.own_all, TreeCounts.counts_are}, specs.TreeLabels.{net_of, own_labels}}
+use Rattle.{c104_plan.proofs.Wires.wiring, std.proofs.Common.{ap, arith, length, refl, ◌∙◌}}
 use Rattle.c104_label.proofs.numbers.own_counts.Goals as goal
 
 pub loop-switch-preserved : goal.loop-switch-preserved

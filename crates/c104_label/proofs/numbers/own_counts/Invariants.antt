@@ -1,8 +1,5 @@
-use Rattle.std.proofs.Common.{◌≡◌, map}
-use Rattle.std.specs.List.{range_with_len}
-use Rattle.c104_label.specs.TreeLabels.{net_of, own_labels}
-use Rattle.c104_label.proofs.numbers.own_counts.Given as goal
+use Rattle.{c104_label.specs.TreeLabels.{net_of, own_labels}, std.{proofs.Common.{map, ◌≡◌}, specs.List.range_with_len}}
 
 -- the counts of the switches so far
-abbrev pub invariant-loop-switch : goal.invariant-loop-switch
+abbrev pub invariant-loop-switch : Rattle.c104_label.proofs.numbers.own_counts.Given.invariant-loop-switch
 invariant-loop-switch l = l.counts.items ≡ map (own_labels (net_of l.plan)) (range_with_len 0 l.switch)

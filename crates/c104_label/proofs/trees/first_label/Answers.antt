@@ -1,7 +1,5 @@
-use Rattle.std.proofs.Common.{◌+◌, ◌∙◌, ℕ, ap, arith}
-use Rattle.c104_label.specs.Trees.{forest_of}
-use Rattle.c104_label.specs.TreeLabels.{count_at, place}
-use Rattle.c104_label.proofs.TreeSteps.{first_found, first_none, first_small}
+use Rattle.c104_label.{proofs.TreeSteps.{first_found, first_none, first_small}, specs.{TreeLabels.{count_at, place}, Trees.forest_of}}
+use Rattle.std.proofs.Common.{ap, arith, ℕ, ◌+◌, ◌∙◌}
 use Rattle.c104_label.proofs.trees.first_label.Goals as goal
 
 pub overflow_add-result : goal.overflow_add-result

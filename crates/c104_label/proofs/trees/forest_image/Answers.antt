@@ -1,10 +1,6 @@
-use Rattle.std.proofs.Common.{◌∙◌, ap, length}
-use Rattle.std.proofs.lemmas.List.FromFn.{length-map-range_with_len}
-use Rattle.c104_plan.proofs.Wires.{wiring}
-use Rattle.c104_label.specs.Trees.{forest_of}
-use Rattle.c104_label.specs.TreeLabels.{count_at, switch_table}
-use Rattle.c104_label.proofs.TreeSteps.{image_done, labels_few, plan_few}
-use Rattle.c104_label.proofs.TreeTables.{ranges_are, tables_in_range}
+use Rattle.c104_label.proofs.{TreeSteps.{image_done, labels_few, plan_few}, TreeTables.{ranges_are, tables_in_range}}
+use Rattle.{c104_label.specs.{TreeLabels.{count_at, switch_table}, Trees.forest_of}, c104_plan.proofs.Wires.wiring, std.proofs.Common.ap}
+use Rattle.std.proofs.{Common.{length, ◌∙◌}, lemmas.List.FromFn.length-map-range_with_len}
 use Rattle.c104_label.proofs.trees.forest_image.Goals as goal
 
 pub tree_tables-requires : goal.tree_tables-requires

@@ -1,7 +1,6 @@
-use Rattle.std.proofs.Common.{◌≡◌, ◌≤◌, ◌+◌, ◌∙◌, ℕ, ap, arith, length, subst, sym}
-use Rattle.c104_label.specs.Trees.{forest_of}
-use Rattle.c104_label.specs.TreeLabels.{Place, count_at, place, tree_labels}
-use Rattle.c104_label.proofs.TreeSteps.{no_missing, not_some, rows_due, table_done}
+use Rattle.c104_label.{proofs.TreeSteps.{no_missing, not_some, rows_due, table_done}, specs.TreeLabels.{Place, count_at, place}}
+use Rattle.{c104_label.specs.{TreeLabels.tree_labels, Trees.forest_of}, std.proofs.Common.{ap, arith, length, subst, sym, ℕ, ◌+◌, ◌∙◌, ◌≡◌}}
+use Rattle.std.proofs.Common.{◌≤◌}
 use Rattle.c104_label.proofs.trees.switch_table.Goals as goal
 
 pub unreachable-requires : goal.unreachable-requires

@@ -1,6 +1,4 @@
-use Rattle.std.proofs.Common.{arith}
-use Rattle.c104_label.specs.Trees.{forest_of}
-use Rattle.c104_label.proofs.TreeSteps.{most_small}
+use Rattle.{c104_label.{proofs.TreeSteps.most_small, specs.Trees.forest_of}, std.proofs.Common.arith}
 use Rattle.c104_label.proofs.trees.tree_image.Goals as goal
 
 pub forest_image-requires : goal.forest_image-requires

@@ -1,10 +1,6 @@
-use Rattle.std.proofs.Common.{◌+◌, ◌∙◌, List, ap, arith}
-use Rattle.c104_interval.specs.declared.intervals.Row.{Row}
-use Rattle.c104_label.specs.LabelRows.{label_row, with_row}
-use Rattle.c104_label.specs.Trees.{forest_of}
-use Rattle.c104_label.specs.TreeLabels.{count_at, net_of}
-use Rattle.c104_label.proofs.TreeAdded.{end_next, front_first, front_next}
-use Rattle.c104_label.proofs.TreeSteps.{children_room, rows_done}
+use Rattle.{c104_interval.specs.declared.intervals.Row.Row, c104_label.proofs.TreeAdded.{end_next, front_first, front_next}}
+use Rattle.c104_label.{proofs.TreeSteps.{children_room, rows_done}, specs.{LabelRows.{label_row, with_row}, TreeLabels.{count_at, net_of}}}
+use Rattle.{c104_label.specs.Trees.forest_of, std.proofs.Common.{List, ap, arith, ◌+◌, ◌∙◌}}
 use Rattle.c104_label.proofs.trees.tree_rows.Goals as goal
 
 pub loop-link-init : goal.loop-link-init

@@ -1,11 +1,8 @@
-use Rattle.std.proofs.Common.{◌≡◌, ◌≤◌, ◌+◌, ◌*◌}
+use Rattle.{c104_label.{proofs.TreeAdded.rows_front, specs.TreeLabels.{labels_on, net_of}}, std.proofs.Common.{◌*◌, ◌+◌, ◌≡◌, ◌≤◌}}
 use Rattle.std.specs.List.{range_with_len}
-use Rattle.c104_label.specs.TreeLabels.{labels_on, net_of}
-use Rattle.c104_label.proofs.TreeAdded.{rows_front}
-use Rattle.c104_label.proofs.trees.tree_rows.Given as goal
 
 -- the rows of the parent and of the links so far
-abbrev pub invariant-loop-link : goal.invariant-loop-link
+abbrev pub invariant-loop-link : Rattle.c104_label.proofs.trees.tree_rows.Given.invariant-loop-link
 invariant-loop-link l = record {
   rows : l.rows.items ≡ rows_front (net_of l.plan) l.switch l.at.up l.at.first l.link;
   end : l.end ≡ l.at.first + labels_on (net_of l.plan) l.switch (range_with_len 0 l.link);

@@ -1,8 +1,6 @@
-use Rattle.c104_check.specs.Routes.{routes_of}
-use Rattle.c104_label.proofs.UpDownImages.{ranked_acyclic}
-use Rattle.c104_label.proofs.up_down.is_acyclic.Goals as goal
+use Rattle.{c104_check.specs.Routes.routes_of, c104_label.proofs.UpDownImages.ranked_acyclic}
 
-pub returns-in-Ranks : goal.returns-in-Ranks
+pub returns-in-Ranks : Rattle.c104_label.proofs.up_down.is_acyclic.Goals.returns-in-Ranks
 returns-in-Ranks c = λ same. record {
   accepted = c.requires.accepted;
   acyclic = ranked_acyclic (routes_of c.args.plan.now c.args.image.now) _ _ c.in_ok-find_cycle.ensures.found c.in-Ranks.is;

@@ -1,8 +1,6 @@
-use Rattle.std.proofs.Common.{[], refl, sym, subst, arith}
-use Rattle.c104_regs.specs.Ranges.{IsTableInRange}
-use Rattle.c104_label.proofs.UpDownTables.{checked_in_range}
-use Rattle.c104_label.proofs.up_down.no_rows.Goals as goal
+use Rattle.{c104_label.proofs.UpDownTables.checked_in_range, c104_regs.specs.Ranges.IsTableInRange, std.proofs.Common.{[], arith, refl}}
+use Rattle.std.proofs.Common.{subst, sym}
 
 -- it has the rows of no labels
-pub returns : goal.returns
+pub returns : Rattle.c104_label.proofs.up_down.no_rows.Goals.returns
 returns c = subst IsTableInRange (sym c.reset.ensures) (checked_in_range [] (omega arith) refl)

@@ -1,5 +1,4 @@
-use Rattle.std.proofs.Common.{arith}
-use Rattle.c104_label.specs.Trees.{forest_of}
+use Rattle.{c104_label.specs.Trees.forest_of, std.proofs.Common.arith}
 use Rattle.c104_label.proofs.up_down.up_down_image.Goals as goal
 
 pub best_image-requires : goal.best_image-requires

@@ -1,8 +1,6 @@
-use Rattle.std.proofs.Common.{◌≡◌, ◌++◌, List, [], ◌∷◌, length, reverse, sym, ap, ◌∙◌, arith, length-append}
-use Rattle.std.proofs.lemmas.List.{append-nil}
-use Rattle.c104_node.specs.Terminals.{Terminal}
-use Rattle.c104_node.specs.Nodes.{terminals_of}
-use Rattle.c104_run.proofs.Finishing.{terminals_popped, terminals_on, terminals_end}
+use Rattle.{c104_node.specs.{Nodes.terminals_of, Terminals.Terminal}, c104_run.proofs.Finishing.{terminals_end, terminals_on}}
+use Rattle.{c104_run.proofs.Finishing.terminals_popped, std.proofs.Common.{List, [], ap, arith, length, length-append, reverse, sym, ◌++◌}}
+use Rattle.std.proofs.{Common.{◌∙◌, ◌∷◌, ◌≡◌}, lemmas.List.append-nil}
 use Rattle.c104_net.proofs.bare_run.terminals_of.Goals as goal
 
 pub loop-node-init : goal.loop-node-init

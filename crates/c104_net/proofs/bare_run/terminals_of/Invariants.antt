@@ -1,6 +1,4 @@
-use Rattle.std.proofs.Common.{◌≡◌, ◌≤◌, ◌+◌, ◌++◌, length, reverse}
-use Rattle.std.specs.Vec.{vec_capacity}
-use Rattle.c104_node.specs.Nodes.{terminals_of}
+use Rattle.{c104_node.specs.Nodes.terminals_of, std.{proofs.Common.{length, reverse, ◌++◌, ◌+◌, ◌≡◌, ◌≤◌}, specs.Vec.vec_capacity}}
 use Rattle.c104_net.proofs.bare_run.terminals_of.Given as goal
 
 -- the terminals so far, the last first, come after those of the nodes that are left

@@ -1,6 +1,4 @@
-use Rattle.std.proofs.Common.{All, arith}
-use Rattle.c104_node.specs.TracedRecords.{IsFit, TracedRecord}
-use Rattle.c104_node.proofs.EachSoFar.{each_next}
+use Rattle.{c104_node.{proofs.EachSoFar.each_next, specs.TracedRecords.{IsFit, TracedRecord}}, std.proofs.Common.{All, arith}}
 use Rattle.c104_net.proofs.deadlock.read_counts.Goals as goal
 
 pub loop-node-preserved : goal.loop-node-preserved

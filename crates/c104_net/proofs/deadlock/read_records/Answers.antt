@@ -1,6 +1,4 @@
-use Rattle.std.proofs.Common.{arith}
-use Rattle.c104_node.specs.Records.{IsRecorded, NodeRecord, NodeRoom}
-use Rattle.c104_node.proofs.EachSoFar.{each_next}
+use Rattle.{c104_node.{proofs.EachSoFar.each_next, specs.Records.{IsRecorded, NodeRecord, NodeRoom}}, std.proofs.Common.arith}
 use Rattle.c104_net.proofs.deadlock.read_records.Goals as goal
 
 pub loop-node-preserved : goal.loop-node-preserved

@@ -1,11 +1,8 @@
-use Rattle.std.proofs.Common.{Global, Some, Vec, ap, refl, slice_get, sym, ◌∙◌, ◌≡◌}
-use Rattle.std.proofs.lemmas.Option.{slice_get_read}
-use Rattle.c104_net.proofs.GatheredLeads.{add_on, pass_on}
-use Rattle.c104_net.specs.declared.leading.Lead.{Lead}
+use Rattle.{c104_net.{proofs.GatheredLeads.{add_on, pass_on}, specs.declared.leading.Lead.Lead}, std.proofs.Common.{Global, Some, Vec, ap}}
+use Rattle.std.proofs.{Common.{refl, slice_get, sym, ◌∙◌, ◌≡◌}, lemmas.Option.slice_get_read}
 use Rattle.c104_net.proofs.leading.add_leads.Goals.{else-is_leading, then-is_leading+in_ok-push}
-use Rattle.c104_net.proofs.leading.add_leads.Goals as goal
 
-pub loop-at-preserved : goal.loop-at-preserved
+pub loop-at-preserved : Rattle.c104_net.proofs.leading.add_leads.Goals.loop-at-preserved
 loop-at-preserved c switches traces there =
     let here : slice_get c.args.trace.now c.loop-at.at ≡ Some c.index-trace-at.result = slice_get_read c.args.trace.now _ c.loop-at.at c.index-trace-at.result refl c.loop-at-test.true c.index-trace-at.is in
     elim c.if-is_leading.branch [

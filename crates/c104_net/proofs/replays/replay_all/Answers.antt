@@ -1,13 +1,9 @@
-use Rattle.std.proofs.Common.{List, OnOk, ap, length, map, subst, ℕ, ◌∙◌, ◌≡◌}
-use Rattle.c104_event.specs.declared.events.Event.{Event}
-use Rattle.c104_net.specs.Merges.{by_ticket}
-use Rattle.c104_net.specs.Replays.{LeadTo, lead_event}
-use Rattle.c104_net.specs.ToldEvents.{told_by, told_event, told_events}
-use Rattle.c104_net.specs.declared.leading.Lead.{Lead}
-use Rattle.c104_net.proofs.replays.replay_all.Goals as goal
+use Rattle.{c104_event.specs.declared.events.Event.Event, c104_net.specs.{Merges.by_ticket, Replays.{LeadTo, lead_event}}}
+use Rattle.{c104_net.specs.{ToldEvents.{told_by, told_event, told_events}, declared.leading.Lead.Lead}, std.proofs.Common.{List, OnOk, ap}}
+use Rattle.std.proofs.Common.{length, map, subst, ℕ, ◌∙◌, ◌≡◌}
 
 -- the sorted entries tell the events of the traces
-pub returns : goal.returns
+pub returns : Rattle.c104_net.proofs.replays.replay_all.Goals.returns
 unfolding told_events
 returns c =
     let n : ℕ = length c.switches.result.now in

@@ -1,12 +1,8 @@
-use Rattle.std.proofs.Common.{Some, ap, arith, map, option_map, slice_get, sym, ◌∙◌, ◌≡◌}
+use Rattle.{c104_net.{proofs.WorkBounds.one_next, specs.{HeaderWork.{full_node, none_ahead}, Work.told_work}}, c104_node.specs.Places.Shown}
+use Rattle.{c104_node.specs.Places.states, std.proofs.Common.{Some, ap, arith, map, option_map, slice_get, sym, ◌∙◌, ◌≡◌}}
 use Rattle.std.proofs.lemmas.Option.{slice_get-get_or, slice_get-map}
-use Rattle.c104_node.specs.Places.{Shown, states}
-use Rattle.c104_net.specs.HeaderWork.{full_node, none_ahead}
-use Rattle.c104_net.specs.Work.{told_work}
-use Rattle.c104_net.proofs.WorkBounds.{one_next}
-use Rattle.c104_net.proofs.work.work_of_nodes.Goals as goal
 
-pub loop-place-preserved : goal.loop-place-preserved
+pub loop-place-preserved : Rattle.c104_net.proofs.work.work_of_nodes.Goals.loop-place-preserved
 loop-place-preserved g c =
     let found : slice_get c.args.nodes.now c.loop-place.place ≡ Some c.index-nodes-place.result = slice_get-get_or c.args.nodes.now c.loop-place.place c.index-nodes-place.result (omega (arith, c.loop-place-test.true)) ∙ ap Some (sym c.index-nodes-place.is) in
     let shown : slice_get (map g.P.Place.shown c.args.nodes.now) c.loop-place.place ≡ Some (g.P.Place.shown c.index-nodes-place.result) = slice_get-map g.P.Place.shown c.args.nodes.now c.loop-place.place ∙ ap (option_map g.P.Place.shown) found in

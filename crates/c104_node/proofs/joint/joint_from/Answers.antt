@@ -1,8 +1,6 @@
-use Rattle.std.proofs.Common.{arith, ap, map, refl, sym}
-use Rattle.c104_node.specs.PortActs.{near_act}
-use Rattle.c104_node.specs.Places.{Shown, room_fault, states}
-use Rattle.c104_node.proofs.JointEnds.{acts_inside, crossing_refused, joint_closed, joint_ready, none_crosses}
-use Rattle.c104_node.proofs.PlaceSteps.{as_many, err_is}
+use Rattle.c104_node.proofs.{JointEnds.{acts_inside, crossing_refused, joint_closed, joint_ready, none_crosses}, PlaceSteps.as_many}
+use Rattle.{c104_node.{proofs.PlaceSteps.err_is, specs.{Places.{Shown, room_fault, states}, PortActs.near_act}}, std.proofs.Common.ap}
+use Rattle.std.proofs.Common.{arith, map, refl, sym}
 use Rattle.c104_node.proofs.joint.joint_from.Goals as goal
 
 pub returns-then-not-can_far_at : goal.returns-then-not-can_far_at

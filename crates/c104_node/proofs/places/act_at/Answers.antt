@@ -1,5 +1,5 @@
+use Rattle.c104_node.proofs.PlaceSteps.{acts_at, below_there, linked_there, ready_there, room_others}
 use Rattle.std.proofs.lemmas.Option.{slice_get-get_or}
-use Rattle.c104_node.proofs.PlaceSteps.{below_there, linked_there, acts_at, ready_there, room_others}
 use Rattle.c104_node.proofs.places.act_at.Goals as goal
 
 pub act-requires-clause-ready : goal.act-requires-clause-ready

@@ -1,8 +1,5 @@
-use Rattle.std.proofs.Common.{ap, get_or, true}
-use Rattle.c104_node.specs.Traces.{part}
-use Rattle.c104_node.specs.WiredPlaces.{links_of}
-use Rattle.c104_node.proofs.Attempts.{attempt_done, attempt_refused}
-use Rattle.c104_node.proofs.PlaceSteps.{below_there, err_is, free_there}
+use Rattle.c104_node.{proofs.{Attempts.{attempt_done, attempt_refused}, PlaceSteps.{below_there, err_is, free_there}}, specs.Traces.part}
+use Rattle.{c104_node.specs.WiredPlaces.links_of, std.proofs.Common.{ap, get_or, true}}
 use Rattle.c104_node.proofs.places.attempt_at.Goals as goal
 
 pub attempt-requires-clause-linked : goal.attempt-requires-clause-linked

@@ -1,6 +1,5 @@
-use Rattle.std.proofs.Common.{◌∙◌, Bool, Option, false, unwrap_or, ap, sym}
-use Rattle.c104_node.specs.Places.{Shown}
-use Rattle.c104_node.proofs.PlaceSteps.{read_none, read_some}
+use Rattle.{c104_node.{proofs.PlaceSteps.{read_none, read_some}, specs.Places.Shown}, std.proofs.Common.{Bool, Option, ap, false, sym}}
+use Rattle.std.proofs.Common.{unwrap_or, ◌∙◌}
 use Rattle.c104_node.proofs.places.is_full_at.Goals as goal
 
 pub returns-in-Some : goal.returns-in-Some

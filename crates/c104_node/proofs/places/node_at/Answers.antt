@@ -1,6 +1,4 @@
-use Rattle.std.proofs.Common.{◌∙◌, Some, ap, sym}
-use Rattle.c104_node.specs.Places.{Shown}
-use Rattle.c104_node.proofs.PlaceSteps.{read_none, read_some}
+use Rattle.{c104_node.{proofs.PlaceSteps.{read_none, read_some}, specs.Places.Shown}, std.proofs.Common.{Some, ap, sym, ◌∙◌}}
 use Rattle.c104_node.proofs.places.node_at.Goals as goal
 
 pub returns-in-Some : goal.returns-in-Some

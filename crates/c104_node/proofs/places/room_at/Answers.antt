@@ -1,5 +1,4 @@
-use Rattle.std.proofs.Math.Seq.{map-set_same}
-use Rattle.c104_node.proofs.PlaceSteps.{free_there, room_made, room_others}
+use Rattle.{c104_node.proofs.PlaceSteps.{free_there, room_made, room_others}, std.proofs.Math.Seq.map-set_same}
 use Rattle.c104_node.proofs.places.room_at.Goals as goal
 
 pub room-requires : goal.room-requires

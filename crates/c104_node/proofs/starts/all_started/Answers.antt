@@ -1,6 +1,4 @@
-use Rattle.std.proofs.Common.{arith, refl, subst, sym, ◌∙◌}
-use Rattle.c104_node.specs.Starts.{IsStartedStart}
-use Rattle.c104_node.proofs.EachSoFar.{each_next}
+use Rattle.{c104_node.{proofs.EachSoFar.each_next, specs.Starts.IsStartedStart}, std.proofs.Common.{arith, refl, subst, sym, ◌∙◌}}
 use Rattle.c104_node.proofs.starts.all_started.Goals as goal
 
 -- this node is started too

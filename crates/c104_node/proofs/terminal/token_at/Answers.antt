@@ -1,6 +1,5 @@
-use Rattle.std.proofs.Common.{◌≡◌, ◌∙◌, ◌<◌, ℕ, List, Some, length, slice_get, slice_index_or, subst, sym, ap, arith}
-use Rattle.std.proofs.lemmas.Option.{slice_get-get_or}
-use Rattle.c104_node.proofs.Waiting.{byte_at, end_at}
+use Rattle.{c104_node.proofs.Waiting.{byte_at, end_at}, std.proofs.Common.{List, Some, ap, arith, length, slice_get, slice_index_or, subst}}
+use Rattle.std.proofs.{Common.{sym, ℕ, ◌<◌, ◌∙◌, ◌≡◌}, lemmas.Option.slice_get-get_or}
 use Rattle.c104_node.proofs.terminal.token_at.Goals as goal
 
 byte_there : (bytes lent : List ℕ) (k : ℕ) → lent ≡ bytes → k < length lent → slice_get bytes k ≡ Some (slice_index_or lent k 0)

@@ -1,10 +1,6 @@
-use Rattle.std.proofs.Common.{◌∙◌, ◌+◌, ◌-◌, Option, sym, ap, arith}
-use Rattle.std.specs.Option.{option_or}
-use Rattle.c104_node.specs.Tagged.{TaggedToken}
-use Rattle.c104_node.specs.declared.origins.Origin.{Origin}
-use Rattle.c104_picture.specs.Holders.{end_or, first_end, output_tokens}
-use Rattle.c104_picture.specs.declared.holders.TheConstants.{BUFFER_LIMIT}
-use Rattle.c104_picture.proofs.Searches.{end_end, end_step}
+use Rattle.{c104_node.specs.{Tagged.TaggedToken, declared.origins.Origin.Origin}, c104_picture.proofs.Searches.{end_end, end_step}}
+use Rattle.c104_picture.specs.{Holders.{end_or, first_end, output_tokens}, declared.holders.TheConstants.BUFFER_LIMIT}
+use Rattle.std.{proofs.Common.{Option, ap, arith, sym, ◌+◌, ◌-◌, ◌∙◌}, specs.Option.option_or}
 use Rattle.c104_picture.proofs.holders.output_end.Goals as goal
 
 pub loop-index-preserved : goal.loop-index-preserved

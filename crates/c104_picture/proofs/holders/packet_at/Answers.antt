@@ -1,7 +1,5 @@
-use Rattle.std.proofs.Common.{◌∙◌, ◌+◌, ◌-◌, sym, ap, arith}
-use Rattle.c104_picture.specs.Holders.{Trail, after_trail, packet_from}
-use Rattle.c104_picture.specs.declared.holders.TheConstants.{MOST_INPUTS}
-use Rattle.c104_picture.proofs.Searches.{packet_end, packet_step}
+use Rattle.c104_picture.{proofs.Searches.{packet_end, packet_step}, specs.Holders.{Trail, after_trail, packet_from}}
+use Rattle.{c104_picture.specs.declared.holders.TheConstants.MOST_INPUTS, std.proofs.Common.{ap, arith, sym, ◌+◌, ◌-◌, ◌∙◌}}
 use Rattle.c104_picture.proofs.holders.packet_at.Goals as goal
 
 pub loop-turn-preserved : goal.loop-turn-preserved

@@ -1,8 +1,5 @@
-use Rattle.std.proofs.Common.{◌≡◌, ◌-◌}
-use Rattle.c104_picture.specs.Holders.{packet_at, packet_from}
-use Rattle.c104_picture.specs.declared.holders.TheConstants.{MOST_INPUTS}
-use Rattle.c104_picture.proofs.holders.packet_at.Given as goal
+use Rattle.{c104_picture.specs.{Holders.{packet_at, packet_from}, declared.holders.TheConstants.MOST_INPUTS}, std.proofs.Common.{◌-◌, ◌≡◌}}
 
 -- what is left tells it
-abbrev pub invariant-loop-turn : goal.invariant-loop-turn
+abbrev pub invariant-loop-turn : Rattle.c104_picture.proofs.holders.packet_at.Given.invariant-loop-turn
 invariant-loop-turn l = packet_from l.net (MOST_INPUTS - l._turn) l.at ≡ packet_at l.net l.fn.input

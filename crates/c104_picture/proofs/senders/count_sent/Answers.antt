@@ -1,7 +1,5 @@
-use Rattle.std.proofs.Common.{◌≡◌, ◌∙◌, ◌+◌, ◌-◌, Option, ℕ, sym, ap, arith}
-use Rattle.c104_picture.specs.Senders.{count_from, counted, size_at}
-use Rattle.c104_picture.specs.declared.senders.TheConstants.{SENT_LIMIT}
-use Rattle.c104_picture.proofs.Searches.{count_end, count_step}
+use Rattle.c104_picture.{proofs.Searches.{count_end, count_step}, specs.Senders.{count_from, counted, size_at}}
+use Rattle.{c104_picture.specs.declared.senders.TheConstants.SENT_LIMIT, std.proofs.Common.{Option, ap, arith, sym, ℕ, ◌+◌, ◌-◌, ◌∙◌, ◌≡◌}}
 use Rattle.c104_picture.proofs.senders.count_sent.Goals as goal
 
 pub loop-number-preserved : goal.loop-number-preserved

@@ -1,6 +1,5 @@
-use Rattle.std.proofs.Common.{◌∙◌, ◌+◌, ◌-◌, sym, ap, arith}
-use Rattle.c104_picture.specs.Senders.{Fit, after_fit, sending_before, size_at}
-use Rattle.c104_picture.proofs.Searches.{before_end, before_step}
+use Rattle.c104_picture.{proofs.Searches.{before_end, before_step}, specs.Senders.{Fit, after_fit, sending_before, size_at}}
+use Rattle.std.proofs.Common.{ap, arith, sym, ◌+◌, ◌-◌, ◌∙◌}
 use Rattle.c104_picture.proofs.senders.sending_before.Goals as goal
 
 pub loop-back-preserved : goal.loop-back-preserved

@@ -1,8 +1,5 @@
-use Rattle.std.proofs.Common.{◌∙◌, ◌++◌, List, ap, arith, ℕ}
-use Rattle.std.specs.List.{flat_map}
-use Rattle.c104_plan.proofs.RangeLists.{flat_next}
-use Rattle.c104_run.proofs.RoundLists.{links_passed}
-use Rattle.c104_picture.specs.States.{wish_of}
+use Rattle.{c104_picture.specs.States.wish_of, c104_plan.proofs.RangeLists.flat_next, c104_run.proofs.RoundLists.links_passed}
+use Rattle.std.{proofs.Common.{List, ap, arith, ℕ, ◌++◌, ◌∙◌}, specs.List.flat_map}
 use Rattle.c104_picture.proofs.states.add_wanted.Goals as goal
 
 pub loop-output-preserved : goal.loop-output-preserved

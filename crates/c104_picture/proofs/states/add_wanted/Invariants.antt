@@ -1,8 +1,5 @@
-use Rattle.std.proofs.Common.{◌≡◌, ◌++◌}
-use Rattle.std.specs.List.{flat_map, range_with_len}
-use Rattle.c104_picture.specs.States.{wish_of}
-use Rattle.c104_picture.proofs.states.add_wanted.Given as goal
+use Rattle.{c104_picture.specs.States.wish_of, std.{proofs.Common.{◌++◌, ◌≡◌}, specs.List.{flat_map, range_with_len}}}
 
 -- the wanted outputs so far
-abbrev pub invariant-loop-output : goal.invariant-loop-output
+abbrev pub invariant-loop-output : Rattle.c104_picture.proofs.states.add_wanted.Given.invariant-loop-output
 invariant-loop-output l = l.list.items ≡ l.initial.list.items ++ flat_map (wish_of l.net l.input l.packet l.locked) (range_with_len 0 l.output)

@@ -1,7 +1,5 @@
-use Rattle.std.proofs.Common.{◌∙◌, ◌+◌, ◌-◌, Option, sym, ap, arith}
-use Rattle.c104_regs.specs.declared.registers.TheConstants.{LINKS}
-use Rattle.c104_picture.specs.Waits.{Wait, claim_blocker, claim_or}
-use Rattle.c104_picture.proofs.Searches.{claim_end, claim_step}
+use Rattle.c104_picture.{proofs.Searches.{claim_end, claim_step}, specs.Waits.{Wait, claim_blocker, claim_or}}
+use Rattle.{c104_regs.specs.declared.registers.TheConstants.LINKS, std.proofs.Common.{Option, ap, arith, sym, ◌+◌, ◌-◌, ◌∙◌}}
 use Rattle.c104_picture.proofs.waits.claim_blocker.Goals as goal
 
 pub loop-output-preserved : goal.loop-output-preserved

@@ -1,8 +1,6 @@
-use Rattle.std.proofs.Common.{◌∙◌, ◌+◌, ◌-◌, ◌||◌, Bool, Option, sym, ap, arith}
-use Rattle.c104_check.specs.declared.ports.SwitchPort.{SwitchPort}
-use Rattle.c104_picture.specs.Waits.{meets, meets_by}
-use Rattle.c104_picture.specs.declared.holders.TheConstants.{MOST_INPUTS}
-use Rattle.c104_picture.proofs.Searches.{meets_end, meets_step}
+use Rattle.{c104_check.specs.declared.ports.SwitchPort.SwitchPort, c104_picture.proofs.Searches.{meets_end, meets_step}}
+use Rattle.{c104_picture.specs.{Waits.{meets, meets_by}, declared.holders.TheConstants.MOST_INPUTS}, std.proofs.Common.{Bool, Option, ap}}
+use Rattle.std.proofs.Common.{arith, sym, ◌+◌, ◌-◌, ◌||◌, ◌∙◌}
 use Rattle.c104_picture.proofs.waits.is_locked.Goals as goal
 
 pub loop-turn-preserved : goal.loop-turn-preserved

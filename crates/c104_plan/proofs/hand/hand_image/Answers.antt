@@ -1,5 +1,4 @@
-use Rattle.c104_plan.proofs.ImageMade.{hand_kept}
-use Rattle.c104_plan.proofs.PlanSettings.{Fits-from}
+use Rattle.c104_plan.proofs.{ImageMade.hand_kept, PlanSettings.Fits-from}
 use Rattle.c104_plan.proofs.hand.hand_image.Goals as goal
 
 pub invariant_of-result : goal.invariant_of-result

@@ -1,8 +1,7 @@
-use Rattle.std.proofs.Common.{◌<◌, ◌∙◌, length, ap, arith, sym}
-use Rattle.c104_plan.specs.PlanImage.{base_of, padded_rows}
 use Rattle.c104_plan.proofs.PlanTables.{count_next, of_rows, room_in, so_far, so_far-same, table_last, table_next}
+use Rattle.{c104_plan.specs.PlanImage.{base_of, padded_rows}, std.proofs.Common.{ap, arith, length, sym, ◌<◌, ◌∙◌}}
+use Rattle.c104_plan.proofs.hand.table_of.Goals.{else-is_same, then-is_same}
 use Rattle.c104_plan.proofs.hand.table_of.Goals as goal
-use Rattle.c104_plan.proofs.hand.table_of.Goals.{then-is_same, else-is_same}
 
 -- a row of the input is filled in, and another changes nothing
 pub loop-row-preserved : goal.loop-row-preserved

@@ -1,8 +1,5 @@
-use Rattle.std.proofs.Common.{◌≡◌, map}
-use Rattle.std.specs.List.{range_with_len}
-use Rattle.c104_plan.proofs.LabelledSettings.{switch_by}
-use Rattle.c104_plan.proofs.labelled.labelled_switches.Given as goal
+use Rattle.{c104_plan.proofs.LabelledSettings.switch_by, std.{proofs.Common.{map, ◌≡◌}, specs.List.range_with_len}}
 
 -- the switches so far are made
-abbrev pub invariant-loop-switch : goal.invariant-loop-switch
+abbrev pub invariant-loop-switch : Rattle.c104_plan.proofs.labelled.labelled_switches.Given.invariant-loop-switch
 invariant-loop-switch l = l.switches.items ≡ map (switch_by l.plan l.tables) (range_with_len 0 l.switch)

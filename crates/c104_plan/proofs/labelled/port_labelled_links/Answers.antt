@@ -1,18 +1,13 @@
-use Rattle.std.proofs.Common.{◌∙◌, List, ap, arith}
-use Rattle.c104_plan.specs.LabelledImages.{port_table}
-use Rattle.c104_plan.specs.declared.ports.Port.TheVariants as port
-use Rattle.c104_plan.specs.Ports.{Port, is_any_at}
-use Rattle.c104_plan.specs.Plans.{rows_of}
 use Rattle.c104_plan.proofs.LabelledSettings.{are_port_labelled, port_labelled_at, port_labelled_last, port_link_here}
-use Rattle.c104_plan.proofs.PlanSettings.{made_next}
-use Rattle.c104_plan.proofs.PlanTables.{continues_of_link, rows_of_input}
+use Rattle.c104_plan.{proofs.{PlanSettings.made_next, PlanTables.{continues_of_link, rows_of_input}}, specs.LabelledImages.port_table}
+use Rattle.{c104_plan.specs.{Plans.rows_of, Ports.{Port, is_any_at}}, std.proofs.Common.{List, ap, arith, ◌∙◌}}
 use Rattle.c104_plan.proofs.labelled.port_labelled_links.Goals as goal
 
 pub labelled_settings-requires-clause-rows : goal.labelled_settings-requires-clause-rows
-labelled_settings-requires-clause-rows c = ap (rows_of (port.Switch c.args.switch c.loop-link.link)) (c.as_slice-rows.ensures.value ∙ c.in_ok-rows.ensures.rows) ∙ rows_of_input c.args.switch c.loop-link.link c.args.plan.now.rows
+labelled_settings-requires-clause-rows c = ap (rows_of (Port.Switch c.args.switch c.loop-link.link)) (c.as_slice-rows.ensures.value ∙ c.in_ok-rows.ensures.rows) ∙ rows_of_input c.args.switch c.loop-link.link c.args.plan.now.rows
 
 pub labelled_settings-requires-clause-continues : goal.labelled_settings-requires-clause-continues
-labelled_settings-requires-clause-continues c = ap (λ (ports : List Port). is_any_at (λ q. q) ports (port.Switch c.args.switch c.loop-link.link)) (c.as_slice-continues.ensures.value ∙ c.in_ok-continues.ensures) ∙ continues_of_link c.args.switch c.loop-link.link c.args.plan.now.continues
+labelled_settings-requires-clause-continues c = ap (λ (ports : List Port). is_any_at (λ q. q) ports (Port.Switch c.args.switch c.loop-link.link)) (c.as_slice-continues.ensures.value ∙ c.in_ok-continues.ensures) ∙ continues_of_link c.args.switch c.loop-link.link c.args.plan.now.continues
 
 pub loop-link-preserved : goal.loop-link-preserved
 loop-link-preserved c =

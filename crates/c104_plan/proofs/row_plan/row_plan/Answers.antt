@@ -1,8 +1,5 @@
-use Rattle.std.proofs.Common.{◌≡◌, sym, subst}
-use Rattle.c104_plan.specs.Plans.{IsPlan, Plan}
-use Rattle.c104_plan.specs.declared.plans.Shape.TheVariants.{Hand}
-use Rattle.c104_plan.specs.RowPlans.{IsOfNetwork}
-use Rattle.c104_plan.proofs.RowPlanKept.{row_plan_hand, row_plan_kept, row_plan_network}
+use Rattle.c104_plan.{proofs.RowPlanKept.{row_plan_hand, row_plan_kept, row_plan_network}, specs.Plans.{IsPlan, Plan}}
+use Rattle.{c104_plan.specs.{RowPlans.IsOfNetwork, declared.plans.Shape.TheVariants.Hand}, std.proofs.Common.{subst, sym, ◌≡◌}}
 use Rattle.c104_plan.proofs.row_plan.row_plan.Goals as goal
 
 pub invariant_of-result : goal.invariant_of-result

@@ -1,9 +1,7 @@
-use Rattle.std.proofs.Common.{◌∙◌, sym, arith}
-use Rattle.c104_plan.proofs.RowPlanSteps.{used_more_not, used_more_reset}
-use Rattle.c104_plan.proofs.row_plan.used_rows.Goals as goal
-use Rattle.c104_plan.proofs.row_plan.used_rows.Goals.{then-not-is_reset_row, else-not-is_reset_row}
+use Rattle.{c104_plan.proofs.RowPlanSteps.{used_more_not, used_more_reset}, std.proofs.Common.{arith, sym, ◌∙◌}}
+use Rattle.c104_plan.proofs.row_plan.used_rows.Goals.{else-not-is_reset_row, then-not-is_reset_row}
 
-pub loop-number-preserved : goal.loop-number-preserved
+pub loop-number-preserved : Rattle.c104_plan.proofs.row_plan.used_rows.Goals.loop-number-preserved
 loop-number-preserved c =
     let at = c.loop-number.invariant in
     elim c.if-not-is_reset_row.branch [

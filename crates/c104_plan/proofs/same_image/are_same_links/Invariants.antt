@@ -1,6 +1,5 @@
-use Rattle.std.proofs.Common.{◌≡◌, take}
-use Rattle.c104_plan.proofs.same_image.are_same_links.Given as goal
+use Rattle.std.proofs.Common.{take, ◌≡◌}
 
 -- the links so far are the same
-abbrev pub invariant-loop-number : goal.invariant-loop-number
+abbrev pub invariant-loop-number : Rattle.c104_plan.proofs.same_image.are_same_links.Given.invariant-loop-number
 invariant-loop-number l = take l.number l.settings ≡ take l.number l.others

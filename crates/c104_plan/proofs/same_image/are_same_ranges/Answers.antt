@@ -1,8 +1,6 @@
-use Rattle.std.proofs.Common.{◌∙◌, sym}
-use Rattle.c104_plan.proofs.SameSettings.{ranges_decide}
-use Rattle.c104_plan.proofs.same_image.are_same_ranges.Goals as goal
+use Rattle.{c104_plan.proofs.SameSettings.ranges_decide, std.proofs.Common.{sym, ◌∙◌}}
 
-pub returns : goal.returns
+pub returns : Rattle.c104_plan.proofs.same_image.are_same_ranges.Goals.returns
 returns c =
     let decides = ranges_decide c.args.ranges.now c.args.others.now in
     (λ is. decides.0 (sym c.eq.ensures ∙ is), λ same. c.eq.ensures ∙ decides.1 same)

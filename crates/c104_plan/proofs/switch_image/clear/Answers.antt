@@ -1,6 +1,4 @@
-use Rattle.std.proofs.Common.{◌∙◌, ℕ, List, ap, sym}
-use Rattle.std.specs.List.{remove}
-use Rattle.c104_plan.proofs.KeptUpdates.{inside_by, none_there, taken_out}
+use Rattle.{c104_plan.proofs.KeptUpdates.{inside_by, none_there, taken_out}, std.{proofs.Common.{List, ap, sym, ℕ, ◌∙◌}, specs.List.remove}}
 use Rattle.c104_plan.proofs.switch_image.clear.Goals as goal
 
 pub remove-requires : goal.remove-requires

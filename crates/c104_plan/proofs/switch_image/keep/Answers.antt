@@ -1,6 +1,5 @@
-use Rattle.std.proofs.Common.{◌∙◌, ◌≡◌, ◌++◌, length, ap, sym}
-use Rattle.c104_plan.specs.SwitchImages.{led_by}
-use Rattle.c104_plan.proofs.KeptUpdates.{led_above, put_in}
+use Rattle.{c104_plan.{proofs.KeptUpdates.{led_above, put_in}, specs.SwitchImages.led_by}, std.proofs.Common.{ap, length, sym, ◌++◌, ◌∙◌}}
+use Rattle.std.proofs.Common.{◌≡◌}
 use Rattle.c104_plan.proofs.switch_image.keep.Goals as goal
 
 pub returns-in-Ok : goal.returns-in-Ok

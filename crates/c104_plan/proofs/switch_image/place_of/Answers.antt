@@ -1,9 +1,7 @@
-use Rattle.std.proofs.Common.{nat_lt, rules}
+use Rattle.{c104_plan.proofs.KeptUpdates.{parted_at, point_at}, std.proofs.Common.{nat_lt, rules}}
 use Rattle.std.proofs.lemmas.List.Sorted.{IsPartitionPoint-from_clause}
-use Rattle.c104_plan.proofs.KeptUpdates.{parted_at, point_at}
-use Rattle.c104_plan.proofs.switch_image.place_of.Goals as goal
 
-pub returns-clause-place : goal.returns-clause-place
+pub returns-clause-place : Rattle.c104_plan.proofs.switch_image.place_of.Goals.returns-clause-place
 returns-clause-place c front rest below above is =
     let values = c.args.values.now in
     let parted = parted_at values front rest c.args.addr below above is in

@@ -1,8 +1,6 @@
-use Rattle.std.proofs.Common.{◌≡◌, ◌+◌, ◌-◌, ◌*◌, ◌<◌, ◌^◌, ap, ◌∙◌, arith, drop, get_or, refl}
-use Rattle.c104_regs.specs.Groups.{continue_bits}
-use Rattle.c104_regs.specs.Settings.{Settings}
-use Rattle.c104_regs.specs.Values.{bit_value}
-use Rattle.c104_regs.proofs.ContinueLemmas.{bit_at-continue_bits, continue_bits-end, continue_bits-fits}
+use Rattle.c104_regs.{proofs.ContinueLemmas.{bit_at-continue_bits, continue_bits-end, continue_bits-fits}, specs.Groups.continue_bits}
+use Rattle.{c104_regs.specs.{Settings.Settings, Values.bit_value}, std.proofs.Common.{ap, arith, drop, get_or, refl, ◌*◌, ◌+◌, ◌-◌, ◌<◌}}
+use Rattle.std.proofs.Common.{◌^◌, ◌∙◌, ◌≡◌}
 use Rattle.c104_regs.proofs.groups.continues_of.Goals as goal
 
 pub loop-link-init : goal.loop-link-init

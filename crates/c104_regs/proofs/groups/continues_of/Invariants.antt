@@ -1,6 +1,5 @@
 -- The bits are those of the links from here on.
-use Rattle.std.proofs.Common.{◌≡◌, ◌≤◌, drop, length}
-use Rattle.c104_regs.specs.Groups.{continue_bits}
+use Rattle.{c104_regs.specs.Groups.continue_bits, std.proofs.Common.{drop, length, ◌≡◌, ◌≤◌}}
 use Rattle.c104_regs.proofs.groups.continues_of.Given as goal
 
 abbrev pub invariant-loop-link : goal.invariant-loop-link

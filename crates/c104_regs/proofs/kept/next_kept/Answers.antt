@@ -1,7 +1,5 @@
-use Rattle.std.proofs.Common.{◌≡◌, ◌∙◌, ◌-◌, ◌/◌, ap, arith, get_or, inl, inr}
-use Rattle.std.proofs.lemmas.Bool.{cases_lt}
-use Rattle.c104_regs.specs.Settings.{reset_settings}
-use Rattle.c104_regs.proofs.KeptGaps.{gap_none, reset_none}
+use Rattle.{c104_regs.{proofs.KeptGaps.{gap_none, reset_none}, specs.Settings.reset_settings}, std.proofs.Common.{ap, arith, get_or, inl}}
+use Rattle.std.proofs.{Common.{inr, ◌-◌, ◌/◌, ◌∙◌, ◌≡◌}, lemmas.Bool.cases_lt}
 use Rattle.c104_regs.proofs.kept.next_kept.Goals as goal
 
 pub loop-next-init : goal.loop-next-init

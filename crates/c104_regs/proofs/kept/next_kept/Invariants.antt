@@ -1,5 +1,4 @@
-use Rattle.std.proofs.Common.{◌≡◌, ◌≤◌, ◌<◌, ◌-◌, ℕ, None}
-use Rattle.c104_regs.specs.KeptValues.{kept_value}
+use Rattle.{c104_regs.specs.KeptValues.kept_value, std.proofs.Common.{None, ℕ, ◌-◌, ◌<◌, ◌≡◌, ◌≤◌}}
 use Rattle.c104_regs.proofs.kept.next_kept.Given as goal
 
 -- nothing is kept of the addresses that were passed over

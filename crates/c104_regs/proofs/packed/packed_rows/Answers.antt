@@ -1,7 +1,6 @@
-use Rattle.std.proofs.Common.{◌<◌, ◌≡◌, ◌∙◌, ◌++◌, ◌∷◌, [], ap, arith, length, map, sym, take}
-use Rattle.std.proofs.lemmas.List.{get_or_default, length-set, map_more, take_all, take_more_set}
-use Rattle.c104_interval.specs.Selection.{reset_row}
-use Rattle.c104_regs.specs.Packed.{word_of_row}
+use Rattle.{c104_interval.specs.Selection.reset_row, c104_regs.specs.Packed.word_of_row, std.proofs.Common.{[], ap, arith, length, map}}
+use Rattle.std.proofs.{Common.{sym, take, ◌++◌, ◌<◌, ◌∙◌, ◌∷◌, ◌≡◌}, lemmas.List.{get_or_default, length-set, map_more, take_all}}
+use Rattle.std.proofs.lemmas.List.{take_more_set}
 use Rattle.c104_regs.proofs.packed.packed_rows.Goals as goal
 
 pub loop-k-preserved : goal.loop-k-preserved

@@ -1,6 +1,5 @@
-use Rattle.std.proofs.Common.{◌<◌, ◌≡◌, ◌∙◌, ap, arith, length, map, refl, sym, take}
+use Rattle.{c104_regs.specs.Packed.row_of_word, std.proofs.Common.{ap, arith, length, map, refl, sym, take, ◌<◌, ◌∙◌, ◌≡◌}}
 use Rattle.std.proofs.lemmas.List.{length-set, map_more, take_all, take_more_set}
-use Rattle.c104_regs.specs.Packed.{row_of_word}
 use Rattle.c104_regs.proofs.packed.unpacked_rows.Goals as goal
 
 pub loop-k-preserved : goal.loop-k-preserved

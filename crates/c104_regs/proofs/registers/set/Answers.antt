@@ -1,6 +1,5 @@
-use Rattle.std.proofs.Common.{◌∙◌, ◌*◌, ◌%◌, ◌^◌, ap, arith, sym}
-use Rattle.c104_regs.specs.Values.{bit_value}
-use Rattle.c104_regs.proofs.ContinueLemmas.{continue_bits-same, put_fits, put_is, put_least}
+use Rattle.c104_regs.{proofs.ContinueLemmas.{continue_bits-same, put_fits, put_is, put_least}, specs.Values.bit_value}
+use Rattle.std.proofs.Common.{ap, arith, sym, ◌%◌, ◌*◌, ◌^◌, ◌∙◌}
 use Rattle.c104_regs.proofs.registers.set.Goals as goal
 
 pub overflow_sub-continues : goal.overflow_sub-continues

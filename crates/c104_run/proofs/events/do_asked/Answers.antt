@@ -1,17 +1,8 @@
-use Rattle.c104_node.specs.Places.{bases, states, Shown}
-use Rattle.c104_run.specs.KnownWires.{KnowWires}
-use Rattle.std.proofs.Common.{List, Result, map, subst, sym, ap, ◌∙◌}
-use Rattle.c104_plan.specs.Plans.{Plan}
-use Rattle.c104_event.specs.declared.faults.EventFault.{EventFault}
-use Rattle.c104_switch.specs.Actions.{Reply}
-use Rattle.c104_node.proofs.PlaceSteps.{err_is}
-use Rattle.c104_run.specs.AskedActs.{acts_asked}
-use Rattle.c104_run.specs.EventsAtPlaces.{ActsDone, EventDone}
-use Rattle.c104_run.specs.Meters.{meter_if, own_reply}
-use Rattle.c104_run.specs.NetRecords.{is_done}
-use Rattle.c104_run.specs.Network.{network_of}
-use Rattle.c104_run.proofs.ActAnswers.{event_done}
-use Rattle.c104_run.proofs.MeteredSteps.{told_meter}
+use Rattle.{c104_event.specs.declared.faults.EventFault.EventFault, c104_node.{proofs.PlaceSteps.err_is, specs.Places.{Shown, bases}}}
+use Rattle.{c104_node.specs.Places.states, c104_plan.specs.Plans.Plan, c104_run.proofs.{ActAnswers.event_done, MeteredSteps.told_meter}}
+use Rattle.c104_run.specs.{AskedActs.acts_asked, EventsAtPlaces.{ActsDone, EventDone}, KnownWires.KnowWires, Meters.{meter_if, own_reply}}
+use Rattle.{c104_run.specs.{NetRecords.is_done, Network.network_of}, c104_switch.specs.Actions.Reply, std.proofs.Common.{List, Result, ap}}
+use Rattle.std.proofs.Common.{map, subst, sym, ◌∙◌}
 use Rattle.c104_run.proofs.events.do_asked.Goals as goal
 
 pub returns-clause-done : goal.returns-clause-done

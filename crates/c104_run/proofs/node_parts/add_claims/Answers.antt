@@ -1,8 +1,5 @@
-use Rattle.std.proofs.Common.{◌∙◌, ◌++◌, List, ap, arith, ℕ}
-use Rattle.std.specs.List.{flat_map}
-use Rattle.c104_run.specs.Rounds.{claims_of}
-use Rattle.c104_plan.proofs.RangeLists.{flat_next}
-use Rattle.c104_run.proofs.RoundLists.{links_passed}
+use Rattle.{c104_plan.proofs.RangeLists.flat_next, c104_run.{proofs.RoundLists.links_passed, specs.Rounds.claims_of}}
+use Rattle.std.{proofs.Common.{List, ap, arith, ℕ, ◌++◌, ◌∙◌}, specs.List.flat_map}
 use Rattle.c104_run.proofs.node_parts.add_claims.Goals as goal
 
 pub loop-input-preserved : goal.loop-input-preserved

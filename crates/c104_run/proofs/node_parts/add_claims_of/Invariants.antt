@@ -1,8 +1,5 @@
-use Rattle.std.proofs.Common.{◌≡◌, ◌++◌, map}
-use Rattle.std.specs.List.{range_with_len}
-use Rattle.c104_event.specs.declared.events.Event.TheVariants as event
-use Rattle.c104_run.proofs.node_parts.add_claims_of.Given as goal
+use Rattle.{c104_event.specs.declared.events.Event.Event, std.{proofs.Common.{map, ◌++◌, ◌≡◌}, specs.List.range_with_len}}
 
 -- the claims so far
-abbrev pub invariant-loop-output : goal.invariant-loop-output
-invariant-loop-output l = l.events.items ≡ l.initial.events.items ++ map (event.Claim l.switch l.input) (range_with_len 0 l.output)
+abbrev pub invariant-loop-output : Rattle.c104_run.proofs.node_parts.add_claims_of.Given.invariant-loop-output
+invariant-loop-output l = l.events.items ≡ l.initial.events.items ++ map (Event.Claim l.switch l.input) (range_with_len 0 l.output)

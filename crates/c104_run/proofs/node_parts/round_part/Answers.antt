@@ -1,11 +1,7 @@
-use Rattle.std.proofs.Common.{◌∙◌, ◌++◌, List, ap, sym}
-use Rattle.c104_event.specs.declared.events.Event.{Event}
-use Rattle.c104_plan.specs.declared.ports.Port.{Port}
-use Rattle.c104_run.specs.NodeParts.{events_of}
-use Rattle.c104_run.proofs.NodeParts.{round_part_is}
-use Rattle.c104_run.proofs.node_parts.round_part.Goals as goal
+use Rattle.{c104_event.specs.declared.events.Event.Event, c104_plan.specs.declared.ports.Port.Port, c104_run.proofs.NodeParts.round_part_is}
+use Rattle.{c104_run.specs.NodeParts.events_of, std.proofs.Common.{List, ap, sym, ◌++◌, ◌∙◌}}
 
-pub returns : goal.returns
+pub returns : Rattle.c104_run.proofs.node_parts.round_part.Goals.returns
 returns c =
     c.in_ok-add_events.ensures
     ∙ ap (λ (es : List Event). es ++ events_of c.args.plan.now c.args.node c.deref.result.now) c.new-events.ensures.items

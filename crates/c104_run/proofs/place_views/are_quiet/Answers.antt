@@ -1,8 +1,5 @@
-use Rattle.std.proofs.Common.{◌∙◌, map, refl, subst, sym, arith}
-use Rattle.c104_node.specs.Places.{Shown, states}
-use Rattle.c104_node.specs.Quiet.{IsQuietNode}
-use Rattle.c104_node.proofs.PlaceSteps.{as_many, read_item}
-use Rattle.c104_node.proofs.QuietNodes.{quiet_next}
+use Rattle.c104_node.{proofs.{PlaceSteps.{as_many, read_item}, QuietNodes.quiet_next}, specs.{Places.{Shown, states}, Quiet.IsQuietNode}}
+use Rattle.std.proofs.Common.{arith, map, refl, subst, sym, ◌∙◌}
 use Rattle.c104_run.proofs.place_views.are_quiet.Goals as goal
 
 -- this node is quiet too

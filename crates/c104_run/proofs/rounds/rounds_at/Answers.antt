@@ -1,12 +1,6 @@
-use Rattle.c104_run.proofs.KnownWires.{known_after}
-use Rattle.std.proofs.Common.{Ok, ◌≡◌, ◌∙◌, ap, arith, inl, refl, sym, map}
-use Rattle.c104_run.specs.Meters.{metered_apply, metered_of}
-use Rattle.c104_run.specs.EventRuns.{run_events}
-use Rattle.c104_run.specs.Rounds.{round, rounds}
-use Rattle.c104_node.proofs.PlaceSteps.{err_is}
-use Rattle.c104_node.specs.Places.{states}
-use Rattle.c104_run.proofs.LiveRounds.{live_all}
-use Rattle.c104_run.proofs.RoundsTaken.{round_taken, round_refused, round_idle}
+use Rattle.{c104_node.{proofs.PlaceSteps.err_is, specs.Places.states}, c104_run.proofs.{KnownWires.known_after, LiveRounds.live_all}}
+use Rattle.c104_run.{proofs.RoundsTaken.{round_idle, round_refused, round_taken}, specs.{EventRuns.run_events, Meters.metered_apply}}
+use Rattle.{c104_run.specs.{Meters.metered_of, Rounds.{round, rounds}}, std.proofs.Common.{Ok, ap, arith, inl, map, refl, sym, ◌∙◌, ◌≡◌}}
 use Rattle.c104_run.proofs.rounds.rounds_at.Goals as goal
 
 pub loop-round-init : goal.loop-round-init

@@ -1,6 +1,4 @@
-use Rattle.std.proofs.Common.{◌-◌, ◌+◌, length, map}
-use Rattle.c104_node.specs.Places.{states}
-use Rattle.c104_run.specs.LivePlaces.{AreLive}
+use Rattle.{c104_node.specs.Places.states, c104_run.specs.LivePlaces.AreLive, std.proofs.Common.{length, map, ◌+◌, ◌-◌}}
 use Rattle.c104_run.proofs.rounds.take_out_idle.Given as goal
 
 -- the places that are left are those at which something may begin

@@ -1,15 +1,8 @@
-use Rattle.std.proofs.Common.{◌≡◌, ◌∙◌, ◌++◌, List, [], ◌∷◌, length, length-append, map, ap, arith}
-use Rattle.std.proofs.lemmas.List.{map-append}
-use Rattle.std.proofs.lemmas.List.Elements.{All-push, All-same}
-use Rattle.std.specs.Option.{option_to_list}
-use Rattle.c104_token.specs.declared.tokens.Token.{Token}
-use Rattle.c104_node.specs.declared.acts.Entry.{Entry}
-use Rattle.c104_node.specs.declared.starts.NodeStart.{NodeStart}
-use Rattle.c104_node.specs.Nodes.{terminals_of}
-use Rattle.c104_node.specs.Records.{node_start, node_state, node_trace, IsRecorded, NodeRecord, NodeRoom}
-use Rattle.c104_node.specs.Terminals.{Terminal}
-use Rattle.c104_run.proofs.Finishing.{terminals_popped}
-use Rattle.c104_run.proofs.RunPartLists.{left_on, left_maybe}
+use Rattle.c104_node.specs.{Nodes.terminals_of, Records.{IsRecorded, NodeRecord, NodeRoom, node_start, node_state, node_trace}}
+use Rattle.c104_node.specs.{Terminals.Terminal, declared.{acts.Entry.Entry, starts.NodeStart.NodeStart}}
+use Rattle.{c104_run.proofs.{Finishing.terminals_popped, RunPartLists.{left_maybe, left_on}}, c104_token.specs.declared.tokens.Token.Token}
+use Rattle.std.proofs.{Common.{List, [], ap, arith, length, length-append, map, ◌++◌, ◌∙◌, ◌∷◌, ◌≡◌}, lemmas.List.Elements.All-push}
+use Rattle.std.{proofs.lemmas.List.{Elements.All-same, map-append}, specs.Option.option_to_list}
 use Rattle.c104_run.proofs.run_parts.parts_of.Goals as goal
 
 pub push_terminal-requires : goal.push_terminal-requires

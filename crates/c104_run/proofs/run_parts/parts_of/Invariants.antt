@@ -1,7 +1,5 @@
-use Rattle.std.proofs.Common.{◌≡◌, ◌≤◌, ◌+◌, ◌++◌, All, length, map, reverse}
-use Rattle.std.specs.Vec.{vec_capacity}
-use Rattle.c104_node.specs.Nodes.{terminals_of}
-use Rattle.c104_node.specs.Records.{node_start, node_state, node_trace, IsRecorded, NodeRecord, NodeRoom}
+use Rattle.c104_node.specs.{Nodes.terminals_of, Records.{IsRecorded, NodeRecord, NodeRoom, node_start, node_state, node_trace}}
+use Rattle.std.{proofs.Common.{All, length, map, reverse, ◌++◌, ◌+◌, ◌≡◌, ◌≤◌}, specs.Vec.vec_capacity}
 use Rattle.c104_run.proofs.run_parts.parts_of.Given as goal
 
 -- what was left so far, the last first, comes after what is left of the other nodes

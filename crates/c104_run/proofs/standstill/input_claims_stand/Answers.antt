@@ -1,23 +1,19 @@
-use Rattle.std.proofs.Common.{arith, map, sym, ◌∙◌}
-use Rattle.c104_run.specs.Network.{network_of}
-use Rattle.c104_run.specs.Standstill.{has_reason}
-use Rattle.c104_run.proofs.PartRuns.{single}
-use Rattle.c104_event.specs.declared.events.Event.TheVariants as event
-use Rattle.c104_run.proofs.StillParts.{left_first, left_next, left_none, left_stops, of_claims, one_event}
-use Rattle.c104_node.specs.Places.{states}
+use Rattle.{c104_event.specs.declared.events.Event.Event, c104_node.specs.Places.states, c104_run.proofs.PartRuns.single}
+use Rattle.c104_run.{proofs.StillParts.{left_first, left_next, left_none, left_stops, of_claims, one_event}, specs.Network.network_of}
+use Rattle.{c104_run.specs.Standstill.has_reason, std.proofs.Common.{arith, map, sym, ◌∙◌}}
 use Rattle.c104_run.proofs.standstill.input_claims_stand.Goals as goal
 
 pub loop-output-init : goal.loop-output-init
-loop-output-init g c = left_first (has_reason (network_of c.args.wires.now (states (map g.P.Place.shown c.args.places.now)))) (single (event.Claim c.args.switch c.args.input)) 32
+loop-output-init g c = left_first (has_reason (network_of c.args.wires.now (states (map g.P.Place.shown c.args.places.now)))) (single (Event.Claim c.args.switch c.args.input)) 32
 
 pub loop-output-preserved : goal.loop-output-preserved
 loop-output-preserved g c =
-    left_next (has_reason (network_of c.args.wires.now (states (map g.P.Place.shown c.args.places.now)))) (single (event.Claim c.args.switch c.args.input)) 32 c.loop-output.output (omega (arith, c.loop-output-test.true)) c.loop-output.invariant (one_event (has_reason (network_of c.args.wires.now (states (map g.P.Place.shown c.args.places.now)))) (event.Claim c.args.switch c.args.input c.loop-output.output) ∙ sym c.has_reason.ensures ∙ c.if-not-has_reason.false)
+    left_next (has_reason (network_of c.args.wires.now (states (map g.P.Place.shown c.args.places.now)))) (single (Event.Claim c.args.switch c.args.input)) 32 c.loop-output.output (omega (arith, c.loop-output-test.true)) c.loop-output.invariant (one_event (has_reason (network_of c.args.wires.now (states (map g.P.Place.shown c.args.places.now)))) (Event.Claim c.args.switch c.args.input c.loop-output.output) ∙ sym c.has_reason.ensures ∙ c.if-not-has_reason.false)
 
 pub returns-then-not-has_reason : goal.returns-then-not-has_reason
 returns-then-not-has_reason g c =
-    left_stops (has_reason (network_of c.args.wires.now (states (map g.P.Place.shown c.args.places.now)))) (single (event.Claim c.args.switch c.args.input)) 32 c.loop-output.output (omega (arith, c.loop-output-test.true)) c.loop-output.invariant (one_event (has_reason (network_of c.args.wires.now (states (map g.P.Place.shown c.args.places.now)))) (event.Claim c.args.switch c.args.input c.loop-output.output) ∙ sym c.has_reason.ensures ∙ c.if-not-has_reason.true) ∙ of_claims (has_reason (network_of c.args.wires.now (states (map g.P.Place.shown c.args.places.now)))) c.args.switch c.args.input
+    left_stops (has_reason (network_of c.args.wires.now (states (map g.P.Place.shown c.args.places.now)))) (single (Event.Claim c.args.switch c.args.input)) 32 c.loop-output.output (omega (arith, c.loop-output-test.true)) c.loop-output.invariant (one_event (has_reason (network_of c.args.wires.now (states (map g.P.Place.shown c.args.places.now)))) (Event.Claim c.args.switch c.args.input c.loop-output.output) ∙ sym c.has_reason.ensures ∙ c.if-not-has_reason.true) ∙ of_claims (has_reason (network_of c.args.wires.now (states (map g.P.Place.shown c.args.places.now)))) c.args.switch c.args.input
 
 pub returns : goal.returns
 returns g c =
-    left_none (has_reason (network_of c.args.wires.now (states (map g.P.Place.shown c.args.places.now)))) (single (event.Claim c.args.switch c.args.input)) 32 c.loop-output.output (omega (arith)) c.loop-output.invariant ∙ of_claims (has_reason (network_of c.args.wires.now (states (map g.P.Place.shown c.args.places.now)))) c.args.switch c.args.input
+    left_none (has_reason (network_of c.args.wires.now (states (map g.P.Place.shown c.args.places.now)))) (single (Event.Claim c.args.switch c.args.input)) 32 c.loop-output.output (omega (arith)) c.loop-output.invariant ∙ of_claims (has_reason (network_of c.args.wires.now (states (map g.P.Place.shown c.args.places.now)))) c.args.switch c.args.input

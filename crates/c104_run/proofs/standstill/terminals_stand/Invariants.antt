@@ -1,12 +1,6 @@
-use Rattle.std.proofs.Common.{map, ◌≡◌, length}
-use Rattle.c104_run.specs.Network.{network_of}
-use Rattle.c104_run.specs.Standstill.{has_reason}
-use Rattle.c104_run.proofs.StillParts.{left, tested}
-use Rattle.c104_run.proofs.PortWalks.{wired_by}
-use Rattle.c104_plan.specs.declared.ports.Port.TheVariants as port
-use Rattle.c104_node.specs.Places.{states}
-use Rattle.c104_run.proofs.standstill.terminals_stand.Given as goal
+use Rattle.{c104_node.specs.Places.states, c104_plan.specs.declared.ports.Port.Port, c104_run.proofs.{PortWalks.wired_by, StillParts.left}}
+use Rattle.{c104_run.{proofs.StillParts.tested, specs.{Network.network_of, Standstill.has_reason}}, std.proofs.Common.{length, map, ◌≡◌}}
 
 -- those that are left tell it
-abbrev pub invariant-loop-terminal : goal.invariant-loop-terminal
-invariant-loop-terminal g l = left (has_reason (network_of l.wires (states (map g.P.Place.shown l.places)))) (wired_by l.wires l.part port.Terminal) (length l.wires.terminals) l.terminal ≡ tested (has_reason (network_of l.wires (states (map g.P.Place.shown l.places)))) (wired_by l.wires l.part port.Terminal) (length l.wires.terminals)
+abbrev pub invariant-loop-terminal : Rattle.c104_run.proofs.standstill.terminals_stand.Given.invariant-loop-terminal
+invariant-loop-terminal g l = left (has_reason (network_of l.wires (states (map g.P.Place.shown l.places)))) (wired_by l.wires l.part Port.Terminal) (length l.wires.terminals) l.terminal ≡ tested (has_reason (network_of l.wires (states (map g.P.Place.shown l.places)))) (wired_by l.wires l.part Port.Terminal) (length l.wires.terminals)

@@ -1,9 +1,6 @@
-use Rattle.std.proofs.Common.{All, Bor, List, subst, ℕ}
-use Rattle.std.proofs.lemmas.List.{take_all}
-use Rattle.std.proofs.lemmas.List.Elements.{All-map, All-more}
-use Rattle.c104_check.specs.Routes.{routes_of}
-use Rattle.c104_script.specs.Script.{read_script_line}
-use Rattle.c104_run_commands.specs.HarmlessScripts.{IsHarmless}
+use Rattle.{c104_check.specs.Routes.routes_of, c104_run_commands.specs.HarmlessScripts.IsHarmless}
+use Rattle.{c104_script.specs.Script.read_script_line, std.proofs.{Common.{All, Bor, List, subst, ℕ}, lemmas.List.Elements.All-map}}
+use Rattle.std.proofs.lemmas.List.{Elements.All-more, take_all}
 use Rattle.c104_run_commands.proofs.harmless.are_harmless.Goals as goal
 
 pub loop-line-preserved : goal.loop-line-preserved

@@ -1,12 +1,8 @@
-use Rattle.std.proofs.Common.{ap, ◌∙◌, List, Some, length, refl, slice_get, subst, sym, take, ◌≡◌}
-use Rattle.std.proofs.lemmas.Option.{slice_get_read}
-use Rattle.c104_regs.specs.declared.settings.Settings.{Settings}
-use Rattle.c104_switch.specs.Headers.{header_number}
-use Rattle.c104_run_commands.specs.HarmlessScripts.{IsLabel}
-use Rattle.c104_run_commands.proofs.HarmlessLemmas.{may_send}
-use Rattle.c104_run_commands.proofs.harmless.may_be_sent.Goals as goal
+use Rattle.{c104_regs.specs.declared.settings.Settings.Settings, c104_run_commands.proofs.HarmlessLemmas.may_send}
+use Rattle.{c104_run_commands.specs.HarmlessScripts.IsLabel, c104_switch.specs.Headers.header_number, std.proofs.Common.{List, Some, ap}}
+use Rattle.std.proofs.{Common.{length, refl, slice_get, subst, sym, take, ◌∙◌, ◌≡◌}, lemmas.Option.slice_get_read}
 
-pub returns-else-not-randomize : goal.returns-else-not-randomize
+pub returns-else-not-randomize : Rattle.c104_run_commands.proofs.harmless.may_be_sent.Goals.returns-else-not-randomize
 returns-else-not-randomize c =
     let links : List Settings = c.in-Some-settings.links.now in
     let found = c.in-Some-get.ensures.lookup in

@@ -1,6 +1,4 @@
-use Rattle.std.proofs.Common.{◌^◌, ◌<◌, arith}
-use Rattle.std.proofs.lemmas.Grind.{common_steps}
-use Rattle.c104_script.proofs.HexNumbers.{below_most}
+use Rattle.{c104_script.proofs.HexNumbers.below_most, std.proofs.{Common.{arith, ◌<◌, ◌^◌}, lemmas.Grind.common_steps}}
 use Rattle.c104_script.proofs.hex_words.read_hex.Goals as goal
 
 pub overflow_mul-value : goal.overflow_mul-value

@@ -1,5 +1,4 @@
-use Rattle.std.proofs.Common.{arith}
-use Rattle.c104_script.proofs.FirstPart.{gives_all, gives_last, gives_on, none_read, read_on}
+use Rattle.{c104_script.proofs.FirstPart.{gives_all, gives_last, gives_on, none_read, read_on}, std.proofs.Common.arith}
 use Rattle.c104_script.proofs.parts.read_first_part.Goals as goal
 
 pub loop-left-init : goal.loop-left-init

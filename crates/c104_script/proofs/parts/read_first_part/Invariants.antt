@@ -1,9 +1,7 @@
 -- what is left gives the parts of the whole text, and what was taken are the front and the line, in which the
 -- line `script` has not ended
-use Rattle.std.proofs.Common.{◌≡◌, ◌+◌, length}
+use Rattle.{c104_plan.specs.TextCut.most_bytes, c104_script.proofs.FirstPart.{GivesParts, HasRead}, std.proofs.Common.{length, ◌+◌, ◌≡◌}}
 use Rattle.std.specs.Io.KnownBytes.{prepend_known}
-use Rattle.c104_plan.specs.TextCut.{most_bytes}
-use Rattle.c104_script.proofs.FirstPart.{GivesParts, HasRead}
 use Rattle.c104_script.proofs.parts.read_first_part.Given as goal
 
 abbrev pub invariant-loop-left : goal.invariant-loop-left

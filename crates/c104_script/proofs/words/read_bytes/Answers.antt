@@ -1,6 +1,5 @@
-use Rattle.std.proofs.Common.{◌∙◌, ◌+◌, ap, sym, drop, List, ℕ, Ok}
-use Rattle.c104_script.specs.Script.{bytes_after}
-use Rattle.c104_script.proofs.ControlLine.{next_byte, no_byte, all_read, texts}
+use Rattle.{c104_script.{proofs.ControlLine.{all_read, next_byte, no_byte, texts}, specs.Script.bytes_after}, std.proofs.Common.{List, Ok}}
+use Rattle.std.proofs.Common.{ap, drop, sym, ℕ, ◌+◌, ◌∙◌}
 use Rattle.c104_script.proofs.words.read_bytes.Goals as goal
 
 pub returns-in_default : goal.returns-in_default

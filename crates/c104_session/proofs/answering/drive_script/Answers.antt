@@ -1,14 +1,13 @@
-use Rattle.c104_stream.specs.declared.halt.Halt.TheVariants as halt
-use Rattle.c104_stream.proofs.ScriptEnds.{err_is, nothing_answered, script_flushed, script_unflushed}
-use Rattle.c104_session.specs.Driven.{driven_outcome}
+use Rattle.{c104_session.specs.Driven.driven_outcome, c104_stream.proofs.ScriptEnds.{err_is, nothing_answered, script_flushed}}
+use Rattle.c104_stream.{proofs.ScriptEnds.script_unflushed, specs.declared.halt.Halt.Halt}
 use Rattle.c104_session.proofs.answering.drive_script.Goals as goal
 
 pub returns-in_err-kept : goal.returns-in_err-kept
-returns-in_err-kept g c = rw (err_is _ halt.NoMemory c.from_residual.ensures) (nothing_answered (driven_outcome g.D.Driver.drives) _ _ _ _)
+returns-in_err-kept g c = rw (err_is _ Halt.NoMemory c.from_residual.ensures) (nothing_answered (driven_outcome g.D.Driver.drives) _ _ _ _)
 
 pub returns-in_err-flush : goal.returns-in_err-flush
 returns-in_err-flush g c =
-    rw (err_is _ halt.CannotWrite c.from_residual-in_err-flush.ensures)
+    rw (err_is _ Halt.CannotWrite c.from_residual-in_err-flush.ensures)
     (script_unflushed (driven_outcome g.D.Driver.drives) _ _ _ _ _ _ _ _ _ c.answer_lines-answered.ensures c.in_err-flush.ensures.prefix)
 
 pub returns : goal.returns

@@ -1,7 +1,6 @@
+use Rattle.{c104_session.specs.Driven.driven_outcome, c104_stream.proofs.ScriptEnds.{byte_halts, err_is, last_halts, line_halts}}
+use Rattle.c104_stream.proofs.{ScriptEnds.{read_halts, script_ends, script_is_long}, ScriptSoFar.{reached_bytes, reached_line, reached_on}}
 use Rattle.std.proofs.Common.{arith}
-use Rattle.c104_stream.proofs.ScriptEnds.{err_is, read_halts, byte_halts, line_halts, last_halts, script_ends, script_is_long}
-use Rattle.c104_stream.proofs.ScriptSoFar.{reached_bytes, reached_line, reached_on}
-use Rattle.c104_session.specs.Driven.{driven_outcome}
 use Rattle.c104_session.proofs.answering.read_and_answer.Goals as goal
 
 pub returns-in_err-byte : goal.returns-in_err-byte

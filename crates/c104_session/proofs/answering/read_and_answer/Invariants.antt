@@ -1,6 +1,4 @@
-use Rattle.std.specs.Io.KnownBytes.{prepend_known}
-use Rattle.c104_stream.proofs.ScriptSoFar.{Reached}
-use Rattle.c104_session.specs.Driven.{driven_outcome}
+use Rattle.{c104_session.specs.Driven.driven_outcome, c104_stream.proofs.ScriptSoFar.Reached, std.specs.Io.KnownBytes.prepend_known}
 use Rattle.c104_session.proofs.answering.read_and_answer.Given as goal
 
 -- how far the script is read and answered

@@ -1,9 +1,6 @@
-use Rattle.std.proofs.Common.{subst}
-use Rattle.c104_session.specs.CountedRuns.{GrewBehind, IsCountsText}
-use Rattle.c104_session.proofs.CountedScripts.{printed_behind}
-use Rattle.c104_session.proofs.counted_runs.counted_text.Goals as goal
+use Rattle.{c104_session.{proofs.CountedScripts.printed_behind, specs.CountedRuns.{GrewBehind, IsCountsText}}, std.proofs.Common.subst}
 
-pub returns : goal.returns
+pub returns : Rattle.c104_session.proofs.counted_runs.counted_text.Goals.returns
 returns g c =
     printed_behind c.args.printing c.args.session.now.net c.args.stats.now c.in_ok-text.text.items
     (subst (λ plan. IsCountsText c.args.printing plan c.args.stats.now c.in_ok-text.text.items) c.plan.ensures c.in_ok-text.ensures)

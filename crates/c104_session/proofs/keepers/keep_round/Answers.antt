@@ -1,9 +1,6 @@
-use Rattle.std.proofs.Common.{Err, subst}
-use Rattle.c104_net.specs.MeteredRecords.{at_meter, record_metered}
-use Rattle.c104_run.specs.RoundParts.{PartEnds}
-use Rattle.c104_run.specs.Rounds.{round}
-use Rattle.c104_stream.proofs.ScriptEnds.{err_is}
-use Rattle.c104_session.proofs.KeptLoops.{round_halted, round_unbegun}
+use Rattle.{c104_net.specs.MeteredRecords.{at_meter, record_metered}, c104_run.specs.{RoundParts.PartEnds, Rounds.round}}
+use Rattle.{c104_session.proofs.KeptLoops.{round_halted, round_unbegun}, c104_stream.proofs.ScriptEnds.err_is, std.proofs.Common.Err}
+use Rattle.std.proofs.Common.{subst}
 use Rattle.c104_session.proofs.keepers.keep_round.Goals as goal
 
 pub returns-in_err-begin : goal.returns-in_err-begin

@@ -1,6 +1,4 @@
-use Rattle.c104_session.proofs.TextsWritten.{wrote_next, wrote_part}
-use Rattle.c104_session.specs.Shown.{joined_texts}
-use Rattle.c104_stream.specs.Writing.{AppendsPrefix}
+use Rattle.{c104_session.{proofs.TextsWritten.{wrote_next, wrote_part}, specs.Shown.joined_texts}, c104_stream.specs.Writing.AppendsPrefix}
 use Rattle.std.proofs.Common.{rules}
 use Rattle.c104_session.proofs.runs.write_texts.Goals as goal
 

@@ -1,5 +1,4 @@
-use Rattle.std.proofs.Common.{◌∙◌, Ok, Err}
-use Rattle.c104_session.proofs.Starts.{started}
+use Rattle.{c104_session.proofs.Starts.started, std.proofs.Common.{Err, Ok, ◌∙◌}}
 use Rattle.c104_session.proofs.starting.begin_loaded.Goals as goal
 
 pub out_of_memory-requires : goal.out_of_memory-requires

@@ -1,6 +1,5 @@
-use Rattle.std.proofs.Common.{ap, map, ◌∙◌}
-use Rattle.c104_token.specs.Packets.{packet_tokens}
-use Rattle.c104_session.proofs.PacketLines.{got, lines_end, lines_next}
+use Rattle.{c104_session.proofs.PacketLines.{got, lines_end, lines_next}, c104_token.specs.Packets.packet_tokens, std.proofs.Common.ap}
+use Rattle.std.proofs.Common.{map, ◌∙◌}
 use Rattle.c104_session.proofs.summary.add_packets.Goals as goal
 
 -- the line of a packet joins

@@ -1,8 +1,6 @@
-use Rattle.std.proofs.Common.{IfOk, subst, sym}
-use Rattle.c104_session.specs.TimedRuns.{IsAskedText}
-use Rattle.c104_session.proofs.timed_runs.asked_text.Goals as goal
+use Rattle.{c104_session.specs.TimedRuns.IsAskedText, std.proofs.Common.{IfOk, subst, sym}}
 
-pub returns-in-Some : goal.returns-in-Some
+pub returns-in-Some : Rattle.c104_session.proofs.timed_runs.asked_text.Goals.returns-in-Some
 returns-in-Some c =
     subst (λ p. IfOk c.table_text.result (λ timed.
     IsAskedText c.args.asked.format c.args.plan.now c.args.timeline.now p timed.text.items timed.is_refused))

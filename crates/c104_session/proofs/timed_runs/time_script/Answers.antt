@@ -1,9 +1,6 @@
-use Rattle.std.proofs.Common.{ap, ◌∙◌}
-use Rattle.c104_timeline.specs.Timelines.{new_timeline}
-use Rattle.c104_session.proofs.TimedScripts.{script_timed}
-use Rattle.c104_session.proofs.timed_runs.time_script.Goals as goal
+use Rattle.{c104_session.proofs.TimedScripts.script_timed, c104_timeline.specs.Timelines.new_timeline, std.proofs.Common.{ap, ◌∙◌}}
 
-pub returns-clause-text : goal.returns-clause-text
+pub returns-clause-text : Rattle.c104_session.proofs.timed_runs.time_script.Goals.returns-clause-text
 returns-clause-text g c =
     script_timed c.args.asked c.args.session.now c.drive_script.new.session c.in_ok-timeline.timeline c.drive_script.new.driver _ _ _
     (c.in_ok-timeline.ensures ∙ ap new_timeline c.plan.ensures)

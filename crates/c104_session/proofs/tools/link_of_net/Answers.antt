@@ -1,5 +1,4 @@
 use Rattle.c104_tools.proofs.NetRuns.{link_ends}
-use Rattle.c104_session.proofs.tools.link_of_net.Goals as goal
 
-pub returns : goal.returns
+pub returns : Rattle.c104_session.proofs.tools.link_of_net.Goals.returns
 returns c = link_ends _ _ c.args.switch c.args.link _ c.read_link.ensures.unknown c.read_link.ensures.not_asked c.read_link.ensures.due

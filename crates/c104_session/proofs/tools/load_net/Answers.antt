@@ -1,5 +1,4 @@
-use Rattle.std.proofs.Common.{refl}
-use Rattle.c104_tools.proofs.NetRuns.{load_ends}
+use Rattle.{c104_tools.proofs.NetRuns.load_ends, std.proofs.Common.refl}
 use Rattle.c104_session.proofs.tools.load_net.Goals as goal
 
 pub returns-clause-ends : goal.returns-clause-ends

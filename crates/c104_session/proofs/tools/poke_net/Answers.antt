@@ -1,5 +1,4 @@
 use Rattle.c104_tools.proofs.NetRuns.{poke_ends}
-use Rattle.c104_session.proofs.tools.poke_net.Goals as goal
 
-pub returns : goal.returns
+pub returns : Rattle.c104_session.proofs.tools.poke_net.Goals.returns
 returns c = poke_ends _ _ c.args.switch c.args.addr c.args.value _ c.write_register.ensures.unknown c.write_register.ensures.not_asked c.write_register.ensures.due

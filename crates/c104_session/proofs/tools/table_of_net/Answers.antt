@@ -1,5 +1,4 @@
 use Rattle.c104_tools.proofs.NetRuns.{table_ends}
-use Rattle.c104_session.proofs.tools.table_of_net.Goals as goal
 
-pub returns : goal.returns
+pub returns : Rattle.c104_session.proofs.tools.table_of_net.Goals.returns
 returns c = table_ends _ _ c.args.switch c.args.link _ c.table_of.ensures.unknown c.table_of.ensures.not_asked c.table_of.ensures.due

@@ -1,5 +1,4 @@
 use Rattle.c104_tools.proofs.NetRuns.{verify_ends}
-use Rattle.c104_session.proofs.tools.verify_net.Goals as goal
 
-pub returns : goal.returns
+pub returns : Rattle.c104_session.proofs.tools.verify_net.Goals.returns
 returns c = verify_ends _ _ c.args.image.now _ c.verify.ensures.unfitting c.verify.ensures.not_asked c.verify.ensures.due

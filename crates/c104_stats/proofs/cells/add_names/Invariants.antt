@@ -1,8 +1,5 @@
-use Rattle.std.proofs.Common.{◌≡◌, map, take}
-use Rattle.c104_stats.specs.Cells.{shown, Shown}
-use Rattle.c104_stats.specs.Columns.{column_name, Column}
-use Rattle.c104_stats.proofs.cells.add_names.Given as goal
+use Rattle.{c104_stats.specs.{Cells.{Shown, shown}, Columns.{Column, column_name}}, std.proofs.Common.{map, take, ◌≡◌}}
 
 -- the names so far
-abbrev pub invariant-loop-column : goal.invariant-loop-column
+abbrev pub invariant-loop-column : Rattle.c104_stats.proofs.cells.add_names.Given.invariant-loop-column
 invariant-loop-column l = map shown l.cells.items ≡ map (λ (c : Column). Shown.Word c (column_name c)) (take l.column-index l.columns)

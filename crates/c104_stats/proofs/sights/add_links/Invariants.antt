@@ -1,11 +1,7 @@
-use Rattle.std.proofs.Common.{◌≡◌}
-use Rattle.c104_token.specs.Kinds.{plain_kind}
-use Rattle.c104_run.specs.NetViews.{network_link_view}
-use Rattle.c104_stats.specs.Numbers.{each_number}
-use Rattle.c104_stats.specs.Sights.{link_levels}
-use Rattle.c104_stats.proofs.sights.add_links.Given as goal
+use Rattle.{c104_run.specs.NetViews.network_link_view, c104_stats.specs.{Numbers.each_number, Sights.link_levels}}
+use Rattle.{c104_token.specs.Kinds.plain_kind, std.proofs.Common.◌≡◌}
 
 -- those so far
-abbrev pub invariant-loop-link : goal.invariant-loop-link
+abbrev pub invariant-loop-link : Rattle.c104_stats.proofs.sights.add_links.Given.invariant-loop-link
 invariant-loop-link l =
     l.levels ≡ each_number (λ k. link_levels (network_link_view plain_kind l.net.network l.switch k)) l.link l.initial.levels

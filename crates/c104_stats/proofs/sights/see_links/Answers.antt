@@ -1,7 +1,4 @@
-use Rattle.std.proofs.Common.{arith}
-use Rattle.c104_stats.specs.Sights.{wired_seen}
-use Rattle.c104_stats.proofs.NumberSteps.{none_yet}
-use Rattle.c104_stats.proofs.WiredSteps.{seen_all, seen_next}
+use Rattle.{c104_stats.{proofs.{NumberSteps.none_yet, WiredSteps.{seen_all, seen_next}}, specs.Sights.wired_seen}, std.proofs.Common.arith}
 use Rattle.c104_stats.proofs.sights.see_links.Goals as goal
 
 pub loop-link-init : goal.loop-link-init

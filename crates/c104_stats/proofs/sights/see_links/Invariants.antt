@@ -1,6 +1,4 @@
-use Rattle.std.proofs.Common.{◌≡◌, ◌≤◌, ◌-◌}
-use Rattle.c104_stats.specs.Numbers.{each_number}
-use Rattle.c104_stats.specs.Sights.{wired_seen}
+use Rattle.{c104_stats.specs.{Numbers.each_number, Sights.wired_seen}, std.proofs.Common.{◌-◌, ◌≡◌, ◌≤◌}}
 use Rattle.c104_stats.proofs.sights.see_links.Given as goal
 
 -- those so far

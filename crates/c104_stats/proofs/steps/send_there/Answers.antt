@@ -1,5 +1,4 @@
-use Rattle.std.proofs.Common.{◌++◌, ◌∷◌, []}
-use Rattle.c104_stats.proofs.SenderSteps.{changed_if, kept_if}
+use Rattle.{c104_stats.proofs.SenderSteps.{changed_if, kept_if}, std.proofs.Common.{[], ◌++◌, ◌∷◌}}
 use Rattle.c104_stats.proofs.steps.send_there.Goals as goal
 
 pub returns-clause-sent : goal.returns-clause-sent

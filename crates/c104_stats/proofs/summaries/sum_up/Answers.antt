@@ -1,8 +1,7 @@
 use Rattle.std.proofs.Common.{refl}
-use Rattle.c104_stats.proofs.summaries.sum_up.Goals as goal
 
 -- the latencies are those that were sorted
-pub returns : goal.returns
+pub returns : Rattle.c104_stats.proofs.summaries.sum_up.Goals.returns
 returns c = λ permutation ascending. record {
   rounds = c.active.ensures;
   endings = c.all_endings.ensures;

@@ -1,11 +1,10 @@
-use Rattle.c104_stream.proofs.ScriptEnds.{err_is}
-use Rattle.c104_stream.specs.declared.halt.Halt.TheVariants as halt
-use Rattle.c104_storm.proofs.EndingTexts.{ends_written, ends_unwritten}
+use Rattle.{c104_storm.proofs.EndingTexts.{ends_unwritten, ends_written}, c104_stream.proofs.ScriptEnds.err_is}
+use Rattle.c104_stream.specs.declared.halt.Halt.{Halt}
 use Rattle.c104_storm.proofs.endings.write_end.Goals as goal
 
 pub returns-in_err-write_whole : goal.returns-in_err-write_whole
 returns-in_err-write_whole g c =
-    rw (err_is _ halt.CannotWrite c.from_residual-in_err-write_whole.ensures)
+    rw (err_is _ Halt.CannotWrite c.from_residual-in_err-write_whole.ensures)
     (ends_unwritten c.args.gathered.now c.args.sent.is_long c.args.sent.is_faulty _ _ c.in_ok-ending.ending c.in_ok-text.text.items c.as_slice.result.now c.in_ok-ending.ensures.told c.in_ok-text.ensures c.as_slice.ensures.value c.in_err-write_whole.ensures.prefix)
 
 pub returns : goal.returns

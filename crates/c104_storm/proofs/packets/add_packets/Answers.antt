@@ -1,5 +1,4 @@
-use Rattle.std.proofs.lemmas.Result.{on_ok_weaker}
-use Rattle.c104_storm.proofs.SortedArrivals.{as_many, joined_sorted}
+use Rattle.{c104_storm.proofs.SortedArrivals.{as_many, joined_sorted}, std.proofs.lemmas.Result.on_ok_weaker}
 use Rattle.c104_storm.proofs.packets.add_packets.Goals as goal
 
 pub sorted_arrivals-requires : goal.sorted_arrivals-requires

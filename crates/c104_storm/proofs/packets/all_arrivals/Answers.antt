@@ -1,5 +1,4 @@
-use Rattle.std.proofs.Common.{arith, refl}
-use Rattle.c104_storm.proofs.SortedArrivals.{all_next, all_taken}
+use Rattle.{c104_storm.proofs.SortedArrivals.{all_next, all_taken}, std.proofs.Common.{arith, refl}}
 use Rattle.c104_storm.proofs.packets.all_arrivals.Goals as goal
 
 pub loop-place-preserved : goal.loop-place-preserved

@@ -1,6 +1,5 @@
 -- what was taken is gone from what is read ahead and left, and is at most one byte too long
-use Rattle.std.proofs.Common.{◌≤◌, ◌+◌, ◌-◌, vec_len}
-use Rattle.std.specs.Io.KnownBytes.{Consumes, prepend_known}
+use Rattle.std.{proofs.Common.{vec_len, ◌+◌, ◌-◌, ◌≤◌}, specs.Io.KnownBytes.{Consumes, prepend_known}}
 use Rattle.c104_stream.proofs.reading.read_up_to.Given as goal
 
 abbrev pub invariant-loop-ahead : goal.invariant-loop-ahead

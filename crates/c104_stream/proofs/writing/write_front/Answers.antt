@@ -1,14 +1,12 @@
-use Rattle.std.proofs.Common.{◌≡◌, ℕ, ◌-◌, List, ◌++◌, length, take, drop, sym, ap, ◌∙◌, append_assoc, take-append-drop}
-use Rattle.std.proofs.lemmas.List.{take_rest}
-use Rattle.std.proofs.KnownBytes.{Appends-trans}
-use Rattle.c104_stream.proofs.writing.write_front.Goals as goal
+use Rattle.std.proofs.Common.{List, ap, append_assoc, drop, length, sym, take, take-append-drop, ℕ, ◌++◌, ◌-◌, ◌∙◌, ◌≡◌}
+use Rattle.std.proofs.{KnownBytes.Appends-trans, lemmas.List.take_rest}
 
 -- the front of the rest goes over to what was written
 moves_front : (bytes written rest : List ℕ) (n : ℕ) → bytes ≡ written ++ rest → bytes ≡ (written ++ take n rest) ++ take (length rest - n) (drop n rest)
 moves_front bytes written rest n split =
     split ∙ ap (λ xs. written ++ xs) (sym (take-append-drop n rest)) ∙ sym (append_assoc written (take n rest) (drop n rest)) ∙ ap (λ xs. (written ++ take n rest) ++ xs) (sym (take_rest rest n))
 
-pub loop-writer-preserved : goal.loop-writer-preserved
+pub loop-writer-preserved : Rattle.c104_stream.proofs.writing.write_front.Goals.loop-writer-preserved
 loop-writer-preserved g c =
     let (written, split, grew) = c.loop-writer.invariant in
     let rest = c.loop-writer.rest.now in

@@ -1,6 +1,5 @@
 -- what is gone from the rest was appended, and each turn takes some
-use Rattle.std.proofs.Common.{◌≡◌, ℕ, List, ◌++◌, length}
-use Rattle.std.specs.Io.KnownBytes.{Appends}
+use Rattle.std.{proofs.Common.{List, length, ℕ, ◌++◌, ◌≡◌}, specs.Io.KnownBytes.Appends}
 use Rattle.c104_stream.proofs.writing.write_front.Given as goal
 
 abbrev pub invariant-loop-writer : goal.invariant-loop-writer

@@ -1,6 +1,4 @@
-use Rattle.std.proofs.Common.{◌∙◌, ap, arith, sym}
-use Rattle.c104_switch.specs.Group.{is_in_group}
-use Rattle.c104_switch.proofs.GroupBits.{in_group_is, in_group_past}
+use Rattle.{c104_switch.{proofs.GroupBits.{in_group_is, in_group_past}, specs.Group.is_in_group}, std.proofs.Common.{ap, arith, sym, ◌∙◌}}
 use Rattle.c104_switch.proofs.group.group_of.Goals as goal
 
 pub returns-then-link-ge-LINKS-clause-none : goal.returns-then-link-ge-LINKS-clause-none

@@ -1,6 +1,5 @@
-use Rattle.std.proofs.Common.{length, refl, arith}
+use Rattle.{c104_switch.proofs.KeptSets.{kept_all, kept_next, none_after}, std.proofs.Common.{arith, length, refl}}
 use Rattle.std.proofs.lemmas.Option.{slice_get_read}
-use Rattle.c104_switch.proofs.KeptSets.{kept_all, kept_next, none_after}
 use Rattle.c104_switch.proofs.input_sets.sets_of.Goals as goal
 
 pub returns : goal.returns

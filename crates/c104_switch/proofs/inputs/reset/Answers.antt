@@ -1,13 +1,8 @@
-use Rattle.std.proofs.Common.{◌≡◌, [], ◌∷◌, ◌∙◌, slice_set, ap, sym, subst, arith}
-use Rattle.std.proofs.lemmas.List.Edits.{map_over_more}
-use Rattle.c104_crossbar.specs.Marks.{ArePartition}
-use Rattle.c104_switch.specs.Switch.{Input}
-use Rattle.c104_switch.specs.Commands.{input_reset}
-use Rattle.c104_switch.specs.Holding.{phase_claims, held_claims}
-use Rattle.c104_switch.proofs.HeldClaims.{claimed_not_free}
-use Rattle.c104_switch.proofs.HeldSteps.{partition_reset}
-use Rattle.c104_switch.proofs.inputs.reset.Goals as goal
+use Rattle.{c104_crossbar.specs.Marks.ArePartition, c104_switch.proofs.{HeldClaims.claimed_not_free, HeldSteps.partition_reset}}
+use Rattle.{c104_switch.specs.{Commands.input_reset, Holding.{held_claims, phase_claims}, Switch.Input}, std.proofs.Common.{[], ap, arith}}
+use Rattle.std.proofs.{Common.{slice_set, subst, sym, ◌∙◌, ◌∷◌, ◌≡◌}, lemmas.List.Edits.map_over_more}
 use Rattle.c104_switch.proofs.inputs.reset.Goals.{in-Some, in_default}
+use Rattle.c104_switch.proofs.inputs.reset.Goals as goal
 
 pub release-requires : goal.release-requires
 release-requires g c =

@@ -1,8 +1,5 @@
-use Rattle.std.proofs.Common.{[], ◌∷◌, subst}
-use Rattle.c104_crossbar.specs.Marks.{ArePartition}
-use Rattle.c104_switch.specs.Holding.{held_claims}
-use Rattle.c104_switch.proofs.HeldClaims.{claimed_not_free}
-use Rattle.c104_switch.proofs.HeldSteps.{partition_popped}
+use Rattle.{c104_crossbar.specs.Marks.ArePartition, c104_switch.proofs.{HeldClaims.claimed_not_free, HeldSteps.partition_popped}}
+use Rattle.{c104_switch.specs.Holding.held_claims, std.proofs.Common.{[], subst, ◌∷◌}}
 use Rattle.c104_switch.proofs.inputs.retire.Goals as goal
 
 pub release-requires : goal.release-requires

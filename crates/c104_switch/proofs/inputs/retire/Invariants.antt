@@ -1,6 +1,4 @@
-use Rattle.std.proofs.Common.{length}
-use Rattle.c104_crossbar.specs.Marks.{ArePartition}
-use Rattle.c104_switch.specs.Holding.{held_claims}
+use Rattle.{c104_crossbar.specs.Marks.ArePartition, c104_switch.specs.Holding.held_claims, std.proofs.Common.length}
 use Rattle.c104_switch.proofs.inputs.retire.Given as goal
 
 -- the crossbar counts as taken just the outputs whose claims the inputs that are left hold

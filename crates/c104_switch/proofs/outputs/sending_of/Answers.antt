@@ -1,7 +1,5 @@
-use Rattle.std.proofs.Common.{◌∙◌, is_some, length, refl, arith}
-use Rattle.std.proofs.lemmas.Option.{slice_get_read}
-use Rattle.c104_link.specs.Buffers.{outgoing_emit}
-use Rattle.c104_switch.proofs.KeptSets.{tested_all, tested_next, untested_after}
+use Rattle.{c104_link.specs.Buffers.outgoing_emit, c104_switch.proofs.KeptSets.{tested_all, tested_next, untested_after}}
+use Rattle.std.proofs.{Common.{arith, is_some, length, refl, ◌∙◌}, lemmas.Option.slice_get_read}
 use Rattle.c104_switch.proofs.outputs.sending_of.Goals as goal
 
 pub loop-link-preserved : goal.loop-link-preserved

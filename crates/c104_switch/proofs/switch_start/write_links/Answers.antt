@@ -1,8 +1,6 @@
-use Rattle.std.proofs.Common.{◌≡◌, ◌∙◌, ◌++◌, ◌∷◌, [], Some, slice_get, take, refl, sym, ap, arith}
-use Rattle.std.proofs.lemmas.List.{take_all}
-use Rattle.c104_switch.specs.declared.link_start.LinkStart.{LinkStart}
-use Rattle.c104_switch.specs.Starts.{link_start, link_starts}
-use Rattle.c104_switch.proofs.StartLinks.{length_starts, starts_next}
+use Rattle.c104_switch.{proofs.StartLinks.{length_starts, starts_next}, specs.Starts.{link_start, link_starts}}
+use Rattle.{c104_switch.specs.declared.link_start.LinkStart.LinkStart, std.proofs.Common.{Some, [], ap, arith, refl, slice_get, sym, take}}
+use Rattle.std.proofs.{Common.{◌++◌, ◌∙◌, ◌∷◌, ◌≡◌}, lemmas.List.take_all}
 use Rattle.c104_switch.proofs.switch_start.write_links.Goals as goal
 
 -- this link is written too

@@ -1,10 +1,7 @@
-use Rattle.std.proofs.Common.{ap, refl, sym, ℕ, ◌≡◌, ◌∙◌}
-use Rattle.c104_workers.proofs.SeatGrowth.{same_on, same_self}
-use Rattle.c104_workers.specs.Calls.{IsSameSeat, SeatView}
-use Rattle.c104_tests_audits.proofs.PortCalls.{switch_keeps}
-use Rattle.c104_tests_audits.proofs.debuggers.is_table_read.Goals as goal
+use Rattle.{c104_tests_audits.proofs.PortCalls.switch_keeps, c104_workers.{proofs.SeatGrowth.{same_on, same_self}, specs.Calls.IsSameSeat}}
+use Rattle.{c104_workers.specs.Calls.SeatView, std.proofs.Common.{ap, refl, sym, ℕ, ◌∙◌, ◌≡◌}}
 
-pub returns : goal.returns
+pub returns : Rattle.c104_tests_audits.proofs.debuggers.is_table_read.Goals.returns
 returns g c =
     let kept = switch_keeps _ (λ p q. (q.seat.ghost_name ≡ p.seat.ghost_name) × IsSameSeat p.seat.now.0 q.seat.now.0)
     (λ p. (refl, same_self p.seat.now.0))

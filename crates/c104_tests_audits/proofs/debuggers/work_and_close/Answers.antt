@@ -1,6 +1,4 @@
-use Rattle.std.proofs.Common.{subst}
-use Rattle.c104_workers.specs.Fabrics.{AreSeatsOf}
-use Rattle.c104_workers.proofs.GatheredSeats.{seats_before}
+use Rattle.{c104_workers.{proofs.GatheredSeats.seats_before, specs.Fabrics.AreSeatsOf}, std.proofs.Common.subst}
 use Rattle.c104_tests_audits.proofs.debuggers.work_and_close.Goals as goal
 
 pub by_two-workers-requires-clause-word : goal.by_two-workers-requires-clause-word

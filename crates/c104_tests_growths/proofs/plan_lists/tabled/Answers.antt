@@ -1,7 +1,5 @@
-use Rattle.std.proofs.Common.{ap, length, ◌∙◌}
+use Rattle.{c104_plan.{proofs.ImageMade.ranges_kept, specs.PlanImage.range_of}, std.proofs.Common.{ap, length, ◌∙◌}}
 use Rattle.std.proofs.lemmas.List.{length-map}
-use Rattle.c104_plan.specs.PlanImage.{range_of}
-use Rattle.c104_plan.proofs.ImageMade.{ranges_kept}
 use Rattle.c104_tests_growths.proofs.plan_lists.tabled.Goals as goal
 
 pub with_tables-made-requires-clause-terminals : goal.with_tables-made-requires-clause-terminals

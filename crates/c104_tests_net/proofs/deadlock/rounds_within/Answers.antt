@@ -1,4 +1,3 @@
-use Rattle.std.proofs.Common.{}
 use Rattle.c104_tests_net.proofs.DeliveredRuns.{delivers_by, delivers_within}
 use Rattle.c104_tests_net.proofs.deadlock.rounds_within.Goals as goal
 

@@ -1,6 +1,4 @@
-use Rattle.std.proofs.Common.{subst}
-use Rattle.c104_workers.specs.Fabrics.{AreSeatsOf}
-use Rattle.c104_workers.proofs.GatheredSeats.{seats_before}
+use Rattle.{c104_workers.{proofs.GatheredSeats.seats_before, specs.Fabrics.AreSeatsOf}, std.proofs.Common.subst}
 use Rattle.c104_tests_net.proofs.fabrics.run_two.Goals as goal
 
 pub by_two_threads-first-requires-clause-second : goal.by_two_threads-first-requires-clause-second

@@ -1,10 +1,7 @@
-use Rattle.std.proofs.Common.{List, Some, ap, length, refl, slice_get, sym, ◌∙◌, ◌≡◌}
-use Rattle.std.proofs.lemmas.Option.{slice_get_read}
-use Rattle.std.specs.Global.{Vec as Kept}
-use Rattle.c104_node.specs.declared.origins.Origin.{Origin}
-use Rattle.c104_tests_net.proofs.named_packets.listed.Goals as goal
+use Rattle.{c104_node.specs.declared.origins.Origin.Origin, std.proofs.Common.{List, Some, ap, length, refl, slice_get, sym, ◌∙◌, ◌≡◌}}
+use Rattle.std.{proofs.lemmas.Option.slice_get_read, specs.Global.Vec as Kept}
 
-pub returns : goal.returns
+pub returns : Rattle.c104_tests_net.proofs.named_packets.listed.Goals.returns
 returns c =
     let all : List (Kept Origin) = c.args.lists.now in
     let found = c.in-Some.ensures.lookup in

@@ -1,11 +1,8 @@
-use Rattle.std.proofs.Common.{List, Some, length, refl, slice_get, ◌∙◌, ◌≡◌}
+use Rattle.{c104_check.specs.Routes.routes_of, c104_regs.specs.declared.settings.Settings.Settings}
+use Rattle.{c104_tests_net.proofs.NotRandom.length_there, std.proofs.Common.{List, Some, length, refl, slice_get, ◌∙◌, ◌≡◌}}
 use Rattle.std.proofs.lemmas.Option.{slice_get_read}
-use Rattle.c104_check.specs.Routes.{routes_of}
-use Rattle.c104_regs.specs.declared.settings.Settings.{Settings}
-use Rattle.c104_tests_net.proofs.NotRandom.{length_there}
-use Rattle.c104_tests_net.proofs.portals.header_length.Goals as goal
 
-pub returns : goal.returns
+pub returns : Rattle.c104_tests_net.proofs.portals.header_length.Goals.returns
 returns c =
     let all : List Settings = c.in-Some-settings.settings.now in
     let found = c.in-Some-get.ensures.lookup in

@@ -1,8 +1,5 @@
-use Rattle.std.proofs.Common.{ℕ, All, Bor, List, subst}
-use Rattle.std.proofs.lemmas.List.{take_all}
-use Rattle.std.proofs.lemmas.List.Elements.{All-map, All-more}
-use Rattle.c104_script.specs.Script.{read_script_line}
-use Rattle.c104_tests_top.specs.PrintedTexts.{IsCalm}
+use Rattle.{c104_script.specs.Script.read_script_line, c104_tests_top.specs.PrintedTexts.IsCalm, std.proofs.Common.{All, Bor, List, subst}}
+use Rattle.std.proofs.{Common.ℕ, lemmas.List.{Elements.{All-map, All-more}, take_all}}
 use Rattle.c104_tests_top.proofs.printed.are_calm.Goals as goal
 
 pub loop-line-preserved : goal.loop-line-preserved

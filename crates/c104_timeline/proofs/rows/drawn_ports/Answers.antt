@@ -1,8 +1,5 @@
-use Rattle.std.proofs.Common.{◌∙◌, [], List, ap, arith, ℕ}
-use Rattle.std.specs.List.{flat_map}
-use Rattle.c104_plan.proofs.RangeLists.{flat_next}
-use Rattle.c104_run.proofs.RoundLists.{links_passed}
-use Rattle.c104_timeline.specs.Rows.{link_ports}
+use Rattle.{c104_plan.proofs.RangeLists.flat_next, c104_run.proofs.RoundLists.links_passed, c104_timeline.specs.Rows.link_ports}
+use Rattle.std.{proofs.Common.{List, [], ap, arith, ℕ, ◌∙◌}, specs.List.flat_map}
 use Rattle.c104_timeline.proofs.rows.drawn_ports.Goals as goal
 
 pub loop-link-preserved : goal.loop-link-preserved

@@ -1,8 +1,5 @@
-use Rattle.std.proofs.Common.{◌≡◌}
-use Rattle.std.specs.List.{flat_map, range_with_len}
-use Rattle.c104_timeline.specs.Rows.{switch_rows}
-use Rattle.c104_timeline.proofs.rows.rows_of.Given as goal
+use Rattle.{c104_timeline.specs.Rows.switch_rows, std.{proofs.Common.◌≡◌, specs.List.{flat_map, range_with_len}}}
 
 -- the rows of the switches so far
-abbrev pub invariant-loop-switch : goal.invariant-loop-switch
+abbrev pub invariant-loop-switch : Rattle.c104_timeline.proofs.rows.rows_of.Given.invariant-loop-switch
 invariant-loop-switch l = l.rows.items ≡ flat_map (switch_rows l.plan l.timeline l.period) (range_with_len 0 l.switch)

@@ -1,5 +1,4 @@
-use Rattle.std.proofs.Common.{◌≡◌, ◌-◌, ◌<◌, ◌≤◌}
-use Rattle.c104_timeline.specs.TimePictures.{up_to, IsLong, IsShort}
+use Rattle.{c104_timeline.specs.TimePictures.{IsLong, IsShort, up_to}, std.proofs.Common.{◌-◌, ◌<◌, ◌≡◌, ◌≤◌}}
 use Rattle.c104_timeline.proofs.time_pictures.widest.Given as goal
 
 -- the best so far fits, and where it went up to the end it wouldn't

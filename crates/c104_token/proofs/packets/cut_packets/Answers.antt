@@ -1,14 +1,9 @@
-use Rattle.std.proofs.Common.{◌≡◌, [], map, length, drop, sym, ◌∙◌, ap, append-nil, arith}
-use Rattle.std.proofs.lemmas.List.{length-map}
-use Rattle.std.proofs.lemmas.List.{drop_all}
-use Rattle.c104_token.specs.Tokens.{Byte}
-use Rattle.c104_token.specs.Packets.{packet_tokens}
-use Rattle.c104_token.specs.Cut.{whole_pieces, unfinished_piece}
-use Rattle.c104_token.proofs.Cutting.{packets_joined, left_unmarked}
-use Rattle.c104_token.proofs.packets.cut_packets.Goals as goal
+use Rattle.c104_token.{proofs.Cutting.{left_unmarked, packets_joined}, specs.{Cut.{unfinished_piece, whole_pieces}, Packets.packet_tokens}}
+use Rattle.{c104_token.specs.Tokens.Byte, std.proofs.Common.{[], ap, append-nil, arith, drop, length, map, sym, ◌∙◌, ◌≡◌}}
+use Rattle.std.proofs.lemmas.List.{drop_all, length-map}
 
 -- after the loop no token is left to read
-pub returns : goal.returns
+pub returns : Rattle.c104_token.proofs.packets.cut_packets.Goals.returns
 returns c =
     let at = c.loop-token.invariant in
     let none : drop c.loop-token.token-index c.args.list.now ≡ [] = drop_all c.loop-token.token-index c.args.list.now (omega arith) in

@@ -1,6 +1,5 @@
-use Rattle.std.proofs.Common.{◌≡◌, List, ℕ, map, ◌∙◌, ap, subst, Bor}
-use Rattle.c104_token.specs.Text.{packet_words, parse_words, GivesPacketOrNoMemory}
-use Rattle.c104_token.proofs.Spelling.{gives_accepted, gives_complete}
+use Rattle.c104_token.{proofs.Spelling.{gives_accepted, gives_complete}, specs.Text.{GivesPacketOrNoMemory, packet_words, parse_words}}
+use Rattle.std.proofs.Common.{Bor, List, ap, map, subst, ℕ, ◌∙◌, ◌≡◌}
 use Rattle.c104_token.proofs.text.parse_packet.Goals as goal
 
 -- the words that were cut are the text's

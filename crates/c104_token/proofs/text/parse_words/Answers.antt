@@ -1,6 +1,5 @@
-use Rattle.std.proofs.Common.{inl, ap, sym, ◌∙◌, List, ℕ, map, drop, ◌+◌, nat_lt, Bor}
-use Rattle.c104_token.specs.Text.{packet_from_words, word_of}
-use Rattle.c104_token.proofs.Reading.{after_byte, at_full, at_other, at_early_end}
+use Rattle.c104_token.{proofs.Reading.{after_byte, at_early_end, at_full, at_other}, specs.Text.{packet_from_words, word_of}}
+use Rattle.std.proofs.Common.{Bor, List, ap, drop, inl, map, nat_lt, sym, ℕ, ◌+◌, ◌∙◌}
 use Rattle.c104_token.proofs.text.parse_words.Goals as goal
 
 pub loop-place-preserved : goal.loop-place-preserved

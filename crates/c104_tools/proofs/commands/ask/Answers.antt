@@ -1,8 +1,5 @@
-use Rattle.std.proofs.Common.{◌≡◌, Err, Ok, subst}
-use Rattle.c104_tools.specs.declared.faults.LoadFault.TheVariants as fault
-use Rattle.c104_tools.specs.Ports.{Commanded}
-use Rattle.c104_tools.specs.Steps.{told}
-use Rattle.c104_tools.proofs.Asking.{err_is}
+use Rattle.c104_tools.{proofs.Asking.err_is, specs.{Ports.Commanded, Steps.told, declared.faults.LoadFault.LoadFault}}
+use Rattle.std.proofs.Common.{Err, Ok, subst, ◌≡◌}
 use Rattle.c104_tools.proofs.commands.ask.Goals as goal
 
 pub returns-clause-asked : goal.returns-clause-asked
@@ -20,5 +17,5 @@ returns-in_err-reply-clause-asked g c =
       Err e,
       subst (λ bytes. Commanded g.P.ControlPort.commands g.P.ControlPort.switch_count g.P.ControlPort.shown g.P.ControlPort.unanswered g.P.ControlPort.due c.args.port.now c.args.switch bytes (Err e) c.command.new.self) c.write_command.ensures.bytes
           (record { replied = (c.in_err-reply.ensures.commands, c.in_err-reply.ensures.shown, c.in_err-reply.ensures.fault); came = c.in_err-reply.ensures.due; count = c.in_err-reply.ensures.count }),
-      err_is c.from_residual.result (fault.Port e) c.from_residual.ensures,
+      err_is c.from_residual.result (LoadFault.Port e) c.from_residual.ensures,
     )

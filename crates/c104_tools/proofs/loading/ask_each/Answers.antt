@@ -1,8 +1,6 @@
-use Rattle.std.proofs.Common.{◌+◌, [], ◌∷◌, ap, map, refl, arith}
-use Rattle.c104_tools.specs.Loads.{order}
-use Rattle.c104_tools.specs.Outcomes.{any_value}
-use Rattle.c104_tools.proofs.Asking.{err_is, leaves_all, leaves_none, leaves_on, leaves_stop, one_done, one_fails}
-use Rattle.c104_tools.proofs.Rests.{numbers_all, numbers_left, numbers_next, numbers_none}
+use Rattle.c104_tools.proofs.{Asking.{err_is, leaves_all, leaves_none, leaves_on, leaves_stop, one_done, one_fails}, Rests.numbers_all}
+use Rattle.c104_tools.{proofs.Rests.{numbers_left, numbers_next, numbers_none}, specs.{Loads.order, Outcomes.any_value}}
+use Rattle.std.proofs.Common.{[], ap, arith, map, refl, ◌+◌, ◌∷◌}
 use Rattle.c104_tools.proofs.loading.ask_each.Goals as goal
 
 pub loop-switch-init : goal.loop-switch-init

@@ -1,12 +1,8 @@
-use Rattle.std.proofs.Common.{◌∙◌, ◌++◌, refl}
-use Rattle.c104_control.specs.declared.commands.Command.TheVariants.{Start, Reset}
-use Rattle.c104_tools.specs.Loaded.{each_with, loaded}
-use Rattle.c104_tools.specs.Loads.{for_each, load_list, steps_from, switch_pokes}
-use Rattle.c104_tools.specs.Outcomes.{any_value, nothing_made}
-use Rattle.c104_tools.proofs.Asking.{err_is, leaves_all, leaves_on, leaves_stop}
-use Rattle.c104_tools.proofs.KnownCommands.{left_open, outcome_due, outcome_shown}
-use Rattle.c104_tools.proofs.LoadSteps.{below_load, load_parts}
-use Rattle.c104_tools.proofs.ShownLoads.{load_shown}
+use Rattle.{c104_control.specs.declared.commands.Command.TheVariants.{Reset, Start}, c104_tools.proofs.Asking.{err_is, leaves_all}}
+use Rattle.c104_tools.proofs.{Asking.{leaves_on, leaves_stop}, KnownCommands.{left_open, outcome_due, outcome_shown}, LoadSteps.below_load}
+use Rattle.c104_tools.{proofs.{LoadSteps.load_parts, ShownLoads.load_shown}, specs.{Loaded.{each_with, loaded}, Loads.for_each}}
+use Rattle.{c104_tools.specs.{Loads.{load_list, steps_from, switch_pokes}, Outcomes.{any_value, nothing_made}}, std.proofs.Common.refl}
+use Rattle.std.proofs.Common.{◌++◌, ◌∙◌}
 use Rattle.c104_tools.proofs.loading.load.Goals as goal
 
 pub returns-in_err-ask_each-clause-asked : goal.returns-in_err-ask_each-clause-asked

@@ -1,9 +1,6 @@
-use Rattle.std.proofs.Common.{◌+◌, Err, Ok, subst, drop, arith}
-use Rattle.c104_tools.specs.Loads.{pokes, steps_from, switch_pokes}
-use Rattle.c104_tools.specs.Outcomes.{Outcome, any_value, nothing_made}
-use Rattle.c104_tools.specs.Ports.{Commanded}
-use Rattle.c104_tools.proofs.Asking.{err_is, leaves_none, leaves_on, leaves_stop}
-use Rattle.c104_tools.proofs.Rests.{switches_next, switches_none}
+use Rattle.c104_tools.proofs.{Asking.{err_is, leaves_none, leaves_on, leaves_stop}, Rests.{switches_next, switches_none}}
+use Rattle.c104_tools.specs.{Loads.{pokes, steps_from, switch_pokes}, Outcomes.{Outcome, any_value, nothing_made}, Ports.Commanded}
+use Rattle.std.proofs.Common.{Err, Ok, arith, drop, subst, ◌+◌}
 use Rattle.c104_tools.proofs.loading.poke_all.Goals as goal
 
 pub loop-switch-preserved : goal.loop-switch-preserved

@@ -1,9 +1,6 @@
-use Rattle.std.proofs.Common.{ℕ, ◌+◌, [], ◌∷◌, drop, get_or, refl, arith}
-use Rattle.c104_control.specs.declared.commands.Command.TheVariants.{CPoke}
-use Rattle.c104_tools.specs.Loads.{order, pokes}
-use Rattle.c104_tools.specs.Outcomes.{any_value}
-use Rattle.c104_tools.proofs.Asking.{err_is, leaves_none, leaves_on, leaves_stop, one_done, one_fails}
-use Rattle.c104_tools.proofs.Rests.{mapped_next, mapped_none}
+use Rattle.{c104_control.specs.declared.commands.Command.TheVariants.CPoke, c104_tools.proofs.Asking.{err_is, leaves_none, leaves_on}}
+use Rattle.c104_tools.{proofs.{Asking.{leaves_stop, one_done, one_fails}, Rests.{mapped_next, mapped_none}}, specs.Loads.{order, pokes}}
+use Rattle.{c104_tools.specs.Outcomes.any_value, std.proofs.Common.{[], arith, drop, get_or, refl, ℕ, ◌+◌, ◌∷◌}}
 use Rattle.c104_tools.proofs.loading.poke_values.Goals as goal
 
 pub loop-entry-preserved : goal.loop-entry-preserved

@@ -1,11 +1,6 @@
-use Rattle.std.proofs.Common.{Err, Ok, refl, arith}
-use Rattle.c104_tools.specs.Outcomes.{any_value, link_made}
-use Rattle.c104_tools.specs.Ports.{Commanded}
-use Rattle.c104_tools.specs.Reads.{link_addresses}
-use Rattle.c104_tools.proofs.Asking.{err_is}
-use Rattle.c104_tools.proofs.KnownCommands.{outcome_due}
-use Rattle.c104_tools.proofs.Readings.{link_came, seven_of}
-use Rattle.c104_tools.proofs.SeenValues.{are_seen, link_named}
+use Rattle.c104_tools.proofs.{Asking.err_is, KnownCommands.outcome_due, Readings.{link_came, seven_of}, SeenValues.{are_seen, link_named}}
+use Rattle.{c104_tools.specs.{Outcomes.{any_value, link_made}, Ports.Commanded, Reads.link_addresses}, std.proofs.Common.{Err, Ok, arith}}
+use Rattle.std.proofs.Common.{refl}
 use Rattle.c104_tools.proofs.reading.read_link.Goals as goal
 
 pub returns-in_err-read_run-clause-asked : goal.returns-in_err-read_run-clause-asked

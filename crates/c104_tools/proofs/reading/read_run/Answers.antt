@@ -1,10 +1,6 @@
-use Rattle.std.proofs.Common.{◌≡◌, ◌+◌, ◌<◌, ◌≤◌, Err, Ok, ap, length, subst, arith}
-use Rattle.std.specs.List.{range_with_len}
-use Rattle.c104_tools.specs.Outcomes.{ComesTo, any_value, peeks_at}
-use Rattle.c104_tools.specs.Ports.{Commanded}
-use Rattle.c104_tools.proofs.Asking.{err_is}
-use Rattle.c104_tools.proofs.Readings.{reads_all, reads_next, reads_none, reads_stop}
-use Rattle.c104_tools.proofs.Rests.{numbers_from, numbers_left, numbers_none, numbers_on}
+use Rattle.c104_tools.proofs.{Asking.err_is, Readings.{reads_all, reads_next, reads_none, reads_stop}, Rests.{numbers_from, numbers_left}}
+use Rattle.c104_tools.{proofs.Rests.{numbers_none, numbers_on}, specs.{Outcomes.{ComesTo, any_value, peeks_at}, Ports.Commanded}}
+use Rattle.std.{proofs.Common.{Err, Ok, ap, arith, length, subst, ◌+◌, ◌<◌, ◌≡◌, ◌≤◌}, specs.List.range_with_len}
 use Rattle.c104_tools.proofs.reading.read_run.Goals as goal
 
 pub loop-i-init : goal.loop-i-init

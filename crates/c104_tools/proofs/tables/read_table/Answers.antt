@@ -1,14 +1,8 @@
-use Rattle.std.proofs.Common.{◌≡◌, ◌∙◌, ◌∷◌, ◌++◌, Err, Ok, ap, get_or, length, map, refl, sym, arith}
-use Rattle.c104_regs.specs.Addresses.{address_number}
-use Rattle.c104_regs.specs.declared.addresses.Address.TheVariants.{AtLink}
-use Rattle.c104_regs.specs.declared.addresses.Register.TheVariants.{Select}
-use Rattle.c104_tools.specs.Outcomes.{any_value, table_made}
-use Rattle.c104_tools.specs.Ports.{Commanded}
-use Rattle.c104_tools.specs.Tables.{row_codes, row_limits, table_addresses}
-use Rattle.c104_tools.proofs.Asking.{err_is}
-use Rattle.c104_tools.proofs.KnownCommands.{outcome_due}
-use Rattle.c104_tools.proofs.Readings.{cut_again, first_of, table_bad, table_came, table_first_fault, table_is}
-use Rattle.c104_tools.proofs.SeenValues.{are_seen, table_named}
+use Rattle.c104_regs.specs.{Addresses.address_number, declared.addresses.{Address.TheVariants.AtLink, Register.TheVariants.Select}}
+use Rattle.c104_tools.proofs.{Asking.err_is, KnownCommands.outcome_due, Readings.{cut_again, first_of, table_bad, table_came}}
+use Rattle.c104_tools.{proofs.{Readings.{table_first_fault, table_is}, SeenValues.{are_seen, table_named}}, specs.Outcomes.any_value}
+use Rattle.{c104_tools.specs.{Outcomes.table_made, Ports.Commanded, Tables.{row_codes, row_limits, table_addresses}}, std.proofs.Common.Err}
+use Rattle.std.proofs.Common.{Ok, ap, arith, get_or, length, map, refl, sym, ◌++◌, ◌∙◌, ◌∷◌, ◌≡◌}
 use Rattle.c104_tools.proofs.tables.read_table.Goals as goal
 
 pub returns-in_err-read_run-clause-asked : goal.returns-in_err-read_run-clause-asked

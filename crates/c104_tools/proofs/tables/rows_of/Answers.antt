@@ -1,5 +1,4 @@
-use Rattle.std.proofs.Common.{arith}
-use Rattle.c104_tools.proofs.Readings.{none_bad, rows_made}
+use Rattle.{c104_tools.proofs.Readings.{none_bad, rows_made}, std.proofs.Common.arith}
 use Rattle.c104_tools.proofs.tables.rows_of.Goals as goal
 
 pub returns-clause-made : goal.returns-clause-made

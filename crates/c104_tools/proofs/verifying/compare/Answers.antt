@@ -1,10 +1,7 @@
-use Rattle.std.proofs.Common.{◌≡◌, ◌≢◌, ◌==◌, ℕ, true, false, Err, Ok, refl, arith}
+use Rattle.{c104_control.specs.declared.commands.Command.TheVariants.CPeek, c104_tools.proofs.Asking.{err_is, none_left, one_differs}}
+use Rattle.c104_tools.{proofs.Asking.{one_done, one_fails}, specs.{Outcomes.due_value_only, Steps.Step}}
+use Rattle.{c104_tools.specs.declared.faults.LoadFault.LoadFault, std.proofs.Common.{Err, Ok, arith, false, refl, true, ℕ, ◌==◌, ◌≡◌, ◌≢◌}}
 use Rattle.std.proofs.lemmas.Bool.Decides.{nat_tests}
-use Rattle.c104_control.specs.declared.commands.Command.TheVariants.{CPeek}
-use Rattle.c104_tools.specs.declared.faults.LoadFault.TheVariants as fault
-use Rattle.c104_tools.specs.Outcomes.{due_value_only}
-use Rattle.c104_tools.specs.Steps.{Step}
-use Rattle.c104_tools.proofs.Asking.{err_is, none_left, one_differs, one_done, one_fails}
 use Rattle.c104_tools.proofs.verifying.compare.Goals as goal
 
 -- whether a value is that of the step
@@ -12,7 +9,7 @@ module _ (switch addr due : ℕ) where
   abbrev step : Step
   step = record { switch = switch; command = CPeek addr; value = due }
 
-  other_value : (v : ℕ) → v ≢ due → due_value_only step v ≡ Err (fault.Differs switch addr v)
+  other_value : (v : ℕ) → v ≢ due → due_value_only step v ≡ Err (LoadFault.Differs switch addr v)
   other_value v differs = let no : (v == due) ≡ false = grind (arith, nat_tests) in rw no refl
 
   same_value : (v : ℕ) → v ≡ due → due_value_only step v ≡ Ok v

@@ -1,8 +1,5 @@
-use Rattle.c104_tools.specs.Outcomes.{Outcome, due_value_only, nothing_made}
-use Rattle.c104_tools.specs.Loads.{verify_list}
-use Rattle.c104_tools.specs.Ports.{Commanded}
-use Rattle.std.proofs.Common.{subst}
-use Rattle.c104_tools.proofs.KnownCommands.{outcome_due}
+use Rattle.c104_tools.{proofs.KnownCommands.outcome_due, specs.{Loads.verify_list, Outcomes.{Outcome, due_value_only, nothing_made}}}
+use Rattle.{c104_tools.specs.Ports.Commanded, std.proofs.Common.subst}
 use Rattle.c104_tools.proofs.verifying.verify.Goals as goal
 
 pub returns-clause-asked : goal.returns-clause-asked

@@ -1,8 +1,5 @@
-use Rattle.std.proofs.Common.{◌+◌, drop, arith}
-use Rattle.c104_tools.specs.Loads.{steps_from, switch_peeks}
-use Rattle.c104_tools.specs.Outcomes.{due_value_only}
-use Rattle.c104_tools.proofs.Asking.{err_is, leaves_none, leaves_on, leaves_stop}
-use Rattle.c104_tools.proofs.Rests.{switches_next, switches_none}
+use Rattle.c104_tools.proofs.{Asking.{err_is, leaves_none, leaves_on, leaves_stop}, Rests.{switches_next, switches_none}}
+use Rattle.{c104_tools.specs.{Loads.{steps_from, switch_peeks}, Outcomes.due_value_only}, std.proofs.Common.{arith, drop, ◌+◌}}
 use Rattle.c104_tools.proofs.verifying.verify_all.Goals as goal
 
 pub loop-switch-preserved : goal.loop-switch-preserved

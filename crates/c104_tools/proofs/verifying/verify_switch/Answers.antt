@@ -1,9 +1,6 @@
-use Rattle.std.proofs.Common.{◌+◌, ap, arith}
+use Rattle.c104_tools.proofs.{Asking.{err_is, leaves_none, leaves_on, leaves_stop}, Rests.{numbers_none, peeks_left, peeks_next}}
+use Rattle.{c104_tools.specs.{Loads.{due_entry, due_value, peeks}, Outcomes.due_value_only}, std.proofs.Common.{ap, arith, ◌+◌}}
 use Rattle.std.specs.List.{flat_map}
-use Rattle.c104_tools.specs.Loads.{due_entry, due_value, peeks}
-use Rattle.c104_tools.specs.Outcomes.{due_value_only}
-use Rattle.c104_tools.proofs.Asking.{err_is, leaves_none, leaves_on, leaves_stop}
-use Rattle.c104_tools.proofs.Rests.{numbers_none, peeks_left, peeks_next}
 use Rattle.c104_tools.proofs.verifying.verify_switch.Goals as goal
 
 pub loop-addr-preserved : goal.loop-addr-preserved

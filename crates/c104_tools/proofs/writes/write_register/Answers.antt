@@ -1,9 +1,5 @@
-use Rattle.std.proofs.Common.{refl}
-use Rattle.c104_control.specs.declared.commands.Command.TheVariants.{CPoke}
-use Rattle.c104_tools.specs.Loads.{order}
-use Rattle.c104_tools.specs.Outcomes.{any_value, nothing_made}
-use Rattle.c104_tools.proofs.Asking.{err_is, one_done, one_fails}
-use Rattle.c104_tools.proofs.KnownCommands.{outcome_due}
+use Rattle.{c104_control.specs.declared.commands.Command.TheVariants.CPoke, c104_tools.proofs.Asking.{err_is, one_done, one_fails}}
+use Rattle.{c104_tools.{proofs.KnownCommands.outcome_due, specs.{Loads.order, Outcomes.{any_value, nothing_made}}}, std.proofs.Common.refl}
 use Rattle.c104_tools.proofs.writes.write_register.Goals as goal
 
 pub returns-in_err-ask-clause-asked : goal.returns-in_err-ask-clause-asked

@@ -1,5 +1,4 @@
-use Rattle.std.proofs.Common.{◌≢◌, ◌^◌, subst, arith}
-use Rattle.c104_traffic.proofs.Squares.{no_power, none_next, power_next, power_small}
+use Rattle.{c104_traffic.proofs.Squares.{no_power, none_next, power_next, power_small}, std.proofs.Common.{arith, subst, ◌^◌, ◌≢◌}}
 use Rattle.c104_traffic.proofs.finding.find_bits.Goals as goal
 
 pub overflow_mul-power : goal.overflow_mul-power

@@ -1,5 +1,4 @@
-use Rattle.std.proofs.Common.{◌*◌, arith}
-use Rattle.c104_traffic.proofs.Squares.{no_square, none_next}
+use Rattle.{c104_traffic.proofs.Squares.{no_square, none_next}, std.proofs.Common.{arith, ◌*◌}}
 use Rattle.c104_traffic.proofs.finding.find_side.Goals as goal
 
 pub loop-side-preserved : goal.loop-side-preserved

@@ -1,10 +1,7 @@
-use Rattle.std.proofs.Common.{◌≡◌, ℕ, ◌<◌, List, length, ap, sym, subst, ◌∙◌}
-use Rattle.c104_plan.specs.declared.plans.Terminal.{Terminal}
-use Rattle.c104_traffic.specs.Packets.{sender_at}
-use Rattle.c104_traffic.proofs.Senders.{sender_inside}
-use Rattle.c104_traffic.proofs.packets.sent_at.Goals as goal
+use Rattle.{c104_plan.specs.declared.plans.Terminal.Terminal, c104_traffic.{proofs.Senders.sender_inside, specs.Packets.sender_at}}
+use Rattle.std.proofs.Common.{List, ap, length, subst, sym, ℕ, ◌<◌, ◌∙◌, ◌≡◌}
 
-pub target_of-target-requires-clause-inside : goal.target_of-target-requires-clause-inside
+pub target_of-target-requires-clause-inside : Rattle.c104_traffic.proofs.packets.sent_at.Goals.target_of-target-requires-clause-inside
 target_of-target-requires-clause-inside c =
     let is : c.sender_at-sender.result ≡ sender_at c.args.schedule.now.senders.items c.args.number = c.sender_at-sender.ensures ∙ ap (λ (xs : List ℕ). sender_at xs c.args.number) c.as_slice-senders.ensures.value in
     let below : sender_at c.args.schedule.now.senders.items c.args.number < length c.args.plan.now.terminals =

@@ -1,5 +1,4 @@
-use Rattle.std.proofs.Common.{ℕ, ◌<◌, List, length, subst, sym, ◌∙◌}
-use Rattle.c104_traffic.proofs.Senders.{some_items}
+use Rattle.{c104_traffic.proofs.Senders.some_items, std.proofs.Common.{List, length, subst, sym, ℕ, ◌<◌, ◌∙◌}}
 use Rattle.c104_traffic.proofs.schedules.find_schedule.Goals as goal
 
 pub returns-in-Some-clause-refused : goal.returns-in-Some-clause-refused

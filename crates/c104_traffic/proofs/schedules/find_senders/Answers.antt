@@ -1,8 +1,6 @@
-use Rattle.std.proofs.Common.{ℕ, ◌+◌, ◌-◌, List, ◌++◌, filter, length, ap, sym, ◌∙◌}
+use Rattle.{c104_plan.specs.declared.plans.Terminal.Terminal, c104_traffic.proofs.Senders.{senders_last, senders_next, senders_same}}
+use Rattle.{c104_traffic.specs.Targets.{is_sender, senders_of}, std.proofs.Common.{List, ap, filter, length, sym, ℕ, ◌++◌, ◌+◌, ◌-◌, ◌∙◌}}
 use Rattle.std.specs.List.{range_with_len}
-use Rattle.c104_plan.specs.declared.plans.Terminal.{Terminal}
-use Rattle.c104_traffic.specs.Targets.{is_sender, senders_of}
-use Rattle.c104_traffic.proofs.Senders.{senders_last, senders_next, senders_same}
 use Rattle.c104_traffic.proofs.schedules.find_senders.Goals as goal
 
 pub loop-terminal-preserved-then-not-is_sender : goal.loop-terminal-preserved-then-not-is_sender

@@ -1,5 +1,4 @@
-use Rattle.std.proofs.Common.{arith}
-use Rattle.c104_traffic.proofs.Squares.{done_few, done_small, reversed_last, reversed_next}
+use Rattle.{c104_traffic.proofs.Squares.{done_few, done_small, reversed_last, reversed_next}, std.proofs.Common.arith}
 use Rattle.c104_traffic.proofs.targets.reversed.Goals as goal
 
 pub overflow_mul-done : goal.overflow_mul-done

@@ -1,5 +1,4 @@
-use Rattle.std.proofs.Common.{arith}
-use Rattle.c104_traffic.proofs.Squares.{side_some, transposed_inside}
+use Rattle.{c104_traffic.proofs.Squares.{side_some, transposed_inside}, std.proofs.Common.arith}
 use Rattle.c104_traffic.proofs.targets.transposed.Goals as goal
 
 pub nonzero_rem-result : goal.nonzero_rem-result

@@ -1,8 +1,5 @@
-use Rattle.std.proofs.Common.{refl, ap, ◌∙◌}
-use Rattle.c104_traffic.specs.Packets.{byte_at}
-use Rattle.c104_traffic.specs.Texts.{hex_word}
-use Rattle.c104_traffic.proofs.Joining.{at_error, joins_same, stops_same}
-use Rattle.c104_traffic.proofs.Numbered.{reached_all, reached_first, reached_next, reached_stops}
+use Rattle.c104_traffic.proofs.{Joining.{at_error, joins_same, stops_same}, Numbered.{reached_all, reached_first, reached_next}}
+use Rattle.{c104_traffic.{proofs.Numbered.reached_stops, specs.{Packets.byte_at, Texts.hex_word}}, std.proofs.Common.{ap, refl, ◌∙◌}}
 use Rattle.c104_traffic.proofs.writing.write_bytes.Goals as goal
 
 pub loop-place-init : goal.loop-place-init

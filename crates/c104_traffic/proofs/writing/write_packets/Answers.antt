@@ -1,10 +1,6 @@
-use Rattle.std.proofs.Common.{ℕ, List, flat_map, ap, sym, ◌∙◌}
-use Rattle.std.specs.List.{range_with_len}
-use Rattle.rand_xoshiro.specs.SplitMix64.{mix_u64}
-use Rattle.c104_traffic.specs.Texts.{numbered_text, sent_text}
-use Rattle.c104_traffic.proofs.Joining.{at_error, joins_same, stops_same}
-use Rattle.c104_traffic.proofs.Numbered.{reached_all, reached_first, reached_next, reached_stops}
-use Rattle.c104_traffic.proofs.Senders.{generator_next}
+use Rattle.c104_traffic.proofs.{Joining.{at_error, joins_same, stops_same}, Numbered.{reached_all, reached_first, reached_next}}
+use Rattle.c104_traffic.{proofs.{Numbered.reached_stops, Senders.generator_next}, specs.Texts.{numbered_text, sent_text}}
+use Rattle.{rand_xoshiro.specs.SplitMix64.mix_u64, std.{proofs.Common.{List, ap, flat_map, sym, ℕ, ◌∙◌}, specs.List.range_with_len}}
 use Rattle.c104_traffic.proofs.writing.write_packets.Goals as goal
 
 pub loop-number-init : goal.loop-number-init

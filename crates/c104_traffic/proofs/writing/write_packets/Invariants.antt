@@ -1,11 +1,8 @@
-use Rattle.std.proofs.Common.{◌≡◌, ◌++◌}
-use Rattle.c104_traffic.specs.Packets.{generator_at}
-use Rattle.c104_traffic.specs.Texts.{numbered_text, traffic_text}
-use Rattle.c104_traffic.proofs.Numbered.{Reached}
-use Rattle.c104_traffic.proofs.writing.write_packets.Given as goal
+use Rattle.c104_traffic.{proofs.Numbered.Reached, specs.{Packets.generator_at, Texts.{numbered_text, traffic_text}}}
+use Rattle.std.proofs.Common.{◌++◌, ◌≡◌}
 
 -- the packets before this one have joined what is kept, and the generator has given a word for each
-abbrev pub invariant-loop-number : goal.invariant-loop-number
+abbrev pub invariant-loop-number : Rattle.c104_traffic.proofs.writing.write_packets.Given.invariant-loop-number
 invariant-loop-number g l = record {
   reached : Reached (numbered_text l.plan l.image l.schedule.pattern l.traffic l.schedule.senders.items) l.traffic.packets (g.W.Write.contents l.initial.writer) (g.W.Write.contents l.writer) l.kept
       (l.initial.kept ++ traffic_text l.plan l.image l.schedule.pattern l.traffic) l.number;

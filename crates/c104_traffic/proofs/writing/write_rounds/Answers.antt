@@ -1,7 +1,5 @@
-use Rattle.std.proofs.Common.{◌++◌, ◌∙◌, codes}
-use Rattle.c104_traffic.specs.Texts.{rounds_text}
-use Rattle.c104_traffic.proofs.Joining.{at_error, joins_none, joins_same, stops_same}
-use Rattle.c104_traffic.proofs.SendLines.{rounds_are}
+use Rattle.c104_traffic.{proofs.{Joining.{at_error, joins_none, joins_same, stops_same}, SendLines.rounds_are}, specs.Texts.rounds_text}
+use Rattle.std.proofs.Common.{codes, ◌++◌, ◌∙◌}
 use Rattle.c104_traffic.proofs.writing.write_rounds.Goals as goal
 
 pub returns-then-count-eq0-clause-kept : goal.returns-then-count-eq0-clause-kept

@@ -1,8 +1,6 @@
-use Rattle.std.proofs.Common.{◌++◌, ◌∙◌, codes}
-use Rattle.c104_traffic.specs.Packets.{packet_of}
-use Rattle.c104_traffic.specs.Texts.{send_text}
-use Rattle.c104_traffic.proofs.Joining.{at_error, joins_both, joins_first, joins_next, joins_same, stops_same}
-use Rattle.c104_traffic.proofs.SendLines.{bytes_of, front_of, line_is}
+use Rattle.c104_traffic.proofs.{Joining.{at_error, joins_both, joins_first, joins_next, joins_same, stops_same}, SendLines.bytes_of}
+use Rattle.{c104_traffic.{proofs.SendLines.{front_of, line_is}, specs.{Packets.packet_of, Texts.send_text}}, std.proofs.Common.codes}
+use Rattle.std.proofs.Common.{◌++◌, ◌∙◌}
 use Rattle.c104_traffic.proofs.writing.write_send.Goals as goal
 
 pub returns-in_err-write_three-clause-prefix : goal.returns-in_err-write_three-clause-prefix

@@ -1,6 +1,5 @@
-use Rattle.c104_traffic.specs.Packets.{packet_of}
-use Rattle.c104_traffic.specs.Texts.{rounds_text, send_text}
-use Rattle.c104_traffic.proofs.Joining.{at_error, joins_both, joins_first, joins_next}
+use Rattle.c104_traffic.{proofs.Joining.{at_error, joins_both, joins_first, joins_next}, specs.{Packets.packet_of, Texts.rounds_text}}
+use Rattle.c104_traffic.specs.Texts.{send_text}
 use Rattle.c104_traffic.proofs.writing.write_sent.Goals as goal
 
 pub returns-in_err-write_rounds-clause-prefix : goal.returns-in_err-write_rounds-clause-prefix

@@ -1,5 +1,4 @@
-use Rattle.std.proofs.Common.{◌++◌}
-use Rattle.c104_traffic.proofs.Joining.{at_error, joins_both, joins_first, joins_next}
+use Rattle.{c104_traffic.proofs.Joining.{at_error, joins_both, joins_first, joins_next}, std.proofs.Common.◌++◌}
 use Rattle.c104_traffic.proofs.writing.write_three.Goals as goal
 
 pub returns-in_err-add-clause-prefix : goal.returns-in_err-add-clause-prefix

@@ -1,7 +1,5 @@
-use Rattle.std.proofs.Common.{◌≡◌, drop}
-use Rattle.c104_workers.specs.Audited.{seat_list}
-use Rattle.c104_workers.proofs.auditing.seat_list.Given as goal
+use Rattle.{c104_workers.specs.Audited.seat_list, std.proofs.Common.{drop, ◌≡◌}}
 
 -- no seat so far has the number
-abbrev pub invariant-loop-seat : goal.invariant-loop-seat
+abbrev pub invariant-loop-seat : Rattle.c104_workers.proofs.auditing.seat_list.Given.invariant-loop-seat
 invariant-loop-seat l = seat_list l.fn.number (drop l.seat-index l.seats) ≡ seat_list l.fn.number l.seats

@@ -1,7 +1,5 @@
+use Rattle.{c104_node.specs.Records.has_link, c104_plan.proofs.RangeLists.map_next, c104_run.proofs.RoundLists.links_passed}
 use Rattle.std.proofs.Common.{List, ap, arith, map, ℕ, ◌∙◌}
-use Rattle.c104_node.specs.Records.{has_link}
-use Rattle.c104_plan.proofs.RangeLists.{map_next}
-use Rattle.c104_run.proofs.RoundLists.{links_passed}
 use Rattle.c104_workers.proofs.auditing.wired_links.Goals as goal
 
 pub loop-link-preserved : goal.loop-link-preserved

@@ -1,9 +1,7 @@
-use Rattle.std.proofs.Common.{[], ap, arith, length, map, refl, reverse, subst, sym, ℕ, ◌++◌, ◌+◌, ◌∙◌, ◌∷◌, ◌≡◌, ◌≤◌}
-use Rattle.std.proofs.lemmas.List.{length-append}
-use Rattle.c104_tickets.specs.Tickets.{count_of, one_within}
-use Rattle.c104_tickets.specs.declared.views.View.{View}
-use Rattle.c104_workers.specs.Fabrics.{AreSeatsOf, all_tickets, calls_of}
-use Rattle.c104_workers.proofs.GatheredSeats.{count_append, kept_last, no_tickets, seats_before, tickets_last}
+use Rattle.{c104_tickets.specs.{Tickets.{count_of, one_within}, declared.views.View.View}, c104_workers.proofs.GatheredSeats.count_append}
+use Rattle.c104_workers.{proofs.GatheredSeats.{kept_last, no_tickets, seats_before, tickets_last}, specs.Fabrics.{AreSeatsOf, all_tickets}}
+use Rattle.{c104_workers.specs.Fabrics.calls_of, std.proofs.Common.{[], ap, arith, length, map, refl, reverse, subst, sym, ℕ, ◌++◌, ◌+◌}}
+use Rattle.std.proofs.{Common.{◌∙◌, ◌∷◌, ◌≡◌, ◌≤◌}, lemmas.List.length-append}
 use Rattle.c104_workers.proofs.closing.gather.Goals as goal
 
 pub loop-seat-init : goal.loop-seat-init

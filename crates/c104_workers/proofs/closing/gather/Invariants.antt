@@ -1,7 +1,5 @@
-use Rattle.std.proofs.Common.{◌≡◌, ◌≤◌, ◌+◌, ◌++◌, ℕ, length, map, reverse}
-use Rattle.std.specs.Vec.{vec_capacity}
-use Rattle.c104_tickets.specs.Tickets.{count_of}
-use Rattle.c104_workers.specs.Fabrics.{AreSeatsOf, all_tickets, calls_of}
+use Rattle.{c104_tickets.specs.Tickets.count_of, c104_workers.specs.Fabrics.{AreSeatsOf, all_tickets, calls_of}, std.proofs.Common.length}
+use Rattle.std.{proofs.Common.{map, reverse, ℕ, ◌++◌, ◌+◌, ◌≡◌, ◌≤◌}, specs.Vec.vec_capacity}
 use Rattle.c104_workers.proofs.closing.gather.Given as goal
 
 -- what the seats so far left, the last first; and their tickets are the pass's

@@ -1,11 +1,6 @@
-use Rattle.std.proofs.Common.{[], ap, arith, length, map, rules, ℕ, ◌++◌, ◌+◌, ◌∙◌, ◌∷◌, ◌≡◌}
-use Rattle.std.proofs.lemmas.List.{length-append, map-append}
-use Rattle.c104_run.proofs.RoundLists.{map_next}
-use Rattle.c104_tickets.specs.Tickets.{after_split, new_seat}
-use Rattle.c104_tickets.specs.declared.views.View.{View}
-use Rattle.c104_workers.specs.Calls.{SeatView}
-use Rattle.c104_workers.specs.Fabrics.{first_seat, first_seats, seat_view}
-use Rattle.c104_workers.proofs.GatheredSeats.{first_own}
+use Rattle.{c104_run.proofs.RoundLists.map_next, c104_tickets.specs.{Tickets.{after_split, new_seat}, declared.views.View.View}}
+use Rattle.c104_workers.{proofs.GatheredSeats.first_own, specs.{Calls.SeatView, Fabrics.{first_seat, first_seats, seat_view}}}
+use Rattle.std.proofs.{Common.{[], ap, arith, length, map, rules, ℕ, ◌++◌, ◌+◌, ◌∙◌, ◌∷◌, ◌≡◌}, lemmas.List.{length-append, map-append}}
 use Rattle.c104_workers.proofs.making.fill_seats.Goals as goal
 
 pub loop-made-preserved : goal.loop-made-preserved

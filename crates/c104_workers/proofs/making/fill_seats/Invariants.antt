@@ -1,11 +1,8 @@
-use Rattle.std.proofs.Common.{◌≡◌, ◌+◌, length, map}
-use Rattle.std.specs.List.{range_with_len}
-use Rattle.std.specs.Vec.{vec_capacity}
-use Rattle.c104_workers.specs.Fabrics.{first_seat, first_view_after, seat_view}
-use Rattle.c104_workers.proofs.making.fill_seats.Given as goal
+use Rattle.{c104_workers.specs.Fabrics.{first_seat, first_view_after, seat_view}, std.proofs.Common.{length, map, ◌+◌, ◌≡◌}}
+use Rattle.std.specs.{List.range_with_len, Vec.vec_capacity}
 
 -- the seats so far, but for the first
-abbrev pub invariant-loop-made : goal.invariant-loop-made
+abbrev pub invariant-loop-made : Rattle.c104_workers.proofs.making.fill_seats.Given.invariant-loop-made
 invariant-loop-made l = record {
   word : l.pass.word_id ≡ l.word.word_id;
   view : l.pass.view ≡ first_view_after l.fn.terms (l.made + 1);

@@ -1,5 +1,4 @@
-use Rattle.std.proofs.Common.{◌≡◌, ◌≤◌, ◌+◌, length}
-use Rattle.std.specs.Vec.{vec_capacity}
+use Rattle.std.{proofs.Common.{length, ◌+◌, ◌≡◌, ◌≤◌}, specs.Vec.vec_capacity}
 use Rattle.c104_workers.proofs.making.lock_all.Given as goal
 
 -- each node is in one of the lists

@@ -1,6 +1,5 @@
-use Rattle.std.proofs.Common.{length, slice_index_or, subst, sym, ◌<◌}
-use Rattle.c104_workers.specs.Fabrics.{IsSeatOf}
-use Rattle.c104_workers.proofs.SeatWork.{seat_at, seat_stays, seats_all}
+use Rattle.{c104_workers.{proofs.SeatWork.{seat_at, seat_stays, seats_all}, specs.Fabrics.IsSeatOf}, std.proofs.Common.length}
+use Rattle.std.proofs.Common.{slice_index_or, subst, sym, ◌<◌}
 use Rattle.c104_workers.proofs.workers.run_workers.Goals as goal
 
 pub for_each_mut-requires-clause-accepts : goal.for_each_mut-requires-clause-accepts

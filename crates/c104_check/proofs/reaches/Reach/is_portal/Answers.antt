@@ -1,11 +1,6 @@
-use Rattle.std.proofs.Common.{◌≡◌, ◌↔◌, false, IsTrue, List, length, sym, subst}
-use Rattle.std.specs.List.{AllByRecursion}
-use Rattle.c104_check.specs.ChannelDependencies.{IsNeverRandomized}
-use Rattle.c104_check.specs.Parts.{IsDiscardedAt}
-use Rattle.c104_check.specs.Reach.{NetworkHeader, routes_for}
-use Rattle.c104_check.specs.Routes.{SwitchPort}
-use Rattle.c104_check.specs.Trails.{IsInput, routes_in}
-use Rattle.c104_check.proofs.PartLemmas.{portal_told, none_discarded}
+use Rattle.c104_check.{proofs.PartLemmas.{none_discarded, portal_told}, specs.{ChannelDependencies.IsNeverRandomized, Parts.IsDiscardedAt}}
+use Rattle.{c104_check.specs.{Reach.{NetworkHeader, routes_for}, Routes.SwitchPort, Trails.{IsInput, routes_in}}, std.proofs.Common.IsTrue}
+use Rattle.std.{proofs.Common.{List, false, length, subst, sym, ◌↔◌, ◌≡◌}, specs.List.AllByRecursion}
 use Rattle.c104_check.proofs.reaches.Reach.is_portal.Goals as goal
 
 pub is_discarded_at-requires : goal.is_discarded_at-requires

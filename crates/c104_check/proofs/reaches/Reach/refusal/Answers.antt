@@ -1,9 +1,5 @@
-use Rattle.std.proofs.Common.{IfOk, List, MatchOption, length, sym, subst}
-use Rattle.c104_check.specs.Parts.{IsNeverRefused, TellsFirst}
-use Rattle.c104_check.specs.Reach.{NetworkHeader, routes_for}
-use Rattle.c104_check.specs.Refusals.{Start}
-use Rattle.c104_check.specs.Starts.{AreOwnStarts}
-use Rattle.c104_check.specs.Trails.{routes_in}
+use Rattle.c104_check.specs.{Parts.{IsNeverRefused, TellsFirst}, Reach.{NetworkHeader, routes_for}, Refusals.Start, Starts.AreOwnStarts}
+use Rattle.{c104_check.specs.Trails.routes_in, std.proofs.Common.{IfOk, List, MatchOption, length, subst, sym}}
 use Rattle.c104_check.proofs.reaches.Reach.refusal.Goals as goal
 
 pub first_refusal-requires-clause-starts : goal.first_refusal-requires-clause-starts

@@ -1,11 +1,6 @@
-use Rattle.std.proofs.Common.{◌≡◌, ◌↔◌, false, IsTrue, List, length, sym, subst}
-use Rattle.std.specs.List.{AllByRecursion}
-use Rattle.c104_check.specs.ChannelDependencies.{IsNeverRandomized}
-use Rattle.c104_check.specs.Parts.{IsTakenAsRandom}
-use Rattle.c104_check.specs.Reach.{NetworkHeader, routes_for}
-use Rattle.c104_check.specs.Routes.{SwitchPort}
-use Rattle.c104_check.specs.Trails.{IsInput, routes_in}
-use Rattle.c104_check.proofs.PartLemmas.{random_taken, none_taken}
+use Rattle.c104_check.{proofs.PartLemmas.{none_taken, random_taken}, specs.{ChannelDependencies.IsNeverRandomized, Parts.IsTakenAsRandom}}
+use Rattle.{c104_check.specs.{Reach.{NetworkHeader, routes_for}, Routes.SwitchPort, Trails.{IsInput, routes_in}}, std.proofs.Common.IsTrue}
+use Rattle.std.{proofs.Common.{List, false, length, subst, sym, ◌↔◌, ◌≡◌}, specs.List.AllByRecursion}
 use Rattle.c104_check.proofs.reaches.Reach.takes_as_random.Goals as goal
 
 pub takes_from-requires : goal.takes_from-requires

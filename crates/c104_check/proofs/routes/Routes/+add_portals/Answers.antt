@@ -1,9 +1,6 @@
-use Rattle.std.proofs.Common.{◌-◌, ◌+◌, false, slice_index_or, sym, ap, ◌∙◌, arith}
-use Rattle.c104_plan.specs.declared.ports.Port.TheVariants as port
-use Rattle.c104_check.specs.Portals.{met_from}
-use Rattle.c104_check.specs.Starts.{add_all}
-use Rattle.c104_check.specs.Trails.{routes_in}
 use Rattle.c104_check.proofs.PortalLemmas.{add_known, group_met, joined_walked, link_homes, link_input, link_next, links_end, walked_more}
+use Rattle.{c104_check.specs.{Portals.met_from, Starts.add_all, Trails.routes_in}, c104_plan.specs.declared.ports.Port.Port}
+use Rattle.std.proofs.Common.{ap, arith, false, slice_index_or, sym, ◌+◌, ◌-◌, ◌∙◌}
 use Rattle.c104_check.proofs.routes.Routes.+add_portals.Goals as goal
 
 pub returns-then-walked-place-clause-met : goal.returns-then-walked-place-clause-met
@@ -26,7 +23,7 @@ pub add_portals-requires : goal.add_portals-requires
 add_portals-requires t c =
     let routes = routes_in c.args.self.now in
     let on = link_homes routes c.args.header c.args.hops c.loop-link.link c.args.at c.input_at-next.result c.in-Some.group c.in-Some.ensures c.loop-link.auto.link c.loop-link-test.true c.input_at-next.ensures c.requires.homes in
-    (let low = on.0 in omega (arith, low, c.decreases), (c.requires.network, (c.requires.network.inputs (port.Switch c.args.at.switch c.loop-link.link) c.input_at-next.result c.input_at-next.ensures, (on.1, (c.loop-link.auto.walked ∙ c.requires.room, c.loop-link.invariant.walked)))))
+    (let low = on.0 in omega (arith, low, c.decreases), (c.requires.network, (c.requires.network.inputs (Port.Switch c.args.at.switch c.loop-link.link) c.input_at-next.result c.input_at-next.ensures, (on.1, (c.loop-link.auto.walked ∙ c.requires.room, c.loop-link.invariant.walked)))))
 
 pub loop-link-preserved : goal.loop-link-preserved
 loop-link-preserved t c = record {

@@ -1,7 +1,5 @@
-use Rattle.std.proofs.Common.{◌≡◌, ◌-◌}
-use Rattle.c104_check.specs.Portals.{met_behind, met_from}
-use Rattle.c104_check.specs.Starts.{AreWalked, add_all}
-use Rattle.c104_check.specs.Trails.{routes_in, run_peers}
+use Rattle.c104_check.specs.{Portals.{met_behind, met_from}, Starts.{AreWalked, add_all}, Trails.{routes_in, run_peers}}
+use Rattle.std.proofs.Common.{◌-◌, ◌≡◌}
 use Rattle.c104_check.proofs.routes.Routes.+add_portals.Given as goal
 
 abbrev pub decreases-add_portals : goal.decreases-add_portals

@@ -1,6 +1,5 @@
-use Rattle.std.proofs.Common.{not, ap, ◌∙◌}
-use Rattle.c104_check.specs.Trails.{routes_in}
-use Rattle.c104_check.proofs.DependencyLemmas.{own_arrive, own_listed, unowned_listed}
+use Rattle.{c104_check.{proofs.DependencyLemmas.{own_arrive, own_listed, unowned_listed}, specs.Trails.routes_in}, std.proofs.Common.ap}
+use Rattle.std.proofs.Common.{not, ◌∙◌}
 use Rattle.c104_check.proofs.routes.Routes.add_as_own.Goals as goal
 
 pub returns-then-is_none-clause-listed : goal.returns-then-is_none-clause-listed

@@ -1,5 +1,4 @@
-use Rattle.c104_check.specs.Trails.{routes_in}
-use Rattle.c104_check.proofs.DependencyLemmas.{never_listed, random_arrive, random_listed}
+use Rattle.c104_check.{proofs.DependencyLemmas.{never_listed, random_arrive, random_listed}, specs.Trails.routes_in}
 use Rattle.c104_check.proofs.routes.Routes.add_as_random.Goals as goal
 
 pub returns-then-not-randomized-clause-listed : goal.returns-then-not-randomized-clause-listed

@@ -1,12 +1,6 @@
-use Rattle.std.proofs.Common.{◌+◌, refl, slice_index_or}
-use Rattle.c104_check.specs.ChannelDependencies.{MayComeBy}
-use Rattle.c104_check.specs.Dependencies.{AreListedAt}
-use Rattle.c104_check.specs.Routes.{SwitchPort}
-use Rattle.c104_check.specs.Trails.{routes_in}
-use Rattle.c104_check.proofs.DependencyLemmas.{at_next, extended_more}
-use Rattle.c104_check.proofs.Walked.{met_at}
-use Rattle.c104_check.proofs.ReachLemmas.{all_taken}
-use Rattle.c104_check.proofs.TrailLemmas.{All-found}
+use Rattle.c104_check.proofs.{DependencyLemmas.{at_next, extended_more}, ReachLemmas.all_taken, TrailLemmas.All-found, Walked.met_at}
+use Rattle.c104_check.specs.{ChannelDependencies.MayComeBy, Dependencies.AreListedAt, Routes.SwitchPort, Trails.routes_in}
+use Rattle.std.proofs.Common.{refl, slice_index_or, ◌+◌}
 use Rattle.c104_check.proofs.routes.Routes.add_at_all.Goals as goal
 
 pub add_at_input-requires-clause-arrives : goal.add_at_input-requires-clause-arrives

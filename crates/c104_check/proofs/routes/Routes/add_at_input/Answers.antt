@@ -1,6 +1,5 @@
-use Rattle.std.proofs.Common.{◌+◌, arith}
-use Rattle.c104_check.specs.Trails.{routes_in}
-use Rattle.c104_check.proofs.DependencyLemmas.{from_all, from_next, extended_more, link_depends}
+use Rattle.c104_check.{proofs.DependencyLemmas.{extended_more, from_all, from_next, link_depends}, specs.Trails.routes_in}
+use Rattle.std.proofs.Common.{arith, ◌+◌}
 use Rattle.c104_check.proofs.routes.Routes.add_at_input.Goals as goal
 
 pub add_over_link-requires-clause-depends : goal.add_over_link-requires-clause-depends

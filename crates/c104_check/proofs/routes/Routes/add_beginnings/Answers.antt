@@ -1,8 +1,5 @@
-use Rattle.std.proofs.Common.{slice_index_or}
-use Rattle.std.proofs.lemmas.Option.{slice_get-get_or}
-use Rattle.c104_check.specs.Trails.{routes_in}
-use Rattle.c104_check.proofs.PartLemmas.{start_joined, starts_all, starts_none}
-use Rattle.c104_check.proofs.RefusalLemmas.{no_start}
+use Rattle.c104_check.{proofs.{PartLemmas.{start_joined, starts_all, starts_none}, RefusalLemmas.no_start}, specs.Trails.routes_in}
+use Rattle.std.proofs.{Common.slice_index_or, lemmas.Option.slice_get-get_or}
 use Rattle.c104_check.proofs.routes.Routes.add_beginnings.Goals as goal
 
 pub loop-start-init : goal.loop-start-init

@@ -1,9 +1,6 @@
-use Rattle.std.proofs.Common.{◌≡◌, ◌+◌, List, Some, slice_get, slice_index_or, subst, sym, arith}
+use Rattle.c104_check.{proofs.StartLemmas.{AreBehind, behind_all, behind_first, behind_next}, specs.{Refusals.Start, Trails.routes_in}}
+use Rattle.{c104_check.specs.Walks.port_of, std.proofs.Common.{List, Some, arith, slice_get, slice_index_or, subst, sym, ◌+◌, ◌≡◌}}
 use Rattle.std.proofs.lemmas.Option.{slice_get-get_or}
-use Rattle.c104_check.specs.Refusals.{Start}
-use Rattle.c104_check.specs.Trails.{routes_in}
-use Rattle.c104_check.specs.Walks.{port_of}
-use Rattle.c104_check.proofs.StartLemmas.{AreBehind, behind_all, behind_first, behind_next}
 use Rattle.c104_check.proofs.routes.Routes.add_behind.Goals as goal
 
 pub loop-number-init : goal.loop-number-init

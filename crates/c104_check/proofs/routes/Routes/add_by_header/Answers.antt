@@ -1,6 +1,4 @@
-use Rattle.std.proofs.Common.{◌+◌}
-use Rattle.c104_check.specs.Trails.{routes_in}
-use Rattle.c104_check.proofs.DependencyLemmas.{both_listed, extended_more}
+use Rattle.{c104_check.{proofs.DependencyLemmas.{both_listed, extended_more}, specs.Trails.routes_in}, std.proofs.Common.◌+◌}
 use Rattle.c104_check.proofs.routes.Routes.add_by_header.Goals as goal
 
 pub returns-clause-kept : goal.returns-clause-kept

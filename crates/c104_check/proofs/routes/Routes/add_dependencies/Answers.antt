@@ -1,8 +1,5 @@
-use Rattle.std.proofs.Common.{◌+◌, ◌≡◌, arith, subst}
-use Rattle.c104_check.specs.Dependencies.{IsExtended}
-use Rattle.c104_check.specs.Routes.{header_count}
-use Rattle.c104_check.specs.Trails.{routes_in}
-use Rattle.c104_check.proofs.DependencyLemmas.{below_all, below_more, below_next, extended_more}
+use Rattle.c104_check.{proofs.DependencyLemmas.{below_all, below_more, below_next, extended_more}, specs.Dependencies.IsExtended}
+use Rattle.{c104_check.specs.{Routes.header_count, Trails.routes_in}, std.proofs.Common.{arith, subst, ◌+◌, ◌≡◌}}
 use Rattle.c104_check.proofs.routes.Routes.add_dependencies.Goals as goal
 
 pub add_by_header-requires-clause-low : goal.add_by_header-requires-clause-low

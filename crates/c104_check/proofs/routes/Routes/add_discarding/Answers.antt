@@ -1,8 +1,5 @@
-use Rattle.std.proofs.Common.{refl, slice_index_or}
-use Rattle.c104_check.specs.Routes.{SwitchPort}
-use Rattle.c104_check.specs.Trails.{routes_in}
-use Rattle.c104_check.proofs.OwnStarts.{discarding_next, have_found, have_kept}
-use Rattle.c104_check.proofs.Walked.{met_at}
+use Rattle.c104_check.{proofs.{OwnStarts.{discarding_next, have_found, have_kept}, Walked.met_at}, specs.Routes.SwitchPort}
+use Rattle.{c104_check.specs.Trails.routes_in, std.proofs.Common.{refl, slice_index_or}}
 use Rattle.c104_check.proofs.routes.Routes.add_discarding.Goals as goal
 
 pub add_if_discarding-requires-clause-reached : goal.add_if_discarding-requires-clause-reached

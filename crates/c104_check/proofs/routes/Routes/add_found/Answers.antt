@@ -1,6 +1,4 @@
-use Rattle.std.proofs.Common.{arith}
-use Rattle.c104_check.specs.Trails.{routes_in}
-use Rattle.c104_check.proofs.OwnStarts.{have_none, own_random}
+use Rattle.{c104_check.{proofs.OwnStarts.{have_none, own_random}, specs.Trails.routes_in}, std.proofs.Common.arith}
 use Rattle.c104_check.proofs.routes.Routes.add_found.Goals as goal
 
 pub loop-header-init : goal.loop-header-init

@@ -1,9 +1,5 @@
-use Rattle.std.proofs.Common.{◌≡◌, sym, subst, ◌∙◌}
-use Rattle.c104_check.specs.Parts.{AreJust, IsReachedFrom}
-use Rattle.c104_check.specs.Trails.{routes_in}
-use Rattle.c104_check.proofs.OwnStarts.{have_passed, have_quiet}
-use Rattle.c104_check.proofs.HomeLemmas.{wired_entry}
-use Rattle.c104_check.proofs.RandomLemmas.{random_at_tells}
+use Rattle.c104_check.proofs.{HomeLemmas.wired_entry, OwnStarts.{have_passed, have_quiet}, RandomLemmas.random_at_tells}
+use Rattle.{c104_check.specs.{Parts.{AreJust, IsReachedFrom}, Trails.routes_in}, std.proofs.Common.{subst, sym, ◌∙◌, ◌≡◌}}
 use Rattle.c104_check.proofs.routes.Routes.add_found_by.Goals as goal
 
 pub returns-then-not-is_random_at-clause-portals : goal.returns-then-not-is_random_at-clause-portals

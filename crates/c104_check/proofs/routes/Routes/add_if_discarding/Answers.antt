@@ -1,6 +1,5 @@
-use Rattle.std.proofs.Common.{◌≡◌, true, false, sym, ◌∙◌}
-use Rattle.c104_check.specs.Trails.{routes_in}
-use Rattle.c104_check.proofs.OwnStarts.{own_result, kept_result, have_result}
+use Rattle.{c104_check.{proofs.OwnStarts.{have_result, kept_result, own_result}, specs.Trails.routes_in}, std.proofs.Common.{false, sym}}
+use Rattle.std.proofs.Common.{true, ◌∙◌, ◌≡◌}
 use Rattle.c104_check.proofs.routes.Routes.add_if_discarding.Goals as goal
 
 pub returns-then-not-discards-clause-have : goal.returns-then-not-discards-clause-have

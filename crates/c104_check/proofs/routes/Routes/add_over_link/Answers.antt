@@ -1,12 +1,7 @@
-use Rattle.std.proofs.Common.{◌≡◌, ◌∙◌, ◌+◌, ◌*◌, ℕ, Some, ap, slice_set, subst, sym}
-use Rattle.c104_check.specs.Dependencies.{Dependency, IsExtended}
-use Rattle.c104_check.specs.Routes.{to_port}
-use Rattle.c104_check.specs.Trails.{routes_in}
-use Rattle.c104_check.specs.Walks.{port_of}
-use Rattle.c104_check.proofs.DependencyLemmas.{extended_one}
-use Rattle.c104_check.proofs.routes.Routes.add_over_link.Goals as goal
+use Rattle.c104_check.{proofs.DependencyLemmas.extended_one, specs.{Dependencies.{Dependency, IsExtended}, Routes.to_port}}
+use Rattle.{c104_check.specs.{Trails.routes_in, Walks.port_of}, std.proofs.Common.{Some, ap, slice_set, subst, sym, ℕ, ◌*◌, ◌+◌, ◌∙◌, ◌≡◌}}
 
-pub returns-in-Some-Switch-clause-kept : goal.returns-in-Some-Switch-clause-kept
+pub returns-in-Some-Switch-clause-kept : Rattle.c104_check.proofs.routes.Routes.add_over_link.Goals.returns-in-Some-Switch-clause-kept
 returns-in-Some-Switch-clause-kept c =
     let routes = routes_in c.args.self.now in
     let o = c.args.link.link in

@@ -1,12 +1,7 @@
-use Rattle.std.proofs.Common.{◌+◌, List, sym, subst, ◌∙◌}
-use Rattle.c104_check.specs.Refusals.{Start}
-use Rattle.c104_check.specs.Starts.{AreOwnStarts}
-use Rattle.c104_check.specs.Trails.{routes_in}
-use Rattle.c104_check.proofs.OwnStarts.{own_plain}
-use Rattle.c104_check.proofs.StartLemmas.{plain_of}
-use Rattle.c104_check.proofs.routes.Routes.add_own_starts.Goals as goal
+use Rattle.c104_check.{proofs.{OwnStarts.own_plain, StartLemmas.plain_of}, specs.{Refusals.Start, Starts.AreOwnStarts, Trails.routes_in}}
+use Rattle.std.proofs.Common.{List, subst, sym, ◌+◌, ◌∙◌}
 
-pub returns : goal.returns
+pub returns : Rattle.c104_check.proofs.routes.Routes.add_own_starts.Goals.returns
 returns c =
     let routes = routes_in c.args.self.now in
     let plain = plain_of routes c.entry-entry.result c.settings.result.now c.settings.ensures.settings (sym c.randomize.ensures ∙ c.if-randomize.false) in

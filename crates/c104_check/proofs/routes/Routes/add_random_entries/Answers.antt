@@ -1,12 +1,8 @@
-use Rattle.std.proofs.Common.{◌≡◌, ◌<◌, true, false, length, sym, ap, subst, ◌∙◌, arith}
-use Rattle.c104_check.specs.Parts.{AreJust, IsRandomBeginning}
-use Rattle.c104_check.specs.Reach.{AreDistinctInputs}
-use Rattle.c104_check.specs.Routes.{IsRandomAt, header_count}
-use Rattle.c104_check.specs.Trails.{routes_in}
-use Rattle.c104_check.proofs.PartLemmas.{no_header}
-use Rattle.c104_check.proofs.RandomLemmas.{random_at_tells, random_at_told}
-use Rattle.c104_check.proofs.ReachLemmas.{entries_all, entries_first, entry_joined, entry_passed, just_none, none_found}
-use Rattle.c104_check.proofs.routes.Routes.add_random_entries.Goals.{then-is_random_at+in_ok-add, else-is_random_at}
+use Rattle.c104_check.proofs.{PartLemmas.no_header, RandomLemmas.{random_at_tells, random_at_told}, ReachLemmas.entries_all}
+use Rattle.c104_check.{proofs.ReachLemmas.{entries_first, entry_joined, entry_passed, just_none, none_found}, specs.Parts.AreJust}
+use Rattle.c104_check.specs.{Parts.IsRandomBeginning, Reach.AreDistinctInputs, Routes.{IsRandomAt, header_count}, Trails.routes_in}
+use Rattle.std.proofs.Common.{ap, arith, false, length, subst, sym, true, ◌<◌, ◌∙◌, ◌≡◌}
+use Rattle.c104_check.proofs.routes.Routes.add_random_entries.Goals.{else-is_random_at, then-is_random_at+in_ok-add}
 use Rattle.c104_check.proofs.routes.Routes.add_random_entries.Goals as goal
 
 pub returns-then-header-header_count : goal.returns-then-header-header_count

@@ -1,11 +1,6 @@
-use Rattle.std.proofs.Common.{◌≡◌, ◌<◌, Some, length, slice_get, refl, sym, subst, arith}
-use Rattle.std.proofs.lemmas.Option.{slice_get_read}
-use Rattle.c104_check.specs.Parts.{Has, IsReachedFrom}
-use Rattle.c104_check.specs.Shown.{Follows}
-use Rattle.c104_check.specs.Trails.{routes_in}
-use Rattle.c104_check.proofs.Walked.{met_at}
 use Rattle.c104_check.proofs.ReachLemmas.{all_followers_next, all_reached, longer_reached, longer_same, longer_within}
-use Rattle.c104_check.proofs.TrailLemmas.{inputs_room}
+use Rattle.c104_check.{proofs.{TrailLemmas.inputs_room, Walked.met_at}, specs.{Parts.{Has, IsReachedFrom}, Shown.Follows, Trails.routes_in}}
+use Rattle.std.proofs.{Common.{Some, arith, length, refl, slice_get, subst, sym, ◌<◌, ◌≡◌}, lemmas.Option.slice_get_read}
 use Rattle.c104_check.proofs.routes.Routes.add_reached.Goals as goal
 
 pub loop-done-init : goal.loop-done-init

@@ -1,7 +1,5 @@
-use Rattle.std.proofs.Common.{◌*◌, ◌-◌, ◌≤◌, length}
-use Rattle.c104_check.specs.Parts.{Has, IsReachedFrom}
-use Rattle.c104_check.specs.Reach.{AreDistinctInputs, HaveAllFollowers, IsLongerBy}
-use Rattle.c104_check.specs.Trails.{routes_in}
+use Rattle.c104_check.specs.{Parts.{Has, IsReachedFrom}, Reach.{AreDistinctInputs, HaveAllFollowers, IsLongerBy}, Trails.routes_in}
+use Rattle.std.proofs.Common.{length, ◌*◌, ◌-◌, ◌≤◌}
 use Rattle.c104_check.proofs.routes.Routes.add_reached.Given as goal
 
 -- no input is found twice

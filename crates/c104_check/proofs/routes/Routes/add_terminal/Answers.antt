@@ -1,10 +1,6 @@
-use Rattle.std.proofs.Common.{◌+◌, arith, false, List, sym, subst, ◌∙◌}
-use Rattle.c104_check.specs.Refusals.{Start}
-use Rattle.c104_check.specs.Routes.{SwitchPort}
-use Rattle.c104_check.specs.Starts.{AreStarts, CoverPortals, CoverTerminals}
-use Rattle.c104_check.specs.Trails.{routes_in}
-use Rattle.c104_check.proofs.HomeLemmas.{all_home, is_none_of}
-use Rattle.c104_check.proofs.StartLemmas.{first_random_of, plain_covers, plain_of, plain_starts, portals_front}
+use Rattle.c104_check.proofs.{HomeLemmas.{all_home, is_none_of}, StartLemmas.{first_random_of, plain_covers, plain_of, plain_starts}}
+use Rattle.c104_check.{proofs.StartLemmas.portals_front, specs.{Refusals.Start, Routes.SwitchPort, Starts.{AreStarts, CoverPortals}}}
+use Rattle.{c104_check.specs.{Starts.CoverTerminals, Trails.routes_in}, std.proofs.Common.{List, arith, false, subst, sym, ◌+◌, ◌∙◌}}
 use Rattle.c104_check.proofs.routes.Routes.add_terminal.Goals as goal
 
 pub returns-then-not-randomize-clause-starts : goal.returns-then-not-randomize-clause-starts

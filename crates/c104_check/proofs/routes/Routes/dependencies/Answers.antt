@@ -1,10 +1,6 @@
-use Rattle.std.proofs.Common.{◌∙◌, ◌*◌, Option, List, length, sym, subst}
-use Rattle.c104_check.specs.Dependencies.{AreByBelow, AreDependencies, AreListedBelow, Dependency}
-use Rattle.c104_check.specs.Refusals.{Start}
-use Rattle.c104_check.specs.Routes.{header_count}
-use Rattle.c104_check.specs.Starts.{AreOwnStarts}
-use Rattle.c104_check.specs.Trails.{routes_in}
-use Rattle.c104_check.proofs.DependencyLemmas.{by_none, dependencies_none, none_only, written}
+use Rattle.c104_check.{proofs.DependencyLemmas.{by_none, dependencies_none, none_only, written}, specs.Dependencies.AreByBelow}
+use Rattle.c104_check.specs.{Dependencies.{AreDependencies, AreListedBelow, Dependency}, Refusals.Start, Routes.header_count}
+use Rattle.{c104_check.specs.{Starts.AreOwnStarts, Trails.routes_in}, std.proofs.Common.{List, Option, length, subst, sym, ◌*◌, ◌∙◌}}
 use Rattle.c104_check.proofs.routes.Routes.dependencies.Goals as goal
 
 pub add_dependencies-requires-clause-starts : goal.add_dependencies-requires-clause-starts

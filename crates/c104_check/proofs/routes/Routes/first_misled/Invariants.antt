@@ -1,12 +1,8 @@
-use Rattle.std.proofs.Common.{◌≡◌, ◌*◌, [], length}
-use Rattle.c104_check.specs.Refusals.{LandsBefore}
-use Rattle.c104_check.specs.Walking.{AreGood, TellMet}
-use Rattle.c104_check.specs.Trails.{routes_in}
-use Rattle.c104_check.specs.declared.walks.Goal.TheVariants.{Owner}
-use Rattle.c104_check.proofs.routes.Routes.first_misled.Given as goal
+use Rattle.c104_check.specs.{Refusals.LandsBefore, Trails.routes_in, Walking.{AreGood, TellMet}, declared.walks.Goal.TheVariants.Owner}
+use Rattle.std.proofs.Common.{[], length, ◌*◌, ◌≡◌}
 
 -- the header comes where it should at each start so far, and what is marked holds
-abbrev pub invariant-loop-number : goal.invariant-loop-number
+abbrev pub invariant-loop-number : Rattle.c104_check.proofs.routes.Routes.first_misled.Given.invariant-loop-number
 invariant-loop-number l = record {
   before : LandsBefore (routes_in l.self) l.starts l.header l.number;
   good : AreGood (routes_in l.self) l.header (Owner l.owner) l.marks;

@@ -1,10 +1,5 @@
-use Rattle.std.proofs.Common.{length, sym, subst, arith}
-use Rattle.c104_check.specs.Checks.{IsFirstLink}
-use Rattle.c104_check.specs.Routes.{IsRandomized}
-use Rattle.c104_check.specs.Trails.{routes_in}
-use Rattle.c104_check.proofs.LinkLemmas.{first_link, no_link, none_next}
-use Rattle.c104_check.proofs.RangeLemmas.{not_true}
-use Rattle.c104_check.proofs.TableLemmas.{randomized_input}
+use Rattle.c104_check.proofs.{LinkLemmas.{first_link, no_link, none_next}, RangeLemmas.not_true, TableLemmas.randomized_input}
+use Rattle.{c104_check.specs.{Checks.IsFirstLink, Routes.IsRandomized, Trails.routes_in}, std.proofs.Common.{arith, length, subst, sym}}
 use Rattle.c104_check.proofs.routes.Routes.first_randomized.Goals as goal
 
 pub returns-then-is_randomized : goal.returns-then-is_randomized

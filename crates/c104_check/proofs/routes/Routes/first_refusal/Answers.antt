@@ -1,9 +1,5 @@
-use Rattle.std.proofs.Common.{Option, MatchOption, length, sym, subst, ◌∙◌, arith}
-use Rattle.c104_check.specs.Parts.{IsFirstRefusal, IsNeverRefused}
-use Rattle.c104_check.specs.Refusals.{Refusal}
-use Rattle.c104_check.specs.Trails.{routes_in}
-use Rattle.c104_check.proofs.Homeless.{told_first}
-use Rattle.c104_check.proofs.OwnStarts.{own_inputs}
+use Rattle.c104_check.{proofs.{Homeless.told_first, OwnStarts.own_inputs}, specs.{Parts.{IsFirstRefusal, IsNeverRefused}, Refusals.Refusal}}
+use Rattle.{c104_check.specs.Trails.routes_in, std.proofs.Common.{MatchOption, Option, arith, length, subst, sym, ◌∙◌}}
 use Rattle.c104_check.proofs.routes.Routes.first_refusal.Goals as goal
 
 pub returns-then-header-header_count : goal.returns-then-header-header_count

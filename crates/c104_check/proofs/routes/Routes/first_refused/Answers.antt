@@ -1,7 +1,5 @@
-use Rattle.std.proofs.Common.{List, Option, MatchOption, sym, subst}
-use Rattle.c104_check.specs.Refusals.{AllLand, AreInputs, IsFirstIn, Refusal, Start}
-use Rattle.c104_check.specs.Trails.{routes_in}
-use Rattle.c104_check.proofs.StartLemmas.{starts_inputs, told_first, told_last}
+use Rattle.c104_check.{proofs.StartLemmas.{starts_inputs, told_first, told_last}, specs.Refusals.{AllLand, AreInputs, IsFirstIn, Refusal}}
+use Rattle.{c104_check.specs.{Refusals.Start, Trails.routes_in}, std.proofs.Common.{List, MatchOption, Option, subst, sym}}
 use Rattle.c104_check.proofs.routes.Routes.first_refused.Goals as goal
 
 pub first_at-requires-clause-starts : goal.first_at-requires-clause-starts

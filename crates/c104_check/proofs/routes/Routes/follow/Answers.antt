@@ -1,11 +1,6 @@
-use Rattle.std.proofs.Common.{◌<◌, ◌+◌, ◌-◌, ◌*◌, ◌∙◌, List, length, refl, sym, subst, arith}
-use Rattle.std.specs.List.{AllByRecursion, IsDistinct}
-use Rattle.c104_check.specs.Trails.{IsInput, routes_in}
-use Rattle.c104_check.specs.ChannelDependencies.{ChannelDependency}
-use Rattle.c104_check.specs.Walks.{is_port}
-use Rattle.c104_check.specs.FirstCycles.{IsWay}
-use Rattle.c104_check.proofs.CycleCuts.{IsChain, inputs_of}
-use Rattle.c104_check.proofs.CycleWalks.{first_cut, follow_next, none_chained}
+use Rattle.c104_check.proofs.{CycleCuts.{IsChain, inputs_of}, CycleWalks.{first_cut, follow_next, none_chained}}
+use Rattle.c104_check.specs.{ChannelDependencies.ChannelDependency, FirstCycles.IsWay, Trails.{IsInput, routes_in}, Walks.is_port}
+use Rattle.std.{proofs.Common.{List, arith, length, refl, subst, sym, ◌*◌, ◌+◌, ◌-◌, ◌<◌, ◌∙◌}, specs.List.{AllByRecursion, IsDistinct}}
 use Rattle.c104_check.proofs.routes.Routes.follow.Goals as goal
 
 pub loop-first-init : goal.loop-first-init

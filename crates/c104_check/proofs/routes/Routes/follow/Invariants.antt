@@ -1,10 +1,5 @@
-use Rattle.std.proofs.Common.{◌≡◌, ◌+◌, ◌-◌, ◌*◌, length}
-use Rattle.std.specs.List.{AllByRecursion, IsDistinct}
-use Rattle.c104_check.specs.FirstCycles.{IsWay}
-use Rattle.c104_check.specs.Ranks.{rank_in}
-use Rattle.c104_check.specs.Trails.{IsInput, routes_in}
-use Rattle.c104_check.specs.Walks.{is_port}
-use Rattle.c104_check.proofs.CycleCuts.{IsChain, inputs_of}
+use Rattle.c104_check.{proofs.CycleCuts.{IsChain, inputs_of}, specs.{FirstCycles.IsWay, Ranks.rank_in, Trails.{IsInput, routes_in}}}
+use Rattle.{c104_check.specs.Walks.is_port, std.{proofs.Common.{length, ◌*◌, ◌+◌, ◌-◌, ◌≡◌}, specs.List.{AllByRecursion, IsDistinct}}}
 use Rattle.c104_check.proofs.routes.Routes.follow.Given as goal
 
 -- the inputs differ, so there are no more of them than inputs

@@ -1,7 +1,4 @@
-use Rattle.std.proofs.Common.{List, length, sym, subst}
-use Rattle.c104_check.specs.Refusals.{Start}
-use Rattle.c104_check.specs.Starts.{AreOwnStarts}
-use Rattle.c104_check.specs.Trails.{routes_in}
+use Rattle.{c104_check.specs.{Refusals.Start, Starts.AreOwnStarts, Trails.routes_in}, std.proofs.Common.{List, length, subst, sym}}
 use Rattle.c104_check.proofs.routes.Routes.header_ways.Goals as goal
 
 pub reached_as_own-requires : goal.reached_as_own-requires

@@ -1,12 +1,7 @@
-use Rattle.std.proofs.Common.{◌++◌, List, [], ◌∷◌, Some, refl, sym, ap, subst, ◌∙◌}
-use Rattle.c104_check.specs.Trails.{IsTrail, routes_in}
-use Rattle.c104_check.specs.Walking.{IsHalt, fault_on}
-use Rattle.c104_check.specs.Routes.{SwitchPort}
-use Rattle.c104_check.specs.declared.walks.Goal.TheVariants.{Portal}
-use Rattle.c104_check.specs.declared.walks.Halt.{Halt}
-use Rattle.c104_check.proofs.HomeLemmas.{random_is, refused_random}
-use Rattle.c104_check.proofs.ShownLemmas.{random_homes}
-use Rattle.c104_check.proofs.TrailLemmas.{trail_first}
+use Rattle.c104_check.proofs.{HomeLemmas.{random_is, refused_random}, ShownLemmas.random_homes, TrailLemmas.trail_first}
+use Rattle.c104_check.specs.{Routes.SwitchPort, Trails.{IsTrail, routes_in}, Walking.{IsHalt, fault_on}}
+use Rattle.{c104_check.specs.declared.walks.{Goal.TheVariants.Portal, Halt.Halt}, std.proofs.Common.{List, Some, [], ap, refl, subst, sym}}
+use Rattle.std.proofs.Common.{◌++◌, ◌∙◌, ◌∷◌}
 use Rattle.c104_check.proofs.routes.Routes.homeless.Goals as goal
 
 pub walk_on-requires-clause-trail : goal.walk_on-requires-clause-trail

@@ -1,6 +1,5 @@
-use Rattle.std.proofs.Common.{◌≡◌, true, false, refl, sym, ◌∙◌, length, ap, arith}
-use Rattle.c104_check.specs.Trails.{routes_in}
-use Rattle.c104_check.proofs.RandomLemmas.{none_random, none_random_next, random_at_tells, random_is_header}
+use Rattle.c104_check.{proofs.RandomLemmas.{none_random, none_random_next, random_at_tells, random_is_header}, specs.Trails.routes_in}
+use Rattle.std.proofs.Common.{ap, arith, false, length, refl, sym, true, ◌∙◌, ◌≡◌}
 use Rattle.c104_check.proofs.routes.Routes.is_random.Goals as goal
 
 pub returns-then-is_random_at : goal.returns-then-is_random_at

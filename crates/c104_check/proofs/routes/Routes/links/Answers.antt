@@ -1,7 +1,5 @@
-use Rattle.std.proofs.Common.{Some, ap, sym, ◌∙◌, arith}
-use Rattle.c104_interval.specs.declared.intervals.Select.TheVariants.{Link}
-use Rattle.c104_check.specs.Trails.{routes_in}
-use Rattle.c104_check.proofs.TableLemmas.{ways_link}
+use Rattle.c104_check.{proofs.TableLemmas.ways_link, specs.Trails.routes_in}
+use Rattle.{c104_interval.specs.declared.intervals.Select.TheVariants.Link, std.proofs.Common.{Some, ap, arith, sym, ◌∙◌}}
 use Rattle.c104_check.proofs.routes.Routes.links.Goals as goal
 
 pub group_of-group-requires-clause-link : goal.group_of-group-requires-clause-link

@@ -1,9 +1,6 @@
-use Rattle.std.proofs.Common.{not, sym, ap, subst, ◌∙◌}
-use Rattle.c104_interval.specs.Segments.{AreSegmentsBelow}
-use Rattle.c104_check.specs.Breaks.{AddsMarks}
-use Rattle.c104_check.specs.Routes.{header_count}
-use Rattle.c104_check.specs.Trails.{routes_in}
-use Rattle.c104_check.proofs.MarkLemmas.{ChangeAmong, change_marks, unwired_marks, unwired_of, wired_of}
+use Rattle.c104_check.{proofs.MarkLemmas.{ChangeAmong, change_marks, unwired_marks, unwired_of, wired_of}, specs.Breaks.AddsMarks}
+use Rattle.{c104_check.specs.{Routes.header_count, Trails.routes_in}, c104_interval.specs.Segments.AreSegmentsBelow, std.proofs.Common.ap}
+use Rattle.std.proofs.Common.{not, subst, sym, ◌∙◌}
 use Rattle.c104_check.proofs.routes.Routes.mark_changes.Goals as goal
 
 pub returns-then-is_none : goal.returns-then-is_none

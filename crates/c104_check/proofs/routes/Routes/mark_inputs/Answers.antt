@@ -1,6 +1,4 @@
-use Rattle.std.proofs.Common.{arith}
-use Rattle.c104_check.specs.Trails.{routes_in}
-use Rattle.c104_check.proofs.MarkLemmas.{begins_all, begins_next}
+use Rattle.{c104_check.{proofs.MarkLemmas.{begins_all, begins_next}, specs.Trails.routes_in}, std.proofs.Common.arith}
 use Rattle.c104_check.proofs.routes.Routes.mark_inputs.Goals as goal
 
 pub loop-place-preserved : goal.loop-place-preserved

@@ -1,12 +1,7 @@
-use Rattle.std.proofs.Common.{◌++◌, List, [], ◌∷◌, Some, slice_index_or, refl, sym, ap, subst, ◌∙◌}
-use Rattle.std.proofs.lemmas.Option.{slice_get-get_or}
-use Rattle.c104_check.specs.Trails.{IsTrail, routes_in}
-use Rattle.c104_check.specs.Walking.{IsHalt, fault_on}
-use Rattle.c104_check.specs.Routes.{SwitchPort}
-use Rattle.c104_check.specs.declared.walks.Goal.TheVariants.{Owner}
-use Rattle.c104_check.specs.declared.walks.Halt.{Halt}
-use Rattle.c104_check.proofs.RefusalLemmas.{entry_is, lands_from, no_start, owned_spared, refusal_from}
-use Rattle.c104_check.proofs.TrailLemmas.{trail_first}
+use Rattle.c104_check.proofs.{RefusalLemmas.{entry_is, lands_from, no_start, owned_spared, refusal_from}, TrailLemmas.trail_first}
+use Rattle.c104_check.specs.{Routes.SwitchPort, Trails.{IsTrail, routes_in}, Walking.{IsHalt, fault_on}}
+use Rattle.{c104_check.specs.declared.walks.{Goal.TheVariants.Owner, Halt.Halt}, std.proofs.Common.{List, Some, [], ap, refl}}
+use Rattle.std.proofs.{Common.{slice_index_or, subst, sym, ◌++◌, ◌∙◌, ◌∷◌}, lemmas.Option.slice_get-get_or}
 use Rattle.c104_check.proofs.routes.Routes.misled.Goals as goal
 
 pub walk_on-requires-clause-trail : goal.walk_on-requires-clause-trail

@@ -1,8 +1,5 @@
-use Rattle.std.proofs.Common.{List, length, ap, sym, subst, arith}
-use Rattle.c104_check.specs.Refusals.{Start}
-use Rattle.c104_check.specs.Starts.{AreOwnStarts}
-use Rattle.c104_check.specs.Trails.{routes_in}
-use Rattle.c104_check.proofs.OwnStarts.{own_all, own_first}
+use Rattle.c104_check.{proofs.OwnStarts.{own_all, own_first}, specs.{Refusals.Start, Starts.AreOwnStarts, Trails.routes_in}}
+use Rattle.std.proofs.Common.{List, ap, arith, length, subst, sym}
 use Rattle.c104_check.proofs.routes.Routes.own_starts_by.Goals as goal
 
 pub loop-terminal-init : goal.loop-terminal-init

@@ -1,8 +1,5 @@
-use Rattle.std.proofs.Common.{◌≡◌, sym, subst}
-use Rattle.c104_check.specs.Parts.{AreJust, IsReachedFrom}
-use Rattle.c104_check.specs.Trails.{routes_in}
-use Rattle.c104_check.proofs.PartLemmas.{one_just}
-use Rattle.c104_check.proofs.ReachLemmas.{reached_just}
+use Rattle.c104_check.{proofs.{PartLemmas.one_just, ReachLemmas.reached_just}, specs.{Parts.{AreJust, IsReachedFrom}, Trails.routes_in}}
+use Rattle.std.proofs.Common.{subst, sym, ◌≡◌}
 use Rattle.c104_check.proofs.routes.Routes.reached_from.Goals as goal
 
 pub add_reached-requires-clause-distinct : goal.add_reached-requires-clause-distinct

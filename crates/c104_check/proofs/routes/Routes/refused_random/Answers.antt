@@ -1,7 +1,5 @@
-use Rattle.std.proofs.Common.{length, sym, ap, ◌∙◌, arith}
-use Rattle.c104_check.specs.Parts.{HomesFirst}
-use Rattle.c104_check.specs.Trails.{routes_in}
-use Rattle.c104_check.proofs.Homeless.{first_homeless, homes_next, homes_none}
+use Rattle.c104_check.{proofs.Homeless.{first_homeless, homes_next, homes_none}, specs.{Parts.HomesFirst, Trails.routes_in}}
+use Rattle.std.proofs.Common.{ap, arith, length, sym, ◌∙◌}
 use Rattle.c104_check.proofs.routes.Routes.refused_random.Goals as goal
 
 pub loop-terminal-preserved : goal.loop-terminal-preserved

@@ -1,7 +1,5 @@
+use Rattle.c104_check.{proofs.{Homeless.{homeless_result, never_there}, RandomLemmas.random_at_tells}, specs.Trails.routes_in}
 use Rattle.std.proofs.Common.{sym, ◌∙◌}
-use Rattle.c104_check.specs.Trails.{routes_in}
-use Rattle.c104_check.proofs.Homeless.{homeless_result, never_there}
-use Rattle.c104_check.proofs.RandomLemmas.{random_at_tells}
 use Rattle.c104_check.proofs.routes.Routes.refused_random_at.Goals as goal
 
 pub returns-then-not-is_random_at : goal.returns-then-not-is_random_at

@@ -1,11 +1,7 @@
-use Rattle.std.proofs.Common.{◌≡◌, true, false, ◌++◌, List, [], ◌∷◌, Some, None, slice_index_or, refl, sym, ap, ◌∙◌}
-use Rattle.std.proofs.lemmas.Option.{slice_get-get_or}
-use Rattle.c104_check.specs.declared.faults.WalkFault.TheVariants.{Stray}
-use Rattle.c104_check.specs.Refusals.{IsSpared}
-use Rattle.c104_check.specs.Routes.{SwitchPort}
-use Rattle.c104_check.specs.Trails.{routes_in}
-use Rattle.c104_check.proofs.RefusalLemmas.{no_start, refusal_from, spared_from}
-use Rattle.c104_check.proofs.routes.Routes.stray.Goals.{else-start-via-then-start+else-random, else-start-via-else-start}
+use Rattle.c104_check.{proofs.RefusalLemmas.{no_start, refusal_from, spared_from}, specs.{Refusals.IsSpared, Routes.SwitchPort}}
+use Rattle.{c104_check.specs.{Trails.routes_in, declared.faults.WalkFault.TheVariants.Stray}, std.proofs.Common.{List, None, Some, [], ap}}
+use Rattle.std.proofs.{Common.{false, refl, slice_index_or, sym, true, ◌++◌, ◌∙◌, ◌∷◌, ◌≡◌}, lemmas.Option.slice_get-get_or}
+use Rattle.c104_check.proofs.routes.Routes.stray.Goals.{else-start-via-else-start, else-start-via-then-start+else-random}
 use Rattle.c104_check.proofs.routes.Routes.stray.Goals as goal
 
 pub returns-then-random : goal.returns-then-random

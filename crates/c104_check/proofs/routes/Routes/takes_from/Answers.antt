@@ -1,9 +1,5 @@
-use Rattle.std.proofs.Common.{◌≡◌, true, false, refl, slice_index_or}
-use Rattle.c104_check.specs.Reach.{MayTake}
-use Rattle.c104_check.specs.Routes.{SwitchPort}
-use Rattle.c104_check.specs.Trails.{routes_in}
-use Rattle.c104_check.proofs.Walked.{met_at}
-use Rattle.c104_check.proofs.ReachLemmas.{all_taken, all_taken_next, takes_none}
+use Rattle.c104_check.{proofs.{ReachLemmas.{all_taken, all_taken_next, takes_none}, Walked.met_at}, specs.Reach.MayTake}
+use Rattle.{c104_check.specs.{Routes.SwitchPort, Trails.routes_in}, std.proofs.Common.{false, refl, slice_index_or, true, ◌≡◌}}
 use Rattle.c104_check.proofs.routes.Routes.takes_from.Goals as goal
 
 pub returns-then-may_take : goal.returns-then-may_take

@@ -1,5 +1,4 @@
-use Rattle.std.proofs.Common.{◌∙◌, sym}
-use Rattle.c104_crossbar.proofs.BitMarks.{claimed_is, claimed_keeps}
+use Rattle.{c104_crossbar.proofs.BitMarks.{claimed_is, claimed_keeps}, std.proofs.Common.{sym, ◌∙◌}}
 use Rattle.c104_crossbar.proofs.crossbar.Crossbar.claim.Goals as goal
 
 pub returns-clause-claimed : goal.returns-clause-claimed

@@ -1,6 +1,4 @@
-use Rattle.std.proofs.Common.{ap, sym, ◌∙◌, not, arith}
-use Rattle.c104_crossbar.specs.Marks.{is_free}
-use Rattle.c104_crossbar.proofs.BitMarks.{free_past, free_within}
+use Rattle.{c104_crossbar.{proofs.BitMarks.{free_past, free_within}, specs.Marks.is_free}, std.proofs.Common.{ap, arith, not, sym, ◌∙◌}}
 use Rattle.c104_crossbar.proofs.crossbar.Crossbar.free.Goals as goal
 
 pub returns-then-output-ge-LINKS-clause-free : goal.returns-then-output-ge-LINKS-clause-free

@@ -1,7 +1,5 @@
-use Rattle.std.proofs.Common.{ap, ◌∙◌, zero-add}
-use Rattle.c104_crossbar.specs.Marks.{bool_number, is_free}
-use Rattle.c104_crossbar.proofs.BitMarks.{no_marks}
-use Rattle.c104_crossbar.proofs.MarkLemmas.{is_free-replicate}
+use Rattle.c104_crossbar.{proofs.{BitMarks.no_marks, MarkLemmas.is_free-replicate}, specs.Marks.{bool_number, is_free}}
+use Rattle.std.proofs.Common.{ap, zero-add, ◌∙◌}
 use Rattle.c104_crossbar.proofs.crossbar.Crossbar.new.Goals as goal
 
 pub returns-clause-marks : goal.returns-clause-marks

@@ -1,5 +1,4 @@
-use Rattle.std.proofs.Common.{sym}
-use Rattle.c104_crossbar.proofs.BitMarks.{freed_is, freed_keeps}
+use Rattle.{c104_crossbar.proofs.BitMarks.{freed_is, freed_keeps}, std.proofs.Common.sym}
 use Rattle.c104_crossbar.proofs.crossbar.Crossbar.release.Goals as goal
 
 pub returns-clause-released : goal.returns-clause-released

@@ -1,6 +1,5 @@
-use Rattle.std.proofs.Common.{arith}
+use Rattle.{c104_crossbar.proofs.GroupLemmas.{IsGroup-same_after_zero, IsGroup-unique, has_bit-past, in_group-is}, std.proofs.Common.arith}
 use Rattle.std.proofs.lemmas.Grind.{common_steps}
-use Rattle.c104_crossbar.proofs.GroupLemmas.{IsGroup-same_after_zero, IsGroup-unique, has_bit-past, in_group-is}
 use Rattle.c104_crossbar.proofs.group.Group.of.Goals as goal
 
 pub returns-clause-group : goal.returns-clause-group

@@ -1,9 +1,7 @@
 -- Sorting and taking out repeats leaves just the separators, and the rest follows from that.
-use Rattle.std.proofs.lemmas.List.Filters.{dedup_is}
-use Rattle.std.proofs.lemmas.List.Kept.{Contains-dedup_nat, Contains-from_dedup}
-use Rattle.std.proofs.lemmas.List.Sorted.{Contains-permutation, IsPermutation-sym}
-use Rattle.std.proofs.lemmas.Map.Keys.{IsStrictlyIncreasing-dedup}
 use Rattle.c104_interval.proofs.SegmentLemmas.{AreSegmentsBelow-from, IsConstantBetween-from, SelectsBySegment-from, starts_with_zero_from}
+use Rattle.std.proofs.lemmas.List.{Filters.dedup_is, Kept.{Contains-dedup_nat, Contains-from_dedup}, Sorted.Contains-permutation}
+use Rattle.std.proofs.lemmas.{List.Sorted.IsPermutation-sym, Map.Keys.IsStrictlyIncreasing-dedup}
 use Rattle.c104_interval.proofs.intervals.Table.segments.Goals as goal
 
 pub returns-clause-ascending : goal.returns-clause-ascending

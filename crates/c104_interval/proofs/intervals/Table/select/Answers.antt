@@ -1,6 +1,4 @@
-use Rattle.std.proofs.Common.{arith}
-use Rattle.std.proofs.lemmas.Grind.{common_steps}
-use Rattle.c104_interval.proofs.SelectionLemmas.{IsSelected-from}
+use Rattle.{c104_interval.proofs.SelectionLemmas.IsSelected-from, std.proofs.{Common.arith, lemmas.Grind.common_steps}}
 use Rattle.c104_interval.proofs.intervals.Table.select.Goals as goal
 
 pub returns-then-header-row-clause-first_covering :

@@ -1,14 +1,7 @@
-use Rattle.std.proofs.Common.{refl}
-use Rattle.c104_node.specs.Places.{bare_shown}
-use Rattle.c104_run.proofs.KnownWires.{unknown}
-use Rattle.std.proofs.Common.{◌≡◌, ◌∙◌, List, sym, subst}
+use Rattle.{c104_net.proofs.BarePlaces.as_they_are, c104_node.specs.{Nodes.Node, Places.bare_shown}}
+use Rattle.c104_run.{proofs.{BalanceEvents.applied_steady, KnownWires.unknown}, specs.{Balance.IsSteady, Network.AnswersEvent}}
+use Rattle.{c104_run.specs.Network.network_of, std.proofs.{Common.{List, refl, subst, sym, ◌∙◌, ◌≡◌}, lemmas.List.with_items_is}}
 use Rattle.std.specs.Vec.{with_items}
-use Rattle.std.proofs.lemmas.List.{with_items_is}
-use Rattle.c104_node.specs.Nodes.{Node}
-use Rattle.c104_run.specs.Network.{AnswersEvent, network_of}
-use Rattle.c104_run.specs.Balance.{IsSteady}
-use Rattle.c104_run.proofs.BalanceEvents.{applied_steady}
-use Rattle.c104_net.proofs.BarePlaces.{as_they_are}
 use Rattle.c104_net.proofs.bare_net.NetOf.apply.Goals as goal
 
 -- the nodes that an event leaves are those of the list

@@ -1,5 +1,4 @@
-use Rattle.std.proofs.Common.{arith}
-use Rattle.c104_run.proofs.Finishing.{terminals_counted}
+use Rattle.{c104_run.proofs.Finishing.terminals_counted, std.proofs.Common.arith}
 use Rattle.c104_net.proofs.bare_net.NetOf.finish.Goals as goal
 
 pub terminals_of-terminals-requires-clause-room : goal.terminals_of-terminals-requires-clause-room

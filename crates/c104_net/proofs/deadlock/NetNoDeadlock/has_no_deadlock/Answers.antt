@@ -1,16 +1,9 @@
-use Rattle.std.proofs.Common.{map, subst}
-use Rattle.c104_plan.specs.Plans.{IsPlan}
-use Rattle.c104_net.specs.DeadlockFreedom.{IsFreeOfDeadlock}
-use Rattle.c104_node.specs.Starts.{start_node}
-use Rattle.c104_node.specs.Traces.{seatless}
-use Rattle.c104_net.proofs.RunOrigins.{traces_fit}
-use Rattle.c104_net.proofs.SentBytes.{AreBytesSent, run_bytes}
-use Rattle.c104_run.specs.NetRecords.{IsNetRecord, NetRecord, net_record}
-use Rattle.c104_net.proofs.DeadlockFree.{has_no_deadlock}
-use Rattle.c104_run.proofs.WiredTraces.{all_recorded, traces_wired}
-use Rattle.c104_net.proofs.deadlock.NetNoDeadlock.has_no_deadlock.Goals as goal
+use Rattle.c104_net.proofs.{DeadlockFree.has_no_deadlock, RunOrigins.traces_fit, SentBytes.{AreBytesSent, run_bytes}}
+use Rattle.{c104_net.specs.DeadlockFreedom.IsFreeOfDeadlock, c104_node.specs.{Starts.start_node, Traces.seatless}}
+use Rattle.{c104_plan.specs.Plans.IsPlan, c104_run.{proofs.WiredTraces.{all_recorded, traces_wired}, specs.NetRecords.IsNetRecord}}
+use Rattle.{c104_run.specs.NetRecords.{NetRecord, net_record}, std.proofs.Common.{map, subst}}
 
-pub returns : goal.returns
+pub returns : Rattle.c104_net.proofs.deadlock.NetNoDeadlock.has_no_deadlock.Goals.returns
 returns c =
     let is_plan : IsPlan c.args.self.now.network.plan = subst IsPlan c.plan-plan.ensures c.switches-switches.ensures.kept in
     let net : NetRecord = net_record c.args.self.now.network.plan c.places.result.now c.args.self.now.count in

@@ -1,11 +1,7 @@
-use Rattle.std.proofs.Common.{subst}
-use Rattle.c104_plan.specs.Plans.{IsPlan}
-use Rattle.c104_run.specs.FinishedRecords.{FinishedRecord}
-use Rattle.c104_net.proofs.BeginsStarted.{run_stands}
-use Rattle.c104_net.proofs.RunOrigins.{IsKeptRun, kept_run}
-use Rattle.c104_net.proofs.deadlock.RunNoDeadlock.has_no_deadlock.Goals as goal
+use Rattle.{c104_net.proofs.{BeginsStarted.run_stands, RunOrigins.{IsKeptRun, kept_run}}, c104_plan.specs.Plans.IsPlan}
+use Rattle.{c104_run.specs.FinishedRecords.FinishedRecord, std.proofs.Common.subst}
 
-pub returns : goal.returns
+pub returns : Rattle.c104_net.proofs.deadlock.RunNoDeadlock.has_no_deadlock.Goals.returns
 returns c =
     let run : FinishedRecord = c.args.self.now in
     let kept : IsKeptRun run = kept_run run c.starts-starts.ensures.told in

@@ -1,19 +1,10 @@
+use Rattle.{c104_link.proofs.MadeSteps.All-place, c104_net.proofs.{DeadlockFree.has_no_deadlock, SentBytes.{AreBytesSent, run_bytes}}}
+use Rattle.{c104_net.{proofs.TracedOrigins.fit_there, specs.DeadlockFreedom.IsFreeOfDeadlock}, c104_node.specs.Starts.start_node}
+use Rattle.{c104_node.specs.{TracedRecords.{IsFit, TracedRecord}, Traces.seatless}, c104_plan.specs.Plans.IsPlan}
+use Rattle.c104_run.specs.{NetRecords.{IsNetRecord, NetRecord}, RecordedNets.places_record, RecordedPlaces.counted_reading}
 use Rattle.std.proofs.Common.{All, List, Some, map, slice_get, subst, ℕ, ◌≡◌}
-use Rattle.c104_plan.specs.Plans.{IsPlan}
-use Rattle.c104_link.proofs.MadeSteps.{All-place}
-use Rattle.c104_net.specs.DeadlockFreedom.{IsFreeOfDeadlock}
-use Rattle.c104_node.specs.Starts.{start_node}
-use Rattle.c104_node.specs.TracedRecords.{IsFit, TracedRecord}
-use Rattle.c104_node.specs.Traces.{seatless}
-use Rattle.c104_run.specs.NetRecords.{IsNetRecord, NetRecord}
-use Rattle.c104_run.specs.RecordedNets.{places_record}
-use Rattle.c104_run.specs.RecordedPlaces.{counted_reading}
-use Rattle.c104_net.proofs.DeadlockFree.{has_no_deadlock}
-use Rattle.c104_net.proofs.SentBytes.{AreBytesSent, run_bytes}
-use Rattle.c104_net.proofs.TracedOrigins.{fit_there}
-use Rattle.c104_net.proofs.deadlock.TracedNetNoDeadlock.has_no_deadlock.Goals as goal
 
-pub returns : goal.returns
+pub returns : Rattle.c104_net.proofs.deadlock.TracedNetNoDeadlock.has_no_deadlock.Goals.returns
 returns c =
     let is_plan : IsPlan c.args.self.now.network.plan = subst IsPlan c.plan-plan.ensures c.switches-switches.ensures.kept in
     let nodes : List TracedRecord = c.places.result.now in

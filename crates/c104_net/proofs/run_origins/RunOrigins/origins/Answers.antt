@@ -1,18 +1,9 @@
-use Rattle.std.proofs.Common.{List, Ok, OnOk, Result, map, subst, sym, ◌≡◌, ◌∙◌, ap}
-use Rattle.c104_token.specs.declared.faults.NoMemory.{NoMemory}
-use Rattle.std.specs.Global.{Vec as Kept}
-use Rattle.c104_plan.specs.Plans.{IsPlan, Plan}
-use Rattle.c104_run.specs.FinishedRecords.{FinishedRecord}
-use Rattle.c104_node.specs.declared.origins.Origin.{Origin}
-use Rattle.c104_net.specs.RunOrigins.{AreOrigins}
-use Rattle.c104_run.specs.Network.{network_of}
-use Rattle.c104_net.specs.Replays.{LeadTo}
-use Rattle.c104_node.specs.Starts.{start_node}
-use Rattle.c104_net.specs.ToldEvents.{told_events}
-use Rattle.c104_node.specs.declared.starts.NodeStart.{NodeStart}
-use Rattle.c104_node.specs.declared.traced.Traced.{Traced}
-use Rattle.c104_run.specs.Balance.{IsSteady}
 use Rattle.c104_net.proofs.RunOrigins.{IsKeptRun, if_ok, kept_run, led_lent, origins_lent, steady_start, terminal_origins, traced}
+use Rattle.{c104_net.specs.{Replays.LeadTo, RunOrigins.AreOrigins, ToldEvents.told_events}, c104_node.specs.Starts.start_node}
+use Rattle.c104_node.specs.declared.{origins.Origin.Origin, starts.NodeStart.NodeStart, traced.Traced.Traced}
+use Rattle.{c104_plan.specs.Plans.{IsPlan, Plan}, c104_run.specs.{Balance.IsSteady, FinishedRecords.FinishedRecord, Network.network_of}}
+use Rattle.{c104_token.specs.declared.faults.NoMemory.NoMemory, std.proofs.Common.{List, Ok, OnOk, Result, ap, map, subst, sym, ◌∙◌, ◌≡◌}}
+use Rattle.std.specs.Global.{Vec as Kept}
 use Rattle.c104_net.proofs.run_origins.RunOrigins.origins.Goals as goal
 
 pub from_starts-requires : goal.from_starts-requires

@@ -1,14 +1,8 @@
-use Rattle.std.proofs.Common.{◌≡◌, ◌∙◌, ◌∷◌, [], ◌≤◌, ◌<◌, ℕ, All, List, Some, length, map, slice_get, ap, sym, subst, arith}
-use Rattle.std.specs.Global.{Vec as Kept}
-use Rattle.std.proofs.lemmas.List.{map-append, take_all}
-use Rattle.std.proofs.lemmas.Option.{slice_get-get_or, slice_get_within}
-use Rattle.c104_plan.specs.Plans.{IsPlan}
-use Rattle.c104_run.specs.FinishedRecords.{record_finish}
-use Rattle.c104_node.specs.declared.origins.Origin.{Origin}
-use Rattle.c104_run.specs.NetRecords.{NetRecord}
-use Rattle.c104_net.specs.RunOrigins.{AreOrigins}
-use Rattle.c104_node.specs.TracedRecords.{IsFit, TracedRecord}
-use Rattle.c104_net.proofs.TracedOrigins.{arrived_origins, fit_on, origins_on, origins_past, traced_origins}
+use Rattle.c104_net.{proofs.TracedOrigins.{arrived_origins, fit_on, origins_on, origins_past, traced_origins}, specs.RunOrigins.AreOrigins}
+use Rattle.{c104_node.specs.{TracedRecords.{IsFit, TracedRecord}, declared.origins.Origin.Origin}, c104_plan.specs.Plans.IsPlan}
+use Rattle.{c104_run.specs.{FinishedRecords.record_finish, NetRecords.NetRecord}, std.proofs.Common.{All, List, Some, [], ap, arith}}
+use Rattle.std.proofs.{Common.{length, map, slice_get, subst, sym, ℕ, ◌<◌, ◌∙◌, ◌∷◌, ◌≡◌, ◌≤◌}, lemmas.List.{map-append, take_all}}
+use Rattle.std.{proofs.lemmas.Option.{slice_get-get_or, slice_get_within}, specs.Global.Vec as Kept}
 use Rattle.c104_net.proofs.traced_origins.TracedNetOrigins.origins.Goals.{in-Some+in_ok-told_origins+in_ok-push, in_default}
 use Rattle.c104_net.proofs.traced_origins.TracedNetOrigins.origins.Goals as goal
 

@@ -1,15 +1,8 @@
-use Rattle.std.proofs.Common.{subst, List}
-use Rattle.c104_plan.specs.Plans.{IsPlan}
-use Rattle.c104_node.specs.TracedRecords.{TracedRecord}
-use Rattle.c104_run.specs.FinishedRecords.{record_finish}
-use Rattle.c104_run.specs.NetRecords.{IsNetRecord, NetRecord}
-use Rattle.c104_run.specs.RecordedNets.{places_record}
-use Rattle.c104_run.specs.RecordedPlaces.{counted_reading}
-use Rattle.c104_net.specs.ToldRuns.{TellsEachRun}
-use Rattle.c104_net.proofs.ToldRuns.{tells_each}
-use Rattle.c104_net.proofs.traced_origins.TracedNetOrigins.tells_its_run.Goals as goal
+use Rattle.{c104_net.{proofs.ToldRuns.tells_each, specs.ToldRuns.TellsEachRun}, c104_node.specs.TracedRecords.TracedRecord}
+use Rattle.{c104_plan.specs.Plans.IsPlan, c104_run.specs.{FinishedRecords.record_finish, NetRecords.{IsNetRecord, NetRecord}}}
+use Rattle.{c104_run.specs.{RecordedNets.places_record, RecordedPlaces.counted_reading}, std.proofs.Common.{List, subst}}
 
-pub returns : goal.returns
+pub returns : Rattle.c104_net.proofs.traced_origins.TracedNetOrigins.tells_its_run.Goals.returns
 returns c =
     let is_plan : IsPlan c.args.self.now.network.plan = subst IsPlan c.plan-plan.ensures c.switches-switches.ensures.kept in
     let nodes : List TracedRecord = c.places-places.result.now in

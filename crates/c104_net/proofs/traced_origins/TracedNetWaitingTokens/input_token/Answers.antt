@@ -1,9 +1,6 @@
-use Rattle.std.proofs.Common.{subst, refl}
-use Rattle.c104_plan.specs.Plans.{IsPlan}
-use Rattle.c104_net.proofs.TracedTokens.{input_there}
-use Rattle.c104_net.proofs.traced_origins.TracedNetWaitingTokens.input_token.Goals as goal
+use Rattle.{c104_net.proofs.TracedTokens.input_there, c104_plan.specs.Plans.IsPlan, std.proofs.Common.{refl, subst}}
 
-pub returns : goal.returns
+pub returns : Rattle.c104_net.proofs.traced_origins.TracedNetWaitingTokens.input_token.Goals.returns
 returns c =
     let is_plan : IsPlan c.args.self.now.network.plan = subst IsPlan c.plan-plan.ensures c.switches-switches.ensures.kept in
     input_there c.args.self.now.network.plan is_plan c.places.result.now c.places.result.now c.args.self.now.count c.places.ensures.kept c.args.self.now refl c.places.ensures.shown

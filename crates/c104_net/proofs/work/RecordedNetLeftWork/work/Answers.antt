@@ -1,15 +1,8 @@
-use Rattle.std.proofs.Common.{ap, map, ℕ, ◌∙◌}
-use Rattle.c104_check.specs.Ranks.{rank_in}
-use Rattle.c104_check.specs.declared.ports.SwitchPort.{SwitchPort}
-use Rattle.c104_node.specs.Places.{states}
-use Rattle.c104_run.specs.NetRecords.{NetRecord}
-use Rattle.c104_run.specs.RecordedNets.{Reading, reading}
-use Rattle.c104_net.proofs.PlainWork.{places_work}
-use Rattle.c104_net.specs.HeaderWork.{work}
-use Rattle.c104_net.specs.Work.{told_work}
-use Rattle.c104_net.proofs.work.RecordedNetLeftWork.work.Goals as goal
+use Rattle.{c104_check.specs.{Ranks.rank_in, declared.ports.SwitchPort.SwitchPort}, c104_net.proofs.PlainWork.places_work}
+use Rattle.{c104_net.specs.{HeaderWork.work, Work.told_work}, c104_node.specs.Places.states, c104_run.specs.NetRecords.NetRecord}
+use Rattle.{c104_run.specs.RecordedNets.{Reading, reading}, std.proofs.Common.{ap, map, ℕ, ◌∙◌}}
 
-pub returns : goal.returns
+pub returns : Rattle.c104_net.proofs.work.RecordedNetLeftWork.work.Goals.returns
 returns g c =
     let v : Reading g.row.T.Denot g.row.P.Denot = reading g.T.TokenKind.kind g.P.Place.shown g.P.RecordedPlace.plain g.P.RecordedPlace.begun_at in
     let rank : SwitchPort → ℕ = rank_in c.args.ranks.now.by_place in

@@ -1,14 +1,8 @@
-use Rattle.std.proofs.Common.{ap, length, map, ◌*◌, ◌∙◌, ◌≡◌}
-use Rattle.c104_plan.specs.Plans.{Plan}
-use Rattle.c104_node.specs.Places.{states}
-use Rattle.c104_run.specs.NetRecords.{NetRecord}
-use Rattle.c104_run.specs.RecordedNets.{Reading, reading}
-use Rattle.c104_net.proofs.PlainWork.{places_work}
-use Rattle.c104_net.specs.HeaderWork.{work, work_bound}
-use Rattle.c104_net.specs.Work.{told_work}
-use Rattle.c104_net.proofs.work.RecordedNetLeftWork.work_bound.Goals as goal
+use Rattle.{c104_net.{proofs.PlainWork.places_work, specs.{HeaderWork.{work, work_bound}, Work.told_work}}, c104_node.specs.Places.states}
+use Rattle.{c104_plan.specs.Plans.Plan, c104_run.specs.{NetRecords.NetRecord, RecordedNets.{Reading, reading}}, std.proofs.Common.ap}
+use Rattle.std.proofs.Common.{length, map, ◌*◌, ◌∙◌, ◌≡◌}
 
-pub returns : goal.returns
+pub returns : Rattle.c104_net.proofs.work.RecordedNetLeftWork.work_bound.Goals.returns
 returns g c =
     let v : Reading g.row.T.Denot g.row.P.Denot = reading g.T.TokenKind.kind g.P.Place.shown g.P.RecordedPlace.plain g.P.RecordedPlace.begun_at in
     let plan : Plan = c.args.self.now.network.plan in

@@ -1,44 +1,26 @@
 -- A history is made without code, and the proof says what it holds. Assumes `Logic`.
-use Rattle.std.proofs.Common.{List, [], ◌∷◌, ◌++◌, refl}
-use seplogic.Ra.Ura.{Ura}
-use mir.Syntax.{Fn}
-use mir.Val.{Val, vptr}
+use Rattle.c104_node.{proofs.Walks.{none, none_made}, specs.{Notes.{note_act, note_reply}, Tagged.tagged_kind, Traces.kept_entry}}
+use Rattle.{c104_node.specs.contracts.history.History.with.Key.name as #self, std.proofs.Common.{List, [], refl, ◌++◌, ◌∷◌}}
 use base.Logic.{SProp, ent}
-use prog.Memory.{Memory}
-use prog.Routine.{Routine}
-use prog.Wp.{Calls, Loops, WpFn, Tables}
-use contract.Monad.{Fun}
-use contract.Running.{tables, tables_of}
+use contract.{Monad.Fun, Running.{tables, tables_of}}
+use denote.{Builtin.RefOf, Exit.yes, RattleType.owns, Signature.{named_lft, plain, types_at}, Steps.nothing, Triple.Clauses.Clauses}
+use denote.Triple.{Clauses.{Ended, closing}, Entry.alive, Spec.{Meets, triple_of}, Table.entered, Walked.{Goes-dropped, Stays, ends_at}}
+use denote.Triple.Walked.{says, stay_dropped, walk_Meets, walk_of}
+use mir.{Syntax.Fn, Val.{Val, vptr}}
+use prog.{Memory.Memory, Routine.Routine, Wp.{Calls, Loops, Tables, WpFn}}
+use seplogic.Ra.Ura.{Ura}
 use sound.WpLaws.{WpFn-mono}
-use types.Logic.{Logic}
-use types.Kit.{‵, raw, ◌⊛◌, prop, ◌$◌, ◌∵◌, !, qed, move, keep, drop, split, fsplit, fjoin, feq_l, regoal, suffices, done}
-use types.Part.{agg}
-use types.Run.{enter, returns, no_more}
-use types.ByLocal.{alloc_all, pass_all, free_all, look_at, sets}
-use denote.Exit.{yes}
-use denote.RattleType.{owns}
-use denote.Builtin.{RefOf}
-use denote.Signature.{plain, types_at, named_lft}
-use denote.Steps.{nothing}
-use denote.Triple.Clauses.{Clauses, Ended, closing}
-use denote.Triple.Entry.{alive}
-use denote.Triple.Spec.{Meets, triple_of}
-use denote.Triple.Table.{entered}
-use denote.Triple.Walked.{says, Stays, stay_dropped, walk_of, ends_at, walk_Meets, Goes-dropped}
-use Rattle.c104_node.proofs.Walks.{none, none_made}
-use Rattle.c104_node.specs.contracts.history.History as History
+use types.{ByLocal.{alloc_all, free_all, look_at, pass_all, sets}, Kit.{ !, done, drop, feq_l, fjoin, fsplit, keep, move, prop, qed, raw}}
+use types.{Kit.{regoal, split, suffices, ‵, ◌$◌, ◌∵◌, ◌⊛◌}, Logic.Logic, Part.agg, Run.{enter, no_more, returns}}
+use Rattle.c104_node.proofs.history.History.with.Code as code
+use Rattle.c104_node.proofs.history.History.with.Statement as stated
 use Rattle.c104_node.specs.contracts.acts.ActOf as ActOf
+use Rattle.c104_node.specs.contracts.history.History as History
+use Rattle.c104_node.specs.contracts.history.History.with as F
 use Rattle.c104_node.specs.contracts.notes.NoteOf as NoteOf
 use Rattle.c104_node.specs.contracts.stamps.Stamp as Stamp
-use Rattle.c104_switch.specs.contracts.actions.ReplyOf as ReplyOf
 use Rattle.c104_node.specs.contracts.tagged.TaggedToken as TaggedToken
-use Rattle.c104_node.specs.Notes.{note_act, note_reply}
-use Rattle.c104_node.specs.Tagged.{tagged_kind}
-use Rattle.c104_node.specs.Traces.{kept_entry}
-use Rattle.c104_node.specs.contracts.history.History.with as F
-use Rattle.c104_node.specs.contracts.history.History.with.Key.{name as #self}
-use Rattle.c104_node.proofs.history.History.with.Statement as stated
-use Rattle.c104_node.proofs.history.History.with.Code as code
+use Rattle.c104_switch.specs.contracts.actions.ReplyOf as ReplyOf
 
 abbrev function : Fn
 function = code.function

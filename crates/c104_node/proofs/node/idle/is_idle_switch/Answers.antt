@@ -1,8 +1,6 @@
-use Rattle.std.proofs.Common.{arith}
-use Rattle.c104_node.proofs.IdleNodes.{idle_switch}
-use Rattle.c104_node.proofs.node.idle.is_idle_switch.Goals as goal
+use Rattle.{c104_node.proofs.IdleNodes.idle_switch, std.proofs.Common.arith}
 
-pub returns-in-None-None-None-None : goal.returns-in-None-None-None-None
+pub returns-in-None-None-None-None : Rattle.c104_node.proofs.node.idle.is_idle_switch.Goals.returns-in-None-None-None-None
 returns-in-None-None-None-None g c = λ yes. idle_switch g.T.TokenKind.kind c.args.switch.now c.args.wired
     (rw c.in-None-None-None-None.is-0 at c.next_granting-granting.ensures)
     (rw c.in-None-None-None-None.is-1 at c.next_leaving-leaving.ensures)

@@ -1,6 +1,5 @@
-use Rattle.std.proofs.Common.{◌≡◌, None, true, is_some, ap, subst, sym}
-use Rattle.c104_node.specs.Records.{NodeRecord, recorded_limit, recorded_step}
-use Rattle.c104_node.proofs.RecordedNodes.{recorded_kept, recorded_made, recorded_ready}
+use Rattle.c104_node.{proofs.RecordedNodes.{recorded_kept, recorded_made, recorded_ready}, specs.Records.{NodeRecord, recorded_limit}}
+use Rattle.{c104_node.specs.Records.recorded_step, std.proofs.Common.{None, ap, is_some, subst, sym, true, ◌≡◌}}
 use Rattle.c104_node.proofs.recorded.Node.act.Goals as goal
 
 -- the node as it was, by its fields

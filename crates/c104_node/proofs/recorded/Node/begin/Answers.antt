@@ -1,9 +1,5 @@
-use Rattle.std.proofs.Common.{◌≡◌, ◌∙◌, ap, length, subst, sym, arith}
-use Rattle.c104_node.specs.Records.{HasCap}
-use Rattle.c104_node.specs.declared.acts.Entry.{Entry}
-use Rattle.c104_node.specs.Starts.{start_node}
-use Rattle.c104_node.proofs.BegunRecords.{run_kind}
-use Rattle.c104_node.proofs.BufferSizes.{run_sized, sized_start, start_sized}
+use Rattle.c104_node.{proofs.{BegunRecords.run_kind, BufferSizes.{run_sized, sized_start, start_sized}}, specs.Records.HasCap}
+use Rattle.{c104_node.specs.{Starts.start_node, declared.acts.Entry.Entry}, std.proofs.Common.{ap, arith, length, subst, sym, ◌∙◌, ◌≡◌}}
 use Rattle.c104_node.proofs.recorded.Node.begin.Goals as goal
 
 pub write_start-requires : goal.write_start-requires

@@ -1,6 +1,5 @@
-use Rattle.std.proofs.Common.{◌≡◌, take}
-use Rattle.c104_node.proofs.recorded.copies.copy_entries.Given as goal
+use Rattle.std.proofs.Common.{take, ◌≡◌}
 
 -- the copies so far
-abbrev pub invariant-loop-entry : goal.invariant-loop-entry
+abbrev pub invariant-loop-entry : Rattle.c104_node.proofs.recorded.copies.copy_entries.Given.invariant-loop-entry
 invariant-loop-entry l = l.list.items ≡ take l.entry-index l.entries

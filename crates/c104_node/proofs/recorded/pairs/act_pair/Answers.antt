@@ -1,12 +1,7 @@
-use Rattle.std.proofs.Common.{◌≡◌, ◌∙◌, Some, is_some, ap, subst}
-use Rattle.c104_node.specs.PortActs.{far_act, near_act}
-use Rattle.c104_node.specs.Records.{NodeRecord, after_act, recorded_step}
-use Rattle.c104_node.specs.Nodes.{Node}
-use Rattle.c104_node.specs.declared.acts.ActOf.{ActOf}
-use Rattle.c104_node.specs.declared.stamps.Stamp.{Stamp}
-use Rattle.c104_switch.specs.Actions.{Reply}
-use Rattle.c104_token.specs.declared.tokens.Token.{Token}
-use Rattle.c104_node.proofs.NodePairs.{pair_answers, pair_done, pair_far}
+use Rattle.c104_node.{proofs.NodePairs.{pair_answers, pair_done, pair_far}, specs.{Nodes.Node, PortActs.{far_act, near_act}}}
+use Rattle.c104_node.specs.{Records.{NodeRecord, after_act, recorded_step}, declared.{acts.ActOf.ActOf, stamps.Stamp.Stamp}}
+use Rattle.{c104_switch.specs.Actions.Reply, c104_token.specs.declared.tokens.Token.Token, std.proofs.Common.{Some, ap, is_some, subst}}
+use Rattle.std.proofs.Common.{◌∙◌, ◌≡◌}
 use Rattle.c104_node.proofs.recorded.pairs.act_pair.Goals as goal
 
 made_at : (n : NodeRecord) (a b : ActOf Token) (r : Reply) (to : Node Token) → a ≡ b → recorded_step n a ≡ Some (r, to) → recorded_step n b ≡ Some (r, to)

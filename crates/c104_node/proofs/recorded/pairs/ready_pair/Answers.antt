@@ -1,5 +1,4 @@
-use Rattle.std.proofs.Common.{sym}
-use Rattle.c104_node.proofs.NodePairs.{pair_closed, pair_open}
+use Rattle.{c104_node.proofs.NodePairs.{pair_closed, pair_open}, std.proofs.Common.sym}
 use Rattle.c104_node.proofs.recorded.pairs.ready_pair.Goals as goal
 
 pub returns-then-not-gives : goal.returns-then-not-gives

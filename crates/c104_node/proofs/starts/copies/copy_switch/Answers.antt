@@ -1,7 +1,4 @@
-use Rattle.std.proofs.Common.{ap, ◌∙◌}
-use Rattle.c104_switch.specs.Starts.{switch_start}
-use Rattle.c104_node.proofs.StartCopies.{switch_back}
-use Rattle.c104_node.proofs.starts.copies.copy_switch.Goals as goal
+use Rattle.{c104_node.proofs.StartCopies.switch_back, c104_switch.specs.Starts.switch_start, std.proofs.Common.{ap, ◌∙◌}}
 
-pub returns : goal.returns
+pub returns : Rattle.c104_node.proofs.starts.copies.copy_switch.Goals.returns
 returns c = c.write_start.ensures ∙ ap switch_start c.in_ok-switch.ensures ∙ switch_back c.args.start.now

@@ -1,7 +1,7 @@
-use Rattle.std.proofs.Common.{◌≡◌, ◌∙◌, ◌++◌, List, None, Some, ℕ, ap, append-nil, arith, sym}
-use Rattle.c104_node.proofs.WrittenValues.{all_values, next_value}
-use Rattle.c104_node.proofs.starts.numbers.add_written.Goals as goal
+use Rattle.{c104_node.proofs.WrittenValues.{all_values, next_value}, std.proofs.Common.{List, None, Some, ap, append-nil, arith, sym, ℕ}}
+use Rattle.std.proofs.Common.{◌++◌, ◌∙◌, ◌≡◌}
 use Rattle.c104_node.proofs.starts.numbers.add_written.Goals.{in-Some+in_ok-push, in_default}
+use Rattle.c104_node.proofs.starts.numbers.add_written.Goals as goal
 
 pub loop-addr-preserved : goal.loop-addr-preserved
 loop-addr-preserved c =

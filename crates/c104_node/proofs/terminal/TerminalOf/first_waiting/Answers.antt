@@ -1,10 +1,7 @@
-use Rattle.std.proofs.Common.{◌∙◌, List, slice_get, sym, ap}
-use Rattle.c104_node.specs.Outboxes.{TerminalPacket}
-use Rattle.c104_node.specs.Terminals.{Terminal}
-use Rattle.c104_node.proofs.Waiting.{first_waits, posted_at}
-use Rattle.c104_node.proofs.terminal.TerminalOf.first_waiting.Goals as goal
+use Rattle.c104_node.{proofs.Waiting.{first_waits, posted_at}, specs.{Outboxes.TerminalPacket, Terminals.Terminal}}
+use Rattle.std.proofs.Common.{List, ap, slice_get, sym, ◌∙◌}
 
-pub returns : goal.returns
+pub returns : Rattle.c104_node.proofs.terminal.TerminalOf.first_waiting.Goals.returns
 returns g c =
     let p : TerminalPacket = c.in_ok-posted.posted.now in
     let here = posted_at c.self.inside.sent.items c.deref.result.now c.self.inside.next p c.deref.ensures.value c.in_ok-posted.ensures.lookup.3.0 c.in_ok-posted.ensures.lookup.1 in

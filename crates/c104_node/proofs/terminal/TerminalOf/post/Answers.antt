@@ -1,7 +1,5 @@
-use Rattle.std.proofs.Common.{◌∙◌, ◌+◌, ℕ, List, ap, length, refl}
-use Rattle.c104_node.specs.Outboxes.{TerminalPacket}
-use Rattle.c104_node.specs.Terminals.{terminal_send}
-use Rattle.c104_node.proofs.Waiting.{sends, sends_keeps}
+use Rattle.c104_node.{proofs.Waiting.{sends, sends_keeps}, specs.{Outboxes.TerminalPacket, Terminals.terminal_send}}
+use Rattle.std.proofs.Common.{List, ap, length, refl, ℕ, ◌+◌, ◌∙◌}
 use Rattle.c104_node.proofs.terminal.TerminalOf.post.Goals as goal
 
 pub invariant_of-self : goal.invariant_of-self

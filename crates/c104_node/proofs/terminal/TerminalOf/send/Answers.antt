@@ -1,7 +1,5 @@
-use Rattle.std.proofs.Common.{rules, ◌≡◌, ◌∙◌, ◌+◌, ◌++◌, ◌∷◌, [], List, length, ap}
-use Rattle.c104_node.specs.Outboxes.{TerminalPacket}
-use Rattle.c104_node.specs.Terminals.{terminal_send}
-use Rattle.c104_node.proofs.Waiting.{sends, sends_keeps}
+use Rattle.c104_node.{proofs.Waiting.{sends, sends_keeps}, specs.{Outboxes.TerminalPacket, Terminals.terminal_send}}
+use Rattle.std.proofs.Common.{List, [], ap, length, rules, ◌++◌, ◌+◌, ◌∙◌, ◌∷◌, ◌≡◌}
 use Rattle.c104_node.proofs.terminal.TerminalOf.send.Goals as goal
 
 pub invariant_of-self-2 : goal.invariant_of-self-2

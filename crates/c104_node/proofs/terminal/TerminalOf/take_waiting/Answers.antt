@@ -1,6 +1,6 @@
-use Rattle.std.proofs.Common.{◌≡◌, ◌∙◌, ◌+◌, ℕ, ap, arith, inl, inr, length, map, refl, sym}
-use Rattle.c104_node.specs.Outboxes.{packet_of, waiting_from, waiting_taken, TerminalPacket}
-use Rattle.c104_node.proofs.Waiting.{posted_at, rest_keeps, rest_taken, some_waits}
+use Rattle.c104_node.{proofs.Waiting.{posted_at, rest_keeps, rest_taken, some_waits}, specs.Outboxes.{TerminalPacket, packet_of}}
+use Rattle.{c104_node.specs.Outboxes.{waiting_from, waiting_taken}, std.proofs.Common.{ap, arith, inl, inr, length, map, refl, sym, ℕ, ◌+◌}}
+use Rattle.std.proofs.Common.{◌∙◌, ◌≡◌}
 use Rattle.c104_node.proofs.terminal.TerminalOf.take_waiting.Goals as goal
 
 pub overflow_sub-self : goal.overflow_sub-self

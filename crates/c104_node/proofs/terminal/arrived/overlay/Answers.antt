@@ -1,9 +1,7 @@
-use Rattle.std.proofs.Common.{◌≡◌, ◌∙◌, ◌<◌, ap, arith, length, slice_get, sym, Some}
+use Rattle.{c104_node.proofs.ArrivedLists.next_laid, std.proofs.Common.{Some, ap, arith, length, slice_get, sym, ◌<◌, ◌∙◌, ◌≡◌}}
 use Rattle.std.proofs.lemmas.Option.{slice_get-get_or}
-use Rattle.c104_node.proofs.ArrivedLists.{next_laid}
-use Rattle.c104_node.proofs.terminal.arrived.overlay.Goals as goal
 
-pub loop-other-preserved : goal.loop-other-preserved
+pub loop-other-preserved : Rattle.c104_node.proofs.terminal.arrived.overlay.Goals.loop-other-preserved
 loop-other-preserved g c =
     let inside : c.loop-other.other-index < length c.args.others.now = omega arith in
     let there : slice_get c.args.others.now c.loop-other.other-index ≡ Some c.other-item.result = slice_get-get_or c.args.others.now c.loop-other.other-index c.other-item.result inside ∙ ap Some (sym c.other-item.is) in

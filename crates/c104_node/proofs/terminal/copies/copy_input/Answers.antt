@@ -1,8 +1,6 @@
-use Rattle.std.proofs.Common.{◌∙◌, arith}
-use Rattle.c104_node.proofs.InputCopies.{HasTaken, has_taken, token_next}
-use Rattle.c104_node.proofs.terminal.copies.copy_input.Goals as goal
+use Rattle.{c104_node.proofs.InputCopies.{HasTaken, has_taken, token_next}, std.proofs.Common.{arith, ◌∙◌}}
 
-pub loop-index-preserved : goal.loop-index-preserved
+pub loop-index-preserved : Rattle.c104_node.proofs.terminal.copies.copy_input.Goals.loop-index-preserved
 loop-index-preserved g c =
     let taken : HasTaken c.loop-index.copy c.accept.new.self c.in-Some.token = has_taken c.loop-index.copy c.accept.new.self c.in-Some.token c.in-Ok.ensures in
     record {

@@ -1,8 +1,7 @@
-use Rattle.std.proofs.Common.{◌≡◌, ◌+◌, length, take}
-use Rattle.c104_node.proofs.terminal.copies.copy_input.Given as goal
+use Rattle.std.proofs.Common.{length, take, ◌+◌, ◌≡◌}
 
 -- the tokens so far, and what is left of the granted ones
-abbrev pub invariant-loop-index : goal.invariant-loop-index
+abbrev pub invariant-loop-index : Rattle.c104_node.proofs.terminal.copies.copy_input.Given.invariant-loop-index
 invariant-loop-index g l = record {
   cap : l.copy.cap ≡ l.input.cap;
   items : l.copy.items ≡ take l.index l.input.items;

@@ -1,6 +1,4 @@
-use Rattle.std.proofs.Common.{◌≡◌, ◌<◌, ◌+◌, ◌++◌, reverse}
-use Rattle.std.specs.Vec.{vec_capacity}
-use Rattle.std.specs.Prelude.{vec_len}
+use Rattle.std.{proofs.Common.{reverse, ◌++◌, ◌+◌, ◌<◌, ◌≡◌}, specs.{Prelude.vec_len, Vec.vec_capacity}}
 use Rattle.c104_node.proofs.terminal.spare.move_back.Given as goal
 
 -- what moved, the last first, comes after what is left to move

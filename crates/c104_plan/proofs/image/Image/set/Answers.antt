@@ -1,5 +1,5 @@
-use Rattle.std.proofs.Common.{◌<◌, length, rules}
-use Rattle.c104_plan.proofs.ImageSteps.{answered, fault_is, found_at, kept_image, others_at, written_at}
+use Rattle.{c104_plan.proofs.ImageSteps.{answered, fault_is, found_at, kept_image, others_at, written_at}, std.proofs.Common.length}
+use Rattle.std.proofs.Common.{rules, ◌<◌}
 use Rattle.c104_plan.proofs.image.Image.set.Goals as goal
 
 pub invariant_of-self-2 : goal.invariant_of-self-2

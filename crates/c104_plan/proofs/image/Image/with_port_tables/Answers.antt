@@ -1,8 +1,5 @@
-use Rattle.std.proofs.Common.{◌∙◌, length, ap}
-use Rattle.std.proofs.lemmas.List.Elements.{All-same}
-use Rattle.c104_plan.specs.PlanImage.{Image}
-use Rattle.c104_plan.specs.Plans.{IsRange}
-use Rattle.c104_plan.proofs.LabelledSettings.{port_labelled_fits, port_labelled_kept}
+use Rattle.c104_plan.{proofs.LabelledSettings.{port_labelled_fits, port_labelled_kept}, specs.{PlanImage.Image, Plans.IsRange}}
+use Rattle.std.proofs.{Common.{ap, length, ◌∙◌}, lemmas.List.Elements.All-same}
 use Rattle.c104_plan.proofs.image.Image.with_port_tables.Goals as goal
 
 pub invariant_of-result : goal.invariant_of-result

@@ -1,10 +1,7 @@
-use Rattle.std.proofs.Common.{rules, ◌≡◌, ◌∙◌, ◌++◌, ◌∷◌, [], ap, false, bytes_eq}
-use Rattle.std.specs.List.{list_any}
-use Rattle.c104_plan.specs.PlanIndex.{texts}
-use Rattle.c104_plan.proofs.NamesKept.{inserted-kept}
-use Rattle.c104_plan.proofs.name_index.NameIndex.insert.Goals as goal
+use Rattle.{c104_plan.{proofs.NamesKept.inserted-kept, specs.PlanIndex.texts}, std.proofs.Common.{[], ap, bytes_eq, false, rules, ◌++◌}}
+use Rattle.std.{proofs.Common.{◌∙◌, ◌∷◌, ◌≡◌}, specs.List.list_any}
 
-pub returns-clause-names : goal.returns-clause-names
+pub returns-clause-names : Rattle.c104_plan.proofs.name_index.NameIndex.insert.Goals.returns-clause-names
 returns-clause-names c =
     let copied : c.in_ok-name.name.items ≡ c.args.name.now = search rules in
     let none : list_any (λ other. bytes_eq other c.in_ok-name.name.items) (texts c.self.inside.set.keys) ≡ false =

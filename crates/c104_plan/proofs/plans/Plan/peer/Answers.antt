@@ -1,7 +1,5 @@
-use Rattle.std.proofs.Common.{◌≡◌, ◌∙◌, ap, sym, Some, None}
-use Rattle.c104_plan.specs.Ports.{other_end}
-use Rattle.c104_plan.specs.Wiring.{terminal_wires}
-use Rattle.c104_plan.proofs.Wires.{peer_inside, peer_of_terminal, peer_of_wire, wiring}
+use Rattle.c104_plan.{proofs.Wires.{peer_inside, peer_of_terminal, peer_of_wire, wiring}, specs.{Ports.other_end, Wiring.terminal_wires}}
+use Rattle.std.proofs.Common.{None, Some, ap, sym, ◌∙◌, ◌≡◌}
 use Rattle.c104_plan.proofs.plans.Plan.peer.Goals as goal
 
 pub returns-in-Some-clause-value : goal.returns-in-Some-clause-value

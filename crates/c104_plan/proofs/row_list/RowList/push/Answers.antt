@@ -1,11 +1,8 @@
-use Rattle.std.proofs.Common.{◌≡◌, ◌<◌, ◌∙◌, List, ℕ, ◌+◌, ap, sym, subst, set, get_or, length}
-use Rattle.std.proofs.lemmas.Grind.{get_or_default_zero}
-use Rattle.c104_plan.specs.PlanIndex.{AreCounted, input_place}
-use Rattle.c104_plan.proofs.RowCounts.{counted_next}
-use Rattle.c104_plan.proofs.row_list.RowList.push.Goals as goal
+use Rattle.{c104_plan.{proofs.RowCounts.counted_next, specs.PlanIndex.{AreCounted, input_place}}, std.proofs.Common.{List, ap, get_or}}
+use Rattle.std.proofs.{Common.{length, set, subst, sym, ℕ, ◌+◌, ◌<◌, ◌∙◌, ◌≡◌}, lemmas.Grind.get_or_default_zero}
 
 -- the row is counted at its input's place
-pub invariant_of-self-2 : goal.invariant_of-self-2
+pub invariant_of-self-2 : Rattle.c104_plan.proofs.row_list.RowList.push.Goals.invariant_of-self-2
 invariant_of-self-2 c =
     let counts : List ℕ = c.self.inside.counts.items in
     let place : ℕ = input_place c.args.row.port in

@@ -1,7 +1,5 @@
-use Rattle.std.proofs.Common.{◌≡◌, Ok, subst, sym, rules, inr}
-use Rattle.c104_regs.specs.Registers.{settable}
-use Rattle.c104_plan.specs.SwitchImages.{AreKept}
-use Rattle.c104_plan.proofs.SwitchImageSteps.{kept_next, set_taken}
+use Rattle.{c104_plan.{proofs.SwitchImageSteps.{kept_next, set_taken}, specs.SwitchImages.AreKept}, c104_regs.specs.Registers.settable}
+use Rattle.std.proofs.Common.{Ok, inr, rules, subst, sym, ◌≡◌}
 use Rattle.c104_plan.proofs.switch_image.SwitchImage.set.Goals as goal
 
 pub returns-in_err-reserve-clause-answer : goal.returns-in_err-reserve-clause-answer

@@ -1,10 +1,6 @@
-use Rattle.std.proofs.Common.{◌∙◌, ap, bytes_eq}
-use Rattle.std.specs.List.{list_any}
-use Rattle.c104_plan.specs.Plans.{Terminal}
-use Rattle.c104_plan.proofs.PortLemmas.{list_any-map}
-use Rattle.c104_plan.proofs.terminal_list.TerminalList.has.Goals as goal
+use Rattle.{c104_plan.{proofs.PortLemmas.list_any-map, specs.Plans.Terminal}, std.{proofs.Common.{ap, bytes_eq, ◌∙◌}, specs.List.list_any}}
 
-pub returns : goal.returns
+pub returns : Rattle.c104_plan.proofs.terminal_list.TerminalList.has.Goals.returns
 returns c =
     c.has.ensures
     ∙ ap (list_any (λ other. bytes_eq other c.args.name.now)) c.self.invariant

@@ -1,9 +1,6 @@
-use Rattle.std.proofs.Common.{◌∙◌, ap, bytes_eq, position}
-use Rattle.c104_plan.specs.Plans.{Terminal}
-use Rattle.c104_plan.proofs.NamesKept.{position-map}
-use Rattle.c104_plan.proofs.terminal_list.TerminalList.number_of.Goals as goal
+use Rattle.{c104_plan.{proofs.NamesKept.position-map, specs.Plans.Terminal}, std.proofs.Common.{ap, bytes_eq, position, ◌∙◌}}
 
-pub returns-clause-number : goal.returns-clause-number
+pub returns-clause-number : Rattle.c104_plan.proofs.terminal_list.TerminalList.number_of.Goals.returns-clause-number
 returns-clause-number c =
     c.number_of.ensures.number
     ∙ ap (position (λ other. bytes_eq other c.args.name.now)) c.self.invariant

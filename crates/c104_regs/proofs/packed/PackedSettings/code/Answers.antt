@@ -1,6 +1,5 @@
-use Rattle.std.proofs.Common.{◌∙◌, ◌%◌, arith, map, sym}
-use Rattle.c104_regs.specs.Packed.{row_of_word}
-use Rattle.c104_regs.proofs.PackedPokes.{select_first, select_later}
+use Rattle.{c104_regs.{proofs.PackedPokes.{select_first, select_later}, specs.Packed.row_of_word}, std.proofs.Common.{arith, map, sym, ◌%◌}}
+use Rattle.std.proofs.Common.{◌∙◌}
 use Rattle.c104_regs.proofs.packed.PackedSettings.code.Goals as goal
 
 pub returns-then-self-header : goal.returns-then-self-header

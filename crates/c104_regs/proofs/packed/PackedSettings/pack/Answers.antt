@@ -1,5 +1,4 @@
-use Rattle.std.proofs.Common.{arith}
-use Rattle.c104_regs.proofs.PackedLaws.{ArePacked-packed, small_from, unpacked-packed}
+use Rattle.{c104_regs.proofs.PackedLaws.{ArePacked-packed, small_from, unpacked-packed}, std.proofs.Common.arith}
 use Rattle.c104_regs.proofs.packed.PackedSettings.pack.Goals as goal
 
 pub overflow_mul-result : goal.overflow_mul-result

@@ -1,5 +1,4 @@
-use Rattle.std.proofs.Common.{◌<◌, length}
-use Rattle.c104_regs.proofs.PackedPokes.{limit_set, code_set, limit_fits}
+use Rattle.{c104_regs.proofs.PackedPokes.{code_set, limit_fits, limit_set}, std.proofs.Common.{length, ◌<◌}}
 use Rattle.c104_regs.proofs.packed.PackedSettings.set.Goals as goal
 
 pub returns-in-Limit : goal.returns-in-Limit

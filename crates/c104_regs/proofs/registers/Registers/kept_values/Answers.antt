@@ -1,9 +1,7 @@
-use Rattle.std.proofs.Common.{◌≡◌, ◌∙◌, ◌+◌, sym, arith}
-use Rattle.c104_regs.specs.KeptValues.{kept_value}
-use Rattle.c104_regs.proofs.KeptGaps.{entries_passed}
-use Rattle.c104_regs.proofs.KeptLemmas.{entries_all, entries_next, entries_skip, map_of_entries}
-use Rattle.c104_regs.proofs.registers.Registers.kept_values.Goals as goal
+use Rattle.c104_regs.proofs.{KeptGaps.entries_passed, KeptLemmas.{entries_all, entries_next, entries_skip, map_of_entries}}
+use Rattle.{c104_regs.specs.KeptValues.kept_value, std.proofs.Common.{arith, sym, ◌+◌, ◌∙◌, ◌≡◌}}
 use Rattle.c104_regs.proofs.registers.Registers.kept_values.Goals.{in-Some+in_ok-push, in_default}
+use Rattle.c104_regs.proofs.registers.Registers.kept_values.Goals as goal
 
 pub loop-addr-preserved : goal.loop-addr-preserved
 loop-addr-preserved c =

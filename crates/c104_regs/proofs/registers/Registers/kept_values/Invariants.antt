@@ -1,6 +1,4 @@
-use Rattle.std.proofs.Common.{◌≡◌, ◌≤◌, ◌-◌}
-use Rattle.c104_regs.specs.KeptValues.{kept_value}
-use Rattle.c104_regs.proofs.KeptEntries.{entries}
+use Rattle.{c104_regs.{proofs.KeptEntries.entries, specs.KeptValues.kept_value}, std.proofs.Common.{◌-◌, ◌≡◌, ◌≤◌}}
 use Rattle.c104_regs.proofs.registers.Registers.kept_values.Given as goal
 
 -- the values of the addresses so far

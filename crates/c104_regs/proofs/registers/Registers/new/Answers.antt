@@ -1,5 +1,4 @@
-use Rattle.std.proofs.Common.{refl}
-use Rattle.c104_regs.proofs.RegisterLemmas.{IsKept-reset, reset_values_of}
+use Rattle.{c104_regs.proofs.RegisterLemmas.{IsKept-reset, reset_values_of}, std.proofs.Common.refl}
 use Rattle.c104_regs.proofs.registers.Registers.new.Goals as goal
 
 pub invariant_of-result : goal.invariant_of-result

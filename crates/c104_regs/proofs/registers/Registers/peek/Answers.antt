@@ -1,11 +1,8 @@
-use Rattle.std.proofs.Common.{◌≡◌, ◌<◌, Some, ap, get_or, length, subst, sym, ◌∙◌}
-use Rattle.c104_regs.specs.Addresses.{IsAddress, address_of}
-use Rattle.c104_regs.specs.declared.addresses.Address.TheVariants.{AtLink}
-use Rattle.c104_regs.specs.Values.{reset_status}
-use Rattle.c104_regs.proofs.RegisterLemmas.{held_at_is_taken}
-use Rattle.c104_regs.proofs.registers.Registers.peek.Goals as goal
+use Rattle.c104_regs.{proofs.RegisterLemmas.held_at_is_taken, specs.{Addresses.{IsAddress, address_of}, Values.reset_status}}
+use Rattle.{c104_regs.specs.declared.addresses.Address.TheVariants.AtLink, std.proofs.Common.{Some, ap, get_or, length, subst, sym, ◌<◌}}
+use Rattle.std.proofs.Common.{◌∙◌, ◌≡◌}
 
-pub returns-in-Some-AtLink-clause-in_range : goal.returns-in-Some-AtLink-clause-in_range
+pub returns-in-Some-AtLink-clause-in_range : Rattle.c104_regs.proofs.registers.Registers.peek.Goals.returns-in-Some-AtLink-clause-in_range
 returns-in-Some-AtLink-clause-in_range c =
     let at : address_of c.args.addr ≡ Some (AtLink c.in-Some-AtLink.link c.in-Some-AtLink.register) = sym c.in-Some-AtLink.ensures.found ∙ ap Some c.in-Some-AtLink.field-0-is in
     let is = subst IsAddress c.in-Some-AtLink.field-0-is c.in-Some-AtLink.ensures.is_address in

@@ -1,6 +1,5 @@
-use Rattle.std.proofs.Common.{◌≡◌, ap, arith, replicate, sym, take, ◌∙◌}
+use Rattle.{c104_regs.proofs.PlacedRegisters.kept_placed, std.proofs.Common.{ap, arith, replicate, sym, take, ◌∙◌, ◌≡◌}}
 use Rattle.std.proofs.lemmas.List.{take_all}
-use Rattle.c104_regs.proofs.PlacedRegisters.{kept_placed}
 use Rattle.c104_regs.proofs.registers.Registers.placed.Goals as goal
 
 same : (c : goal.After-reset) → c.loop-link.own ≡ c.args.settings.now

@@ -1,8 +1,6 @@
-use Rattle.std.proofs.Common.{◌≡◌, Ok, Result, ap, rules, sym, ◌∙◌}
-use Rattle.c104_regs.proofs.FreeTargets.{poke_by_target, poked_by}
-use Rattle.c104_regs.proofs.RegisterLemmas.{IsKept-with_register, peek_other}
-use Rattle.c104_regs.specs.Faults.{RegFault}
-use Rattle.c104_regs.specs.Registers.{RegisterBank, with_register}
+use Rattle.c104_regs.proofs.{FreeTargets.{poke_by_target, poked_by}, RegisterLemmas.{IsKept-with_register, peek_other}}
+use Rattle.{c104_regs.specs.{Faults.RegFault, Registers.{RegisterBank, with_register}}, std.proofs.Common.{Ok, Result, ap, rules, sym, ◌∙◌}}
+use Rattle.std.proofs.Common.{◌≡◌}
 use Rattle.c104_regs.proofs.registers.Registers.poke.Goals as goal
 
 pub invariant_of-self : goal.invariant_of-self

@@ -1,9 +1,6 @@
-use Rattle.std.proofs.Common.{◌≡◌, ◌-◌, ◌/◌, Ok, Result, ap, refl, rules, sym, ◌∙◌}
-use Rattle.c104_regs.proofs.FreeTargets.{poke_by_target, poked_by}
-use Rattle.c104_regs.proofs.RegisterLemmas.{IsKept-with_register}
-use Rattle.c104_regs.specs.Faults.{RegFault}
-use Rattle.c104_regs.specs.Registers.{RegisterBank, bank_poke, settings_with}
-use Rattle.c104_regs.specs.Values.{Status}
+use Rattle.c104_regs.{proofs.{FreeTargets.{poke_by_target, poked_by}, RegisterLemmas.IsKept-with_register}, specs.Faults.RegFault}
+use Rattle.{c104_regs.specs.{Registers.{RegisterBank, bank_poke, settings_with}, Values.Status}, std.proofs.Common.{Ok, Result, ap, refl}}
+use Rattle.std.proofs.Common.{rules, sym, ◌-◌, ◌/◌, ◌∙◌, ◌≡◌}
 use Rattle.c104_regs.proofs.registers.Registers.poke_told.Goals as goal
 
 pub invariant_of-self : goal.invariant_of-self

@@ -1,6 +1,5 @@
-use Rattle.std.proofs.Common.{◌∙◌, ◌/◌, ap, arith, sym, true}
-use Rattle.c104_crossbar.specs.Groups.{has_bit}
-use Rattle.c104_run.proofs.LivePlaces.{changed_here, changed_other, get_or-inside, told_past}
+use Rattle.{c104_crossbar.specs.Groups.has_bit, c104_run.proofs.LivePlaces.{changed_here, changed_other, get_or-inside, told_past}}
+use Rattle.std.proofs.Common.{ap, arith, sym, true, ◌/◌, ◌∙◌}
 use Rattle.c104_run.proofs.live_places.LivePlaces.add.Goals as goal
 
 pub returns-then-place-ge-PLACES-clause-here : goal.returns-then-place-ge-PLACES-clause-here

@@ -1,5 +1,4 @@
-use Rattle.std.proofs.Common.{◌≡◌, ◌-◌, ◌<◌, ◌≤◌, ℕ, false}
-use Rattle.c104_run.specs.LivePlaces.{is_live}
+use Rattle.{c104_run.specs.LivePlaces.is_live, std.proofs.Common.{false, ℕ, ◌-◌, ◌<◌, ◌≡◌, ◌≤◌}}
 use Rattle.c104_run.proofs.live_places.LivePlaces.next.Given as goal
 
 -- the places so far are passed over

@@ -1,11 +1,8 @@
-use Rattle.std.proofs.Common.{◌≡◌, ◌∙◌, ℕ, List, ap, length, subst, sym, arith}
-use Rattle.std.specs.Vec.{vec_capacity}
-use Rattle.c104_plan.specs.declared.plans.Terminal.{Terminal}
-use Rattle.c104_run.specs.FinishedRecords.{HaveRunRoom}
-use Rattle.c104_run.proofs.net.Frame.new.Goals as goal
+use Rattle.{c104_plan.specs.declared.plans.Terminal.Terminal, c104_run.specs.FinishedRecords.HaveRunRoom, std.proofs.Common.{List, ap}}
+use Rattle.std.{proofs.Common.{arith, length, subst, sym, ℕ, ◌∙◌, ◌≡◌}, specs.Vec.vec_capacity}
 
 -- as many nodes as the plan has are left at the end
-pub returns-clause-room : goal.returns-clause-room
+pub returns-clause-room : Rattle.c104_run.proofs.net.Frame.new.Goals.returns-clause-room
 returns-clause-room c =
     let same : c.in_ok-wires.wires ≡ c.args.plan.now = c.in_ok-wires.ensures ∙ c.in_ok-copy.ensures.cases in
     let switches = ap (length {A = List ℕ}) c.switches.ensures.switches in

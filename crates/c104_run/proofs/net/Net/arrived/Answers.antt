@@ -1,15 +1,8 @@
-use Rattle.std.proofs.Common.{◌∙◌, List, ap, map}
-use Rattle.c104_token.specs.declared.tokens.Token.{Token}
-use Rattle.c104_run.specs.NetRecords.{NetRecord}
-use Rattle.c104_node.specs.Records.{node_state}
-use Rattle.c104_run.specs.Network.{network_arrived, network_of}
-use Rattle.c104_node.specs.Nodes.{Node}
-use Rattle.c104_node.specs.Places.{Shown}
-use Rattle.c104_node.specs.Records.{node_shown}
-use Rattle.c104_run.proofs.FirstRecords.{map_twice}
-use Rattle.c104_run.proofs.net.Net.arrived.Goals as goal
+use Rattle.{c104_node.specs.{Nodes.Node, Places.Shown, Records.{node_shown, node_state}}, c104_run.proofs.FirstRecords.map_twice}
+use Rattle.{c104_run.specs.{NetRecords.NetRecord, Network.{network_arrived, network_of}}, c104_token.specs.declared.tokens.Token.Token}
+use Rattle.std.proofs.Common.{List, ap, map, ◌∙◌}
 
-pub returns : goal.returns
+pub returns : Rattle.c104_run.proofs.net.Net.arrived.Goals.returns
 returns c =
     c.arrived_at.ensures
     ∙ ap (λ (ns : List (Node Token)). network_arrived (network_of c.self.inside.wires ns) c.args.terminal) (map_twice (λ (s : Shown Token). s.state) node_shown c.as_slice.result.now ∙ ap (map node_state) c.as_slice.ensures.value)

@@ -1,15 +1,8 @@
-use Rattle.std.proofs.Common.{◌≡◌, ◌∙◌, map, ap, arith, subst, sym}
-use Rattle.std.proofs.lemmas.List.{length-map}
-use Rattle.c104_run.specs.Finished.{run_arrived}
-use Rattle.c104_run.specs.FinishedRecords.{record_finish, FinishedRecord, IsFinishedRecord}
-use Rattle.c104_run.specs.Network.{network_arrived, network_of}
-use Rattle.c104_run.specs.NetRecords.{net_record, NetRecord}
-use Rattle.c104_node.specs.Records.{node_state}
-use Rattle.c104_run.proofs.Finishing.{terminals_counted, arrived_same}
-use Rattle.c104_run.proofs.RecordSteps.{nodes_counted}
-use Rattle.c104_run.proofs.RunPartLists.{finish_is}
-use Rattle.c104_run.proofs.FinishedRuns.{finished_record}
-use Rattle.c104_run.proofs.WiredTraces.{all_recorded, traces_wired}
+use Rattle.{c104_node.specs.Records.node_state, c104_run.proofs.{FinishedRuns.finished_record, Finishing.{arrived_same, terminals_counted}}}
+use Rattle.c104_run.proofs.{RecordSteps.nodes_counted, RunPartLists.finish_is, WiredTraces.{all_recorded, traces_wired}}
+use Rattle.c104_run.specs.{Finished.run_arrived, FinishedRecords.{FinishedRecord, IsFinishedRecord, record_finish}, NetRecords.NetRecord}
+use Rattle.{c104_run.specs.{NetRecords.net_record, Network.{network_arrived, network_of}}, std.proofs.Common.{ap, arith, map, subst, sym}}
+use Rattle.std.proofs.{Common.{◌∙◌, ◌≡◌}, lemmas.List.length-map}
 use Rattle.c104_run.proofs.net.Net.finish.Goals as goal
 
 pub parts_of-parts-requires-clause-start_room : goal.parts_of-parts-requires-clause-start_room

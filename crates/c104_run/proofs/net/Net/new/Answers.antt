@@ -1,13 +1,6 @@
-use Rattle.std.proofs.Common.{◌∙◌, ap, refl, subst, sym}
-use Rattle.c104_plan.specs.Plans.{IsPlan, Plan}
-use Rattle.c104_token.specs.Kinds.{plain_kind}
-use Rattle.c104_run.specs.NetRecords.{fresh_record}
-use Rattle.c104_run.specs.Network.{new_network}
-use Rattle.c104_run.specs.RecordedPlaces.{node_reading}
-use Rattle.c104_run.proofs.BalancePlaced.{steady_new}
-use Rattle.c104_run.proofs.FirstRecords.{first_is, net_first}
-use Rattle.c104_run.proofs.LinkedNodes.{nodes_know}
-use Rattle.c104_run.proofs.LiveRounds.{live_all}
+use Rattle.{c104_plan.specs.Plans.{IsPlan, Plan}, c104_run.proofs.{BalancePlaced.steady_new, FirstRecords.{first_is, net_first}}}
+use Rattle.c104_run.{proofs.{LinkedNodes.nodes_know, LiveRounds.live_all}, specs.{NetRecords.fresh_record, Network.new_network}}
+use Rattle.{c104_run.specs.RecordedPlaces.node_reading, c104_token.specs.Kinds.plain_kind, std.proofs.Common.{ap, refl, subst, sym, ◌∙◌}}
 use Rattle.c104_run.proofs.net.Net.new.Goals as goal
 
 pub invariant_of-result : goal.invariant_of-result

@@ -1,14 +1,7 @@
-use Rattle.std.proofs.Common.{◌∙◌, ap, refl, subst, sym}
-use Rattle.c104_plan.specs.PlanImage.{Fits}
-use Rattle.c104_plan.specs.Plans.{IsPlan, Plan}
-use Rattle.c104_token.specs.Kinds.{plain_kind}
-use Rattle.c104_run.specs.NetRecords.{fresh_record}
-use Rattle.c104_run.specs.Network.{placed_network}
-use Rattle.c104_run.specs.RecordedPlaces.{node_reading}
-use Rattle.c104_run.proofs.BalancePlaced.{steady_made}
-use Rattle.c104_run.proofs.FirstRecords.{first_is, net_first}
-use Rattle.c104_run.proofs.LinkedNodes.{nodes_know}
-use Rattle.c104_run.proofs.LiveRounds.{live_all}
+use Rattle.{c104_plan.specs.{PlanImage.Fits, Plans.{IsPlan, Plan}}, c104_run.proofs.{BalancePlaced.steady_made, FirstRecords.first_is}}
+use Rattle.c104_run.{proofs.{FirstRecords.net_first, LinkedNodes.nodes_know, LiveRounds.live_all}, specs.NetRecords.fresh_record}
+use Rattle.{c104_run.specs.{Network.placed_network, RecordedPlaces.node_reading}, c104_token.specs.Kinds.plain_kind, std.proofs.Common.ap}
+use Rattle.std.proofs.Common.{refl, subst, sym, ◌∙◌}
 use Rattle.c104_run.proofs.net.Net.started.Goals as goal
 
 pub place_recorded-requires-clause-fits : goal.place_recorded-requires-clause-fits

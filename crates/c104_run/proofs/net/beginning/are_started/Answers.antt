@@ -1,8 +1,5 @@
-use Rattle.std.proofs.Common.{◌≡◌, ◌∙◌, get_or, map, refl, subst, sym, ap, arith}
-use Rattle.std.proofs.lemmas.List.{get_or-map, length-map}
-use Rattle.c104_node.specs.Records.{node_start}
-use Rattle.c104_node.specs.Starts.{IsStartedStart}
-use Rattle.c104_node.proofs.EachSoFar.{each_next}
+use Rattle.{c104_node.{proofs.EachSoFar.each_next, specs.{Records.node_start, Starts.IsStartedStart}}, std.proofs.Common.{ap, arith}}
+use Rattle.std.proofs.{Common.{get_or, map, refl, subst, sym, ◌∙◌, ◌≡◌}, lemmas.List.{get_or-map, length-map}}
 use Rattle.c104_run.proofs.net.beginning.are_started.Goals as goal
 
 -- this node was started too

@@ -1,11 +1,7 @@
+use Rattle.{c104_node.specs.Records.{NodeRecord, NodeRoom}, c104_run.{proofs.NodeRuns.parts_tell, specs.{NetParts.Parts, NodeRuns.TellRun}}}
 use Rattle.std.proofs.Common.{List, subst, sym}
-use Rattle.c104_node.specs.Records.{NodeRecord, NodeRoom}
-use Rattle.c104_run.specs.NetParts.{Parts}
-use Rattle.c104_run.specs.NodeRuns.{TellRun}
-use Rattle.c104_run.proofs.NodeRuns.{parts_tell}
-use Rattle.c104_run.proofs.net_parts.NetParts.nodes.Goals as goal
 
-pub returns-clause-run : goal.returns-clause-run
+pub returns-clause-run : Rattle.c104_run.proofs.net_parts.NetParts.nodes.Goals.returns-clause-run
 returns-clause-run c =
     let p : Parts = record { plan = c.self.inside.wires; nodes = c.self.inside.nodes.items; count = c.self.inside.count } in
     subst (λ (q : Parts). TellRun q.plan c.as_slice.result.now q.count) c.self.view_is

@@ -1,14 +1,6 @@
-use Rattle.std.proofs.Common.{◌≡◌, ◌∙◌, ap, subst, sym}
-use Rattle.std.specs.Vec.{with_items}
-use Rattle.std.proofs.lemmas.List.{with_items_is}
-use Rattle.c104_run.specs.NetRecords.{is_done, ticket_after}
-use Rattle.c104_run.specs.RecordedNets.{reading, Reading}
-use Rattle.c104_run.specs.KnownWires.{KnowWires}
-use Rattle.c104_run.proofs.DoneEvents.{done_law}
-use Rattle.c104_run.proofs.KnownWires.{known_put}
-use Rattle.c104_run.proofs.LiveRounds.{live_all}
-use Rattle.c104_run.proofs.MeteredPlaces.{meters_on}
-use Rattle.c104_run.proofs.RecordedPlaces.{goes_on}
+use Rattle.c104_run.proofs.{DoneEvents.done_law, KnownWires.known_put, LiveRounds.live_all, MeteredPlaces.meters_on, RecordedPlaces.goes_on}
+use Rattle.c104_run.specs.{KnownWires.KnowWires, NetRecords.{is_done, ticket_after}, RecordedNets.{Reading, reading}}
+use Rattle.std.{proofs.{Common.{ap, subst, sym, ◌∙◌, ◌≡◌}, lemmas.List.with_items_is}, specs.Vec.with_items}
 use Rattle.c104_run.proofs.recorded_net.RecordedNet.apply_metered.Goals as goal
 
 -- the run goes on by this event, where it was done

@@ -1,16 +1,8 @@
-use Rattle.std.proofs.Common.{◌≡◌, ◌∙◌, All, List, ap, map, sym, subst}
-use Rattle.std.specs.Vec.{with_items}
-use Rattle.std.proofs.lemmas.List.{with_items_is}
-use Rattle.c104_run.specs.NetRecords.{fresh_record, NetRecord}
-use Rattle.c104_node.specs.Nodes.{Node}
-use Rattle.c104_node.specs.Places.{bases, states}
-use Rattle.c104_run.specs.KnownWires.{KnowWires}
-use Rattle.c104_run.proofs.KnownWires.{known_by}
-use Rattle.c104_run.proofs.LiveRounds.{live_all}
-use Rattle.c104_node.specs.Quiet.{IsQuietNode}
-use Rattle.c104_run.specs.QuietNets.{network_begin, IsQuiet}
-use Rattle.c104_run.specs.RecordedNets.{begun_told, place_told, places_record, reading, IsRecordedNet, Reading}
-use Rattle.c104_run.proofs.RecordedBegins.{net_begun, net_begun_kept, quiet_back, wires_begun}
+use Rattle.{c104_node.specs.{Nodes.Node, Places.{bases, states}, Quiet.IsQuietNode}, c104_run.proofs.KnownWires.known_by}
+use Rattle.c104_run.proofs.{LiveRounds.live_all, RecordedBegins.{net_begun, net_begun_kept, quiet_back, wires_begun}}
+use Rattle.c104_run.specs.{KnownWires.KnowWires, NetRecords.{NetRecord, fresh_record}, QuietNets.{IsQuiet, network_begin}}
+use Rattle.{c104_run.specs.RecordedNets.{IsRecordedNet, Reading, begun_told, place_told, places_record, reading}, std.proofs.Common.All}
+use Rattle.std.{proofs.{Common.{List, ap, map, subst, sym, ◌∙◌, ◌≡◌}, lemmas.List.with_items_is}, specs.Vec.with_items}
 use Rattle.c104_run.proofs.recorded_net.RecordedNet.begin.Goals as goal
 
 pub begin_all-requires : goal.begin_all-requires

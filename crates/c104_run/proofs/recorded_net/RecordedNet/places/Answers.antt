@@ -1,6 +1,5 @@
-use Rattle.std.proofs.Common.{◌∙◌, List, ap, subst, sym}
-use Rattle.c104_run.specs.NetRecords.{NetRecord}
-use Rattle.c104_run.specs.RecordedNets.{places_record, reading, IsRecordedNet, Reading}
+use Rattle.{c104_run.specs.{NetRecords.NetRecord, RecordedNets.{IsRecordedNet, Reading, places_record, reading}}, std.proofs.Common.List}
+use Rattle.std.proofs.Common.{ap, subst, sym, ◌∙◌}
 use Rattle.c104_run.proofs.recorded_net.RecordedNet.places.Goals as goal
 
 pub returns-clause-shown : goal.returns-clause-shown

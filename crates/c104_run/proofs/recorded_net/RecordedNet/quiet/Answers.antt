@@ -1,12 +1,7 @@
-use Rattle.std.proofs.Common.{All, List, map, subst, sym}
-use Rattle.c104_node.specs.Nodes.{Node}
-use Rattle.c104_node.specs.Places.{states}
-use Rattle.c104_node.specs.Quiet.{IsQuietNode}
-use Rattle.c104_run.specs.RecordedNets.{reading, Reading}
-use Rattle.c104_run.proofs.RecordedBegins.{quiet_back, quiet_shown}
-use Rattle.c104_run.proofs.recorded_net.RecordedNet.quiet.Goals as goal
+use Rattle.{c104_node.specs.{Nodes.Node, Places.states, Quiet.IsQuietNode}, c104_run.proofs.RecordedBegins.{quiet_back, quiet_shown}}
+use Rattle.{c104_run.specs.RecordedNets.{Reading, reading}, std.proofs.Common.{All, List, map, subst, sym}}
 
-pub returns : goal.returns
+pub returns : Rattle.c104_run.proofs.recorded_net.RecordedNet.quiet.Goals.returns
 returns g c =
     let v : Reading g.row.T.Denot g.row.P.Denot = reading g.T.TokenKind.kind g.P.Place.shown g.P.RecordedPlace.plain g.P.RecordedPlace.begun_at in
     let reads = g.met.P.RecordedPlace.keeps_record.reads in

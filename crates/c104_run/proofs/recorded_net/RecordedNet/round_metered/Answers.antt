@@ -1,12 +1,6 @@
-use Rattle.std.proofs.Common.{◌∙◌, map, subst, sym}
-use Rattle.std.specs.Vec.{with_items}
-use Rattle.std.proofs.lemmas.List.{with_items_is}
-use Rattle.c104_run.specs.RecordedNets.{reading, Reading}
-use Rattle.c104_run.specs.Rounds.{round}
-use Rattle.c104_node.specs.Places.{states}
-use Rattle.c104_run.specs.LivePlaces.{AreLive}
-use Rattle.c104_run.proofs.KnownWires.{known_put, still_known}
-use Rattle.c104_run.proofs.MeteredPlaces.{round_on}
+use Rattle.{c104_node.specs.Places.states, c104_run.proofs.{KnownWires.{known_put, still_known}, MeteredPlaces.round_on}}
+use Rattle.{c104_run.specs.{LivePlaces.AreLive, RecordedNets.{Reading, reading}, Rounds.round}, std.proofs.Common.{map, subst, sym, ◌∙◌}}
+use Rattle.std.{proofs.lemmas.List.with_items_is, specs.Vec.with_items}
 use Rattle.c104_run.proofs.recorded_net.RecordedNet.round_metered.Goals as goal
 
 -- the run goes on by the events of a round

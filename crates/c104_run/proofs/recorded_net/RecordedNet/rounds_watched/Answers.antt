@@ -1,12 +1,6 @@
-use Rattle.std.proofs.Common.{◌∙◌, map, sym}
+use Rattle.c104_run.proofs.{KnownWires.{known_after, known_put}, LiveRounds.live_all, MeteredSteps.stage_ends, RecordedPlaces.runs_on}
+use Rattle.{c104_run.specs.{RecordedNets.{Reading, reading}, Rounds.rounds}, std.proofs.{Common.{map, sym, ◌∙◌}, lemmas.List.with_items_is}}
 use Rattle.std.specs.Vec.{with_items}
-use Rattle.std.proofs.lemmas.List.{with_items_is}
-use Rattle.c104_run.specs.RecordedNets.{reading, Reading}
-use Rattle.c104_run.specs.Rounds.{rounds}
-use Rattle.c104_run.proofs.KnownWires.{known_after, known_put}
-use Rattle.c104_run.proofs.LiveRounds.{live_all}
-use Rattle.c104_run.proofs.MeteredSteps.{stage_ends}
-use Rattle.c104_run.proofs.RecordedPlaces.{runs_on}
 use Rattle.c104_run.proofs.recorded_net.RecordedNet.rounds_watched.Goals as goal
 
 -- the run goes on by the events of these rounds

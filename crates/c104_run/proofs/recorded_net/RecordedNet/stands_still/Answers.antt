@@ -1,18 +1,9 @@
-use Rattle.std.proofs.Common.{◌≡◌, ◌∙◌, subst, sym}
-use Rattle.c104_token.specs.declared.tokens.Token.{Token}
-use Rattle.c104_token.specs.Kinds.{plain_kind}
-use Rattle.c104_plan.specs.Plans.{IsPlan}
-use Rattle.c104_run.specs.NetRecords.{IsNetRecord, NetRecord}
-use Rattle.c104_run.specs.Network.{Network}
-use Rattle.c104_run.specs.Rounds.{round}
-use Rattle.c104_run.specs.Standstill.{have_reasons}
-use Rattle.c104_run.specs.RecordedNets.{reading, Reading}
-use Rattle.c104_run.proofs.StillParts.{reasons_where, stands_where}
-use Rattle.c104_run.proofs.RecordedNets.{seen_plain}
-use Rattle.c104_run.proofs.RecordedViews.{have_reasons_plain}
-use Rattle.c104_run.proofs.recorded_net.RecordedNet.stands_still.Goals as goal
+use Rattle.{c104_plan.specs.Plans.IsPlan, c104_run.proofs.{RecordedNets.seen_plain, RecordedViews.have_reasons_plain}}
+use Rattle.c104_run.{proofs.StillParts.{reasons_where, stands_where}, specs.{NetRecords.{IsNetRecord, NetRecord}, Network.Network}}
+use Rattle.{c104_run.specs.{RecordedNets.{Reading, reading}, Rounds.round, Standstill.have_reasons}, c104_token.specs.Kinds.plain_kind}
+use Rattle.{c104_token.specs.declared.tokens.Token.Token, std.proofs.Common.{subst, sym, ◌∙◌, ◌≡◌}}
 
-pub returns : goal.returns
+pub returns : Rattle.c104_run.proofs.recorded_net.RecordedNet.stands_still.Goals.returns
 returns g c =
     let v : Reading g.row.T.Denot g.row.P.Denot = reading g.T.TokenKind.kind g.P.Place.shown g.P.RecordedPlace.plain g.P.RecordedPlace.begun_at in
     let kept : IsNetRecord c.args.self.now = subst IsNetRecord c.self.view_is c.self.invariant.0.kept in

@@ -1,16 +1,8 @@
-use Rattle.std.proofs.Common.{◌≡◌, ◌∙◌, IfSome, is_some, sym, subst}
-use Rattle.c104_token.specs.declared.tokens.Token.{Token}
-use Rattle.c104_token.specs.Kinds.{plain_kind}
-use Rattle.c104_plan.specs.Plans.{IsPlan}
-use Rattle.c104_run.specs.NetRecords.{IsNetRecord, NetRecord}
-use Rattle.c104_run.specs.Network.{network_apply, Network}
-use Rattle.c104_run.specs.Reasons.{is_unready, network_why}
-use Rattle.c104_run.specs.ReasonMeanings.{IsEventReason}
-use Rattle.c104_run.specs.RecordedNets.{reading, Reading}
-use Rattle.c104_run.proofs.UnreadyEvents.{unready_answered}
-use Rattle.c104_run.proofs.EventReasons.{event_reason_holds}
-use Rattle.c104_run.proofs.RecordedNets.{seen_plain}
-use Rattle.c104_run.proofs.RecordedViews.{network_why_plain}
+use Rattle.{c104_plan.specs.Plans.IsPlan, c104_run.proofs.{EventReasons.event_reason_holds, RecordedNets.seen_plain}}
+use Rattle.c104_run.{proofs.{RecordedViews.network_why_plain, UnreadyEvents.unready_answered}, specs.NetRecords.{IsNetRecord, NetRecord}}
+use Rattle.c104_run.specs.{Network.{Network, network_apply}, ReasonMeanings.IsEventReason, Reasons.{is_unready, network_why}}
+use Rattle.{c104_run.specs.RecordedNets.{Reading, reading}, c104_token.specs.{Kinds.plain_kind, declared.tokens.Token.Token}}
+use Rattle.std.proofs.Common.{IfSome, is_some, subst, sym, ◌∙◌, ◌≡◌}
 use Rattle.c104_run.proofs.recorded_net.RecordedNet.why.Goals as goal
 
 pub returns-clause-why : goal.returns-clause-why

@@ -1,6 +1,4 @@
-use Rattle.c104_node.proofs.IdleNodes.{alone_stays}
-use Rattle.c104_run.proofs.ActAttempts.{alone_tried}
-use Rattle.c104_run.proofs.MeteredSteps.{silent_meter}
+use Rattle.{c104_node.proofs.IdleNodes.alone_stays, c104_run.proofs.{ActAttempts.alone_tried, MeteredSteps.silent_meter}}
 use Rattle.c104_run.proofs.rounds.attempts.attempt_alone.Goals as goal
 
 pub returns-clause-tried : goal.returns-clause-tried

@@ -1,10 +1,5 @@
-use Rattle.std.proofs.Common.{◌∙◌, ap, map}
-use Rattle.c104_node.proofs.IdleNodes.{joint_stays}
-use Rattle.c104_node.specs.Places.{states}
-use Rattle.c104_node.specs.declared.ends.End.{End}
-use Rattle.c104_run.specs.LivePlaces.{is_live}
-use Rattle.c104_run.proofs.ActAttempts.{joint_tried}
-use Rattle.c104_run.proofs.LiveRounds.{grown_on, live_joint}
+use Rattle.{c104_node.{proofs.IdleNodes.joint_stays, specs.{Places.states, declared.ends.End.End}}, c104_run.proofs.ActAttempts.joint_tried}
+use Rattle.{c104_run.{proofs.LiveRounds.{grown_on, live_joint}, specs.LivePlaces.is_live}, std.proofs.Common.{ap, map, ◌∙◌}}
 use Rattle.c104_run.proofs.rounds.attempts.attempt_joint.Goals as goal
 
 pub returns-clause-tried : goal.returns-clause-tried

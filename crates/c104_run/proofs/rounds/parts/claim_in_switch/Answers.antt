@@ -1,9 +1,6 @@
-use Rattle.std.proofs.Common.{arith, map}
-use Rattle.c104_run.specs.Rounds.{claims_of}
-use Rattle.c104_run.specs.Meters.{metered_of}
-use Rattle.c104_run.proofs.IdleEvents.{idle_claim}
-use Rattle.c104_run.proofs.RoundJoins.{idle_claims, of_inputs}
-use Rattle.c104_run.proofs.PartRuns.{number_next, number_stops, numbers_done, numbers_passed}
+use Rattle.c104_run.proofs.{IdleEvents.idle_claim, PartRuns.{number_next, number_stops, numbers_done, numbers_passed}}
+use Rattle.{c104_run.{proofs.RoundJoins.{idle_claims, of_inputs}, specs.{Meters.metered_of, Rounds.claims_of}}, std.proofs.Common.arith}
+use Rattle.std.proofs.Common.{map}
 use Rattle.c104_run.proofs.rounds.parts.claim_in_switch.Goals as goal
 
 pub loop-input-preserved : goal.loop-input-preserved

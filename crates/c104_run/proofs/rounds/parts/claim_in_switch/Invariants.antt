@@ -1,10 +1,5 @@
-use Rattle.std.proofs.Common.{◌-◌, ◌≤◌, take, Ok, map}
-use Rattle.std.specs.List.{flat_map, range_with_len}
-use Rattle.c104_run.specs.Rounds.{claims_of}
-use Rattle.c104_node.specs.Places.{states}
-use Rattle.c104_run.specs.LivePlaces.{AreLive}
-use Rattle.c104_run.specs.Meters.{metered_apply, metered_of}
-use Rattle.c104_run.specs.RoundParts.{PartEnds}
+use Rattle.{c104_node.specs.Places.states, c104_run.specs.{LivePlaces.AreLive, Meters.{metered_apply, metered_of}, RoundParts.PartEnds}}
+use Rattle.{c104_run.specs.Rounds.claims_of, std.{proofs.Common.{Ok, map, take, ◌-◌, ◌≤◌}, specs.List.{flat_map, range_with_len}}}
 use Rattle.c104_run.proofs.rounds.parts.claim_in_switch.Given as goal
 
 -- the claims so far

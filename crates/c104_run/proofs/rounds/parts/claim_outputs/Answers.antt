@@ -1,8 +1,5 @@
-use Rattle.std.proofs.Common.{arith, length, map}
-use Rattle.c104_run.specs.Rounds.{switch_claims}
-use Rattle.c104_run.specs.Meters.{metered_of}
-use Rattle.c104_run.proofs.LiveRounds.{passed_claims}
-use Rattle.c104_run.proofs.PartRuns.{number_next, number_stops, numbers_done, numbers_passed}
+use Rattle.c104_run.proofs.{LiveRounds.passed_claims, PartRuns.{number_next, number_stops, numbers_done, numbers_passed}}
+use Rattle.{c104_run.specs.{Meters.metered_of, Rounds.switch_claims}, std.proofs.Common.{arith, length, map}}
 use Rattle.c104_run.proofs.rounds.parts.claim_outputs.Goals as goal
 
 pub next-requires : goal.next-requires

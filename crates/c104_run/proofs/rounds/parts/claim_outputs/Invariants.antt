@@ -1,10 +1,6 @@
-use Rattle.std.proofs.Common.{◌-◌, ◌≤◌, length, take, Ok, map}
-use Rattle.std.specs.List.{flat_map, range_with_len}
-use Rattle.c104_node.specs.Places.{states}
-use Rattle.c104_run.specs.LivePlaces.{AreLive}
-use Rattle.c104_run.specs.Rounds.{switch_claims}
-use Rattle.c104_run.specs.Meters.{metered_apply, metered_of}
-use Rattle.c104_run.specs.RoundParts.{PartEnds}
+use Rattle.{c104_node.specs.Places.states, c104_run.specs.{LivePlaces.AreLive, Meters.{metered_apply, metered_of}, RoundParts.PartEnds}}
+use Rattle.{c104_run.specs.Rounds.switch_claims, std.{proofs.Common.{Ok, length, map, take, ◌-◌, ◌≤◌}, specs.List.flat_map}}
+use Rattle.std.specs.List.{range_with_len}
 use Rattle.c104_run.proofs.rounds.parts.claim_outputs.Given as goal
 
 -- the claims of the switches so far

@@ -1,7 +1,4 @@
-use Rattle.c104_event.specs.declared.events.Event.TheVariants as event
-use Rattle.c104_run.specs.Rounds.{wired_ports}
-use Rattle.c104_run.proofs.RoundJoins.{of_events}
-use Rattle.c104_run.proofs.rounds.parts.credit_ports.Goals as goal
+use Rattle.{c104_event.specs.declared.events.Event.Event, c104_run.{proofs.RoundJoins.of_events, specs.Rounds.wired_ports}}
 
-pub returns-clause-ends : goal.returns-clause-ends
-returns-clause-ends g c = of_events _ event.Credit (wired_ports c.args.wires.now) _ _ _ c.walk_ports.ensures.ends
+pub returns-clause-ends : Rattle.c104_run.proofs.rounds.parts.credit_ports.Goals.returns-clause-ends
+returns-clause-ends g c = of_events _ Event.Credit (wired_ports c.args.wires.now) _ _ _ c.walk_ports.ensures.ends

@@ -1,7 +1,5 @@
-use Rattle.std.proofs.Common.{◌<◌, ◌∙◌, map, sym}
-use Rattle.c104_run.specs.Network.{network_of}
-use Rattle.c104_run.proofs.PortWalks.{below_links, if_some, near_ready, passed_link}
-use Rattle.c104_node.specs.Places.{states}
+use Rattle.{c104_node.specs.Places.states, c104_run.proofs.PortWalks.{below_links, if_some, near_ready, passed_link}}
+use Rattle.{c104_run.specs.Network.network_of, std.proofs.Common.{map, sym, ◌<◌, ◌∙◌}}
 use Rattle.c104_run.proofs.rounds.ports.next_link.Goals as goal
 
 pub returns-clause-passed : goal.returns-clause-passed

@@ -1,5 +1,4 @@
-use Rattle.std.proofs.Common.{◌≡◌, ◌+◌, arith, false, subst}
-use Rattle.c104_run.specs.LivePlaces.{is_live}
+use Rattle.{c104_run.specs.LivePlaces.is_live, std.proofs.Common.{arith, false, subst, ◌+◌, ◌≡◌}}
 use Rattle.c104_run.proofs.rounds.ports.next_terminal.Goals as goal
 
 pub returns-in-Some-clause-passed : goal.returns-in-Some-clause-passed

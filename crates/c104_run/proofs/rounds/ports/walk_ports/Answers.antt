@@ -1,7 +1,5 @@
-use Rattle.c104_run.proofs.KnownWires.{still_known}
-use Rattle.c104_run.proofs.PartRuns.{part_after, stops_after, stops_before}
+use Rattle.{c104_node.proofs.PlaceSteps.err_is, c104_run.proofs.{KnownWires.still_known, PartRuns.{part_after, stops_after, stops_before}}}
 use Rattle.c104_run.proofs.PortWalks.{of_ports}
-use Rattle.c104_node.proofs.PlaceSteps.{err_is}
 use Rattle.c104_run.proofs.rounds.ports.walk_ports.Goals as goal
 
 pub returns-clause-ends : goal.returns-clause-ends

@@ -1,9 +1,6 @@
+use Rattle.c104_run.proofs.{KnownWires.still_known, LiveRounds.passed_switch, PartRuns.{number_next, number_stops, numbers_done}}
+use Rattle.c104_run.{proofs.{PartRuns.numbers_passed, PortWalks.{of_switch, of_switches}}, specs.Meters.metered_of}
 use Rattle.std.proofs.Common.{arith, length, map}
-use Rattle.c104_run.specs.Meters.{metered_of}
-use Rattle.c104_run.proofs.KnownWires.{still_known}
-use Rattle.c104_run.proofs.LiveRounds.{passed_switch}
-use Rattle.c104_run.proofs.PartRuns.{number_next, number_stops, numbers_done, numbers_passed}
-use Rattle.c104_run.proofs.PortWalks.{of_switch, of_switches}
 use Rattle.c104_run.proofs.rounds.ports.walk_switches.Goals as goal
 
 pub next-requires : goal.next-requires

@@ -1,10 +1,6 @@
-use Rattle.std.proofs.Common.{◌-◌, ◌≤◌, length, take, Ok, map}
+use Rattle.{c104_node.specs.Places.states, c104_run.{proofs.PortWalks.of_switch, specs.{LivePlaces.AreLive, Meters.metered_apply}}}
+use Rattle.{c104_run.specs.{Meters.metered_of, RoundParts.PartEnds}, std.proofs.Common.{Ok, length, map, take, ◌-◌, ◌≤◌}}
 use Rattle.std.specs.List.{flat_map, range_with_len}
-use Rattle.c104_node.specs.Places.{states}
-use Rattle.c104_run.specs.LivePlaces.{AreLive}
-use Rattle.c104_run.specs.Meters.{metered_apply, metered_of}
-use Rattle.c104_run.specs.RoundParts.{PartEnds}
-use Rattle.c104_run.proofs.PortWalks.{of_switch}
 use Rattle.c104_run.proofs.rounds.ports.walk_switches.Given as goal
 
 -- the events so far

@@ -1,8 +1,5 @@
-use Rattle.std.proofs.Common.{subst, sym, ◌≡◌}
-use Rattle.c104_run.specs.FinishedRecords.{FinishedRecord, IsFinishedRecord}
-use Rattle.c104_run.specs.NodeRuns.{nodes_run}
-use Rattle.c104_run.proofs.NodeRuns.{run_is_kept}
-use Rattle.c104_run.proofs.RunPartLists.{finish_is}
+use Rattle.c104_run.{proofs.{NodeRuns.run_is_kept, RunPartLists.finish_is}, specs.FinishedRecords.{FinishedRecord, IsFinishedRecord}}
+use Rattle.{c104_run.specs.NodeRuns.nodes_run, std.proofs.Common.{subst, sym, ◌≡◌}}
 use Rattle.c104_run.proofs.run.Run.of_nodes.Goals as goal
 
 -- what was copied is what is left of the nodes

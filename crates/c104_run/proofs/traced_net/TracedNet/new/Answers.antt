@@ -1,9 +1,5 @@
-use Rattle.std.proofs.Common.{◌≡◌, ◌∙◌, refl, subst, sym}
-use Rattle.c104_plan.specs.Plans.{IsPlan}
-use Rattle.c104_node.specs.TracedRecords.{counted_shown}
-use Rattle.c104_run.proofs.KnownWires.{unknown}
-use Rattle.c104_run.proofs.LiveRounds.{live_all}
-use Rattle.c104_run.proofs.TracedFirsts.{traced_new, traced_new_is}
+use Rattle.{c104_node.specs.TracedRecords.counted_shown, c104_plan.specs.Plans.IsPlan, c104_run.proofs.KnownWires.unknown}
+use Rattle.{c104_run.proofs.{LiveRounds.live_all, TracedFirsts.{traced_new, traced_new_is}}, std.proofs.Common.{refl, subst, sym, ◌∙◌, ◌≡◌}}
 use Rattle.c104_run.proofs.traced_net.TracedNet.new.Goals as goal
 
 pub invariant_of-result : goal.invariant_of-result

@@ -1,8 +1,5 @@
-use Rattle.std.proofs.Common.{◌<◌, ◌∙◌, None, length, ap, arith}
-use Rattle.std.proofs.lemmas.List.{get_or_read}
-use Rattle.c104_plan.specs.declared.ports.Port.TheVariants as port
-use Rattle.c104_run.specs.FarEnds.{far_end}
-use Rattle.c104_run.proofs.FarEndLists.{links_counted, link_at}
+use Rattle.{c104_plan.specs.declared.ports.Port.Port, c104_run.{proofs.FarEndLists.{link_at, links_counted}, specs.FarEnds.far_end}}
+use Rattle.std.proofs.{Common.{None, ap, arith, length, ◌<◌, ◌∙◌}, lemmas.List.get_or_read}
 use Rattle.c104_run.proofs.wires.Wires.end_of_link.Goals as goal
 
 pub index-requires : goal.index-requires
@@ -17,4 +14,4 @@ returns c =
     let inside : c.args.switch < length c.self.inside.plan.switches = rw c.self.view_is c.requires.0 in
     get_or_read c.self.inside.links.items _ _ (omega (arith, counted, inside, c.requires.1)) c.index.ensures None
     ∙ link_at c.self.inside.plan c.self.inside.links.items c.self.invariant.0 c.args.switch c.args.link None inside c.requires.1
-    ∙ ap (λ plan. far_end plan (port.Switch c.args.switch c.args.link)) c.self.view_is
+    ∙ ap (λ plan. far_end plan (Port.Switch c.args.switch c.args.link)) c.self.view_is

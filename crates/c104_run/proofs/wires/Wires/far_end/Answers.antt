@@ -1,8 +1,5 @@
-use Rattle.std.proofs.Common.{◌<◌, ◌∙◌, None, length, ap, arith}
-use Rattle.std.proofs.lemmas.List.{get_or_read}
-use Rattle.c104_plan.specs.declared.ports.Port.TheVariants as port
-use Rattle.c104_run.specs.FarEnds.{far_end}
-use Rattle.c104_run.proofs.FarEndLists.{terminals_counted, terminal_at}
+use Rattle.{c104_plan.specs.declared.ports.Port.Port, c104_run.{proofs.FarEndLists.{terminal_at, terminals_counted}, specs.FarEnds.far_end}}
+use Rattle.std.proofs.{Common.{None, ap, arith, length, ◌<◌, ◌∙◌}, lemmas.List.get_or_read}
 use Rattle.c104_run.proofs.wires.Wires.far_end.Goals as goal
 
 pub index-requires : goal.index-requires
@@ -17,4 +14,4 @@ returns-in-Terminal c =
     let inside : c.in-Terminal.terminal < length c.self.inside.plan.terminals = rw c.self.view_is (rw c.in-Terminal.is at c.requires) in
     rw c.in-Terminal.is (get_or_read c.self.inside.terminals.items _ _ (omega (arith, counted, inside)) c.index.ensures None
     ∙ terminal_at c.self.inside.plan c.self.inside.terminals.items c.self.invariant.1 c.in-Terminal.terminal None inside
-    ∙ ap (λ plan. far_end plan (port.Terminal c.in-Terminal.terminal)) c.self.view_is)
+    ∙ ap (λ plan. far_end plan (Port.Terminal c.in-Terminal.terminal)) c.self.view_is)

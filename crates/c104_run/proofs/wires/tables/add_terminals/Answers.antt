@@ -1,8 +1,6 @@
-use Rattle.std.proofs.Common.{◌≡◌, ◌+◌, ◌-◌, ◌<◌, ◌++◌, List, length, sym, ap, ◌∙◌, arith}
-use Rattle.c104_plan.specs.declared.plans.Terminal.{Terminal}
-use Rattle.c104_plan.specs.Wiring.{terminal_wires}
-use Rattle.c104_run.specs.FarEnds.{end_by, ends_by, with_end}
-use Rattle.c104_run.proofs.EndTables.{all_added, ends_counted, from_terminal, none_left, terminal_added}
+use Rattle.{c104_plan.specs.{Wiring.terminal_wires, declared.plans.Terminal.Terminal}, c104_run.proofs.EndTables.{all_added, ends_counted}}
+use Rattle.c104_run.{proofs.EndTables.{from_terminal, none_left, terminal_added}, specs.FarEnds.{end_by, ends_by, with_end}}
+use Rattle.std.proofs.Common.{List, ap, arith, length, sym, ◌++◌, ◌+◌, ◌-◌, ◌<◌, ◌∙◌, ◌≡◌}
 use Rattle.c104_run.proofs.wires.tables.add_terminals.Goals as goal
 
 pub loop-done-init : goal.loop-done-init

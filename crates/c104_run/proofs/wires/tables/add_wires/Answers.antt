@@ -1,7 +1,6 @@
-use Rattle.std.proofs.Common.{◌≡◌, ◌+◌, ◌-◌, ◌<◌, List, drop, get_or, length, sym, ap, ◌∙◌, arith}
-use Rattle.c104_plan.specs.declared.ports.Wire.{Wire}
-use Rattle.c104_run.specs.FarEnds.{end_by, ends_by, with_end}
-use Rattle.c104_run.proofs.EndTables.{ends_counted, none_left, wire_added}
+use Rattle.{c104_plan.specs.declared.ports.Wire.Wire, c104_run.proofs.EndTables.{ends_counted, none_left, wire_added}}
+use Rattle.{c104_run.specs.FarEnds.{end_by, ends_by, with_end}, std.proofs.Common.{List, ap, arith, drop, get_or, length, sym, ◌+◌, ◌-◌}}
+use Rattle.std.proofs.Common.{◌<◌, ◌∙◌, ◌≡◌}
 use Rattle.c104_run.proofs.wires.tables.add_wires.Goals as goal
 
 pub loop-done-init : goal.loop-done-init

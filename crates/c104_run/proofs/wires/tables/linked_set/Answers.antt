@@ -1,6 +1,4 @@
-use Rattle.std.proofs.Common.{◌∙◌, None, arith}
-use Rattle.c104_run.proofs.FarEndLists.{links_counted, wired_at}
-use Rattle.c104_run.proofs.WiredPorts.{linked_more}
+use Rattle.{c104_run.proofs.{FarEndLists.{links_counted, wired_at}, WiredPorts.linked_more}, std.proofs.Common.{None, arith, ◌∙◌}}
 use Rattle.c104_run.proofs.wires.tables.linked_set.Goals as goal
 
 pub bounds-links-switch : goal.bounds-links-switch

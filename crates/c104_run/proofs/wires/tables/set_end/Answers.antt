@@ -1,10 +1,7 @@
-use Rattle.std.proofs.Common.{◌∙◌, ap, length, subst, sym}
-use Rattle.c104_plan.specs.Ports.{IsSwitchPort}
-use Rattle.c104_run.specs.FarEnds.{ends_by, with_end}
-use Rattle.c104_run.proofs.EndTables.{end_set}
-use Rattle.c104_run.proofs.wires.tables.set_end.Goals as goal
+use Rattle.{c104_plan.specs.Ports.IsSwitchPort, c104_run.{proofs.EndTables.end_set, specs.FarEnds.{ends_by, with_end}}}
+use Rattle.std.proofs.Common.{ap, length, subst, sym, ◌∙◌}
 
-pub returns-clause-set : goal.returns-clause-set
+pub returns-clause-set : Rattle.c104_run.proofs.wires.tables.set_end.Goals.returns-clause-set
 returns-clause-set c = λ before are.
     let here = subst (IsSwitchPort (length c.args.plan.now.switches)) c.in-Switch.is c.requires.inside in
     end_set before (length c.args.plan.now.switches) c.in-Switch.switch c.in-Switch.link c.args.far here.0 here.1 c.args.ends.now are

@@ -1,7 +1,5 @@
-use Rattle.std.proofs.Common.{Ok, inl, subst, ◌∙◌}
-use Rattle.c104_stream.proofs.ScriptEnds.{err_is}
 use Rattle.c104_session.proofs.CountedLoops.{halted_due, halted_left, idle_due, idle_left, idle_passed, next_going}
-use Rattle.c104_session.specs.Counted.{CountsRound}
+use Rattle.{c104_session.specs.Counted.CountsRound, c104_stream.proofs.ScriptEnds.err_is, std.proofs.Common.{Ok, inl, subst, ◌∙◌}}
 use Rattle.c104_session.proofs.counting.StatsDriver.rounds.Goals as goal
 
 -- a fault stopped a round

@@ -1,6 +1,5 @@
-use Rattle.std.proofs.Common.{◌≡◌, [], ◌++◌, Result, Ok, Err, OnErr, subst, sym, inl, inr, arith, rules}
-use Rattle.c104_stream.specs.Writing.{AppendsPrefix}
-use Rattle.c104_stream.proofs.Prefixes.{kept_past, kept_stops, prefix_longer}
+use Rattle.{c104_stream.{proofs.Prefixes.{kept_past, kept_stops, prefix_longer}, specs.Writing.AppendsPrefix}, std.proofs.Common.{Err, Ok}}
+use Rattle.std.proofs.Common.{OnErr, Result, [], arith, inl, inr, rules, subst, sym, ◌++◌, ◌≡◌}
 use Rattle.c104_stream.proofs.kept.Kept.add.Goals as goal
 
 -- where it is known at every result, it is at an error

@@ -1,11 +1,8 @@
-use Rattle.std.proofs.Common.{◌≡◌, ◌+◌, ◌∷◌, ◌∙◌, sym, slice_range, arith}
-use Rattle.std.specs.Io.KnownBytes.{Keeps, prepend_known}
-use Rattle.std.proofs.KnownBytes.{Keeps-refl}
-use Rattle.c104_stream.proofs.KnownReads.{filled, gave_byte, nothing_between, first_between}
-use Rattle.c104_stream.proofs.reading.Ahead.next_byte.Goals as goal
-use Rattle.c104_stream.proofs.reading.Ahead.next_byte.Goals.{then-self+in_ok-read_piece, else-self}
+use Rattle.{c104_stream.proofs.KnownReads.{filled, first_between, gave_byte, nothing_between}, std.proofs.Common.{arith, slice_range, sym}}
+use Rattle.std.{proofs.{Common.{◌+◌, ◌∙◌, ◌∷◌, ◌≡◌}, KnownBytes.Keeps-refl}, specs.Io.KnownBytes.{Keeps, prepend_known}}
+use Rattle.c104_stream.proofs.reading.Ahead.next_byte.Goals.{else-self, then-self+in_ok-read_piece}
 
-pub returns : goal.returns
+pub returns : Rattle.c104_stream.proofs.reading.Ahead.next_byte.Goals.returns
 returns g c =
     let inside = c.self-2.inside in
     let kept : Keeps (prepend_known c.args.self.now (g.R.Read.remaining c.args.reader.now)) (prepend_known c.if-self.self (g.R.Read.remaining c.if-self.reader)) =

@@ -1,10 +1,8 @@
-use Rattle.std.proofs.Common.{◌≡◌, ◌≤◌, ◌-◌, ◌+◌, ◌++◌, ◌∙◌, ℕ, List, length, min, take, drop, slice_range, sym, ap, arith}
-use Rattle.std.proofs.lemmas.List.{length-take, length-take-le, length-drop}
-use Rattle.std.proofs.Math.Nat.{min-le_left, min-le_right}
-use Rattle.c104_stream.proofs.KnownReads.{took_before}
-use Rattle.c104_stream.proofs.reading.Ahead.take_before.Goals as goal
+use Rattle.{c104_stream.proofs.KnownReads.took_before, std.proofs.Common.{List, ap, arith, drop, length, min, slice_range, sym, take, ℕ}}
+use Rattle.std.proofs.{Common.{◌++◌, ◌+◌, ◌-◌, ◌∙◌, ◌≡◌, ◌≤◌}, Math.Nat.{min-le_left, min-le_right}, lemmas.List.{length-drop, length-take}}
+use Rattle.std.proofs.lemmas.List.{length-take-le}
 
-pub returns : goal.returns
+pub returns : Rattle.c104_stream.proofs.reading.Ahead.take_before.Goals.returns
 returns c =
     let ahead = c.self.inside in
     let most = c.args.most in

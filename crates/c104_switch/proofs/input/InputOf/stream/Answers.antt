@@ -1,9 +1,6 @@
-use Rattle.std.proofs.Common.{true, if◌then◌else◌, ap, refl, subst, sym, ◌∙◌}
-use Rattle.c104_token.specs.Tokens.{is_end}
-use Rattle.c104_switch.specs.Stages.{stage_phase}
-use Rattle.c104_switch.specs.Switch.{Fresh, Input, Stream}
-use Rattle.c104_switch.specs.Turns.{IsTurn}
-use Rattle.c104_switch.proofs.StreamSteps.{gone_on, taken_first, tried_made}
+use Rattle.c104_switch.{proofs.StreamSteps.{gone_on, taken_first, tried_made}, specs.{Stages.stage_phase, Switch.{Fresh, Input, Stream}}}
+use Rattle.{c104_switch.specs.Turns.IsTurn, c104_token.specs.Tokens.is_end, std.proofs.Common.{ap, if◌then◌else◌, refl, subst, sym, true}}
+use Rattle.std.proofs.Common.{◌∙◌}
 use Rattle.c104_switch.proofs.input.InputOf.stream.Goals as goal
 
 pub returns-then-not-is_end-clause-turned : goal.returns-then-not-is_end-clause-turned

@@ -1,4 +1,2 @@
-use Rattle.c104_switch.proofs.input.InputOf.turn.Goals as goal
-
-pub returns-in-Stream-clause-turned : goal.returns-in-Stream-clause-turned
+pub returns-in-Stream-clause-turned : Rattle.c104_switch.proofs.input.InputOf.turn.Goals.returns-in-Stream-clause-turned
 returns-in-Stream-clause-turned g c = c.stream.ensures.turned c.args.settings.now c.args.word

@@ -1,5 +1,4 @@
-use Rattle.std.proofs.Common.{refl}
-use Rattle.std.proofs.lemmas.Option.{slice_get_read, slice_get_past}
+use Rattle.std.proofs.{Common.refl, lemmas.Option.{slice_get_past, slice_get_read}}
 use Rattle.c104_switch.proofs.input.claims.put_own.Goals as goal
 
 pub returns-in-Some : goal.returns-in-Some

@@ -1,11 +1,7 @@
-use Rattle.std.proofs.Common.{◌≡◌, ◌∙◌, Some, List, length, slice_get, is_some, ap, sym, refl, subst}
-use Rattle.std.proofs.lemmas.Option.{slice_get_read, slice_get_past}
-use Rattle.c104_crossbar.specs.Marks.{ArePartition}
-use Rattle.c104_switch.specs.Switch.{Input}
-use Rattle.c104_switch.specs.Claims.{input_claim}
-use Rattle.c104_switch.specs.Holding.{held_claims}
-use Rattle.c104_link.proofs.Lifts.{can_with_place, cannot_with_place}
-use Rattle.c104_switch.proofs.ClaimSteps.{unclaimable, claimable_there}
+use Rattle.{c104_crossbar.specs.Marks.ArePartition, c104_link.proofs.Lifts.{can_with_place, cannot_with_place}}
+use Rattle.c104_switch.{proofs.ClaimSteps.{claimable_there, unclaimable}, specs.{Claims.input_claim, Holding.held_claims, Switch.Input}}
+use Rattle.std.proofs.{Common.{List, Some, ap, is_some, length, refl, slice_get, subst, sym, ◌∙◌, ◌≡◌}, lemmas.Option.slice_get_past}
+use Rattle.std.proofs.lemmas.Option.{slice_get_read}
 use Rattle.c104_switch.proofs.inputs.InputsOf.can_claim.Goals as goal
 
 pub returns-then-not-free : goal.returns-then-not-free

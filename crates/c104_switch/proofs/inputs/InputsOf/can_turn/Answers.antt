@@ -1,9 +1,6 @@
-use Rattle.std.proofs.Common.{◌≡◌, ◌∙◌, Some, List, length, slice_get, is_some, ap, refl}
-use Rattle.std.proofs.lemmas.Option.{slice_get_read, slice_get_past}
-use Rattle.c104_link.specs.Steps.{joint_step_at}
-use Rattle.c104_switch.specs.Switch.{Input}
-use Rattle.c104_switch.specs.Turns.{input_turn}
-use Rattle.c104_link.proofs.Lifts.{can_with_place, cannot_with_place}
+use Rattle.{c104_link.{proofs.Lifts.{can_with_place, cannot_with_place}, specs.Steps.joint_step_at}, c104_switch.specs.Switch.Input}
+use Rattle.{c104_switch.specs.Turns.input_turn, std.proofs.Common.{List, Some, ap, is_some, length, refl, slice_get, ◌∙◌, ◌≡◌}}
+use Rattle.std.proofs.lemmas.Option.{slice_get_past, slice_get_read}
 use Rattle.c104_switch.proofs.inputs.InputsOf.can_turn.Goals as goal
 
 pub returns-in-Some : goal.returns-in-Some

@@ -1,12 +1,6 @@
-use Rattle.std.proofs.Common.{◌∙◌, ◌++◌, ◌∷◌, [], List, ap, arith, map, sym, subst, take}
-use Rattle.std.proofs.lemmas.List.{map_more}
-use Rattle.c104_crossbar.specs.Marks.{ArePartition}
-use Rattle.c104_switch.specs.Starts.{start_input}
-use Rattle.c104_switch.specs.Switch.{Input}
-use Rattle.c104_switch.specs.Holding.{held_claims}
-use Rattle.c104_switch.specs.Readiness.{AreKept}
-use Rattle.c104_switch.proofs.StartLinks.{none_held}
-use Rattle.c104_switch.proofs.OwnersKept.{few_start, owners_none}
+use Rattle.{c104_crossbar.specs.Marks.ArePartition, c104_switch.proofs.{OwnersKept.{few_start, owners_none}, StartLinks.none_held}}
+use Rattle.{c104_switch.specs.{Holding.held_claims, Readiness.AreKept, Starts.start_input, Switch.Input}, std.proofs.Common.{List, [], ap}}
+use Rattle.std.proofs.{Common.{arith, map, subst, sym, take, ◌++◌, ◌∙◌, ◌∷◌}, lemmas.List.map_more}
 use Rattle.c104_switch.proofs.inputs.InputsOf.from_start.Goals as goal
 
 -- one more input was made

@@ -1,10 +1,7 @@
-use Rattle.std.proofs.Common.{◌≡◌, ◌≤◌, length, map, take}
-use Rattle.std.specs.Vec.{vec_capacity}
-use Rattle.c104_switch.specs.Starts.{start_input}
-use Rattle.c104_switch.proofs.inputs.InputsOf.from_start.Given as goal
+use Rattle.{c104_switch.specs.Starts.start_input, std.{proofs.Common.{length, map, take, ◌≡◌, ◌≤◌}, specs.Vec.vec_capacity}}
 
 -- so many inputs were made, and there is room for the others
-abbrev pub invariant-loop-link : goal.invariant-loop-link
+abbrev pub invariant-loop-link : Rattle.c104_switch.proofs.inputs.InputsOf.from_start.Given.invariant-loop-link
 invariant-loop-link g l = record {
   made : l.list.items ≡ map start_input (take l.link-index l.links);
   room : length l.links ≤ vec_capacity l.list;

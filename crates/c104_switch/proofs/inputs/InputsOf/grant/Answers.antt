@@ -1,9 +1,5 @@
-use Rattle.std.proofs.Common.{ap, sym, arith}
-use Rattle.c104_link.proofs.Lifts.{lift_tried}
-use Rattle.c104_switch.proofs.HeldSteps.{partition_kept, phase_granted}
-use Rattle.c104_switch.specs.Holding.{phase_claims}
-use Rattle.c104_switch.proofs.KeptSets.{kept_set}
-use Rattle.c104_switch.proofs.OwnersKept.{few_set, owners_kept}
+use Rattle.{c104_link.proofs.Lifts.lift_tried, c104_switch.proofs.{HeldSteps.{partition_kept, phase_granted}, KeptSets.kept_set}}
+use Rattle.{c104_switch.{proofs.OwnersKept.{few_set, owners_kept}, specs.Holding.phase_claims}, std.proofs.Common.{ap, arith, sym}}
 use Rattle.c104_switch.proofs.inputs.InputsOf.grant.Goals as goal
 
 pub returns : goal.returns

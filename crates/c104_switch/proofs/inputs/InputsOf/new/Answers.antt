@@ -1,11 +1,6 @@
-use Rattle.std.proofs.Common.{◌∙◌, ◌++◌, ◌∷◌, [], List, ap, arith, replicate, sym, subst}
-use Rattle.std.proofs.lemmas.Grind.{replicate_next}
-use Rattle.c104_crossbar.specs.Marks.{ArePartition}
-use Rattle.c104_switch.specs.Switch.{Input, new_input}
-use Rattle.c104_switch.specs.Holding.{held_claims}
-use Rattle.c104_switch.specs.Readiness.{AreKept}
-use Rattle.c104_switch.proofs.HeldClaims.{held_first}
-use Rattle.c104_switch.proofs.OwnersKept.{few_first, owners_none}
+use Rattle.{c104_crossbar.specs.Marks.ArePartition, c104_switch.proofs.{HeldClaims.held_first, OwnersKept.{few_first, owners_none}}}
+use Rattle.{c104_switch.specs.{Holding.held_claims, Readiness.AreKept, Switch.{Input, new_input}}, std.proofs.Common.{List, [], ap, arith}}
+use Rattle.std.proofs.{Common.{replicate, subst, sym, ◌++◌, ◌∙◌, ◌∷◌}, lemmas.Grind.replicate_next}
 use Rattle.c104_switch.proofs.inputs.InputsOf.new.Goals as goal
 
 -- one more input was made

@@ -1,8 +1,6 @@
-use Rattle.std.proofs.Common.{◌≡◌, ◌∙◌, ◌<◌, List, Some, inl, inr, is_some, length, slice_get, ap, arith, refl, sym}
-use Rattle.std.proofs.lemmas.Bool.{cases_lt}
+use Rattle.{c104_switch.{proofs.Wanting.{after_last, before_first, unclaimed_at}, specs.Switch.Input}, std.proofs.Common.{List, Some, ap}}
+use Rattle.std.proofs.{Common.{arith, inl, inr, is_some, length, refl, slice_get, sym, ◌<◌, ◌∙◌, ◌≡◌}, lemmas.Bool.cases_lt}
 use Rattle.std.proofs.lemmas.Option.{slice_get_read}
-use Rattle.c104_switch.specs.Switch.{Input}
-use Rattle.c104_switch.proofs.Wanting.{after_last, before_first, unclaimed_at}
 use Rattle.c104_switch.proofs.inputs.InputsOf.next_claim.Goals as goal
 
 pub loop-output-init : goal.loop-output-init

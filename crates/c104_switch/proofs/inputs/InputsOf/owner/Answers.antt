@@ -1,7 +1,5 @@
-use Rattle.std.proofs.Common.{◌≡◌, ◌∙◌, None, Some, ap, sym, rules, arith}
-use Rattle.std.proofs.lemmas.List.{get_or_past}
-use Rattle.c104_switch.specs.Views.{owner_from}
-use Rattle.c104_switch.proofs.OwnersKept.{owner_inside}
+use Rattle.{c104_switch.{proofs.OwnersKept.owner_inside, specs.Views.owner_from}, std.proofs.Common.{None, Some, ap, arith, rules, sym}}
+use Rattle.std.proofs.{Common.{◌∙◌, ◌≡◌}, lemmas.List.get_or_past}
 use Rattle.c104_switch.proofs.inputs.InputsOf.owner.Goals as goal
 
 pub returns-then-output-ge-LINKS-clause-owner : goal.returns-then-output-ge-LINKS-clause-owner

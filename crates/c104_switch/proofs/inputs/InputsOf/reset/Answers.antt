@@ -1,15 +1,9 @@
-use Rattle.std.proofs.Common.{◌≡◌, ◌≤◌, ◌∙◌, ◌++◌, List, None, drop, length, map, replicate, take, ap, sym, subst, arith}
-use Rattle.std.proofs.lemmas.List.{length-map, take_at}
-use Rattle.c104_crossbar.specs.Marks.{ArePartition}
-use Rattle.c104_switch.specs.Commands.{input_reset}
-use Rattle.c104_switch.specs.Holding.{held_claims}
-use Rattle.c104_switch.specs.Owners.{AreOwners}
-use Rattle.c104_switch.specs.Readiness.{AreKept}
-use Rattle.c104_switch.specs.Switch.{Input}
-use Rattle.c104_switch.proofs.OwnersKept.{owners_none, reset_unheld}
-use Rattle.c104_switch.proofs.inputs.InputsOf.reset.Goals as goal
+use Rattle.{c104_crossbar.specs.Marks.ArePartition, c104_switch.{proofs.OwnersKept.{owners_none, reset_unheld}, specs.Commands.input_reset}}
+use Rattle.{c104_switch.specs.{Holding.held_claims, Owners.AreOwners, Readiness.AreKept, Switch.Input}, std.proofs.Common.{List, None, ap}}
+use Rattle.std.proofs.{Common.{arith, drop, length, map, replicate, subst, sym, take, ◌++◌, ◌∙◌, ◌≡◌, ◌≤◌}, lemmas.List.length-map}
+use Rattle.std.proofs.lemmas.List.{take_at}
 
-pub invariant_of-self : goal.invariant_of-self
+pub invariant_of-self : Rattle.c104_switch.proofs.inputs.InputsOf.reset.Goals.invariant_of-self
 invariant_of-self g c =
     let list : List (Input g.row.T.Denot) = c.reset.new.list in
     let all : length list ≡ length c.self.inside.list.items = ap length (c.reset.ensures.inputs ∙ ap (map input_reset) c.deref_mut.ensures.value) ∙ length-map c.self.inside.list.items input_reset in

@@ -1,11 +1,7 @@
-use Rattle.std.proofs.Common.{true, false, [], ◌∷◌, None, slice_set, sym, subst, arith}
-use Rattle.c104_switch.specs.Owners.{AreOwners}
-use Rattle.c104_switch.proofs.HeldClaims.{claimed_not_free}
-use Rattle.c104_switch.proofs.HeldSteps.{partition_spent}
-use Rattle.c104_switch.proofs.KeptInputs.{kept_same, kept_streamed, unmade}
-use Rattle.c104_switch.proofs.KeptSets.{kept_set}
-use Rattle.c104_switch.proofs.OwnersKept.{few_set, owners_freed, owners_kept}
-use Rattle.c104_link.proofs.Lifts.{lift_beside}
+use Rattle.{c104_link.proofs.Lifts.lift_beside, c104_switch.proofs.{HeldClaims.claimed_not_free, HeldSteps.partition_spent}}
+use Rattle.c104_switch.proofs.{KeptInputs.{kept_same, kept_streamed, unmade}, KeptSets.kept_set, OwnersKept.{few_set, owners_freed}}
+use Rattle.{c104_switch.{proofs.OwnersKept.owners_kept, specs.Owners.AreOwners}, std.proofs.Common.{None, [], arith, false, slice_set}}
+use Rattle.std.proofs.Common.{subst, sym, true, ◌∷◌}
 use Rattle.c104_switch.proofs.inputs.InputsOf.turn.Goals as goal
 
 pub invariant_of-self-in-NotReady : goal.invariant_of-self-in-NotReady

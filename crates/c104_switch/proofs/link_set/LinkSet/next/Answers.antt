@@ -1,9 +1,5 @@
-use Rattle.std.proofs.Common.{◌∙◌, ◌*◌, ◌%◌, ◌^◌, ◌<◌, ℕ, ap, sym, arith, w32}
-use Rattle.std.specs.Prelude.{bit_and}
-use Rattle.std.specs.Int.{bit_at}
-use Rattle.std.proofs.lemmas.Nat.{and_le_r}
-use Rattle.std.proofs.lemmas.Nat.Bits.{bit_at-trailing_zeros, bit_at-zero}
-use Rattle.c104_switch.proofs.LinkSets.{in_both, left, not_both}
+use Rattle.{c104_switch.proofs.LinkSets.{in_both, left, not_both}, std.proofs.Common.{ap, arith, sym, w32, ℕ, ◌%◌, ◌*◌, ◌<◌, ◌^◌, ◌∙◌}}
+use Rattle.std.{proofs.lemmas.Nat.{Bits.{bit_at-trailing_zeros, bit_at-zero}, and_le_r}, specs.{Int.bit_at, Prelude.bit_and}}
 use Rattle.c104_switch.proofs.link_set.LinkSet.next.Goals as goal
 
 pub returns-then-left-eq0 : goal.returns-then-left-eq0

@@ -1,6 +1,5 @@
-use Rattle.std.proofs.Common.{◌==◌, ◌∙◌, ap, sym, arith, w32}
-use Rattle.std.proofs.lemmas.Nat.Bits.{bit_at_set_same, bit_at_set_other, bit_at_clear_same, bit_at_clear_other}
-use Rattle.c104_crossbar.specs.Groups.{has_bit}
+use Rattle.{c104_crossbar.specs.Groups.has_bit, std.proofs.{Common.{ap, arith, sym, w32, ◌==◌, ◌∙◌}, lemmas.Nat.Bits.bit_at_clear_other}}
+use Rattle.std.proofs.lemmas.Nat.Bits.{bit_at_clear_same, bit_at_set_other, bit_at_set_same}
 use Rattle.c104_switch.proofs.link_set.LinkSet.set.Goals as goal
 
 pub returns-then-is_in-clause-here : goal.returns-then-is_in-clause-here

@@ -1,7 +1,5 @@
-use Rattle.std.proofs.Common.{◌&&◌, ◌∙◌, ap, sym, arith}
-use Rattle.c104_crossbar.specs.Groups.{has_bit}
-use Rattle.c104_link.proofs.Lifts.{lift_taken}
-use Rattle.c104_switch.proofs.KeptSending.{sending_asked}
+use Rattle.{c104_crossbar.specs.Groups.has_bit, c104_link.proofs.Lifts.lift_taken, c104_switch.proofs.KeptSending.sending_asked}
+use Rattle.std.proofs.Common.{ap, arith, sym, ◌&&◌, ◌∙◌}
 use Rattle.c104_switch.proofs.outputs.OutputsOf.leave.Goals as goal
 
 pub returns : goal.returns

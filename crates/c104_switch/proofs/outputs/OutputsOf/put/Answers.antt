@@ -1,7 +1,5 @@
-use Rattle.std.proofs.Common.{◌||◌, ◌∙◌, nat_lt, ap, sym, arith}
-use Rattle.c104_crossbar.specs.Groups.{has_bit}
-use Rattle.c104_link.proofs.Lifts.{lift_tried}
-use Rattle.c104_switch.proofs.KeptSending.{sending_offered}
+use Rattle.{c104_crossbar.specs.Groups.has_bit, c104_link.proofs.Lifts.lift_tried, c104_switch.proofs.KeptSending.sending_offered}
+use Rattle.std.proofs.Common.{ap, arith, nat_lt, sym, ◌||◌, ◌∙◌}
 use Rattle.c104_switch.proofs.outputs.OutputsOf.put.Goals as goal
 
 pub returns : goal.returns

@@ -1,7 +1,5 @@
-use Rattle.std.proofs.Common.{◌∙◌, is_some, sym, arith}
-use Rattle.c104_link.proofs.Lifts.{lift_tried}
-use Rattle.c104_link.specs.Buffers.{outgoing_emit}
-use Rattle.c104_switch.proofs.KeptSets.{tested_set}
+use Rattle.{c104_link.{proofs.Lifts.lift_tried, specs.Buffers.outgoing_emit}, c104_switch.proofs.KeptSets.tested_set}
+use Rattle.std.proofs.Common.{arith, is_some, sym, ◌∙◌}
 use Rattle.c104_switch.proofs.outputs.OutputsOf.put_header.Goals as goal
 
 pub returns : goal.returns

@@ -1,10 +1,7 @@
-use Rattle.std.proofs.Common.{◌≡◌, ◌∙◌, length, ap, subst, sym}
-use Rattle.c104_regs.specs.Registers.{RegisterBank}
-use Rattle.c104_switch.specs.Starts.{IsSwitchStart}
-use Rattle.c104_switch.proofs.StartLinks.{new_kept}
-use Rattle.c104_switch.proofs.switch_start.SwitchStart.new.Goals as goal
+use Rattle.{c104_regs.specs.Registers.RegisterBank, c104_switch.{proofs.StartLinks.new_kept, specs.Starts.IsSwitchStart}}
+use Rattle.std.proofs.Common.{ap, length, subst, sym, ◌∙◌, ◌≡◌}
 
-pub invariant_of-result : goal.invariant_of-result
+pub invariant_of-result : Rattle.c104_switch.proofs.switch_start.SwitchStart.new.Goals.invariant_of-result
 invariant_of-result c =
     let bank : RegisterBank = c.in_ok-registers.registers.value in
     let links : length bank.settings ≡ 32 = ap (λ (b : RegisterBank). length b.settings) (c.in_ok-registers.ensures.ok ∙ c.new.ensures.registers) in

@@ -1,10 +1,6 @@
-use Rattle.std.proofs.Common.{◌≡◌, ◌∙◌, sym, ap, refl, List, length, slice_get, Some, is_some}
-use Rattle.std.proofs.lemmas.Option.{slice_get_read, slice_get_past}
-use Rattle.c104_regs.specs.declared.settings.Settings.{Settings}
-use Rattle.c104_regs.specs.Registers.{RegisterBank}
-use Rattle.c104_switch.specs.Switch.{Switch}
-use Rattle.c104_switch.specs.Turns.{switch_input}
-use Rattle.c104_switch.proofs.Readiness.{can_input_there, cannot_input_past}
+use Rattle.{c104_regs.specs.{Registers.RegisterBank, declared.settings.Settings.Settings}, c104_switch.proofs.Readiness.can_input_there}
+use Rattle.{c104_switch.{proofs.Readiness.cannot_input_past, specs.{Switch.Switch, Turns.switch_input}}, std.proofs.Common.{List, Some, ap}}
+use Rattle.std.proofs.{Common.{is_some, length, refl, slice_get, sym, ◌∙◌, ◌≡◌}, lemmas.Option.{slice_get_past, slice_get_read}}
 use Rattle.c104_switch.proofs.switches.SwitchOf.can_input.Goals as goal
 
 pub returns-then-started : goal.returns-then-started

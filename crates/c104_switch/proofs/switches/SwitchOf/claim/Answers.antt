@@ -1,5 +1,4 @@
 use Rattle.c104_switch.proofs.SoundnessMethods.{sound_claim_tried}
-use Rattle.c104_switch.proofs.switches.SwitchOf.claim.Goals as goal
 
-pub invariant_of-self : goal.invariant_of-self
+pub invariant_of-self : Rattle.c104_switch.proofs.switches.SwitchOf.claim.Goals.invariant_of-self
 invariant_of-self g c = sound_claim_tried c.self.invariant c.self.inside.registers.value.settings c.claim.result c.args.input c.args.output c.claim.new.self c.claim.new.outputs (rw c.deref-then-started.ensures at c.claim.ensures)

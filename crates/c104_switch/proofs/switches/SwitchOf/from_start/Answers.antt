@@ -1,10 +1,7 @@
-use Rattle.std.proofs.Common.{◌∙◌, ap, map}
-use Rattle.c104_regs.specs.Registers.{RegisterBank}
-use Rattle.c104_switch.specs.Starts.{start_input, start_output}
-use Rattle.c104_switch.proofs.StartLinks.{sound_from}
-use Rattle.c104_switch.proofs.switches.SwitchOf.from_start.Goals as goal
+use Rattle.{c104_regs.specs.Registers.RegisterBank, c104_switch.{proofs.StartLinks.sound_from, specs.Starts.{start_input, start_output}}}
+use Rattle.std.proofs.Common.{ap, map, ◌∙◌}
 
-pub invariant_of-result : goal.invariant_of-result
+pub invariant_of-result : Rattle.c104_switch.proofs.switches.SwitchOf.from_start.Goals.invariant_of-result
 invariant_of-result g c =
     sound_from c.args.start.now c.links.ensures.kept c.in_ok-registers.registers.value.started c.in_ok-registers.registers.value.settings c.in_ok-inputs.inputs c.in_ok-outputs.outputs
     (ap (λ (b : RegisterBank). b.settings) c.in_ok-registers.ensures.ok ∙ c.registers.ensures.settings)

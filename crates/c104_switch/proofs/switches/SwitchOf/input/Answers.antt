@@ -1,8 +1,5 @@
-use Rattle.std.proofs.Common.{refl, sym, ap, ◌∙◌}
-use Rattle.std.proofs.lemmas.Option.{slice_get_read}
-use Rattle.c104_regs.specs.Registers.{RegisterBank}
-use Rattle.c104_switch.specs.Switch.{Switch}
-use Rattle.c104_switch.proofs.SoundnessMethods.{sound_turn, input_tried}
+use Rattle.{c104_regs.specs.Registers.RegisterBank, c104_switch.{proofs.SoundnessMethods.{input_tried, sound_turn}, specs.Switch.Switch}}
+use Rattle.std.proofs.{Common.{ap, refl, sym, ◌∙◌}, lemmas.Option.slice_get_read}
 use Rattle.c104_switch.proofs.switches.SwitchOf.input.Goals as goal
 
 pub invariant_of-self : goal.invariant_of-self

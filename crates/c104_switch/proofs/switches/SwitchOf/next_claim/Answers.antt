@@ -1,8 +1,5 @@
-use Rattle.std.proofs.Common.{◌∙◌, ap, is_some, sym}
-use Rattle.c104_regs.specs.Registers.{RegisterBank}
-use Rattle.c104_switch.specs.Switch.{Switch}
-use Rattle.c104_switch.specs.Claims.{inputs_claim, switch_claim}
-use Rattle.c104_switch.proofs.Wanting.{claim_started, claim_unstarted, next_same}
+use Rattle.{c104_regs.specs.Registers.RegisterBank, c104_switch.proofs.Wanting.{claim_started, claim_unstarted, next_same}}
+use Rattle.{c104_switch.specs.{Claims.{inputs_claim, switch_claim}, Switch.Switch}, std.proofs.Common.{ap, is_some, sym, ◌∙◌}}
 use Rattle.c104_switch.proofs.switches.SwitchOf.next_claim.Goals as goal
 
 pub returns-then-not-started : goal.returns-then-not-started

@@ -1,9 +1,6 @@
-use Rattle.std.proofs.Common.{◌&&◌, ◌∙◌, ap, is_some, sym}
-use Rattle.c104_crossbar.specs.Groups.{has_bit}
-use Rattle.c104_link.specs.Steps.{step_at}
-use Rattle.c104_regs.specs.Registers.{RegisterBank}
-use Rattle.c104_switch.specs.Switch.{Switch, input_grant, switch_credit_out}
-use Rattle.c104_switch.proofs.Wanting.{grant_started, grant_unstarted, next_same}
+use Rattle.{c104_crossbar.specs.Groups.has_bit, c104_link.specs.Steps.step_at, c104_regs.specs.Registers.RegisterBank}
+use Rattle.c104_switch.{proofs.Wanting.{grant_started, grant_unstarted, next_same}, specs.Switch.{Switch, input_grant, switch_credit_out}}
+use Rattle.std.proofs.Common.{ap, is_some, sym, ◌&&◌, ◌∙◌}
 use Rattle.c104_switch.proofs.switches.SwitchOf.next_granting.Goals as goal
 
 pub returns-then-not-started : goal.returns-then-not-started

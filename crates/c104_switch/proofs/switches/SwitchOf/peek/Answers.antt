@@ -1,12 +1,7 @@
-use Rattle.std.proofs.Common.{ap, subst, sym, ◌∙◌}
-use Rattle.c104_regs.specs.Registers.{RegisterBank}
-use Rattle.c104_switch.specs.Peeks.{registers}
-use Rattle.c104_switch.specs.Soundness.{IsSound}
-use Rattle.c104_switch.specs.Switch.{Switch}
-use Rattle.c104_switch.proofs.Peeks.{status_told_at}
-use Rattle.c104_switch.proofs.switches.SwitchOf.peek.Goals as goal
+use Rattle.{c104_regs.specs.Registers.RegisterBank, c104_switch.{proofs.Peeks.status_told_at, specs.{Peeks.registers, Soundness.IsSound}}}
+use Rattle.{c104_switch.specs.Switch.Switch, std.proofs.Common.{ap, subst, sym, ◌∙◌}}
 
-pub returns : goal.returns
+pub returns : Rattle.c104_switch.proofs.switches.SwitchOf.peek.Goals.returns
 returns g c =
     let s = c.args.self.now in
     let sound = subst (λ (x : Switch g.row.T.Denot). IsSound x) c.self.view_is c.self.invariant in

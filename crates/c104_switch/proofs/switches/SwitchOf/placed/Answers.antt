@@ -1,8 +1,5 @@
-use Rattle.std.proofs.Common.{length, ap, ◌∙◌}
-use Rattle.c104_regs.specs.Registers.{RegisterBank}
-use Rattle.c104_switch.proofs.SoundnessMethods.{sound_made}
-use Rattle.c104_switch.proofs.switches.SwitchOf.placed.Goals as goal
+use Rattle.{c104_regs.specs.Registers.RegisterBank, c104_switch.proofs.SoundnessMethods.sound_made, std.proofs.Common.{ap, length, ◌∙◌}}
 
-pub invariant_of-result : goal.invariant_of-result
+pub invariant_of-result : Rattle.c104_switch.proofs.switches.SwitchOf.placed.Goals.invariant_of-result
 invariant_of-result g c =
     sound_made c.args.cap _ _ _ _ c.requires (ap (λ (b : RegisterBank). length b.settings) (c.in_ok-registers.ensures.ok ∙ c.placed_again.ensures.placed) ∙ c.placed_again.ensures.kept.links) c.in_ok-inputs.ensures c.in_ok-outputs.ensures

@@ -1,10 +1,6 @@
+use Rattle.{c104_regs.specs.Registers.RegisterBank, c104_switch.proofs.{Peeks.status_told_at, PokeSteps.{poke_links, poke_made}}}
+use Rattle.c104_switch.{proofs.SoundnessCommands.sound_set_up, specs.{Peeks.{link_status, registers}, Switch.Switch}}
 use Rattle.std.proofs.Common.{ap, sym, ◌∙◌}
-use Rattle.c104_regs.specs.Registers.{RegisterBank}
-use Rattle.c104_switch.specs.Peeks.{link_status, registers}
-use Rattle.c104_switch.specs.Switch.{Switch}
-use Rattle.c104_switch.proofs.Peeks.{status_told_at}
-use Rattle.c104_switch.proofs.PokeSteps.{poke_links, poke_made}
-use Rattle.c104_switch.proofs.SoundnessCommands.{sound_set_up}
 use Rattle.c104_switch.proofs.switches.SwitchOf.poke.Goals as goal
 
 pub invariant_of-self : goal.invariant_of-self

@@ -1,10 +1,8 @@
-use Rattle.c104_tickets.proofs.Steps.{IsClosed, closes}
-use Rattle.c104_tickets.specs.Tickets.{PassValue}
-use Rattle.c104_tickets.specs.declared.views.Terms.{Terms}
-use Rattle.c104_tickets.proofs.ticket_word.TicketWord.close.Goals as goal
-use Rattle.std.proofs.Common.{ap, subst, sym, ◌≡◌}
+use Rattle.{c104_tickets.{proofs.Steps.{IsClosed, closes}, specs.{Tickets.PassValue, declared.views.Terms.Terms}}, std.proofs.Common.ap}
+use Rattle.std.proofs.Common.{subst, sym, ◌≡◌}
 use lib.ListN.{get_elem?}
 use mathlib.Core.Option.{some}
+use Rattle.c104_tickets.proofs.ticket_word.TicketWord.close.Goals as goal
 
 closed : (c : goal.After-free) → IsClosed c.args.self.terms c.word-next.result c.args.pass.view
 closed c =

@@ -1,13 +1,8 @@
-use Rattle.atomic_table.specs.Table.{Act}
-use Rattle.c104_tickets.proofs.Steps.{draws}
-use Rattle.c104_tickets.specs.Tickets.{PassValue, WordValue, after_draw}
-use Rattle.c104_tickets.specs.declared.TheConstants.{TICKET_LIMIT}
-use Rattle.c104_tickets.specs.declared.views.View.{View}
-use Rattle.c104_tickets.proofs.ticket_word.TicketWord.draw.Goals as goal
-use Rattle.std.proofs.Common.{◌<◌, ◌*◌, ◌∙◌, ap, arith, length, refl, subst, sym, ◌≡◌}
-use Rattle.std.specs.Prelude.{slice_index}
+use Rattle.{atomic_table.specs.Table.Act, c104_tickets.{proofs.Steps.draws, specs.Tickets.{PassValue, WordValue, after_draw}}}
+use Rattle.{c104_tickets.specs.declared.{TheConstants.TICKET_LIMIT, views.View.View}, std.proofs.Common.{ap, arith, length, refl, subst}}
+use Rattle.std.{proofs.Common.{sym, ◌*◌, ◌<◌, ◌∙◌, ◌≡◌}, specs.Prelude.slice_index}
 
-pub fetch_add-requires : goal.fetch_add-requires
+pub fetch_add-requires : Rattle.c104_tickets.proofs.ticket_word.TicketWord.draw.Goals.fetch_add-requires
 fetch_add-requires c =
     let seen : c.pass.inside.seat.me.0 ≡ c.args.pass.now.view = ap (λ (p : PassValue). p.view) c.pass.view_is in (
       ap (λ (p : PassValue). p.word_id) c.pass.view_is ∙ c.requires.word ∙ sym (ap (λ (w : WordValue). w.word_id) c.self.view_is),

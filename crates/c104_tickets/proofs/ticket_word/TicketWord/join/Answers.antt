@@ -1,9 +1,6 @@
-use Rattle.c104_tickets.proofs.Steps.{join_keeps}
-use Rattle.c104_tickets.specs.Tickets.{PassValue, WordValue}
-use Rattle.c104_tickets.proofs.ticket_word.TicketWord.join.Goals as goal
-use Rattle.std.proofs.Common.{◌∙◌, ap, arith, sym}
+use Rattle.{c104_tickets.{proofs.Steps.join_keeps, specs.Tickets.{PassValue, WordValue}}, std.proofs.Common.{ap, arith, sym, ◌∙◌}}
 
-pub join_seat-requires : goal.join_seat-requires
+pub join_seat-requires : Rattle.c104_tickets.proofs.ticket_word.TicketWord.join.Goals.join_seat-requires
 join_seat-requires c = (
   ap (λ (p : PassValue). p.word_id) c.pass.view_is ∙ c.requires.word.0 ∙ sym (ap (λ (w : WordValue). w.word_id) c.self.view_is),
   ap (λ (p : PassValue). p.word_id) c.other.view_is ∙ c.requires.word.1 ∙ sym (ap (λ (w : WordValue). w.word_id) c.self.view_is),

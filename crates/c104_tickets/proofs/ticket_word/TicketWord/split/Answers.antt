@@ -1,10 +1,7 @@
-use Rattle.c104_tickets.proofs.Steps.{split_keeps}
-use Rattle.c104_tickets.specs.Tickets.{PassValue, WordValue}
-use Rattle.c104_tickets.specs.declared.views.View.{View}
-use Rattle.c104_tickets.proofs.ticket_word.TicketWord.split.Goals as goal
-use Rattle.std.proofs.Common.{◌<◌, ◌∙◌, ◌≡◌, ap, arith, subst, sym}
+use Rattle.{c104_tickets.{proofs.Steps.split_keeps, specs.{Tickets.{PassValue, WordValue}, declared.views.View.View}}, std.proofs.Common.ap}
+use Rattle.std.proofs.Common.{arith, subst, sym, ◌<◌, ◌∙◌, ◌≡◌}
 
-pub split_seat-seat-requires : goal.split_seat-seat-requires
+pub split_seat-seat-requires : Rattle.c104_tickets.proofs.ticket_word.TicketWord.split.Goals.split_seat-seat-requires
 split_seat-seat-requires c =
     let seen : c.pass.inside.seat.me.0 ≡ c.args.pass.now.view = ap (λ (p : PassValue). p.view) c.pass.view_is in (
       ap (λ (p : PassValue). p.word_id) c.pass.view_is ∙ c.requires.word ∙ sym (ap (λ (w : WordValue). w.word_id) c.self.view_is),

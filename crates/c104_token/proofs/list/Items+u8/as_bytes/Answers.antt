@@ -1,9 +1,7 @@
-use Rattle.std.proofs.Common.{ℕ, ◌<◌, ◌∙◌, length, slice_index_or, List, subst, arith}
-use Rattle.std.proofs.lemmas.Grind.{get_or_default_zero}
-use Rattle.c104_token.proofs.list.Items+u8.as_bytes.Goals as goal
+use Rattle.std.proofs.{Common.{List, arith, length, slice_index_or, subst, ℕ, ◌<◌, ◌∙◌}, lemmas.Grind.get_or_default_zero}
 
 -- the lent slice holds bytes, and it is the list
-pub returns-clause-range : goal.returns-clause-range
+pub returns-clause-range : Rattle.c104_token.proofs.list.Items+u8.as_bytes.Goals.returns-clause-range
 returns-clause-range c =
     let InRange : List ℕ → Type 0 = λ xs. (k d : ℕ) → k < length xs → slice_index_or xs k d < 256 in
     subst InRange (c.as_slice-bytes.ensures.value ∙ c.self.view_is) (λ k d inside. rw (get_or_default_zero c.as_slice-bytes.result.now k d inside) (grind (arith, c.as_slice-bytes.items_fit)))

@@ -1,11 +1,6 @@
-use Rattle.std.proofs.Common.{◌∙◌, Ok, ap, subst, sym}
-use Rattle.c104_event.specs.declared.events.Event.TheVariants as event
-use Rattle.c104_run.specs.NetRecords.{RecordsEvent}
-use Rattle.c104_run.specs.RecordedRuns.{AnswersRecord}
-use Rattle.c104_tools.proofs.NetAnswers.{by_switch, commands_grown, was_obeyed}
-use Rattle.c104_tools.proofs.NetRuns.{may_give}
-use Rattle.c104_tools.specs.NetOutcomes.{control_given}
-use Rattle.c104_tools.specs.NetCommands.{IsControlReply}
+use Rattle.{c104_event.specs.declared.events.Event.Event, c104_run.specs.{NetRecords.RecordsEvent, RecordedRuns.AnswersRecord}}
+use Rattle.c104_tools.{proofs.{NetAnswers.{by_switch, commands_grown, was_obeyed}, NetRuns.may_give}, specs.NetCommands.IsControlReply}
+use Rattle.{c104_tools.specs.NetOutcomes.control_given, std.proofs.Common.{Ok, ap, subst, sym, ◌∙◌}}
 use Rattle.c104_tools.proofs.nets.RecordedNetControlPort.command.Goals as goal
 
 -- what is answered is a switch's reply
@@ -23,8 +18,8 @@ returns-clause-commands g c =
     let after = c.apply-answer.new.self in
     let same = c.new.ensures ∙ c.as_slice.ensures.value in
     commands_grown before after c.told_plan-plan.ensures.told c.told_plan-plan-2.ensures.told c.args.switch c.args.bytes.now c.control_bytes.result
-    (subst (λ r. RecordsEvent before (event.Control c.args.switch c.args.bytes.now) (Ok r) after) c.control_bytes.ensures
-    (subst (λ bytes. RecordsEvent before (event.Control c.args.switch bytes) (Ok c.in_ok-reply.reply) after) same c.in_ok-reply.ensures.recorded))
+    (subst (λ r. RecordsEvent before (Event.Control c.args.switch c.args.bytes.now) (Ok r) after) c.control_bytes.ensures
+    (subst (λ bytes. RecordsEvent before (Event.Control c.args.switch bytes) (Ok c.in_ok-reply.reply) after) same c.in_ok-reply.ensures.recorded))
 
 -- its switch has obeyed it
 pub returns-clause-shown : goal.returns-clause-shown
@@ -33,8 +28,8 @@ returns-clause-shown g c =
     let after = c.apply-answer.new.self in
     let same = c.new.ensures ∙ c.as_slice.ensures.value in
     was_obeyed before after c.told_plan-plan.ensures.told c.told_plan-plan-2.ensures.told c.args.switch c.args.bytes.now c.control_bytes.result
-    (subst (λ r. RecordsEvent before (event.Control c.args.switch c.args.bytes.now) (Ok r) after) c.control_bytes.ensures
-    (subst (λ bytes. RecordsEvent before (event.Control c.args.switch bytes) (Ok c.in_ok-reply.reply) after) same c.in_ok-reply.ensures.recorded))
+    (subst (λ r. RecordsEvent before (Event.Control c.args.switch c.args.bytes.now) (Ok r) after) c.control_bytes.ensures
+    (subst (λ bytes. RecordsEvent before (Event.Control c.args.switch bytes) (Ok c.in_ok-reply.reply) after) same c.in_ok-reply.ensures.recorded))
 
 -- what is given is what its event is answered
 pub returns-clause-due : goal.returns-clause-due
@@ -43,4 +38,4 @@ returns-clause-due g c =
     let after = c.apply-answer.new.self in
     let same = c.new.ensures ∙ c.as_slice.ensures.value in
     may_give before after c.args.switch c.args.bytes.now (Ok c.in_ok-reply.reply) (Ok c.control_bytes.result) (ap control_given (ap Ok c.control_bytes.ensures))
-    (subst (λ bytes. AnswersRecord before (event.Control c.args.switch bytes) (Ok c.in_ok-reply.reply) after) same c.in_ok-reply.ensures.due)
+    (subst (λ bytes. AnswersRecord before (Event.Control c.args.switch bytes) (Ok c.in_ok-reply.reply) after) same c.in_ok-reply.ensures.due)

@@ -1,7 +1,5 @@
-use Rattle.std.proofs.Common.{ap, subst, sym, ◌∙◌}
-use Rattle.c104_plan.specs.Plans.{IsPlan}
-use Rattle.c104_run.specs.NodeRuns.{TellRun, nodes_run}
-use Rattle.c104_workers.proofs.AuditedLeft.{left_tells, tells_seats}
+use Rattle.{c104_plan.specs.Plans.IsPlan, c104_run.specs.NodeRuns.{TellRun, nodes_run}, c104_workers.proofs.AuditedLeft.left_tells}
+use Rattle.{c104_workers.proofs.AuditedLeft.tells_seats, std.proofs.Common.{ap, subst, sym, ◌∙◌}}
 use Rattle.c104_workers.proofs.closing.Gathered.audit.Goals as goal
 
 pub of_nodes-requires : goal.of_nodes-requires

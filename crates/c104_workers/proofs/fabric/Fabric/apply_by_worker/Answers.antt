@@ -1,6 +1,5 @@
+use Rattle.{c104_run.specs.EventActs.event_acts, c104_workers.proofs.SeatGrowth.{one_follows, same_seat, two_follow}}
 use Rattle.std.proofs.Common.{refl}
-use Rattle.c104_run.specs.EventActs.{event_acts}
-use Rattle.c104_workers.proofs.SeatGrowth.{one_follows, same_seat, two_follow}
 use Rattle.c104_workers.proofs.fabric.Fabric.apply_by_worker.Goals as goal
 
 -- an event of one node

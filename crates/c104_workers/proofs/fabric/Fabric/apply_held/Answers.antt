@@ -1,4 +1,2 @@
-use Rattle.c104_workers.proofs.fabric.Fabric.apply_held.Goals as goal
-
-pub returns-in-Some : goal.returns-in-Some
+pub returns-in-Some : Rattle.c104_workers.proofs.fabric.Fabric.apply_held.Goals.returns-in-Some
 returns-in-Some c = rw c.in-Some.is c.apply_to_two.ensures

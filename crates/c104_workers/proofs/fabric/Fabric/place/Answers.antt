@@ -1,6 +1,4 @@
-use Rattle.std.proofs.Common.{ap, subst, sym}
-use Rattle.c104_workers.specs.Fabrics.{FabricView}
-use Rattle.c104_workers.proofs.EventPlaces.{Placed, placed}
+use Rattle.{c104_workers.{proofs.EventPlaces.{Placed, placed}, specs.Fabrics.FabricView}, std.proofs.Common.{ap, subst, sym}}
 use Rattle.c104_workers.proofs.fabric.Fabric.place.Goals as goal
 
 there : (c : goal.After-places_of) → Placed c.args.self.now.handed.plan c.args.event.now c.places_of.result

@@ -1,5 +1,4 @@
 use Rattle.c104_workers.proofs.PortCommands.{commands_by}
-use Rattle.c104_workers.proofs.ports.FabricPortControlPort.command.Goals as goal
 
-pub returns-clause-commands : goal.returns-clause-commands
+pub returns-clause-commands : Rattle.c104_workers.proofs.ports.FabricPortControlPort.command.Goals.returns-clause-commands
 returns-clause-commands g c = commands_by c.args.self.now.seat.now.0 c.command.new.seat.0 c.args.switch c.args.bytes.now c.command.result c.command.ensures.called

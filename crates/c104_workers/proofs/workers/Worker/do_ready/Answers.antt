@@ -1,9 +1,6 @@
-use Rattle.std.proofs.Common.{subst, sym}
-use Rattle.c104_workers.specs.Working.{IsOwnEvent}
-use Rattle.c104_workers.proofs.SeatWork.{event_worked, worked_on}
-use Rattle.c104_workers.proofs.workers.Worker.do_ready.Goals as goal
+use Rattle.{c104_workers.{proofs.SeatWork.{event_worked, worked_on}, specs.Working.IsOwnEvent}, std.proofs.Common.{subst, sym}}
 
-pub loop-number-preserved : goal.loop-number-preserved
+pub loop-number-preserved : Rattle.c104_workers.proofs.workers.Worker.do_ready.Goals.loop-number-preserved
 loop-number-preserved g c =
     let found = c.in-Some.ensures.lookup in
     let own = subst (IsOwnEvent c.args.self.now.fabric.now.handed.plan c.args.self.now.count c.args.self.now.number) (sym found.1) (c.requires.own _ c.in-Some.event.now found.3.0) in

@@ -1,6 +1,5 @@
 use Rattle.c104_workers.specs.Working.{HasWorked}
-use Rattle.c104_workers.proofs.workers.Worker.do_turn.Given as goal
 
 -- the parts so far
-abbrev pub invariant-loop-part : goal.invariant-loop-part
+abbrev pub invariant-loop-part : Rattle.c104_workers.proofs.workers.Worker.do_turn.Given.invariant-loop-part
 invariant-loop-part g l = HasWorked l.self.fabric.now.handed.plan l.self.count l.self.number l.initial.seat.0 l.seat.0

@@ -1,7 +1,5 @@
-use Rattle.std.proofs.Common.{All}
-use Rattle.c104_workers.specs.Working.{IsOwnEvent}
-use Rattle.c104_workers.proofs.workers.Worker.own_parts.Given as goal
+use Rattle.{c104_workers.specs.Working.IsOwnEvent, std.proofs.Common.All}
 
 -- the parts of nodes so far
-abbrev pub invariant-loop-node : goal.invariant-loop-node
+abbrev pub invariant-loop-node : Rattle.c104_workers.proofs.workers.Worker.own_parts.Given.invariant-loop-node
 invariant-loop-node g l = All (λ part. All (IsOwnEvent l.plan l.self.count l.self.number) part.events.items) l.parts.items

@@ -1,14 +1,9 @@
-use Rattle.std.proofs.Common.{◌≡◌, None, Some, false, true, is_some, ap, subst, sym}
-use Rattle.c104_token.specs.Kinds.{plain_kind}
-use Rattle.c104_node.specs.Acts.{node_act}
-use Rattle.c104_node.specs.PortActs.{act_limit}
-use Rattle.c104_node.specs.ActLinks.{on_links}
-use Rattle.c104_node.specs.Records.{NodeRecord, has_link, is_full}
-use Rattle.c104_node.proofs.RecordedNodes.{place_kept}
-use Rattle.c104_node.proofs.recorded.place.NodePlaceToken.act.Goals as goal
+use Rattle.c104_node.{proofs.RecordedNodes.place_kept, specs.{ActLinks.on_links, Acts.node_act, PortActs.act_limit, Records.NodeRecord}}
+use Rattle.{c104_node.specs.Records.{has_link, is_full}, c104_token.specs.Kinds.plain_kind, std.proofs.Common.{None, Some, ap, false}}
+use Rattle.std.proofs.Common.{is_some, subst, sym, true, ◌≡◌}
 
 -- the run goes on by this act
-pub invariant_of-self-2 : goal.invariant_of-self-2
+pub invariant_of-self-2 : Rattle.c104_node.proofs.recorded.place.NodePlaceToken.act.Goals.invariant_of-self-2
 invariant_of-self-2 c =
     let n : NodeRecord = record { cap = c.self.inside.cap; wired = c.self.inside.wired; state = c.self.inside.core; start = c.self.inside.start; trace = c.self.inside.trace.items } in
     let seen : c.args.self.now.0 ≡ n = sym (ap (λ w. w.0) c.self.view_is) in

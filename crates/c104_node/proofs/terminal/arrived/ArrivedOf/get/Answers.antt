@@ -1,8 +1,6 @@
-use Rattle.std.proofs.Common.{◌∙◌, ◌<◌, ◌≤◌, ℕ, List, Some, ap, arith, length, map, slice_get, slice_index_or, sym}
-use Rattle.std.proofs.lemmas.Option.{slice_get-get_or, slice_get_past}
-use Rattle.c104_token.specs.Kinds.{byte_token}
-use Rattle.c104_node.specs.Arrivals.{overlaid, OtherOf}
-use Rattle.c104_node.proofs.ArrivedLists.{arrived_length, byte_there}
+use Rattle.c104_node.{proofs.ArrivedLists.{arrived_length, byte_there}, specs.Arrivals.{OtherOf, overlaid}}
+use Rattle.{c104_token.specs.Kinds.byte_token, std.proofs.Common.{List, Some, ap, arith, length, map, slice_get, slice_index_or, sym, ℕ}}
+use Rattle.std.proofs.{Common.{◌<◌, ◌∙◌, ◌≤◌}, lemmas.Option.{slice_get-get_or, slice_get_past}}
 use Rattle.c104_node.proofs.terminal.arrived.ArrivedOf.get.Goals as goal
 
 pub returns-then-index-bytes : goal.returns-then-index-bytes

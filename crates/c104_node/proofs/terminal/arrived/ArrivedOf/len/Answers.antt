@@ -1,8 +1,6 @@
-use Rattle.std.proofs.Common.{◌∙◌, ℕ, ap, length, sym}
-use Rattle.c104_node.proofs.ArrivedLists.{arrived_length}
-use Rattle.c104_node.proofs.terminal.arrived.ArrivedOf.len.Goals as goal
+use Rattle.{c104_node.proofs.ArrivedLists.arrived_length, std.proofs.Common.{ap, length, sym, ℕ, ◌∙◌}}
 
-pub returns : goal.returns
+pub returns : Rattle.c104_node.proofs.terminal.arrived.ArrivedOf.len.Goals.returns
 returns g c =
     ap (length {A = ℕ}) c.as_slice.ensures.value
     ∙ sym (arrived_length g.T.TokenKind.kind c.self.inside.bytes.items c.self.inside.others.items)

@@ -1,5 +1,4 @@
-use Rattle.std.proofs.Common.{◌∙◌, ◌++◌, ◌∷◌, [], List, ap, sym}
-use Rattle.c104_node.proofs.ArrivedLists.{byte_keeps, byte_more}
+use Rattle.{c104_node.proofs.ArrivedLists.{byte_keeps, byte_more}, std.proofs.Common.{List, [], ap, sym, ◌++◌, ◌∙◌, ◌∷◌}}
 use Rattle.c104_node.proofs.terminal.arrived.ArrivedOf.push.Goals as goal
 
 pub invariant_of-self-in-Some : goal.invariant_of-self-in-Some

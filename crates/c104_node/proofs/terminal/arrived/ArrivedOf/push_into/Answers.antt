@@ -1,6 +1,5 @@
-use Rattle.std.proofs.Common.{◌≡◌, ◌∙◌, ◌++◌, ◌∷◌, [], ℕ, List, ap, arith, length, sym}
-use Rattle.c104_node.specs.Arrivals.{OtherOf}
-use Rattle.c104_node.proofs.ArrivedLists.{arrived_length, byte_keeps, byte_more, other_keeps, other_more}
+use Rattle.c104_node.{proofs.ArrivedLists.{arrived_length, byte_keeps, byte_more, other_keeps, other_more}, specs.Arrivals.OtherOf}
+use Rattle.std.proofs.Common.{List, [], ap, arith, length, sym, ℕ, ◌++◌, ◌∙◌, ◌∷◌, ◌≡◌}
 use Rattle.c104_node.proofs.terminal.arrived.ArrivedOf.push_into.Goals as goal
 
 pub push_roomy-requires-clause-room : goal.push_roomy-requires-clause-room

@@ -1,6 +1,5 @@
-use Rattle.std.proofs.Common.{◌≡◌, ◌∙◌, ◌++◌, ◌∷◌, [], ℕ, List, ap, length}
-use Rattle.c104_node.specs.Arrivals.{OtherOf}
-use Rattle.c104_node.proofs.ArrivedLists.{other_keeps, other_more}
+use Rattle.{c104_node.{proofs.ArrivedLists.{other_keeps, other_more}, specs.Arrivals.OtherOf}, std.proofs.Common.{List, [], ap, length, ℕ}}
+use Rattle.std.proofs.Common.{◌++◌, ◌∙◌, ◌∷◌, ◌≡◌}
 use Rattle.c104_node.proofs.terminal.arrived.ArrivedOf.push_other.Goals as goal
 
 pub invariant_of-self-2 : goal.invariant_of-self-2

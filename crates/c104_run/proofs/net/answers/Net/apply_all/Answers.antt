@@ -1,12 +1,8 @@
-use Rattle.std.proofs.Common.{◌≡◌, ◌+◌, ◌++◌, [], ◌∷◌, List, take, arith, ap, ◌∙◌, sym}
-use Rattle.std.proofs.lemmas.List.{take_more}
-use Rattle.c104_event.specs.declared.events.Event.{Event}
-use Rattle.c104_run.proofs.Running.{run_on}
-use Rattle.c104_run.specs.RecordedRuns.{record_apply}
-use Rattle.c104_run.proofs.net.answers.Net.apply_all.Goals as goal
+use Rattle.{c104_event.specs.declared.events.Event.Event, c104_run.{proofs.Running.run_on, specs.RecordedRuns.record_apply}}
+use Rattle.std.proofs.{Common.{List, [], ap, arith, sym, take, ◌++◌, ◌+◌, ◌∙◌, ◌∷◌, ◌≡◌}, lemmas.List.take_more}
 
 -- the run goes on by this event
-pub loop-event-preserved : goal.loop-event-preserved
+pub loop-event-preserved : Rattle.c104_run.proofs.net.answers.Net.apply_all.Goals.loop-event-preserved
 loop-event-preserved c =
     let events : List Event = c.args.events.now in
     let one_more : take (c.loop-event.event-index + 1) events ≡ take c.loop-event.event-index events ++ c.event-item.result ∷ [] = take_more events c.loop-event.event-index c.event-item.result c.loop-event-test.true ∙ ap (λ (e : Event). take c.loop-event.event-index events ++ e ∷ []) (sym c.event-item.is) in

@@ -1,6 +1,4 @@
-use Rattle.std.proofs.Common.{◌∙◌, ap}
-use Rattle.c104_run.specs.NetParts.{parts_record}
-use Rattle.c104_run.proofs.PartCounts.{are_parts}
+use Rattle.{c104_run.{proofs.PartCounts.are_parts, specs.NetParts.parts_record}, std.proofs.Common.{ap, ◌∙◌}}
 use Rattle.c104_run.proofs.net.nodes.Net.into_nodes.Goals as goal
 
 pub new-requires : goal.new-requires

@@ -1,13 +1,8 @@
-use Rattle.std.proofs.Common.{◌≡◌, ◌≤◌, ◌<◌, List, None, Some, length, slice_get, ap, refl, subst, sym, arith, ◌∙◌}
-use Rattle.std.proofs.lemmas.Bool.Decides.{nat_tests}
-use Rattle.std.proofs.lemmas.Option.{slice_get-map, slice_get_past, slice_get_read}
+use Rattle.{c104_node.specs.Records.{NodeRecord, NodeRoom, node_trace}, c104_run.proofs.LinkedNodes.known_nodes}
+use Rattle.c104_run.{proofs.WiredTraces.{node_recorded, traces_wired}, specs.{KnownWires.is_linked_end, NetRecords.{NetRecord, net_record}}}
+use Rattle.{c104_run.specs.WiredActs.IsRecordedNode, std.proofs.Common.{List, None, Some, ap, arith, length, refl, slice_get, subst, sym}}
+use Rattle.std.proofs.{Common.{◌<◌, ◌∙◌, ◌≡◌, ◌≤◌}, lemmas.{Bool.Decides.nat_tests, Option.{slice_get-map, slice_get_past, slice_get_read}}}
 use Rattle.std.specs.Option.{option_map}
-use Rattle.c104_node.specs.Records.{node_trace, NodeRecord, NodeRoom}
-use Rattle.c104_run.specs.KnownWires.{is_linked_end}
-use Rattle.c104_run.specs.NetRecords.{net_record, NetRecord}
-use Rattle.c104_run.specs.WiredActs.{IsRecordedNode}
-use Rattle.c104_run.proofs.LinkedNodes.{known_nodes}
-use Rattle.c104_run.proofs.WiredTraces.{node_recorded, traces_wired}
 use Rattle.c104_run.proofs.net.nodes.Net.node.Goals as goal
 
 -- the node there

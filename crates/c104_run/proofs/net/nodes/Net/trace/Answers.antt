@@ -1,4 +1,4 @@
-use Rattle.std.proofs.Common.{◌≡◌, ◌∙◌, None, Some, sym}
+use Rattle.std.proofs.Common.{None, Some, sym, ◌∙◌, ◌≡◌}
 use Rattle.c104_run.proofs.net.nodes.Net.trace.Goals as goal
 
 pub returns-in-Some-clause-recorded : goal.returns-in-Some-clause-recorded

@@ -1,10 +1,6 @@
-use Rattle.std.proofs.Common.{◌≡◌, ◌∙◌, ℕ, None, Some, ap, subst, sym}
-use Rattle.c104_run.specs.Finished.{run_arrived}
-use Rattle.c104_run.specs.FinishedRecords.{record_finish}
-use Rattle.c104_run.specs.NetRecords.{IsNetRecord, NetRecord}
-use Rattle.c104_run.specs.Network.{network_arrived}
-use Rattle.c104_run.proofs.Finishing.{arrived_same}
-use Rattle.c104_run.proofs.TracedArrivals.{arrived_there}
+use Rattle.c104_run.{proofs.{Finishing.arrived_same, TracedArrivals.arrived_there}, specs.Finished.run_arrived}
+use Rattle.c104_run.specs.{FinishedRecords.record_finish, NetRecords.{IsNetRecord, NetRecord}, Network.network_arrived}
+use Rattle.std.proofs.Common.{None, Some, ap, subst, sym, ℕ, ◌∙◌, ◌≡◌}
 use Rattle.c104_run.proofs.traced_net.arriving.TracedNet.arrived.Goals as goal
 
 finished : (r : NetRecord) → IsNetRecord r → (t : ℕ) → network_arrived r.network t ≡ run_arrived (record_finish r).finished t
