@@ -2,4 +2,3 @@ pub mod Senders
 pub mod Holders
 pub mod Waits
 pub mod States
-pub mod PacketTexts

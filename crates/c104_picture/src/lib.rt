@@ -4,18 +4,13 @@
 //! tokens wait at its ends ([`Way`]), and each output that an input wants for its header ([`Wish`]). `c104_print` makes
 //! the text of such a picture.
 //!
-//! Pictures of packets have the colours, patterns and names that are made here, and [`packet_out`] finds the packet whose
-//! end has yet to go out of a port.
+//! [`packet_out`] finds the packet whose end has yet to go out of a port.
 #![tactic(auto)]
 
 mod holders;
-mod inks;
-mod packet_texts;
 mod senders;
 mod states;
 mod waits;
 
 pub use holders::{end_of, packet_out};
-pub use inks::{color_by, packet_color, pattern};
-pub use packet_texts::{add_packet, add_port};
 pub use states::{Hold, NetState, Way, Wish, net_state};

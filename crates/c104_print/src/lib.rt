@@ -2,7 +2,8 @@
 //! is proved where it is found.
 //!
 //! [`drawing_text`] is the picture of a network and [`state_text`] that of a network as it stands, both in the language
-//! of Graphviz. [`refusal_text`] and its neighbours are what people are told of labels.
+//! of Graphviz. [`over_time_text`] is the picture of a run over its rounds in SVG, or the table of what it shows.
+//! [`refusal_text`] and its neighbours are what people are told of labels.
 #![tactic(auto)]
 
 mod advice;
@@ -10,8 +11,11 @@ mod drawings;
 mod edges;
 mod frames;
 mod nodes;
+mod over_time;
+mod packets;
 mod states;
 
 pub use advice::{cycle_sentences, label_lines, no_cycle_text, refusal_text, row_lines};
 pub use drawings::{drawing_text, drawing_text_with};
+pub use over_time::{Asked, TimedText, over_time_text};
 pub use states::state_text;

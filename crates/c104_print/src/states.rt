@@ -2,11 +2,10 @@
 
 use crate::drawings::drawing_text_with;
 use crate::edges::port_name;
+use crate::packets::{Pattern, packet_color, packet_pattern, packet_text};
 use c104_draw::draw;
 use c104_net::{Origin, TracedNet};
-use c104_picture::{
-    Hold, NetState, Way, Wish, add_packet, add_port, net_state, packet_color, pattern,
-};
+use c104_picture::{Hold, NetState, Way, Wish, net_state};
 use c104_plan::{Image, Plan, Port};
 use c104_token::NoMemory;
 use std::alloc::{AllocError, Global};
@@ -29,10 +28,10 @@ pub fn state_text(alloc: Global, net: &TracedNet, image: &Image) -> Result<Strin
     let state = net_state(alloc, net)?;
     let mut lines = String::new(alloc);
     for way in state.ways.as_slice() {
-        add_way(&mut lines, net.plan(), way)?;
+        add_way(alloc, &mut lines, net.plan(), way)?;
     }
     for wish in state.wishes.as_slice() {
-        add_wish(&mut lines, net.plan(), wish)?;
+        add_wish(alloc, &mut lines, net.plan(), wish)?;
     }
     let drawing = draw(alloc, net.plan(), image)?;
     drawing_text_with(
@@ -55,44 +54,42 @@ fn title(state: &NetState) -> &'static str {
 }
 
 /// The arrow of a way joins a text, unless no packet holds it and no token waits at either end.
-fn add_way(text: &mut String, plan: &Plan, way: &Way) -> Result<(), AllocError> {
+fn add_way(alloc: Global, text: &mut String, plan: &Plan, way: &Way) -> Result<(), AllocError> {
     if !way.hold.held && way.behind == 0 && way.before == 0 {
         return Ok(());
     }
-    add_arrow(text, plan, way.from, way.to)?;
+    add_arrow(alloc, text, plan, way.from, way.to)?;
     if way.hold.held {
-        add_packet(plan, way.hold.packet, text)?;
-        text.push_str("\\n")?;
+        let packet = packet_text(alloc, plan, way.hold.packet)?;
+        write!(text, "{packet}\\n")?;
     }
-    add_end(text, plan, way.from, way.behind)?;
+    add_end(alloc, text, plan, way.from, way.behind)?;
     if let Some(to) = way.to {
         text.push_str(" to ")?;
-        add_end(text, plan, to, way.before)?;
+        add_end(alloc, text, plan, to, way.before)?;
     }
     add_stroke(text, way.hold)
 }
 
 /// The dotted arrow of an output that an input wants joins a text.
-fn add_wish(text: &mut String, plan: &Plan, wish: &Wish) -> Result<(), AllocError> {
-    let input = Port::Switch(wish.input.switch, wish.input.link);
+fn add_wish(alloc: Global, text: &mut String, plan: &Plan, wish: &Wish) -> Result<(), AllocError> {
     let output = Port::Switch(wish.input.switch, wish.output);
-    add_arrow(text, plan, output, wish.to)?;
-    add_packet(plan, wish.packet, text)?;
-    text.push_str("\\n")?;
-    add_port(plan, input, text)?;
-    text.push_str(" wants ")?;
-    add_port(plan, output, text)?;
+    add_arrow(alloc, text, plan, output, wish.to)?;
+    let packet = packet_text(alloc, plan, wish.packet)?;
+    let input = plan.port_text(alloc, Port::Switch(wish.input.switch, wish.input.link))?;
+    let output = plan.port_text(alloc, output)?;
     let color = color(wish.packet, wish.locked);
     let width = width(wish.locked);
     write!(
         text,
-        "\", arrowhead=onormal, style=dotted, color=\"{color}\", penwidth={width}]\n"
+        "{packet}\\n{input} wants {output}\", arrowhead=onormal, style=dotted, color=\"{color}\", penwidth={width}]\n"
     )
 }
 
 /// What an arrow is from and to joins a text, with what stands before its label. A port without a wire leads to a node of
 /// its own.
 fn add_arrow(
+    alloc: Global,
     text: &mut String,
     plan: &Plan,
     from: Port,
@@ -102,14 +99,21 @@ fn add_arrow(
     write!(text, "  \"{tail}\" -> \"")?;
     match to {
         Some(to) => text.push_str(port_name(plan, to))?,
-        None => add_port(plan, from, text)?,
+        None => text.push_str(plan.port_text(alloc, from)?.as_str())?,
     }
     text.push_str("\" [dir=forward, label=\"")
 }
 
 /// An end of a way joins a text: its port, and how many tokens wait there, if some do.
-fn add_end(text: &mut String, plan: &Plan, port: Port, count: usize) -> Result<(), AllocError> {
-    add_port(plan, port, text)?;
+fn add_end(
+    alloc: Global,
+    text: &mut String,
+    plan: &Plan,
+    port: Port,
+    count: usize,
+) -> Result<(), AllocError> {
+    let port = plan.port_text(alloc, port)?;
+    text.push_str(port.as_str())?;
     if count == 0 {
         return Ok(());
     }
@@ -123,12 +127,13 @@ fn add_stroke(text: &mut String, hold: Hold) -> Result<(), AllocError> {
     }
     let color = color(hold.packet, hold.locked);
     let width = width(hold.locked);
-    let pattern = pattern(hold.packet);
-    let is_dashed = pattern == 1 || pattern == 3;
-    let style = if is_dashed { "dashed" } else { "solid" };
-    let is_double = pattern == 2 || pattern == 3;
+    let pattern = packet_pattern(hold.packet);
+    let style = match pattern {
+        Pattern::Plain | Pattern::Double => "solid",
+        Pattern::Dashed | Pattern::DoubleDashed => "dashed",
+    };
     write!(text, "\", color=\"{color}")?;
-    if is_double {
+    if let Pattern::Double | Pattern::DoubleDashed = pattern {
         write!(text, ":white:{color}")?;
     }
     write!(text, "\", style={style}, penwidth={width}]\n")

@@ -1,14 +1,14 @@
 -- The picture of a run over its rounds: how it ends where nothing is drawn.
 use Rattle.{c104_commands.specs.{Endings.IsSetup, Statuses.halt_status, declared.status.Status.Status}, c104_plan.specs.PlanImage.Image}
 use Rattle.{c104_plan.specs.Plans.Plan, c104_run_commands.{proofs.StateLemmas.undrawn, specs.OverTime.{OverTimeEnds, OverTimeRuns}}}
-use Rattle.{c104_run_commands.specs.StatePictures.IsUndrawn, c104_stream.specs.declared.halt.Halt.Halt}
-use Rattle.{c104_timeline.specs.declared.periods.Asked.Asked, std.proofs.Common.{Err, List, Ok, Option, Result, inl, inr, subst, sym, ℕ}}
-use Rattle.std.proofs.{Common.{◌≡◌, ◌≢◌}, KnownBytes.Keeps-refl}
+use Rattle.{c104_run_commands.specs.StatePictures.IsUndrawn, c104_stats.specs.declared.formats.Format.Format}
+use Rattle.{c104_stream.specs.declared.halt.Halt.Halt, std.proofs.Common.{Err, List, Ok, Option, Result, inl, inr, subst, sym, ℕ, ◌≡◌, ◌≢◌}}
+use Rattle.std.proofs.KnownBytes.{Keeps-refl}
 
-pub timed_halts : {X : Type 0} (asked : Asked) (plan : Plan) (image : Image) (script held : Option (List ℕ)) (kind : Halt) (ended : Status) → ◌≢◌ {A = Result X Halt} (Err kind) (Err Halt.CannotWrite) → ended ≡ halt_status kind 1 → OverTimeRuns asked plan image script held held ended
-timed_halts asked plan image script held kind ended wrote is = inl (subst IsUndrawn (sym is) (undrawn kind wrote), Keeps-refl held)
+pub timed_halts : {X : Type 0} (format : Option Format) (plan : Plan) (image : Image) (script held : Option (List ℕ)) (kind : Halt) (ended : Status) → ◌≢◌ {A = Result X Halt} (Err kind) (Err Halt.CannotWrite) → ended ≡ halt_status kind 1 → OverTimeRuns format plan image script held held ended
+timed_halts format plan image script held kind ended wrote is = inl (subst IsUndrawn (sym is) (undrawn kind wrote), Keeps-refl held)
 
 -- where there is a network, and nothing was written before, all ends as for that network
-pub over_time_ends : (asked : Asked) (description script held now holds : Option (List ℕ)) (plan : Plan) (image : Image) (ended : Status) → IsSetup description (Ok (plan, image)) → held ≡ now → OverTimeRuns asked plan image script now holds ended → OverTimeEnds asked description script held holds ended
-over_time_ends asked description script held now holds plan image ended setup same runs =
-    inr (plan, image, setup, subst (λ h. OverTimeRuns asked plan image script h holds ended) (sym same) runs)
+pub over_time_ends : (format : Option Format) (description script held now holds : Option (List ℕ)) (plan : Plan) (image : Image) (ended : Status) → IsSetup description (Ok (plan, image)) → held ≡ now → OverTimeRuns format plan image script now holds ended → OverTimeEnds format description script held holds ended
+over_time_ends format description script held now holds plan image ended setup same runs =
+    inr (plan, image, setup, subst (λ h. OverTimeRuns format plan image script h holds ended) (sym same) runs)

@@ -17,7 +17,8 @@ mod over_time;
 mod runs;
 mod states;
 
-pub use c104_session::{Asked, Format, Printing, What};
+pub use c104_print::Asked;
+pub use c104_session::{Format, Printing, What};
 pub use counts::stats_command;
 pub use lockups::lockup_command;
 pub use over_time::draw_over_time_command;

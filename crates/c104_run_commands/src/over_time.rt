@@ -1,15 +1,17 @@
 //! The drawing of the run of a script over its rounds.
-ghost use Rattle.std.specs.Prelude.{ℕ, ◌≡◌};
+ghost use Rattle.std.specs.Prelude.{ℕ, ◌≡◌, ◌≢◌, Err, IfOk};
 ghost use Rattle.c104_plan.specs.PlanImage.{Fits};
-ghost use Rattle.c104_run_commands.specs.OverTime.{OverTimeEnds, OverTimeRuns};
+ghost use Rattle.c104_stream.specs.declared.halt.Halt.TheVariants as halt;
+ghost use Rattle.c104_run_commands.specs.OverTime.{IsRefusedRun, OverTimeEnds, OverTimeRuns};
 ghost use Rattle.c104_commands.specs.declared.status.Status.TheVariants as status;
 
 use crate::states::write_drawn;
 use c104_commands::{Setup, Status, read_setup};
 use c104_mistakes::Messages;
 use c104_plan::{Image, Plan};
-use c104_session::{Asked, time_plan};
-use c104_stream::Ahead;
+use c104_print::{Asked, TimedText, over_time_text};
+use c104_session::time_plan;
+use c104_stream::{Ahead, Halt};
 use std::alloc::Global;
 use std::io::{Read, Write};
 
@@ -32,7 +34,7 @@ pub fn draw_over_time_command<D: Read, S: Read, W: Write, M: Messages>(
     writer: &mut W,
     messages: &mut M,
 ) -> Status
-    ensures ends { OverTimeEnds asked (D.remaining description.old) (S.remaining script.old)
+    ensures ends { OverTimeEnds asked.format (D.remaining description.old) (S.remaining script.old)
         (W.contents writer.old) (W.contents writer.new) result }
     ensures of_description { result ≡ status.CannotRead 0 → script.new ≡ script.old }
 {
@@ -55,15 +57,35 @@ fn draw_timed<S: Read, W: Write, M: Messages>(
     messages: &mut M,
 ) -> Status
     requires { Fits image plan.now }
-    ensures runs { OverTimeRuns asked plan.now image (S.remaining script.old)
+    ensures runs { OverTimeRuns asked.format plan.now image (S.remaining script.old)
         (W.contents writer.old) (W.contents writer.new) result }
     ensures of_script { (n : ℕ) → result ≡ status.CannotRead n → n ≡ 1 }
 {
-    let Ok(mut ahead) = Ahead::new(alloc) else {
-        return Status::NoMemory;
-    };
-    match time_plan(alloc, plan, image, asked, &mut ahead, script, messages) {
+    match timed_text(alloc, asked, plan, image, script, messages) {
         Ok(timed) => write_drawn(timed.text.as_slice(), timed.is_refused, writer),
         Err(halt) => Status::of_halt(halt, 1),
     }
+}
+
+/// What is asked for of a script's run on the network of a plan, with an image that fits it.
+fn timed_text<S: Read, M: Messages>(
+    alloc: Global,
+    asked: Asked,
+    plan: &Plan,
+    image: Image,
+    script: &mut S,
+    messages: &mut M,
+) -> Result<TimedText, Halt>
+    requires { Fits image plan.now }
+    ensures refused { IfOk result (λ timed.
+        IsRefusedRun asked.format plan.now image (S.remaining script.old) timed.is_refused) }
+    ensures unwritten { result ≢ Err halt.CannotWrite }
+{
+    let mut ahead = Ahead::new(alloc)?;
+    let run = time_plan(alloc, plan, image, &mut ahead, script, messages)?;
+    let TimedText { text, is_refused } = over_time_text(alloc, plan, &run.timeline, asked)?;
+    Ok(TimedText {
+        text,
+        is_refused: is_refused || run.is_refused,
+    })
 }

@@ -4,8 +4,8 @@
 //! line was faulty so far. It can't be dropped, and neither can what `finish` gives at its end, an `Ended` with the
 //! `EndedNet` that tells what arrived.
 //! `answer_script` answers the lines of a script as they are read, `summary_texts` tells what arrived
-//! at each terminal, and `run_plan` does both on the network of a plan. `count_plan` counts such a run, and `time_plan` draws
-//! it over its rounds.
+//! at each terminal, and `run_plan` does both on the network of a plan. `count_plan` counts such a run, and `time_plan` lists
+//! what crosses the wires in it, round by round.
 //!
 //! Lines are answered as they are read, and all answers are written before the reader is asked for
 //! more. A faulty line changes nothing but that there was one; running out of memory ends the script,
@@ -41,10 +41,9 @@ mod tools;
 
 pub use answering::answer_script;
 pub use c104_stats::{Format, What};
-pub use c104_timeline::{Asked, Period};
 pub use counted_runs::{Printing, count_plan, is_locked};
 pub use ended::EndedNet;
 pub use runs::run_plan;
 pub use session::{Ended, Session};
 pub use summary::summary_texts;
-pub use timed_runs::{TimedText, time_plan};
+pub use timed_runs::{TimedRun, time_plan};

@@ -9,7 +9,6 @@ use c104_net::PlaceFault;
 use c104_plan::ImageFault;
 use c104_script::LineFault;
 use c104_stream::{Halt, ReadFault};
-use c104_timeline::TimeFault;
 use c104_token::{NoMemory, TokenFault};
 use c104_tools::LoadFault;
 use c104_workers::{FabricFault, RunFault};
@@ -177,12 +176,6 @@ impl Fault for AuditFault {
 impl Fault for ReadFault {
     fn is_no_memory(&self) -> bool {
         *self == ReadFault::NoMemory
-    }
-}
-
-impl Fault for TimeFault {
-    fn is_no_memory(&self) -> bool {
-        *self == TimeFault::NoMemory
     }
 }
 

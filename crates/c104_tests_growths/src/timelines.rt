@@ -6,8 +6,10 @@ use crate::outcomes::Outcome;
 use crate::traced::net_after;
 use c104_net::{Origin, TracedNet};
 use c104_plan::Port;
-use c104_run_commands::Format;
-use c104_timeline::{Period, Timeline, bars_text, time_picture};
+use c104_print::{TimedText, over_time_text};
+use c104_run_commands::{Asked, Format};
+use c104_timeline::{Period, Timeline, bars_at, packets_of, rows_of};
+use c104_token::NoMemory;
 use std::alloc::Global;
 
 /// What is asked of a timeline.
@@ -18,9 +20,15 @@ enum Call {
     Cut,
     Begin,
     Close,
+    Rows,
+    Bars,
+    Packets,
     Draw,
     Tell,
 }
+
+/// The rounds that are shown.
+const SHOWN: Period = Period { from: 0, to: 9 };
 
 impl Call {
     fn of(self, alloc: Global, net: &TracedNet, timeline: &mut Timeline) -> Outcome {
@@ -30,16 +38,28 @@ impl Call {
             Call::Cut => Outcome::of(timeline.cut(0)),
             Call::Begin => Outcome::of(timeline.begin_round()),
             Call::Close => Outcome::of(timeline.close_all(net)),
-            Call::Draw => {
-                let period = Period { from: 0, to: 9 };
-                Outcome::of(time_picture(alloc, net.plan(), timeline, period))
-            }
-            Call::Tell => {
-                let period = Period { from: 0, to: 9 };
-                Outcome::of(bars_text(alloc, Format::Json, net.plan(), timeline, period))
-            }
+            Call::Rows => Outcome::of(rows_of(alloc, net.plan(), timeline, SHOWN)),
+            Call::Bars => Outcome::of(bars_at(alloc, timeline, SHOWN, Port::Terminal(0))),
+            Call::Packets => Outcome::of(packets_of(alloc, timeline, SHOWN)),
+            Call::Draw => Outcome::of(text_of(alloc, net, timeline, None)),
+            Call::Tell => Outcome::of(text_of(alloc, net, timeline, Some(Format::Json))),
         }
     }
+}
+
+/// The picture of a timeline, or the table of what that shows.
+fn text_of(
+    alloc: Global,
+    net: &TracedNet,
+    timeline: &Timeline,
+    format: Option<Format>,
+) -> Result<TimedText, NoMemory> {
+    let asked = Asked {
+        from: Some(SHOWN.from),
+        to: Some(SHOWN.to),
+        format,
+    };
+    over_time_text(alloc, net.plan(), timeline, asked)
 }
 
 /// Something is asked of the timeline of a network over whose first terminal's wire the end of a packet has crossed, and over
@@ -61,7 +81,10 @@ impl Timing<'_> {
             }),
         );
         timeline.cross(Port::Switch(0, 1), None);
-        if matches!(self.call, Call::Draw | Call::Tell) {
+        if !matches!(
+            self.call,
+            Call::Settle | Call::Cut | Call::Begin | Call::Close
+        ) {
             timeline.close_all(self.net).ok()?;
         }
         Some(timeline)
@@ -96,8 +119,11 @@ impl Suite for TimelineCalls {
             ("Timeline::cut", Call::Cut),
             ("Timeline::begin_round", Call::Begin),
             ("Timeline::close_all", Call::Close),
-            ("time_picture", Call::Draw),
-            ("bars_text", Call::Tell),
+            ("rows_of", Call::Rows),
+            ("bars_at", Call::Bars),
+            ("packets_of", Call::Packets),
+            ("over_time_text", Call::Draw),
+            ("over_time_text", Call::Tell),
         ] {
             let timing = Timing { net: &net, call };
             is_right_so_far = is_right_so_far && is_right(rt, name, &timing);

@@ -4,10 +4,5 @@ pub mod Metering
 pub mod Closing
 pub mod Periods
 pub mod Rows
-pub mod Shapes
 pub mod Bars
-pub mod Frames
-pub mod RowTexts
-pub mod Legends
-pub mod FrameTexts
-pub mod TimePictures
+pub mod Packets

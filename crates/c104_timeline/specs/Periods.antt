@@ -1,6 +1,6 @@
 -- The rounds that a picture shows.
---     period_of t asked      those that are asked for, as far as they are drawn
-pub use Rattle.c104_timeline.specs.declared.periods.{Asked.Asked, Period.Period}
+--     period_of t from to      those from one to another, if these are said, as far as they are drawn
+pub use Rattle.c104_timeline.specs.declared.periods.Period.{Period}
 use Rattle.c104_timeline.specs.{Lanes.{Lane, Stretch}, Timelines.{Timeline, last_round}}
 use Rattle.std.specs.{Option.unwrap_or, Prelude.{Bool, List, None, Option, Some, [], if◌then◌else◌, max, min, nat_le, nat_lt, slice_get, ℕ}}
 use Rattle.std.specs.Prelude.{◌&&◌, ◌-◌, ◌∷◌}
@@ -28,10 +28,10 @@ abbrev pub asked_end : ℕ → Option ℕ → ℕ
 asked_end last None = last
 asked_end last (Some to) = min to last
 
-abbrev pub period_of : Timeline → Asked → Period
-period_of t asked = record {
-  from = asked_start t asked.from;
-  to = max (asked_end (last_round t) asked.to) (asked_start t asked.from);
+abbrev pub period_of : Timeline → Option ℕ → Option ℕ → Period
+period_of t from to = record {
+  from = asked_start t from;
+  to = max (asked_end (last_round t) to) (asked_start t from);
 }
 
 -- the rounds of it that are among those from one to another

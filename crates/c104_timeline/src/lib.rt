@@ -1,4 +1,4 @@
-//! Pictures of a run over its rounds.
+//! What crosses the wires of a network, round by round.
 //!
 //! A [`Timeline`] is told what happens on a network: tokens that cross a wire, rounds that begin and end. It keeps for the
 //! way out of each port the stretches of rounds in which tokens of a packet crossed there. The time is the number of rounds
@@ -6,25 +6,21 @@
 //! the name of one whose end has yet to cross is found in the network ([`Timeline::close_all`]), and one that is cut, as a
 //! switch is reset, has none ([`Timeline::cut`]).
 //!
-//! [`time_picture`] is the text of a picture in SVG: a row for each way out of a port, a column for each round, and a list
-//! of the packets. [`bars_text`] is what it shows as a table: a row for each rectangle.
+//! Of a picture of it [`rows_of`] lists the rows, [`bars_at`] what is drawn in the row of a wire, and [`packets_of`] the
+//! packets that are shown. `c104_print` makes the text of such a picture.
 #![tactic(auto)]
 
 mod bars;
 mod closing;
-mod frame_texts;
-mod frames;
 mod lanes;
-mod legends;
 mod metering;
+mod packets;
 mod periods;
-mod row_texts;
 mod rows;
-mod shapes;
-mod time_pictures;
 mod timelines;
 
-pub use bars::bars_text;
-pub use periods::{Asked, Period};
-pub use time_pictures::{TIME_TEXT_LIMIT, TimeFault, time_picture};
+pub use bars::{Bar, bars_at};
+pub use packets::packets_of;
+pub use periods::Period;
+pub use rows::{Row, rows_of};
 pub use timelines::Timeline;

@@ -1,10 +1,9 @@
 //! The rounds that a picture shows.
-ghost use Rattle.std.specs.Prelude.{◌≡◌, ◌≤◌, None};
+ghost use Rattle.std.specs.Prelude.{◌≡◌, None};
 ghost use Rattle.c104_timeline.specs.Periods.{asked_end, asked_start, clipped, earlier, earliest, first_round, idle_in, is_in, moved_in, period_of};
 
 use crate::lanes::{Lane, Stretch};
 use crate::timelines::Timeline;
-use c104_stats::Format;
 
 /// Rounds from one to another.
 #[derive(Clone, Copy, Debug, PartialEq, Eq)]
@@ -15,26 +14,14 @@ pub struct Period {
     pub to: u32,
 }
 
-/// The rounds that are asked for, and how they are written.
-#[derive(Clone, Copy)]
-pub struct Asked {
-    /// The first, if it is said.
-    pub from: Option<u32>,
-    /// The last, if it is said.
-    pub to: Option<u32>,
-    /// How the table of them is printed; none for the picture.
-    pub format: Option<Format>,
-}
-
 impl Period {
-    /// The rounds that are drawn of a timeline: those that are asked for, up to the last one that is drawn. Where nothing is
-    /// said the first is that of the first token that crossed.
-    pub fn of(timeline: &Timeline, asked: Asked) -> Self
-        ensures rounds { result ≡ period_of timeline.now asked }
-        ensures forward { result.from ≤ result.to }
+    /// The rounds that are drawn of a timeline where these are asked for: up to the last one that is drawn. Where nothing
+    /// is said the first is that of the first token that crossed.
+    pub fn of(timeline: &Timeline, from: Option<u32>, to: Option<u32>) -> Self
+        ensures { result ≡ period_of timeline.now from to }
     {
-        let from = asked_start(timeline, asked.from);
-        let to = asked_end(timeline.last_round(), asked.to);
+        let from = asked_start(timeline, from);
+        let to = asked_end(timeline.last_round(), to);
         Period {
             from,
             to: to.max(from),

@@ -15,7 +15,7 @@ use std::alloc::Global;
 
 /// A row of a picture.
 #[derive(Clone, Copy)]
-pub(crate) enum Row {
+pub enum Row {
     /// The name of a switch.
     Switch(usize),
     /// What crosses the wire at a port, from there.
@@ -33,7 +33,7 @@ pub(crate) fn lane_at(timeline: &Timeline, port: Port) -> Option<&Lane>
 }
 
 /// The rows of a picture. The only error is out of memory.
-pub(crate) fn rows_of(
+pub fn rows_of(
     alloc: Global,
     plan: &Plan,
     timeline: &Timeline,

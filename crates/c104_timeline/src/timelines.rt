@@ -2,7 +2,7 @@
 //!
 //! A `Timeline` is told what happens, in order. What it makes of each thing is one step, so that what it has in the end is
 //! what the definitions say of all that happened.
-ghost use Rattle.std.specs.Prelude.{◌≡◌, ◌+◌, ◌*◌, ◌<◌, length, map, replicate, IfOk, OnOk};
+ghost use Rattle.std.specs.Prelude.{◌≡◌, map, replicate, IfOk, OnOk};
 ghost use Rattle.c104_plan.specs.declared.ports.Port.TheVariants as port;
 ghost use Rattle.c104_regs.specs.declared.registers.TheConstants.{LINKS};
 ghost use Rattle.c104_stats.specs.Packets.{change_at};
@@ -224,14 +224,6 @@ fn cross_at(lanes: &mut [Lane], place: usize, round: u32, ended: Option<Origin>)
     let Some(_) = lanes.get(place) else {
         return;
     };
-    cross_there(lanes, place, round, ended);
-}
-
-/// The same where there is.
-fn cross_there(lanes: &mut [Lane], place: usize, round: u32, ended: Option<Origin>)
-    requires inside { place < length lanes.old }
-    ensures { lanes.new ≡ change_at lanes.old place (λ lane. lane_crossed lane round ended) }
-{
     let lane = &mut lanes[place];
     lane.cross(round, ended);
 }
@@ -243,14 +235,6 @@ fn settle_at(lanes: &mut [Lane], place: usize) -> Result<(), NoMemory>
     let Some(_) = lanes.get(place) else {
         return Ok(());
     };
-    settle_there(lanes, place)
-}
-
-/// The same where there is.
-fn settle_there(lanes: &mut [Lane], place: usize) -> Result<(), NoMemory>
-    requires inside { place < length lanes.old }
-    ensures { OnOk result (lanes.new ≡ change_at lanes.old place lane_settled) }
-{
     let lane = &mut lanes[place];
     lane.settle()
 }
@@ -262,14 +246,6 @@ fn cut_at(lanes: &mut [Lane], place: usize, round: u32) -> Result<(), NoMemory>
     let Some(_) = lanes.get(place) else {
         return Ok(());
     };
-    cut_there(lanes, place, round)
-}
-
-/// The same where there is.
-fn cut_there(lanes: &mut [Lane], place: usize, round: u32) -> Result<(), NoMemory>
-    requires inside { place < length lanes.old }
-    ensures { OnOk result (lanes.new ≡ change_at lanes.old place (lane_cut round)) }
-{
     let lane = &mut lanes[place];
     lane.cut(round)
 }
@@ -286,19 +262,6 @@ fn close_at(
     let Some(_) = lanes.get(place) else {
         return Ok(());
     };
-    close_there(lanes, place, end, packet)
-}
-
-/// The same where there is.
-fn close_there(
-    lanes: &mut [Lane],
-    place: usize,
-    end: u32,
-    packet: Option<Origin>,
-) -> Result<(), NoMemory>
-    requires inside { place < length lanes.old }
-    ensures { OnOk result (lanes.new ≡ change_at lanes.old place (lane_closed end packet)) }
-{
     let lane = &mut lanes[place];
     lane.close(end, packet)
 }
