@@ -2,20 +2,25 @@
 //! is proved where it is found.
 //!
 //! [`drawing_text`] is the picture of a network and [`state_text`] that of a network as it stands, both in the language
-//! of Graphviz. [`over_time_text`] is the picture of a run over its rounds in SVG, or the table of what it shows.
-//! [`refusal_text`] and its neighbours are what people are told of labels.
+//! of Graphviz. [`over_time_text`] is the picture of a run over its rounds in SVG, or the table of what it shows, and
+//! [`counts_text`] what is counted of a run. [`refusal_text`] and its neighbours are what people are told of labels.
 #![tactic(auto)]
 
 mod advice;
+mod counts;
 mod drawings;
 mod edges;
 mod frames;
 mod nodes;
 mod over_time;
 mod packets;
+mod rows;
 mod states;
+mod summaries;
 
 pub use advice::{cycle_sentences, label_lines, no_cycle_text, refusal_text, row_lines};
+pub use counts::counts_text;
 pub use drawings::{drawing_text, drawing_text_with};
 pub use over_time::{Asked, TimedText, over_time_text};
+pub use rows::Format;
 pub use states::state_text;

@@ -1,14 +1,14 @@
 //! A run over its rounds, as a picture or as the table of what that shows.
 ghost use Rattle.std.specs.Prelude.{◌≡◌, false, IfOk, Some};
-ghost use Rattle.c104_stats.specs.declared.formats.Format.{Format as TheFormat};
+ghost use Rattle.c104_print.specs.declared.rows.Format.{Format as TheFormat};
 
 mod layouts;
 mod pictures;
 mod svg;
 mod tables;
 
+use crate::rows::Format;
 use c104_plan::Plan;
-use c104_stats::Format;
 use c104_timeline::{Period, Timeline};
 use c104_token::NoMemory;
 use pictures::{picture_text, widest};
@@ -29,7 +29,7 @@ pub struct Asked {
 /// The picture of a run, or the line that refuses it; or the table.
 #[derive(Drop)]
 pub struct TimedText {
-    pub text: Vec<u8>,
+    pub text: String,
     /// Whether the picture is refused.
     pub is_refused: bool,
 }
@@ -65,7 +65,7 @@ pub fn over_time_text(
         }
     };
     Ok(TimedText {
-        text: text.into_bytes(),
+        text,
         is_refused,
     })
 }

@@ -1,13 +1,18 @@
--- How the command of counts ends where a run stopped.
-use Rattle.{c104_commands.specs.{Statuses.halt_status, declared.status.Status.Status}, c104_plan.specs.{PlanImage.Image, Plans.Plan}}
-use Rattle.{c104_run_commands.specs.Counts.CountingRuns, c104_session.specs.CountedRuns.CountsPlan}
-use Rattle.{c104_session.specs.declared.counted_runs.Printing.Printing, c104_stream.specs.declared.halt.Halt.Halt, std.proofs.Common.Err}
-use Rattle.std.proofs.Common.{List, Option, refl, subst, sym, ℕ, ◌≡◌}
+-- The command of counts: how it ends where nothing is printed.
+use Rattle.{c104_commands.specs.{Endings.IsSetup, Statuses.halt_status, declared.status.Status.Status}, c104_plan.specs.PlanImage.Image}
+use Rattle.{c104_plan.specs.Plans.Plan, c104_run_commands.{proofs.StateLemmas.undrawn, specs.Counts.{CountingRuns, CountsEnd}}}
+use Rattle.{c104_run_commands.specs.StatePictures.IsUndrawn, c104_stats.specs.declared.stats.What.What}
+use Rattle.{c104_stream.specs.declared.halt.Halt.Halt, std.proofs.Common.{Err, List, Ok, Option, Result, inl, inr, subst, sym, ℕ, ◌≡◌, ◌≢◌}}
+use Rattle.std.proofs.KnownBytes.{Keeps-refl}
 
-by_halt : (p : Printing) (plan : Plan) (image : Image) (script held holds : Option (List ℕ)) (kind : Halt) → CountsPlan p plan image script held holds (Err kind) → CountingRuns p plan image script held holds (halt_status kind 1)
-by_halt p plan image script held holds Halt.CannotRead stopped = (refl, stopped)
-by_halt p plan image script held holds Halt.CannotWrite stopped = stopped
-by_halt p plan image script held holds Halt.NoMemory stopped = stopped
+module _ (what : Option What) (plan : Plan) (image : Image) where
+  pub counting_halts : {X : Type 0} (script held : Option (List ℕ)) (kind : Halt) (ended : Status)
+      → ◌≢◌ {A = Result X Halt} (Err kind) (Err Halt.CannotWrite) → ended ≡ halt_status kind 1
+      → CountingRuns what plan image script held held ended
+  counting_halts script held kind ended wrote is = inl (subst IsUndrawn (sym is) (undrawn kind wrote), Keeps-refl held)
 
-pub counting_halts : (p : Printing) (plan : Plan) (image : Image) (script held holds : Option (List ℕ)) (kind : Halt) (ended : Status) → ended ≡ halt_status kind 1 → CountsPlan p plan image script held holds (Err kind) → CountingRuns p plan image script held holds ended
-counting_halts p plan image script held holds kind ended is stopped = subst (CountingRuns p plan image script held holds) (sym is) (by_halt p plan image script held holds kind stopped)
+  -- where there is a network, and nothing was written before, all ends as for that network
+  pub counts_end : (description script held now holds : Option (List ℕ)) (ended : Status) → IsSetup description (Ok (plan, image))
+      → held ≡ now → CountingRuns what plan image script now holds ended → CountsEnd what description script held holds ended
+  counts_end description script held now holds ended setup same runs =
+      inr (plan, image, setup, subst (λ h. CountingRuns what plan image script h holds ended) (sym same) runs)

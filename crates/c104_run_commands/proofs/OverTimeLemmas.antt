@@ -1,7 +1,7 @@
 -- The picture of a run over its rounds: how it ends where nothing is drawn.
 use Rattle.{c104_commands.specs.{Endings.IsSetup, Statuses.halt_status, declared.status.Status.Status}, c104_plan.specs.PlanImage.Image}
-use Rattle.{c104_plan.specs.Plans.Plan, c104_run_commands.{proofs.StateLemmas.undrawn, specs.OverTime.{OverTimeEnds, OverTimeRuns}}}
-use Rattle.{c104_run_commands.specs.StatePictures.IsUndrawn, c104_stats.specs.declared.formats.Format.Format}
+use Rattle.{c104_plan.specs.Plans.Plan, c104_print.specs.declared.rows.Format.Format, c104_run_commands.proofs.StateLemmas.undrawn}
+use Rattle.c104_run_commands.specs.{OverTime.{OverTimeEnds, OverTimeRuns}, StatePictures.IsUndrawn}
 use Rattle.{c104_stream.specs.declared.halt.Halt.Halt, std.proofs.Common.{Err, List, Ok, Option, Result, inl, inr, subst, sym, ℕ, ◌≡◌, ◌≢◌}}
 use Rattle.std.proofs.KnownBytes.{Keeps-refl}
 

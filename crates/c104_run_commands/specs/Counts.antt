@@ -1,22 +1,22 @@
 -- How a command ends that prints the counts of a run, and what it has written then, where its readers and its writer tell
 -- their bytes.
+--     CountsEnd what description script held holds status      of what the two readers have left
 use Rattle.{c104_commands.specs.{Endings.{EndsBefore, IsSetup}, declared.status.Status.Status}, c104_plan.specs.PlanImage.Image}
-use Rattle.{c104_plan.specs.Plans.Plan, c104_session.specs.{CountedRuns.CountsPlan, declared.counted_runs.Printing.Printing}}
-use Rattle.c104_stream.specs.declared.halt.Halt.{Halt}
-use Rattle.std.specs.Prelude.{Err, List, Ok, Option, false, true, ℕ, ◌≡◌, ◌⊎◌}
+use Rattle.{c104_plan.specs.Plans.Plan, c104_run_commands.specs.StatePictures.{IsUndrawn, WritesDrawn}}
+use Rattle.c104_session.specs.{CountedRuns.IsCountedPlan, declared.counted_runs.CountedRun.CountedRun}
+use Rattle.c104_stats.specs.declared.stats.What.{What}
+use Rattle.std.specs.{Io.KnownBytes.Keeps, Prelude.{List, Ok, Option, ℕ, ◌⊎◌}}
 
--- a run over the network of a plan with an image ended so: nothing was refused, or something was, or it stopped
-abbrev pub CountingRuns : Printing → Plan → Image → Option (List ℕ) → Option (List ℕ) → Option (List ℕ) → Status → Type 0
-CountingRuns p plan image script held holds Status.Done = CountsPlan p plan image script held holds (Ok false)
-CountingRuns p plan image script held holds Status.Refused = CountsPlan p plan image script held holds (Ok true)
-CountingRuns p plan image script held holds (Status.CannotRead n) =
-    (n ≡ 1) × CountsPlan p plan image script held holds (Err Halt.CannotRead)
-CountingRuns p plan image script held holds Status.CannotWrite = CountsPlan p plan image script held holds (Err Halt.CannotWrite)
-CountingRuns p plan image script held holds Status.NoMemory = CountsPlan p plan image script held holds (Err Halt.NoMemory)
+-- what is written where a script was run on the network of a plan with an image: a text, of what is counted of that, or a
+-- prefix of it; or nothing
+abbrev pub CountingRuns : Option What → Plan → Image → Option (List ℕ) → Option (List ℕ) → Option (List ℕ) → Status → Type 0
+CountingRuns what plan image script held holds ended = (IsUndrawn ended × Keeps held holds)
+    ⊎ ((run : CountedRun) × (text : List ℕ) × IsCountedPlan what plan image script run
+    × WritesDrawn text run.is_refused held holds ended)
 
 -- as any command that got no network, or else as a run over the network that there is
-abbrev pub CountsEnd : Printing → Option (List ℕ) → Option (List ℕ) → Option (List ℕ) → Option (List ℕ) → Status → Type 0
-CountsEnd p description script held holds status =
+abbrev pub CountsEnd : Option What → Option (List ℕ) → Option (List ℕ) → Option (List ℕ) → Option (List ℕ) → Status → Type 0
+CountsEnd what description script held holds status =
     EndsBefore description held holds status
     ⊎ ((plan : Plan) × (image : Image) × IsSetup description (Ok (plan, image))
-    × CountingRuns p plan image script held holds status)
+    × CountingRuns what plan image script held holds status)

@@ -2,8 +2,8 @@
 -- writer tell their bytes.
 --     OverTimeEnds format description script held holds status      of what the two readers have left
 use Rattle.{c104_commands.specs.{Endings.{EndsBefore, IsSetup}, declared.status.Status.Status}, c104_plan.specs.PlanImage.Image}
-use Rattle.{c104_plan.specs.Plans.Plan, c104_run_commands.specs.StatePictures.{IsUndrawn, WritesDrawn}}
-use Rattle.{c104_session.specs.TimedRuns.IsTimedPlan, c104_stats.specs.declared.formats.Format.Format}
+use Rattle.{c104_plan.specs.Plans.Plan, c104_print.specs.declared.rows.Format.Format, c104_run_commands.specs.StatePictures.IsUndrawn}
+use Rattle.{c104_run_commands.specs.StatePictures.WritesDrawn, c104_session.specs.TimedRuns.IsTimedPlan}
 use Rattle.c104_timeline.specs.Timelines.{Timeline}
 use Rattle.std.specs.{Io.KnownBytes.Keeps, Prelude.{Bool, List, Ok, Option, Some, false, ℕ, ◌||◌, ◌≡◌, ◌⊎◌}}
 

@@ -4,13 +4,26 @@ ghost use Rattle.c104_plan.specs.PlanImage.{Fits};
 ghost use Rattle.c104_commands.specs.declared.status.Status.TheVariants as status;
 ghost use Rattle.c104_run_commands.specs.Counts.{CountingRuns, CountsEnd};
 
+use crate::states::write_drawn;
 use c104_commands::{Setup, Status, read_setup};
-use c104_mistakes::Messages;
+use c104_mistakes::{About, Messages};
 use c104_plan::{Image, Plan};
-use c104_session::{Printing, count_plan};
+use c104_print::{Format, counts_text};
+use c104_session::{CountedRun, count_plan};
+use c104_stats::What;
 use c104_stream::Ahead;
+use c104_token::NoMemory;
 use std::alloc::Global;
 use std::io::{Read, Write};
+
+/// What is to be printed of a run, and how.
+#[derive(Clone, Copy)]
+pub struct Printing {
+    /// A table; or, where none is said, the summary.
+    pub what: Option<What>,
+    /// How.
+    pub format: Format,
+}
 
 /// Reads a description, and then reads a script and does on its network, started with the image of its labels, what the
 /// script's lines ask, as `run` does; and writes, in place of the answers and of what arrived, what is counted of that: a
@@ -30,7 +43,7 @@ pub fn stats_command<D: Read, S: Read, W: Write, M: Messages>(
     writer: &mut W,
     messages: &mut M,
 ) -> Status
-    ensures ends { CountsEnd printing (D.remaining description.old) (S.remaining script.old)
+    ensures ends { CountsEnd printing.what (D.remaining description.old) (S.remaining script.old)
         (W.contents writer.old) (W.contents writer.new) result }
     ensures of_description { result ≡ status.CannotRead 0 → script.new ≡ script.old }
 {
@@ -53,18 +66,54 @@ fn stats_setup<S: Read, W: Write, M: Messages>(
     messages: &mut M,
 ) -> Status
     requires { Fits image plan.now }
-    ensures runs { CountingRuns printing plan.now image (S.remaining script.old)
+    ensures runs { CountingRuns printing.what plan.now image (S.remaining script.old)
         (W.contents writer.old) (W.contents writer.new) result }
     ensures of_script { (n : ℕ) → result ≡ status.CannotRead n → n ≡ 1 }
 {
     let Ok(mut ahead) = Ahead::new(alloc) else {
         return Status::NoMemory;
     };
-    match count_plan(
-        alloc, plan, image, printing, &mut ahead, script, writer, messages,
+    let run = match count_plan(
+        alloc,
+        plan,
+        image,
+        printing.what,
+        &mut ahead,
+        script,
+        messages,
     ) {
-        Ok(false) => Status::Done,
-        Ok(true) => Status::Refused,
-        Err(halt) => Status::of_halt(halt, 1),
+        Ok(run) => run,
+        Err(halt) => return Status::of_halt(halt, 1),
+    };
+    let Ok(text) = run_text(alloc, printing.format, plan, &run, messages) else {
+        return Status::NoMemory;
+    };
+    let status = write_drawn(text.as_bytes(), run.is_refused, writer);
+    if let Status::Done | Status::Refused = status {
+        run.tell_leftovers(messages);
     }
+    status
+}
+
+/// What is printed of a run. That its network stands still is told to programs, which read rows alone, as a message.
+fn run_text<M: Messages>(
+    alloc: Global,
+    format: Format,
+    plan: &Plan,
+    run: &CountedRun,
+    messages: &mut M,
+) -> Result<String, NoMemory> {
+    let mut text = counts_text(alloc, format, plan, &run.stats)?;
+    let Some(still) = &run.still else {
+        return Ok(text);
+    };
+    match format {
+        Format::Table => text.push_str(still.as_str())?,
+        Format::Csv | Format::Json => {
+            for line in still.lines() {
+                messages.tell(About::Run, line);
+            }
+        }
+    }
+    Ok(text)
 }

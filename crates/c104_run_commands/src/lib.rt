@@ -17,9 +17,9 @@ mod over_time;
 mod runs;
 mod states;
 
-pub use c104_print::Asked;
-pub use c104_session::{Format, Printing, What};
-pub use counts::stats_command;
+pub use c104_print::{Asked, Format};
+pub use c104_stats::What;
+pub use counts::{Printing, stats_command};
 pub use lockups::lockup_command;
 pub use over_time::draw_over_time_command;
 pub use runs::{debug_command, run, run_text};

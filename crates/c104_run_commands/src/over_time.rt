@@ -62,7 +62,7 @@ fn draw_timed<S: Read, W: Write, M: Messages>(
     ensures of_script { (n : ℕ) → result ≡ status.CannotRead n → n ≡ 1 }
 {
     match timed_text(alloc, asked, plan, image, script, messages) {
-        Ok(timed) => write_drawn(timed.text.as_slice(), timed.is_refused, writer),
+        Ok(timed) => write_drawn(timed.text.as_bytes(), timed.is_refused, writer),
         Err(halt) => Status::of_halt(halt, 1),
     }
 }

@@ -8,7 +8,6 @@ pub mod RoundLeavings
 pub mod CountedRounds
 pub mod CountedLoops
 pub mod CountedScripts
-pub mod StillTexts
 pub mod KeptRounds
 pub mod KeptLoops
 pub mod ToldEvents

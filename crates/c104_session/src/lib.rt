@@ -32,7 +32,6 @@ mod runs;
 mod session;
 mod standing;
 mod starting;
-mod still;
 mod summary;
 mod tally;
 mod timed_runs;
@@ -40,8 +39,7 @@ mod timing;
 mod tools;
 
 pub use answering::answer_script;
-pub use c104_stats::{Format, What};
-pub use counted_runs::{Printing, count_plan, is_locked};
+pub use counted_runs::{CountedRun, count_plan, is_locked};
 pub use ended::EndedNet;
 pub use runs::run_plan;
 pub use session::{Ended, Session};

@@ -1,4 +1,3 @@
-mod RowSteps
 pub mod SenderSteps
 pub mod TakenCounts
 pub mod NumberSteps

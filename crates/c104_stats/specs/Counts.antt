@@ -4,10 +4,10 @@ use Rattle.{c104_plan.specs.declared.ports.Port.Port, c104_regs.specs.declared.r
 use Rattle.c104_stats.specs.{Links.{link_after, link_cut, link_idle, link_level, new_link}, Numbers.{each_number, few}, Packets.Arrival}
 use Rattle.c104_stats.specs.Packets.{PacketRow, all_but_last, arrived_packet, change_at, crossed_packet, inside_packet, left_packet}
 use Rattle.c104_stats.specs.{Packets.sent_packet, Rounds.{Levels, RoundRow, arrived_round, ended_round, later_round, moved_round}}
-use Rattle.c104_stats.specs.{Rounds.{new_round, no_levels}, declared.formats.What.What}
+use Rattle.c104_stats.specs.{Rounds.{new_round, no_levels}, declared.stats.What.What}
 use Rattle.std.specs.Prelude.{Bool, List, None, Option, Some, [], false, if◌then◌else◌, is_some, length, map, nat_lt, replicate, slice_get}
 use Rattle.std.specs.Prelude.{true, ℕ, ◌&&◌, ◌*◌, ◌++◌, ◌+◌, ◌/◌, ◌∷◌}
-use Rattle.c104_stats.specs.declared.formats.What.TheVariants as what
+use Rattle.c104_stats.specs.declared.stats.What.TheVariants as what
 
 pub record Counts : Type 0 where
   -- what is to be printed of them: a table, or the summary

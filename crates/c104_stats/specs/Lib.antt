@@ -3,9 +3,6 @@ pub mod Links
 pub mod Packets
 pub mod Rounds
 pub mod Counts
-pub mod Columns
-pub mod Cells
-pub mod Tables
 pub mod Summaries
 pub mod Sights
 pub mod Metering

@@ -8,7 +8,7 @@ use Rattle.{c104_plan.specs.declared.ports.Port.Port, c104_regs.specs.declared.r
 use Rattle.c104_run.specs.{FinishedRecords.record_finish, NetRecords.NetRecord, NetViews.{network_input_token, network_link_view}}
 use Rattle.c104_run.specs.{NetViews.{network_output_token, network_terminal_view}, Network.Network, Rounds.is_wired}
 use Rattle.c104_stats.specs.{Counts.{Counts, counts_found, counts_level, counts_seen}, Links.LinkRow, Numbers.{each_number, told}}
-use Rattle.c104_stats.specs.{Packets.PacketRow, Rounds.{Levels, no_levels}, declared.formats.What.What}
+use Rattle.c104_stats.specs.{Packets.PacketRow, Rounds.{Levels, no_levels}, declared.stats.What.What}
 use Rattle.c104_switch.specs.declared.{actions.LinkView.LinkView, phase.Phase.{Phase, TheVariants.{Fresh, Head, Sinking, Stream, Want}}}
 use Rattle.c104_token.specs.{Kinds.plain_kind, Tokens.is_end, declared.tokens.Token.Token}
 use Rattle.std.specs.{Option.option_map, Prelude.{List, None, Option, Some, if◌then◌else◌, length, nat_le, slice_get, ℕ, ◌+◌}}

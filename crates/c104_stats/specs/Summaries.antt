@@ -1,12 +1,16 @@
 -- What the counts of a run come to.
-pub use Rattle.c104_stats.specs.declared.{summaries.{Endings.Endings, Summary.Summary}, tops.{Busy.Busy, Top.Top}}
-use Rattle.{c104_plan.specs.{Plans.Plan, PortTexts.port_text, declared.ports.Port.Port}, c104_stats.specs.Cells.{Format, Shown, close_text}}
-use Rattle.c104_stats.specs.{Cells.{lines_text, names_row, open_text, row_text, some_count}, Columns.Column, Counts.Counts, Links.LinkRow}
-use Rattle.c104_stats.specs.{Numbers.told, Packets.{Arrival, PacketRow, latency}, Tables.{Ending, ending_of, port_at, share}}
-use Rattle.c104_stats.specs.declared.{endings.Ending.TheVariants.{Arrived, Short, Sunk, Unfinished}, formats.Format.TheVariants.{Csv, Json}}
-use Rattle.c104_stats.specs.declared.formats.Format.TheVariants.{Table}
-use Rattle.std.specs.{Ordering.nat_cmp, Prelude.{Bool, IsPermutation, IsSorted, List, None, Option, Some, [], if◌then◌else◌, length}}
-use Rattle.std.specs.Prelude.{nat_lt, slice_get, true, ℕ, ◌%◌, ◌*◌, ◌++◌, ◌+◌, ◌-◌, ◌/◌, ◌∷◌, ◌≡◌}
+pub use Rattle.c104_stats.specs.declared.{endings.Ending.Ending, summaries.{Endings.Endings, Summary.Summary}, tops.{Busy.Busy, Top.Top}}
+use Rattle.{c104_plan.specs.declared.ports.Port.Port, c104_regs.specs.declared.registers.TheConstants.LINKS, c104_stats.specs.Counts.Counts}
+use Rattle.c104_stats.specs.{Links.LinkRow, Numbers.told, Packets.{Arrival, PacketRow, latency}}
+use Rattle.c104_stats.specs.declared.endings.Ending.TheVariants.{Arrived, Short, Sunk, Unfinished}
+use Rattle.std.specs.{Ordering.nat_cmp, Prelude.{Bool, IsPermutation, IsSorted, List, None, Option, Some, [], if◌then◌else◌, is_some}}
+use Rattle.std.specs.Prelude.{length, nat_lt, slice_get, ℕ, ◌%◌, ◌*◌, ◌++◌, ◌+◌, ◌-◌, ◌/◌, ◌∷◌, ◌≡◌}
+
+-- what became of a packet, where headers have this many bytes: it arrived; its terminator is in the network or at its
+-- sender; or it is gone, with fewer bytes than a header, or else dropped by an input or cleared by a Reset
+abbrev pub ending_of : ℕ → PacketRow → Ending
+ending_of header p =
+    if is_some p.arrival then Arrived else (if p.is_inside then Unfinished else (if nat_lt p.bytes header then Short else Sunk))
 
 -- how many packets came to each end
 abbrev pub no_endings : Endings
@@ -66,9 +70,10 @@ top_with b t =
     else (if is_busier b t.second then record { first = t.first; second = Some b; third = t.second }
     else (if is_busier b t.third then record { first = t.first; second = t.second; third = Some b } else t))
 
+-- of the links of switches from place k on, 32 of each switch, and of those of terminals
 abbrev pub top_links : ℕ → Top → List LinkRow → Top
 top_links k t [] = t
-top_links k t (row ∷ rows) = top_links (k + 1) (top_with (record { port = port_at k; busy = row.busy }) t) rows
+top_links k t (row ∷ rows) = top_links (k + 1) (top_with (record { port = Port.Switch (k / LINKS) (k % LINKS); busy = row.busy }) t) rows
 
 abbrev pub top_wires : ℕ → Top → List LinkRow → Top
 top_wires k t [] = t
@@ -94,49 +99,3 @@ pub record IsSummary (header : ℕ) (c : Counts) (s : Summary) : Type 0 where
 -- how many packets were sent
 abbrev pub sent_count : Endings → ℕ
 sent_count e = told (told (e.arrived + e.unfinished) + e.lost)
-
--- the name of a link among the busiest, and in which share of the rounds a token crossed there, if there is one
-abbrev pub name_cell : Column → Option Busy → List ℕ → Shown
-name_cell c None name = Shown.Nothing c
-name_cell c (Some b) name = Shown.Word c name
-
-abbrev pub share_cell : Column → Option Busy → ℕ → Shown
-share_cell c None rounds = Shown.Nothing c
-share_cell c (Some b) rounds = Shown.Share c (share b.busy rounds)
-
-abbrev pub busy_name : Plan → Option Busy → List ℕ
-busy_name plan None = []
-busy_name plan (Some b) = port_text plan b.port
-
--- the cells of a summary: the last three pairs are the busiest links
-abbrev pub summary_cells : Plan → Summary → List Shown
-summary_cells plan s =
-    Shown.Count Column.Rounds s.rounds ∷ Shown.Count Column.Sent (sent_count s.endings)
-    ∷ Shown.Count Column.Arrived s.endings.arrived ∷ Shown.Count Column.Lost s.endings.lost
-    ∷ some_count Column.Least s.least ∷ some_count Column.Median s.median ∷ some_count Column.NinetyFive s.ninety_five
-    ∷ some_count Column.Most s.most ∷ Shown.Share Column.Rate (share s.tokens s.rounds)
-    ∷ name_cell Column.Busiest s.top.first (busy_name plan s.top.first) ∷ share_cell Column.BusiestShare s.top.first s.rounds
-    ∷ name_cell Column.Second s.top.second (busy_name plan s.top.second) ∷ share_cell Column.SecondShare s.top.second s.rounds
-    ∷ name_cell Column.Third s.top.third (busy_name plan s.top.third) ∷ share_cell Column.ThirdShare s.top.third s.rounds ∷ []
-
-abbrev pub summary_columns : List Column
-summary_columns =
-    Column.Rounds ∷ Column.Sent ∷ Column.Arrived ∷ Column.Lost ∷ Column.Least ∷ Column.Median ∷ Column.NinetyFive
-    ∷ Column.Most ∷ Column.Rate ∷ Column.Busiest ∷ Column.BusiestShare ∷ Column.Second ∷ Column.SecondShare
-    ∷ Column.Third ∷ Column.ThirdShare ∷ []
-
--- cells as the only row below these names
-abbrev pub alone_text : Format → List Column → List Shown → List ℕ
-alone_text format names cells = open_text format ++ (names_row format names ++ (row_text format true cells ++ close_text format))
-
--- cells as a summary: a line for each of them for people, and else one row
-abbrev pub cells_row : Format → List Shown → List ℕ
-cells_row format cells = alone_text format summary_columns cells
-
-abbrev pub cells_summary : Format → List Shown → List ℕ
-cells_summary Table cells = lines_text cells
-cells_summary Csv cells = cells_row Csv cells
-cells_summary Json cells = cells_row Json cells
-
-abbrev pub summary_text : Format → Plan → Summary → List ℕ
-summary_text format plan s = cells_summary format (summary_cells plan s)

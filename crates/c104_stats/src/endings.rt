@@ -1,6 +1,6 @@
 //! What became of packets.
 ghost use Rattle.std.specs.Prelude.{◌≡◌};
-ghost use Rattle.c104_stats.specs.Tables.{ending_of, ending_word};
+ghost use Rattle.c104_stats.specs.Summaries.{ending_of};
 
 use crate::packets::PacketRow;
 
@@ -32,18 +32,6 @@ impl Ending {
             Ending::Short
         } else {
             Ending::Sunk
-        }
-    }
-
-    /// The word for it.
-    pub(crate) fn word(self) -> &'static [u8]
-        ensures { result.now ≡ ending_word self }
-    {
-        match self {
-            Ending::Arrived => b"arrived",
-            Ending::Unfinished => b"unfinished",
-            Ending::Short => b"short",
-            Ending::Sunk => b"sunk",
         }
     }
 }

@@ -11,7 +11,6 @@ ghost use Rattle.c104_stats.specs.Counts.{counts_noted, counts_passed, counts_se
 ghost use Rattle.c104_stats.specs.Links.{new_link};
 ghost use Rattle.c104_stats.specs.Rounds.{new_round, no_levels};
 
-use crate::formats::What;
 use crate::links::{Crossing, LinkRow};
 use crate::numbers::{in_few, one_round_more};
 use crate::packets::{Arrival, PacketRow, Sender};
@@ -26,6 +25,17 @@ use c104_regs::LINKS;
 use c104_token::NoMemory;
 use std::alloc::Global;
 use std::marker::Model;
+
+/// What rows are printed of.
+#[derive(Clone, Copy)]
+pub enum What {
+    /// The packets that were sent.
+    Packets,
+    /// The links with a wire.
+    Links,
+    /// The rounds.
+    Rounds,
+}
 
 /// What is counted of a run.
 #[derive(Drop)]

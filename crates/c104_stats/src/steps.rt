@@ -119,14 +119,6 @@ pub(crate) fn take_back(senders: &mut [Sender], terminal: usize)
     let Some(_) = senders.get(terminal) else {
         return;
     };
-    take_there(senders, terminal);
-}
-
-/// The same, where the terminal is among them.
-fn take_there(senders: &mut [Sender], terminal: usize)
-    requires inside { terminal < length senders.old }
-    ensures { senders.new ≡ change_at senders.old terminal all_but_last }
-{
     let sender = &mut senders[terminal];
     sender.take_back();
 }
@@ -141,17 +133,8 @@ fn leave(senders: &mut [Sender], terminal: usize, round: u32, wire: Option<LinkR
     let Some(_) = senders.get(terminal) else {
         return;
     };
-    leave_there(senders, terminal, wire.packets as usize, round);
-}
-
-/// The same of this packet, where the terminal is among them.
-fn leave_there(senders: &mut [Sender], terminal: usize, number: usize, round: u32)
-    requires inside { terminal < length senders.old }
-    ensures { senders.new ≡ change_at senders.old terminal
-        (λ packets. change_at packets number (left_packet round)) }
-{
     let sender = &mut senders[terminal];
-    sender.leave(number, round);
+    sender.leave(wire.packets as usize, round);
 }
 
 /// A token leaves a terminal over its wire, which ends this packet, or none.
@@ -183,17 +166,8 @@ pub(crate) fn cross_packet(senders: &mut [Sender], idle: u64, ended: Option<Orig
     let Some(_) = senders.get(origin.terminal) else {
         return;
     };
-    cross_there(senders, origin.terminal, origin.number, idle);
-}
-
-/// The same, where the terminal is among them.
-fn cross_there(senders: &mut [Sender], terminal: usize, number: usize, idle: u64)
-    requires inside { terminal < length senders.old }
-    ensures { senders.new ≡ change_at senders.old terminal
-        (λ packets. change_at packets number (crossed_packet idle)) }
-{
-    let sender = &mut senders[terminal];
-    sender.cross(number, idle);
+    let sender = &mut senders[origin.terminal];
+    sender.cross(origin.number, idle);
 }
 
 /// A packet, if one ends, arrives.
@@ -206,17 +180,8 @@ pub(crate) fn arrive_packet(senders: &mut [Sender], arrival: Arrival, ended: Opt
     let Some(_) = senders.get(origin.terminal) else {
         return;
     };
-    arrive_there(senders, origin.terminal, origin.number, arrival);
-}
-
-/// The same, where the terminal is among them.
-fn arrive_there(senders: &mut [Sender], terminal: usize, number: usize, arrival: Arrival)
-    requires inside { terminal < length senders.old }
-    ensures { senders.new ≡ change_at senders.old terminal
-        (λ packets. change_at packets number (arrived_packet arrival)) }
-{
-    let sender = &mut senders[terminal];
-    sender.arrive(number, arrival);
+    let sender = &mut senders[origin.terminal];
+    sender.arrive(origin.number, arrival);
 }
 
 /// The terminator of a packet is found in the network.
@@ -227,15 +192,6 @@ pub(crate) fn find_packet(senders: &mut [Sender], packet: Origin)
     let Some(_) = senders.get(packet.terminal) else {
         return;
     };
-    find_there(senders, packet.terminal, packet.number);
-}
-
-/// The same, where the terminal is among them.
-fn find_there(senders: &mut [Sender], terminal: usize, number: usize)
-    requires inside { terminal < length senders.old }
-    ensures { senders.new ≡ change_at senders.old terminal
-        (λ packets. change_at packets number inside_packet) }
-{
-    let sender = &mut senders[terminal];
-    sender.find(number);
+    let sender = &mut senders[packet.terminal];
+    sender.find(packet.number);
 }

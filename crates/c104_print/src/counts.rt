@@ -1,0 +1,150 @@
+//! What is counted of a run: a table of its packets, of its links or of its rounds, or its summary.
+
+use crate::rows::{Cell, Format, Rows};
+use crate::summaries::summary_text;
+use c104_plan::{Plan, Port};
+use c104_regs::LINKS;
+use c104_stats::{Ending, LinkRow, PacketRow, RoundRow, Stats, Summary, What};
+use c104_token::NoMemory;
+use std::alloc::{AllocError, Global};
+
+const PACKET_COLUMNS: [&str; 11] = [
+    "sender", "number", "receiver", "bytes", "wires", "sent", "left", "arrived", "latency", "idle",
+    "ending",
+];
+
+const LINK_COLUMNS: [&str; 6] = ["port", "tokens", "share", "packets", "longest", "waiting"];
+
+const ROUND_COLUMNS: [&str; 6] = ["round", "waiting", "inside", "moved", "arrived", "held"];
+
+/// What is printed of the counts of a run: the table that they were made for, or else their summary. The only error is out of
+/// memory.
+pub fn counts_text(
+    alloc: Global,
+    format: Format,
+    plan: &Plan,
+    stats: &Stats,
+) -> Result<String, NoMemory> {
+    let text = match stats.what() {
+        Some(What::Packets) => packets_text(alloc, format, plan, stats)?,
+        Some(What::Links) => links_text(alloc, format, plan, stats)?,
+        Some(What::Rounds) => rounds_text(alloc, format, stats)?,
+        None => {
+            let summary = Summary::of(alloc, plan.header(), stats)?;
+            summary_text(alloc, format, plan, &summary)?
+        }
+    };
+    Ok(text)
+}
+
+/// The table of packets, by sender and number.
+fn packets_text(
+    alloc: Global,
+    format: Format,
+    plan: &Plan,
+    stats: &Stats,
+) -> Result<String, AllocError> {
+    let mut rows = Rows::new(alloc, format, &PACKET_COLUMNS)?;
+    for (terminal, sender) in stats.senders().iter().enumerate() {
+        add_packets(&mut rows, plan, terminal, sender.packets())?;
+    }
+    rows.finish()
+}
+
+/// The packets of a terminal join the table.
+fn add_packets(
+    rows: &mut Rows<'_>,
+    plan: &Plan,
+    terminal: usize,
+    packets: &[PacketRow],
+) -> Result<(), AllocError> {
+    for (number, packet) in packets.iter().enumerate() {
+        let arrival = packet.arrival;
+        rows.add(&[
+            Cell::Word(plan.terminal_name(terminal)),
+            Cell::Number(number as u64),
+            Cell::word(arrival.map(|arrival| plan.terminal_name(arrival.terminal as usize))),
+            Cell::Number(u64::from(packet.bytes)),
+            Cell::Number(u64::from(packet.wires)),
+            Cell::Number(u64::from(packet.sent)),
+            Cell::number(packet.left),
+            Cell::number(arrival.map(|arrival| arrival.round)),
+            Cell::number(arrival.map(|arrival| packet.latency(arrival))),
+            Cell::Number(u64::from(packet.idle)),
+            Cell::Word(ending_word(Ending::of(plan.header(), *packet))),
+        ])?;
+    }
+    Ok(())
+}
+
+/// The word for what became of a packet.
+fn ending_word(ending: Ending) -> &'static str {
+    match ending {
+        Ending::Arrived => "arrived",
+        Ending::Unfinished => "unfinished",
+        Ending::Short => "short",
+        Ending::Sunk => "sunk",
+    }
+}
+
+/// The table of links that have wires: those of the switches, by switch and link, and then those of the terminals.
+fn links_text(
+    alloc: Global,
+    format: Format,
+    plan: &Plan,
+    stats: &Stats,
+) -> Result<String, AllocError> {
+    let mut rows = Rows::new(alloc, format, &LINK_COLUMNS)?;
+    let last = stats.active();
+    let links = stats
+        .links()
+        .iter()
+        .enumerate()
+        .map(|(place, row)| (Port::Switch(place / LINKS, place % LINKS), row));
+    let wires = stats
+        .wires()
+        .iter()
+        .enumerate()
+        .map(|(terminal, row)| (Port::Terminal(terminal), row));
+    for (port, row) in links.chain(wires) {
+        if plan.peer(port).is_some() {
+            let name = plan.port_text(alloc, port)?;
+            add_link(&mut rows, name.as_str(), *row, last)?;
+        }
+    }
+    rows.finish()
+}
+
+/// A link joins the table, of a run in which something was done up to this round.
+fn add_link(rows: &mut Rows<'_>, name: &str, row: LinkRow, last: u32) -> Result<(), AllocError> {
+    rows.add(&[
+        Cell::Word(name),
+        Cell::Number(row.tokens),
+        Cell::share(row.busy, u64::from(last)),
+        Cell::Number(row.packets),
+        Cell::Number(row.longest_at(last)),
+        Cell::Number(row.waiting),
+    ])
+}
+
+/// The table of rounds: those that are over, if they are kept, and the one that began last.
+fn rounds_text(alloc: Global, format: Format, stats: &Stats) -> Result<String, AllocError> {
+    let mut rows = Rows::new(alloc, format, &ROUND_COLUMNS)?;
+    for round in stats.rounds() {
+        add_round(&mut rows, *round)?;
+    }
+    add_round(&mut rows, stats.current())?;
+    rows.finish()
+}
+
+/// A round joins the table.
+fn add_round(rows: &mut Rows<'_>, round: RoundRow) -> Result<(), AllocError> {
+    rows.add(&[
+        Cell::Number(u64::from(round.round)),
+        Cell::Number(round.levels.waiting),
+        Cell::Number(round.levels.inside),
+        Cell::Number(round.moved),
+        Cell::Number(round.arrived),
+        Cell::Number(round.levels.held),
+    ])
+}
