@@ -96,16 +96,10 @@ fn links_text(
 ) -> Result<String, AllocError> {
     let mut rows = Rows::new(alloc, format, &LINK_COLUMNS)?;
     let last = stats.active();
-    let links = stats
-        .links()
-        .iter()
-        .enumerate()
-        .map(|(place, row)| (Port::Switch(place / LINKS, place % LINKS), row));
-    let wires = stats
-        .wires()
-        .iter()
-        .enumerate()
-        .map(|(terminal, row)| (Port::Terminal(terminal), row));
+    let links = stats.links().iter().enumerate();
+    let links = links.map(|(place, row)| (Port::Switch(place / LINKS, place % LINKS), row));
+    let wires = stats.wires().iter().enumerate();
+    let wires = wires.map(|(terminal, row)| (Port::Terminal(terminal), row));
     for (port, row) in links.chain(wires) {
         if plan.peer(port).is_some() {
             let name = plan.port_text(alloc, port)?;

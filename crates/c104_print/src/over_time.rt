@@ -64,10 +64,7 @@ pub fn over_time_text(
             (refusal_text(alloc, fits)?, true)
         }
     };
-    Ok(TimedText {
-        text,
-        is_refused,
-    })
+    Ok(TimedText { text, is_refused })
 }
 
 /// The line that refuses a picture that would be too long, and says which rounds fit.

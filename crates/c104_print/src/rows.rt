@@ -95,8 +95,10 @@ impl<'a> Rows<'a> {
         };
         match format {
             Format::Table | Format::Csv => {
-                let names: Vec<Cell<'_>> =
-                    columns.iter().map(|name| Cell::Word(*name)).collect(alloc)?;
+                let names: Vec<Cell<'_>> = columns
+                    .iter()
+                    .map(|name| Cell::Word(*name))
+                    .collect(alloc)?;
                 rows.add(names.as_slice())?;
             }
             Format::Json => rows.text.push_str("[")?,
