@@ -146,11 +146,11 @@ fn add_line(text: &mut String, cells: &[Cell<'_>]) -> Result<(), AllocError> {
 
 /// A row of CSV joins a text.
 fn add_record(text: &mut String, cells: &[Cell<'_>]) -> Result<(), AllocError> {
-    let mut before = "";
-    for cell in cells {
-        text.push_str(before)?;
+    for (place, cell) in cells.iter().enumerate() {
+        if place > 0 {
+            text.push_str(",")?;
+        }
         cell.add_to(text, Format::Csv)?;
-        before = ",";
     }
     text.push_str("\r\n")
 }
@@ -162,11 +162,13 @@ fn add_object(
     columns: &[&str],
     cells: &[Cell<'_>],
 ) -> Result<(), AllocError> {
-    let mut before = if is_first { "\n{" } else { ",\n{" };
-    for (column, cell) in columns.iter().zip(cells) {
-        write!(text, "{before}\"{column}\": ")?;
+    text.push_str(if is_first { "\n{" } else { ",\n{" })?;
+    for (place, (column, cell)) in columns.iter().zip(cells).enumerate() {
+        if place > 0 {
+            text.push_str(", ")?;
+        }
+        write!(text, "\"{column}\": ")?;
         cell.add_to(text, Format::Json)?;
-        before = ", ";
     }
     text.push_str("}")
 }
