@@ -1,5 +1,5 @@
 //! A script, run on the network of a plan, and what crosses its wires round by round.
-ghost use Rattle.std.specs.Prelude.{◌≡◌, ◌≢◌, IfOk, Err};
+ghost use Rattle.std.specs.Prelude.{◌≡◌, ◌≢◌, ◌||◌, IfOk, Err};
 ghost use Rattle.std.specs.Io.KnownBytes.{prepend_known};
 ghost use Rattle.c104_plan.specs.PlanImage.{Fits};
 ghost use Rattle.c104_stream.specs.declared.halt.Halt.TheVariants as halt;
@@ -96,6 +96,13 @@ fn time_script<S: Read, M: Messages>(
     timeline.close_all(&session.net)?;
     Ok(TimedRun {
         timeline,
-        is_refused: is_long || session.faulty,
+        is_refused: is_refused(is_long, session.faulty),
     })
+}
+
+/// Whether a script is refused: for its length, or for one of its lines.
+fn is_refused(is_long: bool, faulty: bool) -> bool
+    ensures { result ≡ (is_long || faulty) }
+{
+    is_long || faulty
 }
