@@ -2,15 +2,13 @@ pub mod SummaryTexts
 pub mod PacketLines
 pub mod LinesLaw
 pub mod DrivenScripts
+pub mod ToldEvents
 pub mod CountedEvents
 pub mod StillCounts
 pub mod RoundLeavings
-pub mod CountedRounds
-pub mod CountedLoops
 pub mod CountedScripts
 pub mod KeptRounds
 pub mod KeptLoops
-pub mod ToldEvents
 pub mod TimedScripts
 pub mod Leavings
 pub mod PlanRuns

@@ -3,7 +3,7 @@ use Rattle.{c104_event.specs.declared.{events.Event.Event, faults.EventFault.Eve
 use Rattle.c104_run.{proofs.{RoundRuns.{ends_keep, undone_left}, UndoneEvents.undone_deeds}, specs.EventRuns.{Outcome, run_events}}
 use Rattle.c104_run.specs.{EventRuns.unless_fault, NetRecords.{NetRecord, is_done, largest_ticket, ticket_after}, Network.Network}
 use Rattle.c104_run.specs.{Network.network_apply, RecordedRuns.{record_apply, record_stage}, Stages.stage_full}
-use Rattle.{c104_session.specs.Counted.is_later, c104_switch.specs.Actions.Reply, c104_token.specs.Kinds.plain_kind}
+use Rattle.{c104_session.specs.Keepers.is_later, c104_switch.specs.Actions.Reply, c104_token.specs.Kinds.plain_kind}
 use Rattle.{c104_token.specs.declared.tokens.Token.Token, std.proofs.Common.{Bool, Err, List, Ok, Result, [], ap, arith, false}}
 use Rattle.std.proofs.{Common.{if◌then◌else◌, inl, refl, sym, true, ℕ, ◌&&◌, ◌+◌, ◌<◌, ◌∙◌, ◌∷◌, ◌≡◌, ◌≤◌}, lemmas.Bool.Decides.nat_tests}
 

@@ -1,29 +1,51 @@
 -- Events of which a meter is told: the network goes on as by itself, and the meter comes to what it is told.
 use Rattle.{c104_event.specs.declared.{events.Event.Event, faults.EventFault.EventFault}, c104_net.specs.MeteredRecords.MeteredRecord}
-use Rattle.{c104_net.specs.MeteredRecords.{at_meter, record_metered}, c104_run.specs.{EventRuns.Answers, NetRecords.{NetRecord, is_done}}}
-use Rattle.{c104_run.specs.RecordedRuns.AnswersRecord, c104_session.proofs.{CountedEvents.asked_due, Leavings.event_kept}}
-use Rattle.{c104_session.specs.{Driven.DoesEvent, Timed.told_event}, c104_switch.specs.Actions.Reply, c104_timeline.specs.Metering.watching}
-use Rattle.{c104_timeline.specs.Timelines.{Timeline, timeline_ended}, std.proofs.Common.{Err, OnErr, Result, ap, inl, inr, ◌∙◌, ◌≡◌, ◌⊎◌}}
+use Rattle.{c104_net.specs.MeteredRecords.{at_meter, record_metered}, c104_node.specs.declared.tagged.TaggedToken.TaggedToken}
+use Rattle.c104_run.specs.{EventRuns.Answers, Meters.Sees, NetRecords.{NetRecord, is_done}, RecordedRuns.{AnswersRecord, record_apply}}
+use Rattle.{c104_session.{proofs.Leavings.event_kept, specs.{Driven.DoesEvent, Timed.told_event}}, c104_switch.specs.Actions.Reply}
+use Rattle.{c104_timeline.specs.{Metering.watching, Timelines.{Timeline, timeline_ended}}, std.proofs.Common.{Bool, Err, OnErr, Result, ap}}
+use Rattle.std.proofs.Common.{inl, inr, ◌∙◌, ◌≡◌, ◌⊎◌}
 
-abbrev pub Timed : NetRecord → Timeline → Event → Result Reply EventFault → NetRecord → Timeline → Type 0
-Timed net t e answer after u = Answers (record_metered watching) (at_meter net t) e answer (at_meter after u)
+module _ (net : NetRecord) (e : Event) (answer : Result Reply EventFault) (after : NetRecord) where
+  pub asked_due : AnswersRecord net e answer after → DoesEvent net e answer after
+  asked_due (inl due) = inl due
+  asked_due (inr short) = inr short.0
 
-abbrev Ended : Type 0
-Ended = Result Reply EventFault × MeteredRecord Timeline
+  -- what follows by whether it was done
+  pub done_so : {M : Type 0} (f : M → Bool → M) (due m n : M) → DoesEvent net e answer after
+      → (m ≡ due) ⊎ (answer ≡ Err EventFault.NoMemory) → n ≡ f m (is_done answer)
+      → (n ≡ f due (is_done (record_apply net e).0)) ⊎ (answer ≡ Err EventFault.NoMemory)
+  done_so f due m n (inl does) (inl told) is =
+      inl (is ∙ ap (λ x. f x (is_done answer)) told
+      ∙ ap (λ (x : Result Reply EventFault × NetRecord). f due (is_done x.0)) does)
+  done_so f due m n (inr short) told is = inr short
+  done_so f due m n (inl does) (inr short) is = inr short
 
-module _ (net : NetRecord) (e : Event) (answer : Result Reply EventFault) (after : NetRecord) (t u : Timeline) where
-  of_record : Timed net t e answer after u → AnswersRecord net e answer after
-  of_record (inl due) = inl (ap (λ (x : Ended). (x.0, x.1.net)) due)
-  of_record (inr short) = inr (short.0, short.1, ap (λ (x : MeteredRecord Timeline). x.net) short.2)
+  -- of a timeline that is told whether it was done
+  pub timed_told : (t u v : Timeline) → DoesEvent net e answer after
+      → (u ≡ (record_metered watching (at_meter net t) e).1.meter) ⊎ (answer ≡ Err EventFault.NoMemory)
+      → v ≡ timeline_ended u (is_done answer) → (v ≡ told_event t net e) ⊎ (answer ≡ Err EventFault.NoMemory)
+  timed_told t u v = done_so timeline_ended (record_metered watching (at_meter net t) e).1.meter u v
 
-  pub timed_due : Timed net t e answer after u → DoesEvent net e answer after
-  timed_due told = asked_due net e answer after (of_record told)
+module _ {M : Type 0} (sees : Sees M TaggedToken) (net : NetRecord) (e : Event) (answer : Result Reply EventFault) (after : NetRecord)
+    (m n : M) (told : Answers (record_metered sees) (at_meter net m) e answer (at_meter after n)) where
+  abbrev Came : Type 0
+  Came = Result Reply EventFault × MeteredRecord M
 
-  pub timed_kept : Timed net t e answer after u → OnErr answer (after ≡ net)
-  timed_kept told = event_kept net e answer after (of_record told)
+  of_record : Answers (record_metered sees) (at_meter net m) e answer (at_meter after n) → AnswersRecord net e answer after
+  of_record (inl due) = inl (ap (λ (x : Came). (x.0, x.1.net)) due)
+  of_record (inr short) = inr (short.0, short.1, ap (λ (s : MeteredRecord M). s.net) short.2)
 
-  -- and then whether it was done
-  pub timed_told : (v : Timeline) → Timed net t e answer after u → v ≡ timeline_ended u (is_done answer)
-      → (v ≡ told_event t net e) ⊎ (answer ≡ Err EventFault.NoMemory)
-  timed_told v (inl due) is = inl (is ∙ ap (λ (x : Ended). timeline_ended x.1.meter (is_done x.0)) due)
-  timed_told v (inr short) is = inr short.0
+  pub told_due : DoesEvent net e answer after
+  told_due = asked_due net e answer after (of_record told)
+
+  pub told_kept : OnErr answer (after ≡ net)
+  told_kept = event_kept net e answer after (of_record told)
+
+  meter_of : Answers (record_metered sees) (at_meter net m) e answer (at_meter after n)
+      → (n ≡ (record_metered sees (at_meter net m) e).1.meter) ⊎ (answer ≡ Err EventFault.NoMemory)
+  meter_of (inl due) = inl (ap (λ (x : Came). x.1.meter) due)
+  meter_of (inr short) = inr short.0
+
+  pub told_meter : (n ≡ (record_metered sees (at_meter net m) e).1.meter) ⊎ (answer ≡ Err EventFault.NoMemory)
+  told_meter = meter_of told

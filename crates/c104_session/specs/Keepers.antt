@@ -3,8 +3,13 @@
 --     rounds_kept n s      of n rounds
 use Rattle.{c104_event.specs.declared.faults.EventFault.EventFault, c104_net.specs.MeteredRecords.{MeteredRecord, at_meter, record_metered}}
 use Rattle.{c104_node.specs.declared.tagged.TaggedToken.TaggedToken, c104_run.specs.{EventRuns.{Outcome, run_events}, Meters.Sees}}
-use Rattle.{c104_run.specs.{NetRecords.NetRecord, Rounds.round}, c104_session.specs.{Counted.is_later, Leavings.LeavesRounds}}
-use Rattle.std.specs.Prelude.{Bool, Err, Ok, Result, false, if◌then◌else◌, suc, true, zero, ℕ, ◌≡◌, ◌⊎◌}
+use Rattle.{c104_run.specs.{NetRecords.{NetRecord, largest_ticket}, Rounds.round}, c104_session.specs.Leavings.LeavesRounds}
+use Rattle.std.specs.Prelude.{Bool, Err, Ok, Result, false, if◌then◌else◌, nat_le, nat_lt, suc, true, zero, ℕ, ◌||◌, ◌≡◌, ◌⊎◌}
+
+-- whether anything was done, by how many events were before and after. At the largest count, which no network comes near,
+-- that can't be told, and counts as done
+abbrev pub is_later : ℕ → ℕ → Bool
+is_later before after = nat_lt before after || nat_le largest_ticket before
 
 -- what a meter comes to before a round, behind one in which something was done or not, and as many rounds pass
 pub record Keeping (M : Type 0) : Type 0 where

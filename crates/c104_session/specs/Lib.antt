@@ -4,10 +4,10 @@ pub mod Shown
 pub mod Leavings
 pub mod Resets
 pub mod Driven
+pub mod Keepers
 pub mod Runs
 pub mod Counted
 pub mod CountedRuns
-pub mod Keepers
 pub mod Timed
 pub mod TimedRuns
 pub mod AskedPictures

@@ -4,16 +4,37 @@ ghost use Rattle.c104_event.specs.declared.faults.EventFault.TheVariants as faul
 ghost use Rattle.c104_run.specs.NetRecords.{is_done};
 ghost use Rattle.c104_run.specs.RecordedRuns.{record_apply};
 ghost use Rattle.c104_stats.specs.Counts.{counts_sent, Counts};
-ghost use Rattle.c104_session.specs.Counted.{counts_told, cut_if, event_counts, is_later, sent_if, CountsRound};
+ghost use Rattle.c104_session.specs.Counted.{counts_told, cut_if, event_counts, sent_if};
 ghost use Rattle.c104_session.specs.Driven.{DoesEvent};
 ghost use Rattle.c104_session.specs.Resets.{is_reset};
 
 use crate::driver::Driver;
+use crate::keepers::{Keeper, do_told, keep_rounds};
 use crate::resets::is_reset;
 use c104_event::{Event, EventFault};
-use c104_net::{MeteredNet, TracedNet, Watch};
+use c104_net::{TracedNet, Watch};
 use c104_stats::Stats;
 use c104_switch::Reply;
+use c104_token::NoMemory;
+
+impl Keeper for Stats {
+    ghost use Rattle.c104_session.specs.Counted.{counts_keep};
+
+    ghost keeps = { counts_keep };
+
+    fn begin(&mut self, net: &TracedNet) -> Result<(), NoMemory> {
+        self.see_net(net);
+        self.begin_round()
+    }
+
+    fn end(&mut self, done: bool) {
+        self.note_done(done);
+    }
+
+    fn pass(&mut self, times: u32) {
+        self.pass_rounds(times);
+    }
+}
 
 impl Driver for Stats {
     ghost use Rattle.c104_session.specs.Counted.{counts_kept};
@@ -33,16 +54,7 @@ impl Driver for Stats {
         count: u32,
         watch: &mut W,
     ) -> Result<(), EventFault> {
-        for round in 0..count {
-            let done = count_round(self, net)?;
-            if !done {
-                // Nor would any further round change anything.
-                self.pass_rounds(count - (round + 1));
-                return Ok(());
-            }
-            watch.rounds_done(round + 1, count);
-        }
-        Ok(())
+        keep_rounds(self, net, count, watch)
     }
 }
 
@@ -60,18 +72,8 @@ fn count_event(stats: &mut Stats, net: &mut TracedNet, event: &Event) -> Result<
         Event::Control { switch, bytes } => {
             command_counted(stats, net, event, *switch, bytes.as_slice())
         }
-        _ => do_counted(stats, net, event),
+        _ => do_told(stats, net, event),
     }
-}
-
-/// Does an event, of which the counts are told.
-#[tactic(auto, using(crate::proofs::CountedEvents::told_due, crate::proofs::CountedEvents::told_kept, crate::proofs::CountedEvents::told_counts))]
-fn do_counted(stats: &mut Stats, net: &mut TracedNet, event: &Event) -> Result<Reply, EventFault>
-    ensures due { DoesEvent net.old event.now result net.new }
-    ensures kept { OnErr result (net.new ≡ net.old) }
-    ensures counted { (stats.new ≡ counts_told stats.old net.old event.now) ⊎ (result ≡ Err fault.NoMemory) }
-{
-    net.apply_told(event, stats)
 }
 
 /// Gives a switch this command, of which the counts are told. A Reset throws away what the switch holds.
@@ -88,7 +90,7 @@ fn command_counted(
     ensures counted { (stats.new ≡ cut_if (is_done (record_apply net.old event.now).0 && is_reset bytes.now)
         (counts_told stats.old net.old event.now) switch) ⊎ (result ≡ Err fault.NoMemory) }
 {
-    let answer = do_counted(stats, net, event);
+    let answer = do_told(stats, net, event);
     let done = was_done(&answer);
     let resets = is_reset(bytes);
     cut_counted(stats, switch, done && resets);
@@ -106,7 +108,7 @@ fn cut_counted(stats: &mut Stats, switch: usize, reset: bool)
 
 /// Asks a terminal to send a packet of this many bytes. It is counted before, when there may be no memory for that, and
 /// taken back where it isn't done.
-#[tactic(auto, using(crate::proofs::CountedEvents::asked_due, crate::proofs::Leavings::event_kept, crate::proofs::CountedEvents::sent_counts))]
+#[tactic(auto, using(crate::proofs::ToldEvents::asked_due, crate::proofs::Leavings::event_kept, crate::proofs::CountedEvents::sent_counts))]
 fn send_counted(
     stats: &mut Stats,
     net: &mut TracedNet,
@@ -145,25 +147,4 @@ pub(crate) fn was_done(answer: &Result<Reply, EventFault>) -> bool
         Ok(_) => true,
         Err(_) => false,
     }
-}
-
-/// Does a round, and tells whether any event of it was done.
-fn count_round(stats: &mut Stats, net: &mut TracedNet) -> Result<bool, EventFault>
-    ensures { CountsRound net.old stats.old result net.new stats.new }
-{
-    stats.see_net(net);
-    stats.begin_round()?;
-    let before = net.done_count();
-    net.round_told(stats)?;
-    let done = is_later(before, net.done_count());
-    stats.note_done(done);
-    Ok(done)
-}
-
-/// Whether any event was done, by how many were before and after. At the largest count, which no network comes near, that
-/// can't be told, and counts as done.
-pub(crate) fn is_later(before: u64, after: u64) -> bool
-    ensures { result ≡ is_later before after }
-{
-    before < after || u64::MAX <= before
 }

@@ -1,14 +1,14 @@
 //! Rounds of which something is kept.
-ghost use Rattle.std.specs.Prelude.{◌≡◌, ◌⊎◌, Err, OnOk};
+ghost use Rattle.std.specs.Prelude.{◌≡◌, ◌⊎◌, Err, OnErr};
 ghost use Rattle.c104_event.specs.declared.faults.EventFault.TheVariants as fault;
-ghost use Rattle.c104_net.specs.MeteredRecords.{at_meter};
-ghost use Rattle.c104_session.specs.Driven.{DoesRounds};
-ghost use Rattle.c104_session.specs.Keepers.{rounds_kept, KeepsRound};
+ghost use Rattle.c104_net.specs.MeteredRecords.{at_meter, record_metered};
+ghost use Rattle.c104_session.specs.Driven.{DoesEvent, DoesRounds};
+ghost use Rattle.c104_session.specs.Keepers.{is_later, rounds_kept, KeepsRound};
 ghost use Rattle.c104_session.specs.Leavings.{LeavesRounds};
 
-use crate::counting::is_later;
-use c104_event::EventFault;
+use c104_event::{Event, EventFault};
 use c104_net::{Meter, MeteredNet, TaggedToken, TracedNet, Watch};
+use c104_switch::Reply;
 use c104_token::NoMemory;
 
 /// Who keeps something of the rounds of a run, beside what a meter is told.
@@ -30,6 +30,20 @@ pub(crate) trait Keeper: Meter<TaggedToken> {
     /// As many rounds pass in which nothing is done.
     fn pass(&mut self, times: u32)
         ensures { self.new ≡ keeps.passed self.old times };
+}
+
+/// Does an event, of which this is told.
+pub(crate) fn do_told<K: Keeper>(
+    keeper: &mut K,
+    net: &mut TracedNet,
+    event: &Event,
+) -> Result<Reply, EventFault>
+    ensures due { DoesEvent net.old event.now result net.new }
+    ensures kept { OnErr result (net.new ≡ net.old) }
+    ensures told { (keeper.new ≡ (record_metered K.sees (at_meter net.old keeper.old) event.now).1.meter)
+        ⊎ (result ≡ Err fault.NoMemory) }
+{
+    net.apply_told(event, keeper)
 }
 
 /// Does rounds, as `TracedNet::rounds_watched` does, and has this kept of them. Out of memory the first of their events are
@@ -66,4 +80,12 @@ fn keep_round<K: Keeper>(keeper: &mut K, net: &mut TracedNet) -> Result<bool, Ev
     let done = is_later(before, net.done_count());
     keeper.end(done);
     Ok(done)
+}
+
+/// Whether any event was done, by how many were before and after. At the largest count, which no network comes near, that
+/// can't be told, and counts as done.
+fn is_later(before: u64, after: u64) -> bool
+    ensures { result ≡ is_later before after }
+{
+    before < after || u64::MAX <= before
 }

@@ -6,10 +6,10 @@ ghost use Rattle.c104_session.specs.Timed.{before_command, before_event, told_ev
 
 use crate::counting::was_done;
 use crate::driver::Driver;
-use crate::keepers::{Keeper, keep_rounds};
+use crate::keepers::{Keeper, do_told, keep_rounds};
 use crate::resets::is_reset;
 use c104_event::{Event, EventFault};
-use c104_net::{MeteredNet, TracedNet, Watch};
+use c104_net::{TracedNet, Watch};
 use c104_switch::Reply;
 use c104_timeline::Timeline;
 use c104_token::NoMemory;
@@ -53,7 +53,7 @@ impl Driver for Timeline {
 }
 
 /// Does an event, of which the timeline is told, and whether it was done.
-#[tactic(auto, using(crate::proofs::ToldEvents::timed_due, crate::proofs::ToldEvents::timed_kept, crate::proofs::ToldEvents::timed_told))]
+#[tactic(auto, using(crate::proofs::ToldEvents::timed_told))]
 fn do_timed(
     timeline: &mut Timeline,
     net: &mut TracedNet,
@@ -63,7 +63,7 @@ fn do_timed(
     ensures kept { OnErr result (net.new ≡ net.old) }
     ensures told { (timeline.new ≡ told_event timeline.old net.old event.now) ⊎ (result ≡ Err fault.NoMemory) }
 {
-    let answer = net.apply_told(event, timeline);
+    let answer = do_told(timeline, net, event);
     timeline.end_round(was_done(&answer));
     answer
 }
