@@ -24,7 +24,7 @@ mod shown_ports;
 mod standstill;
 mod waiting;
 
-pub use leftovers::leftover_messages;
+pub use leftovers::{leftover_messages, tell_leftovers};
 pub use questions::{about_question, is_question, question_message};
 pub use reasons::reason_message;
 pub use standstill::standstill_message;

@@ -21,7 +21,7 @@ mod words;
 
 pub use commands::{command_message, is_refusal};
 pub use descriptions::description_message;
-pub use messages::{About, Behind, Messages, Silent};
+pub use messages::{About, Behind, Messages, Silent, tell_if_long, tell_lines};
 pub use nearest::{nearest_node, nearest_switch, nearest_terminal};
 pub use script_mistakes::ScriptMistake;
 pub use scripts::{fault_message, owner_message, refusal_message, register_message};

@@ -6,6 +6,10 @@ ghost use Rattle.std.specs.Prelude.{ℕ, List, OnOk};
 
 use std::io;
 
+/// What is told of a script that is longer than it may be.
+const TOO_LONG: &str =
+    "a script has at most 16777216 bytes; the lines that end within them were answered";
+
 /// What a message is about. Lines are counted from 1.
 #[derive(Clone, Copy, Debug)]
 pub enum About {
@@ -128,5 +132,19 @@ impl<M: Messages> Messages for Behind<'_, M> {
 
     fn save(&mut self, file: &str, picture: &str) -> io::Result<()> {
         self.messages.save(file, picture)
+    }
+}
+
+/// Tells each line of a message.
+pub fn tell_lines<M: Messages>(about: About, message: &str, messages: &mut M) {
+    for line in message.lines() {
+        messages.tell(about, line);
+    }
+}
+
+/// Tells of a script that it is longer than it may be, if it is and anyone reads the messages.
+pub fn tell_if_long<M: Messages>(is_long: bool, messages: &mut M) {
+    if is_long && messages.are_wanted() {
+        messages.tell(About::Run, TOO_LONG);
     }
 }

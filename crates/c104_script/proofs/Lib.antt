@@ -5,3 +5,4 @@ pub mod HexNumbers
 pub mod ResetRows
 pub mod PartsLaw
 pub mod ScriptBytes
+pub mod DoneScripts

@@ -3,4 +3,5 @@ pub mod HexWords
 pub mod Script
 pub mod Findings
 pub mod Texts
+pub mod Answering
 pub mod TextLines

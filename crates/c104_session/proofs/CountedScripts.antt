@@ -1,22 +1,16 @@
 -- What is counted of the run of a script, by what its parts come to.
-use Rattle.c104_session.specs.{Counted.counts_kept, CountedRuns.{IsCountedAfter, IsCountedOn, counted_script}, Driven.DrivesScript}
-use Rattle.c104_session.specs.{Driven.driven_outcome, declared.{counted_runs.CountedRun.CountedRun, session.Session.Session}}
-use Rattle.{c104_stats.specs.{Counts.{Counts, new_counts}, declared.stats.What.What}, c104_stream.specs.ScriptLines.is_long}
-use Rattle.{c104_stream.specs.Scripts.script_outcome, std.proofs.Common.{Bool, List, None, Ok, Option, Some, ap, subst, ℕ, ◌||◌, ◌∙◌, ◌≡◌}}
+use Rattle.{c104_script.specs.Answering.DoesScript, c104_session.specs.{Counted.counts_kept, CountedRuns.{IsCountedAfter, IsCountedOn}}}
+use Rattle.c104_session.specs.{Driven.driven_outcome, declared.{counted_runs.CountedRun.CountedRun, driven.Driven.Driven}}
+use Rattle.{c104_stats.specs.Counts.Counts, c104_stream.specs.ScriptLines.is_long, std.proofs.Common.{Bool, List, None, Option, Some, ap}}
+use Rattle.std.proofs.Common.{subst, ℕ, ◌||◌, ◌∙◌, ◌≡◌}
 
 -- a script that was done
-abbrev Ran : Type 0
-Ran = Session × Counts
-
-module _ (what : Option What) (session after : Session) (begun driven : Counts) (left held holds : Option (List ℕ))
-    (fresh : begun ≡ new_counts session.net.network.plan what) where
-  pub script_counted : (all : Option (List ℕ)) (long : Bool) (run : CountedRun)
-      → DrivesScript counts_kept session begun all left held holds after driven (Ok long)
-      → IsCountedOn after.net driven run → run.is_refused ≡ (long || after.faulty) → IsCountedAfter what session all run
-  script_counted None long run drove counted is_refused = tt
-  script_counted (Some script) long run drove counted is_refused =
-      let ran : ◌≡◌ {A = Ran} (after, driven) (counted_script what session script) =
-      drove.1 ∙ ap (λ c. (script_outcome (driven_outcome counts_kept) (session, c) script).1) fresh in (
-        subst (λ (r : Ran). IsCountedOn r.0.net r.1 run) ran counted,
-        is_refused ∙ ap (λ l. l || after.faulty) drove.0 ∙ ap (λ (r : Ran). is_long script || r.0.faulty) ran,
-      )
+module _ (driven after : Driven Counts) (long : Bool) (run : CountedRun) where
+  pub script_counted : (all : Option (List ℕ)) → DoesScript (driven_outcome counts_kept) driven all after long
+      → IsCountedOn after.session.net after.driver run → run.is_refused ≡ (long || after.session.faulty)
+      → IsCountedAfter driven all run
+  script_counted None done counted is_refused = tt
+  script_counted (Some script) done counted is_refused = (
+    subst (λ (r : Driven Counts). IsCountedOn r.session.net r.driver run) done.1 counted,
+    is_refused ∙ ap (λ l. l || after.session.faulty) done.0 ∙ ap (λ (r : Driven Counts). is_long script || r.session.faulty) done.1,
+  )

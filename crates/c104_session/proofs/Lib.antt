@@ -1,7 +1,7 @@
 pub mod SummaryTexts
 pub mod PacketLines
 pub mod LinesLaw
-pub mod DrivenScripts
+pub mod DrivenLines
 pub mod ToldEvents
 pub mod CountedEvents
 pub mod StillCounts

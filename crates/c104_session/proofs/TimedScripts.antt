@@ -1,22 +1,13 @@
 -- The run of a script and what crosses the wires in it, by what its parts come to.
-use Rattle.c104_session.specs.{Driven.{DrivesScript, driven_outcome}, Timed.timeline_kept, TimedRuns.{IsTimedAfter, timed_script}}
-use Rattle.{c104_session.specs.declared.session.Session.Session, c104_stream.specs.{ScriptLines.is_long, Scripts.script_outcome}}
-use Rattle.{c104_timeline.specs.{Closing.closed_all, Timelines.{Timeline, new_timeline}}, std.proofs.Common.{Bool, List, None, Ok, Option}}
-use Rattle.std.proofs.Common.{Some, ap, ℕ, ◌||◌, ◌∙◌, ◌≡◌}
+use Rattle.{c104_script.specs.Answering.DoesScript, c104_session.specs.{Driven.driven_outcome, Timed.timeline_kept, TimedRuns.IsTimedAfter}}
+use Rattle.{c104_session.specs.{TimedRuns.IsTimedOn, declared.driven.Driven.Driven}, c104_stream.specs.ScriptLines.is_long}
+use Rattle.{c104_timeline.specs.Timelines.Timeline, std.proofs.Common.{Bool, List, None, Option, Some, ap, subst, ℕ, ◌∙◌, ◌≡◌}}
 
 -- a script that was done
-abbrev Ran : Type 0
-Ran = Session × Timeline
-
-module _ (session after : Session) (begun driven : Timeline) (left held holds : Option (List ℕ))
-    (fresh : begun ≡ new_timeline session.net.network.plan) where
-  pub script_timed : (all : Option (List ℕ)) (long : Bool) (ended : Timeline) (refused : Bool)
-      → DrivesScript timeline_kept session begun all left held holds after driven (Ok long)
-      → ended ≡ closed_all after.net driven → refused ≡ (long || after.faulty) → IsTimedAfter session all ended refused
-  script_timed None long ended refused drove at_end is_refused = tt
-  script_timed (Some script) long ended refused drove at_end is_refused =
-      let ran : ◌≡◌ {A = Ran} (after, driven) (timed_script session script) =
-      drove.1 ∙ ap (λ t. (script_outcome (driven_outcome timeline_kept) (session, t) script).1) fresh in (
-        at_end ∙ ap (λ (r : Ran). closed_all r.0.net r.1) ran,
-        is_refused ∙ ap (λ l. l || after.faulty) drove.0 ∙ ap (λ (r : Ran). is_long script || r.0.faulty) ran,
-      )
+module _ (driven after : Driven Timeline) (long : Bool) (t : Timeline) (refused : Bool) where
+  pub script_timed : (all : Option (List ℕ)) → DoesScript (driven_outcome timeline_kept) driven all after long
+      → IsTimedOn after.session long after.driver t refused → IsTimedAfter driven all t refused
+  script_timed None done timed = tt
+  script_timed (Some script) done timed =
+      subst (λ (r : Driven Timeline). IsTimedOn r.session (is_long script) r.driver t refused) done.1
+          (subst (λ l. IsTimedOn after.session l after.driver t refused) done.0 timed)

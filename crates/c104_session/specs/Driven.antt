@@ -1,10 +1,9 @@
 -- What a driver keeps of what a network is asked, line by line of a script, beside what the network does and answers.
 use Rattle.{c104_event.specs.declared.{events.Event.Event, faults.EventFault.EventFault}, c104_run.specs.EventRuns.run_events}
-use Rattle.{c104_run.specs.{NetRecords.NetRecord, RecordedRuns.record_apply, Rounds.rounds}, c104_script.specs.Script.read_script_line}
-use Rattle.{c104_script.specs.declared.{faults.LineFault.LineFault, places.Request.Request}, c104_session.specs.Shown.line_outcome}
-use Rattle.{c104_session.specs.declared.session.Session.Session, c104_stream.specs.Scripts.{AnswersLine, AnswersLines, AnswersScript}}
-use Rattle.{c104_stream.specs.{Scripts.{Known, LineStops}, declared.halt.Halt.Halt}, c104_switch.specs.Actions.Reply}
-use Rattle.std.specs.Prelude.{Bool, Err, List, None, Ok, Option, Result, Some, ℕ, ◌≡◌, ◌⊎◌}
+use Rattle.{c104_run.specs.{NetRecords.NetRecord, RecordedRuns.record_apply, Rounds.rounds}, c104_script.specs.Answering.shown_by}
+use Rattle.c104_script.specs.{Script.read_script_line, declared.{answers.Answer.Answer, faults.LineFault.LineFault, places.Request.Request}}
+use Rattle.{c104_session.specs.{Shown.line_answer, declared.driven.Driven.Driven}, c104_switch.specs.Actions.Reply}
+use Rattle.std.specs.Prelude.{Err, List, None, Ok, Option, Result, Some, ℕ, ◌≡◌, ◌⊎◌}
 
 -- what a driver keeps: its state after it did an event, or as many rounds, on a network that was in this state. That is
 -- said of all that memory suffices for
@@ -45,25 +44,12 @@ module _ {D : Type 0} (drives : Driving D) where
   unfoldable pub line_driven : D → NetRecord → List ℕ → D
   line_driven driver net text = read_driven driver net (read_script_line net.network.plan text)
 
-  -- what a line shows, and the run and the driver after it
-  abbrev pub driven_outcome : ℕ → Session × D → List ℕ → List ℕ × (Session × D)
-  driven_outcome number s text =
-      ((line_outcome number s.0 text).0, ((line_outcome number s.0 text).1, line_driven s.1 s.0.net text))
+  -- what answers a line, and the run and the driver after it
+  abbrev pub driven_answer : Driven D → List ℕ → Option Answer × Driven D
+  driven_answer s text =
+      let r = line_answer s.session text in
+      (r.0, record { session = r.1; driver = line_driven s.driver s.session.net text })
 
-  -- a line was answered, or that stopped, and the lines of a script, as in a run without a driver; and beside them the
-  -- state of the driver
-  abbrev pub DrivesLine : Session → D → ℕ → List ℕ → Known → Known → List ℕ → List ℕ → Session → D → Type 0
-  DrivesLine session driver number line held holds kept keeps after driven =
-      AnswersLine driven_outcome (session, driver) number line held holds kept keeps (after, driven)
-
-  abbrev pub DrivingStops : Session → D → ℕ → List ℕ → Known → Known → List ℕ → List ℕ → Halt → Type 0
-  DrivingStops session driver number line held holds kept keeps halt =
-      LineStops driven_outcome (session, driver) number line held holds kept keeps halt
-
-  abbrev pub DrivesLines : Session → D → Known → Known → Known → Known → List ℕ → Session → D → Result Bool Halt → Type 0
-  DrivesLines session driver all left held holds keeps after driven result =
-      AnswersLines driven_outcome (session, driver) all left held holds keeps (after, driven) result
-
-  abbrev pub DrivesScript : Session → D → Known → Known → Known → Known → Session → D → Result Bool Halt → Type 0
-  DrivesScript session driver all left held holds after driven result =
-      AnswersScript driven_outcome (session, driver) all left held holds (after, driven) result
+  -- what a line of this number shows, and the run and the driver after it
+  abbrev pub driven_outcome : ℕ → Driven D → List ℕ → List ℕ × Driven D
+  driven_outcome = shown_by driven_answer

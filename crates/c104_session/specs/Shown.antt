@@ -3,12 +3,12 @@ use Rattle.{c104_event.specs.declared.faults.EventFault.EventFault, c104_net.spe
 use Rattle.{c104_node.specs.{Origins.origins_in, declared.{origins.Origin.Origin, traced.Traced.Traced}}, c104_plan.specs.PlanImage.Image}
 use Rattle.{c104_plan.specs.{Plans.Plan, PortTexts.terminal_name, declared.plans.Terminal.Terminal}, c104_run.specs.EventRuns.run_events}
 use Rattle.c104_run.specs.{FinishedRecords.{FinishedRecord, record_finish}, NetRecords.{NetRecord, fresh_record}, Network.Network}
-use Rattle.{c104_run.specs.{Network.placed_network, RecordedRuns.record_apply, Rounds.rounds}, c104_script.specs.Script.read_script_line}
-use Rattle.c104_script.specs.{Texts.{shown, token_text}, declared.answers.Answer.{Answer, TheVariants.{Faulty, Refused, Replied}}}
-use Rattle.{c104_script.specs.declared.{faults.LineFault.LineFault, places.Request.Request}, c104_session.specs.Probing.probe_answer}
-use Rattle.{c104_session.specs.declared.session.Session.Session, c104_stream.specs.ScriptLines.{is_long, script_too_long}}
-use Rattle.{c104_stream.specs.Scripts.script_outcome, c104_switch.specs.{Actions.Reply, declared.actions.ReplyOf.TheVariants.Done}}
-use Rattle.c104_token.specs.{Cut.whole_pieces, declared.tokens.Token.Token}
+use Rattle.{c104_run.specs.{Network.placed_network, RecordedRuns.record_apply, Rounds.rounds}, c104_script.specs.Answering.shown_by}
+use Rattle.c104_script.specs.{Script.read_script_line, Texts.token_text, declared.answers.Answer.{Answer, TheVariants.{Faulty, Refused}}}
+use Rattle.c104_script.specs.declared.{answers.Answer.TheVariants.Replied, faults.LineFault.LineFault, places.Request.Request}
+use Rattle.{c104_session.specs.{Probing.probe_answer, declared.session.Session.Session}, c104_stream.specs.ScriptLines.is_long}
+use Rattle.{c104_stream.specs.{ScriptLines.script_too_long, Scripts.script_outcome}, c104_switch.specs.Actions.Reply}
+use Rattle.{c104_switch.specs.declared.actions.ReplyOf.TheVariants.Done, c104_token.specs.{Cut.whole_pieces, declared.tokens.Token.Token}}
 use Rattle.std.specs.{Global.Vec, Prelude.{Bool, Err, List, None, Ok, Option, Result, Some, [], codes, decimal, false, flat_map, map, suc}}
 use Rattle.std.specs.Prelude.{true, ℕ, ◌++◌, ◌∷◌}
 
@@ -59,7 +59,7 @@ line_answer session text =
 
 -- what a line of this number shows, and the run after it
 unfoldable pub line_outcome : ℕ → Session → List ℕ → List ℕ × Session
-line_outcome number session text = let r = line_answer session text in (shown number r.0, r.1)
+line_outcome = shown_by line_answer
 
 -- a packet's tokens, parted by spaces
 abbrev pub tokens_text : List Token → List ℕ

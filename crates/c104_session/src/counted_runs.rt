@@ -1,24 +1,24 @@
 //! A script, run on the network of a plan, and what is counted of that.
-ghost use Rattle.std.specs.Prelude.{◌≡◌, ◌≢◌, ◌↔◌, IfOk, IsSome, IsTrue, Err};
+ghost use Rattle.std.specs.Prelude.{◌≡◌, ◌≢◌, ◌↔◌, ◌||◌, Err, IfOk, IsSome, IsTrue};
 ghost use Rattle.std.specs.Io.KnownBytes.{prepend_known};
 ghost use Rattle.c104_token.specs.Kinds.{plain_kind};
 ghost use Rattle.c104_plan.specs.PlanImage.{Fits};
 ghost use Rattle.c104_run.specs.Standstill.{IsDeadlocked};
-ghost use Rattle.c104_session.specs.CountedRuns.{IsCountedAfter, IsCountedPlan};
+ghost use Rattle.c104_session.specs.CountedRuns.{IsCountedAfter, IsCountedOn, IsCountedPlan};
 ghost use Rattle.c104_stream.specs.declared.halt.Halt.TheVariants as halt;
 
 use crate::answering::drive_script;
-use crate::runs::{TOO_LONG, leftovers_of, tell_all};
+use crate::driven::Driven;
+use crate::runs::leftovers_of;
 use crate::session::Session;
-use c104_explain::standstill_message;
-use c104_mistakes::{About, Messages};
+use c104_explain::{standstill_message, tell_leftovers};
+use c104_mistakes::Messages;
 use c104_net::TracedNet;
 use c104_plan::{Image, Plan};
 use c104_stats::{Stats, What};
 use c104_stream::{Ahead, Halt};
 use c104_token::NoMemory;
 use std::alloc::Global;
-use std::io;
 use std::io::Read;
 
 /// What is counted of a run, up to its end.
@@ -36,7 +36,7 @@ pub struct CountedRun {
 impl CountedRun {
     /// Tells what didn't arrive.
     pub fn tell_leftovers<M: Messages>(&self, messages: &mut M) {
-        tell_all(&self.leftovers, messages);
+        tell_leftovers(&self.leftovers, messages);
     }
 }
 
@@ -57,61 +57,51 @@ pub fn count_plan<S: Read, M: Messages>(
         (prepend_known ahead.old (S.remaining script.old)) run) }
     ensures unwritten { result ≢ Err halt.CannotWrite }
 {
+    let stats = Stats::new(alloc, plan, what)?;
     let session = Session::new(alloc, plan, image)?;
-    count_session(alloc, session, what, ahead, script, messages)
+    let driven = Driven {
+        session,
+        driver: stats,
+    };
+    count_driven(alloc, driven, ahead, script, messages)
 }
 
-/// The same on a network that is before the script's first line.
-fn count_session<S: Read, M: Messages>(
+/// Counts the run of a script on a network that is before its first line. Its answers go nowhere.
+fn count_driven<S: Read, M: Messages>(
     alloc: Global,
-    session: Session,
-    what: Option<What>,
+    driven: Driven<Stats>,
     ahead: &mut Ahead,
     script: &mut S,
     messages: &mut M,
 ) -> Result<CountedRun, Halt>
-    ensures run { IfOk result (λ run. IsCountedAfter what session
+    ensures run { IfOk result (λ run. IsCountedAfter driven
         (prepend_known ahead.old (S.remaining script.old)) run) }
     ensures unwritten { result ≢ Err halt.CannotWrite }
 {
-    let mut session = session;
-    let counted = count_script(alloc, &mut session, what, ahead, script, messages);
+    let mut driven = driven;
+    let drove = drive_script(alloc, &mut driven, ahead, script, messages);
+    let Driven { session, driver } = driven;
+    let counted = match drove {
+        Ok(is_long) => counted_run(alloc, is_long, &session, driver, messages),
+        Err(halt) => Err(halt),
+    };
     session.finish().retire();
     counted
 }
 
-/// Counts the run of a script. Its answers go nowhere.
-fn count_script<S: Read, M: Messages>(
+/// What is counted of a run up to its end, at which its network and its counts are these.
+fn counted_run<M: Messages>(
     alloc: Global,
-    session: &mut Session,
-    what: Option<What>,
-    ahead: &mut Ahead,
-    script: &mut S,
+    is_long: bool,
+    session: &Session,
+    stats: Stats,
     messages: &mut M,
 ) -> Result<CountedRun, Halt>
-    ensures run { IfOk result (λ run. IsCountedAfter what session.old
-        (prepend_known ahead.old (S.remaining script.old)) run) }
+    ensures run { IfOk result (λ run. IsCountedOn session.now.net stats run) }
+    ensures is_refused { IfOk result (λ run. run.is_refused ≡ (is_long || session.now.faulty)) }
     ensures unwritten { result ≢ Err halt.CannotWrite }
 {
-    let mut stats = Stats::new(alloc, session.net.plan(), what)?;
-    let mut nowhere = io::sink();
-    let is_long = match drive_script(
-        alloc,
-        session,
-        &mut stats,
-        ahead,
-        script,
-        &mut nowhere,
-        messages,
-    ) {
-        Ok(is_long) => is_long,
-        // What takes all bytes doesn't fail, but no contract says that.
-        Err(Halt::CannotWrite) => return Err(Halt::NoMemory),
-        Err(halt) => return Err(halt),
-    };
-    if is_long && messages.are_wanted() {
-        messages.tell(About::Run, TOO_LONG);
-    }
+    let mut stats = stats;
     stats.end_at(&session.net);
     let still = still_text(alloc, &session.net, stats.active())?;
     let leftovers = leftovers_of(alloc, session, messages);

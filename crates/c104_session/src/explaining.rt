@@ -1,119 +1,70 @@
-//! Messages about a script, behind the answers.
-ghost use Rattle.std.specs.Prelude.{◌≡◌, [], OnOk, OnErr};
-ghost use Rattle.c104_stream.specs.Writing.{AppendsAndKeeps, AppendsPrefix};
+//! Messages about the lines of a script, and answers to what a person asks among them.
+//!
+//! Questions are answered where standard input and standard error are terminals. Through a pipe they are explained as
+//! other unknown words, since a program that sends them has mistaken what it talks to; so no script writes a file by
+//! `draw FILE`.
 
-use crate::answering::Answered;
-use crate::questions::explain_fault;
+use crate::asked_pictures::{asked_file, picture_message};
 use crate::session::Session;
-use crate::standing::{explain_done, message_of_done};
 use crate::tally::Tally;
-use c104_explain::reason_message;
-use c104_mistakes::{
-    About, Messages, command_message, is_refusal, owner_message, refusal_message, register_message,
+use crate::telling::Telling;
+use c104_explain::{
+    about_question, is_question, question_message, reason_message, standstill_message,
 };
-use c104_script::{Answer, Finding, Request, read_line};
-use c104_stream::{CannotWrite, Kept};
+use c104_mistakes::{
+    About, Messages, command_message, fault_message, is_refusal, owner_message, refusal_message,
+    register_message,
+};
+use c104_script::{Answer, Finding, LineFault, Request, read_line};
 use c104_switch::Reply;
 use std::alloc::Global;
-use std::io::Write;
 
-/// A line of a script, with its number.
-#[derive(Clone, Copy)]
-pub(crate) struct ScriptLine<'a> {
-    /// Its number, from 1.
-    pub(crate) number: usize,
-    /// Its bytes, without the line feed.
-    pub(crate) text: &'a [u8],
-}
-
-/// Tells of a line that was answered so, where anyone reads the messages, and what it asks where a person types it and
-/// may ask: all that is kept is written before. What was done joins the tally.
-pub(crate) fn explain_line<W: Write, M: Messages>(
+/// What is told about a line that was answered so, where anyone reads the messages, and what it asks where a person types
+/// it and may ask. None where there is nothing to tell, and out of memory. What was done joins the tally.
+pub(crate) fn line_message<M: Messages>(
     alloc: Global,
     session: &Session,
-    line: ScriptLine<'_>,
-    answered: &Answered,
-    tally: &mut Tally,
-    kept: &mut Kept,
-    writer: &mut W,
-    messages: &mut M,
-) -> Result<(), CannotWrite>
-    ensures kept { OnOk result (AppendsAndKeeps (W.contents writer.old) (W.contents writer.new) kept.new kept.old) }
-    ensures prefix { OnErr result (AppendsPrefix (W.contents writer.old) (W.contents writer.new) kept.old) }
-    ensures empty { OnErr result (kept.new ≡ []) }
-{
-    if !messages.are_wanted() {
-        return Ok(());
+    number: usize,
+    line: &[u8],
+    answer: &Option<Answer>,
+    telling: &mut Telling<'_, M>,
+) -> Option<(About, String)> {
+    if !telling.messages.are_wanted() {
+        return None;
     }
-    match &answered.answer {
-        Some(answer) if is_refused(answer) => {
-            explain_answer(alloc, session, line, answer, kept, writer, messages)
-        }
-        Some(Answer::Replied(Reply::Done | Reply::Control(_))) => {
-            let message = message_of_done(alloc, session, line.text, answered.rounds, tally);
-            explain_done(line.number, message, kept, writer, messages)
-        }
-        Some(Answer::Faulty(fault)) => {
-            explain_fault(alloc, session, line, *fault, kept, writer, messages)
-        }
-        Some(answer) => explain_answer(alloc, session, line, answer, kept, writer, messages),
-        None => Ok(()),
-    }
-}
-
-/// Tells of a line that was answered so, where there is something to tell: all that is kept is written before.
-fn explain_answer<W: Write, M: Messages>(
-    alloc: Global,
-    session: &Session,
-    line: ScriptLine<'_>,
-    answer: &Answer,
-    kept: &mut Kept,
-    writer: &mut W,
-    messages: &mut M,
-) -> Result<(), CannotWrite>
-    ensures kept { OnOk result (AppendsAndKeeps (W.contents writer.old) (W.contents writer.new) kept.new kept.old) }
-    ensures prefix { OnErr result (AppendsPrefix (W.contents writer.old) (W.contents writer.new) kept.old) }
-    ensures empty { OnErr result (kept.new ≡ []) }
-{
-    let Some(message) = answer_message(alloc, session, line.text, answer) else {
-        return Ok(());
+    let Some(answer) = answer else {
+        return None;
     };
-    kept.flush(writer)?;
-    messages.tell(About::ScriptLine(line.number), message.as_str());
-    Ok(())
+    telling.tally.note_line();
+    if let Answer::Faulty(fault) = answer {
+        return message_of_fault(alloc, session, number, line, *fault, telling.messages);
+    }
+    let rounds = telling.rounds();
+    let message = message_of_answer(alloc, session, line, answer, rounds, &mut telling.tally)?;
+    Some((About::ScriptLine(number), message))
 }
 
-/// What is told of a line that was answered so. None where there is nothing to tell, and out of memory.
-fn answer_message(
+/// What is told about a line that isn't faulty and was answered so, of which `rounds` rounds changed something.
+fn message_of_answer(
     alloc: Global,
     session: &Session,
     line: &[u8],
     answer: &Answer,
+    rounds: u32,
+    tally: &mut Tally,
 ) -> Option<String> {
     match answer {
         Answer::Refused(fault) => refusal_message(alloc, session.net.plan(), line, *fault),
         Answer::Found(Finding::Refused(fault)) => register_message(alloc, line, *fault),
         Answer::Found(Finding::Link { owner, .. }) => owner_message(alloc, line, *owner),
-        Answer::Found(_) => None,
         Answer::Replied(Reply::NotReady) => unready_message(alloc, session, line),
-        Answer::Replied(Reply::Control(reply)) => refused_message(alloc, line, reply.as_slice()),
-        Answer::Replied(Reply::Done | Reply::Token(_)) | Answer::Faulty(_) => None,
-    }
-}
-
-/// What is told of a line that a switch answered by this reply: where that is a refusal, why.
-fn refused_message(alloc: Global, line: &[u8], reply: &[u8]) -> Option<String> {
-    if !is_refusal(reply) {
-        return None;
-    }
-    command_message(alloc, line, reply)
-}
-
-/// Whether a line was answered with a switch's refusal of a command.
-fn is_refused(answer: &Answer) -> bool {
-    match answer {
-        Answer::Replied(Reply::Control(reply)) => is_refusal(reply.as_slice()),
-        _ => false,
+        Answer::Replied(Reply::Control(reply)) if is_refusal(reply.as_slice()) => {
+            command_message(alloc, line, reply.as_slice())
+        }
+        Answer::Replied(Reply::Done | Reply::Control(_)) => {
+            message_of_done(alloc, session, line, rounds, tally)
+        }
+        Answer::Found(_) | Answer::Replied(Reply::Token(_)) | Answer::Faulty(_) => None,
     }
 }
 
@@ -126,4 +77,60 @@ fn unready_message(alloc: Global, session: &Session, line: &[u8]) -> Option<Stri
     };
     let reason = session.net.why(&event)?;
     reason_message(alloc, plan, reason)
+}
+
+/// What is told about a line that was done, of which `rounds` rounds changed something: that the network stands still,
+/// where the line asks for more rounds than these and tokens are left. Else what it did joins the tally.
+fn message_of_done(
+    alloc: Global,
+    session: &Session,
+    line: &[u8],
+    rounds: u32,
+    tally: &mut Tally,
+) -> Option<String> {
+    match read_line(alloc, session.net.plan(), line) {
+        Ok(Some(Request::Rounds(count))) if rounds < count && !session.net.quiet() => {
+            standstill_message(alloc, &session.net, tally.sent())
+        }
+        Ok(Some(Request::Asked(event))) => {
+            tally.note(&event);
+            None
+        }
+        Ok(_) => None,
+        Err(_) => {
+            tally.forget();
+            None
+        }
+    }
+}
+
+/// What is told about a faulty line, of which a person who types it may ask. A picture that is asked for is saved.
+fn message_of_fault<M: Messages>(
+    alloc: Global,
+    session: &Session,
+    number: usize,
+    line: &[u8],
+    fault: LineFault,
+    messages: &mut M,
+) -> Option<(About, String)> {
+    let is_asked = messages.are_asked();
+    if is_asked && is_question(line) {
+        let message = answer_of(alloc, session, line, messages)?;
+        return Some((about_question(line), message));
+    }
+    let message = fault_message(alloc, line, fault, is_asked)?;
+    Some((About::FaultyLine(number), message))
+}
+
+/// What answers a question. None out of memory.
+fn answer_of<M: Messages>(
+    alloc: Global,
+    session: &Session,
+    line: &[u8],
+    messages: &mut M,
+) -> Option<String> {
+    match asked_file(alloc, line) {
+        Some(file) => picture_message(alloc, session, file, messages),
+        None => question_message(alloc, &session.net, line),
+    }
 }

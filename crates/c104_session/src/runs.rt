@@ -11,16 +11,12 @@ use crate::answering::answer_script;
 use crate::ended::EndedNet;
 use crate::session::{Ended, Session};
 use crate::summary::summary_texts;
-use c104_explain::leftover_messages;
-use c104_mistakes::{About, Messages};
+use c104_explain::{leftover_messages, tell_leftovers};
+use c104_mistakes::{Messages, tell_if_long};
 use c104_plan::{Image, Plan};
 use c104_stream::{Ahead, CannotWrite, Halt, too_long_line, write_whole};
 use std::alloc::Global;
 use std::io::{Read, Write};
-
-/// What is told of a script that is longer than it may be.
-pub(crate) const TOO_LONG: &str =
-    "a script has at most 16777216 bytes; the lines that end within them were answered";
 
 /// Runs a script on the network of a plan, started with an image that fits it: lines are answered as they are
 /// read, and at the end what arrived is written. Says whether the script was refused, for its length or
@@ -79,10 +75,8 @@ fn end_run<W: Write, M: Messages>(
 {
     let is_long = answered?;
     write_end(alloc, is_long, &ended.run, writer)?;
-    if is_long && messages.are_wanted() {
-        messages.tell(About::Run, TOO_LONG);
-    }
-    tell_all(leftovers, messages);
+    tell_if_long(is_long, messages);
+    tell_leftovers(leftovers, messages);
     Ok(is_long || ended.faulty)
 }
 
@@ -125,13 +119,4 @@ pub(crate) fn leftovers_of<M: Messages>(
         return None;
     }
     leftover_messages(alloc, &session.net)
-}
-
-/// Tells what didn't arrive.
-pub(crate) fn tell_all<M: Messages>(leftovers: &Option<Vec<String>>, messages: &mut M) {
-    if let Some(leftovers) = leftovers {
-        for message in leftovers {
-            messages.tell(About::Run, message.as_str());
-        }
-    }
 }

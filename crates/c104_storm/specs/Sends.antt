@@ -1,8 +1,8 @@
 -- What the lines of a storm's script ask, and what a network answers: those of a script that begin with `send`.
 use Rattle.{c104_event.specs.declared.{events.Event.Event, faults.EventFault.EventFault}, c104_plan.specs.{PlanImage.Image, Plans.Plan}}
 use Rattle.{c104_plan.specs.TextCut.{line_words, uncommented_line}, c104_run.specs.NetRecords.{NetRecord, fresh_record}}
-use Rattle.{c104_run.specs.{Network.placed_network, RecordedRuns.record_apply}, c104_script.specs.Script.{most_line, read_script_line}}
-use Rattle.c104_script.specs.{Texts.shown, declared.answers.Answer.{Answer, TheVariants.{Faulty, Refused, Replied}}}
+use Rattle.{c104_run.specs.{Network.placed_network, RecordedRuns.record_apply}, c104_script.specs.{Answering.shown_by, Script.most_line}}
+use Rattle.c104_script.specs.{Script.read_script_line, declared.answers.Answer.{Answer, TheVariants.{Faulty, Refused, Replied}}}
 use Rattle.c104_script.specs.declared.{faults.LineFault.LineFault, places.Request.Request}
 use Rattle.{c104_storm.specs.declared.sends.Sending.Sending, c104_switch.specs.Actions.Reply}
 use Rattle.std.specs.Prelude.{Bool, Err, List, None, Ok, Option, Result, Some, bytes_eq, codes, false, if◌then◌else◌, length, nat_le, not}
@@ -66,4 +66,4 @@ sending_answer sending line =
 
 -- what a line of this number shows, and the sending after it
 unfoldable pub send_outcome : ℕ → Sending → List ℕ → List ℕ × Sending
-send_outcome number sending line = let r = sending_answer sending line in (shown number r.0, r.1)
+send_outcome = shown_by sending_answer

@@ -12,7 +12,6 @@
 mod end_texts;
 mod endings;
 mod packets;
-mod reading;
 mod replaying;
 mod sends;
 mod storms;

@@ -5,13 +5,14 @@ ghost use Rattle.c104_script.specs.Script.{GivesLineOrNoMemory};
 ghost use Rattle.c104_script.specs.declared.answers.Answer.{Answer as TheAnswer};
 ghost use Rattle.c104_plan.specs.PlanImage.{Fits};
 ghost use Rattle.c104_storm.specs.Sends.{begins_otherwise, event_outcome, new_sending, read_send_line, send_answer};
-ghost use Rattle.c104_storm.specs.Sends.{sending_answer, tells_fault};
-ghost use Rattle.c104_storm.specs.declared.sends.Sending.{Sending as TheSending};
+ghost use Rattle.c104_storm.specs.Sends.{tells_fault};
 
+use crate::telling::send_message;
 use c104_event::{Event, EventFault};
+use c104_mistakes::{About, Messages};
 use c104_net::Net;
 use c104_plan::{Image, Plan, first_word, uncommented};
-use c104_script::{Answer, LineFault, MAX_LINE, Request, read_line};
+use c104_script::{Answer, AnswersLines, LineFault, MAX_LINE, Request, read_line};
 use c104_token::NoMemory;
 use std::alloc::Global;
 
@@ -38,23 +39,52 @@ impl Sending {
         }
     }
 
+    /// Disposes of the network.
+    pub(crate) fn retire(self) {
+        let Sending { net, is_faulty: _ } = self;
+        net.retire();
+    }
+}
+
+impl<M: Messages> AnswersLines<M> for Sending {
+    ghost use Rattle.c104_storm.specs.Sends.{sending_answer};
+
+    type Message = (About, String);
+
+    ghost answers = { sending_answer };
+
     /// Sends the packet of a line, and gives what answers the line: as in a script, but any line that doesn't begin with
-    /// `send` has an unknown word. None where the line has no words. The only error is out of memory.
+    /// `send` has an unknown word.
     #[tactic(auto, unfolding(crate::specs::Sends::sending_answer))]
-    pub(crate) fn answer(&mut self, alloc: Global, line: &[u8]) -> Result<Option<Answer>, NoMemory>
-        ensures { IfOk result (λ answer. ◌≡◌ {A = Option TheAnswer × TheSending}
-            (answer, self.new) (sending_answer self.old line.now)) }
-    {
+    fn answer(
+        &mut self,
+        alloc: Global,
+        _number: usize,
+        line: &[u8],
+        _messages: &mut M,
+    ) -> Result<Option<Answer>, NoMemory> {
         let answer = answer_send(alloc, &mut self.net, line)?;
         let is_faulty = tells_fault(&answer);
         self.is_faulty = is_faulty || self.is_faulty;
         Ok(answer)
     }
 
-    /// Disposes of the network.
-    pub(crate) fn retire(self) {
-        let Sending { net, is_faulty: _ } = self;
-        net.retire();
+    fn message(
+        &self,
+        alloc: Global,
+        number: usize,
+        line: &[u8],
+        answer: &Option<Answer>,
+        messages: &mut M,
+    ) -> Option<(About, String)> {
+        if !messages.are_wanted() {
+            return None;
+        }
+        send_message(alloc, self.net.plan(), number, line, answer)
+    }
+
+    fn tell(message: (About, String), messages: &mut M) {
+        messages.tell(message.0, message.1.as_str());
     }
 }
 

@@ -4,18 +4,19 @@
 ghost use Rattle.std.specs.Prelude.{◌≡◌, ◌≤◌, length};
 ghost use Rattle.c104_plan.specs.PlanImage.{Fits};
 ghost use Rattle.c104_plan.specs.Plans.{Plan as ThePlan};
-ghost use Rattle.c104_storm.specs.Sends.{new_sending};
+ghost use Rattle.c104_storm.specs.Sends.{new_sending, send_outcome};
 ghost use Rattle.c104_storm.specs.Storms.{StormsOn, StormsPlan};
+ghost use Rattle.c104_stream.specs.Scripts.{AnswersScript};
 ghost use Rattle.c104_workers.specs.Fabrics.{AreSeatsOf, handed_of};
 
 use crate::endings::{Sent, write_end};
-use crate::reading::answer_sends;
 use crate::sends::Sending;
 use crate::telling::explain_end;
 use crate::working::work;
 use c104_mistakes::Messages;
 use c104_plan::{Image, Plan};
-use c104_stream::Halt;
+use c104_script::answer_lines;
+use c104_stream::{Ahead, Halt};
 use c104_workers::{Fabric, Seat};
 use std::alloc::Global;
 use std::io::{Read, Write};
@@ -76,6 +77,22 @@ fn storm_script<R: Threads + Wait + Sync, S: Read, W: Write, M: Messages>(
             Err(halt)
         }
     }
+}
+
+/// Answers the lines of a script as they are read, whose packets are sent into a network.
+#[tactic(auto, unfolding(crate::specs::Sends::send_outcome))]
+fn answer_sends<S: Read, W: Write, M: Messages>(
+    alloc: Global,
+    sending: &mut Sending,
+    script: &mut S,
+    writer: &mut W,
+    messages: &mut M,
+) -> Result<bool, Halt>
+    ensures { AnswersScript send_outcome sending.old (S.remaining script.old) (S.remaining script.new)
+        (W.contents writer.old) (W.contents writer.new) sending.new result }
+{
+    let mut ahead = Ahead::new(alloc)?;
+    answer_lines(alloc, sending, &mut ahead, script, writer, messages)
 }
 
 /// The same of a network into which a script's packets were sent.

@@ -1,111 +1,47 @@
 //! What people are told of a storm.
-ghost use Rattle.std.specs.Prelude.{◌≡◌, [], OnOk, OnErr};
-ghost use Rattle.c104_stream.specs.Writing.{AppendsAndKeeps, AppendsPrefix};
 
 use crate::endings::Sent;
 use crate::replaying::{count_sent, replay};
-use crate::sends::Sending;
 use crate::working::Worked;
 use c104_event::EventFault;
-use c104_explain::{leftover_messages, standstill_message};
-use c104_mistakes::{About, Messages, fault_message, refusal_message};
+use c104_explain::{leftover_messages, standstill_message, tell_leftovers};
+use c104_mistakes::{About, Messages, fault_message, refusal_message, tell_if_long, tell_lines};
 use c104_net::TracedNet;
-use c104_plan::Image;
+use c104_plan::{Image, Plan};
 use c104_script::{Answer, LineFault};
-use c104_stream::{CannotWrite, Kept};
 use c104_workers::Gathered;
 use std::alloc::Global;
-use std::io::Write;
 
 /// What is told of a line that doesn't begin with `send`.
 const NO_SEND: &str = "a line begins with `send`: in a storm workers do all the rest";
 
-/// What is told of a script that is longer than it may be.
-const TOO_LONG: &str =
-    "a script has at most 16777216 bytes; the lines that end within them were answered";
-
-/// A line of a script, with its number.
-#[derive(Clone, Copy)]
-pub(crate) struct SentLine<'a> {
-    /// Its number, from 1.
-    pub(crate) number: usize,
-    /// Its bytes, without the line feed.
-    pub(crate) text: &'a [u8],
-}
-
-/// Tells of a line that was answered so, where anyone reads the messages and there is something to tell: all that is
-/// kept is written before.
-pub(crate) fn explain_send<W: Write, M: Messages>(
+/// What is told about a line that was answered so. None where there is nothing to tell, and out of memory.
+pub(crate) fn send_message(
     alloc: Global,
-    sending: &Sending,
-    line: SentLine<'_>,
+    plan: &Plan,
+    number: usize,
+    line: &[u8],
     answer: &Option<Answer>,
-    kept: &mut Kept,
-    writer: &mut W,
-    messages: &mut M,
-) -> Result<(), CannotWrite>
-    ensures kept { OnOk result (AppendsAndKeeps (W.contents writer.old) (W.contents writer.new) kept.new kept.old) }
-    ensures prefix { OnErr result (AppendsPrefix (W.contents writer.old) (W.contents writer.new) kept.old) }
-    ensures empty { OnErr result (kept.new ≡ []) }
-{
-    if !messages.are_wanted() {
-        return Ok(());
-    }
+) -> Option<(About, String)> {
     match answer {
-        Some(Answer::Faulty(LineFault::UnknownWord)) => tell_after(
-            About::FaultyLine(line.number),
-            NO_SEND,
-            kept,
-            writer,
-            messages,
-        ),
         Some(Answer::Faulty(fault)) => {
-            let message = fault_message(alloc, line.text, *fault, false);
-            let about = About::FaultyLine(line.number);
-            tell_if_any(about, message, kept, writer, messages)
+            let message = send_fault_message(alloc, line, *fault)?;
+            Some((About::FaultyLine(number), message))
         }
         Some(Answer::Refused(fault)) => {
-            let message = refusal_message(alloc, sending.net.plan(), line.text, *fault);
-            let about = About::ScriptLine(line.number);
-            tell_if_any(about, message, kept, writer, messages)
+            let message = refusal_message(alloc, plan, line, *fault)?;
+            Some((About::ScriptLine(number), message))
         }
-        _ => Ok(()),
+        _ => None,
     }
 }
 
-/// Tells a message, if there is one: all that is kept is written before.
-fn tell_if_any<W: Write, M: Messages>(
-    about: About,
-    message: Option<String>,
-    kept: &mut Kept,
-    writer: &mut W,
-    messages: &mut M,
-) -> Result<(), CannotWrite>
-    ensures kept { OnOk result (AppendsAndKeeps (W.contents writer.old) (W.contents writer.new) kept.new kept.old) }
-    ensures prefix { OnErr result (AppendsPrefix (W.contents writer.old) (W.contents writer.new) kept.old) }
-    ensures empty { OnErr result (kept.new ≡ []) }
-{
-    let Some(message) = message else {
-        return Ok(());
-    };
-    tell_after(about, message.as_str(), kept, writer, messages)
-}
-
-/// Tells a message: all that is kept is written before.
-fn tell_after<W: Write, M: Messages>(
-    about: About,
-    message: &str,
-    kept: &mut Kept,
-    writer: &mut W,
-    messages: &mut M,
-) -> Result<(), CannotWrite>
-    ensures kept { OnOk result (AppendsAndKeeps (W.contents writer.old) (W.contents writer.new) kept.new kept.old) }
-    ensures prefix { OnErr result (AppendsPrefix (W.contents writer.old) (W.contents writer.new) kept.old) }
-    ensures empty { OnErr result (kept.new ≡ []) }
-{
-    kept.flush(writer)?;
-    messages.tell(about, message);
-    Ok(())
+/// What is told about a faulty line. None when out of memory.
+fn send_fault_message(alloc: Global, line: &[u8], fault: LineFault) -> Option<String> {
+    match fault {
+        LineFault::UnknownWord => String::from_str(alloc, NO_SEND).ok(),
+        fault => fault_message(alloc, line, fault, false),
+    }
 }
 
 /// Tells at the end of a storm what stopped a worker, who waits for whom, and what didn't arrive, where anyone reads the
@@ -121,9 +57,7 @@ pub(crate) fn explain_end<M: Messages>(
     if !messages.are_wanted() {
         return;
     }
-    if sent.is_long {
-        messages.tell(About::Run, TOO_LONG);
-    }
+    tell_if_long(sent.is_long, messages);
     if let Worked::Stopped(_, fault) = worked {
         messages.tell(About::Run, stop_message(fault));
     }
@@ -133,25 +67,14 @@ pub(crate) fn explain_end<M: Messages>(
     if worked == Worked::NotQuiet && net.stands_still() {
         tell_standstill(alloc, &net, count_sent(gathered), messages);
     }
-    tell_leftovers(alloc, &net, messages);
+    tell_leftovers(&leftover_messages(alloc, &net), messages);
     net.retire();
 }
 
 /// Tells who waits for whom in a network that stands still, into which a number of packets were sent.
 fn tell_standstill<M: Messages>(alloc: Global, net: &TracedNet, packets: usize, messages: &mut M) {
     if let Some(message) = standstill_message(alloc, net, Some(packets)) {
-        for line in message.lines() {
-            messages.tell(About::Run, line);
-        }
-    }
-}
-
-/// Tells what didn't arrive.
-fn tell_leftovers<M: Messages>(alloc: Global, net: &TracedNet, messages: &mut M) {
-    if let Some(leftovers) = leftover_messages(alloc, net) {
-        for message in leftovers.as_slice() {
-            messages.tell(About::Run, message.as_str());
-        }
+        tell_lines(About::Run, message.as_str(), messages);
     }
 }
 
