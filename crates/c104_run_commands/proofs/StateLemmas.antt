@@ -1,9 +1,10 @@
 -- The picture of a network after a script: whether the script is refused, and how it ends where nothing is drawn.
 use Rattle.{c104_commands.specs.{Endings.IsSetup, Statuses.halt_status, declared.status.Status.Status}, c104_plan.specs.PlanImage.Image}
 use Rattle.{c104_plan.specs.Plans.Plan, c104_run_commands.specs.StatePictures.{IsRefusedAfter, IsUndrawn, StateEnds, StateRuns}}
-use Rattle.{c104_session.specs.{Shown.{line_outcome, new_session}, declared.session.Session.Session}, c104_stream.specs.ScriptLines.is_long}
-use Rattle.{c104_stream.specs.{Scripts.AnswersScript, declared.halt.Halt.Halt}, std.proofs.Common.{Bool, Err, List, None, Ok, Option}}
-use Rattle.std.proofs.{Common.{Result, Some, ap, inl, inr, refl, subst, sym, ℕ, ◌||◌, ◌∙◌, ◌≡◌, ◌≢◌}, KnownBytes.Keeps-refl}
+use Rattle.{c104_script.specs.Answering.DoesScript, c104_session.specs.Shown.{line_outcome, new_session}}
+use Rattle.{c104_session.specs.declared.session.Session.Session, c104_stream.specs.{ScriptLines.is_long, declared.halt.Halt.Halt}}
+use Rattle.std.proofs.Common.{Bool, Err, List, None, Ok, Option, Result, Some, ap, inl, inr, refl, subst, sym, ℕ, ◌||◌, ◌∙◌, ◌≡◌, ◌≢◌}
+use Rattle.std.proofs.KnownBytes.{Keeps-refl}
 
 pub undrawn : {X : Type 0} (kind : Halt) → ◌≢◌ {A = Result X Halt} (Err kind) (Err Halt.CannotWrite) → IsUndrawn (halt_status kind 1)
 undrawn Halt.CannotRead wrote = refl
@@ -18,10 +19,10 @@ pub state_ends : (description script held now holds : Option (List ℕ)) (plan :
 state_ends description script held now holds plan image ended setup same runs =
     inr (plan, image, setup, subst (λ h. StateRuns plan image script h holds ended) (sym same) runs)
 
--- what the session tells as it is answered is told of the script
-pub refused_after : (plan : Plan) (image : Image) (script left held holds : Option (List ℕ)) (session after : Session) (long refused : Bool) → session ≡ new_session plan image → AnswersScript line_outcome session script left held holds after (Ok long) → refused ≡ (long || after.faulty) → IsRefusedAfter plan image script refused
-refused_after plan image None left held holds session after long refused is answered told = tt
-refused_after plan image (Some script) left held holds session after long refused is answered told =
-    let of_plan : AnswersScript line_outcome (new_session plan image) (Some script) left held holds after (Ok long) =
-    subst (λ s. AnswersScript line_outcome s (Some script) left held holds after (Ok long)) is answered in
+-- what is said of a script that was done
+pub refused_after : (plan : Plan) (image : Image) (script : Option (List ℕ)) (session after : Session) (long refused : Bool) → session ≡ new_session plan image → DoesScript line_outcome session script after long → refused ≡ (long || after.faulty) → IsRefusedAfter plan image script refused
+refused_after plan image None session after long refused is done told = tt
+refused_after plan image (Some script) session after long refused is done told =
+    let of_plan : DoesScript line_outcome (new_session plan image) (Some script) after long =
+    subst (λ s. DoesScript line_outcome s (Some script) after long) is done in
     told ∙ ap (λ l. l || after.faulty) of_plan.0 ∙ ap (λ (s : Session). is_long script || s.faulty) of_plan.1

@@ -1,5 +1,5 @@
 //! The drawing of a description's network as it stands after a script.
-ghost use Rattle.std.specs.Prelude.{ℕ, ◌≡◌, ◌≢◌, ◌||◌, Bool, Err, IfOk, Ok};
+ghost use Rattle.std.specs.Prelude.{ℕ, ◌≡◌, ◌≢◌, Err, IfOk};
 ghost use Rattle.std.specs.Io.KnownBytes.{prepend_known};
 ghost use Rattle.c104_plan.specs.PlanImage.{Fits, Image as TheImage};
 ghost use Rattle.c104_plan.specs.Plans.{Plan as ThePlan};
@@ -12,10 +12,9 @@ use c104_commands::{Setup, Status, read_setup};
 use c104_mistakes::Messages;
 use c104_plan::{Image, Plan};
 use c104_print::state_text;
-use c104_session::{Session, answer_script};
+use c104_session::{Session, do_script};
 use c104_stream::{Ahead, Halt, write_whole};
 use std::alloc::Global;
-use std::io;
 use std::io::{Read, Write};
 
 /// Reads a description, and then reads a script and does its lines on the network, started with the image of its
@@ -111,7 +110,6 @@ fn drawn_after<S: Read, M: Messages>(
 }
 
 /// The same on a network that is before the script's first line.
-#[tactic(auto, using(crate::proofs::StateLemmas::refused_after))]
 fn drawn_session<S: Read, M: Messages>(
     alloc: Global,
     session: Session,
@@ -125,31 +123,26 @@ fn drawn_session<S: Read, M: Messages>(
     ensures unwritten { result ≢ Err halt.CannotWrite }
 {
     let mut session = session;
-    let answered = answer_script(
-        alloc,
-        &mut session,
-        ahead,
-        script,
-        &mut io::sink(),
-        messages,
-    );
-    let drawn = drawn_of(alloc, &session, answered);
+    let drawn = drawn_of(alloc, &mut session, ahead, script, messages);
     session.finish().retire();
     drawn
 }
 
-/// The same of a network on which a script was answered so.
-fn drawn_of(alloc: Global, session: &Session, answered: Result<bool, Halt>) -> Result<Drawn, Halt>
-    ensures refused { IfOk result (λ drawn. (long : Bool) × (answered ≡ Ok long)
-        × (drawn.refused ≡ (long || session.now.faulty))) }
+/// The same of a network that is left as it stands after the script.
+#[tactic(auto, using(crate::proofs::StateLemmas::refused_after))]
+fn drawn_of<S: Read, M: Messages>(
+    alloc: Global,
+    session: &mut Session,
+    ahead: &mut Ahead,
+    script: &mut S,
+    messages: &mut M,
+) -> Result<Drawn, Halt>
+    ensures refused { (plan : ThePlan) (image : TheImage) → session.old ≡ new_session plan image →
+        IfOk result (λ drawn. IsRefusedAfter plan image (prepend_known ahead.old (S.remaining script.old))
+        drawn.refused) }
     ensures unwritten { result ≢ Err halt.CannotWrite }
 {
-    let is_long = match answered {
-        Ok(is_long) => is_long,
-        // What takes all bytes doesn't fail, but no contract says that.
-        Err(Halt::CannotWrite) => return Err(Halt::NoMemory),
-        Err(halt) => return Err(halt),
-    };
+    let is_long = do_script(alloc, session, ahead, script, messages)?;
     let text = state_text(alloc, &session.net, &session.image)?;
     Ok(Drawn {
         text,
