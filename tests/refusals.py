@@ -70,26 +70,22 @@ SAYS = {
                          'prefix; of what answers nothing is said',
     },
     'c104_session': {
+        'RunsParts': 'what is written are the answers to the first lines, each whole, or to all, and no summary; where the '
+                     'writer fails a prefix',
+        'RunsText': 'the same of one text',
         'RunsPlan': 'what is written are the answers to the first lines, each whole, or to all, and no summary; where the '
                     'writer fails a prefix',
         'LeavesLine': 'all but the network is as it was, and there what the line asks is done in part or not at all',
     },
     'c104_storm': {
+        'StormEnds': 'nothing is written, or the line that tells why; or the answers to the first lines, each whole, or to '
+                     'all, and no ending; where the writer fails a prefix',
         'StormsPlan': 'what is written are the answers to the first lines, each whole, or to all, and no ending; where the '
                       'writer fails a prefix',
     },
-    'c104_commands': {
+    'c104_setup': {
         'CommandRuns': 'nothing is written, or the line that tells why; where the writer fails a prefix',
         'RefusalEnds': 'the line that tells why is written, or out of memory nothing; where the writer fails a prefix',
-    },
-    'c104_run_commands': {
-        'RunsParts': 'what is written are the answers to the first lines, each whole, or to all, and no summary; where the '
-                     'writer fails a prefix',
-        'RunsText': 'the same of one text',
-    },
-    'c104_storm_command': {
-        'StormEnds': 'nothing is written, or the line that tells why; or the answers to the first lines, each whole, or to '
-                     'all, and no ending; where the writer fails a prefix',
     },
 }
 # Calls that take a value and give it back where they refuse, by the clause that says so.

@@ -1,33 +1,41 @@
 //! The program: reads a description of a network and a script, and shows what the network answers.
 //!
 //! `main` reads the command line, opens what it names, calls the function of a command and says what that
-//! function's `Status` means: a message on standard error and an exit status. The words of the command line and the texts
-//! of help are those of `c104_words`; commands of two files but `run` are in `pairs`, how files are opened in `opening`, what a path
-//! stands for in `sources`, a script that is typed in `typed`, what people are told beside the answers in `told`; the
-//! functions of the commands are those of `c104_commands`, `c104_run_commands` and `c104_storm_command`.
+//! function's `Status` means: a message on standard error and an exit status. What the words of the command line ask for is
+//! in `command_line`, with the words of pictures, traffic and counts in modules of their own; the texts of help are in `help`.
+//! Commands of two files but `run` are in `pairs`, how files are opened in `opening`, what a path stands for in `sources`, a
+//! script that is typed in `typed`, what people are told beside the answers in `told`. The functions of the commands are
+//! those of `c104_commands`, `c104_session`, `c104_lockup` and `c104_storm`.
 #![tactic(auto)]
 
+mod command_line;
+mod count_words;
+mod help;
 mod opening;
 mod pairs;
+mod picture_words;
 mod sources;
+mod subcommands;
 mod told;
+mod traffic_words;
 mod typed;
 
 pub use c104_commands::{
-    Marks, PatternName, Status, check_command, cycles_command, draw_command, label_command,
+    Marks, PatternName, check_command, cycles_command, draw_command, label_command,
     label_rows_command, traffic_command,
 };
 use c104_describe::read_description;
+pub use c104_lockup::lockup_command;
 use c104_mistakes::{About, Messages};
 use c104_plan::MAX_DESCRIPTION;
-pub use c104_run_commands::{
-    debug_command, draw_over_time_command, draw_state_command, lockup_command, run, run_text,
-    stats_command,
+pub use c104_session::{
+    debug_command, draw_over_time_command, draw_state_command, run, run_text, stats_command,
 };
-pub use c104_storm_command::storm_command;
+pub use c104_setup::Status;
+pub use c104_storm::storm_command;
 use c104_stream::{ReadFault, read_up_to};
-use c104_words::{Order, STANDARD_INPUT, Subcommand, Words, pattern_of};
 use clap::error::ErrorKind;
+use command_line::{Order, STANDARD_INPUT, Words};
 use opening::{HostSource, is_closed, open_both, open_path};
 use pairs::{count_files, draw_files, storm_files, time_files};
 use sources::Watched;
@@ -36,7 +44,9 @@ use std::process::ExitCode;
 use std::sync::Wait;
 use std::thread::Threads;
 use std::{env, io};
+use subcommands::Subcommand;
 use told::{Told, tell_of_words};
+use traffic_words::pattern_of;
 use typed::Typed;
 
 /// The exit status of a wrong command line.

@@ -3,10 +3,10 @@
 //! A path is opened before anything is read, the description's first, so a script that isn't there is told before a
 //! description is refused. `-` twice is one standard input: the description takes all of it, and the script is empty.
 
+use crate::command_line::STANDARD_INPUT;
 use crate::sources::{Source, Watched};
 use crate::told::Told;
-use c104_commands::Status;
-use c104_words::STANDARD_INPUT;
+use c104_setup::Status;
 use std::fs::File;
 use std::io::{Input, Read};
 

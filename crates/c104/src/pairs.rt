@@ -1,13 +1,15 @@
 //! Commands of a description's file and a script's.
 
+use crate::command_line::Order;
+use crate::count_words::CountWords;
 use crate::opening::open_both;
+use crate::picture_words::PictureWords;
 use crate::told::Told;
-use c104_commands::Status;
-use c104_run_commands::{
+use c104_session::{
     Asked, Format, Printing, What, draw_over_time_command, draw_state_command, stats_command,
 };
-use c104_storm_command::storm_command;
-use c104_words::{CountWords, Order, PictureWords};
+use c104_setup::Status;
+use c104_storm::storm_command;
 use std::io;
 use std::sync::Wait;
 use std::thread::Threads;

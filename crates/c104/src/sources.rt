@@ -3,7 +3,7 @@
 //! A file and standard input are one type, so each command is compiled once.
 ghost use Rattle.c104.specs.Sources.{source_remaining};
 
-use c104_words::STANDARD_INPUT;
+use crate::command_line::STANDARD_INPUT;
 use std::io::{Input, Read};
 use std::marker::Model;
 use std::rt::Files;

@@ -1,8 +1,9 @@
 //! What people are told on standard error, and where that is wanted; and pictures that they ask for.
 ghost use Rattle.std.specs.Prelude.{⊤};
 
+use crate::command_line::{EXPLAIN_WORD, Order};
+use crate::subcommands::Subcommand;
 use c104_mistakes::{About, Messages};
-use c104_words::{EXPLAIN_WORD, Order, Subcommand};
 use clap::Error;
 use clap::error::ErrorKind;
 use std::alloc::AllocError;

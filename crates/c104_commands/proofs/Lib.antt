@@ -1,4 +1,4 @@
-pub mod Refusals
+pub mod LabelRefusals
 mod ImageLines
 pub mod CycleLemmas
 mod TrafficEnds

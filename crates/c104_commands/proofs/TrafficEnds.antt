@@ -1,7 +1,7 @@
 -- How `traffic` ends, by what it writes of a network.
-use Rattle.c104_commands.specs.{Endings.CommandEnds, Setups.ComesTo, Statuses.halt_status, Traffic.{FaultEnds, IsScript, PrintsTraffic}}
-use Rattle.c104_commands.specs.{Traffic.ScriptEnds, declared.status.Status.Status}
+use Rattle.c104_commands.specs.Traffic.{FaultEnds, IsScript, PrintsTraffic, ScriptEnds}
 use Rattle.{c104_describe.specs.declared.faults.PlanFault.PlanFault, c104_plan.specs.{PlanImage.Image, Plans.Plan}}
+use Rattle.c104_setup.specs.{Endings.CommandEnds, Setups.ComesTo, Statuses.halt_status, declared.status.Status.Status}
 use Rattle.{c104_stream.specs.declared.halt.Halt.Halt, c104_traffic.specs.Faults.{IsTrafficFault, traffic_fault_text}}
 use Rattle.c104_traffic.specs.{Writing.StopsWriting, declared.{amounts.Traffic.Traffic, faults.TrafficFault.TrafficFault}}
 use Rattle.{c104_traffic.specs.declared.patterns.PatternName.PatternName, std.proofs.Common.{List, Ok, Option, Result, false, refl, true}}

@@ -1,7 +1,7 @@
 -- What `check` prints of a network, and how a command ends that finds its labels refused.
 use Rattle.c104_check.specs.{Checks.IsCause, Routes.{IsAccepted, routes_of}, declared.faults.CheckFault.CheckFault}
-use Rattle.c104_commands.specs.{CheckTexts.{accepted_text, check_fault_text}, declared.status.Status.Status}
-use Rattle.{c104_label.specs.Images.is_labelled_shape, c104_plan.specs.{PlanImage.Image, Plans.Plan}}
+use Rattle.{c104_commands.specs.CheckTexts.{accepted_text, check_fault_text}, c104_label.specs.Images.is_labelled_shape}
+use Rattle.{c104_plan.specs.{PlanImage.Image, Plans.Plan}, c104_setup.specs.declared.status.Status.Status}
 use Rattle.c104_stream.specs.Writing.{AppendsPrefix}
 use Rattle.std.specs.{Io.KnownBytes.{Appends, Keeps}, Prelude.{Bool, List, Option, false, true, ℕ, ◌≡◌, ◌≢◌}}
 

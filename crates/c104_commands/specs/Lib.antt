@@ -1,7 +1,4 @@
-pub mod Statuses
 pub mod CheckTexts
-pub mod Setups
-pub mod Endings
 pub mod Checks
 pub mod ImageTexts
 pub mod Labels

@@ -1,6 +1,6 @@
 -- What `traffic` prints of a network: a script, or why the network can't have the pattern; and how it ends.
 --     PrintsTraffic name target traffic plan image text refused
-use Rattle.{c104_commands.specs.declared.status.Status.Status, c104_plan.specs.{PlanImage.Image, Plans.Plan}}
+use Rattle.{c104_plan.specs.{PlanImage.Image, Plans.Plan}, c104_setup.specs.declared.status.Status.Status}
 use Rattle.{c104_stream.specs.Writing.AppendsPrefix, c104_traffic.specs.{Directions.AreDirected, Faults.IsTrafficFault}}
 use Rattle.c104_traffic.specs.{Faults.traffic_fault_text, Patterns.IsPatternOf, Schedules.AreLabelled, Targets.senders_of}
 use Rattle.c104_traffic.specs.{Texts.traffic_text, declared.{amounts.Traffic.Traffic, faults.TrafficFault.TrafficFault}}

@@ -8,15 +8,14 @@ ghost use Rattle.c104_plan.specs.Plans.{Plan as ThePlan};
 ghost use Rattle.c104_describe.specs.declared.faults.PlanFault.{PlanFault as ThePlanFault};
 ghost use Rattle.c104_label.specs.Images.{is_labelled_shape};
 ghost use Rattle.c104_commands.specs.Checks.{LabelRefusalEnds, PrintsCheck};
-ghost use Rattle.c104_commands.specs.Endings.{CommandEnds, CommandRuns};
-ghost use Rattle.c104_commands.specs.Setups.{ComesTo};
+ghost use Rattle.c104_setup.specs.Endings.{CommandEnds, CommandRuns};
+ghost use Rattle.c104_setup.specs.Setups.{ComesTo};
 
 use crate::advice::{check_advice, cycle_advice};
-use crate::setups::{Setup, read_setup};
-use crate::status::Status;
 use crate::texts::check_fault_text;
 use c104_check::{CheckFault, check};
 use c104_mistakes::{About, Messages};
+use c104_setup::{Setup, Status, read_setup};
 use c104_stream::write_whole;
 use std::alloc::Global;
 use std::io::{Read, Write};
@@ -27,7 +26,7 @@ use std::io::{Read, Write};
 /// Reading ends at 1 MiB, whatever the reader. Each error of the reader or the writer is a fault at once. People are
 /// told why the description or its labels are refused; what is written and how it ends are the same whatever takes the
 /// messages does.
-#[tactic(auto, using(crate::proofs::Refusals::runs_before))]
+#[tactic(auto, using(c104_setup::proofs::Refusals::runs_before))]
 pub fn check_command<D: Read, W: Write, M: Messages>(
     alloc: Global,
     description: &mut D,
@@ -44,7 +43,7 @@ pub fn check_command<D: Read, W: Write, M: Messages>(
 }
 
 /// Checks the labels of a network.
-#[tactic(auto, using(crate::proofs::Refusals::check_label_refused))]
+#[tactic(auto, using(crate::proofs::LabelRefusals::check_label_refused))]
 fn check_setup<W: Write, M: Messages>(
     alloc: Global,
     setup: &Setup,

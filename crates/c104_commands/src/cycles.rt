@@ -7,16 +7,15 @@ ghost use Rattle.c104_plan.specs.Plans.{Plan as ThePlan};
 ghost use Rattle.c104_describe.specs.declared.faults.PlanFault.{PlanFault as ThePlanFault};
 ghost use Rattle.c104_label.specs.Images.{is_labelled_shape};
 ghost use Rattle.c104_commands.specs.Cycles.{PrintsCycles, TellsCycle, TellsCycles};
-ghost use Rattle.c104_commands.specs.Endings.{CommandEnds, CommandRuns};
-ghost use Rattle.c104_commands.specs.Setups.{ComesTo};
+ghost use Rattle.c104_setup.specs.Endings.{CommandEnds, CommandRuns};
+ghost use Rattle.c104_setup.specs.Setups.{ComesTo};
 
 use crate::checks::refuse_labels;
 use crate::cycle_texts::{acyclic_text, cycle_text, edges_text};
-use crate::setups::{Setup, read_setup};
-use crate::status::Status;
 use c104_check::{CheckFault, RanksOrCycle, channel_dependencies, check, find_cycle};
 use c104_mistakes::Messages;
 use c104_plan::{Image, Plan};
+use c104_setup::{Setup, Status, read_setup};
 use c104_stream::write_whole;
 use c104_token::NoMemory;
 use std::alloc::Global;
@@ -29,7 +28,7 @@ use std::io::{Read, Write};
 /// Reading ends at 1 MiB, whatever the reader. Each error of the reader or the writer is a fault at once. People are
 /// told why the description or its labels are refused; what is written and how it ends are the same whatever takes the
 /// messages does.
-#[tactic(auto, using(crate::proofs::Refusals::runs_before))]
+#[tactic(auto, using(c104_setup::proofs::Refusals::runs_before))]
 pub fn cycles_command<D: Read, W: Write, M: Messages>(
     alloc: Global,
     description: &mut D,
@@ -47,7 +46,7 @@ pub fn cycles_command<D: Read, W: Write, M: Messages>(
 }
 
 /// Searches a network, unless its labels are refused.
-#[tactic(auto, using(crate::proofs::Refusals::cycles_label_refused))]
+#[tactic(auto, using(crate::proofs::LabelRefusals::cycles_label_refused))]
 fn search_setup<W: Write, M: Messages>(
     alloc: Global,
     setup: &Setup,

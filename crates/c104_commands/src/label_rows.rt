@@ -6,15 +6,14 @@ ghost use Rattle.c104_describe.specs.PlanPrint.{plan_text};
 ghost use Rattle.c104_plan.specs.Plans.{Plan as ThePlan};
 ghost use Rattle.c104_plan.specs.RowPlans.{row_plan};
 ghost use Rattle.c104_describe.specs.declared.faults.PlanFault.{PlanFault as ThePlanFault};
-ghost use Rattle.c104_commands.specs.Endings.{CommandEnds, CommandRuns};
+ghost use Rattle.c104_setup.specs.Endings.{CommandEnds, CommandRuns};
 ghost use Rattle.c104_commands.specs.LabelRows.{IsReadBack, PrintsRows, unsayable_text};
-ghost use Rattle.c104_commands.specs.Setups.{ComesTo};
+ghost use Rattle.c104_setup.specs.Setups.{ComesTo};
 
-use crate::setups::{Setup, read_setup};
-use crate::status::Status;
 use c104_describe::print_plan;
 use c104_mistakes::{About, Messages};
 use c104_plan::{Image, Plan};
+use c104_setup::{Setup, Status, read_setup};
 use c104_stream::write_whole;
 use c104_token::NoMemory;
 use std::alloc::{AllocError, Global};
@@ -31,7 +30,7 @@ const UNSAYABLE: &str = "these labels can't be said by row lines";
 /// Reading ends at 1 MiB, whatever the reader. Each error of the reader or the writer is a fault at once. People are
 /// told why the description or its labels are refused; what is written and how it ends are the same whatever takes the
 /// messages does.
-#[tactic(auto, using(crate::proofs::Refusals::runs_before))]
+#[tactic(auto, using(c104_setup::proofs::Refusals::runs_before))]
 pub fn label_rows_command<D: Read, W: Write, M: Messages>(
     alloc: Global,
     description: &mut D,

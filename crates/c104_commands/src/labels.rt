@@ -2,14 +2,13 @@
 ghost use Rattle.std.specs.Prelude.{Ok, Result};
 ghost use Rattle.c104_plan.specs.Plans.{Plan as ThePlan};
 ghost use Rattle.c104_describe.specs.declared.faults.PlanFault.{PlanFault as ThePlanFault};
-ghost use Rattle.c104_commands.specs.Endings.{CommandEnds, CommandRuns};
+ghost use Rattle.c104_setup.specs.Endings.{CommandEnds, CommandRuns};
 ghost use Rattle.c104_commands.specs.Labels.{PrintsLabels};
-ghost use Rattle.c104_commands.specs.Setups.{ComesTo};
+ghost use Rattle.c104_setup.specs.Setups.{ComesTo};
 
 use crate::images::image_text;
-use crate::setups::{Setup, read_setup};
-use crate::status::Status;
 use c104_mistakes::Messages;
+use c104_setup::{Setup, Status, read_setup};
 use c104_stream::write_whole;
 use std::alloc::Global;
 use std::io::{Read, Write};
@@ -20,7 +19,7 @@ use std::io::{Read, Write};
 /// Reading ends at 1 MiB, whatever the reader. Each error of the reader or the writer is a fault at once. People are
 /// told why the description or its labels are refused; what is written and how it ends are the same whatever takes the
 /// messages does.
-#[tactic(auto, using(crate::proofs::Refusals::runs_before))]
+#[tactic(auto, using(c104_setup::proofs::Refusals::runs_before))]
 pub fn label_command<D: Read, W: Write, M: Messages>(
     alloc: Global,
     description: &mut D,

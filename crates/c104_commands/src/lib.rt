@@ -2,15 +2,12 @@
 //!
 //! `check_command` checks its labels, and `cycles_command` looks for a cycle of channel dependencies; `label_command` shows
 //! the labels, `label_rows_command` the same by `row` lines, `draw_command` draws the network, and `traffic_command` writes
-//! a script by which its terminals send packets. Each reads no further than the limit of a description, 1 MiB. What every
-//! command begins with, also those of c104_run_commands, which run a script, is `read_setup`.
+//! a script by which its terminals send packets. Each begins as c104_setup says, and reads no further than the limit of a
+//! description, 1 MiB.
 //!
 //! Each of them reports what is faulty or refused to what takes `Messages`; what it writes and answers is the same
 //! whatever that does. Give `Silent` to report to nobody. Of labels people are told what `find_fix` and `find_waiting`
 //! find.
-//!
-//! A `Status` is how a command ended; it keeps which of two readers failed, and stands for the program's
-//! exit status. The texts of the program's messages are in `c104`, which has `main`.
 #![tactic(auto)]
 
 mod advice;
@@ -26,8 +23,6 @@ mod pictures;
 mod range_changes;
 mod row_changes;
 mod sameness;
-mod setups;
-mod status;
 mod texts;
 mod traffic;
 mod trials;
@@ -45,8 +40,6 @@ pub use label_rows::{label_rows_command, rows_text};
 pub use labels::label_command;
 pub use pictures::Marks;
 pub use row_changes::RowFix;
-pub use setups::{Setup, SetupFault, label_fault_text, read_setup, refuse, set_up};
-pub use status::Status;
 pub use texts::check_fault_text;
 pub use traffic::traffic_command;
 pub use waiting::{Waiting, find_waiting};

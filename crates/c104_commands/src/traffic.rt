@@ -8,14 +8,13 @@ ghost use Rattle.c104_traffic.specs.Directions.{AreDirected};
 ghost use Rattle.c104_traffic.specs.Packets.{IsTraffic};
 ghost use Rattle.c104_traffic.specs.Schedules.{IsSchedule};
 ghost use Rattle.c104_traffic.specs.Texts.{traffic_text};
-ghost use Rattle.c104_commands.specs.Endings.{CommandEnds, CommandRuns};
-ghost use Rattle.c104_commands.specs.Setups.{ComesTo};
+ghost use Rattle.c104_setup.specs.Endings.{CommandEnds, CommandRuns};
+ghost use Rattle.c104_setup.specs.Setups.{ComesTo};
 ghost use Rattle.c104_commands.specs.Traffic.{FaultEnds, PrintsTraffic, ScriptEnds};
 
-use crate::setups::{Setup, read_setup};
-use crate::status::Status;
 use c104_mistakes::{About, Messages};
 use c104_plan::Plan;
+use c104_setup::{Setup, Status, read_setup};
 use c104_stream::write_whole;
 use c104_traffic::{
     PatternName, Schedule, Traffic, TrafficFault, find_schedule, traffic_fault_text, write_traffic,
@@ -30,7 +29,7 @@ use std::io::{Read, Write};
 /// Reading ends at 1 MiB, whatever the reader. Each error of the reader or the writer is a fault at once. People are told
 /// why the description, its labels or the pattern are refused; what is written and how it ends are the same whatever takes
 /// the messages does.
-#[tactic(auto, using(crate::proofs::Refusals::runs_before))]
+#[tactic(auto, using(c104_setup::proofs::Refusals::runs_before))]
 pub fn traffic_command<D: Read, W: Write, M: Messages>(
     alloc: Global,
     name: PatternName,

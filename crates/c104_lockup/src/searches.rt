@@ -15,14 +15,14 @@ use std::alloc::Global;
 
 /// How many attempts there are: one by which all packets are sent at once, one for each cycle by which they come together,
 /// and others event by event.
-pub const MOST_ATTEMPTS: usize = 50;
+pub(crate) const MOST_ATTEMPTS: usize = 50;
 
 /// The first attempt event by event.
 const FIRST_PLACING: usize = 1 + MOST_RINGS;
 
 /// A network, cycles of its channel dependencies, and which headers may wait for ever at which inputs.
 #[derive(Drop)]
-pub struct Search<'a> {
+pub(crate) struct Search<'a> {
     ways: Ways<'a>,
     rings: Vec<Vec<Step>>,
     waits: Vec<HeaderMarks>,
@@ -33,7 +33,7 @@ pub struct Search<'a> {
 impl<'a> Search<'a> {
     /// The search in the network of a plan with an image, which has these dependencies, sorted by their inputs, and a
     /// cycle of them. The only error is out of memory.
-    pub fn new(
+    pub(crate) fn new(
         alloc: Global,
         plan: &'a Plan,
         image: &'a Image,
@@ -53,7 +53,7 @@ impl<'a> Search<'a> {
 
     /// The script of an attempt, by its number from 0 up to `MOST_ATTEMPTS`; None where there is none of this number. Each
     /// call for a number gives the same. The only error is out of memory.
-    pub fn script(&self, alloc: Global, number: usize) -> Result<Option<String>, NoMemory> {
+    pub(crate) fn script(&self, alloc: Global, number: usize) -> Result<Option<String>, NoMemory> {
         match number.checked_sub(FIRST_PLACING) {
             Some(number) => self.placing(alloc, number),
             None => self.sending(alloc, number),

@@ -24,3 +24,9 @@ pub mod WorkGrowth
 pub mod QuietEvents
 pub mod FallingWork
 pub mod DeliveredLaw
+mod RunRefusals
+mod ReadFaults
+pub mod PrintedRunsLaw
+mod CountStatuses
+mod StateLemmas
+mod OverTimeLemmas

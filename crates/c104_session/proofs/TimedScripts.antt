@@ -10,4 +10,4 @@ module _ (driven after : Driven Timeline) (long : Bool) (t : Timeline) (refused 
   script_timed None done timed = tt
   script_timed (Some script) done timed =
       subst (λ (r : Driven Timeline). IsTimedOn r.session (is_long script) r.driver t refused) done.1
-          (subst (λ l. IsTimedOn after.session l after.driver t refused) done.0 timed)
+      (subst (λ l. IsTimedOn after.session l after.driver t refused) done.0 timed)

@@ -13,3 +13,8 @@ pub mod TimedRuns
 pub mod AskedPictures
 pub mod PrintedPackets
 pub mod DeliveredRuns
+pub mod RunCommands
+pub mod PrintedRuns
+pub mod Counts
+pub mod StatePictures
+pub mod OverTime

@@ -1,11 +1,17 @@
-//! Scripts that are answered by a network.
+//! Scripts that are answered by a network, and the commands that run one.
 //!
 //! A `Session` is a network in the midst of a script: it keeps the `TracedNet`, what was loaded there, and whether a
 //! line was faulty so far. It can't be dropped, and neither can what `finish` gives at its end, an `Ended` with the
 //! `EndedNet` that tells what arrived.
 //! `answer_script` answers the lines of a script as they are read, `summary_texts` tells what arrived
-//! at each terminal, and `run_plan` does both on the network of a plan. `count_plan` counts such a run, and `time_plan` lists
-//! what crosses the wires in it, round by round.
+//! at each terminal, and `run_plan` does both on the network of a plan.
+//!
+//! The commands are functions over readers and a writer: `run` takes a description and a script from two readers,
+//! `debug_command` a script line by line, `run_text` both from one text; `stats_command` counts what a run does,
+//! `draw_state_command` draws the network as it stands after a script, and `draw_over_time_command` the script's run over its
+//! rounds. Each reads no further than the limits of a description, 1 MiB, and of a script, 16 MiB, and reports what is
+//! faulty, refused, not ready or didn't arrive to what takes `Messages`; what it writes and answers is the same whatever
+//! that does. Give `Silent` to report to nobody. A `Status` (c104_setup) is how a command ended.
 //!
 //! Lines are answered as they are read, and all answers are written before the reader is asked for
 //! more. A faulty line changes nothing but that there was one; running out of memory ends the script,
@@ -20,16 +26,20 @@ mod answering;
 mod asked_pictures;
 mod counted_runs;
 mod counting;
+mod counts;
 mod driven;
 mod driver;
 mod ended;
 mod explaining;
 mod keepers;
+mod over_time;
 mod probing;
 mod resets;
+mod run_commands;
 mod runs;
 mod session;
 mod starting;
+mod states;
 mod summary;
 mod tally;
 mod telling;
@@ -38,9 +48,15 @@ mod timing;
 mod tools;
 
 pub use answering::{answer_script, do_script};
+pub use c104_print::{Asked, Format};
+pub use c104_stats::What;
 pub use counted_runs::{CountedRun, count_plan, is_locked};
+pub use counts::{Printing, stats_command};
 pub use ended::EndedNet;
+pub use over_time::draw_over_time_command;
+pub use run_commands::{debug_command, run, run_text};
 pub use runs::run_plan;
 pub use session::{Ended, Session};
+pub use states::draw_state_command;
 pub use summary::summary_texts;
 pub use timed_runs::{TimedRun, time_plan};

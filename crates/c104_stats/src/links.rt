@@ -6,8 +6,6 @@ ghost use Rattle.std.specs.Prelude.{◌≡◌, false, true};
 ghost use Rattle.c104_stats.specs.Links.{busy_after, holder_after, is_in, link_after, link_cut, link_idle};
 ghost use Rattle.c104_stats.specs.Links.{link_level, link_span, longest_at, new_link, span};
 
-use crate::numbers::{larger, one_more, one_round_more};
-
 /// A packet that holds a link: its first token has crossed there, and its terminator hasn't.
 #[derive(Clone, Copy)]
 pub struct Holder {
@@ -75,10 +73,10 @@ impl LinkRow {
         ensures { result ≡ link_after self (record { round = round; ends = true }) }
     {
         LinkRow {
-            tokens: one_more(self.tokens),
+            tokens: self.tokens.saturating_add(1),
             busy: self.busy_after(round),
-            packets: one_more(self.packets),
-            longest: larger(self.longest, self.span(round)),
+            packets: self.packets.saturating_add(1),
+            longest: self.longest.max(self.span(round)),
             waiting: self.waiting,
             last: Some(round),
             holder: None,
@@ -90,7 +88,7 @@ impl LinkRow {
         ensures { result ≡ link_after self (record { round = round; ends = false }) }
     {
         LinkRow {
-            tokens: one_more(self.tokens),
+            tokens: self.tokens.saturating_add(1),
             busy: self.busy_after(round),
             packets: self.packets,
             longest: self.longest,
@@ -114,7 +112,7 @@ impl LinkRow {
         ensures { result ≡ longest_at self round }
     {
         match self.holder {
-            Some(holder) => larger(self.longest, holder.span(round)),
+            Some(holder) => self.longest.max(holder.span(round)),
             None => self.longest,
         }
     }
@@ -135,7 +133,7 @@ impl LinkRow {
         ensures { result ≡ link_level level self }
     {
         LinkRow {
-            waiting: larger(self.waiting, level),
+            waiting: self.waiting.max(level),
             ..self
         }
     }
@@ -158,7 +156,7 @@ impl LinkRow {
         if self.is_in(round) || round == 0 {
             self.busy
         } else {
-            one_more(self.busy)
+            self.busy.saturating_add(1)
         }
     }
 
@@ -171,7 +169,7 @@ impl LinkRow {
             Some(holder) if again => holder,
             Some(holder) => Holder {
                 since: holder.since,
-                busy: one_round_more(holder.busy),
+                busy: holder.busy.saturating_add(1),
             },
             None => Holder {
                 since: round,

@@ -7,7 +7,7 @@ ghost use Rattle.c104_stats.specs.Links.{first_of};
 ghost use Rattle.c104_stats.specs.Packets.{all_but_last, arrived_packet, change_at, crossed_packet, inside_packet, latency};
 ghost use Rattle.c104_stats.specs.Packets.{left_packet, sent_packet};
 
-use crate::numbers::{few_more, one_round_more};
+use crate::numbers::add_saturating;
 use c104_token::NoMemory;
 use std::alloc::Global;
 use std::marker::Model;
@@ -71,8 +71,8 @@ impl PacketRow {
         ensures { result ≡ crossed_packet idle self }
     {
         PacketRow {
-            wires: one_round_more(self.wires),
-            idle: few_more(self.idle, idle),
+            wires: self.wires.saturating_add(1),
+            idle: add_saturating(self.idle, idle),
             ..self
         }
     }

@@ -6,8 +6,6 @@
 ghost use Rattle.std.specs.Prelude.{◌≡◌};
 ghost use Rattle.c104_stats.specs.Rounds.{arrived_round, ended_round, later_round, moved_round, new_round, no_levels};
 
-use crate::numbers::{one_more, rounds_more};
-
 /// What there is in a network.
 #[derive(Clone, Copy)]
 pub struct Levels {
@@ -64,7 +62,7 @@ impl RoundRow {
         ensures { result ≡ moved_round self }
     {
         RoundRow {
-            moved: one_more(self.moved),
+            moved: self.moved.saturating_add(1),
             ..self
         }
     }
@@ -74,7 +72,7 @@ impl RoundRow {
         ensures { result ≡ arrived_round self }
     {
         RoundRow {
-            arrived: one_more(self.arrived),
+            arrived: self.arrived.saturating_add(1),
             ..self
         }
     }
@@ -84,7 +82,7 @@ impl RoundRow {
         ensures { result ≡ later_round times self }
     {
         RoundRow {
-            round: rounds_more(self.round, times),
+            round: self.round.saturating_add(times),
             ..self
         }
     }

@@ -19,14 +19,14 @@ impl Levels {
     fn with_link(self, view: &LinkView) -> Self
         ensures { result ≡ levels_with_link view.now self }
     {
-        let buffered = added(
-            added(self.inside, view.input_level as u64),
-            view.output_level as u64,
-        );
+        let buffered = self
+            .inside
+            .saturating_add(view.input_level as u64)
+            .saturating_add(view.output_level as u64);
         Levels {
             waiting: self.waiting,
-            inside: added(buffered, header_tokens(&view.phase)),
-            held: added(self.held, outputs_held(&view.phase)),
+            inside: buffered.saturating_add(header_tokens(&view.phase)),
+            held: self.held.saturating_add(outputs_held(&view.phase)),
         }
     }
 
@@ -35,8 +35,8 @@ impl Levels {
         ensures { result ≡ levels_with_terminal view self }
     {
         Levels {
-            waiting: added(self.waiting, view.waiting as u64),
-            inside: added(self.inside, view.undrained as u64),
+            waiting: self.waiting.saturating_add(view.waiting as u64),
+            inside: self.inside.saturating_add(view.undrained as u64),
             held: self.held,
         }
     }

@@ -12,7 +12,7 @@ ghost use Rattle.c104_stats.specs.Links.{new_link};
 ghost use Rattle.c104_stats.specs.Rounds.{new_round, no_levels};
 
 use crate::links::{Crossing, LinkRow};
-use crate::numbers::{in_few, one_round_more};
+use crate::numbers::saturate_u32;
 use crate::packets::{Arrival, PacketRow, Sender};
 use crate::rounds::{Levels, RoundRow};
 use crate::steps::{
@@ -138,7 +138,7 @@ impl Stats {
         ensures sent { OnOk result (self.new ≡ counts_sent self.old terminal bytes) }
         ensures kept { OnErr result (self.new ≡ self.old) }
     {
-        let packet = PacketRow::new(in_few(bytes), self.current.round);
+        let packet = PacketRow::new(saturate_u32(bytes), self.current.round);
         send_from(&mut self.senders, terminal, packet)
     }
 
@@ -199,7 +199,7 @@ impl Stats {
         ensures { self.new ≡ counts_arrived self.old terminal ended }
     {
         let arrival = Arrival {
-            terminal: in_few(terminal as u64),
+            terminal: saturate_u32(terminal as u64),
             round: self.current.round,
         };
         arrive_packet(&mut self.senders, arrival, ended);
@@ -221,7 +221,7 @@ impl Stats {
     {
         let current = self.current;
         keep_round(keeps_rounds(self.what), &mut self.rounds, current)?;
-        self.current = RoundRow::new(one_round_more(current.round), current.levels);
+        self.current = RoundRow::new(current.round.saturating_add(1), current.levels);
         Ok(())
     }
 

@@ -6,7 +6,6 @@ ghost use Rattle.c104_stats.specs.Summaries.{one_ending, ranked, sent_count, tok
 
 use crate::endings::Ending;
 use crate::links::LinkRow;
-use crate::numbers::{added, one_more};
 use crate::packets::PacketRow;
 use crate::stats::Stats;
 use crate::tops::{Top, top_of};
@@ -87,7 +86,9 @@ impl Endings {
     pub fn sent(self) -> u64
         ensures { result ≡ sent_count self }
     {
-        added(added(self.arrived, self.unfinished), self.lost)
+        self.arrived
+            .saturating_add(self.unfinished)
+            .saturating_add(self.lost)
     }
 
     /// The same with one more, of this end.
@@ -96,15 +97,15 @@ impl Endings {
     {
         match ending {
             Ending::Arrived => Endings {
-                arrived: one_more(self.arrived),
+                arrived: self.arrived.saturating_add(1),
                 ..self
             },
             Ending::Unfinished => Endings {
-                unfinished: one_more(self.unfinished),
+                unfinished: self.unfinished.saturating_add(1),
                 ..self
             },
             Ending::Short | Ending::Sunk => Endings {
-                lost: one_more(self.lost),
+                lost: self.lost.saturating_add(1),
                 ..self
             },
         }
@@ -216,7 +217,7 @@ fn add_tokens(others: u64, links: &[LinkRow]) -> u64
 {
     let mut tokens = others;
     for link in links {
-        tokens = added(tokens, link.tokens);
+        tokens = tokens.saturating_add(link.tokens);
     }
     tokens
 }

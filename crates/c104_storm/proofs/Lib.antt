@@ -3,3 +3,4 @@ mod EndingTexts
 mod SomeSeats
 mod SortedArrivals
 mod StormEnds
+mod StormStatuses

@@ -1,4 +1,5 @@
 pub mod Arrivals
+pub mod Commands
 pub mod Endings
 pub mod Sends
 pub mod Storms

@@ -3,12 +3,14 @@
 //! A storm begins as a run does, on the network of a plan with its labels. The `send` lines of a script are answered as
 //! they are read (`answer_sends`); then the network's nodes are put behind locks, and workers do turns until all is quiet
 //! (`work`). When the threads have ended, the audit judges what they left (`ending_of`), and of the run that it finds the
-//! packets that arrived are told, sorted (`add_sorted`). `storm_plan` does all of it.
+//! packets that arrived are told, sorted (`add_sorted`). `storm_plan` does all of it, and `storm_command` on the network of a
+//! description, as a command of the program.
 //!
 //! What people are told beside it needs a network whose tokens tell where they came from: it is made only where someone
 //! reads the messages, and does once more what the workers have done (`replay`).
 #![tactic(auto)]
 
+mod commands;
 mod end_texts;
 mod endings;
 mod packets;
@@ -18,4 +20,5 @@ mod storms;
 mod telling;
 mod working;
 
+pub use commands::storm_command;
 pub use storms::{MAX_WORKERS, storm_plan};

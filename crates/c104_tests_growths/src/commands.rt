@@ -6,14 +6,15 @@ use crate::growths::{Growing, Refusal, Sharing, is_right, is_told};
 use crate::outcomes::Outcome;
 use crate::written::{ANSWERS, Page, SCRIPT, SENDS, STORM_END, SUMMARY, TWO_ANSWERS};
 use c104_commands::{
-    Marks, Status, check_command, cycles_command, draw_command, label_command, label_rows_command,
+    Marks, check_command, cycles_command, draw_command, label_command, label_rows_command,
 };
+use c104_lockup::lockup_command;
 use c104_mistakes::Silent;
-use c104_run_commands::{
-    Asked, Format, debug_command, draw_over_time_command, draw_state_command, lockup_command, run,
-    run_text,
+use c104_session::{
+    Asked, Format, debug_command, draw_over_time_command, draw_state_command, run, run_text,
 };
-use c104_storm_command::storm_command;
+use c104_setup::Status;
+use c104_storm::storm_command;
 use std::alloc::Global;
 use std::sync::Wait;
 use std::thread::Threads;

@@ -5,11 +5,10 @@ use crate::growths::{Growing, Refusal, is_right};
 use crate::labels::REFUSED;
 use crate::outcomes::Outcome;
 use c104_check::check;
-use c104_commands::{
-    check_advice, check_fault_text, cycle_advice, image_text, label_fault_text, rows_text,
-};
+use c104_commands::{check_advice, check_fault_text, cycle_advice, image_text, rows_text};
 use c104_label::{LabelFault, image_of};
 use c104_plan::Plan;
+use c104_setup::label_fault_text;
 use std::alloc::Global;
 
 /// A text of the labels of a plan, which are accepted.

@@ -1,13 +1,13 @@
 //! What a call came to that may be refused memory, and how each fault says that it was.
 use c104_audit::AuditFault;
 use c104_check::CheckFault;
-use c104_commands::Status;
 use c104_describe::{PlanFault, PlanFaultKind};
 use c104_event::EventFault;
 use c104_label::LabelFault;
 use c104_net::PlaceFault;
 use c104_plan::ImageFault;
 use c104_script::LineFault;
+use c104_setup::Status;
 use c104_stream::{Halt, ReadFault};
 use c104_token::{NoMemory, TokenFault};
 use c104_tools::LoadFault;

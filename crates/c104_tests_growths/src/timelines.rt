@@ -7,7 +7,7 @@ use crate::traced::net_after;
 use c104_net::{Origin, TracedNet};
 use c104_plan::Port;
 use c104_print::{TimedText, over_time_text};
-use c104_run_commands::{Asked, Format};
+use c104_session::{Asked, Format};
 use c104_timeline::{Period, Timeline, bars_at, packets_of, rows_of};
 use c104_token::NoMemory;
 use std::alloc::Global;

@@ -8,9 +8,10 @@ use crate::ground::{Ground, Suite, is_right_on};
 use crate::growths::{Growing, Refusal, is_right};
 use crate::outcomes::Outcome;
 use crate::written::Page;
-use c104_commands::{Status, traffic_command};
+use c104_commands::traffic_command;
 use c104_mistakes::Silent;
 use c104_plan::{Image, Plan};
+use c104_setup::Status;
 use c104_stream::Halt;
 use c104_traffic::{
     PatternName, Schedule, Traffic, TrafficFault, find_schedule, traffic_fault_text, write_traffic,

@@ -1,10 +1,10 @@
 -- What the test of the theorem about packets says of a text that a run printed.
 --     IsCalm asked      what was read of a line is no control command, and asks the debugger for nothing
 --     IsPrinted description script text      the premises of the theorem hold, so the text is what it says
-use Rattle.{c104_commands.specs.Setups.ComesTo, c104_describe.specs.PlanText.read_description, c104_event.specs.declared.events.Event.Event}
-use Rattle.{c104_plan.specs.{PlanImage.Image, Plans.Plan}, c104_script.specs.{Script.read_script_line, declared.faults.LineFault.LineFault}}
+use Rattle.{c104_describe.specs.PlanText.read_description, c104_event.specs.declared.events.Event.Event, c104_plan.specs.PlanImage.Image}
+use Rattle.{c104_plan.specs.Plans.Plan, c104_script.specs.{Script.read_script_line, declared.faults.LineFault.LineFault}}
 use Rattle.{c104_script.specs.declared.places.Request.Request, c104_session.specs.PrintedPackets.{IsUnchangedRun, PrintsPackets}}
-use Rattle.c104_session.specs.Shown.{run_output}
+use Rattle.{c104_session.specs.Shown.run_output, c104_setup.specs.Setups.ComesTo}
 use Rattle.std.specs.Prelude.{All, List, Ok, Option, Result, Some, ℕ, ◌≡◌}
 
 abbrev pub IsCalm : Result (Option Request) LineFault → Type 0

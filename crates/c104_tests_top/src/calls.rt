@@ -1,8 +1,8 @@
 //! The calls that tests make of the commands, with nothing promised: the prover would compute what is written of
 //! literal texts.
-use c104_commands::Status;
 use c104_mistakes::Silent;
-use c104_run_commands::run;
+use c104_session::run;
+use c104_setup::Status;
 use std::alloc::Global;
 use std::io::{Read, Write};
 

@@ -1,5 +1,5 @@
 use crate::calls::run_parts;
-use c104_commands::Status;
+use c104_setup::Status;
 use std::alloc::Global;
 use std::io;
 use std::io::{ErrorKind, Read, Write};

@@ -1,7 +1,7 @@
 //! A run whose readers or whose writer fail, at their first read or write, at their second, and so on until none fails.
 use crate::calls::run_parts;
 use crate::commands::{ANSWERS, DESCRIPTION, SCRIPT, SUMMARY};
-use c104_commands::Status;
+use c104_setup::Status;
 use std::alloc::Global;
 use std::io;
 use std::io::{ErrorKind, Read, Write};

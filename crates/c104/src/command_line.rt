@@ -1,0 +1,306 @@
+//! The command line: its words, and what they ask for.
+//!
+//! No contract speaks of the command line: the cases do. A word that isn't UTF-8 is wrong usage, since paths are text
+//! here. Out of memory in `clap` ends the program with status 4, though `clap` counts it among the errors of usage.
+ghost use Rattle.std.specs.Prelude.{◌≤◌};
+
+use crate::count_words::{CountWords, with_counts};
+use crate::help;
+use crate::picture_words::{PictureWords, with_pictures};
+use crate::subcommands::{Row, SUBCOMMANDS, Subcommand, Takes};
+use crate::traffic_words::{TrafficWords, with_traffic};
+use c104_storm::MAX_WORKERS;
+use clap::{Arg, ArgAction, ArgMatches, Command, Error, value_parser};
+use std::alloc::{AllocError, Global};
+
+/// The path of standard input.
+pub const STANDARD_INPUT: &str = "-";
+
+const VERSION: &str = "0.5.0";
+
+const ABOUT: &str = "Emulates networks of IMS C104 packet routing switches, event by event";
+
+/// What the command line asks for, and whether people are to be told of what goes wrong wherever standard error
+/// goes.
+#[derive(Clone, Copy)]
+pub struct Words<'a> {
+    /// What is asked for.
+    pub order: Order<'a>,
+    /// Whether `--explain` is said.
+    pub explain: bool,
+}
+
+impl<'a> Words<'a> {
+    /// What the words ask for, of which the first is the program's name. The error is a wrong usage,
+    /// a text of help or of the version that was asked for, or out of memory.
+    pub fn read(alloc: Global, words: &'a [String]) -> Result<Self, Error> {
+        let matches = command_line(alloc)?.try_get_matches_from(words)?;
+        Ok(Words {
+            order: Order::of_matches(&matches),
+            explain: matches.get_flag(EXPLAIN),
+        })
+    }
+}
+
+/// What the command line asks for. A path is a file's, or `-` for standard input.
+#[derive(Clone, Copy)]
+pub struct Order<'a> {
+    /// What is to be done.
+    pub subcommand: Subcommand,
+    /// The description's path: `-` where none is said.
+    pub description: &'a str,
+    /// The script's path, if one is said. A run without it is one of both in one text.
+    pub script: Option<&'a str>,
+    /// What a picture shows.
+    pub picture: PictureWords,
+    /// Whether all dependencies are listed.
+    pub all: bool,
+    /// Whether a script is looked for that locks the network up.
+    pub lockup: bool,
+    /// Whether labels are shown as a description by `row` lines.
+    pub rows: bool,
+    /// How many workers a storm is to have, 1 to 64, if that is said.
+    pub workers: Option<u8>,
+    /// The traffic of which a script is to be printed.
+    pub traffic: TrafficWords<'a>,
+    /// Which counts of a run are to be printed, and how.
+    pub counts: CountWords<'a>,
+}
+
+impl<'a> Order<'a> {
+    /// What is asked for where no word says anything: a run of one text from standard input.
+    pub const PLAIN: Order<'static> = Order {
+        subcommand: Subcommand::Run,
+        description: STANDARD_INPUT,
+        script: None,
+        picture: PictureWords::NONE,
+        all: false,
+        lockup: false,
+        rows: false,
+        workers: None,
+        traffic: TrafficWords::NONE,
+        counts: CountWords::NONE,
+    };
+
+    /// The order of words that were matched.
+    fn of_matches(matches: &ArgMatches<'a>) -> Self {
+        let Some((name, given)) = matches.subcommand() else {
+            return Order::PLAIN;
+        };
+        let Some(row) = row_of(name) else {
+            return Order::PLAIN;
+        };
+        Order {
+            subcommand: row.subcommand,
+            description: given.get_str(DESCRIPTION).unwrap_or(STANDARD_INPUT),
+            script: given.get_str(SCRIPT),
+            picture: PictureWords::of_matches(given),
+            all: given.get_flag(ALL),
+            lockup: given.get_flag(LOCKUP),
+            rows: given.get_flag(ROWS),
+            workers: given.get_one(WORKERS),
+            traffic: TrafficWords::of_matches(given),
+            counts: CountWords::of_matches(given),
+        }
+    }
+
+    /// The path of what was read, of which the number is that of a `Status`: 0 for the description, and
+    /// else the script.
+    pub fn path(self, number: u8) -> &'a str {
+        match self.script {
+            _ if number == 0 => self.description,
+            Some(script) => script,
+            None => STANDARD_INPUT,
+        }
+    }
+
+    /// How many workers a storm has, 1 to 64.
+    pub fn worker_count(self) -> u8
+        ensures { (1 ≤ result) × (result ≤ MAX_WORKERS) }
+    {
+        match self.workers {
+            Some(count) if (1..=MAX_WORKERS).contains(&count) => count,
+            _ => DEFAULT_WORKERS,
+        }
+    }
+}
+
+/// The row of a subcommand of this name.
+fn row_of(name: &str) -> Option<Row> {
+    for row in SUBCOMMANDS {
+        if row.name == name {
+            return Some(row);
+        }
+    }
+    None
+}
+
+/// The option that asks for messages.
+const EXPLAIN: &str = "explain";
+
+/// The same, as a word of the command line.
+pub const EXPLAIN_WORD: &str = "--explain";
+
+const EXPLAIN_HELP: &str = "Explain on standard error what is wrong, and what wasn't delivered;
+the default on a terminal";
+
+/// The names of arguments, as help shows them.
+const DESCRIPTION: &str = "DESC";
+
+/// The same of a script, which other words are bound to.
+pub const SCRIPT: &str = "SCRIPT";
+
+/// The option of all dependencies.
+const ALL: &str = "all";
+
+const ALL_HELP: &str = "List each dependency first";
+
+/// The option of a script that locks the network up.
+const LOCKUP: &str = "script";
+
+const LOCKUP_HELP: &str = "Print a script that locks the network up, if one is found";
+
+/// The option of labels by `row` lines.
+const ROWS: &str = "rows";
+
+const ROWS_HELP: &str = "Print a description with the labels as row lines";
+
+/// The option of a storm's workers.
+const WORKERS: &str = "workers";
+
+const WORKERS_HELP: &str = "How many threads carry the packets, 1 to 64, by default 2";
+
+const DEFAULT_WORKERS: u8 = 2;
+
+const DESCRIPTION_HELP: &str = "The description: a file, or - for standard input";
+
+/// All that the program takes. The only error is out of memory.
+fn command_line<'a>(alloc: Global) -> Result<Command<'a>, AllocError> {
+    let subcommands = subcommands(alloc)?;
+    program(alloc)?.subcommands(subcommands)
+}
+
+/// The program, without its subcommands.
+fn program<'a>(alloc: Global) -> Result<Command<'a>, AllocError> {
+    command(alloc, "c104", ABOUT, help::PROGRAM)
+        .version(VERSION)
+        .bin_name("c104")?
+        .arg(explain_option(alloc)?)
+}
+
+/// The subcommands, as help lists them.
+fn subcommands<'a>(alloc: Global) -> Result<Vec<Command<'a>>, AllocError> {
+    let mut commands = Vec::new(alloc);
+    for row in SUBCOMMANDS {
+        add(&mut commands, subcommand(alloc, row))?;
+    }
+    Ok(commands)
+}
+
+/// A command joins others, if there was memory for it.
+fn add<'a>(
+    commands: &mut Vec<Command<'a>>,
+    command: Result<Command<'a>, AllocError>,
+) -> Result<(), AllocError> {
+    commands.push(command?)?;
+    Ok(())
+}
+
+/// A subcommand with its words.
+fn subcommand<'a>(alloc: Global, row: Row) -> Result<Command<'a>, AllocError> {
+    let named = command(alloc, row.name, row.about, row.teaching);
+    match row.takes {
+        Takes::Files => with_files(alloc, named),
+        Takes::Workers => with_workers(alloc, named),
+        Takes::Counts => with_counts(alloc, with_both(alloc, named)?),
+        Takes::Description => with_description(alloc, named),
+        Takes::All => with_cycles(alloc, with_description(alloc, named)?),
+        Takes::Rows => with_description(alloc, named)?.arg(flag(alloc, ROWS, ROWS_HELP)),
+        Takes::Marks => with_pictures(alloc, with_description(alloc, named)?),
+        Takes::Traffic => with_traffic(alloc, with_description(alloc, named)?),
+    }
+}
+
+/// `[DESC SCRIPT]`: neither of the two stands without the other.
+fn with_files<'a>(alloc: Global, named: Command<'a>) -> Result<Command<'a>, AllocError> {
+    let description = description_argument(alloc).requires_arg(SCRIPT)?;
+    named.arg(description)?.arg(script_argument(alloc))
+}
+
+/// `[--all | --script]`, behind a description.
+fn with_cycles<'a>(alloc: Global, named: Command<'a>) -> Result<Command<'a>, AllocError> {
+    let lockup = flag(alloc, LOCKUP, LOCKUP_HELP).conflicts_with(ALL)?;
+    named.arg(flag(alloc, ALL, ALL_HELP))?.arg(lockup)
+}
+
+/// `DESC SCRIPT [--workers N]`.
+fn with_workers<'a>(alloc: Global, named: Command<'a>) -> Result<Command<'a>, AllocError> {
+    with_both(alloc, named)?.arg(workers_option(alloc))
+}
+
+/// `DESC SCRIPT`.
+fn with_both<'a>(alloc: Global, named: Command<'a>) -> Result<Command<'a>, AllocError> {
+    with_description(alloc, named)?.arg(script_argument(alloc).required(true))
+}
+
+/// `DESC`.
+fn with_description<'a>(alloc: Global, named: Command<'a>) -> Result<Command<'a>, AllocError> {
+    named.arg(description_argument(alloc).required(true))
+}
+
+/// An option without a value.
+pub fn flag<'a>(alloc: Global, name: &'a str, help: &'a str) -> Arg<'a> {
+    Arg::new(alloc, name)
+        .long(name)
+        .help(help)
+        .action(ArgAction::SetTrue)
+}
+
+/// An option with a value, which help shows so.
+pub fn valued<'a>(alloc: Global, name: &'a str, value: &'a str, help: &'a str) -> Arg<'a> {
+    Arg::new(alloc, name)
+        .long(name)
+        .value_name(value)
+        .help(help)
+}
+
+/// An argument joins others, if there was memory for it.
+// Lists are made of what a command takes, since a function is dear to prove that holds a command over what can fail.
+pub fn add_argument<'a>(
+    arguments: &mut Vec<Arg<'a>>,
+    argument: Result<Arg<'a>, AllocError>,
+) -> Result<(), AllocError> {
+    arguments.push(argument?)?;
+    Ok(())
+}
+
+/// A command, and what help says of it before and after its arguments.
+fn command<'a>(alloc: Global, name: &'a str, about: &'a str, teaching: &'a str) -> Command<'a> {
+    Command::new(alloc, name).about(about).after_help(teaching)
+}
+
+/// `--explain`, before or after any command, once or more often.
+fn explain_option<'a>(alloc: Global) -> Result<Arg<'a>, AllocError> {
+    flag(alloc, EXPLAIN, EXPLAIN_HELP)
+        .global(true)
+        .overrides_with(EXPLAIN)
+}
+
+/// `DESC`.
+fn description_argument<'a>(alloc: Global) -> Arg<'a> {
+    Arg::new(alloc, DESCRIPTION).help(DESCRIPTION_HELP)
+}
+
+/// `SCRIPT`.
+pub fn script_argument<'a>(alloc: Global) -> Arg<'a> {
+    Arg::new(alloc, SCRIPT).help("The script: a file, or - for standard input")
+}
+
+/// `--workers N`.
+fn workers_option<'a>(alloc: Global) -> Arg<'a> {
+    Arg::new(alloc, WORKERS)
+        .long(WORKERS)
+        .value_name("N")
+        .value_parser(value_parser!(u8).range(1..=i64::from(MAX_WORKERS)))
+        .help(WORKERS_HELP)
+}

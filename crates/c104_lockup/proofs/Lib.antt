@@ -1,0 +1,2 @@
+mod LockupLemmas
+pub mod HarmlessLemmas

@@ -1,0 +1,2 @@
+pub mod HarmlessScripts
+pub mod Lockups

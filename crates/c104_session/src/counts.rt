@@ -1,0 +1,119 @@
+//! The command that prints what is counted of a run.
+ghost use Rattle.std.specs.Prelude.{ℕ, ◌≡◌};
+ghost use Rattle.c104_plan.specs.PlanImage.{Fits};
+ghost use Rattle.c104_setup.specs.declared.status.Status.TheVariants as status;
+ghost use Rattle.c104_session.specs.Counts.{CountingRuns, CountsEnd};
+
+use crate::counted_runs::{CountedRun, count_plan};
+use crate::states::write_drawn;
+use c104_mistakes::{About, Messages};
+use c104_plan::{Image, Plan};
+use c104_print::{Format, counts_text};
+use c104_setup::{Setup, Status, read_setup};
+use c104_stats::What;
+use c104_stream::Ahead;
+use c104_token::NoMemory;
+use std::alloc::Global;
+use std::io::{Read, Write};
+
+/// What is to be printed of a run, and how.
+#[derive(Clone, Copy)]
+pub struct Printing {
+    /// A table; or, where none is said, the summary.
+    pub what: Option<What>,
+    /// How.
+    pub format: Format,
+}
+
+/// Reads a description, and then reads a script and does on its network, started with the image of its labels, what the
+/// script's lines ask, as `run` does; and writes, in place of the answers and of what arrived, what is counted of that: a
+/// table of packets, of links or of rounds, or a summary of all.
+///
+/// It tells people of each line that is faulty, refused or not ready, and at the end of what didn't arrive. A network that
+/// stands still with tokens in it is told of even where no messages are wanted, unless it is written behind a table or a
+/// summary for people. How the command ends is the same whatever takes the messages does.
+///
+/// Reading ends at 1 MiB of a description and at 16 MiB of a script, whatever the reader. Each error of a reader or a
+/// writer is a fault at once.
+pub fn stats_command<D: Read, S: Read, W: Write, M: Messages>(
+    alloc: Global,
+    printing: Printing,
+    description: &mut D,
+    script: &mut S,
+    writer: &mut W,
+    messages: &mut M,
+) -> Status
+    ensures ends { CountsEnd printing.what (D.remaining description.old) (S.remaining script.old)
+        (W.contents writer.old) (W.contents writer.new) result }
+    ensures of_description { result ≡ status.CannotRead 0 → script.new ≡ script.old }
+{
+    let Setup { plan, image } = match read_setup(alloc, description, writer, messages) {
+        Ok(setup) => setup,
+        Err(status) => return status,
+    };
+    stats_setup(alloc, printing, &plan, image, script, writer, messages)
+}
+
+/// The same of the network of a plan, with an image that fits it.
+#[tactic(auto, using(crate::proofs::CountStatuses::counting_halts))]
+fn stats_setup<S: Read, W: Write, M: Messages>(
+    alloc: Global,
+    printing: Printing,
+    plan: &Plan,
+    image: Image,
+    script: &mut S,
+    writer: &mut W,
+    messages: &mut M,
+) -> Status
+    requires { Fits image plan.now }
+    ensures runs { CountingRuns printing.what plan.now image (S.remaining script.old)
+        (W.contents writer.old) (W.contents writer.new) result }
+    ensures of_script { (n : ℕ) → result ≡ status.CannotRead n → n ≡ 1 }
+{
+    let Ok(mut ahead) = Ahead::new(alloc) else {
+        return Status::NoMemory;
+    };
+    let run = match count_plan(
+        alloc,
+        plan,
+        image,
+        printing.what,
+        &mut ahead,
+        script,
+        messages,
+    ) {
+        Ok(run) => run,
+        Err(halt) => return Status::of_halt(halt, 1),
+    };
+    let Ok(text) = run_text(alloc, printing.format, plan, &run, messages) else {
+        return Status::NoMemory;
+    };
+    let status = write_drawn(text.as_bytes(), run.is_refused, writer);
+    if let Status::Done | Status::Refused = status {
+        run.tell_leftovers(messages);
+    }
+    status
+}
+
+/// What is printed of a run. That its network stands still is told to programs, which read rows alone, as a message.
+fn run_text<M: Messages>(
+    alloc: Global,
+    format: Format,
+    plan: &Plan,
+    run: &CountedRun,
+    messages: &mut M,
+) -> Result<String, NoMemory> {
+    let mut text = counts_text(alloc, format, plan, &run.stats)?;
+    let Some(still) = &run.still else {
+        return Ok(text);
+    };
+    match format {
+        Format::Table => text.push_str(still.as_str())?,
+        Format::Csv | Format::Json => {
+            for line in still.lines() {
+                messages.tell(About::Run, line);
+            }
+        }
+    }
+    Ok(text)
+}

@@ -1,0 +1,152 @@
+//! The drawing of a description's network as it stands after a script.
+ghost use Rattle.std.specs.Prelude.{ℕ, ◌≡◌, ◌≢◌, Err, IfOk};
+ghost use Rattle.std.specs.Io.KnownBytes.{prepend_known};
+ghost use Rattle.c104_plan.specs.PlanImage.{Fits, Image as TheImage};
+ghost use Rattle.c104_plan.specs.Plans.{Plan as ThePlan};
+ghost use Rattle.c104_stream.specs.declared.halt.Halt.TheVariants as halt;
+ghost use Rattle.c104_session.specs.Shown.{new_session};
+ghost use Rattle.c104_session.specs.StatePictures.{IsRefusedAfter, StateEnds, StateRuns, WritesDrawn};
+ghost use Rattle.c104_setup.specs.declared.status.Status.TheVariants as status;
+
+use crate::answering::{answer_script, do_script};
+use crate::session::{Session, Session};
+use c104_mistakes::Messages;
+use c104_plan::{Image, Plan};
+use c104_print::state_text;
+use c104_setup::{Setup, Status, read_setup};
+use c104_stream::{Ahead, Halt, write_whole};
+use std::alloc::Global;
+use std::io::{Read, Write};
+
+/// Reads a description, and then reads a script and does its lines on the network, started with the image of its
+/// labels; at the end writes a picture of the network as it then stands, as a text for Graphviz. Answers aren't written,
+/// nor what arrived. A line that is faulty is left out, and then the status is Refused, as it is where the script is too
+/// long, of which the lines are done that end within 16 MiB.
+///
+/// It tells people of each line that is faulty, refused or not ready. What is written and how it ends are the same
+/// whatever takes the messages does.
+///
+/// Reading ends at 1 MiB of a description and at 16 MiB of a script, whatever the reader. Each error of a reader or the
+/// writer is a fault at once.
+pub fn draw_state_command<D: Read, S: Read, W: Write, M: Messages>(
+    alloc: Global,
+    description: &mut D,
+    script: &mut S,
+    writer: &mut W,
+    messages: &mut M,
+) -> Status
+    ensures ends { StateEnds (D.remaining description.old) (S.remaining script.old)
+        (W.contents writer.old) (W.contents writer.new) result }
+    ensures of_description { result ≡ status.CannotRead 0 → script.new ≡ script.old }
+{
+    let Setup { plan, image } = match read_setup(alloc, description, writer, messages) {
+        Ok(setup) => setup,
+        Err(status) => return status,
+    };
+    draw_after(alloc, &plan, image, script, writer, messages)
+}
+
+/// The same of the network of a plan, with an image that fits it.
+#[tactic(auto, using(crate::proofs::StateLemmas::state_halts))]
+fn draw_after<S: Read, W: Write, M: Messages>(
+    alloc: Global,
+    plan: &Plan,
+    image: Image,
+    script: &mut S,
+    writer: &mut W,
+    messages: &mut M,
+) -> Status
+    requires { Fits image plan.now }
+    ensures runs { StateRuns plan.now image (S.remaining script.old)
+        (W.contents writer.old) (W.contents writer.new) result }
+    ensures of_script { (n : ℕ) → result ≡ status.CannotRead n → n ≡ 1 }
+{
+    match drawn_after(alloc, plan, image, script, messages) {
+        Ok(drawn) => write_drawn(drawn.text.as_bytes(), drawn.refused, writer),
+        Err(halt) => Status::of_halt(halt, 1),
+    }
+}
+
+/// The picture of a network after a script.
+#[derive(Drop)]
+struct Drawn {
+    /// The text.
+    text: String,
+    /// Whether the script is refused.
+    refused: bool,
+}
+
+/// Writes a picture, of a script that is refused or not.
+pub(crate) fn write_drawn<W: Write>(text: &[u8], refused: bool, writer: &mut W) -> Status
+    ensures written { WritesDrawn text.now refused
+        (W.contents writer.old) (W.contents writer.new) result }
+    ensures of_writer { (n : ℕ) → result ≢ status.CannotRead n }
+{
+    let Ok(()) = write_whole(writer, text) else {
+        return Status::CannotWrite;
+    };
+    if refused {
+        Status::Refused
+    } else {
+        Status::Done
+    }
+}
+
+/// The picture of the network of a plan, with an image that fits it, after a script.
+fn drawn_after<S: Read, M: Messages>(
+    alloc: Global,
+    plan: &Plan,
+    image: Image,
+    script: &mut S,
+    messages: &mut M,
+) -> Result<Drawn, Halt>
+    requires { Fits image plan.now }
+    ensures refused { IfOk result (λ drawn.
+        IsRefusedAfter plan.now image (S.remaining script.old) drawn.refused) }
+    ensures unwritten { result ≢ Err halt.CannotWrite }
+{
+    let mut ahead = Ahead::new(alloc)?;
+    let session = Session::new(alloc, plan, image)?;
+    drawn_session(alloc, session, &mut ahead, script, messages)
+}
+
+/// The same on a network that is before the script's first line.
+fn drawn_session<S: Read, M: Messages>(
+    alloc: Global,
+    session: Session,
+    ahead: &mut Ahead,
+    script: &mut S,
+    messages: &mut M,
+) -> Result<Drawn, Halt>
+    ensures refused { (plan : ThePlan) (image : TheImage) → session ≡ new_session plan image →
+        IfOk result (λ drawn. IsRefusedAfter plan image (prepend_known ahead.old (S.remaining script.old))
+        drawn.refused) }
+    ensures unwritten { result ≢ Err halt.CannotWrite }
+{
+    let mut session = session;
+    let drawn = drawn_of(alloc, &mut session, ahead, script, messages);
+    session.finish().retire();
+    drawn
+}
+
+/// The same of a network that is left as it stands after the script.
+#[tactic(auto, using(crate::proofs::StateLemmas::refused_after))]
+fn drawn_of<S: Read, M: Messages>(
+    alloc: Global,
+    session: &mut Session,
+    ahead: &mut Ahead,
+    script: &mut S,
+    messages: &mut M,
+) -> Result<Drawn, Halt>
+    ensures refused { (plan : ThePlan) (image : TheImage) → session.old ≡ new_session plan image →
+        IfOk result (λ drawn. IsRefusedAfter plan image (prepend_known ahead.old (S.remaining script.old))
+        drawn.refused) }
+    ensures unwritten { result ≢ Err halt.CannotWrite }
+{
+    let is_long = do_script(alloc, session, ahead, script, messages)?;
+    let text = state_text(alloc, &session.net, &session.image)?;
+    Ok(Drawn {
+        text,
+        refused: is_long || session.faulty,
+    })
+}

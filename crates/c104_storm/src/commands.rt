@@ -1,0 +1,70 @@
+//! The command that lets a storm go over a description's network.
+ghost use Rattle.std.specs.Prelude.{ℕ, ◌≡◌, ◌≤◌};
+ghost use Rattle.c104_plan.specs.PlanImage.{Fits};
+ghost use Rattle.c104_setup.specs.declared.status.Status.TheVariants as status;
+ghost use Rattle.c104_storm.specs.Commands.{StormEnds, StormRuns};
+
+use crate::storms::{MAX_WORKERS, storm_plan};
+use c104_mistakes::Messages;
+use c104_plan::{Image, Plan};
+use c104_setup::{Setup, Status, read_setup};
+use std::alloc::Global;
+use std::io::{Read, Write};
+use std::sync::Wait;
+use std::thread::Threads;
+
+/// Reads a description, and then reads and answers the `send` lines of a script on its network, started with the image of
+/// its labels; then lets this many workers, 1 to 64, each in a thread of its own, do turns until all is quiet, and writes
+/// what the audit of their run says and what arrived.
+///
+/// It tells people of each line that is faulty or refused, at the end of what didn't arrive, and while the workers go on
+/// how many turns they have done, as of line 0. What is written and how it ends are the same whatever takes the messages
+/// does.
+///
+/// Reading ends at 1 MiB of a description and at 16 MiB of a script, whatever the reader. Each error of a reader or a
+/// writer is a fault at once.
+pub fn storm_command<R: Threads + Wait + Sync, D: Read, S: Read, W: Write, M: Messages>(
+    alloc: Global,
+    rt: &R,
+    workers: u8,
+    description: &mut D,
+    script: &mut S,
+    writer: &mut W,
+    messages: &mut M,
+) -> Status
+    requires { (1 ≤ workers) × (workers ≤ MAX_WORKERS) }
+    ensures ends { StormEnds (D.remaining description.old) (S.remaining script.old) (S.remaining script.new)
+        (W.contents writer.old) (W.contents writer.new) result }
+    ensures of_description { result ≡ status.CannotRead 0 → script.new ≡ script.old }
+{
+    let Setup { plan, image } = match read_setup(alloc, description, writer, messages) {
+        Ok(setup) => setup,
+        Err(status) => return status,
+    };
+    storm_setup(alloc, rt, workers, &plan, &image, script, writer, messages)
+}
+
+/// The same of the network of a plan, with an image that fits it.
+#[tactic(auto, using(crate::proofs::StormStatuses::storm_halts))]
+fn storm_setup<R: Threads + Wait + Sync, S: Read, W: Write, M: Messages>(
+    alloc: Global,
+    rt: &R,
+    workers: u8,
+    plan: &Plan,
+    image: &Image,
+    script: &mut S,
+    writer: &mut W,
+    messages: &mut M,
+) -> Status
+    requires fits { Fits image.now plan.now }
+    requires some { (1 ≤ workers) × (workers ≤ MAX_WORKERS) }
+    ensures runs { StormRuns plan.now image.now (S.remaining script.old) (S.remaining script.new)
+        (W.contents writer.old) (W.contents writer.new) result }
+    ensures of_script { (n : ℕ) → result ≡ status.CannotRead n → n ≡ 1 }
+{
+    match storm_plan(alloc, rt, workers, plan, image, script, writer, messages) {
+        Ok(false) => Status::Done,
+        Ok(true) => Status::Refused,
+        Err(halt) => Status::of_halt(halt, 1),
+    }
+}
