@@ -1,6 +1,6 @@
 //! What is counted of a run: a table of its packets, of its links or of its rounds, or its summary.
 
-use crate::rows::{Cell, Format, Rows};
+use crate::rows::{Format, Names, Rows};
 use crate::summaries::summary_text;
 use c104_plan::{Plan, Port};
 use c104_regs::LINKS;
@@ -44,47 +44,43 @@ fn packets_text(
     plan: &Plan,
     stats: &Stats,
 ) -> Result<String, AllocError> {
-    let mut rows = Rows::new(alloc, format, &PACKET_COLUMNS)?;
+    let mut rows = Rows::new(alloc, format, Names::Above, &PACKET_COLUMNS)?;
     for (terminal, sender) in stats.senders().iter().enumerate() {
-        add_packets(&mut rows, plan, terminal, sender.packets())?;
+        for (number, packet) in sender.packets().iter().enumerate() {
+            add_packet(&mut rows, plan, terminal, number, *packet)?;
+        }
     }
     rows.finish()
 }
 
-/// The packets of a terminal join the table.
-fn add_packets(
-    rows: &mut Rows<'_>,
+/// A packet of a terminal joins the table.
+fn add_packet(
+    rows: &mut Rows,
     plan: &Plan,
     terminal: usize,
-    packets: &[PacketRow],
+    number: usize,
+    packet: PacketRow,
 ) -> Result<(), AllocError> {
-    for (number, packet) in packets.iter().enumerate() {
-        let arrival = packet.arrival;
-        rows.add(&[
-            Cell::Word(plan.terminal_name(terminal)),
-            Cell::Number(number as u64),
-            Cell::word(arrival.map(|arrival| plan.terminal_name(arrival.terminal as usize))),
-            Cell::Number(u64::from(packet.bytes)),
-            Cell::Number(u64::from(packet.wires)),
-            Cell::Number(u64::from(packet.sent)),
-            Cell::number(packet.left),
-            Cell::number(arrival.map(|arrival| arrival.round)),
-            Cell::number(arrival.map(|arrival| packet.latency(arrival))),
-            Cell::Number(u64::from(packet.idle)),
-            Cell::Word(ending_word(Ending::of(plan.header(), *packet))),
-        ])?;
+    let arrival = packet.arrival;
+    rows.word(plan.terminal_name(terminal))?;
+    rows.number(number as u64)?;
+    match arrival {
+        Some(arrival) => rows.word(plan.terminal_name(arrival.terminal as usize))?,
+        None => rows.nothing()?,
     }
-    Ok(())
-}
-
-/// The word for what became of a packet.
-fn ending_word(ending: Ending) -> &'static str {
-    match ending {
+    rows.number(u64::from(packet.bytes))?;
+    rows.number(u64::from(packet.wires))?;
+    rows.number(u64::from(packet.sent))?;
+    rows.number_if(packet.left)?;
+    rows.number_if(arrival.map(|arrival| arrival.round))?;
+    rows.number_if(arrival.map(|arrival| packet.latency(arrival)))?;
+    rows.number(u64::from(packet.idle))?;
+    rows.word(match Ending::of(plan.header(), packet) {
         Ending::Arrived => "arrived",
         Ending::Unfinished => "unfinished",
         Ending::Short => "short",
         Ending::Sunk => "sunk",
-    }
+    })
 }
 
 /// The table of links that have wires: those of the switches, by switch and link, and then those of the terminals.
@@ -94,7 +90,7 @@ fn links_text(
     plan: &Plan,
     stats: &Stats,
 ) -> Result<String, AllocError> {
-    let mut rows = Rows::new(alloc, format, &LINK_COLUMNS)?;
+    let mut rows = Rows::new(alloc, format, Names::Above, &LINK_COLUMNS)?;
     let last = stats.active();
     let links = stats.links().iter().enumerate();
     let links = links.map(|(place, row)| (Port::Switch(place / LINKS, place % LINKS), row));
@@ -110,20 +106,18 @@ fn links_text(
 }
 
 /// A link joins the table, of a run in which something was done up to this round.
-fn add_link(rows: &mut Rows<'_>, name: &str, row: LinkRow, last: u32) -> Result<(), AllocError> {
-    rows.add(&[
-        Cell::Word(name),
-        Cell::Number(row.tokens),
-        Cell::share(row.busy, u64::from(last)),
-        Cell::Number(row.packets),
-        Cell::Number(row.longest_at(last)),
-        Cell::Number(row.waiting),
-    ])
+fn add_link(rows: &mut Rows, name: &str, row: LinkRow, last: u32) -> Result<(), AllocError> {
+    rows.word(name)?;
+    rows.number(row.tokens)?;
+    rows.share(row.busy, u64::from(last))?;
+    rows.number(row.packets)?;
+    rows.number(row.longest_at(last))?;
+    rows.number(row.waiting)
 }
 
 /// The table of rounds: those that are over, if they are kept, and the one that began last.
 fn rounds_text(alloc: Global, format: Format, stats: &Stats) -> Result<String, AllocError> {
-    let mut rows = Rows::new(alloc, format, &ROUND_COLUMNS)?;
+    let mut rows = Rows::new(alloc, format, Names::Above, &ROUND_COLUMNS)?;
     for round in stats.rounds() {
         add_round(&mut rows, *round)?;
     }
@@ -132,13 +126,11 @@ fn rounds_text(alloc: Global, format: Format, stats: &Stats) -> Result<String, A
 }
 
 /// A round joins the table.
-fn add_round(rows: &mut Rows<'_>, round: RoundRow) -> Result<(), AllocError> {
-    rows.add(&[
-        Cell::Number(u64::from(round.round)),
-        Cell::Number(round.levels.waiting),
-        Cell::Number(round.levels.inside),
-        Cell::Number(round.moved),
-        Cell::Number(round.arrived),
-        Cell::Number(round.levels.held),
-    ])
+fn add_round(rows: &mut Rows, round: RoundRow) -> Result<(), AllocError> {
+    rows.number(u64::from(round.round))?;
+    rows.number(round.levels.waiting)?;
+    rows.number(round.levels.inside)?;
+    rows.number(round.moved)?;
+    rows.number(round.arrived)?;
+    rows.number(round.levels.held)
 }

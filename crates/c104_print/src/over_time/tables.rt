@@ -1,6 +1,6 @@
 //! The table of what a picture of a run shows.
 
-use crate::rows::{Cell, Format, Rows};
+use crate::rows::{Format, Names, Rows};
 use c104_plan::{Plan, Port};
 use c104_timeline::{Bar, Period, Row, Timeline, bars_at, rows_of};
 use c104_token::NoMemory;
@@ -16,7 +16,7 @@ pub(crate) fn table_text(
     timeline: &Timeline,
     period: Period,
 ) -> Result<String, NoMemory> {
-    let mut table = Rows::new(alloc, format, &COLUMNS)?;
+    let mut table = Rows::new(alloc, format, Names::Above, &COLUMNS)?;
     for row in rows_of(alloc, plan, timeline, period)?.iter() {
         if let Row::Wire(port) = *row {
             let bars = bars_at(alloc, timeline, period, port)?;
@@ -29,7 +29,7 @@ pub(crate) fn table_text(
 /// What is drawn of the wire at a port joins the table.
 fn add_wire(
     alloc: Global,
-    table: &mut Rows<'_>,
+    table: &mut Rows,
     plan: &Plan,
     port: Port,
     bars: &[Bar],
@@ -49,7 +49,7 @@ fn add_wire(
 
 /// Rounds of a packet on the wire between these ends join the table, if there are some.
 fn add_rounds(
-    table: &mut Rows<'_>,
+    table: &mut Rows,
     plan: &Plan,
     ends: [&str; 2],
     bar: Bar,
@@ -59,20 +59,20 @@ fn add_rounds(
     let Some(Period { from, to }) = rounds else {
         return Ok(());
     };
-    let (sender, number) = match bar.packet {
+    for end in ends {
+        table.word(end)?;
+    }
+    match bar.packet {
         Some(packet) => {
-            let name = plan.terminal_name(packet.terminal);
-            (Cell::Word(name), Cell::Number(packet.number as u64))
+            table.word(plan.terminal_name(packet.terminal))?;
+            table.number(packet.number as u64)?;
         }
-        None => (Cell::Nothing, Cell::Nothing),
-    };
-    table.add(&[
-        Cell::Word(ends[0]),
-        Cell::Word(ends[1]),
-        sender,
-        number,
-        Cell::Number(u64::from(from)),
-        Cell::Number(u64::from(to)),
-        Cell::Word(state),
-    ])
+        None => {
+            table.nothing()?;
+            table.nothing()?;
+        }
+    }
+    table.number(u64::from(from))?;
+    table.number(u64::from(to))?;
+    table.word(state)
 }
