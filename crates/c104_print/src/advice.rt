@@ -38,10 +38,10 @@ pub fn refusal_text(
                 "no terminal is on {port}, but random headers are put before packets there\n"
             )
         }
-        CheckFault::WrongEnd(shown) => walk_text(alloc, plan, shown, step),
-        CheckFault::DeadEnd(shown) => walk_text(alloc, plan, shown, step),
-        CheckFault::Loop(shown) => walk_text(alloc, plan, shown, step),
-        CheckFault::Stray(shown) => walk_text(alloc, plan, shown, step),
+        CheckFault::WrongEnd(shown)
+        | CheckFault::DeadEnd(shown)
+        | CheckFault::Loop(shown)
+        | CheckFault::Stray(shown) => walk_text(alloc, plan, shown, step),
         CheckFault::NoMemory => Ok(String::new(alloc)),
     }
 }

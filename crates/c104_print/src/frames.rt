@@ -34,41 +34,11 @@ pub(crate) struct Place {
     pub(crate) up: usize,
 }
 
-/// How far each direction goes to the right and upwards, from 0 to 200, where 100 is no way at all. They begin
-/// at the right and go round against the clock.
-const DIRECTIONS: [(usize, usize); 32] = [
-    (200, 100),
-    (198, 120),
-    (192, 138),
-    (183, 156),
-    (171, 171),
-    (156, 183),
-    (138, 192),
-    (120, 198),
-    (100, 200),
-    (80, 198),
-    (62, 192),
-    (44, 183),
-    (29, 171),
-    (17, 156),
-    (8, 138),
-    (2, 120),
-    (0, 100),
-    (2, 80),
-    (8, 62),
-    (17, 44),
-    (29, 29),
-    (44, 17),
-    (62, 8),
-    (80, 2),
-    (100, 0),
-    (120, 2),
-    (138, 8),
-    (156, 17),
-    (171, 29),
-    (183, 44),
-    (192, 62),
-    (198, 80),
+/// How far each direction goes to the right, from 0 to 200, where 100 is no way at all. They begin at the right and go round
+/// against the clock, so upwards each goes as far as the one a quarter turn before it goes to the right.
+const DIRECTIONS: [usize; 32] = [
+    200, 198, 192, 183, 171, 156, 138, 120, 100, 80, 62, 44, 29, 17, 8, 2, 0, 2, 8, 17, 29, 44, 62,
+    80, 100, 120, 138, 156, 171, 183, 192, 198,
 ];
 
 /// How far a bit of a corner's number moves it to the right and upwards, in hundredths of an edge.
@@ -88,8 +58,9 @@ impl Frame {
         match plan.shape() {
             Shape::Mesh(columns, rows, terminals) => Ok(Frame::Grid(columns, rows, terminals)),
             Shape::Cube(_, terminals) => Ok(Frame::Cube(terminals)),
-            Shape::Tree(root) => Ok(Frame::Hanging(depths(alloc, plan, root)?)),
-            Shape::UpDown(root) => Ok(Frame::Hanging(depths(alloc, plan, root)?)),
+            Shape::Tree(root) | Shape::UpDown(root) => {
+                Ok(Frame::Hanging(depths(alloc, plan, root)?))
+            }
             Shape::Hand => Ok(Frame::Hanging(depths(alloc, plan, 0)?)),
         }
     }
@@ -116,12 +87,14 @@ impl Frame {
     fn corner(&self, switch: usize) -> Option<(Place, usize)> {
         match self {
             Frame::Grid(columns, rows, terminals) => {
-                let corner = grid_corner(*columns, *rows, switch, grid_edge(*terminals));
-                Some((corner, grid_radius(*terminals)))
+                let radius = grid_radius(*terminals);
+                let corner = grid_corner(*columns, *rows, switch, 2 * radius + 70);
+                Some((corner, radius))
             }
             Frame::Cube(terminals) => {
-                let corner = cube_corner(switch, cube_edge(*terminals));
-                Some((corner, cube_radius(*terminals)))
+                let radius = cube_radius(*terminals);
+                // Between corners go more wires.
+                Some((cube_corner(switch, 3 * radius + 70), radius))
             }
             Frame::Hanging(_) => None,
         }
@@ -164,11 +137,7 @@ impl Frame {
 
     /// Whether the nodes hang from one another.
     fn hangs(&self) -> bool {
-        match self {
-            Frame::Grid(_, _, _) => false,
-            Frame::Cube(_) => false,
-            Frame::Hanging(_) => true,
-        }
+        matches!(self, Frame::Hanging(_))
     }
 
     /// By how many wires a switch hangs.
@@ -176,10 +145,7 @@ impl Frame {
         let Frame::Hanging(depths) = self else {
             return 0;
         };
-        match depths.as_slice().get(switch) {
-            Some(depth) => *depth,
-            None => 0,
-        }
+        depths.get(switch).copied().unwrap_or(0)
     }
 }
 
@@ -221,16 +187,6 @@ fn cube_radius(terminals: usize) -> usize
     }
 }
 
-/// How far apart switches of a grid stand, by how many terminals each has.
-fn grid_edge(terminals: usize) -> usize {
-    2 * grid_radius(terminals) + 70
-}
-
-/// The same of the corners of a cube, between which more wires go.
-fn cube_edge(terminals: usize) -> usize {
-    3 * cube_radius(terminals) + 70
-}
-
 /// The directions of the first four terminals of a cube's switch, by how many it has: on the sides to which no wire
 /// leads.
 fn cube_directions(terminals: usize) -> &'static [usize] {
@@ -269,7 +225,7 @@ fn direction(terminal: usize, terminals: usize, first: &[usize]) -> (usize, usiz
         Some(number) if slots == 4 => *number,
         _ => slot(terminal.min(27), slots),
     };
-    DIRECTIONS[number % 32]
+    (DIRECTIONS[number % 32], DIRECTIONS[(number % 32 + 24) % 32])
 }
 
 /// The direction of a slot, of which none lies on the way to a neighbour.

@@ -4,8 +4,9 @@ use c104_net::Origin;
 use c104_plan::Plan;
 use std::alloc::{AllocError, Global};
 
-/// The colours of packets, by the terminal that sent them.
-pub(crate) const COLORS: [&str; 6] = [
+/// The colours of packets: that of one that isn't known, and the others by the terminal that sent them.
+pub(crate) const COLORS: [&str; 7] = [
+    "black",
     "blue",
     "darkorange",
     "forestgreen",
@@ -13,9 +14,6 @@ pub(crate) const COLORS: [&str; 6] = [
     "deepskyblue",
     "saddlebrown",
 ];
-
-/// The colour of a packet that isn't known.
-pub(crate) const UNKNOWN: &str = "black";
 
 /// The pattern of a packet's colour.
 #[derive(Clone, Copy)]
@@ -43,8 +41,8 @@ pub(crate) fn packet_text(
 /// The colour of a packet.
 pub(crate) fn packet_color(packet: Option<Origin>) -> &'static str {
     match packet {
-        Some(packet) => COLORS[packet.terminal % 6],
-        None => UNKNOWN,
+        Some(packet) => COLORS[1 + packet.terminal % 6],
+        None => COLORS[0],
     }
 }
 

@@ -1,7 +1,7 @@
 //! The text of a picture of a run, in SVG.
 
 use crate::over_time::layouts::Layout;
-use crate::packets::{COLORS, Pattern, UNKNOWN, packet_color, packet_pattern, packet_text};
+use crate::packets::{COLORS, Pattern, packet_color, packet_pattern, packet_text};
 use c104_net::Origin;
 use c104_plan::{Plan, Port};
 use c104_timeline::{Bar, Period, Row};
@@ -55,7 +55,6 @@ impl<'a> Svg<'a> {
             period: Period { from, to },
             left,
             total_width: width,
-            tick_count,
             ..
         } = self.layout;
         let height = self.layout.height(packets);
@@ -71,42 +70,35 @@ impl<'a> Svg<'a> {
             "<text x=\"0\" y=\"10\">rounds {from} to {to}; \
              hatched: a packet holds the wire, and nothing crosses</text>\n"
         )?;
-        for number in 0..tick_count {
-            self.add_tick(number)?;
-        }
-        Ok(())
+        self.add_ticks()
     }
 
     /// The patterns of all colours.
     fn add_patterns(&mut self) -> Result<(), AllocError> {
         self.text.push_str("<defs>\n")?;
-        self.add_patterns_of(UNKNOWN)?;
         for color in COLORS {
-            self.add_patterns_of(color)?;
+            for (name, path, part) in PATTERNS {
+                write!(
+                    self.text,
+                    "<pattern id=\"{color}-{name}\" width=\"8\" height=\"14\" patternUnits=\"userSpaceOnUse\">\
+                     <path d=\"{path}\" {part}=\"{color}\"/></pattern>\n"
+                )?;
+            }
         }
         self.text.push_str("</defs>\n")
     }
 
-    /// The patterns of a colour.
-    fn add_patterns_of(&mut self, color: &str) -> Result<(), AllocError> {
-        for (name, path, part) in PATTERNS {
+    /// The numbers of rounds above the rows, each with a line down to their end.
+    fn add_ticks(&mut self) -> Result<(), AllocError> {
+        let bottom = self.layout.bottom();
+        for number in 0..self.layout.tick_count {
+            let (x, round) = self.layout.tick(number);
             write!(
                 self.text,
-                "<pattern id=\"{color}-{name}\" width=\"8\" height=\"14\" patternUnits=\"userSpaceOnUse\">\
-                 <path d=\"{path}\" {part}=\"{color}\"/></pattern>\n"
+                "<path d=\"M{x} 28V{bottom}\" stroke=\"gainsboro\"/><text x=\"{x}\" y=\"24\">{round}</text>\n"
             )?;
         }
         Ok(())
-    }
-
-    /// A number of a round above the rows, with a line down to their end.
-    fn add_tick(&mut self, number: u64) -> Result<(), AllocError> {
-        let (x, round) = self.layout.tick(number);
-        let bottom = self.layout.bottom();
-        write!(
-            self.text,
-            "<path d=\"M{x} 28V{bottom}\" stroke=\"gainsboro\"/><text x=\"{x}\" y=\"24\">{round}</text>\n"
-        )
     }
 
     /// A row, with what is drawn in it.
