@@ -1,4 +1,3 @@
-pub mod SenderSteps
 pub mod TakenCounts
 pub mod NumberSteps
 mod WiredSteps

@@ -61,40 +61,25 @@ impl LinkRow {
     pub fn after(self, crossing: Crossing) -> Self
         ensures { result ≡ link_after self crossing }
     {
+        let round = crossing.round;
+        let row = LinkRow {
+            tokens: self.tokens.saturating_add(1),
+            busy: self.busy_after(round),
+            last: Some(round),
+            ..self
+        };
         if crossing.ends {
-            self.after_end(crossing.round)
+            LinkRow {
+                packets: self.packets.saturating_add(1),
+                longest: self.longest.max(self.span(round)),
+                holder: None,
+                ..row
+            }
         } else {
-            self.after_byte(crossing.round)
-        }
-    }
-
-    /// The link after a terminator that crosses in this round.
-    fn after_end(self, round: u32) -> Self
-        ensures { result ≡ link_after self (record { round = round; ends = true }) }
-    {
-        LinkRow {
-            tokens: self.tokens.saturating_add(1),
-            busy: self.busy_after(round),
-            packets: self.packets.saturating_add(1),
-            longest: self.longest.max(self.span(round)),
-            waiting: self.waiting,
-            last: Some(round),
-            holder: None,
-        }
-    }
-
-    /// The link after another token that crosses in this round.
-    fn after_byte(self, round: u32) -> Self
-        ensures { result ≡ link_after self (record { round = round; ends = false }) }
-    {
-        LinkRow {
-            tokens: self.tokens.saturating_add(1),
-            busy: self.busy_after(round),
-            packets: self.packets,
-            longest: self.longest,
-            waiting: self.waiting,
-            last: Some(round),
-            holder: Some(self.holder_after(round)),
+            LinkRow {
+                holder: Some(self.holder_after(round)),
+                ..row
+            }
         }
     }
 

@@ -7,11 +7,7 @@ ghost use Rattle.c104_stats.specs.Numbers.{few};
 pub(crate) fn saturate_u32(count: u64) -> u32
     ensures { result ≡ few count }
 {
-    if count > u64::from(u32::MAX) {
-        u32::MAX
-    } else {
-        count as u32
-    }
+    count.min(u64::from(u32::MAX)) as u32
 }
 
 /// This much more.

@@ -168,67 +168,35 @@ impl Sender {
     pub fn leave(&mut self, number: usize, round: u32)
         ensures { self.new ≡ change_at self.old number (left_packet round) }
     {
-        leave_in(&mut self.packets, number, round);
+        if let Some(packet) = self.packets.get_mut(number) {
+            *packet = packet.left_in(round);
+        }
     }
 
     /// The terminator of a packet crosses one wire more.
     pub fn cross(&mut self, number: usize, idle: u64)
         ensures { self.new ≡ change_at self.old number (crossed_packet idle) }
     {
-        cross_in(&mut self.packets, number, idle);
+        if let Some(packet) = self.packets.get_mut(number) {
+            *packet = packet.crossed(idle);
+        }
     }
 
     /// The terminator of a packet arrives.
     pub fn arrive(&mut self, number: usize, arrival: Arrival)
         ensures { self.new ≡ change_at self.old number (arrived_packet arrival) }
     {
-        arrive_in(&mut self.packets, number, arrival);
+        if let Some(packet) = self.packets.get_mut(number) {
+            *packet = packet.arrived(arrival);
+        }
     }
 
     /// The terminator of a packet was found in the network.
     pub fn find(&mut self, number: usize)
         ensures { self.new ≡ change_at self.old number inside_packet }
     {
-        find_in(&mut self.packets, number);
+        if let Some(packet) = self.packets.get_mut(number) {
+            *packet = packet.found();
+        }
     }
-}
-
-/// A token of one of these packets leaves.
-fn leave_in(packets: &mut [PacketRow], number: usize, round: u32)
-    ensures { packets.new ≡ change_at packets.old number (left_packet round) }
-{
-    let Some(packet) = packets.get(number).copied() else {
-        return;
-    };
-    packets[number] = packet.left_in(round);
-}
-
-/// The terminator of one of these packets crosses one wire more.
-fn cross_in(packets: &mut [PacketRow], number: usize, idle: u64)
-    ensures { packets.new ≡ change_at packets.old number (crossed_packet idle) }
-{
-    let Some(packet) = packets.get(number).copied() else {
-        return;
-    };
-    packets[number] = packet.crossed(idle);
-}
-
-/// The terminator of one of these packets arrives.
-fn arrive_in(packets: &mut [PacketRow], number: usize, arrival: Arrival)
-    ensures { packets.new ≡ change_at packets.old number (arrived_packet arrival) }
-{
-    let Some(packet) = packets.get(number).copied() else {
-        return;
-    };
-    packets[number] = packet.arrived(arrival);
-}
-
-/// The terminator of one of these packets was found in the network.
-fn find_in(packets: &mut [PacketRow], number: usize)
-    ensures { packets.new ≡ change_at packets.old number inside_packet }
-{
-    let Some(packet) = packets.get(number).copied() else {
-        return;
-    };
-    packets[number] = packet.found();
 }

@@ -6,7 +6,6 @@ ghost use Rattle.c104_stats.specs.Sights.{counts_of_net, header_tokens, levels_o
 ghost use Rattle.c104_stats.specs.Sights.{link_levels, link_seen, links_levels, links_seen, outputs_held, switches_levels};
 ghost use Rattle.c104_stats.specs.Sights.{switches_seen, terminal_levels, terminal_seen, terminals_levels, terminals_seen};
 
-use crate::numbers::added;
 use crate::rounds::Levels;
 use crate::stats::{Stats, What};
 use c104_node::TerminalView;

@@ -2,23 +2,20 @@
 //!
 //! A `Stats` is told what happens, in order. What it makes of each thing is one step of `Counts`, so that what it counts in
 //! the end is what the definitions say of all that happened.
-ghost use Rattle.std.specs.Prelude.{◌≡◌, ◌*◌, ◌++◌, ◌∷◌, [], if◌then◌else◌, length, map, replicate, IfOk, OnErr, OnOk};
+ghost use Rattle.std.specs.Prelude.{◌≡◌, ◌*◌, ◌++◌, ◌∷◌, [], if◌then◌else◌, length, map, replicate, slice_get, IfOk, OnErr, OnOk};
 ghost use Rattle.c104_plan.specs.declared.plans.Terminal.{Terminal as TheTerminal};
-ghost use Rattle.c104_plan.specs.declared.ports.Port.TheVariants as port;
 ghost use Rattle.c104_regs.specs.declared.registers.TheConstants.{LINKS};
 ghost use Rattle.c104_stats.specs.Counts.{counts_arrived, counts_begun, counts_crossed, counts_cut, counts_found, counts_level};
-ghost use Rattle.c104_stats.specs.Counts.{counts_noted, counts_passed, counts_seen, counts_sent, counts_taken, keeps_rounds, new_counts};
+ghost use Rattle.c104_stats.specs.Counts.{counts_noted, counts_passed, counts_seen, counts_sent, counts_taken, crossed_senders, keeps_rounds};
+ghost use Rattle.c104_stats.specs.Counts.{left_senders, new_counts};
 ghost use Rattle.c104_stats.specs.Links.{new_link};
-ghost use Rattle.c104_stats.specs.Rounds.{new_round, no_levels};
+ghost use Rattle.c104_stats.specs.Rounds.{moved_round, new_round, no_levels};
 
 use crate::links::{Crossing, LinkRow};
 use crate::numbers::saturate_u32;
 use crate::packets::{Arrival, PacketRow, Sender};
 use crate::rounds::{Levels, RoundRow};
-use crate::steps::{
-    arrive_packet, cross_link, cross_out, cross_packet, cut_links, find_packet, level_link,
-    level_wire, send_from, take_back,
-};
+use crate::steps::{cross_link, cross_wire, cut_links};
 use c104_node::Origin;
 use c104_plan::{Plan, Port, Terminal};
 use c104_regs::LINKS;
@@ -50,7 +47,6 @@ pub struct Stats {
 }
 
 impl Model for Stats {
-    ghost use Rattle.c104_plan.specs.declared.ports.Port.TheVariants as port;
     ghost use Rattle.c104_stats.specs.Counts.{Counts};
 
     ghost Value = { Counts };
@@ -139,59 +135,73 @@ impl Stats {
         ensures kept { OnErr result (self.new ≡ self.old) }
     {
         let packet = PacketRow::new(saturate_u32(bytes), self.current.round);
-        send_from(&mut self.senders, terminal, packet)
+        match self.senders.get_mut(terminal) {
+            Some(sender) => sender.send(packet),
+            None => Ok(()),
+        }
     }
 
     /// The packet that a terminal sent last is taken back.
     pub fn take_back(&mut self, terminal: usize)
         ensures { self.new ≡ counts_taken self.old terminal }
     {
-        take_back(&mut self.senders, terminal);
+        if let Some(sender) = self.senders.get_mut(terminal) {
+            sender.take_back();
+        }
     }
 
     /// A token crosses the wire at a port, which ends this packet, or none.
     pub fn cross(&mut self, port: Port, ended: Option<Origin>)
         ensures { self.new ≡ counts_crossed self.old port ended }
     {
+        let crossing = Crossing {
+            round: self.current.round,
+            ends: ended.is_some(),
+        };
         match port {
-            Port::Switch(switch, link) => self.cross_at_switch(switch, link, ended),
-            Port::Terminal(terminal) => self.cross_at_terminal(terminal, ended),
+            Port::Switch(switch, link) => {
+                let idle = cross_link(&mut self.links, switch, link, crossing);
+                self.move_on(idle, ended);
+            }
+            Port::Terminal(terminal) => {
+                self.leave(terminal);
+                let idle = cross_wire(&mut self.wires, terminal, crossing);
+                self.move_on(idle, ended);
+            }
         }
     }
 
-    /// The same at a link of a switch.
-    fn cross_at_switch(&mut self, switch: usize, link: usize, ended: Option<Origin>)
-        ensures { self.new ≡ counts_crossed self.old (port.Switch switch link) ended }
+    /// A token leaves a terminal, of the packet behind those that have left it whole.
+    fn leave(&mut self, terminal: usize)
+        ensures { self.new ≡ record self.old {
+          senders =
+              left_senders self.old.senders terminal self.old.current.round (slice_get self.old.wires terminal);
+        } }
     {
-        let round = self.current.round;
-        let crossing = Crossing {
-            round,
-            ends: ended.is_some(),
+        let Some(wire) = self.wires.get(terminal).copied() else {
+            return;
         };
-        let idle = cross_link(&mut self.links, switch, link, crossing);
-        cross_packet(&mut self.senders, idle, ended);
-        self.active = round;
-        self.current = self.current.moved();
+        if let Some(sender) = self.senders.get_mut(terminal) {
+            sender.leave(wire.packets as usize, self.current.round);
+        }
     }
 
-    /// The same at a terminal.
-    fn cross_at_terminal(&mut self, terminal: usize, ended: Option<Origin>)
-        ensures { self.new ≡ counts_crossed self.old (port.Terminal terminal) ended }
+    /// A token has crossed a wire, and with it a packet, if one ends.
+    fn move_on(&mut self, idle: u64, ended: Option<Origin>)
+        ensures { self.new ≡ record self.old {
+          senders = crossed_senders self.old.senders idle ended;
+          current = moved_round self.old.current;
+          active = self.old.current.round;
+        } }
     {
-        let round = self.current.round;
-        let crossing = Crossing {
-            round,
-            ends: ended.is_some(),
-        };
-        cross_out(
-            &mut self.wires,
-            &mut self.senders,
-            terminal,
-            crossing,
-            ended,
-        );
-        self.active = round;
+        self.active = self.current.round;
         self.current = self.current.moved();
+        let Some(packet) = ended else {
+            return;
+        };
+        if let Some(sender) = self.senders.get_mut(packet.terminal) {
+            sender.cross(packet.number, idle);
+        }
     }
 
     /// A token arrives at a terminal, which ends this packet, or none.
@@ -202,9 +212,14 @@ impl Stats {
             terminal: saturate_u32(terminal as u64),
             round: self.current.round,
         };
-        arrive_packet(&mut self.senders, arrival, ended);
         self.active = self.current.round;
         self.current = self.current.arrived();
+        let Some(packet) = ended else {
+            return;
+        };
+        if let Some(sender) = self.senders.get_mut(packet.terminal) {
+            sender.arrive(packet.number, arrival);
+        }
     }
 
     /// A switch throws away what it holds: the packets that held its links hold them no more.
@@ -251,30 +266,29 @@ impl Stats {
         ensures { self.new ≡ counts_level self.old port level }
     {
         match port {
-            Port::Switch(switch, link) => self.see_level_at_switch(switch, link, level),
-            Port::Terminal(terminal) => self.see_level_at_terminal(terminal, level),
+            Port::Switch(switch, link) => {
+                if link < LINKS
+                    && switch < self.links.len() / LINKS
+                    && let Some(row) = self.links.get_mut(switch * LINKS + link)
+                {
+                    *row = row.with_level(level);
+                }
+            }
+            Port::Terminal(terminal) => {
+                if let Some(row) = self.wires.get_mut(terminal) {
+                    *row = row.with_level(level);
+                }
+            }
         }
-    }
-
-    /// The same at a link of a switch.
-    fn see_level_at_switch(&mut self, switch: usize, link: usize, level: u64)
-        ensures { self.new ≡ counts_level self.old (port.Switch switch link) level }
-    {
-        level_link(&mut self.links, switch, link, level);
-    }
-
-    /// The same at a terminal.
-    fn see_level_at_terminal(&mut self, terminal: usize, level: u64)
-        ensures { self.new ≡ counts_level self.old (port.Terminal terminal) level }
-    {
-        level_wire(&mut self.wires, terminal, level);
     }
 
     /// The terminator of a packet is in the network, or waits at its sender.
     pub fn find(&mut self, packet: Origin)
         ensures { self.new ≡ counts_found self.old packet }
     {
-        find_packet(&mut self.senders, packet);
+        if let Some(sender) = self.senders.get_mut(packet.terminal) {
+            sender.find(packet.number);
+        }
     }
 }
 
