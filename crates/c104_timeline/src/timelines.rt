@@ -5,8 +5,7 @@
 ghost use Rattle.std.specs.Prelude.{◌≡◌, map, replicate, IfOk, OnOk};
 ghost use Rattle.c104_plan.specs.declared.ports.Port.TheVariants as port;
 ghost use Rattle.c104_regs.specs.declared.registers.TheConstants.{LINKS};
-ghost use Rattle.c104_stats.specs.Packets.{change_at};
-ghost use Rattle.c104_timeline.specs.Lanes.{lane_closed, lane_crossed, lane_cut, lane_settled, new_lane};
+ghost use Rattle.c104_timeline.specs.Lanes.{lane_settled, new_lane};
 ghost use Rattle.c104_timeline.specs.Timelines.{last_round, lane_count, link_cut, new_timeline, place_of, port_at, timeline_begun};
 ghost use Rattle.c104_timeline.specs.Timelines.{timeline_closed, timeline_crossed, timeline_cut, timeline_ended, timeline_passed, timeline_settled};
 
@@ -112,21 +111,26 @@ impl Timeline {
     pub fn cross(&mut self, port: Port, ended: Option<Origin>)
         ensures { self.new ≡ timeline_crossed self.old port ended }
     {
-        let round = self.round;
-        if let Some(place) = self.place_of(port) {
-            cross_at(&mut self.lanes, place, round, ended);
+        let place = self.place_of(port);
+        self.active = self.round;
+        if let Some(place) = place
+            && let Some(lane) = self.lanes.get_mut(place)
+        {
+            lane.cross(self.round, ended);
         }
-        self.active = round;
     }
 
     /// The token that crossed at a port last becomes part of what crossed there. The only error is out of memory.
     pub fn settle(&mut self, port: Port) -> Result<(), NoMemory>
         ensures { OnOk result (self.new ≡ timeline_settled self.old port) }
     {
-        if let Some(place) = self.place_of(port) {
-            settle_at(&mut self.lanes, place)?;
+        let Some(place) = self.place_of(port) else {
+            return Ok(());
+        };
+        match self.lanes.get_mut(place) {
+            Some(lane) => lane.settle(),
+            None => Ok(()),
         }
-        Ok(())
     }
 
     /// The tokens in a switch are thrown away, as by a reset of it. A packet that holds the wire out of one of its links has
@@ -145,11 +149,13 @@ impl Timeline {
     fn cut_link(&mut self, switch: usize, link: usize) -> Result<(), NoMemory>
         ensures { OnOk result (self.new ≡ link_cut switch link self.old) }
     {
-        let round = self.round;
-        if let Some(place) = self.link_place(switch, link) {
-            cut_at(&mut self.lanes, place, round)?;
+        let Some(place) = self.link_place(switch, link) else {
+            return Ok(());
+        };
+        match self.lanes.get_mut(place) {
+            Some(lane) => lane.cut(self.round),
+            None => Ok(()),
         }
-        Ok(())
     }
 
     /// A round begins. The only error is out of memory.
@@ -183,7 +189,10 @@ impl Timeline {
         ensures { OnOk result (self.new ≡ timeline_closed self.old place packet) }
     {
         let end = self.last_round();
-        close_at(&mut self.lanes, place, end, packet)
+        match self.lanes.get_mut(place) {
+            Some(lane) => lane.close(end, packet),
+            None => Ok(()),
+        }
     }
 }
 
@@ -215,53 +224,4 @@ fn settle_all(lanes: &mut Vec<Lane>) -> Result<(), NoMemory>
         lane.settle()?;
     }
     Ok(())
-}
-
-/// A token crosses at a place, if there is such a place.
-fn cross_at(lanes: &mut [Lane], place: usize, round: u32, ended: Option<Origin>)
-    ensures { lanes.new ≡ change_at lanes.old place (λ lane. lane_crossed lane round ended) }
-{
-    let Some(_) = lanes.get(place) else {
-        return;
-    };
-    let lane = &mut lanes[place];
-    lane.cross(round, ended);
-}
-
-/// The token that crossed last at a place, if there is such a place, becomes part of what crossed.
-fn settle_at(lanes: &mut [Lane], place: usize) -> Result<(), NoMemory>
-    ensures { OnOk result (lanes.new ≡ change_at lanes.old place lane_settled) }
-{
-    let Some(_) = lanes.get(place) else {
-        return Ok(());
-    };
-    let lane = &mut lanes[place];
-    lane.settle()
-}
-
-/// The tokens that have yet to cross at a place, if there is such a place, are thrown away in this round.
-fn cut_at(lanes: &mut [Lane], place: usize, round: u32) -> Result<(), NoMemory>
-    ensures { OnOk result (lanes.new ≡ change_at lanes.old place (lane_cut round)) }
-{
-    let Some(_) = lanes.get(place) else {
-        return Ok(());
-    };
-    let lane = &mut lanes[place];
-    lane.cut(round)
-}
-
-/// The run is at its end, at a place, if there is such a place.
-fn close_at(
-    lanes: &mut [Lane],
-    place: usize,
-    end: u32,
-    packet: Option<Origin>,
-) -> Result<(), NoMemory>
-    ensures { OnOk result (lanes.new ≡ change_at lanes.old place (lane_closed end packet)) }
-{
-    let Some(_) = lanes.get(place) else {
-        return Ok(());
-    };
-    let lane = &mut lanes[place];
-    lane.close(end, packet)
 }
