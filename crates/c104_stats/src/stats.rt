@@ -75,7 +75,7 @@ impl Stats {
             wires: tables.wires,
             senders: tables.senders,
             rounds: Vec::new(alloc),
-            current: first_round(),
+            current: RoundRow::new(0, Levels::new()),
             active: 0,
         })
     }
@@ -235,7 +235,9 @@ impl Stats {
         ensures kept { OnErr result (self.new ≡ self.old) }
     {
         let current = self.current;
-        keep_round(keeps_rounds(self.what), &mut self.rounds, current)?;
+        if let Some(What::Rounds) = self.what {
+            self.rounds.push(current)?;
+        }
         self.current = RoundRow::new(current.round.saturating_add(1), current.levels);
         Ok(())
     }
@@ -244,7 +246,9 @@ impl Stats {
     pub fn note_done(&mut self, done: bool)
         ensures { self.new ≡ counts_noted self.old done }
     {
-        self.active = active_after(done, self.current.round, self.active);
+        if done {
+            self.active = self.current.round;
+        }
     }
 
     /// This is there before the next round begins, or at the end of all.
@@ -292,33 +296,6 @@ impl Stats {
     }
 }
 
-/// Whether rounds are kept that are over.
-fn keeps_rounds(what: Option<What>) -> bool
-    ensures { result ≡ keeps_rounds what }
-{
-    matches!(what, Some(What::Rounds))
-}
-
-/// A round joins those that are over, if these are kept. The only error is out of memory, and then nothing has changed.
-fn keep_round(keeps: bool, rounds: &mut Vec<RoundRow>, round: RoundRow) -> Result<(), NoMemory>
-    ensures joined { OnOk result (rounds.new.items
-        ≡ (if keeps then rounds.old.items ++ round ∷ [] else rounds.old.items)) }
-    ensures kept { OnErr result (rounds.new.items ≡ rounds.old.items) }
-{
-    if !keeps {
-        return Ok(());
-    }
-    rounds.push(round)?;
-    Ok(())
-}
-
-/// The last round in which something was done, with this one in which something was, or not.
-fn active_after(done: bool, round: u32, active: u32) -> u32
-    ensures { result ≡ (if done then round else active) }
-{
-    if done { round } else { active }
-}
-
 /// What is counted of terminals.
 #[derive(Drop)]
 struct Tables {
@@ -334,8 +311,8 @@ impl Tables {
         ensures wires { IfOk result (λ tables. tables.wires.items ≡ replicate (length plan.now.terminals) new_link) }
         ensures senders { IfOk result (λ tables. tables.senders.items ≡ map (λ (t : TheTerminal). []) plan.now.terminals) }
     {
-        let links = new_rows(alloc, plan.switches().len() * LINKS)?;
-        let wires = new_rows(alloc, plan.terminals().len())?;
+        let links = vec![in alloc; LinkRow::new(); plan.switches().len() * LINKS]?;
+        let wires = vec![in alloc; LinkRow::new(); plan.terminals().len()]?;
         let senders = new_senders(alloc, plan.terminals())?;
         Ok(Tables {
             links,
@@ -343,20 +320,6 @@ impl Tables {
             senders,
         })
     }
-}
-
-/// This many links at which nothing crossed. The only error is out of memory.
-fn new_rows(alloc: Global, count: usize) -> Result<Vec<LinkRow>, NoMemory>
-    ensures { IfOk result (λ rows. rows.items ≡ replicate count new_link) }
-{
-    Ok(vec![in alloc; LinkRow::new(); count]?)
-}
-
-/// The round before the first.
-fn first_round() -> RoundRow
-    ensures { result ≡ new_round 0 no_levels }
-{
-    RoundRow::new(0, Levels::new())
 }
 
 /// These terminals have sent nothing. The only error is out of memory.

@@ -1,5 +1,5 @@
 //! What the counts of a run come to.
-ghost use Rattle.std.specs.Prelude.{◌≡◌, ◌++◌, IfOk, OnOk, IsPermutation, IsSorted, slice_get};
+ghost use Rattle.std.specs.Prelude.{◌≡◌, ◌≤◌, ◌++◌, IfOk, OnOk, IsPermutation, IsSorted, slice_get};
 ghost use Rattle.std.specs.Ordering.{nat_cmp};
 ghost use Rattle.c104_stats.specs.Summaries.{IsSummary, all_endings, all_latencies, endings_with, latencies, latency_if, no_endings};
 ghost use Rattle.c104_stats.specs.Summaries.{one_ending, ranked, sent_count, tokens_with, top_of};
@@ -62,9 +62,9 @@ fn sum_up(header: usize, stats: &Stats, sorted: &[u32]) -> Summary
         rounds: stats.active(),
         endings: all_endings(header, stats),
         least: least_of(sorted),
-        median: median_of(sorted),
-        ninety_five: ninety_five_of(sorted),
-        most: most_of(sorted),
+        median: ranked(50, sorted),
+        ninety_five: ranked(95, sorted),
+        most: ranked(100, sorted),
         tokens: add_tokens(of_links, stats.wires()),
         top: top_of(stats),
     }
@@ -184,30 +184,13 @@ fn least_of(sorted: &[u32]) -> Option<u32>
     sorted.first().copied()
 }
 
-/// The least of these numbers, which ascend, that half of them aren't larger than. None where there is none.
-fn median_of(sorted: &[u32]) -> Option<u32>
-    ensures { result ≡ ranked 50 sorted.now }
+/// The least of these numbers, which ascend, that this percentage of them aren't larger than. None where there is none.
+fn ranked(percent: usize, sorted: &[u32]) -> Option<u32>
+    requires { percent ≤ 100 }
+    ensures { result ≡ ranked percent sorted.now }
 {
     let count = sorted.len();
-    let rank = count / 100 * 50 + (count % 100 * 50 + 99) / 100;
-    sorted.get(rank.saturating_sub(1)).copied()
-}
-
-/// The same of 95 of a hundred.
-fn ninety_five_of(sorted: &[u32]) -> Option<u32>
-    ensures { result ≡ ranked 95 sorted.now }
-{
-    let count = sorted.len();
-    let rank = count / 100 * 95 + (count % 100 * 95 + 99) / 100;
-    sorted.get(rank.saturating_sub(1)).copied()
-}
-
-/// The same of all of them: the largest.
-fn most_of(sorted: &[u32]) -> Option<u32>
-    ensures { result ≡ ranked 100 sorted.now }
-{
-    let count = sorted.len();
-    let rank = count / 100 * 100 + (count % 100 * 100 + 99) / 100;
+    let rank = count / 100 * percent + (count % 100 * percent + 99) / 100;
     sorted.get(rank.saturating_sub(1)).copied()
 }
 

@@ -9,9 +9,9 @@ returns c = λ permutation ascending. record {
   permutation = permutation;
   ascending = ascending;
   least = c.least_of.ensures;
-  median = c.median_of.ensures;
-  ninety_five = c.ninety_five_of.ensures;
-  most = c.most_of.ensures;
+  median = c.ranked.ensures;
+  ninety_five = c.ranked-2.ensures;
+  most = c.ranked-3.ensures;
   tokens = rw (c.add_tokens.ensures, c.add_tokens-of_links.ensures, c.links.ensures, c.wires.ensures) refl;
   top = c.top_of.ensures;
 }
