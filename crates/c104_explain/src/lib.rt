@@ -7,8 +7,7 @@
 //! A person who types a script may ask among its lines: `is_question` recognizes such a line, `about_question` tells
 //! what its message is about, and `question_message` what lines there are, or how a part of the network stands.
 //!
-//! Nothing depends on a message: it is left out where memory is short. What a message says of a reason is proved, and
-//! what the others say isn't.
+//! Nothing depends on a message: it is left out where memory is short. What messages say isn't proved.
 #![tactic(auto)]
 
 mod buffers;
