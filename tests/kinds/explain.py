@@ -536,7 +536,7 @@ def sentences(runner, seen):
             continue
         with open(path, encoding='utf-8') as file:
             code = file.read()
-        for found in re.findall(r'=>\s*\{?\s*"((?:[^"\\]|\\.|\\\n)*)"', code):
+        for found in re.findall(r'=>?\s*\{?\s*"((?:[^"\\]|\\.|\\\n)*)"', code):
             sentence = re.sub(r'\\\n\s*', '', found)
             if runner.wanted('sentence'):
                 is_told = sentence in text or sentence in OF_NO_NETWORK + OF_A_TERMINAL

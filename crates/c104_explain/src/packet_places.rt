@@ -5,8 +5,8 @@ use crate::leftovers::{unfinished_tokens, waiting};
 use crate::reasons::add_port;
 use crate::waiting::add_line;
 use c104_mistakes::{
-    Mistake, ScriptMistake, counted, has_dot, name_of, names_switch, names_terminal,
-    nearest_terminal,
+    Mistake, NO_NODE, NO_NUMBER, NOT_A_TERMINAL, TERMINALS_LINK, counted, has_dot, name_of,
+    names_switch, names_terminal, nearest_terminal,
 };
 use c104_net::{Origin, Origins, TracedNet};
 use c104_plan::{Plan, Port, read_number};
@@ -34,7 +34,7 @@ pub(crate) fn packet_answer(
         return name_mistake(plan, name).text(alloc);
     };
     let Some(number) = read_number(number) else {
-        return Mistake::new(ScriptMistake::NoNumber.sentence(), Some(number)).text(alloc);
+        return Mistake::new(NO_NUMBER, Some(number)).text(alloc);
     };
     let packet = Origin {
         terminal,
@@ -52,15 +52,12 @@ pub(crate) fn packet_answer(
 /// What is wrong with a name that no terminal has.
 fn name_mistake<'a>(plan: &'a Plan, name: &'a [u8]) -> Mistake<'a> {
     if has_dot(name) && names_terminal(plan, name) {
-        return Mistake::new(ScriptMistake::TerminalsLink.sentence(), Some(name));
+        return Mistake::new(TERMINALS_LINK, Some(name));
     }
     if names_switch(plan, name) {
-        return Mistake::new(ScriptMistake::NotATerminal.sentence(), Some(name));
+        return Mistake::new(NOT_A_TERMINAL, Some(name));
     }
-    Mistake::new(ScriptMistake::NoNode.sentence(), Some(name)).near(nearest_terminal(
-        plan,
-        name_of(name),
-    ))
+    Mistake::new(NO_NODE, Some(name)).near(nearest_terminal(plan, name_of(name)))
 }
 
 /// That a terminal hasn't sent a packet yet.

@@ -7,7 +7,7 @@ use crate::packet_places::packet_answer;
 use crate::shown_nodes::{switch_text, terminal_text};
 use crate::shown_ports::port_answer;
 use crate::waiting::waiting_text;
-use c104_mistakes::{About, Mistake, ScriptMistake, has_dot, nearest_node};
+use c104_mistakes::{About, Mistake, NO_NODE, has_dot, nearest_node};
 use c104_net::TracedNet;
 use c104_plan::{cut_words, first_word, uncommented};
 use std::alloc::{AllocError, Global};
@@ -131,7 +131,7 @@ fn node_text(alloc: Global, net: &TracedNet, name: &[u8]) -> Result<String, Allo
     if name == WAITING {
         return waiting_answer(alloc, net);
     }
-    Mistake::new(ScriptMistake::NoNode.sentence(), Some(name))
+    Mistake::new(NO_NODE, Some(name))
         .near(nearest_node(plan, name))
         .text(alloc)
 }

@@ -2,7 +2,9 @@
 ghost use Rattle.std.specs.Prelude.{◌<◌};
 
 use crate::shown_nodes::link_text;
-use c104_mistakes::{LAST_LINK, Mistake, ScriptMistake, link_of, name_of, nearest_switch};
+use c104_mistakes::{
+    LAST_LINK, Mistake, NO_LINK, NO_NODE, TERMINALS_LINK, link_of, name_of, nearest_switch,
+};
 use c104_net::TracedNet;
 use std::alloc::{AllocError, Global};
 
@@ -19,15 +21,15 @@ pub(crate) fn port_answer(
     let name = name_of(word);
     let Some(switch) = plan.switch_number(name) else {
         if plan.terminal_number(name).is_some() {
-            return Mistake::new(ScriptMistake::TerminalsLink.sentence(), Some(word)).text(alloc);
+            return Mistake::new(TERMINALS_LINK, Some(word)).text(alloc);
         }
-        return Mistake::new(ScriptMistake::NoNode.sentence(), Some(word))
+        return Mistake::new(NO_NODE, Some(word))
             .near(nearest_switch(plan, name))
             .text(alloc);
     };
     match link_of(word) {
         Some(link) if link <= LAST_LINK => link_answer(alloc, net, switch, link as usize),
-        _ => Mistake::new(ScriptMistake::NoLink.sentence(), Some(word)).text(alloc),
+        _ => Mistake::new(NO_LINK, Some(word)).text(alloc),
     }
 }
 

@@ -3,7 +3,7 @@ ghost use Rattle.std.specs.Prelude.{◌≡◌};
 ghost use Rattle.c104_mistakes.specs.Refusals.{is_refusal};
 
 use crate::register_ranges::range_of;
-use crate::script_mistakes::ScriptMistake;
+use crate::script_mistakes::{BUSY, COMMAND_LENGTH, NO_COMMAND, NO_REGISTER, READ_ONLY, STARTED};
 use crate::words::{Mistake, word_at};
 use c104_plan::{cut_words, uncommented};
 use c104_token::read_byte;
@@ -30,19 +30,19 @@ pub fn command_message(alloc: Global, line: &[u8], reply: &[u8]) -> Option<Strin
         [REFUSED, number, ..] => command_mistake(*number, words.as_slice())?,
         _ => return None,
     };
-    Mistake::new(what.sentence(), None).text(alloc).ok()
+    Mistake::new(what, None).text(alloc).ok()
 }
 
 /// What is wrong with the command of these words, by the number of its refusal.
-fn command_mistake(number: u8, words: &[&[u8]]) -> Option<ScriptMistake> {
+fn command_mistake(number: u8, words: &[&[u8]]) -> Option<&'static str> {
     match number {
-        1 => Some(ScriptMistake::NoCommand),
-        2 => Some(ScriptMistake::CommandLength),
-        3 => Some(ScriptMistake::NoRegister),
-        4 => Some(ScriptMistake::ReadOnly),
+        1 => Some(NO_COMMAND),
+        2 => Some(COMMAND_LENGTH),
+        3 => Some(NO_REGISTER),
+        4 => Some(READ_ONLY),
         5 => Some(range_of(offset_of(words))),
-        6 => Some(ScriptMistake::Busy),
-        7 => Some(ScriptMistake::Started),
+        6 => Some(BUSY),
+        7 => Some(STARTED),
         _ => None,
     }
 }

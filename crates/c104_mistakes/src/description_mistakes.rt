@@ -1,159 +1,125 @@
-//! The sentences about descriptions.
+//! What is wrong with a line of a description, or what was wanted there: a sentence for each.
 
-/// What is wrong with a description's line, or what was wanted there.
-#[derive(Clone, Copy, Debug)]
-pub enum DescriptionMistake {
-    TooLong,
-    ByteOrderMark,
-    ScriptsWord,
-    ScriptBegins,
-    ScriptLine,
-    NoWord,
-    WrongByte,
-    SwitchLine,
-    TerminalLine,
-    WireLine,
-    HeaderLine,
-    BufferLine,
-    ContinueLine,
-    DeleteLine,
-    BaseLine,
-    RowLine,
-    RandomLine,
-    LabelLine,
-    MeshLine,
-    CubeLine,
-    NoPort,
-    NoLink,
-    NoContinuing,
-    NoCount,
-    NoFirst,
-    NoHeader,
-    NoBuffer,
-    NoBase,
-    NoLimit,
-    NoSelect,
-    NoRandomBase,
-    NoRandomRange,
-    MeshSize,
-    CubeSize,
-    NoName,
-    NameTaken,
-    NoSwitch,
-    NotASwitch,
-    NoTerminal,
-    NotATerminal,
-    SelfWire,
-    TerminalThere,
-    WireThere,
-    Switches,
-    Terminals,
-    Labels,
-    Rows,
-    Sizes,
-    Twice,
-    RandomTwice,
-    Mixed,
-}
+pub(crate) const TOO_LONG: &str = "a description has at most 1048576 bytes";
 
-impl DescriptionMistake {
-    /// The sentence that tells it.
-    pub fn sentence(self) -> &'static str {
-        match self {
-            DescriptionMistake::TooLong => "a description has at most 1048576 bytes",
-            DescriptionMistake::ByteOrderMark => {
-                "the text begins with a byte order mark; save it without one"
-            }
-            DescriptionMistake::ScriptsWord => {
-                "this is a word of scripts, and this is the description; put a line with the one word \
-                 `script` before the script, or the script in a file of its own"
-            }
-            DescriptionMistake::ScriptBegins => {
-                "a description has no script here; leave out this line and what follows it, or give \
-                 the whole text to `c104 run` on standard input"
-            }
-            DescriptionMistake::ScriptLine => {
-                "the line before a script has one word, `script`, and nothing after it"
-            }
-            DescriptionMistake::NoWord => {
-                "a line begins with `switch`, `terminal`, `wire`, `row`, `base`, `continue`, `delete`, \
-                 `random`, `header`, `buffer`, `label`, `mesh` or `cube`"
-            }
-            DescriptionMistake::WrongByte => {
-                "outside of a comment a byte is printable ASCII, a space, a tab or a carriage return"
-            }
-            DescriptionMistake::SwitchLine => "the line is `switch NAME`",
-            DescriptionMistake::TerminalLine => {
-                "the line is `terminal NAME SWITCH.LINK`, optionally followed by `labels COUNT`, \
-                 `from FIRST`, or both in this order"
-            }
-            DescriptionMistake::WireLine => "the line is `wire SWITCH.LINK SWITCH.LINK`",
-            DescriptionMistake::HeaderLine => "the line is `header 1` or `header 2`",
-            DescriptionMistake::BufferLine => "the line is `buffer SIZE`",
-            DescriptionMistake::ContinueLine => "the line is `continue SWITCH.LINK`",
-            DescriptionMistake::DeleteLine => "the line is `delete TERMINAL`",
-            DescriptionMistake::BaseLine => "the line is `base SWITCH.LINK FIRST`",
-            DescriptionMistake::RowLine => "the line is `row SWITCH.LINK LIMIT SELECT`",
-            DescriptionMistake::RandomLine => "the line is `random SWITCH.LINK BASE RANGE`",
-            DescriptionMistake::LabelLine => {
-                "the line is `label tree SWITCH` or `label up-down SWITCH`"
-            }
-            DescriptionMistake::MeshLine => "the line is `mesh COLUMNS ROWS TERMINALS`",
-            DescriptionMistake::CubeLine => "the line is `cube DIMENSIONS TERMINALS`",
-            DescriptionMistake::NoPort => {
-                "a port is the name of a switch, a dot and a link, as A.0"
-            }
-            DescriptionMistake::NoLink => "a link is 0 to 31",
-            DescriptionMistake::NoContinuing => {
-                "a link that continues the group of the link before it is 1 to 31"
-            }
-            DescriptionMistake::NoCount => "a terminal has 1 to 65536 labels",
-            DescriptionMistake::NoFirst => "the first label is 0 to 65535",
-            DescriptionMistake::NoHeader => "a header has 1 or 2 bytes",
-            DescriptionMistake::NoBuffer => {
-                "a buffer has room for 8, 16, 24, 32, 40, 48, 56 or 64 tokens"
-            }
-            DescriptionMistake::NoBase => "a base is 0 to 65535",
-            DescriptionMistake::NoLimit => "a limit is 0 to 65536",
-            DescriptionMistake::NoSelect => "a row selects a link, 0 to 31, `discard` or `sink`",
-            DescriptionMistake::NoRandomBase => "random headers begin at 0 to 65535",
-            DescriptionMistake::NoRandomRange => {
-                "the range of random headers is 0 to 65536, and at 0 the base alone is one"
-            }
-            DescriptionMistake::MeshSize => {
-                "a mesh has 1 to 64 columns, 1 to 64 rows, and 1 to 28 terminals at each switch"
-            }
-            DescriptionMistake::CubeSize => {
-                "a cube has 0 to 6 dimensions, and 1 to 26 terminals at each switch"
-            }
-            DescriptionMistake::NoName => {
-                "a name is a letter and then letters, digits, `_` and `-`, at most 32 in all"
-            }
-            DescriptionMistake::NameTaken => "a switch or a terminal has this name already",
-            DescriptionMistake::NoSwitch => "no earlier line defines a switch of this name",
-            DescriptionMistake::NotASwitch => "this is a terminal, and a switch is wanted",
-            DescriptionMistake::NoTerminal => "no earlier line defines a terminal of this name",
-            DescriptionMistake::NotATerminal => "this is a switch, and a terminal is wanted",
-            DescriptionMistake::SelfWire =>
-                "a wire joins two switches, and both its ends are at the same one",
-            DescriptionMistake::TerminalThere => "the link has a terminal already",
-            DescriptionMistake::WireThere => "the link has a wire already",
-            DescriptionMistake::Switches => "there are at most 64 switches",
-            DescriptionMistake::Terminals => "there are at most 256 terminals",
-            DescriptionMistake::Labels => {
-                "the labels of a terminal end at 65535 at most; without `from` they begin where those \
-                 of the terminal before end"
-            }
-            DescriptionMistake::Rows => "an input has at most 36 rows",
-            DescriptionMistake::Sizes => "there are at most 64 switches and 256 terminals",
-            DescriptionMistake::Twice => "already given by an earlier line",
-            DescriptionMistake::RandomTwice => {
-                "an input has one `random` line, already given by an earlier line"
-            }
-            DescriptionMistake::Mixed => {
-                "the line doesn't go with earlier lines: `label` can't be combined with `row`, `base`, \
-                 `random`, `continue` or `from`, and `mesh` or `cube` only with `header`, `buffer` and `delete`"
-            }
-        }
-    }
-}
+pub(crate) const BYTE_ORDER_MARK: &str =
+    "the text begins with a byte order mark; save it without one";
+
+pub(crate) const SCRIPTS_WORD: &str =
+    "this is a word of scripts, and this is the description; put a line with the one word `script` before \
+     the script, or the script in a file of its own";
+
+pub(crate) const SCRIPT_BEGINS: &str =
+    "a description has no script here; leave out this line and what follows it, or give the whole text to \
+     `c104 run` on standard input";
+
+pub(crate) const SCRIPT_LINE: &str =
+    "the line before a script has one word, `script`, and nothing after it";
+
+pub(crate) const NO_WORD: &str =
+    "a line begins with `switch`, `terminal`, `wire`, `row`, `base`, `continue`, `delete`, `random`, \
+     `header`, `buffer`, `label`, `mesh` or `cube`";
+
+pub(crate) const WRONG_BYTE: &str =
+    "outside of a comment a byte is printable ASCII, a space, a tab or a carriage return";
+
+pub(crate) const SWITCH_LINE: &str = "the line is `switch NAME`";
+
+pub(crate) const TERMINAL_LINE: &str =
+    "the line is `terminal NAME SWITCH.LINK`, optionally followed by `labels COUNT`, `from FIRST`, or \
+     both in this order";
+
+pub(crate) const WIRE_LINE: &str = "the line is `wire SWITCH.LINK SWITCH.LINK`";
+
+pub(crate) const HEADER_LINE: &str = "the line is `header 1` or `header 2`";
+
+pub(crate) const BUFFER_LINE: &str = "the line is `buffer SIZE`";
+
+pub(crate) const CONTINUE_LINE: &str = "the line is `continue SWITCH.LINK`";
+
+pub(crate) const DELETE_LINE: &str = "the line is `delete TERMINAL`";
+
+pub(crate) const BASE_LINE: &str = "the line is `base SWITCH.LINK FIRST`";
+
+pub(crate) const ROW_LINE: &str = "the line is `row SWITCH.LINK LIMIT SELECT`";
+
+pub(crate) const RANDOM_LINE: &str = "the line is `random SWITCH.LINK BASE RANGE`";
+
+pub(crate) const LABEL_LINE: &str = "the line is `label tree SWITCH` or `label up-down SWITCH`";
+
+pub(crate) const MESH_LINE: &str = "the line is `mesh COLUMNS ROWS TERMINALS`";
+
+pub(crate) const CUBE_LINE: &str = "the line is `cube DIMENSIONS TERMINALS`";
+
+pub(crate) const NO_PORT: &str = "a port is the name of a switch, a dot and a link, as A.0";
+
+pub(crate) const NO_LINK: &str = "a link is 0 to 31";
+
+pub(crate) const NO_CONTINUING: &str =
+    "a link that continues the group of the link before it is 1 to 31";
+
+pub(crate) const NO_COUNT: &str = "a terminal has 1 to 65536 labels";
+
+pub(crate) const NO_FIRST: &str = "the first label is 0 to 65535";
+
+pub(crate) const NO_HEADER: &str = "a header has 1 or 2 bytes";
+
+pub(crate) const NO_BUFFER: &str = "a buffer has room for 8, 16, 24, 32, 40, 48, 56 or 64 tokens";
+
+pub(crate) const NO_BASE: &str = "a base is 0 to 65535";
+
+pub(crate) const NO_LIMIT: &str = "a limit is 0 to 65536";
+
+pub(crate) const NO_SELECT: &str = "a row selects a link, 0 to 31, `discard` or `sink`";
+
+pub(crate) const NO_RANDOM_BASE: &str = "random headers begin at 0 to 65535";
+
+pub(crate) const NO_RANDOM_RANGE: &str =
+    "the range of random headers is 0 to 65536, and at 0 the base alone is one";
+
+pub(crate) const MESH_SIZE: &str =
+    "a mesh has 1 to 64 columns, 1 to 64 rows, and 1 to 28 terminals at each switch";
+
+pub(crate) const CUBE_SIZE: &str =
+    "a cube has 0 to 6 dimensions, and 1 to 26 terminals at each switch";
+
+pub(crate) const NO_NAME: &str =
+    "a name is a letter and then letters, digits, `_` and `-`, at most 32 in all";
+
+pub(crate) const NAME_TAKEN: &str = "a switch or a terminal has this name already";
+
+pub(crate) const NO_SWITCH: &str = "no earlier line defines a switch of this name";
+
+pub(crate) const NOT_A_SWITCH: &str = "this is a terminal, and a switch is wanted";
+
+pub(crate) const NO_TERMINAL: &str = "no earlier line defines a terminal of this name";
+
+pub(crate) const NOT_A_TERMINAL: &str = "this is a switch, and a terminal is wanted";
+
+pub(crate) const SELF_WIRE: &str =
+    "a wire joins two switches, and both its ends are at the same one";
+
+pub(crate) const TERMINAL_THERE: &str = "the link has a terminal already";
+
+pub(crate) const WIRE_THERE: &str = "the link has a wire already";
+
+pub(crate) const SWITCHES: &str = "there are at most 64 switches";
+
+pub(crate) const TERMINALS: &str = "there are at most 256 terminals";
+
+pub(crate) const LABELS: &str =
+    "the labels of a terminal end at 65535 at most; without `from` they begin where those of the terminal \
+     before end";
+
+pub(crate) const ROWS: &str = "an input has at most 36 rows";
+
+pub(crate) const SIZES: &str = "there are at most 64 switches and 256 terminals";
+
+pub(crate) const TWICE: &str = "already given by an earlier line";
+
+pub(crate) const RANDOM_TWICE: &str =
+    "an input has one `random` line, already given by an earlier line";
+
+pub(crate) const MIXED: &str =
+    "the line doesn't go with earlier lines: `label` can't be combined with `row`, `base`, `random`, \
+     `continue` or `from`, and `mesh` or `cube` only with `header`, `buffer` and `delete`";

@@ -3,7 +3,15 @@
 //! The names that a description has so far are those of the lines before, which have no fault: they are read again as a
 //! description of their own.
 
-use crate::description_mistakes::DescriptionMistake;
+use crate::description_mistakes::{
+    BASE_LINE, BUFFER_LINE, BYTE_ORDER_MARK, CONTINUE_LINE, CUBE_LINE, CUBE_SIZE, DELETE_LINE,
+    HEADER_LINE, LABEL_LINE, LABELS, MESH_LINE, MESH_SIZE, MIXED, NAME_TAKEN, NO_BASE, NO_BUFFER,
+    NO_CONTINUING, NO_COUNT, NO_FIRST, NO_HEADER, NO_LIMIT, NO_LINK, NO_NAME, NO_PORT,
+    NO_RANDOM_BASE, NO_RANDOM_RANGE, NO_SELECT, NO_SWITCH, NO_TERMINAL, NO_WORD, NOT_A_SWITCH,
+    NOT_A_TERMINAL, RANDOM_LINE, RANDOM_TWICE, ROW_LINE, ROWS, SCRIPT_BEGINS, SCRIPT_LINE,
+    SCRIPTS_WORD, SELF_WIRE, SIZES, SWITCH_LINE, SWITCHES, TERMINAL_LINE, TERMINAL_THERE,
+    TERMINALS, TOO_LONG, TWICE, WIRE_LINE, WIRE_THERE, WRONG_BYTE,
+};
 use crate::nearest::{
     is_script_word, nearest_description_word, nearest_select_word, nearest_switch, nearest_terminal,
 };
@@ -19,27 +27,27 @@ use std::alloc::Global;
 const MAX_TERMINALS: usize = 256;
 
 /// The words with which lines begin, each with what its line is, and how many words that has.
-const FORMS: [(&[u8], DescriptionMistake, usize); 13] = [
-    (b"switch", DescriptionMistake::SwitchLine, 2),
-    (b"terminal", DescriptionMistake::TerminalLine, 3),
-    (b"wire", DescriptionMistake::WireLine, 3),
-    (b"header", DescriptionMistake::HeaderLine, 2),
-    (b"buffer", DescriptionMistake::BufferLine, 2),
-    (b"continue", DescriptionMistake::ContinueLine, 2),
-    (b"delete", DescriptionMistake::DeleteLine, 2),
-    (b"base", DescriptionMistake::BaseLine, 3),
-    (b"row", DescriptionMistake::RowLine, 4),
-    (b"random", DescriptionMistake::RandomLine, 4),
-    (b"label", DescriptionMistake::LabelLine, 3),
-    (b"mesh", DescriptionMistake::MeshLine, 4),
-    (b"cube", DescriptionMistake::CubeLine, 3),
+const FORMS: [(&[u8], &str, usize); 13] = [
+    (b"switch", SWITCH_LINE, 2),
+    (b"terminal", TERMINAL_LINE, 3),
+    (b"wire", WIRE_LINE, 3),
+    (b"header", HEADER_LINE, 2),
+    (b"buffer", BUFFER_LINE, 2),
+    (b"continue", CONTINUE_LINE, 2),
+    (b"delete", DELETE_LINE, 2),
+    (b"base", BASE_LINE, 3),
+    (b"row", ROW_LINE, 4),
+    (b"random", RANDOM_LINE, 4),
+    (b"label", LABEL_LINE, 3),
+    (b"mesh", MESH_LINE, 4),
+    (b"cube", CUBE_LINE, 3),
 ];
 
 /// What is told of a description with this fault. None where the fault isn't this description's, or when out of
 /// memory.
 pub fn description_message(alloc: Global, description: &[u8], fault: PlanFault) -> Option<String> {
     if fault.line == 0 {
-        return told(DescriptionMistake::TooLong, None).text(alloc).ok();
+        return Mistake::new(TOO_LONG, None).text(alloc).ok();
     }
     let number = fault.line - 1;
     // The lines before have no fault.
@@ -85,67 +93,62 @@ fn front_lines(text: &[u8], count: usize) -> &[u8] {
 /// The mistake of a line of these words.
 fn find_mistake<'a>(kind: PlanFaultKind, words: &[&'a [u8]], before: &'a Plan) -> Mistake<'a> {
     match kind {
-        PlanFaultKind::TooLong | PlanFaultKind::NoMemory => told(DescriptionMistake::TooLong, None),
+        PlanFaultKind::TooLong | PlanFaultKind::NoMemory => Mistake::new(TOO_LONG, None),
         PlanFaultKind::UnknownWord => first_word_mistake(words),
         PlanFaultKind::BadShape => shape_mistake(words),
         PlanFaultKind::BadNumber => number_mistake(words),
-        PlanFaultKind::BadName => told(DescriptionMistake::NoName, unnamed(words)),
-        PlanFaultKind::NameTaken => told(DescriptionMistake::NameTaken, word_at(words, 1)),
+        PlanFaultKind::BadName => Mistake::new(NO_NAME, unnamed(words)),
+        PlanFaultKind::NameTaken => Mistake::new(NAME_TAKEN, word_at(words, 1)),
         PlanFaultKind::UnknownName => name_mistake(words, before),
-        PlanFaultKind::SelfWire => told(DescriptionMistake::SelfWire, word_at(words, 2)),
+        PlanFaultKind::SelfWire => Mistake::new(SELF_WIRE, word_at(words, 2)),
         PlanFaultKind::LinkTaken => link_mistake(words, before),
         PlanFaultKind::TooMany => count_mistake(words, before),
         PlanFaultKind::Twice => twice_mistake(words),
-        PlanFaultKind::MixedStyle => told(DescriptionMistake::Mixed, word_at(words, 0)),
+        PlanFaultKind::MixedStyle => Mistake::new(MIXED, word_at(words, 0)),
     }
-}
-
-/// A mistake about a word.
-fn told(what: DescriptionMistake, word: Option<&[u8]>) -> Mistake<'_> {
-    Mistake::new(what.sentence(), word)
 }
 
 /// No line begins with the first word.
 fn first_word_mistake<'a>(words: &[&'a [u8]]) -> Mistake<'a> {
     let word = word_at(words, 0);
     let Some(first) = word else {
-        return told(DescriptionMistake::NoWord, word);
+        return Mistake::new(NO_WORD, word);
     };
     if begins_with_mark(first) {
-        return told(DescriptionMistake::ByteOrderMark, None);
+        return Mistake::new(BYTE_ORDER_MARK, None);
     }
     if is_script_word(first) {
-        return told(DescriptionMistake::ScriptsWord, word);
+        return Mistake::new(SCRIPTS_WORD, word);
     }
     if first == b"script".as_slice() {
         let what = if words.len() == 1 {
-            DescriptionMistake::ScriptBegins
+            SCRIPT_BEGINS
         } else {
-            DescriptionMistake::ScriptLine
+            SCRIPT_LINE
         };
-        return told(what, word_at(words, 1));
+        return Mistake::new(what, word_at(words, 1));
     }
-    told(DescriptionMistake::NoWord, word).near(nearest_description_word(first))
+    Mistake::new(NO_WORD, word).near(nearest_description_word(first))
 }
 
 /// What a line is that begins with the word, and how many words it has.
-fn form_of(first: &[u8]) -> (DescriptionMistake, usize) {
+fn form_of(first: &[u8]) -> (&'static str, usize) {
     for (word, form, count) in FORMS {
         if word == first {
             return (form, count);
         }
     }
-    (DescriptionMistake::NoWord, 0)
+    (NO_WORD, 0)
 }
 
 /// A wrong byte, a wrong count of words, or a port without a dot or with a second one.
 fn shape_mistake<'a>(words: &[&'a [u8]]) -> Mistake<'a> {
     let wrong = unplain_word(words);
     if wrong.is_some() {
-        return told(DescriptionMistake::WrongByte, wrong);
+        return Mistake::new(WRONG_BYTE, wrong);
     }
     let Some(first) = word_at(words, 0) else {
-        return told(DescriptionMistake::NoWord, None);
+        return Mistake::new(NO_WORD, None);
     };
     let (form, count) = form_of(first);
     let is_terminal = first == b"terminal".as_slice();
@@ -154,11 +157,11 @@ fn shape_mistake<'a>(words: &[&'a [u8]]) -> Mistake<'a> {
             if let Some(port) = port
                 && !has_dot(port)
             {
-                return told(DescriptionMistake::NoPort, Some(port));
+                return Mistake::new(NO_PORT, Some(port));
             }
         }
     }
-    told(form, None)
+    Mistake::new(form, None)
 }
 
 /// The words of a line in which a port stands.
@@ -174,10 +177,10 @@ fn ports_of<'a>(first: &[u8], words: &[&'a [u8]]) -> [Option<&'a [u8]>; 2] {
 /// A number that is none, or out of its range.
 fn number_mistake<'a>(words: &[&'a [u8]]) -> Mistake<'a> {
     let Some(first) = word_at(words, 0) else {
-        return told(DescriptionMistake::NoWord, None);
+        return Mistake::new(NO_WORD, None);
     };
     match unlinked_port(first, words) {
-        Some(port) => told(DescriptionMistake::NoLink, Some(port)),
+        Some(port) => Mistake::new(NO_LINK, Some(port)),
         None => value_mistake(first, words),
     }
 }
@@ -198,14 +201,14 @@ fn unlinked_port<'a>(first: &[u8], words: &[&'a [u8]]) -> Option<&'a [u8]> {
 fn value_mistake<'a>(first: &[u8], words: &[&'a [u8]]) -> Mistake<'a> {
     match first {
         b"terminal" => label_mistake(words),
-        b"continue" => told(DescriptionMistake::NoContinuing, word_at(words, 1)),
-        b"base" => told(DescriptionMistake::NoBase, word_at(words, 2)),
+        b"continue" => Mistake::new(NO_CONTINUING, word_at(words, 1)),
+        b"base" => Mistake::new(NO_BASE, word_at(words, 2)),
         b"row" => row_mistake(words),
         b"random" => random_mistake(words),
-        b"buffer" => told(DescriptionMistake::NoBuffer, word_at(words, 1)),
-        b"mesh" => told(DescriptionMistake::MeshSize, None),
-        b"cube" => told(DescriptionMistake::CubeSize, None),
-        _ => told(DescriptionMistake::NoHeader, word_at(words, 1)),
+        b"buffer" => Mistake::new(NO_BUFFER, word_at(words, 1)),
+        b"mesh" => Mistake::new(MESH_SIZE, None),
+        b"cube" => Mistake::new(CUBE_SIZE, None),
+        _ => Mistake::new(NO_HEADER, word_at(words, 1)),
     }
 }
 
@@ -214,28 +217,26 @@ fn label_mistake<'a>(words: &[&'a [u8]]) -> Mistake<'a> {
     let labels = b"labels".as_slice();
     match words {
         [_, _, _, word, count, ..] if *word == labels && !is_within(1, 65_536, count) => {
-            told(DescriptionMistake::NoCount, Some(*count))
+            Mistake::new(NO_COUNT, Some(*count))
         }
         [_, _, _, word, _, _, first, ..] if *word == labels => {
-            told(DescriptionMistake::NoFirst, Some(*first))
+            Mistake::new(NO_FIRST, Some(*first))
         }
-        _ => told(DescriptionMistake::NoFirst, word_at(words, 4)),
+        _ => Mistake::new(NO_FIRST, word_at(words, 4)),
     }
 }
 
 /// A limit or a select that is none.
 fn row_mistake<'a>(words: &[&'a [u8]]) -> Mistake<'a> {
     match word_at(words, 2) {
-        Some(limit) if !is_within(0, 65_536, limit) => {
-            told(DescriptionMistake::NoLimit, Some(limit))
-        }
+        Some(limit) if !is_within(0, 65_536, limit) => { Mistake::new(NO_LIMIT, Some(limit)) }
         _ => select_mistake(word_at(words, 3)),
     }
 }
 
 /// A select that is none.
 fn select_mistake(word: Option<&[u8]>) -> Mistake<'_> {
-    let mistake = told(DescriptionMistake::NoSelect, word);
+    let mistake = Mistake::new(NO_SELECT, word);
     match word {
         Some(select) => mistake.near(nearest_select_word(select)),
         None => mistake,
@@ -245,18 +246,16 @@ fn select_mistake(word: Option<&[u8]>) -> Mistake<'_> {
 /// A base or a range of random headers that is none.
 fn random_mistake<'a>(words: &[&'a [u8]]) -> Mistake<'a> {
     match word_at(words, 2) {
-        Some(base) if !is_within(0, 65_535, base) => {
-            told(DescriptionMistake::NoRandomBase, Some(base))
-        }
-        _ => told(DescriptionMistake::NoRandomRange, word_at(words, 3)),
+        Some(base) if !is_within(0, 65_535, base) => { Mistake::new(NO_RANDOM_BASE, Some(base)) }
+        _ => Mistake::new(NO_RANDOM_RANGE, word_at(words, 3)),
     }
 }
 
 /// A line that may stand once, and stands before.
 fn twice_mistake<'a>(words: &[&'a [u8]]) -> Mistake<'a> {
     match word_at(words, 0) {
-        Some(b"random") => told(DescriptionMistake::RandomTwice, word_at(words, 1)),
-        first => told(DescriptionMistake::Twice, first),
+        Some(b"random") => Mistake::new(RANDOM_TWICE, word_at(words, 1)),
+        first => Mistake::new(TWICE, first),
     }
 }
 
@@ -295,7 +294,7 @@ fn unnamed_port<'a>(first: &[u8], words: &[&'a [u8]]) -> Option<&'a [u8]> {
 /// A name that nothing has, or that something of another kind has.
 fn name_mistake<'a>(words: &[&'a [u8]], before: &'a Plan) -> Mistake<'a> {
     let Some(first) = word_at(words, 0) else {
-        return told(DescriptionMistake::NoWord, None);
+        return Mistake::new(NO_WORD, None);
     };
     if first == b"delete".as_slice() {
         return terminal_mistake(word_at(words, 1), before);
@@ -310,13 +309,13 @@ fn name_mistake<'a>(words: &[&'a [u8]], before: &'a Plan) -> Mistake<'a> {
             return switch_mistake(port, before);
         }
     }
-    told(DescriptionMistake::NoSwitch, Some(first))
+    Mistake::new(NO_SWITCH, Some(first))
 }
 
 /// No switch has the name of the root of a tree.
 fn root_mistake<'a>(word: Option<&'a [u8]>, before: &'a Plan) -> Mistake<'a> {
     let Some(name) = word else {
-        return told(DescriptionMistake::NoSwitch, None);
+        return Mistake::new(NO_SWITCH, None);
     };
     switch_mistake(name, before)
 }
@@ -324,39 +323,39 @@ fn root_mistake<'a>(word: Option<&'a [u8]>, before: &'a Plan) -> Mistake<'a> {
 /// No terminal has the name.
 fn terminal_mistake<'a>(word: Option<&'a [u8]>, before: &'a Plan) -> Mistake<'a> {
     let Some(name) = word else {
-        return told(DescriptionMistake::NoTerminal, None);
+        return Mistake::new(NO_TERMINAL, None);
     };
     if names_switch(before, name) {
-        return told(DescriptionMistake::NotATerminal, word);
+        return Mistake::new(NOT_A_TERMINAL, word);
     }
-    told(DescriptionMistake::NoTerminal, word).near(nearest_terminal(before, name))
+    Mistake::new(NO_TERMINAL, word).near(nearest_terminal(before, name))
 }
 
 /// No switch has the name before the dot.
 fn switch_mistake<'a>(port: &'a [u8], before: &'a Plan) -> Mistake<'a> {
     if names_terminal(before, port) {
-        return told(DescriptionMistake::NotASwitch, Some(port));
+        return Mistake::new(NOT_A_SWITCH, Some(port));
     }
-    told(DescriptionMistake::NoSwitch, Some(port)).near(nearest_switch(before, name_of(port)))
+    Mistake::new(NO_SWITCH, Some(port)).near(nearest_switch(before, name_of(port)))
 }
 
 /// A link that is taken.
 fn link_mistake<'a>(words: &[&'a [u8]], before: &Plan) -> Mistake<'a> {
     let Some(first) = word_at(words, 0) else {
-        return told(DescriptionMistake::NoWord, None);
+        return Mistake::new(NO_WORD, None);
     };
     for word in ports_of(first, words) {
         let Some(port) = port_of(word, before) else {
             continue;
         };
         if has_terminal(before, port) {
-            return told(DescriptionMistake::TerminalThere, word);
+            return Mistake::new(TERMINAL_THERE, word);
         }
         if has_wire(before, port) {
-            return told(DescriptionMistake::WireThere, word);
+            return Mistake::new(WIRE_THERE, word);
         }
     }
-    told(DescriptionMistake::WireThere, None)
+    Mistake::new(WIRE_THERE, None)
 }
 
 /// The port that a word names.
@@ -387,10 +386,10 @@ fn has_wire(before: &Plan, port: Port) -> bool {
 fn count_mistake<'a>(words: &[&'a [u8]], before: &Plan) -> Mistake<'a> {
     let word = word_at(words, 1);
     match word_at(words, 0) {
-        Some(b"switch") => told(DescriptionMistake::Switches, word),
-        Some(b"row") => told(DescriptionMistake::Rows, word),
-        Some(b"mesh" | b"cube") => told(DescriptionMistake::Sizes, None),
-        _ if before.terminals().len() >= MAX_TERMINALS => told(DescriptionMistake::Terminals, word),
-        _ => told(DescriptionMistake::Labels, word),
+        Some(b"switch") => Mistake::new(SWITCHES, word),
+        Some(b"row") => Mistake::new(ROWS, word),
+        Some(b"mesh" | b"cube") => Mistake::new(SIZES, None),
+        _ if before.terminals().len() >= MAX_TERMINALS => Mistake::new(TERMINALS, word),
+        _ => Mistake::new(LABELS, word),
     }
 }

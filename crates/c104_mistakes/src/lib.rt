@@ -23,7 +23,7 @@ pub use commands::{command_message, is_refusal};
 pub use descriptions::description_message;
 pub use messages::{About, Behind, Messages, Silent, tell_if_long, tell_lines};
 pub use nearest::{nearest_node, nearest_switch, nearest_terminal};
-pub use script_mistakes::ScriptMistake;
+pub use script_mistakes::{NO_LINK, NO_NODE, NO_NUMBER, NOT_A_TERMINAL, TERMINALS_LINK};
 pub use scripts::{fault_message, owner_message, refusal_message, register_message};
 pub use words::{
     LAST_LINK, Mistake, counted, has_dot, link_of, name_of, names_switch, names_terminal,

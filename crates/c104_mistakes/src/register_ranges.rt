@@ -1,6 +1,8 @@
 //! The values that registers take.
 
-use crate::script_mistakes::ScriptMistake;
+use crate::script_mistakes::{
+    BASE_RANGE, LIMIT_RANGE, MODE_RANGE, RANDOM_BASE_RANGE, RANDOM_RANGE_RANGE, SELECT_RANGE,
+};
 
 /// The offsets of a link's registers that can be set, but for the rows of its table.
 const MODE: u8 = 0x00;
@@ -15,19 +17,19 @@ const BASE: u8 = 0x3f;
 const FIRST_SELECT: u8 = 0x80;
 
 /// What the register takes that refused a value, by its offset among those of a link.
-pub(crate) fn range_of(offset: u8) -> ScriptMistake {
+pub(crate) fn range_of(offset: u8) -> &'static str {
     match offset {
-        MODE => ScriptMistake::ModeRange,
-        RANDOM_BASE => ScriptMistake::RandomBaseRange,
-        RANDOM_RANGE => ScriptMistake::RandomRangeRange,
-        BASE => ScriptMistake::BaseRange,
-        _ if offset < FIRST_SELECT => ScriptMistake::LimitRange,
-        _ => ScriptMistake::SelectRange,
+        MODE => MODE_RANGE,
+        RANDOM_BASE => RANDOM_BASE_RANGE,
+        RANDOM_RANGE => RANDOM_RANGE_RANGE,
+        BASE => BASE_RANGE,
+        _ if offset < FIRST_SELECT => LIMIT_RANGE,
+        _ => SELECT_RANGE,
     }
 }
 
 /// The same by the word of its address, of which the last two hexadecimal digits are that offset.
-pub(crate) fn range_of_word(word: Option<&[u8]>) -> ScriptMistake {
+pub(crate) fn range_of_word(word: Option<&[u8]>) -> &'static str {
     let offset = match word {
         Some([.., high, low]) => 16u8
             .saturating_mul(digit_value(*high))

@@ -5,7 +5,14 @@ use crate::nearest::{
     is_description_word, nearest_node, nearest_script_word, nearest_switch, nearest_terminal,
 };
 use crate::register_ranges::range_of_word;
-use crate::script_mistakes::ScriptMistake;
+use crate::script_mistakes::{
+    AFTER_END, BUSY, BYTE_ORDER_MARK, CLAIM_LINE, CONTROL_LINE, CREDIT_LINE, CROSS_LINE,
+    DESCRIPTIONS_WORD, DRAIN_LINE, INBOX_FULL, INPUT_LINE, LINE_TOO_LONG, LINK_LINE, LINK_MISSING,
+    NO_ADDRESS, NO_BYTE, NO_END, NO_INPUT, NO_LINK, NO_NODE, NO_NUMBER, NO_PORT, NO_REGISTER,
+    NO_ROUNDS, NO_TOKEN, NO_VALUE, NO_WORD, NO_WORD_ASKED, NOT_A_SWITCH, NOT_A_TERMINAL, NOT_WIRED,
+    OUTBOX_FULL, PACKET_TOO_LONG, PEEK_LINE, POKE_LINE, READ_ONLY, ROUNDS_LINE, SCRIPT_BEGAN,
+    SEND_LINE, SWITCHS_LINK, TABLE_LINE, TERMINALS_LINK, TRACE_FULL, VERIFY_LINE, WRONG_BYTE,
+};
 use crate::words::{
     LAST_LINK, Mistake, begins_with_mark, has_dot, is_within, link_of, name_of, names_switch,
     names_terminal, shown_text, unplain_word, word_at,
@@ -31,7 +38,7 @@ pub fn fault_message(
     is_asked: bool,
 ) -> Option<String> {
     if fault == LineFault::LineTooLong {
-        return told(ScriptMistake::LineTooLong, None).text(alloc).ok();
+        return Mistake::new(LINE_TOO_LONG, None).text(alloc).ok();
     }
     let words = cut_words(alloc, uncommented(line)).ok()?;
     find_fault(fault, words.as_slice(), is_asked)
@@ -55,10 +62,10 @@ pub fn register_message(alloc: Global, line: &[u8], fault: RegFault) -> Option<S
     let words = cut_words(alloc, uncommented(line)).ok()?;
     let words = words.as_slice();
     let mistake = match fault {
-        RegFault::NoRegister => told(ScriptMistake::NoRegister, word_at(words, 2)),
-        RegFault::ReadOnly => told(ScriptMistake::ReadOnly, word_at(words, 2)),
-        RegFault::OutOfRange => told(range_of_word(word_at(words, 2)), word_at(words, 3)),
-        RegFault::Busy => told(ScriptMistake::Busy, word_at(words, 2)),
+        RegFault::NoRegister => Mistake::new(NO_REGISTER, word_at(words, 2)),
+        RegFault::ReadOnly => Mistake::new(READ_ONLY, word_at(words, 2)),
+        RegFault::OutOfRange => Mistake::new(range_of_word(word_at(words, 2)), word_at(words, 3)),
+        RegFault::Busy => Mistake::new(BUSY, word_at(words, 2)),
     };
     mistake.text(alloc).ok()
 }
@@ -79,75 +86,66 @@ pub fn owner_message(alloc: Global, line: &[u8], owner: u32) -> Option<String>
     format!(in alloc; "output {output} belongs to the packet of input {switch}.{input}").ok()
 }
 
-/// A mistake about a word.
-fn told(what: ScriptMistake, word: Option<&[u8]>) -> Mistake<'_> {
-    Mistake::new(what.sentence(), word)
-}
-
 /// The mistake of a faulty line of these words.
 fn find_fault<'a>(fault: LineFault, words: &[&'a [u8]], is_asked: bool) -> Mistake<'a> {
     match fault {
-        LineFault::LineTooLong | LineFault::NoMemory => told(ScriptMistake::LineTooLong, None),
+        LineFault::LineTooLong | LineFault::NoMemory => Mistake::new(LINE_TOO_LONG, None),
         LineFault::UnknownWord => first_word_mistake(word_at(words, 0), is_asked),
         LineFault::BadShape => shape_mistake(words),
         LineFault::BadNumber => number_mistake(words),
         LineFault::BadHex => hex_mistake(words),
-        LineFault::NoEnd => told(ScriptMistake::NoEnd, words.last().copied()),
-        LineFault::AfterEnd => told(ScriptMistake::AfterEnd, word_after_end(words)),
-        LineFault::PacketTooLong => told(ScriptMistake::PacketTooLong, None),
+        LineFault::NoEnd => Mistake::new(NO_END, words.last().copied()),
+        LineFault::AfterEnd => Mistake::new(AFTER_END, word_after_end(words)),
+        LineFault::PacketTooLong => Mistake::new(PACKET_TOO_LONG, None),
     }
 }
 
 /// No line begins with the word.
 fn first_word_mistake(word: Option<&[u8]>, is_asked: bool) -> Mistake<'_> {
     let Some(first) = word else {
-        return told(ScriptMistake::NoWord, word);
+        return Mistake::new(NO_WORD, word);
     };
     if begins_with_mark(first) {
-        return told(ScriptMistake::ByteOrderMark, None);
+        return Mistake::new(BYTE_ORDER_MARK, None);
     }
     if is_description_word(first) {
-        return told(ScriptMistake::DescriptionsWord, word);
+        return Mistake::new(DESCRIPTIONS_WORD, word);
     }
     if first == b"script".as_slice() {
-        return told(ScriptMistake::ScriptBegan, word);
+        return Mistake::new(SCRIPT_BEGAN, word);
     }
-    let what = if is_asked {
-        ScriptMistake::NoWordAsked
-    } else {
-        ScriptMistake::NoWord
-    };
-    told(what, word).near(nearest_script_word(first))
+    let what = if is_asked { NO_WORD_ASKED } else { NO_WORD };
+    Mistake::new(what, word).near(nearest_script_word(first))
 }
 
 /// What a line is that begins with the word.
-fn form_of(first: &[u8]) -> ScriptMistake {
+fn form_of(first: &[u8]) -> &'static str {
     match first {
-        b"send" => ScriptMistake::SendLine,
-        b"drain" => ScriptMistake::DrainLine,
-        b"cross" => ScriptMistake::CrossLine,
-        b"credit" => ScriptMistake::CreditLine,
-        b"input" => ScriptMistake::InputLine,
-        b"claim" => ScriptMistake::ClaimLine,
-        b"control" => ScriptMistake::ControlLine,
-        b"peek" => ScriptMistake::PeekLine,
-        b"poke" => ScriptMistake::PokeLine,
-        b"link" => ScriptMistake::LinkLine,
-        b"table" => ScriptMistake::TableLine,
-        b"verify" => ScriptMistake::VerifyLine,
-        _ => ScriptMistake::RoundsLine,
+        b"send" => SEND_LINE,
+        b"drain" => DRAIN_LINE,
+        b"cross" => CROSS_LINE,
+        b"credit" => CREDIT_LINE,
+        b"input" => INPUT_LINE,
+        b"claim" => CLAIM_LINE,
+        b"control" => CONTROL_LINE,
+        b"peek" => PEEK_LINE,
+        b"poke" => POKE_LINE,
+        b"link" => LINK_LINE,
+        b"table" => TABLE_LINE,
+        b"verify" => VERIFY_LINE,
+        _ => ROUNDS_LINE,
     }
 }
 
-/// Whether a line of this form may have `count` words.
-fn may_have(form: ScriptMistake, count: usize) -> bool {
-    match form {
-        ScriptMistake::SendLine => count >= 2,
-        ScriptMistake::InputLine => count == 2 || count == 3,
-        ScriptMistake::ClaimLine | ScriptMistake::PokeLine => count == 4,
-        ScriptMistake::ControlLine => 2 <= count && count <= MAX_CONTROL_WORDS,
-        ScriptMistake::PeekLine => count == 3,
-        ScriptMistake::VerifyLine => count == 1,
+/// Whether a line that begins with the word may have `count` words.
+fn may_have(first: &[u8], count: usize) -> bool {
+    match first {
+        b"send" => count >= 2,
+        b"input" => count == 2 || count == 3,
+        b"claim" | b"poke" => count == 4,
+        b"control" => 2 <= count && count <= MAX_CONTROL_WORDS,
+        b"peek" => count == 3,
+        b"verify" => count == 1,
         _ => count == 2,
     }
 }
@@ -156,31 +154,30 @@ fn may_have(form: ScriptMistake, count: usize) -> bool {
 fn shape_mistake<'a>(words: &[&'a [u8]]) -> Mistake<'a> {
     let wrong = unplain_word(words);
     if wrong.is_some() {
-        return told(ScriptMistake::WrongByte, wrong);
+        return Mistake::new(WRONG_BYTE, wrong);
     }
     let Some(first) = word_at(words, 0) else {
-        return told(ScriptMistake::NoWord, None);
+        return Mistake::new(NO_WORD, None);
     };
-    let form = form_of(first);
-    if may_have(form, words.len()) {
-        return told(ScriptMistake::NoPort, word_at(words, 1));
+    if may_have(first, words.len()) {
+        return Mistake::new(NO_PORT, word_at(words, 1));
     }
-    told(form, None)
+    Mistake::new(form_of(first), None)
 }
 
 /// A number that is none, or out of its range.
 fn number_mistake<'a>(words: &[&'a [u8]]) -> Mistake<'a> {
     if word_at(words, 0) == Some(b"rounds".as_slice()) {
-        return told(ScriptMistake::NoRounds, word_at(words, 1));
+        return Mistake::new(NO_ROUNDS, word_at(words, 1));
     }
     match words {
         [_, node, ..] if has_dot(node) && link_of(node).is_none() => {
-            told(ScriptMistake::NoLink, Some(*node))
+            Mistake::new(NO_LINK, Some(*node))
         }
         [_, _, input, ..] if read_number(input).is_none() => {
-            told(ScriptMistake::NoNumber, Some(*input))
+            Mistake::new(NO_NUMBER, Some(*input))
         }
-        _ => told(ScriptMistake::NoNumber, word_at(words, 3)),
+        _ => Mistake::new(NO_NUMBER, word_at(words, 3)),
     }
 }
 
@@ -189,9 +186,9 @@ fn hex_mistake<'a>(words: &[&'a [u8]]) -> Mistake<'a> {
     match words {
         [b"peek" | b"poke", _, addr, rest @ ..] => {
             if is_hex(addr, ADDRESS_DIGITS) {
-                told(ScriptMistake::NoValue, word_at(rest, 0))
+                Mistake::new(NO_VALUE, word_at(rest, 0))
             } else {
-                told(ScriptMistake::NoAddress, Some(*addr))
+                Mistake::new(NO_ADDRESS, Some(*addr))
             }
         }
         _ => byte_mistake(words),
@@ -206,20 +203,16 @@ fn is_hex(word: &[u8], most: usize) -> bool {
 /// A word that is no byte.
 fn byte_mistake<'a>(words: &[&'a [u8]]) -> Mistake<'a> {
     let is_packet = word_at(words, 0) == Some(b"send".as_slice());
-    let what = if is_packet {
-        ScriptMistake::NoToken
-    } else {
-        ScriptMistake::NoByte
-    };
+    let what = if is_packet { NO_TOKEN } else { NO_BYTE };
     let [_, _, bytes @ ..] = words else {
-        return told(what, None);
+        return Mistake::new(what, None);
     };
     for word in bytes {
         if read_byte(word).is_none() {
-            return told(what, Some(*word));
+            return Mistake::new(what, Some(*word));
         }
     }
-    told(what, None)
+    Mistake::new(what, None)
 }
 
 /// The word behind the end of a packet.
@@ -239,53 +232,53 @@ fn find_refusal<'a>(fault: EventFault, words: &[&'a [u8]], plan: &'a Plan) -> Mi
     match fault {
         EventFault::NoNode => node_mistake(words, plan),
         EventFault::NoLink => link_mistake(words, plan),
-        EventFault::NotWired => told(ScriptMistake::NotWired, word_at(words, 1)),
-        EventFault::TooLong => told(ScriptMistake::PacketTooLong, None),
-        EventFault::OutboxFull => told(ScriptMistake::OutboxFull, word_at(words, 1)),
-        EventFault::InboxFull => told(ScriptMistake::InboxFull, None),
-        EventFault::TraceFull | EventFault::NoMemory => told(ScriptMistake::TraceFull, None),
+        EventFault::NotWired => Mistake::new(NOT_WIRED, word_at(words, 1)),
+        EventFault::TooLong => Mistake::new(PACKET_TOO_LONG, None),
+        EventFault::OutboxFull => Mistake::new(OUTBOX_FULL, word_at(words, 1)),
+        EventFault::InboxFull => Mistake::new(INBOX_FULL, None),
+        EventFault::TraceFull | EventFault::NoMemory => Mistake::new(TRACE_FULL, None),
     }
 }
 
 /// A name that nothing has, or that something of another kind has.
 fn node_mistake<'a>(words: &[&'a [u8]], plan: &'a Plan) -> Mistake<'a> {
     let [first, node, ..] = words else {
-        return told(ScriptMistake::NoNode, None);
+        return Mistake::new(NO_NODE, None);
     };
     let name = name_of(node);
     match *first {
         b"send" | b"drain" if names_switch(plan, node) => {
-            told(ScriptMistake::NotATerminal, Some(*node))
+            Mistake::new(NOT_A_TERMINAL, Some(*node))
         }
         b"send" | b"drain" => {
-            told(ScriptMistake::NoNode, Some(*node)).near(nearest_terminal(plan, name))
+            Mistake::new(NO_NODE, Some(*node)).near(nearest_terminal(plan, name))
         }
         b"cross" | b"credit" => {
-            told(ScriptMistake::NoNode, Some(*node)).near(nearest_node(plan, name))
+            Mistake::new(NO_NODE, Some(*node)).near(nearest_node(plan, name))
         }
-        _ if names_terminal(plan, node) => told(ScriptMistake::NotASwitch, Some(*node)),
-        _ => told(ScriptMistake::NoNode, Some(*node)).near(nearest_switch(plan, name)),
+        _ if names_terminal(plan, node) => Mistake::new(NOT_A_SWITCH, Some(*node)),
+        _ => Mistake::new(NO_NODE, Some(*node)).near(nearest_switch(plan, name)),
     }
 }
 
 /// A link where none is wanted, none where one is, or a number past the last.
 fn link_mistake<'a>(words: &[&'a [u8]], plan: &Plan) -> Mistake<'a> {
     let [first, node, rest @ ..] = words else {
-        return told(ScriptMistake::NoLink, None);
+        return Mistake::new(NO_LINK, None);
     };
     if names_terminal(plan, node) {
-        return told(ScriptMistake::TerminalsLink, Some(*node));
+        return Mistake::new(TERMINALS_LINK, Some(*node));
     }
     if matches!(*first, b"claim" | b"control" | b"peek" | b"poke") {
         if has_dot(node) {
-            return told(ScriptMistake::SwitchsLink, Some(*node));
+            return Mistake::new(SWITCHS_LINK, Some(*node));
         }
-        return told(ScriptMistake::NoInput, first_past(rest));
+        return Mistake::new(NO_INPUT, first_past(rest));
     }
     if has_dot(node) {
-        return told(ScriptMistake::NoLink, Some(*node));
+        return Mistake::new(NO_LINK, Some(*node));
     }
-    told(ScriptMistake::LinkMissing, Some(*node))
+    Mistake::new(LINK_MISSING, Some(*node))
 }
 
 /// The first number that is no link's.
