@@ -4,17 +4,14 @@
 //! description of their own.
 
 use crate::description_mistakes::{
-    BASE_LINE, BUFFER_LINE, BYTE_ORDER_MARK, CONTINUE_LINE, CUBE_LINE, CUBE_SIZE, DELETE_LINE,
-    HEADER_LINE, LABEL_LINE, LABELS, MESH_LINE, MESH_SIZE, MIXED, NAME_TAKEN, NO_BASE, NO_BUFFER,
+    BYTE_ORDER_MARK, CUBE_SIZE, LABELS, MESH_SIZE, MIXED, NAME_TAKEN, NO_BASE, NO_BUFFER,
     NO_CONTINUING, NO_COUNT, NO_FIRST, NO_HEADER, NO_LIMIT, NO_LINK, NO_NAME, NO_PORT,
     NO_RANDOM_BASE, NO_RANDOM_RANGE, NO_SELECT, NO_SWITCH, NO_TERMINAL, NO_WORD, NOT_A_SWITCH,
-    NOT_A_TERMINAL, RANDOM_LINE, RANDOM_TWICE, ROW_LINE, ROWS, SCRIPT_BEGINS, SCRIPT_LINE,
-    SCRIPTS_WORD, SELF_WIRE, SIZES, SWITCH_LINE, SWITCHES, TERMINAL_LINE, TERMINAL_THERE,
-    TERMINALS, TOO_LONG, TWICE, WIRE_LINE, WIRE_THERE, WRONG_BYTE,
+    NOT_A_TERMINAL, RANDOM_TWICE, ROWS, SCRIPT_BEGINS, SCRIPT_LINE, SCRIPTS_WORD, SELF_WIRE, SIZES,
+    SWITCHES, TERMINAL_THERE, TERMINALS, TOO_LONG, TWICE, WIRE_THERE, WRONG_BYTE,
 };
-use crate::nearest::{
-    is_script_word, nearest_description_word, nearest_select_word, nearest_switch, nearest_terminal,
-};
+use crate::forms::{DESCRIPTION_FORMS, SCRIPT_FORMS, form_of, nearest_form};
+use crate::nearest::{nearest_select_word, nearest_switch, nearest_terminal};
 use crate::words::{
     Mistake, begins_with_mark, has_dot, has_link, is_within, link_of, name_of, names_switch,
     names_terminal, unplain_word, word_at,
@@ -25,23 +22,6 @@ use std::alloc::Global;
 
 /// The most terminals.
 const MAX_TERMINALS: usize = 256;
-
-/// The words with which lines begin, each with what its line is, and how many words that has.
-const FORMS: [(&[u8], &str, usize); 13] = [
-    (b"switch", SWITCH_LINE, 2),
-    (b"terminal", TERMINAL_LINE, 3),
-    (b"wire", WIRE_LINE, 3),
-    (b"header", HEADER_LINE, 2),
-    (b"buffer", BUFFER_LINE, 2),
-    (b"continue", CONTINUE_LINE, 2),
-    (b"delete", DELETE_LINE, 2),
-    (b"base", BASE_LINE, 3),
-    (b"row", ROW_LINE, 4),
-    (b"random", RANDOM_LINE, 4),
-    (b"label", LABEL_LINE, 3),
-    (b"mesh", MESH_LINE, 4),
-    (b"cube", CUBE_LINE, 3),
-];
 
 /// What is told of a description with this fault. None where the fault isn't this description's, or when out of
 /// memory.
@@ -110,35 +90,18 @@ fn find_mistake<'a>(kind: PlanFaultKind, words: &[&'a [u8]], before: &'a Plan) -
 
 /// No line begins with the first word.
 fn first_word_mistake<'a>(words: &[&'a [u8]]) -> Mistake<'a> {
-    let word = word_at(words, 0);
-    let Some(first) = word else {
-        return Mistake::new(NO_WORD, word);
-    };
-    if begins_with_mark(first) {
-        return Mistake::new(BYTE_ORDER_MARK, None);
-    }
-    if is_script_word(first) {
-        return Mistake::new(SCRIPTS_WORD, word);
-    }
-    if first == b"script".as_slice() {
-        let what = if words.len() == 1 {
-            SCRIPT_BEGINS
-        } else {
-            SCRIPT_LINE
-        };
-        return Mistake::new(what, word_at(words, 1));
-    }
-    Mistake::new(NO_WORD, word).near(nearest_description_word(first))
-}
-
-/// What a line is that begins with the word, and how many words it has.
-fn form_of(first: &[u8]) -> (&'static str, usize) {
-    for (word, form, count) in FORMS {
-        if word == first {
-            return (form, count);
+    match words {
+        [] => Mistake::new(NO_WORD, None),
+        [b"script"] => Mistake::new(SCRIPT_BEGINS, None),
+        [b"script", next, ..] => Mistake::new(SCRIPT_LINE, Some(*next)),
+        [first, ..] if begins_with_mark(first) => Mistake::new(BYTE_ORDER_MARK, None),
+        [first, ..] if form_of(&SCRIPT_FORMS, words).is_some() => {
+            Mistake::new(SCRIPTS_WORD, Some(*first))
+        }
+        [first, ..] => {
+            Mistake::new(NO_WORD, Some(*first)).near(nearest_form(&DESCRIPTION_FORMS, first))
         }
     }
-    (NO_WORD, 0)
 }
 
 /// A wrong byte, a wrong count of words, or a port without a dot or with a second one.
@@ -147,12 +110,10 @@ fn shape_mistake<'a>(words: &[&'a [u8]]) -> Mistake<'a> {
     if wrong.is_some() {
         return Mistake::new(WRONG_BYTE, wrong);
     }
-    let Some(first) = word_at(words, 0) else {
+    let Some((first, line, least, most)) = form_of(&DESCRIPTION_FORMS, words) else {
         return Mistake::new(NO_WORD, None);
     };
-    let (form, count) = form_of(first);
-    let is_terminal = first == b"terminal".as_slice();
-    if words.len() == count || (is_terminal && words.len() > count) {
+    if least <= words.len() && words.len() <= most {
         for port in ports_of(first, words) {
             if let Some(port) = port
                 && !has_dot(port)
@@ -161,7 +122,7 @@ fn shape_mistake<'a>(words: &[&'a [u8]]) -> Mistake<'a> {
             }
         }
     }
-    Mistake::new(form, None)
+    Mistake::new(line, None)
 }
 
 /// The words of a line in which a port stands.

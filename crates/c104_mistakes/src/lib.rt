@@ -12,6 +12,7 @@
 mod commands;
 mod description_mistakes;
 mod descriptions;
+mod forms;
 mod messages;
 mod nearest;
 mod register_ranges;

@@ -1,17 +1,15 @@
 //! What is told of a script's line that is faulty or refused, or asks for the status of a link.
 ghost use Rattle.std.specs.Prelude.{◌<◌, IfSome};
 
-use crate::nearest::{
-    is_description_word, nearest_node, nearest_script_word, nearest_switch, nearest_terminal,
-};
+use crate::forms::{DESCRIPTION_FORMS, SCRIPT_FORMS, form_of, nearest_form};
+use crate::nearest::{nearest_node, nearest_switch, nearest_terminal};
 use crate::register_ranges::range_of_word;
 use crate::script_mistakes::{
-    AFTER_END, BUSY, BYTE_ORDER_MARK, CLAIM_LINE, CONTROL_LINE, CREDIT_LINE, CROSS_LINE,
-    DESCRIPTIONS_WORD, DRAIN_LINE, INBOX_FULL, INPUT_LINE, LINE_TOO_LONG, LINK_LINE, LINK_MISSING,
+    AFTER_END, BUSY, BYTE_ORDER_MARK, DESCRIPTIONS_WORD, INBOX_FULL, LINE_TOO_LONG, LINK_MISSING,
     NO_ADDRESS, NO_BYTE, NO_END, NO_INPUT, NO_LINK, NO_NODE, NO_NUMBER, NO_PORT, NO_REGISTER,
     NO_ROUNDS, NO_TOKEN, NO_VALUE, NO_WORD, NO_WORD_ASKED, NOT_A_SWITCH, NOT_A_TERMINAL, NOT_WIRED,
-    OUTBOX_FULL, PACKET_TOO_LONG, PEEK_LINE, POKE_LINE, READ_ONLY, ROUNDS_LINE, SCRIPT_BEGAN,
-    SEND_LINE, SWITCHS_LINK, TABLE_LINE, TERMINALS_LINK, TRACE_FULL, VERIFY_LINE, WRONG_BYTE,
+    OUTBOX_FULL, PACKET_TOO_LONG, READ_ONLY, SCRIPT_BEGAN, SWITCHS_LINK, TERMINALS_LINK,
+    TRACE_FULL, WRONG_BYTE,
 };
 use crate::words::{
     LAST_LINK, Mistake, begins_with_mark, has_dot, is_within, link_of, name_of, names_switch,
@@ -23,9 +21,6 @@ use c104_regs::RegFault;
 use c104_script::LineFault;
 use c104_token::read_byte;
 use std::alloc::Global;
-
-/// The most words of a control line.
-const MAX_CONTROL_WORDS: usize = 10;
 
 /// The most digits of a register's address.
 const ADDRESS_DIGITS: usize = 4;
@@ -90,7 +85,7 @@ pub fn owner_message(alloc: Global, line: &[u8], owner: u32) -> Option<String>
 fn find_fault<'a>(fault: LineFault, words: &[&'a [u8]], is_asked: bool) -> Mistake<'a> {
     match fault {
         LineFault::LineTooLong | LineFault::NoMemory => Mistake::new(LINE_TOO_LONG, None),
-        LineFault::UnknownWord => first_word_mistake(word_at(words, 0), is_asked),
+        LineFault::UnknownWord => first_word_mistake(words, is_asked),
         LineFault::BadShape => shape_mistake(words),
         LineFault::BadNumber => number_mistake(words),
         LineFault::BadHex => hex_mistake(words),
@@ -100,53 +95,19 @@ fn find_fault<'a>(fault: LineFault, words: &[&'a [u8]], is_asked: bool) -> Mista
     }
 }
 
-/// No line begins with the word.
-fn first_word_mistake(word: Option<&[u8]>, is_asked: bool) -> Mistake<'_> {
-    let Some(first) = word else {
-        return Mistake::new(NO_WORD, word);
-    };
-    if begins_with_mark(first) {
-        return Mistake::new(BYTE_ORDER_MARK, None);
-    }
-    if is_description_word(first) {
-        return Mistake::new(DESCRIPTIONS_WORD, word);
-    }
-    if first == b"script".as_slice() {
-        return Mistake::new(SCRIPT_BEGAN, word);
-    }
-    let what = if is_asked { NO_WORD_ASKED } else { NO_WORD };
-    Mistake::new(what, word).near(nearest_script_word(first))
-}
-
-/// What a line is that begins with the word.
-fn form_of(first: &[u8]) -> &'static str {
-    match first {
-        b"send" => SEND_LINE,
-        b"drain" => DRAIN_LINE,
-        b"cross" => CROSS_LINE,
-        b"credit" => CREDIT_LINE,
-        b"input" => INPUT_LINE,
-        b"claim" => CLAIM_LINE,
-        b"control" => CONTROL_LINE,
-        b"peek" => PEEK_LINE,
-        b"poke" => POKE_LINE,
-        b"link" => LINK_LINE,
-        b"table" => TABLE_LINE,
-        b"verify" => VERIFY_LINE,
-        _ => ROUNDS_LINE,
-    }
-}
-
-/// Whether a line that begins with the word may have `count` words.
-fn may_have(first: &[u8], count: usize) -> bool {
-    match first {
-        b"send" => count >= 2,
-        b"input" => count == 2 || count == 3,
-        b"claim" | b"poke" => count == 4,
-        b"control" => 2 <= count && count <= MAX_CONTROL_WORDS,
-        b"peek" => count == 3,
-        b"verify" => count == 1,
-        _ => count == 2,
+/// No line begins with the first word.
+fn first_word_mistake<'a>(words: &[&'a [u8]], is_asked: bool) -> Mistake<'a> {
+    match words {
+        [] => Mistake::new(NO_WORD, None),
+        [b"script", ..] => Mistake::new(SCRIPT_BEGAN, word_at(words, 0)),
+        [first, ..] if begins_with_mark(first) => Mistake::new(BYTE_ORDER_MARK, None),
+        [first, ..] if form_of(&DESCRIPTION_FORMS, words).is_some() => {
+            Mistake::new(DESCRIPTIONS_WORD, Some(*first))
+        }
+        [first, ..] => {
+            let what = if is_asked { NO_WORD_ASKED } else { NO_WORD };
+            Mistake::new(what, Some(*first)).near(nearest_form(&SCRIPT_FORMS, first))
+        }
     }
 }
 
@@ -156,13 +117,13 @@ fn shape_mistake<'a>(words: &[&'a [u8]]) -> Mistake<'a> {
     if wrong.is_some() {
         return Mistake::new(WRONG_BYTE, wrong);
     }
-    let Some(first) = word_at(words, 0) else {
+    let Some((_, line, least, most)) = form_of(&SCRIPT_FORMS, words) else {
         return Mistake::new(NO_WORD, None);
     };
-    if may_have(first, words.len()) {
+    if least <= words.len() && words.len() <= most {
         return Mistake::new(NO_PORT, word_at(words, 1));
     }
-    Mistake::new(form_of(first), None)
+    Mistake::new(line, None)
 }
 
 /// A number that is none, or out of its range.
