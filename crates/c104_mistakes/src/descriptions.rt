@@ -110,104 +110,75 @@ fn shape_mistake<'a>(words: &[&'a [u8]]) -> Mistake<'a> {
     if wrong.is_some() {
         return Mistake::new(WRONG_BYTE, wrong);
     }
-    let Some((first, line, least, most)) = form_of(&DESCRIPTION_FORMS, words) else {
+    let Some((_, line, least, most)) = form_of(&DESCRIPTION_FORMS, words) else {
         return Mistake::new(NO_WORD, None);
     };
     if least <= words.len() && words.len() <= most {
-        for port in ports_of(first, words) {
-            if let Some(port) = port
-                && !has_dot(port)
-            {
-                return Mistake::new(NO_PORT, Some(port));
-            }
+        let port = ports_of(words).iter().copied().find(|port| !has_dot(port));
+        if port.is_some() {
+            return Mistake::new(NO_PORT, port);
         }
     }
     Mistake::new(line, None)
 }
 
-/// The words of a line in which a port stands.
-fn ports_of<'a>(first: &[u8], words: &[&'a [u8]]) -> [Option<&'a [u8]>; 2] {
-    match first {
-        b"terminal" => [word_at(words, 2), None],
-        b"wire" => [word_at(words, 1), word_at(words, 2)],
-        b"continue" | b"base" | b"row" | b"random" => [word_at(words, 1), None],
-        _ => [None, None],
+/// The words of a line in which ports stand.
+fn ports_of<'w, 'a>(words: &'w [&'a [u8]]) -> &'w [&'a [u8]] {
+    match words {
+        [b"terminal", _, _, ..] => &words[2..3],
+        [b"wire", _, _, ..] => &words[1..3],
+        [b"continue" | b"base" | b"row" | b"random", _, ..] => &words[1..2],
+        _ => &[],
     }
 }
 
 /// A number that is none, or out of its range.
 fn number_mistake<'a>(words: &[&'a [u8]]) -> Mistake<'a> {
-    let Some(first) = word_at(words, 0) else {
-        return Mistake::new(NO_WORD, None);
-    };
-    match unlinked_port(first, words) {
-        Some(port) => Mistake::new(NO_LINK, Some(port)),
-        None => value_mistake(first, words),
+    let port = ports_of(words).iter().copied().find(|port| !has_link(port));
+    if port.is_some() {
+        return Mistake::new(NO_LINK, port);
     }
-}
-
-/// The first port of a line whose link is none.
-fn unlinked_port<'a>(first: &[u8], words: &[&'a [u8]]) -> Option<&'a [u8]> {
-    for port in ports_of(first, words) {
-        if let Some(port) = port
-            && !has_link(port)
-        {
-            return Some(port);
-        }
-    }
-    None
-}
-
-/// A number that is none, or out of its range, where all links are some.
-fn value_mistake<'a>(first: &[u8], words: &[&'a [u8]]) -> Mistake<'a> {
-    match first {
-        b"terminal" => label_mistake(words),
-        b"continue" => Mistake::new(NO_CONTINUING, word_at(words, 1)),
-        b"base" => Mistake::new(NO_BASE, word_at(words, 2)),
-        b"row" => row_mistake(words),
-        b"random" => random_mistake(words),
-        b"buffer" => Mistake::new(NO_BUFFER, word_at(words, 1)),
-        b"mesh" => Mistake::new(MESH_SIZE, None),
-        b"cube" => Mistake::new(CUBE_SIZE, None),
+    match word_at(words, 0) {
+        Some(b"terminal") => label_mistake(words),
+        Some(b"continue") => Mistake::new(NO_CONTINUING, word_at(words, 1)),
+        Some(b"base") => Mistake::new(NO_BASE, word_at(words, 2)),
+        Some(b"row") => row_mistake(words),
+        Some(b"random") => random_mistake(words),
+        Some(b"buffer") => Mistake::new(NO_BUFFER, word_at(words, 1)),
+        Some(b"mesh") => Mistake::new(MESH_SIZE, None),
+        Some(b"cube") => Mistake::new(CUBE_SIZE, None),
         _ => Mistake::new(NO_HEADER, word_at(words, 1)),
     }
 }
 
 /// A count or a first label that is none.
 fn label_mistake<'a>(words: &[&'a [u8]]) -> Mistake<'a> {
-    let labels = b"labels".as_slice();
     match words {
-        [_, _, _, word, count, ..] if *word == labels && !is_within(1, 65_536, count) => {
+        [_, _, _, b"labels", count, ..] if !is_within(1, 65_536, count) => {
             Mistake::new(NO_COUNT, Some(*count))
         }
-        [_, _, _, word, _, _, first, ..] if *word == labels => {
-            Mistake::new(NO_FIRST, Some(*first))
-        }
+        [_, _, _, b"labels", _, _, first, ..] => Mistake::new(NO_FIRST, Some(*first)),
         _ => Mistake::new(NO_FIRST, word_at(words, 4)),
     }
 }
 
 /// A limit or a select that is none.
 fn row_mistake<'a>(words: &[&'a [u8]]) -> Mistake<'a> {
-    match word_at(words, 2) {
-        Some(limit) if !is_within(0, 65_536, limit) => { Mistake::new(NO_LIMIT, Some(limit)) }
-        _ => select_mistake(word_at(words, 3)),
-    }
-}
-
-/// A select that is none.
-fn select_mistake(word: Option<&[u8]>) -> Mistake<'_> {
-    let mistake = Mistake::new(NO_SELECT, word);
-    match word {
-        Some(select) => mistake.near(nearest_select_word(select)),
-        None => mistake,
+    match words {
+        [_, _, limit, ..] if !is_within(0, 65_536, limit) => Mistake::new(NO_LIMIT, Some(*limit)),
+        [_, _, _, select, ..] => {
+            Mistake::new(NO_SELECT, Some(*select)).near(nearest_select_word(select))
+        }
+        _ => Mistake::new(NO_SELECT, None),
     }
 }
 
 /// A base or a range of random headers that is none.
 fn random_mistake<'a>(words: &[&'a [u8]]) -> Mistake<'a> {
-    match word_at(words, 2) {
-        Some(base) if !is_within(0, 65_535, base) => { Mistake::new(NO_RANDOM_BASE, Some(base)) }
+    match words {
+        [_, _, base, ..] if !is_within(0, 65_535, base) => {
+            Mistake::new(NO_RANDOM_BASE, Some(*base))
+        }
         _ => Mistake::new(NO_RANDOM_RANGE, word_at(words, 3)),
     }
 }
@@ -222,74 +193,41 @@ fn twice_mistake<'a>(words: &[&'a [u8]]) -> Mistake<'a> {
 
 /// The word that is no name where one is wanted.
 fn unnamed<'a>(words: &[&'a [u8]]) -> Option<&'a [u8]> {
-    let first = word_at(words, 0)?;
-    if first == b"label".as_slice() {
-        return word_at(words, 2);
+    match words {
+        [b"label", _, name, ..] => Some(*name),
+        [b"switch" | b"terminal" | b"delete", name, ..] if !is_name(name) => Some(*name),
+        _ => ports_of(words)
+            .iter()
+            .copied()
+            .find(|port| !is_name(name_of(port))),
     }
-    if is_before_name(first) {
-        let name = word_at(words, 1)?;
-        if !is_name(name) {
-            return Some(name);
-        }
-    }
-    unnamed_port(first, words)
-}
-
-/// Whether a name without a link stands behind the first word.
-fn is_before_name(first: &[u8]) -> bool {
-    matches!(first, b"switch" | b"terminal" | b"delete")
-}
-
-/// The first port of a line whose switch's name is none.
-fn unnamed_port<'a>(first: &[u8], words: &[&'a [u8]]) -> Option<&'a [u8]> {
-    for port in ports_of(first, words) {
-        if let Some(port) = port
-            && !is_name(name_of(port))
-        {
-            return Some(port);
-        }
-    }
-    None
 }
 
 /// A name that nothing has, or that something of another kind has.
 fn name_mistake<'a>(words: &[&'a [u8]], before: &'a Plan) -> Mistake<'a> {
-    let Some(first) = word_at(words, 0) else {
-        return Mistake::new(NO_WORD, None);
-    };
-    if first == b"delete".as_slice() {
-        return terminal_mistake(word_at(words, 1), before);
+    match words {
+        [b"delete", name, ..] => terminal_mistake(*name, before),
+        [b"label", _, name, ..] => switch_mistake(*name, before),
+        _ => port_mistake(words, before),
     }
-    if first == b"label".as_slice() {
-        return root_mistake(word_at(words, 2), before);
-    }
-    for port in ports_of(first, words) {
-        if let Some(port) = port
-            && !names_switch(before, port)
-        {
-            return switch_mistake(port, before);
-        }
-    }
-    Mistake::new(NO_SWITCH, Some(first))
 }
 
-/// No switch has the name of the root of a tree.
-fn root_mistake<'a>(word: Option<&'a [u8]>, before: &'a Plan) -> Mistake<'a> {
-    let Some(name) = word else {
-        return Mistake::new(NO_SWITCH, None);
-    };
-    switch_mistake(name, before)
+/// A port of which no switch has the name.
+fn port_mistake<'a>(words: &[&'a [u8]], before: &'a Plan) -> Mistake<'a> {
+    for port in ports_of(words) {
+        if !names_switch(before, port) {
+            return switch_mistake(*port, before);
+        }
+    }
+    Mistake::new(NO_SWITCH, word_at(words, 0))
 }
 
 /// No terminal has the name.
-fn terminal_mistake<'a>(word: Option<&'a [u8]>, before: &'a Plan) -> Mistake<'a> {
-    let Some(name) = word else {
-        return Mistake::new(NO_TERMINAL, None);
-    };
+fn terminal_mistake<'a>(name: &'a [u8], before: &'a Plan) -> Mistake<'a> {
     if names_switch(before, name) {
-        return Mistake::new(NOT_A_TERMINAL, word);
+        return Mistake::new(NOT_A_TERMINAL, Some(name));
     }
-    Mistake::new(NO_TERMINAL, word).near(nearest_terminal(before, name))
+    Mistake::new(NO_TERMINAL, Some(name)).near(nearest_terminal(before, name))
 }
 
 /// No switch has the name before the dot.
@@ -302,45 +240,21 @@ fn switch_mistake<'a>(port: &'a [u8], before: &'a Plan) -> Mistake<'a> {
 
 /// A link that is taken.
 fn link_mistake<'a>(words: &[&'a [u8]], before: &Plan) -> Mistake<'a> {
-    let Some(first) = word_at(words, 0) else {
-        return Mistake::new(NO_WORD, None);
-    };
-    for word in ports_of(first, words) {
-        let Some(port) = port_of(word, before) else {
-            continue;
-        };
-        if has_terminal(before, port) {
-            return Mistake::new(TERMINAL_THERE, word);
-        }
-        if has_wire(before, port) {
-            return Mistake::new(WIRE_THERE, word);
+    for word in ports_of(words) {
+        match far_end(word, before) {
+            Some(Port::Terminal(_)) => return Mistake::new(TERMINAL_THERE, Some(*word)),
+            Some(Port::Switch(_, _)) => return Mistake::new(WIRE_THERE, Some(*word)),
+            None => {}
         }
     }
     Mistake::new(WIRE_THERE, None)
 }
 
-/// The port that a word names.
-fn port_of(word: Option<&[u8]>, before: &Plan) -> Option<Port> {
-    let word = word?;
+/// What is on the link of the port that a word names.
+fn far_end(word: &[u8], before: &Plan) -> Option<Port> {
     let switch = before.switch_number(name_of(word))?;
     let link = link_of(word)?;
-    Some(Port::Switch(switch, link as usize))
-}
-
-/// Whether a terminal is on the port.
-fn has_terminal(before: &Plan, port: Port) -> bool {
-    before
-        .terminals()
-        .iter()
-        .any(|terminal| terminal.host_port().is_same(port))
-}
-
-/// Whether a wire is on the port.
-fn has_wire(before: &Plan, port: Port) -> bool {
-    before
-        .wires()
-        .iter()
-        .any(|wire| wire.here.is_same(port) || wire.there.is_same(port))
+    before.peer(Port::Switch(switch, link as usize))
 }
 
 /// There are as many as there may be.
