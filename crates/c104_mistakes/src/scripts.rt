@@ -244,10 +244,8 @@ fn link_mistake<'a>(words: &[&'a [u8]], plan: &Plan) -> Mistake<'a> {
 
 /// The first number that is no link's.
 fn first_past<'a>(words: &[&'a [u8]]) -> Option<&'a [u8]> {
-    for word in words {
-        if !is_within(0, LAST_LINK, word) {
-            return Some(*word);
-        }
-    }
-    None
+    words
+        .iter()
+        .copied()
+        .find(|word| !is_within(0, LAST_LINK, word))
 }

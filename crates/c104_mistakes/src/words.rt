@@ -32,12 +32,7 @@ impl<'a> Mistake<'a> {
 
     /// The same, with what may have been meant.
     pub fn near(self, near: Option<&'a [u8]>) -> Self {
-        let Mistake { sentence, word, .. } = self;
-        Mistake {
-            sentence,
-            word,
-            near,
-        }
+        Mistake { near, ..self }
     }
 
     /// The message. The only error is out of memory.
@@ -86,20 +81,12 @@ fn shown_byte(byte: u8) -> char {
 
 /// The word at a place of a line, from 0.
 pub(crate) fn word_at<'a>(words: &[&'a [u8]], place: usize) -> Option<&'a [u8]> {
-    match words.get(place) {
-        Some(word) => Some(*word),
-        None => None,
-    }
+    words.get(place).copied()
 }
 
 /// The first word with a byte that no line may have.
 pub(crate) fn unplain_word<'a>(words: &[&'a [u8]]) -> Option<&'a [u8]> {
-    for word in words {
-        if !is_plain(word) {
-            return Some(*word);
-        }
-    }
-    None
+    words.iter().copied().find(|word| !is_plain(word))
 }
 
 /// Whether a word begins with the mark that some editors put before a text.
