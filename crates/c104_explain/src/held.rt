@@ -1,6 +1,6 @@
 //! What moves tokens on that wait somewhere, or else what holds them there.
 
-use crate::reasons::{add_reason, reason_text};
+use crate::reasons::{portless_text, reason_text};
 use c104_event::Event;
 use c104_net::{Reason, TracedNet};
 use c104_plan::Port;
@@ -141,10 +141,9 @@ fn held_text(
     here: Port,
     reason: Reason,
 ) -> Result<String, AllocError> {
-    if !reason.port.is_same(here) {
-        return reason_text(alloc, net.plan(), reason);
+    if reason.port.is_same(here) {
+        portless_text(alloc, net.plan(), reason)
+    } else {
+        reason_text(alloc, net.plan(), reason)
     }
-    let mut text = String::new(alloc);
-    add_reason(alloc, net.plan(), reason, &mut text)?;
-    Ok(text)
 }

@@ -8,10 +8,7 @@ use std::alloc::{AllocError, Global};
 
 /// What is told of an event that isn't ready for this reason, by the names of the plan. None when out of memory.
 pub fn reason_message(alloc: Global, plan: &Plan, reason: Reason) -> Option<String> {
-    match reason_text(alloc, plan, reason) {
-        Ok(text) => Some(text),
-        Err(_) => None,
-    }
+    reason_text(alloc, plan, reason).ok()
 }
 
 /// The message: the port, a sentence, and the other port that the reason is about, if it is about one.
@@ -20,48 +17,33 @@ pub(crate) fn reason_text(
     plan: &Plan,
     reason: Reason,
 ) -> Result<String, AllocError> {
-    let mut text = String::new(alloc);
-    if !matches!(reason.unready, Unready::Owned(_)) {
-        add_port(alloc, plan, reason.port, &mut text)?;
-        text.push_str(": ")?;
+    let text = portless_text(alloc, plan, reason)?;
+    if matches!(reason.unready, Unready::Owned(_)) {
+        return Ok(text);
     }
-    add_reason(alloc, plan, reason, &mut text)?;
-    Ok(text)
+    let port = plan.port_text(alloc, reason.port)?;
+    format!(in alloc; "{port}: {text}")
 }
 
-/// The sentence joins a text, with the other port that the reason is about, if it is about one.
-pub(crate) fn add_reason(
+/// The same without the port, unless the sentence names it.
+pub(crate) fn portless_text(
     alloc: Global,
     plan: &Plan,
     reason: Reason,
-    text: &mut String,
-) -> Result<(), AllocError> {
+) -> Result<String, AllocError> {
     let Reason { port, unready } = reason;
-    let other = other_port(plan, port, unready);
-    match (unready, other) {
-        (Unready::Owned(_), Some(owner)) => add_owner(alloc, plan, port, owner, text),
-        (_, Some(other)) => {
-            text.push_str(reason_sentence(unready))?;
-            text.push_str(": ")?;
-            add_port(alloc, plan, other, text)
-        }
-        (_, None) => text.push_str(reason_sentence(unready)),
+    let sentence = reason_sentence(unready);
+    let Some(other) = other_port(plan, port, unready) else {
+        return format!(in alloc; "{sentence}");
+    };
+    let other = plan.port_text(alloc, other)?;
+    if matches!(unready, Unready::Owned(_)) {
+        let output = plan.port_text(alloc, port)?;
+        return format!(in alloc;
+            "output {output} belongs to {other}'s packet until its terminator passes"
+        );
     }
-}
-
-/// That an output belongs to the packet of an input joins a text.
-fn add_owner(
-    alloc: Global,
-    plan: &Plan,
-    output: Port,
-    owner: Port,
-    text: &mut String,
-) -> Result<(), AllocError> {
-    text.push_str("output ")?;
-    add_port(alloc, plan, output, text)?;
-    text.push_str(" belongs to ")?;
-    add_port(alloc, plan, owner, text)?;
-    text.push_str("'s packet until its terminator passes")
+    format!(in alloc; "{sentence}: {other}")
 }
 
 /// The other port that a reason is about: of credit the one that grants it, else a link that the reason names.
