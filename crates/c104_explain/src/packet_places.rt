@@ -3,7 +3,7 @@
 use crate::buffers::{BUFFER_LIMIT, Buffer, Run, buffer_after, find_end, last_run};
 use crate::leftovers::{unfinished_tokens, waiting};
 use crate::reasons::add_port;
-use crate::waiting::add_line;
+use crate::waiting::{add_line, end_text};
 use c104_mistakes::{
     Mistake, NO_NODE, NO_NUMBER, NOT_A_TERMINAL, TERMINALS_LINK, counted, has_dot, name_of,
     names_switch, names_terminal, nearest_terminal,
@@ -214,6 +214,22 @@ fn add_place(
     }
 }
 
+/// The line of tokens of a packet that are in a way at a port joins the text, with what becomes of them.
+fn add_tokens(
+    alloc: Global,
+    plan: &Plan,
+    count: usize,
+    way: &str,
+    port: Port,
+    fate: &str,
+    text: &mut String,
+) -> Result<(), AllocError> {
+    let tokens = counted(alloc, count, "token")?;
+    let port = plan.port_text(alloc, port)?;
+    let line = format!(in alloc; "{tokens} {way} {port}{fate}")?;
+    add_line(text, line.as_str())
+}
+
 /// The line of `count` tokens of a packet at an output joins the text.
 fn add_output(
     alloc: Global,
@@ -228,17 +244,9 @@ fn add_output(
     }
     let plan = net.plan();
     let port = Port::Switch(switch, link);
-    let mut line = counted(alloc, count, "token")?;
-    line.push_str(" at output ")?;
-    add_port(alloc, plan, port, &mut line)?;
-    match plan.peer(port) {
-        Some(other) => {
-            line.push_str(", which leads to ")?;
-            add_port(alloc, plan, other, &mut line)?;
-        }
-        None => line.push_str(", which has no wire")?,
-    }
-    add_line(text, line.as_str())
+    let end = end_text(alloc, plan, port)?;
+    let fate = format!(in alloc; ", which {end}")?;
+    add_tokens(alloc, plan, count, "at output", port, fate.as_str(), text)
 }
 
 /// The line of the tokens of a packet at an input joins the text, and with them those of a header that the input reads
@@ -260,11 +268,8 @@ fn add_input(
     if count == 0 && fate.is_empty() {
         return Ok(());
     }
-    let mut line = counted(alloc, count, "token")?;
-    line.push_str(" at input ")?;
-    add_port(alloc, net.plan(), Port::Switch(switch, link), &mut line)?;
-    line.push_str(fate)?;
-    add_line(text, line.as_str())
+    let port = Port::Switch(switch, link);
+    add_tokens(alloc, net.plan(), count, "at input", port, fate, text)
 }
 
 /// How many tokens of a header an input holds beside its buffer, and what it does with the packet that it is at.
@@ -291,50 +296,24 @@ fn add_inbox(
     run: Run,
     text: &mut String,
 ) -> Result<(), AllocError> {
+    let plan = net.plan();
+    let port = Port::Terminal(terminal);
     if run.tokens > 0 {
-        add_undrained(alloc, net, terminal, run.tokens, text)?;
+        let fate = if run.tokens == 1 {
+            " and waits to arrive"
+        } else {
+            " and wait to arrive"
+        };
+        add_tokens(alloc, plan, run.tokens, "came in at", port, fate, text)?;
     }
     if run.is_cut {
         return Ok(());
     }
     let arrived = unfinished_tokens(alloc, net, terminal)?;
     if arrived > 0 {
-        add_arrived(alloc, net, terminal, arrived, text)?;
+        add_tokens(alloc, plan, arrived, "arrived at", port, "", text)?;
     }
     Ok(())
-}
-
-/// The line of `count` tokens of a packet that came in at a terminal joins the text.
-fn add_undrained(
-    alloc: Global,
-    net: &TracedNet,
-    terminal: usize,
-    count: usize,
-    text: &mut String,
-) -> Result<(), AllocError> {
-    let mut line = counted(alloc, count, "token")?;
-    line.push_str(" came in at ")?;
-    add_port(alloc, net.plan(), Port::Terminal(terminal), &mut line)?;
-    line.push_str(if count == 1 {
-        " and waits to arrive"
-    } else {
-        " and wait to arrive"
-    })?;
-    add_line(text, line.as_str())
-}
-
-/// The line of `count` tokens of a packet that have arrived at a terminal joins the text.
-fn add_arrived(
-    alloc: Global,
-    net: &TracedNet,
-    terminal: usize,
-    count: usize,
-    text: &mut String,
-) -> Result<(), AllocError> {
-    let mut line = counted(alloc, count, "token")?;
-    line.push_str(" arrived at ")?;
-    add_port(alloc, net.plan(), Port::Terminal(terminal), &mut line)?;
-    add_line(text, line.as_str())
 }
 
 /// That a packet has arrived, or that its end isn't in the network.

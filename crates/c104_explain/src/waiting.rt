@@ -130,7 +130,7 @@ fn add_held(
 }
 
 /// Where an output leads.
-fn end_text(alloc: Global, plan: &Plan, output: Port) -> Result<String, AllocError> {
+pub(crate) fn end_text(alloc: Global, plan: &Plan, output: Port) -> Result<String, AllocError> {
     let Some(other) = plan.peer(output) else {
         return format!(in alloc; "has no wire");
     };
