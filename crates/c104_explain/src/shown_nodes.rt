@@ -2,9 +2,8 @@
 ghost use Rattle.std.specs.Prelude.{◌<◌};
 
 use crate::leftovers::waiting;
-use crate::random_inputs::puts_random;
 use crate::reasons::add_port;
-use crate::standstill::dropped_at;
+use crate::registers::{dropped_packets, puts_random};
 use crate::waiting::stopped_line;
 use c104_mistakes::counted;
 use c104_net::TracedNet;
@@ -53,9 +52,9 @@ pub(crate) fn link_text(
     if let Some(other) = plan.peer(port)
         && let Some(view) = net.view_link(switch, link)
     {
-        let puts_random = puts_random(net, switch, link as u16);
+        let puts_random = puts_random(net, switch, link);
         add_link(alloc, plan, (port, other), &view, puts_random, &mut text)?;
-        add_dropped(alloc, net, switch, link as u16, &mut text)?;
+        add_dropped(alloc, net, switch, link, &mut text)?;
     }
     Ok(text)
 }
@@ -65,12 +64,12 @@ fn add_dropped(
     alloc: Global,
     net: &TracedNet,
     switch: usize,
-    link: u16,
+    link: usize,
     text: &mut String,
 ) -> Result<(), AllocError>
     requires { link < 32 }
 {
-    let count = dropped_at(net, switch, 0x0100 * (link + 1));
+    let count = dropped_packets(net, switch, link);
     if count == 0 {
         return Ok(());
     }

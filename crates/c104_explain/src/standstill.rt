@@ -1,15 +1,13 @@
 //! What is told of a network in which nothing can move, though tokens are there.
 
 use crate::leftovers::waiting;
+use crate::registers::dropped_packets;
 use crate::waiting::waiting_text;
 use c104_mistakes::counted;
 use c104_net::TracedNet;
 use c104_switch::{LINKS, LinkView, Phase};
 use c104_token::{NoMemory, Token};
 use std::alloc::{AllocError, Global};
-
-/// The offsets of the registers that count the packets which an input has dropped.
-const DROPPED: [u16; 2] = [0x03, 0x04];
 
 /// What is told of a network that stands still: how many tokens wait in it, and in how many packets, where it is known
 /// how many were sent; and in a line for each, which output an input holds for its packet, and which one wants for its
@@ -90,32 +88,14 @@ fn terminal_tokens(net: &TracedNet, terminal: usize) -> usize {
 fn gone_packets(alloc: Global, net: &TracedNet) -> Result<usize, AllocError> {
     let mut gone = 0usize;
     for switch in 0..net.plan().switches().len() {
-        gone = gone.saturating_add(dropped_packets(net, switch));
+        for link in 0..LINKS {
+            gone = gone.saturating_add(dropped_packets(net, switch, link));
+        }
     }
     for terminal in 0..net.plan().terminals().len() {
         gone = gone.saturating_add(arrived_packets(alloc, net, terminal)?);
     }
     Ok(gone)
-}
-
-/// How many packets the inputs of a switch have dropped.
-fn dropped_packets(net: &TracedNet, switch: usize) -> usize {
-    let mut packets = 0usize;
-    for link in 0..32u16 {
-        packets = packets.saturating_add(dropped_at(net, switch, 0x0100 * (link + 1)));
-    }
-    packets
-}
-
-/// How many packets the input has dropped whose registers begin at this address.
-pub(crate) fn dropped_at(net: &TracedNet, switch: usize, registers: u16) -> usize {
-    let mut packets = 0usize;
-    for offset in DROPPED {
-        if let Some(count) = net.peek(switch, registers.saturating_add(offset)) {
-            packets = packets.saturating_add(count as usize);
-        }
-    }
-    packets
 }
 
 /// How many packets have arrived at a terminal, whole or cut off. The only error is out of memory.
