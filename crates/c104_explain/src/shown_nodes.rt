@@ -4,7 +4,7 @@ ghost use Rattle.std.specs.Prelude.{◌<◌};
 use crate::leftovers::waiting;
 use crate::reasons::add_port;
 use crate::registers::{dropped_packets, puts_random};
-use crate::waiting::stopped_line;
+use crate::waiting::{add_line, stopped_line};
 use c104_mistakes::counted;
 use c104_net::TracedNet;
 use c104_plan::{Plan, Port};
@@ -20,15 +20,12 @@ pub(crate) fn switch_text(
 ) -> Result<String, AllocError> {
     let mut text = String::new(alloc);
     if let Some(line) = stopped_line(alloc, net, switch)? {
-        text.push_str(line.as_str())?;
+        add_line(&mut text, line.as_str())?;
     }
     for link in 0..LINKS {
         let line = link_text(alloc, net, switch, link)?;
         if !line.is_empty() {
-            if !text.is_empty() {
-                text.push('\n')?;
-            }
-            text.push_str(line.as_str())?;
+            add_line(&mut text, line.as_str())?;
         }
     }
     if text.is_empty() {
@@ -74,8 +71,7 @@ fn add_dropped(
         return Ok(());
     }
     let packets = counted(alloc, count, "packet")?;
-    let line = format!(in alloc; "\n  dropped: {packets}")?;
-    text.push_str(line.as_str())
+    write!(text, "\n  dropped: {packets}")
 }
 
 /// How a link stands joins the text. The ports are the link's, and the one at the other end of its wire.
@@ -101,28 +97,24 @@ fn add_input_side(
     puts_random: bool,
     text: &mut String,
 ) -> Result<(), AllocError> {
-    text.push_str("\n  input: holds ")?;
-    add_tokens(alloc, view.input_level, text)?;
+    let tokens = counted(alloc, view.input_level, "token")?;
     let granted = view.granted;
     let phase = phase_text(alloc, view, puts_random)?;
-    let rest = format!(in alloc; ", may take {granted} more, {phase}")?;
-    text.push_str(rest.as_str())
+    write!(
+        text,
+        "\n  input: holds {tokens}, may take {granted} more, {phase}"
+    )
 }
 
 /// How the output side of a link stands joins the text.
 fn add_output_side(alloc: Global, view: &LinkView, text: &mut String) -> Result<(), AllocError> {
-    text.push_str("\n  output: holds ")?;
-    add_tokens(alloc, view.output_level, text)?;
+    let tokens = counted(alloc, view.output_level, "token")?;
     let credit = view.credit;
     let owner = owner_text(alloc, view.owner)?;
-    let rest = format!(in alloc; ", may send {credit}, {owner}")?;
-    text.push_str(rest.as_str())
-}
-
-/// How many tokens there are joins the text.
-fn add_tokens(alloc: Global, count: usize, text: &mut String) -> Result<(), AllocError> {
-    let tokens = counted(alloc, count, "token")?;
-    text.push_str(tokens.as_str())
+    write!(
+        text,
+        "\n  output: holds {tokens}, may send {credit}, {owner}"
+    )
 }
 
 /// What an input does with its next token, which may put a random header before a packet.
@@ -183,8 +175,7 @@ fn add_sending(
     text: &mut String,
 ) -> Result<(), AllocError> {
     let wait = waiting(alloc, count)?;
-    let line = format!(in alloc; "\n  sends: {wait}, {credit} may go")?;
-    text.push_str(line.as_str())
+    write!(text, "\n  sends: {wait}, {credit} may go")
 }
 
 /// How many tokens wait to arrive at a terminal, how many more may come in, and how many have arrived, joins the text.
@@ -196,10 +187,10 @@ fn add_receiving(
     text: &mut String,
 ) -> Result<(), AllocError> {
     let wait = waiting(alloc, count)?;
-    let line = format!(in alloc;
+    write!(
+        text,
         "\n  receives: {wait} to arrive, {granted} more may come in, {arrived} arrived so far"
-    )?;
-    text.push_str(line.as_str())
+    )
 }
 
 /// How many tokens have arrived at a terminal; 0 when out of memory.
