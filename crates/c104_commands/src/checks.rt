@@ -14,7 +14,7 @@ ghost use Rattle.c104_setup.specs.Setups.{ComesTo};
 use crate::advice::{check_advice, cycle_advice};
 use crate::texts::check_fault_text;
 use c104_check::{CheckFault, check};
-use c104_mistakes::{About, Messages};
+use c104_mistakes::{About, Messages, tell_lines};
 use c104_setup::{Setup, Status, read_setup};
 use c104_stream::write_whole;
 use std::alloc::Global;
@@ -93,7 +93,7 @@ fn tell_of_cycles<M: Messages>(alloc: Global, setup: &Setup, messages: &mut M)
     let Ok(advice) = cycle_advice(alloc, &setup.plan, &setup.image) else {
         return;
     };
-    tell_lines(advice.as_str(), messages);
+    tell_lines(About::Description, advice.as_str(), messages);
 }
 
 /// Tells why the labels of a network are refused, which ends any command that checks them: first it writes that, and then it
@@ -132,12 +132,5 @@ fn advise<M: Messages>(alloc: Global, setup: &Setup, fault: &CheckFault, message
     let Ok(advice) = check_advice(alloc, &setup.plan, &setup.image, fault) else {
         return;
     };
-    tell_lines(advice.as_str(), messages);
-}
-
-/// Tells people each line of an advice.
-fn tell_lines<M: Messages>(advice: &str, messages: &mut M) {
-    for line in advice.lines() {
-        messages.tell(About::Description, line);
-    }
+    tell_lines(About::Description, advice.as_str(), messages);
 }
