@@ -71,7 +71,8 @@ pub(crate) fn after_input(
     }
 }
 
-/// What moves on tokens that wait at an input behind a header that wants an output, or else what holds them.
+/// What moves on tokens that wait at an input behind a header that wants an output, or else what holds them: why the
+/// first output that it wants can't be claimed.
 pub(crate) fn after_header(
     alloc: Global,
     net: &TracedNet,
@@ -79,27 +80,7 @@ pub(crate) fn after_header(
     input: usize,
     count: usize,
 ) -> Result<String, AllocError> {
-    match find_output(net, switch, input) {
-        Wish::Free => moved_text(alloc, "`claim`", count),
-        Wish::Held(reason) => held_text(alloc, net, Port::Switch(switch, input), reason),
-        Wish::Nothing => after_input(alloc, net, switch, input, count),
-    }
-}
-
-/// What an input finds that wants an output.
-#[derive(Clone, Copy)]
-enum Wish {
-    /// An output that it can claim.
-    Free,
-    /// None, and this is why it can't claim the first one.
-    Held(Reason),
-    /// No output that it wants.
-    Nothing,
-}
-
-/// What an input finds that wants an output.
-fn find_output(net: &TracedNet, switch: usize, input: usize) -> Wish {
-    let mut found = Wish::Nothing;
+    let mut held = None;
     for output in 0..LINKS {
         let claim = Event::Claim {
             switch,
@@ -107,24 +88,19 @@ fn find_output(net: &TracedNet, switch: usize, input: usize) -> Wish {
             output,
         };
         match net.why(&claim) {
-            None => return Wish::Free,
+            None => return moved_text(alloc, "`claim`", count),
             Some(
                 Reason {
                     unready: Unready::OutsideGroup(_),
                     ..
                 },
             ) => {}
-            Some(reason) => found = first_wish(found, reason),
+            Some(reason) => held = held.or(Some(reason)),
         }
     }
-    found
-}
-
-/// What was found, or else this reason.
-fn first_wish(found: Wish, reason: Reason) -> Wish {
-    match found {
-        Wish::Nothing => Wish::Held(reason),
-        Wish::Free | Wish::Held(_) => found,
+    match held {
+        Some(reason) => held_text(alloc, net, Port::Switch(switch, input), reason),
+        None => after_input(alloc, net, switch, input, count),
     }
 }
 
