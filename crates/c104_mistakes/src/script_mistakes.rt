@@ -51,8 +51,10 @@ pub(crate) const VERIFY_LINE: &str = "the line is `verify` alone";
 
 pub(crate) const NO_PORT: &str = "a port has one dot, as A.0";
 
+/// Told of a number that is no link.
 pub const NO_LINK: &str = "a link is 0 to 31";
 
+/// Told of a word that is no number.
 pub const NO_NUMBER: &str = "a number is 1 to 7 decimal digits";
 
 pub(crate) const NO_ROUNDS: &str = "the count of rounds is 1 to 10000";
@@ -73,12 +75,15 @@ pub(crate) const AFTER_END: &str =
 
 pub(crate) const PACKET_TOO_LONG: &str = "a packet has at most 4096 bytes";
 
+/// Told of a name that nothing has.
 pub const NO_NODE: &str = "the description defines no such name";
 
+/// Told of the name of a switch where a terminal is wanted.
 pub const NOT_A_TERMINAL: &str = "this is a switch, and a terminal is wanted";
 
 pub(crate) const NOT_A_SWITCH: &str = "this is a terminal, and a switch is wanted";
 
+/// Told of a terminal that is named with a link.
 pub const TERMINALS_LINK: &str = "a terminal is named without a link";
 
 pub(crate) const SWITCHS_LINK: &str = "the switch is named without a link here";
