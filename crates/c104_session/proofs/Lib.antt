@@ -27,6 +27,4 @@ pub mod DeliveredLaw
 mod RunRefusals
 mod ReadFaults
 pub mod PrintedRunsLaw
-mod CountStatuses
-mod StateLemmas
-mod OverTimeLemmas
+mod DrawnRuns

@@ -5,7 +5,7 @@ use Rattle.c104_session.specs.{Counted.counts_kept, Driven.driven_outcome, Shown
 use Rattle.{c104_session.specs.declared.{driven.Driven.Driven, session.Session.Session}, c104_stats.specs.Counts.{Counts, new_counts}}
 use Rattle.{c104_stats.specs.{Sights.counts_at_end, declared.stats.What.What}, c104_stream.specs.ScriptLines.is_long}
 use Rattle.{c104_stream.specs.Scripts.script_outcome, c104_token.specs.Kinds.plain_kind}
-use Rattle.std.specs.Prelude.{IsSome, List, None, Option, Some, ℕ, ⊤, ◌||◌, ◌↔◌, ◌≡◌}
+use Rattle.std.specs.Prelude.{Bool, IsSome, List, None, Option, Some, ℕ, ⊤, ◌||◌, ◌↔◌, ◌≡◌}
 
 -- the run of a script: the session and its counts behind the last line, by those before the first one
 abbrev pub counted_script : Driven Counts → List ℕ → Driven Counts
@@ -31,3 +31,8 @@ IsCountedAfter driven (Some script) run = IsCountedScript driven script run
 abbrev pub IsCountedPlan : Option What → Plan → Image → Option (List ℕ) → CountedRun → Type 0
 IsCountedPlan what plan image script run =
     IsCountedAfter (record { session = new_session plan image; driver = new_counts plan what }) script run
+
+-- the run tells whether it is refused
+abbrev pub IsRefusedCount : Option What → Option (List ℕ) → Plan → Image → Bool → Type 0
+IsRefusedCount what script plan image refused =
+    (run : CountedRun) × IsCountedPlan what plan image script run × (refused ≡ run.is_refused)

@@ -15,6 +15,4 @@ pub mod PrintedPackets
 pub mod DeliveredRuns
 pub mod RunCommands
 pub mod PrintedRuns
-pub mod Counts
-pub mod StatePictures
-pub mod OverTime
+pub mod DrawnRuns

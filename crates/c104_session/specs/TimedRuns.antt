@@ -1,9 +1,9 @@
 -- The run of a script, and what crosses the wires of its network round by round.
-use Rattle.{c104_plan.specs.{PlanImage.Image, Plans.Plan}, c104_session.specs.{Driven.driven_outcome, Shown.new_session}}
-use Rattle.c104_session.specs.{Timed.timeline_kept, declared.{driven.Driven.Driven, session.Session.Session}}
-use Rattle.{c104_stream.specs.{ScriptLines.is_long, Scripts.script_outcome}, c104_timeline.specs.{Closing.closed_all, Timelines.Timeline}}
-use Rattle.c104_timeline.specs.Timelines.{new_timeline}
-use Rattle.std.specs.Prelude.{Bool, List, None, Option, Some, ℕ, ⊤, ◌||◌, ◌≡◌}
+use Rattle.{c104_plan.specs.{PlanImage.Image, Plans.Plan}, c104_print.specs.declared.rows.Format.Format}
+use Rattle.c104_session.specs.{Driven.driven_outcome, Shown.new_session, Timed.timeline_kept, declared.driven.Driven.Driven}
+use Rattle.{c104_session.specs.declared.session.Session.Session, c104_stream.specs.{ScriptLines.is_long, Scripts.script_outcome}}
+use Rattle.c104_timeline.specs.{Closing.closed_all, Timelines.{Timeline, new_timeline}}
+use Rattle.std.specs.Prelude.{Bool, List, None, Option, Some, false, ℕ, ⊤, ◌||◌, ◌≡◌}
 
 -- the run of a script: the session and its timeline behind the last line, by those before the first one
 abbrev pub timed_script : Driven Timeline → List ℕ → Driven Timeline
@@ -28,3 +28,9 @@ IsTimedAfter driven (Some script) t refused = IsTimedScript driven script t refu
 abbrev pub IsTimedPlan : Plan → Image → Option (List ℕ) → Timeline → Bool → Type 0
 IsTimedPlan plan image script t refused =
     IsTimedAfter (record { session = new_session plan image; driver = new_timeline plan }) script t refused
+
+-- a drawing of it is refused, or not: where its picture would be too large, which no table is, and where the script is
+abbrev pub IsRefusedTime : Option Format → Option (List ℕ) → Plan → Image → Bool → Type 0
+IsRefusedTime format script plan image refused =
+    (t : Timeline) × (faulty : Bool) × (large : Bool) × IsTimedPlan plan image script t faulty
+    × ((form : Format) → format ≡ Some form → large ≡ false) × (refused ≡ (large || faulty))

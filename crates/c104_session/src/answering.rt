@@ -47,26 +47,8 @@ pub fn answer_script<S: Read, W: Write, M: Messages>(
     answered
 }
 
-/// Does the lines of a script, as `answer_script` does, but writes no answers. It never fails to write.
-#[tactic(auto, unfolding(crate::specs::Shown::line_outcome))]
-pub fn do_script<S: Read, M: Messages>(
-    alloc: Global,
-    session: &mut Session,
-    ahead: &mut Ahead,
-    script: &mut S,
-    messages: &mut M,
-) -> Result<bool, Halt>
-    ensures done { IfOk result (λ is_long. DoesScript line_outcome session.old
-        (prepend_known ahead.old (S.remaining script.old)) session.new is_long) }
-    ensures unwritten { result ≢ Err halt.CannotWrite }
-{
-    let mut telling = Telling::new(messages);
-    let done = do_lines(alloc, session, ahead, script, &mut telling);
-    telling.end(&done);
-    done
-}
-
-/// The same by a driver. Where the script is too long, that is told.
+/// Does the lines of a script by a driver, as `answer_script` does, but writes no answers. Where the script is too long, that
+/// is told. It never fails to write.
 pub(crate) fn drive_script<D: Driver, S: Read, M: Messages>(
     alloc: Global,
     driven: &mut Driven<D>,

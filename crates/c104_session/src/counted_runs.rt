@@ -67,6 +67,7 @@ pub fn count_plan<S: Read, M: Messages>(
 }
 
 /// Counts the run of a script on a network that is before its first line. Its answers go nowhere.
+#[tactic(auto, using(crate::proofs::CountedScripts::script_counted))]
 fn count_driven<S: Read, M: Messages>(
     alloc: Global,
     driven: Driven<Stats>,

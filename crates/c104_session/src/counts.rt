@@ -2,7 +2,8 @@
 ghost use Rattle.std.specs.Prelude.{ℕ, ◌≡◌};
 ghost use Rattle.c104_plan.specs.PlanImage.{Fits};
 ghost use Rattle.c104_setup.specs.declared.status.Status.TheVariants as status;
-ghost use Rattle.c104_session.specs.Counts.{CountingRuns, CountsEnd};
+ghost use Rattle.c104_session.specs.CountedRuns.{IsRefusedCount};
+ghost use Rattle.c104_session.specs.DrawnRuns.{DrawEnds, DrawsRun};
 
 use crate::counted_runs::{CountedRun, count_plan};
 use crate::states::write_drawn;
@@ -43,7 +44,7 @@ pub fn stats_command<D: Read, S: Read, W: Write, M: Messages>(
     writer: &mut W,
     messages: &mut M,
 ) -> Status
-    ensures ends { CountsEnd printing.what (D.remaining description.old) (S.remaining script.old)
+    ensures ends { DrawEnds (IsRefusedCount printing.what (S.remaining script.old)) (D.remaining description.old)
         (W.contents writer.old) (W.contents writer.new) result }
     ensures of_description { result ≡ status.CannotRead 0 → script.new ≡ script.old }
 {
@@ -55,7 +56,7 @@ pub fn stats_command<D: Read, S: Read, W: Write, M: Messages>(
 }
 
 /// The same of the network of a plan, with an image that fits it.
-#[tactic(auto, using(crate::proofs::CountStatuses::counting_halts))]
+#[tactic(auto, using(crate::proofs::DrawnRuns::draw_halts))]
 fn stats_setup<S: Read, W: Write, M: Messages>(
     alloc: Global,
     printing: Printing,
@@ -66,7 +67,7 @@ fn stats_setup<S: Read, W: Write, M: Messages>(
     messages: &mut M,
 ) -> Status
     requires { Fits image plan.now }
-    ensures runs { CountingRuns printing.what plan.now image (S.remaining script.old)
+    ensures runs { DrawsRun (IsRefusedCount printing.what (S.remaining script.old) plan.now image)
         (W.contents writer.old) (W.contents writer.new) result }
     ensures of_script { (n : ℕ) → result ≡ status.CannotRead n → n ≡ 1 }
 {

@@ -47,7 +47,7 @@ mod timed_runs;
 mod timing;
 mod tools;
 
-pub use answering::{answer_script, do_script};
+pub use answering::answer_script;
 pub use c104_print::{Asked, Format};
 pub use c104_stats::What;
 pub use counted_runs::{CountedRun, count_plan, is_locked};

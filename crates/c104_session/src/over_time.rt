@@ -2,7 +2,8 @@
 ghost use Rattle.std.specs.Prelude.{ℕ, ◌≡◌, ◌≢◌, Err, IfOk};
 ghost use Rattle.c104_plan.specs.PlanImage.{Fits};
 ghost use Rattle.c104_stream.specs.declared.halt.Halt.TheVariants as halt;
-ghost use Rattle.c104_session.specs.OverTime.{IsRefusedRun, OverTimeEnds, OverTimeRuns};
+ghost use Rattle.c104_session.specs.DrawnRuns.{DrawEnds, DrawsRun};
+ghost use Rattle.c104_session.specs.TimedRuns.{IsRefusedTime};
 ghost use Rattle.c104_setup.specs.declared.status.Status.TheVariants as status;
 
 use crate::states::write_drawn;
@@ -34,7 +35,7 @@ pub fn draw_over_time_command<D: Read, S: Read, W: Write, M: Messages>(
     writer: &mut W,
     messages: &mut M,
 ) -> Status
-    ensures ends { OverTimeEnds asked.format (D.remaining description.old) (S.remaining script.old)
+    ensures ends { DrawEnds (IsRefusedTime asked.format (S.remaining script.old)) (D.remaining description.old)
         (W.contents writer.old) (W.contents writer.new) result }
     ensures of_description { result ≡ status.CannotRead 0 → script.new ≡ script.old }
 {
@@ -46,7 +47,7 @@ pub fn draw_over_time_command<D: Read, S: Read, W: Write, M: Messages>(
 }
 
 /// The same of the network of a plan, with an image that fits it.
-#[tactic(auto, using(crate::proofs::OverTimeLemmas::timed_halts))]
+#[tactic(auto, using(crate::proofs::DrawnRuns::draw_halts))]
 fn draw_timed<S: Read, W: Write, M: Messages>(
     alloc: Global,
     asked: Asked,
@@ -57,7 +58,7 @@ fn draw_timed<S: Read, W: Write, M: Messages>(
     messages: &mut M,
 ) -> Status
     requires { Fits image plan.now }
-    ensures runs { OverTimeRuns asked.format plan.now image (S.remaining script.old)
+    ensures runs { DrawsRun (IsRefusedTime asked.format (S.remaining script.old) plan.now image)
         (W.contents writer.old) (W.contents writer.new) result }
     ensures of_script { (n : ℕ) → result ≡ status.CannotRead n → n ≡ 1 }
 {
@@ -78,7 +79,7 @@ fn timed_text<S: Read, M: Messages>(
 ) -> Result<TimedText, Halt>
     requires { Fits image plan.now }
     ensures refused { IfOk result (λ timed.
-        IsRefusedRun asked.format plan.now image (S.remaining script.old) timed.is_refused) }
+        IsRefusedTime asked.format (S.remaining script.old) plan.now image timed.is_refused) }
     ensures unwritten { result ≢ Err halt.CannotWrite }
 {
     let mut ahead = Ahead::new(alloc)?;

@@ -58,7 +58,14 @@ pub fn run<D: Read, S: Read, W: Write, M: Messages>(
     ensures packets { (text script : List ℕ) → PrintsPacketsOf text script }
     ensures all { (text script : List ℕ) → PrintsAllOf text script }
 {
-    run_parts(alloc, description, script, writer, messages)
+    let text = match read_up_to(alloc, MAX_DESCRIPTION, description) {
+        Ok(text) => text,
+        Err(fault) => return Status::of_halt(Halt::from(fault), 0),
+    };
+    let Ok(mut ahead) = Ahead::new(alloc) else {
+        return Status::NoMemory;
+    };
+    run_description(alloc, text.as_slice(), &mut ahead, script, writer, messages)
 }
 
 /// `run` of a script that comes line by line, from a program or from a person who types it.
@@ -81,31 +88,7 @@ pub fn debug_command<D: Read, S: Read, W: Write, M: Messages>(
     run(alloc, description, script, writer, messages)
 }
 
-/// The same, but for what the lines of a script are.
-fn run_parts<D: Read, S: Read, W: Write, M: Messages>(
-    alloc: Global,
-    description: &mut D,
-    script: &mut S,
-    writer: &mut W,
-    messages: &mut M,
-) -> Status
-    ensures runs { RunsParts (D.remaining description.old) (S.remaining script.old)
-        (S.remaining script.new)
-        (W.contents writer.old) (W.contents writer.new) result }
-    ensures of_description { result ≡ status.CannotRead 0 → script.new ≡ script.old }
-    ensures of_script { result ≡ status.CannotRead 1 → IsAtEnd (D.remaining description.new) }
-{
-    let text = match read_up_to(alloc, MAX_DESCRIPTION, description) {
-        Ok(text) => text,
-        Err(fault) => return Status::of_halt(Halt::from(fault), 0),
-    };
-    let Ok(mut ahead) = Ahead::new(alloc) else {
-        return Status::NoMemory;
-    };
-    run_description(alloc, text.as_slice(), &mut ahead, script, writer, messages)
-}
-
-/// The same of one text: its description ends at the first line whose only word is `script`, and the
+/// `run` of one text: its description ends at the first line whose only word is `script`, and the
 /// script follows that line. Where there is no such line the script is empty, and where it hasn't
 /// ended within 1 MiB the description is too long. Messages name the lines of the text.
 #[tactic(auto, using(c104_script::proofs::PartsLaw::parts_law, crate::proofs::LinesLaw::lines_law, crate::proofs::PrintedRunsLaw::printed_runs, crate::proofs::PrintedRunsLaw::delivered_runs))]

@@ -1,10 +1,9 @@
 //! A script, run on the network of a plan.
-ghost use Rattle.std.specs.Prelude.{◌≡◌, OnErr, OnOk};
+ghost use Rattle.std.specs.Prelude.{OnErr, OnOk};
 ghost use Rattle.std.specs.Io.KnownBytes.{Appends, prepend_known};
-ghost use Rattle.c104_plan.specs.PlanImage.{Fits, Image as TheImage};
-ghost use Rattle.c104_plan.specs.Plans.{Plan as ThePlan};
+ghost use Rattle.c104_plan.specs.PlanImage.{Fits};
 ghost use Rattle.c104_session.specs.Runs.{EndsRun, RunsPlan, WritesText, end_text};
-ghost use Rattle.c104_session.specs.Shown.{joined_texts, new_session};
+ghost use Rattle.c104_session.specs.Shown.{joined_texts};
 ghost use Rattle.c104_stream.specs.Writing.{AppendsPrefix};
 
 use crate::answering::answer_script;
@@ -36,24 +35,7 @@ pub fn run_plan<S: Read, W: Write, M: Messages>(
         (prepend_known ahead.old (S.remaining script.old)) (S.remaining script.new)
         (W.contents writer.old) (W.contents writer.new) result }
 {
-    let session = Session::new(alloc, plan, image)?;
-    run_session(alloc, session, ahead, script, writer, messages)
-}
-
-/// Runs a script on a network that is before its first line.
-fn run_session<S: Read, W: Write, M: Messages>(
-    alloc: Global,
-    session: Session,
-    ahead: &mut Ahead,
-    script: &mut S,
-    writer: &mut W,
-    messages: &mut M,
-) -> Result<bool, Halt>
-    ensures { (plan : ThePlan) (image : TheImage) → session ≡ new_session plan image →
-        RunsPlan plan image (prepend_known ahead.old (S.remaining script.old)) (S.remaining script.new)
-        (W.contents writer.old) (W.contents writer.new) result }
-{
-    let mut session = session;
+    let mut session = Session::new(alloc, plan, image)?;
     let answered = answer_script(alloc, &mut session, ahead, script, writer, messages);
     let leftovers = leftovers_of(alloc, &session, messages);
     let ended = session.finish();

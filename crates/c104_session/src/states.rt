@@ -1,18 +1,17 @@
 //! The drawing of a description's network as it stands after a script.
 ghost use Rattle.std.specs.Prelude.{ℕ, ◌≡◌, ◌≢◌, Err, IfOk};
 ghost use Rattle.std.specs.Io.KnownBytes.{prepend_known};
-ghost use Rattle.c104_plan.specs.PlanImage.{Fits, Image as TheImage};
-ghost use Rattle.c104_plan.specs.Plans.{Plan as ThePlan};
+ghost use Rattle.c104_plan.specs.PlanImage.{Fits};
 ghost use Rattle.c104_stream.specs.declared.halt.Halt.TheVariants as halt;
-ghost use Rattle.c104_session.specs.Shown.{new_session};
-ghost use Rattle.c104_session.specs.StatePictures.{IsRefusedAfter, StateEnds, StateRuns, WritesDrawn};
+ghost use Rattle.c104_session.specs.DrawnRuns.{DrawEnds, DrawsRun, IsRefusedAfter, IsRefusedOn, WritesDrawn};
 ghost use Rattle.c104_setup.specs.declared.status.Status.TheVariants as status;
 
-use crate::answering::{answer_script, do_script};
-use crate::session::{Session, Session};
+use crate::session::Session;
+use crate::telling::Telling;
 use c104_mistakes::Messages;
 use c104_plan::{Image, Plan};
 use c104_print::state_text;
+use c104_script::do_lines;
 use c104_setup::{Setup, Status, read_setup};
 use c104_stream::{Ahead, Halt, write_whole};
 use std::alloc::Global;
@@ -35,7 +34,7 @@ pub fn draw_state_command<D: Read, S: Read, W: Write, M: Messages>(
     writer: &mut W,
     messages: &mut M,
 ) -> Status
-    ensures ends { StateEnds (D.remaining description.old) (S.remaining script.old)
+    ensures ends { DrawEnds (IsRefusedOn (S.remaining script.old)) (D.remaining description.old)
         (W.contents writer.old) (W.contents writer.new) result }
     ensures of_description { result ≡ status.CannotRead 0 → script.new ≡ script.old }
 {
@@ -47,7 +46,7 @@ pub fn draw_state_command<D: Read, S: Read, W: Write, M: Messages>(
 }
 
 /// The same of the network of a plan, with an image that fits it.
-#[tactic(auto, using(crate::proofs::StateLemmas::state_halts))]
+#[tactic(auto, using(crate::proofs::DrawnRuns::draw_halts))]
 fn draw_after<S: Read, W: Write, M: Messages>(
     alloc: Global,
     plan: &Plan,
@@ -57,7 +56,7 @@ fn draw_after<S: Read, W: Write, M: Messages>(
     messages: &mut M,
 ) -> Status
     requires { Fits image plan.now }
-    ensures runs { StateRuns plan.now image (S.remaining script.old)
+    ensures runs { DrawsRun (IsRefusedOn (S.remaining script.old) plan.now image)
         (W.contents writer.old) (W.contents writer.new) result }
     ensures of_script { (n : ℕ) → result ≡ status.CannotRead n → n ≡ 1 }
 {
@@ -102,35 +101,18 @@ fn drawn_after<S: Read, M: Messages>(
 ) -> Result<Drawn, Halt>
     requires { Fits image plan.now }
     ensures refused { IfOk result (λ drawn.
-        IsRefusedAfter plan.now image (S.remaining script.old) drawn.refused) }
+        IsRefusedOn (S.remaining script.old) plan.now image drawn.refused) }
     ensures unwritten { result ≢ Err halt.CannotWrite }
 {
     let mut ahead = Ahead::new(alloc)?;
-    let session = Session::new(alloc, plan, image)?;
-    drawn_session(alloc, session, &mut ahead, script, messages)
-}
-
-/// The same on a network that is before the script's first line.
-fn drawn_session<S: Read, M: Messages>(
-    alloc: Global,
-    session: Session,
-    ahead: &mut Ahead,
-    script: &mut S,
-    messages: &mut M,
-) -> Result<Drawn, Halt>
-    ensures refused { (plan : ThePlan) (image : TheImage) → session ≡ new_session plan image →
-        IfOk result (λ drawn. IsRefusedAfter plan image (prepend_known ahead.old (S.remaining script.old))
-        drawn.refused) }
-    ensures unwritten { result ≢ Err halt.CannotWrite }
-{
-    let mut session = session;
-    let drawn = drawn_of(alloc, &mut session, ahead, script, messages);
+    let mut session = Session::new(alloc, plan, image)?;
+    let drawn = drawn_of(alloc, &mut session, &mut ahead, script, messages);
     session.finish().retire();
     drawn
 }
 
-/// The same of a network that is left as it stands after the script.
-#[tactic(auto, using(crate::proofs::StateLemmas::refused_after))]
+/// The same of a network that is before the script's first line, and is left as it stands after the script.
+#[tactic(auto, using(crate::proofs::DrawnRuns::refused_after), unfolding(crate::specs::Shown::line_outcome))]
 fn drawn_of<S: Read, M: Messages>(
     alloc: Global,
     session: &mut Session,
@@ -138,12 +120,14 @@ fn drawn_of<S: Read, M: Messages>(
     script: &mut S,
     messages: &mut M,
 ) -> Result<Drawn, Halt>
-    ensures refused { (plan : ThePlan) (image : TheImage) → session.old ≡ new_session plan image →
-        IfOk result (λ drawn. IsRefusedAfter plan image (prepend_known ahead.old (S.remaining script.old))
-        drawn.refused) }
+    ensures refused { IfOk result (λ drawn.
+        IsRefusedAfter session.old (prepend_known ahead.old (S.remaining script.old)) drawn.refused) }
     ensures unwritten { result ≢ Err halt.CannotWrite }
 {
-    let is_long = do_script(alloc, session, ahead, script, messages)?;
+    let mut telling = Telling::new(messages);
+    let done = do_lines(alloc, session, ahead, script, &mut telling);
+    telling.end(&done);
+    let is_long = done?;
     let text = state_text(alloc, &session.net, &session.image)?;
     Ok(Drawn {
         text,

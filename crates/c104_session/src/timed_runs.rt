@@ -49,6 +49,7 @@ pub fn time_plan<S: Read, M: Messages>(
 }
 
 /// The same on a network that is before the script's first line. Its answers go nowhere.
+#[tactic(auto, using(crate::proofs::TimedScripts::script_timed))]
 fn time_driven<S: Read, M: Messages>(
     alloc: Global,
     driven: Driven<Timeline>,
