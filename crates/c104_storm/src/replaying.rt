@@ -75,13 +75,10 @@ pub(crate) fn count_sent(gathered: &Gathered) -> usize {
 
 /// How many packets were sent in a trace.
 fn count_sends(trace: &[Entry]) -> usize {
-    let mut count = 0usize;
-    for entry in trace {
-        if let ActOf::Send(_) = &entry.act {
-            count = count.saturating_add(1);
-        }
-    }
-    count
+    trace
+        .iter()
+        .filter(|entry| matches!(entry.act, ActOf::Send(_)))
+        .count()
 }
 
 /// Does the calls of all seats, by their tickets.
@@ -89,21 +86,13 @@ fn do_calls(alloc: Global, net: &mut TracedNet, seats: &[SeatCalls]) -> Result<(
     let Ok(mut places) = vec![in alloc; 0usize; seats.len()] else {
         return Err(EventFault::NoMemory);
     };
-    for _ in 0..count_calls(seats) {
-        if let Some(call) = next_call(seats, places.as_mut_slice()) {
-            net.apply(&call.event)?;
-        }
+    for _ in 0..usize::MAX {
+        let Some(call) = next_call(seats, places.as_mut_slice()) else {
+            break;
+        };
+        net.apply(&call.event)?;
     }
     Ok(())
-}
-
-/// How many calls seats have.
-fn count_calls(seats: &[SeatCalls]) -> usize {
-    let mut count = 0usize;
-    for seat in seats {
-        count = count.saturating_add(seat.calls.as_slice().len());
-    }
-    count
 }
 
 /// The call of the least ticket among those from these places on, of each seat; the place goes behind it.
@@ -119,25 +108,12 @@ fn next_call<'a>(seats: &'a [SeatCalls], places: &mut [usize]) -> Option<&'a Cal
 fn next_seat(seats: &[SeatCalls], places: &[usize]) -> Option<usize> {
     let mut least: Option<(u64, usize)> = None;
     for (number, seat) in seats.iter().enumerate() {
-        if let Some(ticket) = ticket_at(seat, places.get(number).copied())
-            && is_less(ticket, least)
+        if let Some(place) = places.get(number)
+            && let Some(call) = seat.calls.as_slice().get(*place)
+            && !matches!(least, Some((ticket, _)) if ticket <= call.ticket)
         {
-            least = Some((ticket, number));
+            least = Some((call.ticket, number));
         }
     }
     least.map(|found| found.1)
-}
-
-/// The ticket of a seat's call at a place.
-fn ticket_at(seat: &SeatCalls, place: Option<usize>) -> Option<u64> {
-    let call = seat.calls.as_slice().get(place?)?;
-    Some(call.ticket)
-}
-
-/// Whether a ticket is less than the least so far.
-fn is_less(ticket: u64, least: Option<(u64, usize)>) -> bool {
-    match least {
-        Some((other, _)) => ticket < other,
-        None => true,
-    }
 }
