@@ -7,7 +7,7 @@ ghost use Rattle.std.specs.Prelude.{◌≤◌};
 use crate::count_words::{CountWords, with_counts};
 use crate::help;
 use crate::picture_words::{PictureWords, with_pictures};
-use crate::subcommands::{Row, SUBCOMMANDS, Subcommand, Takes};
+use crate::subcommands::{Row, SUBCOMMANDS, Subcommand};
 use crate::traffic_words::{TrafficWords, with_traffic};
 use c104_storm::MAX_WORKERS;
 use clap::{Arg, ArgAction, ArgMatches, Command, Error, value_parser};
@@ -209,15 +209,15 @@ fn add<'a>(
 /// A subcommand with its words.
 fn subcommand<'a>(alloc: Global, row: Row) -> Result<Command<'a>, AllocError> {
     let named = command(alloc, row.name, row.about, row.teaching);
-    match row.takes {
-        Takes::Files => with_files(alloc, named),
-        Takes::Workers => with_workers(alloc, named),
-        Takes::Counts => with_counts(alloc, with_both(alloc, named)?),
-        Takes::Description => with_description(alloc, named),
-        Takes::All => with_cycles(alloc, with_description(alloc, named)?),
-        Takes::Rows => with_description(alloc, named)?.arg(flag(alloc, ROWS, ROWS_HELP)),
-        Takes::Marks => with_pictures(alloc, with_description(alloc, named)?),
-        Takes::Traffic => with_traffic(alloc, with_description(alloc, named)?),
+    match row.subcommand {
+        Subcommand::Run => with_files(alloc, named),
+        Subcommand::Debug | Subcommand::Check => with_description(alloc, named),
+        Subcommand::Storm => with_workers(alloc, named),
+        Subcommand::Stats => with_counts(alloc, with_both(alloc, named)?),
+        Subcommand::Cycles => with_cycles(alloc, with_description(alloc, named)?),
+        Subcommand::Label => { with_description(alloc, named)?.arg(flag(alloc, ROWS, ROWS_HELP)) }
+        Subcommand::Draw => with_pictures(alloc, with_description(alloc, named)?),
+        Subcommand::Traffic => with_traffic(alloc, with_description(alloc, named)?),
     }
 }
 
@@ -298,9 +298,7 @@ pub fn script_argument<'a>(alloc: Global) -> Arg<'a> {
 
 /// `--workers N`.
 fn workers_option<'a>(alloc: Global) -> Arg<'a> {
-    Arg::new(alloc, WORKERS)
-        .long(WORKERS)
-        .value_name("N")
-        .value_parser(value_parser!(u8).range(1..=i64::from(MAX_WORKERS)))
-        .help(WORKERS_HELP)
+    valued(alloc, WORKERS, "N", WORKERS_HELP).value_parser(value_parser!(u8).range(
+        1..=i64::from(MAX_WORKERS),
+    ))
 }

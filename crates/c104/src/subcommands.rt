@@ -1,4 +1,4 @@
-//! The table of subcommands: of each what it asks for, its name, its help, and the words that it takes.
+//! The table of subcommands: of each what it asks for, its name and its help.
 
 use crate::help;
 
@@ -25,27 +25,6 @@ pub enum Subcommand {
     Traffic,
 }
 
-/// The words that a subcommand takes.
-#[derive(Clone, Copy)]
-pub enum Takes {
-    /// `[DESC SCRIPT]`: neither of the two stands without the other.
-    Files,
-    /// `DESC SCRIPT [--workers N]`.
-    Workers,
-    /// `DESC SCRIPT [--format F] [--what W]`.
-    Counts,
-    /// `DESC`.
-    Description,
-    /// `DESC [--all | --script]`.
-    All,
-    /// `DESC [--rows]`.
-    Rows,
-    /// `DESC [--header N | --cycles | SCRIPT --state | SCRIPT --over-time [--from R] [--to R] [--format F]]`.
-    Marks,
-    /// `DESC --pattern P [--target T] --packets N --bytes B --seed S [--load R] [--own]`.
-    Traffic,
-}
-
 /// A row of the table.
 #[derive(Clone, Copy)]
 pub struct Row {
@@ -57,8 +36,6 @@ pub struct Row {
     pub about: &'static str,
     /// What its help says below its options.
     pub teaching: &'static str,
-    /// The words that it takes.
-    pub takes: Takes,
 }
 
 /// The subcommands, in the order of help.
@@ -68,62 +45,53 @@ pub const SUBCOMMANDS: [Row; 9] = [
         name: "run",
         about: "Runs a script on the network of a description, and shows what arrived",
         teaching: help::RUN,
-        takes: Takes::Files,
     },
     Row {
         subcommand: Subcommand::Debug,
         name: "debug",
         about: "Runs a script that is typed, or that a program sends, line by line",
         teaching: help::DEBUG,
-        takes: Takes::Description,
     },
     Row {
         subcommand: Subcommand::Storm,
         name: "storm",
         about: "Lets worker threads carry the packets that a script sends, and audits their run",
         teaching: help::STORM,
-        takes: Takes::Workers,
     },
     Row {
         subcommand: Subcommand::Stats,
         name: "stats",
         about: "Runs a script, and prints how its packets, links and rounds fared, in numbers",
         teaching: help::STATS,
-        takes: Takes::Counts,
     },
     Row {
         subcommand: Subcommand::Check,
         name: "check",
         about: "Checks the labels of a description: whether every way of each header ends at its terminal",
         teaching: help::CHECK,
-        takes: Takes::Description,
     },
     Row {
         subcommand: Subcommand::Cycles,
         name: "cycles",
         about: "Looks for a cycle of channel dependencies, without which no accepted network locks up",
         teaching: help::CYCLES,
-        takes: Takes::All,
     },
     Row {
         subcommand: Subcommand::Label,
         name: "label",
         about: "Shows the labels of a description, and the register values they produce",
         teaching: help::LABEL,
-        takes: Takes::Rows,
     },
     Row {
         subcommand: Subcommand::Draw,
         name: "draw",
         about: "Draws the network of a description, as text for Graphviz",
         teaching: help::DRAW,
-        takes: Takes::Marks,
     },
     Row {
         subcommand: Subcommand::Traffic,
         name: "traffic",
         about: "Prints a script by which the terminals of a description send packets in a pattern",
         teaching: help::TRAFFIC,
-        takes: Takes::Traffic,
     },
 ];

@@ -80,49 +80,17 @@ fn at_least_one(said: Option<usize>) -> Option<usize>
     }
 }
 
-/// A pattern by the word for it.
-#[derive(Clone, Copy)]
-struct PatternRow {
-    word: &'static str,
-    name: PatternName,
-}
-
-/// The patterns of traffic.
-const PATTERNS: [PatternRow; 6] = [
-    PatternRow {
-        word: "uniform",
-        name: PatternName::Uniform,
-    },
-    PatternRow {
-        word: "transpose",
-        name: PatternName::Transpose,
-    },
-    PatternRow {
-        word: "reverse",
-        name: PatternName::Reverse,
-    },
-    PatternRow {
-        word: "neighbour",
-        name: PatternName::Neighbour,
-    },
-    PatternRow {
-        word: "hot-spot",
-        name: PatternName::HotSpot,
-    },
-    PatternRow {
-        word: "all-to-all",
-        name: PatternName::AllToAll,
-    },
-];
-
 /// The pattern of this name. None where there is no such pattern.
 pub fn pattern_of(word: &str) -> Option<PatternName> {
-    for row in PATTERNS {
-        if row.word == word {
-            return Some(row.name);
-        }
+    match word {
+        "uniform" => Some(PatternName::Uniform),
+        "transpose" => Some(PatternName::Transpose),
+        "reverse" => Some(PatternName::Reverse),
+        "neighbour" => Some(PatternName::Neighbour),
+        "hot-spot" => Some(PatternName::HotSpot),
+        "all-to-all" => Some(PatternName::AllToAll),
+        _ => None,
     }
-    None
 }
 
 /// The options of traffic.
