@@ -2,7 +2,7 @@
 //! terminal.
 
 use crate::rings::Step;
-use crate::senders::{Sender, senders};
+use crate::senders::{Goal, Sender, nearer, senders};
 use crate::ways::Ways;
 use c104_token::{MAX_PACKET_BYTES, NoMemory};
 use std::alloc::Global;
@@ -33,7 +33,10 @@ pub(crate) const OUTPUT_ROOM: usize = 8;
 /// The rounds after which packets come to their inputs, where none goes over more wires.
 const MEETING: usize = 512;
 
-/// The packets for a cycle.
+/// How many words pick the random headers of `rounds`: the first.
+const ROUNDS_WORDS: u32 = 1;
+
+/// The packets for a cycle, by their rounds.
 pub(crate) fn sendings(
     alloc: Global,
     ways: &Ways<'_>,
@@ -50,6 +53,7 @@ pub(crate) fn sendings(
             })?;
         }
     }
+    list.sort_by_key(|sending| sending.round)?;
     Ok(list)
 }
 
@@ -60,36 +64,28 @@ fn nearest_sender(
     step: Step,
     list: &[Sending],
 ) -> Result<Option<Sender>, NoMemory> {
-    let all = senders(alloc, ways, step)?;
+    let to = ways.hops_to(alloc, step.input, step.header, &[])?;
+    let goal = Goal {
+        header: step.header,
+        blocked: &[],
+        to: to.as_slice(),
+    };
+    let all = senders(alloc, ways, goal, ROUNDS_WORDS)?;
     let mut free = None;
     let mut nearest = None;
     for sender in all.as_slice() {
-        if !sends(list, *sender) && is_nearer(*sender, free) {
-            free = Some(*sender);
+        if !sends(list, *sender) {
+            free = nearer(free, Some(*sender));
         }
-        if is_nearer(*sender, nearest) {
-            nearest = Some(*sender);
-        }
+        nearest = nearer(nearest, Some(*sender));
     }
-    Ok(if free.is_some() { free } else { nearest })
+    Ok(free.or(nearest))
 }
 
 /// Whether a sender's terminal sends one of these packets.
 fn sends(list: &[Sending], sender: Sender) -> bool {
-    for sending in list {
-        if sending.sender.terminal == sender.terminal {
-            return true;
-        }
-    }
-    false
-}
-
-/// Whether a sender is nearer than another, if there is one.
-fn is_nearer(sender: Sender, other: Option<Sender>) -> bool {
-    match other {
-        Some(other) => sender.hops < other.hops,
-        None => true,
-    }
+    list.iter()
+        .any(|sending| sending.sender.terminal == sender.terminal)
 }
 
 /// After how many rounds a packet is sent.

@@ -10,11 +10,9 @@ ghost use Rattle.c104_lockup.specs.HarmlessScripts.{AreHarmless, IsHarmless, IsL
 use c104_event::Event;
 use c104_plan::{Image, Plan, Port, cut_lines};
 use c104_script::{LineFault, Request, read_line};
+use c104_stream::MAX_SCRIPT;
 use c104_token::{NoMemory, Packet};
 use std::alloc::Global;
-
-/// The most bytes of a script.
-const MOST_SCRIPT: usize = 16_777_216;
 
 /// Whether each line of a script leaves the network of a plan as an image set it up, whatever it is answered: none
 /// commands a switch or sets a register, and where random headers are put before what a terminal sends, its packets
@@ -28,7 +26,7 @@ pub(crate) fn is_harmless(
     requires { IsAccepted (routes_of plan.now image.now) }
     ensures { IfOk result (λ harmless. harmless ≡ true → AreHarmless plan.now image.now (script_lines script.now)) }
 {
-    if script.len() > MOST_SCRIPT {
+    if script.len() > MAX_SCRIPT {
         return Ok(false);
     }
     let lines = cut_lines(alloc, script)?;
@@ -119,7 +117,7 @@ fn begins_with_label(plan: &Plan, image: &Image, length: usize, packet: &Packet)
 }
 
 /// Whether some terminal has this label.
-fn is_label(plan: &Plan, image: &Image, header: u32) -> bool
+pub(crate) fn is_label(plan: &Plan, image: &Image, header: u32) -> bool
     ensures { result ≡ true → IsLabel image.now header }
 {
     for terminal in 0..plan.terminals().len() {

@@ -245,10 +245,7 @@ fn add_ready(
 
 /// Whether an answer is that an event isn't ready.
 fn is_unready(answer: &Option<Answer>) -> bool {
-    match answer {
-        Some(Answer::Replied(Reply::NotReady)) => true,
-        Some(_) | None => false,
-    }
+    matches!(answer, Some(Answer::Replied(Reply::NotReady)))
 }
 
 /// Whether a script leaves the network of a plan with an image as it was set up, but locked up, if that is the image of the

@@ -47,8 +47,8 @@ fn add_path(
     add_send(
         alloc,
         ways.plan,
-        path.terminal,
-        path.label,
+        path.sender.terminal,
+        path.sender.label,
         tokens.saturating_sub(1),
         text,
     )?;
@@ -75,7 +75,7 @@ fn passed_at(passed: &[usize], place: usize) -> usize {
 fn tokens_of(ways: &Ways<'_>, path: &Path, passed: usize) -> usize {
     let header = ways.plan.header();
     let hops = path.hops.len();
-    let rides = path.word.is_some() && path.portal.unwrap_or(hops) >= hops;
+    let rides = path.sender.word.is_some() && path.portal.unwrap_or(hops) >= hops;
     let read = if path.portal == Some(hops) {
         header.saturating_mul(2)
     } else {
@@ -98,7 +98,7 @@ fn tokens_of(ways: &Ways<'_>, path: &Path, passed: usize) -> usize {
 fn note_passed(ways: &Ways<'_>, path: &Path, tokens: usize, passed: &mut Vec<usize>) {
     let header = ways.plan.header();
     for (number, hop) in path.hops.iter().enumerate() {
-        let rides = path.word.is_some() && number < path.portal.unwrap_or(path.hops.len());
+        let rides = path.sender.word.is_some() && number < path.portal.unwrap_or(path.hops.len());
         if let Some(count) = passed.get_mut(hop.next) {
             let random = if rides { header } else { 0 };
             *count = count.saturating_add(tokens).saturating_add(random);
@@ -117,21 +117,26 @@ fn add_sweep(
 ) -> Result<(), NoMemory> {
     add_input(alloc, ways.plan, goal, None, text)?;
     for (number, hop) in path.hops.iter().enumerate().rev() {
-        let word = if number == 0 { path.word } else { None };
+        let word = if number == 0 { path.sender.word } else { None };
         add_hop(alloc, ways.plan, *hop, word, text)?;
     }
-    let Some(terminal) = ways.plan.terminals().get(path.terminal) else {
+    let Some(terminal) = ways.plan.terminals().get(path.sender.terminal) else {
         return Ok(());
     };
-    let Some(switch) = ways.plan.switches().get(terminal.switch) else {
-        return Ok(());
-    };
-    let switch = switch.as_str();
-    let link = terminal.link;
+    let switch = switch_at(ways.plan, path.sender.entry);
+    let link = path.sender.entry % LINKS;
     let name = terminal.name.as_str();
-    let line = format!(in alloc; "credit {switch}.{link}\ncross {name}\n")?;
-    text.push_str(line.as_str())?;
+    let lines = format!(in alloc; "credit {switch}.{link}\ncross {name}\n")?;
+    text.push_str(lines.as_str())?;
     Ok(())
+}
+
+/// The name of the switch that has an input.
+fn switch_at(plan: &Plan, place: usize) -> &str {
+    match plan.switches().get(place / LINKS) {
+        Some(name) => name.as_str(),
+        None => "",
+    }
 }
 
 /// The lines join a text that move a token over a hop's wire, and another from its input to its output.
@@ -149,14 +154,8 @@ fn add_hop(
 
 /// The lines join a text that grant credit at the far end of a hop's wire, and move a token over it.
 fn add_wire(alloc: Global, plan: &Plan, hop: Hop, text: &mut String) -> Result<(), NoMemory> {
-    let Some(here) = plan.switches().get(hop.place / LINKS) else {
-        return Ok(());
-    };
-    let Some(there) = plan.switches().get(hop.next / LINKS) else {
-        return Ok(());
-    };
-    let here = here.as_str();
-    let there = there.as_str();
+    let here = switch_at(plan, hop.place);
+    let there = switch_at(plan, hop.next);
     let output = hop.link;
     let input = hop.next % LINKS;
     let lines = format!(in alloc; "credit {there}.{input}\ncross {here}.{output}\n")?;
@@ -172,10 +171,7 @@ fn add_input(
     word: Option<u32>,
     text: &mut String,
 ) -> Result<(), NoMemory> {
-    let Some(switch) = plan.switches().get(place / LINKS) else {
-        return Ok(());
-    };
-    let switch = switch.as_str();
+    let switch = switch_at(plan, place);
     let link = place % LINKS;
     let line = match word {
         Some(word) => format!(in alloc; "input {switch}.{link} {word}\n")?,
@@ -187,10 +183,7 @@ fn add_input(
 
 /// The line joins a text by which an input claims an output.
 fn add_claim(alloc: Global, plan: &Plan, hop: Hop, text: &mut String) -> Result<(), NoMemory> {
-    let Some(switch) = plan.switches().get(hop.place / LINKS) else {
-        return Ok(());
-    };
-    let switch = switch.as_str();
+    let switch = switch_at(plan, hop.place);
     let input = hop.place % LINKS;
     let output = hop.link;
     let line = format!(in alloc; "claim {switch} {input} {output}\n")?;

@@ -24,25 +24,15 @@ pub(crate) const MOST_RINGS: usize = 17;
 pub(crate) fn ring_of(alloc: Global, cycle: &[ChannelDependency]) -> Result<Vec<Step>, NoMemory> {
     let mut ring = Vec::new(alloc);
     for (number, dependency) in cycle.iter().enumerate() {
-        let next = match cycle.get(number.saturating_add(1)) {
-            Some(next) => place_of(next.input),
-            None => first_place(cycle),
-        };
-        ring.push(Step {
-            input: place_of(dependency.input),
-            next,
-            header: dependency.header,
-        })?;
+        if let Some(next) = cycle.get(number.saturating_add(1)).or(cycle.first()) {
+            ring.push(Step {
+                input: place_of(dependency.input),
+                next: place_of(next.input),
+                header: dependency.header,
+            })?;
+        }
     }
     Ok(ring)
-}
-
-/// The place of the first input of a cycle.
-fn first_place(cycle: &[ChannelDependency]) -> usize {
-    match cycle.first() {
-        Some(first) => place_of(first.input),
-        None => 0,
-    }
 }
 
 /// The dependencies of a network, sorted by their inputs.

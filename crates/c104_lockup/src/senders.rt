@@ -1,109 +1,135 @@
 //! Who sends packets that come to an input by a header.
 ghost use Rattle.std.specs.Prelude.{◌<◌};
 
-use crate::portals::{PortalTable, hops_by, portal_tables};
-use crate::rings::Step;
+use crate::harmless::is_label;
+use crate::portals::{PortalTable, hops_by, portal_tables, word_count};
 use crate::ways::{Ways, entry_of, number_at};
 use c104_regs::PackedSettings;
 use c104_token::NoMemory;
 use std::alloc::Global;
 
-/// The word by which `rounds` picks random headers.
-const WORD: u32 = 0;
+/// Where packets are to come by a header, which inputs they may not pass, and how far it is from each input.
+#[derive(Clone, Copy)]
+pub(crate) struct Goal<'a> {
+    /// The header.
+    pub(crate) header: u32,
+    /// The inputs that they may not pass, by place.
+    pub(crate) blocked: &'a [bool],
+    /// How far it is, by place.
+    pub(crate) to: &'a [Option<usize>],
+}
 
 /// A terminal, and how its packet has to be for it to come to an input.
 #[derive(Clone, Copy)]
 pub(crate) struct Sender {
     /// The terminal.
     pub(crate) terminal: usize,
+    /// The place of its input.
+    pub(crate) entry: usize,
     /// The header of its packet.
     pub(crate) label: u32,
     /// The word by which a random header is put before it, where the terminal's input does so.
     pub(crate) word: Option<u32>,
+    /// That random header.
+    pub(crate) random: Option<u32>,
     /// How many wires there are between the terminal's input and the other.
     pub(crate) hops: usize,
 }
 
-/// The terminals whose packets come to the input of a step by its header. Where random headers are put before packets, they
-/// are those that `rounds` picks. No packet begins with a header that is no terminal's label.
-pub(crate) fn senders(alloc: Global, ways: &Ways<'_>, step: Step) -> Result<Vec<Sender>, NoMemory> {
-    let to = ways.hops_to(alloc, step.input, step.header, &[])?;
-    senders_by(alloc, ways, step, to.as_slice())
-}
-
-/// The same by how far it is from each input by the step's header.
-fn senders_by(
+/// The terminals whose packets come to a goal, each with the nearest way. Where random headers are put before packets, they are
+/// those that the first words pick, so many at most. No packet begins with a header that is no terminal's label.
+pub(crate) fn senders(
     alloc: Global,
     ways: &Ways<'_>,
-    step: Step,
-    to: &[Option<usize>],
+    goal: Goal<'_>,
+    words: u32,
 ) -> Result<Vec<Sender>, NoMemory> {
-    let tables = portal_tables(alloc, ways, 1, &[], to)?;
-    let is_label = ways.is_label(step.header);
+    let tables = portal_tables(alloc, ways, words, goal.blocked, goal.to)?;
+    let is_label = is_label(ways.plan, ways.image, goal.header);
     let mut list = Vec::new(alloc);
-    for (number, terminal) in ways.plan.terminals().iter().enumerate() {
-        let entry = entry_of(terminal);
-        let hops = number_at(to, entry);
-        if let Some(sender) = sender_at(ways, step, tables.as_slice(), number, entry, hops)
-            && (is_label || sender.label != step.header)
-        {
+    for (terminal, one) in ways.plan.terminals().iter().enumerate() {
+        let plain = Sender {
+            terminal,
+            entry: entry_of(one),
+            label: goal.header,
+            word: None,
+            random: None,
+            hops: 0,
+        };
+        if let Some(sender) = sender_at(ways, goal, is_label, words, tables.as_slice(), plain) {
             list.push(sender)?;
         }
     }
     Ok(list)
 }
 
-/// A terminal as a sender, if its packets come there: from its input it is so far by the step's header.
+/// A terminal as a sender, if its packets come there.
 fn sender_at(
     ways: &Ways<'_>,
-    step: Step,
+    goal: Goal<'_>,
+    is_label: bool,
+    words: u32,
     tables: &[PortalTable],
-    terminal: usize,
-    entry: usize,
-    hops: Option<usize>,
+    plain: Sender,
 ) -> Option<Sender> {
-    let settings = ways.settings(entry)?;
+    let settings = ways.settings(plain.entry)?;
+    let direct = number_at(goal.to, plain.entry);
     if !settings.randomize() {
-        return direct(step, terminal, hops);
+        return if is_label {
+            with_hops(plain, direct)
+        } else {
+            None
+        };
     }
-    let random = random_header(settings, WORD, ways.header_count());
-    let hops = if random == step.header {
-        hops
-    } else {
-        hops_by(tables, random, entry)
-    };
-    behind(ways, step, random, terminal, hops)
+    let mut best = None;
+    for word in 0..words.min(word_count(settings)) {
+        let random = random_header(settings, word, ways.header_count());
+        let by_itself = random == goal.header;
+        let hops = if by_itself {
+            direct
+        } else if is_label {
+            hops_by(tables, random, plain.entry)
+        } else {
+            None
+        };
+        let sender = Sender {
+            label: if by_itself {
+                first_label(ways)
+            } else {
+                goal.header
+            },
+            word: Some(word),
+            random: Some(random),
+            ..plain
+        };
+        best = nearer(best, with_hops(sender, hops));
+    }
+    best
 }
 
-/// A terminal before whose packets no random headers are put.
-fn direct(step: Step, terminal: usize, hops: Option<usize>) -> Option<Sender> {
+/// A sender that has this many wires before it, if there is a way.
+fn with_hops(sender: Sender, hops: Option<usize>) -> Option<Sender> {
     Some(Sender {
-        terminal,
-        label: step.header,
-        word: None,
         hops: hops?,
+        ..sender
     })
 }
 
-/// A terminal before whose packets this random header is put. A packet that is to go by that may have any label.
-fn behind(
-    ways: &Ways<'_>,
-    step: Step,
-    random: u32,
-    terminal: usize,
-    hops: Option<usize>,
-) -> Option<Sender> {
-    let label = if random == step.header {
-        ways.image.range(0)?.0
-    } else {
-        step.header
-    };
-    Some(Sender {
-        terminal,
-        label,
-        word: Some(WORD),
-        hops: hops?,
-    })
+/// Any label: a packet that is to go by the random header before it may have any.
+fn first_label(ways: &Ways<'_>) -> u32 {
+    match ways.image.range(0) {
+        Some((label, _)) => label,
+        None => 0,
+    }
+}
+
+/// The nearer one of two senders, as far as they are there.
+pub(crate) fn nearer(one: Option<Sender>, other: Option<Sender>) -> Option<Sender> {
+    match (one, other) {
+        (Some(first), Some(second)) if second.hops < first.hops => Some(second),
+        (Some(first), _) => Some(first),
+        (None, other) => other,
+    }
 }
 
 /// The random header that is put before a packet by a word.

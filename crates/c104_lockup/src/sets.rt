@@ -39,13 +39,7 @@ pub(crate) fn wait_set(
 
 /// How many inputs a set has.
 pub(crate) fn count_of(set: &WaitSet) -> usize {
-    let mut count = 0usize;
-    for header in set.headers.as_slice() {
-        if header.is_some() {
-            count = count.saturating_add(1);
-        }
-    }
-    count
+    set.headers.iter().filter(|header| header.is_some()).count()
 }
 
 /// Each input that is wanted gets a header, and wants those to which that leads.
@@ -85,10 +79,7 @@ fn join(
 
 /// The header at an input of a set.
 pub(crate) fn header_at(set: &WaitSet, place: usize) -> Option<u32> {
-    match set.headers.get(place) {
-        Some(header) => *header,
-        None => None,
-    }
+    *set.headers.get(place)?
 }
 
 /// Of the headers that may wait at an input the one that leads to the fewest inputs which aren't wanted yet.

@@ -2,7 +2,7 @@
 ghost use Rattle.std.specs.Prelude.{◌<◌};
 
 use crate::attempts::Sending;
-use crate::ways::{Ways, lesser};
+use crate::ways::Ways;
 use c104_plan::Plan;
 use c104_token::{NoMemory, digit_of};
 use std::alloc::Global;
@@ -10,73 +10,25 @@ use std::alloc::Global;
 /// The rounds that are done at the end: the most that a line can ask for.
 const LAST_ROUNDS: usize = 10_000;
 
-/// The script by which these packets are sent.
+/// The script by which these packets are sent, which stand by their rounds.
 pub(crate) fn script_of(
     alloc: Global,
     ways: &Ways<'_>,
     sendings: &[Sending],
 ) -> Result<String, NoMemory> {
     let mut text = String::new(alloc);
-    if let Some(first) = next_round(sendings, None) {
-        add_from(alloc, ways, sendings, first, &mut text)?;
+    let mut before = None;
+    for sending in sendings {
+        if let Some(round) = before
+            && round < sending.round
+        {
+            add_rounds(alloc, sending.round - round, &mut text)?;
+        }
+        add_sending(alloc, ways.plan, sending, &mut text)?;
+        before = Some(sending.round);
     }
     last_rounds(alloc, &mut text)?;
     Ok(text)
-}
-
-/// The lines of the packets join a text, from those of the first round on.
-fn add_from(
-    alloc: Global,
-    ways: &Ways<'_>,
-    sendings: &[Sending],
-    first: usize,
-    text: &mut String,
-) -> Result<(), NoMemory> {
-    let mut round = first;
-    for _ in 0..sendings.len() {
-        add_all(alloc, ways, sendings, round, text)?;
-        let Some(next) = next_round(sendings, Some(round)) else {
-            return Ok(());
-        };
-        add_rounds(alloc, next.saturating_sub(round), text)?;
-        round = next;
-    }
-    Ok(())
-}
-
-/// The first round behind another one, or of all, at which packets are sent.
-fn next_round(sendings: &[Sending], round: Option<usize>) -> Option<usize> {
-    let mut next = None;
-    for sending in sendings {
-        if is_behind(sending.round, round) {
-            next = lesser(next, Some(sending.round));
-        }
-    }
-    next
-}
-
-/// Whether a round comes behind another, if there is that.
-fn is_behind(round: usize, other: Option<usize>) -> bool {
-    match other {
-        Some(other) => other < round,
-        None => true,
-    }
-}
-
-/// The lines of the packets that are sent at a round join a text.
-fn add_all(
-    alloc: Global,
-    ways: &Ways<'_>,
-    sendings: &[Sending],
-    round: usize,
-    text: &mut String,
-) -> Result<(), NoMemory> {
-    for sending in sendings {
-        if sending.round == round {
-            add_sending(alloc, ways.plan, sending, text)?;
-        }
-    }
-    Ok(())
 }
 
 /// The line of a packet joins a text.

@@ -48,12 +48,7 @@ pub(crate) fn held(
 
 /// Whether some header may wait at an input.
 fn waits_some(all: &[HeaderMarks], place: usize) -> bool {
-    for one in all {
-        if is_marked(one.marks.as_slice(), place) {
-            return true;
-        }
-    }
-    false
+    all.iter().any(|one| is_marked(one.marks.as_slice(), place))
 }
 
 /// Headers that go on to where nothing is held don't wait; and whether there were any.

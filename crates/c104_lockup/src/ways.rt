@@ -148,19 +148,6 @@ impl<'a> Ways<'a> {
         self.far.len()
     }
 
-    /// Whether a header is a label of some terminal.
-    pub(crate) fn is_label(&self, header: u32) -> bool {
-        for terminal in 0..self.plan.terminals().len() {
-            if let Some((first, count)) = self.image.range(terminal)
-                && first <= header
-                && header < first.saturating_add(count)
-            {
-                return true;
-            }
-        }
-        false
-    }
-
     /// How far it is from each input to one by a header, past none that is blocked.
     pub(crate) fn hops_to(
         &self,
@@ -236,16 +223,11 @@ impl<'a> Ways<'a> {
         let links = self.links(place, header);
         let mut least = None;
         for link in links.first..links.end {
-            let hops = match self.far_input(place / LINKS, link) {
-                Some(next) => number_at(table, next),
-                None => None,
-            };
-            least = lesser(least, hops);
+            if let Some(next) = self.far_input(place / LINKS, link) {
+                least = lesser(least, number_at(table, next));
+            }
         }
-        match least {
-            Some(hops) => Some(hops.saturating_add(1)),
-            None => None,
-        }
+        Some(least?.saturating_add(1))
     }
 
     /// A link by which a header goes on from an input to one that has this number.
@@ -269,11 +251,7 @@ impl<'a> Ways<'a> {
 
     /// The input that a link leads to, if it is a switch's.
     fn far_input(&self, switch: usize, link: usize) -> Option<usize> {
-        let place = place_of(SwitchPort { switch, link });
-        match self.far.get(place) {
-            Some(far) => *far,
-            None => None,
-        }
+        number_at(self.far.as_slice(), place_of(SwitchPort { switch, link }))
     }
 
     /// The links by which a header leaves an input.
@@ -318,30 +296,21 @@ pub(crate) fn entry_of(terminal: &Terminal) -> usize {
 
 /// The number at a place of a table.
 pub(crate) fn number_at(table: &[Option<usize>], place: usize) -> Option<usize> {
-    match table.get(place) {
-        Some(number) => *number,
-        None => None,
-    }
+    *table.get(place)?
 }
 
 /// Whether a place is marked.
 pub(crate) fn is_marked(marks: &[bool], place: usize) -> bool {
-    match marks.get(place) {
-        Some(mark) => *mark,
-        None => false,
-    }
+    matches!(marks.get(place), Some(true))
 }
 
 /// Whether there is a place, and it is marked.
 fn is_some_marked(marks: &[bool], place: Option<usize>) -> bool {
-    match place {
-        Some(place) => is_marked(marks, place),
-        None => false,
-    }
+    matches!(place, Some(place) if is_marked(marks, place))
 }
 
 /// The lesser of two numbers, as far as they are there.
-pub(crate) fn lesser(one: Option<usize>, other: Option<usize>) -> Option<usize> {
+fn lesser(one: Option<usize>, other: Option<usize>) -> Option<usize> {
     match (one, other) {
         (Some(one), Some(other)) => Some(one.min(other)),
         (Some(one), None) => Some(one),

@@ -5,5 +5,5 @@ pub returns : Rattle.c104_lockup.proofs.harmless.is_harmless.Goals.returns
 returns c =
     subst (λ lines. IfOk c.are_harmless.result (λ harmless. harmless ≡ true → AreHarmless c.args.plan.now c.args.image.now lines))
     (ap (λ (lines : List (Bor (List ℕ))). map (λ line. line.now) lines) c.as_slice.ensures.value ∙ c.in_ok-lines.ensures
-    ∙ sym (all_lines c.args.script.now (omega (arith, c.if-script-gt-MOST_SCRIPT.false))))
+    ∙ sym (all_lines c.args.script.now (omega (arith, c.if-script-gt-MAX_SCRIPT.false))))
     c.are_harmless.ensures
