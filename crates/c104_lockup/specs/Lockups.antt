@@ -4,10 +4,14 @@
 use Rattle.c104_check.specs.{ChannelDependencies.{IsAcyclic, IsCycle}, Routes.{IsAccepted, routes_of}}
 use Rattle.{c104_check.specs.declared.cycles.ChannelDependency.ChannelDependency, c104_commands.specs.Checks.IsRefusedBy}
 use Rattle.{c104_commands.specs.CycleTexts.acyclic_text, c104_plan.specs.{PlanImage.Image, Plans.Plan}}
-use Rattle.{c104_run.specs.Standstill.IsDeadlocked, c104_session.specs.{PrintedPackets.LeaveUnchanged, Shown.new_session}}
-use Rattle.{c104_session.specs.StatePictures.after_script, c104_stream.specs.ScriptLines.{is_long, script_lines}}
-use Rattle.c104_token.specs.Kinds.{plain_kind}
+use Rattle.{c104_run.specs.Standstill.IsDeadlocked, c104_session.specs.{PrintedPackets.LeaveUnchanged, Shown.{line_outcome, new_session}}}
+use Rattle.{c104_session.specs.declared.session.Session.Session, c104_stream.specs.ScriptLines.{is_long, script_lines}}
+use Rattle.{c104_stream.specs.Scripts.script_outcome, c104_token.specs.Kinds.plain_kind}
 use Rattle.std.specs.Prelude.{Bool, List, codes, false, true, ℕ, ◌≡◌, ◌⊎◌}
+
+-- the session behind the last line of a script, on the network of a plan with an image
+abbrev pub after_script : Plan → Image → List ℕ → Session
+after_script plan image script = (script_outcome line_outcome (new_session plan image) script).1
 
 -- a script is no longer than it may be, and none of its lines is faulty; and where `run` has answered them all, no event of
 -- a round can be done, though there are tokens or packets in the network
