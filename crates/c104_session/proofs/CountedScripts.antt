@@ -1,8 +1,9 @@
 -- What is counted of the run of a script, by what its parts come to.
-use Rattle.{c104_script.specs.Answering.DoesScript, c104_session.specs.{Counted.counts_kept, CountedRuns.{IsCountedAfter, IsCountedOn}}}
-use Rattle.c104_session.specs.{Driven.driven_outcome, declared.{counted_runs.CountedRun.CountedRun, driven.Driven.Driven}}
-use Rattle.{c104_stats.specs.Counts.Counts, c104_stream.specs.ScriptLines.is_long, std.proofs.Common.{Bool, List, None, Option, Some, ap}}
-use Rattle.std.proofs.Common.{subst, ℕ, ◌||◌, ◌∙◌, ◌≡◌}
+use Rattle.{c104_plan.specs.{PlanImage.Image, Plans.Plan}, c104_script.specs.Answering.DoesScript, c104_session.specs.Counted.counts_kept}
+use Rattle.c104_session.specs.{CountedRuns.{IsCountedAfter, IsCountedOn, IsCountedPlan, IsRefusedCount}, Driven.driven_outcome}
+use Rattle.{c104_session.specs.declared.{counted_runs.CountedRun.CountedRun, driven.Driven.Driven}, c104_stats.specs.Counts.Counts}
+use Rattle.{c104_stats.specs.declared.stats.What.What, c104_stream.specs.ScriptLines.is_long, std.proofs.Common.{Bool, List, None, Option}}
+use Rattle.std.proofs.Common.{Some, ap, refl, subst, ℕ, ◌||◌, ◌∙◌, ◌≡◌}
 
 -- a script that was done
 module _ (driven after : Driven Counts) (long : Bool) (run : CountedRun) where
@@ -14,3 +15,9 @@ module _ (driven after : Driven Counts) (long : Bool) (run : CountedRun) where
     subst (λ (r : Driven Counts). IsCountedOn r.session.net r.driver run) done.1 counted,
     is_refused ∙ ap (λ l. l || after.session.faulty) done.0 ∙ ap (λ (r : Driven Counts). is_long script || r.session.faulty) done.1,
   )
+
+-- what it tells of whether the script is refused
+pub counted_refused : (what : Option What) (plan : Plan) (image : Image) (script : Option (List ℕ)) (run : CountedRun)
+    → IsCountedPlan what plan image script run → IsRefusedCount what script plan image run.is_refused
+unfolding IsRefusedCount
+counted_refused what plan image script run counted = (run, counted, refl)

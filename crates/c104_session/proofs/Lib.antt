@@ -6,6 +6,7 @@ pub mod ToldEvents
 pub mod CountedEvents
 pub mod StillCounts
 pub mod RoundLeavings
+pub mod NewScripts
 pub mod CountedScripts
 pub mod KeptRounds
 pub mod KeptLoops

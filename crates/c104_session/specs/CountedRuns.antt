@@ -33,6 +33,6 @@ IsCountedPlan what plan image script run =
     IsCountedAfter (record { session = new_session plan image; driver = new_counts plan what }) script run
 
 -- the run tells whether it is refused
-abbrev pub IsRefusedCount : Option What → Option (List ℕ) → Plan → Image → Bool → Type 0
+unfoldable pub IsRefusedCount : Option What → Option (List ℕ) → Plan → Image → Bool → Type 0
 IsRefusedCount what script plan image refused =
     (run : CountedRun) × IsCountedPlan what plan image script run × (refused ≡ run.is_refused)

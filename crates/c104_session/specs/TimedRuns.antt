@@ -30,7 +30,7 @@ IsTimedPlan plan image script t refused =
     IsTimedAfter (record { session = new_session plan image; driver = new_timeline plan }) script t refused
 
 -- a drawing of it is refused, or not: where its picture would be too large, which no table is, and where the script is
-abbrev pub IsRefusedTime : Option Format → Option (List ℕ) → Plan → Image → Bool → Type 0
+unfoldable pub IsRefusedTime : Option Format → Option (List ℕ) → Plan → Image → Bool → Type 0
 IsRefusedTime format script plan image refused =
     (t : Timeline) × (faulty : Bool) × (large : Bool) × IsTimedPlan plan image script t faulty
     × ((form : Format) → format ≡ Some form → large ≡ false) × (refused ≡ (large || faulty))

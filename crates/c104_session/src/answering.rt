@@ -49,19 +49,20 @@ pub fn answer_script<S: Read, W: Write, M: Messages>(
 
 /// Does the lines of a script by a driver, as `answer_script` does, but writes no answers. Where the script is too long, that
 /// is told. It never fails to write.
+#[tactic(auto, using(crate::proofs::NewScripts::done_anew))]
 pub(crate) fn drive_script<D: Driver, S: Read, M: Messages>(
     alloc: Global,
     driven: &mut Driven<D>,
-    ahead: &mut Ahead,
     script: &mut S,
     messages: &mut M,
 ) -> Result<bool, Halt>
-    ensures done { IfOk result (λ is_long. DoesScript (driven_outcome D.drives) driven.old
-        (prepend_known ahead.old (S.remaining script.old)) driven.new is_long) }
+    ensures done { IfOk result (λ is_long.
+        DoesScript (driven_outcome D.drives) driven.old (S.remaining script.old) driven.new is_long) }
     ensures unwritten { result ≢ Err halt.CannotWrite }
 {
+    let mut ahead = Ahead::new(alloc)?;
     let mut telling = Telling::new(messages);
-    let done = do_lines(alloc, driven, ahead, script, &mut telling);
+    let done = do_lines(alloc, driven, &mut ahead, script, &mut telling);
     telling.end(&done);
     if let Ok(is_long) = done {
         tell_if_long(is_long, telling.messages);

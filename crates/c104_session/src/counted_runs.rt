@@ -1,6 +1,5 @@
 //! A script, run on the network of a plan, and what is counted of that.
 ghost use Rattle.std.specs.Prelude.{◌≡◌, ◌≢◌, ◌↔◌, ◌||◌, Err, IfOk, IsSome, IsTrue};
-ghost use Rattle.std.specs.Io.KnownBytes.{prepend_known};
 ghost use Rattle.c104_token.specs.Kinds.{plain_kind};
 ghost use Rattle.c104_plan.specs.PlanImage.{Fits};
 ghost use Rattle.c104_run.specs.Standstill.{IsDeadlocked};
@@ -16,7 +15,7 @@ use c104_mistakes::Messages;
 use c104_net::TracedNet;
 use c104_plan::{Image, Plan};
 use c104_stats::{Stats, What};
-use c104_stream::{Ahead, Halt};
+use c104_stream::Halt;
 use c104_token::NoMemory;
 use std::alloc::Global;
 use std::io::Read;
@@ -48,13 +47,12 @@ pub fn count_plan<S: Read, M: Messages>(
     plan: &Plan,
     image: Image,
     what: Option<What>,
-    ahead: &mut Ahead,
     script: &mut S,
     messages: &mut M,
 ) -> Result<CountedRun, Halt>
     requires { Fits image plan.now }
     ensures run { IfOk result (λ run. IsCountedPlan what plan.now image
-        (prepend_known ahead.old (S.remaining script.old)) run) }
+        (S.remaining script.old) run) }
     ensures unwritten { result ≢ Err halt.CannotWrite }
 {
     let stats = Stats::new(alloc, plan, what)?;
@@ -63,7 +61,7 @@ pub fn count_plan<S: Read, M: Messages>(
         session,
         driver: stats,
     };
-    count_driven(alloc, driven, ahead, script, messages)
+    count_driven(alloc, driven, script, messages)
 }
 
 /// Counts the run of a script on a network that is before its first line. Its answers go nowhere.
@@ -71,16 +69,15 @@ pub fn count_plan<S: Read, M: Messages>(
 fn count_driven<S: Read, M: Messages>(
     alloc: Global,
     driven: Driven<Stats>,
-    ahead: &mut Ahead,
     script: &mut S,
     messages: &mut M,
 ) -> Result<CountedRun, Halt>
     ensures run { IfOk result (λ run. IsCountedAfter driven
-        (prepend_known ahead.old (S.remaining script.old)) run) }
+        (S.remaining script.old) run) }
     ensures unwritten { result ≢ Err halt.CannotWrite }
 {
     let mut driven = driven;
-    let drove = drive_script(alloc, &mut driven, ahead, script, messages);
+    let drove = drive_script(alloc, &mut driven, script, messages);
     let Driven { session, driver } = driven;
     let counted = match drove {
         Ok(is_long) => counted_run(alloc, is_long, &session, driver, messages),

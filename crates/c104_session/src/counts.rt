@@ -12,7 +12,6 @@ use c104_plan::{Image, Plan};
 use c104_print::{Format, counts_text};
 use c104_setup::{Setup, Status, read_setup};
 use c104_stats::What;
-use c104_stream::Ahead;
 use c104_token::NoMemory;
 use std::alloc::Global;
 use std::io::{Read, Write};
@@ -56,7 +55,7 @@ pub fn stats_command<D: Read, S: Read, W: Write, M: Messages>(
 }
 
 /// The same of the network of a plan, with an image that fits it.
-#[tactic(auto, using(crate::proofs::DrawnRuns::draw_halts))]
+#[tactic(auto, using(crate::proofs::DrawnRuns::draw_halts, crate::proofs::CountedScripts::counted_refused))]
 fn stats_setup<S: Read, W: Write, M: Messages>(
     alloc: Global,
     printing: Printing,
@@ -71,18 +70,7 @@ fn stats_setup<S: Read, W: Write, M: Messages>(
         (W.contents writer.old) (W.contents writer.new) result }
     ensures of_script { (n : ℕ) → result ≡ status.CannotRead n → n ≡ 1 }
 {
-    let Ok(mut ahead) = Ahead::new(alloc) else {
-        return Status::NoMemory;
-    };
-    let run = match count_plan(
-        alloc,
-        plan,
-        image,
-        printing.what,
-        &mut ahead,
-        script,
-        messages,
-    ) {
+    let run = match count_plan(alloc, plan, image, printing.what, script, messages) {
         Ok(run) => run,
         Err(halt) => return Status::of_halt(halt, 1),
     };

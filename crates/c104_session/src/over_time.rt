@@ -12,7 +12,7 @@ use c104_mistakes::Messages;
 use c104_plan::{Image, Plan};
 use c104_print::{Asked, TimedText, over_time_text};
 use c104_setup::{Setup, Status, read_setup};
-use c104_stream::{Ahead, Halt};
+use c104_stream::Halt;
 use std::alloc::Global;
 use std::io::{Read, Write};
 
@@ -69,6 +69,7 @@ fn draw_timed<S: Read, W: Write, M: Messages>(
 }
 
 /// What is asked for of a script's run on the network of a plan, with an image that fits it.
+#[tactic(auto, using(crate::proofs::TimedScripts::timed_refused))]
 fn timed_text<S: Read, M: Messages>(
     alloc: Global,
     asked: Asked,
@@ -82,8 +83,7 @@ fn timed_text<S: Read, M: Messages>(
         IsRefusedTime asked.format (S.remaining script.old) plan.now image timed.is_refused) }
     ensures unwritten { result ≢ Err halt.CannotWrite }
 {
-    let mut ahead = Ahead::new(alloc)?;
-    let run = time_plan(alloc, plan, image, &mut ahead, script, messages)?;
+    let run = time_plan(alloc, plan, image, script, messages)?;
     let TimedText { text, is_refused } = over_time_text(alloc, plan, &run.timeline, asked)?;
     Ok(TimedText {
         text,

@@ -1,9 +1,9 @@
 //! The drawing of a description's network as it stands after a script.
 ghost use Rattle.std.specs.Prelude.{ℕ, ◌≡◌, ◌≢◌, Err, IfOk};
-ghost use Rattle.std.specs.Io.KnownBytes.{prepend_known};
 ghost use Rattle.c104_plan.specs.PlanImage.{Fits};
 ghost use Rattle.c104_stream.specs.declared.halt.Halt.TheVariants as halt;
 ghost use Rattle.c104_session.specs.DrawnRuns.{DrawEnds, DrawsRun, IsRefusedAfter, IsRefusedOn, WritesDrawn};
+ghost use Rattle.c104_session.specs.declared.session.Session.{Session as TheSession};
 ghost use Rattle.c104_setup.specs.declared.status.Status.TheVariants as status;
 
 use crate::session::Session;
@@ -104,28 +104,27 @@ fn drawn_after<S: Read, M: Messages>(
         IsRefusedOn (S.remaining script.old) plan.now image drawn.refused) }
     ensures unwritten { result ≢ Err halt.CannotWrite }
 {
-    let mut ahead = Ahead::new(alloc)?;
     let mut session = Session::new(alloc, plan, image)?;
-    let drawn = drawn_of(alloc, &mut session, &mut ahead, script, messages);
+    let drawn = drawn_of(alloc, &mut session, script, messages);
     session.finish().retire();
     drawn
 }
 
 /// The same of a network that is before the script's first line, and is left as it stands after the script.
-#[tactic(auto, using(crate::proofs::DrawnRuns::refused_after), unfolding(crate::specs::Shown::line_outcome))]
+#[tactic(auto, using(crate::proofs::DrawnRuns::refused_after, crate::proofs::NewScripts::done_anew), unfolding(crate::specs::Shown::line_outcome))]
 fn drawn_of<S: Read, M: Messages>(
     alloc: Global,
     session: &mut Session,
-    ahead: &mut Ahead,
     script: &mut S,
     messages: &mut M,
 ) -> Result<Drawn, Halt>
-    ensures refused { IfOk result (λ drawn.
-        IsRefusedAfter session.old (prepend_known ahead.old (S.remaining script.old)) drawn.refused) }
+    ensures refused { (from : TheSession) → session.old ≡ from →
+        IfOk result (λ drawn. IsRefusedAfter from (S.remaining script.old) drawn.refused) }
     ensures unwritten { result ≢ Err halt.CannotWrite }
 {
+    let mut ahead = Ahead::new(alloc)?;
     let mut telling = Telling::new(messages);
-    let done = do_lines(alloc, session, ahead, script, &mut telling);
+    let done = do_lines(alloc, session, &mut ahead, script, &mut telling);
     telling.end(&done);
     let is_long = done?;
     let text = state_text(alloc, &session.net, &session.image)?;

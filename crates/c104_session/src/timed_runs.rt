@@ -1,6 +1,5 @@
 //! A script, run on the network of a plan, and what crosses its wires round by round.
 ghost use Rattle.std.specs.Prelude.{◌≡◌, ◌≢◌, ◌||◌, IfOk, Err};
-ghost use Rattle.std.specs.Io.KnownBytes.{prepend_known};
 ghost use Rattle.c104_plan.specs.PlanImage.{Fits};
 ghost use Rattle.c104_stream.specs.declared.halt.Halt.TheVariants as halt;
 ghost use Rattle.c104_session.specs.TimedRuns.{IsTimedAfter, IsTimedOn, IsTimedPlan};
@@ -10,7 +9,7 @@ use crate::driven::Driven;
 use crate::session::Session;
 use c104_mistakes::Messages;
 use c104_plan::{Image, Plan};
-use c104_stream::{Ahead, Halt};
+use c104_stream::Halt;
 use c104_timeline::Timeline;
 use std::alloc::Global;
 use std::io::Read;
@@ -30,13 +29,12 @@ pub fn time_plan<S: Read, M: Messages>(
     alloc: Global,
     plan: &Plan,
     image: Image,
-    ahead: &mut Ahead,
     script: &mut S,
     messages: &mut M,
 ) -> Result<TimedRun, Halt>
     requires { Fits image plan.now }
     ensures run { IfOk result (λ timed. IsTimedPlan plan.now image
-        (prepend_known ahead.old (S.remaining script.old)) timed.timeline timed.is_refused) }
+        (S.remaining script.old) timed.timeline timed.is_refused) }
     ensures unwritten { result ≢ Err halt.CannotWrite }
 {
     let timeline = Timeline::new(alloc, plan)?;
@@ -45,7 +43,7 @@ pub fn time_plan<S: Read, M: Messages>(
         session,
         driver: timeline,
     };
-    time_driven(alloc, driven, ahead, script, messages)
+    time_driven(alloc, driven, script, messages)
 }
 
 /// The same on a network that is before the script's first line. Its answers go nowhere.
@@ -53,16 +51,15 @@ pub fn time_plan<S: Read, M: Messages>(
 fn time_driven<S: Read, M: Messages>(
     alloc: Global,
     driven: Driven<Timeline>,
-    ahead: &mut Ahead,
     script: &mut S,
     messages: &mut M,
 ) -> Result<TimedRun, Halt>
     ensures run { IfOk result (λ timed. IsTimedAfter driven
-        (prepend_known ahead.old (S.remaining script.old)) timed.timeline timed.is_refused) }
+        (S.remaining script.old) timed.timeline timed.is_refused) }
     ensures unwritten { result ≢ Err halt.CannotWrite }
 {
     let mut driven = driven;
-    let drove = drive_script(alloc, &mut driven, ahead, script, messages);
+    let drove = drive_script(alloc, &mut driven, script, messages);
     let Driven { session, driver } = driven;
     let timed = match drove {
         Ok(is_long) => timed_run(is_long, &session, driver),
