@@ -17,38 +17,13 @@ use std::alloc::Global;
 pub(crate) fn end_text(alloc: Global, ending: &Ending, is_long: bool) -> Result<Vec<u8>, NoMemory>
     ensures { IfOk result (λ text. IsEndText is_long ending.now text.items) }
 {
+    let mut text = Vec::new(alloc);
     match ending {
-        Ending::NotQuiet => line_text(alloc, b"not quiet\n"),
-        Ending::Stopped(worker, fault) => stop_text(alloc, *worker, *fault),
-        Ending::Unaudited(fault) => audit_text(alloc, *fault),
-        Ending::Audited(run) => run_text(alloc, run, is_long),
+        Ending::NotQuiet => text.extend_from_slice(b"not quiet\n")?,
+        Ending::Stopped(worker, fault) => add_stop(*worker, *fault, &mut text)?,
+        Ending::Unaudited(fault) => add_audit_fault(*fault, &mut text)?,
+        Ending::Audited(run) => return run_text(alloc, run, is_long),
     }
-}
-
-/// A line. The only error is out of memory.
-fn line_text(alloc: Global, line: &[u8]) -> Result<Vec<u8>, NoMemory>
-    ensures { IfOk result (λ text. text.items ≡ line.now) }
-{
-    let mut text = Vec::new(alloc);
-    text.extend_from_slice(line)?;
-    Ok(text)
-}
-
-/// Which worker stopped, and for what. The only error is out of memory.
-fn stop_text(alloc: Global, worker: usize, fault: EventFault) -> Result<Vec<u8>, NoMemory>
-    ensures { IfOk result (λ text. text.items ≡ stop_line worker fault) }
-{
-    let mut text = Vec::new(alloc);
-    add_stop(worker, fault, &mut text)?;
-    Ok(text)
-}
-
-/// Why the audit finds no run. The only error is out of memory, which may also be why.
-fn audit_text(alloc: Global, fault: AuditFault) -> Result<Vec<u8>, NoMemory>
-    ensures { IfOk result (λ text. text.items ≡ audit_line fault) }
-{
-    let mut text = Vec::new(alloc);
-    add_audit_fault(fault, &mut text)?;
     Ok(text)
 }
 
@@ -57,7 +32,8 @@ fn audit_text(alloc: Global, fault: AuditFault) -> Result<Vec<u8>, NoMemory>
 fn run_text(alloc: Global, run: &Run, is_long: bool) -> Result<Vec<u8>, NoMemory>
     ensures { IfOk result (λ text. IsRunText is_long run.now text.items) }
 {
-    let mut text = line_text(alloc, b"audit ok\n")?;
+    let mut text = Vec::new(alloc);
+    text.extend_from_slice(b"audit ok\n")?;
     if is_long {
         text.extend_from_slice(too_long_line())?;
         return Ok(text);
