@@ -7,11 +7,10 @@ use Rattle.c104_plan.specs.LabelledImages.{labelled_image, labelled_settings, la
 use Rattle.c104_plan.specs.{PlanImage.{Fits, Image, range_of, settings_of, switch_settings}, Plans.{IsPlan, Plan}, TextCut.lines}
 use Rattle.c104_plan.specs.{TextCut.most_bytes, declared.plans.Shape.{Shape, TheVariants.{Cube, Hand, Mesh, Tree, UpDown}}}
 use Rattle.{c104_plan.specs.declared.ports.Port.Port, c104_regs.specs.declared.{registers.TheConstants.LINKS, settings.Settings.Settings}}
-use Rattle.c104_session.proofs.{DeliveredLaw.delivered_law, PlacedNets.IsOfLinks, PrintedLaw.printed_law}
-use Rattle.c104_session.specs.{PrintedPackets.PrintsSentPackets, PrintedRuns.{PrintsAllOf, PrintsPacketsOf}}
-use Rattle.{c104_setup.specs.Setups.ComesTo, std.proofs.Common.{All, Bool, Err, List, Ok, Result, ap, false, get_or, if◌then◌else◌, length}}
-use Rattle.std.proofs.{Common.{map, nat_le, refl, subst, sym, true, ℕ, ◌≡◌}, lemmas.List.Elements.All-map}
-use Rattle.std.{proofs.lemmas.List.{FromFn.length-map-range_with_len, length-map}, specs.List.range_with_len}
+use Rattle.c104_session.{proofs.{DeliveredLaw.delivered_law, PlacedNets.IsOfLinks, PrintedLaw.printed_law}, specs.PrintedRuns.PrintsAllOf}
+use Rattle.{c104_session.specs.PrintedRuns.PrintsPacketsOf, c104_setup.specs.Setups.ComesTo, std.proofs.Common.{All, Bool, Err, List, Ok}}
+use Rattle.std.proofs.Common.{Result, ap, false, get_or, if◌then◌else◌, length, map, nat_le, refl, subst, sym, true, ℕ, ◌≡◌}
+use Rattle.std.{proofs.lemmas.List.{Elements.All-map, FromFn.length-map-range_with_len, length-map}, specs.List.range_with_len}
 
 -- an image with labels fits its plan
 labelled_fits : (plan : Plan) (ranges : List (ℕ × ℕ)) (tables : List Table) (image : Image) → length ranges ≡ length plan.terminals → image ≡ labelled_image plan ranges tables → Fits image plan

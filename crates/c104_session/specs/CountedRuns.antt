@@ -2,9 +2,9 @@
 --     IsCountedPlan what plan image script run      this is what is counted of it
 use Rattle.{c104_plan.specs.{PlanImage.Image, Plans.Plan}, c104_run.specs.{NetRecords.NetRecord, Standstill.IsDeadlocked}}
 use Rattle.c104_session.specs.{Counted.counts_kept, Driven.driven_outcome, Shown.new_session, declared.counted_runs.CountedRun.CountedRun}
-use Rattle.{c104_session.specs.declared.{driven.Driven.Driven, session.Session.Session}, c104_stats.specs.Counts.{Counts, new_counts}}
-use Rattle.{c104_stats.specs.{Sights.counts_at_end, declared.stats.What.What}, c104_stream.specs.ScriptLines.is_long}
-use Rattle.{c104_stream.specs.Scripts.script_outcome, c104_token.specs.Kinds.plain_kind}
+use Rattle.{c104_session.specs.declared.driven.Driven.Driven, c104_stats.specs.{Counts.{Counts, new_counts}, Sights.counts_at_end}}
+use Rattle.{c104_stats.specs.declared.stats.What.What, c104_stream.specs.{ScriptLines.is_long, Scripts.script_outcome}}
+use Rattle.c104_token.specs.Kinds.{plain_kind}
 use Rattle.std.specs.Prelude.{Bool, IsSome, List, None, Option, Some, ℕ, ⊤, ◌||◌, ◌↔◌, ◌≡◌}
 
 -- the run of a script: the session and its counts behind the last line, by those before the first one

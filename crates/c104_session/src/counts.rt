@@ -55,7 +55,7 @@ pub fn stats_command<D: Read, S: Read, W: Write, M: Messages>(
 }
 
 /// The same of the network of a plan, with an image that fits it.
-#[tactic(auto, using(crate::proofs::DrawnRuns::draw_halts, crate::proofs::CountedScripts::counted_refused))]
+#[tactic(auto, using(crate::proofs::DrawnRuns::draw_halts))]
 fn stats_setup<S: Read, W: Write, M: Messages>(
     alloc: Global,
     printing: Printing,

@@ -69,7 +69,6 @@ fn draw_timed<S: Read, W: Write, M: Messages>(
 }
 
 /// What is asked for of a script's run on the network of a plan, with an image that fits it.
-#[tactic(auto, using(crate::proofs::TimedScripts::timed_refused))]
 fn timed_text<S: Read, M: Messages>(
     alloc: Global,
     asked: Asked,
