@@ -40,16 +40,24 @@ new_counts plan what = record {
   active = 0;
 }
 
--- whether a switch has this link
-abbrev pub has_link : List LinkRow → ℕ → ℕ → Bool
-has_link links s l = nat_lt l LINKS && nat_lt s (length links / LINKS)
+-- the place of a switch's link among this many links of switches, if the switch has this link
+abbrev pub link_at : ℕ → ℕ → ℕ → Option ℕ
+link_at count s l = if nat_lt l LINKS && nat_lt s (count / LINKS) then Some (s * LINKS + l) else None
 
 -- the link of a switch, and a change of it
+abbrev pub row_at : List LinkRow → Option ℕ → Option LinkRow
+row_at links None = None
+row_at links (Some place) = slice_get links place
+
 abbrev pub link_row : List LinkRow → ℕ → ℕ → Option LinkRow
-link_row links s l = if has_link links s l then slice_get links (s * LINKS + l) else None
+link_row links s l = row_at links (link_at (length links) s l)
+
+abbrev pub change_if : List LinkRow → (LinkRow → LinkRow) → Option ℕ → List LinkRow
+change_if links f None = links
+change_if links f (Some place) = change_at links place f
 
 abbrev pub change_link : List LinkRow → ℕ → ℕ → (LinkRow → LinkRow) → List LinkRow
-change_link links s l f = if has_link links s l then change_at links (s * LINKS + l) f else links
+change_link links s l f = change_if links f (link_at (length links) s l)
 
 -- the links, those of a switch cut in this round
 abbrev pub links_cut : ℕ → ℕ → List LinkRow → List LinkRow

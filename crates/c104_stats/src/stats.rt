@@ -15,7 +15,7 @@ use crate::links::{Crossing, LinkRow};
 use crate::numbers::saturate_u32;
 use crate::packets::{Arrival, PacketRow, Sender};
 use crate::rounds::{Levels, RoundRow};
-use crate::steps::{cross_link, cross_wire, cut_links};
+use crate::steps::{cross_link, cross_wire, cut_links, link_at};
 use c104_node::Origin;
 use c104_plan::{Plan, Port, Terminal};
 use c104_regs::LINKS;
@@ -271,9 +271,8 @@ impl Stats {
     {
         match port {
             Port::Switch(switch, link) => {
-                if link < LINKS
-                    && switch < self.links.len() / LINKS
-                    && let Some(row) = self.links.get_mut(switch * LINKS + link)
+                if let Some(place) = link_at(self.links.len(), switch, link)
+                    && let Some(row) = self.links.get_mut(place)
                 {
                     *row = row.with_level(level);
                 }

@@ -1,11 +1,22 @@
 //! The steps of what is counted of links.
 ghost use Rattle.std.specs.Prelude.{◌≡◌, slice_get};
-ghost use Rattle.c104_stats.specs.Counts.{change_link, idle_of, link_row, links_cut};
+ghost use Rattle.c104_stats.specs.Counts.{change_link, idle_of, link_at, link_row, links_cut};
 ghost use Rattle.c104_stats.specs.Links.{link_after, link_cut};
 ghost use Rattle.c104_stats.specs.Packets.{change_at};
 
 use crate::links::{Crossing, LinkRow};
 use c104_regs::LINKS;
+
+/// The place of a switch's link among this many links of switches, if the switch has this link.
+pub(crate) fn link_at(count: usize, switch: usize, link: usize) -> Option<usize>
+    ensures { result ≡ link_at count switch link }
+{
+    if link < LINKS && switch < count / LINKS {
+        Some(switch * LINKS + link)
+    } else {
+        None
+    }
+}
 
 /// A token crosses at a link of a switch. The answer is for how many rounds nothing moved there of the packet.
 pub(crate) fn cross_link(
@@ -17,10 +28,9 @@ pub(crate) fn cross_link(
     ensures links { links.new ≡ change_link links.old switch link (λ row. link_after row crossing) }
     ensures idle { result ≡ idle_of (link_row links.old switch link) crossing.round }
 {
-    if link < LINKS && switch < links.len() / LINKS {
-        cross_wire(links, switch * LINKS + link, crossing)
-    } else {
-        0
+    match link_at(links.len(), switch, link) {
+        Some(place) => cross_wire(links, place, crossing),
+        None => 0,
     }
 }
 
@@ -50,10 +60,9 @@ pub(crate) fn cut_links(links: &mut [LinkRow], switch: usize, round: u32)
 fn cut_link(links: &mut [LinkRow], switch: usize, link: usize, round: u32)
     ensures { links.new ≡ change_link links.old switch link (link_cut round) }
 {
-    if LINKS <= link || links.len() / LINKS <= switch {
+    let Some(place) = link_at(links.len(), switch, link) else {
         return;
-    }
-    let place = switch * LINKS + link;
+    };
     let Some(row) = links.get(place).copied() else {
         return;
     };
