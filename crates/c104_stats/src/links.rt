@@ -2,7 +2,7 @@
 //!
 //! A link is held from a packet's first token there to its terminator, and a packet's idle rounds are summed over the
 //! links that it has crossed whole.
-ghost use Rattle.std.specs.Prelude.{◌≡◌, false, true};
+ghost use Rattle.std.specs.Prelude.{◌≡◌, false};
 ghost use Rattle.c104_stats.specs.Links.{busy_after, holder_after, is_in, link_after, link_cut, link_idle};
 ghost use Rattle.c104_stats.specs.Links.{link_level, link_span, longest_at, new_link, span};
 

@@ -1,5 +1,4 @@
 //! What is counted of the tokens that cross wires and arrive, as a network tells it.
-ghost use Rattle.std.specs.Prelude.{◌≡◌};
 
 use crate::finding::ended_by;
 use crate::stats::Stats;

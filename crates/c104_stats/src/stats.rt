@@ -2,14 +2,14 @@
 //!
 //! A `Stats` is told what happens, in order. What it makes of each thing is one step of `Counts`, so that what it counts in
 //! the end is what the definitions say of all that happened.
-ghost use Rattle.std.specs.Prelude.{◌≡◌, ◌*◌, ◌++◌, ◌∷◌, [], if◌then◌else◌, length, map, replicate, slice_get, IfOk, OnErr, OnOk};
+ghost use Rattle.std.specs.Prelude.{◌≡◌, ◌*◌, [], if◌then◌else◌, length, map, replicate, slice_get, IfOk, OnErr, OnOk};
 ghost use Rattle.c104_plan.specs.declared.plans.Terminal.{Terminal as TheTerminal};
 ghost use Rattle.c104_regs.specs.declared.registers.TheConstants.{LINKS};
 ghost use Rattle.c104_stats.specs.Counts.{counts_arrived, counts_begun, counts_crossed, counts_cut, counts_found, counts_level};
-ghost use Rattle.c104_stats.specs.Counts.{counts_noted, counts_passed, counts_seen, counts_sent, counts_taken, crossed_senders, keeps_rounds};
+ghost use Rattle.c104_stats.specs.Counts.{counts_noted, counts_passed, counts_seen, counts_sent, counts_taken, crossed_senders};
 ghost use Rattle.c104_stats.specs.Counts.{left_senders, new_counts};
 ghost use Rattle.c104_stats.specs.Links.{new_link};
-ghost use Rattle.c104_stats.specs.Rounds.{moved_round, new_round, no_levels};
+ghost use Rattle.c104_stats.specs.Rounds.{moved_round};
 
 use crate::links::{Crossing, LinkRow};
 use crate::numbers::saturate_u32;
@@ -252,7 +252,7 @@ impl Stats {
     }
 
     /// This is there before the next round begins, or at the end of all.
-    pub fn see_levels(&mut self, levels: Levels)
+    pub(crate) fn see_levels(&mut self, levels: Levels)
         ensures { self.new ≡ counts_seen self.old levels }
     {
         self.current = self.current.ended(levels);
@@ -266,7 +266,7 @@ impl Stats {
     }
 
     /// This many tokens wait to cross at a port, before the next round begins or at the end of all.
-    pub fn see_level(&mut self, port: Port, level: u64)
+    pub(crate) fn see_level(&mut self, port: Port, level: u64)
         ensures { self.new ≡ counts_level self.old port level }
     {
         match port {
