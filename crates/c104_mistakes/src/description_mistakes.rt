@@ -2,9 +2,6 @@
 
 pub(crate) const TOO_LONG: &str = "a description has at most 1048576 bytes";
 
-pub(crate) const BYTE_ORDER_MARK: &str =
-    "the text begins with a byte order mark; save it without one";
-
 pub(crate) const SCRIPTS_WORD: &str =
     "this is a word of scripts, and this is the description; put a line with the one word `script` before \
      the script, or the script in a file of its own";
@@ -19,9 +16,6 @@ pub(crate) const SCRIPT_LINE: &str =
 pub(crate) const NO_WORD: &str =
     "a line begins with `switch`, `terminal`, `wire`, `row`, `base`, `continue`, `delete`, `random`, \
      `header`, `buffer`, `label`, `mesh` or `cube`";
-
-pub(crate) const WRONG_BYTE: &str =
-    "outside of a comment a byte is printable ASCII, a space, a tab or a carriage return";
 
 pub(crate) const SWITCH_LINE: &str = "the line is `switch NAME`";
 
@@ -52,8 +46,6 @@ pub(crate) const MESH_LINE: &str = "the line is `mesh COLUMNS ROWS TERMINALS`";
 pub(crate) const CUBE_LINE: &str = "the line is `cube DIMENSIONS TERMINALS`";
 
 pub(crate) const NO_PORT: &str = "a port is the name of a switch, a dot and a link, as A.0";
-
-pub(crate) const NO_LINK: &str = "a link is 0 to 31";
 
 pub(crate) const NO_CONTINUING: &str =
     "a link that continues the group of the link before it is 1 to 31";
@@ -90,11 +82,7 @@ pub(crate) const NAME_TAKEN: &str = "a switch or a terminal has this name alread
 
 pub(crate) const NO_SWITCH: &str = "no earlier line defines a switch of this name";
 
-pub(crate) const NOT_A_SWITCH: &str = "this is a terminal, and a switch is wanted";
-
 pub(crate) const NO_TERMINAL: &str = "no earlier line defines a terminal of this name";
-
-pub(crate) const NOT_A_TERMINAL: &str = "this is a switch, and a terminal is wanted";
 
 pub(crate) const SELF_WIRE: &str =
     "a wire joins two switches, and both its ends are at the same one";

@@ -2,9 +2,6 @@
 
 pub(crate) const LINE_TOO_LONG: &str = "a line has at most 16384 bytes";
 
-pub(crate) const BYTE_ORDER_MARK: &str =
-    "the text begins with a byte order mark; save it without one";
-
 pub(crate) const DESCRIPTIONS_WORD: &str =
     "this is a word of descriptions, and this is the script; the description ends before the line `script`";
 
@@ -18,9 +15,6 @@ pub(crate) const NO_WORD_ASKED: &str =
     "a line begins with `send`, `drain`, `cross`, `credit`, `input`, `claim`, `control`, `rounds`, \
      `peek`, `poke`, `link`, `table` or `verify`; `help` lists them, and `show` shows a part of the \
      network";
-
-pub(crate) const WRONG_BYTE: &str =
-    "outside of a comment a byte is printable ASCII, a space, a tab or a carriage return";
 
 pub(crate) const SEND_LINE: &str = "the line is `send TERMINAL PACKET`, as `send a 01 68 eop`";
 
@@ -51,9 +45,6 @@ pub(crate) const VERIFY_LINE: &str = "the line is `verify` alone";
 
 pub(crate) const NO_PORT: &str = "a port has one dot, as A.0";
 
-/// Told of a number that is no link.
-pub const NO_LINK: &str = "a link is 0 to 31";
-
 /// Told of a word that is no number.
 pub const NO_NUMBER: &str = "a number is 1 to 7 decimal digits";
 
@@ -77,11 +68,6 @@ pub(crate) const PACKET_TOO_LONG: &str = "a packet has at most 4096 bytes";
 
 /// Told of a name that nothing has.
 pub const NO_NODE: &str = "the description defines no such name";
-
-/// Told of the name of a switch where a terminal is wanted.
-pub const NOT_A_TERMINAL: &str = "this is a switch, and a terminal is wanted";
-
-pub(crate) const NOT_A_SWITCH: &str = "this is a terminal, and a switch is wanted";
 
 /// Told of a terminal that is named with a link.
 pub const TERMINALS_LINK: &str = "a terminal is named without a link";

@@ -1,15 +1,15 @@
 //! What is told of a script's line that is faulty or refused, or asks for the status of a link.
 ghost use Rattle.std.specs.Prelude.{◌<◌, IfSome};
 
+use crate::common_mistakes::{BYTE_ORDER_MARK, NO_LINK, NOT_A_SWITCH, NOT_A_TERMINAL, WRONG_BYTE};
 use crate::forms::{DESCRIPTION_FORMS, SCRIPT_FORMS, form_of, nearest_form};
 use crate::nearest::{nearest_node, nearest_switch, nearest_terminal};
 use crate::register_ranges::range_of_word;
 use crate::script_mistakes::{
-    AFTER_END, BUSY, BYTE_ORDER_MARK, DESCRIPTIONS_WORD, INBOX_FULL, LINE_TOO_LONG, LINK_MISSING,
-    NO_ADDRESS, NO_BYTE, NO_END, NO_INPUT, NO_LINK, NO_NODE, NO_NUMBER, NO_PORT, NO_REGISTER,
-    NO_ROUNDS, NO_TOKEN, NO_VALUE, NO_WORD, NO_WORD_ASKED, NOT_A_SWITCH, NOT_A_TERMINAL, NOT_WIRED,
-    OUTBOX_FULL, PACKET_TOO_LONG, READ_ONLY, SCRIPT_BEGAN, SWITCHS_LINK, TERMINALS_LINK,
-    TRACE_FULL, WRONG_BYTE,
+    AFTER_END, BUSY, DESCRIPTIONS_WORD, INBOX_FULL, LINE_TOO_LONG, LINK_MISSING, NO_ADDRESS,
+    NO_BYTE, NO_END, NO_INPUT, NO_NODE, NO_NUMBER, NO_PORT, NO_REGISTER, NO_ROUNDS, NO_TOKEN,
+    NO_VALUE, NO_WORD, NO_WORD_ASKED, NOT_WIRED, OUTBOX_FULL, PACKET_TOO_LONG, READ_ONLY,
+    SCRIPT_BEGAN, SWITCHS_LINK, TERMINALS_LINK, TRACE_FULL,
 };
 use crate::words::{
     LAST_LINK, Mistake, begins_with_mark, has_dot, is_within, link_of, name_of, names_switch,
