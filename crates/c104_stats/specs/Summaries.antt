@@ -1,7 +1,7 @@
 -- What the counts of a run come to.
 pub use Rattle.c104_stats.specs.declared.{endings.Ending.Ending, summaries.{Endings.Endings, Summary.Summary}, tops.{Busy.Busy, Top.Top}}
 use Rattle.{c104_plan.specs.declared.ports.Port.Port, c104_regs.specs.declared.registers.TheConstants.LINKS, c104_stats.specs.Counts.Counts}
-use Rattle.c104_stats.specs.{Links.LinkRow, Numbers.told, Packets.{Arrival, PacketRow, latency}}
+use Rattle.c104_stats.specs.{Links.LinkRow, Numbers.{share, told}, Packets.{Arrival, PacketRow, latency}}
 use Rattle.c104_stats.specs.declared.endings.Ending.TheVariants.{Arrived, Short, Sunk, Unfinished}
 use Rattle.std.specs.{Ordering.nat_cmp, Prelude.{Bool, IsPermutation, IsSorted, List, None, Option, Some, [], if◌then◌else◌, is_some}}
 use Rattle.std.specs.Prelude.{length, nat_lt, slice_get, ℕ, ◌%◌, ◌*◌, ◌++◌, ◌+◌, ◌-◌, ◌/◌, ◌∷◌, ◌≡◌}
@@ -99,3 +99,10 @@ pub record IsSummary (header : ℕ) (c : Counts) (s : Summary) : Type 0 where
 -- how many packets were sent
 abbrev pub sent_count : Endings → ℕ
 sent_count e = told (told (e.arrived + e.unfinished) + e.lost)
+
+-- how many tokens crossed a wire in a round, in thousandths, and in which share of the rounds one crossed a link
+abbrev pub token_rate : Summary → ℕ
+token_rate s = share s.tokens s.rounds
+
+abbrev pub busy_share : Summary → Busy → ℕ
+busy_share s b = share b.busy s.rounds

@@ -22,6 +22,7 @@ mod tops;
 
 pub use endings::Ending;
 pub use links::{Crossing, Holder, LinkRow};
+pub use numbers::share;
 pub use packets::{Arrival, PacketRow, Sender};
 pub use rounds::{Levels, RoundRow};
 pub use stats::{Stats, What};

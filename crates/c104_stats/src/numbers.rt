@@ -1,6 +1,6 @@
-//! Counts in 32 bits, which stop at the largest number rather than wrap. None comes near it.
+//! Numbers as they are told: counts in 32 bits, which stop at the largest number rather than wrap, and shares.
 ghost use Rattle.std.specs.Prelude.{◌≡◌, ◌+◌};
-ghost use Rattle.c104_stats.specs.Numbers.{few};
+ghost use Rattle.c104_stats.specs.Numbers.{few, share};
 
 /// A number in 32 bits, or the largest of them.
 // The cast loses nothing: a larger one isn't cast.
@@ -15,4 +15,14 @@ pub(crate) fn add_saturating(count: u32, more: u64) -> u32
     ensures { result ≡ few (count + more) }
 {
     saturate_u32(u64::from(count).saturating_add(more))
+}
+
+/// One number among another, in thousandths: 0 among none.
+pub fn share(part: u64, whole: u64) -> u64
+    ensures { result ≡ share part whole }
+{
+    if whole == 0 {
+        return 0;
+    }
+    part.saturating_mul(1000) / whole
 }

@@ -1,14 +1,15 @@
 //! What the counts of a run come to.
 ghost use Rattle.std.specs.Prelude.{◌≡◌, ◌≤◌, ◌++◌, IfOk, OnOk, IsPermutation, IsSorted, slice_get};
 ghost use Rattle.std.specs.Ordering.{nat_cmp};
-ghost use Rattle.c104_stats.specs.Summaries.{IsSummary, all_endings, all_latencies, endings_with, latencies, latency_if, no_endings};
-ghost use Rattle.c104_stats.specs.Summaries.{one_ending, ranked, sent_count, tokens_with, top_of};
+ghost use Rattle.c104_stats.specs.Summaries.{IsSummary, all_endings, all_latencies, busy_share, endings_with, latencies, latency_if};
+ghost use Rattle.c104_stats.specs.Summaries.{no_endings, one_ending, ranked, sent_count, token_rate, tokens_with, top_of};
 
 use crate::endings::Ending;
 use crate::links::LinkRow;
+use crate::numbers::share;
 use crate::packets::PacketRow;
 use crate::stats::Stats;
-use crate::tops::{Top, top_of};
+use crate::tops::{Busy, Top, top_of};
 use c104_token::NoMemory;
 use std::alloc::Global;
 
@@ -49,6 +50,20 @@ impl Summary {
     {
         let latencies = sorted_latencies(alloc, stats)?;
         Ok(sum_up(header, stats, latencies.as_slice()))
+    }
+
+    /// How many tokens crossed a wire in a round, in thousandths.
+    pub fn token_rate(&self) -> u64
+        ensures { result ≡ token_rate self.now }
+    {
+        share(self.tokens, u64::from(self.rounds))
+    }
+
+    /// In which share of the rounds a token crossed a link, in thousandths.
+    pub fn busy_share(&self, link: Busy) -> u64
+        ensures { result ≡ busy_share self.now link }
+    {
+        share(link.busy, u64::from(self.rounds))
     }
 }
 
