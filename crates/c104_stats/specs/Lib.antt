@@ -4,5 +4,6 @@ pub mod Packets
 pub mod Rounds
 pub mod Counts
 pub mod Summaries
+pub mod Lists
 pub mod Sights
 pub mod Metering

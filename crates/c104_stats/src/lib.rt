@@ -10,6 +10,7 @@
 mod endings;
 mod finding;
 mod links;
+mod lists;
 mod metering;
 mod numbers;
 mod packets;
@@ -22,6 +23,7 @@ mod tops;
 
 pub use endings::Ending;
 pub use links::{Crossing, Holder, LinkRow};
+pub use lists::{ListedLink, ListedPacket, listed_links, listed_packets, listed_rounds};
 pub use numbers::share;
 pub use packets::{Arrival, PacketRow, Sender};
 pub use rounds::{Levels, RoundRow};
