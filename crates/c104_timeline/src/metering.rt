@@ -1,5 +1,4 @@
 //! What a timeline makes of the tokens that cross wires and arrive, as a network tells it.
-ghost use Rattle.std.specs.Prelude.{◌≡◌};
 
 use crate::timelines::Timeline;
 use c104_node::TaggedToken;
