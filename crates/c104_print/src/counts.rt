@@ -2,9 +2,11 @@
 
 use crate::rows::{Format, Names, Rows};
 use crate::summaries::summary_text;
-use c104_plan::{Plan, Port};
-use c104_regs::LINKS;
-use c104_stats::{Ending, LinkRow, PacketRow, RoundRow, Stats, Summary, What};
+use c104_plan::Plan;
+use c104_stats::{
+    Ending, ListedLink, ListedPacket, RoundRow, Stats, Summary, What, listed_links, listed_packets,
+    listed_rounds,
+};
 use c104_token::NoMemory;
 use std::alloc::{AllocError, Global};
 
@@ -37,45 +39,37 @@ pub fn counts_text(
     Ok(text)
 }
 
-/// The table of packets, by sender and number.
+/// The table of packets.
 fn packets_text(
     alloc: Global,
     format: Format,
     plan: &Plan,
     stats: &Stats,
-) -> Result<String, AllocError> {
+) -> Result<String, NoMemory> {
     let mut rows = Rows::new(alloc, format, Names::Above, &PACKET_COLUMNS)?;
-    for (terminal, sender) in stats.senders().iter().enumerate() {
-        for (number, packet) in sender.packets().iter().enumerate() {
-            add_packet(&mut rows, plan, terminal, number, *packet)?;
-        }
+    for packet in listed_packets(alloc, plan.header(), stats)?.iter() {
+        add_packet(&mut rows, plan, *packet)?;
     }
-    rows.finish()
+    Ok(rows.finish()?)
 }
 
-/// A packet of a terminal joins the table.
-fn add_packet(
-    rows: &mut Rows,
-    plan: &Plan,
-    terminal: usize,
-    number: usize,
-    packet: PacketRow,
-) -> Result<(), AllocError> {
-    let arrival = packet.arrival;
-    rows.word(plan.terminal_name(terminal))?;
-    rows.number(number as u64)?;
-    match arrival {
+/// A packet joins the table.
+fn add_packet(rows: &mut Rows, plan: &Plan, packet: ListedPacket) -> Result<(), AllocError> {
+    let row = packet.row;
+    rows.word(plan.terminal_name(packet.sender))?;
+    rows.number(packet.number as u64)?;
+    match row.arrival {
         Some(arrival) => rows.word(plan.terminal_name(arrival.terminal as usize))?,
         None => rows.nothing()?,
     }
-    rows.number(u64::from(packet.bytes))?;
-    rows.number(u64::from(packet.wires))?;
-    rows.number(u64::from(packet.sent))?;
-    rows.number_if(packet.left)?;
-    rows.number_if(arrival.map(|arrival| arrival.round))?;
-    rows.number_if(arrival.map(|arrival| packet.latency(arrival)))?;
-    rows.number(u64::from(packet.idle))?;
-    rows.word(match Ending::of(plan.header(), packet) {
+    rows.number(u64::from(row.bytes))?;
+    rows.number(u64::from(row.wires))?;
+    rows.number(u64::from(row.sent))?;
+    rows.number_if(row.left)?;
+    rows.number_if(row.arrival.map(|arrival| arrival.round))?;
+    rows.number_if(packet.latency)?;
+    rows.number(u64::from(row.idle))?;
+    rows.word(match packet.ending {
         Ending::Arrived => "arrived",
         Ending::Unfinished => "unfinished",
         Ending::Short => "short",
@@ -83,46 +77,38 @@ fn add_packet(
     })
 }
 
-/// The table of links that have wires: those of the switches, by switch and link, and then those of the terminals.
+/// The table of links.
 fn links_text(
     alloc: Global,
     format: Format,
     plan: &Plan,
     stats: &Stats,
-) -> Result<String, AllocError> {
+) -> Result<String, NoMemory> {
     let mut rows = Rows::new(alloc, format, Names::Above, &LINK_COLUMNS)?;
-    let last = stats.active();
-    let links = stats.links().iter().enumerate();
-    let links = links.map(|(place, row)| (Port::Switch(place / LINKS, place % LINKS), row));
-    let wires = stats.wires().iter().enumerate();
-    let wires = wires.map(|(terminal, row)| (Port::Terminal(terminal), row));
-    for (port, row) in links.chain(wires) {
-        if plan.peer(port).is_some() {
-            let name = plan.port_text(alloc, port)?;
-            add_link(&mut rows, name.as_str(), *row, last)?;
-        }
+    for link in listed_links(alloc, plan, stats)?.iter() {
+        let name = plan.port_text(alloc, link.port)?;
+        add_link(&mut rows, name.as_str(), *link)?;
     }
-    rows.finish()
+    Ok(rows.finish()?)
 }
 
-/// A link joins the table, of a run in which something was done up to this round.
-fn add_link(rows: &mut Rows, name: &str, row: LinkRow, last: u32) -> Result<(), AllocError> {
+/// A link joins the table.
+fn add_link(rows: &mut Rows, name: &str, link: ListedLink) -> Result<(), AllocError> {
     rows.word(name)?;
-    rows.number(row.tokens)?;
-    rows.share(row.busy, u64::from(last))?;
-    rows.number(row.packets)?;
-    rows.number(row.longest_at(last))?;
-    rows.number(row.waiting)
+    rows.number(link.tokens)?;
+    rows.thousandths(link.share)?;
+    rows.number(link.packets)?;
+    rows.number(link.longest)?;
+    rows.number(link.waiting)
 }
 
-/// The table of rounds: those that are over, if they are kept, and the one that began last.
-fn rounds_text(alloc: Global, format: Format, stats: &Stats) -> Result<String, AllocError> {
+/// The table of rounds.
+fn rounds_text(alloc: Global, format: Format, stats: &Stats) -> Result<String, NoMemory> {
     let mut rows = Rows::new(alloc, format, Names::Above, &ROUND_COLUMNS)?;
-    for round in stats.rounds() {
+    for round in listed_rounds(alloc, stats)?.iter() {
         add_round(&mut rows, *round)?;
     }
-    add_round(&mut rows, stats.current())?;
-    rows.finish()
+    Ok(rows.finish()?)
 }
 
 /// A round joins the table.

@@ -76,15 +76,10 @@ impl Rows {
         }
     }
 
-    /// One number as a share of another, in thousandths. A share of nothing is 0.
-    pub(crate) fn share(&mut self, part: u64, whole: u64) -> Result<(), AllocError> {
-        let share = if whole == 0 {
-            0
-        } else {
-            part.saturating_mul(1000) / whole
-        };
-        let ones = share / 1000;
-        let rest = share % 1000;
+    /// A number of thousandths.
+    pub(crate) fn thousandths(&mut self, number: u64) -> Result<(), AllocError> {
+        let ones = number / 1000;
+        let rest = number % 1000;
         let cell = format!(in self.alloc; "{ones}.{rest:03}")?;
         self.add(cell.as_str())
     }

@@ -42,8 +42,7 @@ fn add_cells(
     plan: &Plan,
     summary: &Summary,
 ) -> Result<(), AllocError> {
-    let rounds = u64::from(summary.rounds);
-    row.number(rounds)?;
+    row.number(u64::from(summary.rounds))?;
     row.number(summary.endings.sent())?;
     row.number(summary.endings.arrived)?;
     row.number(summary.endings.lost)?;
@@ -51,12 +50,12 @@ fn add_cells(
     row.number_if(summary.median)?;
     row.number_if(summary.ninety_five)?;
     row.number_if(summary.most)?;
-    row.share(summary.tokens, rounds)?;
+    row.thousandths(summary.token_rate())?;
     for busy in [summary.top.first, summary.top.second, summary.top.third] {
         match busy {
             Some(busy) => {
                 row.word(plan.port_text(alloc, busy.port)?.as_str())?;
-                row.share(busy.busy, rounds)?;
+                row.thousandths(summary.busy_share(busy))?;
             }
             None => {
                 row.nothing()?;
