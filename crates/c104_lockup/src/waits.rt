@@ -8,7 +8,6 @@ use crate::portals::word_count;
 use crate::senders::random_header;
 use crate::ways::{Ways, entry_of, is_marked};
 use c104_plan::Terminal;
-use c104_regs::PackedSettings;
 use c104_token::NoMemory;
 use std::alloc::Global;
 
