@@ -2,8 +2,9 @@
 //! is proved where it is found.
 //!
 //! [`drawing_text`] is the picture of a network and [`state_text`] that of a network as it stands, both in the language
-//! of Graphviz. [`over_time_text`] is the picture of a run over its rounds in SVG, or the table of what it shows, and
-//! [`counts_text`] what is counted of a run. [`refusal_text`] and its neighbours are what people are told of labels.
+//! of Graphviz. [`time_picture`] is the picture of a run over its rounds in SVG, as far as it isn't too long, [`time_table`]
+//! the table of what it shows, and [`counts_text`] what is counted of a run. [`refusal_text`] and its neighbours are what
+//! people are told of labels.
 #![tactic(auto)]
 
 mod advice;
@@ -21,6 +22,6 @@ mod summaries;
 pub use advice::{cycle_sentences, label_lines, no_cycle_text, refusal_text, row_lines};
 pub use counts::counts_text;
 pub use drawings::{drawing_text, drawing_text_with};
-pub use over_time::{Asked, TimedText, over_time_text};
+pub use over_time::{TIME_TEXT_LIMIT, TimeFault, time_picture, time_table};
 pub use rows::Format;
 pub use states::state_text;

@@ -1,4 +1,9 @@
 //! The picture of a run over its rounds, as far as there is room for it.
+ghost use Rattle.std.specs.Prelude.{◌+◌, ◌<◌, ◌≡◌, ◌≤◌, Err, IfOk, IfSome, Option, length};
+ghost use Rattle.std.specs.String.{string_bytes};
+ghost use Rattle.c104_print.specs.TimePictures.{IsShorter};
+ghost use Rattle.c104_print.specs.declared.over_time.pictures.TimeFault.TheVariants as fault;
+ghost use Rattle.c104_timeline.specs.declared.periods.Period.{Period as ThePeriod};
 
 use crate::over_time::layouts::Layout;
 use crate::over_time::svg::Svg;
@@ -8,22 +13,68 @@ use c104_token::NoMemory;
 use std::alloc::Global;
 
 /// The most bytes of a picture: 1 MiB.
-const LIMIT: usize = 1_048_576;
+pub const TIME_TEXT_LIMIT: usize = 1_048_576;
 
-/// The picture of these rounds. None where it would be too long.
-pub(crate) fn picture_text(
+// Contracts name this limit: its value is a part of what they say, so a change of it alone is refused.
+const _: () = prove!(TIME_TEXT_LIMIT == 1_048_576);
+
+/// Why a run isn't drawn.
+#[derive(Clone, Copy, Debug, PartialEq, Eq)]
+pub enum TimeFault {
+    /// The picture would be too long. These rounds fit, but not one more; none where the first alone doesn't.
+    TooLarge(Option<Period>),
+    /// Out of memory.
+    NoMemory,
+}
+
+impl From<NoMemory> for TimeFault {
+    ghost from_gives = { λ _ e. e ≡ fault.NoMemory };
+
+    fn from(_error: NoMemory) -> TimeFault {
+        TimeFault::NoMemory
+    }
+}
+
+/// The picture of these rounds of a run, an SVG of at most 1 MiB.
+///
+/// A column is a round. Below the name of each switch are the wires at it over which something goes, a row for each way. A
+/// packet has a colour and a pattern, from the round of its first token that crosses a wire to that of its end; where it
+/// holds the wire and nothing crosses it is hatched. A picture that would be longer is refused, by rounds from the same on
+/// that fit, where one more doesn't.
+pub fn time_picture(
     alloc: Global,
     plan: &Plan,
     timeline: &Timeline,
     period: Period,
-) -> Result<Option<String>, NoMemory> {
+) -> Result<String, TimeFault>
+    ensures text { IfOk result (λ text. length (string_bytes text) ≤ TIME_TEXT_LIMIT) }
+    ensures large { (fits : Option ThePeriod) → result ≡ Err (fault.TooLarge fits) → IfSome fits (IsShorter period) }
+{
+    match picture_text(alloc, plan, timeline, period)? {
+        Some(text) => Ok(text),
+        None => {
+            let fits = widest(alloc, plan, timeline, period)?;
+            Err(TimeFault::TooLarge(fits))
+        }
+    }
+}
+
+/// The picture of these rounds. None where it would be too long. The only error is out of memory.
+fn picture_text(
+    alloc: Global,
+    plan: &Plan,
+    timeline: &Timeline,
+    period: Period,
+) -> Result<Option<String>, NoMemory>
+    ensures { IfOk result (λ drawn. IfSome drawn (λ text. length (string_bytes text) ≤ TIME_TEXT_LIMIT)) }
+{
     let rows = rows_of(alloc, plan, timeline, period)?;
     let layout = Layout::of(plan, period, rows.len());
     let mut lines = Svg::new(alloc, plan, layout);
     for (number, row) in rows.iter().enumerate() {
         let bars = bars_of(alloc, timeline, period, *row)?;
         lines.add_row(number, *row, bars.as_slice())?;
-        if lines.len() > LIMIT {
+        if lines.len() > TIME_TEXT_LIMIT {
             return Ok(None);
         }
     }
@@ -33,10 +84,11 @@ pub(crate) fn picture_text(
     picture.add_head(packets.len())?;
     picture.append(lines)?;
     picture.add_tail(packets.as_slice())?;
-    Ok(if picture.len() > LIMIT {
+    let text = picture.into_text();
+    Ok(if text.len() > TIME_TEXT_LIMIT {
         None
     } else {
-        Some(picture.into_text())
+        Some(text)
     })
 }
 
@@ -54,34 +106,43 @@ fn bars_of(
 }
 
 /// The most rounds from the first of these on whose picture isn't too long, where that of all of them is. None where that
-/// of the first alone is.
-pub(crate) fn widest(
+/// of the first alone is. The only error is out of memory.
+fn widest(
     alloc: Global,
     plan: &Plan,
     timeline: &Timeline,
     period: Period,
-) -> Result<Option<Period>, NoMemory> {
-    let Period { from, to } = period;
-    let mut best = Period { from, to: from };
-    if picture_text(alloc, plan, timeline, best)?.is_none() {
+) -> Result<Option<Period>, NoMemory>
+    ensures { IfOk result (λ fits. IfSome fits (IsShorter period)) }
+{
+    let mut best = Period {
+        from: period.from,
+        to: period.from,
+    };
+    let mut end = period.to;
+    if end <= best.to || picture_text(alloc, plan, timeline, best)?.is_none() {
         return Ok(None);
     }
-    let mut beyond = to;
-    // Each step halves what is between them, which is below 2^32.
-    for _step in 0..32 {
-        let half = beyond.saturating_sub(best.to) / 2;
-        let next = Period {
-            from,
-            to: best.to.saturating_add(half),
-        };
-        if half == 0 {
-            break;
-        }
+    while best.to + 1 < end {
+        let next = halfway(best, end);
         if picture_text(alloc, plan, timeline, next)?.is_some() {
             best = next;
         } else {
-            beyond = next.to;
+            end = next.to;
         }
     }
     Ok(Some(best))
+}
+
+/// Rounds from the same on, up to halfway to this one.
+fn halfway(best: Period, end: u32) -> Period
+    requires { best.to + 1 < end }
+    ensures same { result.from ≡ best.from }
+    ensures above { best.to < result.to }
+    ensures below { result.to < end }
+{
+    Period {
+        from: best.from,
+        to: best.to + (end - best.to) / 2,
+    }
 }

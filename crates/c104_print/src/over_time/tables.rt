@@ -8,8 +8,9 @@ use std::alloc::{AllocError, Global};
 
 const COLUMNS: [&str; 7] = ["port", "to", "sender", "number", "first", "last", "state"];
 
-/// The table of what the picture of these rounds shows: a row for each rectangle, in the order of the picture.
-pub(crate) fn table_text(
+/// The table of what the picture of these rounds of a run shows: a row for each rectangle, in the order of the picture, however
+/// many those are. The only error is out of memory.
+pub fn time_table(
     alloc: Global,
     format: Format,
     plan: &Plan,
