@@ -17,7 +17,7 @@ module _ (driven after : Driven Counts) (long : Bool) (run : CountedRun) where
   )
 
 -- what it tells of whether the script is refused
-pub counted_refused : (what : Option What) (plan : Plan) (image : Image) (script : Option (List ℕ)) (run : CountedRun)
-    → IsCountedPlan what plan image script run → IsRefusedCount what script plan image run.is_refused
+pub counted_refused : (what : Option What) (plan : Plan) (image : Image) (script : Option (List ℕ)) (text : List ℕ)
+    (run : CountedRun) → IsCountedPlan what plan image script run → IsRefusedCount what script plan image text run.is_refused
 unfolding IsRefusedCount
-counted_refused what plan image script run counted = (run, counted, refl)
+counted_refused what plan image script text run counted = (run, counted, refl)

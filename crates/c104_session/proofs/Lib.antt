@@ -28,4 +28,4 @@ pub mod DeliveredLaw
 mod RunRefusals
 mod ReadFaults
 pub mod PrintedRunsLaw
-mod DrawnRuns
+mod TextRuns

@@ -1,9 +1,9 @@
 -- The run of a script and what crosses the wires in it, by what its parts come to.
-use Rattle.{c104_plan.specs.{PlanImage.Image, Plans.Plan}, c104_print.specs.declared.rows.Format.Format}
-use Rattle.{c104_script.specs.Answering.DoesScript, c104_session.specs.{Driven.driven_outcome, Timed.timeline_kept}}
-use Rattle.c104_session.specs.{TimedRuns.{IsRefusedTime, IsTimedAfter, IsTimedOn, IsTimedPlan}, declared.driven.Driven.Driven}
-use Rattle.{c104_stream.specs.ScriptLines.is_long, c104_timeline.specs.Timelines.Timeline, std.proofs.Common.{Bool, List, None, Option}}
-use Rattle.std.proofs.Common.{Some, false, subst, ℕ, ◌||◌, ◌≡◌}
+use Rattle.{c104_plan.specs.{PlanImage.Image, Plans.Plan}, c104_script.specs.Answering.DoesScript, c104_session.specs.Driven.driven_outcome}
+use Rattle.c104_session.specs.{Timed.timeline_kept, TimedRuns.{IsPeriodText, IsRefusedTime, IsTimedAfter, IsTimedOn, IsTimedPlan}}
+use Rattle.{c104_session.specs.declared.{driven.Driven.Driven, over_time.Asked.Asked}, c104_timeline.specs.Periods.period_of}
+use Rattle.{c104_timeline.specs.Timelines.Timeline, std.proofs.Common.{Bool, List, None, Option, Some, subst, ℕ, ◌||◌, ◌≡◌}}
+use Rattle.c104_stream.specs.ScriptLines.{is_long}
 
 -- a script that was done
 module _ (driven after : Driven Timeline) (long : Bool) (t : Timeline) (refused : Bool) where
@@ -14,9 +14,10 @@ module _ (driven after : Driven Timeline) (long : Bool) (t : Timeline) (refused 
       subst (λ (r : Driven Timeline). IsTimedOn r.session (is_long script) r.driver t refused) done.1
       (subst (λ l. IsTimedOn after.session l after.driver t refused) done.0 timed)
 
--- and whether a drawing of it is refused
-pub timed_refused : (format : Option Format) (plan : Plan) (image : Image) (script : Option (List ℕ)) (t : Timeline)
-    (faulty large refused : Bool) → IsTimedPlan plan image script t faulty → ((form : Format) → format ≡ Some form → large ≡ false)
-    → refused ≡ (large || faulty) → IsRefusedTime format script plan image refused
+-- and what is written of it, and whether that is refused
+pub timed_refused : (asked : Asked) (plan : Plan) (image : Image) (script : Option (List ℕ)) (t : Timeline) (faulty large : Bool)
+    (text : List ℕ) (refused : Bool) → IsTimedPlan plan image script t faulty
+    → IsPeriodText asked.format (period_of t asked.from asked.to) text large → refused ≡ (large || faulty)
+    → IsRefusedTime asked script plan image text refused
 unfolding IsRefusedTime
-timed_refused format plan image script t faulty large refused timed tables told = (t, faulty, large, timed, tables, told)
+timed_refused asked plan image script t faulty large text refused timed due told = (t, faulty, large, timed, due, told)

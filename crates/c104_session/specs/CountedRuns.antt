@@ -32,7 +32,7 @@ abbrev pub IsCountedPlan : Option What → Plan → Image → Option (List ℕ) 
 IsCountedPlan what plan image script run =
     IsCountedAfter (record { session = new_session plan image; driver = new_counts plan what }) script run
 
--- the run tells whether it is refused
-unfoldable pub IsRefusedCount : Option What → Option (List ℕ) → Plan → Image → Bool → Type 0
-IsRefusedCount what script plan image refused =
+-- the run tells whether it is refused, whatever text is written of it
+unfoldable pub IsRefusedCount : Option What → Option (List ℕ) → Plan → Image → List ℕ → Bool → Type 0
+IsRefusedCount what script plan image text refused =
     (run : CountedRun) × IsCountedPlan what plan image script run × (refused ≡ run.is_refused)

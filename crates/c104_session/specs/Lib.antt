@@ -15,4 +15,4 @@ pub mod PrintedPackets
 pub mod DeliveredRuns
 pub mod RunCommands
 pub mod PrintedRuns
-pub mod DrawnRuns
+pub mod TextRuns

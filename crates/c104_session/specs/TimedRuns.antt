@@ -1,9 +1,11 @@
--- The run of a script, and what crosses the wires of its network round by round.
-use Rattle.{c104_plan.specs.{PlanImage.Image, Plans.Plan}, c104_print.specs.declared.rows.Format.Format}
+-- The run of a script, what crosses the wires of its network round by round, and the text that is written of that.
+use Rattle.{c104_plan.specs.{PlanImage.Image, Plans.Plan}, c104_print.specs.TimePictures.IsShorter}
+use Rattle.c104_print.specs.declared.{over_time.pictures.TheConstants.TIME_TEXT_LIMIT, rows.Format.Format}
 use Rattle.c104_session.specs.{Driven.driven_outcome, Shown.new_session, Timed.timeline_kept, declared.driven.Driven.Driven}
-use Rattle.{c104_session.specs.declared.session.Session.Session, c104_stream.specs.{ScriptLines.is_long, Scripts.script_outcome}}
-use Rattle.c104_timeline.specs.{Closing.closed_all, Timelines.{Timeline, new_timeline}}
-use Rattle.std.specs.Prelude.{Bool, List, None, Option, Some, false, ℕ, ⊤, ◌||◌, ◌≡◌}
+use Rattle.{c104_session.specs.declared.{over_time.Asked.Asked, session.Session.Session}, c104_stream.specs.ScriptLines.is_long}
+use Rattle.{c104_stream.specs.Scripts.script_outcome, c104_timeline.specs.{Closing.closed_all, Periods.period_of, Timelines.Timeline}}
+use Rattle.c104_timeline.specs.{Timelines.new_timeline, declared.periods.Period.Period}
+use Rattle.std.specs.Prelude.{Bool, IfSome, List, None, Option, Some, codes, decimal, false, length, true, ℕ, ⊤, ◌++◌, ◌||◌, ◌≡◌, ◌≤◌}
 
 -- the run of a script: the session and its timeline behind the last line, by those before the first one
 abbrev pub timed_script : Driven Timeline → List ℕ → Driven Timeline
@@ -29,8 +31,28 @@ abbrev pub IsTimedPlan : Plan → Image → Option (List ℕ) → Timeline → B
 IsTimedPlan plan image script t refused =
     IsTimedAfter (record { session = new_session plan image; driver = new_timeline plan }) script t refused
 
--- a drawing of it is refused, or not: where its picture would be too large, which no table is, and where the script is
-unfoldable pub IsRefusedTime : Option Format → Option (List ℕ) → Plan → Image → Bool → Type 0
-IsRefusedTime format script plan image refused =
+-- the line that refuses a picture that would be too long, and says which rounds fit
+abbrev pub fits_text : Option Period → List ℕ
+fits_text None = codes "\n"
+fits_text (Some p) = codes ": --from " ++ (decimal p.from ++ (codes " --to " ++ (decimal p.to ++ codes " fits\n")))
+
+abbrev pub refusal_text : Option Period → List ℕ
+refusal_text fits = codes "draw 1 TooLarge" ++ fits_text fits
+
+-- a text is that of a picture of these rounds, which isn't too long; or it is too large, and the text is the line that says so,
+-- and which of the rounds fit if any do
+abbrev pub IsPictureText : Period → List ℕ → Bool → Type 0
+IsPictureText p text false = length text ≤ TIME_TEXT_LIMIT
+IsPictureText p text true = (fits : Option Period) × IfSome fits (IsShorter p) × (text ≡ refusal_text fits)
+
+-- the same, or that of a table, which has no limit
+abbrev pub IsPeriodText : Option Format → Period → List ℕ → Bool → Type 0
+IsPeriodText None p text large = IsPictureText p text large
+IsPeriodText (Some format) p text large = large ≡ false
+
+-- the text of the rounds of the run that are asked for is refused, or not: where it is that of a picture that would be too large,
+-- and where the script is
+unfoldable pub IsRefusedTime : Asked → Option (List ℕ) → Plan → Image → List ℕ → Bool → Type 0
+IsRefusedTime asked script plan image text refused =
     (t : Timeline) × (faulty : Bool) × (large : Bool) × IsTimedPlan plan image script t faulty
-    × ((form : Format) → format ≡ Some form → large ≡ false) × (refused ≡ (large || faulty))
+    × IsPeriodText asked.format (period_of t asked.from asked.to) text large × (refused ≡ (large || faulty))

@@ -3,10 +3,10 @@ ghost use Rattle.std.specs.Prelude.{ℕ, ◌≡◌};
 ghost use Rattle.c104_plan.specs.PlanImage.{Fits};
 ghost use Rattle.c104_setup.specs.declared.status.Status.TheVariants as status;
 ghost use Rattle.c104_session.specs.CountedRuns.{IsRefusedCount};
-ghost use Rattle.c104_session.specs.DrawnRuns.{DrawEnds, DrawsRun};
+ghost use Rattle.c104_session.specs.TextRuns.{TextEnds, WritesRun};
 
 use crate::counted_runs::{CountedRun, count_plan};
-use crate::states::write_drawn;
+use crate::states::write_run;
 use c104_mistakes::{About, Messages};
 use c104_plan::{Image, Plan};
 use c104_print::{Format, counts_text};
@@ -43,7 +43,7 @@ pub fn stats_command<D: Read, S: Read, W: Write, M: Messages>(
     writer: &mut W,
     messages: &mut M,
 ) -> Status
-    ensures ends { DrawEnds (IsRefusedCount printing.what (S.remaining script.old)) (D.remaining description.old)
+    ensures ends { TextEnds (IsRefusedCount printing.what (S.remaining script.old)) (D.remaining description.old)
         (W.contents writer.old) (W.contents writer.new) result }
     ensures of_description { result ≡ status.CannotRead 0 → script.new ≡ script.old }
 {
@@ -55,7 +55,7 @@ pub fn stats_command<D: Read, S: Read, W: Write, M: Messages>(
 }
 
 /// The same of the network of a plan, with an image that fits it.
-#[tactic(auto, using(crate::proofs::DrawnRuns::draw_halts))]
+#[tactic(auto, using(crate::proofs::TextRuns::text_halts))]
 fn stats_setup<S: Read, W: Write, M: Messages>(
     alloc: Global,
     printing: Printing,
@@ -66,7 +66,7 @@ fn stats_setup<S: Read, W: Write, M: Messages>(
     messages: &mut M,
 ) -> Status
     requires { Fits image plan.now }
-    ensures runs { DrawsRun (IsRefusedCount printing.what (S.remaining script.old) plan.now image)
+    ensures runs { WritesRun (IsRefusedCount printing.what (S.remaining script.old) plan.now image)
         (W.contents writer.old) (W.contents writer.new) result }
     ensures of_script { (n : ℕ) → result ≡ status.CannotRead n → n ≡ 1 }
 {
@@ -77,7 +77,7 @@ fn stats_setup<S: Read, W: Write, M: Messages>(
     let Ok(text) = run_text(alloc, printing.format, plan, &run, messages) else {
         return Status::NoMemory;
     };
-    let status = write_drawn(text.as_bytes(), run.is_refused, writer);
+    let status = write_run(text.as_bytes(), run.is_refused, writer);
     if let Status::Done | Status::Refused = status {
         run.tell_leftovers(messages);
     }

@@ -48,12 +48,12 @@ mod timing;
 mod tools;
 
 pub use answering::answer_script;
-pub use c104_print::{Asked, Format};
+pub use c104_print::Format;
 pub use c104_stats::What;
 pub use counted_runs::{CountedRun, count_plan, is_locked};
 pub use counts::{Printing, stats_command};
 pub use ended::EndedNet;
-pub use over_time::draw_over_time_command;
+pub use over_time::{Asked, draw_over_time_command};
 pub use run_commands::{debug_command, run, run_text};
 pub use runs::run_plan;
 pub use session::{Ended, Session};

@@ -1,20 +1,34 @@
 //! The drawing of the run of a script over its rounds.
 ghost use Rattle.std.specs.Prelude.{ℕ, ◌≡◌, ◌≢◌, Err, IfOk};
+ghost use Rattle.std.specs.String.{string_bytes};
 ghost use Rattle.c104_plan.specs.PlanImage.{Fits};
 ghost use Rattle.c104_stream.specs.declared.halt.Halt.TheVariants as halt;
-ghost use Rattle.c104_session.specs.DrawnRuns.{DrawEnds, DrawsRun};
-ghost use Rattle.c104_session.specs.TimedRuns.{IsRefusedTime};
+ghost use Rattle.c104_session.specs.TextRuns.{TextEnds, WritesRun};
+ghost use Rattle.c104_session.specs.TimedRuns.{IsPeriodText, IsPictureText, IsRefusedTime, refusal_text};
 ghost use Rattle.c104_setup.specs.declared.status.Status.TheVariants as status;
 
-use crate::states::write_drawn;
+use crate::states::write_run;
 use crate::timed_runs::time_plan;
 use c104_mistakes::Messages;
 use c104_plan::{Image, Plan};
-use c104_print::{Asked, TimedText, over_time_text};
+use c104_print::{Format, TimeFault, time_picture, time_table};
 use c104_setup::{Setup, Status, read_setup};
 use c104_stream::Halt;
-use std::alloc::Global;
+use c104_timeline::{Period, Timeline};
+use c104_token::NoMemory;
+use std::alloc::{AllocError, Global};
 use std::io::{Read, Write};
+
+/// What is asked for of a run.
+#[derive(Clone, Copy)]
+pub struct Asked {
+    /// The first round, if it is said.
+    pub from: Option<u32>,
+    /// The last round, if it is said.
+    pub to: Option<u32>,
+    /// How the table is printed; none for the picture.
+    pub format: Option<Format>,
+}
 
 /// Reads a description, and then reads a script and does its lines on the network, started with the image of its labels; at
 /// the end writes a picture of that over these rounds, as an SVG of at most 1 MiB. Where that is too little it writes a line
@@ -35,7 +49,7 @@ pub fn draw_over_time_command<D: Read, S: Read, W: Write, M: Messages>(
     writer: &mut W,
     messages: &mut M,
 ) -> Status
-    ensures ends { DrawEnds (IsRefusedTime asked.format (S.remaining script.old)) (D.remaining description.old)
+    ensures ends { TextEnds (IsRefusedTime asked (S.remaining script.old)) (D.remaining description.old)
         (W.contents writer.old) (W.contents writer.new) result }
     ensures of_description { result ≡ status.CannotRead 0 → script.new ≡ script.old }
 {
@@ -47,7 +61,7 @@ pub fn draw_over_time_command<D: Read, S: Read, W: Write, M: Messages>(
 }
 
 /// The same of the network of a plan, with an image that fits it.
-#[tactic(auto, using(crate::proofs::DrawnRuns::draw_halts))]
+#[tactic(auto, using(crate::proofs::TextRuns::text_halts))]
 fn draw_timed<S: Read, W: Write, M: Messages>(
     alloc: Global,
     asked: Asked,
@@ -58,14 +72,22 @@ fn draw_timed<S: Read, W: Write, M: Messages>(
     messages: &mut M,
 ) -> Status
     requires { Fits image plan.now }
-    ensures runs { DrawsRun (IsRefusedTime asked.format (S.remaining script.old) plan.now image)
+    ensures runs { WritesRun (IsRefusedTime asked (S.remaining script.old) plan.now image)
         (W.contents writer.old) (W.contents writer.new) result }
     ensures of_script { (n : ℕ) → result ≡ status.CannotRead n → n ≡ 1 }
 {
     match timed_text(alloc, asked, plan, image, script, messages) {
-        Ok(timed) => write_drawn(timed.text.as_bytes(), timed.is_refused, writer),
+        Ok(timed) => write_run(timed.text.as_bytes(), timed.is_refused, writer),
         Err(halt) => Status::of_halt(halt, 1),
     }
+}
+
+/// What is written of a run.
+#[derive(Drop)]
+struct TimedText {
+    text: String,
+    /// Whether the run is refused: its script, or the picture, which is too large.
+    is_refused: bool,
 }
 
 /// What is asked for of a script's run on the network of a plan, with an image that fits it.
@@ -78,14 +100,69 @@ fn timed_text<S: Read, M: Messages>(
     messages: &mut M,
 ) -> Result<TimedText, Halt>
     requires { Fits image plan.now }
-    ensures refused { IfOk result (λ timed.
-        IsRefusedTime asked.format (S.remaining script.old) plan.now image timed.is_refused) }
+    ensures refused { IfOk result (λ timed. IsRefusedTime asked (S.remaining script.old) plan.now image
+        (string_bytes timed.text) timed.is_refused) }
     ensures unwritten { result ≢ Err halt.CannotWrite }
 {
     let run = time_plan(alloc, plan, image, script, messages)?;
-    let TimedText { text, is_refused } = over_time_text(alloc, plan, &run.timeline, asked)?;
+    let period = Period::of(&run.timeline, asked.from, asked.to);
+    let drawn = period_text(alloc, plan, &run.timeline, period, asked.format)?;
     Ok(TimedText {
-        text,
-        is_refused: is_refused || run.is_refused,
+        text: drawn.text,
+        is_refused: drawn.is_refused || run.is_refused,
     })
+}
+
+/// The picture of these rounds of a run, or the line that refuses it; or the table, if a format is said. The only error is
+/// out of memory.
+fn period_text(
+    alloc: Global,
+    plan: &Plan,
+    timeline: &Timeline,
+    period: Period,
+    format: Option<Format>,
+) -> Result<TimedText, NoMemory>
+    ensures { IfOk result (λ timed. IsPeriodText format period (string_bytes timed.text) timed.is_refused) }
+{
+    let Some(format) = format else {
+        return picture_text(alloc, plan, timeline, period);
+    };
+    Ok(TimedText {
+        text: time_table(alloc, format, plan, timeline, period)?,
+        is_refused: false,
+    })
+}
+
+/// The picture of these rounds of a run, or the line that refuses it. The only error is out of memory.
+fn picture_text(
+    alloc: Global,
+    plan: &Plan,
+    timeline: &Timeline,
+    period: Period,
+) -> Result<TimedText, NoMemory>
+    ensures { IfOk result (λ timed. IsPictureText period (string_bytes timed.text) timed.is_refused) }
+{
+    match time_picture(alloc, plan, timeline, period) {
+        Ok(text) => Ok(TimedText {
+            text,
+            is_refused: false,
+        }),
+        Err(TimeFault::TooLarge(fits)) => Ok(TimedText {
+            text: refusal_text(alloc, fits)?,
+            is_refused: true,
+        }),
+        Err(TimeFault::NoMemory) => Err(NoMemory),
+    }
+}
+
+/// The line that refuses a picture that would be too long, and says which rounds fit.
+fn refusal_text(alloc: Global, fits: Option<Period>) -> Result<String, AllocError>
+    ensures { IfOk result (λ text. string_bytes text ≡ refusal_text fits) }
+{
+    match fits {
+        Some(Period { from, to }) => {
+            format!(in alloc; "draw 1 TooLarge: --from {from} --to {to} fits\n")
+        }
+        None => String::from_str(alloc, "draw 1 TooLarge\n"),
+    }
 }

@@ -1,8 +1,9 @@
 //! The drawing of a description's network as it stands after a script.
 ghost use Rattle.std.specs.Prelude.{ℕ, ◌≡◌, ◌≢◌, Err, IfOk};
+ghost use Rattle.std.specs.String.{string_bytes};
 ghost use Rattle.c104_plan.specs.PlanImage.{Fits};
 ghost use Rattle.c104_stream.specs.declared.halt.Halt.TheVariants as halt;
-ghost use Rattle.c104_session.specs.DrawnRuns.{DrawEnds, DrawsRun, IsRefusedAfter, IsRefusedOn, WritesDrawn};
+ghost use Rattle.c104_session.specs.TextRuns.{IsRefusedAfter, IsRefusedOn, TextEnds, WritesRun, WritesRunText};
 ghost use Rattle.c104_session.specs.declared.session.Session.{Session as TheSession};
 ghost use Rattle.c104_setup.specs.declared.status.Status.TheVariants as status;
 
@@ -34,7 +35,7 @@ pub fn draw_state_command<D: Read, S: Read, W: Write, M: Messages>(
     writer: &mut W,
     messages: &mut M,
 ) -> Status
-    ensures ends { DrawEnds (IsRefusedOn (S.remaining script.old)) (D.remaining description.old)
+    ensures ends { TextEnds (IsRefusedOn (S.remaining script.old)) (D.remaining description.old)
         (W.contents writer.old) (W.contents writer.new) result }
     ensures of_description { result ≡ status.CannotRead 0 → script.new ≡ script.old }
 {
@@ -46,7 +47,7 @@ pub fn draw_state_command<D: Read, S: Read, W: Write, M: Messages>(
 }
 
 /// The same of the network of a plan, with an image that fits it.
-#[tactic(auto, using(crate::proofs::DrawnRuns::draw_halts))]
+#[tactic(auto, using(crate::proofs::TextRuns::text_halts))]
 fn draw_after<S: Read, W: Write, M: Messages>(
     alloc: Global,
     plan: &Plan,
@@ -56,12 +57,12 @@ fn draw_after<S: Read, W: Write, M: Messages>(
     messages: &mut M,
 ) -> Status
     requires { Fits image plan.now }
-    ensures runs { DrawsRun (IsRefusedOn (S.remaining script.old) plan.now image)
+    ensures runs { WritesRun (IsRefusedOn (S.remaining script.old) plan.now image)
         (W.contents writer.old) (W.contents writer.new) result }
     ensures of_script { (n : ℕ) → result ≡ status.CannotRead n → n ≡ 1 }
 {
     match drawn_after(alloc, plan, image, script, messages) {
-        Ok(drawn) => write_drawn(drawn.text.as_bytes(), drawn.refused, writer),
+        Ok(drawn) => write_run(drawn.text.as_bytes(), drawn.refused, writer),
         Err(halt) => Status::of_halt(halt, 1),
     }
 }
@@ -76,8 +77,8 @@ struct Drawn {
 }
 
 /// Writes a picture, of a script that is refused or not.
-pub(crate) fn write_drawn<W: Write>(text: &[u8], refused: bool, writer: &mut W) -> Status
-    ensures written { WritesDrawn text.now refused
+pub(crate) fn write_run<W: Write>(text: &[u8], refused: bool, writer: &mut W) -> Status
+    ensures written { WritesRunText text.now refused
         (W.contents writer.old) (W.contents writer.new) result }
     ensures of_writer { (n : ℕ) → result ≢ status.CannotRead n }
 {
@@ -101,7 +102,7 @@ fn drawn_after<S: Read, M: Messages>(
 ) -> Result<Drawn, Halt>
     requires { Fits image plan.now }
     ensures refused { IfOk result (λ drawn.
-        IsRefusedOn (S.remaining script.old) plan.now image drawn.refused) }
+        IsRefusedOn (S.remaining script.old) plan.now image (string_bytes drawn.text) drawn.refused) }
     ensures unwritten { result ≢ Err halt.CannotWrite }
 {
     let mut session = Session::new(alloc, plan, image)?;
@@ -111,7 +112,7 @@ fn drawn_after<S: Read, M: Messages>(
 }
 
 /// The same of a network that is before the script's first line, and is left as it stands after the script.
-#[tactic(auto, using(crate::proofs::DrawnRuns::refused_after, crate::proofs::NewScripts::done_anew), unfolding(crate::specs::Shown::line_outcome))]
+#[tactic(auto, using(crate::proofs::TextRuns::refused_after, crate::proofs::NewScripts::done_anew), unfolding(crate::specs::Shown::line_outcome))]
 fn drawn_of<S: Read, M: Messages>(
     alloc: Global,
     session: &mut Session,

@@ -5,6 +5,6 @@ returns-clause-runs g c =
     inr (
       c.as_bytes.result.now,
       c.in-Ok.run'.is_refused,
-      counted_refused _ _ _ _ c.in-Ok.run' c.in-Ok.ensures.run,
-      c.write_drawn-status.ensures.written,
+      counted_refused _ _ _ _ _ c.in-Ok.run' c.in-Ok.ensures.run,
+      c.write_run-status.ensures.written,
     )
