@@ -5,17 +5,18 @@ use Rattle.c104_session.specs.{Counted.counts_kept, Driven.driven_outcome, Shown
 use Rattle.{c104_session.specs.declared.driven.Driven.Driven, c104_stats.specs.{Counts.{Counts, new_counts}, Sights.counts_at_end}}
 use Rattle.{c104_stats.specs.declared.stats.What.What, c104_stream.specs.{ScriptLines.is_long, Scripts.script_outcome}}
 use Rattle.c104_token.specs.Kinds.{plain_kind}
-use Rattle.std.specs.Prelude.{Bool, IsSome, List, None, Option, Some, ℕ, ⊤, ◌||◌, ◌↔◌, ◌≡◌}
+use Rattle.std.specs.Prelude.{Bool, IfSome, IsSome, List, None, Option, Some, ℕ, ⊤, ◌||◌, ◌↔◌, ◌≡◌}
 
 -- the run of a script: the session and its counts behind the last line, by those before the first one
 abbrev pub counted_script : Driven Counts → List ℕ → Driven Counts
 counted_script driven script = (script_outcome (driven_outcome counts_kept) driven script).1
 
 -- a run that ended on this network with these counts: the packets in the network are counted too, and if it stands still, with
--- tokens in it, something is told of that
+-- tokens in it, that is told, with the last round in which something was done
 pub record IsCountedOn (net : NetRecord) (c : Counts) (run : CountedRun) : Type 0 where
   pub counts : run.stats ≡ counts_at_end net c
   pub still : IsSome run.still ↔ IsDeadlocked plain_kind net.network
+  pub round : IfSome run.still (λ still. still.round ≡ run.stats.active)
 
 -- the run of a script, which is refused for its length or for one of its lines
 abbrev pub IsCountedScript : Driven Counts → List ℕ → CountedRun → Type 0

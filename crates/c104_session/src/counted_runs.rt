@@ -1,5 +1,5 @@
 //! A script, run on the network of a plan, and what is counted of that.
-ghost use Rattle.std.specs.Prelude.{◌≡◌, ◌≢◌, ◌↔◌, ◌||◌, Err, IfOk, IsSome, IsTrue};
+ghost use Rattle.std.specs.Prelude.{◌≡◌, ◌≢◌, ◌↔◌, ◌||◌, Err, IfOk, IfSome, IsSome, IsTrue};
 ghost use Rattle.c104_token.specs.Kinds.{plain_kind};
 ghost use Rattle.c104_plan.specs.PlanImage.{Fits};
 ghost use Rattle.c104_run.specs.Standstill.{IsDeadlocked};
@@ -11,14 +11,56 @@ use crate::driven::Driven;
 use crate::runs::leftovers_of;
 use crate::session::Session;
 use c104_explain::{standstill_message, tell_leftovers};
-use c104_mistakes::Messages;
+use c104_mistakes::{About, Messages};
 use c104_net::TracedNet;
 use c104_plan::{Image, Plan};
 use c104_stats::{Stats, What};
 use c104_stream::Halt;
 use c104_token::NoMemory;
-use std::alloc::Global;
+use std::alloc::{AllocError, Global};
 use std::io::Read;
+
+/// What is told of a network that stands still with tokens in it.
+#[derive(Drop)]
+pub struct Still {
+    /// The last round in which something was done.
+    pub round: u32,
+    /// How many tokens wait, and a line for each thing that waits. None where there is no memory for that.
+    message: Option<String>,
+}
+
+impl Still {
+    /// The text that says so: a line with the round, and the lines of what waits. The only error is out of memory.
+    pub fn text(&self, alloc: Global) -> Result<String, NoMemory> {
+        let Some(message) = &self.message else {
+            return Err(NoMemory);
+        };
+        let mut text = still_line(alloc, self.round)?;
+        // In place of the message's first line, which tells how many tokens wait.
+        for line in message.lines().skip(1) {
+            write!(text, "\n{line}")?;
+        }
+        text.push('\n')?;
+        Ok(text)
+    }
+
+    /// Tells the same, as far as there is memory for it.
+    pub fn tell<M: Messages>(&self, alloc: Global, messages: &mut M) {
+        if let Ok(line) = still_line(alloc, self.round) {
+            messages.tell(About::Run, line.as_str());
+        }
+        if let Some(message) = &self.message {
+            for line in message.lines().skip(1) {
+                messages.tell(About::Run, line);
+            }
+        }
+    }
+}
+
+/// The line that says that a network stands still after this round.
+fn still_line(alloc: Global, round: u32) -> Result<String, AllocError> {
+    format!(in alloc; "stands still after round {round}")
+}
 
 /// What is counted of a run, up to its end.
 #[derive(Drop)]
@@ -26,8 +68,8 @@ pub struct CountedRun {
     pub stats: Stats,
     /// Whether the script is refused, for its length or for one of its lines.
     pub is_refused: bool,
-    /// What is told of a network that stands still with tokens in it, line by line.
-    pub still: Option<String>,
+    /// What is told of a network that stands still with tokens in it.
+    pub still: Option<Still>,
     /// What is to be told of what didn't arrive.
     leftovers: Option<Vec<String>>,
 }
@@ -80,7 +122,7 @@ fn count_driven<S: Read, M: Messages>(
     let drove = drive_script(alloc, &mut driven, script, messages);
     let Driven { session, driver } = driven;
     let counted = match drove {
-        Ok(is_long) => counted_run(alloc, is_long, &session, driver, messages),
+        Ok(is_long) => Ok(counted_run(alloc, is_long, &session, driver, messages)),
         Err(halt) => Err(halt),
     };
     session.finish().retire();
@@ -94,40 +136,34 @@ fn counted_run<M: Messages>(
     session: &Session,
     stats: Stats,
     messages: &mut M,
-) -> Result<CountedRun, Halt>
-    ensures run { IfOk result (λ run. IsCountedOn session.now.net stats run) }
-    ensures is_refused { IfOk result (λ run. run.is_refused ≡ (is_long || session.now.faulty)) }
-    ensures unwritten { result ≢ Err halt.CannotWrite }
+) -> CountedRun
+    ensures run { IsCountedOn session.now.net stats result }
+    ensures is_refused { result.is_refused ≡ (is_long || session.now.faulty) }
 {
     let mut stats = stats;
     stats.end_at(&session.net);
-    let still = still_text(alloc, &session.net, stats.active())?;
+    let still = still_of(alloc, &session.net, stats.active());
     let leftovers = leftovers_of(alloc, session, messages);
-    Ok(CountedRun {
+    CountedRun {
         stats,
         is_refused: is_long || session.faulty,
         still,
         leftovers,
-    })
+    }
 }
 
-/// What is told of a network that stands still after this round, with tokens in it: a line that says so, and lines of what
-/// waits there. The only error is out of memory.
-fn still_text(alloc: Global, net: &TracedNet, round: u32) -> Result<Option<String>, NoMemory>
-    ensures { IfOk result (λ still. IsSome still ↔ IsDeadlocked plain_kind net.now.network) }
+/// What is told of a network that stands still after this round, with tokens in it.
+fn still_of(alloc: Global, net: &TracedNet, round: u32) -> Option<Still>
+    ensures still { IsSome result ↔ IsDeadlocked plain_kind net.now.network }
+    ensures round { IfSome result (λ still. still.round ≡ round) }
 {
     if !is_locked(net) {
-        return Ok(None);
+        return None;
     }
-    let Some(message) = standstill_message(alloc, net, None) else {
-        return Err(NoMemory);
-    };
-    let mut text = format!(in alloc; "stands still after round {round}\n")?;
-    // In place of the message's first line, which tells how many tokens wait.
-    for line in message.lines().skip(1) {
-        write!(text, "{line}\n")?;
-    }
-    Ok(Some(text))
+    Some(Still {
+        round,
+        message: standstill_message(alloc, net, None),
+    })
 }
 
 /// Whether a network stands still with tokens in it.

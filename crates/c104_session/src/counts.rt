@@ -7,7 +7,7 @@ ghost use Rattle.c104_session.specs.TextRuns.{TextEnds, WritesRun};
 
 use crate::counted_runs::{CountedRun, count_plan};
 use crate::states::write_run;
-use c104_mistakes::{About, Messages};
+use c104_mistakes::Messages;
 use c104_plan::{Image, Plan};
 use c104_print::{Format, counts_text};
 use c104_setup::{Setup, Status, read_setup};
@@ -74,7 +74,7 @@ fn stats_setup<S: Read, W: Write, M: Messages>(
         Ok(run) => run,
         Err(halt) => return Status::of_halt(halt, 1),
     };
-    let Ok(text) = run_text(alloc, printing.format, plan, &run, messages) else {
+    let Ok(text) = printed_text(alloc, printing.format, plan, &run, messages) else {
         return Status::NoMemory;
     };
     let status = write_run(text.as_bytes(), run.is_refused, writer);
@@ -85,7 +85,7 @@ fn stats_setup<S: Read, W: Write, M: Messages>(
 }
 
 /// What is printed of a run. That its network stands still is told to programs, which read rows alone, as a message.
-fn run_text<M: Messages>(
+fn printed_text<M: Messages>(
     alloc: Global,
     format: Format,
     plan: &Plan,
@@ -97,12 +97,8 @@ fn run_text<M: Messages>(
         return Ok(text);
     };
     match format {
-        Format::Table => text.push_str(still.as_str())?,
-        Format::Csv | Format::Json => {
-            for line in still.lines() {
-                messages.tell(About::Run, line);
-            }
-        }
+        Format::Table => text.push_str(still.text(alloc)?.as_str())?,
+        Format::Csv | Format::Json => still.tell(alloc, messages),
     }
     Ok(text)
 }

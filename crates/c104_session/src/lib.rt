@@ -50,7 +50,7 @@ mod tools;
 pub use answering::answer_script;
 pub use c104_print::Format;
 pub use c104_stats::What;
-pub use counted_runs::{CountedRun, count_plan, is_locked};
+pub use counted_runs::{CountedRun, Still, count_plan, is_locked};
 pub use counts::{Printing, stats_command};
 pub use ended::EndedNet;
 pub use over_time::{Asked, draw_over_time_command};
