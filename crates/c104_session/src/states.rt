@@ -9,7 +9,7 @@ ghost use Rattle.c104_setup.specs.declared.status.Status.TheVariants as status;
 
 use crate::session::Session;
 use crate::telling::Telling;
-use c104_mistakes::Messages;
+use c104_mistakes::{Messages, tell_if_long};
 use c104_plan::{Image, Plan};
 use c104_print::state_text;
 use c104_script::do_lines;
@@ -23,8 +23,8 @@ use std::io::{Read, Write};
 /// nor what arrived. A line that is faulty is left out, and then the status is Refused, as it is where the script is too
 /// long, of which the lines are done that end within 16 MiB.
 ///
-/// It tells people of each line that is faulty, refused or not ready. What is written and how it ends are the same
-/// whatever takes the messages does.
+/// It tells people of each line that is faulty, refused or not ready, and that a script is too long. What is written and how
+/// it ends are the same whatever takes the messages does.
 ///
 /// Reading ends at 1 MiB of a description and at 16 MiB of a script, whatever the reader. Each error of a reader or the
 /// writer is a fault at once.
@@ -128,6 +128,7 @@ fn drawn_of<S: Read, M: Messages>(
     let done = do_lines(alloc, session, &mut ahead, script, &mut telling);
     telling.end(&done);
     let is_long = done?;
+    tell_if_long(is_long, telling.messages);
     let text = state_text(alloc, &session.net, &session.image)?;
     Ok(Drawn {
         text,
