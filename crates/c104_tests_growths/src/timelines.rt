@@ -6,10 +6,8 @@ use crate::outcomes::Outcome;
 use crate::traced::net_after;
 use c104_net::{Origin, TracedNet};
 use c104_plan::Port;
-use c104_print::{TimedText, over_time_text};
-use c104_session::{Asked, Format};
+use c104_print::{Format, time_picture, time_table};
 use c104_timeline::{Period, Timeline, bars_at, packets_of, rows_of};
-use c104_token::NoMemory;
 use std::alloc::Global;
 
 /// What is asked of a timeline.
@@ -41,25 +39,10 @@ impl Call {
             Call::Rows => Outcome::of(rows_of(alloc, net.plan(), timeline, SHOWN)),
             Call::Bars => Outcome::of(bars_at(alloc, timeline, SHOWN, Port::Terminal(0))),
             Call::Packets => Outcome::of(packets_of(alloc, timeline, SHOWN)),
-            Call::Draw => Outcome::of(text_of(alloc, net, timeline, None)),
-            Call::Tell => Outcome::of(text_of(alloc, net, timeline, Some(Format::Json))),
+            Call::Draw => Outcome::of(time_picture(alloc, net.plan(), timeline, SHOWN)),
+            Call::Tell => Outcome::of(time_table(alloc, Format::Json, net.plan(), timeline, SHOWN)),
         }
     }
-}
-
-/// The picture of a timeline, or the table of what that shows.
-fn text_of(
-    alloc: Global,
-    net: &TracedNet,
-    timeline: &Timeline,
-    format: Option<Format>,
-) -> Result<TimedText, NoMemory> {
-    let asked = Asked {
-        from: Some(SHOWN.from),
-        to: Some(SHOWN.to),
-        format,
-    };
-    over_time_text(alloc, net.plan(), timeline, asked)
 }
 
 /// Something is asked of the timeline of a network over whose first terminal's wire the end of a packet has crossed, and over
@@ -122,8 +105,8 @@ impl Suite for TimelineCalls {
             ("rows_of", Call::Rows),
             ("bars_at", Call::Bars),
             ("packets_of", Call::Packets),
-            ("over_time_text", Call::Draw),
-            ("over_time_text", Call::Tell),
+            ("time_picture", Call::Draw),
+            ("time_table", Call::Tell),
         ] {
             let timing = Timing { net: &net, call };
             is_right_so_far = is_right_so_far && is_right(rt, name, &timing);
