@@ -1,9 +1,9 @@
 -- The run of a script and what crosses the wires in it, by what its parts come to.
 use Rattle.{c104_plan.specs.{PlanImage.Image, Plans.Plan}, c104_script.specs.Answering.DoesScript, c104_session.specs.Driven.driven_outcome}
 use Rattle.c104_session.specs.{Timed.timeline_kept, TimedRuns.{IsPeriodText, IsRefusedTime, IsTimedAfter, IsTimedOn, IsTimedPlan}}
-use Rattle.{c104_session.specs.declared.{driven.Driven.Driven, over_time.Asked.Asked}, c104_timeline.specs.Periods.period_of}
-use Rattle.{c104_timeline.specs.Timelines.Timeline, std.proofs.Common.{Bool, List, None, Option, Some, subst, ℕ, ◌||◌, ◌≡◌}}
-use Rattle.c104_stream.specs.ScriptLines.{is_long}
+use Rattle.{c104_session.specs.declared.{driven.Driven.Driven, over_time.Asked.Asked}, c104_stream.specs.ScriptLines.is_long}
+use Rattle.{c104_timeline.specs.{Periods.period_of, Timelines.Timeline}, std.proofs.Common.{Bool, List, None, Option, Some, subst, ℕ, ◌||◌}}
+use Rattle.std.proofs.Common.{◌≡◌}
 
 -- a script that was done
 module _ (driven after : Driven Timeline) (long : Bool) (t : Timeline) (refused : Bool) where

@@ -1,5 +1,5 @@
-use Rattle.c104_session.{proofs.TimedScripts.timed_refused, specs.TimedRuns.IsPeriodText}
-use Rattle.std.{proofs.Common.{rules, subst, ◌||◌, ◌≡◌}, specs.String.string_bytes}
+use Rattle.{c104_session.{proofs.TimedScripts.timed_refused, specs.TimedRuns.IsPeriodText}, std.proofs.Common.{rules, subst, ◌||◌, ◌≡◌}}
+use Rattle.std.specs.String.{string_bytes}
 
 pub returns-clause-refused : Rattle.c104_session.proofs.over_time.timed_text.Goals.returns-clause-refused
 returns-clause-refused g c =
