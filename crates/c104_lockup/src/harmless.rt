@@ -1,11 +1,8 @@
 //! Whether a script leaves a network as it was set up, so that what is known of its labels goes on to hold.
-ghost use Rattle.std.specs.Prelude.{◌≡◌, map, take, true, IfOk, Ok, Some};
-ghost use Rattle.c104_switch.specs.Headers.{header_number};
-ghost use Rattle.c104_check.specs.Routes.{IsAccepted, routes_of};
-ghost use Rattle.c104_net.specs.Unchanged.{MayBeSent};
-ghost use Rattle.c104_script.specs.Script.{read_script_line};
-ghost use Rattle.c104_stream.specs.ScriptLines.{script_lines};
-ghost use Rattle.c104_lockup.specs.HarmlessScripts.{AreHarmless, IsHarmless, IsLabel};
+ghost use Rattle.std.specs.Prelude.{IfOk, Ok, Some, map, take, true, ◌≡◌};
+ghost use Rattle.{c104_check.specs.Routes.{IsAccepted, routes_of}, c104_lockup.specs.HarmlessScripts.{AreHarmless, IsHarmless, IsLabel}};
+ghost use Rattle.{c104_net.specs.Unchanged.MayBeSent, c104_script.specs.Script.read_script_line};
+ghost use Rattle.{c104_stream.specs.ScriptLines.script_lines, c104_switch.specs.Headers.header_number};
 
 use c104_event::Event;
 use c104_plan::{Image, Plan, Port, cut_lines};
@@ -105,7 +102,7 @@ fn may_be_sent(plan: &Plan, image: &Image, terminal: usize, packet: &Packet) -> 
     !settings.randomize() || begins_with_label(plan, image, settings.header_length(), packet)
 }
 
-/// Whether a packet begins with a label, as a header of so many bytes.
+/// Whether a packet begins with a label, as a header of that many bytes.
 fn begins_with_label(plan: &Plan, image: &Image, length: usize, packet: &Packet) -> bool
     ensures { result ≡ true → IsLabel image.now (header_number (take length packet.now.bytes)) }
 {

@@ -37,7 +37,7 @@ pub(crate) struct Sender {
 }
 
 /// The terminals whose packets come to a goal, each with the nearest way. Where random headers are put before packets, they are
-/// those that the first words pick, so many at most. No packet begins with a header that is no terminal's label.
+/// those that the first words pick, at most that many. No packet begins with a header that is no terminal's label.
 pub(crate) fn senders(
     alloc: Global,
     ways: &Ways<'_>,

@@ -3,7 +3,7 @@
 //! An answer names a fault by its number and name. A message says what was wanted, and about which word:
 //! `description_message` of a faulty description, `fault_message` of a faulty line of a script and
 //! `refusal_message` of a refused one, `register_message` of one whose register is refused and `command_message` of one
-//! whose command a switch refuses. The sentences are tables: one for descriptions, one for scripts, and one for both.
+//! whose command a switch refuses. The sentences are constants: of descriptions, of scripts, and of both.
 //!
 //! `Messages` is what takes messages, with the line that each is `About`; `Silent` takes none. Nothing
 //! depends on a message: it is left out where memory is short. What messages say isn't proved.

@@ -88,7 +88,7 @@ pub(crate) const INBOX_FULL: &str =
     "262144 tokens have arrived at a terminal, and it takes no more";
 
 pub(crate) const TRACE_FULL: &str =
-    "a switch or a terminal does at most 1048576 acts, and one that would act has done so many";
+    "a switch or a terminal does at most 1048576 acts, and one that would act has done that many";
 
 pub(crate) const NO_REGISTER: &str = "no register has this address";
 

@@ -40,7 +40,7 @@ pub(crate) fn sending_at(net: &TracedNet, terminal: usize) -> Option<Sending>
     }
 }
 
-/// The same where so many tokens wait.
+/// The same where that many tokens wait.
 fn sending_of(net: &TracedNet, terminal: usize, waiting: usize) -> Option<Sending>
     ensures { result ≡ sending_of (size_at net.now terminal) waiting }
 {
@@ -80,7 +80,7 @@ fn sending_before(net: &TracedNet, terminal: usize, count: usize, waiting: usize
     None
 }
 
-/// Whether the first of the tokens that wait is one of the packet of this number, if so many wait from it on.
+/// Whether the first of the tokens that wait is one of the packet of this number, if that many wait from it on.
 fn fit_at(net: &TracedNet, terminal: usize, number: usize, left: usize) -> Fit
     ensures { result ≡ fit_of (size_at net.now terminal number) left }
 {
