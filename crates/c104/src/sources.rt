@@ -51,8 +51,7 @@ pub struct Watched<R: Read + Drop> {
 }
 
 impl<R: Read + Drop> Model for Watched<R> {
-    ghost use Rattle.std.specs.Prelude.{◌≡◌, true};
-    ghost use Rattle.std.specs.Io.KnownBytes.{IsAtEnd};
+    ghost use Rattle.std.specs.{Io.KnownBytes.IsAtEnd, Prelude.{true, ◌≡◌}};
 
     ghost Value = { R };
 

@@ -1,7 +1,6 @@
 //! The audit.
-ghost use Rattle.std.specs.Prelude.{◌≡◌, IfOk, MatchResult};
-ghost use Rattle.c104_audit.specs.AuditFaults.{IsFault};
-ghost use Rattle.c104_audit.specs.Audits.{AreLists, IsAudited, lists_events};
+ghost use Rattle.std.specs.Prelude.{IfOk, MatchResult, ◌≡◌};
+ghost use Rattle.c104_audit.specs.{AuditFaults.IsFault, Audits.{AreLists, IsAudited, lists_events}};
 
 use crate::befores::first_changed;
 use crate::ends::first_unequal;

@@ -1,7 +1,6 @@
 //! Whether each node is as it was handed over: its start, and its entries without a seat.
-ghost use Rattle.std.specs.Prelude.{◌≡◌, ◌↔◌, ◌<◌, Some, is_some, length, slice_get, IsTrue};
-ghost use Rattle.c104_audit.specs.Audits.{AreLists, IsAsBefore, unseated};
-ghost use Rattle.c104_audit.specs.Firsts.{IsFirst};
+ghost use Rattle.std.specs.Prelude.{IsTrue, Some, is_some, length, slice_get, ◌<◌, ◌↔◌, ◌≡◌};
+ghost use Rattle.c104_audit.specs.{Audits.{AreLists, IsAsBefore, unseated}, Firsts.IsFirst};
 
 use crate::lists::Lists;
 use crate::sameness::is_same_entry;

@@ -1,8 +1,7 @@
 //! How many of each seat's calls the entries tell that carry its number.
-ghost use Rattle.std.specs.Prelude.{◌≡◌, ◌↔◌, ◌+◌, ◌<◌, None, Some, length, IfOk, IsTrue, MatchOption};
-ghost use Rattle.c104_audit.specs.Audits.{told_reply};
-ghost use Rattle.c104_audit.specs.Tests.{AreCounts, AreLeads, AreTold, IsCallOf, IsNextCall, TellsNext, lead_in, lead_seat};
-ghost use Rattle.c104_net.specs.Leading.{act_event};
+ghost use Rattle.std.specs.Prelude.{IfOk, IsTrue, MatchOption, None, Some, length, ◌+◌, ◌<◌, ◌↔◌, ◌≡◌};
+ghost use Rattle.c104_audit.specs.{Audits.told_reply, Tests.{AreCounts, AreLeads, AreTold, IsCallOf, IsNextCall, TellsNext, lead_in}};
+ghost use Rattle.{c104_audit.specs.Tests.lead_seat, c104_net.specs.Leading.act_event};
 
 use crate::calls::Call;
 use crate::lists::Lists;

@@ -1,9 +1,7 @@
 //! Whether both ends of each event that crosses a wire carry one seat.
-ghost use Rattle.std.specs.Prelude.{◌≡◌, length, drop};
-ghost use Rattle.c104_audit.specs.AuditFaults.{Everywhere};
-ghost use Rattle.c104_audit.specs.Audits.{AgreeAtEnds, AgreeOneByOne, AreLists, IsEndAmong, passing_at};
-ghost use Rattle.c104_audit.specs.Firsts.{IsFirst};
-ghost use Rattle.c104_audit.specs.Tests.{CarryAtAllEnds, HasNext, IsOddBy, odd_of, odd_seat, passing};
+ghost use Rattle.std.specs.Prelude.{drop, length, ◌≡◌};
+ghost use Rattle.c104_audit.specs.{AuditFaults.Everywhere, Audits.{AgreeAtEnds, AgreeOneByOne, AreLists, IsEndAmong, passing_at}};
+ghost use Rattle.c104_audit.specs.{Firsts.IsFirst, Tests.{CarryAtAllEnds, HasNext, IsOddBy, odd_of, odd_seat, passing}};
 
 use crate::ends::{end_of, next_passing, passes};
 use crate::firsts::lower;

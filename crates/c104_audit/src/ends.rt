@@ -1,8 +1,7 @@
 //! Whether what passes at the two ends of each wire agrees.
-ghost use Rattle.std.specs.Prelude.{◌≡◌, ◌↔◌, ◌+◌, ◌<◌, ◌∷◌, [], length, Some, drop, slice_get, IsTrue, MatchOption};
+ghost use Rattle.std.specs.Prelude.{IsTrue, MatchOption, Some, [], drop, length, slice_get, ◌+◌, ◌<◌, ◌↔◌, ◌∷◌, ◌≡◌};
 ghost use Rattle.c104_audit.specs.Audits.{AgreeAtEnds, AgreeOneByOne, AreLists, IsEndAmong, end_among, passes_at, passing_at};
-ghost use Rattle.c104_audit.specs.Firsts.{IsFirst};
-ghost use Rattle.c104_audit.specs.Tests.{HasHalf, HasNoHalf, passing};
+ghost use Rattle.c104_audit.specs.{Firsts.IsFirst, Tests.{HasHalf, HasNoHalf, passing}};
 ghost use Rattle.c104_node.specs.declared.acts.Entry.{Entry as TheEntry};
 
 use crate::halves::{are_halves, is_of_kind, link_of};

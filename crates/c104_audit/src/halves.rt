@@ -1,7 +1,6 @@
 //! What acts send over a wire, and whether two entries are the halves of one event.
-ghost use Rattle.std.specs.Prelude.{◌≡◌, ◌↔◌, Some, IsTrue};
-ghost use Rattle.c104_audit.specs.Audits.{AreHalves, carried_in, carried_out, is_of_kind};
-ghost use Rattle.c104_audit.specs.declared.carried.Carried.{Carried as TheCarried};
+ghost use Rattle.std.specs.Prelude.{IsTrue, Some, ◌↔◌, ◌≡◌};
+ghost use Rattle.c104_audit.specs.{Audits.{AreHalves, carried_in, carried_out, is_of_kind}, declared.carried.Carried.Carried as TheCarried};
 ghost use Rattle.c104_node.specs.ActLinks.{act_link};
 
 use crate::carried::Carried;

@@ -1,10 +1,7 @@
 //! The entries that lead, of all traces, by ticket and then by place.
-ghost use Rattle.std.specs.Prelude.{◌≡◌, ◌++◌, ◌<◌, Some, length, map, slice_get, IfOk, OnOk};
-ghost use Rattle.c104_audit.specs.AuditFaults.{Everywhere};
-ghost use Rattle.c104_audit.specs.Audits.{AreLists, IsShaped, is_leading};
-ghost use Rattle.c104_audit.specs.Leads.{leads_at, leads_from};
-ghost use Rattle.c104_audit.specs.Tests.{AreLeads, lead_in};
-ghost use Rattle.c104_node.specs.declared.acts.Entry.{Entry as TheEntry};
+ghost use Rattle.std.specs.Prelude.{IfOk, OnOk, Some, length, map, slice_get, ◌++◌, ◌<◌, ◌≡◌};
+ghost use Rattle.c104_audit.specs.{AuditFaults.Everywhere, Audits.{AreLists, IsShaped, is_leading}, Leads.{leads_at, leads_from}};
+ghost use Rattle.{c104_audit.specs.Tests.{AreLeads, lead_in}, c104_node.specs.declared.acts.Entry.Entry as TheEntry};
 
 use crate::halves::is_of_kind;
 use crate::lists::Lists;

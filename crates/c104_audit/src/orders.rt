@@ -1,9 +1,6 @@
 //! Whether the tickets of each trace rise.
-ghost use Rattle.std.specs.Prelude.{◌≡◌, ◌↔◌, IsTrue, None};
-ghost use Rattle.c104_audit.specs.Audits.{IsOrdered};
-ghost use Rattle.c104_audit.specs.Firsts.{IsFirst};
-ghost use Rattle.c104_audit.specs.Leads.{AreRising};
-ghost use Rattle.c104_audit.specs.Tests.{is_later, rises_after};
+ghost use Rattle.std.specs.Prelude.{IsTrue, None, ◌↔◌, ◌≡◌};
+ghost use Rattle.c104_audit.specs.{Audits.IsOrdered, Firsts.IsFirst, Leads.AreRising, Tests.{is_later, rises_after}};
 ghost use Rattle.c104_node.specs.declared.acts.Entry.{Entry as TheEntry};
 
 use crate::lists::Lists;

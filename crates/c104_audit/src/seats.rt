@@ -2,11 +2,9 @@
 //!
 //! All seats' calls are compared in one walk over the entries that lead, with a count for each seat's list: so it takes
 //! memory for a number of each seat, and reads no entry once for each of them.
-ghost use Rattle.std.specs.Prelude.{◌≡◌, ◌↔◌, ◌<◌, Some, length, slice_get, IfOk, IsTrue};
-ghost use Rattle.c104_audit.specs.AuditFaults.{Everywhere};
-ghost use Rattle.c104_audit.specs.Audits.{AgreeAtEnds, AreLists, IsCalled};
-ghost use Rattle.c104_audit.specs.Firsts.{IsFirst};
-ghost use Rattle.c104_audit.specs.Tests.{AreCalledBelow, AreCounts, AreLeads, CarryAtAllEnds, HasNoStray, IsToldAt, is_other, lead_seat, past_seat};
+ghost use Rattle.std.specs.Prelude.{IfOk, IsTrue, Some, length, slice_get, ◌<◌, ◌↔◌, ◌≡◌};
+ghost use Rattle.c104_audit.specs.{AuditFaults.Everywhere, Audits.{AgreeAtEnds, AreLists, IsCalled}, Firsts.IsFirst, Tests.AreCalledBelow};
+ghost use Rattle.c104_audit.specs.Tests.{AreCounts, AreLeads, CarryAtAllEnds, HasNoStray, IsToldAt, is_other, lead_seat, past_seat};
 
 use crate::called::{seated_entry, told_counts};
 use crate::calls::Call;

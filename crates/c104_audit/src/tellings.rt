@@ -1,7 +1,6 @@
 //! The events that entries tell which lead.
-ghost use Rattle.std.specs.Prelude.{◌≡◌, IfOk};
-ghost use Rattle.c104_audit.specs.Audits.{lists_events};
-ghost use Rattle.c104_audit.specs.Tests.{AreLeads};
+ghost use Rattle.std.specs.Prelude.{IfOk, ◌≡◌};
+ghost use Rattle.c104_audit.specs.{Audits.lists_events, Tests.AreLeads};
 
 use crate::lists::Lists;
 use c104_event::Event;

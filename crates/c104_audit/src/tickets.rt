@@ -1,10 +1,7 @@
 //! Whether the tickets of seats' lists rise, and stand in one list alone.
-ghost use Rattle.std.specs.Prelude.{◌≡◌, ◌↔◌, ◌<◌, ◌&&◌, None, length, drop, nat_le, IsTrue};
-ghost use Rattle.c104_audit.specs.Audits.{HaveOtherTickets};
-ghost use Rattle.c104_audit.specs.Leads.{AreRising};
-ghost use Rattle.c104_audit.specs.Tests.{AreApart, AreCalledBelow, IsApart, IsListed, IsRisingAt, Skips, StandsFirst, is_later};
-ghost use Rattle.c104_audit.specs.Tests.{listed_after};
-ghost use Rattle.c104_audit.specs.declared.calls.Call.{Call as TheCall};
+ghost use Rattle.std.specs.Prelude.{IsTrue, None, drop, length, nat_le, ◌&&◌, ◌<◌, ◌↔◌, ◌≡◌};
+ghost use Rattle.c104_audit.specs.{Audits.HaveOtherTickets, Leads.AreRising, Tests.{AreApart, AreCalledBelow, IsApart, IsListed}};
+ghost use Rattle.c104_audit.specs.{Tests.{IsRisingAt, Skips, StandsFirst, is_later, listed_after}, declared.calls.Call.Call as TheCall};
 
 use crate::calls::Call;
 use crate::lists::Lists;

@@ -1,10 +1,7 @@
 //! Which links have a wire, and whether the nodes keep just these.
-ghost use Rattle.std.specs.Prelude.{◌≡◌, ◌<◌, ◌↔◌, false, length, is_some, map, slice_get, unwrap_or, IsTrue};
-ghost use Rattle.c104_audit.specs.Audits.{AreLists, HasShape, IsShaped, is_link_wired};
-ghost use Rattle.c104_audit.specs.Firsts.{IsFirst};
-ghost use Rattle.c104_audit.specs.Tests.{HasLinksTo, KeepsLink};
-ghost use Rattle.c104_plan.specs.Ports.{other_end};
-ghost use Rattle.c104_regs.specs.declared.registers.TheConstants.{LINKS};
+ghost use Rattle.std.specs.Prelude.{IsTrue, false, is_some, length, map, slice_get, unwrap_or, ◌<◌, ◌↔◌, ◌≡◌};
+ghost use Rattle.c104_audit.specs.{Audits.{AreLists, HasShape, IsShaped, is_link_wired}, Firsts.IsFirst, Tests.{HasLinksTo, KeepsLink}};
+ghost use Rattle.{c104_plan.specs.Ports.other_end, c104_regs.specs.declared.registers.TheConstants.LINKS};
 ghost use Rattle.c104_run.specs.Rounds.{link_numbers};
 
 use crate::lists::{Lists, NodeShape};

@@ -1,7 +1,6 @@
 //! Where own headers begin, whether or not all random headers come to portals.
-ghost use Rattle.std.specs.Prelude.{◌≡◌, OnOk};
-ghost use Rattle.c104_check.specs.Starts.{has_portal, with_portal};
-ghost use Rattle.c104_check.specs.Walks.{is_port};
+ghost use Rattle.std.specs.Prelude.{OnOk, ◌≡◌};
+ghost use Rattle.c104_check.specs.{Starts.{has_portal, with_portal}, Walks.is_port};
 
 use crate::ports::SwitchPort;
 use crate::routes::Routes;
@@ -10,13 +9,10 @@ use c104_token::NoMemory;
 use std::alloc::Global;
 
 impl<'a> Routes<'a> {
-    ghost use Rattle.std.specs.Prelude.{◌≡◌, ◌+◌, ◌<◌, length, IfOk, OnOk, true};
-    ghost use Rattle.std.specs.List.{AllByRecursion};
-    ghost use Rattle.c104_check.specs.Breaks.{AreBreaks};
-    ghost use Rattle.c104_check.specs.Parts.{AreJust, IsReachedFrom};
-    ghost use Rattle.c104_check.specs.Routes.{IsEntryOf, IsRandomAt, IsRandomized, header_count};
-    ghost use Rattle.c104_check.specs.Starts.{AreKept, AreOwnStarts, HaveDiscarding, HavePortals};
-    ghost use Rattle.c104_check.specs.Trails.{IsInput, IsNetwork, routes_in};
+    ghost use Rattle.std.specs.{List.AllByRecursion, Prelude.{IfOk, OnOk, length, true, ◌+◌, ◌<◌, ◌≡◌}};
+    ghost use Rattle.c104_check.specs.{Breaks.AreBreaks, Parts.{AreJust, IsReachedFrom}, Routes.{IsEntryOf, IsRandomAt, IsRandomized}};
+    ghost use Rattle.c104_check.specs.{Routes.header_count, Starts.{AreKept, AreOwnStarts, HaveDiscarding, HavePortals}, Trails.IsInput};
+    ghost use Rattle.c104_check.specs.Trails.{IsNetwork, routes_in};
 
     /// Where own headers begin, by terminal: at its input, or where random headers are put before packets there at
     /// the portals behind it, by random header and the nearest first. A portal that is one of a terminal before isn't

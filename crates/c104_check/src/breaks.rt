@@ -1,6 +1,5 @@
 //! The headers that are tried.
-ghost use Rattle.std.specs.Prelude.{◌≡◌, ◌↔◌, IsTrue};
-ghost use Rattle.std.specs.List.{Contains};
+ghost use Rattle.std.specs.{List.Contains, Prelude.{IsTrue, ◌↔◌, ◌≡◌}};
 ghost use Rattle.c104_check.specs.Breaks.{AddsMarks, BoundsRange, ChangesSelect};
 
 use crate::ports::SwitchPort;
@@ -12,10 +11,9 @@ use c104_token::NoMemory;
 use std::alloc::Global;
 
 impl<'a> Routes<'a> {
-    ghost use Rattle.std.specs.Prelude.{◌≡◌, ℕ, false, IfOk, length, OnOk};
+    ghost use Rattle.std.specs.Prelude.{IfOk, OnOk, false, length, ℕ, ◌≡◌};
     ghost use Rattle.c104_check.specs.Breaks.{AddsMarks, AreBreaks, BoundsLabels, BoundsRandomAt, BreaksAt, ChangesSelectAt, is_marked};
-    ghost use Rattle.c104_check.specs.Routes.{SwitchPort as ThePort, header_count};
-    ghost use Rattle.c104_check.specs.Trails.{IsInput, routes_in};
+    ghost use Rattle.c104_check.specs.{Routes.{SwitchPort as ThePort, header_count}, Trails.{IsInput, routes_in}};
 
     /// Marks of the headers at which anything may change: 0, those for which a wired input's table selects
     /// otherwise than for the one before, and the first and the end of every range and of all random headers.

@@ -1,13 +1,9 @@
 //! Cycles of channel dependencies: inputs each of which may have to wait for the next, and the last for the first.
-ghost use Rattle.std.specs.Prelude.{◌≡◌, ◌<◌, ◌≤◌, ◌+◌, ◌*◌, ℕ, true, false, length, position, IfOk, MatchOption};
-ghost use Rattle.c104_plan.specs.PlanImage.{Fits};
-ghost use Rattle.c104_check.specs.ChannelDependencies.{AreByLabels, AreNeverBoth};
-ghost use Rattle.c104_check.specs.Cycles.{AllLeadToRanked, AreRanksOrCycle, IsDependencyOf, ArePartialRanks, IsRankingPass, LeadsFirst, LeadsToUnranked, LeadInside};
-ghost use Rattle.c104_check.specs.Dependencies.{Dependency as TheDependency};
-ghost use Rattle.c104_check.specs.FirstCycles.{HasOneCycle, IsFirstFound};
-ghost use Rattle.c104_check.specs.Ranks.{rank_at, rank_in};
-ghost use Rattle.c104_check.specs.Routes.{IsAccepted, routes_of};
-ghost use Rattle.c104_check.specs.Walks.{is_port};
+ghost use Rattle.std.specs.Prelude.{IfOk, MatchOption, false, length, position, true, ℕ, ◌*◌, ◌+◌, ◌<◌, ◌≡◌, ◌≤◌};
+ghost use Rattle.c104_check.specs.{ChannelDependencies.{AreByLabels, AreNeverBoth}, Cycles.{AllLeadToRanked, ArePartialRanks}};
+ghost use Rattle.c104_check.specs.Cycles.{AreRanksOrCycle, IsDependencyOf, IsRankingPass, LeadInside, LeadsFirst, LeadsToUnranked};
+ghost use Rattle.c104_check.specs.{Dependencies.Dependency as TheDependency, FirstCycles.{HasOneCycle, IsFirstFound}, Ranks.rank_at};
+ghost use Rattle.{c104_check.specs.{Ranks.rank_in, Routes.{IsAccepted, routes_of}, Walks.is_port}, c104_plan.specs.PlanImage.Fits};
 
 use crate::dependencies::Dependency;
 use crate::ports::SwitchPort;
@@ -106,13 +102,10 @@ pub fn find_cycle(alloc: Global, plan: &Plan, image: &Image) -> Result<RanksOrCy
 }
 
 impl<'a> Routes<'a> {
-    ghost use Rattle.std.specs.Prelude.{◌≡◌, ◌<◌, ◌*◌, ℕ, length, IfOk};
-    ghost use Rattle.c104_check.specs.Checks.{IsFirstLink};
-    ghost use Rattle.c104_check.specs.Cycles.{AreAllRanked, LeadsToUnranked};
-    ghost use Rattle.c104_check.specs.Dependencies.{AreDependencies, Dependency as TheDependency};
-    ghost use Rattle.c104_check.specs.FirstCycles.{IsFirstCycle, LeadsToCycle};
-    ghost use Rattle.c104_check.specs.Ranks.{rank_at, rank_in};
-    ghost use Rattle.c104_check.specs.Trails.{IsInput, IsNetwork, routes_in};
+    ghost use Rattle.std.specs.Prelude.{IfOk, length, ℕ, ◌*◌, ◌<◌, ◌≡◌};
+    ghost use Rattle.c104_check.specs.{Checks.IsFirstLink, Cycles.{AreAllRanked, LeadsToUnranked}, Dependencies.AreDependencies};
+    ghost use Rattle.c104_check.specs.{Dependencies.Dependency as TheDependency, FirstCycles.{IsFirstCycle, LeadsToCycle}, Ranks.rank_at};
+    ghost use Rattle.c104_check.specs.{Ranks.rank_in, Trails.{IsInput, IsNetwork, routes_in}};
 
     /// The cycle to which dependencies between inputs without ranks lead from this one.
     fn follow(

@@ -19,13 +19,11 @@ pub(crate) struct Dependency {
 }
 
 impl<'a> Routes<'a> {
-    ghost use Rattle.std.specs.Prelude.{◌≡◌, ◌+◌, ◌*◌, false, OnOk, length, IfOk, Some};
-    ghost use Rattle.std.specs.List.{AllByRecursion};
-    ghost use Rattle.c104_check.specs.ChannelDependencies.{DependsBy, IsNeverRandomized, MayComeBy};
-    ghost use Rattle.c104_check.specs.Dependencies.{AreByBelow, AreDependencies, AreListedBelow, IsExtended, AreListedAt, AreListedAsOwn, AreListedAsRandom, AreListedFor, IsListedOver};
-    ghost use Rattle.c104_check.specs.Routes.{SwitchPort, header_count, to_port};
-    ghost use Rattle.c104_check.specs.Starts.{AreOwnStarts};
-    ghost use Rattle.c104_check.specs.Trails.{IsInput, IsNetwork, routes_in};
+    ghost use Rattle.std.specs.{List.AllByRecursion, Prelude.{IfOk, OnOk, Some, false, length, ◌*◌, ◌+◌, ◌≡◌}};
+    ghost use Rattle.c104_check.specs.{ChannelDependencies.{DependsBy, IsNeverRandomized, MayComeBy}, Dependencies.AreByBelow};
+    ghost use Rattle.c104_check.specs.Dependencies.{AreDependencies, AreListedAsOwn, AreListedAsRandom, AreListedAt, AreListedBelow};
+    ghost use Rattle.c104_check.specs.{Dependencies.{AreListedFor, IsExtended, IsListedOver}, Routes.{SwitchPort, header_count, to_port}};
+    ghost use Rattle.c104_check.specs.{Starts.AreOwnStarts, Trails.{IsInput, IsNetwork, routes_in}};
 
     /// The dependencies of all inputs. That of an input over a link of its switch stands at its place times 32 and
     /// the link.

@@ -1,9 +1,7 @@
 //! The edges of the channel dependency graph.
-ghost use Rattle.std.specs.Prelude.{◌≡◌, length, IfOk};
-ghost use Rattle.c104_plan.specs.PlanImage.{Fits};
-ghost use Rattle.c104_check.specs.ChannelDependencies.{AreByLabels};
-ghost use Rattle.c104_check.specs.Edges.{AreAllEdges, AreEdgesBefore, edge_of};
-ghost use Rattle.c104_check.specs.Routes.{IsAccepted, routes_of};
+ghost use Rattle.std.specs.Prelude.{IfOk, length, ◌≡◌};
+ghost use Rattle.c104_check.specs.{ChannelDependencies.AreByLabels, Edges.{AreAllEdges, AreEdgesBefore, edge_of}, Routes.IsAccepted};
+ghost use Rattle.{c104_check.specs.Routes.routes_of, c104_plan.specs.PlanImage.Fits};
 
 use crate::dependencies::Dependency;
 use crate::ports::SwitchPort;

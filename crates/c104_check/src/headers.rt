@@ -37,17 +37,13 @@ impl Refusal {
 }
 
 impl<'a> Routes<'a> {
-    ghost use Rattle.std.specs.Prelude.{◌≡◌, ◌↔◌, ◌<◌, ◌≤◌, ◌*◌, [], ◌∷◌, true, false, length, IfOk, IsTrue, MatchOption, None, Some, ⊤};
+    ghost use Rattle.std.specs.Prelude.{IfOk, IsTrue, MatchOption, None, Some, [], false, length, true, ⊤, ◌*◌, ◌<◌, ◌↔◌, ◌∷◌, ◌≡◌, ◌≤◌};
+    ghost use Rattle.c104_check.specs.{Breaks.AreBreaks, Refusals.{AllLand, AreInputs, IsFirstIn, IsFirstOf, IsRefusal, LandSoFar}};
+    ghost use Rattle.c104_check.specs.{Refusals.{LandsBefore, LandsFrom}, Routes.IsRandomIn, Trails.{IsInput, IsNetwork, routes_in}};
+    ghost use Rattle.c104_check.specs.{Walking.{AreGood, TellMet}, Walks.fault_at, declared.walks.Goal.TheVariants.Owner};
     ghost use Rattle.c104_regs.specs.declared.registers.TheConstants.{LINKS as THE_LINKS};
-    ghost use Rattle.c104_check.specs.Refusals.{AllLand, AreInputs, IsFirstIn, IsFirstOf, IsRefusal, LandSoFar, LandsBefore, LandsFrom};
-    ghost use Rattle.c104_check.specs.Routes.{IsRandomIn};
-    ghost use Rattle.c104_check.specs.Breaks.{AreBreaks};
     ghost use Rattle.c104_check.specs.Routes as routes;
-    ghost use Rattle.c104_check.specs.Trails.{IsInput, IsNetwork, routes_in};
-    ghost use Rattle.c104_check.specs.Walks.{fault_at};
     ghost use Rattle.c104_check.specs.declared.faults.WalkFault.TheVariants as walk;
-    ghost use Rattle.c104_check.specs.Walking.{AreGood, TellMet};
-    ghost use Rattle.c104_check.specs.declared.walks.Goal.TheVariants.{Owner};
 
     /// The first header that is refused, by start and then by header.
     ///

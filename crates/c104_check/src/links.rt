@@ -1,9 +1,7 @@
 //! The tests of links.
 ghost use Rattle.std.specs.Prelude.{IfOk, MatchOption};
+ghost use Rattle.c104_check.specs.{ChannelDependencies.IsNeverRandomized, Checks.IsFirstLink, Routes.{IsRandomized, routes_of}};
 ghost use Rattle.c104_plan.specs.PlanImage.{Fits};
-ghost use Rattle.c104_check.specs.ChannelDependencies.{IsNeverRandomized};
-ghost use Rattle.c104_check.specs.Checks.{IsFirstLink};
-ghost use Rattle.c104_check.specs.Routes.{IsRandomized, routes_of};
 
 use crate::ports::SwitchPort;
 use crate::routes::Routes;
@@ -28,11 +26,9 @@ pub fn first_randomized(
 }
 
 impl<'a> Routes<'a> {
-    ghost use Rattle.std.specs.Prelude.{◌≡◌, ◌↔◌, false, length, IsTrue, MatchOption};
-    ghost use Rattle.c104_check.specs.ChannelDependencies.{IsNeverRandomized};
-    ghost use Rattle.c104_check.specs.Checks.{DeletesInside, IsFirstLink, IsMixed, IsNoLink, IsRandomInside};
-    ghost use Rattle.c104_check.specs.Routes.{IsRandomized};
-    ghost use Rattle.c104_check.specs.Trails.{IsInput, routes_in};
+    ghost use Rattle.std.specs.Prelude.{IsTrue, MatchOption, false, length, ◌↔◌, ◌≡◌};
+    ghost use Rattle.c104_check.specs.{ChannelDependencies.IsNeverRandomized, Checks.{DeletesInside, IsFirstLink, IsMixed, IsNoLink}};
+    ghost use Rattle.c104_check.specs.{Checks.IsRandomInside, Routes.IsRandomized, Trails.{IsInput, routes_in}};
 
     /// The first link that is wired and whose headers aren't as long as those of the first that is.
     pub(crate) fn first_mixed(&self) -> Option<SwitchPort>

@@ -63,9 +63,8 @@ pub fn find_mend(
 }
 
 impl<'a> Routes<'a> {
-    ghost use Rattle.std.specs.Prelude.{◌<◌, length};
-    ghost use Rattle.c104_regs.specs.declared.registers.TheConstants.{LINKS as THE_LINKS};
-    ghost use Rattle.c104_check.specs.Trails.{IsInput, routes_in};
+    ghost use Rattle.std.specs.Prelude.{length, ◌<◌};
+    ghost use Rattle.{c104_check.specs.Trails.{IsInput, routes_in}, c104_regs.specs.declared.registers.TheConstants.LINKS as THE_LINKS};
 
     /// What would mend the walk of a header with an owner.
     fn mend_owned(

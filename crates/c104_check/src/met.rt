@@ -1,8 +1,6 @@
 //! Inputs that a header meets.
-ghost use Rattle.std.specs.Prelude.{◌≡◌, ◌<◌, [], length, slice_index_or, IfOk, OnOk};
-ghost use Rattle.c104_check.specs.Reach.{with_input};
-ghost use Rattle.c104_check.specs.Met.{with_mark};
-ghost use Rattle.c104_check.specs.Walks.{is_met};
+ghost use Rattle.std.specs.Prelude.{IfOk, OnOk, [], length, slice_index_or, ◌<◌, ◌≡◌};
+ghost use Rattle.c104_check.specs.{Met.with_mark, Reach.with_input, Walks.is_met};
 
 use crate::ports::SwitchPort;
 use c104_regs::LINKS;
@@ -19,8 +17,7 @@ pub(crate) struct MetInputs {
 
 impl Model for MetInputs {
     ghost use Rattle.std.specs.Prelude.{List};
-    ghost use Rattle.c104_check.specs.Met.{AreMarks};
-    ghost use Rattle.c104_check.specs.Routes.{SwitchPort as ThePort};
+    ghost use Rattle.c104_check.specs.{Met.AreMarks, Routes.SwitchPort as ThePort};
 
     ghost Value = { List ThePort };
 

@@ -4,19 +4,16 @@
 //! that nobody owns may do what it likes from a portal, and must be sunk at an entry without random headers. Portals come
 //! after all random headers of their entry, each once, in the order in which they are first met; one that an entry before
 //! has met is walked from there alone.
-ghost use Rattle.std.specs.Prelude.{◌≡◌, ◌<◌};
-ghost use Rattle.c104_check.specs.Portals.{is_random};
-ghost use Rattle.c104_check.specs.Routes.{random_count};
+ghost use Rattle.std.specs.Prelude.{◌<◌, ◌≡◌};
+ghost use Rattle.c104_check.specs.{Portals.is_random, Routes.random_count};
 
 use crate::ports::SwitchPort;
 use crate::routes::Routes;
 use c104_regs::PackedSettings;
 
 impl<'a> Routes<'a> {
-    ghost use Rattle.std.specs.Prelude.{◌≡◌, ◌↔◌, ◌<◌, length, IsTrue};
-    ghost use Rattle.c104_check.specs.Portals.{is_random_at};
-    ghost use Rattle.c104_check.specs.Routes.{IsRandomIn, header_count};
-    ghost use Rattle.c104_check.specs.Trails.{IsInput, routes_in};
+    ghost use Rattle.std.specs.Prelude.{IsTrue, length, ◌<◌, ◌↔◌, ◌≡◌};
+    ghost use Rattle.c104_check.specs.{Portals.is_random_at, Routes.{IsRandomIn, header_count}, Trails.{IsInput, routes_in}};
 
     /// Whether a header is a random one of the network: at some terminal's input.
     pub(crate) fn is_random(&self, header: u32) -> bool

@@ -11,15 +11,11 @@ use c104_token::NoMemory;
 use std::alloc::Global;
 
 impl<'a> Routes<'a> {
-    ghost use Rattle.std.specs.Prelude.{◌≡◌, ◌≢◌, ◌↔◌, ℕ, [], length, OnOk, IfOk, IsTrue, MatchOption, Some};
-    ghost use Rattle.std.specs.List.{AllByRecursion};
-    ghost use Rattle.c104_interval.specs.declared.intervals.Select.TheVariants.{Link};
-    ghost use Rattle.c104_check.specs.Parts.{AreJust, Has, IsBeginning, IsRandomBeginning, IsReachedAsOwn, IsReachedAsRandom, IsReachedFrom};
-    ghost use Rattle.c104_check.specs.Reach.{AreDistinctInputs, HaveFollowers, IsLongerBy, IsSelected, MayTake, with_peer};
-    ghost use Rattle.c104_check.specs.Routes.{select, to_port};
-    ghost use Rattle.c104_check.specs.Shown.{Follows};
-    ghost use Rattle.c104_check.specs.Starts.{AreOwnStarts};
-    ghost use Rattle.c104_check.specs.Trails.{IsInput, IsNetwork, routes_in};
+    ghost use Rattle.std.specs.{List.AllByRecursion, Prelude.{IfOk, IsTrue, MatchOption, OnOk, Some, [], length, ℕ, ◌↔◌, ◌≡◌, ◌≢◌}};
+    ghost use Rattle.c104_check.specs.Parts.{AreJust, Has, IsBeginning, IsRandomBeginning, IsReachedAsOwn, IsReachedAsRandom};
+    ghost use Rattle.c104_check.specs.{Parts.IsReachedFrom, Reach.{AreDistinctInputs, HaveFollowers, IsLongerBy, IsSelected, MayTake}};
+    ghost use Rattle.c104_check.specs.{Reach.with_peer, Routes.{select, to_port}, Shown.Follows, Starts.AreOwnStarts, Trails.IsInput};
+    ghost use Rattle.{c104_check.specs.Trails.{IsNetwork, routes_in}, c104_interval.specs.declared.intervals.Select.TheVariants.Link};
 
     /// The inputs to which a header may come as the own one of packets, where own headers begin at these starts.
     pub(crate) fn reached_as_own(

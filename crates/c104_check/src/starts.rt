@@ -25,17 +25,14 @@ pub(crate) struct Start {
 }
 
 impl<'a> Routes<'a> {
-    ghost use Rattle.std.specs.Prelude.{◌≡◌, ◌↔◌, ℕ, ◌+◌, ◌<◌, ◌*◌, [], length, IfOk, IsTrue, MatchOption, None, OnOk, Some};
-    ghost use Rattle.c104_check.specs.Breaks.{AreBreaks};
-    ghost use Rattle.c104_check.specs.Checks.{IsFirstRefused};
-    ghost use Rattle.c104_check.specs.Portals.{met_below, met_from, met_here, portals_met};
+    ghost use Rattle.std.specs.Prelude.{IfOk, IsTrue, MatchOption, None, OnOk, Some, [], length, ℕ, ◌*◌, ◌+◌, ◌<◌, ◌↔◌, ◌≡◌};
+    ghost use Rattle.c104_check.specs.{Breaks.AreBreaks, Checks.IsFirstRefused, Portals.{met_below, met_from, met_here, portals_met}};
     ghost use Rattle.c104_check.specs.Routes.{Homes, IsEntryOf, IsRandomized, TerminalLands, header_count, most_hops, select, to_port};
+    ghost use Rattle.c104_check.specs.Starts.{AllHome, AreKnown, AreStarts, AreWalked, CoverPortals, CoverTerminals, HaveJoined, HomeBelow};
+    ghost use Rattle.c104_check.specs.{Starts.{IsFirstRandom, IsFirstRandomAt, IsRefusedRandom, LeadsToInput, add_all}, Trails.IsInput};
+    ghost use Rattle.c104_check.specs.{Trails.{IsNetwork, routes_in}, Walking.{AreGood, TellMet}, declared.walks.Goal.TheVariants.Portal};
     ghost use Rattle.c104_interval.specs.declared.intervals.Select.TheVariants.{Discard};
-    ghost use Rattle.c104_check.specs.Starts.{AllHome, AreKnown, AreStarts, HomeBelow, AreWalked, CoverPortals, CoverTerminals, IsFirstRandom, HaveJoined, IsFirstRandomAt, IsRefusedRandom, LeadsToInput, add_all};
     ghost use Rattle.c104_regs.specs.declared.registers.TheConstants.{LINKS as THE_LINKS};
-    ghost use Rattle.c104_check.specs.Trails.{IsInput, IsNetwork, routes_in};
-    ghost use Rattle.c104_check.specs.Walking.{AreGood, TellMet};
-    ghost use Rattle.c104_check.specs.declared.walks.Goal.TheVariants.{Portal};
 
     /// The first header that is refused: by terminal, and of one where random headers are put before packets
     /// first such a one, and then by portal, in the order in which they are met; and then by header.

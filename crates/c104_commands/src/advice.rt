@@ -3,8 +3,7 @@
 //!
 //! An advice is told line by line, each a message of its own, so that every line of standard error begins with the
 //! program's name and the file. A line that is to be added or replaced comes after one word and a colon.
-ghost use Rattle.c104_check.specs.Routes.{IsAccepted, routes_of};
-ghost use Rattle.c104_plan.specs.PlanImage.{Fits};
+ghost use Rattle.{c104_check.specs.Routes.{IsAccepted, routes_of}, c104_plan.specs.PlanImage.Fits};
 
 use crate::cycle_texts::cycle_text;
 use crate::fixes::{Fix, TriedFix, find_fix};

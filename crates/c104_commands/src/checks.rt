@@ -1,15 +1,10 @@
 //! The check of a description's labels.
-ghost use Rattle.std.specs.Prelude.{◌≡◌, ◌≢◌, false, true, Ok, Result};
-ghost use Rattle.c104_check.specs.Checks.{IsCause};
-ghost use Rattle.c104_check.specs.Routes.{IsAccepted, routes_of};
+ghost use Rattle.std.specs.Prelude.{Ok, Result, false, true, ◌≡◌, ◌≢◌};
+ghost use Rattle.{c104_check.specs.{Checks.IsCause, Routes.{IsAccepted, routes_of}}, c104_commands.specs.Checks.LabelRefusalEnds};
+ghost use Rattle.{c104_commands.specs.Checks.PrintsCheck, c104_describe.specs.declared.faults.PlanFault.PlanFault as ThePlanFault};
+ghost use Rattle.{c104_label.specs.Images.is_labelled_shape, c104_plan.specs.{PlanImage.Fits, Plans.Plan as ThePlan}};
+ghost use Rattle.c104_setup.specs.{Endings.{CommandEnds, CommandRuns}, Setups.ComesTo};
 ghost use Rattle.c104_check.specs.declared.faults.CheckFault.TheVariants as check_fault;
-ghost use Rattle.c104_plan.specs.PlanImage.{Fits};
-ghost use Rattle.c104_plan.specs.Plans.{Plan as ThePlan};
-ghost use Rattle.c104_describe.specs.declared.faults.PlanFault.{PlanFault as ThePlanFault};
-ghost use Rattle.c104_label.specs.Images.{is_labelled_shape};
-ghost use Rattle.c104_commands.specs.Checks.{LabelRefusalEnds, PrintsCheck};
-ghost use Rattle.c104_setup.specs.Endings.{CommandEnds, CommandRuns};
-ghost use Rattle.c104_setup.specs.Setups.{ComesTo};
 
 use crate::advice::{check_advice, cycle_advice};
 use crate::texts::check_fault_text;

@@ -1,6 +1,5 @@
 //! The lines that tell of channel dependencies.
-ghost use Rattle.std.specs.Prelude.{◌≡◌, IfOk};
-ghost use Rattle.std.specs.String.{string_bytes};
+ghost use Rattle.std.specs.{Prelude.{IfOk, ◌≡◌}, String.string_bytes};
 ghost use Rattle.c104_commands.specs.CycleTexts.{acyclic_text, cycle_text, dependency_text, edge_text, edges_text};
 
 use crate::texts::port_text;

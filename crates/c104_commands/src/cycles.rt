@@ -1,13 +1,8 @@
 //! The search for a cycle of channel dependencies in a description's network.
-ghost use Rattle.std.specs.Prelude.{◌≡◌, true, IfOk, Ok, Result};
-ghost use Rattle.std.specs.String.{string_bytes};
-ghost use Rattle.c104_check.specs.Routes.{IsAccepted, routes_of};
-ghost use Rattle.c104_plan.specs.PlanImage.{Fits};
-ghost use Rattle.c104_plan.specs.Plans.{Plan as ThePlan};
-ghost use Rattle.c104_describe.specs.declared.faults.PlanFault.{PlanFault as ThePlanFault};
-ghost use Rattle.c104_label.specs.Images.{is_labelled_shape};
-ghost use Rattle.c104_commands.specs.Cycles.{PrintsCycles, TellsCycle, TellsCycles};
-ghost use Rattle.c104_setup.specs.Endings.{CommandEnds, CommandRuns};
+ghost use Rattle.std.specs.{Prelude.{IfOk, Ok, Result, true, ◌≡◌}, String.string_bytes};
+ghost use Rattle.{c104_check.specs.Routes.{IsAccepted, routes_of}, c104_commands.specs.Cycles.{PrintsCycles, TellsCycle, TellsCycles}};
+ghost use Rattle.{c104_describe.specs.declared.faults.PlanFault.PlanFault as ThePlanFault, c104_label.specs.Images.is_labelled_shape};
+ghost use Rattle.{c104_plan.specs.{PlanImage.Fits, Plans.Plan as ThePlan}, c104_setup.specs.Endings.{CommandEnds, CommandRuns}};
 ghost use Rattle.c104_setup.specs.Setups.{ComesTo};
 
 use crate::checks::refuse_labels;

@@ -1,10 +1,7 @@
 //! The drawing of a description's network.
 ghost use Rattle.std.specs.Prelude.{Ok, Result};
-ghost use Rattle.c104_plan.specs.PlanImage.{Fits};
-ghost use Rattle.c104_plan.specs.Plans.{Plan as ThePlan};
-ghost use Rattle.c104_describe.specs.declared.faults.PlanFault.{PlanFault as ThePlanFault};
-ghost use Rattle.c104_setup.specs.Endings.{CommandEnds, CommandRuns};
-ghost use Rattle.c104_commands.specs.Pictures.{PrintsPicture};
+ghost use Rattle.{c104_commands.specs.Pictures.PrintsPicture, c104_describe.specs.declared.faults.PlanFault.PlanFault as ThePlanFault};
+ghost use Rattle.{c104_plan.specs.{PlanImage.Fits, Plans.Plan as ThePlan}, c104_setup.specs.Endings.{CommandEnds, CommandRuns}};
 ghost use Rattle.c104_setup.specs.Setups.{ComesTo};
 
 use crate::pictures::{Marks, picture_text};

@@ -5,9 +5,8 @@
 //!
 //! An input that discards one header is a portal for all others: so a row that discards a random header is told only where
 //! the labels are accepted with it, and the random headers of the terminal that follow are discarded with it.
-ghost use Rattle.std.specs.Prelude.{◌<◌, IfOk, IfSome};
-ghost use Rattle.c104_commands.specs.Fixes.{IsMended, LeavesAccepted};
-ghost use Rattle.c104_plan.specs.PlanImage.{Fits};
+ghost use Rattle.std.specs.Prelude.{IfOk, IfSome, ◌<◌};
+ghost use Rattle.{c104_commands.specs.Fixes.{IsMended, LeavesAccepted}, c104_plan.specs.PlanImage.Fits};
 
 use crate::range_changes::free_first;
 use crate::row_changes::{Change, RowFix, row_fix};

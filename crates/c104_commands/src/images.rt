@@ -1,8 +1,7 @@
 //! What `label` prints of an image.
-ghost use Rattle.std.specs.Prelude.{◌≡◌, ◌++◌, length, slice_get, IfOk, OnOk};
-ghost use Rattle.std.specs.String.{string_bytes};
-ghost use Rattle.c104_plan.specs.PortTexts.{switch_name, terminal_name};
+ghost use Rattle.std.specs.{Prelude.{IfOk, OnOk, length, slice_get, ◌++◌, ◌≡◌}, String.string_bytes};
 ghost use Rattle.c104_commands.specs.ImageTexts.{image_text, range_line, range_lines, switch_lines, value_line, value_lines};
+ghost use Rattle.c104_plan.specs.PortTexts.{switch_name, terminal_name};
 
 use c104_plan::{Image, Plan};
 use c104_token::NoMemory;

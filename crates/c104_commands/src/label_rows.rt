@@ -1,13 +1,8 @@
 //! The labelling of a description by `row` lines.
-ghost use Rattle.std.specs.Prelude.{◌≡◌, ◌↔◌, Ok, Result, is_some, IfOk, IfSome, IsTrue};
-ghost use Rattle.std.specs.String.{string_bytes};
-ghost use Rattle.c104_plan.specs.PlanImage.{Fits, hand_image};
-ghost use Rattle.c104_describe.specs.PlanPrint.{plan_text};
-ghost use Rattle.c104_plan.specs.Plans.{Plan as ThePlan};
-ghost use Rattle.c104_plan.specs.RowPlans.{row_plan};
-ghost use Rattle.c104_describe.specs.declared.faults.PlanFault.{PlanFault as ThePlanFault};
-ghost use Rattle.c104_setup.specs.Endings.{CommandEnds, CommandRuns};
-ghost use Rattle.c104_commands.specs.LabelRows.{IsReadBack, PrintsRows, unsayable_text};
+ghost use Rattle.std.specs.{Prelude.{IfOk, IfSome, IsTrue, Ok, Result, is_some, ◌↔◌, ◌≡◌}, String.string_bytes};
+ghost use Rattle.{c104_commands.specs.LabelRows.{IsReadBack, PrintsRows, unsayable_text}, c104_describe.specs.PlanPrint.plan_text};
+ghost use Rattle.{c104_describe.specs.declared.faults.PlanFault.PlanFault as ThePlanFault, c104_plan.specs.PlanImage.{Fits, hand_image}};
+ghost use Rattle.{c104_plan.specs.{Plans.Plan as ThePlan, RowPlans.row_plan}, c104_setup.specs.Endings.{CommandEnds, CommandRuns}};
 ghost use Rattle.c104_setup.specs.Setups.{ComesTo};
 
 use c104_describe::print_plan;

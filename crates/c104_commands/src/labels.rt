@@ -1,10 +1,7 @@
 //! The labelling of a description.
 ghost use Rattle.std.specs.Prelude.{Ok, Result};
-ghost use Rattle.c104_plan.specs.Plans.{Plan as ThePlan};
-ghost use Rattle.c104_describe.specs.declared.faults.PlanFault.{PlanFault as ThePlanFault};
-ghost use Rattle.c104_setup.specs.Endings.{CommandEnds, CommandRuns};
-ghost use Rattle.c104_commands.specs.Labels.{PrintsLabels};
-ghost use Rattle.c104_setup.specs.Setups.{ComesTo};
+ghost use Rattle.{c104_commands.specs.Labels.PrintsLabels, c104_describe.specs.declared.faults.PlanFault.PlanFault as ThePlanFault};
+ghost use Rattle.{c104_plan.specs.Plans.Plan as ThePlan, c104_setup.specs.{Endings.{CommandEnds, CommandRuns}, Setups.ComesTo}};
 
 use crate::images::image_text;
 use c104_mistakes::Messages;

@@ -1,12 +1,9 @@
 //! Pictures of a description's network, by what is marked in them.
-ghost use Rattle.std.specs.Prelude.{◌≡◌, ◌≢◌, IfOk};
-ghost use Rattle.c104_check.specs.Checks.{IsCause};
-ghost use Rattle.c104_check.specs.Routes.{IsAccepted, routes_of};
+ghost use Rattle.std.specs.Prelude.{IfOk, ◌≡◌, ◌≢◌};
+ghost use Rattle.{c104_check.specs.{Checks.IsCause, Routes.{IsAccepted, routes_of}}, c104_commands.specs.Pictures.IsAcceptedPicture};
+ghost use Rattle.c104_commands.specs.Pictures.{IsHeaderPicture, IsPicture, IsPlainPicture, IsRefusedPicture, cycle_inputs};
+ghost use Rattle.{c104_draw.specs.{CycleDrawings.IsCycleDrawing, Edges.Drawing as Drawn}, c104_plan.specs.PlanImage.Fits};
 ghost use Rattle.c104_check.specs.declared.faults.CheckFault.TheVariants as check_fault;
-ghost use Rattle.c104_plan.specs.PlanImage.{Fits};
-ghost use Rattle.c104_draw.specs.CycleDrawings.{IsCycleDrawing};
-ghost use Rattle.c104_draw.specs.Edges.{Drawing as Drawn};
-ghost use Rattle.c104_commands.specs.Pictures.{IsAcceptedPicture, IsHeaderPicture, IsPicture, IsPlainPicture, IsRefusedPicture, cycle_inputs};
 
 use crate::cycle_texts::cycle_text;
 use crate::texts::check_fault_text;

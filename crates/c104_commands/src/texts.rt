@@ -1,8 +1,6 @@
 //! What a check prints.
-ghost use Rattle.std.specs.Prelude.{◌≡◌, IfOk};
-ghost use Rattle.std.specs.String.{string_bytes};
-ghost use Rattle.c104_check.specs.Routes.{to_port};
-ghost use Rattle.c104_commands.specs.CheckTexts.{check_fault_place, check_fault_text, shown_text};
+ghost use Rattle.std.specs.{Prelude.{IfOk, ◌≡◌}, String.string_bytes};
+ghost use Rattle.{c104_check.specs.Routes.to_port, c104_commands.specs.CheckTexts.{check_fault_place, check_fault_text, shown_text}};
 ghost use Rattle.c104_plan.specs.PortTexts.{port_text};
 
 use c104_check::{CheckFault, Shown, SwitchPort};

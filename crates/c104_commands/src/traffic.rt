@@ -1,16 +1,10 @@
 //! The command that writes a script of traffic for a description's network.
-ghost use Rattle.std.specs.Prelude.{◌≡◌, true, false, Ok, Result};
-ghost use Rattle.c104_plan.specs.Plans.{Plan as ThePlan};
-ghost use Rattle.c104_plan.specs.PlanImage.{Fits};
-ghost use Rattle.c104_describe.specs.declared.faults.PlanFault.{PlanFault as ThePlanFault};
-ghost use Rattle.c104_traffic.specs.declared.faults.TrafficFault.TheVariants as the_fault;
-ghost use Rattle.c104_traffic.specs.Directions.{AreDirected};
-ghost use Rattle.c104_traffic.specs.Packets.{IsTraffic};
-ghost use Rattle.c104_traffic.specs.Schedules.{IsSchedule};
-ghost use Rattle.c104_traffic.specs.Texts.{traffic_text};
-ghost use Rattle.c104_setup.specs.Endings.{CommandEnds, CommandRuns};
-ghost use Rattle.c104_setup.specs.Setups.{ComesTo};
+ghost use Rattle.std.specs.Prelude.{Ok, Result, false, true, ◌≡◌};
 ghost use Rattle.c104_commands.specs.Traffic.{FaultEnds, PrintsTraffic, ScriptEnds};
+ghost use Rattle.{c104_describe.specs.declared.faults.PlanFault.PlanFault as ThePlanFault, c104_plan.specs.PlanImage.Fits};
+ghost use Rattle.{c104_plan.specs.Plans.Plan as ThePlan, c104_setup.specs.{Endings.{CommandEnds, CommandRuns}, Setups.ComesTo}};
+ghost use Rattle.c104_traffic.specs.{Directions.AreDirected, Packets.IsTraffic, Schedules.IsSchedule, Texts.traffic_text};
+ghost use Rattle.c104_traffic.specs.declared.faults.TrafficFault.TheVariants as the_fault;
 
 use c104_mistakes::{About, Messages};
 use c104_plan::Plan;

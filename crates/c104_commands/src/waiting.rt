@@ -4,8 +4,7 @@
 //! How the row is found has no clause. What it has to be is a clause: with it the labels are accepted too, and there is no
 //! cycle of channel dependencies.
 ghost use Rattle.std.specs.Prelude.{IfOk, IfSome};
-ghost use Rattle.c104_check.specs.Routes.{IsAccepted, routes_of};
-ghost use Rattle.c104_commands.specs.Fixes.{IsWaiting, LeavesNoCycle};
+ghost use Rattle.{c104_check.specs.Routes.{IsAccepted, routes_of}, c104_commands.specs.Fixes.{IsWaiting, LeavesNoCycle}};
 ghost use Rattle.c104_plan.specs.PlanImage.{Fits};
 
 use crate::fixes::{TriedFix, try_change};

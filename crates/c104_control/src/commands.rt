@@ -1,7 +1,6 @@
 //! Commands, and their bytes.
-ghost use Rattle.std.specs.Prelude.{◌≡◌, ◌↔◌, Ok, Err};
-ghost use Rattle.c104_control.specs.Table.{IsCommand, IsUnknownCode, command_bytes};
-ghost use Rattle.c104_control.specs.Reading.{read_command};
+ghost use Rattle.std.specs.Prelude.{Err, Ok, ◌↔◌, ◌≡◌};
+ghost use Rattle.c104_control.specs.{Reading.read_command, Table.{IsCommand, IsUnknownCode, command_bytes}};
 ghost use Rattle.c104_control.specs.declared.faults.CommandFault.TheVariants as fault;
 
 use crate::bytes::ControlBytes;

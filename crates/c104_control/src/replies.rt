@@ -1,8 +1,6 @@
 //! Answers to commands, and their bytes.
-ghost use Rattle.std.specs.Prelude.{◌≡◌, ◌↔◌, ◌∷◌, Some};
-ghost use Rattle.std.specs.Int.{w32, to_le_bytes};
-ghost use Rattle.c104_control.specs.Table.{IsAnswer, IsReply, reply_bytes};
-ghost use Rattle.c104_control.specs.Reading.{read_reply};
+ghost use Rattle.std.specs.{Int.{to_le_bytes, w32}, Prelude.{Some, ◌↔◌, ◌∷◌, ◌≡◌}};
+ghost use Rattle.c104_control.specs.{Reading.read_reply, Table.{IsAnswer, IsReply, reply_bytes}};
 
 use crate::bytes::ControlBytes;
 

@@ -1,12 +1,9 @@
 //! Descriptions: whole texts.
-ghost use Rattle.std.specs.Prelude.{◌≡◌, ◌<◌, length, map, Err, Ok, IfErr, IfOk};
-ghost use Rattle.c104_describe.specs.declared.faults.PlanFaultKind.TheVariants.{TooLong};
-ghost use Rattle.c104_describe.specs.PlanFaults.{fault_at};
-ghost use Rattle.c104_describe.specs.PlanText.{read_description, empty_draft, read_plan_lines};
-ghost use Rattle.c104_plan.specs.TextCut.{most_bytes, lines};
-ghost use Rattle.c104_describe.specs.PlanText.{AreFaultless, GivesDraftOrNoMemory, GivesPlanOrNoMemory, IsDue, ReadsLines};
-ghost use Rattle.c104_describe.specs.PlanDrafts.{draft_of};
-ghost use Rattle.c104_plan.specs.Plans.{IsPlan};
+ghost use Rattle.std.specs.Prelude.{Err, IfErr, IfOk, Ok, length, map, ◌<◌, ◌≡◌};
+ghost use Rattle.c104_describe.specs.{PlanDrafts.draft_of, PlanFaults.fault_at, PlanText.{AreFaultless, GivesDraftOrNoMemory}};
+ghost use Rattle.c104_describe.specs.PlanText.{GivesPlanOrNoMemory, IsDue, ReadsLines, empty_draft, read_description, read_plan_lines};
+ghost use Rattle.{c104_describe.specs.declared.faults.PlanFaultKind.TheVariants.TooLong, c104_plan.specs.{Plans.IsPlan, TextCut.lines}};
+ghost use Rattle.c104_plan.specs.TextCut.{most_bytes};
 
 use crate::drafts::Draft;
 use crate::faults::{PlanFault, PlanFaultKind};

@@ -2,11 +2,9 @@
 //!
 //! Beside `label` ranges run on while lines are read, as if they were to be kept: so labels past 65535 are TooMany
 //! whichever of the lines comes first.
-ghost use Rattle.std.specs.Prelude.{◌≡◌, IfOk, map};
-ghost use Rattle.c104_describe.specs.PlanDrafts.{finished, is_mixed, says_from, draft_of};
-ghost use Rattle.c104_plan.specs.PlanParts.{plan_of};
-ghost use Rattle.c104_describe.specs.PlanText.{empty_draft};
-ghost use Rattle.c104_plan.specs.Plans.{IsPlan};
+ghost use Rattle.std.specs.Prelude.{IfOk, map, ◌≡◌};
+ghost use Rattle.c104_describe.specs.{PlanDrafts.{draft_of, finished, is_mixed, says_from}, PlanText.empty_draft};
+ghost use Rattle.c104_plan.specs.{PlanParts.plan_of, Plans.IsPlan};
 
 use crate::words::{Keyword, read_range};
 use c104_plan::{Parts, Plan, Shape};

@@ -1,6 +1,5 @@
 //! The line of a refused description.
-ghost use Rattle.std.specs.Prelude.{◌≡◌, IfOk};
-ghost use Rattle.std.specs.String.{string_bytes};
+ghost use Rattle.std.specs.{Prelude.{IfOk, ◌≡◌}, String.string_bytes};
 ghost use Rattle.c104_describe.specs.PlanFaults.{description_text};
 
 use crate::faults::PlanFault;

@@ -1,14 +1,10 @@
 //! Descriptions: whole networks, meshes and cubes.
-ghost use Rattle.std.specs.Prelude.{◌≡◌, ℕ, ◌*◌, ◌^◌, ◌<◌, ◌≤◌, ◌++◌, ◌∷◌, [], map, IfOk, OnOk};
-ghost use Rattle.std.specs.List.{range_with_len};
-ghost use Rattle.c104_plan.specs.Layouts.{cube, filled_name, filled_terminal, filled_wires, mesh, mesh_beyond, wire_at, wire_to};
-ghost use Rattle.c104_plan.specs.Layouts.{wires_from};
-ghost use Rattle.c104_plan.specs.declared.ports.Port.TheVariants as port;
-ghost use Rattle.c104_describe.specs.declared.words.Keyword.TheVariants as keyword;
-ghost use Rattle.c104_describe.specs.LineFaults.{keyword_line};
-ghost use Rattle.c104_describe.specs.PlanDrafts.{draft_of};
-ghost use Rattle.c104_describe.specs.PlanText.{ReadsLine};
+ghost use Rattle.std.specs.{List.range_with_len, Prelude.{IfOk, OnOk, [], map, ℕ, ◌*◌, ◌++◌, ◌<◌, ◌^◌, ◌∷◌, ◌≡◌, ◌≤◌}};
+ghost use Rattle.{c104_describe.specs.{LineFaults.keyword_line, PlanDrafts.draft_of, PlanText.ReadsLine}, c104_plan.specs.Layouts.cube};
+ghost use Rattle.c104_plan.specs.Layouts.{filled_name, filled_terminal, filled_wires, mesh, mesh_beyond, wire_at, wire_to, wires_from};
 ghost use Rattle.c104_plan.specs.Plans.{most_switches, most_terminals};
+ghost use Rattle.c104_describe.specs.declared.words.Keyword.TheVariants as keyword;
+ghost use Rattle.c104_plan.specs.declared.ports.Port.TheVariants as port;
 
 use crate::drafts::Draft;
 use crate::faults::PlanFaultKind;

@@ -1,10 +1,8 @@
 //! Descriptions, line by line.
-ghost use Rattle.std.specs.Prelude.{◌≡◌, [], ◌∷◌, map, option_map, true, Ok, Some};
-ghost use Rattle.c104_describe.specs.PlanLines.{first_word_parts, is_labeller, labelled_shape, terminal_parts};
-ghost use Rattle.c104_describe.specs.LineFaults.{keyword_line, read_parts, read_plan_line, read_plan_words};
-ghost use Rattle.c104_describe.specs.PlanDrafts.{draft_of};
+ghost use Rattle.std.specs.Prelude.{Ok, Some, [], map, option_map, true, ◌∷◌, ◌≡◌};
+ghost use Rattle.c104_describe.specs.{LineFaults.{keyword_line, read_parts, read_plan_line, read_plan_words}, PlanDrafts.draft_of};
+ghost use Rattle.c104_describe.specs.{PlanLines.{first_word_parts, is_labeller, labelled_shape, terminal_parts}, PlanText.ReadsLine};
 ghost use Rattle.c104_plan.specs.Plans.{IsPlan};
-ghost use Rattle.c104_describe.specs.PlanText.{ReadsLine};
 ghost use Rattle.c104_describe.specs.declared.words.Keyword.TheVariants as variant;
 
 use crate::drafts::Draft;

@@ -2,12 +2,9 @@
 //!
 //! A row may be of a link with no wire: a header can't come in there, so it says nothing. Such a link may continue a
 //! group too. A packet that claims it stays there, as one does that selects it by a row.
-ghost use Rattle.std.specs.Prelude.{◌≡◌, [], ◌∷◌, ◌++◌, OnOk};
+ghost use Rattle.std.specs.Prelude.{OnOk, [], ◌++◌, ◌∷◌, ◌≡◌};
+ghost use Rattle.{c104_describe.specs.{LineFaults.keyword_line, PlanDrafts.draft_of, PlanText.ReadsLine}, c104_plan.specs.Plans.IsPlan};
 ghost use Rattle.c104_describe.specs.declared.words.Keyword.TheVariants as keyword;
-ghost use Rattle.c104_describe.specs.LineFaults.{keyword_line};
-ghost use Rattle.c104_describe.specs.PlanDrafts.{draft_of};
-ghost use Rattle.c104_plan.specs.Plans.{IsPlan};
-ghost use Rattle.c104_describe.specs.PlanText.{ReadsLine};
 
 use crate::drafts::Draft;
 use crate::faults::PlanFaultKind;

@@ -1,13 +1,9 @@
 //! What a plan is printed as.
-ghost use Rattle.std.specs.Prelude.{◌≡◌, ◌≤◌, ◌++◌, ◌∷◌, [], length, map, IfOk, OnOk, Ok};
-ghost use Rattle.std.specs.String.{string_bytes};
-ghost use Rattle.c104_plan.specs.declared.plans.Shape.TheVariants.{Hand};
-ghost use Rattle.c104_describe.specs.PlanPrint.{buffer_words, counted_words, header_words, label_words, labelled_lines, labeller, network_lines, plan_text, sentence};
-ghost use Rattle.c104_describe.specs.PlanPrint.{switch_words, text_of};
-ghost use Rattle.c104_describe.specs.PlanPrint.{terminal_words, wire_words, continue_words, delete_words, base_words, random_words};
-ghost use Rattle.c104_describe.specs.PlanPrint.{row_words};
-ghost use Rattle.c104_describe.specs.PlanText.{read_description};
-ghost use Rattle.c104_plan.specs.TextCut.{most_bytes};
+ghost use Rattle.std.specs.{Prelude.{IfOk, Ok, OnOk, [], length, map, ◌++◌, ◌∷◌, ◌≡◌, ◌≤◌}, String.string_bytes};
+ghost use Rattle.c104_describe.specs.PlanPrint.{base_words, buffer_words, continue_words, counted_words, delete_words, header_words};
+ghost use Rattle.c104_describe.specs.PlanPrint.{label_words, labelled_lines, labeller, network_lines, plan_text, random_words, row_words};
+ghost use Rattle.c104_describe.specs.{PlanPrint.{sentence, switch_words, terminal_words, text_of, wire_words}, PlanText.read_description};
+ghost use Rattle.c104_plan.specs.{TextCut.most_bytes, declared.plans.Shape.TheVariants.Hand};
 
 use c104_plan::{Plan, PlanRandom, PlanRow, Shape, Terminal, select_text};
 use c104_token::NoMemory;

@@ -2,14 +2,12 @@
 //!
 //! A name that is no name is BadName also where it is used, since it can't have been given. A wrong byte in a line's
 //! first word is UnknownWord, since that is the lesser number.
-ghost use Rattle.std.specs.Prelude.{◌≡◌, ◌+◌, ◌≤◌, ◌&&◌, true, false, Err, IfOk, MatchResult, Ok, Some, bytes_eq, codes, map, option_map};
-ghost use Rattle.std.specs.Map.{lookup};
-ghost use Rattle.c104_plan.specs.Plans.{label_count, last_link};
-ghost use Rattle.c104_plan.specs.TextWords.{dots};
+ghost use Rattle.std.specs.{Map.lookup, Prelude.{Err, IfOk, MatchResult, Ok, Some, bytes_eq, codes, false, map, option_map, true, ◌&&◌}};
+ghost use Rattle.std.specs.Prelude.{◌+◌, ◌≡◌, ◌≤◌};
+ghost use Rattle.c104_describe.specs.{LineFaults.ReadsNumber, PlanLines.{is_bad_number, is_from_to, is_one_dot, port_link, port_name}};
+ghost use Rattle.c104_describe.specs.{PlanLines.{select_said, selected_link}, PlanWords.{keyword_of, range_words}};
+ghost use Rattle.c104_plan.specs.{Plans.{label_count, last_link}, TextWords.dots};
 ghost use Rattle.c104_describe.specs.declared.faults.PlanFaultKind.TheVariants as variant;
-ghost use Rattle.c104_describe.specs.PlanLines.{is_bad_number, is_from_to, is_one_dot, port_link, port_name, select_said, selected_link};
-ghost use Rattle.c104_describe.specs.LineFaults.{ReadsNumber};
-ghost use Rattle.c104_describe.specs.PlanWords.{keyword_of, range_words};
 
 use crate::faults::PlanFaultKind;
 use c104_interval::Select;

@@ -3,11 +3,10 @@
 //! An edge is a number beside each wire, that of the first wire which is drawn with it: so each wire is in the list once
 //! whatever edges there are. Wires are one edge only where their links are of one group at both ends and their ways are
 //! drawn alike, so that a bold edge is bold for all its links.
-ghost use Rattle.std.specs.Prelude.{◌≡◌, ◌<◌, map, slice_get, Some, IfOk};
-ghost use Rattle.c104_crossbar.specs.Groups.{group_contains};
+ghost use Rattle.std.specs.Prelude.{IfOk, Some, map, slice_get, ◌<◌, ◌≡◌};
+ghost use Rattle.{c104_crossbar.specs.Groups.group_contains, c104_draw.specs.Edges.{AreFirsts, are_alike, are_grouped, are_mates}};
+ghost use Rattle.{c104_draw.specs.Edges.{first_beside, is_beside}, c104_plan.specs.PlanImage.AreSettings};
 ghost use Rattle.c104_regs.specs.Groups.{continues_at};
-ghost use Rattle.c104_plan.specs.PlanImage.{AreSettings};
-ghost use Rattle.c104_draw.specs.Edges.{AreFirsts, are_alike, are_grouped, are_mates, first_beside, is_beside};
 
 use crate::drawings::{DrawnWire, Stroke};
 use c104_crossbar::Group;

@@ -4,11 +4,9 @@
 //! first refused header alone. Of a terminal with several portals the picture may tell another than `check`: its portals
 //! are found by going on from the entry, and not by walks, so that they are there also where a random header doesn't come
 //! to one by some choice.
-ghost use Rattle.std.specs.Prelude.{◌≡◌, ◌↔◌, map, [], Some, None, IfOk, IsTrue};
-ghost use Rattle.std.specs.List.{AllByRecursion};
-ghost use Rattle.c104_check.specs.Walks.{is_met};
-ghost use Rattle.c104_draw.specs.Drawings.{DrawnWire as TheWire, IsBold, IsDashed, IsDrawn, IsDrawnPortal, IsStroke, is_red};
-ghost use Rattle.c104_draw.specs.Marks.{marking_by};
+ghost use Rattle.std.specs.{List.AllByRecursion, Prelude.{IfOk, IsTrue, None, Some, [], map, ◌↔◌, ◌≡◌}};
+ghost use Rattle.{c104_check.specs.Walks.is_met, c104_draw.specs.Drawings.{DrawnWire as TheWire, IsBold, IsDashed, IsDrawn, IsDrawnPortal}};
+ghost use Rattle.c104_draw.specs.{Drawings.{IsStroke, is_red}, Marks.marking_by};
 
 use crate::drawings::{DrawnWire, Stroke};
 use c104_check::{Reach, SwitchPort};

@@ -1,6 +1,5 @@
 //! The nodes of a picture.
-ghost use Rattle.std.specs.Prelude.{◌≡◌, ◌++◌, [], length, map, IfOk, OnOk};
-ghost use Rattle.std.specs.List.{range_with_len};
+ghost use Rattle.std.specs.{List.range_with_len, Prelude.{IfOk, OnOk, [], length, map, ◌++◌, ◌≡◌}};
 ghost use Rattle.c104_draw.specs.Drawings.{drawn_nodes, is_owner, switch_node, terminal_node};
 
 use crate::drawings::{DrawnNode, Node};

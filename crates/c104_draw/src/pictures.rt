@@ -1,12 +1,8 @@
 //! Pictures.
-ghost use Rattle.std.specs.Prelude.{◌≡◌, map, Some, None, IfOk, MatchOption};
-ghost use Rattle.c104_check.specs.Parts.{IsNeverRefused, TellsFirst};
-ghost use Rattle.c104_check.specs.Reach.{routes_for};
-ghost use Rattle.c104_check.specs.Routes.{routes_of};
-ghost use Rattle.c104_plan.specs.PlanImage.{Fits};
-ghost use Rattle.c104_draw.specs.Drawings.{drawn_nodes};
-ghost use Rattle.c104_draw.specs.Edges.{AreFirsts, IsDrawing, fault_walk, first_beside, marking_of};
-ghost use Rattle.c104_draw.specs.Marks.{marking_by};
+ghost use Rattle.std.specs.Prelude.{IfOk, MatchOption, None, Some, map, ◌≡◌};
+ghost use Rattle.c104_check.specs.{Parts.{IsNeverRefused, TellsFirst}, Reach.routes_for, Routes.routes_of};
+ghost use Rattle.c104_draw.specs.{Drawings.drawn_nodes, Edges.{AreFirsts, IsDrawing, fault_walk, first_beside, marking_of}};
+ghost use Rattle.{c104_draw.specs.Marks.marking_by, c104_plan.specs.PlanImage.Fits};
 
 use crate::drawings::{DrawnNode, DrawnWire};
 use crate::edges::edges_of;

@@ -1,7 +1,6 @@
 //! The wires of a picture.
-ghost use Rattle.std.specs.Prelude.{◌≡◌, ◌++◌, [], map, IfOk, OnOk};
-ghost use Rattle.c104_plan.specs.Wiring.{terminal_wires};
-ghost use Rattle.c104_draw.specs.Drawings.{drawn_wires, is_backward, ordered};
+ghost use Rattle.std.specs.Prelude.{IfOk, OnOk, [], map, ◌++◌, ◌≡◌};
+ghost use Rattle.{c104_draw.specs.Drawings.{drawn_wires, is_backward, ordered}, c104_plan.specs.Wiring.terminal_wires};
 
 use c104_plan::{Plan, Port, Wire};
 use c104_token::NoMemory;

@@ -1,6 +1,5 @@
 //! What people ask where they type a script, and what they are told.
-ghost use Rattle.std.specs.Prelude.{◌≡◌};
-ghost use Rattle.std.specs.Option.{option_map};
+ghost use Rattle.std.specs.{Option.option_map, Prelude.◌≡◌};
 ghost use Rattle.c104_explain.specs.Questions.{asks, is_question, wants_end};
 
 use crate::packet_places::packet_answer;

@@ -1,7 +1,6 @@
-ghost use Rattle.std.specs.Prelude.{◌≡◌, ◌<◌, IfOk, Some, filter, nat_lt, slice_get};
-ghost use Rattle.std.specs.List.Sorted.{IsStrictlyIncreasing};
-ghost use Rattle.c104_interval.specs.Segments.{AreSegmentsBelow, IsConstantBetween, SelectsBySegment, separators};
-ghost use Rattle.c104_interval.specs.Selection.{IsSelected, reset_table, select};
+ghost use Rattle.std.specs.{List.Sorted.IsStrictlyIncreasing, Prelude.{IfOk, Some, filter, nat_lt, slice_get, ◌<◌, ◌≡◌}};
+ghost use Rattle.c104_interval.specs.{Segments.{AreSegmentsBelow, IsConstantBetween, SelectsBySegment, separators}, Selection.IsSelected};
+ghost use Rattle.c104_interval.specs.Selection.{reset_table, select};
 
 use c104_token::NoMemory;
 use std::alloc::{AllocError, Global};

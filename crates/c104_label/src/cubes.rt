@@ -1,9 +1,7 @@
 //! The labels of a cube.
-ghost use Rattle.std.specs.Prelude.{◌≡◌, ◌↔◌, ◌<◌, ◌≤◌, ◌+◌, ◌*◌, ◌^◌, length, map, IfOk, IsTrue};
-ghost use Rattle.std.specs.List.{range_with_len};
-ghost use Rattle.c104_plan.specs.LabelledImages.{labelled_image};
-ghost use Rattle.c104_plan.specs.PlanImage.{Fits, range_of};
+ghost use Rattle.std.specs.{List.range_with_len, Prelude.{IfOk, IsTrue, length, map, ◌*◌, ◌+◌, ◌<◌, ◌^◌, ◌↔◌, ◌≡◌, ◌≤◌}};
 ghost use Rattle.c104_label.specs.CubeLabels.{AreCubeTables, IsCube, cube_rows, cube_table};
+ghost use Rattle.c104_plan.specs.{LabelledImages.labelled_image, PlanImage.{Fits, range_of}};
 
 use crate::images::image_with;
 use crate::rows::{add_row, table_of};

@@ -1,12 +1,9 @@
 //! The image of a plan: of its own lines, or with tables of labels.
-ghost use Rattle.std.specs.Prelude.{◌≡◌, ◌↔◌, [], All, false, length, map, true, IfErr, IfOk, IsErrOf};
-ghost use Rattle.c104_regs.specs.Ranges.{IsTableInRange};
-ghost use Rattle.c104_plan.specs.LabelledImages.{labelled_image};
-ghost use Rattle.c104_plan.specs.PlanImage.{Fits, range_of};
-ghost use Rattle.c104_check.specs.Routes.{IsAccepted, routes_of};
-ghost use Rattle.c104_check.specs.ChannelDependencies.{IsAcyclic, IsNeverRandomized};
-ghost use Rattle.c104_label.specs.Crossings.{AreCrossings};
-ghost use Rattle.c104_label.specs.Images.{IsImageCause, IsImageOf, IsShapeCause, is_cube_shape, is_labelled_shape, is_mesh_shape, is_tree_shape, is_up_down_shape};
+ghost use Rattle.std.specs.Prelude.{All, IfErr, IfOk, IsErrOf, [], false, length, map, true, ◌↔◌, ◌≡◌};
+ghost use Rattle.c104_check.specs.{ChannelDependencies.{IsAcyclic, IsNeverRandomized}, Routes.{IsAccepted, routes_of}};
+ghost use Rattle.c104_label.specs.{Crossings.AreCrossings, Images.{IsImageCause, IsImageOf, IsShapeCause, is_cube_shape}};
+ghost use Rattle.c104_label.specs.Images.{is_labelled_shape, is_mesh_shape, is_tree_shape, is_up_down_shape};
+ghost use Rattle.{c104_plan.specs.{LabelledImages.labelled_image, PlanImage.{Fits, range_of}}, c104_regs.specs.Ranges.IsTableInRange};
 ghost use Rattle.c104_label.specs.declared.faults.LabelFault.TheVariants as fault;
 
 use crate::cubes::cube_image;

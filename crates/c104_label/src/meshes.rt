@@ -1,9 +1,8 @@
 //! The labels of a mesh.
-ghost use Rattle.std.specs.Prelude.{◌≡◌, ◌↔◌, ◌<◌, ◌≤◌, ◌+◌, ◌*◌, ◌/◌, ◌&&◌, length, map, nat_le, nat_lt, IfOk, IsTrue};
-ghost use Rattle.std.specs.List.{range_with_len};
-ghost use Rattle.c104_plan.specs.LabelledImages.{labelled_image};
-ghost use Rattle.c104_plan.specs.PlanImage.{Fits, range_of};
+ghost use Rattle.std.specs.{List.range_with_len, Prelude.{IfOk, IsTrue, length, map, nat_le, nat_lt, ◌&&◌, ◌*◌, ◌+◌, ◌/◌, ◌<◌, ◌↔◌, ◌≡◌}};
+ghost use Rattle.std.specs.Prelude.{◌≤◌};
 ghost use Rattle.c104_label.specs.MeshLabels.{AreMeshTables, IsMesh, mesh_rows, mesh_table};
+ghost use Rattle.c104_plan.specs.{LabelledImages.labelled_image, PlanImage.{Fits, range_of}};
 
 use crate::images::image_with;
 use crate::rows::{add_row, table_of};

@@ -1,12 +1,8 @@
 //! How many labels terminals, switches and subtrees have.
-ghost use Rattle.std.specs.Prelude.{◌≡◌, ◌≤◌, ◌*◌, slice_get, IfOk};
-ghost use Rattle.std.specs.List.{range_with_len};
-ghost use Rattle.c104_regs.specs.declared.registers.TheConstants.{LINKS as LINK_COUNT};
-ghost use Rattle.c104_plan.specs.Plans.{IsPlan};
-ghost use Rattle.c104_label.specs.Forests.{ends_of};
-ghost use Rattle.c104_label.specs.Trees.{forest_of};
-ghost use Rattle.c104_label.specs.TreeImages.{total_count};
-ghost use Rattle.c104_label.specs.TreeLabels.{count_at, count_or_zero, forest_labels, labels_behind, labels_on, net_of, own_labels};
+ghost use Rattle.std.specs.{List.range_with_len, Prelude.{IfOk, slice_get, ◌*◌, ◌≡◌, ◌≤◌}};
+ghost use Rattle.c104_label.specs.{Forests.ends_of, TreeImages.total_count, TreeLabels.{count_at, count_or_zero, forest_labels}};
+ghost use Rattle.c104_label.specs.{TreeLabels.{labels_behind, labels_on, net_of, own_labels}, Trees.forest_of};
+ghost use Rattle.{c104_plan.specs.Plans.IsPlan, c104_regs.specs.declared.registers.TheConstants.LINKS as LINK_COUNT};
 
 use crate::forests::Forest;
 use c104_plan::{Plan, Port};

@@ -1,7 +1,6 @@
 //! Where each switch stands in a tree.
-ghost use Rattle.std.specs.Prelude.{◌≡◌, ◌≤◌, ◌+◌, MatchOption, None, Some};
-ghost use Rattle.c104_label.specs.Trees.{forest_of};
-ghost use Rattle.c104_label.specs.TreeLabels.{count_at, forest_labels, place, place_in, place_of, tree_labels};
+ghost use Rattle.std.specs.Prelude.{MatchOption, None, Some, ◌+◌, ◌≡◌, ◌≤◌};
+ghost use Rattle.c104_label.specs.{TreeLabels.{count_at, forest_labels, place, place_in, place_of, tree_labels}, Trees.forest_of};
 
 use crate::forests::Forest;
 use crate::numbers::{count_at, forest_labels};

@@ -2,15 +2,12 @@
 //!
 //! A labeller of one shape asks for that first, before any memory: a plan of another shape is WrongShape, whatever else
 //! is wrong with it. The program labels each plan by its own shape and so never says it.
-ghost use Rattle.std.specs.Prelude.{◌≡◌, ◌≤◌, ◌<◌, ◌+◌, length, map, IfErr, IfOk};
-ghost use Rattle.std.specs.List.{range_with_len};
-ghost use Rattle.c104_plan.specs.PlanImage.{Fits};
-ghost use Rattle.c104_plan.specs.Plans.{IsPlan};
-ghost use Rattle.c104_label.specs.Forests.{Forest as TheForest, IsConnected, IsSpanning};
-ghost use Rattle.c104_label.specs.LabelRows.{with_rows};
-ghost use Rattle.c104_label.specs.Trees.{forest_of};
-ghost use Rattle.c104_label.specs.TreeImages.{IsLabelCause, IsTreeImage, most_labels, switch_place, total_count};
-ghost use Rattle.c104_label.specs.TreeLabels.{AreLinks, child_pieces, count_at, first_at, forest_labels, net_of, own_labels, place, place_end, rows_from, switch_table, tree_labels, tree_range, tree_rows};
+ghost use Rattle.std.specs.{List.range_with_len, Prelude.{IfErr, IfOk, length, map, ◌+◌, ◌<◌, ◌≡◌, ◌≤◌}};
+ghost use Rattle.c104_label.specs.{Forests.{Forest as TheForest, IsConnected, IsSpanning}, LabelRows.with_rows, TreeImages.IsLabelCause};
+ghost use Rattle.c104_label.specs.{TreeImages.{IsTreeImage, most_labels, switch_place, total_count}, TreeLabels.{AreLinks, child_pieces}};
+ghost use Rattle.c104_label.specs.TreeLabels.{count_at, first_at, forest_labels, net_of, own_labels, place, place_end, rows_from};
+ghost use Rattle.c104_label.specs.{TreeLabels.{switch_table, tree_labels, tree_range, tree_rows}, Trees.forest_of};
+ghost use Rattle.c104_plan.specs.{PlanImage.Fits, Plans.IsPlan};
 
 use crate::faults::LabelFault;
 use crate::forests::{Forest, spanning_tree};

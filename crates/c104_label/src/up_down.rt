@@ -3,17 +3,12 @@
 //! What is up is told by the visit of the tree, and not by how far a switch is from the root: so the tree's ways are
 //! among those that go up and then down, and neighbouring labels more often share a row. What came down may only go down,
 //! so each input has a table of its own.
-ghost use Rattle.std.specs.Prelude.{◌≡◌, ◌<◌, ◌≤◌, IfErr, IfOk, IfSome, true};
-ghost use Rattle.c104_regs.specs.Ranges.{IsTableInRange};
+ghost use Rattle.std.specs.Prelude.{IfErr, IfOk, IfSome, true, ◌<◌, ◌≡◌, ◌≤◌};
+ghost use Rattle.{c104_check.specs.Routes.{IsAccepted, routes_of}, c104_label.specs.Forests.{Forest as TheForest, IsSpanning}};
+ghost use Rattle.c104_label.specs.{Images.IsUpDownImage, TreeImages.{IsLabelCause, most_labels, total_count}, Trees.forest_of};
+ghost use Rattle.{c104_label.specs.UpDownLabels.{ArePortTables, IsRelabelled, IsSound}, c104_plan.specs.{PlanImage.Fits, Plans.IsPlan}};
+ghost use Rattle.{c104_plan.specs.Plans.IsTreePlan, c104_regs.specs.Ranges.IsTableInRange};
 ghost use Rattle.c104_regs.specs.declared.registers.TheConstants.{LINKS as LINK_COUNT};
-ghost use Rattle.c104_plan.specs.PlanImage.{Fits};
-ghost use Rattle.c104_plan.specs.Plans.{IsPlan, IsTreePlan};
-ghost use Rattle.c104_check.specs.Routes.{IsAccepted, routes_of};
-ghost use Rattle.c104_label.specs.Forests.{Forest as TheForest, IsSpanning};
-ghost use Rattle.c104_label.specs.Images.{IsUpDownImage};
-ghost use Rattle.c104_label.specs.Trees.{forest_of};
-ghost use Rattle.c104_label.specs.TreeImages.{IsLabelCause, most_labels, total_count};
-ghost use Rattle.c104_label.specs.UpDownLabels.{ArePortTables, IsRelabelled, IsSound};
 
 use crate::faults::LabelFault;
 use crate::forests::{Forest, spanning_tree};

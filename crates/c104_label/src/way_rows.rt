@@ -1,10 +1,8 @@
 //! The tables of ports whose labels go by given links, or by any one of several.
 //!
 //! Nothing is proved of which rows they have but that these are within the ranges of registers.
-ghost use Rattle.std.specs.Prelude.{◌≡◌, IfOk, IfSome};
-ghost use Rattle.std.specs.List.{list_all};
-ghost use Rattle.c104_regs.specs.Ranges.{IsTableInRange};
-ghost use Rattle.c104_label.specs.UpDownLabels.{is_link_row};
+ghost use Rattle.std.specs.{List.list_all, Prelude.{IfOk, IfSome, ◌≡◌}};
+ghost use Rattle.{c104_label.specs.UpDownLabels.is_link_row, c104_regs.specs.Ranges.IsTableInRange};
 
 use crate::rows::table_of;
 use c104_interval::{ROWS, Row, Select, Table};

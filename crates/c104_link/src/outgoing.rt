@@ -32,8 +32,7 @@ pub type OutBuffer = OutBufferOf<Token>;
 
 impl<T: TokenKind> Model for OutBufferOf<T> {
     ghost use Rattle.std.specs.Prelude.{◌≡◌};
-    ghost use Rattle.c104_link.specs.Buffers.{Outgoing, IsWithinLimits};
-    ghost use Rattle.c104_link.specs.declared.outgoing.TheConstants.{OUTPUT_CAP};
+    ghost use Rattle.c104_link.specs.{Buffers.{IsWithinLimits, Outgoing}, declared.outgoing.TheConstants.OUTPUT_CAP};
 
     ghost Value = { Outgoing T };
 

@@ -1,18 +1,11 @@
 //! The search for a script that locks up a description's network.
-ghost use Rattle.std.specs.Prelude.{ℕ, ◌≡◌, ◌⊎◌, true, false, IfOk, IfSome, List, Ok, Result, Some};
-ghost use Rattle.std.specs.Io.KnownBytes.{prepend_known};
+ghost use Rattle.std.specs.{Io.KnownBytes.prepend_known, Prelude.{IfOk, IfSome, List, Ok, Result, Some, false, true, ℕ, ◌≡◌, ◌⊎◌}};
 ghost use Rattle.std.specs.String.{string_bytes};
-ghost use Rattle.c104_token.specs.Kinds.{plain_kind};
-ghost use Rattle.c104_run.specs.Standstill.{IsDeadlocked};
-ghost use Rattle.c104_check.specs.Routes.{IsAccepted, routes_of};
-ghost use Rattle.c104_plan.specs.PlanImage.{Fits, Image as TheImage};
-ghost use Rattle.c104_plan.specs.Plans.{Plan as ThePlan};
-ghost use Rattle.c104_describe.specs.declared.faults.PlanFault.{PlanFault as ThePlanFault};
-ghost use Rattle.c104_label.specs.Images.{IsImageOf, is_labelled_shape};
-ghost use Rattle.c104_session.specs.Shown.{new_session};
-ghost use Rattle.c104_setup.specs.Endings.{CommandEnds, CommandRuns};
-ghost use Rattle.c104_setup.specs.Setups.{ComesTo};
-ghost use Rattle.c104_lockup.specs.Lockups.{EndsLocked, LocksUp, PrintsLockup, TellsLockup, none_text};
+ghost use Rattle.{c104_check.specs.Routes.{IsAccepted, routes_of}, c104_describe.specs.declared.faults.PlanFault.PlanFault as ThePlanFault};
+ghost use Rattle.{c104_label.specs.Images.{IsImageOf, is_labelled_shape}, c104_lockup.specs.Lockups.{EndsLocked, LocksUp, PrintsLockup}};
+ghost use Rattle.{c104_lockup.specs.Lockups.{TellsLockup, none_text}, c104_plan.specs.PlanImage.{Fits, Image as TheImage}};
+ghost use Rattle.{c104_plan.specs.Plans.Plan as ThePlan, c104_run.specs.Standstill.IsDeadlocked, c104_session.specs.Shown.new_session};
+ghost use Rattle.{c104_setup.specs.{Endings.{CommandEnds, CommandRuns}, Setups.ComesTo}, c104_token.specs.Kinds.plain_kind};
 
 use crate::harmless::is_harmless;
 use crate::searches::{MOST_ATTEMPTS, Search};

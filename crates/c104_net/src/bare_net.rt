@@ -1,7 +1,6 @@
 //! A network of switches and terminals, over any kind of token, in which a run is done once more.
 ghost use Rattle.std.specs.Prelude.{◌≡◌};
-ghost use Rattle.c104_run.specs.Finished.{network_finish};
-ghost use Rattle.c104_run.specs.Network.{AnswersEvent};
+ghost use Rattle.c104_run.specs.{Finished.network_finish, Network.AnswersEvent};
 
 mod starts;
 
@@ -26,10 +25,8 @@ pub struct NetOf<T: TokenKind> {
 }
 
 impl<T: TokenKind> Model for NetOf<T> {
-    ghost use Rattle.c104_run.specs.Network.{Network, network_of};
-    ghost use Rattle.c104_run.specs.Balance.{IsSteady};
-    ghost use Rattle.std.specs.Prelude.{◌≡◌, ◌≤◌, [], length};
-    ghost use Rattle.std.specs.Vec.{vec_capacity};
+    ghost use Rattle.std.specs.{Prelude.{[], length, ◌≡◌, ◌≤◌}, Vec.vec_capacity};
+    ghost use Rattle.c104_run.specs.{Balance.IsSteady, Network.{Network, network_of}};
 
     ghost Value = { Network T };
 

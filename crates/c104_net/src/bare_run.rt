@@ -1,6 +1,5 @@
 //! A run of a network that is finished.
-ghost use Rattle.std.specs.Prelude.{◌≡◌, ◌≤◌, [], length};
-ghost use Rattle.std.specs.Vec.{vec_capacity};
+ghost use Rattle.std.specs.{Prelude.{[], length, ◌≡◌, ◌≤◌}, Vec.vec_capacity};
 ghost use Rattle.c104_node.specs.Nodes.{terminals_of};
 
 use c104_node::{NodeOf, TerminalOf};

@@ -1,9 +1,8 @@
 //! The theorem that a network without a cycle of channel dependencies has no deadlock, of a network as it stands
 //! and of a finished run.
 ghost use Rattle.std.specs.Prelude.{All};
-ghost use Rattle.c104_net.specs.DeadlockFreedom.{EndsWithoutDeadlock, IsFreeOfDeadlock};
-ghost use Rattle.c104_node.specs.Records.{IsRecorded, NodeRecord, NodeRoom};
-ghost use Rattle.c104_node.specs.TracedRecords.{IsFit, TracedRecord};
+ghost use Rattle.{c104_net.specs.DeadlockFreedom.{EndsWithoutDeadlock, IsFreeOfDeadlock}, c104_node.specs.Records.{IsRecorded, NodeRecord}};
+ghost use Rattle.c104_node.specs.{Records.NodeRoom, TracedRecords.{IsFit, TracedRecord}};
 
 use c104_node::{CountedNode, Node};
 use c104_run::{Net, Run, TracedNet};

@@ -6,12 +6,9 @@
 //! A table by ticket would want tickets without gaps, and a search for the least next ticket would look at every node for
 //! each event. The sort takes three words an event. Of events with the same ticket, which only made lists have, the one
 //! whose leading node has the lower place comes first.
-ghost use Rattle.std.specs.Prelude.{◌≡◌, ◌++◌, ℕ, List, Some, map, slice_get, IfOk, OnOk};
-ghost use Rattle.c104_net.specs.Leading.{act_event, action_event, led_events, leads};
-ghost use Rattle.c104_net.specs.Merges.{by_ticket};
-ghost use Rattle.c104_net.specs.Replays.{lead_event, with_ticket};
-ghost use Rattle.c104_net.specs.ToldEvents.{told_by, told_event};
-ghost use Rattle.c104_node.specs.declared.acts.Entry.{Entry as TheEntry};
+ghost use Rattle.std.specs.Prelude.{IfOk, List, OnOk, Some, map, slice_get, ℕ, ◌++◌, ◌≡◌};
+ghost use Rattle.c104_net.specs.{Leading.{act_event, action_event, leads, led_events}, Merges.by_ticket, Replays.{lead_event, with_ticket}};
+ghost use Rattle.{c104_net.specs.ToldEvents.{told_by, told_event}, c104_node.specs.declared.acts.Entry.Entry as TheEntry};
 
 use c104_control::ControlBytes;
 use c104_event::{Event, Port};

@@ -1,9 +1,6 @@
 //! Events and rounds of a network of tagged tokens, of which a meter is told.
-ghost use Rattle.c104_run.specs.EventRuns.{Answers};
-ghost use Rattle.c104_run.specs.NetRecords.{NetRecord};
-ghost use Rattle.c104_run.specs.RoundParts.{PartEnds};
-ghost use Rattle.c104_run.specs.Rounds.{round};
-ghost use Rattle.c104_net.specs.MeteredRecords.{at_meter, record_metered};
+ghost use Rattle.{c104_net.specs.MeteredRecords.{at_meter, record_metered}, c104_run.specs.{EventRuns.Answers, NetRecords.NetRecord}};
+ghost use Rattle.c104_run.specs.{RoundParts.PartEnds, Rounds.round};
 
 use c104_event::{Event, EventFault};
 use c104_node::TaggedToken;

@@ -1,7 +1,6 @@
 //! A run once more, over tokens that tell where they came from.
-ghost use Rattle.std.specs.Prelude.{[], ◌∷◌, map, OnOk};
-ghost use Rattle.c104_net.specs.Replays.{LeadTo, lead_event};
-ghost use Rattle.c104_net.specs.ToldEvents.{told_event, told_events};
+ghost use Rattle.std.specs.Prelude.{OnOk, [], map, ◌∷◌};
+ghost use Rattle.c104_net.specs.{Replays.{LeadTo, lead_event}, ToldEvents.{told_event, told_events}};
 
 use crate::bare_net::NetOf;
 use crate::leading::{Lead, event_of, sorted_leads};

@@ -1,13 +1,8 @@
 //! Where the packets came from that arrived in a run.
-ghost use Rattle.std.specs.Prelude.{◌≡◌, map, IfOk, Ok};
-ghost use Rattle.std.specs.Global.{Vec as Kept};
-ghost use Rattle.c104_node.specs.Origins.{origins_in};
-ghost use Rattle.c104_node.specs.declared.origins.Origin.{Origin as TheOrigin};
+ghost use Rattle.std.specs.{Global.Vec as Kept, Prelude.{IfOk, Ok, map, ◌≡◌}};
+ghost use Rattle.{c104_net.specs.{RunOrigins.AreOrigins, ToldRuns.TellsEachRun}, c104_node.specs.{Origins.origins_in, Terminals.Terminal}};
+ghost use Rattle.c104_node.specs.declared.{origins.Origin.Origin as TheOrigin, traced.Traced.Traced as TheTraced};
 ghost use Rattle.c104_run.specs.FinishedRecords.{FinishedRecord};
-ghost use Rattle.c104_net.specs.RunOrigins.{AreOrigins};
-ghost use Rattle.c104_net.specs.ToldRuns.{TellsEachRun};
-ghost use Rattle.c104_node.specs.Terminals.{Terminal};
-ghost use Rattle.c104_node.specs.declared.traced.Traced.{Traced as TheTraced};
 
 use crate::bare_net::NetOf;
 use crate::bare_run::RunOf;

@@ -1,15 +1,8 @@
 //! Where the packets came from that arrived in a network of tagged tokens, and those of which tokens wait.
-ghost use Rattle.std.specs.Prelude.{◌≡◌, map, IfOk};
-ghost use Rattle.std.specs.Global.{Vec as Kept};
-ghost use Rattle.c104_run.specs.NetRecords.{NetRecord};
-ghost use Rattle.c104_node.specs.declared.origins.Origin.{Origin as TheOrigin};
-ghost use Rattle.c104_run.specs.FinishedRecords.{record_finish};
-ghost use Rattle.c104_net.specs.RunOrigins.{AreOrigins};
-ghost use Rattle.c104_net.specs.ToldRuns.{TellsEachRun};
-ghost use Rattle.std.specs.Prelude.{option_map};
-ghost use Rattle.c104_node.specs.Tagged.{tag, tagged_origins};
-ghost use Rattle.c104_net.specs.TracedEnds.{traced_end};
-ghost use Rattle.c104_run.specs.NetViews.{network_input_token, network_output_token};
+ghost use Rattle.std.specs.{Global.Vec as Kept, Prelude.{IfOk, map, option_map, ◌≡◌}};
+ghost use Rattle.{c104_net.specs.{RunOrigins.AreOrigins, ToldRuns.TellsEachRun, TracedEnds.traced_end}, c104_node.specs.Tagged.tag};
+ghost use Rattle.c104_node.specs.{Tagged.tagged_origins, declared.origins.Origin.Origin as TheOrigin};
+ghost use Rattle.c104_run.specs.{FinishedRecords.record_finish, NetRecords.NetRecord, NetViews.{network_input_token, network_output_token}};
 
 use crate::run_origins::Origins;
 use c104_event::Port;

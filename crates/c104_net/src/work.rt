@@ -2,19 +2,12 @@
 //! random header before a packet.
 //!
 //! By it a caller knows how many rounds are enough. It is counted node by node, from what each holds.
-ghost use Rattle.std.specs.Prelude.{◌≡◌, ◌+◌, ◌*◌, ◌<◌, ◌≤◌, ℕ, length, map, slice_get};
-ghost use Rattle.c104_check.specs.Ranks.{rank_in};
-ghost use Rattle.c104_check.specs.Walks.{port_of};
-ghost use Rattle.c104_check.specs.declared.ports.SwitchPort.{SwitchPort as TheInput};
-ghost use Rattle.c104_plan.specs.Wiring.{peer};
-ghost use Rattle.c104_node.specs.Places.{states};
-ghost use Rattle.c104_node.specs.Traces.{part};
-ghost use Rattle.c104_token.specs.declared.tokens.Token.{Token as TheToken};
-ghost use Rattle.c104_run.specs.Network.{Network};
-ghost use Rattle.c104_net.specs.HeaderWork.{full_input, full_inputs, full_link, full_node, full_outputs, full_terminal};
-ghost use Rattle.c104_net.specs.HeaderWork.{none_ahead, work, work_bound};
-ghost use Rattle.c104_net.specs.Work.{header_held, level, told_work};
-ghost use Rattle.c104_regs.specs.declared.registers.TheConstants.{LINKS};
+ghost use Rattle.std.specs.Prelude.{length, map, slice_get, ℕ, ◌*◌, ◌+◌, ◌<◌, ◌≡◌, ◌≤◌};
+ghost use Rattle.c104_check.specs.{Ranks.rank_in, Walks.port_of, declared.ports.SwitchPort.SwitchPort as TheInput};
+ghost use Rattle.c104_net.specs.HeaderWork.{full_input, full_inputs, full_link, full_node, full_outputs, full_terminal, none_ahead, work};
+ghost use Rattle.{c104_net.specs.{HeaderWork.work_bound, Work.{header_held, level, told_work}}, c104_node.specs.Places.states};
+ghost use Rattle.{c104_node.specs.Traces.part, c104_plan.specs.Wiring.peer, c104_regs.specs.declared.registers.TheConstants.LINKS};
+ghost use Rattle.{c104_run.specs.Network.Network, c104_token.specs.declared.tokens.Token.Token as TheToken};
 
 use c104_check::{Ranks, SwitchPort};
 use c104_event::Port;

@@ -2,12 +2,9 @@
 //!
 //! A trace has room for a fixed number of entries, and an event is refused where it is full. To know that, a count is
 //! enough.
-ghost use Rattle.std.specs.Prelude.{◌≡◌, All, []};
-ghost use Rattle.std.specs.Option.{option_copied};
-ghost use Rattle.c104_node.specs.Starts.{start_node, start_of};
-ghost use Rattle.c104_node.specs.Quiet.{IsQuietNode, node_begin};
-ghost use Rattle.c104_node.specs.Nodes.{node_arrived};
-ghost use Rattle.c104_node.specs.TracedRecords.{IsFit, first_traced};
+ghost use Rattle.std.specs.{Option.option_copied, Prelude.{All, [], ◌≡◌}};
+ghost use Rattle.c104_node.specs.{Nodes.node_arrived, Quiet.{IsQuietNode, node_begin}, Starts.{start_node, start_of}, TracedRecords.IsFit};
+ghost use Rattle.c104_node.specs.TracedRecords.{first_traced};
 
 use crate::acts::ActOf;
 use crate::history::History;
@@ -91,12 +88,9 @@ impl CountedNode {
 }
 
 impl Place<TaggedToken> for CountedNode {
-    ghost use Rattle.std.specs.Prelude.{◌≡◌, ◌<◌, false, is_some, length, refl, true, OnOk};
-    ghost use Rattle.c104_node.specs.Acts.{IsWithinLimits, node_act};
-    ghost use Rattle.c104_node.specs.PortActs.{port_credit_in, port_credit_out, port_enter, port_leave};
-    ghost use Rattle.c104_node.specs.PlaceActs.{ActEnds, AttemptEnds, HasActed};
-    ghost use Rattle.c104_node.specs.TracedRecords.{counted_shown};
-    ghost use Rattle.c104_node.specs.Tagged.{tagged_kind};
+    ghost use Rattle.std.specs.Prelude.{OnOk, false, is_some, length, refl, true, ◌<◌, ◌≡◌};
+    ghost use Rattle.c104_node.specs.{Acts.{IsWithinLimits, node_act}, PlaceActs.{ActEnds, AttemptEnds, HasActed}, PortActs.port_credit_in};
+    ghost use Rattle.c104_node.specs.{PortActs.{port_credit_out, port_enter, port_leave}, Tagged.tagged_kind, TracedRecords.counted_shown};
     ghost use Rattle.c104_node.specs.Traces.{trace_limit};
     ghost use Rattle.c104_switch.specs.declared.actions.ReplyOf.TheVariants as reply;
 

@@ -1,9 +1,7 @@
 //! What crosses a wire, and the acts at its two ports.
-ghost use Rattle.std.specs.Prelude.{◌≡◌, is_some, true};
-ghost use Rattle.c104_node.specs.Acts.{node_act};
-ghost use Rattle.c104_node.specs.PortActs.{IsAnswerOf, far_act, near_act};
-ghost use Rattle.c104_node.specs.PortActs.{port_credit_in, port_credit_out, port_enter, port_leave};
-ghost use Rattle.c104_switch.specs.declared.actions.ReplyOf.{ReplyOf as TheReply};
+ghost use Rattle.std.specs.Prelude.{is_some, true, ◌≡◌};
+ghost use Rattle.c104_node.specs.{Acts.node_act, PortActs.{IsAnswerOf, far_act, near_act, port_credit_in, port_credit_out, port_enter}};
+ghost use Rattle.{c104_node.specs.PortActs.port_leave, c104_switch.specs.declared.actions.ReplyOf.ReplyOf as TheReply};
 
 use crate::acts::ActOf;
 use crate::node::NodeOf;

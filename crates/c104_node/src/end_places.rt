@@ -1,11 +1,7 @@
 //! What crosses a wire, at the place of one end among all places.
-ghost use Rattle.std.specs.Prelude.{◌≡◌, ◌≢◌, ◌<◌, ℕ, true, length, is_some, map};
-ghost use Rattle.c104_node.specs.Acts.{nodes_act};
-ghost use Rattle.c104_node.specs.ActLinks.{port_link};
-ghost use Rattle.c104_node.specs.PlaceActs.{HasActedAt};
-ghost use Rattle.c104_node.specs.Places.{HasRoomAt, bases, states};
-ghost use Rattle.c104_node.specs.PortActs.{port_credit_in, port_credit_out, port_enter, port_leave};
-ghost use Rattle.c104_node.specs.WiredPlaces.{links_at};
+ghost use Rattle.std.specs.Prelude.{is_some, length, map, true, ℕ, ◌<◌, ◌≡◌, ◌≢◌};
+ghost use Rattle.c104_node.specs.{ActLinks.port_link, Acts.nodes_act, PlaceActs.HasActedAt, Places.{HasRoomAt, bases, states}};
+ghost use Rattle.c104_node.specs.{PortActs.{port_credit_in, port_credit_out, port_enter, port_leave}, WiredPlaces.links_at};
 ghost use Rattle.c104_switch.specs.declared.actions.ReplyOf.TheVariants as reply;
 
 use crate::place::Place;

@@ -11,8 +11,7 @@
 //! what it is. Their form is that in which the toolchain's libraries keep logs for contracts (`serde_json`,
 //! `http_server`).
 ghost use Rattle.std.specs.Prelude.{List};
-ghost use Rattle.c104_node.specs.declared.acts.Entry.{Entry as TheEntry};
-ghost use Rattle.c104_node.specs.declared.starts.NodeStart.{NodeStart as TheStart};
+ghost use Rattle.c104_node.specs.declared.{acts.Entry.Entry as TheEntry, starts.NodeStart.NodeStart as TheStart};
 
 use crate::node::NodeOf;
 use crate::notes::Note;
@@ -34,11 +33,8 @@ impl Model for History {
 }
 
 impl History {
-    ghost use Rattle.std.specs.Prelude.{◌≡◌, [], ◌∷◌, ◌++◌};
-    ghost use Rattle.c104_node.specs.Notes.{note_act, note_reply};
-    ghost use Rattle.c104_node.specs.Starts.{start_of};
-    ghost use Rattle.c104_node.specs.Tagged.{tagged_kind};
-    ghost use Rattle.c104_node.specs.Traces.{kept_entry};
+    ghost use Rattle.std.specs.Prelude.{[], ◌++◌, ◌∷◌, ◌≡◌};
+    ghost use Rattle.c104_node.specs.{Notes.{note_act, note_reply}, Starts.start_of, Tagged.tagged_kind, Traces.kept_entry};
 
     /// The history of a node that starts where it stands.
     #[inline(always)]

@@ -1,14 +1,9 @@
 //! What crosses a wire, done at the nodes of both its ends, or at neither.
-ghost use Rattle.std.specs.Prelude.{◌≡◌, ◌≢◌, ◌<◌, ◌||◌, Some, map, length, true, false, is_some, OnOk};
-ghost use Rattle.c104_switch.specs.Actions.{is_ready};
+ghost use Rattle.std.specs.Prelude.{OnOk, Some, false, is_some, length, map, true, ◌<◌, ◌||◌, ◌≡◌, ◌≢◌};
+ghost use Rattle.c104_node.specs.{ActLinks.port_link, Acts.nodes_act, PlaceActs.JointDone, Places.{HasRoomAt, bases, fulls, states}};
+ghost use Rattle.c104_node.specs.{Places.traces, PortActs.{IsAnswerOf, far_act, joint_step, near_act}, Traces.{full_at, joint_deeds}};
+ghost use Rattle.{c104_node.specs.{Traces.noted_all, WiredPlaces.links_at}, c104_switch.specs.Actions.is_ready};
 ghost use Rattle.c104_switch.specs.declared.actions.ReplyOf.{ReplyOf as TheReply};
-ghost use Rattle.c104_node.specs.Acts.{nodes_act};
-ghost use Rattle.c104_node.specs.PortActs.{IsAnswerOf, far_act, joint_step, near_act};
-ghost use Rattle.c104_node.specs.PlaceActs.{JointDone};
-ghost use Rattle.c104_node.specs.ActLinks.{port_link};
-ghost use Rattle.c104_node.specs.WiredPlaces.{links_at};
-ghost use Rattle.c104_node.specs.Places.{HasRoomAt, bases, fulls, states, traces};
-ghost use Rattle.c104_node.specs.Traces.{full_at, joint_deeds, noted_all};
 
 use crate::crossings::{Crossing, Joint, can_far, can_near};
 use crate::end_places::{credit_in_at, credit_out_at, enter_at, leave_at};

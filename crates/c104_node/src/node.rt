@@ -1,7 +1,6 @@
 //! A node of a network: a switch or a terminal.
-ghost use Rattle.std.specs.Prelude.{◌≡◌, ◌∷◌, []};
-ghost use Rattle.std.specs.Option.{option_copied, option_to_list};
-ghost use Rattle.c104_node.specs.Nodes.{node_waiting, node_arrived, node_peek, terminals_of};
+ghost use Rattle.std.specs.{Option.{option_copied, option_to_list}, Prelude.{[], ◌∷◌, ◌≡◌}};
+ghost use Rattle.c104_node.specs.Nodes.{node_arrived, node_peek, node_waiting, terminals_of};
 
 mod acting;
 mod ends;

@@ -1,9 +1,7 @@
 //! What stands for each node of a network: the node, and whatever is kept beside it.
-ghost use Rattle.std.specs.Prelude.{◌≡◌, true, false, Bool, None, Some, is_some, OnOk};
-ghost use Rattle.c104_node.specs.Acts.{IsWithinLimits, node_act};
-ghost use Rattle.c104_node.specs.PortActs.{act_limit, port_credit_in, port_credit_out, port_enter, port_leave};
-ghost use Rattle.c104_node.specs.PlaceActs.{ActEnds, AttemptEnds, HasActed};
-ghost use Rattle.c104_node.specs.Places.{IsFullByTrace, Shown};
+ghost use Rattle.std.specs.Prelude.{Bool, None, OnOk, Some, false, is_some, true, ◌≡◌};
+ghost use Rattle.c104_node.specs.{Acts.{IsWithinLimits, node_act}, PlaceActs.{ActEnds, AttemptEnds, HasActed}, Places.IsFullByTrace};
+ghost use Rattle.c104_node.specs.{Places.Shown, PortActs.{act_limit, port_credit_in, port_credit_out, port_enter, port_leave}};
 ghost use Rattle.c104_node.specs.WiredPlaces.{is_linked};
 ghost use Rattle.c104_switch.specs.declared.actions.ReplyOf.TheVariants as reply;
 
@@ -139,10 +137,8 @@ pub trait Place<T: TokenKind> {
 
 /// The node alone, of whose acts nothing is kept.
 impl<T: TokenKind> Place<T> for NodeOf<T> {
-    ghost use Rattle.std.specs.Prelude.{◌≡◌, false, is_some, refl, true, OnOk};
-    ghost use Rattle.c104_node.specs.Acts.{IsWithinLimits, node_act};
-    ghost use Rattle.c104_node.specs.PlaceActs.{ActEnds, AttemptEnds};
-    ghost use Rattle.c104_node.specs.Places.{bare_shown};
+    ghost use Rattle.std.specs.Prelude.{OnOk, false, is_some, refl, true, ◌≡◌};
+    ghost use Rattle.c104_node.specs.{Acts.{IsWithinLimits, node_act}, PlaceActs.{ActEnds, AttemptEnds}, Places.bare_shown};
 
     ghost shown = { bare_shown };
 

@@ -1,20 +1,11 @@
 //! One act of one place among all places.
-ghost use Rattle.std.specs.Prelude.{◌≡◌, ◌≢◌, ◌<◌, ◌≤◌, ℕ, None, Some, true, false, length, is_some, map, slice_get, unwrap_or, IfErr, IfSome, OnOk};
-ghost use Rattle.std.specs.Option.{option_copied};
-ghost use Rattle.c104_regs.specs.declared.registers.TheConstants.{LINKS};
-ghost use Rattle.c104_link.specs.Steps.{step_at};
-ghost use Rattle.c104_node.specs.Acts.{IsWithinLimits, nodes_act};
-ghost use Rattle.c104_node.specs.PortActs.{act_limit};
-ghost use Rattle.c104_node.specs.Traces.{full_at};
-ghost use Rattle.c104_switch.specs.Claims.{IsNextLink};
-ghost use Rattle.c104_node.specs.Nodes.{node_claim, Node as TheNode};
-ghost use Rattle.c104_node.specs.Idle.{IsIdleNode};
-ghost use Rattle.c104_node.specs.Records.{has_link};
-ghost use Rattle.c104_node.specs.PlaceActs.{ActEndsAt, AloneDone};
-ghost use Rattle.c104_node.specs.ActLinks.{act_link};
-ghost use Rattle.c104_node.specs.WiredPlaces.{is_linked_at};
-ghost use Rattle.c104_node.specs.Places.{bases, HasRoomAt, fulls, room_fault, states};
-ghost use Rattle.c104_node.specs.PortParts.{is_ready_at, PassesUnready};
+ghost use Rattle.std.specs.{Option.option_copied, Prelude.{IfErr, IfSome, None, OnOk, Some, false, is_some, length, map, slice_get, true}};
+ghost use Rattle.std.specs.Prelude.{unwrap_or, ℕ, ◌<◌, ◌≡◌, ◌≢◌, ◌≤◌};
+ghost use Rattle.{c104_link.specs.Steps.step_at, c104_node.specs.{ActLinks.act_link, Acts.{IsWithinLimits, nodes_act}, Idle.IsIdleNode}};
+ghost use Rattle.c104_node.specs.{Nodes.{Node as TheNode, node_claim}, PlaceActs.{ActEndsAt, AloneDone}, Places.{HasRoomAt, bases, fulls}};
+ghost use Rattle.c104_node.specs.{Places.{room_fault, states}, PortActs.act_limit, PortParts.{PassesUnready, is_ready_at}};
+ghost use Rattle.c104_node.specs.{Records.has_link, Traces.full_at, WiredPlaces.is_linked_at};
+ghost use Rattle.{c104_regs.specs.declared.registers.TheConstants.LINKS, c104_switch.specs.Claims.IsNextLink};
 
 use crate::acts::ActOf;
 use crate::node::NodeOf;

@@ -1,8 +1,6 @@
 //! A node with its record: one switch or terminal, where it started, and what it did since.
-ghost use Rattle.std.specs.Prelude.{◌≡◌, ◌↔◌, [], IsTrue};
-ghost use Rattle.c104_node.specs.Nodes.{is_switch};
-ghost use Rattle.c104_node.specs.Records.{HasCap, IsRecorded, has_link, is_full, recorded_token};
-ghost use Rattle.c104_node.specs.Quiet.{IsQuietNode};
+ghost use Rattle.std.specs.Prelude.{IsTrue, [], ◌↔◌, ◌≡◌};
+ghost use Rattle.c104_node.specs.{Nodes.is_switch, Quiet.IsQuietNode, Records.{HasCap, IsRecorded, has_link, is_full, recorded_token}};
 ghost use Rattle.c104_node.specs.Starts.{start_node};
 
 mod acting;
@@ -42,8 +40,7 @@ pub struct Node {
 }
 
 impl Model for Node {
-    ghost use Rattle.std.specs.Prelude.{◌-◌, vec_len};
-    ghost use Rattle.std.specs.Vec.{vec_capacity};
+    ghost use Rattle.std.specs.{Prelude.{vec_len, ◌-◌}, Vec.vec_capacity};
     ghost use Rattle.c104_node.specs.Records.{IsRecorded, NodeRecord, NodeRoom};
 
     // What is seen, and the memory that there is for its acts.

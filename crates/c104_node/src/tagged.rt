@@ -4,9 +4,8 @@
 //! nothing beside itself. Both numbers are small enough for what they are kept in: a plan has at most 256 terminals, and
 //! a terminal sends fewer packets in a run than its trace may have entries, which are 2²⁰. So no remainder is taken of
 //! any number that comes up.
-ghost use Rattle.std.specs.Prelude.{◌≡◌, ◌<◌, ◌≤◌, IfOk};
-ghost use Rattle.c104_node.specs.Tagged.{tagged_origins};
-ghost use Rattle.c104_node.specs.TaggedWords.{code_of, token_of_code};
+ghost use Rattle.std.specs.Prelude.{IfOk, ◌<◌, ◌≡◌, ◌≤◌};
+ghost use Rattle.c104_node.specs.{Tagged.tagged_origins, TaggedWords.{code_of, token_of_code}};
 
 use crate::origins::Origin;
 use c104_token::{NoMemory, Token, TokenKind};

@@ -1,12 +1,9 @@
 //! A terminal: where packets are sent and received.
-ghost use Rattle.std.specs.Prelude.{◌≡◌, ◌↔◌, ◌<◌, ◌≤◌, ◌+◌, [], Some, length, map, is_some, slice_get, IfOk, IfSome, IsTrue, OnOk, OnErr};
+ghost use Rattle.std.specs.Prelude.{IfOk, IfSome, IsTrue, OnErr, OnOk, Some, [], is_some, length, map, slice_get, ◌+◌, ◌<◌, ◌↔◌, ◌≡◌, ◌≤◌};
+ghost use Rattle.{c104_link.specs.{Buffers.IsValidCap, Steps.{bool_outcome, option_outcome}}, c104_node.specs.Outboxes.waiting_taken};
+ghost use Rattle.c104_node.specs.Terminals.{new_terminal, sent_tokens, terminal_begin, terminal_credit_in, terminal_credit_out};
+ghost use Rattle.c104_node.specs.Terminals.{terminal_drain, terminal_enter, terminal_leave, terminal_send};
 ghost use Rattle.c104_token.specs.declared.text.TheConstants.{MAX_PACKET_BYTES};
-ghost use Rattle.c104_link.specs.Buffers.{IsValidCap};
-ghost use Rattle.c104_link.specs.Steps.{bool_outcome, option_outcome};
-ghost use Rattle.c104_node.specs.Terminals.{new_terminal, terminal_enter, terminal_leave, terminal_credit_out};
-ghost use Rattle.c104_node.specs.Terminals.{terminal_credit_in, terminal_drain};
-ghost use Rattle.c104_node.specs.Outboxes.{waiting_taken};
-ghost use Rattle.c104_node.specs.Terminals.{sent_tokens, terminal_begin, terminal_send};
 
 mod arrived;
 mod copies;
@@ -47,10 +44,9 @@ pub struct TerminalOf<T: TokenKind> {
 }
 
 impl<T: TokenKind> Model for TerminalOf<T> {
-    ghost use Rattle.std.specs.Prelude.{◌≤◌, map};
-    ghost use Rattle.c104_link.specs.declared.outgoing.TheConstants.{CREDIT_LIMIT};
-    ghost use Rattle.c104_node.specs.Outboxes.{IsOutbox, packet_of, waiting_from};
-    ghost use Rattle.c104_node.specs.Terminals.{Terminal};
+    ghost use Rattle.std.specs.Prelude.{map, ◌≤◌};
+    ghost use Rattle.{c104_link.specs.declared.outgoing.TheConstants.CREDIT_LIMIT, c104_node.specs.Outboxes.{IsOutbox, packet_of}};
+    ghost use Rattle.c104_node.specs.{Outboxes.waiting_from, Terminals.Terminal};
 
     ghost Value = { Terminal T };
 

@@ -2,11 +2,9 @@
 //!
 //! Only terminators tell where they came from, and the packet that an input is at is the first to end there.
 ghost use Rattle.std.specs.Prelude.{◌≡◌};
-ghost use Rattle.c104_token.specs.Tokens.{is_end};
-ghost use Rattle.c104_node.specs.Tagged.{tagged_origin};
-ghost use Rattle.c104_picture.specs.Holders.{input_end, output_end, owner_trail, packet_at, packet_out, sent_trail, trail_behind, trail_of, view_trail};
-ghost use Rattle.c104_run.specs.NetViews.{network_link_view};
-ghost use Rattle.c104_token.specs.Kinds.{plain_kind};
+ghost use Rattle.{c104_node.specs.Tagged.tagged_origin, c104_picture.specs.Holders.{input_end, output_end, owner_trail, packet_at}};
+ghost use Rattle.c104_picture.specs.Holders.{packet_out, sent_trail, trail_behind, trail_of, view_trail};
+ghost use Rattle.{c104_run.specs.NetViews.network_link_view, c104_token.specs.{Kinds.plain_kind, Tokens.is_end}};
 
 use crate::senders::{Sending, sending_at};
 use c104_check::SwitchPort;

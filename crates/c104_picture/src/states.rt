@@ -2,15 +2,12 @@
 //!
 //! A packet's name is at each of its arrows, beside a colour by its terminal and a pattern by terminal and number, so
 //! that a picture needs no list of packets, and can be read in grey.
-ghost use Rattle.std.specs.Prelude.{◌≡◌, ◌≤◌, ◌++◌, ◌*◌, ◌&&◌, IfOk, OnOk, length, map};
-ghost use Rattle.std.specs.List.{range_with_len};
-ghost use Rattle.c104_check.specs.Routes.{port_at};
-ghost use Rattle.c104_picture.specs.States.{IsNetState, before, behind, header_count, hold_by, hold_of, link_count, link_way, sent_hold, terminal_way, view_hold, wants, way_of, ways, wish_of, wishes, wishes_by, wishes_of};
-ghost use Rattle.c104_picture.specs.Waits.{is_locked};
-ghost use Rattle.c104_regs.specs.declared.registers.TheConstants.{LINKS};
-ghost use Rattle.c104_run.specs.NetViews.{network_link_view};
-ghost use Rattle.c104_switch.specs.Phases.{is_want};
-ghost use Rattle.c104_token.specs.Kinds.{plain_kind};
+ghost use Rattle.std.specs.{List.range_with_len, Prelude.{IfOk, OnOk, length, map, ◌&&◌, ◌*◌, ◌++◌, ◌≡◌, ◌≤◌}};
+ghost use Rattle.{c104_check.specs.Routes.port_at, c104_picture.specs.States.{IsNetState, before, behind, header_count, hold_by, hold_of}};
+ghost use Rattle.c104_picture.specs.States.{link_count, link_way, sent_hold, terminal_way, view_hold, wants, way_of, ways, wish_of, wishes};
+ghost use Rattle.c104_picture.specs.{States.{wishes_by, wishes_of}, Waits.is_locked};
+ghost use Rattle.{c104_regs.specs.declared.registers.TheConstants.LINKS, c104_run.specs.NetViews.network_link_view};
+ghost use Rattle.{c104_switch.specs.Phases.is_want, c104_token.specs.Kinds.plain_kind};
 
 use crate::holders::{BUFFER_LIMIT, packet_at};
 use crate::senders::{Sending, sending_at};

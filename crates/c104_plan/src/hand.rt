@@ -1,10 +1,7 @@
 //! The image that a plan's own lines give.
-ghost use Rattle.std.specs.Prelude.{◌≡◌, filter, length, map, slice_get, IfOk};
-ghost use Rattle.std.specs.List.{find, range_with_len};
-ghost use Rattle.c104_plan.specs.Ports.{is_any_at, is_of_switch};
-ghost use Rattle.c104_plan.specs.Plans.{IsPlan, deletes_at, is_continued, is_on, rows_of};
-ghost use Rattle.c104_plan.specs.PlanImage.{AreSettings, Fits, hand_image};
-ghost use Rattle.c104_plan.specs.PlanImage.{base_of, is_random_of, settings_of, switch_settings, table_of};
+ghost use Rattle.std.specs.{List.{find, range_with_len}, Prelude.{IfOk, filter, length, map, slice_get, ◌≡◌}};
+ghost use Rattle.c104_plan.specs.PlanImage.{AreSettings, Fits, base_of, hand_image, is_random_of, settings_of, switch_settings, table_of};
+ghost use Rattle.c104_plan.specs.{Plans.{IsPlan, deletes_at, is_continued, is_on, rows_of}, Ports.{is_any_at, is_of_switch}};
 
 use crate::image::{Image, ranges};
 use crate::plans::{Plan, PlanRandom, PlanRow};

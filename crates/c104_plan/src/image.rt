@@ -1,13 +1,10 @@
 //! Images: what is to be loaded into a network's switches.
-ghost use Rattle.std.specs.Prelude.{◌≡◌, ◌≢◌, ◌⊎◌, ◌↔◌, ℕ, List, All, Err, IfOk, IfSome, IsTrue, Ok, OnErr, OnOk, Some, map, option_map, slice_get};
-ghost use Rattle.std.specs.Option.{option_copied};
-ghost use Rattle.c104_regs.specs.declared.faults.RegFault.{RegFault as TheRegFault};
-ghost use Rattle.c104_regs.specs.KeptValues.{IsMapOf, kept_values};
-ghost use Rattle.c104_regs.specs.Registers.{reset_bank, settable};
-ghost use Rattle.c104_regs.specs.declared.settings.Settings.{Settings as TheSettings};
-ghost use Rattle.c104_plan.specs.Plans.{IsPlan, IsRange};
-ghost use Rattle.c104_plan.specs.PlanImage.{AreSettings, Fits, range_of};
+ghost use Rattle.std.specs.{Option.option_copied, Prelude.{All, Err, IfOk, IfSome, IsTrue, List, Ok, OnErr, OnOk, Some, map, option_map}};
+ghost use Rattle.std.specs.Prelude.{slice_get, ℕ, ◌↔◌, ◌≡◌, ◌≢◌, ◌⊎◌};
 ghost use Rattle.c104_plan.specs.ImageEdits.{AnswersDue, image_peek, image_set, image_set_range, is_range, new_image};
+ghost use Rattle.{c104_plan.specs.{PlanImage.{AreSettings, Fits, range_of}, Plans.{IsPlan, IsRange}}, c104_regs.specs.KeptValues.IsMapOf};
+ghost use Rattle.c104_regs.specs.{KeptValues.kept_values, Registers.{reset_bank, settable}};
+ghost use Rattle.c104_regs.specs.declared.{faults.RegFault.RegFault as TheRegFault, settings.Settings.Settings as TheSettings};
 ghost use Rattle.c104_plan.specs.declared.image_faults.ImageFault.TheVariants as fault;
 
 use crate::image_faults::ImageFault;

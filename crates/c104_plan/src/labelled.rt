@@ -1,12 +1,9 @@
 //! The image of a plan whose switches have tables that are given.
-ghost use Rattle.std.specs.Prelude.{◌≡◌, ◌<◌, ◌*◌, All, length, map, IfOk};
-ghost use Rattle.std.specs.List.{range_with_len};
+ghost use Rattle.std.specs.{List.range_with_len, Prelude.{All, IfOk, length, map, ◌*◌, ◌<◌, ◌≡◌}};
+ghost use Rattle.c104_plan.specs.LabelledImages.{labelled_image, labelled_settings, labelled_switch, port_labelled_image};
+ghost use Rattle.c104_plan.specs.{LabelledImages.{port_labelled_switch, port_table, table_in}, PlanImage.{AreSettings, Fits}, Plans.IsPlan};
+ghost use Rattle.{c104_plan.specs.{Plans.{IsRange, is_continued, rows_of}, Ports.is_any_at}, c104_regs.specs.Ranges.IsTableInRange};
 ghost use Rattle.c104_regs.specs.declared.registers.TheConstants.{LINKS as LINK_COUNT};
-ghost use Rattle.c104_regs.specs.Ranges.{IsTableInRange};
-ghost use Rattle.c104_plan.specs.Plans.{IsPlan, IsRange, is_continued, rows_of};
-ghost use Rattle.c104_plan.specs.Ports.{is_any_at};
-ghost use Rattle.c104_plan.specs.PlanImage.{AreSettings, Fits};
-ghost use Rattle.c104_plan.specs.LabelledImages.{labelled_image, labelled_settings, labelled_switch, port_labelled_image, port_labelled_switch, port_table, table_in};
 
 use crate::hand::{continues_of_switch, rows_of_switch, settings_of};
 use crate::image::{Image, ranges};
@@ -19,9 +16,8 @@ use c104_token::NoMemory;
 use std::alloc::{AllocError, Global};
 
 impl Plan {
-    ghost use Rattle.std.specs.Prelude.{◌≡◌, map, IfOk};
-    ghost use Rattle.c104_plan.specs.Plans.{IsPlan};
-    ghost use Rattle.c104_plan.specs.PlanImage.{range_of};
+    ghost use Rattle.std.specs.Prelude.{IfOk, map, ◌≡◌};
+    ghost use Rattle.c104_plan.specs.{PlanImage.range_of, Plans.IsPlan};
 
     /// The range of each terminal, by its first label and how many they are. The only error is out of memory.
     pub fn ranges(&self, alloc: Global) -> Result<Vec<(u32, u32)>, NoMemory>

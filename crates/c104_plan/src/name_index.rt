@@ -1,6 +1,5 @@
 //! Names and their numbers.
-ghost use Rattle.std.specs.Prelude.{◌≡◌, ◌<◌, [], ◌∷◌, ◌++◌, false, bytes_eq, length, position, IfOk, IfSome, OnErr, OnOk};
-ghost use Rattle.std.specs.List.{list_any};
+ghost use Rattle.std.specs.{List.list_any, Prelude.{IfOk, IfSome, OnErr, OnOk, [], bytes_eq, false, length, position, ◌++◌, ◌<◌, ◌∷◌, ◌≡◌}};
 
 use indexmap::IndexSet;
 use std::alloc::{AllocError, Global};

@@ -61,12 +61,11 @@ struct Headers {
 }
 
 impl Parts {
-    ghost use Rattle.std.specs.Prelude.{◌≡◌, ℕ, ◌<◌, ◌≤◌, length, IfOk, IfSome, ◌||◌};
-    ghost use Rattle.std.specs.List.{list_any};
-    ghost use Rattle.c104_plan.specs.Ports.{Wire as TheWire, is_any_at, is_port, IsSwitchPort};
-    ghost use Rattle.c104_plan.specs.Plans.{PlanBase as TheBase, PlanRandom as TheRandom, switch_number, terminal_number};
-    ghost use Rattle.c104_plan.specs.Plans.{host_port, is_taken, is_linked, is_continued, is_deleted, next_first, rows_of, AreTerminals, label_count, most_switches};
-    ghost use Rattle.c104_plan.specs.PlanParts.{has_settings, plan_of, empty_plan};
+    ghost use Rattle.std.specs.{List.list_any, Prelude.{IfOk, IfSome, length, ℕ, ◌<◌, ◌||◌, ◌≡◌, ◌≤◌}};
+    ghost use Rattle.c104_plan.specs.{PlanParts.{empty_plan, has_settings, plan_of}, Plans.{AreTerminals, PlanBase as TheBase}};
+    ghost use Rattle.c104_plan.specs.Plans.{PlanRandom as TheRandom, host_port, is_continued, is_deleted, is_linked, is_taken, label_count};
+    ghost use Rattle.c104_plan.specs.{Plans.{most_switches, next_first, rows_of, switch_number, terminal_number}, Ports.IsSwitchPort};
+    ghost use Rattle.c104_plan.specs.Ports.{Wire as TheWire, is_any_at, is_port};
 
     /// The parts of a plan without lines.
     pub fn new(alloc: Global) -> Result<Self, AllocError>

@@ -108,8 +108,7 @@ pub struct Plan {
 }
 
 impl Model for Plan {
-    ghost use Rattle.c104_plan.specs.Plans.{Plan as Described, IsPlan};
-    ghost use Rattle.c104_plan.specs.PlanParts.{plan_of};
+    ghost use Rattle.c104_plan.specs.{PlanParts.plan_of, Plans.{IsPlan, Plan as Described}};
 
     ghost Value = { Described };
 
@@ -130,9 +129,8 @@ impl Clone for Plan {
 }
 
 impl Plan {
-    ghost use Rattle.std.specs.Prelude.{◌≡◌, ◌<◌, length, IfSome};
-    ghost use Rattle.c104_plan.specs.PlanParts.{plan_of};
-    ghost use Rattle.c104_plan.specs.Plans.{IsPlan, switch_number, terminal_number};
+    ghost use Rattle.std.specs.Prelude.{IfSome, length, ◌<◌, ◌≡◌};
+    ghost use Rattle.c104_plan.specs.{PlanParts.plan_of, Plans.{IsPlan, switch_number, terminal_number}};
 
     /// The plan of these parts, which keep what each plan does.
     pub fn new(parts: Parts) -> Self

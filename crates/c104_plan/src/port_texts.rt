@@ -1,6 +1,5 @@
 //! How texts name switches, terminals and ports, and what a row selects.
-ghost use Rattle.std.specs.Prelude.{◌≡◌, IfOk};
-ghost use Rattle.std.specs.String.{string_bytes};
+ghost use Rattle.std.specs.{Prelude.{IfOk, ◌≡◌}, String.string_bytes};
 ghost use Rattle.c104_plan.specs.PortTexts.{select_text};
 
 use crate::plans::Plan;
@@ -9,8 +8,7 @@ use c104_interval::Select;
 use std::alloc::{AllocError, Global};
 
 impl Plan {
-    ghost use Rattle.std.specs.Prelude.{◌≡◌, IfOk};
-    ghost use Rattle.std.specs.String.{string_bytes};
+    ghost use Rattle.std.specs.{Prelude.{IfOk, ◌≡◌}, String.string_bytes};
     ghost use Rattle.c104_plan.specs.PortTexts.{port_text, switch_name, terminal_name};
 
     /// The name of a switch; where there is none, nothing.

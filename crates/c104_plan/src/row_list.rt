@@ -1,9 +1,7 @@
 //! The rows of a plan's interval tables.
-ghost use Rattle.std.specs.Prelude.{◌≡◌, ◌<◌, [], ◌∷◌, ◌++◌, length, IfOk, OnErr, OnOk};
-ghost use Rattle.c104_interval.specs.declared.intervals.TheConstants.{ROWS};
-ghost use Rattle.c104_plan.specs.Ports.{IsSwitchPort};
-ghost use Rattle.c104_plan.specs.Plans.{most_switches, rows_of};
-ghost use Rattle.c104_plan.specs.PlanIndex.{input_place};
+ghost use Rattle.std.specs.Prelude.{IfOk, OnErr, OnOk, [], length, ◌++◌, ◌<◌, ◌∷◌, ◌≡◌};
+ghost use Rattle.{c104_interval.specs.declared.intervals.TheConstants.ROWS, c104_plan.specs.{PlanIndex.input_place, Plans.most_switches}};
+ghost use Rattle.c104_plan.specs.{Plans.rows_of, Ports.IsSwitchPort};
 
 use crate::limits::MAX_SWITCHES;
 use crate::plans::PlanRow;
@@ -25,9 +23,8 @@ pub struct RowList {
 }
 
 impl Model for RowList {
-    ghost use Rattle.std.specs.Prelude.{◌≡◌, List, length};
-    ghost use Rattle.c104_plan.specs.Plans.{PlanRow as TheRow};
-    ghost use Rattle.c104_plan.specs.PlanIndex.{AreCounted};
+    ghost use Rattle.std.specs.Prelude.{List, length, ◌≡◌};
+    ghost use Rattle.c104_plan.specs.{PlanIndex.AreCounted, Plans.PlanRow as TheRow};
 
     ghost Value = { List TheRow };
 

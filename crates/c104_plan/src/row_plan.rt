@@ -1,15 +1,12 @@
 //! The plan by hand that has an image.
-ghost use Rattle.std.specs.Prelude.{◌≡◌, ◌↔◌, ◌<◌, ◌≤◌, length, true, IfOk, IsTrue, OnOk};
+ghost use Rattle.std.specs.Prelude.{IfOk, IsTrue, OnOk, length, true, ◌<◌, ◌↔◌, ◌≡◌, ◌≤◌};
+ghost use Rattle.c104_plan.specs.{PlanImage.{AreSettings, Fits, IsImage, hand_image}, PlanParts.plan_of, Plans.{IsPlan, most_switches}};
+ghost use Rattle.c104_plan.specs.{Ports.IsSwitchPort, RowPlans.{IsOfNetwork, base_given, continue_given, delete_given, deletes_given}};
+ghost use Rattle.c104_plan.specs.RowPlans.{is_deleting, is_plan_select, is_reset_row, link_given, links_given, random_given, row_given};
+ghost use Rattle.c104_plan.specs.RowPlans.{row_plan, rows_given, switches_given, unset_plan, used_rows};
+ghost use Rattle.c104_plan.specs.declared.plans.Shape.TheVariants.{Hand as by_hand};
 ghost use Rattle.c104_regs.specs.declared.registers.TheConstants.{LINKS as link_count};
 ghost use Rattle.c104_plan.specs.declared.ports.Port.TheVariants as port_kind;
-ghost use Rattle.c104_plan.specs.Ports.{IsSwitchPort};
-ghost use Rattle.c104_plan.specs.Plans.{IsPlan, most_switches};
-ghost use Rattle.c104_plan.specs.PlanImage.{AreSettings, Fits, IsImage, hand_image};
-ghost use Rattle.c104_plan.specs.PlanParts.{plan_of};
-ghost use Rattle.c104_plan.specs.declared.plans.Shape.TheVariants.{Hand as by_hand};
-ghost use Rattle.c104_plan.specs.RowPlans.{IsOfNetwork, base_given, continue_given, delete_given, deletes_given};
-ghost use Rattle.c104_plan.specs.RowPlans.{is_deleting, is_plan_select, is_reset_row, link_given, links_given, random_given};
-ghost use Rattle.c104_plan.specs.RowPlans.{row_given, row_plan, rows_given, switches_given, unset_plan, used_rows};
 
 use crate::hand::hand_image;
 use crate::image::Image;
@@ -25,10 +22,9 @@ use c104_token::NoMemory;
 use std::alloc::{AllocError, Global};
 
 impl Image {
-    ghost use Rattle.std.specs.Prelude.{◌≡◌, ◌↔◌, is_some, IfOk, IfSome, IsTrue};
-    ghost use Rattle.c104_plan.specs.PlanImage.{Fits, hand_image};
+    ghost use Rattle.std.specs.Prelude.{IfOk, IfSome, IsTrue, is_some, ◌↔◌, ◌≡◌};
+    ghost use Rattle.c104_plan.specs.{PlanImage.{Fits, hand_image}, RowPlans.{IsOfNetwork, row_plan}};
     ghost use Rattle.c104_plan.specs.declared.plans.Shape.TheVariants.{Hand as by_hand};
-    ghost use Rattle.c104_plan.specs.RowPlans.{IsOfNetwork, row_plan};
 
     /// The plan whose own lines give this image over the network of a plan that the image fits: it has that
     /// plan's headers, buffers, switches, terminals and wires, the image's ranges, and `continue`, `delete`, `base`, `row`

@@ -1,10 +1,9 @@
 //! What one switch of an image is to hold.
-ghost use Rattle.std.specs.Prelude.{◌≡◌, ◌≢◌, ◌++◌, ◌<◌, ◌≤◌, ◌==◌, ◌&&◌, ℕ, List, Option, All, Ok, length, nat_lt, slice_index_or, vec_capacity, vec_len, IfOk, OnErr, OnOk};
-ghost use Rattle.c104_regs.specs.KeptValues.{IsMapOf, kept_value, kept_values};
-ghost use Rattle.c104_regs.specs.Registers.{IsRegisterBank, bank_peek, placed_bank, reset_bank};
-ghost use Rattle.c104_plan.specs.PlanImage.{AreSettings};
-ghost use Rattle.c104_plan.specs.ImageEdits.{AnswersDue, settings_set};
-ghost use Rattle.c104_plan.specs.SwitchImages.{led_by};
+ghost use Rattle.std.specs.Prelude.{All, IfOk, List, Ok, OnErr, OnOk, Option, length, nat_lt, slice_index_or, vec_capacity, vec_len, ℕ};
+ghost use Rattle.std.specs.Prelude.{◌&&◌, ◌++◌, ◌<◌, ◌==◌, ◌≡◌, ◌≢◌, ◌≤◌};
+ghost use Rattle.c104_plan.specs.{ImageEdits.{AnswersDue, settings_set}, PlanImage.AreSettings, SwitchImages.led_by};
+ghost use Rattle.c104_regs.specs.{KeptValues.{IsMapOf, kept_value, kept_values}, Registers.{IsRegisterBank, bank_peek, placed_bank}};
+ghost use Rattle.c104_regs.specs.Registers.{reset_bank};
 
 use crate::image_faults::ImageFault;
 use c104_regs::{PackedSettings, Registers, Settings};
@@ -22,8 +21,7 @@ pub struct SwitchImage {
 
 impl Model for SwitchImage {
     ghost use Rattle.std.specs.Prelude.{List};
-    ghost use Rattle.c104_regs.specs.declared.settings.Settings.{Settings as TheSettings};
-    ghost use Rattle.c104_plan.specs.SwitchImages.{AreKept};
+    ghost use Rattle.{c104_plan.specs.SwitchImages.AreKept, c104_regs.specs.declared.settings.Settings.Settings as TheSettings};
 
     ghost Value = { List TheSettings };
 

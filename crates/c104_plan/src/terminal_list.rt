@@ -1,9 +1,7 @@
 //! The terminals of a plan.
-ghost use Rattle.std.specs.Prelude.{◌≡◌, ◌<◌, ◌≤◌, Some, slice_get, slice_set, [], ◌∷◌, ◌++◌, false, bytes_eq, length, map, position, IfOk, IfSome, OnErr, OnOk};
-ghost use Rattle.std.specs.List.{list_any};
-ghost use Rattle.c104_plan.specs.PlanParts.{without_first};
-ghost use Rattle.c104_plan.specs.Plans.{Terminal as TheTerminal};
-ghost use Rattle.c104_plan.specs.RowPlans.{with_ranges};
+ghost use Rattle.std.specs.{List.list_any, Prelude.{IfOk, IfSome, OnErr, OnOk, Some, [], bytes_eq, false, length, map, position}};
+ghost use Rattle.std.specs.Prelude.{slice_get, slice_set, ◌++◌, ◌<◌, ◌∷◌, ◌≡◌, ◌≤◌};
+ghost use Rattle.c104_plan.specs.{PlanParts.without_first, Plans.Terminal as TheTerminal, RowPlans.with_ranges};
 
 use crate::name_index::NameIndex;
 use crate::plans::Terminal;

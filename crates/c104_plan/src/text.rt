@@ -1,8 +1,7 @@
 //! The words of a text: how it is cut into lines and words, and what a number and a name are.
-ghost use Rattle.std.specs.Prelude.{◌≡◌, ◌^◌, ◌<◌, ◌==◌, length, map, option_map, position, slice_get, IfOk, IfSome};
-ghost use Rattle.std.specs.List.{list_all};
-ghost use Rattle.c104_plan.specs.TextCut.{lines, uncommented_line, parts_words, line_words, is_plain_line, is_printable};
-ghost use Rattle.c104_plan.specs.TextWords.{read_number, most_digits, is_name, is_name_byte, dots, IsInside};
+ghost use Rattle.std.specs.{List.list_all, Prelude.{IfOk, IfSome, length, map, option_map, position, slice_get, ◌<◌, ◌==◌, ◌^◌, ◌≡◌}};
+ghost use Rattle.c104_plan.specs.TextCut.{is_plain_line, is_printable, line_words, lines, parts_words, uncommented_line};
+ghost use Rattle.c104_plan.specs.TextWords.{IsInside, dots, is_name, is_name_byte, most_digits, read_number};
 
 use c104_token::NoMemory;
 use smallvec::SmallVec;

@@ -1,15 +1,13 @@
 //! The wiring of a plan: which port is wired to which.
 ghost use Rattle.std.specs.Prelude.{◌≡◌};
-ghost use Rattle.c104_plan.specs.Ports.{other_end};
-ghost use Rattle.c104_plan.specs.Wiring.{terminal_wires};
+ghost use Rattle.c104_plan.specs.{Ports.other_end, Wiring.terminal_wires};
 
 use crate::plans::{Plan, Terminal};
 use crate::ports::{Port, Wire};
 
 impl Plan {
-    ghost use Rattle.std.specs.Prelude.{◌≡◌, IfSome};
-    ghost use Rattle.c104_plan.specs.Plans.{IsPlan};
-    ghost use Rattle.c104_plan.specs.Wiring.{IsPlanPort, IsWiring, peer};
+    ghost use Rattle.std.specs.Prelude.{IfSome, ◌≡◌};
+    ghost use Rattle.c104_plan.specs.{Plans.IsPlan, Wiring.{IsPlanPort, IsWiring, peer}};
 
     /// The port that a port is wired to. None where it has no wire.
     ///

@@ -1,8 +1,6 @@
 //! Which links continue a group.
-ghost use Rattle.std.specs.Prelude.{◌≡◌, ◌≤◌, ℕ, length};
-ghost use Rattle.std.specs.Int.{bit_at};
-ghost use Rattle.c104_regs.specs.Groups.{continue_bits, continues_at};
-ghost use Rattle.c104_regs.specs.Values.{bit_value};
+ghost use Rattle.std.specs.{Int.bit_at, Prelude.{length, ℕ, ◌≡◌, ◌≤◌}};
+ghost use Rattle.c104_regs.specs.{Groups.{continue_bits, continues_at}, Values.bit_value};
 
 use crate::packed::PackedSettings;
 use crate::registers::LINKS;

@@ -1,10 +1,7 @@
 //! What of a switch's settings differs from a reset, by address.
-ghost use Rattle.std.specs.Prelude.{◌≡◌, ◌≤◌, ◌<◌, ◌↔◌, ◌-◌, ◌/◌, ◌%◌, ℕ, None, Some, true, IfOk, length, slice_index_or};
-ghost use Rattle.c104_regs.specs.Addresses.{register_properties};
-ghost use Rattle.c104_regs.specs.Registers.{IsRegisterBank};
-ghost use Rattle.c104_regs.specs.KeptValues.{IsKept, IsMapOf, kept_value, kept_values, unless_reset};
-ghost use Rattle.c104_regs.specs.Gaps.{is_gap};
-ghost use Rattle.c104_regs.specs.Settings.{reset_settings};
+ghost use Rattle.std.specs.Prelude.{IfOk, None, Some, length, slice_index_or, true, ℕ, ◌%◌, ◌-◌, ◌/◌, ◌<◌, ◌↔◌, ◌≡◌, ◌≤◌};
+ghost use Rattle.c104_regs.specs.{Addresses.register_properties, Gaps.is_gap, KeptValues.{IsKept, IsMapOf, kept_value, kept_values}};
+ghost use Rattle.c104_regs.specs.{KeptValues.unless_reset, Registers.IsRegisterBank, Settings.reset_settings};
 
 use crate::addresses::{ADDRESS_END, Address, Register};
 use crate::packed::PackedSettings;

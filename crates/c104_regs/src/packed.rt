@@ -1,12 +1,9 @@
 //! What is set at one link, packed into words.
-ghost use Rattle.std.specs.Prelude.{◌≡◌, ◌<◌, ◌*◌, All, IsTrue, map, replicate, true};
-ghost use Rattle.c104_interval.specs.Selection.{IsSelected, row_at, select};
-ghost use Rattle.c104_interval.specs.declared.intervals.TheConstants.{ROWS};
-ghost use Rattle.c104_regs.specs.Addresses.{IsRegister, register_takes};
-ghost use Rattle.c104_regs.specs.Packed.{IsPackable, first_above, row_of_word, word_of_row};
-ghost use Rattle.c104_regs.specs.Ranges.{IsInRange};
-ghost use Rattle.c104_regs.specs.Settings.{header_length, reset_settings};
-ghost use Rattle.c104_regs.specs.Values.{mode_of, select_code, select_of, with_value};
+ghost use Rattle.std.specs.Prelude.{All, IsTrue, map, replicate, true, ◌*◌, ◌<◌, ◌≡◌};
+ghost use Rattle.c104_interval.specs.{Selection.{IsSelected, row_at, select}, declared.intervals.TheConstants.ROWS};
+ghost use Rattle.c104_regs.specs.{Addresses.{IsRegister, register_takes}, Packed.{IsPackable, first_above, row_of_word, word_of_row}};
+ghost use Rattle.c104_regs.specs.{Ranges.IsInRange, Settings.{header_length, reset_settings}, Values.{mode_of, select_code, select_of}};
+ghost use Rattle.c104_regs.specs.Values.{with_value};
 
 use crate::addresses::Register;
 use crate::settings::Settings;
@@ -38,8 +35,7 @@ impl Model for PackedSettings {
 
     ghost Value = { TheSettings };
 
-    ghost use Rattle.c104_regs.specs.Packed.{ArePacked, packed, unpacked};
-    ghost use Rattle.c104_regs.specs.PackedWords.{packed-unpacked};
+    ghost use Rattle.c104_regs.specs.{Packed.{ArePacked, packed, unpacked}, PackedWords.packed-unpacked};
 
     ghost view = { unpacked };
 

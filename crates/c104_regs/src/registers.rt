@@ -1,12 +1,10 @@
 //! The registers of a switch, by address.
-ghost use Rattle.std.specs.Prelude.{◌≡◌, ◌≢◌, ℕ, ◌-◌, ◌/◌, ◌<◌, All, Err, IfOk, IsTrue, OnErr, OnOk, Ok, length};
-ghost use Rattle.std.specs.Int.{bit_at};
-ghost use Rattle.c104_regs.specs.Addresses.{IsRegister, Register, register_properties, register_takes};
-ghost use Rattle.c104_regs.specs.declared.faults.RegFault.TheVariants.{OutOfRange};
-ghost use Rattle.c104_regs.specs.Groups.{continue_bits, continues_at};
-ghost use Rattle.c104_regs.specs.Ranges.{IsInRange, IsTableInRange};
-ghost use Rattle.c104_regs.specs.Registers.{IsRegisterBank, IsTarget, RegisterBank as Bank, bank_peek, placed_bank, bank_poke, free_target, reset_bank, settable, settings_at, settings_with, status_at, target, with_status};
-ghost use Rattle.c104_regs.specs.Values.{mode_of, bit_value, register_read};
+ghost use Rattle.std.specs.{Int.bit_at, Prelude.{All, Err, IfOk, IsTrue, Ok, OnErr, OnOk, length, ℕ, ◌-◌, ◌/◌, ◌<◌, ◌≡◌, ◌≢◌}};
+ghost use Rattle.c104_regs.specs.{Addresses.{IsRegister, Register, register_properties, register_takes}, Groups.continue_bits};
+ghost use Rattle.c104_regs.specs.{Groups.continues_at, Ranges.{IsInRange, IsTableInRange}, Registers.{IsRegisterBank, IsTarget}};
+ghost use Rattle.c104_regs.specs.Registers.{RegisterBank as Bank, bank_peek, bank_poke, free_target, placed_bank, reset_bank, settable};
+ghost use Rattle.c104_regs.specs.{Registers.{settings_at, settings_with, status_at, target, with_status}, Values.{bit_value, mode_of}};
+ghost use Rattle.c104_regs.specs.{Values.register_read, declared.faults.RegFault.TheVariants.OutOfRange};
 
 use crate::addresses::{Address, Register};
 use crate::faults::RegFault;
@@ -39,10 +37,8 @@ pub struct Registers {
 }
 
 impl Model for Registers {
-    ghost use Rattle.std.specs.Prelude.{◌≡◌};
-    ghost use Rattle.c104_regs.specs.Groups.{continue_bits};
-    ghost use Rattle.c104_regs.specs.Registers.{IsRegisterBank, RegisterBank};
-    ghost use Rattle.std.proofs.Common.{ap, sym};
+    ghost use Rattle.std.{proofs.Common.{ap, sym}, specs.Prelude.◌≡◌};
+    ghost use Rattle.c104_regs.specs.{Groups.continue_bits, Registers.{IsRegisterBank, RegisterBank}};
 
     ghost Value = { RegisterBank };
 

@@ -1,7 +1,6 @@
 //! What a register of a link reads, and what setting it changes.
 ghost use Rattle.std.specs.Prelude.{◌≡◌};
-ghost use Rattle.c104_regs.specs.Addresses.{IsRegister};
-ghost use Rattle.c104_regs.specs.Values.{select_of, mode_of, bit_value, owner_code, select_code, register_read};
+ghost use Rattle.c104_regs.specs.{Addresses.IsRegister, Values.{bit_value, mode_of, owner_code, register_read, select_code, select_of}};
 
 use crate::addresses::Register;
 use crate::packed::PackedSettings;

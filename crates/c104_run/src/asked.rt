@@ -3,13 +3,10 @@
 //! A port says which kind of node is there. In a network of bare nodes that has a terminal at a switch's place, what
 //! would cross a wire there is NotReady; no network with a record has such nodes. The far act is made from what the near
 //! one answered, so a token and a grant are one case.
-ghost use Rattle.std.specs.Prelude.{◌≡◌, None, Some, IfOk, MatchResult};
-ghost use Rattle.c104_plan.specs.Wiring.{peer};
+ghost use Rattle.std.specs.Prelude.{IfOk, MatchResult, None, Some, ◌≡◌};
+ghost use Rattle.{c104_plan.specs.Wiring.peer, c104_run.specs.{AskedActs.{AreEnds, acts_asked}, EventActs.{crossing_acts, event_acts}}};
+ghost use Rattle.c104_run.specs.{FarEnds.far_end, Network.{event_fault, wired_fault}};
 ghost use Rattle.c104_event.specs.declared.events.Event.TheVariants as event;
-ghost use Rattle.c104_run.specs.AskedActs.{AreEnds, acts_asked};
-ghost use Rattle.c104_run.specs.EventActs.{crossing_acts, event_acts};
-ghost use Rattle.c104_run.specs.FarEnds.{far_end};
-ghost use Rattle.c104_run.specs.Network.{event_fault, wired_fault};
 
 use crate::wires::Wires;
 use c104_control::ControlBytes;

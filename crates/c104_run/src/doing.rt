@@ -2,16 +2,10 @@
 //!
 //! Whether a trace is full is tested right before the first growth, the copy of a packet among them, and so before memory
 //! runs out. Room is made before the first act, so that of the two acts of a wire the second can't be refused.
-ghost use Rattle.std.specs.Prelude.{◌≡◌, ◌-◌, ◌<◌, None, MatchOption, false, true, is_some, length, map, slice_get, unwrap_or};
-ghost use Rattle.c104_node.specs.Acts.{IsWithinLimits, nodes_act};
-ghost use Rattle.c104_run.specs.AskedActs.{AreEnds, acts_asked};
-ghost use Rattle.c104_node.specs.PortActs.{act_limit};
-ghost use Rattle.c104_run.specs.EventsAtPlaces.{ActsDone};
-ghost use Rattle.c104_node.specs.PlaceActs.{AloneDone};
-ghost use Rattle.c104_node.specs.ActLinks.{act_link};
-ghost use Rattle.c104_node.specs.Places.{bases, fulls, room_fault, states};
-ghost use Rattle.c104_node.specs.Traces.{full_at};
-ghost use Rattle.c104_run.specs.KnownWires.{KnowWires};
+ghost use Rattle.std.specs.Prelude.{MatchOption, None, false, is_some, length, map, slice_get, true, unwrap_or, ◌-◌, ◌<◌, ◌≡◌};
+ghost use Rattle.c104_node.specs.{ActLinks.act_link, Acts.{IsWithinLimits, nodes_act}, PlaceActs.AloneDone, Places.{bases, fulls}};
+ghost use Rattle.{c104_node.specs.{Places.{room_fault, states}, PortActs.act_limit, Traces.full_at}, c104_run.specs.AskedActs.AreEnds};
+ghost use Rattle.c104_run.specs.{AskedActs.acts_asked, EventsAtPlaces.ActsDone, KnownWires.KnowWires};
 ghost use Rattle.c104_node.specs.declared.acts.ActOf.TheVariants as act;
 
 use crate::asked::Asked;

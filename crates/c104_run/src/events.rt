@@ -1,11 +1,7 @@
 //! The events of a network, over any places of its nodes: one act, or one at each end of a wire.
-ghost use Rattle.std.specs.Prelude.{◌≡◌, map};
-ghost use Rattle.c104_plan.specs.Plans.{IsPlan};
-ghost use Rattle.c104_node.specs.Places.{bases, states};
-ghost use Rattle.c104_run.specs.KnownWires.{KnowWires};
-ghost use Rattle.c104_run.specs.EventsAtPlaces.{EventDone, told_answer};
-ghost use Rattle.c104_run.specs.Meters.{meter_if, own_reply};
-ghost use Rattle.c104_run.specs.NetRecords.{is_done};
+ghost use Rattle.std.specs.Prelude.{map, ◌≡◌};
+ghost use Rattle.{c104_node.specs.Places.{bases, states}, c104_plan.specs.Plans.IsPlan, c104_run.specs.EventsAtPlaces.EventDone};
+ghost use Rattle.c104_run.specs.{EventsAtPlaces.told_answer, KnownWires.KnowWires, Meters.{meter_if, own_reply}, NetRecords.is_done};
 ghost use Rattle.c104_run.specs.Network.{network_of};
 
 use crate::asked::acts_of;

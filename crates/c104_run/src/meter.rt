@@ -4,9 +4,8 @@
 //! is beside the stage in the state of a run, and the proofs of the loops, which hold of any state and step, are the same
 //! with and without.
 ghost use Rattle.std.specs.Prelude.{◌≡◌};
+ghost use Rattle.c104_run.specs.{EventActs.crossing_event, Meters.{Sees, meter_told, unseen}};
 ghost use Rattle.c104_event.specs.declared.events.Event.TheVariants as event;
-ghost use Rattle.c104_run.specs.EventActs.{crossing_event};
-ghost use Rattle.c104_run.specs.Meters.{Sees, meter_told, unseen};
 
 use c104_event::{Event, EventFault, Port};
 use c104_node::Crossing;

@@ -1,14 +1,8 @@
 //! A network whose nodes keep what they do.
-ghost use Rattle.std.specs.Prelude.{◌≡◌, ◌↔◌, ℕ};
-ghost use Rattle.std.specs.Option.{option_copied};
-ghost use Rattle.std.specs.Prelude.{IfOk, IsErrOf, IsTrue, OnOk};
-ghost use Rattle.std.specs.Vec.{vec_capacity};
-ghost use Rattle.c104_plan.specs.PlanImage.{Fits};
-ghost use Rattle.c104_plan.specs.Plans.{IsPlan};
-ghost use Rattle.c104_run.specs.Finished.{run_arrived};
-ghost use Rattle.c104_run.specs.FinishedRecords.{HaveRunRoom, record_finish};
-ghost use Rattle.c104_run.specs.Network.{network_arrived, new_network, placed_network};
-ghost use Rattle.c104_run.specs.NetRecords.{fresh_record};
+ghost use Rattle.std.specs.{Option.option_copied, Prelude.{IfOk, IsErrOf, IsTrue, OnOk, ℕ, ◌↔◌, ◌≡◌}, Vec.vec_capacity};
+ghost use Rattle.{c104_plan.specs.{PlanImage.Fits, Plans.IsPlan}, c104_run.specs.{Finished.run_arrived, FinishedRecords.HaveRunRoom}};
+ghost use Rattle.c104_run.specs.{FinishedRecords.record_finish, NetRecords.fresh_record, Network.{network_arrived, new_network}};
+ghost use Rattle.c104_run.specs.Network.{placed_network};
 
 mod answers;
 mod beginning;

@@ -1,8 +1,6 @@
 //! What a network comes to that is taken apart.
 ghost use Rattle.std.specs.Prelude.{◌≡◌, ◌≤◌};
-ghost use Rattle.c104_plan.specs.Plans.{IsPlan};
-ghost use Rattle.c104_run.specs.NetParts.{AreParts};
-ghost use Rattle.c104_run.specs.NodeRuns.{TellRun};
+ghost use Rattle.{c104_plan.specs.Plans.IsPlan, c104_run.specs.{NetParts.AreParts, NodeRuns.TellRun}};
 
 use crate::wires::Wires;
 use c104_node::Node;

@@ -1,9 +1,7 @@
 //! A node's part of a round, made without the rest of the round.
-ghost use Rattle.std.specs.Prelude.{◌≡◌, ◌++◌, ◌∷◌, [], filter, IfOk, OnOk};
-ghost use Rattle.std.specs.List.{flat_map};
-ghost use Rattle.c104_run.specs.NodeParts.{events_of, node_ports, own_events, round_part};
-ghost use Rattle.c104_run.specs.RoundParts.{port_events};
-ghost use Rattle.c104_run.specs.Rounds.{claims_of, is_wired, switch_claims, turn_at, wired_links};
+ghost use Rattle.std.specs.{List.flat_map, Prelude.{IfOk, OnOk, [], filter, ◌++◌, ◌∷◌, ◌≡◌}};
+ghost use Rattle.c104_run.specs.{NodeParts.{events_of, node_ports, own_events, round_part}, RoundParts.port_events, Rounds.claims_of};
+ghost use Rattle.c104_run.specs.Rounds.{is_wired, switch_claims, turn_at, wired_links};
 
 use c104_event::{Event, Port};
 use c104_node::PortPart;

@@ -1,8 +1,6 @@
 //! The run that nodes tell which were taken out of a network.
-ghost use Rattle.std.specs.Prelude.{◌≡◌, ◌++◌, ◌∷◌, [], map, All, IfOk, OnOk};
-ghost use Rattle.c104_node.specs.Nodes.{terminals_of};
-ghost use Rattle.c104_node.specs.Records.{node_start, node_state, node_trace};
-ghost use Rattle.c104_run.specs.NodeRuns.{IsKeptNode};
+ghost use Rattle.std.specs.Prelude.{All, IfOk, OnOk, [], map, ◌++◌, ◌∷◌, ◌≡◌};
+ghost use Rattle.{c104_node.specs.{Nodes.terminals_of, Records.{node_start, node_state, node_trace}}, c104_run.specs.NodeRuns.IsKeptNode};
 ghost use Rattle.c104_run.specs.NodeRuns.{TellRun, nodes_run};
 
 use crate::run::Run;

@@ -1,10 +1,7 @@
 //! The tokens that wait at places of nodes, and what terminals sent.
-ghost use Rattle.std.specs.Prelude.{◌≡◌, map};
-ghost use Rattle.std.specs.Option.{option_copied};
-ghost use Rattle.c104_run.specs.Network.{network_of};
-ghost use Rattle.c104_run.specs.NetViews.{network_input_token, network_output_token, network_sent_packet};
-ghost use Rattle.c104_node.specs.Views.{nodes_input_token, nodes_output_token, nodes_sent_packet};
-ghost use Rattle.c104_node.specs.Places.{states};
+ghost use Rattle.std.specs.{Option.option_copied, Prelude.{map, ◌≡◌}};
+ghost use Rattle.c104_node.specs.{Places.states, Views.{nodes_input_token, nodes_output_token, nodes_sent_packet}};
+ghost use Rattle.c104_run.specs.{NetViews.{network_input_token, network_output_token, network_sent_packet}, Network.network_of};
 
 use crate::wires::Wires;
 use c104_event::Port;

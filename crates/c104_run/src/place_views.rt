@@ -1,13 +1,9 @@
 //! What places of nodes tell of themselves: registers, what can be seen of links and terminals, what arrived, and
 //! whether all is quiet. Whatever is kept beside a node, it is asked in the same way.
-ghost use Rattle.std.specs.Prelude.{◌≡◌, ◌↔◌, map, All, IsTrue};
-ghost use Rattle.std.specs.Option.{option_copied};
+ghost use Rattle.std.specs.{Option.option_copied, Prelude.{All, IsTrue, map, ◌↔◌, ◌≡◌}};
+ghost use Rattle.c104_node.specs.{Nodes.{nodes_arrived, nodes_peek}, Places.states, Quiet.IsQuietNode, Views.nodes_link_view};
+ghost use Rattle.{c104_node.specs.Views.nodes_terminal_view, c104_run.specs.NetViews.{network_link_view, network_terminal_view}};
 ghost use Rattle.c104_run.specs.Network.{network_arrived, network_of, network_peek};
-ghost use Rattle.c104_node.specs.Nodes.{nodes_arrived, nodes_peek};
-ghost use Rattle.c104_node.specs.Quiet.{IsQuietNode};
-ghost use Rattle.c104_node.specs.Views.{nodes_link_view, nodes_terminal_view};
-ghost use Rattle.c104_run.specs.NetViews.{network_link_view, network_terminal_view};
-ghost use Rattle.c104_node.specs.Places.{states};
 
 use crate::wires::Wires;
 use c104_node::{ArrivedOf, Place, TerminalView, node_at};

@@ -4,17 +4,11 @@
 //! Of a claim it is whether the switch is started, then what the input wants, and then what is in the way at the output.
 //! A reason is told at the port where something has to be done, with the number of the other link where there is one: so
 //! a sentence needs the reason alone.
-ghost use Rattle.std.specs.Prelude.{◌≡◌, map};
-ghost use Rattle.c104_plan.specs.Plans.{Plan as ThePlan};
-ghost use Rattle.c104_switch.specs.Reasons.{why_at};
-ghost use Rattle.c104_run.specs.AskedActs.{AreEnds, acts_asked};
-ghost use Rattle.c104_run.specs.Ends.{end_of};
-ghost use Rattle.c104_run.specs.EventActs.{port_place};
-ghost use Rattle.c104_run.specs.Network.{network_of};
-ghost use Rattle.c104_run.specs.Reasons.{acts_why, alone_why, claim_reason, end_why, far_why, near_why, network_why};
-ghost use Rattle.c104_node.specs.NodeReasons.{node_input_why, node_claim_why, node_drain_why};
-ghost use Rattle.c104_node.specs.Places.{states};
-ghost use Rattle.c104_node.specs.PortActs.{Acts};
+ghost use Rattle.std.specs.Prelude.{map, ◌≡◌};
+ghost use Rattle.c104_node.specs.{NodeReasons.{node_claim_why, node_drain_why, node_input_why}, Places.states, PortActs.Acts};
+ghost use Rattle.{c104_plan.specs.Plans.Plan as ThePlan, c104_run.specs.{AskedActs.{AreEnds, acts_asked}, Ends.end_of}};
+ghost use Rattle.c104_run.specs.{EventActs.port_place, Network.network_of, Reasons.{acts_why, alone_why, claim_reason, end_why, far_why}};
+ghost use Rattle.{c104_run.specs.Reasons.{near_why, network_why}, c104_switch.specs.Reasons.why_at};
 
 use crate::asked::{Asked, acts_of};
 use crate::reason::Reason;

@@ -1,10 +1,7 @@
 //! A network whose nodes are seen with their records, over any kind of token and any kind of place.
-ghost use Rattle.std.specs.Prelude.{◌≡◌, map};
-ghost use Rattle.c104_node.specs.Places.{bases};
-ghost use Rattle.c104_run.specs.KnownWires.{KnowWires};
-ghost use Rattle.c104_run.specs.NetRecords.{is_done, ticket_after, IsNetRecord, RecordsEvent};
-ghost use Rattle.c104_run.specs.RecordedNets.{places_record, reading, IsRecordedNet};
-ghost use Rattle.c104_run.specs.MeteredRuns.{MetersEvent};
+ghost use Rattle.std.specs.Prelude.{map, ◌≡◌};
+ghost use Rattle.{c104_node.specs.Places.bases, c104_run.specs.{KnownWires.KnowWires, MeteredRuns.MetersEvent, NetRecords.IsNetRecord}};
+ghost use Rattle.c104_run.specs.{NetRecords.{RecordsEvent, is_done, ticket_after}, RecordedNets.{IsRecordedNet, places_record, reading}};
 ghost use Rattle.c104_run.specs.RecordedRuns.{AnswersRecord, DoneLaw};
 
 mod asking;
@@ -42,11 +39,8 @@ pub struct RecordedNet<T: TokenKind, P: RecordedPlace<T>> {
 
 impl<T: TokenKind, P: RecordedPlace<T>> Model for RecordedNet<T, P> {
     ghost use Rattle.std.specs.Prelude.{map};
-    ghost use Rattle.c104_run.specs.NetRecords.{NetRecord};
-    ghost use Rattle.c104_node.specs.Places.{bases, states};
-    ghost use Rattle.c104_run.specs.KnownWires.{KnowWires};
-    ghost use Rattle.c104_run.specs.LivePlaces.{AreLive};
-    ghost use Rattle.c104_run.specs.RecordedNets.{places_record, reading, IsRecordedNet};
+    ghost use Rattle.{c104_node.specs.Places.{bases, states}, c104_run.specs.{KnownWires.KnowWires, LivePlaces.AreLive}};
+    ghost use Rattle.c104_run.specs.{NetRecords.NetRecord, RecordedNets.{IsRecordedNet, places_record, reading}};
 
     ghost Value = { NetRecord };
 

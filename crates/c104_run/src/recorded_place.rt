@@ -1,12 +1,8 @@
 //! A place of a network that in contracts keeps a record: where its node started, and what it did since.
 ghost use Rattle.std.specs.Prelude.{◌≡◌};
+ghost use Rattle.c104_node.specs.{Nodes.Node, Quiet.IsQuietNode, Starts.start_node, declared.starts.NodeStart.NodeStart as TheStart};
+ghost use Rattle.{c104_plan.specs.Plans.Plan as ThePlan, c104_run.specs.RecordedNets.{KeepsRecord, begun_told, place_told, reading}};
 ghost use Rattle.c104_token.specs.declared.tokens.Token.{Token as TheToken};
-ghost use Rattle.c104_plan.specs.Plans.{Plan as ThePlan};
-ghost use Rattle.c104_node.specs.Nodes.{Node};
-ghost use Rattle.c104_node.specs.Quiet.{IsQuietNode};
-ghost use Rattle.c104_run.specs.RecordedNets.{begun_told, place_told, reading, KeepsRecord};
-ghost use Rattle.c104_node.specs.Starts.{start_node};
-ghost use Rattle.c104_node.specs.declared.starts.NodeStart.{NodeStart as TheStart};
 
 mod counting;
 mod keeping;

@@ -1,12 +1,9 @@
 //! The nodes of a network that keep what they do, at first.
-ghost use Rattle.std.specs.Prelude.{◌≡◌, ◌++◌, [], length, true, map, OnOk};
+ghost use Rattle.std.specs.Prelude.{OnOk, [], length, map, true, ◌++◌, ◌≡◌};
+ghost use Rattle.{c104_node.specs.Terminals.new_terminal, c104_plan.specs.PlanImage.Fits, c104_run.specs.KnownWires.AreLinkedNodes};
+ghost use Rattle.c104_run.specs.{NetRecords.{first_record, shown_record}, Network.{new_network, placed_network}};
 ghost use Rattle.c104_switch.specs.Switch.{new_switch, new_switch_with};
-ghost use Rattle.c104_plan.specs.PlanImage.{Fits};
-ghost use Rattle.c104_node.specs.Terminals.{new_terminal};
 ghost use Rattle.c104_node.specs.declared.node.NodeOf.TheVariants as node;
-ghost use Rattle.c104_run.specs.KnownWires.{AreLinkedNodes};
-ghost use Rattle.c104_run.specs.Network.{new_network, placed_network};
-ghost use Rattle.c104_run.specs.NetRecords.{first_record, shown_record};
 
 use crate::wires::Wires;
 use c104_node::{Node, NodeOf, NodeStart, TerminalOf, TerminalStart};

@@ -3,14 +3,9 @@
 //! No list of a round's events is made. Each part walks the places at which something may begin (`LivePlaces`), and leaves
 //! out an event of which the near end says that it isn't ready: it would change nothing.
 ghost use Rattle.std.specs.Prelude.{map};
-ghost use Rattle.c104_plan.specs.Plans.{IsPlan};
-ghost use Rattle.c104_node.specs.Places.{bases, states};
-ghost use Rattle.c104_run.specs.KnownWires.{KnowWires};
-ghost use Rattle.c104_run.specs.LivePlaces.{AreLive};
-ghost use Rattle.c104_run.specs.EventRuns.{EventsEnd};
+ghost use Rattle.{c104_node.specs.Places.{bases, states}, c104_plan.specs.Plans.IsPlan, c104_run.specs.EventRuns.EventsEnd};
+ghost use Rattle.c104_run.specs.{KnownWires.KnowWires, LivePlaces.AreLive, Meters.{metered_apply, metered_of}, RoundParts.PartEnds};
 ghost use Rattle.c104_run.specs.Rounds.{round, rounds};
-ghost use Rattle.c104_run.specs.RoundParts.{PartEnds};
-ghost use Rattle.c104_run.specs.Meters.{metered_apply, metered_of};
 
 mod attempts;
 mod parts;

@@ -2,10 +2,8 @@
 //!
 //! What the type keeps is said of the run alone (`IsFinishedRecord`), and not of the network that left it: so nodes that
 //! were gathered from elsewhere make a run too. Room for its lists is made with the network, so `finish` takes no memory.
-ghost use Rattle.std.specs.Prelude.{◌≡◌, slice_get};
-ghost use Rattle.std.specs.Option.{option_copied};
-ghost use Rattle.c104_run.specs.Finished.{run_arrived};
-ghost use Rattle.c104_run.specs.FinishedRecords.{IsFinishedRecord};
+ghost use Rattle.std.specs.{Option.option_copied, Prelude.{slice_get, ◌≡◌}};
+ghost use Rattle.c104_run.specs.{Finished.run_arrived, FinishedRecords.IsFinishedRecord};
 
 use crate::run_parts::RunParts;
 use c104_node::{ArrivedOf, Entry, NodeStart};

@@ -1,9 +1,6 @@
 //! What the nodes of a network leave, when they are retired at the end of a run.
-ghost use Rattle.std.specs.Prelude.{◌≡◌, ◌≤◌, ◌+◌, ◌++◌, [], length, map, All, IfOk};
-ghost use Rattle.std.specs.Option.{option_to_list};
-ghost use Rattle.std.specs.Vec.{vec_capacity};
-ghost use Rattle.c104_node.specs.Nodes.{terminals_of};
-ghost use Rattle.c104_node.specs.Records.{node_start, node_state, node_trace, IsRecorded, NodeRecord, NodeRoom};
+ghost use Rattle.std.specs.{Option.option_to_list, Prelude.{All, IfOk, [], length, map, ◌++◌, ◌+◌, ◌≡◌, ◌≤◌}, Vec.vec_capacity};
+ghost use Rattle.c104_node.specs.{Nodes.terminals_of, Records.{IsRecorded, NodeRecord, NodeRoom, node_start, node_state, node_trace}};
 
 use c104_node::{Entry, Node, NodeStart, TerminalOf};
 use c104_token::{Items, NoMemory, Token};

@@ -3,14 +3,10 @@
 //! The events are asked in the order of a round, up to the first that is ready or refused. No list of them is made.
 #![tactic(auto, using(crate::proofs::StillParts::still_parts))]
 
-ghost use Rattle.std.specs.Prelude.{◌≡◌, flat_map, length, map};
-ghost use Rattle.std.specs.List.{range_with_len};
-ghost use Rattle.c104_run.specs.Network.{network_of};
-ghost use Rattle.c104_run.specs.RoundParts.{port_events, wired_events};
-ghost use Rattle.c104_run.specs.Rounds.{all_claims, all_drains, claims_of, round, switch_claims, turn_at};
-ghost use Rattle.c104_run.specs.Rounds.{wired_links, wired_ports, wired_terminals};
-ghost use Rattle.c104_run.specs.Standstill.{has_reason, have_reasons};
-ghost use Rattle.c104_node.specs.Places.{states};
+ghost use Rattle.std.specs.{List.range_with_len, Prelude.{flat_map, length, map, ◌≡◌}};
+ghost use Rattle.{c104_node.specs.Places.states, c104_run.specs.{Network.network_of, RoundParts.{port_events, wired_events}}};
+ghost use Rattle.c104_run.specs.Rounds.{all_claims, all_drains, claims_of, round, switch_claims, turn_at, wired_links, wired_ports};
+ghost use Rattle.c104_run.specs.{Rounds.wired_terminals, Standstill.{has_reason, have_reasons}};
 
 use crate::reasons::first_reason;
 use crate::wires::Wires;

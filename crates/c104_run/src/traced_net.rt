@@ -2,9 +2,8 @@
 //!
 //! It is for runs of which nobody reads the traces. The tokens tell the origins of the packets that arrived, so nothing
 //! has to be run a second time to know them, and no entry is kept.
-ghost use Rattle.std.specs.Prelude.{◌≡◌, IfOk};
-ghost use Rattle.c104_run.specs.NetRecords.{fresh_record};
-ghost use Rattle.c104_run.specs.Network.{new_network};
+ghost use Rattle.std.specs.Prelude.{IfOk, ◌≡◌};
+ghost use Rattle.c104_run.specs.{NetRecords.fresh_record, Network.new_network};
 
 mod arriving;
 mod nodes;

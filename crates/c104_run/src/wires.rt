@@ -2,18 +2,11 @@
 //!
 //! It lies beside the nodes, with the plan that it is made from, so it can be asked with no node at hand, and no node
 //! keeps which links are wired.
-ghost use Rattle.std.specs.Prelude.{◌≡◌, ◌≢◌, ◌<◌, ◌+◌, ℕ, Some, None, true, length, IfOk, MatchResult};
-ghost use Rattle.c104_crossbar.specs.Groups.{has_bit};
+ghost use Rattle.std.specs.Prelude.{IfOk, MatchResult, None, Some, length, true, ℕ, ◌+◌, ◌<◌, ◌≡◌, ◌≢◌};
+ghost use Rattle.{c104_crossbar.specs.Groups.has_bit, c104_node.specs.Records.has_link, c104_plan.specs.{Plans.IsPlan, Wiring.IsPlanPort}};
+ghost use Rattle.{c104_regs.specs.declared.registers.TheConstants.LINKS, c104_run.specs.{Ends.end_of, FarEnds.far_end}};
+ghost use Rattle.c104_run.specs.{KnownWires.is_linked_end, Network.{terminal_place, wired_fault}, Rounds.is_wired};
 ghost use Rattle.c104_plan.specs.declared.ports.Port.TheVariants as port;
-ghost use Rattle.c104_plan.specs.Plans.{IsPlan};
-ghost use Rattle.c104_plan.specs.Wiring.{IsPlanPort};
-ghost use Rattle.c104_node.specs.Records.{has_link};
-ghost use Rattle.c104_run.specs.Ends.{end_of};
-ghost use Rattle.c104_run.specs.KnownWires.{is_linked_end};
-ghost use Rattle.c104_run.specs.FarEnds.{far_end};
-ghost use Rattle.c104_run.specs.Network.{terminal_place, wired_fault};
-ghost use Rattle.c104_run.specs.Rounds.{is_wired};
-ghost use Rattle.c104_regs.specs.declared.registers.TheConstants.{LINKS};
 
 mod tables;
 
@@ -38,11 +31,8 @@ pub struct Wires {
 }
 
 impl Model for Wires {
-    ghost use Rattle.std.specs.Prelude.{◌≡◌};
-    ghost use Rattle.c104_plan.specs.Plans.{Plan};
-    ghost use Rattle.c104_run.specs.FarEnds.{link_ends, terminal_ends};
-    ghost use Rattle.std.specs.Prelude.{length};
-    ghost use Rattle.c104_run.specs.LinkedSets.{AreLinked};
+    ghost use Rattle.std.specs.Prelude.{length, ◌≡◌};
+    ghost use Rattle.{c104_plan.specs.Plans.Plan, c104_run.specs.{FarEnds.{link_ends, terminal_ends}, LinkedSets.AreLinked}};
 
     ghost Value = { Plan };
 

@@ -1,10 +1,8 @@
 //! A script, read and answered line by line.
-ghost use Rattle.std.specs.Prelude.{◌≡◌, ◌≢◌, [], Err, IfOk, MatchResult, OnErr, OnOk};
-ghost use Rattle.std.specs.Io.KnownBytes.{prepend_known};
-ghost use Rattle.c104_stream.specs.Scripts.{AnswersLine, AnswersLines as AnswersAll, AnswersScript, LineStops};
-ghost use Rattle.c104_stream.specs.Writing.{AppendsAndKeeps, AppendsPrefix};
+ghost use Rattle.std.specs.{Io.KnownBytes.prepend_known, Prelude.{Err, IfOk, MatchResult, OnErr, OnOk, [], ◌≡◌, ◌≢◌}};
+ghost use Rattle.{c104_script.specs.Answering.{DoesScript, shown_by}, c104_stream.specs.Scripts.{AnswersLine, AnswersLines as AnswersAll}};
+ghost use Rattle.c104_stream.specs.{Scripts.{AnswersScript, LineStops}, Writing.{AppendsAndKeeps, AppendsPrefix}};
 ghost use Rattle.c104_stream.specs.declared.halt.Halt.TheVariants as halt;
-ghost use Rattle.c104_script.specs.Answering.{DoesScript, shown_by};
 
 use crate::answers::Answer;
 use crate::kept_answers::keep_answer;
@@ -16,9 +14,8 @@ use std::io::{Read, Write};
 
 /// What answers the lines of a script, one after the other. A `T` is told about them: no contract speaks of that.
 pub trait AnswersLines<T> {
-    ghost use Rattle.std.specs.Prelude.{◌≡◌, Option, IfOk};
-    ghost use Rattle.c104_script.specs.Answering.{LineAnswers};
-    ghost use Rattle.c104_script.specs.declared.answers.Answer.{Answer as TheAnswer};
+    ghost use Rattle.std.specs.Prelude.{IfOk, Option, ◌≡◌};
+    ghost use Rattle.c104_script.specs.{Answering.LineAnswers, declared.answers.Answer.Answer as TheAnswer};
 
     /// What is told about a line.
     type Message: Drop;

@@ -1,8 +1,7 @@
 //! What answers a line, and how it is printed.
-ghost use Rattle.std.specs.Prelude.{◌≡◌, ◌++◌, [], OnErr, OnOk, decimal};
+ghost use Rattle.std.specs.Prelude.{OnErr, OnOk, [], decimal, ◌++◌, ◌≡◌};
+ghost use Rattle.c104_script.specs.{Findings.{byte_text, fault_words}, Texts.{answer_line, reply_text}};
 ghost use Rattle.c104_switch.specs.declared.actions.ReplyOf.TheVariants as reply;
-ghost use Rattle.c104_script.specs.Findings.{byte_text, fault_words};
-ghost use Rattle.c104_script.specs.Texts.{answer_line, reply_text};
 
 use crate::faults::LineFault;
 use crate::findings::{Finding, add_finding};

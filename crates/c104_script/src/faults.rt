@@ -1,7 +1,6 @@
 //! What may be wrong with a script's line.
 ghost use Rattle.std.specs.Prelude.{◌≡◌};
-ghost use Rattle.c104_script.specs.Script.{packet_fault};
-ghost use Rattle.c104_script.specs.Texts.{line_fault_name, line_fault_number};
+ghost use Rattle.c104_script.specs.{Script.packet_fault, Texts.{line_fault_name, line_fault_number}};
 ghost use Rattle.c104_script.specs.declared.faults.LineFault.TheVariants as fault;
 
 use c104_token::{NoMemory as OutOfMemory, TokenFault};

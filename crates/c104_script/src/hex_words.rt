@@ -1,7 +1,6 @@
 //! Words of hexadecimal digits.
-ghost use Rattle.std.specs.Prelude.{◌≡◌, ◌≤◌, ◌<◌, ◌^◌, IfSome};
-ghost use Rattle.c104_token.specs.Text.{hex_value};
-ghost use Rattle.c104_script.specs.HexWords.{address_word, register_word, hex_number};
+ghost use Rattle.std.specs.Prelude.{IfSome, ◌<◌, ◌^◌, ◌≡◌, ◌≤◌};
+ghost use Rattle.{c104_script.specs.HexWords.{address_word, hex_number, register_word}, c104_token.specs.Text.hex_value};
 
 use crate::faults::LineFault;
 

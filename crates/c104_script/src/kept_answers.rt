@@ -1,8 +1,6 @@
 //! Answers that are kept until they are written.
-ghost use Rattle.std.specs.Prelude.{◌++◌, MatchResult};
-ghost use Rattle.c104_script.specs.Texts.{shown};
-ghost use Rattle.c104_stream.specs.Scripts.{TextStops};
-ghost use Rattle.c104_stream.specs.Writing.{AppendsAndKeeps};
+ghost use Rattle.std.specs.Prelude.{MatchResult, ◌++◌};
+ghost use Rattle.{c104_script.specs.Texts.shown, c104_stream.specs.{Scripts.TextStops, Writing.AppendsAndKeeps}};
 
 use crate::answers::{Answer, add_answer};
 use c104_stream::{Halt, Kept};

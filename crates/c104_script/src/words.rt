@@ -1,6 +1,5 @@
 //! The words of a script's line.
-ghost use Rattle.std.specs.Prelude.{◌≡◌, ◌≤◌, [], bytes_eq, length, map, Err, MatchResult, Ok};
-ghost use Rattle.std.specs.Map.{lookup};
+ghost use Rattle.std.specs.{Map.lookup, Prelude.{Err, MatchResult, Ok, [], bytes_eq, length, map, ◌≡◌, ◌≤◌}};
 ghost use Rattle.c104_script.specs.Script.{bytes_after, number_word, other_verb_of, place_word, probe_verb_of, verb_of};
 
 use crate::faults::LineFault;

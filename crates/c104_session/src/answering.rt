@@ -1,13 +1,8 @@
 //! A script, read and answered line by line.
-ghost use Rattle.std.specs.Prelude.{ℕ, ◌≢◌, Err, IfOk, List};
-ghost use Rattle.std.specs.Io.KnownBytes.{prepend_known};
-ghost use Rattle.c104_script.specs.Answering.{DoesScript};
-ghost use Rattle.c104_stream.specs.ScriptLines.{script_lines};
-ghost use Rattle.c104_stream.specs.Scripts.{AnswersScript};
+ghost use Rattle.std.specs.{Io.KnownBytes.prepend_known, Prelude.{Err, IfOk, List, ℕ, ◌≢◌}};
+ghost use Rattle.{c104_script.specs.Answering.DoesScript, c104_session.specs.{Driven.driven_outcome, Lines.AreOnlyLines}};
+ghost use Rattle.{c104_session.specs.Shown.line_outcome, c104_stream.specs.{ScriptLines.script_lines, Scripts.AnswersScript}};
 ghost use Rattle.c104_stream.specs.declared.halt.Halt.TheVariants as halt;
-ghost use Rattle.c104_session.specs.Driven.{driven_outcome};
-ghost use Rattle.c104_session.specs.Lines.{AreOnlyLines};
-ghost use Rattle.c104_session.specs.Shown.{line_outcome};
 
 use crate::driven::Driven;
 use crate::driver::Driver;

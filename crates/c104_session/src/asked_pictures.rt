@@ -1,6 +1,5 @@
 //! Pictures of the network that a person asks for among the lines of a script.
-ghost use Rattle.std.specs.Prelude.{ℕ, ◌≡◌, IfOk, IfSome, List, Some, length, map};
-ghost use Rattle.std.specs.Option.{option_map};
+ghost use Rattle.std.specs.{Option.option_map, Prelude.{IfOk, IfSome, List, Some, length, map, ℕ, ◌≡◌}};
 ghost use Rattle.c104_session.specs.AskedPictures.{asked_file, file_among};
 
 use crate::session::Session;

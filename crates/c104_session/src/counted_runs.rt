@@ -1,9 +1,7 @@
 //! A script, run on the network of a plan, and what is counted of that.
-ghost use Rattle.std.specs.Prelude.{◌≡◌, ◌≢◌, ◌↔◌, ◌||◌, Err, IfOk, IfSome, IsSome, IsTrue};
-ghost use Rattle.c104_token.specs.Kinds.{plain_kind};
-ghost use Rattle.c104_plan.specs.PlanImage.{Fits};
-ghost use Rattle.c104_run.specs.Standstill.{IsDeadlocked};
-ghost use Rattle.c104_session.specs.CountedRuns.{IsCountedAfter, IsCountedOn, IsCountedPlan};
+ghost use Rattle.std.specs.Prelude.{Err, IfOk, IfSome, IsSome, IsTrue, ◌||◌, ◌↔◌, ◌≡◌, ◌≢◌};
+ghost use Rattle.{c104_plan.specs.PlanImage.Fits, c104_run.specs.Standstill.IsDeadlocked, c104_session.specs.CountedRuns.IsCountedAfter};
+ghost use Rattle.{c104_session.specs.CountedRuns.{IsCountedOn, IsCountedPlan}, c104_token.specs.Kinds.plain_kind};
 ghost use Rattle.c104_stream.specs.declared.halt.Halt.TheVariants as halt;
 
 use crate::answering::drive_script;

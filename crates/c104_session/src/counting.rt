@@ -1,12 +1,9 @@
 //! A driver that counts what it does.
-ghost use Rattle.std.specs.Prelude.{ℕ, ◌≡◌, ◌⊎◌, ◌&&◌, Err, OnErr};
+ghost use Rattle.std.specs.Prelude.{Err, OnErr, ℕ, ◌&&◌, ◌≡◌, ◌⊎◌};
+ghost use Rattle.{c104_run.specs.{NetRecords.is_done, RecordedRuns.record_apply}, c104_session.specs.Counted.{counts_told, cut_if}};
+ghost use Rattle.{c104_session.specs.{Counted.{event_counts, sent_if}, Driven.DoesEvent, Resets.is_reset}, c104_stats.specs.Counts.Counts};
+ghost use Rattle.c104_stats.specs.Counts.{counts_sent};
 ghost use Rattle.c104_event.specs.declared.faults.EventFault.TheVariants as fault;
-ghost use Rattle.c104_run.specs.NetRecords.{is_done};
-ghost use Rattle.c104_run.specs.RecordedRuns.{record_apply};
-ghost use Rattle.c104_stats.specs.Counts.{counts_sent, Counts};
-ghost use Rattle.c104_session.specs.Counted.{counts_told, cut_if, event_counts, sent_if};
-ghost use Rattle.c104_session.specs.Driven.{DoesEvent};
-ghost use Rattle.c104_session.specs.Resets.{is_reset};
 
 use crate::driver::Driver;
 use crate::keepers::{Keeper, do_told, keep_rounds};

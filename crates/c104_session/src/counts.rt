@@ -1,9 +1,7 @@
 //! The command that prints what is counted of a run.
 ghost use Rattle.std.specs.Prelude.{ℕ, ◌≡◌};
-ghost use Rattle.c104_plan.specs.PlanImage.{Fits};
+ghost use Rattle.{c104_plan.specs.PlanImage.Fits, c104_session.specs.{CountedRuns.IsRefusedCount, TextRuns.{TextEnds, WritesRun}}};
 ghost use Rattle.c104_setup.specs.declared.status.Status.TheVariants as status;
-ghost use Rattle.c104_session.specs.CountedRuns.{IsRefusedCount};
-ghost use Rattle.c104_session.specs.TextRuns.{TextEnds, WritesRun};
 
 use crate::counted_runs::{CountedRun, count_plan};
 use crate::states::write_run;

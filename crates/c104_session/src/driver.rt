@@ -1,8 +1,7 @@
 //! Who does what the lines of a script ask of a network.
-ghost use Rattle.std.specs.Prelude.{◌≡◌, ◌⊎◌, Err, OnErr};
+ghost use Rattle.std.specs.Prelude.{Err, OnErr, ◌≡◌, ◌⊎◌};
+ghost use Rattle.c104_session.specs.{Driven.{DoesEvent, DoesRounds}, Leavings.LeavesRounds};
 ghost use Rattle.c104_event.specs.declared.faults.EventFault.TheVariants as fault;
-ghost use Rattle.c104_session.specs.Driven.{DoesEvent, DoesRounds};
-ghost use Rattle.c104_session.specs.Leavings.{LeavesRounds};
 
 use c104_event::{Event, EventFault};
 use c104_net::{TracedNet, Watch};

@@ -2,12 +2,9 @@
 //!
 //! The summary is read off the network itself, which is disposed of after that: in contracts that network is what is left
 //! of its run.
-ghost use Rattle.std.specs.Prelude.{◌≡◌, map, option_map, IfOk};
-ghost use Rattle.std.specs.Global.{Vec as Kept};
-ghost use Rattle.c104_run.specs.Finished.{run_arrived};
-ghost use Rattle.c104_run.specs.FinishedRecords.{record_finish};
-ghost use Rattle.c104_net.specs.RunOrigins.{AreOrigins};
-ghost use Rattle.c104_node.specs.declared.origins.Origin.{Origin as TheOrigin};
+ghost use Rattle.std.specs.{Global.Vec as Kept, Prelude.{IfOk, map, option_map, ◌≡◌}};
+ghost use Rattle.{c104_net.specs.RunOrigins.AreOrigins, c104_node.specs.declared.origins.Origin.Origin as TheOrigin};
+ghost use Rattle.c104_run.specs.{Finished.run_arrived, FinishedRecords.record_finish};
 ghost use Rattle.c104_token.specs.declared.tokens.Token.{Token as TheToken};
 
 use c104_net::{Origin, Origins, TracedNet};

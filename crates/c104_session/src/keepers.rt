@@ -1,10 +1,8 @@
 //! Rounds of which something is kept.
-ghost use Rattle.std.specs.Prelude.{◌≡◌, ◌⊎◌, Err, OnErr};
+ghost use Rattle.std.specs.Prelude.{Err, OnErr, ◌≡◌, ◌⊎◌};
+ghost use Rattle.{c104_net.specs.MeteredRecords.{at_meter, record_metered}, c104_session.specs.Driven.{DoesEvent, DoesRounds}};
+ghost use Rattle.c104_session.specs.{Keepers.{KeepsRound, is_later, rounds_kept}, Leavings.LeavesRounds};
 ghost use Rattle.c104_event.specs.declared.faults.EventFault.TheVariants as fault;
-ghost use Rattle.c104_net.specs.MeteredRecords.{at_meter, record_metered};
-ghost use Rattle.c104_session.specs.Driven.{DoesEvent, DoesRounds};
-ghost use Rattle.c104_session.specs.Keepers.{is_later, rounds_kept, KeepsRound};
-ghost use Rattle.c104_session.specs.Leavings.{LeavesRounds};
 
 use c104_event::{Event, EventFault};
 use c104_net::{Meter, MeteredNet, TaggedToken, TracedNet, Watch};

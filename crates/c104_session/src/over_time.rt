@@ -1,11 +1,9 @@
 //! The drawing of the run of a script over its rounds.
-ghost use Rattle.std.specs.Prelude.{ℕ, ◌≡◌, ◌≢◌, Err, IfOk};
-ghost use Rattle.std.specs.String.{string_bytes};
-ghost use Rattle.c104_plan.specs.PlanImage.{Fits};
-ghost use Rattle.c104_stream.specs.declared.halt.Halt.TheVariants as halt;
-ghost use Rattle.c104_session.specs.TextRuns.{TextEnds, WritesRun};
-ghost use Rattle.c104_session.specs.TimedRuns.{IsPeriodText, IsPictureText, IsRefusedTime, refusal_text};
+ghost use Rattle.std.specs.{Prelude.{Err, IfOk, ℕ, ◌≡◌, ◌≢◌}, String.string_bytes};
+ghost use Rattle.{c104_plan.specs.PlanImage.Fits, c104_session.specs.{TextRuns.{TextEnds, WritesRun}, TimedRuns.IsPeriodText}};
+ghost use Rattle.c104_session.specs.TimedRuns.{IsPictureText, IsRefusedTime, refusal_text};
 ghost use Rattle.c104_setup.specs.declared.status.Status.TheVariants as status;
+ghost use Rattle.c104_stream.specs.declared.halt.Halt.TheVariants as halt;
 
 use crate::states::write_run;
 use crate::timed_runs::time_plan;

@@ -1,7 +1,6 @@
 //! What the debugger answers.
-ghost use Rattle.std.specs.Prelude.{◌≡◌, slice_get, IfOk};
-ghost use Rattle.c104_run.specs.NetRecords.{NetRecord as TheNet};
-ghost use Rattle.c104_script.specs.declared.answers.Answer.{Answer as TheAnswer};
+ghost use Rattle.std.specs.Prelude.{IfOk, slice_get, ◌≡◌};
+ghost use Rattle.{c104_run.specs.NetRecords.NetRecord as TheNet, c104_script.specs.declared.answers.Answer.Answer as TheAnswer};
 ghost use Rattle.c104_session.specs.Probing.{difference_answer, link_answer, link_outcome, probe_answer, register_fault_at, set_answer};
 ghost use Rattle.c104_session.specs.Probing.{stopped_answer, table_outcome, tool_outcome, value_answer, verified_answer};
 ghost use Rattle.c104_tools.specs.NetOutcomes.{net_poke, net_verify};

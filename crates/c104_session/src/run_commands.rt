@@ -1,18 +1,11 @@
 //! Runs: a description, and a script that is answered on its network.
-ghost use Rattle.std.specs.Prelude.{ℕ, ◌≡◌, ◌≤◌, List, Ok, Result, length};
-ghost use Rattle.std.specs.Io.KnownBytes.{IsAtEnd, prepend_known};
-ghost use Rattle.c104_plan.specs.PlanImage.{Fits};
-ghost use Rattle.c104_describe.specs.PlanText.{read_description};
-ghost use Rattle.c104_plan.specs.TextCut.{most_bytes};
-ghost use Rattle.c104_plan.specs.Plans.{Plan as ThePlan};
-ghost use Rattle.c104_describe.specs.declared.faults.PlanFault.{PlanFault as ThePlanFault};
-ghost use Rattle.c104_script.specs.Parts.{parts, AreOnlyParts, StopsBeforeScript};
-ghost use Rattle.c104_session.specs.Lines.{AreOnlyLines};
-ghost use Rattle.c104_stream.specs.ScriptLines.{script_lines};
+ghost use Rattle.std.specs.{Io.KnownBytes.{IsAtEnd, prepend_known}, Prelude.{List, Ok, Result, length, ℕ, ◌≡◌, ◌≤◌}};
+ghost use Rattle.c104_describe.specs.{PlanText.read_description, declared.faults.PlanFault.PlanFault as ThePlanFault};
+ghost use Rattle.{c104_plan.specs.{PlanImage.Fits, Plans.Plan as ThePlan, TextCut.most_bytes}, c104_script.specs.Parts.AreOnlyParts};
+ghost use Rattle.{c104_script.specs.Parts.{StopsBeforeScript, parts}, c104_session.specs.{Lines.AreOnlyLines, PrintedRuns.PrintsAllOf}};
+ghost use Rattle.c104_session.specs.{PrintedRuns.PrintsPacketsOf, RunCommands.{RunsDescription, RunsParts, RunsText}};
+ghost use Rattle.{c104_setup.specs.Setups.ComesTo, c104_stream.specs.ScriptLines.script_lines};
 ghost use Rattle.c104_setup.specs.declared.status.Status.TheVariants as status;
-ghost use Rattle.c104_setup.specs.Setups.{ComesTo};
-ghost use Rattle.c104_session.specs.PrintedRuns.{PrintsAllOf, PrintsPacketsOf};
-ghost use Rattle.c104_session.specs.RunCommands.{RunsParts, RunsDescription, RunsText};
 
 use crate::runs::run_plan;
 use c104_mistakes::{Behind, Messages};

@@ -1,9 +1,6 @@
 //! A script, run on the network of a plan.
-ghost use Rattle.std.specs.Prelude.{OnErr, OnOk};
-ghost use Rattle.std.specs.Io.KnownBytes.{Appends, prepend_known};
-ghost use Rattle.c104_plan.specs.PlanImage.{Fits};
-ghost use Rattle.c104_session.specs.Runs.{EndsRun, RunsPlan, WritesText, end_text};
-ghost use Rattle.c104_session.specs.Shown.{joined_texts};
+ghost use Rattle.std.specs.{Io.KnownBytes.{Appends, prepend_known}, Prelude.{OnErr, OnOk}};
+ghost use Rattle.{c104_plan.specs.PlanImage.Fits, c104_session.specs.{Runs.{EndsRun, RunsPlan, WritesText, end_text}, Shown.joined_texts}};
 ghost use Rattle.c104_stream.specs.Writing.{AppendsPrefix};
 
 use crate::answering::answer_script;

@@ -1,16 +1,12 @@
 //! A run of a network, line by line.
-ghost use Rattle.std.specs.Prelude.{◌≡◌, ◌⊎◌, Option, Result, Err, IfOk, OnErr, OnOk};
-ghost use Rattle.c104_switch.specs.Actions.{Reply as TheReply};
-ghost use Rattle.c104_event.specs.declared.faults.EventFault.{EventFault as TheFault};
+ghost use Rattle.std.specs.Prelude.{Err, IfOk, OnErr, OnOk, Option, Result, ◌≡◌, ◌⊎◌};
+ghost use Rattle.{c104_event.specs.declared.faults.EventFault.EventFault as TheFault, c104_plan.specs.PlanImage.Fits};
+ghost use Rattle.c104_run.specs.{FinishedRecords.record_finish, NetRecords.NetRecord as TheNet};
+ghost use Rattle.{c104_script.specs.declared.answers.Answer.Answer as TheAnswer, c104_session.specs.Driven.{DoesEvent, line_driven}};
+ghost use Rattle.c104_session.specs.{Driven.request_driven, Leavings.{KeepsAllButNet, LeavesLine, LeavesNet, LeavesRounds}};
+ghost use Rattle.c104_session.specs.Shown.{line_answer, new_session, request_answer, rounds_outcome};
+ghost use Rattle.{c104_session.specs.declared.session.Session.Session as TheSession, c104_switch.specs.Actions.Reply as TheReply};
 ghost use Rattle.c104_event.specs.declared.faults.EventFault.TheVariants as fault;
-ghost use Rattle.c104_run.specs.FinishedRecords.{record_finish};
-ghost use Rattle.c104_plan.specs.PlanImage.{Fits};
-ghost use Rattle.c104_run.specs.NetRecords.{NetRecord as TheNet};
-ghost use Rattle.c104_script.specs.declared.answers.Answer.{Answer as TheAnswer};
-ghost use Rattle.c104_session.specs.Driven.{DoesEvent, line_driven, request_driven};
-ghost use Rattle.c104_session.specs.Leavings.{KeepsAllButNet, LeavesLine, LeavesNet, LeavesRounds};
-ghost use Rattle.c104_session.specs.Shown.{new_session, line_answer, request_answer, rounds_outcome};
-ghost use Rattle.c104_session.specs.declared.session.Session.{Session as TheSession};
 
 use crate::driver::{Driver, Plain};
 use crate::ended::EndedNet;

@@ -2,11 +2,9 @@
 //!
 //! A run starts by a load, as a real network would. That this comes to the network placed with the image, and that no
 //! load of a new network meets a full trace, is proved; so what a script shows is told without a word of the load.
-ghost use Rattle.std.specs.Prelude.{◌≡◌, IfOk};
-ghost use Rattle.c104_plan.specs.PlanImage.{Fits};
+ghost use Rattle.std.specs.Prelude.{IfOk, ◌≡◌};
+ghost use Rattle.{c104_plan.specs.PlanImage.Fits, c104_run.specs.{NetRecords.fresh_record, Network.{new_network, placed_network}}};
 ghost use Rattle.c104_event.specs.declared.faults.EventFault.TheVariants as event_fault;
-ghost use Rattle.c104_run.specs.NetRecords.{fresh_record};
-ghost use Rattle.c104_run.specs.Network.{new_network, placed_network};
 ghost use Rattle.c104_tools.specs.declared.faults.LoadFault.TheVariants as fault;
 
 use crate::tools::load_net;

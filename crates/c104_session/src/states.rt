@@ -1,11 +1,9 @@
 //! The drawing of a description's network as it stands after a script.
-ghost use Rattle.std.specs.Prelude.{ℕ, ◌≡◌, ◌≢◌, Err, IfOk};
-ghost use Rattle.std.specs.String.{string_bytes};
-ghost use Rattle.c104_plan.specs.PlanImage.{Fits};
-ghost use Rattle.c104_stream.specs.declared.halt.Halt.TheVariants as halt;
-ghost use Rattle.c104_session.specs.TextRuns.{IsRefusedAfter, IsRefusedOn, TextEnds, WritesRun, WritesRunText};
-ghost use Rattle.c104_session.specs.declared.session.Session.{Session as TheSession};
+ghost use Rattle.std.specs.{Prelude.{Err, IfOk, ℕ, ◌≡◌, ◌≢◌}, String.string_bytes};
+ghost use Rattle.{c104_plan.specs.PlanImage.Fits, c104_session.specs.TextRuns.{IsRefusedAfter, IsRefusedOn, TextEnds, WritesRun}};
+ghost use Rattle.c104_session.specs.{TextRuns.WritesRunText, declared.session.Session.Session as TheSession};
 ghost use Rattle.c104_setup.specs.declared.status.Status.TheVariants as status;
+ghost use Rattle.c104_stream.specs.declared.halt.Halt.TheVariants as halt;
 
 use crate::session::Session;
 use crate::telling::Telling;

@@ -1,12 +1,7 @@
 //! The summary of a run: what arrived at each terminal, and where it came from.
-ghost use Rattle.std.specs.Prelude.{◌≡◌, ◌++◌, ◌<◌, List, IfOk, OnOk, flat_map, length, map, option_to_list};
-ghost use Rattle.std.specs.Global.{Vec as Kept};
-ghost use Rattle.c104_net.specs.Deliveries.{arrived_at};
-ghost use Rattle.c104_net.specs.RunOrigins.{AreOrigins};
-ghost use Rattle.c104_node.specs.Origins.{AreSure, origins_in};
-ghost use Rattle.c104_node.specs.declared.origins.Origin.{Origin as TheOrigin};
-ghost use Rattle.c104_net.specs.TracedEnds.{traced_end};
-ghost use Rattle.c104_node.specs.declared.traced.Traced.{Traced as TheTraced};
+ghost use Rattle.std.specs.{Global.Vec as Kept, Prelude.{IfOk, List, OnOk, flat_map, length, map, option_to_list, ◌++◌, ◌<◌, ◌≡◌}};
+ghost use Rattle.{c104_net.specs.{Deliveries.arrived_at, RunOrigins.AreOrigins, TracedEnds.traced_end}, c104_node.specs.Origins.AreSure};
+ghost use Rattle.c104_node.specs.{Origins.origins_in, declared.{origins.Origin.Origin as TheOrigin, traced.Traced.Traced as TheTraced}};
 ghost use Rattle.c104_session.specs.Shown.{joined_texts, origin_text, packet_line, packets_text, summary};
 ghost use Rattle.c104_token.specs.Packets.{packet_tokens};
 

@@ -1,8 +1,7 @@
 //! A script, run on the network of a plan, and what crosses its wires round by round.
-ghost use Rattle.std.specs.Prelude.{◌≡◌, ◌≢◌, ◌||◌, IfOk, Err};
-ghost use Rattle.c104_plan.specs.PlanImage.{Fits};
+ghost use Rattle.std.specs.Prelude.{Err, IfOk, ◌||◌, ◌≡◌, ◌≢◌};
+ghost use Rattle.{c104_plan.specs.PlanImage.Fits, c104_session.specs.TimedRuns.{IsTimedAfter, IsTimedOn, IsTimedPlan}};
 ghost use Rattle.c104_stream.specs.declared.halt.Halt.TheVariants as halt;
-ghost use Rattle.c104_session.specs.TimedRuns.{IsTimedAfter, IsTimedOn, IsTimedPlan};
 
 use crate::answering::drive_script;
 use crate::driven::Driven;

@@ -1,8 +1,7 @@
 //! A driver that keeps what crosses the wires, round by round.
-ghost use Rattle.std.specs.Prelude.{◌≡◌, ◌⊎◌, Err, OnErr, OnOk};
+ghost use Rattle.std.specs.Prelude.{Err, OnErr, OnOk, ◌≡◌, ◌⊎◌};
+ghost use Rattle.c104_session.specs.{Driven.DoesEvent, Timed.{before_command, before_event, told_event}};
 ghost use Rattle.c104_event.specs.declared.faults.EventFault.TheVariants as fault;
-ghost use Rattle.c104_session.specs.Driven.{DoesEvent};
-ghost use Rattle.c104_session.specs.Timed.{before_command, before_event, told_event};
 
 use crate::counting::was_done;
 use crate::driver::Driver;

@@ -1,10 +1,9 @@
 //! The debugger on a network whose nodes keep what they do: each call by what comes of it.
-ghost use Rattle.std.specs.Prelude.{◌≡◌, ◌↔◌, ◌<◌, ◌≤◌, length, Err, MatchResult, Some};
-ghost use Rattle.c104_tools.specs.declared.faults.LoadFault.TheVariants as fault;
-ghost use Rattle.c104_tools.specs.Loaded.{IsUnansweredFault, each_with, loaded};
-ghost use Rattle.c104_tools.specs.NetCommands.{net_switch_count, net_switches, switches_of};
-ghost use Rattle.c104_tools.specs.NetOutcomes.{net_link, net_load, net_poke, net_table, net_verify, EndsSo};
+ghost use Rattle.std.specs.Prelude.{Err, MatchResult, Some, length, ◌<◌, ◌↔◌, ◌≡◌, ◌≤◌};
+ghost use Rattle.c104_tools.specs.{Loaded.{IsUnansweredFault, each_with, loaded}, NetCommands.{net_switch_count, net_switches}};
+ghost use Rattle.c104_tools.specs.{NetCommands.switches_of, NetOutcomes.{EndsSo, net_link, net_load, net_poke, net_table, net_verify}};
 ghost use Rattle.c104_tools.specs.Outcomes.{Outcome, any_value, table_made, table_peeks};
+ghost use Rattle.c104_tools.specs.declared.faults.LoadFault.TheVariants as fault;
 
 use c104_interval::Table;
 use c104_net::TracedNet;

@@ -1,13 +1,9 @@
 //! What every command begins with: a description is read, and its network is labelled.
-ghost use Rattle.std.specs.Prelude.{ℕ, ◌≡◌, ◌≢◌, ◌≤◌, true, false, length, Ok, Err, IfErr, IfOk, Some};
-ghost use Rattle.std.specs.String.{string_bytes};
-ghost use Rattle.c104_check.specs.Routes.{IsAccepted, routes_of};
-ghost use Rattle.c104_plan.specs.PlanImage.{Fits};
-ghost use Rattle.c104_describe.specs.PlanText.{read_description};
-ghost use Rattle.c104_plan.specs.TextCut.{most_bytes};
-ghost use Rattle.c104_label.specs.Images.{IsImageOf, is_labelled_shape};
-ghost use Rattle.c104_setup.specs.Endings.{EndsBefore, IsSetup};
-ghost use Rattle.c104_setup.specs.Setups.{ComesTo, IsOutOfMemory, RefusalEnds, label_fault_text, refused_text};
+ghost use Rattle.std.specs.{Prelude.{Err, IfErr, IfOk, Ok, Some, false, length, true, ℕ, ◌≡◌, ◌≢◌, ◌≤◌}, String.string_bytes};
+ghost use Rattle.{c104_check.specs.Routes.{IsAccepted, routes_of}, c104_describe.specs.PlanText.read_description};
+ghost use Rattle.{c104_label.specs.Images.{IsImageOf, is_labelled_shape}, c104_plan.specs.{PlanImage.Fits, TextCut.most_bytes}};
+ghost use Rattle.c104_setup.specs.{Endings.{EndsBefore, IsSetup}, Setups.{ComesTo, IsOutOfMemory, RefusalEnds, label_fault_text}};
+ghost use Rattle.c104_setup.specs.Setups.{refused_text};
 ghost use Rattle.c104_setup.specs.declared.status.Status.TheVariants as status;
 
 use crate::status::Status;

@@ -1,10 +1,9 @@
 //! The packets whose terminators are in a network, or wait at their senders.
 ghost use Rattle.std.specs.Prelude.{◌≡◌};
-ghost use Rattle.c104_token.specs.Kinds.{plain_kind};
-ghost use Rattle.c104_run.specs.NetViews.{network_link_view, network_terminal_view};
-ghost use Rattle.c104_stats.specs.Numbers.{each_number};
+ghost use Rattle.{c104_run.specs.NetViews.{network_link_view, network_terminal_view}, c104_stats.specs.Numbers.each_number};
 ghost use Rattle.c104_stats.specs.Sights.{behind_found, counts_at_end, ended_by, found_in, found_out, link_found, links_found};
 ghost use Rattle.c104_stats.specs.Sights.{origin_found, switches_found, terminal_found, terminals_found, token_found, waiting_found};
+ghost use Rattle.c104_token.specs.Kinds.{plain_kind};
 
 use crate::stats::Stats;
 use c104_net::WaitingTokens;

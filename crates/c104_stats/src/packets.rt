@@ -2,10 +2,9 @@
 //!
 //! A packet is counted before it is sent, when there may be no memory for its row, and taken back where it isn't sent.
 //! Percentiles are nearest ranks: each is the latency of some packet.
-ghost use Rattle.std.specs.Prelude.{◌≡◌, ◌++◌, ◌∷◌, [], OnErr, OnOk};
-ghost use Rattle.c104_stats.specs.Links.{first_of};
-ghost use Rattle.c104_stats.specs.Packets.{all_but_last, arrived_packet, change_at, crossed_packet, inside_packet, latency};
-ghost use Rattle.c104_stats.specs.Packets.{left_packet, sent_packet};
+ghost use Rattle.std.specs.Prelude.{OnErr, OnOk, [], ◌++◌, ◌∷◌, ◌≡◌};
+ghost use Rattle.c104_stats.specs.{Links.first_of, Packets.{all_but_last, arrived_packet, change_at, crossed_packet, inside_packet}};
+ghost use Rattle.c104_stats.specs.Packets.{latency, left_packet, sent_packet};
 
 use crate::numbers::add_saturating;
 use c104_token::NoMemory;

@@ -1,10 +1,9 @@
 //! What is seen of a network where a round is over.
-ghost use Rattle.std.specs.Prelude.{◌≡◌, ◌<◌, length};
-ghost use Rattle.c104_token.specs.Kinds.{plain_kind};
-ghost use Rattle.c104_run.specs.NetViews.{network_link_view, network_terminal_view};
-ghost use Rattle.c104_stats.specs.Sights.{counts_of_net, header_tokens, levels_of, levels_with_link, levels_with_terminal};
-ghost use Rattle.c104_stats.specs.Sights.{link_levels, link_seen, links_levels, links_seen, outputs_held, switches_levels};
-ghost use Rattle.c104_stats.specs.Sights.{switches_seen, terminal_levels, terminal_seen, terminals_levels, terminals_seen};
+ghost use Rattle.std.specs.Prelude.{length, ◌<◌, ◌≡◌};
+ghost use Rattle.{c104_run.specs.NetViews.{network_link_view, network_terminal_view}, c104_stats.specs.Sights.counts_of_net};
+ghost use Rattle.c104_stats.specs.Sights.{header_tokens, levels_of, levels_with_link, levels_with_terminal, link_levels, link_seen};
+ghost use Rattle.c104_stats.specs.Sights.{links_levels, links_seen, outputs_held, switches_levels, switches_seen, terminal_levels};
+ghost use Rattle.{c104_stats.specs.Sights.{terminal_seen, terminals_levels, terminals_seen}, c104_token.specs.Kinds.plain_kind};
 
 use crate::rounds::Levels;
 use crate::stats::{Stats, What};

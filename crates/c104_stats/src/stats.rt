@@ -2,14 +2,11 @@
 //!
 //! A `Stats` is told what happens, in order. What it makes of each thing is one step of `Counts`, so that what it counts in
 //! the end is what the definitions say of all that happened.
-ghost use Rattle.std.specs.Prelude.{◌≡◌, ◌*◌, [], if◌then◌else◌, length, map, replicate, slice_get, IfOk, OnErr, OnOk};
-ghost use Rattle.c104_plan.specs.declared.plans.Terminal.{Terminal as TheTerminal};
-ghost use Rattle.c104_regs.specs.declared.registers.TheConstants.{LINKS};
+ghost use Rattle.std.specs.Prelude.{IfOk, OnErr, OnOk, [], if◌then◌else◌, length, map, replicate, slice_get, ◌*◌, ◌≡◌};
+ghost use Rattle.{c104_plan.specs.declared.plans.Terminal.Terminal as TheTerminal, c104_regs.specs.declared.registers.TheConstants.LINKS};
 ghost use Rattle.c104_stats.specs.Counts.{counts_arrived, counts_begun, counts_crossed, counts_cut, counts_found, counts_level};
 ghost use Rattle.c104_stats.specs.Counts.{counts_noted, counts_passed, counts_seen, counts_sent, counts_taken, crossed_senders};
-ghost use Rattle.c104_stats.specs.Counts.{left_senders, new_counts};
-ghost use Rattle.c104_stats.specs.Links.{new_link};
-ghost use Rattle.c104_stats.specs.Rounds.{moved_round};
+ghost use Rattle.c104_stats.specs.{Counts.{left_senders, new_counts}, Links.new_link, Rounds.moved_round};
 
 use crate::links::{Crossing, LinkRow};
 use crate::numbers::saturate_u32;

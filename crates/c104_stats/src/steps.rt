@@ -1,7 +1,6 @@
 //! The steps of what is counted of links.
-ghost use Rattle.std.specs.Prelude.{◌≡◌, slice_get};
-ghost use Rattle.c104_stats.specs.Counts.{change_link, idle_of, link_at, link_row, links_cut};
-ghost use Rattle.c104_stats.specs.Links.{link_after, link_cut};
+ghost use Rattle.std.specs.Prelude.{slice_get, ◌≡◌};
+ghost use Rattle.c104_stats.specs.{Counts.{change_link, idle_of, link_at, link_row, links_cut}, Links.{link_after, link_cut}};
 ghost use Rattle.c104_stats.specs.Packets.{change_at};
 
 use crate::links::{Crossing, LinkRow};

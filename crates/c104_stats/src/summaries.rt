@@ -1,6 +1,5 @@
 //! What the counts of a run come to.
-ghost use Rattle.std.specs.Prelude.{◌≡◌, ◌≤◌, ◌++◌, IfOk, OnOk, IsPermutation, IsSorted, slice_get};
-ghost use Rattle.std.specs.Ordering.{nat_cmp};
+ghost use Rattle.std.specs.{Ordering.nat_cmp, Prelude.{IfOk, IsPermutation, IsSorted, OnOk, slice_get, ◌++◌, ◌≡◌, ◌≤◌}};
 ghost use Rattle.c104_stats.specs.Summaries.{IsSummary, all_endings, all_latencies, busy_share, endings_with, latencies, latency_if};
 ghost use Rattle.c104_stats.specs.Summaries.{no_endings, one_ending, ranked, sent_count, token_rate, tokens_with, top_of};
 

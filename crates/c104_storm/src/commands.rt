@@ -1,8 +1,7 @@
 //! The command that lets a storm go over a description's network.
 ghost use Rattle.std.specs.Prelude.{ℕ, ◌≡◌, ◌≤◌};
-ghost use Rattle.c104_plan.specs.PlanImage.{Fits};
+ghost use Rattle.{c104_plan.specs.PlanImage.Fits, c104_storm.specs.Commands.{StormEnds, StormRuns}};
 ghost use Rattle.c104_setup.specs.declared.status.Status.TheVariants as status;
-ghost use Rattle.c104_storm.specs.Commands.{StormEnds, StormRuns};
 
 use crate::storms::{MAX_WORKERS, storm_plan};
 use c104_mistakes::Messages;

@@ -1,7 +1,6 @@
 //! The texts of a storm's end.
-ghost use Rattle.std.specs.Prelude.{◌≡◌, ◌++◌, IfOk, OnOk};
-ghost use Rattle.c104_storm.specs.Endings.{IsEndText, IsRunText};
-ghost use Rattle.c104_storm.specs.Texts.{audit_line, numbered_line, stop_line};
+ghost use Rattle.std.specs.Prelude.{IfOk, OnOk, ◌++◌, ◌≡◌};
+ghost use Rattle.c104_storm.specs.{Endings.{IsEndText, IsRunText}, Texts.{audit_line, numbered_line, stop_line}};
 
 use crate::endings::Ending;
 use crate::packets::add_sorted;

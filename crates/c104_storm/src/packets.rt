@@ -1,14 +1,8 @@
 //! The packets that arrived in a storm, sorted: the order in which they came depends on the threads.
-ghost use Rattle.std.specs.Prelude.{◌≡◌, ◌++◌, ◌<◌, IfOk, OnOk, flat_map, length, map};
-ghost use Rattle.std.specs.Global.{Vec as Kept};
-ghost use Rattle.c104_net.specs.Deliveries.{arrived_at};
-ghost use Rattle.c104_net.specs.RunOrigins.{AreOrigins};
-ghost use Rattle.c104_net.specs.TracedEnds.{traced_end};
-ghost use Rattle.c104_node.specs.Origins.{AreSure, origins_in};
-ghost use Rattle.c104_node.specs.declared.origins.Origin.{Origin as TheOrigin};
-ghost use Rattle.c104_node.specs.declared.traced.Traced.{Traced as TheTraced};
-ghost use Rattle.c104_storm.specs.Arrivals.{AreAll, IsSortedOf, JoinArrivals, JoinSorted, arrived_line, arrived_of};
-ghost use Rattle.c104_storm.specs.Texts.{sender_text};
+ghost use Rattle.std.specs.{Global.Vec as Kept, Prelude.{IfOk, OnOk, flat_map, length, map, ◌++◌, ◌<◌, ◌≡◌}};
+ghost use Rattle.{c104_net.specs.{Deliveries.arrived_at, RunOrigins.AreOrigins, TracedEnds.traced_end}, c104_node.specs.Origins.AreSure};
+ghost use Rattle.c104_node.specs.{Origins.origins_in, declared.{origins.Origin.Origin as TheOrigin, traced.Traced.Traced as TheTraced}};
+ghost use Rattle.c104_storm.specs.{Arrivals.{AreAll, IsSortedOf, JoinArrivals, JoinSorted, arrived_line, arrived_of}, Texts.sender_text};
 
 use c104_net::{Origin, Origins};
 use c104_plan::Plan;

@@ -1,11 +1,8 @@
 //! What a line of a storm's script asks, and what a network answers.
-ghost use Rattle.std.specs.Prelude.{◌≡◌, IfOk, Option};
-ghost use Rattle.c104_run.specs.NetRecords.{NetRecord as TheNet};
-ghost use Rattle.c104_script.specs.Script.{GivesLineOrNoMemory};
-ghost use Rattle.c104_script.specs.declared.answers.Answer.{Answer as TheAnswer};
-ghost use Rattle.c104_plan.specs.PlanImage.{Fits};
-ghost use Rattle.c104_storm.specs.Sends.{begins_otherwise, event_outcome, new_sending, read_send_line, send_answer};
-ghost use Rattle.c104_storm.specs.Sends.{tells_fault};
+ghost use Rattle.std.specs.Prelude.{IfOk, Option, ◌≡◌};
+ghost use Rattle.{c104_plan.specs.PlanImage.Fits, c104_run.specs.NetRecords.NetRecord as TheNet};
+ghost use Rattle.c104_script.specs.{Script.GivesLineOrNoMemory, declared.answers.Answer.Answer as TheAnswer};
+ghost use Rattle.c104_storm.specs.Sends.{begins_otherwise, event_outcome, new_sending, read_send_line, send_answer, tells_fault};
 
 use crate::telling::send_message;
 use c104_event::{Event, EventFault};

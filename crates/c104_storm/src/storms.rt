@@ -1,12 +1,9 @@
 //! A storm, on the network of a plan.
 //!
 //! The network is placed, where a run's is loaded: that both come to the same network is proved of the load.
-ghost use Rattle.std.specs.Prelude.{◌≡◌, ◌≤◌, length};
-ghost use Rattle.c104_plan.specs.PlanImage.{Fits};
-ghost use Rattle.c104_plan.specs.Plans.{Plan as ThePlan};
-ghost use Rattle.c104_storm.specs.Sends.{new_sending, send_outcome};
-ghost use Rattle.c104_storm.specs.Storms.{StormsOn, StormsPlan};
-ghost use Rattle.c104_stream.specs.Scripts.{AnswersScript};
+ghost use Rattle.std.specs.Prelude.{length, ◌≡◌, ◌≤◌};
+ghost use Rattle.{c104_plan.specs.{PlanImage.Fits, Plans.Plan as ThePlan}, c104_storm.specs.Sends.{new_sending, send_outcome}};
+ghost use Rattle.{c104_storm.specs.Storms.{StormsOn, StormsPlan}, c104_stream.specs.Scripts.AnswersScript};
 ghost use Rattle.c104_workers.specs.Fabrics.{AreSeatsOf, handed_of};
 
 use crate::endings::{Sent, write_end};

@@ -1,7 +1,6 @@
 //! Bytes, one by one, from a reader that is asked once for each piece of them.
-ghost use Rattle.std.specs.Prelude.{◌≡◌, ◌↔◌, ◌==◌, ◌<◌, ◌≤◌, ◌++◌, [], length, position, Err, IsTrue, MatchBool, MatchResult, IfOk, IfSome};
-ghost use Rattle.std.specs.List.{before_first};
-ghost use Rattle.std.specs.Io.KnownBytes.{Consumes, Keeps, IsAtEnd, prepend_known};
+ghost use Rattle.std.specs.{Io.KnownBytes.{Consumes, IsAtEnd, Keeps, prepend_known}, List.before_first, Prelude.{Err, IfOk, IfSome}};
+ghost use Rattle.std.specs.Prelude.{IsTrue, MatchBool, MatchResult, [], length, position, ◌++◌, ◌<◌, ◌==◌, ◌↔◌, ◌≡◌, ◌≤◌};
 ghost use Rattle.c104_stream.specs.Reading.{GivesByte, StopsWithin, TakesUpTo, piece_before};
 ghost use Rattle.c104_stream.specs.declared.reading.ReadFault.TheVariants as fault;
 

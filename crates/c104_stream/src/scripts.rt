@@ -1,9 +1,6 @@
 //! A script, byte by byte within its limit, and answers that are kept until it is read on.
-ghost use Rattle.std.specs.Prelude.{◌≡◌, IfOk, MatchResult};
-ghost use Rattle.std.specs.Io.KnownBytes.{prepend_known};
-ghost use Rattle.c104_stream.specs.Reading.{GivesByte};
-ghost use Rattle.c104_stream.specs.ScriptLines.{JoinsLine, script_too_long};
-ghost use Rattle.c104_stream.specs.Scripts.{ReadStops};
+ghost use Rattle.std.specs.{Io.KnownBytes.prepend_known, Prelude.{IfOk, MatchResult, ◌≡◌}};
+ghost use Rattle.c104_stream.specs.{Reading.GivesByte, ScriptLines.{JoinsLine, script_too_long}, Scripts.ReadStops};
 ghost use Rattle.c104_stream.specs.Writing.{AppendsAndKeeps};
 
 use crate::halt::Halt;

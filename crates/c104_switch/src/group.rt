@@ -1,7 +1,6 @@
 //! Groups of links.
-ghost use Rattle.std.specs.Prelude.{◌≡◌, ◌<◌, ◌&&◌, ℕ, false, nat_le, IfNone, IfSome};
-ghost use Rattle.c104_regs.specs.declared.registers.TheConstants.{LINKS};
-ghost use Rattle.c104_switch.specs.Group.{is_in_group};
+ghost use Rattle.std.specs.Prelude.{IfNone, IfSome, false, nat_le, ℕ, ◌&&◌, ◌<◌, ◌≡◌};
+ghost use Rattle.{c104_regs.specs.declared.registers.TheConstants.LINKS, c104_switch.specs.Group.is_in_group};
 
 use crate::LINKS;
 use c104_crossbar::Group;

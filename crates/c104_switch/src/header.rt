@@ -1,8 +1,7 @@
 //! The header of a packet that an input reads: its tokens, and the number that they say.
-ghost use Rattle.std.specs.Prelude.{◌≡◌, ◌<◌, ◌≤◌, ◌+◌, ◌∷◌, ◌++◌, [], length, map, All, IfOk};
+ghost use Rattle.std.specs.Prelude.{All, IfOk, [], length, map, ◌++◌, ◌+◌, ◌<◌, ◌∷◌, ◌≡◌, ◌≤◌};
+ghost use Rattle.c104_switch.specs.{Headers.{header_number, header_value}, declared.header.TheConstants.HEADER_LIMIT};
 ghost use Rattle.c104_token.specs.Tokens.{byte_of};
-ghost use Rattle.c104_switch.specs.declared.header.TheConstants.{HEADER_LIMIT};
-ghost use Rattle.c104_switch.specs.Headers.{header_value, header_number};
 
 use arrayvec::ArrayVec;
 use c104_token::{NoMemory, Token, TokenKind};
@@ -60,8 +59,7 @@ pub struct HeaderOf<T: TokenKind> {
 }
 
 impl<T: TokenKind> Model for HeaderOf<T> {
-    ghost use Rattle.std.specs.Prelude.{◌≤◌, List, length, vec_len};
-    ghost use Rattle.std.specs.Vec.{vec_capacity};
+    ghost use Rattle.std.specs.{Prelude.{List, length, vec_len, ◌≤◌}, Vec.vec_capacity};
 
     ghost Value = { List T };
 

@@ -1,16 +1,9 @@
 //! The input side of one link.
-ghost use Rattle.std.specs.Prelude.{option_to_list, ◌≡◌, length, slice_get, IfOk, is_some};
-ghost use Rattle.std.specs.Option.{option_copied};
-ghost use Rattle.c104_link.specs.Buffers.{IsValidCap, IsWithinCap};
-ghost use Rattle.c104_link.specs.Steps.{bool_outcome};
-ghost use Rattle.c104_switch.specs.Switch.{Input, input_accept, input_grant, new_input};
-ghost use Rattle.c104_switch.specs.Phases.{is_want, streamed_output};
-ghost use Rattle.c104_switch.specs.Holding.{phase_claims};
-ghost use Rattle.c104_switch.specs.Peeks.{is_busy};
-ghost use Rattle.c104_switch.specs.Readiness.{may_turn};
+ghost use Rattle.std.specs.{Option.option_copied, Prelude.{IfOk, is_some, length, option_to_list, slice_get, ◌≡◌}};
+ghost use Rattle.{c104_link.specs.{Buffers.{IsValidCap, IsWithinCap}, Steps.bool_outcome}, c104_switch.specs.Commands.input_reset};
+ghost use Rattle.c104_switch.specs.{Holding.phase_claims, Peeks.is_busy, Phases.{is_want, streamed_output}, Readiness.may_turn};
+ghost use Rattle.c104_switch.specs.{Starts.{IsLinkStart, start_input}, Switch.{Input, input_accept, input_grant, new_input}};
 ghost use Rattle.c104_switch.specs.Views.{phase_view};
-ghost use Rattle.c104_switch.specs.Commands.{input_reset};
-ghost use Rattle.c104_switch.specs.Starts.{start_input, IsLinkStart};
 
 mod claims;
 mod reasons;
@@ -45,8 +38,7 @@ impl<T: TokenKind> Model for InputOf<T> {
 
     ghost Value = { Input T };
 
-    ghost use Rattle.c104_switch.specs.Phases.{HasRoom};
-    ghost use Rattle.c104_switch.specs.Stages.{stage_phase};
+    ghost use Rattle.c104_switch.specs.{Phases.HasRoom, Stages.stage_phase};
 
     ghost view = { λ p.
         record {

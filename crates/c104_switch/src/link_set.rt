@@ -1,7 +1,6 @@
 //! Sets of links.
-ghost use Rattle.std.specs.Prelude.{◌≡◌, ◌≢◌, ◌<◌, ◌&&◌, ◌||◌, ℕ, false, true};
-ghost use Rattle.c104_crossbar.specs.Groups.{has_bit};
-ghost use Rattle.c104_regs.specs.declared.registers.TheConstants.{LINKS};
+ghost use Rattle.std.specs.Prelude.{false, true, ℕ, ◌&&◌, ◌<◌, ◌||◌, ◌≡◌, ◌≢◌};
+ghost use Rattle.{c104_crossbar.specs.Groups.has_bit, c104_regs.specs.declared.registers.TheConstants.LINKS};
 ghost use Rattle.c104_switch.specs.Claims.{IsNextLink};
 
 use crate::LINKS;

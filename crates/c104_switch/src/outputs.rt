@@ -1,14 +1,10 @@
 //! The output sides of all links.
-ghost use Rattle.std.specs.Prelude.{◌≡◌, ◌&&◌, All, map, replicate, slice_get, IfOk, is_some};
-ghost use Rattle.std.specs.Option.{option_copied};
-ghost use Rattle.c104_link.specs.Buffers as buffer;
-ghost use Rattle.c104_link.specs.Buffers.{Outgoing, empty_outgoing, outgoing_clear};
+ghost use Rattle.std.specs.{Option.option_copied, Prelude.{All, IfOk, is_some, map, replicate, slice_get, ◌&&◌, ◌≡◌}};
+ghost use Rattle.{c104_crossbar.specs.Groups.has_bit, c104_link.specs.Buffers.{Outgoing, empty_outgoing, outgoing_clear}};
 ghost use Rattle.c104_link.specs.Steps.{bool_outcome, option_outcome, step_at, yield_step_at};
-ghost use Rattle.c104_regs.specs.declared.registers.TheConstants.{LINKS};
-ghost use Rattle.c104_crossbar.specs.Groups.{has_bit};
-ghost use Rattle.c104_switch.specs.Claims.{put_header, IsNextLink};
-ghost use Rattle.c104_switch.specs.Readiness.{AreSending};
-ghost use Rattle.c104_switch.specs.Starts.{start_output, IsLinkStart};
+ghost use Rattle.{c104_regs.specs.declared.registers.TheConstants.LINKS, c104_switch.specs.Claims.{IsNextLink, put_header}};
+ghost use Rattle.c104_switch.specs.{Readiness.AreSending, Starts.{IsLinkStart, start_output}};
+ghost use Rattle.c104_link.specs.Buffers as buffer;
 
 use crate::LINKS;
 use crate::link_set::LinkSet;
@@ -29,8 +25,7 @@ pub struct OutputsOf<T: TokenKind> {
 
 impl<T: TokenKind> Model for OutputsOf<T> {
     ghost use Rattle.std.specs.Prelude.{List};
-    ghost use Rattle.c104_link.specs.Buffers.{Outgoing};
-    ghost use Rattle.c104_switch.specs.Readiness.{AreSending};
+    ghost use Rattle.{c104_link.specs.Buffers.Outgoing, c104_switch.specs.Readiness.AreSending};
 
     ghost Value = { List (Outgoing T) };
 

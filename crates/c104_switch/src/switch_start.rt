@@ -1,11 +1,7 @@
 //! Where a switch starts, as plain data.
-ghost use Rattle.std.specs.Prelude.{◌≡◌, ◌≤◌, IfOk, false, length, replicate, true};
-ghost use Rattle.std.specs.Vec.{vec_capacity};
-ghost use Rattle.c104_link.specs.Buffers.{IsValidCap};
-ghost use Rattle.c104_regs.specs.Settings.{reset_settings};
-ghost use Rattle.c104_regs.specs.declared.registers.TheConstants.{LINKS};
-ghost use Rattle.c104_switch.specs.Soundness.{IsSound};
-ghost use Rattle.c104_switch.specs.Starts.{link_starts, new_link, new_start, IsSwitchStart};
+ghost use Rattle.std.specs.{Prelude.{IfOk, false, length, replicate, true, ◌≡◌, ◌≤◌}, Vec.vec_capacity};
+ghost use Rattle.{c104_link.specs.Buffers.IsValidCap, c104_regs.specs.{Settings.reset_settings, declared.registers.TheConstants.LINKS}};
+ghost use Rattle.c104_switch.specs.{Soundness.IsSound, Starts.{IsSwitchStart, link_starts, new_link, new_start}};
 
 use crate::LINKS;
 use crate::inputs::InputsOf;
@@ -25,10 +21,8 @@ pub struct SwitchStart {
 }
 
 impl Model for SwitchStart {
-    ghost use Rattle.std.specs.Prelude.{◌≤◌};
-    ghost use Rattle.std.specs.Vec.{vec_capacity};
-    ghost use Rattle.c104_regs.specs.declared.registers.TheConstants.{LINKS};
-    ghost use Rattle.c104_switch.specs.Starts.{IsSwitchStart, SwitchStart};
+    ghost use Rattle.std.specs.{Prelude.◌≤◌, Vec.vec_capacity};
+    ghost use Rattle.{c104_regs.specs.declared.registers.TheConstants.LINKS, c104_switch.specs.Starts.{IsSwitchStart, SwitchStart}};
 
     ghost Value = { SwitchStart };
 

@@ -1,15 +1,9 @@
 //! The switch: what is set at each link, and the two sides of each link.
-ghost use Rattle.std.specs.Prelude.{◌≡◌, true, IfOk};
-ghost use Rattle.std.specs.Option.{option_copied};
-ghost use Rattle.c104_crossbar.specs.Marks.{ArePartition};
-ghost use Rattle.c104_link.specs.Buffers.{IsValidCap};
-ghost use Rattle.c104_link.specs.Steps.{bool_outcome, option_outcome};
-ghost use Rattle.c104_switch.specs.Switch.{new_switch, new_switch_with, switch_enter, switch_leave, switch_credit_out, switch_credit_in};
-ghost use Rattle.c104_switch.specs.Turns.{switch_input};
-ghost use Rattle.c104_switch.specs.Claims.{switch_claim};
-ghost use Rattle.c104_switch.specs.Views.{link_view};
-ghost use Rattle.c104_switch.specs.Soundness.{IsSound};
-ghost use Rattle.c104_switch.specs.Holding.{held_claims, claim_at};
+ghost use Rattle.std.specs.{Option.option_copied, Prelude.{IfOk, true, ◌≡◌}};
+ghost use Rattle.{c104_crossbar.specs.Marks.ArePartition, c104_link.specs.{Buffers.IsValidCap, Steps.{bool_outcome, option_outcome}}};
+ghost use Rattle.c104_switch.specs.{Claims.switch_claim, Holding.{claim_at, held_claims}, Soundness.IsSound, Switch.new_switch};
+ghost use Rattle.c104_switch.specs.Switch.{new_switch_with, switch_credit_in, switch_credit_out, switch_enter, switch_leave};
+ghost use Rattle.c104_switch.specs.{Turns.switch_input, Views.link_view};
 
 mod commands;
 mod control;
@@ -47,8 +41,7 @@ pub struct SwitchOf<T: TokenKind> {
 pub type Switch = SwitchOf<Token>;
 
 impl<T: TokenKind> Model for SwitchOf<T> {
-    ghost use Rattle.c104_switch.specs.Switch.{Switch};
-    ghost use Rattle.c104_switch.specs.Soundness.{IsSound};
+    ghost use Rattle.c104_switch.specs.{Soundness.IsSound, Switch.Switch};
 
     ghost Value = { Switch T };
 

@@ -1,7 +1,6 @@
 //! The lists that a plan is made of, which a refused call leaves as they were; and images of given tables.
-ghost use Rattle.std.specs.Prelude.{◌≡◌, All, IsTrue, length};
-ghost use Rattle.c104_regs.specs.Ranges.{IsTableInRange};
-ghost use Rattle.c104_plan.specs.TextWords.{is_name};
+ghost use Rattle.std.specs.Prelude.{All, IsTrue, length, ◌≡◌};
+ghost use Rattle.{c104_plan.specs.TextWords.is_name, c104_regs.specs.Ranges.IsTableInRange};
 
 use crate::calls::PLAN;
 use crate::ground::{Ground, Suite, is_right_on};

@@ -1,7 +1,6 @@
 //! Traffic: who sends, the script that is written, and why a network can't have it.
-ghost use Rattle.std.specs.Prelude.{◌≡◌, false, IfOk};
-ghost use Rattle.c104_traffic.specs.Packets.{IsTraffic};
-ghost use Rattle.c104_traffic.specs.Schedules.{IsSchedule};
+ghost use Rattle.std.specs.Prelude.{IfOk, false, ◌≡◌};
+ghost use Rattle.c104_traffic.specs.{Packets.IsTraffic, Schedules.IsSchedule};
 
 use crate::calls::PLAN;
 use crate::ground::{Ground, Suite, is_right_on};

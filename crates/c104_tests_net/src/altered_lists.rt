@@ -4,8 +4,7 @@
 //! These fail where the audit passes over one end of a wire, a reply, a ticket or a start, where it tells one fault of all
 //! lists, and where it takes none for a run: first it has to find one in the lists as they are.
 ghost use Rattle.std.specs.Prelude.{IfOk, IfSome};
-ghost use Rattle.c104_audit.specs.Audits.{AreLists};
-ghost use Rattle.c104_workers.specs.Fabrics.{AreSeatsOf};
+ghost use Rattle.{c104_audit.specs.Audits.AreLists, c104_workers.specs.Fabrics.AreSeatsOf};
 
 use crate::alterations::{ALTERATIONS, Alteration, below, next_number};
 use crate::altered_calls::{calls_fault, calls_with};

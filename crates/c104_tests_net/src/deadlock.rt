@@ -4,17 +4,12 @@
 //! tells that there is none, and gives ranks. In both the number of rounds that are enough is known before them, and
 //! that all is quiet afterwards is proved from the contracts of `Net` alone. Where random headers are put before packets
 //! no call tells that number; but where the network stands still, it is proved to be quiet.
-ghost use Rattle.std.specs.Prelude.{◌≡◌, ◌<◌, true, IfOk};
+ghost use Rattle.std.specs.Prelude.{IfOk, true, ◌<◌, ◌≡◌};
 ghost use Rattle.c104_check.specs.ChannelDependencies.{AreRanksWithin, IsAcyclic, IsNeverRandomized, IsRanking, input_count};
-ghost use Rattle.c104_check.specs.Ranks.{rank_in};
-ghost use Rattle.c104_check.specs.Routes.{IsAccepted, routes_of};
-ghost use Rattle.c104_plan.specs.PlanImage.{Fits, Image as TheImage};
-ghost use Rattle.c104_plan.specs.Plans.{Plan as ThePlan};
-ghost use Rattle.c104_net.specs.DeadlockFreedom.{IsAllDelivered};
-ghost use Rattle.c104_net.specs.HeaderWork.{work, work_bound};
-ghost use Rattle.c104_net.specs.Work.{told_work};
-ghost use Rattle.c104_tests_net.specs.CalmNets.{IsCalm};
-ghost use Rattle.c104_tests_net.specs.DeliveredNets.{DeliversByRanks, DeliversWithin};
+ghost use Rattle.{c104_check.specs.{Ranks.rank_in, Routes.{IsAccepted, routes_of}}, c104_net.specs.DeadlockFreedom.IsAllDelivered};
+ghost use Rattle.{c104_net.specs.{HeaderWork.{work, work_bound}, Work.told_work}, c104_plan.specs.PlanImage.{Fits, Image as TheImage}};
+ghost use Rattle.{c104_plan.specs.Plans.Plan as ThePlan, c104_tests_net.specs.{CalmNets.IsCalm, DeliveredNets.DeliversByRanks}};
+ghost use Rattle.c104_tests_net.specs.DeliveredNets.{DeliversWithin};
 
 use crate::calls::{drop_plan, plan_of};
 use crate::named_packets::{is_plain, placed, send_plain};

@@ -1,6 +1,5 @@
 //! A debugger with a seat of its own, beside workers that hold the others.
-ghost use Rattle.std.specs.Prelude.{◌≡◌, ◌≤◌, length};
-ghost use Rattle.std.specs.Thread.{IsSync};
+ghost use Rattle.std.specs.{Prelude.{length, ◌≡◌, ◌≤◌}, Thread.IsSync};
 ghost use Rattle.c104_workers.specs.Fabrics.{AreSeatsOf};
 
 use crate::networks::{MESH, PLAN, busy_fabric, is_run};

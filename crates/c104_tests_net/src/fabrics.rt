@@ -1,6 +1,5 @@
 //! Events that threads do through the seats of a fabric.
-ghost use Rattle.std.specs.Prelude.{◌≡◌, IfOk};
-ghost use Rattle.std.specs.Thread.{IsSync};
+ghost use Rattle.std.specs.{Prelude.{IfOk, ◌≡◌}, Thread.IsSync};
 ghost use Rattle.c104_workers.specs.Fabrics.{AreSeatsOf};
 
 use crate::calls::{described_image, drop_run, new_network, packet_of, placed_network};

@@ -1,11 +1,8 @@
 //! The theorem about packets, cited for a network that was quiet when it was finished: no packet that was sent is
 //! missing, and none is there twice.
-ghost use Rattle.std.specs.Prelude.{◌≡◌, true, IfOk};
-ghost use Rattle.c104_check.specs.Routes.{IsAccepted, routes_of};
-ghost use Rattle.c104_run.specs.NetRecords.{IsNetRecord};
-ghost use Rattle.c104_run.specs.QuietNets.{IsQuiet};
-ghost use Rattle.c104_tests_net.specs.CalmNets.{IsCalm};
-ghost use Rattle.c104_tests_net.specs.FoundPackets.{AreFoundOnce};
+ghost use Rattle.std.specs.Prelude.{IfOk, true, ◌≡◌};
+ghost use Rattle.{c104_check.specs.Routes.{IsAccepted, routes_of}, c104_run.specs.{NetRecords.IsNetRecord, QuietNets.IsQuiet}};
+ghost use Rattle.c104_tests_net.specs.{CalmNets.IsCalm, FoundPackets.AreFoundOnce};
 
 use crate::calls::{drop_plan, drop_run, plan_of};
 use crate::named_packets::{TREE, in_first_run};

@@ -3,14 +3,10 @@
 //! What a network keeps that started as an image says and that nobody changed (`IsCalm`) goes on by each call that
 //! these tests make, by the contracts of `Net` alone. So where the labels are accepted all premises of the theorem
 //! hold, and the contract of `Run::origins` says of a received packet which one it is.
-ghost use Rattle.std.specs.Prelude.{◌≡◌, ℕ, [], Some, slice_get, true, IfOk};
-ghost use Rattle.std.specs.Global.{Vec as Kept};
-ghost use Rattle.c104_check.specs.ChannelDependencies.{IsNeverRandomized};
-ghost use Rattle.c104_check.specs.Routes.{IsAccepted, routes_of};
-ghost use Rattle.c104_plan.specs.PlanImage.{Fits, Image as TheImage};
-ghost use Rattle.c104_plan.specs.Plans.{Plan as ThePlan};
-ghost use Rattle.c104_run.specs.FinishedRecords.{record_finish};
-ghost use Rattle.c104_node.specs.declared.origins.Origin.{Origin as TheOrigin};
+ghost use Rattle.std.specs.{Global.Vec as Kept, Prelude.{IfOk, Some, [], slice_get, true, ℕ, ◌≡◌}};
+ghost use Rattle.c104_check.specs.{ChannelDependencies.IsNeverRandomized, Routes.{IsAccepted, routes_of}};
+ghost use Rattle.{c104_node.specs.declared.origins.Origin.Origin as TheOrigin, c104_plan.specs.PlanImage.{Fits, Image as TheImage}};
+ghost use Rattle.{c104_plan.specs.Plans.Plan as ThePlan, c104_run.specs.FinishedRecords.record_finish};
 ghost use Rattle.c104_tests_net.specs.CalmNets.{IsCalm, IsListed, IsNamed, IsNamedByCheck, IsNamedByLabels, IsNotRandom};
 
 use crate::calls::{drop_plan, drop_run, plan_of};

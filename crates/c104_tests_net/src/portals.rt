@@ -2,10 +2,8 @@
 //!
 //! What a terminal sends begins with a label, and of labels that are accepted none is a random header. So a look at the
 //! packet and at the labels shows that it may be sent, and the theorem names what is received behind the portals.
-ghost use Rattle.std.specs.Prelude.{◌≡◌, take, true, IfOk, IfSome};
-ghost use Rattle.c104_check.specs.Routes.{IsAccepted, routes_of};
-ghost use Rattle.c104_plan.specs.PlanImage.{Fits};
-ghost use Rattle.c104_switch.specs.Headers.{header_number};
+ghost use Rattle.std.specs.Prelude.{IfOk, IfSome, take, true, ◌≡◌};
+ghost use Rattle.{c104_check.specs.Routes.{IsAccepted, routes_of}, c104_plan.specs.PlanImage.Fits, c104_switch.specs.Headers.header_number};
 ghost use Rattle.c104_tests_net.specs.CalmNets.{HasLabel, IsCalm, IsNamedByCheck, IsNotRandom};
 
 use crate::calls::{drop_plan, plan_of};

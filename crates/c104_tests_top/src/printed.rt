@@ -3,21 +3,14 @@
 //! Each of its premises comes from a call here: that the labels of a description are accepted, that no link puts random
 //! headers before packets, and that no line of a script is a control command or asks the debugger for anything. Then the
 //! contract of `run` says of what it has printed which packets of the script these are.
-ghost use Rattle.std.specs.Prelude.{◌≡◌, ◌≤◌, [], length, map, true, IfOk, None, Ok, Some};
-ghost use Rattle.c104_plan.specs.PlanImage.{Fits};
-ghost use Rattle.c104_plan.specs.Plans.{IsPlan};
-ghost use Rattle.c104_plan.specs.TextCut.{lines};
-ghost use Rattle.c104_plan.specs.declared.plans.Shape.TheVariants as shape;
-ghost use Rattle.c104_describe.specs.PlanText.{read_description};
-ghost use Rattle.c104_check.specs.ChannelDependencies.{IsNeverRandomized};
-ghost use Rattle.c104_check.specs.Routes.{routes_of};
-ghost use Rattle.c104_label.specs.Images.{IsImageOf};
-ghost use Rattle.c104_stream.specs.ScriptLines.{most_script};
-ghost use Rattle.c104_script.specs.Script.{read_script_line};
-ghost use Rattle.c104_setup.specs.declared.status.Status.TheVariants as status;
-ghost use Rattle.c104_session.specs.PrintedRuns.{PrintsPacketsOf};
-ghost use Rattle.c104_session.specs.RunCommands.{DescriptionEnds};
+ghost use Rattle.std.specs.Prelude.{IfOk, None, Ok, Some, [], length, map, true, ◌≡◌, ◌≤◌};
+ghost use Rattle.c104_check.specs.{ChannelDependencies.IsNeverRandomized, Routes.routes_of};
+ghost use Rattle.{c104_describe.specs.PlanText.read_description, c104_label.specs.Images.IsImageOf, c104_plan.specs.PlanImage.Fits};
+ghost use Rattle.{c104_plan.specs.{Plans.IsPlan, TextCut.lines}, c104_script.specs.Script.read_script_line};
+ghost use Rattle.{c104_session.specs.{PrintedRuns.PrintsPacketsOf, RunCommands.DescriptionEnds}, c104_stream.specs.ScriptLines.most_script};
 ghost use Rattle.c104_tests_top.specs.PrintedTexts.{AreCalm, IsCalm, IsPrinted};
+ghost use Rattle.c104_plan.specs.declared.plans.Shape.TheVariants as shape;
+ghost use Rattle.c104_setup.specs.declared.status.Status.TheVariants as status;
 
 use crate::commands::{ANSWERS, DESCRIPTION, SCRIPT, SUMMARY};
 use c104_check::check;

@@ -1,6 +1,5 @@
 //! What is drawn of the wire at a port.
-ghost use Rattle.std.specs.Prelude.{◌≡◌, ◌++◌, IfOk, OnOk};
-ghost use Rattle.std.specs.List.{flat_map};
+ghost use Rattle.std.specs.{List.flat_map, Prelude.{IfOk, OnOk, ◌++◌, ◌≡◌}};
 ghost use Rattle.c104_timeline.specs.Bars.{bar_of, bars_at, bars_by};
 
 use crate::lanes::{Lane, Stretch};

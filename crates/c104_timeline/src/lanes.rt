@@ -2,8 +2,7 @@
 //!
 //! A token that crosses is part of a stretch only when the next round begins: then there may be no memory, which a meter
 //! has no way to say. A packet's name is known at its end, so a stretch has the packet's number among those of its wire.
-ghost use Rattle.std.specs.Prelude.{◌≡◌, ◌++◌, OnOk};
-ghost use Rattle.std.specs.Option.{option_to_list};
+ghost use Rattle.std.specs.{Option.option_to_list, Prelude.{OnOk, ◌++◌, ◌≡◌}};
 ghost use Rattle.c104_timeline.specs.Lanes.{as_ended, first_stretch, goes_on, held_since, is_open, lane_closed, lane_crossed, lane_cut};
 ghost use Rattle.c104_timeline.specs.Lanes.{lane_settled, name_if, new_lane, next_round, packet_of, rest_of, step_by, step_of};
 

@@ -1,9 +1,8 @@
 //! The rows of a picture: for each switch its name, and then the wires at it.
-ghost use Rattle.std.specs.Prelude.{◌≡◌, ◌++◌, IfOk, OnOk};
-ghost use Rattle.std.specs.Option.{option_copied};
-ghost use Rattle.c104_plan.specs.Wiring.{peer};
+ghost use Rattle.std.specs.{Option.option_copied, Prelude.{IfOk, OnOk, ◌++◌, ◌≡◌}};
+ghost use Rattle.{c104_plan.specs.Wiring.peer, c104_timeline.specs.Rows.{drawn_at, drawn_if, drawn_ports, group_rows, has_stretch}};
+ghost use Rattle.c104_timeline.specs.Rows.{is_drawn, lane_at, rows_of, switch_rows};
 ghost use Rattle.c104_plan.specs.declared.ports.Port.TheVariants as port;
-ghost use Rattle.c104_timeline.specs.Rows.{drawn_at, drawn_if, drawn_ports, group_rows, has_stretch, is_drawn, lane_at, rows_of, switch_rows};
 
 use crate::lanes::Lane;
 use crate::periods::Period;

@@ -1,7 +1,5 @@
-ghost use Rattle.std.specs.Prelude.{◌≡◌, ◌↔◌, [], ◌∷◌, ◌++◌, map, IfOk, IsTrue};
-ghost use Rattle.c104_token.specs.Tokens.{Byte};
-ghost use Rattle.c104_token.specs.Packets.{packet_tokens};
-ghost use Rattle.c104_token.specs.Cut.{IsCut};
+ghost use Rattle.std.specs.Prelude.{IfOk, IsTrue, [], map, ◌++◌, ◌↔◌, ◌∷◌, ◌≡◌};
+ghost use Rattle.c104_token.specs.{Cut.IsCut, Packets.packet_tokens, Tokens.Byte};
 
 use crate::faults::NoMemory;
 use crate::list::{Bytes, Items};

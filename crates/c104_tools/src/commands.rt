@@ -2,11 +2,9 @@
 //!
 //! A reply is judged by its command's line of the table: a refusal whose number that command can't meet, as any refusal
 //! of a reset, is no answer to it, and so a BadReply.
-ghost use Rattle.std.specs.Prelude.{◌≡◌, ◌≢◌, Err, Ok};
+ghost use Rattle.std.specs.Prelude.{Err, Ok, ◌≡◌, ◌≢◌};
+ghost use Rattle.c104_tools.specs.{Outcomes.IsTold, Ports.Commanded, Steps.{IsMeant, judged, may_refuse, named_address, told}};
 ghost use Rattle.c104_tools.specs.declared.faults.LoadFault.TheVariants as fault;
-ghost use Rattle.c104_tools.specs.Outcomes.{IsTold};
-ghost use Rattle.c104_tools.specs.Ports.{Commanded};
-ghost use Rattle.c104_tools.specs.Steps.{IsMeant, judged, may_refuse, named_address, told};
 
 use crate::faults::LoadFault;
 use crate::ports::ControlPort;

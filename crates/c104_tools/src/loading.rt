@@ -1,10 +1,9 @@
 //! The loader.
-ghost use Rattle.std.specs.Prelude.{◌≡◌, ◌≢◌, ◌↔◌, Err, IfErr, MatchResult, Some, length};
+ghost use Rattle.std.specs.Prelude.{Err, IfErr, MatchResult, Some, length, ◌↔◌, ◌≡◌, ◌≢◌};
+ghost use Rattle.c104_tools.specs.{Loaded.{IsLeftBySwitch, IsUnansweredFault, each_with, loaded}, Loads.{for_each, load_list, pokes}};
+ghost use Rattle.c104_tools.specs.{Loads.{steps_from, switch_pokes}, Outcomes.{Outcome, any_value, nothing_made}, Ports.Commanded};
+ghost use Rattle.c104_tools.specs.Ports.{Switches};
 ghost use Rattle.c104_tools.specs.declared.faults.LoadFault.TheVariants as fault;
-ghost use Rattle.c104_tools.specs.Loads.{for_each, load_list, pokes, steps_from, switch_pokes};
-ghost use Rattle.c104_tools.specs.Loaded.{IsLeftBySwitch, IsUnansweredFault, each_with, loaded};
-ghost use Rattle.c104_tools.specs.Outcomes.{Outcome, any_value, nothing_made};
-ghost use Rattle.c104_tools.specs.Ports.{Commanded, Switches};
 
 use crate::commands::ask;
 use crate::faults::LoadFault;

@@ -15,8 +15,7 @@ use c104_token::TokenKind;
 /// switch, where the switch's trace is full, or when out of memory. A `TracedNet` keeps no trace: its commands are
 /// those of the network that it is in contracts.
 impl<T: TokenKind, P: RecordedPlace<T>> ControlPort for RecordedNet<T, P> {
-    ghost use Rattle.c104_tools.specs.NetCommands.{IsNetUnanswered, net_commands, net_switch_count, net_switches};
-    ghost use Rattle.c104_tools.specs.NetOutcomes.{MayGive};
+    ghost use Rattle.c104_tools.specs.{NetCommands.{IsNetUnanswered, net_commands, net_switch_count, net_switches}, NetOutcomes.MayGive};
 
     ghost commands = { λ net. net_commands net };
 

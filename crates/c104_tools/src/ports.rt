@@ -1,9 +1,7 @@
 //! What takes control commands for switches.
-ghost use Rattle.std.specs.Prelude.{◌≡◌, ℕ, List, [], ◌∷◌, ◌++◌, Option, MatchOption, MatchResult, length};
-ghost use Rattle.c104_event.specs.declared.faults.EventFault.{EventFault as TheFault};
-ghost use Rattle.c104_tools.specs.declared.ports.Asked.{Asked as TheAsked};
-ghost use Rattle.c104_tools.specs.Ports.{Obeyed, Switches, command_asked};
-ghost use Rattle.c104_tools.specs.Steps.{Given};
+ghost use Rattle.std.specs.Prelude.{List, MatchOption, MatchResult, Option, [], length, ℕ, ◌++◌, ◌∷◌, ◌≡◌};
+ghost use Rattle.{c104_event.specs.declared.faults.EventFault.EventFault as TheFault, c104_tools.specs.Ports.{Obeyed, Switches}};
+ghost use Rattle.c104_tools.specs.{Ports.command_asked, Steps.Given, declared.ports.Asked.Asked as TheAsked};
 
 use c104_control::ControlBytes;
 use c104_event::EventFault;

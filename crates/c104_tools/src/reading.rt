@@ -1,10 +1,8 @@
 //! What the debugger reads.
-ghost use Rattle.std.specs.List.{range_with_len};
-ghost use Rattle.std.specs.Prelude.{◌≡◌, ◌≢◌, ◌↔◌, ◌+◌, ◌<◌, ◌≤◌, Err, IfOk, Ok, length};
-ghost use Rattle.c104_tools.specs.declared.faults.LoadFault.TheVariants as fault;
-ghost use Rattle.c104_tools.specs.Outcomes.{ComesTo, Outcome, and_then, any_value, link_made, link_peeks, peeks_at};
-ghost use Rattle.c104_tools.specs.Ports.{Commanded};
+ghost use Rattle.std.specs.{List.range_with_len, Prelude.{Err, IfOk, Ok, length, ◌+◌, ◌<◌, ◌↔◌, ◌≡◌, ◌≢◌, ◌≤◌}};
+ghost use Rattle.c104_tools.specs.{Outcomes.{ComesTo, Outcome, and_then, any_value, link_made, link_peeks, peeks_at}, Ports.Commanded};
 ghost use Rattle.c104_tools.specs.Reads.{AreSeen, link_addresses, link_values};
+ghost use Rattle.c104_tools.specs.declared.faults.LoadFault.TheVariants as fault;
 
 use crate::commands::ask;
 use crate::faults::LoadFault;

@@ -1,12 +1,10 @@
 //! An input's table, as the debugger reads it.
-ghost use Rattle.std.specs.Prelude.{◌≡◌, ◌↔◌, ◌<◌, ◌≤◌, not, false, true, Err, IfOk, IfSome, IsTrue, MatchOption, length, map};
-ghost use Rattle.std.specs.List.{list_any};
-ghost use Rattle.c104_regs.specs.Values.{select_code, select_of};
+ghost use Rattle.std.specs.{List.list_any, Prelude.{Err, IfOk, IfSome, IsTrue, MatchOption, false, length, map, not, true, ◌<◌, ◌↔◌, ◌≡◌}};
+ghost use Rattle.std.specs.Prelude.{◌≤◌};
+ghost use Rattle.{c104_regs.specs.Values.{select_code, select_of}, c104_tools.specs.Outcomes.{Outcome, any_value, rows_with, table_made}};
+ghost use Rattle.c104_tools.specs.{Outcomes.table_peeks, Ports.Commanded, Reads.AreSeen, Tables.{is_select, row_codes, row_limits}};
+ghost use Rattle.c104_tools.specs.Tables.{table_addresses, table_values};
 ghost use Rattle.c104_tools.specs.declared.faults.LoadFault.TheVariants as fault;
-ghost use Rattle.c104_tools.specs.Outcomes.{Outcome, any_value, rows_with, table_made, table_peeks};
-ghost use Rattle.c104_tools.specs.Ports.{Commanded};
-ghost use Rattle.c104_tools.specs.Reads.{AreSeen};
-ghost use Rattle.c104_tools.specs.Tables.{is_select, row_codes, row_limits, table_addresses, table_values};
 
 use crate::faults::LoadFault;
 use crate::ports::ControlPort;

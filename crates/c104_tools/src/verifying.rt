@@ -2,11 +2,10 @@
 //!
 //! A comparison reads every register that can be written, and not those alone that the image keeps: else a stale row
 //! would stay unseen.
-ghost use Rattle.std.specs.Prelude.{◌≡◌, ◌≢◌, ◌↔◌, Err, length};
+ghost use Rattle.std.specs.Prelude.{Err, length, ◌↔◌, ◌≡◌, ◌≢◌};
+ghost use Rattle.c104_tools.specs.{Loads.{due_entry, due_value, peeks, steps_from, switch_peeks, verify_list}, Outcomes.Outcome};
+ghost use Rattle.c104_tools.specs.{Outcomes.{due_value_only, nothing_made}, Ports.Commanded};
 ghost use Rattle.c104_tools.specs.declared.faults.LoadFault.TheVariants as fault;
-ghost use Rattle.c104_tools.specs.Loads.{due_entry, due_value, peeks, steps_from, switch_peeks, verify_list};
-ghost use Rattle.c104_tools.specs.Outcomes.{Outcome, due_value_only, nothing_made};
-ghost use Rattle.c104_tools.specs.Ports.{Commanded};
 
 use crate::commands::ask;
 use crate::faults::LoadFault;

@@ -1,9 +1,7 @@
 //! Setting a register.
-ghost use Rattle.std.specs.Prelude.{◌≡◌, ◌↔◌, ◌≤◌, ◌<◌, [], ◌∷◌, Err};
+ghost use Rattle.std.specs.Prelude.{Err, [], ◌<◌, ◌↔◌, ◌∷◌, ◌≡◌, ◌≤◌};
+ghost use Rattle.c104_tools.specs.{Loads.pokes, Outcomes.{Outcome, any_value, nothing_made}, Ports.Commanded};
 ghost use Rattle.c104_tools.specs.declared.faults.LoadFault.TheVariants as fault;
-ghost use Rattle.c104_tools.specs.Loads.{pokes};
-ghost use Rattle.c104_tools.specs.Outcomes.{Outcome, any_value, nothing_made};
-ghost use Rattle.c104_tools.specs.Ports.{Commanded};
 
 use crate::commands::ask;
 use crate::faults::LoadFault;

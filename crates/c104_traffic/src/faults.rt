@@ -1,6 +1,5 @@
 //! Why a network can't have traffic of a pattern.
-ghost use Rattle.std.specs.Prelude.{◌≡◌, IfOk};
-ghost use Rattle.std.specs.String.{string_bytes};
+ghost use Rattle.std.specs.{Prelude.{IfOk, ◌≡◌}, String.string_bytes};
 ghost use Rattle.c104_traffic.specs.Faults.{traffic_fault_name, traffic_fault_number, traffic_fault_place, traffic_fault_text};
 ghost use Rattle.c104_traffic.specs.declared.faults.TrafficFault.TheVariants as fault;
 

@@ -1,9 +1,7 @@
 //! The packets of traffic: from which terminal each comes, to which it goes, and when it is sent.
-ghost use Rattle.std.specs.Prelude.{ℕ, ◌≡◌, ◌<◌, ◌≤◌, IfSome, length, slice_get};
-ghost use Rattle.c104_plan.specs.Plans.{IsRange};
-ghost use Rattle.c104_plan.specs.PortTexts.{terminal_name};
-ghost use Rattle.c104_traffic.specs.Packets.{IsTraffic, byte_at, first_label, packet_word, rounds_before, rounds_by, sender_at, sent_at};
-ghost use Rattle.c104_traffic.specs.Schedules.{IsSchedule};
+ghost use Rattle.std.specs.Prelude.{IfSome, length, slice_get, ℕ, ◌<◌, ◌≡◌, ◌≤◌};
+ghost use Rattle.{c104_plan.specs.{Plans.IsRange, PortTexts.terminal_name}, c104_traffic.specs.Packets.{IsTraffic, byte_at, first_label}};
+ghost use Rattle.c104_traffic.specs.{Packets.{packet_word, rounds_before, rounds_by, sender_at, sent_at}, Schedules.IsSchedule};
 
 use crate::amounts::Traffic;
 use crate::schedules::Schedule;

@@ -1,10 +1,7 @@
 //! Who sends by a pattern in a network.
-ghost use Rattle.std.specs.Prelude.{◌≡◌, IfErr, IfNone, IfOk, MatchOption, length};
-ghost use Rattle.c104_plan.specs.Plans.{IsPlan};
-ghost use Rattle.c104_traffic.specs.Faults.{IsFirstUnlabelled, IsTrafficFault};
-ghost use Rattle.c104_traffic.specs.Patterns.{IsPatternFor, IsPatternOf};
-ghost use Rattle.c104_traffic.specs.Schedules.{AreLabelled, HaveRanges, IsSchedule};
-ghost use Rattle.c104_traffic.specs.Targets.{senders_of};
+ghost use Rattle.std.specs.Prelude.{IfErr, IfNone, IfOk, MatchOption, length, ◌≡◌};
+ghost use Rattle.{c104_plan.specs.Plans.IsPlan, c104_traffic.specs.{Faults.{IsFirstUnlabelled, IsTrafficFault}, Patterns.IsPatternFor}};
+ghost use Rattle.c104_traffic.specs.{Patterns.IsPatternOf, Schedules.{AreLabelled, HaveRanges, IsSchedule}, Targets.senders_of};
 
 use crate::faults::TrafficFault;
 use crate::finding::find_pattern;

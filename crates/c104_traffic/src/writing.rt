@@ -2,16 +2,10 @@
 //!
 //! The bytes of a packet count on from its number, and aren't picked: who reads what arrived sees which packet it was,
 //! and where a token is in it. Each packet takes one word of the generator, whatever the pattern.
-ghost use Rattle.std.specs.Prelude.{◌≡◌, ◌≤◌, ◌+◌, ◌++◌, flat_map, MatchResult, OnErr, OnOk};
-ghost use Rattle.std.specs.List.{range_with_len};
-ghost use Rattle.std.specs.Io.KnownBytes.{Appends};
-ghost use Rattle.c104_plan.specs.PlanImage.{Fits};
-ghost use Rattle.c104_stream.specs.Writing.{AppendsAndKeeps, AppendsPrefix};
-ghost use Rattle.c104_traffic.specs.Directions.{AreDirected};
-ghost use Rattle.c104_traffic.specs.Packets.{IsTraffic, byte_at, packet_of};
-ghost use Rattle.c104_traffic.specs.Schedules.{IsSchedule};
-ghost use Rattle.c104_traffic.specs.Texts.{hex_word, rounds_text, send_text, sent_text, traffic_text};
-ghost use Rattle.c104_traffic.specs.Writing.{StopsWriting};
+ghost use Rattle.std.specs.{Io.KnownBytes.Appends, List.range_with_len, Prelude.{MatchResult, OnErr, OnOk, flat_map, ◌++◌, ◌+◌, ◌≡◌, ◌≤◌}};
+ghost use Rattle.{c104_plan.specs.PlanImage.Fits, c104_stream.specs.Writing.{AppendsAndKeeps, AppendsPrefix}};
+ghost use Rattle.c104_traffic.specs.{Directions.AreDirected, Packets.{IsTraffic, byte_at, packet_of}, Schedules.IsSchedule, Texts.hex_word};
+ghost use Rattle.c104_traffic.specs.{Texts.{rounds_text, send_text, sent_text, traffic_text}, Writing.StopsWriting};
 
 use crate::amounts::Traffic;
 use crate::packets::{Sent, byte_at, sent_at, terminal_name};

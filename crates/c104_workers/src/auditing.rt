@@ -1,13 +1,8 @@
 //! The audit of what a fabric leaves.
-ghost use Rattle.std.specs.Prelude.{◌≡◌, All, IfOk, MatchResult, length, map};
-ghost use Rattle.std.specs.List.{range_with_len};
-ghost use Rattle.c104_audit.specs.AuditFaults.{IsFault};
-ghost use Rattle.c104_audit.specs.AuditedRuns.{IsKeptStart, IsWholeNode, node_shape};
-ghost use Rattle.c104_audit.specs.Audits.{IsAudited, lists_events};
-ghost use Rattle.c104_node.specs.Records.{has_link, node_trace};
-ghost use Rattle.c104_plan.specs.Wiring.{wires};
-ghost use Rattle.c104_run.specs.Rounds.{link_numbers};
-ghost use Rattle.c104_workers.specs.Audited.{TellsSeats, lists_of, past_seats, seat_list};
+ghost use Rattle.std.specs.{List.range_with_len, Prelude.{All, IfOk, MatchResult, length, map, ◌≡◌}};
+ghost use Rattle.c104_audit.specs.{AuditFaults.IsFault, AuditedRuns.{IsKeptStart, IsWholeNode, node_shape}, Audits.IsAudited};
+ghost use Rattle.{c104_audit.specs.Audits.lists_events, c104_node.specs.Records.{has_link, node_trace}, c104_plan.specs.Wiring.wires};
+ghost use Rattle.{c104_run.specs.Rounds.link_numbers, c104_workers.specs.Audited.{TellsSeats, lists_of, past_seats, seat_list}};
 
 use crate::calls::SeatCalls;
 use crate::closing::Gathered;

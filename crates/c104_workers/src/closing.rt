@@ -1,8 +1,6 @@
 //! The end of a fabric: its nodes, and the calls of its seats.
-ghost use Rattle.std.specs.Prelude.{◌≡◌, ◌≤◌, [], length, map};
-ghost use Rattle.std.specs.Vec.{vec_capacity};
-ghost use Rattle.c104_run.specs.NetParts.{node_count};
-ghost use Rattle.c104_tickets.specs.Tickets.{AreNoneTwice, AreOnce};
+ghost use Rattle.std.specs.{Prelude.{[], length, map, ◌≡◌, ◌≤◌}, Vec.vec_capacity};
+ghost use Rattle.{c104_run.specs.NetParts.node_count, c104_tickets.specs.Tickets.{AreNoneTwice, AreOnce}};
 ghost use Rattle.c104_workers.specs.Fabrics.{AreSeatsOf, IsLeft, all_tickets, calls_of};
 
 use crate::calls::SeatCalls;

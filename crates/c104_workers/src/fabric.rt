@@ -1,13 +1,8 @@
 //! A fabric: nodes behind locks of their own, and the word of tickets.
-ghost use Rattle.std.specs.Prelude.{◌≡◌, None, Some, IfOk, MatchResult};
-ghost use Rattle.c104_plan.specs.Plans.{IsPlan};
-ghost use Rattle.c104_run.specs.EventActs.{event_acts};
-ghost use Rattle.c104_run.specs.NetParts.{node_count};
-ghost use Rattle.c104_run.specs.Network.{event_fault};
-ghost use Rattle.c104_workers.specs.Calls.{IsSameSeat};
-ghost use Rattle.c104_workers.specs.Fabrics.{WasHanded};
-ghost use Rattle.c104_workers.specs.LentCalls.{AreBelow, AreLentFor, CallsLent, CallsOne, CallsTwo, asked_places, event_places};
-ghost use Rattle.c104_workers.specs.SeatGrowth.{FaultsAs, Grew};
+ghost use Rattle.std.specs.Prelude.{IfOk, MatchResult, None, Some, ◌≡◌};
+ghost use Rattle.{c104_plan.specs.Plans.IsPlan, c104_run.specs.{EventActs.event_acts, NetParts.node_count, Network.event_fault}};
+ghost use Rattle.c104_workers.specs.{Calls.IsSameSeat, Fabrics.WasHanded, LentCalls.{AreBelow, AreLentFor, CallsLent, CallsOne, CallsTwo}};
+ghost use Rattle.c104_workers.specs.{LentCalls.{asked_places, event_places}, SeatGrowth.{FaultsAs, Grew}};
 
 use crate::calls::SeatCalls;
 use crate::gates::{Gate, OpenGate};
@@ -39,10 +34,8 @@ pub struct Fabric {
 }
 
 impl Model for Fabric {
-    ghost use Rattle.std.specs.Prelude.{◌≡◌, ◌≤◌, [], vec_len};
-    ghost use Rattle.std.specs.Vec.{vec_capacity};
-    ghost use Rattle.c104_run.specs.NetParts.{node_count};
-    ghost use Rattle.c104_workers.specs.Fabrics.{FabricView, WasHanded};
+    ghost use Rattle.std.specs.{Prelude.{[], vec_len, ◌≡◌, ◌≤◌}, Vec.vec_capacity};
+    ghost use Rattle.{c104_run.specs.NetParts.node_count, c104_workers.specs.Fabrics.{FabricView, WasHanded}};
 
     ghost Value = { FabricView };
 

@@ -1,9 +1,8 @@
 //! One call on nodes that are lent.
 ghost use Rattle.std.specs.Prelude.{◌≡◌};
-ghost use Rattle.c104_node.specs.Acts.{IsWithinLimits};
-ghost use Rattle.c104_node.specs.declared.acts.ActOf.TheVariants as act;
-ghost use Rattle.c104_token.specs.declared.tokens.Token.{Token as TheToken};
+ghost use Rattle.{c104_node.specs.Acts.IsWithinLimits, c104_token.specs.declared.tokens.Token.Token as TheToken};
 ghost use Rattle.c104_workers.specs.LentCalls.{CallsNode, CallsPair};
+ghost use Rattle.c104_node.specs.declared.acts.ActOf.TheVariants as act;
 
 use crate::seats::Seat;
 use c104_audit::copy_event;

@@ -2,12 +2,10 @@
 //!
 //! The network is taken apart last, when all memory is there: so one that is refused is given back itself. A copy of
 //! where its nodes started, and of what they had done, stays with the fabric.
-ghost use Rattle.std.specs.Prelude.{◌≡◌, ◌≤◌, [], length, map, IfOk, MatchResult};
-ghost use Rattle.std.specs.Vec.{vec_capacity};
-ghost use Rattle.c104_node.specs.Records.{node_start, node_trace};
-ghost use Rattle.c104_tickets.specs.Tickets.{first_view};
-ghost use Rattle.c104_tickets.specs.declared.TheConstants.{FIRST_LIMIT, SEAT_LIMIT};
-ghost use Rattle.c104_workers.specs.Fabrics.{AreSeatsOf, IsSeatCount, fabric_fault, first_seats, handed_of, seat_view, terms_of};
+ghost use Rattle.std.specs.{Prelude.{IfOk, MatchResult, [], length, map, ◌≡◌, ◌≤◌}, Vec.vec_capacity};
+ghost use Rattle.{c104_node.specs.Records.{node_start, node_trace}, c104_tickets.specs.Tickets.first_view};
+ghost use Rattle.{c104_tickets.specs.declared.TheConstants.{FIRST_LIMIT, SEAT_LIMIT}, c104_workers.specs.Fabrics.{AreSeatsOf, IsSeatCount}};
+ghost use Rattle.c104_workers.specs.Fabrics.{fabric_fault, first_seats, handed_of, seat_view, terms_of};
 
 use crate::calls::SeatCalls;
 use crate::fabric::Fabric;

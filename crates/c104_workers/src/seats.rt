@@ -2,15 +2,10 @@
 //!
 //! A full list of a seat is TraceFull, as a full trace is: an event that is ready has both to be kept in. A worker's seat
 //! keeps why it stopped, since threads of std's forks hand back what they wrote, and no result.
-ghost use Rattle.std.specs.Prelude.{◌≡◌, ◌<◌, ◌++◌, ◌∷◌, None, [], true, false, is_some, length, OnOk};
-ghost use Rattle.std.specs.Vec.{vec_capacity};
-ghost use Rattle.c104_node.specs.Acts.{IsWithinLimits};
-ghost use Rattle.c104_node.specs.Records.{HasRoomFor, is_full, recorded_limit, pair_step, recorded_step};
-ghost use Rattle.c104_switch.specs.Actions.{is_ready};
-ghost use Rattle.c104_audit.specs.Calls.{call_of, tickets_of};
-ghost use Rattle.c104_workers.specs.Calls.{is_seat_full};
-ghost use Rattle.c104_workers.specs.Fabrics.{first_seat};
-ghost use Rattle.c104_workers.specs.LentCalls.{NodeActed, PairActed};
+ghost use Rattle.std.specs.{Prelude.{None, OnOk, [], false, is_some, length, true, ◌++◌, ◌<◌, ◌∷◌, ◌≡◌}, Vec.vec_capacity};
+ghost use Rattle.{c104_audit.specs.Calls.{call_of, tickets_of}, c104_node.specs.{Acts.IsWithinLimits, Records.{HasRoomFor, is_full}}};
+ghost use Rattle.{c104_node.specs.Records.{pair_step, recorded_limit, recorded_step}, c104_switch.specs.Actions.is_ready};
+ghost use Rattle.c104_workers.specs.{Calls.is_seat_full, Fabrics.first_seat, LentCalls.{NodeActed, PairActed}};
 
 use crate::calls::SeatCalls;
 use c104_audit::Call;
@@ -33,8 +28,7 @@ pub struct Seat {
 }
 
 impl Model for Seat {
-    ghost use Rattle.std.specs.Prelude.{◌-◌, ℕ, vec_len};
-    ghost use Rattle.std.specs.Vec.{vec_capacity};
+    ghost use Rattle.std.specs.{Prelude.{vec_len, ℕ, ◌-◌}, Vec.vec_capacity};
     ghost use Rattle.c104_workers.specs.Calls.{IsSeat, SeatView};
 
     // What is seen, and for how many further calls there is room.

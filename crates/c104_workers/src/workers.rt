@@ -2,10 +2,8 @@
 //!
 //! The fault that is answered is looked up in the seats, and is that of the lowest worker, whichever stopped first. One
 //! that is out of memory between events stops with NoMemory, as at an event.
-ghost use Rattle.std.specs.Prelude.{◌≡◌, ◌≢◌, ◌%◌, ◌<◌, ◌≤◌, All, ℕ, IfOk, MatchBool, length, slice_index_or};
-ghost use Rattle.c104_workers.specs.Calls.{SeatView};
-ghost use Rattle.c104_workers.specs.Fabrics.{AreSeatsOf};
-ghost use Rattle.c104_workers.specs.Working.{EndsAs, HasWorked, IsOwnEvent};
+ghost use Rattle.std.specs.Prelude.{All, IfOk, MatchBool, length, slice_index_or, ℕ, ◌%◌, ◌<◌, ◌≡◌, ◌≢◌, ◌≤◌};
+ghost use Rattle.c104_workers.specs.{Calls.SeatView, Fabrics.AreSeatsOf, Working.{EndsAs, HasWorked, IsOwnEvent}};
 
 use crate::fabric::Fabric;
 use crate::gates::Gate;

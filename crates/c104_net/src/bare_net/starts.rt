@@ -1,9 +1,6 @@
 //! A network from the starts of its nodes.
-ghost use Rattle.std.specs.Prelude.{◌≡◌, ◌≤◌, [], length, map, IfOk};
-ghost use Rattle.std.specs.Vec.{vec_capacity};
-ghost use Rattle.c104_run.specs.Balance.{IsSteady};
-ghost use Rattle.c104_run.specs.Network.{network_of};
-ghost use Rattle.c104_node.specs.Starts.{start_node};
+ghost use Rattle.std.specs.{Prelude.{IfOk, [], length, map, ◌≡◌, ◌≤◌}, Vec.vec_capacity};
+ghost use Rattle.{c104_node.specs.Starts.start_node, c104_run.specs.{Balance.IsSteady, Network.network_of}};
 
 use super::NetOf;
 use c104_node::{NodeOf, NodeStart, TerminalOf, add_starts};

@@ -1,13 +1,9 @@
 //! The acts of a node.
-ghost use Rattle.std.specs.Prelude.{◌≡◌, ◌<◌, ◌≤◌, ℕ, Some, None, true, false, is_some, unwrap_or, IfSome, MatchResult, OnErr};
-ghost use Rattle.c104_node.specs.Acts.{IsWithinLimits, node_act, reply_outcome, wants_memory};
-ghost use Rattle.c104_regs.specs.declared.registers.TheConstants.{LINKS};
-ghost use Rattle.c104_node.specs.PortActs.{act_limit};
-ghost use Rattle.c104_node.specs.SpareRooms.{IsEnough};
-ghost use Rattle.c104_node.specs.Nodes.{node_claim};
-ghost use Rattle.c104_switch.specs.Actions.{done_reply, token_reply};
+ghost use Rattle.std.specs.Prelude.{IfSome, MatchResult, None, OnErr, Some, false, is_some, true, unwrap_or, ℕ, ◌<◌, ◌≡◌, ◌≤◌};
+ghost use Rattle.c104_node.specs.{Acts.{IsWithinLimits, node_act, reply_outcome, wants_memory}, Nodes.node_claim, PortActs.act_limit};
+ghost use Rattle.c104_node.specs.{PortParts.{PassesUnready, is_node_ready}, SpareRooms.IsEnough};
+ghost use Rattle.{c104_regs.specs.declared.registers.TheConstants.LINKS, c104_switch.specs.Actions.{done_reply, token_reply}};
 ghost use Rattle.c104_switch.specs.Claims.{IsNextLink};
-ghost use Rattle.c104_node.specs.PortParts.{is_node_ready, PassesUnready};
 
 use crate::acts::ActOf;
 use crate::node::NodeOf;

@@ -1,7 +1,6 @@
 //! What crosses a wire, at the port of one end: the acts by which it does, of a node that is ready for them.
-ghost use Rattle.std.specs.Prelude.{◌≡◌, Some, is_some, true};
-ghost use Rattle.c104_node.specs.Acts.{node_act};
-ghost use Rattle.c104_node.specs.PortActs.{port_credit_in, port_credit_out, port_enter, port_leave};
+ghost use Rattle.std.specs.Prelude.{Some, is_some, true, ◌≡◌};
+ghost use Rattle.c104_node.specs.{Acts.node_act, PortActs.{port_credit_in, port_credit_out, port_enter, port_leave}};
 ghost use Rattle.c104_switch.specs.declared.actions.ReplyOf.TheVariants as reply;
 
 use crate::node::NodeOf;

@@ -1,7 +1,6 @@
 //! Whether nothing of a round can begin at a node.
-ghost use Rattle.std.specs.Prelude.{◌≡◌, true};
-ghost use Rattle.c104_node.specs.Idle.{IsIdleNode};
-ghost use Rattle.c104_node.specs.Records.{has_link};
+ghost use Rattle.std.specs.Prelude.{true, ◌≡◌};
+ghost use Rattle.c104_node.specs.{Idle.IsIdleNode, Records.has_link};
 ghost use Rattle.c104_node.specs.declared.node.NodeOf.TheVariants as node;
 
 use crate::node::NodeOf;

@@ -1,11 +1,8 @@
 //! The limits of a terminal's lists, and the memory that they grow by, set aside before an act.
-ghost use Rattle.std.specs.Prelude.{◌≡◌, ◌≤◌, None, Some, length, OnOk};
-ghost use Rattle.c104_node.specs.Acts.{IsWithinLimits};
-ghost use Rattle.c104_node.specs.PortActs.{act_limit};
-ghost use Rattle.c104_node.specs.Nodes.{arrived_tokens};
-ghost use Rattle.c104_node.specs.SpareRooms.{IsEnough};
-ghost use Rattle.c104_node.specs.declared.acts.ActOf.TheVariants as act;
+ghost use Rattle.std.specs.Prelude.{None, OnOk, Some, length, ◌≡◌, ◌≤◌};
+ghost use Rattle.c104_node.specs.{Acts.IsWithinLimits, Nodes.arrived_tokens, PortActs.act_limit, SpareRooms.IsEnough};
 ghost use Rattle.c104_token.specs.declared.text.TheConstants.{MAX_PACKET_BYTES};
+ghost use Rattle.c104_node.specs.declared.acts.ActOf.TheVariants as act;
 
 use crate::acts::ActOf;
 use crate::node::NodeOf;

@@ -1,8 +1,7 @@
 //! Whether a node is quiet, and the start of a run there.
-ghost use Rattle.std.specs.Prelude.{◌≡◌, ◌↔◌, IsTrue};
+ghost use Rattle.std.specs.Prelude.{IsTrue, ◌↔◌, ◌≡◌};
+ghost use Rattle.c104_node.specs.{Quiet.{IsQuietNode, IsQuietSwitch, is_quiet_view, node_begin}, Starts.{start_node, start_of}};
 ghost use Rattle.c104_switch.specs.Views.{link_view};
-ghost use Rattle.c104_node.specs.Quiet.{is_quiet_view, node_begin, IsQuietNode, IsQuietSwitch};
-ghost use Rattle.c104_node.specs.Starts.{start_node, start_of};
 
 use crate::node::NodeOf;
 use c104_switch::{LINKS, Phase, SwitchOf};

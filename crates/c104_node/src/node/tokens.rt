@@ -1,6 +1,5 @@
 //! The tokens that wait in a node, and what a terminal sent.
-ghost use Rattle.std.specs.Prelude.{◌≡◌};
-ghost use Rattle.std.specs.Option.{option_copied};
+ghost use Rattle.std.specs.{Option.option_copied, Prelude.◌≡◌};
 ghost use Rattle.c104_node.specs.Views.{node_input_token, node_next_token, node_output_token, node_sent_packet};
 
 use crate::node::NodeOf;

@@ -3,13 +3,11 @@
 //! Memory for an act by itself is set aside beside the node (`SpareOf`), in lists that take the place of its own when
 //! these are full: so `act` after `room` can't fail. A network doesn't use it: its acts may run out of memory before
 //! anything has changed.
-ghost use Rattle.std.specs.Prelude.{◌≡◌, ◌<◌, ◌≤◌, None, Some, length, true, is_some, OnOk};
-ghost use Rattle.c104_node.specs.declared.acts.ActOf.TheVariants as act;
-ghost use Rattle.c104_node.specs.Acts.{IsWithinLimits};
-ghost use Rattle.c104_node.specs.ActLinks.{on_links};
-ghost use Rattle.c104_node.specs.Records.{HasRoomFor, after_act, fault_first, has_link, is_full, recorded_limit, recorded_step};
-ghost use Rattle.c104_switch.specs.Actions.{is_ready};
+ghost use Rattle.std.specs.Prelude.{None, OnOk, Some, is_some, length, true, ◌<◌, ◌≡◌, ◌≤◌};
+ghost use Rattle.c104_node.specs.{ActLinks.on_links, Acts.IsWithinLimits, Records.{HasRoomFor, after_act, fault_first, has_link, is_full}};
+ghost use Rattle.{c104_node.specs.Records.{recorded_limit, recorded_step}, c104_switch.specs.Actions.is_ready};
 ghost use Rattle.c104_token.specs.declared.text.TheConstants.{MAX_PACKET_BYTES};
+ghost use Rattle.c104_node.specs.declared.acts.ActOf.TheVariants as act;
 
 use super::{Node, has_link};
 use crate::acts::{Act, ActOf, Entry, same_reply};

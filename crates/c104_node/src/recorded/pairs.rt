@@ -1,9 +1,7 @@
 //! What crosses a wire between two nodes.
-ghost use Rattle.std.specs.Prelude.{◌≡◌, ◌<◌, Some, false, true, is_some};
-ghost use Rattle.c104_node.specs.ActLinks.{port_link};
-ghost use Rattle.c104_node.specs.PortActs.{IsAnswerOf, far_act, near_act};
-ghost use Rattle.c104_node.specs.Records.{after_act, crossed, is_full, pair_step, recorded_step};
-ghost use Rattle.c104_switch.specs.Actions.{is_ready, Reply as TheReply};
+ghost use Rattle.std.specs.Prelude.{Some, false, is_some, true, ◌<◌, ◌≡◌};
+ghost use Rattle.c104_node.specs.{ActLinks.port_link, PortActs.{IsAnswerOf, far_act, near_act}, Records.{after_act, crossed, is_full}};
+ghost use Rattle.{c104_node.specs.Records.{pair_step, recorded_step}, c104_switch.specs.Actions.{Reply as TheReply, is_ready}};
 ghost use Rattle.c104_switch.specs.declared.actions.ReplyOf.TheVariants as reply;
 
 use super::{Node, has_link};

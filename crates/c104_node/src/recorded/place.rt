@@ -8,13 +8,9 @@ use c104_switch::Reply;
 use c104_token::{NoMemory, Token};
 
 impl Place<Token> for Node {
-    ghost use Rattle.std.specs.Prelude.{◌≡◌, ◌<◌, None, Some, false, is_some, refl, true, OnOk};
-    ghost use Rattle.c104_token.specs.Kinds.{plain_kind};
-    ghost use Rattle.c104_node.specs.Acts.{IsWithinLimits, node_act};
-    ghost use Rattle.c104_node.specs.PortActs.{act_limit};
-    ghost use Rattle.c104_node.specs.ActLinks.{on_links};
-    ghost use Rattle.c104_node.specs.Records.{is_full, node_shown, has_link};
-    ghost use Rattle.c104_node.specs.PlaceActs.{ActEnds, AttemptEnds};
+    ghost use Rattle.std.specs.Prelude.{None, OnOk, Some, false, is_some, refl, true, ◌<◌, ◌≡◌};
+    ghost use Rattle.c104_node.specs.{ActLinks.on_links, Acts.{IsWithinLimits, node_act}, PlaceActs.{ActEnds, AttemptEnds}};
+    ghost use Rattle.{c104_node.specs.{PortActs.act_limit, Records.{has_link, is_full, node_shown}}, c104_token.specs.Kinds.plain_kind};
 
     ghost shown = { node_shown };
 

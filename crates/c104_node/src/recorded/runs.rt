@@ -1,10 +1,7 @@
 //! The start of a node's run, and its end.
-ghost use Rattle.std.specs.Prelude.{◌≡◌, ◌∷◌, []};
-ghost use Rattle.std.specs.Option.{option_copied, option_to_list};
-ghost use Rattle.c104_node.specs.Nodes.{is_switch, terminals_of};
-ghost use Rattle.c104_node.specs.Quiet.{IsQuietNode, node_begin};
-ghost use Rattle.c104_node.specs.Records.{IsRecorded};
-ghost use Rattle.c104_node.specs.Starts.{start_node, start_of};
+ghost use Rattle.std.specs.{Option.{option_copied, option_to_list}, Prelude.{[], ◌∷◌, ◌≡◌}};
+ghost use Rattle.c104_node.specs.{Nodes.{is_switch, terminals_of}, Quiet.{IsQuietNode, node_begin}, Records.IsRecorded, Starts.start_node};
+ghost use Rattle.c104_node.specs.Starts.{start_of};
 
 use super::Node;
 use crate::acts::Entry;

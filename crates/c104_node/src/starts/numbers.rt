@@ -1,10 +1,7 @@
 //! Where a node starts, as a list of numbers.
-ghost use Rattle.std.specs.Prelude.{◌≡◌, ◌++◌, All, IfOk, OnOk, length};
-ghost use Rattle.std.specs.List.{flat_map};
-ghost use Rattle.c104_regs.specs.declared.registers.TheConstants.{LINKS};
-ghost use Rattle.c104_regs.specs.Values.{bit_value};
-ghost use Rattle.c104_switch.specs.Starts.{IsLinkStart};
+ghost use Rattle.std.specs.{List.flat_map, Prelude.{All, IfOk, OnOk, length, ◌++◌, ◌≡◌}};
 ghost use Rattle.c104_node.specs.StartNumbers.{link_start_numbers, start_numbers, written_value, written_values};
+ghost use Rattle.{c104_regs.specs.{Values.bit_value, declared.registers.TheConstants.LINKS}, c104_switch.specs.Starts.IsLinkStart};
 ghost use Rattle.c104_node.specs.declared.starts.NodeStart.TheVariants as start;
 
 use super::NodeStart;

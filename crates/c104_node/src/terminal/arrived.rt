@@ -2,10 +2,9 @@
 //!
 //! Nearly every token that arrives is a byte that tells nothing else. So what arrived is kept as bytes, and a token that is
 //! more than its byte, such as a terminator, beside them with its place. It has a byte too, which says nothing.
-ghost use Rattle.std.specs.Prelude.{◌≡◌, ◌==◌, ◌<◌, ◌++◌, ◌∷◌, [], List, None, Some, length, map, slice_get, slice_set, IfOk, OnErr, OnOk};
+ghost use Rattle.std.specs.Prelude.{IfOk, List, None, OnErr, OnOk, Some, [], length, map, slice_get, slice_set, ◌++◌, ◌<◌, ◌==◌, ◌∷◌, ◌≡◌};
 ghost use Rattle.std.specs.Vec.{vec_capacity};
-ghost use Rattle.c104_token.specs.Kinds.{byte_token};
-ghost use Rattle.c104_node.specs.Arrivals.{others_in, overlaid};
+ghost use Rattle.{c104_node.specs.Arrivals.{others_in, overlaid}, c104_token.specs.Kinds.byte_token};
 
 use super::spare::push_roomy;
 use c104_token::{NoMemory, Token, TokenKind};

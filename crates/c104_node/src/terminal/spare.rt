@@ -1,11 +1,7 @@
 //! Memory that is set aside for a terminal: lists that may take the place of its own, so that it grows without memory.
-ghost use Rattle.std.specs.Prelude.{◌≡◌, ◌≤◌, ◌<◌, ◌+◌, ◌++◌, ◌∷◌, [], Some, None, length, vec_len, IfOk, OnOk};
-ghost use Rattle.std.specs.Vec.{vec_capacity};
-ghost use Rattle.c104_link.specs.Steps.{option_outcome};
-ghost use Rattle.c104_token.specs.declared.packets.Packet.{Packet as ThePacket};
-ghost use Rattle.c104_node.specs.Arrivals.{others_in};
-ghost use Rattle.c104_node.specs.PortActs.{outbox_limit};
-ghost use Rattle.c104_node.specs.Terminals.{terminal_drain, terminal_send};
+ghost use Rattle.std.specs.{Prelude.{IfOk, None, OnOk, Some, [], length, vec_len, ◌++◌, ◌+◌, ◌<◌, ◌∷◌, ◌≡◌, ◌≤◌}, Vec.vec_capacity};
+ghost use Rattle.{c104_link.specs.Steps.option_outcome, c104_node.specs.{Arrivals.others_in, PortActs.outbox_limit}};
+ghost use Rattle.{c104_node.specs.Terminals.{terminal_drain, terminal_send}, c104_token.specs.declared.packets.Packet.Packet as ThePacket};
 
 use super::arrived::OtherOf;
 use super::{TerminalOf, TerminalPacket};
@@ -25,8 +21,7 @@ pub struct SpareOf<T: TokenKind> {
 }
 
 impl<T: TokenKind> Model for SpareOf<T> {
-    ghost use Rattle.std.specs.Prelude.{◌≡◌, []};
-    ghost use Rattle.std.specs.Vec.{vec_capacity};
+    ghost use Rattle.std.specs.{Prelude.{[], ◌≡◌}, Vec.vec_capacity};
     ghost use Rattle.c104_node.specs.SpareRooms.{SpareRoom};
 
     ghost Value = { SpareRoom };

@@ -1,6 +1,5 @@
 //! What a terminal sent, and the tokens that came in.
-ghost use Rattle.std.specs.Prelude.{◌≡◌, slice_get};
-ghost use Rattle.std.specs.Option.{option_copied};
+ghost use Rattle.std.specs.{Option.option_copied, Prelude.{slice_get, ◌≡◌}};
 
 use super::TerminalOf;
 use c104_token::{Packet, TokenKind};

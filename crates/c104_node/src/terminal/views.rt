@@ -1,7 +1,6 @@
 //! What can be seen of a terminal.
 ghost use Rattle.std.specs.Prelude.{◌≡◌};
-ghost use Rattle.c104_node.specs.Views.{terminal_view};
-ghost use Rattle.c104_switch.specs.Rooms.{room_left};
+ghost use Rattle.{c104_node.specs.Views.terminal_view, c104_switch.specs.Rooms.room_left};
 
 use super::TerminalOf;
 use c104_token::TokenKind;

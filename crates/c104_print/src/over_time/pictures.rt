@@ -1,9 +1,7 @@
 //! The picture of a run over its rounds, as far as there is room for it.
-ghost use Rattle.std.specs.Prelude.{◌+◌, ◌<◌, ◌≡◌, ◌≤◌, Err, IfOk, IfSome, Option, length};
-ghost use Rattle.std.specs.String.{string_bytes};
-ghost use Rattle.c104_print.specs.TimePictures.{IsShorter};
+ghost use Rattle.std.specs.{Prelude.{Err, IfOk, IfSome, Option, length, ◌+◌, ◌<◌, ◌≡◌, ◌≤◌}, String.string_bytes};
+ghost use Rattle.{c104_print.specs.TimePictures.IsShorter, c104_timeline.specs.declared.periods.Period.Period as ThePeriod};
 ghost use Rattle.c104_print.specs.declared.over_time.pictures.TimeFault.TheVariants as fault;
-ghost use Rattle.c104_timeline.specs.declared.periods.Period.{Period as ThePeriod};
 
 use crate::over_time::layouts::Layout;
 use crate::over_time::svg::Svg;

@@ -1,7 +1,6 @@
 //! The answers to events in turn.
-ghost use Rattle.std.specs.Prelude.{◌≡◌, IfOk, OnErr};
-ghost use Rattle.c104_run.specs.EventRuns.{AnswersAll};
-ghost use Rattle.c104_run.specs.RecordedRuns.{record_apply};
+ghost use Rattle.std.specs.Prelude.{IfOk, OnErr, ◌≡◌};
+ghost use Rattle.c104_run.specs.{EventRuns.AnswersAll, RecordedRuns.record_apply};
 
 use super::Net;
 use c104_event::{Event, EventFault};

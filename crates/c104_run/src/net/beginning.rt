@@ -1,7 +1,6 @@
 //! Whether a network's run began with its switches started.
-ghost use Rattle.std.specs.Prelude.{◌↔◌, map, All, IsTrue};
-ghost use Rattle.c104_node.specs.Records.{node_start};
-ghost use Rattle.c104_node.specs.Starts.{IsStartedStart};
+ghost use Rattle.std.specs.Prelude.{All, IsTrue, map, ◌↔◌};
+ghost use Rattle.c104_node.specs.{Records.node_start, Starts.IsStartedStart};
 
 use super::Net;
 use c104_node::Node;

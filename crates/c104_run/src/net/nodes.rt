@@ -1,11 +1,7 @@
 //! The nodes of a network, each by itself.
-ghost use Rattle.std.specs.Prelude.{◌≡◌, ◌≤◌, ℕ, None, slice_get, IfSome, MatchOption};
-ghost use Rattle.std.specs.Option.{option_copied};
-ghost use Rattle.c104_node.specs.Records.{has_link};
-ghost use Rattle.c104_run.specs.KnownWires.{is_linked_end};
-ghost use Rattle.c104_run.specs.NetParts.{parts_record};
-ghost use Rattle.c104_run.specs.NetRecords.{IsNetRecord};
-ghost use Rattle.c104_run.specs.WiredActs.{IsRecordedAt, IsRecordedNode};
+ghost use Rattle.std.specs.{Option.option_copied, Prelude.{IfSome, MatchOption, None, slice_get, ℕ, ◌≡◌, ◌≤◌}};
+ghost use Rattle.{c104_node.specs.Records.has_link, c104_run.specs.{KnownWires.is_linked_end, NetParts.parts_record}};
+ghost use Rattle.c104_run.specs.{NetRecords.IsNetRecord, WiredActs.{IsRecordedAt, IsRecordedNode}};
 
 use super::Net;
 use crate::net_parts::NetParts;

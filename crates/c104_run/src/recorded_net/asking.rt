@@ -1,12 +1,8 @@
 //! What a network tells of itself, what can be seen of its nodes, and why an event isn't ready in it.
-ghost use Rattle.std.specs.Prelude.{◌≡◌, ◌↔◌, is_some, IfSome, IsTrue};
-ghost use Rattle.std.specs.Option.{option_copied};
-ghost use Rattle.c104_token.specs.Kinds.{plain_kind};
-ghost use Rattle.c104_run.specs.Network.{network_apply, network_peek};
-ghost use Rattle.c104_run.specs.ReasonMeanings.{IsEventReason};
-ghost use Rattle.c104_run.specs.Reasons.{is_unready, network_why};
-ghost use Rattle.c104_run.specs.Standstill.{StandsStill};
-ghost use Rattle.c104_run.specs.NetViews.{network_link_view, network_sent_packet, network_terminal_view};
+ghost use Rattle.std.specs.{Option.option_copied, Prelude.{IfSome, IsTrue, is_some, ◌↔◌, ◌≡◌}};
+ghost use Rattle.c104_run.specs.{NetViews.{network_link_view, network_sent_packet, network_terminal_view}, Network.network_apply};
+ghost use Rattle.c104_run.specs.{Network.network_peek, ReasonMeanings.IsEventReason, Reasons.{is_unready, network_why}};
+ghost use Rattle.{c104_run.specs.Standstill.StandsStill, c104_token.specs.Kinds.plain_kind};
 
 use super::RecordedNet;
 use crate::place_tokens::sent_packet_at;

@@ -1,11 +1,7 @@
 //! Whether a network is quiet, and the start of a run there.
-ghost use Rattle.std.specs.Prelude.{◌≡◌, ◌↔◌, map, All, IsTrue};
-ghost use Rattle.c104_run.specs.NetRecords.{record_begun_if};
-ghost use Rattle.c104_node.specs.Places.{states};
-ghost use Rattle.c104_node.specs.Quiet.{IsQuietNode};
-ghost use Rattle.c104_run.specs.QuietNets.{IsQuiet};
-ghost use Rattle.c104_run.specs.RecordedNets.{begun_told, place_told};
-ghost use Rattle.c104_node.specs.Starts.{start_node};
+ghost use Rattle.std.specs.Prelude.{All, IsTrue, map, ◌↔◌, ◌≡◌};
+ghost use Rattle.{c104_node.specs.{Places.states, Quiet.IsQuietNode, Starts.start_node}, c104_run.specs.NetRecords.record_begun_if};
+ghost use Rattle.c104_run.specs.{QuietNets.IsQuiet, RecordedNets.{begun_told, place_told}};
 
 use super::RecordedNet;
 use crate::place_views::are_quiet;

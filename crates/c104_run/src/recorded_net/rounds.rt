@@ -1,6 +1,5 @@
 //! Rounds of a network whose nodes are seen with their records.
-ghost use Rattle.c104_run.specs.MeteredRuns.{MetersRound, RecordsRound};
-ghost use Rattle.c104_run.specs.RecordedRuns.{RecordsRounds};
+ghost use Rattle.c104_run.specs.{MeteredRuns.{MetersRound, RecordsRound}, RecordedRuns.RecordsRounds};
 
 use super::RecordedNet;
 use crate::meter::{Meter, Unmetered};

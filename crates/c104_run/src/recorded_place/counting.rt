@@ -4,8 +4,7 @@ use super::RecordedPlace;
 use c104_node::{CountedNode, TaggedToken};
 
 impl RecordedPlace<TaggedToken> for CountedNode {
-    ghost use Rattle.c104_run.specs.RecordedPlaces.{counted_keeps};
-    ghost use Rattle.c104_node.specs.TracedRecords.{plain_node};
+    ghost use Rattle.{c104_node.specs.TracedRecords.plain_node, c104_run.specs.RecordedPlaces.counted_keeps};
 
     // A count leaves nothing at the end.
     type Room = ();

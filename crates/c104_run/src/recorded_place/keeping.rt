@@ -7,8 +7,7 @@ use c104_token::Token;
 
 impl RecordedPlace<Token> for Node {
     ghost use Rattle.std.specs.Vec.{vec_capacity};
-    ghost use Rattle.c104_run.specs.FinishedRecords.{HaveRunRoom};
-    ghost use Rattle.c104_run.specs.RecordedPlaces.{node_keeps};
+    ghost use Rattle.c104_run.specs.{FinishedRecords.HaveRunRoom, RecordedPlaces.node_keeps};
 
     // Room for what is left at the end, so that `finish` takes no memory.
     type Room = RunParts;

@@ -1,26 +1,16 @@
 //! One event of a round, which tells whether it was done, and is counted where it was.
 //!
 //! A round knows of each of its events that it can happen, and what acts it asks: so an event is tried by its acts.
-ghost use Rattle.std.specs.Prelude.{◌≡◌, ◌≢◌, ◌-◌, ◌<◌, ◌∷◌, [], ℕ, None, Some, is_some, length, map, slice_get, true};
-ghost use Rattle.c104_plan.specs.declared.ports.Port.TheVariants as port;
-ghost use Rattle.c104_event.specs.declared.events.Event.{Event as TheEvent};
-ghost use Rattle.c104_event.specs.declared.events.Event.TheVariants as event;
-ghost use Rattle.c104_regs.specs.declared.registers.TheConstants.{LINKS};
+ghost use Rattle.std.specs.Prelude.{None, Some, [], is_some, length, map, slice_get, true, ℕ, ◌-◌, ◌<◌, ◌∷◌, ◌≡◌, ◌≢◌};
+ghost use Rattle.{c104_event.specs.declared.events.Event.Event as TheEvent, c104_node.specs.{ActLinks.act_link, Acts.IsWithinLimits}};
+ghost use Rattle.c104_node.specs.{Acts.nodes_act, PlaceActs.AloneDone, Places.{bases, states}, PortActs.{Acts, near_act}, Traces.seatless};
+ghost use Rattle.{c104_regs.specs.declared.registers.TheConstants.LINKS, c104_run.specs.EventActs.{crossing_event, event_acts, port_place}};
+ghost use Rattle.c104_run.specs.{EventsAtPlaces.told_answer, KnownWires.KnowWires, LivePlaces.{AreLive, is_live}, Meters.meter_after};
+ghost use Rattle.c104_run.specs.{Meters.{metered_apply, metered_of}, NetRecords.{is_done, ticket_after}, Network.event_fault};
+ghost use Rattle.c104_run.specs.{Network.{terminal_place, wired_fault}, RoundParts.{PartEnds, done_answer}};
 ghost use Rattle.c104_switch.specs.declared.actions.ReplyOf.{ReplyOf as TheReply};
-ghost use Rattle.c104_node.specs.ActLinks.{act_link};
-ghost use Rattle.c104_node.specs.PlaceActs.{AloneDone};
-ghost use Rattle.c104_node.specs.Traces.{seatless};
-ghost use Rattle.c104_node.specs.Places.{bases, states};
-ghost use Rattle.c104_run.specs.KnownWires.{KnowWires};
-ghost use Rattle.c104_run.specs.LivePlaces.{AreLive, is_live};
-ghost use Rattle.c104_node.specs.Acts.{IsWithinLimits, nodes_act};
-ghost use Rattle.c104_run.specs.EventsAtPlaces.{told_answer};
-ghost use Rattle.c104_node.specs.PortActs.{Acts, near_act};
-ghost use Rattle.c104_run.specs.EventActs.{crossing_event, event_acts, port_place};
-ghost use Rattle.c104_run.specs.Network.{event_fault, terminal_place, wired_fault};
-ghost use Rattle.c104_run.specs.NetRecords.{is_done, ticket_after};
-ghost use Rattle.c104_run.specs.RoundParts.{PartEnds, done_answer};
-ghost use Rattle.c104_run.specs.Meters.{meter_after, metered_apply, metered_of};
+ghost use Rattle.c104_event.specs.declared.events.Event.TheVariants as event;
+ghost use Rattle.c104_plan.specs.declared.ports.Port.TheVariants as port;
 
 use crate::asked::far_port;
 use crate::doing::do_alone;

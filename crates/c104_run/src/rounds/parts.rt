@@ -1,13 +1,9 @@
 //! The parts of a round: all its events of one kind. Each tells whether any of them was done.
-ghost use Rattle.std.specs.Prelude.{◌≡◌, ◌<◌, flat_map, length, map, true};
+ghost use Rattle.std.specs.Prelude.{flat_map, length, map, true, ◌<◌, ◌≡◌};
+ghost use Rattle.{c104_node.specs.Places.{bases, states}, c104_regs.specs.declared.registers.TheConstants.LINKS};
+ghost use Rattle.c104_run.specs.{KnownWires.KnowWires, LivePlaces.{AreLive, is_live}, Meters.{metered_apply, metered_of}};
+ghost use Rattle.c104_run.specs.{RoundParts.PartEnds, Rounds.{all_claims, all_drains, claims_of, switch_claims, turn_at, wired_ports}};
 ghost use Rattle.c104_event.specs.declared.events.Event.TheVariants as event;
-ghost use Rattle.c104_regs.specs.declared.registers.TheConstants.{LINKS};
-ghost use Rattle.c104_node.specs.Places.{bases, states};
-ghost use Rattle.c104_run.specs.KnownWires.{KnowWires};
-ghost use Rattle.c104_run.specs.LivePlaces.{AreLive, is_live};
-ghost use Rattle.c104_run.specs.Rounds.{all_claims, all_drains, claims_of, switch_claims, turn_at, wired_ports};
-ghost use Rattle.c104_run.specs.RoundParts.{PartEnds};
-ghost use Rattle.c104_run.specs.Meters.{metered_apply, metered_of};
 
 use super::attempts::{attempt_claim, attempt_drain};
 use super::ports::{next_terminal, walk_ports, walk_switches};

@@ -2,19 +2,14 @@
 //! switch by the sets of its links, so that no event is tried of which it is known that its near end isn't ready.
 //!
 //! The walks are inlined, since each part is a code of its own.
-ghost use Rattle.std.specs.Prelude.{◌≡◌, ◌+◌, ◌<◌, ◌≤◌, ℕ, None, false, true, flat_map, length, map, unwrap_or, IfSome};
+ghost use Rattle.std.specs.{List.range_with_len, Prelude.{IfSome, None, false, flat_map, length, map, true, unwrap_or, ℕ, ◌+◌, ◌<◌, ◌≡◌}};
+ghost use Rattle.std.specs.Prelude.{◌≤◌};
+ghost use Rattle.{c104_node.specs.{Places.{bases, states}, PortParts.IsNearReady}, c104_regs.specs.declared.registers.TheConstants.LINKS};
+ghost use Rattle.c104_run.specs.{EventActs.port_place, KnownWires.KnowWires, LivePlaces.{AreLive, is_live}, Meters.metered_apply};
+ghost use Rattle.c104_run.specs.{Meters.metered_of, Network.{network_of, terminal_place, wired_fault}, RoundParts.{AreIdle, PartEnds}};
+ghost use Rattle.c104_run.specs.{RoundParts.{port_events, wired_events}, Rounds.{is_wired, turn_at, wired_links, wired_ports}};
+ghost use Rattle.c104_run.specs.Rounds.{wired_terminals};
 ghost use Rattle.c104_plan.specs.declared.ports.Port.TheVariants as port;
-ghost use Rattle.c104_regs.specs.declared.registers.TheConstants.{LINKS};
-ghost use Rattle.c104_node.specs.Places.{bases, states};
-ghost use Rattle.c104_run.specs.KnownWires.{KnowWires};
-ghost use Rattle.c104_run.specs.LivePlaces.{AreLive, is_live};
-ghost use Rattle.c104_run.specs.Network.{network_of, terminal_place, wired_fault};
-ghost use Rattle.c104_run.specs.EventActs.{port_place};
-ghost use Rattle.c104_node.specs.PortParts.{IsNearReady};
-ghost use Rattle.c104_run.specs.RoundParts.{port_events, wired_events, AreIdle, PartEnds};
-ghost use Rattle.std.specs.List.{range_with_len};
-ghost use Rattle.c104_run.specs.Rounds.{is_wired, turn_at, wired_links, wired_ports, wired_terminals};
-ghost use Rattle.c104_run.specs.Meters.{metered_apply, metered_of};
 
 use super::attempts::{attempt_joint, attempt_turn};
 use crate::live_places::LivePlaces;

@@ -1,11 +1,8 @@
 //! What arrived in a network of tagged tokens.
-ghost use Rattle.std.specs.Prelude.{◌≡◌, map, option_map, IfOk};
-ghost use Rattle.std.specs.Global.{Vec as Kept};
+ghost use Rattle.std.specs.{Global.Vec as Kept, Prelude.{IfOk, map, option_map, ◌≡◌}};
+ghost use Rattle.{c104_node.specs.declared.tagged.TaggedToken.TaggedToken as TheTagged, c104_run.specs.Finished.run_arrived};
+ghost use Rattle.c104_run.specs.{FinishedRecords.record_finish, Network.network_arrived};
 ghost use Rattle.c104_token.specs.declared.tokens.Token.{Token as TheToken};
-ghost use Rattle.c104_run.specs.Finished.{run_arrived};
-ghost use Rattle.c104_run.specs.FinishedRecords.{record_finish};
-ghost use Rattle.c104_run.specs.Network.{network_arrived};
-ghost use Rattle.c104_node.specs.declared.tagged.TaggedToken.{TaggedToken as TheTagged};
 
 use super::TracedNet;
 use crate::place_views::arrived_at;

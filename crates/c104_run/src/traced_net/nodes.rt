@@ -1,9 +1,7 @@
 //! The nodes of a new network of tagged tokens.
-ghost use Rattle.std.specs.Prelude.{◌≡◌, ◌++◌, [], map, OnOk};
-ghost use Rattle.c104_switch.specs.Switch.{new_switch};
+ghost use Rattle.std.specs.Prelude.{OnOk, [], map, ◌++◌, ◌≡◌};
+ghost use Rattle.{c104_node.specs.{Terminals.new_terminal, TracedRecords.first_traced}, c104_switch.specs.Switch.new_switch};
 ghost use Rattle.c104_node.specs.declared.node.NodeOf.TheVariants as node;
-ghost use Rattle.c104_node.specs.Terminals.{new_terminal};
-ghost use Rattle.c104_node.specs.TracedRecords.{first_traced};
 
 use c104_node::{CountedNode, NodeOf, TerminalOf};
 use c104_plan::Plan;

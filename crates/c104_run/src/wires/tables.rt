@@ -2,16 +2,11 @@
 //!
 //! Each wire is looked at once. Wires are taken from the last to the first, and those of terminals after the others, so
 //! that at a port the first wire is the one that stays.
-ghost use Rattle.std.specs.Prelude.{◌≡◌, ◌<◌, ◌*◌, ℕ, [], None, Option, length, replicate, IfOk};
-ghost use Rattle.c104_crossbar.specs.Groups.{has_bit};
-ghost use Rattle.c104_plan.specs.declared.ports.Port.{Port as ThePort};
+ghost use Rattle.std.specs.Prelude.{IfOk, None, Option, [], length, replicate, ℕ, ◌*◌, ◌<◌, ◌≡◌};
+ghost use Rattle.{c104_crossbar.specs.Groups.has_bit, c104_node.specs.declared.ends.End.End as TheEnd, c104_plan.specs.Ports.IsSwitchPort};
+ghost use Rattle.{c104_plan.specs.declared.ports.Port.Port as ThePort, c104_regs.specs.declared.registers.TheConstants.LINKS};
+ghost use Rattle.c104_run.specs.{FarEnds.{end_by, ends_by, link_ends, terminal_ends, with_end}, LinkedSets.AreLinked, Rounds.is_wired};
 ghost use Rattle.c104_plan.specs.declared.ports.Port.TheVariants as port;
-ghost use Rattle.c104_plan.specs.Ports.{IsSwitchPort};
-ghost use Rattle.c104_node.specs.declared.ends.End.{End as TheEnd};
-ghost use Rattle.c104_run.specs.FarEnds.{end_by, ends_by, link_ends, terminal_ends, with_end};
-ghost use Rattle.c104_run.specs.LinkedSets.{AreLinked};
-ghost use Rattle.c104_run.specs.Rounds.{is_wired};
-ghost use Rattle.c104_regs.specs.declared.registers.TheConstants.{LINKS};
 
 use super::end_of;
 use c104_event::Port;

@@ -1,10 +1,8 @@
 //! An input's claim of an output.
-ghost use Rattle.std.specs.Prelude.{option_to_list, ◌≡◌, ◌<◌, ◌∷◌, ◌++◌, ◌&&◌, List, Some, None, ℕ, false, is_some, is_none, nat_le, IfNone, IfSome};
-ghost use Rattle.c104_link.specs.Buffers.{Outgoing};
-ghost use Rattle.c104_regs.specs.declared.registers.TheConstants.{LINKS};
-ghost use Rattle.c104_link.specs.Steps.{bool_outcome};
-ghost use Rattle.c104_switch.specs.Claims.{input_claim, put_own, IsClaim};
-ghost use Rattle.c104_switch.specs.Holding.{phase_claims};
+ghost use Rattle.std.specs.Prelude.{IfNone, IfSome, List, None, Some, false, is_none, is_some, nat_le, option_to_list, ℕ, ◌&&◌, ◌++◌, ◌<◌};
+ghost use Rattle.std.specs.Prelude.{◌∷◌, ◌≡◌};
+ghost use Rattle.{c104_link.specs.{Buffers.Outgoing, Steps.bool_outcome}, c104_regs.specs.declared.registers.TheConstants.LINKS};
+ghost use Rattle.c104_switch.specs.{Claims.{IsClaim, input_claim, put_own}, Holding.phase_claims};
 
 use super::InputOf;
 use super::stage::Stage;

@@ -1,13 +1,10 @@
 //! What an input does with its first token.
-ghost use Rattle.std.specs.Prelude.{◌≡◌, ◌++◌, ℕ, true, false, if◌then◌else◌, is_some};
+ghost use Rattle.std.specs.Prelude.{false, if◌then◌else◌, is_some, true, ℕ, ◌++◌, ◌≡◌};
+ghost use Rattle.{c104_regs.specs.declared.settings.Settings.Settings as TheSettings, c104_switch.specs.Headers.phase_after_header};
+ghost use Rattle.c104_switch.specs.{Headers.random_header, Holding.{HasStreamed, freed_claims, is_done_turn, phase_claims}, Phases.HasRoom};
+ghost use Rattle.c104_switch.specs.{Phases.{IsReading, Sinking, tokens_read}, Stages.stage_phase, Switch.{Fresh, Stream, count_after}};
+ghost use Rattle.c104_switch.specs.Turns.{IsTurn, header_turn, input_after_token, input_turn, random_turn};
 ghost use Rattle.c104_token.specs.Tokens.{is_end};
-ghost use Rattle.c104_regs.specs.declared.settings.Settings.{Settings as TheSettings};
-ghost use Rattle.c104_switch.specs.Switch.{Fresh, Stream, count_after};
-ghost use Rattle.c104_switch.specs.Headers.{phase_after_header, random_header};
-ghost use Rattle.c104_switch.specs.Turns.{input_turn, IsTurn, header_turn, random_turn, input_after_token};
-ghost use Rattle.c104_switch.specs.Holding.{phase_claims, is_done_turn, freed_claims, HasStreamed};
-ghost use Rattle.c104_switch.specs.Phases.{Sinking, HasRoom, IsReading, tokens_read};
-ghost use Rattle.c104_switch.specs.Stages.{stage_phase};
 
 use super::InputOf;
 use super::stage::Stage;

@@ -3,8 +3,7 @@
 //! A command isn't inlined where an act is: its banks of registers would give every act a stack of 40 KB, which is probed
 //! each time.
 ghost use Rattle.std.specs.Prelude.{◌≡◌};
-ghost use Rattle.c104_control.specs.Table.{IsAnswerTo};
-ghost use Rattle.c104_switch.specs.Control.{switch_control, switch_obey};
+ghost use Rattle.{c104_control.specs.Table.IsAnswerTo, c104_switch.specs.Control.{switch_control, switch_obey}};
 
 use super::SwitchOf;
 use c104_control::{

@@ -1,12 +1,9 @@
 //! The next link of a switch that may be ready. Those that are passed over aren't, and none of them is
 //! asked.
-ghost use Rattle.std.specs.Prelude.{◌≡◌, ◌<◌, ◌≤◌, ◌&&◌, ℕ, None, true, is_some, unwrap_or};
-ghost use Rattle.c104_crossbar.specs.Groups.{has_bit};
-ghost use Rattle.c104_regs.specs.declared.registers.TheConstants.{LINKS};
-ghost use Rattle.c104_switch.specs.Claims.{is_wanting, switch_claim, IsNextLink};
-ghost use Rattle.c104_switch.specs.Readiness.{may_turn_at};
-ghost use Rattle.c104_switch.specs.Switch.{switch_credit_out, switch_leave};
-ghost use Rattle.c104_switch.specs.Turns.{switch_input};
+ghost use Rattle.std.specs.Prelude.{None, is_some, true, unwrap_or, ℕ, ◌&&◌, ◌<◌, ◌≡◌, ◌≤◌};
+ghost use Rattle.{c104_crossbar.specs.Groups.has_bit, c104_regs.specs.declared.registers.TheConstants.LINKS};
+ghost use Rattle.c104_switch.specs.{Claims.{IsNextLink, is_wanting, switch_claim}, Readiness.may_turn_at, Switch.switch_credit_out};
+ghost use Rattle.c104_switch.specs.{Switch.switch_leave, Turns.switch_input};
 
 use super::SwitchOf;
 use crate::link_set::LinkSet;

@@ -1,8 +1,7 @@
 //! Which actions a switch is ready for.
-ghost use Rattle.std.specs.Prelude.{◌≡◌, ℕ, is_some};
-ghost use Rattle.c104_switch.specs.Switch.{switch_enter, switch_leave, switch_credit_out, switch_credit_in};
+ghost use Rattle.std.specs.Prelude.{is_some, ℕ, ◌≡◌};
+ghost use Rattle.c104_switch.specs.{Claims.switch_claim, Switch.{switch_credit_in, switch_credit_out, switch_enter, switch_leave}};
 ghost use Rattle.c104_switch.specs.Turns.{switch_input};
-ghost use Rattle.c104_switch.specs.Claims.{switch_claim};
 
 use super::SwitchOf;
 use c104_token::TokenKind;

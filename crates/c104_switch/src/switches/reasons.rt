@@ -1,9 +1,7 @@
 //! Why a switch isn't ready for an action.
-ghost use Rattle.std.specs.Prelude.{◌≡◌, is_none, IfSome};
-ghost use Rattle.c104_switch.specs.Actions.{is_ready, switch_step};
-ghost use Rattle.c104_switch.specs.Reasons.{emit_why, credited_why};
-ghost use Rattle.c104_switch.specs.ReasonMeanings.{IsReason};
-ghost use Rattle.c104_switch.specs.Reasons.{enter_why, leave_why, credit_out_why, credit_in_why, input_why, claim_why, switch_why};
+ghost use Rattle.std.specs.Prelude.{IfSome, is_none, ◌≡◌};
+ghost use Rattle.c104_switch.specs.{Actions.{is_ready, switch_step}, ReasonMeanings.IsReason, Reasons.{claim_why, credit_in_why}};
+ghost use Rattle.c104_switch.specs.Reasons.{credit_out_why, credited_why, emit_why, enter_why, input_why, leave_why, switch_why};
 
 use super::SwitchOf;
 use crate::actions::ActionOf;
