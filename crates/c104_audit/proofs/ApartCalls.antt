@@ -1,7 +1,7 @@
 -- Lists of calls whose tickets rise, and whether a ticket stands in both.
 use Rattle.c104_audit.{proofs.{KeptElements.drop_next, Merging.{each_in, in_each}}, specs.{Audits.HaveOtherTickets, Leads.AreRising}}
-use Rattle.{c104_audit.specs.{Leads.list_at, Tests.{IsNotBelow, StandsFirst}, declared.calls.Call.Call}, c104_net.proofs.RoundMembers.IsIn}
-use Rattle.{c104_net.proofs.RoundMembers.in_right, c104_plan.proofs.RangeLists.each_append, std.proofs.Common.{Bool, List, Some, [], ap}}
+use Rattle.{c104_audit.specs.{Leads.list_at, Tests.{IsNotBelow, StandsFirst}, declared.calls.Call.Call}, c104_net.proofs.Members.IsIn}
+use Rattle.{c104_net.proofs.Members.in_right, c104_plan.proofs.RangeLists.each_append, std.proofs.Common.{Bool, List, Some, [], ap}}
 use Rattle.std.proofs.Common.{append_assoc, arith, drop, false, inl, inr, nat_eq, refl, slice_get, subst, sym, true, unwrap_or, ℕ, ◌++◌}
 use Rattle.std.{proofs.{Common.{◌+◌, ◌<◌, ◌↔◌, ◌∙◌, ◌∷◌, ◌≡◌, ◌≢◌, ◌⊎◌}, lemmas.Bool.Decides.nat_tests}, specs.List.AllByRecursion}
 

@@ -11,7 +11,7 @@ use Rattle.c104_audit.{proofs.TracedLeads.{runs_same, seated_is, unseated_is, un
 use Rattle.c104_audit.specs.{AuditedRuns.{IsAuditedRun, WereBefore, event_alone, node_shape}, Audits.{IsAudited, called_by, carries}}
 use Rattle.c104_audit.specs.{Audits.{is_leading, is_number, leading_entries, lists_events, unseated}, Leads.{AreRising, Lead, list_at}}
 use Rattle.c104_audit.specs.{Leads.merged_leads, declared.{calls.Call.Call, lists.{Lists.Lists, NodeShape.NodeShape}}}
-use Rattle.{c104_event.specs.declared.events.Event.Event, c104_net.proofs.{RoundMembers.{IsIn, in_filter}, SureOrigins.mapped}}
+use Rattle.{c104_event.specs.declared.events.Event.Event, c104_net.proofs.{Members.{IsIn, in_filter}, SureOrigins.mapped}}
 use Rattle.{c104_net.{proofs.ToldEvents.events_told, specs.ToldEvents.told_events}, c104_node.{proofs.Waiting.get_before, specs.Nodes.Node}}
 use Rattle.c104_node.specs.{Records.{IsNodeRun, NodeRecord, NodeRoom, node_start, node_state, node_trace}, Starts.start_node, Traces.Deed}
 use Rattle.c104_node.specs.{Traces.{part, seatless}, declared.{acts.Entry.Entry, stamps.Stamp.Stamp, starts.NodeStart.NodeStart}}

@@ -2,7 +2,7 @@
 use Rattle.c104_audit.{proofs.{KeptElements.given_here, MergedLists.leaders}, specs.Audits.{carries, entry_event, is_leading}}
 use Rattle.c104_audit.specs.{Audits.{is_link_wired, is_of_kind, led_by, led_call, led_event, lists_leads, told_reply}, Calls.call_of}
 use Rattle.c104_audit.specs.{Leads.{Lead, list_at}, Tests.{AreLeads, IsNextCall, calls_told, entry_or, lead_in}, declared.calls.Call.Call}
-use Rattle.{c104_audit.specs.declared.lists.Lists.Lists, c104_event.specs.declared.events.Event.Event, c104_net.proofs.RoundMembers.IsIn}
+use Rattle.{c104_audit.specs.declared.lists.Lists.Lists, c104_event.specs.declared.events.Event.Event, c104_net.proofs.Members.IsIn}
 use Rattle.c104_net.specs.{Leading.act_event, Replays.{entry_event as told_entry, event_or, lead_event}, ToldEvents.told_event}
 use Rattle.{c104_net.specs.declared.leading.Lead.Lead as Leading, c104_node.specs.{ActLinks.on_links, declared.acts.ActOf.ActOf}}
 use Rattle.{c104_node.specs.declared.acts.Entry.Entry, c104_plan.specs.declared.ports.Wire.Wire, c104_switch.specs.Actions.Reply}

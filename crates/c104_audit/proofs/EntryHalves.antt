@@ -1,13 +1,13 @@
 -- The two entries of what crosses a wire: each tells the other.
 use Rattle.c104_audit.specs.Audits.{AgreeOneByOne, AreHalves, carried_in, carried_out, carries, is_number, is_of_kind}
-use Rattle.{c104_audit.specs.declared.carried.Carried.Carried, c104_net.proofs.RoundMembers.IsIn, c104_node.specs.ActLinks.act_link}
-use Rattle.c104_node.specs.{ActLinks.port_link, PortActs.{IsAnswerOf, far_act, near_act, port_credit_in, port_enter}}
-use Rattle.c104_node.specs.declared.{acts.{ActOf.ActOf, Entry.Entry}, crossings.Crossing.{Crossing, TheVariants.Grant}}
-use Rattle.{c104_node.specs.declared.crossings.Crossing.TheVariants.Token as TokenCrossing, c104_plan.proofs.PortLemmas.is_port-true}
-use Rattle.{c104_plan.specs.{Ports.{is_port, other_end}, declared.ports.{Port.Port, Wire.Wire}}, c104_switch.specs.Actions.Reply}
-use Rattle.{c104_switch.specs.declared.actions.{ActionOf.ActionOf, ReplyOf.ReplyOf}, c104_token.specs.declared.tokens.Token.Token}
-use Rattle.std.proofs.Common.{Bool, List, None, Option, Some, [], ap, arith, false, if◌then◌else◌, inl, inr, map, nat_eq, refl, slice_get}
-use Rattle.std.proofs.{Common.{subst, suc, sym, true, ℕ, ◌&&◌, ◌∙◌, ◌∷◌, ◌≡◌, ◌⊎◌}, lemmas.Bool.Decides.nat_tests}
+use Rattle.{c104_audit.specs.declared.carried.Carried.Carried, c104_net.proofs.Members.IsIn, c104_node.specs.ActLinks.{act_link, port_link}}
+use Rattle.c104_node.specs.{PortActs.{IsAnswerOf, far_act, near_act, port_credit_in, port_enter}, declared.acts.{ActOf.ActOf, Entry.Entry}}
+use Rattle.c104_node.specs.declared.crossings.Crossing.{Crossing, TheVariants.{Grant, Token as TokenCrossing}}
+use Rattle.c104_plan.{proofs.PortLemmas.is_port-true, specs.{Ports.{is_port, other_end}, declared.ports.{Port.Port, Wire.Wire}}}
+use Rattle.c104_switch.specs.{Actions.Reply, declared.actions.{ActionOf.ActionOf, ReplyOf.ReplyOf}}
+use Rattle.{c104_token.specs.declared.tokens.Token.Token, std.proofs.Common.{Bool, List, None, Option, Some, [], ap, arith, false}}
+use Rattle.std.proofs.Common.{if◌then◌else◌, inl, inr, map, nat_eq, refl, slice_get, subst, suc, sym, true, ℕ, ◌&&◌, ◌∙◌, ◌∷◌, ◌≡◌, ◌⊎◌}
+use Rattle.std.proofs.lemmas.Bool.Decides.{nat_tests}
 use Rattle.c104_node.specs.declared.acts.ActOf.TheVariants as act
 
 -- whether a port is a switch's

@@ -3,16 +3,16 @@ use Rattle.c104_audit.proofs.{AuditRuns.{far_of, same_kind}, EntryEvents.is_wire
 use Rattle.c104_audit.proofs.{Matches.{IsLegal, traces_match}, Matching.AreMatched, NetworkRuns.AreReady, WideNodes.IsWide}
 use Rattle.c104_audit.specs.{AuditedRuns.{AreGathered, IsKeptStart, IsWholeNode, node_shape}, Audits.{HasShape, IsAudited, is_leading}}
 use Rattle.c104_audit.specs.{Audits.{is_link_wired, is_of_kind}, Leads.{AreRising, list_at}, declared.lists.Lists.Lists}
-use Rattle.{c104_crossbar.specs.Groups.has_bit, c104_link.proofs.MadeSteps.All-place, c104_net.proofs.RoundMembers.IsIn}
-use Rattle.{c104_net.proofs.SureOrigins.mapped, c104_node.{proofs.BegunRecords.run_kind, specs.{ActLinks.act_link, Acts.node_act}}}
-use Rattle.c104_node.specs.{Nodes.{Node, is_switch}, Records.{IsNodeRun, MayAct, NodeRecord, NodeRoom, has_link, node_trace}}
-use Rattle.c104_node.specs.{Starts.start_node, Traces.part, declared.{acts.{ActOf.ActOf, Entry.Entry}, starts.NodeStart.NodeStart}}
-use Rattle.{c104_plan.specs.{Plans.{IsPlan, Plan}, Wiring.wires}, c104_regs.specs.declared.registers.TheConstants.LINKS}
-use Rattle.{c104_run.specs.{NodeRuns.starting_nodes, Rounds.link_numbers}, c104_switch.specs.{Actions.Reply, Starts.start_input}}
-use Rattle.{c104_switch.specs.Starts.start_output, c104_token.specs.{Kinds.plain_kind, declared.tokens.Token.Token}, std.proofs.Common.Bool}
-use Rattle.std.proofs.Common.{List, None, Option, Some, [], ap, arith, false, get_or, inl, inr, length, map, nat_lt, option_map, refl}
-use Rattle.std.proofs.Common.{replicate, slice_get, subst, suc, sym, true, unwrap_or, zero, ℕ, ◌++◌, ◌+◌, ◌<◌, ◌∙◌, ◌∷◌, ◌≡◌}
-use Rattle.std.proofs.lemmas.{Bool.Decides.nat_tests, List.{FromFn.get_or-map-range_with_len, length-map}, Option.slice_get-map}
+use Rattle.{c104_crossbar.specs.Groups.has_bit, c104_link.proofs.MadeSteps.All-place, c104_net.proofs.{Members.IsIn, SureOrigins.mapped}}
+use Rattle.c104_node.{proofs.BegunRecords.run_kind, specs.{ActLinks.act_link, Acts.node_act, Nodes.{Node, is_switch}, Records.IsNodeRun}}
+use Rattle.c104_node.specs.{Records.{MayAct, NodeRecord, NodeRoom, has_link, node_trace}, Starts.start_node, Traces.part}
+use Rattle.{c104_node.specs.declared.{acts.{ActOf.ActOf, Entry.Entry}, starts.NodeStart.NodeStart}, c104_plan.specs.Plans.{IsPlan, Plan}}
+use Rattle.{c104_plan.specs.Wiring.wires, c104_regs.specs.declared.registers.TheConstants.LINKS, c104_run.specs.NodeRuns.starting_nodes}
+use Rattle.{c104_run.specs.Rounds.link_numbers, c104_switch.specs.{Actions.Reply, Starts.{start_input, start_output}}}
+use Rattle.{c104_token.specs.{Kinds.plain_kind, declared.tokens.Token.Token}, std.proofs.Common.{Bool, List, None, Option, Some, [], ap}}
+use Rattle.std.proofs.Common.{arith, false, get_or, inl, inr, length, map, nat_lt, option_map, refl, replicate, slice_get, subst, suc, sym}
+use Rattle.std.proofs.{Common.{true, unwrap_or, zero, ℕ, ◌++◌, ◌+◌, ◌<◌, ◌∙◌, ◌∷◌, ◌≡◌}, lemmas.Bool.Decides.nat_tests}
+use Rattle.std.proofs.lemmas.{List.{FromFn.get_or-map-range_with_len, length-map}, Option.slice_get-map}
 use Rattle.c104_node.specs.declared.node.NodeOf.TheVariants as node
 
 -- an act that a node did is one of its kind

@@ -1,8 +1,8 @@
 -- Lists of things that lead, in order: two with the same things are one list; and those before a ticket stand first.
 use Rattle.c104_audit.{proofs.{Matching.{AreLeading, StandsBefore}, Merging.{each_in, from_filter, in_each}}, specs.Leads.Lead}
-use Rattle.{c104_net.{proofs.RoundMembers.IsIn, specs.Merges.{by_ticket, join_by_ticket}}, std.proofs.Common.{Bool, List, [], ap, arith}}
-use Rattle.std.proofs.Common.{false, filter, if◌then◌else◌, inl, inr, map, nat_le, not, refl, subst, sym, true, ℕ, ◌++◌, ◌<◌, ◌∙◌, ◌∷◌, ◌≡◌}
-use Rattle.std.{proofs.Common.{◌≤◌, ◌⊎◌}, specs.List.AllByRecursion}
+use Rattle.{c104_net.{proofs.Members.IsIn, specs.Merges.{by_ticket, join_by_ticket}}, std.proofs.Common.{Bool, List, [], ap, arith, false}}
+use Rattle.std.proofs.Common.{filter, if◌then◌else◌, inl, inr, map, nat_le, not, refl, subst, sym, true, ℕ, ◌++◌, ◌<◌, ◌∙◌, ◌∷◌, ◌≡◌, ◌≤◌}
+use Rattle.std.{proofs.Common.◌⊎◌, specs.List.AllByRecursion}
 
 module _ {X : Type 0} where
   before_both : (m n : ℕ × Lead X) → StandsBefore m n → StandsBefore n m → ⊥

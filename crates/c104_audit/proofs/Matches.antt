@@ -6,8 +6,8 @@ use Rattle.c104_audit.proofs.{EntryEvents.terminal_wired, EntryHalves.{IsAtPort,
 use Rattle.c104_audit.proofs.{EntryHalves.{of_switch, out_is, partner, partner_back, wire_of}, Matching.AreMatched, Merging.from_filter}
 use Rattle.c104_audit.{proofs.NetworkRuns.crossing_acts_are, specs.Audits.{AgreeOneByOne, AreHalves, IsPassed, carried_in, carried_out}}
 use Rattle.c104_audit.specs.{Audits.{carries, end_among, is_leading, is_of_kind, passes_at, passing_at}, Leads.{AreRising, list_at}}
-use Rattle.{c104_audit.specs.declared.carried.Carried.Carried, c104_event.specs.declared.events.Event.Event}
-use Rattle.{c104_net.{proofs.RoundMembers.{IsIn, in_filter}, specs.Leading.act_event}, c104_node.proofs.JointEnds.{far_done, near_answers}}
+use Rattle.{c104_audit.specs.declared.carried.Carried.Carried, c104_event.specs.declared.events.Event.Event, c104_net.proofs.Members.IsIn}
+use Rattle.{c104_net.{proofs.Members.in_filter, specs.Leading.act_event}, c104_node.proofs.JointEnds.{far_done, near_answers}}
 use Rattle.c104_node.specs.{ActLinks.{act_link, on_links, port_link}, Acts.node_act, PortActs.{Acts, IsAnswerOf, far_act, near_act}}
 use Rattle.c104_node.specs.{Traces.entry_of, declared.{acts.{ActOf.ActOf, Entry.Entry}, crossings.Crossing.{Crossing, TheVariants.Grant}}}
 use Rattle.{c104_node.specs.declared.{crossings.Crossing.TheVariants.Token as TokenCrossing, ends.End.End}, c104_plan.specs.Plans.IsPlan}

@@ -1,5 +1,5 @@
 -- What things that lead do, at their places and at others, and lists that match: they have just what these do.
-use Rattle.{c104_audit.specs.Leads.{AreRising, Lead, list_at}, c104_net.proofs.RoundMembers.IsIn, c104_run.specs.Runs.IsBefore}
+use Rattle.{c104_audit.specs.Leads.{AreRising, Lead, list_at}, c104_net.proofs.Members.IsIn, c104_run.specs.Runs.IsBefore}
 use Rattle.std.specs.{List.AllByRecursion, Prelude.{Bool, List, None, Option, Some, [], false, if◌then◌else◌, nat_eq, true, ℕ, ◌++◌, ◌∷◌}}
 use Rattle.std.specs.Prelude.{◌≡◌}
 

@@ -1,10 +1,10 @@
 -- What things that lead do, in the order of the merge, is at each place the list of that place.
 use Rattle.c104_audit.proofs.{Matching.{AreLeading, AreMatched, StandsBefore, all_deeds, at_place, far_deed, lead_deeds}, Merging.IsLeadOf}
 use Rattle.c104_audit.proofs.Merging.{each_in, each_sorted, in_sorted, leads_are, leads_there, merged_leading, one_ticket, same_lists}
-use Rattle.{c104_audit.specs.Leads.{AreRising, Lead, leads_from, list_at, merged_leads}, c104_net.proofs.RoundMembers.{IsIn, in_left}}
-use Rattle.{c104_net.proofs.RoundMembers.in_right, c104_run.specs.Runs.IsBefore, std.proofs.Common.{Bool, List, None, Option, Some, [], ap}}
-use Rattle.std.proofs.Common.{arith, false, if◌then◌else◌, inl, inr, nat_eq, refl, subst, sym, true, ℕ, ◌++◌, ◌+◌, ◌<◌, ◌∙◌, ◌∷◌, ◌≡◌, ◌⊎◌}
-use Rattle.std.{proofs.lemmas.Bool.Decides.nat_tests, specs.List.AllByRecursion}
+use Rattle.{c104_audit.specs.Leads.{AreRising, Lead, leads_from, list_at, merged_leads}, c104_net.proofs.Members.{IsIn, in_left, in_right}}
+use Rattle.{c104_run.specs.Runs.IsBefore, std.proofs.Common.{Bool, List, None, Option, Some, [], ap, arith, false, if◌then◌else◌, inl, inr}}
+use Rattle.std.proofs.{Common.{nat_eq, refl, subst, sym, true, ℕ, ◌++◌, ◌+◌, ◌<◌, ◌∙◌, ◌∷◌, ◌≡◌, ◌⊎◌}, lemmas.Bool.Decides.nat_tests}
+use Rattle.std.specs.List.{AllByRecursion}
 
 -- what is known of each of a merge
 pub record IsLeader {X : Type 0} (ticket : X → ℕ) (leads : ℕ → X → Bool) (lists : List (List X)) (m : ℕ × Lead X) : Type 0 where

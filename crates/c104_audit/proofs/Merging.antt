@@ -1,6 +1,6 @@
 -- Things that lead, joined by ticket: the order in which they stand, and that each is there.
 use Rattle.c104_audit.{proofs.Matching.{AreLeading, StandsBefore}, specs.Leads.{AreRising, Lead, leads_at, leads_from, list_at}}
-use Rattle.{c104_audit.specs.Leads.merged_leads, c104_net.{proofs.RoundMembers.{IsIn, in_left, in_right}, specs.Merges.by_ticket}}
+use Rattle.{c104_audit.specs.Leads.merged_leads, c104_net.{proofs.Members.{IsIn, in_left, in_right}, specs.Merges.by_ticket}}
 use Rattle.{c104_net.specs.Merges.join_by_ticket, c104_plan.proofs.RangeLists.each_append, std.proofs.Common.{Bool, List, [], ap, arith}}
 use Rattle.std.proofs.Common.{false, filter, if◌then◌else◌, inl, inr, nat_eq, nat_le, refl, subst, suc, sym, true, zero, ℕ, ◌++◌, ◌+◌, ◌<◌}
 use Rattle.std.{proofs.{Common.{◌∙◌, ◌∷◌, ◌≡◌, ◌≤◌, ◌⊎◌}, lemmas.Bool.Decides.nat_tests}, specs.List.AllByRecursion}

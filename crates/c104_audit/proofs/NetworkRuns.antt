@@ -3,9 +3,9 @@ use Rattle.c104_audit.proofs.AuditRuns.{IsSure, far_alone, far_joint, far_of, le
 use Rattle.c104_audit.proofs.{EntryEvents.{LeadsAlone, LeadsJoint, crossing_event, lead_cases}, Matching.{all_deeds, at_place, far_deed}}
 use Rattle.{c104_audit.{proofs.WideNodes.{IsWide, wide_act}, specs.Leads.Lead}, c104_event.specs.declared.events.Event.Event}
 use Rattle.{c104_event.specs.declared.faults.EventFault.EventFault, c104_link.{proofs.MadeSteps.place_after_set, specs.Steps.◌>>=◌}}
-use Rattle.{c104_net.proofs.StillWires.element_at, c104_node.proofs.{ReadyActs.act_ready, RecordedNodes.number_plain}}
-use Rattle.c104_node.{proofs.WireEnds.{get_set_other, get_set_same}, specs.{Acts.{node_act, plain_reply}, Nodes.{Node, is_switch}}}
-use Rattle.c104_node.specs.{PortActs.{Acts, acts_limit, far_act, near_act}, Records.{IsNodeRun, MayAct}, Traces.entry_of}
+use Rattle.{c104_net.proofs.Members.element_at, c104_node.proofs.{ReadyActs.act_ready, RecordedNodes.number_plain, WireEnds.get_set_other}}
+use Rattle.c104_node.{proofs.WireEnds.get_set_same, specs.{Acts.{node_act, plain_reply}, Nodes.{Node, is_switch}, PortActs.Acts}}
+use Rattle.c104_node.specs.{PortActs.{acts_limit, far_act, near_act}, Records.{IsNodeRun, MayAct}, Traces.entry_of}
 use Rattle.c104_node.specs.declared.{acts.{ActOf.ActOf, Entry.Entry}, crossings.Crossing.{Crossing, TheVariants.Grant}}
 use Rattle.{c104_node.specs.declared.crossings.Crossing.TheVariants.Token as TokenCrossing, c104_plan.specs.Plans.{IsPlan, Plan}}
 use Rattle.{c104_plan.specs.{Wiring.peer, declared.ports.Port.Port}, c104_regs.specs.declared.registers.TheConstants.LINKS}

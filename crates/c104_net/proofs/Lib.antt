@@ -20,6 +20,7 @@ pub mod LedEvents
 pub mod EventEntries
 pub mod SentBytes
 pub mod Promises
+pub mod Members
 pub mod StillWires
 pub mod StillPorts
 pub mod StartMaps

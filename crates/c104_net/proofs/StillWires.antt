@@ -1,13 +1,13 @@
 -- What each event of a round says that isn't ready, in a network whose switches are started.
 use Rattle.{c104_check.proofs.RouteLemmas.own_link, c104_event.specs.declared.events.Event.Event, c104_link.specs.Buffers.Incoming}
-use Rattle.{c104_link.specs.Buffers.Outgoing, c104_net.proofs.NodeViews.{ins, outs, phases}, c104_node.specs.Nodes.Node}
-use Rattle.{c104_node.specs.{Terminals.Terminal, declared.node.NodeOf.NodeOf}, c104_plan.specs.{Plans.{IsPlan, Plan}, Wiring.peer}}
-use Rattle.{c104_plan.specs.declared.ports.Port.Port, c104_regs.specs.Groups.continues_at, c104_run.proofs.BalanceWires.peer_back}
-use Rattle.c104_run.proofs.{BalanceWires.{switch_inside, terminal_inside}, EventReasons.event_reason_holds, UnreadyEvents.StandsAt}
-use Rattle.c104_run.{proofs.UnreadyEvents.{switch_there, terminal_there, unready_answered}, specs.Balance.{IsSteady, credit_at, granted_at}}
-use Rattle.c104_run.specs.{Ends.end_of, Network.{network_of, terminal_place}, ReasonMeanings.{IsCreditInReason, IsCreditOutReason}}
-use Rattle.c104_run.specs.{ReasonMeanings.{IsEnterReason, IsEventReason, IsLeaveReason, IsSaidAt}, Reasons.{is_unready, network_why}}
-use Rattle.c104_run.specs.{Standstill.{IsStarted, IsStartedSwitch, IsStill, IsUnready}, declared.reason.Reason.Reason}
+use Rattle.{c104_link.specs.Buffers.Outgoing, c104_net.proofs.{Members.element_at, NodeViews.{ins, outs, phases}}}
+use Rattle.{c104_node.specs.{Nodes.Node, Terminals.Terminal, declared.node.NodeOf.NodeOf}, c104_plan.specs.Plans.{IsPlan, Plan}}
+use Rattle.{c104_plan.specs.{Wiring.peer, declared.ports.Port.Port}, c104_regs.specs.Groups.continues_at}
+use Rattle.c104_run.proofs.{BalanceWires.{peer_back, switch_inside, terminal_inside}, EventReasons.event_reason_holds}
+use Rattle.c104_run.{proofs.UnreadyEvents.{StandsAt, switch_there, terminal_there, unready_answered}, specs.Balance.{IsSteady, credit_at}}
+use Rattle.c104_run.specs.{Balance.granted_at, Ends.end_of, Network.{network_of, terminal_place}, ReasonMeanings.IsCreditInReason}
+use Rattle.c104_run.specs.{ReasonMeanings.{IsCreditOutReason, IsEnterReason, IsEventReason, IsLeaveReason, IsSaidAt}, Reasons.is_unready}
+use Rattle.c104_run.specs.{Reasons.network_why, Standstill.{IsStarted, IsStartedSwitch, IsStill, IsUnready}, declared.reason.Reason.Reason}
 use Rattle.c104_switch.specs.{Group.is_in_group, Phases.is_want, ReasonMeanings.{IsAcceptReason, IsCreditedReason, IsEmitReason}}
 use Rattle.c104_switch.specs.{ReasonMeanings.{IsGrantReason, IsReason, IsTakeReason}, Switch.{Input, Switch}}
 use Rattle.c104_switch.specs.declared.{actions.ActionOf.ActionOf, phase.Phase.TheVariants.{Stream, Want}}
@@ -16,10 +16,7 @@ use Rattle.c104_switch.specs.declared.unready.Unready.TheVariants.{NotGranted, N
 use Rattle.{c104_switch.specs.declared.unready.Unready.{TheVariants.WantsOutput, Unready}, c104_token.specs.Kinds.Kind}
 use Rattle.std.proofs.Common.{IfSome, IsSomeAnd, List, None, Option, Some, [], ap, arith, false, inl, inr, is_some, length, refl, slice_get}
 use Rattle.std.proofs.{Common.{subst, sym, true, ℕ, ⊎_elim, ◌+◌, ◌<◌, ◌∙◌, ◌∷◌, ◌≡◌, ◌≤◌, ◌⊎◌}, lemmas.Bool.true≢false}
-use Rattle.std.proofs.lemmas.Option.{slice_get_cases, slice_get_within}
-
-pub element_at : {X : Type 0} (xs : List X) (k : ℕ) → k < length xs → (x : X) × (slice_get xs k ≡ Some x)
-element_at xs k h = elim (slice_get_cases xs k).1 [ inl found ↦ (found.0, found.2) | inr past ↦ absurd (omega (arith, h, past.0)) ]
+use Rattle.std.proofs.lemmas.Option.{slice_get_within}
 
 -- what is said of a link that there is
 module _ {A : Type 0} (S : Switch A) (started : IsStartedSwitch S) where
