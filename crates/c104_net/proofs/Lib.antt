@@ -21,8 +21,6 @@ pub mod EventEntries
 pub mod SentBytes
 pub mod Promises
 pub mod Members
-pub mod StillWires
-pub mod StillPorts
 pub mod StartMaps
 pub mod TracedRuns
 pub mod SureOrigins
@@ -37,19 +35,6 @@ pub mod MergedEvents
 pub mod ToldEvents
 pub mod RunOrigins
 pub mod ToldRuns
-pub mod RoundMembers
-pub mod StandingRuns
-pub mod WorkSteps
-pub mod WorkEvents
-pub mod StartedRuns
-pub mod WorkRounds
-pub mod RoundsEnd
-pub mod BeginsStarted
-pub mod RecordedRounds
-pub mod WorkBounds
-pub mod FullWork
-mod UndoneRounds
-pub mod DeadlockFree
 pub mod SentCounts
 pub mod KnownTokens
 pub mod OwnEnds
@@ -58,4 +43,3 @@ pub mod MeteredRecords
 pub mod TracedTokens
 pub mod RandomOwners
 pub mod RandomHeaders
-pub mod PlainWork

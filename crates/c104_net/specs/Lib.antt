@@ -8,7 +8,4 @@ pub mod MeteredRecords
 pub mod Replays
 pub mod RunOrigins
 pub mod ToldRuns
-pub mod Work
-pub mod HeaderWork
 pub mod RoundEvents
-pub mod DeadlockFreedom

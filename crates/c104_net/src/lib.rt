@@ -6,19 +6,16 @@
 //! `sort_leads` and `event_of` find the events of a run again from the entries that lead in them, each a `Lead`.
 //! `Origins` tells which packet each received packet was: of a `Run`, which is replayed over tokens that tell where
 //! they came from, and of a `TracedNet`, whose tokens tell it as they arrive. `MeteredNet` tells a meter of the tokens that
-//! cross the wires of one. `NoDeadlock` says that a network without a cycle of channel dependencies has no deadlock, and
-//! `LeftWork` how many rounds are enough.
+//! cross the wires of one.
 #![tactic(auto)]
 
 mod bare_net;
 mod bare_run;
-mod deadlock;
 mod leading;
 mod metered_net;
 mod replays;
 mod run_origins;
 mod traced_origins;
-mod work;
 
 pub use c104_event::{Event, EventFault, Port};
 pub use c104_node::{
@@ -29,9 +26,7 @@ pub use c104_run::{
     Meter, Net, NetParts, PlaceFault, Reason, RecordedNet, RecordedPlace, Run, TracedNet,
     Unmetered, Unwatched, Watch, round_part,
 };
-pub use deadlock::NoDeadlock;
 pub use leading::{Lead, event_of, sort_leads};
 pub use metered_net::MeteredNet;
 pub use run_origins::Origins;
 pub use traced_origins::WaitingTokens;
-pub use work::LeftWork;

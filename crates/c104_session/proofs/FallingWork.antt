@@ -1,22 +1,23 @@
 -- Lines that send nothing leave no more work, and each of their rounds leaves less, till the network is quiet: whatever else
 -- they ask between the rounds.
-use Rattle.{c104_check.specs.Routes.Routes, c104_event.specs.declared.{events.Event.Event, faults.EventFault.EventFault}}
-use Rattle.c104_net.{proofs.{RecordedRounds.{applied_plain, starts_stay}, SentBytes.SendsBytes}, specs.RoundEvents.IsOfRound}
-use Rattle.{c104_net.specs.Unchanged.MayHappen, c104_node.specs.{Nodes.Node, Quiet.IsQuietNode, declared.starts.NodeStart.NodeStart}}
-use Rattle.{c104_plan.{proofs.RangeLists.all_of_each, specs.Plans.{IsPlan, Plan}}, c104_run.proofs.RecordSteps.done_made}
-use Rattle.c104_run.{proofs.RoundRuns.{Applied, run_append, undone_leaves}, specs.EventRuns.{Outcome, run_events, unless_fault}}
-use Rattle.c104_run.specs.{NetRecords.NetRecord, Network.{Network, network_apply}, QuietNets.IsQuiet, RecordedRuns.record_apply}
-use Rattle.{c104_run.specs.{Rounds.{round, rounds}, Standstill.{IsUnready, StandsStill}}, c104_script.specs.Script.read_script_line}
-use Rattle.{c104_script.specs.declared.{faults.LineFault.LineFault, places.Request.Request}, c104_session.proofs.QuietEvents.stays_quiet}
-use Rattle.c104_session.proofs.UnchangedNets.{Fact, IsUnchangedNet, Keeps, events_leave, keeps_nothing, nothing, of_fact, of_round}
-use Rattle.c104_session.{proofs.{UnchangedNets.round_event, UnchangedScripts.line_leaves}, specs.DeliveredRuns.{line_rounds, lines_rounds}}
-use Rattle.c104_session.specs.{DeliveredRuns.rounds_asked, PrintedPackets.{LeaveUnchanged, MayAsk, event_sends, line_sends, lines_sent}}
-use Rattle.c104_session.specs.{PrintedPackets.was_done, Shown.{answer_of_read, event_answer, line_answer, line_outcome, rounds_answer}}
-use Rattle.{c104_session.specs.declared.session.Session.Session, c104_stream.specs.Scripts.lines_outcome, c104_switch.specs.Actions.Reply}
-use Rattle.{c104_switch.specs.{Actions.is_ready, declared.actions.ReplyOf.ReplyOf}, c104_token.specs.Kinds.plain_kind}
-use Rattle.{c104_token.specs.declared.{packets.Packet.Packet, tokens.Token.Token}, std.proofs.Common.{All, Bool, Err, List, None, Ok}}
-use Rattle.std.proofs.Common.{Option, Result, Some, [], ap, append-nil, arith, false, if◌then◌else◌, inl, inr, length, length-append, refl}
-use Rattle.std.{proofs.Common.{subst, suc, sym, true, zero, ℕ, ◌++◌, ◌+◌, ◌<◌, ◌∙◌, ◌∷◌, ◌≡◌, ◌≤◌, ◌⊎◌}, specs.List.AllByRecursion}
+use Rattle.{c104_check.specs.Routes.Routes, c104_deadlock.proofs.RecordedRounds.{applied_plain, starts_stay}}
+use Rattle.{c104_event.specs.declared.{events.Event.Event, faults.EventFault.EventFault}, c104_net.proofs.SentBytes.SendsBytes}
+use Rattle.{c104_net.specs.{RoundEvents.IsOfRound, Unchanged.MayHappen}, c104_node.specs.{Nodes.Node, Quiet.IsQuietNode}}
+use Rattle.{c104_node.specs.declared.starts.NodeStart.NodeStart, c104_plan.{proofs.RangeLists.all_of_each, specs.Plans.{IsPlan, Plan}}}
+use Rattle.c104_run.{proofs.{RecordSteps.done_made, RoundRuns.{Applied, run_append, undone_leaves}}, specs.EventRuns.{Outcome, run_events}}
+use Rattle.c104_run.specs.{EventRuns.unless_fault, NetRecords.NetRecord, Network.{Network, network_apply}, QuietNets.IsQuiet}
+use Rattle.c104_run.specs.{RecordedRuns.record_apply, Rounds.{round, rounds}, Standstill.{IsUnready, StandsStill}}
+use Rattle.c104_script.specs.{Script.read_script_line, declared.{faults.LineFault.LineFault, places.Request.Request}}
+use Rattle.c104_session.proofs.{QuietEvents.stays_quiet, UnchangedNets.{Fact, IsUnchangedNet, Keeps, events_leave, keeps_nothing, nothing}}
+use Rattle.c104_session.proofs.{UnchangedNets.{of_fact, of_round, round_event}, UnchangedScripts.line_leaves}
+use Rattle.c104_session.specs.{DeliveredRuns.{line_rounds, lines_rounds, rounds_asked}, PrintedPackets.{LeaveUnchanged, MayAsk}}
+use Rattle.c104_session.specs.{PrintedPackets.{event_sends, line_sends, lines_sent, was_done}, Shown.{answer_of_read, event_answer}}
+use Rattle.c104_session.specs.{Shown.{line_answer, line_outcome, rounds_answer}, declared.session.Session.Session}
+use Rattle.{c104_stream.specs.Scripts.lines_outcome, c104_switch.specs.{Actions.{Reply, is_ready}, declared.actions.ReplyOf.ReplyOf}}
+use Rattle.{c104_token.specs.{Kinds.plain_kind, declared.{packets.Packet.Packet, tokens.Token.Token}}, std.proofs.Common.{All, Bool, Err}}
+use Rattle.std.proofs.Common.{List, None, Ok, Option, Result, Some, [], ap, append-nil, arith, false, if◌then◌else◌, inl, inr, length}
+use Rattle.std.proofs.Common.{length-append, refl, subst, suc, sym, true, zero, ℕ, ◌++◌, ◌+◌, ◌<◌, ◌∙◌, ◌∷◌, ◌≡◌, ◌≤◌, ◌⊎◌}
+use Rattle.std.specs.List.{AllByRecursion}
 
 not_ready : (r : Reply) → is_ready r ≡ false → r ≡ ReplyOf.NotReady
 not_ready ReplyOf.NotReady is = refl

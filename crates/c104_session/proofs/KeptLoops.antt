@@ -1,5 +1,5 @@
 -- Rounds of which something is kept in a loop: a round as it is kept, and how the loop ends.
-use Rattle.{c104_event.specs.declared.{events.Event.Event, faults.EventFault.EventFault}, c104_net.proofs.RecordedRounds.starts_stay}
+use Rattle.{c104_deadlock.proofs.RecordedRounds.starts_stay, c104_event.specs.declared.{events.Event.Event, faults.EventFault.EventFault}}
 use Rattle.c104_net.specs.MeteredRecords.{MeteredRecord, at_meter, record_metered}
 use Rattle.{c104_node.specs.declared.tagged.TaggedToken.TaggedToken, c104_run.{proofs.RoundRuns.run_seen, specs.EventRuns.EventsEnd}}
 use Rattle.c104_run.specs.{EventRuns.{Outcome, run_events}, Meters.Sees, NetRecords.NetRecord, RecordedRuns.record_apply}

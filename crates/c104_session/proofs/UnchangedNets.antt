@@ -1,13 +1,13 @@
 -- A network that nobody changed, with what its terminals have sent: by an event, by rounds, and by the debugger's peeks.
-use Rattle.{c104_check.specs.Routes.Routes, c104_event.specs.declared.{events.Event.Event, faults.EventFault.EventFault}}
-use Rattle.c104_net.proofs.{JointKeeps.IsOfRound, RoundMembers.each_of_round, SentBytes.{AreBytesSent, SendsBytes}}
-use Rattle.{c104_net.specs.{Deliveries.sent_at, Unchanged.{IsUnchanged, MayHappen}}, c104_node.specs.{Nodes.Node, Starts.start_node}}
-use Rattle.{c104_node.specs.{Traces.{noted_all, seatless}, declared.starts.NodeStart.NodeStart}, c104_plan.proofs.RangeLists.each_append}
-use Rattle.{c104_plan.specs.Plans.{IsPlan, Plan}, c104_run.proofs.RecordSteps.{done_made, same_record, ticket_left}}
-use Rattle.c104_run.proofs.{RecordedRuns.record_kept, RoundJoins.apply_plan, RoundRuns.{Applied, undone_left}, RunRecords.record_on}
-use Rattle.c104_run.{proofs.{RunRecords.seatless_order, UndoneEvents.undone_deeds}, specs.{EventDeeds.event_deeds, EventRuns.run_events}}
-use Rattle.c104_run.specs.{EventRuns.unless_fault, NetRecords.{IsNetRecord, NetRecord, is_done, ticket_after}, Network.Network}
-use Rattle.c104_run.specs.{Network.{network_apply, network_of}, RecordedRuns.{record_apply, record_at, record_stage}, Rounds.round}
+use Rattle.{c104_check.specs.Routes.Routes, c104_deadlock.proofs.RoundMembers.each_of_round, c104_event.specs.declared.events.Event.Event}
+use Rattle.{c104_event.specs.declared.faults.EventFault.EventFault, c104_net.proofs.{JointKeeps.IsOfRound, SentBytes.AreBytesSent}}
+use Rattle.c104_net.{proofs.SentBytes.SendsBytes, specs.{Deliveries.sent_at, Unchanged.{IsUnchanged, MayHappen}}}
+use Rattle.c104_node.specs.{Nodes.Node, Starts.start_node, Traces.{noted_all, seatless}, declared.starts.NodeStart.NodeStart}
+use Rattle.{c104_plan.{proofs.RangeLists.each_append, specs.Plans.{IsPlan, Plan}}, c104_run.proofs.RecordSteps.{done_made, same_record}}
+use Rattle.c104_run.proofs.{RecordSteps.ticket_left, RecordedRuns.record_kept, RoundJoins.apply_plan, RoundRuns.{Applied, undone_left}}
+use Rattle.c104_run.{proofs.{RunRecords.{record_on, seatless_order}, UndoneEvents.undone_deeds}, specs.EventDeeds.event_deeds}
+use Rattle.c104_run.specs.{EventRuns.{run_events, unless_fault}, NetRecords.{IsNetRecord, NetRecord, is_done, ticket_after}}
+use Rattle.c104_run.specs.{Network.{Network, network_apply, network_of}, RecordedRuns.{record_apply, record_at, record_stage}, Rounds.round}
 use Rattle.c104_run.specs.{Rounds.rounds, Runs.{IsDoneRun, IsRunRecord}, Stages.{stage_after, stage_full}}
 use Rattle.c104_session.{proofs.SentLists.{packets_append, sent_after}, specs.PrintedPackets.{event_sends, packets_of}}
 use Rattle.{c104_switch.specs.Actions.{Reply, is_ready}, c104_token.specs.{Kinds.plain_kind, declared.packets.Packet.Packet}}

@@ -2,14 +2,14 @@
 -- of a round leaves less.
 use Rattle.c104_check.specs.{ChannelDependencies.IsRanking, Routes.{IsAccepted, Routes, link_settings, routes_of}, Walks.port_of}
 use Rattle.{c104_check.specs.declared.ports.SwitchPort.SwitchPort, c104_control.specs.Reading.read_command}
-use Rattle.{c104_event.specs.declared.{events.Event.Event, faults.EventFault.EventFault}, c104_link.proofs.MadeSteps.at_place_made}
-use Rattle.c104_link.{proofs.MadeSteps.{from_place_made, given}, specs.Steps.{step_at, yield_step_at}}
-use Rattle.c104_net.proofs.{CommandEvents.read_sides, PacketInvariant.IsLabelled, Promises.{each, starts}, RoundsEnd.work_map}
-use Rattle.c104_net.proofs.{RunSteps.header_positive, SentBytes.{AreBytesSent, SendsBytes}, StartMaps.starts_are, TracedRuns.token_of}
-use Rattle.c104_net.proofs.{TracedRuns.traced_from, WorkBounds.{weigh_is, weigh_more}, WorkEvents.event_less, WorkRounds.falling}
-use Rattle.c104_net.{proofs.WorkSteps.{sum_set, weigh-append}, specs.HeaderWork.{ahead_at, ahead_by, full_node, random_ahead, random_bound}}
-use Rattle.c104_net.specs.{HeaderWork.random_work, RoundEvents.IsOfRound, Unchanged.{AreStartsOf, IsHarmless, IsUnchanged, MayHappen}}
-use Rattle.{c104_net.specs.Work.{level, weigh}, c104_node.specs.{Nodes.{Node, node_control, node_send}, Starts.start_node}}
+use Rattle.c104_deadlock.proofs.{RoundsEnd.work_map, WorkBounds.{weigh_is, weigh_more}, WorkEvents.event_less, WorkRounds.falling}
+use Rattle.c104_deadlock.{proofs.WorkSteps.{sum_set, weigh-append}, specs.HeaderWork.{ahead_at, ahead_by, full_node, random_ahead}}
+use Rattle.{c104_deadlock.specs.{HeaderWork.{random_bound, random_work}, Work.{level, weigh}}, c104_event.specs.declared.events.Event.Event}
+use Rattle.{c104_event.specs.declared.faults.EventFault.EventFault, c104_link.proofs.MadeSteps.{at_place_made, from_place_made, given}}
+use Rattle.{c104_link.specs.Steps.{step_at, yield_step_at}, c104_net.proofs.{CommandEvents.read_sides, PacketInvariant.IsLabelled}}
+use Rattle.c104_net.proofs.{Promises.{each, starts}, RunSteps.header_positive, SentBytes.{AreBytesSent, SendsBytes}, StartMaps.starts_are}
+use Rattle.c104_net.{proofs.TracedRuns.{token_of, traced_from}, specs.{RoundEvents.IsOfRound, Unchanged.{AreStartsOf, IsHarmless}}}
+use Rattle.{c104_net.specs.Unchanged.{IsUnchanged, MayHappen}, c104_node.specs.{Nodes.{Node, node_control, node_send}, Starts.start_node}}
 use Rattle.c104_node.specs.{Terminals.{sent_from, sent_tokens, terminal_send}, Traced.traced_kind, declared.node.NodeOf.NodeOf}
 use Rattle.{c104_node.specs.declared.{starts.NodeStart.NodeStart, traced.Traced.Traced}, c104_plan.specs.{PlanImage.Image, Plans.IsPlan}}
 use Rattle.{c104_plan.specs.{Plans.Plan, Wiring.peer, declared.ports.Port.Port}, c104_regs.specs.declared.settings.Settings.Settings}

@@ -2,7 +2,7 @@
 -- with rounds enough: each packet that was sent with a whole header that a terminal owns.
 --     EndsWithRounds plan image script      there are rounds enough
 --     PrintsAllSent plan image script      what follows
-use Rattle.{c104_check.specs.{ChannelDependencies.IsAcyclic, Routes.{Routes, routes_of}}, c104_net.specs.HeaderWork.random_bound}
+use Rattle.{c104_check.specs.{ChannelDependencies.IsAcyclic, Routes.{Routes, routes_of}}, c104_deadlock.specs.HeaderWork.random_bound}
 use Rattle.{c104_node.specs.declared.origins.Origin.Origin, c104_plan.specs.{PlanImage.Image, Plans.Plan}}
 use Rattle.{c104_regs.specs.declared.registers.TheConstants.LINKS, c104_run.specs.Network.placed_network}
 use Rattle.c104_script.specs.{Script.read_script_line, declared.{faults.LineFault.LineFault, places.Request.Request}}

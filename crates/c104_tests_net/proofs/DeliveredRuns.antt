@@ -1,10 +1,10 @@
 -- In a network that nobody changed all is delivered after enough rounds, by the theorem.
 use Rattle.c104_check.specs.{ChannelDependencies.{AreRanksWithin, IsAcyclic, IsNeverRandomized, IsRanking, input_count}, Routes.IsAccepted}
-use Rattle.c104_check.specs.{Routes.routes_of, declared.ports.SwitchPort.SwitchPort}
-use Rattle.{c104_event.specs.declared.faults.EventFault.EventFault, c104_net.proofs.WorkBounds.told_below}
-use Rattle.c104_net.specs.{DeadlockFreedom.{IsAcyclicNet, IsAllDelivered, IsFreeOfDeadlock}, HeaderWork.{work, work_bound}}
-use Rattle.{c104_net.specs.{Unchanged.AreStartsOf, Work.told_work}, c104_node.specs.{Starts.IsStartedStart, Traces.seatless}}
-use Rattle.{c104_plan.specs.{PlanImage.{Fits, Image}, Plans.Plan}, c104_run.specs.{NetRecords.NetRecord, QuietNets.IsQuiet}}
+use Rattle.{c104_check.specs.{Routes.routes_of, declared.ports.SwitchPort.SwitchPort}, c104_deadlock.proofs.WorkBounds.told_below}
+use Rattle.c104_deadlock.specs.{DeadlockFreedom.{IsAcyclicNet, IsAllDelivered, IsFreeOfDeadlock}, HeaderWork.{work, work_bound}}
+use Rattle.{c104_deadlock.specs.Work.told_work, c104_event.specs.declared.faults.EventFault.EventFault}
+use Rattle.{c104_net.specs.Unchanged.AreStartsOf, c104_node.specs.{Starts.IsStartedStart, Traces.seatless}, c104_plan.specs.PlanImage.Fits}
+use Rattle.{c104_plan.specs.{PlanImage.Image, Plans.Plan}, c104_run.specs.{NetRecords.NetRecord, QuietNets.IsQuiet}}
 use Rattle.{c104_run.specs.{RecordedRuns.RecordsRounds, Standstill.StandsStill}, c104_tests_net.proofs.CalmRuns.unchanged}
 use Rattle.c104_tests_net.specs.{CalmNets.{IsCalm, IsCalmTrace}, DeliveredNets.{DeliversByRanks, DeliversWithin}}
 use Rattle.{c104_token.specs.Kinds.plain_kind, std.proofs.Common.{All, Err, IfOk, Ok, Result, arith, subst, sym, ℕ, ◌<◌}}

@@ -1,7 +1,7 @@
 -- What rounds come to in a network that has no deadlock, by each of the two numbers that tell how many are enough.
 use Rattle.c104_check.specs.{ChannelDependencies.{IsNeverRandomized, IsRanking}, Routes.routes_of, declared.ports.SwitchPort.SwitchPort}
-use Rattle.{c104_event.specs.declared.faults.EventFault.EventFault, c104_net.specs.DeadlockFreedom.{IsAcyclicNet, IsAllDelivered}}
-use Rattle.{c104_net.specs.HeaderWork.{work, work_bound}, c104_plan.specs.PlanImage.Image, c104_run.specs.NetRecords.NetRecord}
+use Rattle.c104_deadlock.specs.{DeadlockFreedom.{IsAcyclicNet, IsAllDelivered}, HeaderWork.{work, work_bound}}
+use Rattle.{c104_event.specs.declared.faults.EventFault.EventFault, c104_plan.specs.PlanImage.Image, c104_run.specs.NetRecords.NetRecord}
 use Rattle.std.specs.Prelude.{IfOk, Result, ℕ, ◌<◌}
 
 -- by the bound of work

@@ -6,8 +6,8 @@
 //! no call tells that number; but where the network stands still, it is proved to be quiet.
 ghost use Rattle.std.specs.Prelude.{IfOk, true, ◌<◌, ◌≡◌};
 ghost use Rattle.c104_check.specs.ChannelDependencies.{AreRanksWithin, IsAcyclic, IsNeverRandomized, IsRanking, input_count};
-ghost use Rattle.{c104_check.specs.{Ranks.rank_in, Routes.{IsAccepted, routes_of}}, c104_net.specs.DeadlockFreedom.IsAllDelivered};
-ghost use Rattle.{c104_net.specs.{HeaderWork.{work, work_bound}, Work.told_work}, c104_plan.specs.PlanImage.{Fits, Image as TheImage}};
+ghost use Rattle.{c104_check.specs.{Ranks.rank_in, Routes.{IsAccepted, routes_of}}, c104_deadlock.specs.DeadlockFreedom.IsAllDelivered};
+ghost use Rattle.{c104_deadlock.specs.{HeaderWork.{work, work_bound}, Work.told_work}, c104_plan.specs.PlanImage.{Fits, Image as TheImage}};
 ghost use Rattle.{c104_plan.specs.Plans.Plan as ThePlan, c104_tests_net.specs.{CalmNets.IsCalm, DeliveredNets.DeliversByRanks}};
 ghost use Rattle.c104_tests_net.specs.DeliveredNets.{DeliversWithin};
 
@@ -15,9 +15,10 @@ use crate::calls::{drop_plan, plan_of};
 use crate::named_packets::{is_plain, placed, send_plain};
 use crate::portals::{PORTALS, send_labels};
 use c104_check::{Ranks, RanksOrCycle, check, find_cycle};
+use c104_deadlock::{LeftWork, NoDeadlock};
 use c104_event::EventFault;
 use c104_label::{image_of, label_mesh};
-use c104_net::{LeftWork, Net, NoDeadlock};
+use c104_net::Net;
 use c104_plan::{Image, Plan};
 use c104_token::parse_packet;
 use std::alloc::Global;

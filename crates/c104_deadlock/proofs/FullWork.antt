@@ -1,0 +1,82 @@
+-- Work in a network where random headers may be put before packets: more by higher ranks, and where none are put before
+-- packets the work that is left.
+use Rattle.c104_check.specs.{ChannelDependencies.IsNeverRandomized, Routes.{Routes, link_settings}, Walks.port_of}
+use Rattle.{c104_check.specs.declared.ports.SwitchPort.SwitchPort, c104_deadlock.proofs.WorkBounds.{level_more, sum_more, weigh_more}}
+use Rattle.c104_deadlock.specs.HeaderWork.{ahead_at, ahead_by, first_ahead, full_input, full_link, full_node, full_output, full_work}
+use Rattle.c104_deadlock.specs.{HeaderWork.{none_ahead, random_ahead, random_bound, random_work, work}, Work.{header_held, highest_rank}}
+use Rattle.{c104_deadlock.specs.Work.level, c104_link.specs.Buffers.Outgoing, c104_node.specs.{Nodes.Node, declared.node.NodeOf.NodeOf}}
+use Rattle.{c104_plan.specs.{Plans.Plan, Wiring.peer, declared.ports.Port.Port}, c104_regs.specs.declared.settings.Settings.Settings}
+use Rattle.{c104_switch.specs.{Switch.Input, declared.phase.Phase.{Phase, TheVariants.Fresh}}, std.proofs.Common.{List, None, Option, Some}}
+use Rattle.std.proofs.{Common.{arith, false, length, refl, suc, true, zero, ℕ, ⊎_elim, ◌*◌, ◌+◌, ◌-◌, ◌≡◌, ◌≤◌}, Math.Nat.suc-mul}
+use Rattle.std.proofs.{Math.Nat.zero-mul, lemmas.Bool.cases_Bool}
+
+-- By higher ranks
+
+times_more : (n a b : ℕ) → a ≤ b → n * a ≤ n * b
+times_more zero a b less = let one = zero-mul a in let other = zero-mul b in omega (arith, one, other)
+times_more (suc n) a b less =
+    let rest = times_more n a b less in
+    let one = suc-mul n a in
+    let other = suc-mul n b in
+    omega (arith, rest, one, other, less)
+
+module _ (plan : Plan) (rank high ahead most : SwitchPort → ℕ) (less : (p : SwitchPort) → rank p ≤ high p) (fewer : (p : SwitchPort) → ahead p ≤ most p) where
+  ahead_more : (q : Option Port) → ahead_at plan rank ahead q ≤ ahead_at plan high most q
+  ahead_more (Some (Port.Switch s l)) = let here = fewer (port_of s l) in omega (arith, here)
+  ahead_more q = omega arith
+
+  module _ {A : Type 0} where
+    first_more : (s l : ℕ) (ph : Phase (List A)) → first_ahead plan rank ahead (ahead (port_of s l)) ph ≤ first_ahead plan high most (most (port_of s l)) ph
+    first_more s l Fresh = let here = fewer (port_of s l) in omega (arith, here)
+    first_more s l ph = omega arith
+
+    input_more : (s l : ℕ) (p : Input A) → full_input plan rank ahead s l p ≤ full_input plan high most s l p
+    input_more s l p =
+        let far = less (port_of s l) in
+        let here = fewer (port_of s l) in
+        let items = weigh_more (8 * level plan rank (Some (Port.Switch s l)) + 2 + ahead (port_of s l)) (8 * level plan high (Some (Port.Switch s l)) + 2 + most (port_of s l)) (omega (arith, far, here)) p.buffer.items in
+        let header = weigh_more (8 * level plan rank (Some (Port.Switch s l))) (8 * level plan high (Some (Port.Switch s l))) (omega (arith, far)) (header_held p.phase) in
+        let first = first_more s l p.phase in
+        omega (arith, items, header, first)
+
+    output_more : (q : Option Port) (out : Outgoing A) → full_output plan rank ahead (level plan rank q) (ahead_at plan rank ahead q) out ≤ full_output plan high most (level plan high q) (ahead_at plan high most q) out
+    output_more q out =
+        let far = level_more plan rank high less q in
+        let here = ahead_more q in
+        weigh_more (8 * level plan rank q + 4 + ahead_at plan rank ahead q) (8 * level plan high q + 4 + ahead_at plan high most q) (omega (arith, far, here)) out.items
+
+    node_more : (k : ℕ) (n : Node A) → full_node plan rank ahead k n ≤ full_node plan high most k n
+    node_more k (NodeOf.Switch S) =
+        let inputs = sum_more (full_input plan rank ahead k) (full_input plan high most k) (input_more k) 0 S.inputs in
+        let outputs = sum_more (full_link plan rank ahead k) (full_link plan high most k) (λ l q. output_more (peer plan (Port.Switch k l)) q) 0 S.outputs in
+        omega (arith, inputs, outputs)
+    node_more k (NodeOf.Terminal T) = let out = output_more (peer plan (Port.Terminal (k - length plan.switches))) T.output in omega (arith, out)
+
+    full_more : (nodes : List (Node A)) → full_work plan rank ahead nodes ≤ full_work plan high most nodes
+    full_more nodes = sum_more (full_node plan rank ahead) (full_node plan high most) node_more 0 nodes
+
+-- where no rank is higher than there are inputs, no work is above the bound
+pub random_within : {A : Type 0} (plan : Plan) (routes : Routes) (rank : SwitchPort → ℕ) → ((p : SwitchPort) → rank p ≤ 32 * length plan.switches) → (nodes : List (Node A)) → random_work plan routes rank nodes ≤ random_bound plan routes nodes
+random_within plan routes rank low nodes = full_more plan rank (highest_rank plan) (random_ahead routes rank) (random_ahead routes (highest_rank plan)) low (λ p. by_settings p (link_settings routes.settings p)) nodes
+  where
+    by_settings : (p : SwitchPort) (x : Option Settings) → ahead_by routes.header (rank p) x ≤ ahead_by routes.header (highest_rank plan p) x
+    by_settings p None = omega arith
+    by_settings p (Some x) = ⊎_elim
+        (λ (k : x.randomize ≡ true). rw k (let here = low p in let more = times_more routes.header (8 * (rank p + 1)) (8 * (highest_rank plan p + 1)) (omega (arith, here)) in omega (arith, more)))
+        (λ (k : x.randomize ≡ false). rw k (omega arith))
+        (cases_Bool x.randomize)
+
+-- the same where as much is counted in advance
+full_same : {A : Type 0} (plan : Plan) (rank ahead other : SwitchPort → ℕ) → ((p : SwitchPort) → ahead p ≡ other p) → (nodes : List (Node A)) → full_work plan rank ahead nodes ≡ full_work plan rank other nodes
+full_same plan rank ahead other same nodes =
+    let one = full_more plan rank rank ahead other (λ p. omega arith) (λ p. let is = same p in omega (arith, is)) nodes in
+    let more = full_more plan rank rank other ahead (λ p. omega arith) (λ p. let is = same p in omega (arith, is)) nodes in
+    omega (arith, one, more)
+
+-- where no link puts random headers before packets, the work is that of the tokens that there are
+pub plain_work : {A : Type 0} (plan : Plan) (routes : Routes) (rank : SwitchPort → ℕ) → IsNeverRandomized routes → (nodes : List (Node A)) → random_work plan routes rank nodes ≡ work plan rank nodes
+plain_work plan routes rank never nodes = full_same plan rank (random_ahead routes rank) none_ahead (λ p. none p (link_settings routes.settings p) refl) nodes
+  where
+    none : (p : SwitchPort) (x : Option Settings) → link_settings routes.settings p ≡ x → ahead_by routes.header (rank p) x ≡ 0
+    none p None is = refl
+    none p (Some x) is = ⊎_elim (λ (k : x.randomize ≡ true). absurd (never p (x, is, k))) (λ (k : x.randomize ≡ false). rw k refl) (cases_Bool x.randomize)

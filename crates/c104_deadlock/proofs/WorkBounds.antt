@@ -1,0 +1,199 @@
+-- Work by ranks that are higher is more, so all work has a bound; and work as it is summed up.
+use Rattle.{c104_check.specs.{Walks.port_of, declared.ports.SwitchPort.SwitchPort}, c104_deadlock.specs.HeaderWork.{ahead_at, first_ahead}}
+use Rattle.c104_deadlock.specs.{HeaderWork.{full_input, full_link, full_node, full_output, none_ahead, work_bound}, Work.header_held}
+use Rattle.c104_deadlock.specs.Work.{highest_rank, level, most_weight, node_room, node_tokens, room_held, sum_at, tokens_held, told_work}
+use Rattle.{c104_deadlock.specs.Work.weigh, c104_link.{proofs.MadeSteps.given, specs.Buffers.Outgoing}, c104_node.specs.Nodes.Node}
+use Rattle.{c104_node.specs.{Traces.part, declared.node.NodeOf.NodeOf}, c104_plan.specs.{Plans.Plan, Wiring.peer, declared.ports.Port.Port}}
+use Rattle.c104_switch.specs.{Phases.with_header, Rooms.room_left, Switch.{Input, Switch}, Views.{link_view, sides_view}}
+use Rattle.c104_switch.specs.declared.{actions.LinkView.LinkView, phase.Phase.{Phase, TheVariants.{Fresh, Head, Want}}}
+use Rattle.{c104_token.specs.Kinds.Kind, std.proofs.Common.{List, Option, Some, [], ap, arith, inl, inr, length, map, min, refl, slice_get}}
+use Rattle.std.proofs.{Common.{subst, suc, sym, take, zero, ℕ, ⊎_elim, ◌*◌, ◌+◌, ◌-◌, ◌<◌, ◌∙◌, ◌∷◌, ◌≡◌, ◌≤◌, ◌⊎◌}, Math.Nat.add-mul}
+use Rattle.std.proofs.{Math.Nat.{min-eq_left, min-eq_right, suc-mul, zero-mul}, lemmas.{Bool.cases_lt, List.length-map}}
+
+module _ {X : Type 0} where
+  pub weigh_more : (a b : ℕ) → a ≤ b → (xs : List X) → weigh a xs ≤ weigh b xs
+  weigh_more a b less [] = omega arith
+  weigh_more a b less (x ∷ xs) = let rest = weigh_more a b less xs in omega (arith, less, rest)
+
+  pub sum_more : (f g : ℕ → X → ℕ) → ((j : ℕ) (x : X) → f j x ≤ g j x) → (j : ℕ) (xs : List X) → sum_at f j xs ≤ sum_at g j xs
+  sum_more f g less j [] = omega arith
+  sum_more f g less j (x ∷ xs) = let rest = sum_more f g less (suc j) xs in let here = less j x in omega (arith, here, rest)
+
+  -- as much for each
+  pub weigh_is : (a : ℕ) (xs : List X) → length xs * a ≡ weigh a xs
+  weigh_is a [] = zero-mul a
+  weigh_is a (x ∷ xs) = let rest = weigh_is a xs in let step = suc-mul (length xs) a in omega (arith, rest, step)
+
+  -- the sum over one more
+  pub sum_next : (f : ℕ → X → ℕ) (j i : ℕ) (xs : List X) → sum_at f j (take (suc i) xs) ≡ sum_at f j (take i xs) + part 0 (f (j + i)) (slice_get xs i)
+  sum_next f j i [] = none i
+    where
+      none : (i : ℕ) → sum_at f j (take (suc i) []) ≡ sum_at f j (take i []) + part 0 (f (j + i)) (slice_get [] i)
+      none zero = refl
+      none (suc i) = refl
+  sum_next f j zero (x ∷ xs) = let same : j + zero ≡ j = omega arith in subst (λ k. f j x + 0 ≡ 0 + f k x) (sym same) (omega arith)
+  sum_next f j (suc i) (x ∷ xs) =
+      let next : suc j + i ≡ j + suc i = omega arith in
+      let rest : sum_at f (suc j) (take (suc i) xs) ≡ sum_at f (suc j) (take i xs) + part 0 (f (j + suc i)) (slice_get xs i) = subst (λ k. sum_at f (suc j) (take (suc i) xs) ≡ sum_at f (suc j) (take i xs) + part 0 (f k) (slice_get xs i)) next (sum_next f (suc j) i xs) in
+      omega (arith, rest)
+
+module _ (plan : Plan) (rank high : SwitchPort → ℕ) (less : (p : SwitchPort) → rank p ≤ high p) where
+  pub level_more : (q : Option Port) → level plan rank q ≤ level plan high q
+  level_more (Some (Port.Switch s l)) = let here = less (port_of s l) in omega (arith, here)
+  level_more q = omega arith
+
+-- where nothing is counted in advance
+
+module _ (plan : Plan) (rank : SwitchPort → ℕ) where
+  none_at : (q : Option Port) → ahead_at plan rank none_ahead q ≡ 0
+  none_at (Some (Port.Switch s l)) = refl
+  none_at q = refl
+
+  module _ {A : Type 0} where
+    none_first : (ph : Phase (List A)) → first_ahead plan rank none_ahead 0 ph ≡ 0
+    none_first Fresh = refl
+    none_first ph = refl
+
+    pub plain_input : (s l : ℕ) (p : Input A) → (weigh (8 * (rank (port_of s l) + 1) + 2) p.buffer.items + room_left p.buffer) + weigh (8 * (rank (port_of s l) + 1)) (header_held p.phase) ≡ full_input plan rank none_ahead s l p
+    plain_input s l p =
+        let weight : 8 * (rank (port_of s l) + 1) + 2 ≡ 8 * (rank (port_of s l) + 1) + 2 + 0 = omega arith in
+        let items = ap (λ n. weigh n p.buffer.items) weight in
+        let first = none_first p.phase in
+        omega (arith, items, first)
+
+    pub plain_output : (q : Option Port) (out : Outgoing A) → weigh (8 * level plan rank q + 4) out.items ≡ full_output plan rank none_ahead (level plan rank q) (ahead_at plan rank none_ahead q) out
+    plain_output q out =
+        let none = none_at q in
+        let weight : 8 * level plan rank q + 4 ≡ 8 * level plan rank q + 4 + ahead_at plan rank none_ahead q = omega (arith, none) in
+        ap (λ n. weigh n out.items) weight
+
+-- the bound by tokens and room alone
+module _ (most : ℕ) where
+  weigh_most : {X : Type 0} (a : ℕ) → a ≤ most → (xs : List X) → weigh a xs ≤ length xs * most
+  weigh_most a less xs = let more = weigh_more a most less xs in let same = weigh_is most xs in omega (arith, more, same)
+
+  sum_most : {X : Type 0} (f t r : ℕ → X → ℕ) → ((j : ℕ) (x : X) → f j x ≤ t j x * most + r j x) → (j : ℕ) (xs : List X) → sum_at f j xs ≤ sum_at t j xs * most + sum_at r j xs
+  sum_most f t r less j [] = let none = zero-mul most in omega (arith, none)
+  sum_most f t r less j (x ∷ xs) =
+      let rest = sum_most f t r less (suc j) xs in
+      let here = less j x in
+      let both = add-mul (t j x) (sum_at t (suc j) xs) most in
+      omega (arith, here, rest, both)
+
+  -- the same where no room counts
+  sum_only : {X : Type 0} (f t : ℕ → X → ℕ) → ((j : ℕ) (x : X) → f j x ≤ t j x * most) → (j : ℕ) (xs : List X) → sum_at f j xs ≤ sum_at t j xs * most
+  sum_only f t less j [] = let none = zero-mul most in omega (arith, none)
+  sum_only f t less j (x ∷ xs) =
+      let rest = sum_only f t less (suc j) xs in
+      let here = less j x in
+      let both = add-mul (t j x) (sum_at t (suc j) xs) most in
+      omega (arith, here, rest, both)
+
+module _ (plan : Plan) where
+  level_most : (q : Option Port) → level plan (highest_rank plan) q ≤ 32 * length plan.switches + 1
+  level_most (Some (Port.Switch s l)) = omega arith
+  level_most q = omega arith
+
+  abbrev top : ℕ
+  top = most_weight plan
+
+  module _ {A : Type 0} where
+    input_most : (s l : ℕ) (p : Input A) → full_input plan (highest_rank plan) none_ahead s l p ≤ (length p.buffer.items + length (header_held p.phase)) * most_weight plan + room_left p.buffer
+    input_most s l p =
+        let far = level_most (Some (Port.Switch s l)) in
+        let items = weigh_most top (8 * level plan (highest_rank plan) (Some (Port.Switch s l)) + 2) (omega (arith, far)) p.buffer.items in
+        let header = weigh_most top (8 * level plan (highest_rank plan) (Some (Port.Switch s l))) (omega (arith, far)) (header_held p.phase) in
+        let both = add-mul (length p.buffer.items) (length (header_held p.phase)) top in
+        let plain = plain_input plan (highest_rank plan) s l p in
+        omega (arith, items, header, both, plain)
+
+    output_most : (q : Option Port) (out : Outgoing A) → full_output plan (highest_rank plan) none_ahead (level plan (highest_rank plan) q) (ahead_at plan (highest_rank plan) none_ahead q) out ≤ length out.items * most_weight plan
+    output_most q out =
+        let far = level_most q in
+        let none = none_at plan (highest_rank plan) q in
+        weigh_most top (8 * level plan (highest_rank plan) q + 4 + ahead_at plan (highest_rank plan) none_ahead q) (omega (arith, far, none)) out.items
+
+    node_most : (k : ℕ) (n : Node A) → full_node plan (highest_rank plan) none_ahead k n ≤ node_tokens n * most_weight plan + node_room n
+    node_most k (NodeOf.Switch S) =
+        let inputs = sum_most top (full_input plan (highest_rank plan) none_ahead k) (λ l p. length p.buffer.items + length (header_held p.phase)) (λ l p. room_left p.buffer) (input_most k) 0 S.inputs in
+        let outputs = sum_only top (full_link plan (highest_rank plan) none_ahead k) (λ l q. length q.items) (λ l q. output_most (peer plan (Port.Switch k l)) q) 0 S.outputs in
+        let both = add-mul (sum_at (λ l p. length p.buffer.items + length (header_held p.phase)) 0 S.inputs) (sum_at (λ l q. length q.items) 0 S.outputs) top in
+        omega (arith, inputs, outputs, both)
+    node_most k (NodeOf.Terminal T) =
+        let items = weigh_most top 2 (omega arith) T.input.items in
+        let out = output_most (peer plan (Port.Terminal (k - length plan.switches))) T.output in
+        let both = add-mul (length T.input.items) (length T.output.items) top in
+        omega (arith, items, out, both)
+
+    pub bound_by_tokens : (nodes : List (Node A)) → work_bound plan nodes ≤ tokens_held nodes * most_weight plan + room_held nodes
+    bound_by_tokens nodes = sum_most top (full_node plan (highest_rank plan) none_ahead) (λ k n. node_tokens n) (λ k n. node_room n) node_most 0 nodes
+
+-- the length of a header is seen
+pub held_length : {A B : Type 0} (f : A → B) (phase : Phase (List A)) → length (header_held (with_header (map f) phase)) ≡ length (header_held phase)
+held_length f (Head b) = length-map b f
+held_length f (Want b g) = length-map b f
+held_length f phase = refl
+
+le_cases : (a b : ℕ) → (a ≤ b) ⊎ (b ≤ a)
+le_cases a b = ⊎_elim (λ (h : a < b). inl (omega (arith, h))) (λ (h : b ≤ a). inr h) (cases_lt a b)
+
+-- numbers that are told up to a limit, and their sum
+module _ (limit : ℕ) where
+  least_low : (n : ℕ) → n ≤ limit → min n limit ≡ n
+  least_low n low = min-eq_left low
+
+  least_high : (n : ℕ) → limit ≤ n → min n limit ≡ limit
+  least_high n high = min-eq_right high
+
+  least_left : (a b : ℕ) → min (min a limit + b) limit ≡ min (a + b) limit
+  least_left a b = ⊎_elim (λ (low : a ≤ limit). ap (λ n. min (n + b) limit) (least_low a low)) (λ (high : limit ≤ a). ap (λ n. min (n + b) limit) (least_high a high) ∙ least_high (limit + b) (omega arith) ∙ sym (least_high (a + b) (omega (arith, high)))) (le_cases a limit)
+
+  least_sum : (a b : ℕ) → min (min a limit + min b limit) limit ≡ min (a + b) limit
+  least_sum a b = ⊎_elim (λ (low : a ≤ limit). ⊎_elim (λ (few : b ≤ limit). ap (λ n. min n limit) (ap (λ n. n + min b limit) (least_low a low) ∙ ap (λ n. a + n) (least_low b few))) (λ (many : limit ≤ b). over a b (ap (λ n. min a limit + n) (least_high b many)) (omega (arith, many))) (le_cases b limit)) (λ (high : limit ≤ a). over_first a b (least_high a high) (omega (arith, high))) (le_cases a limit)
+    where
+      over : (a b : ℕ) → min a limit + min b limit ≡ min a limit + limit → limit ≤ a + b → min (min a limit + min b limit) limit ≡ min (a + b) limit
+      over a b is high = ap (λ n. min n limit) is ∙ least_high (min a limit + limit) (omega arith) ∙ sym (least_high (a + b) high)
+
+      over_first : (a b : ℕ) → min a limit ≡ limit → limit ≤ a + b → min (min a limit + min b limit) limit ≡ min (a + b) limit
+      over_first a b is high = ap (λ n. min (n + min b limit) limit) is ∙ least_high (limit + min b limit) (omega arith) ∙ sym (least_high (a + b) high)
+
+pub told_sum : (a b : ℕ) → told_work (told_work a + told_work b) ≡ told_work (a + b)
+told_sum a b = least_sum 18446744073709551615 a b
+
+told_left : (a b : ℕ) → told_work (told_work a + b) ≡ told_work (a + b)
+told_left a b = least_left 18446744073709551615 a b
+
+module _ {X : Type 0} where
+  -- one element more of a list
+  pub one_next : (f : ℕ → X → ℕ) (xs : List X) (i : ℕ) (x : X) (sum one next : ℕ) → slice_get xs i ≡ Some x → sum ≡ told_work (sum_at f 0 (take i xs)) → one ≡ told_work (f i x) → next ≡ told_work (sum + one) → next ≡ told_work (sum_at f 0 (take (i + 1) xs))
+  one_next f xs i x sum one next here so_far this is =
+      let more : sum_at f 0 (take (suc i) xs) ≡ sum_at f 0 (take i xs) + f i x = sum_next f 0 i xs ∙ ap (λ o. sum_at f 0 (take i xs) + part 0 (f (0 + i)) o) here ∙ (let same : 0 + i ≡ i = omega arith in ap (λ k. sum_at f 0 (take i xs) + f k x) same) in
+      let step : suc i ≡ i + 1 = omega arith in
+      is ∙ ap (λ n. told_work (n + one)) so_far ∙ ap (λ n. told_work (told_work (sum_at f 0 (take i xs)) + n)) this ∙ told_sum (sum_at f 0 (take i xs)) (f i x) ∙ ap told_work (sym more) ∙ ap (λ k. told_work (sum_at f 0 (take k xs))) step
+
+module _ {X Y : Type 0} where
+  -- and of two at a time
+  pub both_next : (f : ℕ → X → ℕ) (h : ℕ → Y → ℕ) (xs : List X) (ys : List Y) (i sum one next : ℕ) → sum ≡ told_work (sum_at f 0 (take i xs) + sum_at h 0 (take i ys)) → one ≡ told_work (part 0 (f i) (slice_get xs i) + part 0 (h i) (slice_get ys i)) → next ≡ told_work (sum + one) → next ≡ told_work (sum_at f 0 (take (i + 1) xs) + sum_at h 0 (take (i + 1) ys))
+  both_next f h xs ys i sum one next so_far this is =
+      let zeroth : 0 + i ≡ i = omega arith in
+      let first : sum_at f 0 (take (suc i) xs) ≡ sum_at f 0 (take i xs) + part 0 (f i) (slice_get xs i) = sum_next f 0 i xs ∙ ap (λ k. sum_at f 0 (take i xs) + part 0 (f k) (slice_get xs i)) zeroth in
+      let second : sum_at h 0 (take (suc i) ys) ≡ sum_at h 0 (take i ys) + part 0 (h i) (slice_get ys i) = sum_next h 0 i ys ∙ ap (λ k. sum_at h 0 (take i ys) + part 0 (h k) (slice_get ys i)) zeroth in
+      let both : (sum_at f 0 (take i xs) + sum_at h 0 (take i ys)) + (part 0 (f i) (slice_get xs i) + part 0 (h i) (slice_get ys i)) ≡ sum_at f 0 (take (suc i) xs) + sum_at h 0 (take (suc i) ys) = omega (arith, first, second) in
+      let step : suc i ≡ i + 1 = omega arith in
+      is ∙ ap (λ n. told_work (n + one)) so_far ∙ ap (λ n. told_work (told_work (sum_at f 0 (take i xs) + sum_at h 0 (take i ys)) + n)) this
+      ∙ told_sum (sum_at f 0 (take i xs) + sum_at h 0 (take i ys)) (part 0 (f i) (slice_get xs i) + part 0 (h i) (slice_get ys i)) ∙ ap told_work both ∙ ap (λ k. told_work (sum_at f 0 (take k xs) + sum_at h 0 (take k ys))) step
+
+-- what comes in, a header, and what goes out, as they are added
+pub incoming_told : (a b w x : ℕ) → w ≡ told_work a → x ≡ told_work (w + b) → x ≡ told_work (a + b)
+incoming_told a b w x is sum = sum ∙ ap (λ n. told_work (n + b)) is ∙ told_left a b
+
+pub added_told : (a b w x y : ℕ) → w ≡ told_work a → x ≡ told_work b → y ≡ told_work (w + x) → y ≡ told_work (a + b)
+added_told a b w x y first second sum = sum ∙ ap (λ n. told_work (n + x)) first ∙ ap (λ n. told_work (told_work a + n)) second ∙ told_sum a b
+
+-- the two sides of a link, as they are seen
+pub view_parts : {A : Type 0} (kind : Kind A) (S : Switch A) (l : ℕ) (v : LinkView) → link_view kind S l ≡ Some v → (p : Input A) × (q : Outgoing A) × (slice_get S.inputs l ≡ Some p) × (slice_get S.outputs l ≡ Some q) × (sides_view kind S.inputs l p q ≡ v)
+view_parts kind S l v is = given (slice_get S.inputs l) _ v is (λ p ep e1. given (slice_get S.outputs l) _ v e1 (λ q eq e2. (p, q, ep, eq, (let same : sides_view kind S.inputs l p q ≡ v = cc in same))))
+
+-- told in full where it is below a number that is told
+pub told_below : (n m : ℕ) → told_work n < m → m ≤ 18446744073709551615 → n < m
+told_below n m below within = ⊎_elim (λ (low : n ≤ 18446744073709551615). let same : told_work n ≡ n = least_low 18446744073709551615 n low in subst (λ k. k < m) same below) (λ (high : 18446744073709551615 ≤ n). let same : told_work n ≡ 18446744073709551615 = least_high 18446744073709551615 n high in let over : 18446744073709551615 < m = subst (λ k. k < m) same below in absurd (let no : ⊥ = omega (arith, over, within) in no)) (le_cases n 18446744073709551615)

@@ -1,0 +1,3 @@
+pub mod Work
+pub mod HeaderWork
+pub mod DeadlockFreedom
