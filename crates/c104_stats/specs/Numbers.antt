@@ -1,4 +1,4 @@
--- Counts as they are told: they stop at the largest number of their size, which none comes near.
+-- Numbers as they are told: counts stop at the largest number of their size, which none comes near; and shares.
 use Rattle.std.specs.Prelude.{if◌then◌else◌, min, nat_eq, suc, zero, ℕ, ◌*◌, ◌/◌}
 
 -- a count in 64 bits

@@ -119,7 +119,7 @@ token_in net p k = option_map tag (network_input_token (traced_end (record_finis
 abbrev pub token_out : NetRecord → ℕ → ℕ → ℕ → Option TaggedToken
 token_out net s l k = option_map tag (network_output_token (traced_end (record_finish net)) s l k)
 
--- so many of them are found
+-- this many of them are found
 abbrev pub found_in : NetRecord → Port → ℕ → Counts → Counts
 found_in net p level c = each_number (λ k. token_found (token_in net p k)) level c
 

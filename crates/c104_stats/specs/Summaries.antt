@@ -100,7 +100,8 @@ pub record IsSummary (header : ℕ) (c : Counts) (s : Summary) : Type 0 where
 abbrev pub sent_count : Endings → ℕ
 sent_count e = told (told (e.arrived + e.unfinished) + e.lost)
 
--- how many tokens crossed a wire in a round, in thousandths, and in which share of the rounds one crossed a link
+-- how many tokens crossed a wire in a round on average, in thousandths, rounded down, and 0 of no round; and in which share of the
+-- rounds one crossed a link
 abbrev pub token_rate : Summary → ℕ
 token_rate s = share s.tokens s.rounds
 

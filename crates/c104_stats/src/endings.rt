@@ -19,7 +19,7 @@ pub enum Ending {
 
 impl Ending {
     /// What became of a packet where headers have this many bytes.
-    pub fn of(header: usize, packet: PacketRow) -> Self
+    pub(crate) fn of(header: usize, packet: PacketRow) -> Self
         ensures { result ≡ ending_of header packet }
     {
         if packet.arrival.is_some() {

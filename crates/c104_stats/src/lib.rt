@@ -4,7 +4,7 @@
 //! and end. It keeps a `LinkRow` of each link, a `PacketRow` of each packet and, if that is asked, a `RoundRow` of each
 //! round. The time is the number of rounds that have begun, so what happens outside of rounds counts to the round before.
 //!
-//! A `Summary` is what they come to. `c104_print` prints both.
+//! A `Summary` is what they come to, and lists have what is told of each packet, link or round. `c104_print` prints both.
 #![tactic(auto)]
 
 mod endings;
@@ -24,7 +24,6 @@ mod tops;
 pub use endings::Ending;
 pub use links::{Crossing, Holder, LinkRow};
 pub use lists::{ListedLink, ListedPacket, listed_links, listed_packets, listed_rounds};
-pub use numbers::share;
 pub use packets::{Arrival, PacketRow, Sender};
 pub use rounds::{Levels, RoundRow};
 pub use stats::{Stats, What};

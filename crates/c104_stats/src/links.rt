@@ -93,7 +93,7 @@ impl LinkRow {
     }
 
     /// Over how many rounds a packet held the link at most, where this is the last round. One that holds it counts too.
-    pub fn longest_at(self, round: u32) -> u64
+    pub(crate) fn longest_at(self, round: u32) -> u64
         ensures { result ≡ longest_at self round }
     {
         match self.holder {

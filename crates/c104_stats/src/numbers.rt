@@ -18,7 +18,7 @@ pub(crate) fn add_saturating(count: u32, more: u64) -> u32
 }
 
 /// One number among another, in thousandths: 0 among none.
-pub fn share(part: u64, whole: u64) -> u64
+pub(crate) fn share(part: u64, whole: u64) -> u64
     ensures { result ≡ share part whole }
 {
     if whole == 0 {

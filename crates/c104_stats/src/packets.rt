@@ -97,7 +97,7 @@ impl PacketRow {
     }
 
     /// How many rounds the packet took to arrive, from the one in which it was sent.
-    pub fn latency(self, arrival: Arrival) -> u32
+    pub(crate) fn latency(self, arrival: Arrival) -> u32
         ensures { result ≡ latency self arrival }
     {
         arrival.round.saturating_sub(self.sent)

@@ -85,35 +85,35 @@ impl Stats {
     }
 
     /// The links of the switches, 32 of each.
-    pub fn links(&self) -> &[LinkRow]
+    pub(crate) fn links(&self) -> &[LinkRow]
         ensures { result.now ≡ self.now.links }
     {
         self.links.as_slice()
     }
 
     /// The links of the terminals.
-    pub fn wires(&self) -> &[LinkRow]
+    pub(crate) fn wires(&self) -> &[LinkRow]
         ensures { result.now ≡ self.now.wires }
     {
         self.wires.as_slice()
     }
 
     /// The packets of each terminal.
-    pub fn senders(&self) -> &[Sender]
+    pub(crate) fn senders(&self) -> &[Sender]
         ensures { result.now ≡ self.now.senders }
     {
         self.senders.as_slice()
     }
 
     /// The rounds that are over, if they are to be printed.
-    pub fn rounds(&self) -> &[RoundRow]
+    pub(crate) fn rounds(&self) -> &[RoundRow]
         ensures { result.now ≡ self.now.rounds }
     {
         self.rounds.as_slice()
     }
 
     /// The round that began last.
-    pub fn current(&self) -> RoundRow
+    pub(crate) fn current(&self) -> RoundRow
         ensures { result ≡ self.now.current }
     {
         self.current

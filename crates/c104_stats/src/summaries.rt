@@ -51,7 +51,8 @@ impl Summary {
         Ok(sum_up(header, stats, latencies.as_slice()))
     }
 
-    /// How many tokens crossed a wire in a round, in thousandths.
+    /// How many tokens crossed a wire in a round on average, those before the first among them, in thousandths, rounded
+    /// down; 0 of no round.
     pub fn token_rate(&self) -> u64
         ensures { result ≡ token_rate self.now }
     {
