@@ -1,4 +1,4 @@
--- The rounds that are shown where a picture of all that are asked for would be too long.
+-- The rounds that are said to fit where a picture of all that are asked for would be too long.
 use Rattle.c104_timeline.specs.declared.periods.Period.{Period}
 use Rattle.std.specs.Prelude.{◌<◌, ◌≡◌, ◌≤◌}
 

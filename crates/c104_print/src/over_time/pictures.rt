@@ -103,8 +103,8 @@ fn bars_of(
     }
 }
 
-/// The most rounds from the first of these on whose picture isn't too long, where that of all of them is. None where that
-/// of the first alone is. The only error is out of memory.
+/// Rounds from the first of these on whose picture isn't too long, while that of one more is, where that of all of them is.
+/// None where that of the first alone is. The only error is out of memory.
 fn widest(
     alloc: Global,
     plan: &Plan,
