@@ -18,8 +18,8 @@ text_halts refuses held kind status wrote is = inl (subst IsUnwritten (sym is) (
 pub text_ends : (refuses : Plan → Image → List ℕ → Bool → Type 0) (description held now holds : Known) (plan : Plan) (image : Image)
     (status : Status) → IsSetup description (Ok (plan, image)) → held ≡ now → WritesRun (refuses plan image) now holds status
     → TextEnds refuses description held holds status
-text_ends refuses description held now holds plan image status setup same draws =
-    inr (plan, image, setup, subst (λ h. WritesRun (refuses plan image) h holds status) (sym same) draws)
+text_ends refuses description held now holds plan image status setup same writes =
+    inr (plan, image, setup, subst (λ h. WritesRun (refuses plan image) h holds status) (sym same) writes)
 
 -- what is said of a script that was done
 pub refused_after : (session after : Session) (script : Known) (long refused : Bool) → DoesScript line_outcome session script after long

@@ -12,7 +12,7 @@ abbrev pub counted_script : Driven Counts → List ℕ → Driven Counts
 counted_script driven script = (script_outcome (driven_outcome counts_kept) driven script).1
 
 -- a run that ended on this network with these counts: the packets in the network are counted too, and if it stands still, with
--- tokens in it, that is told, with the last round in which something was done
+-- tokens in it, there is something to tell of that, with the last round in which something was done
 pub record IsCountedOn (net : NetRecord) (c : Counts) (run : CountedRun) : Type 0 where
   pub counts : run.stats ≡ counts_at_end net c
   pub still : IsSome run.still ↔ IsDeadlocked plain_kind net.network

@@ -39,19 +39,19 @@ fits_text (Some p) = codes ": --from " ++ (decimal p.from ++ (codes " --to " ++ 
 abbrev pub refusal_text : Option Period → List ℕ
 refusal_text fits = codes "draw 1 TooLarge" ++ fits_text fits
 
--- a text is that of a picture of these rounds, which isn't too long; or it is too large, and the text is the line that says so,
--- and which of the rounds fit if any do
+-- a text of at most 1 MiB, which is a picture's; or the line that refuses a picture of these rounds, with rounds from the same
+-- on that end before, or with none
 abbrev pub IsPictureText : Period → List ℕ → Bool → Type 0
 IsPictureText p text false = length text ≤ TIME_TEXT_LIMIT
 IsPictureText p text true = (fits : Option Period) × IfSome fits (IsShorter p) × (text ≡ refusal_text fits)
 
--- the same, or that of a table, which has no limit
+-- the same where a picture is asked for; a table has no limit
 abbrev pub IsPeriodText : Option Format → Period → List ℕ → Bool → Type 0
 IsPeriodText None p text large = IsPictureText p text large
 IsPeriodText (Some format) p text large = large ≡ false
 
--- the text of the rounds of the run that are asked for is refused, or not: where it is that of a picture that would be too large,
--- and where the script is
+-- a text is refused, or not: where it is the line that refuses a picture of the rounds that are asked for, and where the script
+-- is refused
 unfoldable pub IsRefusedTime : Asked → Option (List ℕ) → Plan → Image → List ℕ → Bool → Type 0
 IsRefusedTime asked script plan image text refused =
     (t : Timeline) × (faulty : Bool) × (large : Bool) × IsTimedPlan plan image script t faulty

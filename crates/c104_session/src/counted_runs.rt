@@ -29,7 +29,7 @@ pub struct Still {
 
 impl Still {
     /// The text that says so: a line with the round, and the lines of what waits. The only error is out of memory.
-    pub fn text(&self, alloc: Global) -> Result<String, NoMemory> {
+    pub(crate) fn text(&self, alloc: Global) -> Result<String, NoMemory> {
         let Some(message) = &self.message else {
             return Err(NoMemory);
         };
@@ -43,7 +43,7 @@ impl Still {
     }
 
     /// Tells the same, as far as there is memory for it.
-    pub fn tell<M: Messages>(&self, alloc: Global, messages: &mut M) {
+    pub(crate) fn tell<M: Messages>(&self, alloc: Global, messages: &mut M) {
         if let Ok(line) = still_line(alloc, self.round) {
             messages.tell(About::Run, line.as_str());
         }

@@ -4,7 +4,7 @@ ghost use Rattle.{c104_plan.specs.PlanImage.Fits, c104_session.specs.{CountedRun
 ghost use Rattle.c104_setup.specs.declared.status.Status.TheVariants as status;
 
 use crate::counted_runs::{CountedRun, count_plan};
-use crate::states::write_run;
+use crate::text_runs::write_run;
 use c104_mistakes::Messages;
 use c104_plan::{Image, Plan};
 use c104_print::{Format, counts_text};
@@ -28,8 +28,8 @@ pub struct Printing {
 /// table of packets, of links or of rounds, or a summary of all.
 ///
 /// It tells people of each line that is faulty, refused or not ready, and at the end of what didn't arrive. A network that
-/// stands still with tokens in it is told of even where no messages are wanted, unless it is written behind a table or a
-/// summary for people. How the command ends is the same whatever takes the messages does.
+/// stands still with tokens in it is told of even where no messages are wanted, as far as there is memory for that, unless it
+/// is written behind a table or a summary for people. How the command ends is the same whatever takes the messages does.
 ///
 /// Reading ends at 1 MiB of a description and at 16 MiB of a script, whatever the reader. Each error of a reader or a
 /// writer is a fault at once.

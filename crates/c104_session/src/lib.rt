@@ -43,6 +43,7 @@ mod states;
 mod summary;
 mod tally;
 mod telling;
+mod text_runs;
 mod timed_runs;
 mod timing;
 mod tools;

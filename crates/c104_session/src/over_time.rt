@@ -5,7 +5,7 @@ ghost use Rattle.c104_session.specs.TimedRuns.{IsPictureText, IsRefusedTime, ref
 ghost use Rattle.c104_setup.specs.declared.status.Status.TheVariants as status;
 ghost use Rattle.c104_stream.specs.declared.halt.Halt.TheVariants as halt;
 
-use crate::states::write_run;
+use crate::text_runs::{RunText, write_run};
 use crate::timed_runs::time_plan;
 use c104_mistakes::Messages;
 use c104_plan::{Image, Plan};
@@ -80,14 +80,6 @@ fn draw_timed<S: Read, W: Write, M: Messages>(
     }
 }
 
-/// What is written of a run.
-#[derive(Drop)]
-struct TimedText {
-    text: String,
-    /// Whether the run is refused: its script, or the picture, which is too large.
-    is_refused: bool,
-}
-
 /// What is asked for of a script's run on the network of a plan, with an image that fits it.
 fn timed_text<S: Read, M: Messages>(
     alloc: Global,
@@ -96,7 +88,7 @@ fn timed_text<S: Read, M: Messages>(
     image: Image,
     script: &mut S,
     messages: &mut M,
-) -> Result<TimedText, Halt>
+) -> Result<RunText, Halt>
     requires { Fits image plan.now }
     ensures refused { IfOk result (λ timed. IsRefusedTime asked (S.remaining script.old) plan.now image
         (string_bytes timed.text) timed.is_refused) }
@@ -105,7 +97,7 @@ fn timed_text<S: Read, M: Messages>(
     let run = time_plan(alloc, plan, image, script, messages)?;
     let period = Period::of(&run.timeline, asked.from, asked.to);
     let drawn = period_text(alloc, plan, &run.timeline, period, asked.format)?;
-    Ok(TimedText {
+    Ok(RunText {
         text: drawn.text,
         is_refused: drawn.is_refused || run.is_refused,
     })
@@ -119,13 +111,13 @@ fn period_text(
     timeline: &Timeline,
     period: Period,
     format: Option<Format>,
-) -> Result<TimedText, NoMemory>
+) -> Result<RunText, NoMemory>
     ensures { IfOk result (λ timed. IsPeriodText format period (string_bytes timed.text) timed.is_refused) }
 {
     let Some(format) = format else {
         return picture_text(alloc, plan, timeline, period);
     };
-    Ok(TimedText {
+    Ok(RunText {
         text: time_table(alloc, format, plan, timeline, period)?,
         is_refused: false,
     })
@@ -137,15 +129,15 @@ fn picture_text(
     plan: &Plan,
     timeline: &Timeline,
     period: Period,
-) -> Result<TimedText, NoMemory>
+) -> Result<RunText, NoMemory>
     ensures { IfOk result (λ timed. IsPictureText period (string_bytes timed.text) timed.is_refused) }
 {
     match time_picture(alloc, plan, timeline, period) {
-        Ok(text) => Ok(TimedText {
+        Ok(text) => Ok(RunText {
             text,
             is_refused: false,
         }),
-        Err(TimeFault::TooLarge(fits)) => Ok(TimedText {
+        Err(TimeFault::TooLarge(fits)) => Ok(RunText {
             text: refusal_text(alloc, fits)?,
             is_refused: true,
         }),

@@ -1,18 +1,19 @@
 //! The drawing of a description's network as it stands after a script.
 ghost use Rattle.std.specs.{Prelude.{Err, IfOk, ℕ, ◌≡◌, ◌≢◌}, String.string_bytes};
 ghost use Rattle.{c104_plan.specs.PlanImage.Fits, c104_session.specs.TextRuns.{IsRefusedAfter, IsRefusedOn, TextEnds, WritesRun}};
-ghost use Rattle.c104_session.specs.{TextRuns.WritesRunText, declared.session.Session.Session as TheSession};
+ghost use Rattle.c104_session.specs.declared.session.Session.{Session as TheSession};
 ghost use Rattle.c104_setup.specs.declared.status.Status.TheVariants as status;
 ghost use Rattle.c104_stream.specs.declared.halt.Halt.TheVariants as halt;
 
 use crate::session::Session;
 use crate::telling::Telling;
+use crate::text_runs::{RunText, write_run};
 use c104_mistakes::{Messages, tell_if_long};
 use c104_plan::{Image, Plan};
 use c104_print::state_text;
 use c104_script::do_lines;
 use c104_setup::{Setup, Status, read_setup};
-use c104_stream::{Ahead, Halt, write_whole};
+use c104_stream::{Ahead, Halt};
 use std::alloc::Global;
 use std::io::{Read, Write};
 
@@ -60,33 +61,8 @@ fn draw_after<S: Read, W: Write, M: Messages>(
     ensures of_script { (n : ℕ) → result ≡ status.CannotRead n → n ≡ 1 }
 {
     match drawn_after(alloc, plan, image, script, messages) {
-        Ok(drawn) => write_run(drawn.text.as_bytes(), drawn.refused, writer),
+        Ok(drawn) => write_run(drawn.text.as_bytes(), drawn.is_refused, writer),
         Err(halt) => Status::of_halt(halt, 1),
-    }
-}
-
-/// The picture of a network after a script.
-#[derive(Drop)]
-struct Drawn {
-    /// The text.
-    text: String,
-    /// Whether the script is refused.
-    refused: bool,
-}
-
-/// Writes a picture, of a script that is refused or not.
-pub(crate) fn write_run<W: Write>(text: &[u8], refused: bool, writer: &mut W) -> Status
-    ensures written { WritesRunText text.now refused
-        (W.contents writer.old) (W.contents writer.new) result }
-    ensures of_writer { (n : ℕ) → result ≢ status.CannotRead n }
-{
-    let Ok(()) = write_whole(writer, text) else {
-        return Status::CannotWrite;
-    };
-    if refused {
-        Status::Refused
-    } else {
-        Status::Done
     }
 }
 
@@ -97,10 +73,10 @@ fn drawn_after<S: Read, M: Messages>(
     image: Image,
     script: &mut S,
     messages: &mut M,
-) -> Result<Drawn, Halt>
+) -> Result<RunText, Halt>
     requires { Fits image plan.now }
     ensures refused { IfOk result (λ drawn.
-        IsRefusedOn (S.remaining script.old) plan.now image (string_bytes drawn.text) drawn.refused) }
+        IsRefusedOn (S.remaining script.old) plan.now image (string_bytes drawn.text) drawn.is_refused) }
     ensures unwritten { result ≢ Err halt.CannotWrite }
 {
     let mut session = Session::new(alloc, plan, image)?;
@@ -116,9 +92,9 @@ fn drawn_of<S: Read, M: Messages>(
     session: &mut Session,
     script: &mut S,
     messages: &mut M,
-) -> Result<Drawn, Halt>
+) -> Result<RunText, Halt>
     ensures refused { (from : TheSession) → session.old ≡ from →
-        IfOk result (λ drawn. IsRefusedAfter from (S.remaining script.old) drawn.refused) }
+        IfOk result (λ drawn. IsRefusedAfter from (S.remaining script.old) drawn.is_refused) }
     ensures unwritten { result ≢ Err halt.CannotWrite }
 {
     let mut ahead = Ahead::new(alloc)?;
@@ -128,8 +104,8 @@ fn drawn_of<S: Read, M: Messages>(
     let is_long = done?;
     tell_if_long(is_long, telling.messages);
     let text = state_text(alloc, &session.net, &session.image)?;
-    Ok(Drawn {
+    Ok(RunText {
         text,
-        refused: is_long || session.faulty,
+        is_refused: is_long || session.faulty,
     })
 }
