@@ -68,7 +68,7 @@ after_trail (Trail.Found origin) rest = Some origin
 after_trail Trail.Lost rest = None
 after_trail (Trail.On x) rest = rest x
 
--- the packet that an input is at, if it is found over so many inputs
+-- the packet that an input is at, if it is found over this many inputs
 unfoldable pub packet_from : NetRecord → ℕ → SwitchPort → Option Origin
 packet_from r zero x = None
 packet_from r (suc n) x = after_trail (trail_of r x) (packet_from r n)

@@ -23,7 +23,7 @@ unfoldable pub count_from : (ℕ → Option ℕ) → ℕ → ℕ → ℕ
 count_from sizes zero n = n
 count_from sizes (suc more) n = counted (sizes n) n (count_from sizes more (n + 1))
 
--- whether the first of the tokens that wait is one of a packet of this size, if so many wait from it on: then how many of
+-- whether the first of the tokens that wait is one of a packet of this size, if this many wait from it on: then how many of
 -- its tokens have gone out; or else how many wait of the packets before it
 abbrev pub fit_of : Option ℕ → ℕ → Fit
 fit_of None left = Fit.Nowhere
@@ -39,7 +39,7 @@ abbrev pub sending_before : (ℕ → Option ℕ) → ℕ → ℕ → Option Send
 sending_before sizes zero left = None
 sending_before sizes (suc n) left = after_fit (fit_of (sizes n) left) n (sending_before sizes n)
 
--- the packet in which the next token stands, where so many wait; none where none waits
+-- the packet in which the next token stands, where this many wait; none where none waits
 abbrev pub sending_of : (ℕ → Option ℕ) → ℕ → Option Sending
 sending_of sizes waiting =
     if waiting == 0 then None else sending_before sizes (count_from sizes SENT_LIMIT 0) waiting

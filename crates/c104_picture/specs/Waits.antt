@@ -75,7 +75,7 @@ view_blocker r x (Some view) = phase_blocker r x view.phase
 abbrev pub blocker : NetRecord → SwitchPort → Option SwitchPort
 blocker r x = view_blocker r x (network_link_view plain_kind r.network x.switch x.link)
 
--- from an input on, whether another one is met within so many steps
+-- from an input on, whether another one is met within this many steps
 abbrev pub meets_by : SwitchPort → Option SwitchPort → (SwitchPort → Bool) → Bool
 meets_by x None on = false
 meets_by x (Some y) on = is_port x y || on y
