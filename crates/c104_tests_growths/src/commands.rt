@@ -11,7 +11,8 @@ use c104_commands::{
 use c104_lockup::lockup_command;
 use c104_mistakes::Silent;
 use c104_session::{
-    Asked, Format, debug_command, draw_over_time_command, draw_state_command, run, run_text,
+    Asked, Format, Printing, What, debug_command, draw_over_time_command, draw_state_command, run,
+    run_text, stats_command,
 };
 use c104_setup::Status;
 use c104_storm::storm_command;
@@ -36,6 +37,18 @@ const ALL_AS_ROWS: Asked = Asked {
     from: None,
     to: None,
     format: Some(Format::Json),
+};
+
+/// Links are counted.
+const LINKS_AS_ROWS: Printing = Printing {
+    what: Some(What::Links),
+    format: Format::Csv,
+};
+
+/// What all comes to is counted.
+const SUMMARY_AS_TABLE: Printing = Printing {
+    what: None,
+    format: Format::Table,
 };
 
 /// Two switches that lock up: before each packet of a terminal its input puts the random header of the other switch, from
@@ -101,6 +114,7 @@ enum Command {
     Draw(Marks),
     State,
     OverTime(Asked),
+    Stats(Printing),
 }
 
 impl Command {
@@ -117,6 +131,9 @@ impl Command {
             }
             Command::OverTime(asked) => {
                 draw_over_time_command(alloc, asked, &mut text, &mut script, page, &mut Silent)
+            }
+            Command::Stats(printing) => {
+                stats_command(alloc, printing, &mut text, &mut script, page, &mut Silent)
             }
         }
     }
@@ -215,6 +232,8 @@ fn commands(rt: HostRuntime) {
         ("draw_state_command", Command::State),
         ("draw_over_time_command", Command::OverTime(ALL_ROUNDS)),
         ("draw_over_time_command", Command::OverTime(ALL_AS_ROWS)),
+        ("stats_command", Command::Stats(LINKS_AS_ROWS)),
+        ("stats_command", Command::Stats(SUMMARY_AS_TABLE)),
     ] {
         assert!(rt; is_right(&rt, name, &Commanding(command)));
     }
