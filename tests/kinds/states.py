@@ -25,6 +25,7 @@ LINE = (b'buffer 8\nswitch A\nswitch B\nswitch C\nwire A.1 B.1\nwire B.2 C.1\nte
     b'terminal c C.0\nlabel tree A\n')
 # One link of a group leads nowhere.
 NOWHERE = b'switch A\nterminal a A.0\nrow A.0 1 5\n'
+TOO_LONG = b'c104: a script has at most 16777216 bytes; the lines that end within them were answered\n'
 SENT = b'send a 01 aa bb eop\ncredit A.0\n' + b'cross a\n' * 3
 
 # A description, a script, and the arrows: their ends' names, what they say, and how they are drawn.
@@ -66,12 +67,12 @@ def compared(found, wanted):
     return None if found == wanted else 'wanted %s, found %s' % (wanted, found)
 
 
-def drawn_after(runner, description, script, **fields):
+def drawn_after(runner, description, script, before=(), **fields):
     """What is printed of a description and a script, with the status."""
     with tempfile.NamedTemporaryFile() as file:
         file.write(description)
         file.flush()
-        return runner.run(words=['draw', file.name, '-', '--state'], data=script, **fields)
+        return runner.run(words=[*before, 'draw', file.name, '-', '--state'], data=script, **fields)
 
 
 def drawn(runner):
@@ -139,6 +140,9 @@ def refused(runner):
         if runner.wanted(name):
             found = drawn_after(runner, PLAN, script)
             runner.judge(name, compared((found[0], arrows_of(found[1])), (1, arrows)))
+    if runner.wanted('a script that is too long, explained'):
+        found = drawn_after(runner, PLAN, comments(SCRIPT_LIMIT + 1), before=['--explain'])
+        runner.judge('a script that is too long, explained', compared((found[0], found[2]), (1, TOO_LONG)))
     for name, description, text in (
             ('a faulty description', b'switch A\nwire A.0 A.1\n', b'description 2: 8 SelfWire\n'),
             ('a network that is not labelled', b'switch A\nswitch B\nlabel tree A\n', b'label 1 NotConnected\n')):
