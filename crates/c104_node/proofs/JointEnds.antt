@@ -1,14 +1,15 @@
 -- What crosses a wire, among all nodes: where both ends are ready both act, and else nothing changes.
 use Rattle.{c104_event.specs.declared.faults.EventFault.EventFault, c104_link.{proofs.MadeSteps.from_place_made, specs.Steps.◌>>=◌}}
-use Rattle.c104_node.{proofs.WireEnds.get_set_other, specs.{Acts.{done_by, node_act, nodes_act, reply_outcome, token_by}, Nodes.Node}}
-use Rattle.c104_node.specs.{Nodes.{node_credit_in, node_credit_out, node_enter, node_leave}, PlaceActs.{HasActedAt, JointDone}}
-use Rattle.c104_node.specs.{Places.{Shown, bases, fulls, room_fault, states, traces}, PortActs.{IsAnswerOf, far_act, joint_step, near_act}}
-use Rattle.c104_node.specs.{Traces.full_at, declared.{acts.ActOf.ActOf, crossings.Crossing.{Crossing, TheVariants.{Grant, Token}}}}
+use Rattle.c104_node.{proofs.{PlaceSteps.as_many, WireEnds.get_set_other}, specs.{ActLinks.{on_links, port_link}, Acts.{done_by, node_act}}}
+use Rattle.c104_node.specs.{Acts.{nodes_act, reply_outcome, token_by}, Nodes.{Node, node_credit_in, node_credit_out, node_enter}}
+use Rattle.c104_node.specs.{Nodes.node_leave, PlaceActs.{HasActedAt, JointDone}, Places.{Shown, bases, fulls, room_fault, states, traces}}
+use Rattle.c104_node.specs.{PortActs.{IsAnswerOf, far_act, joint_step, near_act}, Traces.{full_at, kept_entry, noted_all, noted_at}}
+use Rattle.c104_node.specs.declared.{acts.{ActOf.ActOf, Entry.Entry}, crossings.Crossing.{Crossing, TheVariants.{Grant, Token}}}
 use Rattle.c104_node.specs.declared.{crossings.Joint.Joint, node.NodeOf.NodeOf, stamps.Stamp.Stamp}
 use Rattle.{c104_plan.specs.declared.ports.Port.Port, c104_switch.specs.{Actions.is_ready, declared.actions.ReplyOf.ReplyOf}}
-use Rattle.{c104_token.specs.Kinds.Kind, std.proofs.Common.{Bool, Err, List, None, Ok, Option, Some, ap, arith, false, is_some, length}}
-use Rattle.std.proofs.Common.{nat_lt, refl, slice_get, slice_set, subst, sym, true, ℕ, ◌<◌, ◌||◌, ◌∙◌, ◌≡◌, ◌≢◌, ◌≤◌}
-use Rattle.std.proofs.lemmas.{Bool.Decides.nat_tests, Option.slice_get_past}
+use Rattle.{c104_token.specs.Kinds.Kind, std.proofs.Common.{Bool, Err, List, None, Ok, Option, Some, [], ap, arith, false, if◌then◌else◌}}
+use Rattle.std.proofs.Common.{is_some, length, map, nat_lt, refl, slice_get, slice_set, subst, sym, true, ℕ, ◌<◌, ◌||◌, ◌∙◌, ◌∷◌, ◌≡◌, ◌≢◌}
+use Rattle.std.proofs.{Common.◌≤◌, lemmas.{Bool.Decides.nat_tests, Option.slice_get_past}}
 
 -- what is done answers so
 pub ready_answer : {A : Type 0} (crossing : Crossing) (r : ReplyOf A) → IsAnswerOf crossing r → is_ready r ≡ true
@@ -59,8 +60,15 @@ module _ {A : Type 0} (kind : Kind A) where
   far_done Grant (ReplyOf.Token x) q m r answer is = absurd answer
   far_done Grant (ReplyOf.Control bytes) q m r answer is = absurd answer
 
+  -- what goes out at a port goes over its link
+  pub near_linked : (links : ℕ → Bool) (crossing : Crossing) (p : Port) → links (port_link p) ≡ true → on_links links (near_act {A = A} crossing p) ≡ true
+  near_linked links Token (Port.Switch s l) linked = linked
+  near_linked links Token (Port.Terminal t) linked = linked
+  near_linked links Grant (Port.Switch s l) linked = linked
+  near_linked links Grant (Port.Terminal t) linked = linked
+
   -- a node that can act is there
-  pub acts_inside : (nodes : List (Node A)) (k : ℕ) (a : ActOf A) → is_some (nodes_act kind nodes k 0 a) ≡ true → k < length nodes
+  acts_inside : (nodes : List (Node A)) (k : ℕ) (a : ActOf A) → is_some (nodes_act kind nodes k 0 a) ≡ true → k < length nodes
   acts_inside nodes k a ready = by_test (nat_lt k (length nodes)) refl
     where
       by_test : (b : Bool) → nat_lt k (length nodes) ≡ b → k < length nodes
@@ -71,6 +79,11 @@ module _ {A : Type 0} (kind : Kind A) where
           let gone : nodes_act kind nodes k 0 a ≡ None = rw none refl in
           let no : false ≡ true = sym (ap is_some gone) ∙ ready in
           absurd (cc)
+
+  pub place_inside : {P : Type 0} (shown : P → Shown A) (xs : List P) (k : ℕ) (a : ActOf A) → is_some (nodes_act kind (states (map shown xs)) k 0 a) ≡ true → k < length xs
+  place_inside shown xs k a ready =
+      let inside = acts_inside (states (map shown xs)) k a ready in
+      let many = as_many (λ (s : Shown A). s.state) shown xs in omega (arith, many, inside)
 
 module _ {A : Type 0} (kind : Kind A) (p q : Port) (crossing : Crossing) (near far : ℕ) (nodes : List (Node A)) where
   abbrev put_at : List (Node A) → ℕ → ReplyOf A × Node A → Option (ReplyOf A × List (Node A))
@@ -90,6 +103,11 @@ module _ {A : Type 0} (kind : Kind A) (p q : Port) (crossing : Crossing) (near f
   pub gone_answers : (r : ReplyOf A × List (Node A)) → HasGone r → IsAnswerOf crossing r.0
   gone_answers r gone = from_place_made nodes near (node_act kind 0 (near_act crossing p)) r gone (λ n v here made set.
       subst (λ (z : ReplyOf A × List (Node A)). IsAnswerOf crossing z.0) set (near_answers kind crossing p n v made))
+
+  -- the far end answers that it came in
+  pub came_answers : (r s : ReplyOf A × List (Node A)) → HasGone r → nodes_act kind r.1 far 0 (far_act q r.0) ≡ Some s → s.0 ≡ ReplyOf.Done
+  came_answers r s gone came = from_place_made r.1 far (node_act kind 0 (far_act q r.0)) s came (λ m v here made set.
+      ap (λ (z : ReplyOf A × List (Node A)). z.0) (sym set) ∙ far_done kind crossing r.0 q m v (gone_answers r gone) made)
 
   module _ (apart : near ≢ far) where
     -- whether the far end can act is told by the node there alone
@@ -162,9 +180,35 @@ module _ {A : Type 0} (kind : Kind A) (keeps : Bool) (near far : ℕ) (joint : J
 -- what crosses goes out at one end, and then comes in at the other
 module _ {A : Type 0} (kind : Kind A) (keeps : Bool) (near far : ℕ) (joint : Joint) (stamp : Stamp) (olds mids : List (Shown A)) (told : ReplyOf A) where
   -- the near end has acted
-  abbrev pub HasLeft : Crossing → Type 0
-  HasLeft crossing = HasActedAt kind keeps near 0 stamp (near_act crossing joint.near) olds told mids
+  abbrev pub HasLeft : Type 0
+  HasLeft = HasActedAt kind keeps near 0 stamp (near_act joint.crossing joint.near) olds told mids
 
-  -- where the far end was ready before, it is then
-  pub come_ready : near ≢ far → HasLeft joint.crossing → ((a : ReplyOf A) → IsAnswerOf joint.crossing a → is_some (nodes_act kind (states olds) far 0 (far_act joint.far a)) ≡ true) → is_some (nodes_act kind (states mids) far 0 (far_act joint.far told)) ≡ true
-  come_ready apart left comes = sym (far_opens kind joint.near joint.far joint.crossing near far (states olds) apart (told, states mids) left.acted (λ a answer. sym (comes a answer)))
+  abbrev going : Entry
+  going = kept_entry kind stamp (near_act joint.crossing joint.near) told
+
+  abbrev coming : Entry
+  coming = kept_entry kind stamp (far_act joint.far told) ReplyOf.Done
+
+  module _ (left : HasLeft) where
+    pub left_answers : IsAnswerOf joint.crossing told
+    left_answers = gone_answers kind joint.near joint.far joint.crossing near far (states olds) (told, states mids) left.acted
+
+    -- where the far end was ready before, it is then
+    pub come_ready : near ≢ far → ((a : ReplyOf A) → IsAnswerOf joint.crossing a → true ≡ is_some (nodes_act kind (states olds) far 0 (far_act joint.far a))) → is_some (nodes_act kind (states mids) far 0 (far_act joint.far told)) ≡ true
+    come_ready apart comes = sym (far_opens kind joint.near joint.far joint.crossing near far (states olds) apart (told, states mids) left.acted comes)
+
+    -- and where that has acted too, something crossed
+    pub has_crossed : (last : ReplyOf A) (news : List (Shown A)) → HasActedAt kind keeps far 0 stamp (far_act joint.far told) mids last news → (full_at (fulls olds) near || full_at (fulls olds) far) ≡ false → JointDone kind keeps near far joint stamp olds (Ok told) news
+    has_crossed last news came free = record {
+      ends = (sym (ap (λ (m : Option (ReplyOf A × List (Node A))). reply_outcome m (states olds)) both), λ ready. (refl, free));
+      base = came.base ∙ left.base;
+      trace =
+          came.trace ∙ ap (λ r. noted_at keeps (traces mids) far (kept_entry kind stamp (far_act joint.far told) r)) done ∙ ap (λ ts. noted_at keeps ts far coming) left.trace
+          ∙ sym (ap (λ b. noted_all keeps (traces olds) (if b then (near, going) ∷ (far, coming) ∷ [] else [])) (ready_answer joint.crossing told left_answers));
+    }
+      where
+        both : joint_step kind near far joint.near joint.far joint.crossing (states olds) ≡ Some (told, states news)
+        both = ap (λ (m : Option (ReplyOf A × List (Node A))). m >>= from_near kind joint.near joint.far joint.crossing near far (states olds)) left.acted ∙ ap (λ (m : Option (ReplyOf A × List (Node A))). m >>= with_reply kind joint.near joint.far joint.crossing near far (states olds) told) came.acted
+
+        done : last ≡ ReplyOf.Done
+        done = came_answers kind joint.near joint.far joint.crossing near far (states olds) (told, states mids) (last, states news) left.acted came.acted

@@ -3,7 +3,6 @@ pub mod PlaceSteps
 pub mod ReadyActs
 pub mod NamedWires
 pub mod JointEnds
-pub mod EndPlaces
 pub mod Attempts
 pub mod IdleNodes
 pub mod WireEnds

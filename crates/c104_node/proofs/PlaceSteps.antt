@@ -1,13 +1,14 @@
 -- From one place to all places: what is read there, and what an act changes.
-use Rattle.{c104_link.specs.Steps.◌>>=◌, c104_node.{proofs.WireEnds.{get_set_other, get_set_same}, specs.ActLinks.act_link}}
-use Rattle.c104_node.specs.{Acts.{node_act, nodes_act, reply_outcome}, Nodes.Node, PlaceActs.{ActEnds, ActEndsAt, HasActed, HasActedAt}}
-use Rattle.c104_node.specs.{Places.{HasRoomAt, PlaceBase, Shown, bases, fulls, states, traces}, PortActs.act_limit, Traces.full_at}
-use Rattle.c104_node.specs.{Traces.{kept_entry, noted_in, part}, WiredPlaces.{is_linked, is_linked_at, links_at, links_of}}
-use Rattle.{c104_node.specs.declared.{acts.ActOf.ActOf, stamps.Stamp.Stamp}, c104_switch.specs.declared.actions.ReplyOf.ReplyOf}
-use Rattle.{c104_token.specs.Kinds.Kind, std.proofs.Common.{Bool, Err, IsErr, IsErrAnd, List, None, Ok, OnOk, Option, Result, Some, ap}}
-use Rattle.std.proofs.Common.{arith, false, get_or, is_some, length, map, nat_lt, option_map, refl, slice_get, slice_set, subst, sym, true}
-use Rattle.std.proofs.{Common.{unwrap_or, ℕ, ◌<◌, ◌∙◌, ◌≡◌, ◌≢◌}, Math.Seq.map-set_same, lemmas.{Bool.Decides.nat_tests, List.length-map}}
-use Rattle.std.proofs.lemmas.{List.map-set, Option.{get_or_from_slice_get, slice_get-get_or, slice_get-map, slice_get_past}}
+use Rattle.{c104_link.specs.Steps.◌>>=◌, c104_node.proofs.{ReadyActs.{act_ready, made_ready}, WireEnds.{get_set_other, get_set_same}}}
+use Rattle.c104_node.specs.{ActLinks.act_link, Acts.{node_act, nodes_act}, Nodes.Node, PlaceActs.{HasActed, HasActedAt}, Places.HasRoomAt}
+use Rattle.c104_node.specs.{Places.{PlaceBase, Shown, bases, fulls, states, traces}, PortActs.act_limit, Traces.{full_at, kept_entry}}
+use Rattle.c104_node.specs.{Traces.{noted, noted_in, part}, WiredPlaces.{is_linked, is_linked_at, links_at, links_of}}
+use Rattle.{c104_node.specs.declared.{acts.ActOf.ActOf, stamps.Stamp.Stamp}, c104_switch.specs.Actions.is_ready}
+use Rattle.{c104_switch.specs.declared.actions.ReplyOf.ReplyOf, c104_token.specs.Kinds.Kind, std.proofs.Common.{Bool, Err, IsErr, IsErrAnd}}
+use Rattle.std.proofs.Common.{List, None, Ok, OnOk, Option, Result, Some, ap, arith, false, get_or, if◌then◌else◌, is_some, length, map}
+use Rattle.std.proofs.Common.{nat_lt, option_map, refl, slice_get, slice_set, subst, sym, true, unwrap_or, ℕ, ◌<◌, ◌∙◌, ◌≡◌, ◌≢◌}
+use Rattle.std.proofs.{Math.Seq.map-set_same, lemmas.{Bool.{Decides.nat_tests, both_ways}, List.{length-map, map-set}}}
+use Rattle.std.proofs.lemmas.Option.{get_or_from_slice_get, slice_get-get_or, slice_get-map, slice_get_past}
 
 -- what a place shows, read from the list of all
 module _ {A P S : Type 0} (f : Shown A → S) (shown : P → Shown A) (xs : List P) (k : ℕ) where
@@ -53,33 +54,39 @@ module _ {A : Type 0} (olds : List (Shown A)) (k : ℕ) (old new : Shown A) (the
   pub seen_there : {S : Type 0} (f : Shown A → S) → slice_get (map f olds) k ≡ Some (f old)
   seen_there f = slice_get-map f olds k ∙ ap (option_map f) there
 
-  module _ (kind : Kind A) (keeps : Bool) (number : ℕ) (stamp : Stamp) (a : ActOf A) (reply : ReplyOf A) where
-    act_made : (made : Option (ReplyOf A × Node A)) → node_act kind number a old.state ≡ made → is_some (nodes_act kind (states olds) k number a) ≡ true →
-        ◌≡◌ {A = ReplyOf A × Node A} (reply, new.state) (reply_outcome made old.state) → nodes_act kind (states olds) k number a ≡ Some (reply, states (slice_set olds k new))
-    act_made None made ready gives =
-        let no : is_some (nodes_act kind (states olds) k number a) ≡ false = rw (seen_there (λ (s : Shown A). s.state), made) refl in absurd (cc)
-    act_made (Some r) made ready gives =
-        rw (seen_there (λ (s : Shown A). s.state), made)
-        (ap (λ (q : ReplyOf A × Node A). Some (q.0, slice_set (states olds) k q.1)) (sym gives)
-        ∙ ap (λ ns. Some (reply, ns)) (sym (map-set (λ (s : Shown A). s.state) olds k new)))
+  module _ (kind : Kind A) (number : ℕ) (a : ActOf A) where
+    abbrev pub put : ReplyOf A × Node A → Option (ReplyOf A × List (Node A))
+    put y = Some (y.0, slice_set (states olds) k y.1)
 
-    acted_there : is_some (nodes_act kind (states olds) k number a) ≡ true → HasActed kind keeps number stamp a old reply new → HasActedAt kind keeps k number stamp a olds reply (slice_set olds k new)
-    acted_there ready is = record {
-      acted = act_made (node_act kind number a old.state) refl ready is.acted;
+    -- what the node there does
+    pub all_is : nodes_act kind (states olds) k number a ≡ node_act kind number a old.state >>= put
+    all_is = ap (λ (o : Option (Node A)). o >>= (λ n. node_act kind number a n >>= put)) (seen_there (λ (s : Shown A). s.state))
+
+    -- an act that it was ready for is made, and an entry is kept of it
+    acted_there : (keeps : Bool) (stamp : Stamp) (reply : ReplyOf A) → is_some (node_act kind number a old.state) ≡ true → HasActed kind keeps number stamp a old reply new → HasActedAt kind keeps k number stamp a olds reply (slice_set olds k new)
+    acted_there keeps stamp reply ready is = record {
+      acted = all_is ∙ ap (λ made. made >>= put) made ∙ ap (λ ns. Some (reply, ns)) (sym (map-set (λ (s : Shown A). s.state) olds k new));
       base = kept_same (λ (s : Shown A). s.base) is.base;
       trace =
-          map-set (λ (s : Shown A). s.trace) olds k new ∙ ap (slice_set (traces olds) k) is.trace
+          map-set (λ (s : Shown A). s.trace) olds k new
+          ∙ ap (slice_set (traces olds) k) (is.trace ∙ ap (λ b. if b then noted keeps old.trace (kept_entry kind stamp a reply) else old.trace) (act_ready kind number a old.state (reply, new.state) made))
           ∙ sym (ap (noted_in keeps (traces olds) k (kept_entry kind stamp a reply)) (seen_there (λ (s : Shown A). s.trace)));
     }
+      where
+        made : node_act kind number a old.state ≡ Some (reply, new.state)
+        made = made_ready (node_act kind number a old.state) reply new.state old.state ready is.acted
+
+-- where it was ready it isn't answered that it isn't
+pub never_unready : {A : Type 0} (kind : Kind A) (keeps : Bool) (stamp : Stamp) (a : ActOf A) (old new : Shown A) (reply : ReplyOf A) → is_some (node_act kind 0 a old.state) ≡ true → HasActed kind keeps 0 stamp a old reply new → reply ≡ ReplyOf.NotReady → ⊥
+never_unready kind keeps stamp a old new reply ready is unready =
+    both_ways (is_ready reply) (ap is_ready unready) (act_ready kind 0 a old.state (reply, new.state) (made_ready (node_act kind 0 a old.state) reply new.state old.state ready is.acted))
 
 -- an act at one place of a list, as it ends at all
-pub acts_at : {A P E : Type 0} (shown : P → Shown A) (xs : List P) (k : ℕ) (d new : P) → k < length xs → (kind : Kind A) (keeps : Bool) (number : ℕ) (stamp : Stamp) (a : ActOf A) (r : Result (ReplyOf A) E) →
-    is_some (nodes_act kind (states (map shown xs)) k number a) ≡ true → ActEnds kind keeps number stamp a (shown (get_or xs k d)) r (shown new) →
-    ActEndsAt kind keeps k number stamp a (map shown xs) r (map shown (slice_set xs k new))
-acts_at shown xs k d new inside kind keeps number stamp a (Ok reply) ready is =
-    subst (HasActedAt kind keeps k number stamp a (map shown xs) reply) (sym (map-set shown xs k new))
-    (acted_there (map shown xs) k (shown (get_or xs k d)) (shown new) (slice_get-map shown xs k ∙ ap (option_map shown) (slice_get-get_or xs k d inside)) kind keeps number stamp a reply ready is)
-acts_at shown xs k d new inside kind keeps number stamp a (Err e) ready is = (map-set_same shown xs k new d is.0, is.1)
+pub acts_at : {A P : Type 0} (shown : P → Shown A) (xs : List P) (k : ℕ) (d new : P) → k < length xs → (kind : Kind A) (keeps : Bool) (stamp : Stamp) (a : ActOf A) (reply : ReplyOf A) →
+    is_some (nodes_act kind (states (map shown xs)) k 0 a) ≡ true → HasActed kind keeps 0 stamp a (shown (get_or xs k d)) reply (shown new) → HasActedAt kind keeps k 0 stamp a (map shown xs) reply (map shown (slice_set xs k new))
+acts_at shown xs k d new inside kind keeps stamp a reply ready is =
+    subst (HasActedAt kind keeps k 0 stamp a (map shown xs) reply) (sym (map-set shown xs k new))
+    (acted_there (map shown xs) k (shown (get_or xs k d)) (shown new) (slice_get-map shown xs k ∙ ap (option_map shown) (slice_get-get_or xs k d inside)) kind 0 a keeps stamp reply (ready_there shown xs k d inside kind 0 a ready) is)
 
 -- a change at one place keeps the room at the others
 pub room_others : {P : Type 0} (has_room : P → Type 0) (xs : List P) (k : ℕ) (new : P) (j : ℕ) → j ≢ k → HasRoomAt has_room xs j → HasRoomAt has_room (slice_set xs k new) j

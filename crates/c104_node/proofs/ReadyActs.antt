@@ -1,9 +1,9 @@
 -- An act that is done answers something else than that it is not ready.
-use Rattle.c104_node.specs.{Acts.{control_by, done_by, node_act, token_by}, Nodes.{Node, node_claim, node_control, node_credit_in}}
-use Rattle.c104_node.specs.{Nodes.{node_credit_out, node_drain, node_enter, node_input, node_leave, node_send}, declared.acts.ActOf.ActOf}
-use Rattle.{c104_node.specs.declared.node.NodeOf.NodeOf, c104_switch.specs.{Actions.is_ready, declared.actions.ActionOf.ActionOf}}
-use Rattle.{c104_switch.specs.declared.actions.ReplyOf.ReplyOf, c104_token.specs.Kinds.Kind, std.proofs.Common.{List, None, Option, Some}}
-use Rattle.std.proofs.Common.{ap, sym, true, ℕ, ◌≡◌}
+use Rattle.c104_node.specs.{Acts.{control_by, done_by, node_act, reply_outcome, token_by}, Nodes.{Node, node_claim, node_control}}
+use Rattle.c104_node.specs.Nodes.{node_credit_in, node_credit_out, node_drain, node_enter, node_input, node_leave, node_send}
+use Rattle.{c104_node.specs.declared.{acts.ActOf.ActOf, node.NodeOf.NodeOf}, c104_switch.specs.Actions.is_ready}
+use Rattle.{c104_switch.specs.declared.actions.{ActionOf.ActionOf, ReplyOf.ReplyOf}, c104_token.specs.Kinds.Kind, std.proofs.Common.List}
+use Rattle.std.proofs.Common.{None, Option, Some, ap, is_some, refl, sym, true, ℕ, ◌≡◌}
 
 module _ {A S : Type 0} where
   done_ready : (made : Option S) (r : ReplyOf A × S) → done_by made ≡ Some r → is_ready r.0 ≡ true
@@ -17,6 +17,16 @@ module _ {A S : Type 0} where
   control_ready : (made : Option (List ℕ × S)) (r : ReplyOf A × S) → control_by made ≡ Some r → is_ready r.0 ≡ true
   control_ready None r is = absurd (cc)
   control_ready (Some v) r is = let same : ReplyOf.Control v.0 ≡ r.0 = (let both : ◌≡◌ {A = Option (ReplyOf A × S)} (Some (ReplyOf.Control v.0, v.1)) (Some r) = is in cc) in ap is_ready (sym same)
+
+-- an act that was ready is made
+pub made_ready : {A S : Type 0} (made : Option (ReplyOf A × S)) (r : ReplyOf A) (new old : S) → is_some made ≡ true → ◌≡◌ {A = ReplyOf A × S} (r, new) (reply_outcome made old) → made ≡ Some (r, new)
+made_ready None r new old ready gives = cc
+made_ready (Some q) r new old ready gives = ap Some (sym gives)
+
+-- an act that was answered otherwise than that it isn't ready was ready
+pub answered_ready : {A S : Type 0} (made : Option (ReplyOf A × S)) (r : ReplyOf A) (new old : S) → (r ≡ ReplyOf.NotReady → ⊥) → ◌≡◌ {A = ReplyOf A × S} (r, new) (reply_outcome made old) → is_some made ≡ true
+answered_ready {A} {S} None r new old answered gives = absurd (answered (ap (λ (z : ReplyOf A × S). z.0) gives))
+answered_ready (Some q) r new old answered gives = refl
 
 module _ {A : Type 0} (kind : Kind A) where
   -- an act that is done answers something else than that it isn't ready

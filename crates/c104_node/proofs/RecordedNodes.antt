@@ -1,18 +1,13 @@
 -- A node with its record: its run goes on by an act; and plain tokens don't tell the number of a terminal.
-use Rattle.{c104_event.specs.declared.faults.EventFault.EventFault, c104_node.{proofs.ReadyActs.act_ready, specs.ActLinks.on_links}}
-use Rattle.c104_node.specs.{Acts.{IsWithinLimits, done_by, node_act, reply_outcome}, Nodes.Node, PortActs.act_limit, Records.IsNodeRun}
-use Rattle.c104_node.specs.Records.{IsRecorded, MayAct, NodeRecord, after_act, fault_first, has_link, is_full, recorded_limit}
+use Rattle.{c104_event.specs.declared.faults.EventFault.EventFault, c104_node.proofs.ReadyActs.{act_ready, made_ready}}
+use Rattle.c104_node.specs.{ActLinks.on_links, Acts.{IsWithinLimits, done_by, node_act, reply_outcome}, Nodes.Node, PortActs.act_limit}
+use Rattle.c104_node.specs.Records.{IsNodeRun, IsRecorded, MayAct, NodeRecord, after_act, fault_first, has_link, is_full, recorded_limit}
 use Rattle.c104_node.specs.{Records.recorded_step, Starts.start_node, Terminals.sent_from, Traces.{entry_of, trace_limit}}
 use Rattle.c104_node.specs.declared.{acts.{ActOf.ActOf, Entry.Entry}, node.NodeOf.NodeOf, stamps.Stamp.Stamp}
-use Rattle.{c104_switch.specs.{Actions.{Reply, is_ready}, declared.actions.ReplyOf.ReplyOf}, c104_token.specs.Kinds.plain_kind}
-use Rattle.{c104_token.specs.declared.tokens.Token.Token, std.proofs.Common.{Bool, List, None, Option, Some, [], ap, arith, false, is_some}}
-use Rattle.std.proofs.Common.{length, length-append, nat_le, refl, subst, suc, sym, true, ℕ, ◌++◌, ◌+◌, ◌∙◌, ◌∷◌, ◌≡◌}
-use Rattle.std.{proofs.lemmas.Bool.{Decides.nat_tests, both_ways}, specs.Prelude.if◌then◌else◌}
-
--- an act that was ready is made
-made_ready : {A S : Type 0} (made : Option (ReplyOf A × S)) (r : ReplyOf A) (new old : S) → is_some made ≡ true → ◌≡◌ {A = ReplyOf A × S} (r, new) (reply_outcome made old) → made ≡ Some (r, new)
-made_ready None r new old ready gives = cc
-made_ready (Some q) r new old ready gives = ap Some (sym gives)
+use Rattle.{c104_switch.specs.Actions.{Reply, is_ready}, c104_token.specs.{Kinds.plain_kind, declared.tokens.Token.Token}}
+use Rattle.std.proofs.Common.{Bool, List, None, Option, Some, [], ap, arith, false, is_some, length, length-append, nat_le, refl, subst}
+use Rattle.std.proofs.{Common.{suc, sym, true, ℕ, ◌++◌, ◌+◌, ◌∙◌, ◌∷◌, ◌≡◌}, lemmas.Bool.{Decides.nat_tests, both_ways}}
+use Rattle.std.specs.Prelude.{if◌then◌else◌}
 
 -- the run goes on by one act
 run_on : (wired : ℕ) (from mid to : Node Token) (entries : List Entry) (e : Entry) → IsNodeRun wired from entries mid → MayAct wired mid e.act → node_act plain_kind 0 e.act mid ≡ Some (e.reply, to) → IsNodeRun wired from (entries ++ e ∷ []) to

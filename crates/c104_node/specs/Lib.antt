@@ -22,7 +22,6 @@ pub mod Origins
 pub mod Outboxes
 pub mod Tagged
 pub mod TaggedWords
-pub mod Notes
 pub mod TracedRecords
 pub mod SpareRooms
 pub mod StartNumbers

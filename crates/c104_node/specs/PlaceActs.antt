@@ -1,6 +1,6 @@
 -- What an act changes of what its place shows, and what acts of one node, or of two, leave at all places.
 --     HasActed kind keeps number stamp act old reply new      one place, after an act that was answered so
---     HasTried ..     the same of an act that may not have been ready
+--     HasActedAt ..   all places, after an act of one that was ready
 --     AreDone ..      all places, after acts that were answered so; AloneDone and JointDone say it of one act and of two
 use Rattle.{c104_event.specs.declared.faults.EventFault.EventFault, c104_node.specs.Acts.{node_act, nodes_act, plain_reply, reply_outcome}}
 use Rattle.c104_node.specs.{Acts.wants_memory, Nodes.Node, Places.{Shown, bases, fulls, room_fault, states, traces}, PortActs.act_limit}
@@ -30,42 +30,26 @@ pub record AreDone {A : Type 0} (keeps : Bool) (limit : Option EventFault) (made
   pub trace : traces news ≡ noted_all keeps (traces olds) (kept_of deeds answer)
 
 module _ {A : Type 0} (kind : Kind A) (keeps : Bool) where
-  -- a place after an act in the event of this stamp that was answered so
+  -- a place after an act in the event of this stamp that was answered so: an entry is kept of it where it was done
   pub record HasActed (number : ℕ) (stamp : Stamp) (a : ActOf A) (old : Shown A) (reply : ReplyOf A) (new : Shown A)
-      : Type 0 where
-    pub acted : ◌≡◌ {A = ReplyOf A × Node A} (reply, new.state) (reply_outcome (node_act kind number a old.state) old.state)
-    pub base : new.base ≡ old.base
-    pub trace : new.trace ≡ noted keeps old.trace (kept_entry kind stamp a reply)
-
-  -- how an act of a place ends that is ready: it is done; or memory has run out, which few acts want, and nothing changed
-  abbrev pub ActEnds : {E : Type 0} → ℕ → Stamp → ActOf A → Shown A → Result (ReplyOf A) E → Shown A → Type 0
-  ActEnds number stamp a old (Ok reply) new = HasActed number stamp a old reply new
-  ActEnds number stamp a old (Err e) new = (new ≡ old) × (wants_memory a ≡ true)
-
-  -- a place after an act was tried that was answered so: an entry is kept where it was done
-  pub record HasTried (number : ℕ) (stamp : Stamp) (a : ActOf A) (old : Shown A) (reply : ReplyOf A) (new : Shown A)
       : Type 0 where
     pub acted : ◌≡◌ {A = ReplyOf A × Node A} (reply, new.state) (reply_outcome (node_act kind number a old.state) old.state)
     pub base : new.base ≡ old.base
     pub trace : new.trace ≡ (if is_ready reply then noted keeps old.trace (kept_entry kind stamp a reply) else old.trace)
 
-  -- how an act of a place ends that is tried: it is answered as is due; or it is ready, and memory has run out, and
+  -- how an act of a place ends: it is answered as is due; or it is ready, and memory has run out, which few acts want, and
   -- nothing changed
-  abbrev pub AttemptEnds : {E : Type 0} → ℕ → Stamp → ActOf A → Shown A → Result (ReplyOf A) E → Shown A → Type 0
-  AttemptEnds number stamp a old (Ok reply) new = HasTried number stamp a old reply new
-  AttemptEnds number stamp a old (Err e) new = (is_some (node_act kind number a old.state) ≡ true) × (new ≡ old)
+  abbrev pub ActEnds : {E : Type 0} → ℕ → Stamp → ActOf A → Shown A → Result (ReplyOf A) E → Shown A → Type 0
+  ActEnds number stamp a old (Ok reply) new = HasActed number stamp a old reply new
+  ActEnds number stamp a old (Err e) new =
+      (is_some (node_act kind number a old.state) ≡ true) × (new ≡ old) × (wants_memory a ≡ true)
 
-  -- HasActed of one act among all places
+  -- all places after an act of the node at one that was ready
   pub record HasActedAt (place number : ℕ) (stamp : Stamp) (a : ActOf A) (olds : List (Shown A)) (reply : ReplyOf A)
       (news : List (Shown A)) : Type 0 where
     pub acted : nodes_act kind (states olds) place number a ≡ Some (reply, states news)
     pub base : bases news ≡ bases olds
     pub trace : traces news ≡ noted_at keeps (traces olds) place (kept_entry kind stamp a reply)
-
-  abbrev pub ActEndsAt : {E : Type 0} → ℕ → ℕ → Stamp → ActOf A → List (Shown A) → Result (ReplyOf A) E
-      → List (Shown A) → Type 0
-  ActEndsAt place number stamp a olds (Ok reply) news = HasActedAt place number stamp a olds reply news
-  ActEndsAt place number stamp a olds (Err e) news = (news ≡ olds) × (wants_memory a ≡ true)
 
   -- all places after an act of the node at one
   abbrev pub AloneDone : ℕ → ℕ → Stamp → ActOf A → List (Shown A) → Result (ReplyOf A) EventFault → List (Shown A)

@@ -9,13 +9,11 @@ ghost use Rattle.c104_node.specs.TracedRecords.{first_traced};
 use crate::acts::ActOf;
 use crate::history::History;
 use crate::node::NodeOf;
-use crate::notes::Note;
 use crate::place::Place;
 use crate::recorded::TRACE_LIMIT;
 use crate::stamps::Stamp;
 use crate::tagged::TaggedToken;
 use crate::terminal::ArrivedOf;
-use c104_event::Port;
 use c104_switch::ReplyOf;
 use c104_token::NoMemory;
 use std::marker::Model;
@@ -88,11 +86,9 @@ impl CountedNode {
 }
 
 impl Place<TaggedToken> for CountedNode {
-    ghost use Rattle.std.specs.Prelude.{OnOk, false, is_some, length, refl, true, ◌<◌, ◌≡◌};
-    ghost use Rattle.c104_node.specs.{Acts.{IsWithinLimits, node_act}, PlaceActs.{ActEnds, AttemptEnds, HasActed}, PortActs.port_credit_in};
-    ghost use Rattle.c104_node.specs.{PortActs.{port_credit_out, port_enter, port_leave}, Tagged.tagged_kind, TracedRecords.counted_shown};
+    ghost use Rattle.std.specs.Prelude.{OnOk, false, length, refl, true, ◌<◌, ◌≡◌};
+    ghost use Rattle.c104_node.specs.{Acts.IsWithinLimits, PlaceActs.ActEnds, Tagged.tagged_kind, TracedRecords.counted_shown};
     ghost use Rattle.c104_node.specs.Traces.{trace_limit};
-    ghost use Rattle.c104_switch.specs.declared.actions.ReplyOf.TheVariants as reply;
 
     ghost shown = { counted_shown };
 
@@ -125,6 +121,7 @@ impl Place<TaggedToken> for CountedNode {
         Ok(())
     }
 
+    // Whether the node is ready is told by what it answers, so it is asked once.
     #[inline(always)]
     fn act(
         &mut self,
@@ -134,82 +131,14 @@ impl Place<TaggedToken> for CountedNode {
     ) -> Result<ReplyOf<TaggedToken>, NoMemory>
         requires short { IsWithinLimits act }
         requires room { length self.old.trace < trace_limit }
-        requires ready { is_some (node_act tagged_kind number act self.old.state) ≡ true }
         ensures { ActEnds tagged_kind true number stamp act (counted_shown self.old) result (counted_shown self.new) }
-    {
-        let reply = self.core.act(number, &act)?;
-        self.history = self.history.with(&stamp, &Note::Act(&act, &reply));
-        self.entries += 1;
-        Ok(reply)
-    }
-
-    // Whether the node is ready is told by what it answers, so it is asked once.
-    #[inline(always)]
-    fn attempt(
-        &mut self,
-        number: usize,
-        stamp: Stamp,
-        act: ActOf<TaggedToken>,
-    ) -> Result<ReplyOf<TaggedToken>, NoMemory>
-        requires short { IsWithinLimits act }
-        requires free { (counted_shown self.old).full ≡ false }
-        ensures { AttemptEnds tagged_kind true number stamp act (counted_shown self.old) result (counted_shown self.new) }
     {
         let reply = self.core.act(number, &act)?;
         if let ReplyOf::NotReady = reply {
             return Ok(reply);
         }
-        self.history = self.history.with(&stamp, &Note::Act(&act, &reply));
+        self.history = self.history.with(&stamp, &act, &reply);
         self.entries += 1;
         Ok(reply)
-    }
-
-    #[inline(always)]
-    fn leave(&mut self, stamp: Stamp, port: Port) -> TaggedToken
-        requires room { length self.old.trace < trace_limit }
-        requires ready { is_some (node_act tagged_kind 0 (port_leave port) self.old.state) ≡ true }
-        ensures { HasActed tagged_kind true 0 stamp (port_leave port)
-            (counted_shown self.old) (reply.Token result) (counted_shown self.new) }
-    {
-        let token = self.core.leave(port);
-        self.history = self.history.with(&stamp, &Note::Leave(port, token));
-        self.entries += 1;
-        token
-    }
-
-    #[inline(always)]
-    fn enter(&mut self, stamp: Stamp, port: Port, token: TaggedToken)
-        requires room { length self.old.trace < trace_limit }
-        requires ready { is_some (node_act tagged_kind 0 (port_enter token port) self.old.state) ≡ true }
-        ensures { HasActed tagged_kind true 0 stamp (port_enter token port)
-            (counted_shown self.old) reply.Done (counted_shown self.new) }
-    {
-        self.core.enter(port, token);
-        self.history = self.history.with(&stamp, &Note::Enter(port, token));
-        self.entries += 1;
-    }
-
-    #[inline(always)]
-    fn credit_out(&mut self, stamp: Stamp, port: Port)
-        requires room { length self.old.trace < trace_limit }
-        requires ready { is_some (node_act tagged_kind 0 (port_credit_out port) self.old.state) ≡ true }
-        ensures { HasActed tagged_kind true 0 stamp (port_credit_out port)
-            (counted_shown self.old) reply.Done (counted_shown self.new) }
-    {
-        self.core.credit_out(port);
-        self.history = self.history.with(&stamp, &Note::CreditOut(port));
-        self.entries += 1;
-    }
-
-    #[inline(always)]
-    fn credit_in(&mut self, stamp: Stamp, port: Port)
-        requires room { length self.old.trace < trace_limit }
-        requires ready { is_some (node_act tagged_kind 0 (port_credit_in port) self.old.state) ≡ true }
-        ensures { HasActed tagged_kind true 0 stamp (port_credit_in port)
-            (counted_shown self.old) reply.Done (counted_shown self.new) }
-    {
-        self.core.credit_in(port);
-        self.history = self.history.with(&stamp, &Note::CreditIn(port));
-        self.entries += 1;
     }
 }

@@ -1,7 +1,7 @@
 //! What crosses a wire, and the acts at its two ports.
-ghost use Rattle.std.specs.Prelude.{is_some, true, ◌≡◌};
-ghost use Rattle.c104_node.specs.{Acts.node_act, PortActs.{IsAnswerOf, far_act, near_act, port_credit_in, port_credit_out, port_enter}};
-ghost use Rattle.{c104_node.specs.PortActs.port_leave, c104_switch.specs.declared.actions.ReplyOf.ReplyOf as TheReply};
+ghost use Rattle.std.specs.Prelude.{is_some, ◌≡◌};
+ghost use Rattle.c104_node.specs.{Acts.node_act, PortActs.{IsAnswerOf, far_act, near_act}};
+ghost use Rattle.c104_switch.specs.declared.actions.ReplyOf.{ReplyOf as TheReply};
 
 use crate::acts::ActOf;
 use crate::node::NodeOf;
@@ -24,96 +24,36 @@ pub struct Joint {
     pub crossing: Crossing,
 }
 
-/// The act at the port from which something crosses, of a node that would do it.
+/// The act at the port from which something crosses.
 #[inline(always)]
-pub fn near_act<T: TokenKind>(node: &NodeOf<T>, crossing: Crossing, port: Port) -> ActOf<T>
-    requires { is_some (node_act T.kind 0 (near_act crossing port) node.now) ≡ true }
+pub fn near_act<T: TokenKind>(crossing: Crossing, port: Port) -> ActOf<T>
     ensures { result ≡ near_act crossing port }
 {
-    match crossing {
-        Crossing::Token => leave_act(node, port),
-        Crossing::Grant => credit_out_act(node, port),
+    match (crossing, port) {
+        (Crossing::Token, Port::Switch(_, link)) => ActOf::Step(ActionOf::Leave(link)),
+        (Crossing::Token, Port::Terminal(_)) => ActOf::Leave,
+        (Crossing::Grant, Port::Switch(_, link)) => ActOf::Step(ActionOf::CreditOut(link)),
+        (Crossing::Grant, Port::Terminal(_)) => ActOf::CreditOut,
     }
 }
 
-/// The act at the other port, by what the first one answered, of a node that would do it.
+/// The act at the other port, by what the first one answered.
+// By what crosses and what was answered: so the compiler knows the act where it knows what crosses.
 #[inline(always)]
-pub fn far_act<T: TokenKind>(
-    node: &NodeOf<T>,
-    crossing: Crossing,
-    port: Port,
-    told: &ReplyOf<T>,
-) -> ActOf<T>
-    requires answer { IsAnswerOf crossing told.now }
-    requires ready { is_some (node_act T.kind 0 (far_act port told.now) node.now) ≡ true }
+pub fn far_act<T: TokenKind>(crossing: Crossing, port: Port, told: &ReplyOf<T>) -> ActOf<T>
+    requires { IsAnswerOf crossing told.now }
     ensures { result ≡ far_act port told.now }
 {
-    match crossing {
-        Crossing::Token => match told {
-            ReplyOf::Token(token) => enter_act(node, port, *token),
-            ReplyOf::Done | ReplyOf::NotReady | ReplyOf::Control(_) => unreachable!(),
+    match (crossing, told) {
+        (Crossing::Token, ReplyOf::Token(token)) => match port {
+            Port::Switch(_, link) => ActOf::Step(ActionOf::Enter(link, *token)),
+            Port::Terminal(_) => ActOf::Enter(*token),
         },
-        Crossing::Grant => match told {
-            ReplyOf::Done => credit_in_act(node, port),
-            ReplyOf::NotReady | ReplyOf::Token(_) | ReplyOf::Control(_) => unreachable!(),
+        (Crossing::Grant, ReplyOf::Done) => match port {
+            Port::Switch(_, link) => ActOf::Step(ActionOf::CreditIn(link)),
+            Port::Terminal(_) => ActOf::CreditIn,
         },
-    }
-}
-
-/// The act by which a token goes out at a port, of a node that would do it.
-// A node that would is of its port's kind. Said here, it isn't asked again where the act is done.
-#[inline(always)]
-pub fn leave_act<T: TokenKind>(node: &NodeOf<T>, port: Port) -> ActOf<T>
-    requires { is_some (node_act T.kind 0 (port_leave port) node.now) ≡ true }
-    ensures { result ≡ port_leave port }
-{
-    match (node, port) {
-        (NodeOf::Switch(_), Port::Switch(_, link)) => ActOf::Step(ActionOf::Leave(link)),
-        (NodeOf::Terminal(_), Port::Terminal(_)) => ActOf::Leave,
-        (NodeOf::Switch(_), Port::Terminal(_)) => unreachable!(),
-        (NodeOf::Terminal(_), Port::Switch(_, _)) => unreachable!(),
-    }
-}
-
-/// The act by which a token comes in at a port, of a node that would do it.
-#[inline(always)]
-pub fn enter_act<T: TokenKind>(node: &NodeOf<T>, port: Port, token: T) -> ActOf<T>
-    requires { is_some (node_act T.kind 0 (port_enter token port) node.now) ≡ true }
-    ensures { result ≡ port_enter token port }
-{
-    match (node, port) {
-        (NodeOf::Switch(_), Port::Switch(_, link)) => ActOf::Step(ActionOf::Enter(link, token)),
-        (NodeOf::Terminal(_), Port::Terminal(_)) => ActOf::Enter(token),
-        (NodeOf::Switch(_), Port::Terminal(_)) => unreachable!(),
-        (NodeOf::Terminal(_), Port::Switch(_, _)) => unreachable!(),
-    }
-}
-
-/// The act by which a port grants eight more, of a node that would do it.
-#[inline(always)]
-pub fn credit_out_act<T: TokenKind>(node: &NodeOf<T>, port: Port) -> ActOf<T>
-    requires { is_some (node_act T.kind 0 (port_credit_out port) node.now) ≡ true }
-    ensures { result ≡ port_credit_out port }
-{
-    match (node, port) {
-        (NodeOf::Switch(_), Port::Switch(_, link)) => ActOf::Step(ActionOf::CreditOut(link)),
-        (NodeOf::Terminal(_), Port::Terminal(_)) => ActOf::CreditOut,
-        (NodeOf::Switch(_), Port::Terminal(_)) => unreachable!(),
-        (NodeOf::Terminal(_), Port::Switch(_, _)) => unreachable!(),
-    }
-}
-
-/// The act by which eight more are granted to a port, of a node that would do it.
-#[inline(always)]
-pub fn credit_in_act<T: TokenKind>(node: &NodeOf<T>, port: Port) -> ActOf<T>
-    requires { is_some (node_act T.kind 0 (port_credit_in port) node.now) ≡ true }
-    ensures { result ≡ port_credit_in port }
-{
-    match (node, port) {
-        (NodeOf::Switch(_), Port::Switch(_, link)) => ActOf::Step(ActionOf::CreditIn(link)),
-        (NodeOf::Terminal(_), Port::Terminal(_)) => ActOf::CreditIn,
-        (NodeOf::Switch(_), Port::Terminal(_)) => unreachable!(),
-        (NodeOf::Terminal(_), Port::Switch(_, _)) => unreachable!(),
+        _ => unreachable!(),
     }
 }
 
@@ -122,21 +62,16 @@ pub fn credit_in_act<T: TokenKind>(node: &NodeOf<T>, port: Port) -> ActOf<T>
 pub fn can_near<T: TokenKind>(node: &NodeOf<T>, crossing: Crossing, port: Port) -> bool
     ensures { result ≡ is_some (node_act T.kind 0 (near_act crossing port) node.now) }
 {
-    match node {
-        NodeOf::Switch(switch) => match port {
-            Port::Switch(_, link) => match crossing {
-                Crossing::Token => switch.can_leave(link),
-                Crossing::Grant => switch.can_credit_out(link),
-            },
-            Port::Terminal(_) => false,
+    match (node, port) {
+        (NodeOf::Switch(switch), Port::Switch(_, link)) => match crossing {
+            Crossing::Token => switch.can_leave(link),
+            Crossing::Grant => switch.can_credit_out(link),
         },
-        NodeOf::Terminal(terminal) => match port {
-            Port::Switch(_, _) => false,
-            Port::Terminal(_) => match crossing {
-                Crossing::Token => terminal.can_leave(),
-                Crossing::Grant => terminal.can_credit_out(),
-            },
+        (NodeOf::Terminal(terminal), Port::Terminal(_)) => match crossing {
+            Crossing::Token => terminal.can_leave(),
+            Crossing::Grant => terminal.can_credit_out(),
         },
+        _ => false,
     }
 }
 
@@ -146,20 +81,15 @@ pub fn can_far<T: TokenKind>(node: &NodeOf<T>, crossing: Crossing, port: Port) -
     ensures { (reply : TheReply T) → IsAnswerOf crossing reply →
         result ≡ is_some (node_act T.kind 0 (far_act port reply) node.now) }
 {
-    match node {
-        NodeOf::Switch(switch) => match port {
-            Port::Switch(_, link) => match crossing {
-                Crossing::Token => switch.can_enter(link),
-                Crossing::Grant => switch.can_credit_in(link),
-            },
-            Port::Terminal(_) => false,
+    match (node, port) {
+        (NodeOf::Switch(switch), Port::Switch(_, link)) => match crossing {
+            Crossing::Token => switch.can_enter(link),
+            Crossing::Grant => switch.can_credit_in(link),
         },
-        NodeOf::Terminal(terminal) => match port {
-            Port::Switch(_, _) => false,
-            Port::Terminal(_) => match crossing {
-                Crossing::Token => terminal.can_enter(),
-                Crossing::Grant => terminal.can_credit_in(),
-            },
+        (NodeOf::Terminal(terminal), Port::Terminal(_)) => match crossing {
+            Crossing::Token => terminal.can_enter(),
+            Crossing::Grant => terminal.can_credit_in(),
         },
+        _ => false,
     }
 }

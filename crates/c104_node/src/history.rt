@@ -13,10 +13,11 @@
 ghost use Rattle.std.specs.Prelude.{List};
 ghost use Rattle.c104_node.specs.declared.{acts.Entry.Entry as TheEntry, starts.NodeStart.NodeStart as TheStart};
 
+use crate::acts::ActOf;
 use crate::node::NodeOf;
-use crate::notes::Note;
 use crate::stamps::Stamp;
 use crate::tagged::TaggedToken;
+use c104_switch::ReplyOf;
 use std::marker::Model;
 
 /// Where a node started, and the entries of what it did since. Both are erased: no code can read them.
@@ -34,7 +35,7 @@ impl Model for History {
 
 impl History {
     ghost use Rattle.std.specs.Prelude.{[], ◌++◌, ◌∷◌, ◌≡◌};
-    ghost use Rattle.c104_node.specs.{Notes.{note_act, note_reply}, Starts.start_of, Tagged.tagged_kind, Traces.kept_entry};
+    ghost use Rattle.c104_node.specs.{Starts.start_of, Tagged.tagged_kind, Traces.kept_entry};
 
     /// The history of a node that starts where it stands.
     #[inline(always)]
@@ -46,10 +47,15 @@ impl History {
 
     /// The same history with one act more, in the event of this stamp, and its reply.
     #[inline(always)]
-    pub fn with(&self, _stamp: &Stamp, _note: &Note<'_>) -> History
+    pub fn with(
+        &self,
+        _stamp: &Stamp,
+        _act: &ActOf<TaggedToken>,
+        _reply: &ReplyOf<TaggedToken>,
+    ) -> History
         ensures { (result.start ≡ self.now.start)
             × (result.trace ≡ self.now.trace
-            ++ kept_entry tagged_kind _stamp.now (note_act _note.now) (note_reply _note.now) ∷ []) }
+            ++ kept_entry tagged_kind _stamp.now _act.now _reply.now ∷ []) }
     {
         History {}
     }

@@ -1,14 +1,12 @@
 //! What crosses a wire, done at the nodes of both its ends, or at neither.
-ghost use Rattle.std.specs.Prelude.{OnOk, Some, false, is_some, length, map, true, ◌<◌, ◌||◌, ◌≡◌, ◌≢◌};
-ghost use Rattle.c104_node.specs.{ActLinks.port_link, Acts.nodes_act, PlaceActs.JointDone, Places.{HasRoomAt, bases, fulls, states}};
-ghost use Rattle.c104_node.specs.{Places.traces, PortActs.{IsAnswerOf, far_act, joint_step, near_act}, Traces.{full_at, joint_deeds}};
-ghost use Rattle.{c104_node.specs.{Traces.noted_all, WiredPlaces.links_at}, c104_switch.specs.Actions.is_ready};
+ghost use Rattle.std.specs.Prelude.{OnOk, false, is_some, length, map, true, ◌<◌, ◌||◌, ◌≡◌, ◌≢◌};
+ghost use Rattle.c104_node.specs.{ActLinks.port_link, Acts.nodes_act, PlaceActs.{HasActedAt, JointDone}, Places.{HasRoomAt, bases}};
+ghost use Rattle.c104_node.specs.{Places.{fulls, states}, PortActs.{IsAnswerOf, far_act, near_act}, Traces.full_at, WiredPlaces.links_at};
 ghost use Rattle.c104_switch.specs.declared.actions.ReplyOf.{ReplyOf as TheReply};
 
-use crate::crossings::{Crossing, Joint, can_far, can_near};
-use crate::end_places::{credit_in_at, credit_out_at, enter_at, leave_at};
+use crate::crossings::{Crossing, Joint, can_far, can_near, far_act, near_act};
 use crate::place::Place;
-use crate::places::{is_full_at, node_at, room_at};
+use crate::places::{act_at, is_full_at, node_at, room_at};
 use crate::stamps::Stamp;
 use c104_event::{EventFault, Port};
 use c104_switch::ReplyOf;
@@ -58,7 +56,9 @@ pub fn joint_from<T: TokenKind, P: Place<T>>(
     }
     // All growths come before the first change.
     room_at_both(places, near, far)?;
-    Ok(cross_open(places, near, far, joint, stamp))
+    let told = act_at(places, near, stamp, near_act(joint.crossing, joint.near));
+    let _done = come_at(places, far, joint, stamp, &told);
+    Ok(told)
 }
 
 /// Whether the node at a place would do the act at the port from which something crosses.
@@ -117,43 +117,26 @@ fn room_at_both<T: TokenKind, P: Place<T>>(
     room_at(places, far)
 }
 
-/// Something crosses a wire between the nodes at two places, where both can act and have room.
+/// What crosses comes in at the far port, by what the near one answered, of a node that is ready for it.
+// An arm for each kind of port, which are alike: in each the compiler knows what act it is.
 #[inline(always)]
-fn cross_open<T: TokenKind, P: Place<T>>(
+fn come_at<T: TokenKind, P: Place<T>>(
     places: &mut [P],
-    near: usize,
     far: usize,
     joint: Joint,
     stamp: Stamp,
+    told: &ReplyOf<T>,
 ) -> ReplyOf<T>
-    requires apart { near ≢ far }
-    requires near { near < length places.old }
-    requires far { far < length places.old }
-    requires near_room { HasRoomAt P.has_room places.old near }
-    requires far_room { HasRoomAt P.has_room places.old far }
-    requires near_linked { links_at (bases (map P.shown places.old)) near (port_link joint.near) ≡ true }
-    requires far_linked { links_at (bases (map P.shown places.old)) far (port_link joint.far) ≡ true }
-    requires goes { is_some
-        (nodes_act T.kind (states (map P.shown places.old)) near 0 (near_act joint.crossing joint.near)) ≡ true }
-    requires comes { (reply : TheReply T) → IsAnswerOf joint.crossing reply → is_some
-        (nodes_act T.kind (states (map P.shown places.old)) far 0 (far_act joint.far reply)) ≡ true }
-    ensures crossed { joint_step T.kind near far joint.near joint.far joint.crossing (states (map P.shown places.old))
-        ≡ Some (result, states (map P.shown places.new)) }
-    ensures done { is_ready result ≡ true }
-    ensures base { bases (map P.shown places.new) ≡ bases (map P.shown places.old) }
-    ensures trace { traces (map P.shown places.new) ≡ noted_all P.keeps (traces (map P.shown places.old))
-        (joint_deeds T.kind stamp near far joint.near joint.far joint.crossing result) }
+    requires inside { far < length places.old }
+    requires answer { IsAnswerOf joint.crossing told.now }
+    requires linked { links_at (bases (map P.shown places.old)) far (port_link joint.far) ≡ true }
+    requires room { HasRoomAt P.has_room places.old far }
+    requires ready { is_some (nodes_act T.kind (states (map P.shown places.old)) far 0 (far_act joint.far told.now)) ≡ true }
+    ensures { HasActedAt T.kind P.keeps far 0 stamp (far_act joint.far told.now)
+        (map P.shown places.old) result (map P.shown places.new) }
 {
-    match joint.crossing {
-        Crossing::Token => {
-            let token = leave_at(places, near, stamp, joint.near);
-            enter_at(places, far, stamp, joint.far, token);
-            ReplyOf::Token(token)
-        }
-        Crossing::Grant => {
-            credit_out_at(places, near, stamp, joint.near);
-            credit_in_at(places, far, stamp, joint.far);
-            ReplyOf::Done
-        }
+    match joint.far {
+        Port::Switch(_, _) => act_at(places, far, stamp, far_act(joint.crossing, joint.far, told)),
+        Port::Terminal(_) => act_at(places, far, stamp, far_act(joint.crossing, joint.far, told)),
     }
 }

@@ -12,12 +12,10 @@
 mod acts;
 mod counted;
 mod crossings;
-mod end_places;
 mod ends;
 mod history;
 mod joint;
 mod node;
-mod notes;
 mod origins;
 mod place;
 mod places;
@@ -40,8 +38,8 @@ pub use node::starts::add_starts;
 pub use origins::{Origin, origin_of, origins_of};
 pub use place::Place;
 pub use places::{
-    act_ready, attempt_at, is_full_at, is_idle_at, next_claim_at, next_ready_at, next_wanting_at,
-    node_at, ready_at,
+    attempt_at, is_full_at, is_idle_at, next_claim_at, next_ready_at, next_wanting_at, node_at,
+    ready_at,
 };
 pub use port_part::PortPart;
 pub use recorded::{Node, act_pair, copy_entries, ready_pair};

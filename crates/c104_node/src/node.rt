@@ -3,7 +3,6 @@ ghost use Rattle.std.specs.{Option.{option_copied, option_to_list}, Prelude.{[],
 ghost use Rattle.c104_node.specs.Nodes.{node_arrived, node_peek, node_waiting, terminals_of};
 
 mod acting;
-mod ends;
 mod idle;
 mod limits;
 pub mod quiet;

@@ -1,11 +1,13 @@
 //! One act of one place among all places.
-ghost use Rattle.std.specs.{Option.option_copied, Prelude.{IfErr, IfSome, None, OnOk, Some, false, is_some, length, map, slice_get, true}};
-ghost use Rattle.std.specs.Prelude.{unwrap_or, ℕ, ◌<◌, ◌≡◌, ◌≢◌, ◌≤◌};
-ghost use Rattle.{c104_link.specs.Steps.step_at, c104_node.specs.{ActLinks.act_link, Acts.{IsWithinLimits, nodes_act}, Idle.IsIdleNode}};
-ghost use Rattle.c104_node.specs.{Nodes.{Node as TheNode, node_claim}, PlaceActs.{ActEndsAt, AloneDone}, Places.{HasRoomAt, bases, fulls}};
-ghost use Rattle.c104_node.specs.{Places.{room_fault, states}, PortActs.act_limit, PortParts.{PassesUnready, is_ready_at}};
-ghost use Rattle.c104_node.specs.{Records.has_link, Traces.full_at, WiredPlaces.is_linked_at};
+ghost use Rattle.std.specs.{Option.option_copied, Prelude.{Err, IfSome, None, Ok, OnOk, Some, false, if◌then◌else◌, is_some, length, map}};
+ghost use Rattle.std.specs.Prelude.{slice_get, true, unwrap_or, ℕ, ◌<◌, ◌≡◌, ◌≢◌, ◌≤◌};
+ghost use Rattle.{c104_link.specs.Steps.step_at, c104_node.specs.{ActLinks.act_link, Acts.{IsWithinLimits, node_act, nodes_act}}};
+ghost use Rattle.c104_node.specs.{Acts.wants_memory, Idle.IsIdleNode, Nodes.{Node as TheNode, node_claim}, PlaceActs.AloneDone};
+ghost use Rattle.c104_node.specs.{PlaceActs.HasActedAt, Places.{HasRoomAt, bases, fulls, states}, PortActs.act_limit};
+ghost use Rattle.c104_node.specs.{PortParts.{PassesUnready, is_ready_at}, Records.has_link, Traces.full_at, WiredPlaces.is_linked_at};
 ghost use Rattle.{c104_regs.specs.declared.registers.TheConstants.LINKS, c104_switch.specs.Claims.IsNextLink};
+ghost use Rattle.c104_event.specs.declared.faults.EventFault.TheVariants as fault;
+ghost use Rattle.c104_switch.specs.declared.actions.ReplyOf.TheVariants as reply;
 
 use crate::acts::ActOf;
 use crate::node::NodeOf;
@@ -68,70 +70,36 @@ pub fn room_at<T: TokenKind, P: Place<T>>(places: &mut [P], place: usize) -> Res
     found.room()
 }
 
-/// The node at a place does an act that it is ready for.
-// Inlined: where the act is known, its other cases go.
+/// The node at a place does an act that it is ready for and that wants no memory, as none at the end of a wire does.
+// Inlined, with all that it calls: where the act is known, its other cases go, and the node isn't asked again whether it
+// is ready.
 #[inline(always)]
-fn act_at<T: TokenKind, P: Place<T>>(
+pub fn act_at<T: TokenKind, P: Place<T>>(
     places: &mut [P],
     place: usize,
-    number: usize,
     stamp: Stamp,
     act: ActOf<T>,
-) -> Result<ReplyOf<T>, NoMemory>
+) -> ReplyOf<T>
     requires inside { place < length places.old }
-    requires short { IsWithinLimits act }
+    requires light { wants_memory act ≡ false }
     requires linked { is_linked_at (bases (map P.shown places.old)) place act ≡ true }
-    requires below { act_limit (slice_get (states (map P.shown places.old)) place) act ≡ None }
     requires room { HasRoomAt P.has_room places.old place }
-    requires ready { is_some (nodes_act T.kind (states (map P.shown places.old)) place number act) ≡ true }
-    ensures ends { ActEndsAt T.kind P.keeps place number stamp act
+    requires ready { is_some (nodes_act T.kind (states (map P.shown places.old)) place 0 act) ≡ true }
+    ensures done { HasActedAt T.kind P.keeps place 0 stamp act
         (map P.shown places.old) result (map P.shown places.new) }
     ensures others { (j : ℕ) → j ≢ place →
         HasRoomAt P.has_room places.old j → HasRoomAt P.has_room places.new j }
 {
     let found = &mut places[place];
-    found.act(number, stamp, act)
-}
-
-/// Makes room at a place for whatever is kept of one act. TraceFull where no more may be kept there, else NoMemory.
-#[inline(always)]
-fn open_at<T: TokenKind, P: Place<T>>(places: &mut [P], place: usize) -> Result<(), EventFault>
-    requires { place < length places.old }
-    ensures shown { map P.shown places.new ≡ map P.shown places.old }
-    ensures open { OnOk result ((full_at (fulls (map P.shown places.old)) place ≡ false)
-        × HasRoomAt P.has_room places.new place) }
-    ensures fault { IfErr result (λ f. f ≡ room_fault (full_at (fulls (map P.shown places.old)) place)) }
-{
-    if is_full_at(places, place) {
-        return Err(EventFault::TraceFull);
+    match found.act(0, stamp, act) {
+        Ok(ReplyOf::NotReady) => unreachable!(),
+        Ok(reply) => reply,
+        Err(_) => unreachable!(),
     }
-    room_at(places, place)?;
-    Ok(())
-}
-
-/// The node at a place does an act that it is ready for and that no limit refuses, unless nothing more can be kept of
-/// it.
-#[inline(always)]
-pub fn act_ready<T: TokenKind, P: Place<T>>(
-    places: &mut [P],
-    place: usize,
-    number: usize,
-    stamp: Stamp,
-    act: ActOf<T>,
-) -> Result<ReplyOf<T>, EventFault>
-    requires inside { place < length places.old }
-    requires short { IsWithinLimits act }
-    requires ready { is_some (nodes_act T.kind (states (map P.shown places.old)) place number act) ≡ true }
-    requires lone { act_link act ≡ None }
-    requires within { act_limit (slice_get (states (map P.shown places.old)) place) act ≡ None }
-    ensures { AloneDone T.kind P.keeps place number stamp act (map P.shown places.old) result (map P.shown places.new) }
-{
-    open_at(places, place)?;
-    Ok(act_at(places, place, number, stamp, act)?)
 }
 
 /// The node at a place does an act that no limit refuses, if it is ready for it, where nothing is full. Whether it is
-/// ready is told by what it answers.
+/// ready is told by what it answers, where there is memory for whatever is kept of it.
 #[inline(always)]
 pub fn attempt_at<T: TokenKind, P: Place<T>>(
     places: &mut [P],
@@ -148,7 +116,26 @@ pub fn attempt_at<T: TokenKind, P: Place<T>>(
     ensures { AloneDone T.kind P.keeps place number stamp act (map P.shown places.old) result (map P.shown places.new) }
 {
     let found = &mut places[place];
-    Ok(found.attempt(number, stamp, act)?)
+    match found.room() {
+        Ok(()) => Ok(found.act(number, stamp, act)?),
+        Err(_) => without_room(found, number, act),
+    }
+}
+
+/// What is answered of an act for which no room could be made: NoMemory, if the node is ready for it.
+fn without_room<T: TokenKind, P: Place<T>>(
+    found: &P,
+    number: usize,
+    act: ActOf<T>,
+) -> Result<ReplyOf<T>, EventFault>
+    ensures { result ≡ (if is_some (node_act T.kind number act (P.shown found.now).state)
+        then Err fault.NoMemory else Ok reply.NotReady) }
+{
+    if found.node().ready(number, &act) {
+        Err(EventFault::NoMemory)
+    } else {
+        Ok(ReplyOf::NotReady)
+    }
 }
 
 /// The next link of a set, from this one on, at which the switch at a place is ready for its act of a part; of a turn, at

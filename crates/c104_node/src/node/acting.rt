@@ -15,7 +15,9 @@ use c104_token::{NoMemory, TokenKind};
 impl<T: TokenKind> NodeOf<T> {
     /// Does an act, or answers NotReady and changes nothing. The number is the terminal's, if the
     /// node is one. Only Send and Drain may want memory, where the node is ready for them, and then nothing has changed.
+    // Inlined: where the act is known, its other cases go.
     #[inline(always)]
+    #[tactic(auto, using(crate::proofs::ActionSteps::step_as_node))]
     pub fn act(&mut self, number: usize, act: &ActOf<T>) -> Result<ReplyOf<T>, NoMemory>
         requires { IsWithinLimits act.now }
         ensures acted { MatchResult result
@@ -27,25 +29,29 @@ impl<T: TokenKind> NodeOf<T> {
             (λ _. wants_memory act.now ≡ true) }
         ensures refused { OnErr result (is_some (node_act T.kind number act.now self.old) ≡ true) }
     {
-        match act {
-            ActOf::Send(packet) => match self {
-                NodeOf::Switch(_) => Ok(ReplyOf::NotReady),
-                NodeOf::Terminal(terminal) => {
+        match self {
+            NodeOf::Switch(switch) => match act {
+                ActOf::Step(action) => Ok(switch.act(action)),
+                _ => Ok(ReplyOf::NotReady),
+            },
+            NodeOf::Terminal(terminal) => match act {
+                ActOf::Step(_) => Ok(ReplyOf::NotReady),
+                ActOf::Send(packet) => {
                     terminal.send(number, packet.packet())?;
                     Ok(ReplyOf::Done)
                 }
-            },
-            ActOf::Drain => match self {
-                NodeOf::Switch(_) => Ok(ReplyOf::NotReady),
-                NodeOf::Terminal(terminal) => {
+                ActOf::Drain => {
                     if !terminal.can_drain() {
                         return Ok(ReplyOf::NotReady);
                     }
                     let token = terminal.drain()?;
                     Ok(gave(token))
                 }
+                ActOf::Leave => Ok(gave(terminal.leave())),
+                ActOf::Enter(token) => Ok(done(terminal.enter(*token))),
+                ActOf::CreditOut => Ok(done(terminal.credit_out())),
+                ActOf::CreditIn => Ok(done(terminal.credit_in())),
             },
-            _ => Ok(self.act_light(act)),
         }
     }
 
@@ -73,30 +79,9 @@ impl<T: TokenKind> NodeOf<T> {
                 NodeOf::Switch(_) => ReplyOf::NotReady,
                 NodeOf::Terminal(terminal) => gave(terminal.drain_reserved(spare)),
             },
-            _ => self.act_light(act),
-        }
-    }
-
-    /// Does an act that wants no memory, or answers NotReady and changes nothing.
-    #[inline(always)]
-    #[tactic(auto, using(crate::proofs::ActionSteps::step_as_node))]
-    fn act_light(&mut self, act: &ActOf<T>) -> ReplyOf<T>
-        requires { wants_memory act.now ≡ false }
-        ensures { (number : ℕ) → (result, self.new) ≡
-            reply_outcome (node_act T.kind number act.now self.old) self.old }
-    {
-        match self {
-            NodeOf::Switch(switch) => match act {
-                ActOf::Step(action) => switch.act(action),
-                _ => ReplyOf::NotReady,
-            },
-            NodeOf::Terminal(terminal) => match act {
-                ActOf::Step(_) => ReplyOf::NotReady,
-                ActOf::Leave => gave(terminal.leave()),
-                ActOf::Enter(token) => done(terminal.enter(*token)),
-                ActOf::CreditOut => done(terminal.credit_out()),
-                ActOf::CreditIn => done(terminal.credit_in()),
-                ActOf::Send(_) | ActOf::Drain => unreachable!(),
+            _ => match self.act(number, act) {
+                Ok(reply) => reply,
+                Err(_) => unreachable!(),
             },
         }
     }

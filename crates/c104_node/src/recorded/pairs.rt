@@ -59,9 +59,9 @@ pub fn act_pair(
         (far_act joint.far result) reply.Done far.new.0.state }
     ensures done { is_ready result ≡ true }
 {
-    let going = near_act(&near.core, joint.crossing, joint.near);
+    let going = near_act(joint.crossing, joint.near);
     let told = near.act(ticket, seat, going);
-    let coming = far_act(&far.core, joint.crossing, joint.far, &told);
+    let coming = far_act(joint.crossing, joint.far, &told);
     let _done = far.act(ticket, seat, coming);
     told
 }

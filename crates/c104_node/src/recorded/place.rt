@@ -8,9 +8,9 @@ use c104_switch::Reply;
 use c104_token::{NoMemory, Token};
 
 impl Place<Token> for Node {
-    ghost use Rattle.std.specs.Prelude.{None, OnOk, Some, false, is_some, refl, true, ◌<◌, ◌≡◌};
-    ghost use Rattle.c104_node.specs.{ActLinks.on_links, Acts.{IsWithinLimits, node_act}, PlaceActs.{ActEnds, AttemptEnds}};
-    ghost use Rattle.{c104_node.specs.{PortActs.act_limit, Records.{has_link, is_full, node_shown}}, c104_token.specs.Kinds.plain_kind};
+    ghost use Rattle.std.specs.Prelude.{None, OnOk, Some, false, refl, true, ◌<◌, ◌≡◌};
+    ghost use Rattle.c104_node.specs.{ActLinks.on_links, Acts.IsWithinLimits, PlaceActs.ActEnds, PortActs.act_limit};
+    ghost use Rattle.{c104_node.specs.Records.{has_link, is_full, node_shown}, c104_token.specs.Kinds.plain_kind};
 
     ghost shown = { node_shown };
 
@@ -48,10 +48,12 @@ impl Place<Token> for Node {
         requires linked { on_links (has_link self.old.0.wired) act ≡ true }
         requires below { act_limit (Some self.old.0.state) act ≡ None }
         requires room { (0 < self.old.1.entries) × (is_full self.old.0 ≡ false) }
-        requires ready { is_some (node_act plain_kind number act self.old.0.state) ≡ true }
         ensures { ActEnds plain_kind true number stamp act (node_shown self.old) result (node_shown self.new) }
     {
         let reply = self.core.act(number, &act)?;
+        if let Reply::NotReady = reply {
+            return Ok(reply);
+        }
         let told = same_reply(&reply);
         self.trace.push_reserved(Entry {
             ticket: stamp.ticket,
@@ -60,20 +62,5 @@ impl Place<Token> for Node {
             seat: stamp.seat,
         });
         Ok(reply)
-    }
-
-    #[inline(always)]
-    fn attempt(&mut self, number: usize, stamp: Stamp, act: Act) -> Result<Reply, NoMemory>
-        requires short { IsWithinLimits act }
-        requires linked { on_links (has_link self.old.0.wired) act ≡ true }
-        requires below { act_limit (Some self.old.0.state) act ≡ None }
-        requires free { is_full self.old.0 ≡ false }
-        ensures { AttemptEnds plain_kind true number stamp act (node_shown self.old) result (node_shown self.new) }
-    {
-        if !self.core.ready(number, &act) {
-            return Ok(Reply::NotReady);
-        }
-        self.room_for_entry()?;
-        Place::act(self, number, stamp, act)
     }
 }

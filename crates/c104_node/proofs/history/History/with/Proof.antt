@@ -1,11 +1,11 @@
 -- A history is made without code, and the proof says what it holds. Assumes `Logic`.
-use Rattle.c104_node.{proofs.Walks.{none, none_made}, specs.{Notes.{note_act, note_reply}, Tagged.tagged_kind, Traces.kept_entry}}
+use Rattle.c104_node.{proofs.Walks.{none, none_made}, specs.{Tagged.tagged_kind, Traces.kept_entry}}
 use Rattle.{c104_node.specs.contracts.history.History.with.Key.name as #self, std.proofs.Common.{List, [], refl, ◌++◌, ◌∷◌}}
 use base.Logic.{SProp, ent}
 use contract.{Monad.Fun, Running.{tables, tables_of}}
-use denote.{Builtin.RefOf, Exit.yes, RattleType.owns, Signature.{named_lft, plain, types_at}, Steps.nothing, Triple.Clauses.Clauses}
-use denote.Triple.{Clauses.{Ended, closing}, Entry.alive, Spec.{Meets, triple_of}, Table.entered, Walked.{Goes-dropped, Stays, ends_at}}
-use denote.Triple.Walked.{says, stay_dropped, walk_Meets, walk_of}
+use denote.{Builtin.RefOf, Exit.yes, RattleType.owns, Signature.{plain, types_at}, Steps.nothing, Triple.Clauses.{Clauses, Ended, closing}}
+use denote.Triple.{Entry.alive, Spec.{Meets, triple_of}, Table.entered, Walked.{Goes-dropped, Stays, ends_at, says, stay_dropped}}
+use denote.Triple.Walked.{walk_Meets, walk_of}
 use mir.{Syntax.Fn, Val.{Val, vptr}}
 use prog.{Memory.Memory, Routine.Routine, Wp.{Calls, Loops, Tables, WpFn}}
 use seplogic.Ra.Ura.{Ura}
@@ -17,7 +17,6 @@ use Rattle.c104_node.proofs.history.History.with.Statement as stated
 use Rattle.c104_node.specs.contracts.acts.ActOf as ActOf
 use Rattle.c104_node.specs.contracts.history.History as History
 use Rattle.c104_node.specs.contracts.history.History.with as F
-use Rattle.c104_node.specs.contracts.notes.NoteOf as NoteOf
 use Rattle.c104_node.specs.contracts.stamps.Stamp as Stamp
 use Rattle.c104_node.specs.contracts.tagged.TaggedToken as TaggedToken
 use Rattle.c104_switch.specs.contracts.actions.ReplyOf as ReplyOf
@@ -29,7 +28,7 @@ abbrev ended : Ended
 ended = F.ended
 
 abbrev stayed : Stays ended.signature.params ended.kept
-stayed = (stay_dropped _ yes, (stay_dropped _ yes, (stay_dropped _ yes, tt)))
+stayed = (stay_dropped _ yes, (stay_dropped _ yes, (stay_dropped _ yes, (stay_dropped _ yes, tt))))
 
 module _ {M : Type 1} {𝓤 : Ura M} (𝓛 : Logic 𝓤) (at_mem : Memory → SProp 𝓤) (run : Routine → Fun 𝓤) where
   open 𝓛 use {H}
@@ -51,22 +50,24 @@ module _ {M : Type 1} {𝓤 : Ura M} (𝓛 : Logic 𝓤) (at_mem : Memory → SP
         let u : Val = vptr a.0.ref_ptr.0 a.0.ref_ptr.1 in
         let v : Val = vptr a.1.0.ref_ptr.0 a.1.0.ref_ptr.1 in
         let w : Val = vptr a.1.1.0.ref_ptr.0 a.1.1.0.ref_ptr.1 in
-        let made : (History.the_row).Denot = record { start = a.0.now.start; trace = a.0.now.trace ++ kept_entry tagged_kind a.1.0.now (note_act a.1.1.0.now) (note_reply a.1.1.0.now) ∷ [] } in
+        let x : Val = vptr a.1.1.1.0.ref_ptr.0 a.1.1.1.0.ref_ptr.1 in
+        let made : (History.the_row).Denot = record { start = a.0.now.start; trace = a.0.now.trace ++ kept_entry tagged_kind a.1.0.now a.1.1.0.now a.1.1.1.0.now ∷ [] } in
         qed 𝓛 ((raw toks ⊛ ‵ (owns (types_at ended.signature.params z.0.0) a vss)) ∷ raw ((held z.0.0 a).requires z.1) ∷ []) ∵
-        keep ! (0 ∷ []) $ split ! $ move ! (1 ∷ []) $ fsplit ! $ fsplit ! $ feq_l ! (λ is₀. drop ! $ fsplit ! $ fsplit ! $ feq_l ! (λ is₁. drop ! $ fsplit ! $ fsplit ! $ feq_l ! (λ is₂. drop ! $ drop ! $
-        regoal ! (λ (us : List Val). prop (WpFn 𝓤 H C Λ function (us ++ (vss.1.0 ++ (vss.1.1.0 ++ []))) Post)) is₀ refl $
-        regoal ! (λ (us : List Val). prop (WpFn 𝓤 H C Λ function ((u ∷ []) ++ (us ++ (vss.1.1.0 ++ []))) Post)) is₁ refl $
-        regoal ! (λ (us : List Val). prop (WpFn 𝓤 H C Λ function ((u ∷ []) ++ ((v ∷ []) ++ (us ++ []))) Post)) is₂ refl $
-        enter ! C Λ function (u ∷ v ∷ w ∷ []) Post $ alloc_all ! (λ l. pass_all ! refl ((tt, tt), ((tt, tt), ((tt, tt), tt))) $
+        keep ! (0 ∷ []) $ split ! $ move ! (1 ∷ []) $ fsplit ! $ fsplit ! $ feq_l ! (λ is₀. drop ! $ fsplit ! $ fsplit ! $ feq_l ! (λ is₁. drop ! $ fsplit ! $ fsplit ! $ feq_l ! (λ is₂. drop ! $ fsplit ! $ fsplit ! $ feq_l ! (λ is₃. drop ! $ drop ! $
+        regoal ! (λ (us : List Val). prop (WpFn 𝓤 H C Λ function (us ++ (vss.1.0 ++ (vss.1.1.0 ++ (vss.1.1.1.0 ++ [])))) Post)) is₀ refl $
+        regoal ! (λ (us : List Val). prop (WpFn 𝓤 H C Λ function ((u ∷ []) ++ (us ++ (vss.1.1.0 ++ (vss.1.1.1.0 ++ [])))) Post)) is₁ refl $
+        regoal ! (λ (us : List Val). prop (WpFn 𝓤 H C Λ function ((u ∷ []) ++ ((v ∷ []) ++ (us ++ (vss.1.1.1.0 ++ [])))) Post)) is₂ refl $
+        regoal ! (λ (us : List Val). prop (WpFn 𝓤 H C Λ function ((u ∷ []) ++ ((v ∷ []) ++ ((w ∷ []) ++ (us ++ [])))) Post)) is₃ refl $
+        enter ! C Λ function (u ∷ v ∷ w ∷ x ∷ []) Post $ alloc_all ! (λ l. pass_all ! refl ((tt, tt), ((tt, tt), ((tt, tt), ((tt, tt), tt)))) $
         sets ! (agg ! (no_more !)) refl (tt, tt) $
         nothing ! $ none_made ! $ fjoin ! $
         returns ! (look_at ! 0 refl) $ free_all ! refl $
-        suffices ! _ (ends_at 𝓛 ended stayed held z none made (tt, (tt, (tt, tt))) (tt, (tt, (tt, tt)))) $ says ! (refl, refl) $
-        nothing ! $ nothing ! $ fjoin ! $ nothing ! $ fjoin ! $ nothing ! $ fjoin ! $ move ! (2 ∷ 0 ∷ 1 ∷ []) $ done !))))
+        suffices ! _ (ends_at 𝓛 ended stayed held z none made (tt, (tt, (tt, (tt, tt)))) (tt, (tt, (tt, (tt, tt))))) $ says ! (refl, refl) $
+        nothing ! $ nothing ! $ fjoin ! $ nothing ! $ fjoin ! $ nothing ! $ fjoin ! $ nothing ! $ fjoin ! $ move ! (2 ∷ 0 ∷ 1 ∷ []) $ done !)))))
 
   meets : (𝓣 : Tables 𝓤 H) → Meets 𝓛 ended.signature (WpFn 𝓤 H 𝓣.C 𝓣.Λ function) (closing 𝓛 ended held)
   meets 𝓣 =
-      walk_Meets 𝓛 ended stayed (Goes-dropped 𝓛 4 (RefOf (0 ∷ []) tt (plain (λ _. History.the_row)) (λ _. tt)) yes (λ κs x f. refl), (Goes-dropped 𝓛 4 (RefOf (1 ∷ []) tt (plain (λ _. Stamp.the_row)) (λ _. tt)) yes (λ κs x f. refl), (Goes-dropped 𝓛 4 (RefOf (2 ∷ []) tt (plain (λ κs. NoteOf.the_row (named_lft 4 3 tt κs) (ActOf.the_row TaggedToken.the_row) (ReplyOf.the_row TaggedToken.the_row))) (λ _. tt)) yes (λ κs x f. refl), tt))) held
+      walk_Meets 𝓛 ended stayed (Goes-dropped 𝓛 4 (RefOf (0 ∷ []) tt (plain (λ _. History.the_row)) (λ _. tt)) yes (λ κs x f. refl), (Goes-dropped 𝓛 4 (RefOf (1 ∷ []) tt (plain (λ _. Stamp.the_row)) (λ _. tt)) yes (λ κs x f. refl), (Goes-dropped 𝓛 4 (RefOf (2 ∷ []) tt (plain (λ _. ActOf.the_row TaggedToken.the_row)) (λ _. tt)) yes (λ κs x f. refl), (Goes-dropped 𝓛 4 (RefOf (3 ∷ []) tt (plain (λ _. ReplyOf.the_row TaggedToken.the_row)) (λ _. tt)) yes (λ κs x f. refl), tt)))) held
       (WpFn 𝓤 H 𝓣.C 𝓣.Λ function) (WpFn-mono 𝓤 H 𝓛.laws 𝓣 function) (walks 𝓣.C 𝓣.Λ)
 
 pub with_spec : {M : Type 1} → stated.statement M
