@@ -55,7 +55,8 @@ pub fn joint_from<T: TokenKind, P: Place<T>>(
         return Err(EventFault::TraceFull);
     }
     // All growths come before the first change.
-    room_at_both(places, near, far)?;
+    room_at(places, near)?;
+    room_at(places, far)?;
     let told = act_at(places, near, stamp, near_act(joint.crossing, joint.near));
     let _done = come_at(places, far, joint, stamp, &told);
     Ok(told)
@@ -96,25 +97,6 @@ fn are_full_at<T: TokenKind, P: Place<T>>(places: &[P], near: usize, far: usize)
     ensures { result ≡ (full_at (fulls (map P.shown places.now)) near || full_at (fulls (map P.shown places.now)) far) }
 {
     is_full_at(places, near) || is_full_at(places, far)
-}
-
-/// Makes room at two places for whatever is kept of one act at each, where neither is full.
-#[inline(always)]
-fn room_at_both<T: TokenKind, P: Place<T>>(
-    places: &mut [P],
-    near: usize,
-    far: usize,
-) -> Result<(), NoMemory>
-    requires apart { near ≢ far }
-    requires near { near < length places.old }
-    requires far { far < length places.old }
-    requires free { (full_at (fulls (map P.shown places.old)) near || full_at (fulls (map P.shown places.old)) far) ≡ false }
-    ensures shown { map P.shown places.new ≡ map P.shown places.old }
-    ensures near { OnOk result (HasRoomAt P.has_room places.new near) }
-    ensures far { OnOk result (HasRoomAt P.has_room places.new far) }
-{
-    room_at(places, near)?;
-    room_at(places, far)
 }
 
 /// What crosses comes in at the far port, by what the near one answered, of a node that is ready for it.
