@@ -11,7 +11,7 @@ ghost use Rattle.c104_node.specs.declared.acts.ActOf.TheVariants as act;
 use crate::asked::Asked;
 use c104_event::EventFault;
 use c104_node::{
-    ActOf, Place, SentPacket, Stamp, act_ready, attempt_at, is_full_at, joint_at, node_at, ready_at,
+    ActOf, Place, SentPacket, Stamp, attempt_at, is_full_at, joint_at, node_at, ready_at,
 };
 use c104_plan::Plan;
 use c104_switch::ReplyOf;
@@ -130,7 +130,7 @@ fn send_open<T: TokenKind, P: Place<T>>(
         return Err(EventFault::NoMemory);
     };
     let number = place.saturating_sub(switches);
-    act_ready(places, place, number, stamp, ActOf::Send(copy))
+    attempt_at(places, place, number, stamp, ActOf::Send(copy))
 }
 
 /// Does what an event asks at these places, or changes nothing.
