@@ -77,6 +77,7 @@ impl<T: TokenKind> Place<T> for NodeOf<T> {
         false
     }
 
+    #[inline(always)]
     fn room(&mut self) -> Result<(), NoMemory>
         ensures shown { bare_shown self.new ≡ bare_shown self.old }
         ensures room { OnOk result (Unit {0}) }

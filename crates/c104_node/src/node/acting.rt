@@ -9,13 +9,14 @@ use crate::acts::ActOf;
 use crate::node::NodeOf;
 use crate::port_part::PortPart;
 use crate::terminal::SpareOf;
-use c104_switch::{LinkSet, ReplyOf};
+use c104_switch::{ActionOf, LinkSet, ReplyOf};
 use c104_token::{NoMemory, TokenKind};
 
 impl<T: TokenKind> NodeOf<T> {
     /// Does an act, or answers NotReady and changes nothing. The number is the terminal's, if the
     /// node is one. Only Send and Drain may want memory, where the node is ready for them, and then nothing has changed.
-    // Inlined: where the act is known, its other cases go.
+    // Inlined: where the act is known, its other cases go. What crosses a wire has arms of its own at a switch, as at a
+    // terminal, so that it is a call less.
     #[inline(always)]
     #[tactic(auto, using(crate::proofs::ActionSteps::step_as_node))]
     pub fn act(&mut self, number: usize, act: &ActOf<T>) -> Result<ReplyOf<T>, NoMemory>
@@ -31,6 +32,10 @@ impl<T: TokenKind> NodeOf<T> {
     {
         match self {
             NodeOf::Switch(switch) => match act {
+                ActOf::Step(ActionOf::Enter(link, token)) => Ok(done(switch.enter(*link, *token))),
+                ActOf::Step(ActionOf::Leave(link)) => Ok(gave(switch.leave(*link))),
+                ActOf::Step(ActionOf::CreditOut(link)) => Ok(done(switch.credit_out(*link))),
+                ActOf::Step(ActionOf::CreditIn(link)) => Ok(done(switch.credit_in(*link))),
                 ActOf::Step(action) => Ok(switch.act(action)),
                 _ => Ok(ReplyOf::NotReady),
             },
