@@ -54,6 +54,7 @@ pub mod NodeMaps
 pub mod FinishedRuns
 pub mod StillParts
 pub mod TaggedRuns
+pub mod Engines
 pub mod RecordedStages
 pub mod RecordedNets
 pub mod RecordedPlaces

@@ -4,12 +4,12 @@ use Rattle.c104_node.specs.{Places.{Shown, base_start, bases, states}, declared.
 use Rattle.{c104_plan.specs.Plans.{IsPlan, Plan}, c104_run.proofs.{FirstRecords.map_twice, RecordedStages.{IsRecordedStage, after_plan}}}
 use Rattle.c104_run.proofs.{RecordedStages.{apply_plain, plain_network, plain_stage, record_plain, stage_on}, RoundRuns.Applied}
 use Rattle.c104_run.proofs.{RoundRuns.{ends_keep, ends_seen}, StepMaps.{limit_map, step_map}, WiredPorts.some_mapped}
-use Rattle.c104_run.specs.{EventRuns.{Answers, EventsEnd}, NetRecords.{IsNetRecord, NetRecord, is_done}, Network.{AnswersWith, Network}}
-use Rattle.c104_run.specs.{Network.{WouldBeDone, network_of, network_step}, RecordedNets.{IsReading, IsRecordedNet, KeepsTokens, Reading}}
-use Rattle.c104_run.specs.{RecordedNets.{places_record, read_state, read_trace}, RecordedRuns.{AnswersRecord, record_apply, record_at}}
-use Rattle.{c104_run.specs.Stages.{Stage, stage_apply}, c104_switch.specs.Actions.Reply, c104_token.specs.Kinds.{Kind, plain_kind}}
-use Rattle.{c104_token.specs.declared.tokens.Token.{TheVariants.Byte, Token}, std.proofs.Common.{Bool, List, Result, Some, [], ap, inl}}
-use Rattle.std.proofs.Common.{inr, is_some, map, refl, subst, sym, true, ℕ, ◌∙◌, ◌∷◌, ◌≡◌}
+use Rattle.c104_run.specs.{Engines.{EngineView, engine_network, engine_record}, EventRuns.{Answers, EventsEnd}, NetRecords.IsNetRecord}
+use Rattle.c104_run.specs.{NetRecords.{NetRecord, is_done}, Network.{AnswersWith, Network, WouldBeDone, network_of, network_step}}
+use Rattle.c104_run.specs.RecordedNets.{IsReading, IsRecordedNet, KeepsTokens, Reading, places_record, read_state, read_trace}
+use Rattle.c104_run.specs.{RecordedRuns.{AnswersRecord, record_apply, record_at}, Stages.{Stage, stage_apply}}
+use Rattle.{c104_switch.specs.Actions.Reply, c104_token.specs.{Kinds.{Kind, plain_kind}, declared.tokens.Token.{TheVariants.Byte, Token}}}
+use Rattle.std.proofs.Common.{Bool, List, Result, Some, [], ap, inl, inr, is_some, map, refl, subst, sym, true, ℕ, ◌∙◌, ◌∷◌, ◌≡◌}
 
 -- a list that is mapped by two functions that agree
 pub map_same : {X Y : Type 0} (f g : X → Y) → ((x : X) → f x ≡ g x) → (xs : List X) → map f xs ≡ map g xs
@@ -63,12 +63,10 @@ module _ {A P : Type 0} (v : Reading A P) (reads : IsReading v) where
   pub places_plain : (plan : Plan) (places : List P) (count : ℕ) → record_at (map v.start places) (plain_stage v.kind (places_stage v plan places count)) ≡ places_record v plan places count
   places_plain plan places count = ap (λ ns. record_of (network_of plan ns) (map v.start places) (map (read_trace v) places) count) (states_shown places)
 
-  -- what is seen of the nodes of lent places, as it is seen of the network
-  pub seen_plain : {X : Type 0} (of : Network A → X) (told : Network Token → X) → ((net : Network A) → told (plain_network v.kind net) ≡ of net) → (plan : Plan) (items lent : List P) → lent ≡ items → (count : ℕ) (r : NetRecord) → places_record v plan items count ≡ r →
-      of (network_of plan (states (map v.shown lent))) ≡ told r.network
-  seen_plain of told same plan items lent lent_is count r is =
-      ap (λ (ps : List P). of (network_of plan (states (map v.shown ps)))) lent_is ∙ sym (same (network_of plan (states (map v.shown items))))
-      ∙ ap (λ ns. told (network_of plan ns)) (states_plain items) ∙ ap (λ (x : NetRecord). told x.network) is
+  -- what is seen of an engine's network is what is seen of the network with its record
+  pub seen_plain : {X : Type 0} (of : Network A → X) (told : Network Token → X) → ((net : Network A) → told (plain_network v.kind net) ≡ of net) → (e : EngineView P) (r : NetRecord) → engine_record v e ≡ r → of (engine_network v.shown e) ≡ told r.network
+  seen_plain of told same e r is =
+      sym (same (engine_network v.shown e)) ∙ ap (λ ns. told (network_of e.plan ns)) (states_plain e.places) ∙ ap (λ (x : NetRecord). told x.network) is
 
   stage_kept : (plan : Plan) (places : List P) (count : ℕ) → IsRecordedNet v plan places count → IsRecordedStage v.kind (map v.start places) (places_stage v plan places count)
   stage_kept plan places count is = record {

@@ -4,23 +4,24 @@ use Rattle.{c104_event.specs.declared.{events.Event.Event, faults.EventFault.Eve
 use Rattle.c104_node.specs.{Places.{IsFullByTrace, Shown, fulls, is_kept_full, states, traces}, Traces.{is_trace_full, kept_of, noted_all}}
 use Rattle.{c104_node.specs.Traces.seatless, c104_plan.specs.Plans.{IsPlan, Plan}, c104_run.proofs.FirstRecords.map_twice}
 use Rattle.c104_run.proofs.RecordedNets.{answers_plain, event_answers, event_on, events_end, events_on, places_stage, starts_same}
-use Rattle.c104_run.{proofs.{RecordedNets.states_plain, StageSteps.{fulls_kept, same_stage, stage_done}}, specs.EventDeeds.event_deeds}
-use Rattle.c104_run.specs.{EventDeeds.event_full, EventRuns.{Answers, EventsEnd}, EventsAtPlaces.EventDone, NetRecords.RecordsEvent}
-use Rattle.c104_run.specs.{NetRecords.{is_done, ticket_after}, Network.{AnswersWith, network_of}, RecordedNets.{IsRecordedNet, KeepsRecord}}
-use Rattle.c104_run.specs.{RecordedNets.{Reading, places_record, read_trace}, RecordedRuns.{AnswersRecord, record_apply}, Stages.Stage}
-use Rattle.{c104_run.specs.Stages.{stage_apply, stage_of}, c104_switch.specs.Actions.{Reply, is_ready}, c104_token.specs.Kinds.plain_kind}
-use Rattle.std.proofs.Common.{Bool, IfOk, List, Result, ap, false, map, refl, subst, sym, true, ℕ, ◌∙◌, ◌≡◌}
+use Rattle.c104_run.{proofs.{RecordedNets.states_plain, StageSteps.{fulls_kept, same_stage, stage_done}}, specs.Engines.EngineView}
+use Rattle.c104_run.specs.{EventDeeds.{event_deeds, event_full}, EventRuns.{Answers, EventsEnd}, EventsAtPlaces.EventDone}
+use Rattle.c104_run.specs.{NetRecords.{RecordsEvent, is_done, ticket_after}, Network.{AnswersWith, network_of}, RecordedNets.IsRecordedNet}
+use Rattle.c104_run.specs.{RecordedNets.{KeepsRecord, Reading, places_record, read_trace}, RecordedRuns.{AnswersRecord, record_apply}}
+use Rattle.{c104_run.specs.Stages.{Stage, stage_apply, stage_of}, c104_switch.specs.Actions.{Reply, is_ready}}
+use Rattle.{c104_token.specs.Kinds.plain_kind, std.proofs.Common.{Bool, IfOk, List, Result, ap, false, map, refl, subst, sym, true, ℕ, ◌∙◌}}
+use Rattle.std.proofs.Common.{◌≡◌}
 
--- how a network goes on by an event
-pub record GoesOn {A P : Type 0} (v : Reading A P) (plan : Plan) (old new : List P) (count counted : ℕ) (e : Event) (answer : Result Reply EventFault) : Type 0 where
-  pub kept : IsRecordedNet v plan new counted
-  pub records : RecordsEvent (places_record v plan old count) e answer (places_record v plan new counted)
-  pub answers : AnswersRecord (places_record v plan old count) e answer (places_record v plan new counted)
+-- how a network goes on by an event, whose plan stays
+pub record GoesOn {A P : Type 0} (v : Reading A P) (plan planned : Plan) (old new : EngineView P) (e : Event) (answer : Result Reply EventFault) : Type 0 where
+  pub kept : IsRecordedNet v planned new.places new.count
+  pub records : RecordsEvent (places_record v plan old.places old.count) e answer (places_record v planned new.places new.count)
+  pub answers : AnswersRecord (places_record v plan old.places old.count) e answer (places_record v planned new.places new.count)
 
 -- how it goes on by events in turn
-pub record RunsOn {A P : Type 0} (v : Reading A P) (plan : Plan) (old new : List P) (count counted : ℕ) (events : List Event) (result : Result (Unit {0}) EventFault) : Type 0 where
-  pub kept : IsRecordedNet v plan new counted
-  pub ends : EventsEnd record_apply (places_record v plan old count) events result (places_record v plan new counted)
+pub record RunsOn {A P : Type 0} (v : Reading A P) (plan planned : Plan) (old new : EngineView P) (events : List Event) (result : Result (Unit {0}) EventFault) : Type 0 where
+  pub kept : IsRecordedNet v planned new.places new.count
+  pub ends : EventsEnd record_apply (places_record v plan old.places old.count) events result (places_record v planned new.places new.count)
 
 module _ {A P : Type 0} (v : Reading A P) (keeps : Bool) (is : KeepsRecord v keeps) (limited : (p : P) → IsFullByTrace keeps (v.shown p)) where
   traces_are : (places : List P) → traces (map v.shown places) ≡ map (read_trace v) places
@@ -44,53 +45,68 @@ module _ {A P : Type 0} (v : Reading A P) (keeps : Bool) (is : KeepsRecord v kee
       (subst (λ s. Ends true s (stage_of plan (map v.shown new) counted)) (stage_is plan old count)
       (subst (λ b. Ends b (stage_of plan (map v.shown old) count) (stage_of plan (map v.shown new) counted)) is.keeping ends))
 
-  -- the places are lent by a list and put back
-  module _ (plan : Plan) (is_plan : IsPlan plan) (items lent new put : List P) (lent_is : lent ≡ items) (put_is : put ≡ new) (count counted : ℕ) (before : IsRecordedNet v plan items count) where
-    abbrev here : IsRecordedNet v plan lent count
-    here = subst (λ ps. IsRecordedNet v plan ps count) (sym lent_is) before
+  -- of an engine before and after, the second of which has the plan of the first
+  module _ (before after : EngineView P) (is_plan : IsPlan before.plan) (kept : IsRecordedNet v before.plan before.places before.count) where
+    abbrev plan : Plan
+    plan = before.plan
 
-    module _ (e : Event) (answer : Result Reply EventFault) (done : EventDone v.kind keeps plan (seatless count) e (map v.shown lent) answer (map v.shown new)) (told : counted ≡ ticket_after count (is_done answer)) where
-      answered : AnswersWith plain_kind (event_full plan (map is_trace_full (map (read_trace v) lent)) e) (network_of plan (map v.plain lent)) e answer (network_of plan (map v.plain new))
+    abbrev old : List P
+    old = before.places
+
+    abbrev new : List P
+    new = after.places
+
+    abbrev count : ℕ
+    count = before.count
+
+    abbrev counted : ℕ
+    counted = after.count
+
+    module _ (e : Event) (answer : Result Reply EventFault) (done : EventDone v.kind keeps plan (seatless count) e (map v.shown old) answer (map v.shown new)) (told : counted ≡ ticket_after count (is_done answer)) where
+      answered : AnswersWith plain_kind (event_full plan (map is_trace_full (map (read_trace v) old)) e) (network_of plan (map v.plain old)) e answer (network_of plan (map v.plain new))
       answered =
-          subst (λ fs. AnswersWith plain_kind (event_full plan fs e) (network_of plan (map v.plain lent)) e answer (network_of plan (map v.plain new))) (fulls_are lent)
-          (subst (λ ns. AnswersWith plain_kind (event_full plan (fulls (map v.shown lent)) e) (network_of plan ns) e answer (network_of plan (map v.plain new))) (states_plain v is.reads lent)
-          (subst (λ ns. AnswersWith plain_kind (event_full plan (fulls (map v.shown lent)) e) (network_of plan (map (map_node v.kind.plain) (states (map v.shown lent)))) e answer (network_of plan ns)) (states_plain v is.reads new)
-          (answers_plain v.kind is.reads.tokens (network_of plan (states (map v.shown lent))) (network_of plan (states (map v.shown new))) e (event_full plan (fulls (map v.shown lent)) e) answer done.answers)))
+          subst (λ fs. AnswersWith plain_kind (event_full plan fs e) (network_of plan (map v.plain old)) e answer (network_of plan (map v.plain new))) (fulls_are old)
+          (subst (λ ns. AnswersWith plain_kind (event_full plan (fulls (map v.shown old)) e) (network_of plan ns) e answer (network_of plan (map v.plain new))) (states_plain v is.reads old)
+          (subst (λ ns. AnswersWith plain_kind (event_full plan (fulls (map v.shown old)) e) (network_of plan (map (map_node v.kind.plain) (states (map v.shown old)))) e answer (network_of plan ns)) (states_plain v is.reads new)
+          (answers_plain v.kind is.reads.tokens (network_of plan (states (map v.shown old))) (network_of plan (states (map v.shown new))) e (event_full plan (fulls (map v.shown old)) e) answer done.answers)))
 
-      noted : map (read_trace v) new ≡ noted_all true (map (read_trace v) lent) (kept_of (event_deeds plan (seatless count) e) answer)
+      noted : map (read_trace v) new ≡ noted_all true (map (read_trace v) old) (kept_of (event_deeds plan (seatless count) e) answer)
       noted =
-          sym (traces_are new) ∙ done.trace ∙ ap (λ b. noted_all b (traces (map v.shown lent)) (kept_of (event_deeds plan (seatless count) e) answer)) is.keeping
-          ∙ ap (λ ts. noted_all true ts (kept_of (event_deeds plan (seatless count) e) answer)) (traces_are lent)
+          sym (traces_are new) ∙ done.trace ∙ ap (λ b. noted_all b (traces (map v.shown old)) (kept_of (event_deeds plan (seatless count) e) answer)) is.keeping
+          ∙ ap (λ ts. noted_all true ts (kept_of (event_deeds plan (seatless count) e) answer)) (traces_are old)
 
-      begun : map v.start new ≡ map v.start lent
-      begun = starts_same v is.reads new lent done.base
+      begun : map v.start new ≡ map v.start old
+      begun = starts_same v is.reads new old done.base
 
-      goes_there : GoesOn v plan lent new count counted e answer
+      pub goes_there : GoesOn v plan plan before after e answer
       goes_there =
-          let step = stages_are plan lent new count counted (λ b s t. Answers (stage_apply v.kind b) s e answer t) (stage_done v.kind keeps plan (map v.shown lent) (map v.shown new) count counted (fulls_kept keeps v.shown limited lent) e answer done told) in
+          let step = stages_are plan old new count counted (λ b s t. Answers (stage_apply v.kind b) s e answer t) (stage_done v.kind keeps plan (map v.shown old) (map v.shown new) count counted (fulls_kept keeps v.shown limited old) e answer done told) in
           record {
-            kept = event_on v is.reads plan is_plan lent new count counted here e answer step;
+            kept = event_on v is.reads plan is_plan old new count counted kept e answer step;
             records = record {
               answers = answered;
-              free = subst (λ fs. IfOk answer (λ r. is_ready r ≡ true → event_full plan fs e ≡ false)) (fulls_are lent) done.free;
+              free = subst (λ fs. IfOk answer (λ r. is_ready r ≡ true → event_full plan fs e ≡ false)) (fulls_are old) done.free;
               traces = noted;
               starts = begun;
               count = told;
             };
-            answers = event_answers v is.reads plan is_plan lent new count counted here e answer step;
+            answers = event_answers v is.reads plan is_plan old new count counted kept e answer step;
           }
 
-      pub goes_on : GoesOn v plan items put count counted e answer
-      goes_on = subst (λ ps. GoesOn v plan ps put count counted e answer) lent_is (subst (λ ps. GoesOn v plan lent ps count counted e answer) (sym put_is) goes_there)
+      pub goes_on : after.plan ≡ plan → GoesOn v plan after.plan before after e answer
+      goes_on same = subst (λ p. GoesOn v plan p before after e answer) (sym same) goes_there
 
-    module _ (events : List Event) (result : Result (Unit {0}) EventFault) (ends : EventsEnd (stage_apply v.kind keeps) (stage_of plan (map v.shown lent) count) events result (stage_of plan (map v.shown new) counted)) where
-      runs_there : RunsOn v plan lent new count counted events result
+    module _ (events : List Event) (result : Result (Unit {0}) EventFault) (ends : EventsEnd (stage_apply v.kind keeps) (stage_of plan (map v.shown old) count) events result (stage_of plan (map v.shown new) counted)) where
+      pub runs_there : RunsOn v plan plan before after events result
       runs_there =
-          let there = stages_are plan lent new count counted (λ b s t. EventsEnd (stage_apply v.kind b) s events result t) ends in
+          let there = stages_are plan old new count counted (λ b s t. EventsEnd (stage_apply v.kind b) s events result t) ends in
           record {
-            kept = events_on v is.reads plan is_plan lent new count counted here events result there;
-            ends = events_end v is.reads plan is_plan lent new count counted here events result there;
+            kept = events_on v is.reads plan is_plan old new count counted kept events result there;
+            ends = events_end v is.reads plan is_plan old new count counted kept events result there;
           }
 
-      pub runs_on : RunsOn v plan items put count counted events result
-      runs_on = subst (λ ps. RunsOn v plan ps put count counted events result) lent_is (subst (λ ps. RunsOn v plan lent ps count counted events result) (sym put_is) runs_there)
+    pub runs_on : (events : List Event) (result : Result (Unit {0}) EventFault) → EventsEnd (stage_apply v.kind keeps) (stage_of plan (map v.shown old) count) events result (stage_of after.plan (map v.shown new) counted) → after.plan ≡ plan →
+        RunsOn v plan after.plan before after events result
+    runs_on events result ends same =
+        subst (λ p. RunsOn v plan p before after events result) (sym same)
+        (runs_there events result (subst (λ p. EventsEnd (stage_apply v.kind keeps) (stage_of plan (map v.shown old) count) events result (stage_of p (map v.shown new) counted)) same ends))

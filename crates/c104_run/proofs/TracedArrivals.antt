@@ -1,8 +1,8 @@
 -- What arrived in a network of tagged tokens is what arrived over plain tokens.
-use Rattle.{c104_link.specs.Steps.◌>>=◌, c104_node.specs.{MappedNodes.map_node, Nodes.{Node, node_arrived}, Places.states}}
-use Rattle.c104_node.specs.{TracedRecords.{TracedRecord, counted_shown}, declared.{node.NodeOf.NodeOf, tagged.TaggedToken.TaggedToken}}
-use Rattle.{c104_plan.specs.Plans.Plan, c104_run.proofs.{RecordedNets.seen_plain, TaggedRuns.{plain_network, token_of}}}
-use Rattle.c104_run.specs.{NetRecords.NetRecord, Network.{Network, network_arrived, network_of, terminal_place}, RecordedNets.places_record}
+use Rattle.{c104_link.specs.Steps.◌>>=◌, c104_node.specs.{MappedNodes.map_node, Nodes.{Node, node_arrived}, TracedRecords.TracedRecord}}
+use Rattle.c104_node.specs.{TracedRecords.counted_shown, declared.{node.NodeOf.NodeOf, tagged.TaggedToken.TaggedToken}}
+use Rattle.c104_run.{proofs.{RecordedNets.seen_plain, TaggedRuns.{plain_network, token_of}}, specs.Engines.{EngineView, engine_network}}
+use Rattle.c104_run.specs.{Engines.engine_record, NetRecords.NetRecord, Network.{Network, network_arrived, terminal_place}}
 use Rattle.{c104_run.specs.RecordedPlaces.{counted_keeps, counted_reading}, c104_token.specs.declared.tokens.Token.Token}
 use Rattle.std.proofs.Common.{Bool, List, None, Option, Some, ap, false, if◌then◌else◌, length, map, nat_lt, option_map, refl, slice_get}
 use Rattle.std.proofs.{Common.{true, ℕ, ◌∙◌, ◌≡◌}, lemmas.Option.slice_get-map}
@@ -22,8 +22,7 @@ network_arrived_plain net t = by_place (nat_lt t (length net.plan.terminals))
     by_place true = ap (λ o. o >>= node_arrived) (slice_get-map (map_node token_of) net.nodes (terminal_place net.plan t)) ∙ map_there (slice_get net.nodes (terminal_place net.plan t))
     by_place false = refl
 
-pub arrived_there : (plan : Plan) (nodes lent : List TracedRecord) (count t : ℕ) (r : NetRecord) (o : Option (List TaggedToken)) → lent ≡ nodes → places_record counted_reading plan nodes count ≡ r →
-    ◌≡◌ {A = Option (List TaggedToken)} o (network_arrived (network_of plan (states (map counted_shown lent))) t) → option_map (map token_of) o ≡ network_arrived r.network t
-arrived_there plan nodes lent count t r o lent_is shown is =
+pub arrived_there : (e : EngineView TracedRecord) (t : ℕ) (r : NetRecord) (o : Option (List TaggedToken)) → engine_record counted_reading e ≡ r → ◌≡◌ {A = Option (List TaggedToken)} o (network_arrived (engine_network counted_shown e) t) → option_map (map token_of) o ≡ network_arrived r.network t
+arrived_there e t r o shown is =
     ap (option_map (map token_of)) is
-    ∙ seen_plain counted_reading counted_keeps.reads (λ (net : Network TaggedToken). option_map (map token_of) (network_arrived net t)) (λ (net : Network Token). network_arrived net t) (λ net. network_arrived_plain net t) plan nodes lent lent_is count r shown
+    ∙ seen_plain counted_reading counted_keeps.reads (λ (net : Network TaggedToken). option_map (map token_of) (network_arrived net t)) (λ (net : Network Token). network_arrived net t) (λ net. network_arrived_plain net t) e r shown

@@ -32,5 +32,6 @@ pub mod PlaceFaults
 pub mod TracedRuns
 pub mod Standstill
 pub mod RecordedNets
+pub mod Engines
 pub mod RecordedPlaces
 pub mod NetParts

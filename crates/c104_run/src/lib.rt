@@ -22,6 +22,7 @@
 
 mod asked;
 mod doing;
+mod engine;
 mod events;
 mod faults;
 mod live_places;
@@ -46,6 +47,7 @@ mod watch;
 mod wires;
 
 pub use asked::{Asked, acts_of};
+pub use engine::Engine;
 pub use events::{happen, happen_to};
 pub use faults::PlaceFault;
 pub use meter::{Meter, Unmetered};

@@ -8,9 +8,8 @@ mod answers;
 mod beginning;
 mod nodes;
 
+use crate::engine::Engine;
 use crate::faults::PlaceFault;
-use crate::live_places::LivePlaces;
-use crate::place_views::arrived_at;
 use crate::recorded_net::RecordedNet;
 use crate::recorded_place::retire_places;
 use crate::recording::{place_new_recorded, place_recorded};
@@ -36,11 +35,8 @@ impl Net {
         let mut places = Vec::new(alloc);
         match place_new_recorded(alloc, &frame.wires, &mut places) {
             Ok(()) => Ok(Net {
-                wires: frame.wires,
-                places,
-                count: 0,
+                engine: Engine::new(frame.wires, places),
                 room: frame.room,
-                live: LivePlaces::all(),
             }),
             Err(error) => {
                 retire_places(places);
@@ -74,11 +70,8 @@ impl Net {
         let mut places = Vec::new(alloc);
         match place_recorded(alloc, &frame.wires, image, &mut places) {
             Ok(()) => Ok(Net {
-                wires: frame.wires,
-                places,
-                count: 0,
+                engine: Engine::new(frame.wires, places),
                 room: frame.room,
-                live: LivePlaces::all(),
             }),
             Err(error) => {
                 retire_places(places);
@@ -93,13 +86,8 @@ impl Net {
         ensures left { result ≡ record_finish self }
         ensures arrived { (t : ℕ) → run_arrived result.finished t ≡ network_arrived self.network t }
     {
-        let Net {
-            wires,
-            places,
-            count,
-            room,
-            live: _,
-        } = self;
+        let Net { engine, room } = self;
+        let (wires, places, count) = engine.into_parts();
         // The proof reads here what every plan keeps.
         let _plan = wires.plan();
         let RunParts {
@@ -120,7 +108,7 @@ impl Net {
     pub fn arrived(&self, terminal: usize) -> Option<&ArrivedOf<Token>>
         ensures { option_copied result ≡ network_arrived self.now.network terminal }
     {
-        arrived_at(&self.wires, self.places.as_slice(), terminal)
+        self.engine.arrived(terminal)
     }
 }
 

@@ -1,12 +1,12 @@
-//! The tokens that wait at places of nodes, and what terminals sent.
-ghost use Rattle.std.specs.{Option.option_copied, Prelude.{map, ◌≡◌}};
-ghost use Rattle.c104_node.specs.{Places.states, Views.{nodes_input_token, nodes_output_token, nodes_sent_packet}};
-ghost use Rattle.c104_run.specs.{NetViews.{network_input_token, network_output_token, network_sent_packet}, Network.network_of};
+//! The tokens that wait at places of nodes.
+ghost use Rattle.std.specs.Prelude.{map, ◌≡◌};
+ghost use Rattle.c104_node.specs.{Places.states, Views.{nodes_input_token, nodes_output_token}};
+ghost use Rattle.c104_run.specs.{NetViews.{network_input_token, network_output_token}, Network.network_of};
 
 use crate::wires::Wires;
 use c104_event::Port;
 use c104_node::{Place, node_at};
-use c104_token::{Packet, TokenKind};
+use c104_token::TokenKind;
 
 /// The token at this index of what came in at a port. None past the last one, or where the plan has no such port.
 pub fn input_token_at<T: TokenKind, P: Place<T>>(
@@ -77,36 +77,6 @@ fn output_token_place<T: TokenKind, P: Place<T>>(
 {
     match node_at(places, place) {
         Some(node) => node.output_token(link, index),
-        None => None,
-    }
-}
-
-/// The packet of this number among those that a terminal sent. None where there is none.
-pub fn sent_packet_at<'a, T: TokenKind + 'a, P: Place<T>>(
-    wires: &Wires,
-    places: &'a [P],
-    terminal: usize,
-    number: usize,
-) -> Option<&'a Packet>
-    ensures { option_copied result ≡ network_sent_packet (network_of wires.now (states (map P.shown places.now))) terminal number }
-{
-    if terminal >= wires.terminal_count() {
-        return None;
-    }
-    let place = wires.terminal_place(terminal);
-    sent_packet_place(places, place, number)
-}
-
-/// The packet of this number among those that the node at a place sent, if it is a terminal.
-fn sent_packet_place<'a, T: TokenKind + 'a, P: Place<T>>(
-    places: &'a [P],
-    place: usize,
-    number: usize,
-) -> Option<&'a Packet>
-    ensures { option_copied result ≡ nodes_sent_packet (states (map P.shown places.now)) place number }
-{
-    match node_at(places, place) {
-        Some(node) => node.sent_packet(number),
         None => None,
     }
 }

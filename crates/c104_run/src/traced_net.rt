@@ -8,7 +8,7 @@ ghost use Rattle.c104_run.specs.{NetRecords.fresh_record, Network.new_network};
 mod arriving;
 mod nodes;
 
-use crate::live_places::LivePlaces;
+use crate::engine::Engine;
 use crate::recorded_net::RecordedNet;
 use crate::recorded_place::retire_places;
 use crate::wires::Wires;
@@ -38,11 +38,8 @@ impl TracedNet {
         let mut places = Vec::new(alloc);
         match add_new_nodes(alloc, plan, &mut places) {
             Ok(()) => Ok(TracedNet {
-                wires,
-                places,
-                count: 0,
+                engine: Engine::new(wires, places),
                 room: (),
-                live: LivePlaces::all(),
             }),
             Err(error) => {
                 retire_places(places);

@@ -10,7 +10,7 @@ impl Net {
     pub fn began_started(&self) -> bool
         ensures { IsTrue result ↔ All IsStartedStart self.now.starts }
     {
-        are_started(self.places.as_slice())
+        are_started(self.engine.places())
     }
 }
 

@@ -15,10 +15,9 @@ impl Net {
         ensures linked { IfSome result (λ node. (l : ℕ) →
             has_link node.now.0.wired l ≡ is_linked_end self.now.network.plan place l) }
     {
-        // The proof reads here what every plan keeps, and the count by its name.
-        let _plan = self.wires.plan();
-        let _count = self.count;
-        match self.places.get(place) {
+        // The proof reads here what every plan keeps.
+        let _plan = self.engine.plan();
+        match self.engine.places().get(place) {
             Some(node) => {
                 // And here what every node keeps.
                 let _trace = node.trace();
@@ -46,10 +45,10 @@ impl Net {
         ensures count { result ≡ self.now.count }
         ensures few { result ≤ 335544320 }
     {
-        // The proof reads here what every plan keeps, and the nodes by their name.
-        let _plan = self.wires.plan();
-        let _nodes = self.places.as_slice();
-        self.count
+        // The proof reads here what every plan keeps, and what every engine does.
+        let _plan = self.engine.plan();
+        let _nodes = self.engine.places();
+        self.engine.count()
     }
 
     /// The parts of the network: its plan, its nodes, each with what it did, and how many events were done. It takes no
@@ -57,13 +56,8 @@ impl Net {
     pub fn into_nodes(self) -> NetParts
         ensures { parts_record result ≡ self }
     {
-        let Net {
-            wires,
-            places,
-            count,
-            room: _,
-            live: _,
-        } = self;
+        let Net { engine, room: _ } = self;
+        let (wires, places, count) = engine.into_parts();
         NetParts::new(wires, places, count)
     }
 }

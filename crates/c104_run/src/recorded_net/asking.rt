@@ -5,12 +5,8 @@ ghost use Rattle.c104_run.specs.{Network.network_peek, ReasonMeanings.IsEventRea
 ghost use Rattle.{c104_run.specs.Standstill.StandsStill, c104_token.specs.Kinds.plain_kind};
 
 use super::RecordedNet;
-use crate::place_tokens::sent_packet_at;
-use crate::place_views::{peek_at, view_link_at, view_terminal_at};
 use crate::reason::Reason;
-use crate::reasons::first_reason;
 use crate::recorded_place::RecordedPlace;
-use crate::standstill::round_stands;
 use c104_event::Event;
 use c104_node::TerminalView;
 use c104_switch::LinkView;
@@ -21,7 +17,7 @@ impl<T: TokenKind, P: RecordedPlace<T>> RecordedNet<T, P> {
     pub fn done_count(&self) -> u64
         ensures { result ≡ self.now.count }
     {
-        self.count
+        self.engine.count()
     }
 
     /// The value of the register at this address of a switch. None where the plan has no such
@@ -29,7 +25,7 @@ impl<T: TokenKind, P: RecordedPlace<T>> RecordedNet<T, P> {
     pub fn peek(&self, switch: usize, addr: u16) -> Option<u32>
         ensures { result ≡ network_peek self.now.network switch addr }
     {
-        peek_at(&self.wires, self.places.as_slice(), switch, addr)
+        self.engine.peek(switch, addr)
     }
 
     /// Why `apply` would answer NotReady to this event, and where: the first of its conditions that
@@ -40,10 +36,9 @@ impl<T: TokenKind, P: RecordedPlace<T>> RecordedNet<T, P> {
             is_unready (network_apply plain_kind self.now.network event.now).0 }
         ensures holds { IfSome result (IsEventReason self.now.network event.now) }
     {
-        // The proof reads by these names what every such network and every plan keeps.
-        let _count = self.count;
-        let _plan = self.wires.plan();
-        first_reason(&self.wires, self.places.as_slice(), event)
+        // The proof reads here what every plan keeps.
+        let _plan = self.engine.plan();
+        self.engine.why(event)
     }
 
     /// Whether the network stands still: to each event of a round (`rounds`) `apply` would answer NotReady. False
@@ -52,24 +47,23 @@ impl<T: TokenKind, P: RecordedPlace<T>> RecordedNet<T, P> {
     pub fn stands_still(&self) -> bool
         ensures { IsTrue result ↔ StandsStill plain_kind self.now.network }
     {
-        // The proof reads by these names what every such network and every plan keeps.
-        let _count = self.count;
-        let _plan = self.wires.plan();
-        round_stands(&self.wires, self.places.as_slice())
+        // The proof reads here what every plan keeps.
+        let _plan = self.engine.plan();
+        self.engine.stands_still()
     }
 
     /// What can be seen of a link of a switch. None where the plan has no such switch, or a switch no such link.
     pub fn view_link(&self, switch: usize, link: usize) -> Option<LinkView>
         ensures { result ≡ network_link_view plain_kind self.now.network switch link }
     {
-        view_link_at(&self.wires, self.places.as_slice(), switch, link)
+        self.engine.view_link(switch, link)
     }
 
     /// What can be seen of a terminal. None where the plan has no such terminal.
     pub fn view_terminal(&self, terminal: usize) -> Option<TerminalView>
         ensures { result ≡ network_terminal_view self.now.network terminal }
     {
-        view_terminal_at(&self.wires, self.places.as_slice(), terminal)
+        self.engine.view_terminal(terminal)
     }
 
     /// The packet of this number, from 0, among those that a terminal sent since the start. None where it sent no such
@@ -77,6 +71,6 @@ impl<T: TokenKind, P: RecordedPlace<T>> RecordedNet<T, P> {
     pub fn sent_packet(&self, terminal: usize, number: usize) -> Option<&Packet>
         ensures { option_copied result ≡ network_sent_packet self.now.network terminal number }
     {
-        sent_packet_at(&self.wires, self.places.as_slice(), terminal, number)
+        self.engine.sent_packet(terminal, number)
     }
 }

@@ -1,10 +1,8 @@
 //! Whether a network is quiet, and the start of a run there.
-ghost use Rattle.std.specs.Prelude.{All, IsTrue, map, ◌↔◌, ◌≡◌};
-ghost use Rattle.{c104_node.specs.{Places.states, Quiet.IsQuietNode, Starts.start_node}, c104_run.specs.NetRecords.record_begun_if};
-ghost use Rattle.c104_run.specs.{QuietNets.IsQuiet, RecordedNets.{begun_told, place_told}};
+ghost use Rattle.std.specs.Prelude.{IsTrue, ◌↔◌, ◌≡◌};
+ghost use Rattle.c104_run.specs.{NetRecords.record_begun_if, QuietNets.IsQuiet};
 
 use super::RecordedNet;
-use crate::place_views::are_quiet;
 use crate::recorded_place::RecordedPlace;
 use c104_token::TokenKind;
 
@@ -13,7 +11,7 @@ impl<T: TokenKind, P: RecordedPlace<T>> RecordedNet<T, P> {
     pub fn quiet(&self) -> bool
         ensures { IsTrue result ↔ IsQuiet self.now.network }
     {
-        are_quiet(self.places.as_slice())
+        self.engine.is_quiet()
     }
 
     /// Begins a run where the network is quiet: it stands as it does, which is the new start; what the
@@ -26,21 +24,7 @@ impl<T: TokenKind, P: RecordedPlace<T>> RecordedNet<T, P> {
         if !self.quiet() {
             return false;
         }
-        begin_all(self.places.as_mut_slice());
-        self.count = 0;
-        self.live.fill();
+        self.engine.begin();
         true
-    }
-}
-
-/// All of these nodes, which are quiet, start a run.
-fn begin_all<T: TokenKind, P: RecordedPlace<T>>(places: &mut [P])
-    requires { All IsQuietNode (states (map P.shown places.old)) }
-    ensures begun { map (place_told P.shown P.begun_at) places.new
-        ≡ map begun_told (map (place_told P.shown P.begun_at) places.old) }
-    ensures stand { map start_node (map P.begun_at places.new) ≡ states (map P.shown places.new) }
-{
-    for place in places.iter_mut() {
-        place.begin();
     }
 }

@@ -4,7 +4,6 @@ ghost use Rattle.c104_run.specs.{MeteredRuns.{MetersRound, RecordsRound}, Record
 use super::RecordedNet;
 use crate::meter::{Meter, Unmetered};
 use crate::recorded_place::RecordedPlace;
-use crate::rounds::{one_round_at, rounds_at};
 use crate::watch::{Unwatched, Watch};
 use c104_event::EventFault;
 use c104_token::TokenKind;
@@ -27,16 +26,7 @@ impl<T: TokenKind, P: RecordedPlace<T>> RecordedNet<T, P> {
     pub fn rounds_watched<W: Watch>(&mut self, count: u32, watch: &mut W) -> Result<(), EventFault>
         ensures { RecordsRounds self.old count result self.new }
     {
-        let done = rounds_at(
-            &self.wires,
-            self.places.as_mut_slice(),
-            &mut self.count,
-            &mut Unmetered,
-            count,
-            watch,
-        );
-        self.live.fill();
-        done
+        self.engine.rounds(count, &mut Unmetered, watch)
     }
 
     /// Does one round, tells a meter of each token that crosses a wire and of each that arrives, and tells whether any
@@ -47,12 +37,6 @@ impl<T: TokenKind, P: RecordedPlace<T>> RecordedNet<T, P> {
         ensures recorded { RecordsRound self.old result self.new }
         ensures metered { MetersRound T.kind M.sees self.old meter.old result self.new meter.new }
     {
-        one_round_at(
-            &self.wires,
-            self.places.as_mut_slice(),
-            &mut self.live,
-            &mut self.count,
-            meter,
-        )
+        self.engine.round(meter)
     }
 }

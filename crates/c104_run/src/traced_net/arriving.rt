@@ -5,7 +5,6 @@ ghost use Rattle.c104_run.specs.{FinishedRecords.record_finish, Network.network_
 ghost use Rattle.c104_token.specs.declared.tokens.Token.{Token as TheToken};
 
 use super::TracedNet;
-use crate::place_views::arrived_at;
 use c104_node::{ArrivedOf, TaggedToken};
 use c104_token::{NoMemory, Token, TokenKind};
 use std::alloc::Global;
@@ -19,9 +18,7 @@ impl TracedNet {
         ensures finished { IfOk result (λ list. option_map (λ (l : Kept TheToken). l.items) list
             ≡ run_arrived (record_finish self.now).finished terminal) }
     {
-        // The proof reads by this name what every such network keeps.
-        let _count = self.count;
-        match arrived_at(&self.wires, self.places.as_slice(), terminal) {
+        match self.engine.arrived(terminal) {
             Some(tokens) => {
                 let list = plain_list(alloc, tokens)?;
                 Ok(Some(list))

@@ -4,4 +4,4 @@ use Rattle.{c104_run.specs.RecordedNets.{Reading, reading}, c104_token.specs.dec
 pub returns : Rattle.c104_run.proofs.recorded_net.RecordedNet.peek.Goals.returns
 returns g c =
     let v : Reading g.row.T.Denot g.row.P.Denot = reading g.T.TokenKind.kind g.P.Place.shown g.P.RecordedPlace.plain g.P.RecordedPlace.begun_at in
-    c.peek_at.ensures ∙ seen_plain v g.met.P.RecordedPlace.keeps_record.reads (λ (net : Network g.row.T.Denot). network_peek net c.args.switch c.args.addr) (λ (net : Network Token). network_peek net c.args.switch c.args.addr) (λ net. network_peek_plain v.kind net c.args.switch c.args.addr) c.self.inside.wires c.self.inside.places.items c.as_slice.result.now c.as_slice.ensures.value c.self.inside.count c.args.self.now c.self.view_is
+    c.peek.ensures ∙ seen_plain v g.met.P.RecordedPlace.keeps_record.reads (λ (net : Network g.row.T.Denot). network_peek net c.args.switch c.args.addr) (λ (net : Network Token). network_peek net c.args.switch c.args.addr) (λ net. network_peek_plain v.kind net c.args.switch c.args.addr) c.self.inside.engine c.args.self.now c.self.view_is

@@ -8,8 +8,8 @@ returns g c =
     let v : Reading g.row.T.Denot g.row.P.Denot = reading g.T.TokenKind.kind g.P.Place.shown g.P.RecordedPlace.plain g.P.RecordedPlace.begun_at in
     let kept : IsNetRecord c.args.self.now = subst IsNetRecord c.self.view_is c.self.invariant.0.kept in
     let is_plan : IsPlan c.args.self.now.network.plan = subst (λ (r : NetRecord). IsPlan r.network.plan) c.self.view_is c.plan-plan.ensures.kept in
-    let told : c.round_stands.result ≡ have_reasons c.args.self.now.network (round c.args.self.now.network.plan) =
-    c.round_stands.ensures ∙ seen_plain v g.met.P.RecordedPlace.keeps_record.reads (λ (net : Network g.row.T.Denot). have_reasons net (round net.plan)) (λ (net : Network Token). have_reasons net (round net.plan)) (λ net. have_reasons_plain v.kind net (round net.plan)) c.self.inside.wires c.self.inside.places.items c.as_slice.result.now c.as_slice.ensures.value c.self.inside.count c.args.self.now c.self.view_is in (
+    let told : c.stands_still.result ≡ have_reasons c.args.self.now.network (round c.args.self.now.network.plan) =
+    c.stands_still.ensures ∙ seen_plain v g.met.P.RecordedPlace.keeps_record.reads (λ (net : Network g.row.T.Denot). have_reasons net (round net.plan)) (λ (net : Network Token). have_reasons net (round net.plan)) (λ net. have_reasons_plain v.kind net (round net.plan)) c.self.inside.engine c.args.self.now c.self.view_is in (
       λ yes. stands_where plain_kind c.args.self.now.network is_plan kept.steady (sym told ∙ yes),
       λ all. told ∙ reasons_where plain_kind c.args.self.now.network is_plan kept.steady all,
     )

@@ -6,25 +6,25 @@ use Rattle.std.specs.Option.{option_map}
 use Rattle.c104_run.proofs.net.nodes.Net.node.Goals as goal
 
 -- the node there
-at : (c : goal.After-trace-trace) → slice_get c.self.inside.places.items c.args.place ≡ Some c.in-Some.node.now
+at : (c : goal.After-trace-trace) → slice_get c.self.inside.engine.places c.args.place ≡ Some c.in-Some.node.now
 at c =
-    let inside : c.args.place < length c.deref.result.now = grind (arith, nat_tests, c.in-Some.ensures.lookup.0) in
-    ap (λ (xs : List (NodeRecord × NodeRoom)). slice_get xs c.args.place) (sym c.deref.ensures.value)
-    ∙ slice_get_read c.deref.result.now (length c.deref.result.now) c.args.place c.in-Some.node.now refl inside c.in-Some.ensures.lookup.1
+    let inside : c.args.place < length c.places.result.now = grind (arith, nat_tests, c.in-Some.ensures.lookup.0) in
+    ap (λ (xs : List (NodeRecord × NodeRoom)). slice_get xs c.args.place) (sym c.places.ensures.places)
+    ∙ slice_get_read c.places.result.now (length c.places.result.now) c.args.place c.in-Some.node.now refl inside c.in-Some.ensures.lookup.1
 
 pub returns-in-Some-clause-node : goal.returns-in-Some-clause-node
 returns-in-Some-clause-node c =
     subst (λ (r : NetRecord). IsRecordedNode r c.args.place c.in-Some.node.now.0) c.self.view_is
-    (node_recorded c.self.inside.wires c.self.inside.places.items c.self.inside.count (traces_wired (net_record c.self.inside.wires c.self.inside.places.items c.self.inside.count) c.plan-plan.ensures.kept c.self.invariant.0.kept) c.args.place c.in-Some.node.now (at c) c.trace-trace.ensures.recorded)
+    (node_recorded c.self.inside.engine.plan c.self.inside.engine.places c.self.inside.engine.count (traces_wired (net_record c.self.inside.engine.plan c.self.inside.engine.places c.self.inside.engine.count) c.places.ensures.kept.live.planned c.self.invariant.0.kept) c.args.place c.in-Some.node.now (at c) c.trace-trace.ensures.recorded)
 
 pub returns-in-Some-clause-linked : goal.returns-in-Some-clause-linked
 returns-in-Some-clause-linked c = λ l.
-    known_nodes c.self.inside.wires c.self.inside.places.items c.self.invariant.2 c.args.place c.in-Some.node.now (at c) l
+    known_nodes c.self.inside.engine.plan c.self.inside.engine.places c.places.ensures.kept.knows c.args.place c.in-Some.node.now (at c) l
     ∙ ap (λ (r : NetRecord). is_linked_end r.network.plan c.args.place l) c.self.view_is
 
 -- there is no such node
 pub returns-in-None-clause-node : goal.returns-in-None-clause-node
 returns-in-None-clause-node c =
-    let outside : length c.deref.result.now ≤ c.args.place = grind (arith, nat_tests, c.in-None.ensures.lookup.0) in
-    let none : slice_get c.self.inside.places.items c.args.place ≡ None = ap (λ (xs : List (NodeRecord × NodeRoom)). slice_get xs c.args.place) (sym c.deref.ensures.value) ∙ slice_get_past c.deref.result.now c.args.place outside in
-    ap (λ (r : NetRecord). slice_get r.traces c.args.place) (sym c.self.view_is) ∙ slice_get-map node_trace c.self.inside.places.items c.args.place ∙ ap (option_map node_trace) none
+    let outside : length c.places.result.now ≤ c.args.place = grind (arith, nat_tests, c.in-None.ensures.lookup.0) in
+    let none : slice_get c.self.inside.engine.places c.args.place ≡ None = ap (λ (xs : List (NodeRecord × NodeRoom)). slice_get xs c.args.place) (sym c.places.ensures.places) ∙ slice_get_past c.places.result.now c.args.place outside in
+    ap (λ (r : NetRecord). slice_get r.traces c.args.place) (sym c.self.view_is) ∙ slice_get-map node_trace c.self.inside.engine.places c.args.place ∙ ap (option_map node_trace) none

@@ -2,7 +2,7 @@ use Rattle.c104_run.{proofs.RecordedBegins.{all_stand, stand_on, waits_first, wa
 use Rattle.std.proofs.Common.{List, ap, arith, get_or, length, map, refl, slice_set, sym, take, ◌++◌, ◌∙◌, ◌≡◌, ◌≤◌}
 use Rattle.std.proofs.lemmas.List.{Edits.map_over_more, append-nil, drop_all, get_or-map, length-map, map-set, take_all}
 use Rattle.std.proofs.lemmas.Option.{slice_get-get_or, slice_get_within}
-use Rattle.c104_run.proofs.recorded_net.beginning.begin_all.Goals as goal
+use Rattle.c104_run.proofs.engine.beginning.begin_all.Goals as goal
 
 pub loop-place-init : goal.loop-place-init
 loop-place-init g c = record {

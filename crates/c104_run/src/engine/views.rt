@@ -1,0 +1,139 @@
+//! What an engine tells of its nodes: registers, what can be seen of links and terminals, what was sent and what arrived, why
+//! an event isn't ready, and whether all stands still or is quiet.
+ghost use Rattle.std.specs.{Option.option_copied, Prelude.{All, IsTrue, length, map, slice_get, ◌<◌, ◌↔◌, ◌≡◌}};
+ghost use Rattle.{c104_node.specs.{Places.states, Quiet.IsQuietNode}, c104_run.specs.{Engines.engine_network, NetViews.network_link_view}};
+ghost use Rattle.c104_run.specs.{NetViews.{network_sent_packet, network_terminal_view}, Network.{network_arrived, network_peek}};
+ghost use Rattle.c104_run.specs.{Network.terminal_place, Reasons.network_why, Rounds.round, Standstill.have_reasons};
+
+use super::Engine;
+use crate::place_views::are_quiet;
+use crate::reason::Reason;
+use crate::reasons::first_reason;
+use crate::standstill::round_stands;
+use c104_event::Event;
+use c104_node::{ArrivedOf, NodeOf, Place, TerminalView, node_at};
+use c104_switch::LinkView;
+use c104_token::{Packet, TokenKind};
+
+impl<T: TokenKind, P: Place<T>> Engine<T, P> {
+    /// How many switches there are.
+    #[inline(always)]
+    fn switch_count(&self) -> usize
+        ensures { result ≡ length self.now.plan.switches }
+    {
+        self.wires.switch_count()
+    }
+
+    /// How many terminals there are.
+    #[inline(always)]
+    fn terminal_count(&self) -> usize
+        ensures { result ≡ length self.now.plan.terminals }
+    {
+        self.wires.terminal_count()
+    }
+
+    /// The node at a place. None where there is no such place.
+    #[inline(always)]
+    fn node(&self, place: usize) -> Option<&NodeOf<T>>
+        ensures { option_copied result ≡ slice_get (states (map P.shown self.now.places)) place }
+    {
+        node_at(self.places.as_slice(), place)
+    }
+
+    /// The value of a register of a switch. None where the plan has no such switch, or no register has the address.
+    pub fn peek(&self, switch: usize, addr: u16) -> Option<u32>
+        ensures { result ≡ network_peek (engine_network P.shown self.now) switch addr }
+    {
+        if switch >= self.switch_count() {
+            return None;
+        }
+        match self.node(switch) {
+            Some(node) => node.peek(addr),
+            None => None,
+        }
+    }
+
+    /// What can be seen of a link of a switch. None where the plan has no such switch, or a switch no such link.
+    pub fn view_link(&self, switch: usize, link: usize) -> Option<LinkView>
+        ensures { result ≡ network_link_view T.kind (engine_network P.shown self.now) switch link }
+    {
+        if switch >= self.switch_count() {
+            return None;
+        }
+        match self.node(switch) {
+            Some(node) => node.view_link(link),
+            None => None,
+        }
+    }
+
+    /// The node of a terminal of the plan.
+    #[inline(always)]
+    fn terminal_node(&self, terminal: usize) -> Option<&NodeOf<T>>
+        requires { terminal < length self.now.plan.terminals }
+        ensures { option_copied result ≡
+            slice_get (states (map P.shown self.now.places)) (terminal_place self.now.plan terminal) }
+    {
+        let place = self.wires.terminal_place(terminal);
+        self.node(place)
+    }
+
+    /// What can be seen of a terminal. None where the plan has no such terminal.
+    pub fn view_terminal(&self, terminal: usize) -> Option<TerminalView>
+        ensures { result ≡ network_terminal_view (engine_network P.shown self.now) terminal }
+    {
+        if terminal >= self.terminal_count() {
+            return None;
+        }
+        match self.terminal_node(terminal) {
+            Some(node) => node.view_terminal(),
+            None => None,
+        }
+    }
+
+    /// The tokens that arrived at a terminal, in order. None where the plan has no such terminal.
+    pub fn arrived(&self, terminal: usize) -> Option<&ArrivedOf<T>>
+        ensures { option_copied result ≡ network_arrived (engine_network P.shown self.now) terminal }
+    {
+        if terminal >= self.terminal_count() {
+            return None;
+        }
+        match self.terminal_node(terminal) {
+            Some(node) => node.arrived(),
+            None => None,
+        }
+    }
+
+    /// The packet of this number among those that a terminal sent. None where there is none.
+    pub fn sent_packet(&self, terminal: usize, number: usize) -> Option<&Packet>
+        ensures { option_copied result ≡ network_sent_packet (engine_network P.shown self.now) terminal number }
+    {
+        if terminal >= self.terminal_count() {
+            return None;
+        }
+        match self.terminal_node(terminal) {
+            Some(node) => node.sent_packet(number),
+            None => None,
+        }
+    }
+
+    /// Why an event isn't ready; none where it can't happen.
+    pub fn why(&self, event: &Event) -> Option<Reason>
+        ensures { result ≡ network_why (engine_network P.shown self.now) event.now }
+    {
+        first_reason(&self.wires, self.places.as_slice(), event)
+    }
+
+    /// Whether no event of a round is ready.
+    pub fn stands_still(&self) -> bool
+        ensures { result ≡ have_reasons (engine_network P.shown self.now) (round self.now.plan) }
+    {
+        round_stands(&self.wires, self.places.as_slice())
+    }
+
+    /// Whether all nodes are quiet.
+    pub fn is_quiet(&self) -> bool
+        ensures { IsTrue result ↔ All IsQuietNode (states (map P.shown self.now.places)) }
+    {
+        are_quiet(self.places())
+    }
+}
