@@ -1,10 +1,8 @@
 -- What is known of the wires of places: no act changes it, and an act that crosses a wire goes over it.
-use Rattle.{c104_event.specs.declared.{events.Event.Event, faults.EventFault.EventFault}, c104_node.proofs.PlaceSteps.shown_at}
-use Rattle.c104_node.specs.{ActLinks.port_link, Places.{PlaceBase, Shown, base_wired, bases}, Traces.part, WiredPlaces.{links_at, links_of}}
-use Rattle.{c104_plan.specs.Plans.Plan, c104_run.{proofs.MeteredSteps.{ends_bases, part_bases}, specs.EventActs.port_place}}
-use Rattle.c104_run.specs.{EventRuns.EventsEnd, KnownWires.{KnowWires, is_linked_end}, Meters.{Sees, metered_apply, metered_of}}
-use Rattle.{c104_run.specs.RoundParts.PartEnds, c104_token.specs.Kinds.Kind, std.proofs.Common.{Bool, IfSome, List, None, Option, Result}}
-use Rattle.std.proofs.{Common.{Some, ap, map, option_map, refl, slice_get, subst, sym, true, ℕ, ◌∙◌, ◌≡◌}, lemmas.Option.slice_get-map}
+use Rattle.c104_node.{proofs.PlaceSteps.shown_at, specs.{ActLinks.port_link, Places.{PlaceBase, Shown, base_wired, bases}, Traces.part}}
+use Rattle.{c104_node.specs.WiredPlaces.{links_at, links_of}, c104_plan.specs.Plans.Plan, c104_run.specs.EventActs.port_place}
+use Rattle.{c104_run.specs.KnownWires.{KnowWires, is_linked_end}, std.proofs.Common.{Bool, IfSome, List, None, Option, Some, ap, map}}
+use Rattle.std.proofs.{Common.{option_map, refl, slice_get, subst, sym, true, ℕ, ◌∙◌, ◌≡◌}, lemmas.Option.slice_get-map}
 
 -- what is known of wires depends on nothing else
 module _ (bs cs : List PlaceBase) (same : map base_wired bs ≡ map base_wired cs) where
@@ -51,18 +49,3 @@ module _ {A : Type 0} where
           let both : Some (shown x).base ≡ Some b = sym (shown_at (λ (s : Shown A). s.base) shown xs k (Some x) is) ∙ here in
           let one : (shown x).base ≡ b = cc in
           subst (λ o. IfSome o (λ (wired : ℕ → Bool). (l : ℕ) → wired l ≡ is_linked_end plan k l)) (sym (none x) ∙ ap base_wired one) tt
-
-  -- what is known of places that were lent is known of those that are put back
-  pub known_put : {P : Type 0} (shown : P → Shown A) (plan : Plan) (items lent new put : List P) → lent ≡ items → put ≡ new → (KnowWires plan (bases (map shown lent)) → KnowWires plan (bases (map shown new))) →
-      KnowWires plan (bases (map shown items)) → KnowWires plan (bases (map shown put))
-  known_put shown plan items lent new put lent_is put_is goes known =
-      subst (λ ps. KnowWires plan (bases (map shown ps))) (sym put_is) (goes (subst (λ ps. KnowWires plan (bases (map shown ps))) (sym lent_is) known))
-
-  -- what was known is known after events in turn, and after a part of a round
-  pub known_after : {M : Type 0} (kind : Kind A) (keeps : Bool) (sees : Sees M A) (plan : Plan) (olds news : List (Shown A)) (count counted : ℕ) (m n : M) (es : List Event) (r : Result (Unit {0}) EventFault) →
-      EventsEnd (metered_apply kind keeps sees) (metered_of plan olds count m) es r (metered_of plan news counted n) → KnowWires plan (bases olds) → KnowWires plan (bases news)
-  known_after kind keeps sees plan olds news count counted m n es r ends known = subst (KnowWires plan) (sym (ends_bases kind keeps sees (metered_of plan olds count m) (metered_of plan news counted n) es r ends)) known
-
-  pub still_known : {M : Type 0} (kind : Kind A) (keeps : Bool) (sees : Sees M A) (plan : Plan) (olds news : List (Shown A)) (count counted : ℕ) (m n : M) (es : List Event) (r : Result Bool EventFault) →
-      PartEnds (metered_apply kind keeps sees) (metered_of plan olds count m) es r (metered_of plan news counted n) → KnowWires plan (bases olds) → KnowWires plan (bases news)
-  still_known kind keeps sees plan olds news count counted m n es r ends known = subst (KnowWires plan) (sym (part_bases kind keeps sees (metered_of plan olds count m) (metered_of plan news counted n) es r ends)) known

@@ -55,6 +55,7 @@ pub mod FinishedRuns
 pub mod StillParts
 pub mod TaggedRuns
 pub mod Engines
+pub mod EngineParts
 pub mod RecordedStages
 pub mod RecordedNets
 pub mod RecordedPlaces

@@ -1,8 +1,9 @@
 -- The engine of a network as a value: what it has of the network when it runs, and the network and the stage that this shows.
-use Rattle.{c104_node.specs.Places.{Shown, bases, states}, c104_plan.specs.Plans.Plan, c104_run.specs.KnownWires.KnowWires}
-use Rattle.c104_run.specs.{LivePlaces.AreLive, Meters.{Metered, metered_of}, NetRecords.NetRecord, Network.{Network, network_of}}
-use Rattle.{c104_run.specs.RecordedNets.{Reading, places_record}, c104_token.specs.Kinds.Kind}
-use Rattle.std.specs.Prelude.{List, map, ℕ}
+use Rattle.{c104_event.specs.declared.{events.Event.Event, faults.EventFault.EventFault}, c104_node.specs.Places.{Shown, bases, states}}
+use Rattle.{c104_plan.specs.Plans.Plan, c104_run.specs.{KnownWires.KnowWires, LivePlaces.{AreLive, is_live}, Meters.{Metered, Sees}}}
+use Rattle.c104_run.specs.{Meters.{metered_apply, metered_of}, NetRecords.NetRecord, Network.{Network, network_of}, RecordedNets.Reading}
+use Rattle.{c104_run.specs.{RecordedNets.places_record, RoundParts.PartEnds}, c104_token.specs.Kinds.Kind}
+use Rattle.std.specs.Prelude.{Bool, List, Result, map, true, ℕ, ◌≡◌}
 
 -- an engine: its plan, the places of its nodes, those of them at which something of a round may begin, as a set, and how
 -- many events were done
@@ -12,6 +13,10 @@ pub record EngineView (P : Type 0) : Type 0 where
   pub places : List P
   pub live : List ℕ
   pub count : ℕ
+
+-- the same, of another count
+abbrev pub with_count : {P : Type 0} → EngineView P → ℕ → EngineView P
+with_count e n = record e { count = n }
 
 module _ {A P : Type 0} (shown : P → Shown A) where
   -- the network that it shows
@@ -30,3 +35,11 @@ engine_record v e = places_record v e.plan e.places e.count
 pub record IsEngine {A P : Type 0} (kind : Kind A) (shown : P → Shown A) (e : EngineView P) : Type 0 where
   pub knows : KnowWires e.plan (bases (map shown e.places))
   pub live : AreLive kind e.plan e.live (states (map shown e.places))
+
+-- an engine before and after a part of a round, of whose events a meter is told: it goes on by them, its plan stays, and so do
+-- the places at which something may begin
+pub record DoesPart {A M P : Type 0} (kind : Kind A) (keeps : Bool) (sees : Sees M A) (shown : P → Shown A)
+    (old : EngineView P) (m : M) (events : List Event) (result : Result Bool EventFault) (new : EngineView P) (n : M) : Type 0 where
+  pub plan : new.plan ≡ old.plan
+  pub ends : PartEnds (metered_apply kind keeps sees) (engine_at shown old m) events result (engine_at shown new n)
+  pub grown : (k : ℕ) → is_live old.live k ≡ true → is_live new.live k ≡ true

@@ -5,18 +5,16 @@
 //! their wires, and the set of live ones has each at which something of a round may begin: that is what every engine keeps.
 ghost use Rattle.std.specs.Prelude.{map, ◌≡◌};
 ghost use Rattle.{c104_node.specs.{Places.bases, Traces.seatless}, c104_plan.specs.Plans.IsPlan, c104_run.specs.Engines.IsEngine};
-ghost use Rattle.c104_run.specs.{Engines.{engine_at, engine_network}, EventRuns.EventsEnd, EventsAtPlaces.EventDone, KnownWires.KnowWires};
-ghost use Rattle.c104_run.specs.{Meters.{meter_if, metered_apply, own_reply}, NetRecords.{is_done, ticket_after}, RoundParts.PartEnds};
-ghost use Rattle.c104_run.specs.Rounds.{round, rounds};
+ghost use Rattle.c104_run.specs.{Engines.engine_network, EventsAtPlaces.EventDone, KnownWires.KnowWires, Meters.{meter_if, own_reply}};
+ghost use Rattle.c104_run.specs.NetRecords.{is_done, ticket_after};
 
 mod beginning;
+mod rounds;
 mod views;
 
 use crate::events::happen_to;
 use crate::live_places::LivePlaces;
 use crate::meter::Meter;
-use crate::rounds::{one_round_at, rounds_at};
-use crate::watch::Watch;
 use crate::wires::Wires;
 use c104_event::{Event, EventFault};
 use c104_node::{Place, Stamp};
@@ -70,6 +68,7 @@ impl<T: TokenKind, P: Place<T>> Engine<T, P> {
     }
 
     /// The plan of the network.
+    #[inline(always)]
     pub fn plan(&self) -> &Plan
         ensures plan { result.now ≡ self.now.plan }
         ensures kept { IsPlan self.now.plan }
@@ -78,6 +77,7 @@ impl<T: TokenKind, P: Place<T>> Engine<T, P> {
     }
 
     /// The wires of the plan.
+    #[inline(always)]
     pub fn wires(&self) -> &Wires
         ensures { result.now ≡ self.now.plan }
     {
@@ -85,6 +85,7 @@ impl<T: TokenKind, P: Place<T>> Engine<T, P> {
     }
 
     /// The places: the switches in order, and then the terminals.
+    #[inline(always)]
     pub fn places(&self) -> &[P]
         ensures places { result.now ≡ self.now.places }
         ensures kept { IsEngine T.kind P.shown self.now }
@@ -142,46 +143,6 @@ impl<T: TokenKind, P: Place<T>> Engine<T, P> {
         self.count = ticket_after(self.count, was_done(&answer));
         self.live.fill();
         answer
-    }
-
-    /// Does `times` rounds, up to the first fault of an event, and tells of each that changed something.
-    pub fn rounds<W: Watch, M: Meter<T>>(
-        &mut self,
-        times: u32,
-        meter: &mut M,
-        watch: &mut W,
-    ) -> Result<(), EventFault>
-        ensures plan { self.new.plan ≡ self.old.plan }
-        ensures ends { EventsEnd (metered_apply T.kind P.keeps M.sees) (engine_at P.shown self.old meter.old)
-            (rounds self.old.plan times) result (engine_at P.shown self.new meter.new) }
-        ensures kept { IsPlan self.old.plan }
-    {
-        let done = rounds_at(
-            &self.wires,
-            self.places.as_mut_slice(),
-            &mut self.count,
-            meter,
-            times,
-            watch,
-        );
-        self.live.fill();
-        done
-    }
-
-    /// Does one round, and tells whether any event of it was done.
-    pub fn round<M: Meter<T>>(&mut self, meter: &mut M) -> Result<bool, EventFault>
-        ensures plan { self.new.plan ≡ self.old.plan }
-        ensures ends { PartEnds (metered_apply T.kind P.keeps M.sees) (engine_at P.shown self.old meter.old)
-            (round self.old.plan) result (engine_at P.shown self.new meter.new) }
-        ensures kept { IsPlan self.old.plan }
-    {
-        one_round_at(
-            &self.wires,
-            self.places.as_mut_slice(),
-            &mut self.live,
-            &mut self.count,
-            meter,
-        )
     }
 }
 

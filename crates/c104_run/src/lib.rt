@@ -38,7 +38,6 @@ mod reasons;
 mod recorded_net;
 mod recorded_place;
 mod recording;
-mod rounds;
 mod run;
 mod run_parts;
 mod standstill;

@@ -1,9 +1,9 @@
 //! What an engine tells of its nodes: registers, what can be seen of links and terminals, what was sent and what arrived, why
 //! an event isn't ready, and whether all stands still or is quiet.
-ghost use Rattle.std.specs.{Option.option_copied, Prelude.{All, IsTrue, length, map, slice_get, ◌<◌, ◌↔◌, ◌≡◌}};
-ghost use Rattle.{c104_node.specs.{Places.states, Quiet.IsQuietNode}, c104_run.specs.{Engines.engine_network, NetViews.network_link_view}};
-ghost use Rattle.c104_run.specs.{NetViews.{network_sent_packet, network_terminal_view}, Network.{network_arrived, network_peek}};
-ghost use Rattle.c104_run.specs.{Network.terminal_place, Reasons.network_why, Rounds.round, Standstill.have_reasons};
+ghost use Rattle.std.specs.{Option.option_copied, Prelude.{All, IsTrue, length, map, slice_get, ◌+◌, ◌<◌, ◌↔◌, ◌≡◌, ◌≤◌}};
+ghost use Rattle.{c104_node.specs.{Places.states, Quiet.IsQuietNode}, c104_run.specs.{Engines.engine_network, LivePlaces.told_places}};
+ghost use Rattle.c104_run.specs.{NetViews.{network_link_view, network_sent_packet, network_terminal_view}, Network.network_arrived};
+ghost use Rattle.c104_run.specs.{Network.{network_peek, terminal_place}, Reasons.network_why, Rounds.round, Standstill.have_reasons};
 
 use super::Engine;
 use crate::place_views::are_quiet;
@@ -18,10 +18,33 @@ use c104_token::{Packet, TokenKind};
 impl<T: TokenKind, P: Place<T>> Engine<T, P> {
     /// How many switches there are.
     #[inline(always)]
-    fn switch_count(&self) -> usize
-        ensures { result ≡ length self.now.plan.switches }
+    pub(crate) fn switch_count(&self) -> usize
+        ensures count { result ≡ length self.now.plan.switches }
+        ensures few { result ≤ told_places }
     {
+        // The proof reads here what every plan keeps.
+        let _plan = self.wires.plan();
         self.wires.switch_count()
+    }
+
+    /// How many places there are: those of switches, and then those of terminals.
+    #[inline(always)]
+    pub(crate) fn place_count(&self) -> usize
+        ensures count { result ≡ length self.now.plan.switches + length self.now.plan.terminals }
+        ensures few { result ≤ told_places }
+    {
+        // The proof reads here what every plan keeps.
+        let _plan = self.wires.plan();
+        self.wires.place_count()
+    }
+
+    /// The place of a terminal.
+    #[inline(always)]
+    pub(crate) fn terminal_place(&self, terminal: usize) -> usize
+        requires { terminal < length self.now.plan.terminals }
+        ensures { result ≡ terminal_place self.now.plan terminal }
+    {
+        self.wires.terminal_place(terminal)
     }
 
     /// How many terminals there are.
@@ -37,7 +60,7 @@ impl<T: TokenKind, P: Place<T>> Engine<T, P> {
     fn node(&self, place: usize) -> Option<&NodeOf<T>>
         ensures { option_copied result ≡ slice_get (states (map P.shown self.now.places)) place }
     {
-        node_at(self.places.as_slice(), place)
+        node_at(self.places(), place)
     }
 
     /// The value of a register of a switch. None where the plan has no such switch, or no register has the address.
@@ -73,7 +96,7 @@ impl<T: TokenKind, P: Place<T>> Engine<T, P> {
         ensures { option_copied result ≡
             slice_get (states (map P.shown self.now.places)) (terminal_place self.now.plan terminal) }
     {
-        let place = self.wires.terminal_place(terminal);
+        let place = self.terminal_place(terminal);
         self.node(place)
     }
 

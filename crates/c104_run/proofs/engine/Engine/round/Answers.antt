@@ -1,22 +1,14 @@
-use Rattle.{c104_node.specs.Places.{bases, states}, c104_run.proofs.{Engines.put_back, KnownWires.still_known}}
-use Rattle.c104_run.specs.{KnownWires.KnowWires, LivePlaces.AreLive, Meters.{metered_apply, metered_of}, RoundParts.PartEnds, Rounds.round}
-use Rattle.std.{proofs.{Common.{List, map, subst, sym, ◌∙◌}, lemmas.List.with_items_is}, specs.Vec.with_items}
+use Rattle.{c104_node.proofs.PlaceSteps.err_is, std.proofs.Common.◌∙◌}
 use Rattle.c104_run.proofs.engine.Engine.round.Goals as goal
 
-pub invariant_of-self : goal.invariant_of-self
-invariant_of-self g c =
-    let put_is = with_items_is c.self.inside.places c.one_round_at.new.places (c.one_round_at.auto.places ∙ c.as_mut_slice.ensures.len) in
-    record {
-      knows =
-          put_back (λ (olds news : List g.row.P.Denot). KnowWires c.self.inside.wires (bases (map g.P.Place.shown olds)) → KnowWires c.self.inside.wires (bases (map g.P.Place.shown news)))
-          c.self.inside.places.items c.as_mut_slice.result.now c.one_round_at.new.places (with_items c.self.inside.places c.one_round_at.new.places).items c.as_mut_slice.ensures.value put_is
-          (λ known. still_known g.T.TokenKind.kind _ _ _ _ _ _ _ _ _ _ _ c.one_round_at.ensures.ends known) c.self.invariant.knows;
-      live = subst (λ (ps : List g.row.P.Denot). AreLive g.T.TokenKind.kind c.self.inside.wires c.one_round_at.new.live (states (map g.P.Place.shown ps))) (sym put_is) c.one_round_at.ensures.live;
-    }
+pub returns-clause-plan : goal.returns-clause-plan
+returns-clause-plan g c = c.settle.ensures.plan ∙ c.in_ok-changed.ensures.plan
 
 pub returns-clause-ends : goal.returns-clause-ends
-returns-clause-ends g c =
-    let put_is = with_items_is c.self.inside.places c.one_round_at.new.places (c.one_round_at.auto.places ∙ c.as_mut_slice.ensures.len) in
-    rw (sym c.self.view_is)
-    (put_back (λ (olds news : List g.row.P.Denot). PartEnds (metered_apply g.T.TokenKind.kind g.P.Place.keeps g.M.Meter.sees) (metered_of c.self.inside.wires (map g.P.Place.shown olds) c.self.inside.count c.args.meter.now) (round c.self.inside.wires) c.one_round_at.result (metered_of c.self.inside.wires (map g.P.Place.shown news) c.one_round_at.new.count c.one_round_at.new.meter))
-    c.self.inside.places.items c.as_mut_slice.result.now c.one_round_at.new.places (with_items c.self.inside.places c.one_round_at.new.places).items c.as_mut_slice.ensures.value put_is c.one_round_at.ensures.ends)
+returns-clause-ends g c = rw (c.settle.ensures.plan, c.settle.ensures.places, c.settle.ensures.count) c.in_ok-changed.ensures.ends
+
+pub returns-in_err-changed-clause-plan : goal.returns-in_err-changed-clause-plan
+returns-in_err-changed-clause-plan g c = c.in_err-changed.ensures.plan
+
+pub returns-in_err-changed-clause-ends : goal.returns-in_err-changed-clause-ends
+returns-in_err-changed-clause-ends g c = rw (err_is _ _ c.from_residual.ensures) c.in_err-changed.ensures.ends

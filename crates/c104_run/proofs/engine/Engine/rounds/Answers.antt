@@ -1,22 +1,35 @@
-use Rattle.{c104_node.specs.Places.bases, c104_run.proofs.{Engines.put_back, KnownWires.known_after, LiveRounds.live_all}}
-use Rattle.c104_run.specs.{EventRuns.EventsEnd, KnownWires.KnowWires, Meters.{metered_apply, metered_of}, Rounds.rounds}
-use Rattle.std.{proofs.{Common.{List, map, sym, ◌∙◌}, lemmas.List.with_items_is}, specs.Vec.with_items}
+use Rattle.{c104_node.proofs.PlaceSteps.err_is, c104_run.proofs.RoundsTaken.{round_idle, round_refused, round_taken}}
+use Rattle.{c104_run.specs.{Engines.engine_at, EventRuns.run_events, Meters.metered_apply, Rounds.{round, rounds}}, std.proofs.Common.ap}
+use Rattle.std.proofs.Common.{arith, inl, refl, sym, ◌∙◌, ◌≡◌}
 use Rattle.c104_run.proofs.engine.Engine.rounds.Goals as goal
 
-pub invariant_of-self : goal.invariant_of-self
-invariant_of-self g c =
-    let put_is = with_items_is c.self.inside.places c.rounds_at-done.new.places (c.rounds_at-done.auto.places ∙ c.as_mut_slice.ensures.len) in
-    record {
-      knows =
-          put_back (λ (olds news : List g.row.P.Denot). KnowWires c.self.inside.wires (bases (map g.P.Place.shown olds)) → KnowWires c.self.inside.wires (bases (map g.P.Place.shown news)))
-          c.self.inside.places.items c.as_mut_slice.result.now c.rounds_at-done.new.places (with_items c.self.inside.places c.rounds_at-done.new.places).items c.as_mut_slice.ensures.value put_is
-          (λ known. known_after g.T.TokenKind.kind g.P.Place.keeps _ c.self.inside.wires (map g.P.Place.shown c.as_mut_slice.result.now) (map g.P.Place.shown c.rounds_at-done.new.places) c.self.inside.count c.rounds_at-done.new.count _ _ (rounds c.self.inside.wires c.args.times) c.rounds_at-done.result c.rounds_at-done.ensures.ends known) c.self.invariant.knows;
-      live = live_all g.T.TokenKind.kind c.self.inside.wires c.fill.new.self _ c.rounds_at-done.ensures.kept c.fill.ensures;
-    }
+pub loop-round-init : goal.loop-round-init
+loop-round-init g c = record { done = refl; plan = refl }
+
+pub loop-round-preserved : goal.loop-round-preserved
+loop-round-preserved g c = record {
+  done =
+      rw (c.settle.ensures.plan, c.settle.ensures.places, c.settle.ensures.count)
+      (round_taken (metered_apply g.T.TokenKind.kind g.P.Place.keeps g.M.Meter.sees) (engine_at g.P.Place.shown c.args.self.now c.args.meter.now) (engine_at g.P.Place.shown c.loop-round.self c.loop-round.meter) (engine_at g.P.Place.shown c.round_once.new.self c.round_once.new.meter) c.args.self.now.plan (round c.loop-round.self.plan) c.loop-round.round (ap round c.loop-round.invariant.plan) c.loop-round.invariant.done (inl (sym c.in_ok-changed.ensures.ends.ends.0)));
+  plan = c.settle.ensures.plan ∙ c.in_ok-changed.ensures.plan ∙ c.loop-round.invariant.plan;
+}
 
 pub returns-clause-ends : goal.returns-clause-ends
 returns-clause-ends g c =
-    let put_is = with_items_is c.self.inside.places c.rounds_at-done.new.places (c.rounds_at-done.auto.places ∙ c.as_mut_slice.ensures.len) in
-    rw (sym c.self.view_is)
-    (put_back (λ (olds news : List g.row.P.Denot). EventsEnd (metered_apply g.T.TokenKind.kind g.P.Place.keeps g.M.Meter.sees) (metered_of c.self.inside.wires (map g.P.Place.shown olds) c.self.inside.count c.args.meter.now) (rounds c.self.inside.wires c.args.times) c.rounds_at-done.result (metered_of c.self.inside.wires (map g.P.Place.shown news) c.rounds_at-done.new.count c.rounds_at-done.new.meter))
-    c.self.inside.places.items c.as_mut_slice.result.now c.rounds_at-done.new.places (with_items c.self.inside.places c.rounds_at-done.new.places).items c.as_mut_slice.ensures.value put_is c.rounds_at-done.ensures.ends)
+    let all : c.loop-round.round ≡ c.args.times = omega arith in
+    inl (sym (ap (λ n. run_events (metered_apply g.T.TokenKind.kind g.P.Place.keeps g.M.Meter.sees) (engine_at g.P.Place.shown c.args.self.now c.args.meter.now) (rounds c.args.self.now.plan n)) (sym all) ∙ c.loop-round.invariant.done))
+
+pub returns-in_err-changed-clause-ends : goal.returns-in_err-changed-clause-ends
+returns-in_err-changed-clause-ends g c =
+    rw (err_is _ _ c.from_residual.ensures)
+    (round_refused (metered_apply g.T.TokenKind.kind g.P.Place.keeps g.M.Meter.sees) (engine_at g.P.Place.shown c.args.self.now c.args.meter.now) (engine_at g.P.Place.shown c.loop-round.self c.loop-round.meter) (engine_at g.P.Place.shown c.round_once.new.self c.round_once.new.meter) c.args.self.now.plan (round c.loop-round.self.plan) c.loop-round.round c.args.times c.in_err-changed.field-0.0 (ap round c.loop-round.invariant.plan) c.loop-round-test.true c.loop-round.invariant.done c.in_err-changed.ensures.ends.ends)
+
+pub returns-in_err-changed-clause-plan : goal.returns-in_err-changed-clause-plan
+returns-in_err-changed-clause-plan g c = c.in_err-changed.ensures.plan ∙ c.loop-round.invariant.plan
+
+pub returns-then-not-changed-clause-ends : goal.returns-then-not-changed-clause-ends
+returns-then-not-changed-clause-ends g c =
+    round_idle (metered_apply g.T.TokenKind.kind g.P.Place.keeps g.M.Meter.sees) (engine_at g.P.Place.shown c.args.self.now c.args.meter.now) (engine_at g.P.Place.shown c.loop-round.self c.loop-round.meter) (engine_at g.P.Place.shown c.round_once.new.self c.round_once.new.meter) c.args.self.now.plan (round c.loop-round.self.plan) c.loop-round.round c.args.times (ap round c.loop-round.invariant.plan) c.loop-round-test.true c.loop-round.invariant.done (inl (sym c.in_ok-changed.ensures.ends.ends.0)) (c.in_ok-changed.ensures.ends.ends.1 c.if-not-changed.true)
+
+pub returns-then-not-changed-clause-plan : goal.returns-then-not-changed-clause-plan
+returns-then-not-changed-clause-plan g c = c.in_ok-changed.ensures.plan ∙ c.loop-round.invariant.plan

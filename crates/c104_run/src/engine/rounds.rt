@@ -1,0 +1,131 @@
+//! Rounds, in which every part of a network takes its turn.
+//!
+//! No list of a round's events is made. Each part walks the places at which something may begin (`LivePlaces`), and leaves
+//! out an event of which the near end says that it isn't ready: it would change nothing.
+ghost use Rattle.std.specs.Prelude.{length, ◌+◌, ◌<◌, ◌≡◌};
+ghost use Rattle.{c104_plan.specs.Plans.IsPlan, c104_run.specs.{Engines.{DoesPart, engine_at}, EventRuns.EventsEnd, Meters.metered_apply}};
+ghost use Rattle.c104_run.specs.{RoundParts.PartEnds, Rounds.{round, rounds}};
+
+mod attempts;
+mod finding;
+mod parts;
+mod ports;
+
+use super::Engine;
+use crate::meter::Meter;
+use crate::watch::Watch;
+use c104_event::EventFault;
+use c104_node::{Place, is_idle_at};
+use c104_token::TokenKind;
+
+impl<T: TokenKind, P: Place<T>> Engine<T, P> {
+    /// Does `times` rounds, up to the first fault of an event, and tells of each that changed something.
+    pub fn rounds<W: Watch, M: Meter<T>>(
+        &mut self,
+        times: u32,
+        meter: &mut M,
+        watch: &mut W,
+    ) -> Result<(), EventFault>
+        ensures plan { self.new.plan ≡ self.old.plan }
+        ensures ends { EventsEnd (metered_apply T.kind P.keeps M.sees) (engine_at P.shown self.old meter.old)
+            (rounds self.old.plan times) result (engine_at P.shown self.new meter.new) }
+        ensures kept { IsPlan self.old.plan }
+    {
+        // The proof reads here what every plan keeps.
+        let _plan = self.plan();
+        for round in 0..times {
+            let changed = self.round_once(meter)?;
+            if !changed {
+                // Nor would any further round change anything.
+                return Ok(());
+            }
+            self.settle();
+            watch.rounds_done(round + 1, times);
+        }
+        Ok(())
+    }
+
+    /// Does one round, and tells whether any event of it was done.
+    pub fn round<M: Meter<T>>(&mut self, meter: &mut M) -> Result<bool, EventFault>
+        ensures plan { self.new.plan ≡ self.old.plan }
+        ensures ends { PartEnds (metered_apply T.kind P.keeps M.sees) (engine_at P.shown self.old meter.old)
+            (round self.old.plan) result (engine_at P.shown self.new meter.new) }
+        ensures kept { IsPlan self.old.plan }
+    {
+        // The proof reads here what every plan keeps.
+        let _plan = self.plan();
+        let changed = self.round_once(meter)?;
+        self.settle();
+        Ok(changed)
+    }
+
+    /// Does a round, and tells whether any event of it was done.
+    fn round_once<M: Meter<T>>(&mut self, meter: &mut M) -> Result<bool, EventFault>
+        ensures { DoesPart T.kind P.keeps M.sees P.shown self.old meter.old (round self.old.plan) result self.new meter.new }
+    {
+        let credited = self.credit_ports(meter)?;
+        let crossed = self.cross_ports(meter)?;
+        let turned = self.turn_inputs(meter)?;
+        let claimed = self.claim_outputs(meter)?;
+        let drained = self.drain_terminals(meter)?;
+        Ok(credited | crossed | turned | claimed | drained)
+    }
+
+    /// Takes the places out at which nothing can begin now. They are asked after some rounds alone, since this takes as long
+    /// as a round in which little happens.
+    fn settle(&mut self)
+        ensures plan { self.new.plan ≡ self.old.plan }
+        ensures places { self.new.places ≡ self.old.places }
+        ensures count { self.new.count ≡ self.old.count }
+    {
+        if self.live.is_due() {
+            self.take_out_idle();
+        }
+    }
+
+    /// Takes the places out at which nothing can begin now, unless most would be left: then all are, since all are walked
+    /// faster than most.
+    fn take_out_idle(&mut self)
+        ensures plan { self.new.plan ≡ self.old.plan }
+        ensures places { self.new.places ≡ self.old.places }
+        ensures count { self.new.count ≡ self.old.count }
+    {
+        let end = self.place_count();
+        let mut left = 0usize;
+        let mut from = 0;
+        while let Some(place) = self.next_live(from, end) {
+            from = place + 1;
+            if !self.take_out(place) {
+                left = left.saturating_add(1);
+            }
+        }
+        if left > end / 2 {
+            self.put_all();
+        }
+    }
+
+    /// Puts all places into the set of those at which something may begin.
+    fn put_all(&mut self)
+        ensures plan { self.new.plan ≡ self.old.plan }
+        ensures places { self.new.places ≡ self.old.places }
+        ensures count { self.new.count ≡ self.old.count }
+    {
+        self.live.fill();
+    }
+
+    /// Takes a place out at which nothing can begin now, and tells whether it is one.
+    #[inline(always)]
+    fn take_out(&mut self, place: usize) -> bool
+        requires { place < length self.old.plan.switches + length self.old.plan.terminals }
+        ensures plan { self.new.plan ≡ self.old.plan }
+        ensures places { self.new.places ≡ self.old.places }
+        ensures count { self.new.count ≡ self.old.count }
+    {
+        let links = self.wires.node_links(place);
+        if !is_idle_at(self.places.as_slice(), place, links) {
+            return false;
+        }
+        self.live.remove(place);
+        true
+    }
+}
