@@ -9,7 +9,9 @@ ghost use Rattle.c104_run.specs.{Engines.engine_network, EventsAtPlaces.EventDon
 ghost use Rattle.c104_run.specs.NetRecords.{is_done, ticket_after};
 
 mod beginning;
+mod reasons;
 mod rounds;
+mod standstill;
 mod views;
 
 use crate::events::happen_to;

@@ -1,16 +1,12 @@
-//! What an engine tells of its nodes: registers, what can be seen of links and terminals, what was sent and what arrived, why
-//! an event isn't ready, and whether all stands still or is quiet.
+//! What an engine tells of its nodes: registers, what can be seen of links and terminals, what was sent and what
+//! arrived, and whether all is quiet.
 ghost use Rattle.std.specs.{Option.option_copied, Prelude.{All, IsTrue, length, map, slice_get, ◌+◌, ◌<◌, ◌↔◌, ◌≡◌, ◌≤◌}};
 ghost use Rattle.{c104_node.specs.{Places.states, Quiet.IsQuietNode}, c104_run.specs.{Engines.engine_network, LivePlaces.told_places}};
 ghost use Rattle.c104_run.specs.{NetViews.{network_link_view, network_sent_packet, network_terminal_view}, Network.network_arrived};
-ghost use Rattle.c104_run.specs.{Network.{network_peek, terminal_place}, Reasons.network_why, Rounds.round, Standstill.have_reasons};
+ghost use Rattle.c104_run.specs.Network.{network_peek, terminal_place};
 
 use super::Engine;
 use crate::place_views::are_quiet;
-use crate::reason::Reason;
-use crate::reasons::first_reason;
-use crate::standstill::round_stands;
-use c104_event::Event;
 use c104_node::{ArrivedOf, NodeOf, Place, TerminalView, node_at};
 use c104_switch::LinkView;
 use c104_token::{Packet, TokenKind};
@@ -49,7 +45,7 @@ impl<T: TokenKind, P: Place<T>> Engine<T, P> {
 
     /// How many terminals there are.
     #[inline(always)]
-    fn terminal_count(&self) -> usize
+    pub(crate) fn terminal_count(&self) -> usize
         ensures { result ≡ length self.now.plan.terminals }
     {
         self.wires.terminal_count()
@@ -57,7 +53,7 @@ impl<T: TokenKind, P: Place<T>> Engine<T, P> {
 
     /// The node at a place. None where there is no such place.
     #[inline(always)]
-    fn node(&self, place: usize) -> Option<&NodeOf<T>>
+    pub(crate) fn node(&self, place: usize) -> Option<&NodeOf<T>>
         ensures { option_copied result ≡ slice_get (states (map P.shown self.now.places)) place }
     {
         node_at(self.places(), place)
@@ -137,20 +133,6 @@ impl<T: TokenKind, P: Place<T>> Engine<T, P> {
             Some(node) => node.sent_packet(number),
             None => None,
         }
-    }
-
-    /// Why an event isn't ready; none where it can't happen.
-    pub fn why(&self, event: &Event) -> Option<Reason>
-        ensures { result ≡ network_why (engine_network P.shown self.now) event.now }
-    {
-        first_reason(&self.wires, self.places.as_slice(), event)
-    }
-
-    /// Whether no event of a round is ready.
-    pub fn stands_still(&self) -> bool
-        ensures { result ≡ have_reasons (engine_network P.shown self.now) (round self.now.plan) }
-    {
-        round_stands(&self.wires, self.places.as_slice())
     }
 
     /// Whether all nodes are quiet.
