@@ -1,98 +1,108 @@
 -- What an engine does of a round, part after part and step after step, by whatever plan it has: the plan stays.
-use Rattle.{c104_event.specs.declared.{events.Event.Event, faults.EventFault.EventFault}, c104_node.specs.Places.Shown}
-use Rattle.{c104_plan.specs.Plans.Plan, c104_run.proofs.PartRuns.{number_next, number_stops, numbers_done, numbers_passed, part_after}}
-use Rattle.c104_run.{proofs.PartRuns.{part_empty, stops_after, stops_before}, specs.Engines.{DoesPart, EngineView, engine_at}}
-use Rattle.{c104_run.specs.{Meters.{Sees, metered_apply}, RoundParts.PartEnds}, c104_token.specs.Kinds.Kind, std.proofs.Common.{Bool, Err}}
-use Rattle.std.proofs.Common.{IsErr, IsErrAnd, List, Ok, Result, [], arith, false, refl, subst, take, ℕ, ◌++◌, ◌+◌, ◌<◌, ◌||◌, ◌∙◌, ◌≡◌}
-use Rattle.std.{proofs.Common.◌≤◌, specs.List.{flat_map, range_with_len}}
+use Rattle.{c104_event.specs.declared.{events.Event.Event, faults.EventFault.EventFault}, c104_node.proofs.PlaceSteps.err_is}
+use Rattle.{c104_node.specs.Places.Shown, c104_plan.specs.Plans.Plan, c104_run.proofs.{MeteredSteps.idle_part, PartRuns.number_next}}
+use Rattle.c104_run.proofs.PartRuns.{number_passes, number_stops, part_after, part_empty, stops_after, stops_before}
+use Rattle.c104_run.{proofs.PortWalks.round_walked, specs.{Engines.{DoesPart, EngineView, engine_at, engine_network}, Meters.Sees}}
+use Rattle.c104_run.specs.{Meters.metered_apply, RoundParts.{AreIdle, IsNext, PartEnds, walked_round}, Rounds.round}
+use Rattle.{c104_token.specs.Kinds.Kind, std.proofs.Common.{Bool, Err, IsErr, IsErrAnd, List, None, Ok, Option, Result, Some, ap, arith}}
+use Rattle.std.{proofs.Common.{false, length, refl, subst, sym, unwrap_or, ℕ, ◌++◌, ◌+◌, ◌<◌, ◌||◌, ◌∙◌, ◌≡◌, ◌≤◌}, specs.List.flat_map}
+use Rattle.std.specs.List.{range_with_len}
 
-module _ {A M P : Type 0} (kind : Kind A) (keeps : Bool) (sees : Sees M A) (shown : P → Shown A) where
-  -- a part comes to this at an engine
-  abbrev pub Comes : EngineView P → M → List Event → Result Bool EventFault → EngineView P → M → Type 0
-  Comes old m events result new n = PartEnds (metered_apply kind keeps sees) (engine_at shown old m) events result (engine_at shown new n)
-
-  abbrev pub Does : EngineView P → M → List Event → Result Bool EventFault → EngineView P → M → Type 0
-  Does old m events result new n = DoesPart kind keeps sees shown old m events result new n
-
-  -- the same of events that are named otherwise
-  pub does_so : (old new : EngineView P) (m n : M) (es fs : List Event) (result : Result Bool EventFault) → (Comes old m es result new n → Comes old m fs result new n) → Does old m es result new n → Does old m fs result new n
-  does_so old new m n es fs result so does = record { plan = does.plan; ends = so does.ends; grown = does.grown }
+module _ {A M P : Type 0} {kind : Kind A} {keeps : Bool} {sees : Sees M A} {shown : P → Shown A} where
+  -- a part of which the events are named otherwise
+  pub does_so : {old new : EngineView P} {m n : M} {es fs : Plan → List Event} {result : Result Bool EventFault} → es old.plan ≡ fs old.plan → DoesPart kind keeps sees shown old m es result new n → DoesPart kind keeps sees shown old m fs result new n
+  does_so {old} {new} {m} {n} {es} {fs} {result} same does = record {
+    plan = does.plan;
+    ends = subst (λ events. PartEnds (metered_apply kind keeps sees) (engine_at shown old m) events result (engine_at shown new n)) same does.ends;
+  }
 
   -- events that do nothing
-  pub does_nothing : (e : EngineView P) (m : M) (events : List Event) → Comes e m events (Ok false) e m → Does e m events (Ok false) e m
-  does_nothing e m events idle = record { plan = refl; ends = idle; grown = λ k here. here }
+  pub does_nothing : {e : EngineView P} {m : M} {es : Plan → List Event} → AreIdle kind (engine_network shown e) (es e.plan) → DoesPart kind keeps sees shown e m es (Ok false) e m
+  does_nothing {e} {m} {es} idle = record { plan = refl; ends = idle_part kind keeps sees (engine_at shown e m) (es e.plan) idle }
 
   -- a part that a fault stops, and what would have followed
-  pub does_before : (old new : EngineView P) (m n : M) (part more : List Event) (f : EventFault) → Does old m part (Err f) new n → Does old m (part ++ more) (Err f) new n
-  does_before old new m n part more f does = record {
+  pub does_before : {old new : EngineView P} {m n : M} {es : Plan → List Event} {f : EventFault} → DoesPart kind keeps sees shown old m es (Err f) new n → (fs : Plan → List Event) → DoesPart kind keeps sees shown old m (λ p. es p ++ fs p) (Err f) new n
+  does_before {old} {new} {m} {n} {es} {f} does fs = record {
     plan = does.plan;
-    ends = stops_before (metered_apply kind keeps sees) (engine_at shown old m) (engine_at shown new n) part more f does.ends;
-    grown = does.grown;
+    ends = stops_before (metered_apply kind keeps sees) (engine_at shown old m) (engine_at shown new n) (es old.plan) (fs old.plan) f does.ends;
   }
 
   -- one part after another
-  module _ (front part : Plan → List Event) (old mid new : EngineView P) (m k n : M) (a : Bool) (first : Does old m (front old.plan) (Ok a) mid k) where
-    pub does_after : (b : Bool) → Does mid k (part mid.plan) (Ok b) new n → Does old m (front old.plan ++ part old.plan) (Ok (a || b)) new n
-    does_after b next = record {
-      plan = next.plan ∙ first.plan;
+  pub does_after : {old mid new : EngineView P} {m k n : M} {es fs : Plan → List Event} {a b : Bool} → DoesPart kind keeps sees shown old m es (Ok a) mid k → DoesPart kind keeps sees shown mid k fs (Ok b) new n → DoesPart kind keeps sees shown old m (λ p. es p ++ fs p) (Ok (a || b)) new n
+  does_after {old} {mid} {new} {m} {k} {n} {es} {fs} {a} {b} first next = record {
+    plan = next.plan ∙ first.plan;
+    ends =
+        part_after (metered_apply kind keeps sees) (engine_at shown old m) (engine_at shown mid k) (engine_at shown new n) (es old.plan) (fs old.plan) a b first.ends
+        (subst (λ p. PartEnds (metered_apply kind keeps sees) (engine_at shown mid k) (fs p) (Ok b) (engine_at shown new n)) first.plan next.ends);
+  }
+
+  -- the second of which a fault stops
+  pub does_stop : {old mid new : EngineView P} {m k n : M} {es fs : Plan → List Event} {a : Bool} {f : EventFault} → DoesPart kind keeps sees shown old m es (Ok a) mid k → DoesPart kind keeps sees shown mid k fs (Err f) new n → DoesPart kind keeps sees shown old m (λ p. es p ++ fs p) (Err f) new n
+  does_stop {old} {mid} {new} {m} {k} {n} {es} {fs} {a} {f} first next = record {
+    plan = next.plan ∙ first.plan;
+    ends =
+        stops_after (metered_apply kind keeps sees) (engine_at shown old m) (engine_at shown mid k) (engine_at shown new n) (es old.plan) (fs old.plan) a f first.ends
+        (subst (λ p. PartEnds (metered_apply kind keeps sees) (engine_at shown mid k) (fs p) (Err f) (engine_at shown new n)) first.plan next.ends);
+  }
+
+  -- a round, by what is walked
+  pub does_round : {old new : EngineView P} {m n : M} {result : Result Bool EventFault} → DoesPart kind keeps sees shown old m walked_round result new n → DoesPart kind keeps sees shown old m round result new n
+  does_round {old} does = does_so (sym (round_walked old.plan)) does
+
+-- what a walk has done of the numbers below i, of these, which are those below n
+pub record SoFar {A M P : Type 0} (kind : Kind A) (keeps : Bool) (sees : Sees M A) (shown : P → Shown A) (part : Plan → ℕ → List Event) (numbers : Plan → List ℕ) (n : Plan → ℕ)
+    (old : EngineView P) (m : M) (i : ℕ) (a : Bool) (mid : EngineView P) (k : M) : Type 0 where
+  pub done : DoesPart kind keeps sees shown old m (λ p. flat_map (part p) (range_with_len 0 i)) (Ok a) mid k
+  pub within : i ≤ n old.plan
+  pub count : n mid.plan ≡ n old.plan
+
+module _ {A M P : Type 0} {kind : Kind A} {keeps : Bool} {sees : Sees M A} {shown : P → Shown A} {part : Plan → ℕ → List Event} {numbers : Plan → List ℕ} {n : Plan → ℕ} where
+  pub none_yet : {old : EngineView P} {m : M} → SoFar kind keeps sees shown part numbers n old m 0 false old m
+  none_yet {old} {m} = record { done = record { plan = refl; ends = part_empty (metered_apply kind keeps sees) (engine_at shown old m) }; within = omega arith; count = refl }
+
+  -- what is passed over, up to where a walk goes on
+  passed : {old mid : EngineView P} {m k : M} {i : ℕ} {a : Bool} {found : Option ℕ} → SoFar kind keeps sees shown part numbers n old m i a mid k → IsNext kind (engine_network shown mid) (part mid.plan) (numbers mid.plan) (n mid.plan) i found → i ≤ unwrap_or found (n mid.plan) →
+      PartEnds (metered_apply kind keeps sees) (engine_at shown old m) (flat_map (part old.plan) (range_with_len 0 (unwrap_or found (n mid.plan)))) (Ok a) (engine_at shown mid k)
+  passed {old} {mid} {m} {k} {i} {a} {found} so_far next from =
+      number_passes (metered_apply kind keeps sees) (part old.plan) i (unwrap_or found (n mid.plan)) (engine_at shown old m) (engine_at shown mid k) a from
+      (λ x above below. subst (λ p. PartEnds (metered_apply kind keeps sees) (engine_at shown mid k) (part p x) (Ok false) (engine_at shown mid k)) so_far.done.plan (idle_part kind keeps sees (engine_at shown mid k) (part mid.plan x) (next.passed x above below)))
+      so_far.done.ends
+
+  -- the next one, which is done
+  pub step_done : {old mid new : EngineView P} {m k l : M} {i j : ℕ} {a b : Bool} → SoFar kind keeps sees shown part numbers n old m i a mid k → IsNext kind (engine_network shown mid) (part mid.plan) (numbers mid.plan) (n mid.plan) i (Some j) → DoesPart kind keeps sees shown mid k (λ p. part p j) (Ok b) new l →
+      SoFar kind keeps sees shown part numbers n old m (j + 1) (a || b) new l
+  step_done {old} {mid} {new} {m} {k} {l} {i} {j} {a} {b} so_far next does = record {
+    done = record {
+      plan = does.plan ∙ so_far.done.plan;
       ends =
-          part_after (metered_apply kind keeps sees) (engine_at shown old m) (engine_at shown mid k) (engine_at shown new n) (front old.plan) (part old.plan) a b first.ends
-          (subst (λ (p : Plan). Comes mid k (part p) (Ok b) new n) first.plan next.ends);
-      grown = λ j here. next.grown j (first.grown j here);
-    }
+          number_next (metered_apply kind keeps sees) (part old.plan) j (engine_at shown old m) (engine_at shown mid k) (engine_at shown new l) a b (passed so_far next next.found.0)
+          (subst (λ p. PartEnds (metered_apply kind keeps sees) (engine_at shown mid k) (part p j) (Ok b) (engine_at shown new l)) so_far.done.plan does.ends);
+    };
+    within = omega (arith, next.found.1, so_far.count);
+    count = ap n does.plan ∙ so_far.count;
+  }
 
-    -- the second of which a fault stops
-    pub does_stop : (f : EventFault) → Does mid k (part mid.plan) (Err f) new n → Does old m (front old.plan ++ part old.plan) (Err f) new n
-    does_stop f next = record {
-      plan = next.plan ∙ first.plan;
-      ends =
-          stops_after (metered_apply kind keeps sees) (engine_at shown old m) (engine_at shown mid k) (engine_at shown new n) (front old.plan) (part old.plan) a f first.ends
-          (subst (λ (p : Plan). Comes mid k (part p) (Err f) new n) first.plan next.ends);
-      grown = λ j here. next.grown j (first.grown j here);
-    }
+  -- or which a fault stops
+  pub step_stops : {old mid new : EngineView P} {m k l : M} {i j : ℕ} {a : Bool} {f : EventFault} {result : Result Bool EventFault} → SoFar kind keeps sees shown part numbers n old m i a mid k → IsNext kind (engine_network shown mid) (part mid.plan) (numbers mid.plan) (n mid.plan) i (Some j) → DoesPart kind keeps sees shown mid k (λ p. part p j) (Err f) new l → IsErr result × IsErrAnd result (λ d. d ≡ f) →
+      DoesPart kind keeps sees shown old m (λ p. flat_map (part p) (numbers p)) result new l
+  step_stops {old} {mid} {new} {m} {k} {l} {i} {j} {a} {f} {result} so_far next does told = record {
+    plan = does.plan ∙ so_far.done.plan;
+    ends =
+        rw (err_is result f told, sym (ap numbers so_far.done.plan), next.turn, so_far.count)
+        (number_stops (metered_apply kind keeps sees) (part old.plan) j (n old.plan) (engine_at shown old m) (engine_at shown mid k) (engine_at shown new l) a f (omega (arith, next.found.1, so_far.count)) (passed so_far next next.found.0)
+        (subst (λ p. PartEnds (metered_apply kind keeps sees) (engine_at shown mid k) (part p j) (Err f) (engine_at shown new l)) so_far.done.plan does.ends));
+  }
 
-  -- what is done of the numbers below n, one by one; what is passed over would do nothing
-  module _ (part : Plan → ℕ → List Event) (n : ℕ) (old : EngineView P) (m : M) where
-    abbrev pub SoFar : ℕ → Bool → EngineView P → M → Type 0
-    SoFar i a mid k = Does old m (flat_map (part old.plan) (take i (range_with_len 0 n))) (Ok a) mid k
+  -- all are done
+  pub steps_done : {old mid : EngineView P} {m k : M} {i : ℕ} {a : Bool} → SoFar kind keeps sees shown part numbers n old m i a mid k → IsNext kind (engine_network shown mid) (part mid.plan) (numbers mid.plan) (n mid.plan) i None → DoesPart kind keeps sees shown old m (λ p. flat_map (part p) (numbers p)) (Ok a) mid k
+  steps_done {old} {mid} {m} {k} {i} {a} so_far next = record {
+    plan = so_far.done.plan;
+    ends = rw (sym (ap numbers so_far.done.plan), next.turn) (passed so_far next (omega (arith, so_far.within, so_far.count)));
+  }
 
-    abbrev pub AllDone : Result Bool EventFault → EngineView P → M → Type 0
-    AllDone result new l = Does old m (flat_map (part old.plan) (range_with_len 0 n)) result new l
+  -- what is a switch stays one
+  pub still_switch : {old mid : EngineView P} {m k : M} {i : ℕ} {a : Bool} {s : ℕ} → SoFar kind keeps sees shown part numbers n old m i a mid k → s < length old.plan.switches → s < length mid.plan.switches
+  still_switch {old} {mid} {m} {k} {i} {a} {s} so_far inside = subst (λ (p : Plan). s < length p.switches) (sym so_far.done.plan) inside
 
-    pub none_yet : SoFar 0 false old m
-    none_yet = does_nothing old m [] (part_empty (metered_apply kind keeps sees) (engine_at shown old m))
-
-    module _ (i : ℕ) (a : Bool) (mid : EngineView P) (k : M) (so_far : SoFar i a mid k) where
-      abbrev pub Idle : ℕ → Type 0
-      Idle j = (x : ℕ) → i ≤ x → x < j → Comes mid k (part mid.plan x) (Ok false) mid k
-
-      passed : (j : ℕ) → i ≤ j → j ≤ n → Idle j → Comes old m (flat_map (part old.plan) (take j (range_with_len 0 n))) (Ok a) mid k
-      passed j from inside idle =
-          numbers_passed (metered_apply kind keeps sees) (part old.plan) n i j (engine_at shown old m) (engine_at shown mid k) a from inside
-          (λ x above below. subst (λ (p : Plan). Comes mid k (part p x) (Ok false) mid k) so_far.plan (idle x above below)) so_far.ends
-
-      module _ (j : ℕ) (from : i ≤ j) (inside : j < n) (idle : Idle j) (new : EngineView P) (l : M) where
-        pub step_done : (b : Bool) → Does mid k (part mid.plan j) (Ok b) new l → SoFar (j + 1) (a || b) new l
-        step_done b next = record {
-          plan = next.plan ∙ so_far.plan;
-          ends =
-              number_next (metered_apply kind keeps sees) (part old.plan) n j (engine_at shown old m) (engine_at shown mid k) (engine_at shown new l) a b inside
-              (passed j from (omega (arith, inside)) idle) (subst (λ (p : Plan). Comes mid k (part p j) (Ok b) new l) so_far.plan next.ends);
-          grown = λ x here. next.grown x (so_far.grown x here);
-        }
-
-        pub step_stops : (f : EventFault) (result : Result Bool EventFault) → Does mid k (part mid.plan j) (Err f) new l → IsErr result × IsErrAnd result (λ d. d ≡ f) → AllDone result new l
-        step_stops f result next told = record {
-          plan = next.plan ∙ so_far.plan;
-          ends =
-              number_stops (metered_apply kind keeps sees) (part old.plan) n j (engine_at shown old m) (engine_at shown mid k) (engine_at shown new l) a f result inside
-              (passed j from (omega (arith, inside)) idle) (subst (λ (p : Plan). Comes mid k (part p j) (Err f) new l) so_far.plan next.ends) told;
-          grown = λ x here. next.grown x (so_far.grown x here);
-        }
-
-      pub steps_done : i ≤ n → Idle n → AllDone (Ok a) mid k
-      steps_done within idle = record {
-        plan = so_far.plan;
-        ends = numbers_done (metered_apply kind keeps sees) (part old.plan) n n (engine_at shown old m) (engine_at shown mid k) a (omega arith) (passed n within (omega arith) idle);
-        grown = so_far.grown;
-      }
+-- what the walks of a round cite
+pub ruleset engine_parts = (none_yet, step_done, step_stops, steps_done, still_switch)

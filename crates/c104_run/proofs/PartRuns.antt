@@ -1,11 +1,10 @@
 -- Parts of a round: one goes on from the one before, and an event that isn't ready may be left out.
-use Rattle.{c104_event.specs.declared.{events.Event.Event, faults.EventFault.EventFault}, c104_node.proofs.PlaceSteps.err_is}
+use Rattle.{c104_event.specs.declared.{events.Event.Event, faults.EventFault.EventFault}, c104_node.proofs.Ranges.range_more}
 use Rattle.c104_run.{proofs.RoundRuns.{Applied, run_append, run_from, run_reply}, specs.EventRuns.{Answers, Outcome, run_events}}
 use Rattle.{c104_run.specs.{EventRuns.unless_fault, RoundParts.PartEnds}, c104_switch.specs.Actions.{Reply, is_ready}}
-use Rattle.std.proofs.Common.{Bool, Err, IsErr, IsErrAnd, List, Ok, Result, [], ap, append-nil, append_assoc, arith, drop, false, get_or}
-use Rattle.std.proofs.Common.{inl, inr, length, map, refl, subst, suc, sym, take, true, zero, ℕ, ◌++◌, ◌+◌, ◌-◌, ◌<◌, ◌||◌, ◌∙◌, ◌∷◌, ◌≡◌}
-use Rattle.std.proofs.{Common.◌≤◌, lemmas.{Grind.flat_map-append, List.{FromFn.{get_or-range_with_len, length-range_with_len}, drop_more}}}
-use Rattle.std.{proofs.lemmas.List.{take-append-drop, take_all, take_more}, specs.List.{flat_map, range_with_len}}
+use Rattle.std.proofs.Common.{Bool, Err, List, Ok, [], ap, append-nil, append_assoc, arith, false, inl, inr, map, refl, subst, suc, sym}
+use Rattle.std.proofs.{Common.{true, zero, ℕ, ◌++◌, ◌+◌, ◌-◌, ◌<◌, ◌||◌, ◌∙◌, ◌∷◌, ◌≡◌, ◌≤◌}, lemmas.Grind.flat_map-append}
+use Rattle.std.specs.List.{flat_map, range_with_len}
 
 -- where one of two is so, and it isn't, neither is
 pub neither : (a b : Bool) → (a || b) ≡ false → (a ≡ false) × (b ≡ false)
@@ -71,72 +70,45 @@ module _ {S : Type 0} (apply : S → Event → Applied S) where
   part_of_reply net after e r undone answer =
       record { ends = (elim answer [ inl due ↦ run_reply apply net after e r due | inr refused ↦ absurd (cc refused.0) ], undone) }
 
-  module _ {X : Type 0} (part : X → List Event) (xs : List X) where
-    -- the parts of the first elements of a list, and that of the next one
-    pub part_next : (i : ℕ) (x : X) (net mid after : S) (a b : Bool) → i < length xs → x ≡ get_or xs i x → PartEnds apply net (flat_map part (take i xs)) (Ok a) mid → PartEnds apply mid (part x) (Ok b) after →
-        PartEnds apply net (flat_map part (take (i + 1) xs)) (Ok (a || b)) after
-    part_next i x net mid after a b inside is first next =
-        let one_more : flat_map part (take (i + 1) xs) ≡ flat_map part (take i xs) ++ part x =
-        ap (flat_map part) (take_more xs i x inside ∙ ap (λ y. take i xs ++ y ∷ []) (sym is)) ∙ flat_map-append part (take i xs) (x ∷ []) ∙ ap (λ es. flat_map part (take i xs) ++ es) (append-nil (part x)) in
-        subst (λ es. PartEnds apply net es (Ok (a || b)) after) (sym one_more) (part_after net mid after (flat_map part (take i xs)) (part x) a b first next)
+  -- the parts of the numbers below one
+  module _ (part : ℕ → List Event) where
+    abbrev pub below : ℕ → List Event
+    below n = flat_map part (range_with_len 0 n)
 
-    -- one at which a fault stops all
-    pub part_stops : (i : ℕ) (x : X) (net mid after : S) (a : Bool) (f : EventFault) → i < length xs → x ≡ get_or xs i x → PartEnds apply net (flat_map part (take i xs)) (Ok a) mid → PartEnds apply mid (part x) (Err f) after →
-        PartEnds apply net (flat_map part xs) (Err f) after
-    part_stops i x net mid after a f inside is first ends =
-        let rest : drop i xs ≡ x ∷ drop (i + 1) xs = drop_more xs i x inside ∙ ap (λ y. y ∷ drop (i + 1) xs) (sym is) in
-        let all : flat_map part xs ≡ flat_map part (take i xs) ++ (part x ++ flat_map part (drop (i + 1) xs)) =
-        ap (flat_map part) (sym (take-append-drop i xs) ∙ ap (λ ys. take i xs ++ ys) rest) ∙ flat_map-append part (take i xs) (x ∷ drop (i + 1) xs) in
-        subst (λ es. PartEnds apply net es (Err f) after) (sym all)
-        (stops_after net mid after (flat_map part (take i xs)) (part x ++ flat_map part (drop (i + 1) xs)) a f first (stops_before mid after (part x) (flat_map part (drop (i + 1) xs)) f ends))
+    one_more : (i : ℕ) → below (i + 1) ≡ below i ++ part i
+    one_more i = ap (flat_map part) (range_more i) ∙ flat_map-append part (range_with_len 0 i) (i ∷ []) ∙ ap (λ es. below i ++ es) (append-nil (part i))
 
-    -- those that would do nothing, by how many they are
-    parts_passed : (n i : ℕ) (net mid : S) (a : Bool) (d : X) → i + n ≤ length xs → ((k : ℕ) → i ≤ k → k < i + n → PartEnds apply mid (part (get_or xs k d)) (Ok false) mid) → PartEnds apply net (flat_map part (take i xs)) (Ok a) mid →
-        PartEnds apply net (flat_map part (take (i + n) xs)) (Ok a) mid
-    parts_passed zero i net mid a d inside idle first = let same : i ≡ i + zero = omega arith in subst (λ k. PartEnds apply net (flat_map part (take k xs)) (Ok a) mid) same first
-    parts_passed (suc n) i net mid a d inside idle first =
+    pub number_next : (i : ℕ) (net mid after : S) (a b : Bool) → PartEnds apply net (below i) (Ok a) mid → PartEnds apply mid (part i) (Ok b) after → PartEnds apply net (below (i + 1)) (Ok (a || b)) after
+    number_next i net mid after a b first next = subst (λ es. PartEnds apply net es (Ok (a || b)) after) (sym (one_more i)) (part_after net mid after (below i) (part i) a b first next)
+
+    -- those up to another one, which would do nothing
+    numbers_passed : (n i : ℕ) (net mid : S) (a : Bool) → ((k : ℕ) → i ≤ k → k < i + n → PartEnds apply mid (part k) (Ok false) mid) → PartEnds apply net (below i) (Ok a) mid → PartEnds apply net (below (i + n)) (Ok a) mid
+    numbers_passed zero i net mid a idle first = let same : i ≡ i + zero = omega arith in subst (λ k. PartEnds apply net (below k) (Ok a) mid) same first
+    numbers_passed (suc n) i net mid a idle first =
         let same : i + 1 + n ≡ i + suc n = omega arith in
-        let one : PartEnds apply net (flat_map part (take (i + 1) xs)) (Ok (a || false)) mid = part_next i (get_or xs i d) net mid mid a false (omega arith) (in_place xs i d (omega arith)) first (idle i (omega arith) (omega arith)) in
-        subst (λ k. PartEnds apply net (flat_map part (take k xs)) (Ok a) mid) same
-        (parts_passed n (i + 1) net mid a d (omega arith) (λ k from below. idle k (omega arith) (omega arith)) (subst (λ b. PartEnds apply net (flat_map part (take (i + 1) xs)) (Ok b) mid) (or_false a) one))
+        let one : PartEnds apply net (below (i + 1)) (Ok (a || false)) mid = number_next i net mid mid a false first (idle i (omega arith) (omega arith)) in
+        subst (λ k. PartEnds apply net (below k) (Ok a) mid) same
+        (numbers_passed n (i + 1) net mid a (λ k from inside. idle k (omega arith) (omega arith)) (subst (λ b. PartEnds apply net (below (i + 1)) (Ok b) mid) (or_false a) one))
       where
-        in_place : (ys : List X) (i : ℕ) (d : X) → i < length ys → get_or ys i d ≡ get_or ys i (get_or ys i d)
-        in_place [] i d inside = absurd (omega arith)
-        in_place (y ∷ ys) zero d inside = refl
-        in_place (y ∷ ys) (suc i) d inside = in_place ys i d (omega arith)
-
         or_false : (a : Bool) → (a || false) ≡ a
         or_false true = refl
         or_false false = refl
 
-    pub part_passes : (i j : ℕ) (net mid : S) (a : Bool) (d : X) → i ≤ j → j ≤ length xs → ((k : ℕ) → i ≤ k → k < j → PartEnds apply mid (part (get_or xs k d)) (Ok false) mid) → PartEnds apply net (flat_map part (take i xs)) (Ok a) mid →
-        PartEnds apply net (flat_map part (take j xs)) (Ok a) mid
-    part_passes i j net mid a d from inside idle first =
+    pub number_passes : (i j : ℕ) (net mid : S) (a : Bool) → i ≤ j → ((k : ℕ) → i ≤ k → k < j → PartEnds apply mid (part k) (Ok false) mid) → PartEnds apply net (below i) (Ok a) mid → PartEnds apply net (below j) (Ok a) mid
+    number_passes i j net mid a from idle first =
         let count : i + (j - i) ≡ j = omega arith in
-        subst (λ k. PartEnds apply net (flat_map part (take k xs)) (Ok a) mid) count (parts_passed (j - i) i net mid a d (omega arith) (λ k above below. idle k above (omega arith)) first)
+        subst (λ k. PartEnds apply net (below k) (Ok a) mid) count (numbers_passed (j - i) i net mid a (λ k above inside. idle k above (omega arith)) first)
 
-  -- the same of the numbers below n
-  module _ (part : ℕ → List Event) (n : ℕ) where
-    placed : (i : ℕ) → i < n → i ≡ get_or (range_with_len 0 n) i i
-    placed i inside = let same : 0 + i ≡ i = omega arith in sym (get_or-range_with_len 0 n i i inside ∙ same)
+    -- one at which a fault stops all
+    stops_later : (n i : ℕ) (net after : S) (f : EventFault) → PartEnds apply net (below i) (Err f) after → PartEnds apply net (below (i + n)) (Err f) after
+    stops_later zero i net after f stops = let same : i ≡ i + zero = omega arith in subst (λ k. PartEnds apply net (below k) (Err f) after) same stops
+    stops_later (suc n) i net after f stops =
+        let same : i + 1 + n ≡ i + suc n = omega arith in
+        subst (λ k. PartEnds apply net (below k) (Err f) after) same
+        (stops_later n (i + 1) net after f (subst (λ es. PartEnds apply net es (Err f) after) (sym (one_more i)) (stops_before net after (below i) (part i) f stops)))
 
-    counted : length (range_with_len 0 n) ≡ n
-    counted = length-range_with_len 0 n
-
-    pub number_next : (i : ℕ) (net mid after : S) (a b : Bool) → i < n → PartEnds apply net (flat_map part (take i (range_with_len 0 n))) (Ok a) mid → PartEnds apply mid (part i) (Ok b) after →
-        PartEnds apply net (flat_map part (take (i + 1) (range_with_len 0 n))) (Ok (a || b)) after
-    number_next i net mid after a b inside first next = part_next part (range_with_len 0 n) i i net mid after a b (omega (arith, counted)) (placed i inside) first next
-
-    pub number_stops : (i : ℕ) (net mid after : S) (a : Bool) (f : EventFault) (result : Result Bool EventFault) → i < n → PartEnds apply net (flat_map part (take i (range_with_len 0 n))) (Ok a) mid → PartEnds apply mid (part i) (Err f) after →
-        IsErr result × IsErrAnd result (λ d. d ≡ f) → PartEnds apply net (flat_map part (range_with_len 0 n)) result after
-    number_stops i net mid after a f result inside first ends told =
-        rw (err_is result f told) (part_stops part (range_with_len 0 n) i i net mid after a f (omega (arith, counted)) (placed i inside) first ends)
-
-    pub numbers_passed : (i j : ℕ) (net mid : S) (a : Bool) → i ≤ j → j ≤ n → ((k : ℕ) → i ≤ k → k < j → PartEnds apply mid (part k) (Ok false) mid) → PartEnds apply net (flat_map part (take i (range_with_len 0 n))) (Ok a) mid →
-        PartEnds apply net (flat_map part (take j (range_with_len 0 n))) (Ok a) mid
-    numbers_passed i j net mid a from inside idle first =
-        part_passes part (range_with_len 0 n) i j net mid a 0 from (omega (arith, counted))
-        (λ k above below. let same : 0 + k ≡ k = omega arith in subst (λ m. PartEnds apply mid (part m) (Ok false) mid) (sym (get_or-range_with_len 0 n k 0 (omega arith) ∙ same)) (idle k above below)) first
-
-    pub numbers_done : (i : ℕ) (net after : S) (a : Bool) → n ≤ i → PartEnds apply net (flat_map part (take i (range_with_len 0 n))) (Ok a) after → PartEnds apply net (flat_map part (range_with_len 0 n)) (Ok a) after
-    numbers_done i net after a all ends = subst (λ ns. PartEnds apply net (flat_map part ns) (Ok a) after) (take_all i (range_with_len 0 n) (omega (arith, counted))) ends
+    pub number_stops : (i n : ℕ) (net mid after : S) (a : Bool) (f : EventFault) → i < n → PartEnds apply net (below i) (Ok a) mid → PartEnds apply mid (part i) (Err f) after → PartEnds apply net (below n) (Err f) after
+    number_stops i n net mid after a f inside first ends =
+        let count : i + 1 + (n - (i + 1)) ≡ n = omega (arith, inside) in
+        subst (λ k. PartEnds apply net (below k) (Err f) after) count
+        (stops_later (n - (i + 1)) (i + 1) net after f (subst (λ es. PartEnds apply net es (Err f) after) (sym (one_more i)) (stops_after net mid after (below i) (part i) a f first ends)))

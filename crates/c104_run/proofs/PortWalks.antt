@@ -1,26 +1,26 @@
--- The parts of a round that are about ports: walked link by link, with those that have no wire or aren't
--- ready left out.
-use Rattle.{c104_crossbar.specs.Groups.has_bit, c104_event.specs.declared.{events.Event.Event, faults.EventFault.EventFault}}
-use Rattle.c104_node.specs.{Nodes.Node, PortParts.{IsFoundReady, IsNearReady, is_ready_at}, declared.port_part.PortPart.PortPart}
-use Rattle.{c104_node.specs.declared.port_part.PortPart.TheVariants.{Credit, Cross, Turn}, c104_plan.specs.Plans.Plan}
-use Rattle.{c104_plan.specs.declared.ports.Port.Port, c104_run.proofs.IdleEvents.{idle_credit, idle_cross, idle_turn}}
-use Rattle.c104_run.{proofs.{PartRuns.part_empty, RoundLists.links_passed, RoundRuns.Applied}, specs.EventActs.port_place}
-use Rattle.c104_run.specs.{Network.{Network, wired_fault}, RoundParts.{AreIdle, PartEnds, port_events, wired_events}, Rounds.is_wired}
-use Rattle.{c104_run.specs.Rounds.{link_numbers, turn_at, wired_links, wired_ports, wired_terminals}, c104_token.specs.Kinds.Kind}
-use Rattle.std.proofs.Common.{Bool, IfSome, List, None, Ok, Option, Result, Some, [], ap, append-nil, arith, false, filter, length, map}
-use Rattle.std.proofs.{Common.{refl, subst, sym, true, unwrap_or, ℕ, ◌++◌, ◌<◌, ◌∙◌, ◌∷◌, ◌≡◌}, lemmas.Grind.flat_map-append}
-use Rattle.std.{proofs.lemmas.List.Elements.filter-append, specs.List.{flat_map, range_with_len}}
+-- A round as it is walked: part after part, number by number, with what has no wire or isn't ready left out.
+use Rattle.{c104_crossbar.specs.Groups.has_bit, c104_event.specs.declared.events.Event.Event, c104_node.specs.Nodes.Node}
+use Rattle.c104_node.specs.{PortParts.{IsFoundReady, IsNearReady, is_ready_at}, declared.port_part.PortPart.{PortPart, TheVariants.Credit}}
+use Rattle.{c104_node.specs.declared.port_part.PortPart.TheVariants.{Cross, Turn}, c104_plan.specs.{Plans.Plan, declared.ports.Port.Port}}
+use Rattle.c104_run.{proofs.{IdleEvents.{idle_credit, idle_cross, idle_turn}, PartRuns.singles}, specs.EventActs.port_place}
+use Rattle.c104_run.specs.{Network.{Network, wired_fault}, RoundParts.{AreIdle, IsNext, input_walk, link_walk, output_walk, port_events}}
+use Rattle.c104_run.specs.{RoundParts.{port_walk, switch_walk, terminal_walk, walked_round, wired_events}, Rounds.{all_claims, claims_of}}
+use Rattle.c104_run.specs.Rounds.{is_wired, link_numbers, round, switch_claims, turn_at, wired_links, wired_ports, wired_terminals}
+use Rattle.{c104_token.specs.Kinds.Kind, std.proofs.Common.{Bool, IfSome, List, None, Option, Some, [], ap, append-nil, arith, false}}
+use Rattle.std.proofs.Common.{filter, length, map, refl, subst, sym, true, unwrap_or, ℕ, ◌++◌, ◌<◌, ◌∙◌, ◌∷◌, ◌≡◌, ◌≤◌}
+use Rattle.std.{proofs.lemmas.{Grind.flat_map-append, List.Elements.filter-append}, specs.List.{flat_map, range_with_len}}
 
 -- what is so of an element is so by what follows from it
 pub if_some : {X : Type 0} (P Q : X → Type 0) (o : Option X) → ((x : X) → P x → Q x) → IfSome o P → IfSome o Q
 if_some P Q None each is = tt
 if_some P Q (Some x) each is = each x is
 
-module _ (plan : Plan) (part : PortPart) where
-  -- what a part has for each of some numbered ports
-  abbrev pub wired_by : (ℕ → Port) → ℕ → List Event
-  wired_by f n = wired_events plan part (f n)
+-- lists that are joined, each of which is another
+flat_same : {X Y : Type 0} (f h : X → List Y) → ((x : X) → f x ≡ h x) → (xs : List X) → flat_map f xs ≡ flat_map h xs
+flat_same f h same [] = refl
+flat_same f h same (x ∷ xs) = let first = same x in let rest = flat_same f h same xs in cc
 
+module _ (plan : Plan) (part : PortPart) where
   pub wired_one : (p : Port) → is_wired plan p ≡ true → wired_events plan part p ≡ port_events part p
   wired_one p is = rw is (append-nil (port_events part p))
 
@@ -28,7 +28,7 @@ module _ (plan : Plan) (part : PortPart) where
   wired_none p is = rw is refl
 
   -- one by one they are what it has for the wired ones
-  pub wired_each : (f : ℕ → Port) (ns : List ℕ) → flat_map (wired_by f) ns ≡ flat_map (port_events part) (filter (is_wired plan) (map f ns))
+  pub wired_each : (f : ℕ → Port) (ns : List ℕ) → flat_map (port_walk plan part f) ns ≡ flat_map (port_events part) (filter (is_wired plan) (map f ns))
   wired_each f [] = refl
   wired_each f (n ∷ ns) =
       ap (λ es. wired_events plan part (f n) ++ es) (wired_each f ns)
@@ -43,26 +43,17 @@ module _ (plan : Plan) (part : PortPart) where
   switches_each [] = refl
   switches_each (s ∷ ss) = ap (λ es. of_switch s ++ es) (switches_each ss) ∙ sym (flat_map-append (port_events part) (wired_links plan s) (flat_map (wired_links plan) ss))
 
-  module _ {S : Type 0} (apply : S → Event → Applied S) (net after : S) (result : Result Bool EventFault) where
-    pub of_links : (s : ℕ) → PartEnds apply net (flat_map (wired_by (Port.Switch s)) (range_with_len 0 32)) result after → PartEnds apply net (of_switch s) result after
-    of_links s ends = subst (λ es. PartEnds apply net es result after) (ap (flat_map (wired_by (Port.Switch s))) (links_passed 32 refl) ∙ wired_each (Port.Switch s) link_numbers) ends
+  abbrev links : List Port
+  links = flat_map (wired_links plan) (range_with_len 0 (length plan.switches))
 
-    pub of_switches : (n : ℕ) → PartEnds apply net (flat_map of_switch (range_with_len 0 n)) result after → PartEnds apply net (flat_map (port_events part) (flat_map (wired_links plan) (range_with_len 0 n))) result after
-    of_switches n ends = subst (λ es. PartEnds apply net es result after) (switches_each (range_with_len 0 n)) ends
+  switches_walked : flat_map (port_events part) links ≡ switch_walk plan part
+  switches_walked = sym (flat_same (link_walk plan part) of_switch (λ s. wired_each (Port.Switch s) link_numbers) (range_with_len 0 (length plan.switches)) ∙ switches_each (range_with_len 0 (length plan.switches)))
 
-    pub of_terminals : PartEnds apply net (flat_map (wired_by Port.Terminal) (range_with_len 0 (length plan.terminals))) result after → PartEnds apply net (flat_map (port_events part) (wired_terminals plan)) result after
-    of_terminals ends = subst (λ es. PartEnds apply net es result after) (wired_each Port.Terminal (range_with_len 0 (length plan.terminals))) ends
-
-    -- those of all switches, and then those of the terminals
-    pub of_ports : PartEnds apply net (flat_map (port_events part) (flat_map (wired_links plan) (range_with_len 0 (length plan.switches))) ++ flat_map (port_events part) (wired_terminals plan)) result after → PartEnds apply net (flat_map (port_events part) (wired_ports plan)) result after
-    of_ports ends = subst (λ es. PartEnds apply net es result after) (sym (flat_map-append (port_events part) (flat_map (wired_links plan) (range_with_len 0 (length plan.switches))) (wired_terminals plan))) ends
-
-    pub at_wired : (p : Port) → is_wired plan p ≡ true → PartEnds apply net (port_events part p) result after → PartEnds apply net (wired_events plan part p) result after
-    at_wired p is ends = subst (λ es. PartEnds apply net es result after) (sym (wired_one p is)) ends
-
-  module _ {S : Type 0} (apply : S → Event → Applied S) (net : S) where
-    pub at_unwired : (p : Port) → is_wired plan p ≡ false → PartEnds apply net (wired_events plan part p) (Ok false) net
-    at_unwired p is = subst (λ es. PartEnds apply net es (Ok false) net) (sym (wired_none p is)) (part_empty apply net)
+  ports_walked : flat_map (port_events part) (wired_ports plan) ≡ switch_walk plan part ++ terminal_walk plan part
+  ports_walked =
+      let first = switches_walked in
+      let next = sym (wired_each Port.Terminal (range_with_len 0 (length plan.terminals))) in
+      let parts = flat_map-append (port_events part) links (wired_terminals plan) in cc
 
 -- a terminal takes no turn
 no_turns : (plan : Plan) (ns : List ℕ) → flat_map turn_at (filter (is_wired plan) (map Port.Terminal ns)) ≡ []
@@ -74,11 +65,22 @@ no_turns plan (n ∷ ns) = by_wire (is_wired plan (Port.Terminal n)) refl (no_tu
     by_wire false is rest = rw is rest
 
 -- so the turns of the switches' ports are all turns
-pub of_turns : (plan : Plan) {S : Type 0} (apply : S → Event → Applied S) (net after : S) (result : Result Bool EventFault) → PartEnds apply net (flat_map (port_events Turn) (flat_map (wired_links plan) (range_with_len 0 (length plan.switches)))) result after → PartEnds apply net (flat_map turn_at (wired_ports plan)) result after
-of_turns plan apply net after result ends =
-    let links : List Port = flat_map (wired_links plan) (range_with_len 0 (length plan.switches)) in
-    subst (λ es. PartEnds apply net es result after)
-    (sym (flat_map-append turn_at links (wired_terminals plan) ∙ ap (λ es. flat_map turn_at links ++ es) (no_turns plan (range_with_len 0 (length plan.terminals))) ∙ append-nil (flat_map turn_at links))) ends
+turns_walked : (plan : Plan) → flat_map turn_at (wired_ports plan) ≡ switch_walk plan Turn
+turns_walked plan =
+    flat_map-append turn_at (links plan Turn) (wired_terminals plan) ∙ ap (λ es. flat_map turn_at (links plan Turn) ++ es) (no_turns plan (range_with_len 0 (length plan.terminals)))
+    ∙ append-nil (flat_map turn_at (links plan Turn)) ∙ switches_walked plan Turn
+
+claims_walked : (n : ℕ) → all_claims n ≡ flat_map input_walk (range_with_len 0 n)
+claims_walked n = flat_same switch_claims input_walk (λ s. flat_same (claims_of s) (output_walk s) (λ i. sym (singles (Event.Claim s i) link_numbers)) link_numbers) (range_with_len 0 n)
+
+-- a round is all that is walked
+pub round_walked : (plan : Plan) → round plan ≡ walked_round plan
+round_walked plan =
+    let credits : map Event.Credit (wired_ports plan) ≡ switch_walk plan Credit ++ terminal_walk plan Credit = sym (singles Event.Credit (wired_ports plan)) ∙ ports_walked plan Credit in
+    let crosses : map Event.Cross (wired_ports plan) ≡ switch_walk plan Cross ++ terminal_walk plan Cross = sym (singles Event.Cross (wired_ports plan)) ∙ ports_walked plan Cross in
+    let turns = turns_walked plan in
+    let claims = claims_walked (length plan.switches) in
+    let drains = sym (singles Event.Drain (range_with_len 0 (length plan.terminals))) in cc
 
 module _ {A : Type 0} (kind : Kind A) (net : Network A) (part : PortPart) where
   -- what a part has for a port that has no wire, or where nothing is ready
@@ -104,7 +106,11 @@ pub near_ready : {A : Type 0} (kind : Kind A) (plan : Plan) (part : PortPart) (n
 near_ready kind plan Turn nodes s l is = tt
 near_ready kind plan part nodes s l is = is
 
--- what is before a link that was found, or before the end, is a link
-pub below_links : (l : ℕ) (found : Option ℕ) → IfSome found (λ i. i < 32) → l < unwrap_or found 32 → l < 32
-below_links l None is below = below
-below_links l (Some i) is below = omega arith
+-- where a walk goes on, by what was passed over
+module _ {A : Type 0} (kind : Kind A) (net : Network A) (part : ℕ → List Event) (numbers : List ℕ) (n from : ℕ) (found : Option ℕ) where
+  below_found : (k : ℕ) → (o : Option ℕ) → IfSome o (λ i. (from ≤ i) × (i < n)) → k < unwrap_or o n → k < n
+  below_found k None is below = below
+  below_found k (Some i) is below = omega arith
+
+  pub next_found : numbers ≡ range_with_len 0 n → IfSome found (λ k. (from ≤ k) × (k < n)) → ((k : ℕ) → k < n → from ≤ k → k < unwrap_or found n → AreIdle kind net (part k)) → IsNext kind net part numbers n from found
+  next_found turn is idle = record { turn = turn; passed = λ k above below. idle k (below_found k found is below) above below; found = is }

@@ -2,14 +2,13 @@
 -- still.
 use Rattle.{c104_event.specs.declared.{events.Event.Event, faults.EventFault.EventFault}, c104_link.proofs.MadeSteps.All-place}
 use Rattle.{c104_node.specs.declared.port_part.PortPart.PortPart, c104_plan.{proofs.RangeLists.all_of_each, specs.Plans.{IsPlan, Plan}}}
-use Rattle.{c104_plan.specs.declared.ports.Port.Port, c104_run.proofs.{PartRuns.{single, singles}, PortWalks.{of_switch, switches_each}}}
-use Rattle.c104_run.proofs.{PortWalks.{wired_by, wired_each}, RoundLists.links_passed, UnreadyEvents.unready_answered}
-use Rattle.c104_run.specs.{Balance.IsSteady, Network.{Network, network_apply}, Reasons.is_unready, RoundParts.port_events}
-use Rattle.c104_run.specs.Rounds.{all_drains, claims_of, link_numbers, round, switch_claims, wired_links, wired_terminals}
-use Rattle.{c104_run.specs.Standstill.{IsUnready, StandsStill, has_reason, have_reasons}, c104_switch.specs.Actions.Reply}
+use Rattle.{c104_plan.specs.declared.ports.Port.Port, c104_run.proofs.{PartRuns.single, RoundLists.links_passed}}
+use Rattle.c104_run.{proofs.UnreadyEvents.unready_answered, specs.{Balance.IsSteady, Network.{Network, network_apply}, Reasons.is_unready}}
+use Rattle.c104_run.specs.{RoundParts.{input_walk, link_walk, output_walk, port_walk}, Rounds.{link_numbers, round}, Standstill.IsUnready}
+use Rattle.{c104_run.specs.Standstill.{StandsStill, has_reason, have_reasons}, c104_switch.specs.Actions.Reply}
 use Rattle.{c104_switch.specs.declared.actions.ReplyOf.ReplyOf, c104_token.specs.Kinds.Kind, std.proofs.Common.{Bool, List, Ok, Result}}
-use Rattle.std.proofs.Common.{Some, [], ap, arith, false, length, refl, slice_get, suc, sym, true, ℕ, ◌&&◌, ◌+◌, ◌-◌, ◌<◌, ◌∙◌, ◌∷◌, ◌≡◌}
-use Rattle.std.{proofs.{Common.◌≤◌, lemmas.List.Folds.list_all-append}, specs.List.{AllByRecursion, flat_map, list_all, range_with_len}}
+use Rattle.std.proofs.Common.{Some, [], ap, arith, false, refl, slice_get, suc, sym, true, ℕ, ◌&&◌, ◌+◌, ◌-◌, ◌<◌, ◌∙◌, ◌∷◌, ◌≡◌, ◌≤◌}
+use Rattle.std.{proofs.lemmas.List.Folds.list_all-append, specs.List.{AllByRecursion, flat_map, list_all, range_with_len}}
 
 -- a test of all events of the numbers below n: those that are left tell it, so far as none has failed
 module _ (p : Event → Bool) where
@@ -44,24 +43,18 @@ module _ (p : Event → Bool) where
     pub left_none : (i : ℕ) → n ≤ i → left i ≡ tested → true ≡ tested
     left_none i past so_far = let count : n - i ≡ 0 = omega (arith, past) in ap (λ m. list_all p (flat_map part (range_with_len i m))) (sym count) ∙ so_far
 
-  -- what the numbers are of
-  pub of_links : (plan : Plan) (part : PortPart) (s : ℕ) → tested (wired_by plan part (Port.Switch s)) 32 ≡ list_all p (of_switch plan part s)
-  of_links plan part s = ap (list_all p) (ap (flat_map (wired_by plan part (Port.Switch s))) (links_passed 32 refl) ∙ wired_each plan part (Port.Switch s) link_numbers)
+  -- those of links
+  of_links : (part : ℕ → List Event) → tested part 32 ≡ list_all p (flat_map part link_numbers)
+  of_links part = ap (λ ns. list_all p (flat_map part ns)) (links_passed 32 refl)
 
-  pub of_switches : (plan : Plan) (part : PortPart) → tested (of_switch plan part) (length plan.switches) ≡ list_all p (flat_map (port_events part) (flat_map (wired_links plan) (range_with_len 0 (length plan.switches))))
-  of_switches plan part = ap (list_all p) (switches_each plan part (range_with_len 0 (length plan.switches)))
+  pub of_ports : (plan : Plan) (part : PortPart) (s : ℕ) → tested (port_walk plan part (Port.Switch s)) 32 ≡ list_all p (link_walk plan part s)
+  of_ports plan part s = of_links (port_walk plan part (Port.Switch s))
 
-  pub of_terminals : (plan : Plan) (part : PortPart) → tested (wired_by plan part Port.Terminal) (length plan.terminals) ≡ list_all p (flat_map (port_events part) (wired_terminals plan))
-  of_terminals plan part = ap (list_all p) (wired_each plan part Port.Terminal (range_with_len 0 (length plan.terminals)))
+  pub of_outputs : (s i : ℕ) → tested (single (Event.Claim s i)) 32 ≡ list_all p (output_walk s i)
+  of_outputs s i = of_links (single (Event.Claim s i))
 
-  pub of_claims : (s i : ℕ) → tested (single (Event.Claim s i)) 32 ≡ list_all p (claims_of s i)
-  of_claims s i = ap (list_all p) (ap (flat_map (single (Event.Claim s i))) (links_passed 32 refl) ∙ singles (Event.Claim s i) link_numbers)
-
-  pub of_inputs : (s : ℕ) → tested (claims_of s) 32 ≡ list_all p (switch_claims s)
-  of_inputs s = ap (λ ns. list_all p (flat_map (claims_of s) ns)) (links_passed 32 refl)
-
-  pub of_drains : (n : ℕ) → tested (single Event.Drain) n ≡ list_all p (all_drains n)
-  of_drains n = ap (list_all p) (singles Event.Drain (range_with_len 0 n))
+  pub of_inputs : (s : ℕ) → tested (output_walk s) 32 ≡ list_all p (input_walk s)
+  of_inputs s = of_links (output_walk s)
 
 -- a network stands still exactly where each event of a round has a reason
 module _ {A : Type 0} (kind : Kind A) (net : Network A) (is_plan : IsPlan net.plan) (steady : IsSteady net) where
@@ -94,4 +87,4 @@ module _ {A : Type 0} (kind : Kind A) (net : Network A) (is_plan : IsPlan net.pl
   reasons_where all = all_reasons (round net.plan) (λ i e at. All-place (IsUnready kind net) (round net.plan) i e at all)
 
 -- what the loops over the events of a round cite
-pub ruleset still_parts = (one_event, left_first, left_next, left_stops, left_none, of_links, of_switches, of_terminals, of_claims, of_inputs, of_drains)
+pub ruleset still_parts = (one_event, left_first, left_next, left_stops, left_none, of_ports, of_outputs, of_inputs)

@@ -1,22 +1,19 @@
 -- The engine of a network as a value: what it has of the network when it runs, and the network and the stage that this shows.
 use Rattle.{c104_event.specs.declared.{events.Event.Event, faults.EventFault.EventFault}, c104_node.specs.Places.{Shown, bases, states}}
-use Rattle.{c104_plan.specs.Plans.Plan, c104_run.specs.{KnownWires.KnowWires, LivePlaces.{AreLive, is_live}, Meters.{Metered, Sees}}}
-use Rattle.c104_run.specs.{Meters.{metered_apply, metered_of}, NetRecords.NetRecord, Network.{Network, network_of}, RecordedNets.Reading}
-use Rattle.{c104_run.specs.{RecordedNets.places_record, RoundParts.PartEnds}, c104_token.specs.Kinds.Kind}
-use Rattle.std.specs.Prelude.{Bool, List, Result, map, true, ℕ, ◌≡◌}
+use Rattle.{c104_plan.specs.Plans.Plan, c104_run.specs.{KnownWires.KnowWires, LivePlaces.AreLive, Meters.{Metered, Sees, metered_apply}}}
+use Rattle.c104_run.specs.{Meters.metered_of, NetRecords.NetRecord, Network.{Network, network_of}, RecordedNets.{Reading, places_record}}
+use Rattle.{c104_run.specs.RoundParts.PartEnds, c104_token.specs.Kinds.Kind}
+use Rattle.std.specs.Prelude.{Bool, List, Result, map, ℕ, ◌≡◌}
 
--- an engine: its plan, the places of its nodes, those of them at which something of a round may begin, as a set, and how
--- many events were done
+-- an engine: its plan, the places of its nodes, and how many events were done
 pub record EngineView (P : Type 0) : Type 0 where
   pub plan : Plan
   -- the switches in order, and then the terminals
   pub places : List P
-  pub live : List ℕ
   pub count : ℕ
 
--- the same, of another count
-abbrev pub with_count : {P : Type 0} → EngineView P → ℕ → EngineView P
-with_count e n = record e { count = n }
+abbrev pub engine_of : {P : Type 0} → Plan → List P → ℕ → EngineView P
+engine_of plan places count = record { plan = plan; places = places; count = count }
 
 module _ {A P : Type 0} (shown : P → Shown A) where
   -- the network that it shows
@@ -31,15 +28,14 @@ module _ {A P : Type 0} (shown : P → Shown A) where
 abbrev pub engine_record : {A P : Type 0} → Reading A P → EngineView P → NetRecord
 engine_record v e = places_record v e.plan e.places e.count
 
--- what every engine keeps: its places know the wires of its plan, and those at which something may begin are in its set
-pub record IsEngine {A P : Type 0} (kind : Kind A) (shown : P → Shown A) (e : EngineView P) : Type 0 where
+-- what every engine keeps: its places know the wires of its plan, and those at which something may begin are in a set
+pub record IsEngine {A P : Type 0} (kind : Kind A) (shown : P → Shown A) (blocks : List ℕ) (e : EngineView P) : Type 0 where
   pub knows : KnowWires e.plan (bases (map shown e.places))
-  pub live : AreLive kind e.plan e.live (states (map shown e.places))
+  pub live : AreLive kind e.plan blocks (states (map shown e.places))
 
--- an engine before and after a part of a round, of whose events a meter is told: it goes on by them, its plan stays, and so do
--- the places at which something may begin
+-- an engine before and after a part of a round, which every plan has, and of whose events a meter is told: it goes on by
+-- them, and its plan stays
 pub record DoesPart {A M P : Type 0} (kind : Kind A) (keeps : Bool) (sees : Sees M A) (shown : P → Shown A)
-    (old : EngineView P) (m : M) (events : List Event) (result : Result Bool EventFault) (new : EngineView P) (n : M) : Type 0 where
+    (old : EngineView P) (m : M) (part : Plan → List Event) (result : Result Bool EventFault) (new : EngineView P) (n : M) : Type 0 where
   pub plan : new.plan ≡ old.plan
-  pub ends : PartEnds (metered_apply kind keeps sees) (engine_at shown old m) events result (engine_at shown new n)
-  pub grown : (k : ℕ) → is_live old.live k ≡ true → is_live new.live k ≡ true
+  pub ends : PartEnds (metered_apply kind keeps sees) (engine_at shown old m) (part old.plan) result (engine_at shown new n)

@@ -11,7 +11,12 @@ told_places = 320
 abbrev pub is_live : List ℕ → ℕ → Bool
 is_live blocks k = nat_le told_places k || has_bit (slice_index_or blocks (k / LINKS) 0) (k % LINKS)
 
--- a place that isn't one of the set has a node at which nothing of a round can begin, or none
+-- nothing of a round can begin at the node at a place, if there is one
+pub record IsIdlePlace {A : Type 0} (kind : Kind A) (plan : Plan) (nodes : List (Node A)) (k : ℕ) : Type 0 where
+  pub planned : IsPlan plan
+  pub idle : (n : Node A) → slice_get nodes k ≡ Some n → IsIdleNode kind (is_linked_end plan k) n
+
+-- so it is at a place that isn't one of the set
 pub record AreLive {A : Type 0} (kind : Kind A) (plan : Plan) (blocks : List ℕ) (nodes : List (Node A)) : Type 0 where
   pub planned : IsPlan plan
-  pub idle : (k : ℕ) (n : Node A) → is_live blocks k ≡ false → slice_get nodes k ≡ Some n → IsIdleNode kind (is_linked_end plan k) n
+  pub idle : (k : ℕ) → is_live blocks k ≡ false → IsIdlePlace kind plan nodes k

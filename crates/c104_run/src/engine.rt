@@ -4,9 +4,9 @@
 //! a network over some kind of token and of place has an engine, and beside it what is kept of the network. The places know
 //! their wires, and the set of live ones has each at which something of a round may begin: that is what every engine keeps.
 ghost use Rattle.std.specs.Prelude.{map, ◌≡◌};
-ghost use Rattle.{c104_node.specs.{Places.bases, Traces.seatless}, c104_plan.specs.Plans.IsPlan, c104_run.specs.Engines.IsEngine};
-ghost use Rattle.c104_run.specs.{Engines.engine_network, EventsAtPlaces.EventDone, KnownWires.KnowWires, Meters.{meter_if, own_reply}};
-ghost use Rattle.c104_run.specs.NetRecords.{is_done, ticket_after};
+ghost use Rattle.{c104_node.specs.{Places.bases, Traces.seatless}, c104_plan.specs.Plans.IsPlan, c104_run.specs.Engines.EngineView};
+ghost use Rattle.c104_run.specs.{Engines.{IsEngine, engine_network, engine_of}, EventsAtPlaces.EventDone, KnownWires.KnowWires};
+ghost use Rattle.c104_run.specs.{Meters.{meter_if, own_reply}, NetRecords.{is_done, ticket_after}};
 
 mod beginning;
 mod reasons;
@@ -40,23 +40,20 @@ pub struct Engine<T: TokenKind, P: Place<T>> {
 }
 
 impl<T: TokenKind, P: Place<T>> Model for Engine<T, P> {
-    ghost use Rattle.c104_run.specs.Engines.{EngineView, IsEngine};
+    ghost use Rattle.c104_run.specs.Engines.{EngineView, IsEngine, engine_of};
 
     ghost Value = { EngineView P };
 
-    ghost view = { λ e. record { plan = e.wires; places = e.places.items; live = e.live; count = e.count } };
+    ghost view = { λ e. engine_of e.wires e.places.items e.count };
 
-    ghost invariant = { λ e. IsEngine T.kind P.shown
-        (record { plan = e.wires; places = e.places.items; live = e.live; count = e.count }) };
+    ghost invariant = { λ e. IsEngine T.kind P.shown e.live (engine_of e.wires e.places.items e.count) };
 }
 
 impl<T: TokenKind, P: Place<T>> Engine<T, P> {
     /// The engine of a network with these wires and places, where no event was done yet.
     pub fn new(wires: Wires, places: Vec<P>) -> Self
         requires { KnowWires wires (bases (map P.shown places.items)) }
-        ensures plan { result.plan ≡ wires }
-        ensures places { result.places ≡ places.items }
-        ensures count { result.count ≡ 0 }
+        ensures { result ≡ engine_of wires places.items 0 }
     {
         // The proof reads here what every plan keeps.
         let _plan = wires.plan();
@@ -90,7 +87,8 @@ impl<T: TokenKind, P: Place<T>> Engine<T, P> {
     #[inline(always)]
     pub fn places(&self) -> &[P]
         ensures places { result.now ≡ self.now.places }
-        ensures kept { IsEngine T.kind P.shown self.now }
+        ensures knows { KnowWires self.now.plan (bases (map P.shown self.now.places)) }
+        ensures planned { IsPlan self.now.plan }
     {
         // The proof reads the rest of the engine by this name.
         let _count = self.count;
@@ -109,7 +107,8 @@ impl<T: TokenKind, P: Place<T>> Engine<T, P> {
         ensures plan { result.0 ≡ self.plan }
         ensures places { result.1.items ≡ self.places }
         ensures count { result.2 ≡ self.count }
-        ensures kept { IsEngine T.kind P.shown self }
+        ensures knows { KnowWires self.plan (bases (map P.shown self.places)) }
+        ensures planned { IsPlan self.plan }
     {
         let Engine {
             wires,

@@ -32,7 +32,6 @@ mod net_parts;
 mod node_parts;
 mod node_runs;
 mod place_tokens;
-mod place_views;
 mod reason;
 mod recorded_net;
 mod recorded_place;

@@ -3,19 +3,17 @@
 //! No list of a round's events is made. Each part walks the places at which something may begin (`LivePlaces`), and leaves
 //! out an event of which the near end says that it isn't ready: it would change nothing.
 ghost use Rattle.std.specs.Prelude.{length, ◌+◌, ◌<◌, ◌≡◌};
-ghost use Rattle.{c104_plan.specs.Plans.IsPlan, c104_run.specs.{Engines.{DoesPart, engine_at}, EventRuns.EventsEnd, Meters.metered_apply}};
-ghost use Rattle.c104_run.specs.{RoundParts.PartEnds, Rounds.{round, rounds}};
+ghost use Rattle.c104_run.specs.{Engines.{DoesPart, engine_at}, EventRuns.EventsEnd, Meters.metered_apply, Rounds.{round, rounds}};
 
 mod attempts;
 mod finding;
-mod parts;
-mod ports;
+mod walks;
 
 use super::Engine;
 use crate::meter::Meter;
 use crate::watch::Watch;
 use c104_event::EventFault;
-use c104_node::{Place, is_idle_at};
+use c104_node::{Place, PortPart, is_idle_at};
 use c104_token::TokenKind;
 
 impl<T: TokenKind, P: Place<T>> Engine<T, P> {
@@ -29,54 +27,39 @@ impl<T: TokenKind, P: Place<T>> Engine<T, P> {
         ensures plan { self.new.plan ≡ self.old.plan }
         ensures ends { EventsEnd (metered_apply T.kind P.keeps M.sees) (engine_at P.shown self.old meter.old)
             (rounds self.old.plan times) result (engine_at P.shown self.new meter.new) }
-        ensures kept { IsPlan self.old.plan }
     {
-        // The proof reads here what every plan keeps.
-        let _plan = self.plan();
         for round in 0..times {
-            let changed = self.round_once(meter)?;
+            let changed = self.round(meter)?;
             if !changed {
                 // Nor would any further round change anything.
                 return Ok(());
             }
-            self.settle();
             watch.rounds_done(round + 1, times);
         }
         Ok(())
     }
 
-    /// Does one round, and tells whether any event of it was done.
+    /// Does one round, and tells whether any event of it was done. Each part of it that is about ports is walked at the
+    /// switches, and then at the terminals.
     pub fn round<M: Meter<T>>(&mut self, meter: &mut M) -> Result<bool, EventFault>
-        ensures plan { self.new.plan ≡ self.old.plan }
-        ensures ends { PartEnds (metered_apply T.kind P.keeps M.sees) (engine_at P.shown self.old meter.old)
-            (round self.old.plan) result (engine_at P.shown self.new meter.new) }
-        ensures kept { IsPlan self.old.plan }
+        ensures { DoesPart T.kind P.keeps M.sees P.shown self.old meter.old round result self.new meter.new }
     {
-        // The proof reads here what every plan keeps.
-        let _plan = self.plan();
-        let changed = self.round_once(meter)?;
-        self.settle();
-        Ok(changed)
-    }
-
-    /// Does a round, and tells whether any event of it was done.
-    fn round_once<M: Meter<T>>(&mut self, meter: &mut M) -> Result<bool, EventFault>
-        ensures { DoesPart T.kind P.keeps M.sees P.shown self.old meter.old (round self.old.plan) result self.new meter.new }
-    {
-        let credited = self.credit_ports(meter)?;
-        let crossed = self.cross_ports(meter)?;
-        let turned = self.turn_inputs(meter)?;
+        let credited = self.walk_switches(meter, PortPart::Credit)?;
+        let granted = self.walk_terminals(meter, PortPart::Credit)?;
+        let crossed = self.walk_switches(meter, PortPart::Cross)?;
+        let sent = self.walk_terminals(meter, PortPart::Cross)?;
+        // A terminal has no input.
+        let turned = self.walk_switches(meter, PortPart::Turn)?;
         let claimed = self.claim_outputs(meter)?;
         let drained = self.drain_terminals(meter)?;
-        Ok(credited | crossed | turned | claimed | drained)
+        self.settle();
+        Ok((credited | granted) | (crossed | sent) | turned | claimed | drained)
     }
 
     /// Takes the places out at which nothing can begin now. They are asked after some rounds alone, since this takes as long
     /// as a round in which little happens.
     fn settle(&mut self)
-        ensures plan { self.new.plan ≡ self.old.plan }
-        ensures places { self.new.places ≡ self.old.places }
-        ensures count { self.new.count ≡ self.old.count }
+        ensures { self.new ≡ self.old }
     {
         if self.live.is_due() {
             self.take_out_idle();
@@ -86,9 +69,7 @@ impl<T: TokenKind, P: Place<T>> Engine<T, P> {
     /// Takes the places out at which nothing can begin now, unless most would be left: then all are, since all are walked
     /// faster than most.
     fn take_out_idle(&mut self)
-        ensures plan { self.new.plan ≡ self.old.plan }
-        ensures places { self.new.places ≡ self.old.places }
-        ensures count { self.new.count ≡ self.old.count }
+        ensures { self.new ≡ self.old }
     {
         let end = self.place_count();
         let mut left = 0usize;
@@ -106,9 +87,7 @@ impl<T: TokenKind, P: Place<T>> Engine<T, P> {
 
     /// Puts all places into the set of those at which something may begin.
     fn put_all(&mut self)
-        ensures plan { self.new.plan ≡ self.old.plan }
-        ensures places { self.new.places ≡ self.old.places }
-        ensures count { self.new.count ≡ self.old.count }
+        ensures { self.new ≡ self.old }
     {
         self.live.fill();
     }
@@ -117,9 +96,7 @@ impl<T: TokenKind, P: Place<T>> Engine<T, P> {
     #[inline(always)]
     fn take_out(&mut self, place: usize) -> bool
         requires { place < length self.old.plan.switches + length self.old.plan.terminals }
-        ensures plan { self.new.plan ≡ self.old.plan }
-        ensures places { self.new.places ≡ self.old.places }
-        ensures count { self.new.count ≡ self.old.count }
+        ensures { self.new ≡ self.old }
     {
         let links = self.wires.node_links(place);
         if !is_idle_at(self.places.as_slice(), place, links) {

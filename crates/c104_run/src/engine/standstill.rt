@@ -3,10 +3,11 @@
 //! The events are asked in the order of a round, up to the first that is ready or refused. No list of them is made.
 #![tactic(auto, using(crate::proofs::StillParts::still_parts))]
 
-ghost use Rattle.std.specs.{List.range_with_len, Prelude.{flat_map, length, ◌≡◌}};
-ghost use Rattle.c104_run.specs.{Engines.engine_network, RoundParts.{port_events, wired_events}, Rounds.{all_claims, all_drains}};
-ghost use Rattle.c104_run.specs.Rounds.{claims_of, round, switch_claims, turn_at, wired_links, wired_ports, wired_terminals};
+ghost use Rattle.std.specs.Prelude.{[], ◌++◌, ◌∷◌, ◌≡◌};
+ghost use Rattle.c104_run.specs.{Engines.engine_network, RoundParts.{claim_walk, drain_walk, input_walk, link_walk, output_walk}};
+ghost use Rattle.c104_run.specs.{RoundParts.{switch_walk, terminal_walk, walked_round, wired_events}, Rounds.turn_at};
 ghost use Rattle.c104_run.specs.Standstill.{has_reason, have_reasons};
+ghost use Rattle.c104_event.specs.declared.events.Event.TheVariants as event;
 
 use crate::engine::Engine;
 use c104_event::{Event, Port};
@@ -17,11 +18,12 @@ use c104_token::TokenKind;
 impl<T: TokenKind, P: Place<T>> Engine<T, P> {
     /// Whether no event of a round is ready.
     pub fn stands_still(&self) -> bool
-        ensures { result ≡ have_reasons (engine_network P.shown self.now) (round self.now.plan) }
+        ensures { result ≡ have_reasons (engine_network P.shown self.now) (walked_round self.now.plan) }
     {
+        // A terminal takes no turn.
         self.ports_stand(PortPart::Credit)
             && self.ports_stand(PortPart::Cross)
-            && self.ports_stand(PortPart::Turn)
+            && self.switches_stand(PortPart::Turn)
             && self.claims_stand()
             && self.drains_stand()
     }
@@ -29,16 +31,14 @@ impl<T: TokenKind, P: Place<T>> Engine<T, P> {
     /// Whether no event of a part is ready at any wired port.
     fn ports_stand(&self, part: PortPart) -> bool
         ensures { result ≡ have_reasons (engine_network P.shown self.now)
-            (flat_map (port_events part) (wired_ports self.now.plan)) }
+            (switch_walk self.now.plan part ++ terminal_walk self.now.plan part) }
     {
         self.switches_stand(part) && self.terminals_stand(part)
     }
 
     /// The same of the wired links of the switches.
     fn switches_stand(&self, part: PortPart) -> bool
-        ensures { result ≡ have_reasons (engine_network P.shown self.now)
-            (flat_map (port_events part)
-            (flat_map (wired_links self.now.plan) (range_with_len 0 (length self.now.plan.switches)))) }
+        ensures { result ≡ have_reasons (engine_network P.shown self.now) (switch_walk self.now.plan part) }
     {
         let switches = self.switch_count();
         for switch in 0..switches {
@@ -51,8 +51,7 @@ impl<T: TokenKind, P: Place<T>> Engine<T, P> {
 
     /// The same of the wired links of a switch.
     fn links_stand(&self, part: PortPart, switch: usize) -> bool
-        ensures { result ≡ have_reasons (engine_network P.shown self.now)
-            (flat_map (port_events part) (wired_links self.now.plan switch)) }
+        ensures { result ≡ have_reasons (engine_network P.shown self.now) (link_walk self.now.plan part switch) }
     {
         for link in 0..LINKS {
             if !self.port_stands(part, Port::Switch(switch, link)) {
@@ -64,8 +63,7 @@ impl<T: TokenKind, P: Place<T>> Engine<T, P> {
 
     /// The same of the wired terminals.
     fn terminals_stand(&self, part: PortPart) -> bool
-        ensures { result ≡ have_reasons (engine_network P.shown self.now)
-            (flat_map (port_events part) (wired_terminals self.now.plan)) }
+        ensures { result ≡ have_reasons (engine_network P.shown self.now) (terminal_walk self.now.plan part) }
     {
         let terminals = self.terminal_count();
         for terminal in 0..terminals {
@@ -107,8 +105,7 @@ impl<T: TokenKind, P: Place<T>> Engine<T, P> {
 
     /// Whether no claim is ready.
     fn claims_stand(&self) -> bool
-        ensures { result ≡ have_reasons (engine_network P.shown self.now)
-            (all_claims (length self.now.plan.switches)) }
+        ensures { result ≡ have_reasons (engine_network P.shown self.now) (claim_walk self.now.plan) }
     {
         let switches = self.switch_count();
         for switch in 0..switches {
@@ -121,7 +118,7 @@ impl<T: TokenKind, P: Place<T>> Engine<T, P> {
 
     /// Whether no claim of a switch is ready.
     fn switch_claims_stand(&self, switch: usize) -> bool
-        ensures { result ≡ have_reasons (engine_network P.shown self.now) (switch_claims switch) }
+        ensures { result ≡ have_reasons (engine_network P.shown self.now) (input_walk switch) }
     {
         for input in 0..LINKS {
             if !self.input_claims_stand(switch, input) {
@@ -133,25 +130,30 @@ impl<T: TokenKind, P: Place<T>> Engine<T, P> {
 
     /// Whether no claim of an input is ready.
     fn input_claims_stand(&self, switch: usize, input: usize) -> bool
-        ensures { result ≡ have_reasons (engine_network P.shown self.now) (claims_of switch input) }
+        ensures { result ≡ have_reasons (engine_network P.shown self.now) (output_walk switch input) }
     {
         for output in 0..LINKS {
-            let claim = Event::Claim {
-                switch,
-                input,
-                output,
-            };
-            if !self.has_reason(&claim) {
+            if !self.claim_stands(switch, input, output) {
                 return false;
             }
         }
         true
     }
 
+    /// Whether a claim isn't ready.
+    fn claim_stands(&self, switch: usize, input: usize, output: usize) -> bool
+        ensures { result ≡ have_reasons (engine_network P.shown self.now) (event.Claim switch input output ∷ []) }
+    {
+        self.has_reason(&Event::Claim {
+            switch,
+            input,
+            output,
+        })
+    }
+
     /// Whether at no terminal a token arrives.
     fn drains_stand(&self) -> bool
-        ensures { result ≡ have_reasons (engine_network P.shown self.now)
-            (all_drains (length self.now.plan.terminals)) }
+        ensures { result ≡ have_reasons (engine_network P.shown self.now) (drain_walk self.now.plan) }
     {
         let terminals = self.terminal_count();
         for terminal in 0..terminals {

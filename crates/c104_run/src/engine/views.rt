@@ -1,12 +1,13 @@
 //! What an engine tells of its nodes: registers, what can be seen of links and terminals, what was sent and what
 //! arrived, and whether all is quiet.
 ghost use Rattle.std.specs.{Option.option_copied, Prelude.{All, IsTrue, length, map, slice_get, ◌+◌, ◌<◌, ◌↔◌, ◌≡◌, ◌≤◌}};
-ghost use Rattle.{c104_node.specs.{Places.states, Quiet.IsQuietNode}, c104_run.specs.{Engines.engine_network, LivePlaces.told_places}};
-ghost use Rattle.c104_run.specs.{NetViews.{network_link_view, network_sent_packet, network_terminal_view}, Network.network_arrived};
-ghost use Rattle.c104_run.specs.Network.{network_peek, terminal_place};
+ghost use Rattle.{c104_node.specs.{Places.states, Quiet.IsQuietNode, Views.nodes_input_token}, c104_run.specs.Engines.engine_network};
+ghost use Rattle.c104_run.specs.{LivePlaces.told_places, NetViews.{network_input_token, network_link_view, network_output_token}};
+ghost use Rattle.c104_run.specs.{NetViews.{network_sent_packet, network_terminal_view}, Network.{network_arrived, network_peek}};
+ghost use Rattle.c104_run.specs.Network.{terminal_place};
 
 use super::Engine;
-use crate::place_views::are_quiet;
+use c104_event::Port;
 use c104_node::{ArrivedOf, NodeOf, Place, TerminalView, node_at};
 use c104_switch::LinkView;
 use c104_token::{Packet, TokenKind};
@@ -135,10 +136,67 @@ impl<T: TokenKind, P: Place<T>> Engine<T, P> {
         }
     }
 
+    /// The token at this index of what came in at a port. None past the last one, or where the plan has no such port.
+    pub fn input_token(&self, port: Port, index: usize) -> Option<T>
+        ensures { result ≡ network_input_token (engine_network P.shown self.now) port index }
+    {
+        match port {
+            Port::Switch(switch, link) => {
+                if switch >= self.switch_count() {
+                    return None;
+                }
+                self.token_in(switch, link, index)
+            }
+            Port::Terminal(terminal) => {
+                if terminal >= self.terminal_count() {
+                    return None;
+                }
+                let place = self.terminal_place(terminal);
+                self.token_in(place, 0, index)
+            }
+        }
+    }
+
+    /// The token at this index of what came in over a link of the node at a place.
+    fn token_in(&self, place: usize, link: usize, index: usize) -> Option<T>
+        ensures { result ≡ nodes_input_token (states (map P.shown self.now.places)) place link index }
+    {
+        match self.node(place) {
+            Some(node) => node.input_token(link, index),
+            None => None,
+        }
+    }
+
+    /// The token at this index of the output of a switch's link. None past the last one, or where the plan has no such
+    /// switch, or a switch no such link.
+    pub fn output_token(&self, switch: usize, link: usize, index: usize) -> Option<T>
+        ensures { result ≡ network_output_token (engine_network P.shown self.now) switch link index }
+    {
+        if switch >= self.switch_count() {
+            return None;
+        }
+        match self.node(switch) {
+            Some(node) => node.output_token(link, index),
+            None => None,
+        }
+    }
+
     /// Whether all nodes are quiet.
     pub fn is_quiet(&self) -> bool
         ensures { IsTrue result ↔ All IsQuietNode (states (map P.shown self.now.places)) }
     {
         are_quiet(self.places())
     }
+}
+
+/// Whether all of these nodes are quiet.
+fn are_quiet<T: TokenKind, P: Place<T>>(places: &[P]) -> bool
+    ensures { IsTrue result ↔ All IsQuietNode (states (map P.shown places.now)) }
+{
+    for place in places {
+        if !place.node().is_quiet() {
+            return false;
+        }
+    }
+    true
 }

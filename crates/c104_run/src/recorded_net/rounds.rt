@@ -26,6 +26,8 @@ impl<T: TokenKind, P: RecordedPlace<T>> RecordedNet<T, P> {
     pub fn rounds_watched<W: Watch>(&mut self, count: u32, watch: &mut W) -> Result<(), EventFault>
         ensures { RecordsRounds self.old count result self.new }
     {
+        // The proof reads here what every plan keeps.
+        let _plan = self.engine.plan();
         self.engine.rounds(count, &mut Unmetered, watch)
     }
 
@@ -37,6 +39,8 @@ impl<T: TokenKind, P: RecordedPlace<T>> RecordedNet<T, P> {
         ensures recorded { RecordsRound self.old result self.new }
         ensures metered { MetersRound T.kind M.sees self.old meter.old result self.new meter.new }
     {
+        // The proof reads here what every plan keeps.
+        let _plan = self.engine.plan();
         self.engine.round(meter)
     }
 }

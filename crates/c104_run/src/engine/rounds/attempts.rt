@@ -4,10 +4,9 @@
 ghost use Rattle.std.specs.Prelude.{None, Some, [], is_some, length, map, true, ◌-◌, ◌<◌, ◌∷◌, ◌≡◌};
 ghost use Rattle.{c104_event.specs.declared.events.Event.Event as TheEvent, c104_node.specs.{ActLinks.act_link, Acts.IsWithinLimits}};
 ghost use Rattle.c104_node.specs.{Acts.nodes_act, PlaceActs.AloneDone, Places.states, PortActs.{Acts, near_act}, Traces.seatless};
-ghost use Rattle.{c104_regs.specs.declared.registers.TheConstants.LINKS, c104_run.specs.Engines.{DoesPart, with_count}};
-ghost use Rattle.c104_run.specs.{EventActs.{crossing_event, event_acts, port_place}, EventsAtPlaces.told_answer, LivePlaces.is_live};
-ghost use Rattle.c104_run.specs.{Meters.meter_after, NetRecords.{is_done, ticket_after}, Network.{event_fault, terminal_place}};
-ghost use Rattle.c104_run.specs.{Network.wired_fault, RoundParts.done_answer};
+ghost use Rattle.{c104_regs.specs.declared.registers.TheConstants.LINKS, c104_run.specs.Engines.{DoesPart, engine_of}};
+ghost use Rattle.c104_run.specs.{EventActs.{crossing_event, event_acts, port_place}, EventsAtPlaces.told_answer, Meters.meter_after};
+ghost use Rattle.c104_run.specs.{NetRecords.{is_done, ticket_after}, Network.{event_fault, wired_fault}, RoundParts.done_answer};
 ghost use Rattle.c104_switch.specs.declared.actions.ReplyOf.{ReplyOf as TheReply};
 ghost use Rattle.c104_event.specs.declared.events.Event.TheVariants as event;
 ghost use Rattle.c104_plan.specs.declared.ports.Port.TheVariants as port;
@@ -23,7 +22,7 @@ use c104_token::TokenKind;
 
 impl<T: TokenKind, P: Place<T>> Engine<T, P> {
     /// Tries a crossing from a port that is wired and ready, and tells whether it was done. Its ticket is the count of the
-    /// events before it. What it may begin at the other end is among the live places after it. A meter is told of a token
+    /// events before it. What it may begin at either end is among the live places after it. A meter is told of a token
     /// that crosses.
     #[inline(always)]
     pub(crate) fn attempt_joint<M: Meter<T>>(
@@ -35,9 +34,8 @@ impl<T: TokenKind, P: Place<T>> Engine<T, P> {
         requires wired { wired_fault self.old.plan port ≡ None }
         requires goes { is_some (nodes_act T.kind (states (map P.shown self.old.places))
             (port_place self.old.plan port) 0 (near_act crossing port)) ≡ true }
-        requires near { is_live self.old.live (port_place self.old.plan port) ≡ true }
         ensures { DoesPart T.kind P.keeps M.sees P.shown self.old meter.old
-            (crossing_event crossing port ∷ []) result self.new meter.new }
+            (λ plan. crossing_event crossing port ∷ []) result self.new meter.new }
     {
         let ends = self.wires.wired_ends(port);
         let joint = Joint {
@@ -49,6 +47,7 @@ impl<T: TokenKind, P: Place<T>> Engine<T, P> {
             ticket: self.count,
             seat: None,
         };
+        self.live.add(ends.near.node);
         self.live.add(ends.far.node);
         let places = self.places.as_mut_slice();
         let answer = joint_from(places, ends.near.node, ends.far.node, joint, stamp);
@@ -64,10 +63,9 @@ impl<T: TokenKind, P: Place<T>> Engine<T, P> {
         switch: usize,
         link: usize,
     ) -> Result<bool, EventFault>
-        requires wired { wired_fault self.old.plan (port.Switch switch link) ≡ None }
-        requires here { is_live self.old.live switch ≡ true }
+        requires { wired_fault self.old.plan (port.Switch switch link) ≡ None }
         ensures { DoesPart T.kind P.keeps M.sees P.shown self.old meter.old
-            (event.Input switch link 0 ∷ []) result self.new meter.new }
+            (λ plan. event.Input switch link 0 ∷ []) result self.new meter.new }
     {
         self.attempt_alone(meter, switch, ActOf::Step(ActionOf::Input(link, 0)))
     }
@@ -83,9 +81,8 @@ impl<T: TokenKind, P: Place<T>> Engine<T, P> {
         requires switch { switch < length self.old.plan.switches }
         requires input { input < LINKS }
         requires output { output < LINKS }
-        requires here { is_live self.old.live switch ≡ true }
         ensures { DoesPart T.kind P.keeps M.sees P.shown self.old meter.old
-            (event.Claim switch input output ∷ []) result self.new meter.new }
+            (λ plan. event.Claim switch input output ∷ []) result self.new meter.new }
     {
         self.attempt_alone(meter, switch, ActOf::Step(ActionOf::Claim(input, output)))
     }
@@ -97,10 +94,9 @@ impl<T: TokenKind, P: Place<T>> Engine<T, P> {
         meter: &mut M,
         terminal: usize,
     ) -> Result<bool, EventFault>
-        requires terminal { terminal < length self.old.plan.terminals }
-        requires here { is_live self.old.live (terminal_place self.old.plan terminal) ≡ true }
+        requires { terminal < length self.old.plan.terminals }
         ensures { DoesPart T.kind P.keeps M.sees P.shown self.old meter.old
-            (event.Drain terminal ∷ []) result self.new meter.new }
+            (λ plan. event.Drain terminal ∷ []) result self.new meter.new }
     {
         let place = self.terminal_place(terminal);
         let answer = self.do_next(place, ActOf::Drain);
@@ -119,11 +115,10 @@ impl<T: TokenKind, P: Place<T>> Engine<T, P> {
     ) -> Result<bool, EventFault>
         requires short { IsWithinLimits act }
         requires lone { act_link act ≡ None }
-        requires here { is_live self.old.live place ≡ true }
         ensures { (e : TheEvent) → event_fault self.old.plan e ≡ None →
             event_acts self.old.plan e ≡ Some (Acts.Alone place act) →
             ((reply : TheReply T) → meter_after M.sees _meter.now e reply ≡ _meter.now) →
-            DoesPart T.kind P.keeps M.sees P.shown self.old _meter.now (e ∷ []) result self.new _meter.now }
+            DoesPart T.kind P.keeps M.sees P.shown self.old _meter.now (λ plan. e ∷ []) result self.new _meter.now }
     {
         let answer = self.do_next(place, act);
         self.counted(answer)
@@ -134,13 +129,12 @@ impl<T: TokenKind, P: Place<T>> Engine<T, P> {
     fn do_next(&mut self, place: usize, act: ActOf<T>) -> Result<ReplyOf<T>, EventFault>
         requires short { IsWithinLimits act }
         requires lone { act_link act ≡ None }
-        requires here { is_live self.old.live place ≡ true }
         ensures plan { self.new.plan ≡ self.old.plan }
-        ensures live { self.new.live ≡ self.old.live }
         ensures count { self.new.count ≡ self.old.count }
         ensures done { AloneDone T.kind P.keeps place (place - length self.old.plan.switches) (seatless self.old.count) act
             (map P.shown self.old.places) result (map P.shown self.new.places) }
     {
+        self.live.add(place);
         let switches = self.wires.switch_count();
         let stamp = Stamp {
             ticket: self.count,
@@ -155,7 +149,8 @@ impl<T: TokenKind, P: Place<T>> Engine<T, P> {
     fn counted(&mut self, answer: Result<ReplyOf<T>, EventFault>) -> Result<bool, EventFault>
         ensures told { result ≡ done_answer (told_answer T.kind answer) }
         ensures next { self.new ≡
-            with_count self.old (ticket_after self.old.count (is_done (told_answer T.kind answer))) }
+            engine_of self.old.plan self.old.places
+            (ticket_after self.old.count (is_done (told_answer T.kind answer))) }
     {
         match answer {
             Ok(ReplyOf::NotReady) => Ok(false),

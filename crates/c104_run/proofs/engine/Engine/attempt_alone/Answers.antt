@@ -9,5 +9,4 @@ returns g c = λ e possible known none.
           rw c.do_next-answer.ensures.plan
           (alone_tried g.T.TokenKind.kind g.P.Place.keeps g.M.Meter.sees g.P.Place.shown g.met.P.Place.limited c.args.self.now.plan c.args.self.now.places c.do_next-answer.new.self.places c.args.self.now.count (ticket_after c.do_next-answer.new.self.count (is_done (told_answer g.T.TokenKind.kind c.do_next-answer.result))) c.args._meter.now c.args._meter.now c.do_next-answer.result (ap (λ n. ticket_after n (is_done (told_answer g.T.TokenKind.kind c.do_next-answer.result))) c.do_next-answer.ensures.count)
           e (silent_meter g.T.TokenKind.kind g.M.Meter.sees c.args._meter.now e none c.do_next-answer.result) possible c.args.place c.args.act known c.do_next-answer.ensures.done);
-      grown = λ k here. rw c.do_next-answer.ensures.live here;
     })

@@ -1,12 +1,8 @@
 use Rattle.{c104_event.specs.declared.events.Event.Event, c104_node.specs.{PortActs.Acts, declared.acts.ActOf.ActOf}}
 use Rattle.c104_run.{proofs.ActAttempts.{alone_tried, drain_possible}, specs.{EventsAtPlaces.told_answer, NetRecords.is_done}}
 use Rattle.{c104_run.specs.NetRecords.ticket_after, std.proofs.Common.{Option, Some, ap, sym, ℕ}}
-use Rattle.c104_run.proofs.engine.Engine.attempt_drain.Goals as goal
 
-pub do_next-answer-requires-clause-here : goal.do_next-answer-requires-clause-here
-do_next-answer-requires-clause-here g c = rw c.terminal_place-place.ensures c.requires.here
-
-pub returns : goal.returns
+pub returns : Rattle.c104_run.proofs.engine.Engine.attempt_drain.Goals.returns
 returns g c =
     let drain : ℕ → Option (Acts g.row.T.Denot) = λ k. Some (Acts.Alone k ActOf.Drain) in
     rw (c.counted.ensures.told, c.counted.ensures.next) (record {
@@ -14,6 +10,5 @@ returns g c =
       ends =
           rw c.do_next-answer.ensures.plan
           (alone_tried g.T.TokenKind.kind g.P.Place.keeps g.M.Meter.sees g.P.Place.shown g.met.P.Place.limited c.args.self.now.plan c.args.self.now.places c.do_next-answer.new.self.places c.args.self.now.count (ticket_after c.do_next-answer.new.self.count (is_done (told_answer g.T.TokenKind.kind c.do_next-answer.result))) c.args.meter.now c.tell_arrived.new.meter c.do_next-answer.result (ap (λ n. ticket_after n (is_done (told_answer g.T.TokenKind.kind c.do_next-answer.result))) c.do_next-answer.ensures.count)
-          (Event.Drain c.args.terminal) c.tell_arrived.ensures (drain_possible c.args.self.now.plan c.args.terminal c.requires.terminal) c.terminal_place-place.result ActOf.Drain (ap drain (sym c.terminal_place-place.ensures)) c.do_next-answer.ensures.done);
-      grown = λ k here. rw c.do_next-answer.ensures.live here;
+          (Event.Drain c.args.terminal) c.tell_arrived.ensures (drain_possible c.args.self.now.plan c.args.terminal c.requires) c.terminal_place-place.result ActOf.Drain (ap drain (sym c.terminal_place-place.ensures)) c.do_next-answer.ensures.done);
     })

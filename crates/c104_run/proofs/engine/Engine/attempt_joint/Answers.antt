@@ -1,18 +1,16 @@
-use Rattle.{c104_node.{proofs.IdleNodes.joint_stays, specs.{Places.states, declared.ends.End.End}}, c104_run.proofs.ActAttempts.joint_tried}
-use Rattle.c104_run.{proofs.{Engines.{acted_kept, put_back}, LiveRounds.{grown_on, live_joint}}, specs.Engines.EngineView}
-use Rattle.c104_run.specs.{EventActs.{crossing_event, port_place}, EventsAtPlaces.told_answer, LivePlaces.is_live, Meters.metered_apply}
-use Rattle.c104_run.specs.{Meters.metered_of, NetRecords.{is_done, ticket_after}, Network.wired_fault, RoundParts.{PartEnds, done_answer}}
-use Rattle.std.proofs.{Common.{List, None, [], ap, map, refl, subst, sym, true, ◌∙◌, ◌∷◌, ◌≡◌}, lemmas.List.with_items_is}
-use Rattle.std.specs.Vec.{with_items}
+use Rattle.{c104_node.{proofs.IdleNodes.joint_stays, specs.Places.states}, c104_run.proofs.{ActAttempts.joint_tried, Engines.acted_kept}}
+use Rattle.c104_run.{proofs.{Engines.put_back, LiveRounds.live_joint}, specs.{Engines.EngineView, EventActs.crossing_event}}
+use Rattle.c104_run.specs.{EventsAtPlaces.told_answer, Meters.{metered_apply, metered_of}, NetRecords.{is_done, ticket_after}}
+use Rattle.{c104_run.specs.{Network.wired_fault, RoundParts.{PartEnds, done_answer}}, std.proofs.Common.{List, None, [], map, refl, subst}}
+use Rattle.std.{proofs.{Common.{sym, ◌∙◌, ◌∷◌, ◌≡◌}, lemmas.List.with_items_is}, specs.Vec.with_items}
 use Rattle.c104_run.proofs.engine.Engine.attempt_joint.Goals as goal
 
 pub invariant_of-self : goal.invariant_of-self
 invariant_of-self g c =
     let put_is = with_items_is c.self.inside.places c.joint_from-answer.new.places (c.joint_from-answer.auto.places ∙ c.as_mut_slice-places.ensures.len) in
-    let here : is_live c.self.inside.live (port_place c.self.inside.wires c.args.port) ≡ true = subst (λ (e : EngineView g.row.P.Denot). is_live e.live (port_place e.plan c.args.port) ≡ true) (sym c.self.view_is) c.requires.near in
-    acted_kept g.T.TokenKind.kind g.P.Place.shown c.self.inside.wires c.self.inside.places.items c.as_mut_slice-places.result.now c.joint_from-answer.new.places (with_items c.self.inside.places c.joint_from-answer.new.places).items c.as_mut_slice-places.ensures.value put_is c.self.inside.live c.add.new.self c.self.inside.count c.self.inside.count c.joint_from-answer.ensures.base
-    (λ was. live_joint g.T.TokenKind.kind c.self.inside.wires c.self.inside.live c.add.new.self (states (map g.P.Place.shown c.as_mut_slice-places.result.now)) (states (map g.P.Place.shown c.joint_from-answer.new.places)) c.wired_ends-ends.result.near.node c.wired_ends-ends.result.far.node
-    (ap (λ (end : End). is_live c.self.inside.live end.node) c.wired_ends-ends.ensures.near ∙ here) c.add.ensures.here c.add.ensures.others
+    acted_kept g.T.TokenKind.kind g.P.Place.shown c.self.inside.wires c.self.inside.places.items c.as_mut_slice-places.result.now c.joint_from-answer.new.places (with_items c.self.inside.places c.joint_from-answer.new.places).items c.as_mut_slice-places.ensures.value put_is c.self.inside.live c.add-2.new.self c.self.inside.count c.self.inside.count c.joint_from-answer.ensures.base
+    (λ was. live_joint g.T.TokenKind.kind c.self.inside.wires c.self.inside.live c.add.new.self c.add-2.new.self (states (map g.P.Place.shown c.as_mut_slice-places.result.now)) (states (map g.P.Place.shown c.joint_from-answer.new.places)) c.wired_ends-ends.result.near.node c.wired_ends-ends.result.far.node
+    c.add.ensures.here c.add.ensures.others c.add-2.ensures.here c.add-2.ensures.others
     (λ j from to. joint_stays g.T.TokenKind.kind g.P.Place.keeps _ _ _ c.joint_from-answer.result j _ _ _ c.joint_from-answer.ensures from to) was) c.self.invariant
 
 pub returns : goal.returns
@@ -26,5 +24,4 @@ returns g c =
           c.self.inside.places.items c.as_mut_slice-places.result.now c.joint_from-answer.new.places (with_items c.self.inside.places c.joint_from-answer.new.places).items c.as_mut_slice-places.ensures.value put_is
           (joint_tried g.T.TokenKind.kind g.P.Place.keeps g.M.Meter.sees g.P.Place.shown g.met.P.Place.limited c.self.inside.wires c.as_mut_slice-places.result.now c.joint_from-answer.new.places c.self.inside.count (ticket_after c.self.inside.count (is_done (told_answer g.T.TokenKind.kind c.joint_from-answer.result))) c.args.meter.now c.tell_joint.new.meter c.joint_from-answer.result refl
           c.args.port c.far_port.result c.args.crossing c.wired_ends-ends.result.near c.wired_ends-ends.result.far c.wired_ends-ends.ensures.near c.wired_ends-ends.ensures.far c.far_port.ensures c.tell_joint.ensures wired c.joint_from-answer.ensures);
-      grown = grown_on g.T.TokenKind.kind c.self.inside.wires c.self.inside.live c.add.new.self c.wired_ends-ends.result.far.node c.add.ensures.here c.add.ensures.others;
     })

@@ -1,12 +1,10 @@
-use Rattle.{c104_plan.specs.Plans.Plan, c104_run.{proofs.EngineParts.SoFar, specs.Rounds.claims_of}, std.proofs.Common.{◌-◌, ◌≤◌}}
+use Rattle.{c104_plan.specs.Plans.Plan, c104_run.{proofs.EngineParts.SoFar, specs.{RoundParts.output_walk, Rounds.link_numbers}}}
+use Rattle.std.proofs.Common.{◌-◌}
 use Rattle.c104_run.proofs.engine.Engine.claim_in_switch.Given as goal
 
--- the claims so far
+-- the claims of the inputs so far
 abbrev pub invariant-loop-input : goal.invariant-loop-input
-invariant-loop-input g l = record {
-  does : SoFar g.T.TokenKind.kind g.P.Place.keeps g.M.Meter.sees g.P.Place.shown (λ (plan : Plan). claims_of l.switch) (32) l.initial.self l.initial.meter l.from l.changed l.self l.meter;
-  within : l.from ≤ 32;
-}
+invariant-loop-input g l = SoFar g.T.TokenKind.kind g.P.Place.keeps g.M.Meter.sees g.P.Place.shown (λ (plan : Plan). output_walk l.switch) (λ (plan : Plan). link_numbers) (λ (plan : Plan). 32) l.initial.self l.initial.meter l.from l.changed l.self l.meter
 
 abbrev pub decreases-loop-input : goal.decreases-loop-input
 decreases-loop-input g l = 32 - l.from

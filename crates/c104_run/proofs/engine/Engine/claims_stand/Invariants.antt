@@ -1,6 +1,6 @@
-use Rattle.c104_run.{proofs.StillParts.{left, tested}, specs.{Engines.engine_network, Rounds.switch_claims, Standstill.has_reason}}
+use Rattle.c104_run.{proofs.StillParts.{left, tested}, specs.{Engines.engine_network, RoundParts.input_walk, Standstill.has_reason}}
 use Rattle.std.proofs.Common.{length, ◌≡◌}
 
 -- those that are left tell it
 abbrev pub invariant-loop-switch : Rattle.c104_run.proofs.engine.Engine.claims_stand.Given.invariant-loop-switch
-invariant-loop-switch g l = left (has_reason (engine_network g.P.Place.shown l.self)) switch_claims (length l.self.plan.switches) l.switch ≡ tested (has_reason (engine_network g.P.Place.shown l.self)) switch_claims (length l.self.plan.switches)
+invariant-loop-switch g l = left (has_reason (engine_network g.P.Place.shown l.self)) input_walk (length l.self.plan.switches) l.switch ≡ tested (has_reason (engine_network g.P.Place.shown l.self)) input_walk (length l.self.plan.switches)

@@ -1,13 +1,10 @@
-use Rattle.{c104_event.specs.declared.events.Event.Event, c104_plan.specs.Plans.Plan, c104_run.proofs.{EngineParts.SoFar, PartRuns.single}}
-use Rattle.std.proofs.Common.{length, ◌-◌, ◌≤◌}
+use Rattle.{c104_event.specs.declared.events.Event.Event, c104_plan.specs.Plans.Plan, c104_run.proofs.EngineParts.SoFar}
+use Rattle.std.{proofs.Common.{[], length, ℕ, ◌-◌, ◌∷◌}, specs.List.range_with_len}
 use Rattle.c104_run.proofs.engine.Engine.drain_terminals.Given as goal
 
 -- the arrivals so far
 abbrev pub invariant-loop-terminal : goal.invariant-loop-terminal
-invariant-loop-terminal g l = record {
-  does : SoFar g.T.TokenKind.kind g.P.Place.keeps g.M.Meter.sees g.P.Place.shown (λ (plan : Plan). single Event.Drain) (length l.initial.self.plan.terminals) l.initial.self l.initial.meter l.from l.changed l.self l.meter;
-  within : l.from ≤ length l.initial.self.plan.terminals;
-}
+invariant-loop-terminal g l = SoFar g.T.TokenKind.kind g.P.Place.keeps g.M.Meter.sees g.P.Place.shown (λ (plan : Plan) (t : ℕ). Event.Drain t ∷ []) (λ (plan : Plan). range_with_len 0 (length plan.terminals)) (λ (plan : Plan). length plan.terminals) l.initial.self l.initial.meter l.from l.changed l.self l.meter
 
 abbrev pub decreases-loop-terminal : goal.decreases-loop-terminal
 decreases-loop-terminal g l = length l.initial.self.plan.terminals - l.from

@@ -9,9 +9,8 @@ loop-round-init g c = record { done = refl; plan = refl }
 pub loop-round-preserved : goal.loop-round-preserved
 loop-round-preserved g c = record {
   done =
-      rw (c.settle.ensures.plan, c.settle.ensures.places, c.settle.ensures.count)
-      (round_taken (metered_apply g.T.TokenKind.kind g.P.Place.keeps g.M.Meter.sees) (engine_at g.P.Place.shown c.args.self.now c.args.meter.now) (engine_at g.P.Place.shown c.loop-round.self c.loop-round.meter) (engine_at g.P.Place.shown c.round_once.new.self c.round_once.new.meter) c.args.self.now.plan (round c.loop-round.self.plan) c.loop-round.round (ap round c.loop-round.invariant.plan) c.loop-round.invariant.done (inl (sym c.in_ok-changed.ensures.ends.ends.0)));
-  plan = c.settle.ensures.plan ∙ c.in_ok-changed.ensures.plan ∙ c.loop-round.invariant.plan;
+      round_taken (metered_apply g.T.TokenKind.kind g.P.Place.keeps g.M.Meter.sees) (engine_at g.P.Place.shown c.args.self.now c.args.meter.now) (engine_at g.P.Place.shown c.loop-round.self c.loop-round.meter) (engine_at g.P.Place.shown c.round.new.self c.round.new.meter) c.args.self.now.plan (round c.loop-round.self.plan) c.loop-round.round (ap round c.loop-round.invariant.plan) c.loop-round.invariant.done (inl (sym c.in_ok-changed.ensures.ends.ends.0));
+  plan = c.in_ok-changed.ensures.plan ∙ c.loop-round.invariant.plan;
 }
 
 pub returns-clause-ends : goal.returns-clause-ends
@@ -22,14 +21,14 @@ returns-clause-ends g c =
 pub returns-in_err-changed-clause-ends : goal.returns-in_err-changed-clause-ends
 returns-in_err-changed-clause-ends g c =
     rw (err_is _ _ c.from_residual.ensures)
-    (round_refused (metered_apply g.T.TokenKind.kind g.P.Place.keeps g.M.Meter.sees) (engine_at g.P.Place.shown c.args.self.now c.args.meter.now) (engine_at g.P.Place.shown c.loop-round.self c.loop-round.meter) (engine_at g.P.Place.shown c.round_once.new.self c.round_once.new.meter) c.args.self.now.plan (round c.loop-round.self.plan) c.loop-round.round c.args.times c.in_err-changed.field-0.0 (ap round c.loop-round.invariant.plan) c.loop-round-test.true c.loop-round.invariant.done c.in_err-changed.ensures.ends.ends)
+    (round_refused (metered_apply g.T.TokenKind.kind g.P.Place.keeps g.M.Meter.sees) (engine_at g.P.Place.shown c.args.self.now c.args.meter.now) (engine_at g.P.Place.shown c.loop-round.self c.loop-round.meter) (engine_at g.P.Place.shown c.round.new.self c.round.new.meter) c.args.self.now.plan (round c.loop-round.self.plan) c.loop-round.round c.args.times c.in_err-changed.field-0.0 (ap round c.loop-round.invariant.plan) c.loop-round-test.true c.loop-round.invariant.done c.in_err-changed.ensures.ends.ends)
 
 pub returns-in_err-changed-clause-plan : goal.returns-in_err-changed-clause-plan
 returns-in_err-changed-clause-plan g c = c.in_err-changed.ensures.plan ∙ c.loop-round.invariant.plan
 
 pub returns-then-not-changed-clause-ends : goal.returns-then-not-changed-clause-ends
 returns-then-not-changed-clause-ends g c =
-    round_idle (metered_apply g.T.TokenKind.kind g.P.Place.keeps g.M.Meter.sees) (engine_at g.P.Place.shown c.args.self.now c.args.meter.now) (engine_at g.P.Place.shown c.loop-round.self c.loop-round.meter) (engine_at g.P.Place.shown c.round_once.new.self c.round_once.new.meter) c.args.self.now.plan (round c.loop-round.self.plan) c.loop-round.round c.args.times (ap round c.loop-round.invariant.plan) c.loop-round-test.true c.loop-round.invariant.done (inl (sym c.in_ok-changed.ensures.ends.ends.0)) (c.in_ok-changed.ensures.ends.ends.1 c.if-not-changed.true)
+    round_idle (metered_apply g.T.TokenKind.kind g.P.Place.keeps g.M.Meter.sees) (engine_at g.P.Place.shown c.args.self.now c.args.meter.now) (engine_at g.P.Place.shown c.loop-round.self c.loop-round.meter) (engine_at g.P.Place.shown c.round.new.self c.round.new.meter) c.args.self.now.plan (round c.loop-round.self.plan) c.loop-round.round c.args.times (ap round c.loop-round.invariant.plan) c.loop-round-test.true c.loop-round.invariant.done (inl (sym c.in_ok-changed.ensures.ends.ends.0)) (c.in_ok-changed.ensures.ends.ends.1 c.if-not-changed.true)
 
 pub returns-then-not-changed-clause-plan : goal.returns-then-not-changed-clause-plan
 returns-then-not-changed-clause-plan g c = c.in_ok-changed.ensures.plan ∙ c.loop-round.invariant.plan

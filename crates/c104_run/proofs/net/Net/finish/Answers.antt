@@ -39,7 +39,7 @@ invariant_of-result c =
     let record_is : NetRecord = net_record c.self.inside.engine.plan c.self.inside.engine.places c.self.inside.engine.count in
     subst IsFinishedRecord (sym (left_is c))
     (finished_record record_is c.self.invariant.0.kept
-    (all_recorded c.self.inside.engine.plan c.self.inside.engine.places c.self.inside.engine.count (traces_wired record_is c.into_parts-wires.ensures.kept.live.planned c.self.invariant.0.kept)
+    (all_recorded c.self.inside.engine.plan c.self.inside.engine.places c.self.inside.engine.count (traces_wired record_is c.into_parts-wires.ensures.planned c.self.invariant.0.kept)
     (subst (All (λ (node : NodeRecord × NodeRoom). IsRecorded node.0)) c.into_parts-wires.ensures.places c.parts_of-parts.ensures.recorded)))
 
 pub returns-clause-left : goal.returns-clause-left

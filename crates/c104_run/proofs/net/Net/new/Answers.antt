@@ -13,13 +13,13 @@ pub invariant_of-result : goal.invariant_of-result
 invariant_of-result c =
     let wires : Plan = c.in_ok-frame.frame.wires in
     let is_plan : IsPlan wires = subst IsPlan (sym c.in_ok-frame.ensures.wires) c.in_ok-frame.ensures.kept in (
-      rw (c.new-in-Ok.ensures.plan, c.new-in-Ok.ensures.places, c.new-in-Ok.ensures.count) (net_first wires wires (new_network wires).nodes c.place_new_recorded.new.list.items refl c.in-Ok.ensures.first (steady_new wires (new_network wires).nodes refl is_plan)),
-      rw c.new-in-Ok.ensures.plan c.in_ok-frame.ensures.room,
+      rw c.new-in-Ok.ensures (net_first wires wires (new_network wires).nodes c.place_new_recorded.new.list.items refl c.in-Ok.ensures.first (steady_new wires (new_network wires).nodes refl is_plan)),
+      rw c.new-in-Ok.ensures c.in_ok-frame.ensures.room,
     )
 
 pub returns-in-Ok : goal.returns-in-Ok
 returns-in-Ok c =
     let wires : Plan = c.in_ok-frame.frame.wires in
-    rw (c.new-in-Ok.ensures.plan, c.new-in-Ok.ensures.places, c.new-in-Ok.ensures.count)
+    rw c.new-in-Ok.ensures
     (first_is node_reading wires wires (new_network wires).nodes c.place_new_recorded.new.list.items refl c.in-Ok.ensures.first
     ∙ ap (λ (p : Plan). fresh_record (new_network p)) c.in_ok-frame.ensures.wires)

@@ -17,13 +17,13 @@ invariant_of-result c =
     let wires : Plan = c.in_ok-frame.frame.wires in
     let is_plan : IsPlan wires = subst IsPlan (sym c.in_ok-frame.ensures.wires) c.in_ok-frame.ensures.kept in
     let fits : Fits c.args.image.now wires = subst (Fits c.args.image.now) (sym c.in_ok-frame.ensures.wires) c.requires in (
-      rw (c.new-in-Ok.ensures.plan, c.new-in-Ok.ensures.places, c.new-in-Ok.ensures.count) (net_first wires wires (placed_network wires c.args.image.now).nodes c.place_recorded.new.list.items refl c.in-Ok.ensures.first (steady_made wires wires c.args.image.now (placed_network wires c.args.image.now).nodes refl refl fits is_plan)),
-      rw c.new-in-Ok.ensures.plan c.in_ok-frame.ensures.room,
+      rw c.new-in-Ok.ensures (net_first wires wires (placed_network wires c.args.image.now).nodes c.place_recorded.new.list.items refl c.in-Ok.ensures.first (steady_made wires wires c.args.image.now (placed_network wires c.args.image.now).nodes refl refl fits is_plan)),
+      rw c.new-in-Ok.ensures c.in_ok-frame.ensures.room,
     )
 
 pub returns-in-Ok : goal.returns-in-Ok
 returns-in-Ok c =
     let wires : Plan = c.in_ok-frame.frame.wires in
-    rw (c.new-in-Ok.ensures.plan, c.new-in-Ok.ensures.places, c.new-in-Ok.ensures.count)
+    rw c.new-in-Ok.ensures
     (first_is node_reading wires wires (placed_network wires c.args.image.now).nodes c.place_recorded.new.list.items refl c.in-Ok.ensures.first
     ∙ ap (λ (p : Plan). fresh_record (placed_network p c.args.image.now)) c.in_ok-frame.ensures.wires)

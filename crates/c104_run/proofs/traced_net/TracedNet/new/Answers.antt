@@ -8,11 +8,11 @@ new-requires-in-Ok c = unknown counted_shown (λ n. refl) c.in_ok-wires.wires c.
 pub invariant_of-result : goal.invariant_of-result
 invariant_of-result c =
     let same : c.in_ok-wires.wires ≡ c.args.plan.now = c.in_ok-wires.ensures ∙ c.in_ok-copy.ensures.cases in (
-      rw (c.new-in-Ok.ensures.plan, c.new-in-Ok.ensures.places, c.new-in-Ok.ensures.count) (traced_new c.args.plan.now c.in_ok-wires.wires c.add_new_nodes.new.list.items same c.in-Ok.ensures c.switches-switches.ensures.kept),
+      rw c.new-in-Ok.ensures (traced_new c.args.plan.now c.in_ok-wires.wires c.add_new_nodes.new.list.items same c.in-Ok.ensures c.switches-switches.ensures.kept),
       tt,
     )
 
 pub returns-in-Ok : goal.returns-in-Ok
 returns-in-Ok c =
     let same : c.in_ok-wires.wires ≡ c.args.plan.now = c.in_ok-wires.ensures ∙ c.in_ok-copy.ensures.cases in
-    rw (c.new-in-Ok.ensures.plan, c.new-in-Ok.ensures.places, c.new-in-Ok.ensures.count) (traced_new_is c.args.plan.now c.in_ok-wires.wires c.add_new_nodes.new.list.items same c.in-Ok.ensures c.switches-switches.ensures.kept)
+    rw c.new-in-Ok.ensures (traced_new_is c.args.plan.now c.in_ok-wires.wires c.add_new_nodes.new.list.items same c.in-Ok.ensures c.switches-switches.ensures.kept)

@@ -15,11 +15,11 @@ at c =
 pub returns-in-Some-clause-node : goal.returns-in-Some-clause-node
 returns-in-Some-clause-node c =
     subst (λ (r : NetRecord). IsRecordedNode r c.args.place c.in-Some.node.now.0) c.self.view_is
-    (node_recorded c.self.inside.engine.plan c.self.inside.engine.places c.self.inside.engine.count (traces_wired (net_record c.self.inside.engine.plan c.self.inside.engine.places c.self.inside.engine.count) c.places.ensures.kept.live.planned c.self.invariant.0.kept) c.args.place c.in-Some.node.now (at c) c.trace-trace.ensures.recorded)
+    (node_recorded c.self.inside.engine.plan c.self.inside.engine.places c.self.inside.engine.count (traces_wired (net_record c.self.inside.engine.plan c.self.inside.engine.places c.self.inside.engine.count) c.places.ensures.planned c.self.invariant.0.kept) c.args.place c.in-Some.node.now (at c) c.trace-trace.ensures.recorded)
 
 pub returns-in-Some-clause-linked : goal.returns-in-Some-clause-linked
 returns-in-Some-clause-linked c = λ l.
-    known_nodes c.self.inside.engine.plan c.self.inside.engine.places c.places.ensures.kept.knows c.args.place c.in-Some.node.now (at c) l
+    known_nodes c.self.inside.engine.plan c.self.inside.engine.places c.places.ensures.knows c.args.place c.in-Some.node.now (at c) l
     ∙ ap (λ (r : NetRecord). is_linked_end r.network.plan c.args.place l) c.self.view_is
 
 -- there is no such node

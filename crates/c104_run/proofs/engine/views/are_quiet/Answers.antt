@@ -1,6 +1,6 @@
 use Rattle.c104_node.{proofs.{PlaceSteps.{as_many, read_item}, QuietNodes.quiet_next}, specs.{Places.{Shown, states}, Quiet.IsQuietNode}}
 use Rattle.std.proofs.Common.{arith, map, refl, subst, sym, ◌∙◌}
-use Rattle.c104_run.proofs.place_views.are_quiet.Goals as goal
+use Rattle.c104_run.proofs.engine.views.are_quiet.Goals as goal
 
 -- this node is quiet too
 pub loop-place-preserved : goal.loop-place-preserved
