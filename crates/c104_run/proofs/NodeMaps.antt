@@ -1,10 +1,10 @@
 -- A node over other tokens: it is quiet where the node is, of the same kind, and at its start the same.
 use Rattle.{c104_link.specs.Buffers.Outgoing, c104_node.specs.{MappedNodes.{map_input, map_node, map_outgoing}, Nodes.{Node, is_switch}}}
-use Rattle.c104_node.specs.{Quiet.{IsQuietInput, IsQuietNode, IsQuietOutput}, Starts.start_node, Terminals.Terminal}
-use Rattle.{c104_node.specs.declared.{node.NodeOf.NodeOf, starts.NodeStart.NodeStart}, c104_switch.specs.Phases.with_header}
-use Rattle.c104_switch.specs.{Starts.{start_input, start_output}, Switch.{Input, Switch}, declared.link_start.LinkStart.LinkStart}
-use Rattle.{c104_switch.specs.declared.phase.Phase.{Phase, TheVariants.Fresh}, std.proofs.Common.{All, List, [], ap, false, get_or, map}}
-use Rattle.std.proofs.{Common.{refl, true, ◌∷◌, ◌≡◌}, lemmas.List.Elements.{All-cons, All-head, All-map, All-nil, All-tail}}
+use Rattle.c104_node.specs.{Quiet.{IsQuietInput, IsQuietNode, IsQuietOutput}, Starts.start_node, declared.node.NodeOf.NodeOf}
+use Rattle.{c104_node.specs.declared.starts.NodeStart.NodeStart, c104_switch.specs.{Phases.with_header, Starts.{start_input, start_output}}}
+use Rattle.c104_switch.specs.{Switch.Input, declared.{link_start.LinkStart.LinkStart, phase.Phase.{Phase, TheVariants.Fresh}}}
+use Rattle.std.proofs.{Common.{All, List, [], ap, false, get_or, map, refl, true, ◌∷◌, ◌≡◌}, lemmas.List.Elements.{All-cons, All-head}}
+use Rattle.std.proofs.lemmas.List.Elements.{All-map, All-nil, All-tail}
 
 -- quiet without where tokens came from is quiet
 map_none : {X Y : Type 0} (f : X → Y) (xs : List X) → map f xs ≡ [] → xs ≡ []

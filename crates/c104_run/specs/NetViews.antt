@@ -1,8 +1,8 @@
 -- What can be seen of the nodes of a network, by their numbers in its plan.
 use Rattle.c104_node.specs.Views.{nodes_input_token, nodes_link_view, nodes_output_token, nodes_sent_packet, nodes_terminal_view}
-use Rattle.c104_node.specs.declared.{node.NodeOf.TheVariants.{Switch, Terminal}, terminal.views.TerminalView.TerminalView}
-use Rattle.{c104_plan.specs.declared.ports.Port.Port, c104_run.specs.Network.{Network, terminal_place}}
-use Rattle.{c104_switch.specs.declared.actions.LinkView.LinkView, c104_token.specs.{Kinds.Kind, declared.packets.Packet.Packet}}
+use Rattle.{c104_node.specs.declared.terminal.views.TerminalView.TerminalView, c104_plan.specs.declared.ports.Port.Port}
+use Rattle.{c104_run.specs.Network.{Network, terminal_place}, c104_switch.specs.declared.actions.LinkView.LinkView}
+use Rattle.c104_token.specs.{Kinds.Kind, declared.packets.Packet.Packet}
 use Rattle.std.specs.Prelude.{None, Option, if◌then◌else◌, length, nat_lt, ℕ}
 
 -- what is seen of a terminal of the network

@@ -6,7 +6,7 @@ ghost use Rattle.c104_run.specs.Network.{network_of};
 
 use crate::asked::acts_of;
 use crate::doing::do_acts;
-use crate::meter::{Meter, Unmetered, tell};
+use crate::meter::{Meter, tell};
 use crate::wires::Wires;
 use c104_event::{Event, EventFault};
 use c104_node::{Place, Stamp};
@@ -14,24 +14,7 @@ use c104_switch::{Reply, ReplyOf};
 use c104_token::TokenKind;
 
 /// Does an event at these places, which stand for the nodes of a network of this plan: the acts that it asks, or none.
-/// Its entries bear the stamp.
-// The kinds of events are told apart before their acts are asked, in arms that are alike: so the compiler knows in each
-// what is asked, which saves a control command some 70 instructions.
-#[inline(always)]
-pub fn happen<T: TokenKind, P: Place<T>>(
-    wires: &Wires,
-    places: &mut [P],
-    stamp: Stamp,
-    event: &Event,
-) -> Result<Reply, EventFault>
-    requires knows { KnowWires wires.now (bases (map P.shown places.old)) }
-    ensures done { EventDone T.kind P.keeps wires.now stamp event.now (map P.shown places.old) result (map P.shown places.new) }
-    ensures kept { IsPlan wires.now }
-{
-    happen_to(wires, places, stamp, event, &mut Unmetered)
-}
-
-/// The same, and tells a meter of the token that crosses or arrives.
+/// Its entries bear the stamp. A meter is told of the token that crosses or arrives.
 pub fn happen_to<T: TokenKind, P: Place<T>, M: Meter<T>>(
     wires: &Wires,
     places: &mut [P],

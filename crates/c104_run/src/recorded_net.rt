@@ -1,8 +1,8 @@
 //! A network whose nodes are seen with their records, over any kind of token and any kind of place.
 ghost use Rattle.std.specs.Prelude.{map, ◌≡◌};
-ghost use Rattle.{c104_node.specs.Places.bases, c104_run.specs.{KnownWires.KnowWires, MeteredRuns.MetersEvent, NetRecords.IsNetRecord}};
-ghost use Rattle.c104_run.specs.{NetRecords.RecordsEvent, RecordedNets.{IsRecordedNet, places_record, reading}, RecordedRuns.AnswersRecord};
-ghost use Rattle.c104_run.specs.RecordedRuns.{DoneLaw};
+ghost use Rattle.{c104_node.specs.Places.bases, c104_run.specs.{Engines.engine_record, KnownWires.KnowWires, MeteredRuns.MetersEvent}};
+ghost use Rattle.c104_run.specs.{NetRecords.{IsNetRecord, NetRecord, RecordsEvent}, RecordedNets.{IsRecordedNet, places_record, reading}};
+ghost use Rattle.c104_run.specs.RecordedRuns.{AnswersRecord, DoneLaw};
 
 mod asking;
 mod beginning;
@@ -61,6 +61,15 @@ impl<T: TokenKind, P: RecordedPlace<T>> RecordedNet<T, P> {
         ensures { result.now ≡ self.now.network.plan }
     {
         self.engine.wires()
+    }
+
+    /// The engine of the network. With it the network shows what it is in contracts, and what it keeps.
+    pub fn engine(&self) -> &Engine<T, P>
+        ensures shown { engine_record (reading T.kind P.shown P.plain P.begun_at) result.now ≡ self.now }
+        ensures kept { IsRecordedNet (reading T.kind P.shown P.plain P.begun_at)
+            result.now.plan result.now.places result.now.count }
+    {
+        &self.engine
     }
 
     /// The places of the nodes: the switches in order, and then the terminals. With them the network shows what it
