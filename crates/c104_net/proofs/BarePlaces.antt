@@ -26,10 +26,10 @@ module _ {A : Type 0} (nodes : List (Node A)) where
       by_acts (Some (Acts.Alone k a)) = none_full k
       by_acts (Some (Acts.Joint p q crossing)) = rw (none_full (port_place plan p), none_full (port_place plan q)) refl
 
--- bare nodes, which were lent as a list, show as they are
-pub as_they_are : {A : Type 0} (kind : Kind A) (plan : Plan) (stamp : Stamp) (nodes lent after : List (Node A)) (e : Event) (answer : Result Reply EventFault) → lent ≡ nodes →
-    EventDone kind false plan stamp e (map bare_shown lent) answer (map bare_shown after) → AnswersEvent kind (network_of plan nodes) e answer (network_of plan after)
-as_they_are kind plan stamp nodes lent after e answer same done =
-    subst (λ ns. AnswersEvent kind (network_of plan ns) e answer (network_of plan after)) (bare_states lent ∙ same)
-    (subst (λ ns. AnswersEvent kind (network_of plan (states (map bare_shown lent))) e answer (network_of plan ns)) (bare_states after)
-    (subst (λ full. AnswersWith kind full (network_of plan (states (map bare_shown lent))) e answer (network_of plan (states (map bare_shown after)))) (none_added lent plan e) done.answers))
+-- bare nodes show as they are
+pub as_they_are : {A : Type 0} (kind : Kind A) (plan : Plan) (stamp : Stamp) (nodes after : List (Node A)) (e : Event) (answer : Result Reply EventFault) → EventDone kind false plan stamp e (map bare_shown nodes) answer (map bare_shown after) →
+    AnswersEvent kind (network_of plan nodes) e answer (network_of plan after)
+as_they_are kind plan stamp nodes after e answer done =
+    subst (λ ns. AnswersEvent kind (network_of plan ns) e answer (network_of plan after)) (bare_states nodes)
+    (subst (λ ns. AnswersEvent kind (network_of plan (states (map bare_shown nodes))) e answer (network_of plan ns)) (bare_states after)
+    (subst (λ full. AnswersWith kind full (network_of plan (states (map bare_shown nodes))) e answer (network_of plan (states (map bare_shown after)))) (none_added nodes plan e) done.answers))

@@ -1,14 +1,13 @@
 -- The tokens that wait in a network of tagged tokens are what is kept of those at the end of its run.
 use Rattle.{c104_net.{proofs.TracedOrigins.tagged_end, specs.TracedEnds.traced_end}, c104_node.specs.MappedNodes.{map_input, map_node}}
-use Rattle.c104_node.specs.{MappedNodes.map_outgoing, Nodes.Node, Places.{Shown, states}, Tagged.tag, TracedRecords.TracedRecord}
-use Rattle.c104_node.specs.{TracedRecords.{counted_shown, traced_state}, Views.{node_input_token, node_output_token, nodes_input_token}}
-use Rattle.c104_node.specs.{Views.nodes_output_token, declared.{node.NodeOf.NodeOf, tagged.TaggedToken.TaggedToken}}
-use Rattle.{c104_plan.specs.{Plans.{IsPlan, Plan}, declared.ports.Port.Port}, c104_run.proofs.{FirstRecords.map_twice, TokenMaps.bind_both}}
-use Rattle.c104_run.{proofs.TokenMaps.if_map, specs.{FinishedRecords.record_finish, NetRecords.NetRecord, NetViews.network_input_token}}
+use Rattle.c104_node.specs.{MappedNodes.map_outgoing, Nodes.Node, Places.Shown, Tagged.tag, TracedRecords.{TracedRecord, counted_shown}}
+use Rattle.c104_node.specs.{Views.{node_input_token, node_output_token, nodes_input_token, nodes_output_token}, declared.node.NodeOf.NodeOf}
+use Rattle.{c104_node.specs.declared.tagged.TaggedToken.TaggedToken, c104_plan.specs.{Plans.IsPlan, declared.ports.Port.Port}}
+use Rattle.c104_run.{proofs.{FirstRecords.map_twice, TokenMaps.{bind_both, if_map}}, specs.Engines.{EngineView, engine_network}}
+use Rattle.c104_run.specs.{Engines.engine_record, FinishedRecords.record_finish, NetRecords.NetRecord, NetViews.network_input_token}
 use Rattle.c104_run.specs.{NetViews.network_output_token, Network.{Network, network_of, terminal_place}, RecordedNets.IsRecordedNet}
-use Rattle.{c104_run.specs.{RecordedNets.places_record, RecordedPlaces.counted_reading, TracedRuns.map_network}, std.proofs.Common.List}
-use Rattle.std.proofs.Common.{None, Option, ap, length, map, nat_lt, option_map, refl, slice_get, sym, ℕ, ◌∙◌, ◌≡◌}
-use Rattle.std.proofs.lemmas.Option.{slice_get-map}
+use Rattle.{c104_run.specs.{RecordedPlaces.counted_reading, TracedRuns.map_network}, std.proofs.Common.{List, None, Option, ap, length}}
+use Rattle.std.proofs.{Common.{map, nat_lt, option_map, refl, slice_get, sym, ℕ, ◌∙◌, ◌≡◌}, lemmas.Option.slice_get-map}
 
 -- where each token is mapped, each that waits is
 module _ {A B : Type 0} (f : A → B) where
@@ -31,16 +30,16 @@ module _ {A B : Type 0} (f : A → B) where
   network_output_map net s l k = if_map (option_map f) (nat_lt s (length net.plan.switches)) _ (nodes_output_token net.nodes s l k) None _ _ refl
       (bind_both (map_node f) f (slice_get net.nodes s) _ _ _ (slice_get-map (map_node f) net.nodes s) (output_map l k)) refl
 
-module _ (plan : Plan) (is_plan : IsPlan plan) (nodes lent : List TracedRecord) (count : ℕ) (is : IsRecordedNet counted_reading plan nodes count) (r : NetRecord) (lent_is : lent ≡ nodes) (shown : places_record counted_reading plan nodes count ≡ r) where
-  end_is : network_of plan (states (map counted_shown lent)) ≡ map_network tag (traced_end (record_finish r))
+-- an engine that shows a record
+module _ (e : EngineView TracedRecord) (is_plan : IsPlan e.plan) (is : IsRecordedNet counted_reading e.plan e.places e.count) (r : NetRecord) (shown : engine_record counted_reading e ≡ r) where
+  end_is : engine_network counted_shown e ≡ map_network tag (traced_end (record_finish r))
   end_is =
-      ap (network_of plan) (map_twice (λ (s : Shown TaggedToken). s.state) counted_shown lent)
-      ∙ ap (λ (ns : List TracedRecord). network_of plan (map traced_state ns)) lent_is
-      ∙ sym (tagged_end plan is_plan nodes count is)
+      ap (network_of e.plan) (map_twice (λ (s : Shown TaggedToken). s.state) counted_shown e.places)
+      ∙ sym (tagged_end e.plan is_plan e.places e.count is)
       ∙ ap (λ (r : NetRecord). map_network tag (traced_end (record_finish r))) shown
 
-  pub input_there : (p : Port) (k : ℕ) (o : Option TaggedToken) → o ≡ network_input_token (network_of plan (states (map counted_shown lent))) p k → o ≡ option_map tag (network_input_token (traced_end (record_finish r)) p k)
+  pub input_there : (p : Port) (k : ℕ) (o : Option TaggedToken) → o ≡ network_input_token (engine_network counted_shown e) p k → o ≡ option_map tag (network_input_token (traced_end (record_finish r)) p k)
   input_there p k o told = told ∙ ap (λ (n : Network TaggedToken). network_input_token n p k) end_is ∙ network_input_map tag (traced_end (record_finish r)) p k
 
-  pub output_there : (s l k : ℕ) (o : Option TaggedToken) → o ≡ network_output_token (network_of plan (states (map counted_shown lent))) s l k → o ≡ option_map tag (network_output_token (traced_end (record_finish r)) s l k)
+  pub output_there : (s l k : ℕ) (o : Option TaggedToken) → o ≡ network_output_token (engine_network counted_shown e) s l k → o ≡ option_map tag (network_output_token (traced_end (record_finish r)) s l k)
   output_there s l k o told = told ∙ ap (λ (n : Network TaggedToken). network_output_token n s l k) end_is ∙ network_output_map tag (traced_end (record_finish r)) s l k

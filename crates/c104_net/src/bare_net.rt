@@ -6,8 +6,8 @@ mod starts;
 
 use crate::bare_run::{RunOf, terminals_of};
 use c104_event::{Event, EventFault};
-use c104_node::{NodeOf, Stamp, TerminalOf};
-use c104_run::{Wires, happen};
+use c104_node::{NodeOf, TerminalOf};
+use c104_run::{Engine, Unmetered};
 use c104_switch::Reply;
 use c104_token::TokenKind;
 use std::marker::Model;
@@ -17,9 +17,7 @@ use std::marker::Model;
 /// Each event is done as a whole, or refused with nothing changed. A network can't be dropped, since
 /// its switches hold claims: `finish` retires them.
 pub struct NetOf<T: TokenKind> {
-    wires: Wires,
-    // The switches in order, and then the terminals.
-    places: Vec<NodeOf<T>>,
+    engine: Engine<T, NodeOf<T>>,
     // Room for the terminals at the end, so that `finish` takes no memory.
     room: Vec<TerminalOf<T>>,
 }
@@ -30,12 +28,12 @@ impl<T: TokenKind> Model for NetOf<T> {
 
     ghost Value = { Network T };
 
-    ghost view = { λ net. network_of net.wires net.places.items };
+    ghost view = { λ net. network_of net.engine.plan net.engine.places };
 
     ghost invariant = { λ net.
-        IsSteady (network_of net.wires net.places.items)
+        IsSteady (network_of net.engine.plan net.engine.places)
         × (net.room.items ≡ [])
-        × (length net.wires.terminals ≤ vec_capacity net.room) };
+        × (length net.engine.plan.terminals ≤ vec_capacity net.room) };
 }
 
 impl<T: TokenKind> NetOf<T> {
@@ -43,11 +41,8 @@ impl<T: TokenKind> NetOf<T> {
     pub fn finish(self) -> RunOf<T>
         ensures { result ≡ network_finish self }
     {
-        let NetOf {
-            wires,
-            places,
-            room,
-        } = self;
+        let NetOf { engine, room } = self;
+        let (wires, places, _) = engine.into_parts();
         let terminals = terminals_of(places, room);
         RunOf {
             plan: wires.into_plan(),
@@ -62,10 +57,6 @@ impl<T: TokenKind> NetOf<T> {
     pub fn apply(&mut self, event: &Event) -> Result<Reply, EventFault>
         ensures { AnswersEvent T.kind self.old event.now result self.new }
     {
-        let stamp = Stamp {
-            ticket: 0,
-            seat: None,
-        };
-        happen(&self.wires, self.places.as_mut_slice(), stamp, event)
+        self.engine.do_event(event, &mut Unmetered)
     }
 }

@@ -7,7 +7,7 @@ ghost use Rattle.c104_run.specs.{FinishedRecords.record_finish, NetRecords.NetRe
 use crate::run_origins::Origins;
 use c104_event::Port;
 use c104_node::{ArrivedOf, Origin, TaggedToken, tagged_origins};
-use c104_run::{TracedNet, input_token_at, output_token_at};
+use c104_run::TracedNet;
 use c104_token::NoMemory;
 use std::alloc::Global;
 
@@ -35,20 +35,20 @@ impl WaitingTokens for TracedNet {
     fn input_token(&self, port: Port, index: usize) -> Option<TaggedToken>
         ensures { result ≡ option_map tag (network_input_token (traced_end (record_finish self.now)) port index) }
     {
+        let engine = self.engine();
         // The proof reads here what every plan keeps.
-        let plan = self.plan();
-        let _switches = plan.switches();
-        input_token_at(self.wires(), self.places(), port, index)
+        let _plan = engine.plan();
+        engine.input_token(port, index)
     }
 
     fn output_token(&self, switch: usize, link: usize, index: usize) -> Option<TaggedToken>
         ensures { result ≡
             option_map tag (network_output_token (traced_end (record_finish self.now)) switch link index) }
     {
+        let engine = self.engine();
         // The proof reads here what every plan keeps.
-        let plan = self.plan();
-        let _switches = plan.switches();
-        output_token_at(self.wires(), self.places(), switch, link, index)
+        let _plan = engine.plan();
+        engine.output_token(switch, link, index)
     }
 }
 

@@ -5,7 +5,7 @@ ghost use Rattle.{c104_node.specs.Starts.start_node, c104_run.specs.{Balance.IsS
 use super::NetOf;
 use c104_node::{NodeOf, NodeStart, TerminalOf, add_starts};
 use c104_plan::Plan;
-use c104_run::Wires;
+use c104_run::{Engine, Wires};
 use c104_token::{NoMemory, TokenKind};
 use std::alloc::Global;
 
@@ -19,8 +19,7 @@ impl<T: TokenKind> NetOf<T> {
         let mut places = Vec::new(alloc);
         match add_starts(alloc, starts, &mut places) {
             Ok(()) => Ok(NetOf {
-                wires: frame.wires,
-                places,
+                engine: Engine::new(frame.wires, places),
                 room: frame.room,
             }),
             Err(error) => {

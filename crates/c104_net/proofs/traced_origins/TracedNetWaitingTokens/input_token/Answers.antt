@@ -1,7 +1,4 @@
-use Rattle.{c104_net.proofs.TracedTokens.input_there, c104_plan.specs.Plans.IsPlan, std.proofs.Common.{refl, subst}}
+use Rattle.c104_net.proofs.TracedTokens.{input_there}
 
 pub returns : Rattle.c104_net.proofs.traced_origins.TracedNetWaitingTokens.input_token.Goals.returns
-returns c =
-    let is_plan : IsPlan c.args.self.now.network.plan = subst IsPlan c.plan-plan.ensures c.switches-switches.ensures.kept in
-    input_there c.args.self.now.network.plan is_plan c.places.result.now c.places.result.now c.args.self.now.count c.places.ensures.kept c.args.self.now refl c.places.ensures.shown
-    c.args.port c.args.index c.input_token_at.result (rw c.wires.ensures at c.input_token_at.ensures)
+returns c = input_there c.engine-engine.result.now c.plan-plan.ensures.kept c.engine-engine.ensures.kept c.args.self.now c.engine-engine.ensures.shown c.args.port c.args.index c.input_token.result c.input_token.ensures
