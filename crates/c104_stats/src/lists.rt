@@ -1,6 +1,6 @@
 //! What is listed of a run: its packets, its links or its rounds, in the order of their table.
 //!
-//! An entry has each number of its row, so that whoever prints a list computes none.
+//! An entry has each number of its row, so that a printer computes none.
 ghost use Rattle.std.specs.Prelude.{◌≡◌, ◌++◌, IfOk, OnOk};
 ghost use Rattle.c104_stats.specs.Lists.{latency_of, link_if, link_listed, listed_links, listed_packets, listed_rounds, packet_listed};
 ghost use Rattle.c104_stats.specs.Lists.{packets_from, switch_links, terminal_links};
