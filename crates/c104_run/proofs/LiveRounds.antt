@@ -1,13 +1,17 @@
 -- Rounds over sets of places: what is passed over does nothing, and what an event may begin is in the set after it.
-use Rattle.{c104_event.specs.declared.events.Event.Event, c104_node.proofs.IdleNodes.{idle_by, unclaimed_there, unready_there}}
-use Rattle.c104_node.specs.{Idle.IsIdleNode, Nodes.Node, PortParts.part_act, Records.has_link, declared.acts.ActOf.ActOf}
+use Rattle.{c104_event.specs.declared.{events.Event.Event, faults.EventFault.EventFault}, c104_node.proofs.IdleNodes.idle_by}
+use Rattle.c104_node.{proofs.IdleNodes.{unclaimed_there, unready_there}, specs.{Acts.{node_act, nodes_act}, Idle.IsIdleNode, Nodes.Node}}
+use Rattle.c104_node.specs.{Nodes.node_claim, PlaceActs.ActsEnd, PortActs.near_act, PortParts.part_act, Records.has_link}
+use Rattle.c104_node.specs.declared.{acts.ActOf.ActOf, crossings.Crossing.{Crossing, TheVariants.{Grant, Token}}, node.NodeOf.NodeOf}
 use Rattle.{c104_node.specs.declared.port_part.PortPart.{PortPart, TheVariants.{Credit, Cross, Turn}}, c104_plan.specs.Plans.{IsPlan, Plan}}
-use Rattle.{c104_plan.specs.declared.ports.Port.Port, c104_run.proofs.IdleEvents.{idle_credit, idle_cross, idle_drain, idle_links}}
-use Rattle.c104_run.proofs.{IdleEvents.idle_outputs, PortWalks.{idle_link, idle_wired}, WiredPorts.has_wire}
-use Rattle.c104_run.specs.{KnownWires.is_linked_end, LivePlaces.{AreLive, IsIdlePlace, is_live}, Network.{Network, terminal_place}}
-use Rattle.c104_run.specs.{RoundParts.{AreIdle, input_walk, link_walk, output_walk, port_events, port_walk}, Rounds.is_wired}
-use Rattle.{c104_token.specs.Kinds.Kind, std.proofs.Common.{List, Some, [], ap, arith, false, inl, inr, length, nat_lt, slice_get, subst}}
-use Rattle.std.proofs.{Common.{sym, true, ℕ, ◌-◌, ◌<◌, ◌∙◌, ◌∷◌, ◌≡◌, ◌≢◌}, lemmas.Bool.{Decides.nat_tests, cases_eq}}
+use Rattle.{c104_plan.specs.{Wiring.IsPlanPort, declared.ports.Port.Port}, c104_run.proofs.IdleEvents.{idle_credit, idle_cross, idle_drain}}
+use Rattle.c104_run.proofs.{IdleEvents.{idle_links, idle_outputs, port_inside}, PortWalks.{idle_link, idle_wired}, WiredPorts.has_wire}
+use Rattle.c104_run.{proofs.WiredPorts.wire_there, specs.{EventActs.port_place, KnownWires.is_linked_end, LivePlaces.AreLive}}
+use Rattle.c104_run.specs.{LivePlaces.{IsIdlePlace, IsOfRound, is_live}, Network.{Network, terminal_place, wired_fault}, RoundParts.AreIdle}
+use Rattle.c104_run.specs.{RoundParts.{input_walk, link_walk, output_walk, port_events, port_walk}, Rounds.is_wired}
+use Rattle.{c104_switch.specs.declared.actions.{ActionOf.ActionOf, ReplyOf.ReplyOf}, c104_token.specs.Kinds.Kind, std.proofs.Common.Bool}
+use Rattle.std.proofs.Common.{Err, List, None, Ok, Option, Result, Some, [], ap, arith, false, inl, inr, is_some, length, nat_lt, refl}
+use Rattle.std.proofs.{Common.{slice_get, subst, sym, true, ℕ, ◌-◌, ◌<◌, ◌∙◌, ◌∷◌, ◌≡◌, ◌≢◌}, lemmas.Bool.{Decides.nat_tests, cases_eq}}
 
 module _ {A : Type 0} (kind : Kind A) (plan : Plan) where
   -- where all places are in the set, nothing is said of any node
@@ -27,17 +31,24 @@ module _ {A : Type 0} (kind : Kind A) (plan : Plan) where
       let other : j ≢ place = (λ same. absurd (let both : true ≡ false = sym here ∙ ap (is_live more) (sym same) ∙ none in cc)) in
       (other, sym (others j other) ∙ none)
 
-  -- an act at a place that was put into the set
-  pub live_alone : (blocks more : List ℕ) (olds news : List (Node A)) (k : ℕ) → is_live more k ≡ true → ((j : ℕ) → j ≢ k → is_live more j ≡ is_live blocks j) → ((j : ℕ) → j ≢ k → slice_get news j ≡ slice_get olds j) → AreLive kind plan blocks olds → AreLive kind plan more news
-  live_alone blocks more olds news k here others stays live =
-      live_on blocks more olds news live (λ j none. let new = added blocks more k here others j none in (new.1, stays j new.0))
+  -- an act at a place, where nothing changes unless the place is in the set
+  pub live_alone : (blocks : List ℕ) (olds news : List (Node A)) (k : ℕ) → ((j : ℕ) → j ≢ k → slice_get news j ≡ slice_get olds j) → (is_live blocks k ≡ false → news ≡ olds) → AreLive kind plan blocks olds → AreLive kind plan blocks news
+  live_alone blocks olds news k stays idle live =
+      live_on blocks blocks olds news live
+      (λ j none. (
+        none,
+        elim (cases_eq j k) [
+          | inl same ↦ ap (λ ns. slice_get ns j) (idle (subst (λ i. is_live blocks i ≡ false) same none))
+          | inr other ↦ stays j other
+        ],
+      ))
 
-  -- acts at two places that were put into it, one after the other
-  pub live_joint : (blocks mid more : List ℕ) (olds news : List (Node A)) (near far : ℕ) → is_live mid near ≡ true → ((k : ℕ) → k ≢ near → is_live mid k ≡ is_live blocks k) → is_live more far ≡ true → ((k : ℕ) → k ≢ far → is_live more k ≡ is_live mid k) →
+  -- acts at two places, of which the first is in the set and the other was put into it
+  pub live_joint : (blocks more : List ℕ) (olds news : List (Node A)) (near far : ℕ) → is_live blocks near ≡ true → is_live more far ≡ true → ((k : ℕ) → k ≢ far → is_live more k ≡ is_live blocks k) →
       ((j : ℕ) → j ≢ near → j ≢ far → slice_get news j ≡ slice_get olds j) → AreLive kind plan blocks olds → AreLive kind plan more news
-  live_joint blocks mid more olds news near far here others there later stays live =
+  live_joint blocks more olds news near far from here others stays live =
       live_on blocks more olds news live
-      (λ j none. let last = added mid more far there later j none in let first = added blocks mid near here others j last.1 in (first.1, stays j first.0 last.0))
+      (λ j none. let new = added blocks more far here others j none in (new.1, stays j (λ same. absurd (let both : true ≡ false = sym from ∙ ap (is_live blocks) (sym same) ∙ new.1 in cc)) new.0))
 
   -- a place is taken out at which nothing can begin
   pub live_less : (blocks less : List ℕ) (nodes : List (Node A)) (place links : ℕ) → ((k : ℕ) → k ≢ place → is_live less k ≡ is_live blocks k) → ((n : Node A) → slice_get nodes place ≡ Some n → IsIdleNode kind (has_link links) n) →
@@ -85,3 +96,62 @@ module _ {A : Type 0} (kind : Kind A) (net : Network A) where
     pub idle_arrival : AreIdle kind net (Event.Drain t ∷ [])
     idle_arrival = idle_drain kind net t inside
         (unready_there kind net.nodes (terminal_place net.plan t) (terminal_place net.plan t - length net.plan.switches) ActOf.Drain (λ n here. (passed.idle n here).drains (terminal_place net.plan t - length net.plan.switches)))
+
+-- what the nodes at places that are in no set aren't ready for
+module _ {A : Type 0} (kind : Kind A) (plan : Plan) (blocks : List ℕ) (nodes : List (Node A)) (live : AreLive kind plan blocks nodes) where
+  -- what would cross from there
+  unready_near : (p : Port) (crossing : Crossing) → IsPlanPort plan p → is_wired plan p ≡ true → IsIdlePlace kind plan nodes (port_place plan p) → is_some (nodes_act kind nodes (port_place plan p) 0 (near_act crossing p)) ≡ false
+  unready_near (Port.Switch s l) crossing inside is passed = by_crossing crossing
+    where
+      linked : is_linked_end plan s l ≡ true
+      linked = let below : s < length plan.switches = inside.0 in let here : nat_lt s (length plan.switches) ≡ true = grind (arith, nat_tests) in rw here is
+
+      by_crossing : (crossing : Crossing) → is_some (nodes_act kind nodes s 0 (near_act crossing (Port.Switch s l))) ≡ false
+      by_crossing Token = unready_there kind nodes s 0 (part_act Cross l) (λ n here. (passed.idle n here).links Cross l linked)
+      by_crossing Grant = unready_there kind nodes s 0 (part_act Credit l) (λ n here. (passed.idle n here).links Credit l linked)
+  unready_near (Port.Terminal t) Token inside is passed = unready_there kind nodes (terminal_place plan t) 0 ActOf.Leave (λ n here. (passed.idle n here).leaves)
+  unready_near (Port.Terminal t) Grant inside is passed = unready_there kind nodes (terminal_place plan t) 0 ActOf.CreditOut (λ n here. (passed.idle n here).grants)
+
+  -- so where it is ready its place is in the set
+  pub ready_live : (p : Port) (crossing : Crossing) → wired_fault plan p ≡ None → is_some (nodes_act kind nodes (port_place plan p) 0 (near_act crossing p)) ≡ true → is_live blocks (port_place plan p) ≡ true
+  ready_live p crossing possible ready = by_set (is_live blocks (port_place plan p)) refl
+    where
+      by_set : (b : Bool) → is_live blocks (port_place plan p) ≡ b → is_live blocks (port_place plan p) ≡ true
+      by_set true is = is
+      by_set false is =
+          absurd (let both : true ≡ false = sym ready ∙ unready_near p crossing (port_inside plan p possible) (wire_there plan p possible) (live.idle (port_place plan p) is) in cc)
+
+  -- an act of a round; then nothing changes
+  pub idle_stays : (k : ℕ) (a : ActOf A) → IsOfRound kind plan k a → (limit : Option EventFault) (full : Bool) (answer : Result (ReplyOf A) EventFault) (after : List (Node A)) → ActsEnd limit (nodes_act kind nodes k (k - length plan.switches) a) full nodes answer after →
+      is_live blocks k ≡ false → after ≡ nodes
+  idle_stays k a begins limit full answer after ends none =
+      by_made (nodes_act kind nodes k (k - length plan.switches) a) answer (unready_there kind nodes k (k - length plan.switches) a (λ n here. begins n ((live.idle k none).idle n here))) ends
+    where
+      by_made : (made : Option (ReplyOf A × List (Node A))) (answer : Result (ReplyOf A) EventFault) → is_some made ≡ false → ActsEnd limit made full nodes answer after → after ≡ nodes
+      by_made None (Ok told) unready ends = ap (λ (z : ReplyOf A × List (Node A)). z.1) ends.0
+      by_made None (Err f) unready ends = ends.2
+      by_made (Some r) answer unready ends = absurd (cc unready)
+
+-- the turns, claims and arrivals of a round
+module _ {A : Type 0} (kind : Kind A) (plan : Plan) where
+  pub turn_begins : (s l : ℕ) → wired_fault plan (Port.Switch s l) ≡ None → IsOfRound {A = A} kind plan s (ActOf.Step (ActionOf.Input l 0))
+  turn_begins s l possible n idle = by_node n (idle.links Turn l linked)
+    where
+      linked : is_linked_end plan s l ≡ true
+      linked =
+          let below : s < length plan.switches = (port_inside plan (Port.Switch s l) possible).0 in
+          let here : nat_lt s (length plan.switches) ≡ true = grind (arith, nat_tests) in rw here (wire_there plan (Port.Switch s l) possible)
+
+      by_node : (n : Node A) → is_some (node_act kind 0 (part_act Turn l) n) ≡ false → is_some (node_act kind (s - length plan.switches) (ActOf.Step (ActionOf.Input l 0)) n) ≡ false
+      by_node (NodeOf.Switch here) is = is
+      by_node (NodeOf.Terminal here) is = refl
+
+  pub claim_begins : (s i o : ℕ) → i < 32 → IsOfRound {A = A} kind plan s (ActOf.Step (ActionOf.Claim i o))
+  claim_begins s i o input n idle = by_node n (idle.claims i o input)
+    where
+      by_node : (n : Node A) → node_claim i o n ≡ None → is_some (node_act kind (s - length plan.switches) (ActOf.Step (ActionOf.Claim i o)) n) ≡ false
+      by_node (NodeOf.Switch here) is = rw is refl
+      by_node (NodeOf.Terminal here) is = refl
+
+  pub drain_begins : (k : ℕ) → IsOfRound {A = A} kind plan k ActOf.Drain
+  drain_begins k n idle = idle.drains (k - length plan.switches)

@@ -1,9 +1,10 @@
 -- The wired ports of a plan: they have wires, and the sets of links have those of the switches.
 use Rattle.{c104_crossbar.specs.Groups.has_bit, c104_plan.{proofs.Wires.wiring, specs.{Plans.{IsPlan, Plan}, Wiring.peer}}}
-use Rattle.{c104_plan.specs.declared.ports.Port.Port, c104_run.{proofs.IdleEvents.wired_inside, specs.LinkedSets.AreLinked}}
-use Rattle.{c104_run.specs.{Network.wired_fault, Rounds.is_wired}, std.proofs.Common.{List, None, Option, Some, [], ap, arith, get_or, inl}}
-use Rattle.std.proofs.{Common.{inr, is_some, length, refl, subst, sym, true, ℕ, ◌++◌, ◌+◌, ◌-◌, ◌<◌, ◌∙◌, ◌∷◌, ◌≡◌}, lemmas.Bool.cases_eq}
-use Rattle.std.{proofs.lemmas.List.{get_or-append_right, get_or_append_left, length-append}, specs.Option.option_map}
+use Rattle.{c104_plan.specs.declared.ports.Port.Port, c104_run.proofs.{IdleEvents.wired_inside, NoFaults.{past_link, past_node}}}
+use Rattle.c104_run.specs.{LinkedSets.AreLinked, Network.{link_fault, port_fault, wire_fault, wired_fault}, Rounds.is_wired}
+use Rattle.std.proofs.Common.{List, None, Option, Some, [], ap, arith, get_or, inl, inr, is_some, length, refl, subst, sym, true, ℕ, ◌++◌}
+use Rattle.std.proofs.{Common.{◌+◌, ◌-◌, ◌<◌, ◌∙◌, ◌∷◌, ◌≡◌}, lemmas.{Bool.cases_eq, List.{get_or-append_right, get_or_append_left}}}
+use Rattle.std.{proofs.lemmas.List.length-append, specs.Option.option_map}
 
 module _ (plan : Plan) (is_plan : IsPlan plan) where
   pub has_wire : (p : Port) → is_wired plan p ≡ true → wired_fault plan p ≡ None
@@ -12,6 +13,18 @@ module _ (plan : Plan) (is_plan : IsPlan plan) where
       by_peer : (other : Option Port) → peer plan p ≡ other → is_some other ≡ true → wired_fault plan p ≡ None
       by_peer None is wired = absurd (cc wired)
       by_peer (Some q) is wired = wired_inside plan p q ((wiring plan is_plan).inside p q is) is
+
+-- and what can happen at a port is at one that has a wire
+pub wire_there : (plan : Plan) (p : Port) → wired_fault plan p ≡ None → is_wired plan p ≡ true
+wire_there plan p possible = by_peer (peer plan p) refl
+  where
+    past_port : (p : Port) (other : Option Port) → port_fault plan p (wire_fault other) ≡ None → wire_fault other ≡ None
+    past_port (Port.Switch s l) other is = past_link (wire_fault other) l (past_node (link_fault l (wire_fault other)) (length plan.switches) s is)
+    past_port (Port.Terminal t) other is = past_node (wire_fault other) (length plan.terminals) t is
+
+    by_peer : (other : Option Port) → peer plan p ≡ other → is_wired plan p ≡ true
+    by_peer None is = let fault : wire_fault None ≡ None = past_port p None (subst (λ o. port_fault plan p (wire_fault o) ≡ None) is possible) in absurd (cc fault)
+    by_peer (Some q) is = rw is refl
 
 pub some_mapped : {X Y : Type 0} (f : X → Y) (o : Option X) → is_some (option_map f o) ≡ is_some o
 some_mapped f None = refl

@@ -1,7 +1,8 @@
 -- The places of a network's nodes at which something of a round may begin.
-use Rattle.{c104_crossbar.specs.Groups.has_bit, c104_node.specs.{Idle.IsIdleNode, Nodes.Node}, c104_plan.specs.Plans.{IsPlan, Plan}}
-use Rattle.{c104_regs.specs.declared.registers.TheConstants.LINKS, c104_run.specs.KnownWires.is_linked_end, c104_token.specs.Kinds.Kind}
-use Rattle.std.specs.Prelude.{Bool, List, Some, false, nat_le, slice_get, slice_index_or, ℕ, ◌%◌, ◌/◌, ◌||◌, ◌≡◌}
+use Rattle.{c104_crossbar.specs.Groups.has_bit, c104_node.specs.{Acts.node_act, Idle.IsIdleNode, Nodes.Node, declared.acts.ActOf.ActOf}}
+use Rattle.{c104_plan.specs.Plans.{IsPlan, Plan}, c104_regs.specs.declared.registers.TheConstants.LINKS}
+use Rattle.{c104_run.specs.KnownWires.is_linked_end, c104_token.specs.Kinds.Kind}
+use Rattle.std.specs.Prelude.{Bool, List, Some, false, is_some, length, nat_le, slice_get, slice_index_or, ℕ, ◌%◌, ◌-◌, ◌/◌, ◌||◌, ◌≡◌}
 
 -- how many places are told apart
 abbrev pub told_places : ℕ
@@ -20,3 +21,8 @@ pub record IsIdlePlace {A : Type 0} (kind : Kind A) (plan : Plan) (nodes : List 
 pub record AreLive {A : Type 0} (kind : Kind A) (plan : Plan) (blocks : List ℕ) (nodes : List (Node A)) : Type 0 where
   pub planned : IsPlan plan
   pub idle : (k : ℕ) → is_live blocks k ≡ false → IsIdlePlace kind plan nodes k
+
+-- an act at a place is of a round: no node there at which nothing of a round can begin is ready for it
+abbrev pub IsOfRound : {A : Type 0} → Kind A → Plan → ℕ → ActOf A → Type 0
+IsOfRound {A} kind plan k a =
+    (n : Node A) → IsIdleNode kind (is_linked_end plan k) n → is_some (node_act kind (k - length plan.switches) a n) ≡ false

@@ -5,9 +5,9 @@ ghost use Rattle.std.specs.Prelude.{None, Some, [], is_some, length, map, true, 
 ghost use Rattle.{c104_event.specs.declared.events.Event.Event as TheEvent, c104_node.specs.{ActLinks.act_link, Acts.IsWithinLimits}};
 ghost use Rattle.c104_node.specs.{Acts.nodes_act, PlaceActs.AloneDone, Places.states, PortActs.{Acts, near_act}, Traces.seatless};
 ghost use Rattle.{c104_regs.specs.declared.registers.TheConstants.LINKS, c104_run.specs.Engines.{DoesPart, engine_of}};
-ghost use Rattle.c104_run.specs.{EventActs.{crossing_event, event_acts, port_place}, EventsAtPlaces.told_answer, Meters.meter_after};
-ghost use Rattle.c104_run.specs.{NetRecords.{is_done, ticket_after}, Network.{event_fault, wired_fault}, RoundParts.done_answer};
-ghost use Rattle.c104_switch.specs.declared.actions.ReplyOf.{ReplyOf as TheReply};
+ghost use Rattle.c104_run.specs.{EventActs.{crossing_event, event_acts, port_place}, EventsAtPlaces.told_answer, LivePlaces.IsOfRound};
+ghost use Rattle.c104_run.specs.{Meters.meter_after, NetRecords.{is_done, ticket_after}, Network.{event_fault, wired_fault}};
+ghost use Rattle.{c104_run.specs.RoundParts.done_answer, c104_switch.specs.declared.actions.ReplyOf.ReplyOf as TheReply};
 ghost use Rattle.c104_event.specs.declared.events.Event.TheVariants as event;
 ghost use Rattle.c104_plan.specs.declared.ports.Port.TheVariants as port;
 
@@ -22,8 +22,8 @@ use c104_token::TokenKind;
 
 impl<T: TokenKind, P: Place<T>> Engine<T, P> {
     /// Tries a crossing from a port that is wired and ready, and tells whether it was done. Its ticket is the count of the
-    /// events before it. What it may begin at either end is among the live places after it. A meter is told of a token
-    /// that crosses.
+    /// events before it. What it may begin at either end is among the live places after it: the near end is one before,
+    /// since it is ready. A meter is told of a token that crosses.
     #[inline(always)]
     pub(crate) fn attempt_joint<M: Meter<T>>(
         &mut self,
@@ -47,7 +47,6 @@ impl<T: TokenKind, P: Place<T>> Engine<T, P> {
             ticket: self.count,
             seat: None,
         };
-        self.live.add(ends.near.node);
         self.live.add(ends.far.node);
         let places = self.places.as_mut_slice();
         let answer = joint_from(places, ends.near.node, ends.far.node, joint, stamp);
@@ -115,6 +114,7 @@ impl<T: TokenKind, P: Place<T>> Engine<T, P> {
     ) -> Result<bool, EventFault>
         requires short { IsWithinLimits act }
         requires lone { act_link act ≡ None }
+        requires begins { IsOfRound T.kind self.old.plan place act }
         ensures { (e : TheEvent) → event_fault self.old.plan e ≡ None →
             event_acts self.old.plan e ≡ Some (Acts.Alone place act) →
             ((reply : TheReply T) → meter_after M.sees _meter.now e reply ≡ _meter.now) →
@@ -124,17 +124,18 @@ impl<T: TokenKind, P: Place<T>> Engine<T, P> {
         self.counted(answer)
     }
 
-    /// The node at a place does an act, as the event of the next ticket. Something may begin there.
+    /// The node at a place does an act of a round, as the event of the next ticket. Where it is ready the place is a live
+    /// one, and where it isn't nothing changes.
     #[inline(always)]
     fn do_next(&mut self, place: usize, act: ActOf<T>) -> Result<ReplyOf<T>, EventFault>
         requires short { IsWithinLimits act }
         requires lone { act_link act ≡ None }
+        requires begins { IsOfRound T.kind self.old.plan place act }
         ensures plan { self.new.plan ≡ self.old.plan }
         ensures count { self.new.count ≡ self.old.count }
         ensures done { AloneDone T.kind P.keeps place (place - length self.old.plan.switches) (seatless self.old.count) act
             (map P.shown self.old.places) result (map P.shown self.new.places) }
     {
-        self.live.add(place);
         let switches = self.wires.switch_count();
         let stamp = Stamp {
             ticket: self.count,

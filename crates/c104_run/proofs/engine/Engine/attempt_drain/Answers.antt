@@ -1,6 +1,6 @@
 use Rattle.{c104_event.specs.declared.events.Event.Event, c104_node.specs.{PortActs.Acts, declared.acts.ActOf.ActOf}}
-use Rattle.c104_run.{proofs.ActAttempts.{alone_tried, drain_possible}, specs.{EventsAtPlaces.told_answer, NetRecords.is_done}}
-use Rattle.{c104_run.specs.NetRecords.ticket_after, std.proofs.Common.{Option, Some, ap, sym, ℕ}}
+use Rattle.c104_run.{proofs.{ActAttempts.{alone_tried, drain_possible}, LiveRounds.drain_begins}, specs.EventsAtPlaces.told_answer}
+use Rattle.{c104_run.specs.NetRecords.{is_done, ticket_after}, std.proofs.Common.{Option, Some, ap, sym, ℕ}}
 
 pub returns : Rattle.c104_run.proofs.engine.Engine.attempt_drain.Goals.returns
 returns g c =
@@ -12,3 +12,6 @@ returns g c =
           (alone_tried g.T.TokenKind.kind g.P.Place.keeps g.M.Meter.sees g.P.Place.shown g.met.P.Place.limited c.args.self.now.plan c.args.self.now.places c.do_next-answer.new.self.places c.args.self.now.count (ticket_after c.do_next-answer.new.self.count (is_done (told_answer g.T.TokenKind.kind c.do_next-answer.result))) c.args.meter.now c.tell_arrived.new.meter c.do_next-answer.result (ap (λ n. ticket_after n (is_done (told_answer g.T.TokenKind.kind c.do_next-answer.result))) c.do_next-answer.ensures.count)
           (Event.Drain c.args.terminal) c.tell_arrived.ensures (drain_possible c.args.self.now.plan c.args.terminal c.requires) c.terminal_place-place.result ActOf.Drain (ap drain (sym c.terminal_place-place.ensures)) c.do_next-answer.ensures.done);
     })
+
+pub do_next-answer-requires-clause-begins : Rattle.c104_run.proofs.engine.Engine.attempt_drain.Goals.do_next-answer-requires-clause-begins
+do_next-answer-requires-clause-begins g c = drain_begins g.T.TokenKind.kind c.args.self.now.plan c.terminal_place-place.result

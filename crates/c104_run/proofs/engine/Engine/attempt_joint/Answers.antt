@@ -1,16 +1,23 @@
-use Rattle.{c104_node.{proofs.IdleNodes.joint_stays, specs.Places.states}, c104_run.proofs.{ActAttempts.joint_tried, Engines.acted_kept}}
-use Rattle.c104_run.{proofs.{Engines.put_back, LiveRounds.live_joint}, specs.{Engines.EngineView, EventActs.crossing_event}}
-use Rattle.c104_run.specs.{EventsAtPlaces.told_answer, Meters.{metered_apply, metered_of}, NetRecords.{is_done, ticket_after}}
-use Rattle.{c104_run.specs.{Network.wired_fault, RoundParts.{PartEnds, done_answer}}, std.proofs.Common.{List, None, [], map, refl, subst}}
-use Rattle.std.{proofs.{Common.{sym, ◌∙◌, ◌∷◌, ◌≡◌}, lemmas.List.with_items_is}, specs.Vec.with_items}
+use Rattle.c104_node.{proofs.IdleNodes.joint_stays, specs.{Acts.nodes_act, Places.states, PortActs.near_act, declared.ends.End.End}}
+use Rattle.c104_run.proofs.{ActAttempts.joint_tried, Engines.{acted_kept, put_back}, LiveRounds.{live_joint, ready_live}}
+use Rattle.c104_run.specs.{Engines.{EngineView, engine_of}, EventActs.{crossing_event, port_place}, EventsAtPlaces.told_answer}
+use Rattle.c104_run.specs.{LivePlaces.is_live, Meters.{metered_apply, metered_of}, NetRecords.{is_done, ticket_after}, Network.wired_fault}
+use Rattle.{c104_run.specs.RoundParts.{PartEnds, done_answer}, std.proofs.Common.{List, None, [], ap, is_some, map, refl, subst, sym, true}}
+use Rattle.std.{proofs.{Common.{◌∙◌, ◌∷◌, ◌≡◌}, lemmas.List.with_items_is}, specs.Vec.with_items}
 use Rattle.c104_run.proofs.engine.Engine.attempt_joint.Goals as goal
 
 pub invariant_of-self : goal.invariant_of-self
 invariant_of-self g c =
     let put_is = with_items_is c.self.inside.places c.joint_from-answer.new.places (c.joint_from-answer.auto.places ∙ c.as_mut_slice-places.ensures.len) in
-    acted_kept g.T.TokenKind.kind g.P.Place.shown c.self.inside.wires c.self.inside.places.items c.as_mut_slice-places.result.now c.joint_from-answer.new.places (with_items c.self.inside.places c.joint_from-answer.new.places).items c.as_mut_slice-places.ensures.value put_is c.self.inside.live c.add-2.new.self c.self.inside.count c.self.inside.count c.joint_from-answer.ensures.base
-    (λ was. live_joint g.T.TokenKind.kind c.self.inside.wires c.self.inside.live c.add.new.self c.add-2.new.self (states (map g.P.Place.shown c.as_mut_slice-places.result.now)) (states (map g.P.Place.shown c.joint_from-answer.new.places)) c.wired_ends-ends.result.near.node c.wired_ends-ends.result.far.node
-    c.add.ensures.here c.add.ensures.others c.add-2.ensures.here c.add-2.ensures.others
+    let wired : wired_fault c.self.inside.wires c.args.port ≡ None = subst (λ (e : EngineView g.row.P.Denot). wired_fault e.plan c.args.port ≡ None) (sym c.self.view_is) c.requires.wired in
+    let goes : (ps : List g.row.P.Denot) → ps ≡ c.self.inside.places.items → is_some (nodes_act g.T.TokenKind.kind (states (map g.P.Place.shown ps)) (port_place c.self.inside.wires c.args.port) 0 (near_act c.args.crossing c.args.port)) ≡ true = λ ps same.
+    subst (λ (e : EngineView g.row.P.Denot). is_some (nodes_act g.T.TokenKind.kind (states (map g.P.Place.shown e.places)) (port_place e.plan c.args.port) 0 (near_act c.args.crossing c.args.port)) ≡ true) (ap (λ qs. engine_of c.self.inside.wires qs c.self.inside.count) (sym same))
+    (subst (λ (e : EngineView g.row.P.Denot). is_some (nodes_act g.T.TokenKind.kind (states (map g.P.Place.shown e.places)) (port_place e.plan c.args.port) 0 (near_act c.args.crossing c.args.port)) ≡ true) (sym c.self.view_is) c.requires.goes) in
+    acted_kept g.T.TokenKind.kind g.P.Place.shown c.self.inside.wires c.self.inside.places.items c.as_mut_slice-places.result.now c.joint_from-answer.new.places (with_items c.self.inside.places c.joint_from-answer.new.places).items c.as_mut_slice-places.ensures.value put_is c.self.inside.live c.add.new.self c.self.inside.count c.self.inside.count c.joint_from-answer.ensures.base
+    (λ was. live_joint g.T.TokenKind.kind c.self.inside.wires c.self.inside.live c.add.new.self (states (map g.P.Place.shown c.as_mut_slice-places.result.now)) (states (map g.P.Place.shown c.joint_from-answer.new.places)) c.wired_ends-ends.result.near.node c.wired_ends-ends.result.far.node
+    (subst (λ (end : End). is_live c.self.inside.live end.node ≡ true) (sym c.wired_ends-ends.ensures.near)
+    (ready_live g.T.TokenKind.kind c.self.inside.wires c.self.inside.live (states (map g.P.Place.shown c.as_mut_slice-places.result.now)) was c.args.port c.args.crossing wired (goes c.as_mut_slice-places.result.now c.as_mut_slice-places.ensures.value)))
+    c.add.ensures.here c.add.ensures.others
     (λ j from to. joint_stays g.T.TokenKind.kind g.P.Place.keeps _ _ _ c.joint_from-answer.result j _ _ _ c.joint_from-answer.ensures from to) was) c.self.invariant
 
 pub returns : goal.returns
