@@ -1,18 +1,17 @@
 -- Where each node runs its part of what entries that lead tell, in whatever order they stand, the network runs their
 -- events.
-use Rattle.c104_audit.proofs.{EntryEvents.{LeadsAlone, LeadsJoint, crossing_event, lead_cases, plan_event}, Matching.AreLeading}
-use Rattle.c104_audit.{proofs.Matching.{StandsBefore, all_deeds, lead_deeds}, specs.Leads.Lead}
-use Rattle.{c104_event.specs.declared.events.Event.Event, c104_link.specs.Steps.◌>>=◌, c104_node.proofs.BegunRecords.run_kind}
-use Rattle.c104_node.{proofs.{JointEnds.near_answers, ReadyActs.act_ready}, specs.{Acts.{IsWithinLimits, node_act}, Nodes.Node}}
-use Rattle.c104_node.specs.{Nodes.is_switch, PortActs.{Acts, IsAnswerOf, far_act}, Records.MayAct, Traces.{entry_of, part}}
-use Rattle.c104_node.specs.declared.{acts.{ActOf.ActOf, Entry.Entry}, crossings.Crossing.{Crossing, TheVariants.Grant}}
-use Rattle.c104_node.specs.declared.{crossings.Crossing.TheVariants.Token as TokenCrossing, stamps.Stamp.Stamp}
-use Rattle.{c104_plan.specs.{Plans.Plan, Wiring.peer, declared.ports.Port.Port}, c104_run.specs.EventActs.{event_acts, port_place}}
-use Rattle.c104_run.specs.{EventDeeds.{acts_deeds, event_deeds}, EventPlaces.event_place, Runs.{AreBehind, AreInOrder, IsBefore, run_deeds}}
-use Rattle.{c104_switch.specs.{Actions.{Reply, is_ready}, declared.actions.ReplyOf.ReplyOf}, c104_token.specs.Kinds.plain_kind}
-use Rattle.{c104_token.specs.declared.tokens.Token.Token, std.proofs.Common.{List, None, Option, Some, [], ap, arith, inl, inr, is_some}}
-use Rattle.std.proofs.Common.{map, refl, slice_get, subst, suc, sym, true, unwrap_or, ℕ, ◌++◌, ◌+◌, ◌∙◌, ◌∷◌, ◌≡◌, ◌⊎◌}
-use Rattle.std.specs.List.{AllByRecursion}
+use Rattle.c104_audit.proofs.{EntryEvents.{LeadsAlone, LeadsJoint, lead_cases, plan_event}, Matching.{AreLeading, StandsBefore, all_deeds}}
+use Rattle.{c104_audit.{proofs.Matching.lead_deeds, specs.Leads.Lead}, c104_event.specs.declared.events.Event.Event}
+use Rattle.{c104_link.specs.Steps.◌>>=◌, c104_node.proofs.{BegunRecords.run_kind, JointEnds.near_answers, ReadyActs.act_ready}}
+use Rattle.c104_node.specs.{Acts.{IsWithinLimits, node_act}, Nodes.{Node, is_switch}, PortActs.{Acts, IsAnswerOf, far_act}, Records.MayAct}
+use Rattle.c104_node.specs.{Traces.{entry_of, part}, declared.{acts.{ActOf.ActOf, Entry.Entry}, crossings.Crossing.Crossing}}
+use Rattle.c104_node.specs.declared.{crossings.Crossing.TheVariants.{Grant, Token as TokenCrossing}, stamps.Stamp.Stamp}
+use Rattle.{c104_plan.specs.{Plans.Plan, Wiring.peer, declared.ports.Port.Port}, c104_run.specs.EventActs.{crossing_event, event_acts}}
+use Rattle.c104_run.specs.{EventActs.port_place, EventDeeds.{acts_deeds, event_deeds}, EventPlaces.event_place, Runs.AreBehind}
+use Rattle.{c104_run.specs.Runs.{AreInOrder, IsBefore, run_deeds}, c104_switch.specs.Actions.{Reply, is_ready}}
+use Rattle.{c104_switch.specs.declared.actions.ReplyOf.ReplyOf, c104_token.specs.{Kinds.plain_kind, declared.tokens.Token.Token}}
+use Rattle.std.proofs.Common.{List, None, Option, Some, [], ap, arith, inl, inr, is_some, map, refl, slice_get, subst, suc, sym, true}
+use Rattle.std.{proofs.Common.{unwrap_or, ℕ, ◌++◌, ◌+◌, ◌∙◌, ◌∷◌, ◌≡◌, ◌⊎◌}, specs.List.AllByRecursion}
 
 -- the stamp of an entry
 abbrev pub stamp_of : Entry → Stamp

@@ -3,12 +3,12 @@ use Rattle.c104_audit.{proofs.{KeptElements.given_here, MergedLists.leaders}, sp
 use Rattle.c104_audit.specs.{Audits.{is_link_wired, is_of_kind, led_by, led_call, led_event, lists_leads, told_reply}, Calls.call_of}
 use Rattle.c104_audit.specs.{Leads.{Lead, list_at}, Tests.{AreLeads, IsNextCall, calls_told, entry_or, lead_in}, declared.calls.Call.Call}
 use Rattle.{c104_audit.specs.declared.lists.Lists.Lists, c104_event.specs.declared.events.Event.Event, c104_net.proofs.Members.IsIn}
-use Rattle.c104_net.specs.{Leading.act_event, Replays.{entry_event as told_entry, event_or, lead_event}, ToldEvents.told_event}
+use Rattle.c104_net.specs.{Replays.{entry_event as told_entry, event_or, lead_event}, ToldEvents.told_event}
 use Rattle.{c104_net.specs.declared.leading.Lead.Lead as Leading, c104_node.specs.{ActLinks.on_links, declared.acts.ActOf.ActOf}}
-use Rattle.{c104_node.specs.declared.acts.Entry.Entry, c104_plan.specs.declared.ports.Wire.Wire, c104_switch.specs.Actions.Reply}
-use Rattle.{c104_token.specs.declared.tokens.Token.Token, std.proofs.Common.{Bool, List, None, Option, Some, [], ap, append_assoc, drop}}
-use Rattle.std.proofs.Common.{false, if◌then◌else◌, inl, inr, is_some, map, nat_lt, refl, slice_get, subst, suc, sym, true, zero, ℕ, ◌&&◌}
-use Rattle.std.{proofs.Common.{◌++◌, ◌+◌, ◌∙◌, ◌∷◌, ◌≡◌}, specs.Option.{option_map, option_to_list}}
+use Rattle.{c104_node.specs.declared.acts.Entry.Entry, c104_plan.specs.declared.ports.Wire.Wire, c104_run.specs.EventActs.act_event}
+use Rattle.{c104_switch.specs.Actions.Reply, c104_token.specs.declared.tokens.Token.Token, std.proofs.Common.{Bool, List, None, Option}}
+use Rattle.std.proofs.Common.{Some, [], ap, append_assoc, drop, false, if◌then◌else◌, inl, inr, is_some, map, nat_lt, refl, slice_get}
+use Rattle.std.{proofs.Common.{subst, suc, sym, true, zero, ℕ, ◌&&◌, ◌++◌, ◌+◌, ◌∙◌, ◌∷◌, ◌≡◌}, specs.Option.{option_map, option_to_list}}
 
 -- the event of an entry that leads is that of its act
 record IsNamed (S : ℕ) (ws : List Wire) (k : ℕ) (a : ActOf Token) : Type 0 where

@@ -1,21 +1,15 @@
 -- What an entry that leads tells: an act of its node alone, or what crosses the wire at one of its links.
 use Rattle.c104_audit.{proofs.WideNodes.{IsWide, claim_there, input_there}, specs.Audits.{entry_event, is_link_wired, is_of_kind}}
-use Rattle.{c104_event.specs.declared.events.Event.Event, c104_net.specs.Leading.act_event, c104_node.proofs.IdleNodes.opposite}
-use Rattle.c104_node.specs.{ActLinks.on_links, Acts.{IsWithinLimits, node_act}, Nodes.Node, PortActs.{Acts, near_act}}
-use Rattle.c104_node.specs.declared.{acts.ActOf.ActOf, crossings.Crossing.{Crossing, TheVariants.{Grant, Token as TokenCrossing}}}
-use Rattle.c104_plan.specs.{Plans.Plan, Wiring.{peer, wires}, declared.ports.Port.Port}
-use Rattle.{c104_regs.specs.declared.registers.TheConstants.LINKS, c104_run.specs.EventActs.{event_acts, port_place}}
-use Rattle.{c104_run.specs.{EventPlaces.event_place, Network.{event_fault, terminal_place}}, c104_switch.specs.Actions.Reply}
-use Rattle.{c104_switch.specs.declared.actions.ActionOf.ActionOf, c104_token.specs.Kinds.plain_kind}
-use Rattle.{c104_token.specs.declared.{text.TheConstants.MAX_PACKET_BYTES, tokens.Token.Token}, std.proofs.Common.{Bool, None, Option}}
-use Rattle.std.proofs.Common.{Some, ap, arith, false, inl, inr, is_some, length, nat_le, nat_lt, not, refl, sym, true, ℕ, ◌+◌, ◌-◌, ◌<◌}
-use Rattle.std.proofs.{Common.{◌∙◌, ◌≡◌, ◌≤◌, ◌⊎◌}, lemmas.Bool.Decides.nat_tests}
+use Rattle.{c104_event.specs.declared.events.Event.Event, c104_node.{proofs.IdleNodes.opposite, specs.ActLinks.on_links}}
+use Rattle.c104_node.specs.{Acts.{IsWithinLimits, node_act}, Nodes.Node, PortActs.{Acts, near_act}, declared.acts.ActOf.ActOf}
+use Rattle.{c104_node.specs.declared.crossings.Crossing.{Crossing, TheVariants.{Grant, Token as TokenCrossing}}, c104_plan.specs.Plans.Plan}
+use Rattle.{c104_plan.specs.{Wiring.{peer, wires}, declared.ports.Port.Port}, c104_regs.specs.declared.registers.TheConstants.LINKS}
+use Rattle.c104_run.specs.{EventActs.{act_event, crossing_event, event_acts, port_place}, EventPlaces.event_place, Network.event_fault}
+use Rattle.{c104_run.specs.Network.terminal_place, c104_switch.specs.{Actions.Reply, declared.actions.ActionOf.ActionOf}}
+use Rattle.{c104_token.specs.{Kinds.plain_kind, declared.{text.TheConstants.MAX_PACKET_BYTES, tokens.Token.Token}}, std.proofs.Common.Bool}
+use Rattle.std.proofs.Common.{None, Option, Some, ap, arith, false, inl, inr, is_some, length, nat_le, nat_lt, not, refl, sym, true, ℕ, ◌+◌}
+use Rattle.std.proofs.{Common.{◌-◌, ◌<◌, ◌∙◌, ◌≡◌, ◌≤◌, ◌⊎◌}, lemmas.Bool.Decides.nat_tests}
 use Rattle.c104_node.specs.declared.acts.ActOf.TheVariants as act
-
--- the event in which something crosses from a port
-abbrev pub crossing_event : Crossing → Port → Event
-crossing_event TokenCrossing p = Event.Cross p
-crossing_event Grant p = Event.Credit p
 
 module _ (plan : Plan) where
   -- whether a link of the node at a place has a wire
@@ -91,10 +85,8 @@ module _ (plan : Plan) where
 
   -- an act that leads is an event by itself, or it is what crosses the wire at a port of its node
   pub lead_cases : (k : ℕ) (a : ActOf Token) → is_some (plan_event k a) ≡ true → LeadsAlone k a ⊎ LeadsJoint k a
-  lead_cases k (act.Step (ActionOf.Enter l x)) leads = absurd (leads_none k (act.Step (ActionOf.Enter l x)) refl leads)
   lead_cases k (act.Step (ActionOf.Leave l)) leads = let s = stands_for k (act.Step (ActionOf.Leave l)) leads in joint k (act.Step (ActionOf.Leave l)) TokenCrossing (Port.Switch k l) refl refl s.told (switch_wired k l s.kind s.linked)
   lead_cases k (act.Step (ActionOf.CreditOut l)) leads = let s = stands_for k (act.Step (ActionOf.CreditOut l)) leads in joint k (act.Step (ActionOf.CreditOut l)) Grant (Port.Switch k l) refl refl s.told (switch_wired k l s.kind s.linked)
-  lead_cases k (act.Step (ActionOf.CreditIn l)) leads = absurd (leads_none k (act.Step (ActionOf.CreditIn l)) refl leads)
   lead_cases k (act.Step (ActionOf.Input l word)) leads =
       let s = stands_for k (act.Step (ActionOf.Input l word)) leads in
       inl (record {
@@ -146,9 +138,8 @@ module _ (plan : Plan) where
       let s = stands_for k act.Leave leads in
       let there = terminal_there k s.kind in
       joint k act.Leave TokenCrossing (Port.Terminal (k - length plan.switches)) refl there.1 s.told (terminal_wired k there.0 s.linked)
-  lead_cases k (act.Enter x) leads = absurd (leads_none k (act.Enter x) refl leads)
   lead_cases k act.CreditOut leads =
       let s = stands_for k act.CreditOut leads in
       let there = terminal_there k s.kind in
       joint k act.CreditOut Grant (Port.Terminal (k - length plan.switches)) refl there.1 s.told (terminal_wired k there.0 s.linked)
-  lead_cases k act.CreditIn leads = absurd (leads_none k act.CreditIn refl leads)
+  lead_cases k a leads = absurd (leads_none k a refl leads)

@@ -1,22 +1,22 @@
 -- The traces of nodes that audit well match: what leads at one place and is done at another too is in the trace there,
 -- and each entry that doesn't lead is the other half of one that does.
 use Rattle.c104_audit.proofs.{AuditRuns.{WasDone, answered, far_alone, far_joint, far_of, stamp_of}, EntryEvents.{LeadsAlone, LeadsJoint}}
-use Rattle.c104_audit.proofs.EntryEvents.{crossing_event, is_wired_link, lead_cases, plan_event, switch_wired, terminal_there}
-use Rattle.c104_audit.proofs.{EntryEvents.terminal_wired, EntryHalves.{IsAtPort, both_true, entry_is, in_is, link_is, near_at, near_takes}}
-use Rattle.c104_audit.proofs.{EntryHalves.{of_switch, out_is, partner, partner_back, wire_of}, Matching.AreMatched, Merging.from_filter}
-use Rattle.c104_audit.{proofs.NetworkRuns.crossing_acts_are, specs.Audits.{AgreeOneByOne, AreHalves, IsPassed, carried_in, carried_out}}
-use Rattle.c104_audit.specs.{Audits.{carries, end_among, is_leading, is_of_kind, passes_at, passing_at}, Leads.{AreRising, list_at}}
-use Rattle.{c104_audit.specs.declared.carried.Carried.Carried, c104_event.specs.declared.events.Event.Event, c104_net.proofs.Members.IsIn}
-use Rattle.{c104_net.{proofs.Members.in_filter, specs.Leading.act_event}, c104_node.proofs.JointEnds.{far_done, near_answers}}
-use Rattle.c104_node.specs.{ActLinks.{act_link, on_links, port_link}, Acts.node_act, PortActs.{Acts, IsAnswerOf, far_act, near_act}}
-use Rattle.c104_node.specs.{Traces.entry_of, declared.{acts.{ActOf.ActOf, Entry.Entry}, crossings.Crossing.{Crossing, TheVariants.Grant}}}
-use Rattle.{c104_node.specs.declared.{crossings.Crossing.TheVariants.Token as TokenCrossing, ends.End.End}, c104_plan.specs.Plans.IsPlan}
-use Rattle.c104_plan.specs.{Plans.Plan, Wiring.{peer, wires}, declared.ports.{Port.Port, Wire.Wire}}
-use Rattle.c104_run.{proofs.BalanceWires.{nodes_apart, peer_back, peer_one, switch_inside}, specs.EventActs.{event_acts, port_place}}
-use Rattle.{c104_switch.specs.{Actions.Reply, declared.actions.{ActionOf.ActionOf, ReplyOf.ReplyOf}}, c104_token.specs.Kinds.plain_kind}
-use Rattle.{c104_token.specs.declared.tokens.Token.Token, std.proofs.Common.{Bool, List, None, Option, Some, ap, arith, false}}
-use Rattle.std.proofs.Common.{if◌then◌else◌, inl, inr, is_some, length, map, nat_eq, nat_lt, not, refl, slice_get, subst, sym, true, ℕ, ◌+◌}
-use Rattle.std.proofs.{Common.{◌-◌, ◌∙◌, ◌≡◌, ◌≢◌, ◌⊎◌}, lemmas.Bool.Decides.nat_tests}
+use Rattle.c104_audit.proofs.EntryEvents.{is_wired_link, lead_cases, plan_event, switch_wired, terminal_there, terminal_wired}
+use Rattle.c104_audit.proofs.EntryHalves.{IsAtPort, both_true, entry_is, in_is, link_is, near_at, near_takes, of_switch, out_is, partner}
+use Rattle.c104_audit.proofs.{EntryHalves.{partner_back, wire_of}, Matching.AreMatched, Merging.from_filter, NetworkRuns.crossing_acts_are}
+use Rattle.c104_audit.specs.Audits.{AgreeOneByOne, AreHalves, IsPassed, carried_in, carried_out, carries, end_among, is_leading, is_of_kind}
+use Rattle.c104_audit.specs.{Audits.{passes_at, passing_at}, Leads.{AreRising, list_at}, declared.carried.Carried.Carried}
+use Rattle.{c104_event.specs.declared.events.Event.Event, c104_net.proofs.Members.{IsIn, in_filter}, c104_node.proofs.JointEnds.far_done}
+use Rattle.c104_node.{proofs.JointEnds.near_answers, specs.{ActLinks.{act_link, on_links, port_link}, Acts.node_act, PortActs.Acts}}
+use Rattle.c104_node.specs.{PortActs.{IsAnswerOf, far_act, near_act}, Traces.entry_of, declared.acts.{ActOf.ActOf, Entry.Entry}}
+use Rattle.c104_node.specs.declared.{crossings.Crossing.{Crossing, TheVariants.{Grant, Token as TokenCrossing}}, ends.End.End}
+use Rattle.c104_plan.specs.{Plans.{IsPlan, Plan}, Wiring.{peer, wires}, declared.ports.{Port.Port, Wire.Wire}}
+use Rattle.c104_run.{proofs.BalanceWires.{nodes_apart, peer_back, peer_one, switch_inside}, specs.EventActs.{act_event, crossing_event}}
+use Rattle.{c104_run.specs.EventActs.{event_acts, port_place}, c104_switch.specs.{Actions.Reply, declared.actions.ActionOf.ActionOf}}
+use Rattle.{c104_switch.specs.declared.actions.ReplyOf.ReplyOf, c104_token.specs.{Kinds.plain_kind, declared.tokens.Token.Token}}
+use Rattle.std.proofs.Common.{Bool, List, None, Option, Some, ap, arith, false, if◌then◌else◌, inl, inr, is_some, length, map, nat_eq}
+use Rattle.std.proofs.Common.{nat_lt, not, refl, slice_get, subst, sym, true, ℕ, ◌+◌, ◌-◌, ◌∙◌, ◌≡◌, ◌≢◌, ◌⊎◌}
+use Rattle.std.proofs.lemmas.Bool.Decides.{nat_tests}
 
 module _ (plan : Plan) (is_plan : IsPlan plan) where
   abbrev pub PlanEnd : Port → End

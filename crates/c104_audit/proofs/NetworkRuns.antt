@@ -1,7 +1,7 @@
 -- Where each node runs its part of what entries that lead tell, the network runs their events.
 use Rattle.c104_audit.proofs.AuditRuns.{IsSure, far_alone, far_joint, far_of, lead_event, lead_pair, same_kind, stamp_of}
-use Rattle.c104_audit.proofs.{EntryEvents.{LeadsAlone, LeadsJoint, crossing_event, lead_cases}, Matching.{all_deeds, at_place, far_deed}}
-use Rattle.{c104_audit.{proofs.WideNodes.{IsWide, wide_act}, specs.Leads.Lead}, c104_event.specs.declared.events.Event.Event}
+use Rattle.c104_audit.proofs.{EntryEvents.{LeadsAlone, LeadsJoint, lead_cases}, Matching.{all_deeds, at_place, far_deed}, WideNodes.IsWide}
+use Rattle.{c104_audit.{proofs.WideNodes.wide_act, specs.Leads.Lead}, c104_event.specs.declared.events.Event.Event}
 use Rattle.{c104_event.specs.declared.faults.EventFault.EventFault, c104_link.{proofs.MadeSteps.place_after_set, specs.Steps.◌>>=◌}}
 use Rattle.{c104_net.proofs.Members.element_at, c104_node.proofs.{ReadyActs.act_ready, RecordedNodes.number_plain, WireEnds.get_set_other}}
 use Rattle.c104_node.{proofs.WireEnds.get_set_same, specs.{Acts.{node_act, plain_reply}, Nodes.{Node, is_switch}, PortActs.Acts}}
@@ -10,13 +10,13 @@ use Rattle.c104_node.specs.declared.{acts.{ActOf.ActOf, Entry.Entry}, crossings.
 use Rattle.{c104_node.specs.declared.crossings.Crossing.TheVariants.Token as TokenCrossing, c104_plan.specs.Plans.{IsPlan, Plan}}
 use Rattle.{c104_plan.specs.{Wiring.peer, declared.ports.Port.Port}, c104_regs.specs.declared.registers.TheConstants.LINKS}
 use Rattle.c104_run.proofs.{BalancePlaces.still_in_place, BalanceWires.{nodes_apart, peer_back, switch_inside, terminal_inside}}
-use Rattle.c104_run.{proofs.RecordSteps.nodes_counted, specs.{Balance.AreInPlace, EventActs.{acts_step, event_acts, port_place}}}
-use Rattle.c104_run.specs.Network.{Network, event_fault, event_limit, network_apply, network_of, network_step, told_step, wired_fault}
-use Rattle.{c104_run.specs.Runs.IsDoneRun, c104_switch.specs.{Actions.{Reply, is_ready}, declared.actions.ReplyOf.ReplyOf}}
-use Rattle.{c104_token.specs.{Kinds.plain_kind, declared.tokens.Token.Token}, std.proofs.Common.{Bool, List, None, Ok, Option, Result}}
-use Rattle.std.proofs.Common.{Some, [], ap, arith, false, if◌then◌else◌, inl, inr, length, map, nat_eq, nat_lt, refl, slice_get, slice_set}
-use Rattle.std.proofs.{Common.{subst, suc, sym, true, ℕ, ◌++◌, ◌+◌, ◌-◌, ◌<◌, ◌∙◌, ◌∷◌, ◌≡◌, ◌≢◌, ◌⊎◌}, lemmas.Bool.Decides.nat_tests}
-use Rattle.std.{proofs.lemmas.{Bool.cases_eq, List.length-set}, specs.List.AllByRecursion}
+use Rattle.c104_run.{proofs.RecordSteps.nodes_counted, specs.{Balance.AreInPlace, EventActs.{acts_step, crossing_event, event_acts}}}
+use Rattle.c104_run.specs.{EventActs.port_place, Network.{Network, event_fault, event_limit, network_apply, network_of, network_step}}
+use Rattle.{c104_run.specs.{Network.{told_step, wired_fault}, Runs.IsDoneRun}, c104_switch.specs.Actions.{Reply, is_ready}}
+use Rattle.{c104_switch.specs.declared.actions.ReplyOf.ReplyOf, c104_token.specs.{Kinds.plain_kind, declared.tokens.Token.Token}}
+use Rattle.std.proofs.Common.{Bool, List, None, Ok, Option, Result, Some, [], ap, arith, false, if◌then◌else◌, inl, inr, length, map}
+use Rattle.std.proofs.Common.{nat_eq, nat_lt, refl, slice_get, slice_set, subst, suc, sym, true, ℕ, ◌++◌, ◌+◌, ◌-◌, ◌<◌, ◌∙◌, ◌∷◌, ◌≡◌, ◌≢◌}
+use Rattle.std.{proofs.{Common.◌⊎◌, lemmas.{Bool.{Decides.nat_tests, cases_eq}, List.length-set}}, specs.List.AllByRecursion}
 
 -- lists of one length with the same things at each place are the same
 pub same_places : {X : Type 0} (xs ys : List X) → length ys ≡ length xs → ((k : ℕ) (x y : X) → slice_get xs k ≡ Some x → slice_get ys k ≡ Some y → y ≡ x) → ys ≡ xs

@@ -4,13 +4,13 @@ use Rattle.c104_audit.{proofs.Merging.{each_in, from_filter, in_each}, specs.Aud
 use Rattle.c104_audit.specs.{Audits.{called_by, carries, is_leading, is_number, led_by, told_reply, unseated}, Calls.call_of}
 use Rattle.c104_audit.specs.{Leads.{AreRising, Lead, leads_at, leads_from, list_at, merged_leads}, declared.calls.Call.Call}
 use Rattle.{c104_event.specs.declared.{events.Event.Event, faults.EventFault.EventFault}, c104_net.proofs.Members.{IsIn, in_filter}}
-use Rattle.c104_net.{proofs.Members.in_right, specs.{Leading.{act_event, led_events, told_first}, Merges.by_ticket, ToldEvents.told_by}}
-use Rattle.{c104_net.specs.ToldEvents.{told_event, told_events}, c104_node.specs.{Acts.{done_by, node_act}, Nodes.{Node, node_credit_out}}}
-use Rattle.c104_node.specs.{PortActs.{Acts, far_act, near_act}, Traces.{Deed, entry_of, part, seatless}, declared.acts.ActOf.ActOf}
-use Rattle.c104_node.specs.declared.{acts.Entry.Entry, crossings.Crossing.Crossing, node.NodeOf.NodeOf, stamps.Stamp.Stamp}
+use Rattle.c104_net.{proofs.Members.in_right, specs.{Leading.{led_events, told_first}, Merges.by_ticket, ToldEvents.{told_by, told_event}}}
+use Rattle.{c104_net.specs.ToldEvents.told_events, c104_node.specs.{Acts.{done_by, node_act}, Nodes.{Node, node_credit_out}, PortActs.Acts}}
+use Rattle.c104_node.specs.{PortActs.{far_act, near_act}, Traces.{Deed, entry_of, part, seatless}, declared.acts.{ActOf.ActOf, Entry.Entry}}
+use Rattle.c104_node.specs.declared.{crossings.Crossing.Crossing, node.NodeOf.NodeOf, stamps.Stamp.Stamp}
 use Rattle.c104_plan.{proofs.RangeLists.each_append, specs.{Plans.Plan, Wiring.wires, declared.ports.Port.Port}}
-use Rattle.c104_run.specs.{EventActs.{event_acts, port_place}, EventDeeds.{acts_deeds, event_deeds}, Network.{Network, network_apply}}
-use Rattle.{c104_run.specs.Runs.{IsDoneRun, at_node, run_deeds}, c104_switch.specs.Actions.{Reply, is_ready}}
+use Rattle.c104_run.specs.{EventActs.{act_event, event_acts, port_place}, EventDeeds.{acts_deeds, event_deeds}, Network.Network}
+use Rattle.{c104_run.specs.{Network.network_apply, Runs.{IsDoneRun, at_node, run_deeds}}, c104_switch.specs.Actions.{Reply, is_ready}}
 use Rattle.{c104_switch.specs.declared.actions.{ActionOf.ActionOf, ReplyOf.ReplyOf}, c104_token.specs.Kinds.{Kind, plain_kind}}
 use Rattle.{c104_token.specs.declared.tokens.Token.Token, std.proofs.Common.{Bool, List, None, Ok, Option, Result, Some, [], ap, arith}}
 use Rattle.std.proofs.Common.{false, if◌then◌else◌, inl, inr, is_some, length, map, nat_eq, not, option_map, refl, slice_get, subst, suc}

@@ -6,11 +6,11 @@
 --     IsAsBefore    a node's start and its entries without a seat are those that it had before the seats were made
 use Rattle.c104_audit.specs.{Calls.call_of, Leads.{AreRising, Lead, list_at, merged_leads}, declared.calls.Call.Call}
 use Rattle.c104_audit.specs.declared.{carried.Carried.Carried, lists.{Lists.Lists, NodeShape.NodeShape}}
-use Rattle.{c104_event.specs.declared.events.Event.Event, c104_net.specs.Leading.act_event, c104_node.specs.ActLinks.{act_link, on_links}}
-use Rattle.{c104_node.specs.declared.{acts.{ActOf.ActOf, Entry.Entry}, ends.End.End}, c104_plan.specs.Ports.other_end}
-use Rattle.{c104_plan.specs.declared.ports.{Port.Port, Wire.Wire}, c104_regs.specs.declared.registers.TheConstants.LINKS}
-use Rattle.{c104_run.specs.Rounds.link_numbers, c104_switch.specs.{Actions.Reply, declared.actions.{ActionOf.ActionOf, ReplyOf.ReplyOf}}}
-use Rattle.c104_token.specs.declared.tokens.Token.{Token}
+use Rattle.{c104_event.specs.declared.events.Event.Event, c104_node.specs.{ActLinks.{act_link, on_links}, declared.acts.ActOf.ActOf}}
+use Rattle.{c104_node.specs.declared.{acts.Entry.Entry, ends.End.End}, c104_plan.specs.{Ports.other_end, declared.ports.Port.Port}}
+use Rattle.{c104_plan.specs.declared.ports.Wire.Wire, c104_regs.specs.declared.registers.TheConstants.LINKS}
+use Rattle.{c104_run.specs.{EventActs.act_event, Rounds.link_numbers}, c104_switch.specs.Actions.Reply}
+use Rattle.{c104_switch.specs.declared.actions.{ActionOf.ActionOf, ReplyOf.ReplyOf}, c104_token.specs.declared.tokens.Token.Token}
 use Rattle.std.specs.{List.{AllByRecursion, flat_map}, Option.{option_map, option_to_list}, Prelude.{Bool, List, None, Option, Some, []}}
 use Rattle.std.specs.Prelude.{false, filter, if◌then◌else◌, is_some, length, map, nat_eq, nat_lt, not, slice_get, ℕ, ◌&&◌, ◌+◌, ◌-◌, ◌<◌}
 use Rattle.std.specs.Prelude.{◌∷◌, ◌≡◌, ◌≢◌, ◌≤◌, ◌⊎◌}

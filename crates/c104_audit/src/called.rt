@@ -1,52 +1,62 @@
 //! How many of each seat's calls the entries tell that carry its number.
 ghost use Rattle.std.specs.Prelude.{IfOk, IsTrue, MatchOption, None, Some, length, ◌+◌, ◌<◌, ◌↔◌, ◌≡◌};
 ghost use Rattle.c104_audit.specs.{Audits.told_reply, Tests.{AreCounts, AreLeads, AreTold, IsCallOf, IsNextCall, TellsNext, lead_in}};
-ghost use Rattle.{c104_audit.specs.Tests.lead_seat, c104_net.specs.Leading.act_event};
+ghost use Rattle.{c104_audit.specs.Tests.lead_seat, c104_run.specs.{AskedActs.ask_held, EventActs.act_event, LeadActs.{LeadsIn, act_number}}};
 
 use crate::calls::Call;
 use crate::lists::Lists;
-use crate::sameness::{is_same_bytes, is_same_reply};
+use crate::sameness::{is_same_act, is_same_action, is_same_reply};
 use c104_event::{Event, Port};
 use c104_net::Lead;
-use c104_node::{Act, Entry};
+use c104_node::{Act, Crossing, Entry};
+use c104_run::{Ask, ask_of};
 use c104_switch::{ActionOf, Reply};
-use c104_token::NoMemory;
+use c104_token::{NoMemory, Token};
 use std::alloc::Global;
 
 /// Whether an act of the node at a place tells an event, where this is the number of switches.
 fn tells(switches: usize, place: usize, act: &Act, event: &Event) -> bool
     ensures { IsTrue result ↔ (act_event switches place act.now ≡ Some event.now) }
 {
-    let number = place.saturating_sub(switches);
-    match (act, event) {
-        (Act::Step(ActionOf::Leave(link)), Event::Cross(port)) => {
-            port.is_same(Port::Switch(place, *link))
+    leads_in(switches, place, act, &ask_of(event))
+}
+
+/// Whether an act of the node at a place leads in what is asked.
+fn leads_in(switches: usize, place: usize, act: &Act, ask: &Ask<'_, Token>) -> bool
+    ensures { IsTrue result ↔ LeadsIn switches place act.now (ask_held ask.now) }
+{
+    let number = act_number(switches, place, act);
+    match (act, ask) {
+        (Act::Step(own), Ask::Switch(switch, asked)) => {
+            number == *switch && is_same_action(own, asked)
         }
-        (Act::Step(ActionOf::CreditOut(link)), Event::Credit(port)) => {
-            port.is_same(Port::Switch(place, *link))
-        }
-        (Act::Step(ActionOf::Input(own, told)), Event::Input { switch, link, word }) => place
-            == *switch
-            && *own == *link
-            && *told == *word,
-        (
-            Act::Step(ActionOf::Claim(own, told)),
-            Event::Claim {
-                switch,
-                input,
-                output,
-            },
-        ) => place == *switch && *own == *input && *told == *output,
-        (Act::Step(ActionOf::Control(own)), Event::Control { switch, bytes }) => {
-            place == *switch && is_same_bytes(own, bytes)
-        }
-        (Act::Send(own), Event::Send { terminal, packet }) => {
+        (Act::Send(own), Ask::Send(terminal, packet)) => {
             number == *terminal && own.packet().is_same(packet)
         }
-        (Act::Drain, Event::Drain { terminal }) => number == *terminal,
-        (Act::Leave, Event::Cross(port)) => port.is_same(Port::Terminal(number)),
-        (Act::CreditOut, Event::Credit(port)) => port.is_same(Port::Terminal(number)),
+        (_, Ask::Terminal(terminal, asked)) => number == *terminal && is_same_act(act, asked),
+        (_, Ask::Over(Port::Switch(switch, link), Crossing::Token)) => {
+            number == *switch && is_same_act(act, &Act::Step(ActionOf::Leave(*link)))
+        }
+        (_, Ask::Over(Port::Switch(switch, link), Crossing::Grant)) => {
+            number == *switch && is_same_act(act, &Act::Step(ActionOf::CreditOut(*link)))
+        }
+        (_, Ask::Over(Port::Terminal(terminal), Crossing::Token)) => {
+            number == *terminal && is_same_act(act, &Act::Leave)
+        }
+        (_, Ask::Over(Port::Terminal(terminal), Crossing::Grant)) => {
+            number == *terminal && is_same_act(act, &Act::CreditOut)
+        }
         _ => false,
+    }
+}
+
+/// The number of the node at a place that does an act: of the switch, or else of the terminal.
+fn act_number(switches: usize, place: usize, act: &Act) -> usize
+    ensures { result ≡ act_number switches place act.now }
+{
+    match act {
+        Act::Step(_) => place,
+        _ => place.saturating_sub(switches),
     }
 }
 

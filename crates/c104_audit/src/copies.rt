@@ -1,10 +1,11 @@
 //! Copies of what seats keep.
-ghost use Rattle.std.specs.Prelude.{◌≡◌, IfOk};
+ghost use Rattle.std.specs.Prelude.{IfOk, ◌≡◌};
+ghost use Rattle.{c104_net.specs.Replays.event_or, c104_run.specs.EventActs.act_event};
 
 use crate::calls::Call;
-use c104_control::ControlBytes;
 use c104_event::Event;
-use c104_node::same_reply;
+use c104_node::{Act, same_reply};
+use c104_run::{Ask, act_event, ask_of, crossing_event};
 use c104_token::NoMemory;
 use std::alloc::Global;
 
@@ -35,36 +36,24 @@ fn copy_call(call: &Call) -> Result<Call, NoMemory>
 pub fn copy_event(event: &Event) -> Result<Event, NoMemory>
     ensures { IfOk result (λ copy. copy ≡ event.now) }
 {
-    match event {
-        Event::Cross(port) => Ok(Event::Cross(*port)),
-        Event::Credit(port) => Ok(Event::Credit(*port)),
-        Event::Input { switch, link, word } => Ok(Event::Input {
-            switch: *switch,
-            link: *link,
-            word: *word,
+    match ask_of(event) {
+        Ask::Switch(switch, action) => led_event(switch, &Act::Step(action)),
+        Ask::Terminal(terminal, act) => led_event(terminal, &act),
+        Ask::Send(terminal, packet) => Ok(Event::Send {
+            terminal,
+            packet: packet.clone()?,
         }),
-        Event::Claim {
-            switch,
-            input,
-            output,
-        } => Ok(Event::Claim {
-            switch: *switch,
-            input: *input,
-            output: *output,
-        }),
-        Event::Control { switch, bytes } => Ok(Event::Control {
-            switch: *switch,
-            bytes: ControlBytes::new(bytes.as_slice()),
-        }),
-        Event::Send { terminal, packet } => {
-            let packet = packet.clone()?;
-            Ok(Event::Send {
-                terminal: *terminal,
-                packet,
-            })
-        }
-        Event::Drain { terminal } => Ok(Event::Drain {
-            terminal: *terminal,
-        }),
+        Ask::Over(port, crossing) => Ok(crossing_event(crossing, port)),
+    }
+}
+
+/// The event that an act of the node of this number leads in; where it doesn't lead, that terminal 0 drains. The only error
+/// is out of memory.
+fn led_event(number: usize, act: &Act) -> Result<Event, NoMemory>
+    ensures { IfOk result (λ event. event ≡ event_or (act_event 0 number act.now)) }
+{
+    match act_event(0, number, act)? {
+        Some(event) => Ok(event),
+        None => Ok(Event::Drain { terminal: 0 }),
     }
 }

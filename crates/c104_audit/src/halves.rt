@@ -26,11 +26,8 @@ pub fn link_of(act: &Act) -> Option<usize>
         Act::Step(ActionOf::Leave(link)) => Some(*link),
         Act::Step(ActionOf::CreditOut(link)) => Some(*link),
         Act::Step(ActionOf::CreditIn(link)) => Some(*link),
-        Act::Step(ActionOf::Input(_, _)) => None,
-        Act::Step(ActionOf::Claim(_, _)) => None,
-        Act::Step(ActionOf::Control(_)) => None,
-        Act::Send(_) | Act::Drain => None,
         Act::Leave | Act::Enter(_) | Act::CreditOut | Act::CreditIn => Some(0),
+        _ => None,
     }
 }
 

@@ -14,7 +14,7 @@ fn is_same_token(one: Token, other: Token) -> bool
 }
 
 /// Whether both are the same bytes.
-pub fn is_same_bytes(one: &ControlBytes, other: &ControlBytes) -> bool
+fn is_same_bytes(one: &ControlBytes, other: &ControlBytes) -> bool
     ensures { IsTrue result ↔ (one.now ≡ other.now) }
 {
     one.as_slice() == other.as_slice()
@@ -34,7 +34,7 @@ pub fn is_same_reply(one: &Reply, other: &Reply) -> bool
 }
 
 /// Whether both are the same action.
-fn is_same_action(one: &Action, other: &Action) -> bool
+pub fn is_same_action(one: &Action, other: &Action) -> bool
     ensures { IsTrue result ↔ (one.now ≡ other.now) }
 {
     match (one, other) {

@@ -155,7 +155,7 @@ module _ {A : Type 0} (kind : Kind A) (plan : Plan) (is_plan : IsPlan plan) (ran
 
   -- each event of a round that is done leaves less
   pub event_less : (e : Event) (r : Reply) (net' : Network A) → IsOfRound e → network_step kind (network_of plan nodes) e ≡ Some (r, net') → Less net'
-  event_less e r net' of is = of_event plan LeavesLess steps_less e (asks_plain A plan e of) r net' is
+  event_less e r net' of is = of_event plan LeavesLess steps_less e (asks_plain A e of) r net' is
 
 -- what keeps a node started
 module _ {A : Type 0} where

@@ -1,7 +1,7 @@
 -- The entries that lead, as they are gathered.
-use Rattle.{c104_event.specs.declared.events.Event.Event, c104_net.{proofs.LeadingSteps.leads_any, specs.Leading.{act_event, leads}}}
-use Rattle.c104_net.specs.{Leading.{led_events, told_first}, Replays.{entry_event, event_or, lead_event}, ToldEvents.told_by}
-use Rattle.{c104_net.specs.declared.leading.Lead.Lead, c104_node.{proofs.Waiting.drop_there, specs.declared.acts.Entry.Entry}}
+use Rattle.{c104_event.specs.declared.events.Event.Event, c104_net.{proofs.LeadingSteps.leads_any, specs.Leading.{leads, led_events}}}
+use Rattle.c104_net.specs.{Leading.told_first, Replays.{entry_event, event_or, lead_event}, ToldEvents.told_by, declared.leading.Lead.Lead}
+use Rattle.{c104_node.{proofs.Waiting.drop_there, specs.declared.acts.Entry.Entry}, c104_run.specs.EventActs.act_event}
 use Rattle.std.proofs.Common.{List, None, Option, Some, [], ap, append_assoc, arith, drop, false, is_some, map, refl, slice_get, suc, sym}
 use Rattle.std.proofs.{Common.{true, unwrap_or, ℕ, ◌++◌, ◌+◌, ◌∙◌, ◌∷◌, ◌≡◌}, lemmas.List.map-append}
 

@@ -21,16 +21,18 @@ ArePlain (Acts.Joint p q crossing) = Unit {0}
 
 -- what such an event asks
 abbrev pub IsPlainAsk : {A : Type 0} → Ask A → Type 0
-IsPlainAsk (Ask.Alone k a) = IsPlainAct a
+IsPlainAsk (Ask.Switch s a) = IsPlainAct (ActOf.Step a)
+IsPlainAsk (Ask.Terminal t a) = IsPlainAct a
 IsPlainAsk (Ask.Over p crossing) = Unit {0}
 
-pub asks_plain : (A : Type 0) (plan : Plan) (e : Event) → IsOfRound e → IsPlainAsk {A = A} (event_ask plan e)
-asks_plain A plan (Event.Send t packet) of = absurd of
-asks_plain A plan (Event.Control s bytes) of = absurd of
-asks_plain A plan e of = tt
+pub asks_plain : (A : Type 0) (e : Event) → IsOfRound e → IsPlainAsk {A = A} (event_ask e)
+asks_plain A (Event.Send t packet) of = absurd of
+asks_plain A (Event.Control s bytes) of = absurd of
+asks_plain A e of = tt
 
 acts_plain : {A : Type 0} (plan : Plan) (ask : Ask A) → IsPlainAsk ask → IfSome (ask_acts plan ask) ArePlain
-acts_plain plan (Ask.Alone k a) plain = plain
+acts_plain plan (Ask.Switch s a) plain = plain
+acts_plain plan (Ask.Terminal t a) plain = plain
 acts_plain {A} plan (Ask.Over p crossing) plain = by_peer (peer plan p)
   where
     by_peer : (o : Option Port) → IfSome (crossing_acts {A = A} crossing p o) ArePlain
@@ -97,6 +99,6 @@ module _ {A : Type 0} (kind : Kind A) (Changed : Node A → Node A → Type 0)
     round_keeps plan nodes e of r is holds =
         given (event_acts plan e) _ r is (λ acts known more.
         given (acts_step kind plan nodes acts) _ r more (λ v made last.
-        (let plain : ArePlain acts = subst (λ (o : Option (Acts A)). IfSome o ArePlain) known (acts_plain plan (event_ask plan e) (asks_plain A plan e of)) in
+        (let plain : ArePlain acts = subst (λ (o : Option (Acts A)). IfSome o ArePlain) known (acts_plain plan (event_ask e) (asks_plain A e of)) in
         let same : ◌≡◌ {A = Reply × Network A} (plain_reply kind v.0, network_of plan v.1) r = cc in
         subst (λ (t : Reply × Network A). Holds t.1.nodes) same (acts_keep plan nodes acts plain v made holds))))

@@ -1,5 +1,5 @@
 -- Acts that lead.
-use Rattle.{c104_net.specs.Leading.{act_event, leads}, c104_node.specs.declared.acts.ActOf.ActOf}
+use Rattle.{c104_net.specs.Leading.leads, c104_node.specs.declared.acts.ActOf.ActOf, c104_run.specs.EventActs.act_event}
 use Rattle.{c104_switch.specs.declared.actions.ActionOf.ActionOf, c104_token.specs.declared.tokens.Token.Token, std.proofs.Common.is_some}
 use Rattle.std.proofs.Common.{refl, ℕ, ◌≡◌}
 

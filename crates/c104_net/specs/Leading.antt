@@ -1,29 +1,9 @@
 -- The events of a run, as the entries of its nodes tell them. Each event that was done is told by one entry, which
 -- leads: its only one, or, of the two at the ends of a wire, that where the token or the credits went out.
 use Rattle.{c104_event.specs.declared.events.Event.Event, c104_node.specs.declared.{acts.{ActOf.ActOf, Entry.Entry}, stamps.Stamp.Stamp}}
-use Rattle.{c104_plan.specs.{Plans.Plan, declared.ports.Port.Port}, c104_run.specs.EventPlaces.event_place}
-use Rattle.{c104_switch.specs.{Actions.{Action, Reply}, declared.actions.ActionOf.ActionOf}, c104_token.specs.declared.tokens.Token.Token}
-use Rattle.std.specs.Prelude.{Bool, List, None, Option, Some, [], if◌then◌else◌, is_some, nat_eq, suc, ℕ, ◌-◌, ◌∷◌}
-
--- the event that an action of the switch at a place leads in
-abbrev pub action_event : ℕ → Action → Option Event
-action_event k (ActionOf.Enter l x) = None
-action_event k (ActionOf.Leave l) = Some (Event.Cross (Port.Switch k l))
-action_event k (ActionOf.CreditOut l) = Some (Event.Credit (Port.Switch k l))
-action_event k (ActionOf.CreditIn l) = None
-action_event k (ActionOf.Input l word) = Some (Event.Input k l word)
-action_event k (ActionOf.Claim i o) = Some (Event.Claim k i o)
-action_event k (ActionOf.Control bytes) = Some (Event.Control k bytes)
-
--- the event that an act of the node at a place leads in, by the number of switches
-abbrev pub act_event : ℕ → ℕ → ActOf Token → Option Event
-act_event switches k (ActOf.Step a) = action_event k a
-act_event switches k (ActOf.Send packet) = Some (Event.Send (k - switches) packet)
-act_event switches k ActOf.Drain = Some (Event.Drain (k - switches))
-act_event switches k ActOf.Leave = Some (Event.Cross (Port.Terminal (k - switches)))
-act_event switches k (ActOf.Enter x) = None
-act_event switches k ActOf.CreditOut = Some (Event.Credit (Port.Terminal (k - switches)))
-act_event switches k ActOf.CreditIn = None
+use Rattle.{c104_plan.specs.Plans.Plan, c104_run.specs.{EventActs.act_event, EventPlaces.event_place}, c104_switch.specs.Actions.Reply}
+use Rattle.c104_token.specs.declared.tokens.Token.{Token}
+use Rattle.std.specs.Prelude.{Bool, List, None, Option, Some, [], if◌then◌else◌, is_some, nat_eq, suc, ℕ, ◌∷◌}
 
 -- whether an act leads in its event
 abbrev pub leads : ActOf Token → Bool

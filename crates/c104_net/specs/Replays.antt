@@ -1,7 +1,7 @@
 -- What traces tell of a run that is done once more, over tokens that tell where they came from.
-use Rattle.{c104_event.specs.declared.{events.Event.Event, faults.EventFault.EventFault}, c104_net.specs.Leading.act_event}
-use Rattle.{c104_net.specs.declared.leading.Lead.Lead, c104_node.specs.{Traced.traced_kind, declared.acts.Entry.Entry}}
-use Rattle.{c104_node.specs.declared.traced.Traced.Traced, c104_run.specs.Network.{Network, network_apply}, c104_switch.specs.Actions.Reply}
+use Rattle.{c104_event.specs.declared.{events.Event.Event, faults.EventFault.EventFault}, c104_net.specs.declared.leading.Lead.Lead}
+use Rattle.{c104_node.specs.{Traced.traced_kind, declared.{acts.Entry.Entry, traced.Traced.Traced}}, c104_run.specs.EventActs.act_event}
+use Rattle.{c104_run.specs.Network.{Network, network_apply}, c104_switch.specs.Actions.Reply}
 use Rattle.std.specs.Prelude.{List, None, Ok, Option, Result, Some, [], slice_get, unwrap_or, ℕ, ◌∷◌, ◌≡◌}
 
 -- an event, if there is one, and else a certain one in its place

@@ -7,13 +7,13 @@
 //! each event. The sort takes three words an event. Of events with the same ticket, which only made lists have, the one
 //! whose leading node has the lower place comes first.
 ghost use Rattle.std.specs.Prelude.{IfOk, List, OnOk, Some, map, slice_get, ℕ, ◌++◌, ◌≡◌};
-ghost use Rattle.c104_net.specs.{Leading.{act_event, action_event, leads, led_events}, Merges.by_ticket, Replays.{lead_event, with_ticket}};
+ghost use Rattle.c104_net.specs.{Leading.{leads, led_events}, Merges.by_ticket, Replays.{lead_event, with_ticket}};
 ghost use Rattle.{c104_net.specs.ToldEvents.{told_by, told_event}, c104_node.specs.declared.acts.Entry.Entry as TheEntry};
 
-use c104_control::ControlBytes;
-use c104_event::{Event, Port};
+use c104_event::Event;
 use c104_node::{Act, Entry};
-use c104_switch::{Action, ActionOf};
+use c104_run::act_event;
+use c104_switch::ActionOf;
 use c104_token::{Items, NoMemory};
 use std::alloc::Global;
 
@@ -35,51 +35,6 @@ fn is_leading(act: &Act) -> bool
         Act::Enter(_) | Act::CreditIn => false,
         _ => true,
     }
-}
-
-/// The event that an action of the switch at a place leads in, if it leads.
-fn action_event(place: usize, action: &Action) -> Option<Event>
-    ensures { result ≡ action_event place action.now }
-{
-    let switch = place;
-    match action {
-        ActionOf::Leave(link) => Some(Event::Cross(Port::Switch(switch, *link))),
-        ActionOf::CreditOut(link) => Some(Event::Credit(Port::Switch(switch, *link))),
-        ActionOf::Input(link, word) => Some(Event::Input {
-            switch,
-            link: *link,
-            word: *word,
-        }),
-        ActionOf::Claim(input, output) => Some(Event::Claim {
-            switch,
-            input: *input,
-            output: *output,
-        }),
-        ActionOf::Control(bytes) => Some(Event::Control {
-            switch,
-            bytes: ControlBytes::new(bytes.as_slice()),
-        }),
-        ActionOf::Enter(_, _) | ActionOf::CreditIn(_) => None,
-    }
-}
-
-/// The event that an act of the node at a place leads in, if it leads. There are `switches` switches, and
-/// the terminals stand behind them. The only error is out of memory, for the copy of a packet.
-fn act_event(switches: usize, place: usize, act: &Act) -> Result<Option<Event>, NoMemory>
-    ensures { IfOk result (λ event. event ≡ act_event switches place act.now) }
-{
-    let terminal = place.saturating_sub(switches);
-    Ok(match act {
-        Act::Step(action) => action_event(place, action),
-        Act::Send(packet) => Some(Event::Send {
-            terminal,
-            packet: packet.packet().clone()?,
-        }),
-        Act::Drain => Some(Event::Drain { terminal }),
-        Act::Leave => Some(Event::Cross(Port::Terminal(terminal))),
-        Act::CreditOut => Some(Event::Credit(Port::Terminal(terminal))),
-        Act::Enter(_) | Act::CreditIn => None,
-    })
 }
 
 /// The event that an entry leads in. Where there is no such entry, or it doesn't lead, that terminal 0 drains. The

@@ -3,7 +3,7 @@ use Rattle.{c104_event.specs.declared.{events.Event.Event, faults.EventFault.Eve
 use Rattle.c104_node.specs.{NodeReasons.{node_claim_why, node_drain_why, node_input_why}, Nodes.Node, PortActs.Acts}
 use Rattle.c104_node.specs.declared.{acts.ActOf.ActOf, crossings.Crossing.{Crossing, TheVariants.{Grant, Token}}}
 use Rattle.{c104_node.specs.declared.node.NodeOf.TheVariants.{Switch, Terminal}, c104_plan.specs.{Wiring.peer, declared.ports.Port.Port}}
-use Rattle.c104_run.specs.{Ends.end_of, EventActs.{Ask, ask_acts, crossing_acts, event_ask}, Network.{Network, event_fault}}
+use Rattle.c104_run.specs.{Ends.end_of, EventActs.{Ask, ask_acts, crossing_acts, event_ask}, Network.{Network, event_fault, terminal_place}}
 use Rattle.c104_run.specs.ReasonMeanings.{IsAloneReason, IsAskReason, IsDrainReason, IsEventReason, IsFarReason, IsInputReason}
 use Rattle.c104_run.specs.{ReasonMeanings.{IsNearReason, IsNodeClaimReason, IsSaid, IsSaidAt}, Reasons.{acts_why, alone_why, claim_reason}}
 use Rattle.c104_run.specs.Reasons.{end_why, event_why, far_why, near_why, network_why, unless_refused}
@@ -78,7 +78,8 @@ module _ {A : Type 0} where
     alone_says k a = tt
 
     says : (ask : Ask A) → IfSome (ask_acts net.plan ask >>= acts_why net) (IsAskReason net ask)
-    says (Ask.Alone k a) = alone_says k a
+    says (Ask.Switch s a) = alone_says s (ActOf.Step a)
+    says (Ask.Terminal t a) = alone_says (terminal_place net.plan t) a
     says (Ask.Over p crossing) = by_peer (peer net.plan p) refl
       where
         by_peer : (other : Option Port) → peer net.plan p ≡ other → IfSome (crossing_acts crossing p other >>= acts_why net) (IsAskReason net (Ask.Over p crossing))
@@ -89,5 +90,5 @@ module _ {A : Type 0} where
     event_reason_holds e = by_fault (event_fault net.plan e)
       where
         by_fault : (f : Option EventFault) → IfSome (unless_refused f (event_why net e)) (IsEventReason net e)
-        by_fault None = says (event_ask net.plan e)
+        by_fault None = says (event_ask e)
         by_fault (Some f) = tt

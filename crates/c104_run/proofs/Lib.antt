@@ -34,6 +34,7 @@ pub mod BalanceWires
 pub mod BalancePlaces
 pub mod BalanceTurns
 pub mod AskCases
+pub mod LeadActs
 pub mod BalanceControl
 pub mod BalanceNodes
 pub mod BalanceSteps

@@ -81,35 +81,35 @@ module _ {A : Type 0} (kind : Kind A) (net : Network A) where
         by_peer None is = absurd (let no : wire_fault None ≡ None = wired net.plan p None is none in cc)
         by_peer (Some q) is = record { acts = Acts.Joint p q crossing; known = ap (crossing_acts crossing p) is; why = joint_told kind net.plan is_plan net.nodes steady.in_place crossing p q is }
 
-    alone_hindered : (k : ℕ) (a : ActOf A) (why : Node A → Option Unready) (f : Unready → Reason) → alone_why net k a ≡ option_map f (why_at net.nodes k why) → ((n : Node A) → is_none (why n) ≡ is_some (node_act kind (k - length net.plan.switches) a n)) → IsHindered (Ask.Alone k a)
-    alone_hindered k a why f is here = record {
+    alone_hindered : (ask : Ask A) (k : ℕ) (a : ActOf A) → ask_acts net.plan ask ≡ Some (Acts.Alone k a) → (why : Node A → Option Unready) (f : Unready → Reason) → alone_why net k a ≡ option_map f (why_at net.nodes k why) → ((n : Node A) → is_none (why n) ≡ is_some (node_act kind (k - length net.plan.switches) a n)) → IsHindered ask
+    alone_hindered ask k a known why f is here = record {
       acts = Acts.Alone k a;
-      known = refl;
+      known = known;
       why = ap is_some is ∙ mapped f (why_at net.nodes k why) ∙ ap not (step_ready net.nodes k why (node_act kind (k - length net.plan.switches) a) (λ n at. here n));
     }
 
     -- a command and a packet that is sent always are ready
-    control_ready : (s : ℕ) (bytes : List ℕ) → StandsAt net.nodes s true → IsHindered (Ask.Alone s (ActOf.Step (ActionOf.Control bytes)))
+    control_ready : (s : ℕ) (bytes : List ℕ) → StandsAt net.nodes s true → IsHindered (Ask.Switch s (ActionOf.Control bytes))
     control_ready s bytes (Switch w, is, here) = record { acts = Acts.Alone s (ActOf.Step (ActionOf.Control bytes)); known = refl; why = rw is refl }
     control_ready s bytes (Terminal t, is, here) = absurd (cc here)
 
-    send_ready : (k : ℕ) (packet : Packet) → StandsAt net.nodes k false → IsHindered (Ask.Alone k (ActOf.Send packet))
-    send_ready k packet (Switch w, is, here) = absurd (cc here)
-    send_ready k packet (Terminal t, is, here) = record { acts = Acts.Alone k (ActOf.Send packet); known = refl; why = rw is refl }
+    send_ready : (t : ℕ) (packet : Packet) → StandsAt net.nodes (terminal_place net.plan t) false → IsHindered (Ask.Terminal t (ActOf.Send packet))
+    send_ready t packet (Switch w, is, here) = absurd (cc here)
+    send_ready t packet (Terminal n, is, here) = record { acts = Acts.Alone (terminal_place net.plan t) (ActOf.Send packet); known = refl; why = rw is refl }
 
     steps_hindered : AreCases net.plan IsHinderedAt
     steps_hindered = record {
       over = over_hindered;
-      turn = λ s l word other none. alone_hindered s (ActOf.Step (ActionOf.Input l word)) (node_input_why l) (λ u. record { port = Port.Switch s l; unready = u }) refl (input_here kind l word (s - length net.plan.switches));
-      claim = λ s i o other none. alone_hindered s (ActOf.Step (ActionOf.Claim i o)) (node_claim_why i o) (claim_reason s i o) refl (claim_here kind i o (s - length net.plan.switches));
+      turn = λ s l word other none. alone_hindered (Ask.Switch s (ActionOf.Input l word)) s (ActOf.Step (ActionOf.Input l word)) refl (node_input_why l) (λ u. record { port = Port.Switch s l; unready = u }) refl (input_here kind l word (s - length net.plan.switches));
+      claim = λ s i o other none. alone_hindered (Ask.Switch s (ActionOf.Claim i o)) s (ActOf.Step (ActionOf.Claim i o)) refl (node_claim_why i o) (claim_reason s i o) refl (claim_here kind i o (s - length net.plan.switches));
       control = λ s bytes other none. control_ready s bytes (switch_there (length net.plan.switches) (length net.plan.terminals) net.nodes steady.in_place s (node_there other (length net.plan.switches) s none));
-      send = λ t packet other none. send_ready (terminal_place net.plan t) packet (terminal_there (length net.plan.switches) (length net.plan.terminals) net.nodes steady.in_place t (terminal_place net.plan t) refl (node_there other (length net.plan.terminals) t none));
-      drain = λ t other none. (let k : ℕ = terminal_place net.plan t in alone_hindered k ActOf.Drain node_drain_why (λ u. record { port = Port.Terminal (k - length net.plan.switches); unready = u }) refl (drain_here kind (k - length net.plan.switches)));
+      send = λ t packet other none. send_ready t packet (terminal_there (length net.plan.switches) (length net.plan.terminals) net.nodes steady.in_place t (terminal_place net.plan t) refl (node_there other (length net.plan.terminals) t none));
+      drain = λ t other none. (let k : ℕ = terminal_place net.plan t in alone_hindered (Ask.Terminal t ActOf.Drain) k ActOf.Drain refl node_drain_why (λ u. record { port = Port.Terminal (k - length net.plan.switches); unready = u }) refl (drain_here kind (k - length net.plan.switches)));
     }
 
     possible : (e : Event) → event_fault net.plan e ≡ None → is_some (event_why net e) ≡ told e (network_step kind net e)
     possible e none =
-        let found : IsHindered (event_ask net.plan e) = of_event net.plan IsHinderedAt steps_hindered e none in
+        let found : IsHindered (event_ask e) = of_event net.plan IsHinderedAt steps_hindered e none in
         rw found.known (found.why ∙ step_told e found.acts (acts_step kind net.plan net.nodes found.acts) refl)
 
     pub unready_answered : (e : Event) → is_some (network_why net e) ≡ is_unready (network_apply kind net e).0

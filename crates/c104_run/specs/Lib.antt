@@ -10,6 +10,7 @@ pub mod Balance
 pub mod QuietNets
 pub mod EventDeeds
 pub mod EventPlaces
+pub mod LeadActs
 pub mod AskedActs
 pub mod Runs
 pub mod NetRecords

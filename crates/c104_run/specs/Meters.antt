@@ -30,12 +30,8 @@ module _ {M A : Type 0} (sees : Sees M A) where
   -- a meter after an event that the network's own tokens answered so
   abbrev pub meter_after : M → Event → ReplyOf A → M
   meter_after m (Event.Cross p) r = of_token (sees.crossed m p) m r
-  meter_after m (Event.Credit p) r = m
-  meter_after m (Event.Input s l word) r = m
-  meter_after m (Event.Claim s i o) r = m
-  meter_after m (Event.Control s bytes) r = m
-  meter_after m (Event.Send t packet) r = m
   meter_after m (Event.Drain t) r = of_token (sees.arrived m t) m r
+  meter_after m e r = m
 
   -- the same where it may have been refused
   abbrev pub meter_told : M → Event → Result (ReplyOf A) EventFault → M

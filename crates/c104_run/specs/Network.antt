@@ -1,11 +1,12 @@
 -- A network: a plan, and its nodes; and what each event does and answers.
 use Rattle.{c104_event.specs.declared.{events.Event.Event, faults.EventFault.EventFault}, c104_link.specs.Steps.◌>>=◌}
 use Rattle.c104_node.specs.{Acts.plain_reply, Nodes.{Node, nodes_arrived, nodes_peek}, Places.room_fault, PortActs.acts_limit}
-use Rattle.{c104_node.specs.{Terminals.new_terminal, declared.node.NodeOf.NodeOf}, c104_plan.specs.{PlanImage.Image, Plans.Plan}}
-use Rattle.c104_plan.specs.{Wiring.peer, declared.{plans.Terminal.Terminal, ports.Port.Port}}
-use Rattle.{c104_regs.specs.declared.{registers.TheConstants.LINKS, settings.Settings.Settings}, c104_run.specs.EventActs.acts_step}
-use Rattle.{c104_run.specs.EventActs.event_acts, c104_switch.specs.{Actions.Reply, Switch.{new_switch, new_switch_with}}}
-use Rattle.{c104_switch.specs.declared.actions.ReplyOf.ReplyOf, c104_token.specs.{Kinds.Kind, declared.text.TheConstants.MAX_PACKET_BYTES}}
+use Rattle.{c104_node.specs.{Terminals.new_terminal, declared.{acts.ActOf.ActOf, node.NodeOf.NodeOf}}, c104_plan.specs.PlanImage.Image}
+use Rattle.c104_plan.specs.{Plans.Plan, Wiring.peer, declared.{plans.Terminal.Terminal, ports.Port.Port}}
+use Rattle.{c104_regs.specs.declared.{registers.TheConstants.LINKS, settings.Settings.Settings}, c104_run.specs.EventActs.{Ask, acts_step}}
+use Rattle.{c104_run.specs.EventActs.{event_acts, event_ask}, c104_switch.specs.{Actions.Reply, Switch.{new_switch, new_switch_with}}}
+use Rattle.{c104_switch.specs.declared.actions.{ActionOf.ActionOf, ReplyOf.ReplyOf}, c104_token.specs.Kinds.Kind}
+use Rattle.c104_token.specs.declared.{text.TheConstants.MAX_PACKET_BYTES, tokens.Token.Token}
 use Rattle.std.specs.Prelude.{Bool, Err, List, None, Ok, Option, Result, Some, false, if◌then◌else◌, is_some, length, map, nat_le, nat_lt}
 use Rattle.std.specs.Prelude.{true, ℕ, ◌++◌, ◌+◌, ◌≡◌, ◌⊎◌}
 
@@ -88,17 +89,19 @@ wire_fault (Some q) = None
 abbrev pub wired_fault : Plan → Port → Option EventFault
 wired_fault plan p = port_fault plan p (wire_fault (peer plan p))
 
--- why an event can't happen in a network of this plan, whatever its nodes hold
-abbrev pub event_fault : Plan → Event → Option EventFault
-event_fault plan (Event.Cross p) = wired_fault plan p
-event_fault plan (Event.Credit p) = wired_fault plan p
-event_fault plan (Event.Input s l word) = node_fault (length plan.switches) s (link_fault l None)
-event_fault plan (Event.Claim s i o) =
-    node_fault (length plan.switches) s (link_fault i (link_fault o None))
-event_fault plan (Event.Control s bytes) = node_fault (length plan.switches) s None
-event_fault plan (Event.Send t packet) = node_fault (length plan.terminals) t
+-- why what is asked can't happen in a network of this plan, whatever its nodes hold
+abbrev pub ask_fault : {A : Type 0} → Plan → Ask A → Option EventFault
+ask_fault plan (Ask.Switch s (ActionOf.Input l word)) = node_fault (length plan.switches) s (link_fault l None)
+ask_fault plan (Ask.Switch s (ActionOf.Claim i o)) = node_fault (length plan.switches) s (link_fault i (link_fault o None))
+ask_fault plan (Ask.Switch s a) = node_fault (length plan.switches) s None
+ask_fault plan (Ask.Terminal t (ActOf.Send packet)) = node_fault (length plan.terminals) t
     (if nat_le (length packet.bytes) MAX_PACKET_BYTES then None else Some EventFault.TooLong)
-event_fault plan (Event.Drain t) = node_fault (length plan.terminals) t None
+ask_fault plan (Ask.Terminal t a) = node_fault (length plan.terminals) t None
+ask_fault plan (Ask.Over p crossing) = wired_fault plan p
+
+-- why an event can't
+abbrev pub event_fault : Plan → Event → Option EventFault
+event_fault plan e = ask_fault {A = Token} plan (event_ask e)
 
 -- why an event that is ready can't happen now: a terminal's list would pass its limit
 abbrev pub event_limit : {A : Type 0} → Network A → Event → Option EventFault

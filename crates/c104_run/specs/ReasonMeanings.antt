@@ -2,7 +2,7 @@
 use Rattle.{c104_event.specs.declared.events.Event.Event, c104_node.specs.{Nodes.Node, declared.acts.ActOf.ActOf}}
 use Rattle.c104_node.specs.declared.{crossings.Crossing.{Crossing, TheVariants.{Grant, Token}}, node.NodeOf.TheVariants.{Switch, Terminal}}
 use Rattle.{c104_plan.specs.{Wiring.peer, declared.ports.Port.Port}, c104_run.specs.{Ends.end_of, EventActs.{Ask, event_ask}}}
-use Rattle.c104_run.specs.{Network.Network, Reasons.claim_link, declared.reason.Reason.Reason}
+use Rattle.c104_run.specs.{Network.{Network, terminal_place}, Reasons.claim_link, declared.reason.Reason.Reason}
 use Rattle.c104_switch.specs.ReasonMeanings.{IsAcceptReason, IsCreditedReason, IsEmitReason, IsGrantReason, IsReason, IsTakeReason}
 use Rattle.c104_switch.specs.declared.{actions.ActionOf.ActionOf, unready.Unready.{TheVariants.NoLink, Unready}}
 use Rattle.std.specs.Prelude.{None, Option, Some, length, slice_get, ℕ, ◌-◌, ◌≡◌, ◌⊎◌}
@@ -73,11 +73,12 @@ IsAloneReason net k a r = ⊥
 
 -- of what is asked, this is said; of a wire, at the port that it would cross from, or at the other end
 abbrev pub IsAskReason : {A : Type 0} → Network A → Ask A → Reason → Type 0
-IsAskReason net (Ask.Alone k a) r = IsAloneReason net k a r
+IsAskReason net (Ask.Switch s a) r = IsAloneReason net s (ActOf.Step a) r
+IsAskReason net (Ask.Terminal t a) r = IsAloneReason net (terminal_place net.plan t) a r
 IsAskReason net (Ask.Over p crossing) r =
     ((r.port ≡ p) × IsSaidAt net (IsNearReason crossing) r.port r.unready)
     ⊎ ((peer net.plan p ≡ Some r.port) × IsSaidAt net (IsFarReason crossing) r.port r.unready)
 
 -- what the reason of an event says: its port is one of the event's, and the reason holds there
 abbrev pub IsEventReason : {A : Type 0} → Network A → Event → Reason → Type 0
-IsEventReason {A} net e r = IsAskReason {A = A} net (event_ask net.plan e) r
+IsEventReason {A} net e r = IsAskReason {A = A} net (event_ask e) r

@@ -3,13 +3,14 @@
 //! A port says which kind of node is there. In a network of bare nodes that has a terminal at a switch's place, what
 //! would cross a wire there is NotReady; no network with a record has such nodes. The far act is made from what the near
 //! one answered, so a token and a grant are one case.
-ghost use Rattle.std.specs.Prelude.{IfOk, MatchResult, None, Some, ◌≡◌};
-ghost use Rattle.{c104_plan.specs.Wiring.peer, c104_run.specs.{AskedActs.{AreEnds, acts_asked}, EventActs.{crossing_acts, event_acts}}};
-ghost use Rattle.c104_run.specs.{FarEnds.far_end, Network.{event_fault, wired_fault}};
-ghost use Rattle.c104_event.specs.declared.events.Event.TheVariants as event;
+ghost use Rattle.std.specs.Prelude.{IfOk, MatchResult, None, Some, if◌then◌else◌, length, ℕ, ◌≡◌};
+ghost use Rattle.{c104_plan.specs.{Plans.Plan, Wiring.peer}, c104_run.specs.AskedActs.{AreEnds, acts_asked}};
+ghost use Rattle.c104_run.specs.{EventActs.{Ask as TheAsk, crossing_acts, event_acts}, FarEnds.far_end};
+ghost use Rattle.c104_run.specs.Network.{ask_fault, event_fault, node_fault, wired_fault};
+ghost use Rattle.c104_event.specs.declared.faults.EventFault.TheVariants as fault;
 
+use crate::asks::{Ask, ask_of};
 use crate::wires::Wires;
-use c104_control::ControlBytes;
 use c104_event::{Event, EventFault, Port};
 use c104_node::{ActOf, Crossing, End, Joint};
 use c104_switch::{ActionOf, LINKS};
@@ -42,53 +43,45 @@ pub fn acts_of<'a, T: TokenKind>(
     let plan = wires.plan();
     let switches = plan.switches().len();
     let terminals = plan.terminals().len();
-    match event {
-        Event::Cross(port) => joint_of(wires, *port, Crossing::Token),
-        Event::Credit(port) => joint_of(wires, *port, Crossing::Grant),
-        Event::Input { switch, link, word } => {
-            if *switch >= switches {
+    match ask_of(event) {
+        Ask::Switch(switch, action) => {
+            if switch >= switches {
                 return Err(EventFault::NoNode);
             }
-            if *link >= LINKS {
+            if !has_links(&action) {
                 return Err(EventFault::NoLink);
             }
-            Ok(Asked::Alone(*switch, ActOf::Step(ActionOf::Input(*link, *word))))
+            Ok(Asked::Alone(switch, ActOf::Step(action)))
         }
-        Event::Claim {
-            switch,
-            input,
-            output,
-        } => {
-            if *switch >= switches {
+        Ask::Terminal(terminal, act) => {
+            if terminal >= terminals {
                 return Err(EventFault::NoNode);
             }
-            if *input >= LINKS || *output >= LINKS {
-                return Err(EventFault::NoLink);
-            }
-            Ok(Asked::Alone(*switch, ActOf::Step(ActionOf::Claim(*input, *output))))
+            Ok(Asked::Alone(switches + terminal, act))
         }
-        Event::Control { switch, bytes } => {
-            if *switch >= switches {
-                return Err(EventFault::NoNode);
-            }
-            let bytes = ControlBytes::new(bytes.as_slice());
-            Ok(Asked::Alone(*switch, ActOf::Step(ActionOf::Control(bytes))))
-        }
-        Event::Send { terminal, packet } => {
-            if *terminal >= terminals {
+        Ask::Send(terminal, packet) => {
+            if terminal >= terminals {
                 return Err(EventFault::NoNode);
             }
             if packet.bytes.as_bytes().len() > MAX_PACKET_BYTES {
                 return Err(EventFault::TooLong);
             }
-            Ok(Asked::Send(switches + *terminal, packet))
+            Ok(Asked::Send(switches + terminal, packet))
         }
-        Event::Drain { terminal } => {
-            if *terminal >= terminals {
-                return Err(EventFault::NoNode);
-            }
-            Ok(Asked::Alone(switches + *terminal, ActOf::Drain))
-        }
+        Ask::Over(port, crossing) => joint_of(wires, port, crossing),
+    }
+}
+
+/// Whether each link that an action names is one of a switch.
+#[inline(always)]
+fn has_links<T: TokenKind>(action: &ActionOf<T>) -> bool
+    ensures { (plan : Plan) (s : ℕ) → ask_fault plan (TheAsk.Switch s action.now)
+        ≡ node_fault (length plan.switches) s (if result then None else Some fault.NoLink) }
+{
+    match action {
+        ActionOf::Input(link, _) => *link < LINKS,
+        ActionOf::Claim(input, output) => *input < LINKS && *output < LINKS,
+        _ => true,
     }
 }
 

@@ -21,6 +21,7 @@
 #![tactic(auto)]
 
 mod asked;
+mod asks;
 mod doing;
 mod engine;
 mod events;
@@ -42,6 +43,7 @@ mod watch;
 mod wires;
 
 pub use asked::{Asked, acts_of};
+pub use asks::{Ask, act_event, ask_of, crossing_event};
 pub use engine::Engine;
 pub use faults::PlaceFault;
 pub use meter::{Meter, Unmetered};
