@@ -22,12 +22,8 @@ before_command t s bytes = if is_reset bytes then timeline_cut t s else t
 -- before an event: what crossed at its port has become part of the timeline
 abbrev pub before_event : Timeline → Event → Timeline
 before_event t (Event.Cross p) = timeline_settled t p
-before_event t (Event.Credit p) = t
-before_event t (Event.Input s l word) = t
-before_event t (Event.Claim s i o) = t
 before_event t (Event.Control s bytes) = before_command t s bytes
-before_event t (Event.Send terminal packet) = t
-before_event t (Event.Drain terminal) = t
+before_event t e = t
 
 -- what the timeline is told of an event: what crosses, and whether anything was done
 abbrev pub told_event : Timeline → NetRecord → Event → Timeline
