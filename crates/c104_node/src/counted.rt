@@ -87,7 +87,8 @@ impl CountedNode {
 
 impl Place<TaggedToken> for CountedNode {
     ghost use Rattle.std.specs.Prelude.{OnOk, false, length, refl, true, ◌<◌, ◌≡◌};
-    ghost use Rattle.c104_node.specs.{Acts.IsWithinLimits, PlaceActs.ActEnds, Tagged.tagged_kind, TracedRecords.counted_shown};
+    ghost use Rattle.c104_node.specs.{Acts.{IsWithinLimits, wants_memory}, PlaceActs.{ActEnds, HasActed}, Tagged.tagged_kind};
+    ghost use Rattle.c104_node.specs.TracedRecords.{counted_shown};
     ghost use Rattle.c104_node.specs.Traces.{trace_limit};
 
     ghost shown = { counted_shown };
@@ -140,5 +141,22 @@ impl Place<TaggedToken> for CountedNode {
         self.history = self.history.with(&stamp, &act, &reply);
         self.entries += 1;
         Ok(reply)
+    }
+
+    // Over what is small enough to be inlined.
+    #[inline(always)]
+    fn act_light(&mut self, stamp: Stamp, act: ActOf<TaggedToken>) -> ReplyOf<TaggedToken>
+        requires short { IsWithinLimits act }
+        requires light { wants_memory act ≡ false }
+        requires room { length self.old.trace < trace_limit }
+        ensures { HasActed tagged_kind true 0 stamp act (counted_shown self.old) result (counted_shown self.new) }
+    {
+        let reply = self.core.act_light(&act);
+        if let ReplyOf::NotReady = reply {
+            return reply;
+        }
+        self.history = self.history.with(&stamp, &act, &reply);
+        self.entries += 1;
+        reply
     }
 }

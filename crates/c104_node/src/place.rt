@@ -1,6 +1,7 @@
 //! What stands for each node of a network: the node, and whatever is kept beside it.
 ghost use Rattle.std.specs.Prelude.{Bool, None, OnOk, Some, false, true, ◌≡◌};
-ghost use Rattle.c104_node.specs.{Acts.IsWithinLimits, PlaceActs.ActEnds, Places.{IsFullByTrace, Shown}, PortActs.act_limit};
+ghost use Rattle.c104_node.specs.{Acts.{IsWithinLimits, wants_memory}, PlaceActs.{ActEnds, HasActed}, Places.{IsFullByTrace, Shown}};
+ghost use Rattle.c104_node.specs.PortActs.{act_limit};
 ghost use Rattle.c104_node.specs.WiredPlaces.{is_linked};
 
 use crate::acts::ActOf;
@@ -47,6 +48,15 @@ pub trait Place<T: TokenKind> {
         requires room { has_room self.old }
         ensures { ActEnds T.kind keeps number stamp act (shown self.old) result (shown self.new) };
 
+    /// Does an act that wants no memory, as those at the ends of wires do, in the way of `act`.
+    fn act_light(&mut self, stamp: Stamp, act: ActOf<T>) -> ReplyOf<T>
+        requires short { IsWithinLimits act }
+        requires light { wants_memory act ≡ false }
+        requires linked { is_linked (shown self.old).base act ≡ true }
+        requires below { act_limit (Some (shown self.old).state) act ≡ None }
+        requires room { has_room self.old }
+        ensures { HasActed T.kind keeps 0 stamp act (shown self.old) result (shown self.new) };
+
     /// A place is full where its trace is.
     ghost limited: { (place : Self) → IsFullByTrace keeps (shown place) };
 }
@@ -91,5 +101,14 @@ impl<T: TokenKind> Place<T> for NodeOf<T> {
         ensures { ActEnds T.kind false number _stamp act (bare_shown self.old) result (bare_shown self.new) }
     {
         NodeOf::act(self, number, &act)
+    }
+
+    #[inline(always)]
+    fn act_light(&mut self, _stamp: Stamp, act: ActOf<T>) -> ReplyOf<T>
+        requires short { IsWithinLimits act }
+        requires light { wants_memory act ≡ false }
+        ensures { HasActed T.kind false 0 _stamp act (bare_shown self.old) result (bare_shown self.new) }
+    {
+        NodeOf::act_light(self, &act)
     }
 }

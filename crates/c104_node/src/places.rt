@@ -91,10 +91,9 @@ pub fn act_at<T: TokenKind, P: Place<T>>(
         HasRoomAt P.has_room places.old j → HasRoomAt P.has_room places.new j }
 {
     let found = &mut places[place];
-    match found.act(0, stamp, act) {
-        Ok(ReplyOf::NotReady) => unreachable!(),
-        Ok(reply) => reply,
-        Err(_) => unreachable!(),
+    match found.act_light(stamp, act) {
+        ReplyOf::NotReady => unreachable!(),
+        reply => reply,
     }
 }
 

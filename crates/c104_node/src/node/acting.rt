@@ -2,14 +2,14 @@
 ghost use Rattle.std.specs.Prelude.{IfSome, MatchResult, None, OnErr, Some, false, is_some, true, unwrap_or, ℕ, ◌<◌, ◌≡◌, ◌≤◌};
 ghost use Rattle.c104_node.specs.{Acts.{IsWithinLimits, node_act, reply_outcome, wants_memory}, Nodes.node_claim, PortActs.act_limit};
 ghost use Rattle.c104_node.specs.{PortParts.{PassesUnready, is_node_ready}, SpareRooms.IsEnough};
-ghost use Rattle.{c104_regs.specs.declared.registers.TheConstants.LINKS, c104_switch.specs.Actions.{done_reply, token_reply}};
+ghost use Rattle.{c104_regs.specs.declared.registers.TheConstants.LINKS, c104_switch.specs.Actions.{done_reply, switch_step, token_reply}};
 ghost use Rattle.c104_switch.specs.Claims.{IsNextLink};
 
 use crate::acts::ActOf;
 use crate::node::NodeOf;
 use crate::port_part::PortPart;
 use crate::terminal::SpareOf;
-use c104_switch::{ActionOf, LinkSet, ReplyOf};
+use c104_switch::{ActionOf, LinkSet, ReplyOf, SwitchOf};
 use c104_token::{NoMemory, TokenKind};
 
 impl<T: TokenKind> NodeOf<T> {
@@ -56,6 +56,41 @@ impl<T: TokenKind> NodeOf<T> {
                 ActOf::Enter(token) => Ok(done(terminal.enter(*token))),
                 ActOf::CreditOut => Ok(done(terminal.credit_out())),
                 ActOf::CreditIn => Ok(done(terminal.credit_in())),
+            },
+        }
+    }
+
+    /// Does an act that wants no memory, as those at the ends of wires do, or answers NotReady and changes nothing.
+    // A crossing has this three times, and is inlined no more where it is large: so what isn't at the end of a wire is done
+    // by a function of its own.
+    #[inline(always)]
+    #[tactic(auto, using(crate::proofs::ActionSteps::step_as_node))]
+    pub fn act_light(&mut self, act: &ActOf<T>) -> ReplyOf<T>
+        requires short { IsWithinLimits act.now }
+        requires light { wants_memory act.now ≡ false }
+        ensures { (result, self.new) ≡ reply_outcome (node_act T.kind 0 act.now self.old) self.old }
+    {
+        match act {
+            ActOf::Step(action) => match self {
+                NodeOf::Switch(switch) => step(switch, action),
+                NodeOf::Terminal(_) => ReplyOf::NotReady,
+            },
+            ActOf::Send(_) | ActOf::Drain => unreachable!(),
+            ActOf::Leave => match self {
+                NodeOf::Switch(_) => ReplyOf::NotReady,
+                NodeOf::Terminal(terminal) => gave(terminal.leave()),
+            },
+            ActOf::Enter(token) => match self {
+                NodeOf::Switch(_) => ReplyOf::NotReady,
+                NodeOf::Terminal(terminal) => done(terminal.enter(*token)),
+            },
+            ActOf::CreditOut => match self {
+                NodeOf::Switch(_) => ReplyOf::NotReady,
+                NodeOf::Terminal(terminal) => done(terminal.credit_out()),
+            },
+            ActOf::CreditIn => match self {
+                NodeOf::Switch(_) => ReplyOf::NotReady,
+                NodeOf::Terminal(terminal) => done(terminal.credit_in()),
             },
         }
     }
@@ -152,6 +187,28 @@ impl<T: TokenKind> NodeOf<T> {
             NodeOf::Terminal(_) => None,
         }
     }
+}
+
+/// A switch does an action, as `SwitchOf::act`: those at the ends of wires in arms of their own, which are a call less.
+#[inline(always)]
+fn step<T: TokenKind>(switch: &mut SwitchOf<T>, action: &ActionOf<T>) -> ReplyOf<T>
+    ensures { (result, switch.new) ≡ switch_step T.kind switch.old action.now }
+{
+    match action {
+        ActionOf::Enter(link, token) => done(switch.enter(*link, *token)),
+        ActionOf::Leave(link) => gave(switch.leave(*link)),
+        ActionOf::CreditOut(link) => done(switch.credit_out(*link)),
+        ActionOf::CreditIn(link) => done(switch.credit_in(*link)),
+        _ => seldom(switch, action),
+    }
+}
+
+/// The same of any action, by a call.
+#[inline(never)]
+fn seldom<T: TokenKind>(switch: &mut SwitchOf<T>, action: &ActionOf<T>) -> ReplyOf<T>
+    ensures { (result, switch.new) ≡ switch_step T.kind switch.old action.now }
+{
+    switch.act(action)
 }
 
 #[inline(always)]

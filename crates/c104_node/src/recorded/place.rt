@@ -9,7 +9,8 @@ use c104_token::{NoMemory, Token};
 
 impl Place<Token> for Node {
     ghost use Rattle.std.specs.Prelude.{None, OnOk, Some, false, refl, true, ◌<◌, ◌≡◌};
-    ghost use Rattle.c104_node.specs.{ActLinks.on_links, Acts.IsWithinLimits, PlaceActs.ActEnds, PortActs.act_limit};
+    ghost use Rattle.c104_node.specs.{ActLinks.on_links, Acts.{IsWithinLimits, wants_memory}, PlaceActs.{ActEnds, HasActed}};
+    ghost use Rattle.c104_node.specs.PortActs.{act_limit};
     ghost use Rattle.{c104_node.specs.Records.{has_link, is_full, node_shown}, c104_token.specs.Kinds.plain_kind};
 
     ghost shown = { node_shown };
@@ -62,5 +63,20 @@ impl Place<Token> for Node {
             seat: stamp.seat,
         });
         Ok(reply)
+    }
+
+    #[inline(always)]
+    fn act_light(&mut self, stamp: Stamp, act: Act) -> Reply
+        requires short { IsWithinLimits act }
+        requires light { wants_memory act ≡ false }
+        requires linked { on_links (has_link self.old.0.wired) act ≡ true }
+        requires below { act_limit (Some self.old.0.state) act ≡ None }
+        requires room { (0 < self.old.1.entries) × (is_full self.old.0 ≡ false) }
+        ensures { HasActed plain_kind true 0 stamp act (node_shown self.old) result (node_shown self.new) }
+    {
+        match Place::act(self, 0, stamp, act) {
+            Ok(reply) => reply,
+            Err(_) => unreachable!(),
+        }
     }
 }
