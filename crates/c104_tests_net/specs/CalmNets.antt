@@ -27,11 +27,7 @@ HasLabel image t label = (range : ℕ × ℕ) × (slice_get image.ranges t ≡ S
 abbrev pub IsCalmDone : Routes → Event → Reply → Type 0
 IsCalmDone routes (Event.Send t p) r = All (λ (b : ℕ). b < 256) p.bytes × IsNotRandom routes p
 IsCalmDone routes (Event.Control s bytes) r = IsHarmless bytes r
-IsCalmDone routes (Event.Cross p) r = Unit {0}
-IsCalmDone routes (Event.Credit p) r = Unit {0}
-IsCalmDone routes (Event.Input s l word) r = Unit {0}
-IsCalmDone routes (Event.Claim s i o) r = Unit {0}
-IsCalmDone routes (Event.Drain t) r = Unit {0}
+IsCalmDone routes e r = Unit {0}
 
 -- the same, whatever is answered
 abbrev pub IsCalmEvent : Routes → Event → Type 0
