@@ -14,19 +14,16 @@ action_link (ActionOf.Enter l x) = Some l
 action_link (ActionOf.Leave l) = Some l
 action_link (ActionOf.CreditOut l) = Some l
 action_link (ActionOf.CreditIn l) = Some l
-action_link (ActionOf.Input l word) = None
-action_link (ActionOf.Claim i o) = None
-action_link (ActionOf.Control bytes) = None
+action_link a = None
 
 -- the same of an act of a node; the one link of a terminal is 0
 abbrev pub act_link : {A : Type 0} → ActOf A → Option ℕ
 act_link (ActOf.Step a) = action_link a
-act_link (ActOf.Send packet) = None
-act_link ActOf.Drain = None
 act_link ActOf.Leave = Some 0
 act_link (ActOf.Enter x) = Some 0
 act_link ActOf.CreditOut = Some 0
 act_link ActOf.CreditIn = Some 0
+act_link a = None
 
 -- whether an act goes over no link, or over one of these
 abbrev pub on_links : {A : Type 0} → (ℕ → Bool) → ActOf A → Bool

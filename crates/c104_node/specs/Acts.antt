@@ -63,20 +63,11 @@ module _ {A : Type 0} (kind : Kind A) where
 
 -- an act is within the limits of a packet: one that is sent has at most 4,096 bytes, and each is below 256
 abbrev pub IsWithinLimits : {A : Type 0} → ActOf A → Type 0
-IsWithinLimits (ActOf.Step a) = Unit {0}
 IsWithinLimits (ActOf.Send packet) = (length packet.bytes ≤ MAX_PACKET_BYTES) × All (λ (b : ℕ). b < 256) packet.bytes
-IsWithinLimits ActOf.Drain = Unit {0}
-IsWithinLimits ActOf.Leave = Unit {0}
-IsWithinLimits (ActOf.Enter x) = Unit {0}
-IsWithinLimits ActOf.CreditOut = Unit {0}
-IsWithinLimits ActOf.CreditIn = Unit {0}
+IsWithinLimits a = Unit {0}
 
 -- whether an act may want memory
 abbrev pub wants_memory : {A : Type 0} → ActOf A → Bool
-wants_memory (ActOf.Step a) = false
 wants_memory (ActOf.Send packet) = true
 wants_memory ActOf.Drain = true
-wants_memory ActOf.Leave = false
-wants_memory (ActOf.Enter x) = false
-wants_memory ActOf.CreditOut = false
-wants_memory ActOf.CreditIn = false
+wants_memory a = false

@@ -61,16 +61,11 @@ inbox_limit = 262144
 module _ {A : Type 0} where
   -- why an act that is ready can't be done now: a terminal's list would pass its limit
   abbrev pub act_limit : Option (Node A) → ActOf A → Option EventFault
-  act_limit None a = None
-  act_limit (Some n) (ActOf.Step a) = None
   act_limit (Some n) (ActOf.Send packet) =
       if nat_le (length (waiting_tokens n) + length packet.bytes + 1) outbox_limit then None else Some EventFault.OutboxFull
   act_limit (Some n) ActOf.Drain =
       if nat_lt (length (arrived_tokens n)) inbox_limit then None else Some EventFault.InboxFull
-  act_limit (Some n) ActOf.Leave = None
-  act_limit (Some n) (ActOf.Enter x) = None
-  act_limit (Some n) ActOf.CreditOut = None
-  act_limit (Some n) ActOf.CreditIn = None
+  act_limit at a = None
 
   -- the same of some acts: nothing limits what crosses a wire
   abbrev pub acts_limit : List (Node A) → Acts A → Option EventFault

@@ -23,10 +23,6 @@ module _ {A : Type 0} (kind : Kind A) (room : SpareRoom) where
 
   -- the same of an act; no other act wants memory
   abbrev pub IsEnough : Node A → ActOf A → Type 0
-  IsEnough n (ActOf.Step a) = Unit {0}
   IsEnough n (ActOf.Send packet) = IsEnoughToSend n packet
   IsEnough n ActOf.Drain = IsEnoughToDrain n
-  IsEnough n ActOf.Leave = Unit {0}
-  IsEnough n (ActOf.Enter x) = Unit {0}
-  IsEnough n ActOf.CreditOut = Unit {0}
-  IsEnough n ActOf.CreditIn = Unit {0}
+  IsEnough n a = Unit {0}

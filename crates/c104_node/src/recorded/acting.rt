@@ -114,9 +114,9 @@ fn goes_over(wired: LinkSet, act: &Act) -> bool
             ActionOf::Leave(link) => has_link(wired, *link),
             ActionOf::CreditOut(link) => has_link(wired, *link),
             ActionOf::CreditIn(link) => has_link(wired, *link),
-            ActionOf::Input(_, _) | ActionOf::Claim(_, _) | ActionOf::Control(_) => true,
+            _ => true,
         },
-        ActOf::Send(_) | ActOf::Drain => true,
         ActOf::Leave | ActOf::Enter(_) | ActOf::CreditOut | ActOf::CreditIn => has_link(wired, 0),
+        _ => true,
     }
 }
