@@ -29,6 +29,7 @@ pub mod WiredPorts
 pub mod PortWalks
 mod LivePlaces
 mod LiveRounds
+mod NotedSwitches
 pub mod PlanBuffers
 pub mod BalanceWires
 pub mod BalancePlaces

@@ -1,7 +1,7 @@
 -- Rounds over sets of places: what is passed over does nothing, and what an event may begin is in the set after it.
 use Rattle.{c104_event.specs.declared.{events.Event.Event, faults.EventFault.EventFault}, c104_node.proofs.IdleNodes.idle_by}
 use Rattle.c104_node.{proofs.IdleNodes.{unclaimed_there, unready_there}, specs.{Acts.{node_act, nodes_act}, Idle.IsIdleNode, Nodes.Node}}
-use Rattle.c104_node.specs.{Nodes.node_claim, PlaceActs.ActsEnd, PortActs.near_act, PortParts.part_act, Records.has_link}
+use Rattle.c104_node.specs.{Nodes.node_claim, PlaceActs.ActsEnd, PortActs.near_act, PortParts.{is_node_ready, part_act}, Records.has_link}
 use Rattle.c104_node.specs.declared.{acts.ActOf.ActOf, crossings.Crossing.{Crossing, TheVariants.{Grant, Token}}, node.NodeOf.NodeOf}
 use Rattle.{c104_node.specs.declared.port_part.PortPart.{PortPart, TheVariants.{Credit, Cross, Turn}}, c104_plan.specs.Plans.{IsPlan, Plan}}
 use Rattle.{c104_plan.specs.{Wiring.IsPlanPort, declared.ports.Port.Port}, c104_run.proofs.IdleEvents.{idle_credit, idle_cross, idle_drain}}
@@ -67,21 +67,29 @@ module _ {A : Type 0} (kind : Kind A) (plan : Plan) where
 
 -- what is passed over does nothing
 module _ {A : Type 0} (kind : Kind A) (net : Network A) where
-  -- at a switch
+  -- at a switch that is ready for no act of a part, and none of whose inputs claims an output
+  module _ (k : ℕ) (inside : k < length net.plan.switches) where
+    pub unready_ports : IsPlan net.plan → (part : PortPart) → ((n : Node A) → slice_get net.nodes k ≡ Some n → (l : ℕ) → l < 32 → is_wired net.plan (Port.Switch k l) ≡ true → is_node_ready kind part l n ≡ false) → AreIdle kind net (link_walk net.plan part k)
+    unready_ports planned part none =
+        idle_links kind net (port_walk net.plan part (Port.Switch k))
+        (λ l below. idle_wired kind net part (Port.Switch k l)
+        (λ is. idle_link kind net part k l (has_wire net.plan planned (Port.Switch k l) is) (unready_there kind net.nodes k 0 (part_act part l) (λ n here. none n here l below is))))
+
+    pub unclaimed_inputs : ((n : Node A) → slice_get net.nodes k ≡ Some n → (i o : ℕ) → i < 32 → node_claim i o n ≡ None) → AreIdle kind net (input_walk k)
+    unclaimed_inputs none =
+        idle_links kind net (output_walk k)
+        (λ i input. idle_outputs kind net k i inside input (λ o output. unclaimed_there kind net.nodes k i o (λ n here. none n here i o input)))
+
+  -- at one where nothing can begin
   module _ (k : ℕ) (inside : k < length net.plan.switches) (passed : IsIdlePlace kind net.plan net.nodes k) where
     linked_switch : (l : ℕ) → is_wired net.plan (Port.Switch k l) ≡ true → is_linked_end net.plan k l ≡ true
     linked_switch l is = let here : nat_lt k (length net.plan.switches) ≡ true = grind (arith, nat_tests) in rw here is
 
-    pub idle_ports : (part : PortPart) → AreIdle kind net (link_walk net.plan part k)
-    idle_ports part =
-        idle_links kind net (port_walk net.plan part (Port.Switch k))
-        (λ l below. idle_wired kind net part (Port.Switch k l)
-        (λ is. idle_link kind net part k l (has_wire net.plan passed.planned (Port.Switch k l) is) (unready_there kind net.nodes k 0 (part_act part l) (λ n here. (passed.idle n here).links part l (linked_switch l is)))))
+    pub idle_part : (part : PortPart) (n : Node A) → slice_get net.nodes k ≡ Some n → (l : ℕ) → l < 32 → is_wired net.plan (Port.Switch k l) ≡ true → is_node_ready kind part l n ≡ false
+    idle_part part n here l below is = (passed.idle n here).links part l (linked_switch l is)
 
-    pub idle_inputs : AreIdle kind net (input_walk k)
-    idle_inputs =
-        idle_links kind net (output_walk k)
-        (λ i input. idle_outputs kind net k i inside input (λ o output. unclaimed_there kind net.nodes k i o (λ n here. (passed.idle n here).claims i o input)))
+    pub idle_ports : (part : PortPart) → AreIdle kind net (link_walk net.plan part k)
+    idle_ports part = unready_ports k inside passed.planned part (idle_part part)
 
   -- at a terminal
   module _ (t : ℕ) (inside : t < length net.plan.terminals) (passed : IsIdlePlace kind net.plan net.nodes (terminal_place net.plan t)) where

@@ -6,6 +6,8 @@ use Rattle.c104_run.{proofs.{IdleEvents.{idle_credit, idle_cross, idle_turn}, Pa
 use Rattle.c104_run.specs.{Network.{Network, wired_fault}, RoundParts.{AreIdle, IsNext, input_walk, link_walk, output_walk, port_events}}
 use Rattle.c104_run.specs.{RoundParts.{port_walk, switch_walk, terminal_walk, walked_round, wired_events}, Rounds.{all_claims, claims_of}}
 use Rattle.c104_run.specs.Rounds.{is_wired, link_numbers, round, switch_claims, turn_at, wired_links, wired_ports, wired_terminals}
+use Rattle.c104_node.specs.{Acts.nodes_act, PortActs.near_act, declared.crossings.Crossing.Crossing}
+use Rattle.{c104_run.specs.{EventActs.crossing_event, RoundParts.crossing_part}, std.specs.Prelude.is_some}
 use Rattle.{c104_token.specs.Kinds.Kind, std.proofs.Common.{Bool, IfSome, List, None, Option, Some, [], ap, append-nil, arith, false}}
 use Rattle.std.proofs.Common.{filter, length, map, refl, subst, sym, true, unwrap_or, ℕ, ◌++◌, ◌<◌, ◌∙◌, ◌∷◌, ◌≡◌, ◌≤◌}
 use Rattle.std.{proofs.lemmas.{Grind.flat_map-append, List.Elements.filter-append}, specs.List.{flat_map, range_with_len}}
@@ -54,6 +56,15 @@ module _ (plan : Plan) (part : PortPart) where
       let first = switches_walked in
       let next = sym (wired_each Port.Terminal (range_with_len 0 (length plan.terminals))) in
       let parts = flat_map-append (port_events part) links (wired_terminals plan) in cc
+
+-- what crosses from a wired port in a part of a round
+pub wired_crossing : (plan : Plan) (crossing : Crossing) (p : Port) → is_wired plan p ≡ true → wired_events plan (crossing_part crossing) p ≡ crossing_event crossing p ∷ []
+wired_crossing plan Crossing.Token p is = wired_one plan Cross p is
+wired_crossing plan Crossing.Grant p is = wired_one plan Credit p is
+
+pub crossing_ready : {A : Type 0} (kind : Kind A) (net : Network A) (crossing : Crossing) (p : Port) → IsNearReady kind (crossing_part crossing) net.nodes (port_place net.plan p) p → is_some (nodes_act kind net.nodes (port_place net.plan p) 0 (near_act crossing p)) ≡ true
+crossing_ready kind net Crossing.Token p is = is
+crossing_ready kind net Crossing.Grant p is = is
 
 -- a terminal takes no turn
 no_turns : (plan : Plan) (ns : List ℕ) → flat_map turn_at (filter (is_wired plan) (map Port.Terminal ns)) ≡ []

@@ -26,6 +26,7 @@ pub mod FinishedRecords
 pub mod NodeRuns
 pub mod LinkedSets
 pub mod LivePlaces
+pub mod NotedSwitches
 pub mod RoundParts
 pub mod MeteredRuns
 pub mod NodeParts

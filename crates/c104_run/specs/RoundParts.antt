@@ -1,6 +1,7 @@
 -- Parts of a round: how a run of some events ends that tells whether any of them was done.
 use Rattle.{c104_event.specs.declared.{events.Event.Event, faults.EventFault.EventFault}, c104_node.specs.PortParts.IsNearReady}
-use Rattle.{c104_node.specs.declared.port_part.PortPart.{PortPart, TheVariants.{Credit, Cross, Turn}}, c104_plan.specs.Plans.Plan}
+use Rattle.c104_node.specs.declared.{crossings.Crossing.{Crossing, TheVariants.{Grant, Token}}, port_part.PortPart.PortPart}
+use Rattle.{c104_node.specs.declared.port_part.PortPart.TheVariants.{Credit, Cross, Turn}, c104_plan.specs.Plans.Plan}
 use Rattle.{c104_plan.specs.declared.ports.Port.Port, c104_run.specs.{EventActs.port_place, EventRuns.{EventsEnd, run_events}}}
 use Rattle.c104_run.specs.{Network.{Network, network_apply, wired_fault}, Rounds.{is_wired, link_numbers, turn_at}}
 use Rattle.{c104_switch.specs.{Actions.{Reply, is_ready}, declared.actions.ReplyOf.ReplyOf}, c104_token.specs.Kinds.Kind}
@@ -38,6 +39,11 @@ abbrev pub port_events : PortPart → Port → List Event
 port_events Credit p = event.Credit p ∷ []
 port_events Cross p = event.Cross p ∷ []
 port_events Turn p = turn_at p
+
+-- the part in which this crosses
+abbrev pub crossing_part : Crossing → PortPart
+crossing_part Token = Cross
+crossing_part Grant = Credit
 
 -- the same for a port that may have no wire
 abbrev pub wired_events : Plan → PortPart → Port → List Event

@@ -56,6 +56,16 @@ impl LivePlaces {
         }
     }
 
+    /// The set of no place, but for those that aren't told apart.
+    #[inline(always)]
+    pub fn none() -> Self {
+        LivePlaces {
+            blocks: [LinkSet::new(); BLOCKS],
+            is_all: false,
+            age: 0,
+        }
+    }
+
     /// Counts a round, and tells whether the places are to be asked anew of which it is known that something may begin
     /// there.
     pub fn is_due(&mut self) -> bool
@@ -86,6 +96,17 @@ impl LivePlaces {
         }
         let block = &mut self.blocks[place / LINKS];
         block.set(place % LINKS, true);
+    }
+
+    /// Puts a place into the set where this is so.
+    #[inline(always)]
+    pub fn add_if(&mut self, place: usize, is: bool)
+        ensures here { is ≡ true → is_live self.new place ≡ true }
+        ensures others { (k : ℕ) → k ≢ place → is_live self.new k ≡ is_live self.old k }
+    {
+        if is {
+            self.add(place);
+        }
     }
 
     /// Takes a place out of the set, if it is told apart.

@@ -2,19 +2,22 @@
 //!
 //! No list of a round's events is made. Each part walks the places at which something may begin (`LivePlaces`), and leaves
 //! out an event of which the near end says that it isn't ready: it would change nothing.
-ghost use Rattle.std.specs.Prelude.{length, ◌+◌, ◌<◌, ◌≡◌};
+ghost use Rattle.std.specs.Prelude.{OnOk, length, map, ◌+◌, ◌<◌, ◌≡◌};
+ghost use Rattle.{c104_node.specs.Places.states, c104_run.specs.NotedSwitches.{AreSo, GrantsNone}};
 ghost use Rattle.c104_run.specs.{Engines.{DoesPart, engine_at}, EventRuns.EventsEnd, Meters.metered_apply, Rounds.{round, rounds}};
 
 mod attempts;
 mod finding;
+mod noted;
 mod walks;
 
 use super::Engine;
 use crate::meter::Meter;
 use crate::watch::Watch;
 use c104_event::EventFault;
-use c104_node::{Place, PortPart, is_idle_at};
+use c104_node::{Crossing, Place, is_idle_at};
 use c104_token::TokenKind;
+use noted::Noted;
 
 impl<T: TokenKind, P: Place<T>> Engine<T, P> {
     /// Does `times` rounds, up to the first fault of an event, and tells of each that changed something.
@@ -28,8 +31,9 @@ impl<T: TokenKind, P: Place<T>> Engine<T, P> {
         ensures ends { EventsEnd (metered_apply T.kind P.keeps M.sees) (engine_at P.shown self.old meter.old)
             (rounds self.old.plan times) result (engine_at P.shown self.new meter.new) }
     {
+        let mut noted = Noted::all();
         for round in 0..times {
-            let changed = self.round(meter)?;
+            let changed = self.round_by(meter, &mut noted)?;
             if !changed {
                 // Nor would any further round change anything.
                 return Ok(());
@@ -39,18 +43,34 @@ impl<T: TokenKind, P: Place<T>> Engine<T, P> {
         Ok(())
     }
 
-    /// Does one round, and tells whether any event of it was done. Each part of it that is about ports is walked at the
-    /// switches, and then at the terminals.
+    /// Does one round, and tells whether any event of it was done.
     pub fn round<M: Meter<T>>(&mut self, meter: &mut M) -> Result<bool, EventFault>
         ensures { DoesPart T.kind P.keeps M.sees P.shown self.old meter.old round result self.new meter.new }
     {
-        let credited = self.walk_switches(meter, PortPart::Credit)?;
-        let granted = self.walk_terminals(meter, PortPart::Credit)?;
-        let crossed = self.walk_switches(meter, PortPart::Cross)?;
-        let sent = self.walk_terminals(meter, PortPart::Cross)?;
+        self.round_by(meter, &mut Noted::all())
+    }
+
+    /// The same by what was noted of the grants of switches, which is noted anew. Each part of a round that is about ports
+    /// is walked at the switches, and then at the terminals.
+    #[inline(always)]
+    fn round_by<M: Meter<T>>(
+        &mut self,
+        meter: &mut M,
+        noted: &mut Noted,
+    ) -> Result<bool, EventFault>
+        requires { AreSo (GrantsNone T.kind self.old.plan) noted.old.granting (states (map P.shown self.old.places))
+            0 (length self.old.plan.switches) }
+        ensures does { DoesPart T.kind P.keeps M.sees P.shown self.old meter.old round result self.new meter.new }
+        ensures grants { OnOk result (AreSo (GrantsNone T.kind self.old.plan) noted.new.granting
+            (states (map P.shown self.new.places)) 0 (length self.old.plan.switches)) }
+    {
+        let credited = self.grant_switches(meter, &mut noted.granting)?;
+        let granted = self.walk_terminals(meter, Crossing::Grant)?;
+        let crossed = self.cross_switches(meter)?;
+        let sent = self.walk_terminals(meter, Crossing::Token)?;
         // A terminal has no input.
-        let turned = self.walk_switches(meter, PortPart::Turn)?;
-        let claimed = self.claim_outputs(meter)?;
+        let turned = self.turn_switches(meter, noted)?;
+        let claimed = self.claim_outputs(meter, noted)?;
         let drained = self.drain_terminals(meter)?;
         self.settle();
         Ok((credited | granted) | (crossed | sent) | turned | claimed | drained)

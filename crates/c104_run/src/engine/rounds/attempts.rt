@@ -7,6 +7,9 @@ ghost use Rattle.c104_node.specs.{Acts.nodes_act, PlaceActs.AloneDone, Places.st
 ghost use Rattle.{c104_regs.specs.declared.registers.TheConstants.LINKS, c104_run.specs.Engines.{DoesPart, engine_of}};
 ghost use Rattle.c104_run.specs.{EventActs.{crossing_event, event_acts, port_place}, EventsAtPlaces.told_answer, LivePlaces.IsOfRound};
 ghost use Rattle.c104_run.specs.{Meters.meter_after, NetRecords.{is_done, ticket_after}, Network.{event_fault, wired_fault}};
+ghost use Rattle.c104_run.specs.{Engines.engine_network, Network.terminal_place, RoundParts.{CanTry, crossing_part, wired_events}};
+ghost use Rattle.c104_run.specs.NotedSwitches.{LeavesEnds, LeavesOthers, LeavesUnnoted};
+ghost use Rattle.c104_node.specs.declared.port_part.PortPart.TheVariants as part;
 ghost use Rattle.{c104_run.specs.RoundParts.done_answer, c104_switch.specs.declared.actions.ReplyOf.ReplyOf as TheReply};
 ghost use Rattle.c104_event.specs.declared.events.Event.TheVariants as event;
 ghost use Rattle.c104_plan.specs.declared.ports.Port.TheVariants as port;
@@ -14,6 +17,7 @@ ghost use Rattle.c104_plan.specs.declared.ports.Port.TheVariants as port;
 use crate::asked::far_port;
 use crate::doing::do_alone;
 use crate::engine::Engine;
+use crate::live_places::LivePlaces;
 use crate::meter::{Meter, tell_arrived, tell_joint};
 use c104_event::{EventFault, Port};
 use c104_node::{ActOf, Crossing, Joint, Place, Stamp, joint_from};
@@ -34,8 +38,10 @@ impl<T: TokenKind, P: Place<T>> Engine<T, P> {
         requires wired { wired_fault self.old.plan port ≡ None }
         requires goes { is_some (nodes_act T.kind (states (map P.shown self.old.places))
             (port_place self.old.plan port) 0 (near_act crossing port)) ≡ true }
-        ensures { DoesPart T.kind P.keeps M.sees P.shown self.old meter.old
+        ensures does { DoesPart T.kind P.keeps M.sees P.shown self.old meter.old
             (λ plan. crossing_event crossing port ∷ []) result self.new meter.new }
+        ensures others { LeavesEnds self.old.plan port (states (map P.shown self.old.places))
+            (states (map P.shown self.new.places)) }
     {
         let ends = self.wires.wired_ends(port);
         let joint = Joint {
@@ -54,6 +60,43 @@ impl<T: TokenKind, P: Place<T>> Engine<T, P> {
         self.counted(answer)
     }
 
+    /// Tries what crosses from a port that is wired and ready in a part of a round.
+    #[inline(always)]
+    pub(crate) fn attempt_part<M: Meter<T>>(
+        &mut self,
+        meter: &mut M,
+        port: Port,
+        crossing: Crossing,
+    ) -> Result<bool, EventFault>
+        requires { CanTry T.kind (engine_network P.shown self.old) (crossing_part crossing) port }
+        ensures does { DoesPart T.kind P.keeps M.sees P.shown self.old meter.old
+            (λ plan. wired_events plan (crossing_part crossing) port) result self.new meter.new }
+        ensures others { LeavesEnds self.old.plan port (states (map P.shown self.old.places))
+            (states (map P.shown self.new.places)) }
+    {
+        self.attempt_joint(meter, port, crossing)
+    }
+
+    /// The same of a grant at a link of a switch. Nothing is known any more of the grants of the far end.
+    #[inline(always)]
+    pub(crate) fn attempt_grant<M: Meter<T>>(
+        &mut self,
+        meter: &mut M,
+        granting: &mut LivePlaces,
+        switch: usize,
+        link: usize,
+    ) -> Result<bool, EventFault>
+        requires { CanTry T.kind (engine_network P.shown self.old) part.Credit (port.Switch switch link) }
+        ensures does { DoesPart T.kind P.keeps M.sees P.shown self.old meter.old
+            (λ plan. wired_events plan part.Credit (port.Switch switch link)) result self.new meter.new }
+        ensures others { LeavesUnnoted switch granting.old (states (map P.shown self.old.places))
+            granting.new (states (map P.shown self.new.places)) }
+    {
+        let port = Port::Switch(switch, link);
+        granting.add(self.wires().wired_ends(port).far.node);
+        self.attempt_part(meter, port, Crossing::Grant)
+    }
+
     /// The same of a turn of the input at a wired link, with word 0.
     #[inline(always)]
     pub(crate) fn attempt_turn<M: Meter<T>>(
@@ -62,9 +105,10 @@ impl<T: TokenKind, P: Place<T>> Engine<T, P> {
         switch: usize,
         link: usize,
     ) -> Result<bool, EventFault>
-        requires { wired_fault self.old.plan (port.Switch switch link) ≡ None }
-        ensures { DoesPart T.kind P.keeps M.sees P.shown self.old meter.old
-            (λ plan. event.Input switch link 0 ∷ []) result self.new meter.new }
+        requires { CanTry T.kind (engine_network P.shown self.old) part.Turn (port.Switch switch link) }
+        ensures does { DoesPart T.kind P.keeps M.sees P.shown self.old meter.old
+            (λ plan. wired_events plan part.Turn (port.Switch switch link)) result self.new meter.new }
+        ensures others { LeavesOthers switch (states (map P.shown self.old.places)) (states (map P.shown self.new.places)) }
     {
         self.attempt_alone(meter, switch, ActOf::Step(ActionOf::Input(link, 0)))
     }
@@ -80,8 +124,9 @@ impl<T: TokenKind, P: Place<T>> Engine<T, P> {
         requires switch { switch < length self.old.plan.switches }
         requires input { input < LINKS }
         requires output { output < LINKS }
-        ensures { DoesPart T.kind P.keeps M.sees P.shown self.old meter.old
+        ensures does { DoesPart T.kind P.keeps M.sees P.shown self.old meter.old
             (λ plan. event.Claim switch input output ∷ []) result self.new meter.new }
+        ensures others { LeavesOthers switch (states (map P.shown self.old.places)) (states (map P.shown self.new.places)) }
     {
         self.attempt_alone(meter, switch, ActOf::Step(ActionOf::Claim(input, output)))
     }
@@ -94,8 +139,10 @@ impl<T: TokenKind, P: Place<T>> Engine<T, P> {
         terminal: usize,
     ) -> Result<bool, EventFault>
         requires { terminal < length self.old.plan.terminals }
-        ensures { DoesPart T.kind P.keeps M.sees P.shown self.old meter.old
+        ensures does { DoesPart T.kind P.keeps M.sees P.shown self.old meter.old
             (λ plan. event.Drain terminal ∷ []) result self.new meter.new }
+        ensures others { LeavesOthers (terminal_place self.old.plan terminal)
+            (states (map P.shown self.old.places)) (states (map P.shown self.new.places)) }
     {
         let place = self.terminal_place(terminal);
         let answer = self.do_next(place, ActOf::Drain);
@@ -115,10 +162,11 @@ impl<T: TokenKind, P: Place<T>> Engine<T, P> {
         requires short { IsWithinLimits act }
         requires lone { act_link act ≡ None }
         requires begins { IsOfRound T.kind self.old.plan place act }
-        ensures { (e : TheEvent) → event_fault self.old.plan e ≡ None →
+        ensures does { (e : TheEvent) → event_fault self.old.plan e ≡ None →
             event_acts self.old.plan e ≡ Some (Acts.Alone place act) →
             ((reply : TheReply T) → meter_after M.sees _meter.now e reply ≡ _meter.now) →
             DoesPart T.kind P.keeps M.sees P.shown self.old _meter.now (λ plan. e ∷ []) result self.new _meter.now }
+        ensures others { LeavesOthers place (states (map P.shown self.old.places)) (states (map P.shown self.new.places)) }
     {
         let answer = self.do_next(place, act);
         self.counted(answer)

@@ -1,12 +1,16 @@
 //! Where a round goes on: the next place, link, input or output at which an event may be done.
-ghost use Rattle.std.specs.{List.range_with_len, Prelude.{IfSome, [], false, length, map, true, unwrap_or, ℕ, ◌<◌, ◌∷◌, ◌≡◌, ◌≤◌}};
+ghost use Rattle.std.specs.{List.range_with_len, Prelude.{IfSome, [], false, length, map, true, unwrap_or, ℕ, ◌<◌, ◌∷◌, ◌≡◌, ◌≢◌, ◌≤◌}};
 ghost use Rattle.{c104_node.specs.Places.states, c104_regs.specs.declared.registers.TheConstants.LINKS};
 ghost use Rattle.c104_run.specs.{Engines.engine_network, LivePlaces.{IsIdlePlace, told_places}, RoundParts.{AreIdle, CanTry, IsNext}};
 ghost use Rattle.c104_run.specs.{RoundParts.{input_walk, link_walk, output_walk, port_walk}, Rounds.link_numbers};
+ghost use Rattle.c104_run.specs.{LivePlaces.is_live, NotedSwitches.{AreSo, ClaimsNone, GrantsNone, IsSoAt}, RoundParts.crossing_part};
 ghost use Rattle.c104_event.specs.declared.events.Event.TheVariants as event;
+ghost use Rattle.c104_node.specs.declared.port_part.PortPart.TheVariants as part;
 ghost use Rattle.c104_plan.specs.declared.ports.Port.TheVariants as port;
 
 use crate::engine::Engine;
+use crate::engine::rounds::noted::Noted;
+use crate::live_places::LivePlaces;
 use c104_event::Port;
 use c104_node::{
     Crossing, Place, PortPart, can_near_at, next_claim_at, next_ready_at, next_wanting_at,
@@ -33,12 +37,59 @@ impl<T: TokenKind, P: Place<T>> Engine<T, P> {
         ensures ports { (part : PortPart) → IsNext T.kind (engine_network P.shown self.now)
             (link_walk self.now.plan part) (range_with_len 0 (length self.now.plan.switches))
             (length self.now.plan.switches) from result }
-        ensures claims { IsNext T.kind (engine_network P.shown self.now)
+        ensures passed { (k : ℕ) → from ≤ k → k < unwrap_or result (length self.now.plan.switches) →
+            IsIdlePlace T.kind self.now.plan (states (map P.shown self.now.places)) k }
+        ensures found { IfSome result (λ k. (from ≤ k) × (k < length self.now.plan.switches)) }
+        ensures few { IfSome result (λ k. k < told_places) }
+    {
+        self.next_live(from, self.switch_count())
+    }
+
+    /// The next switch, from this one on, that may grant by what was noted.
+    #[inline(always)]
+    pub(crate) fn next_granting(&self, granting: &LivePlaces, from: usize) -> Option<usize>
+        requires { AreSo (GrantsNone T.kind self.now.plan) granting.now (states (map P.shown self.now.places))
+            from (length self.now.plan.switches) }
+        ensures next { IsNext T.kind (engine_network P.shown self.now)
+            (link_walk self.now.plan part.Credit) (range_with_len 0 (length self.now.plan.switches))
+            (length self.now.plan.switches) from result }
+        ensures few { IfSome result (λ k. k < told_places) }
+    {
+        // The proof reads here what every plan keeps.
+        let _plan = self.plan();
+        granting.next(from, self.switch_count())
+    }
+
+    /// The next switch, from this one on, an input of which may claim by what was noted.
+    #[inline(always)]
+    pub(crate) fn next_claiming(&self, claiming: &LivePlaces, from: usize) -> Option<usize>
+        requires { AreSo ClaimsNone claiming.now (states (map P.shown self.now.places)) from (length self.now.plan.switches) }
+        ensures next { IsNext T.kind (engine_network P.shown self.now)
             input_walk (range_with_len 0 (length self.now.plan.switches))
             (length self.now.plan.switches) from result }
         ensures few { IfSome result (λ k. k < told_places) }
     {
-        self.next_live(from, self.switch_count())
+        // The proof reads here what every plan keeps.
+        let _plan = self.plan();
+        claiming.next(from, self.switch_count())
+    }
+
+    /// Notes a switch at which an input wants an output, and one that can grant.
+    #[inline(always)]
+    pub(crate) fn note(&self, switch: usize, noted: &mut Noted)
+        requires { switch < length self.now.plan.switches }
+        ensures claims { IsSoAt ClaimsNone noted.new.claiming (states (map P.shown self.now.places)) switch }
+        ensures claiming { (k : ℕ) → k ≢ switch → is_live noted.new.claiming k ≡ is_live noted.old.claiming k }
+        ensures grants { IsSoAt (GrantsNone T.kind self.now.plan) noted.new.granting
+            (states (map P.shown self.now.places)) switch }
+        ensures granting { (k : ℕ) → k ≢ switch → is_live noted.new.granting k ≡ is_live noted.old.granting k }
+    {
+        let places = self.places();
+        let wanting = next_wanting_at(places, switch, 0);
+        noted.claiming.add_if(switch, wanting.is_some());
+        let linked = self.wires().linked(switch);
+        let granting = next_ready_at(places, switch, PortPart::Credit, 0, linked);
+        noted.granting.add_if(switch, granting.is_some());
     }
 
     /// The next terminal, from this one on, at which something may begin.
@@ -74,25 +125,21 @@ impl<T: TokenKind, P: Place<T>> Engine<T, P> {
         next_ready_at(self.places(), switch, part, from, among)
     }
 
-    /// Whether a terminal has a wire and is ready for its event of a part. It has no input.
+    /// Whether a terminal has a wire and is ready for what crosses from there.
     #[inline(always)]
-    pub(crate) fn is_ready(&self, part: PortPart, terminal: usize) -> bool
+    pub(crate) fn is_ready(&self, crossing: Crossing, terminal: usize) -> bool
         requires { terminal < length self.now.plan.terminals }
         ensures passed { result ≡ false → AreIdle T.kind (engine_network P.shown self.now)
-            (port_walk self.now.plan part port.Terminal terminal) }
+            (port_walk self.now.plan (crossing_part crossing) port.Terminal terminal) }
         ensures ready { result ≡ true →
-            CanTry T.kind (engine_network P.shown self.now) part (port.Terminal terminal) }
+            CanTry T.kind (engine_network P.shown self.now) (crossing_part crossing) (port.Terminal terminal) }
     {
         if !self.wires().is_linked(terminal) {
             return false;
         }
         let port = Port::Terminal(terminal);
         let place = self.wires().near_end(port).node;
-        match part {
-            PortPart::Credit => can_near_at(self.places(), place, Crossing::Grant, port),
-            PortPart::Cross => can_near_at(self.places(), place, Crossing::Token, port),
-            PortPart::Turn => false,
-        }
+        can_near_at(self.places(), place, crossing, port)
     }
 
     /// The next input of a switch, from this one on, that wants an output. An input that is passed over claims none.

@@ -6,139 +6,196 @@
 //! about ports are inlined, since each part is a code of its own.
 #![tactic(auto, using(crate::proofs::EngineParts::engine_parts))]
 
-ghost use Rattle.std.specs.Prelude.{None, length, ◌<◌, ◌≡◌};
-ghost use Rattle.{c104_regs.specs.declared.registers.TheConstants.LINKS, c104_run.specs.Engines.{DoesPart, engine_network}};
-ghost use Rattle.c104_run.specs.{Network.wired_fault, RoundParts.{CanTry, claim_walk, drain_walk, input_walk, link_walk, output_walk}};
-ghost use Rattle.c104_run.specs.{RoundParts.{port_walk, switch_walk, terminal_walk, wired_events}, Rounds.turn_at};
+ghost use Rattle.std.specs.Prelude.{OnOk, length, map, slice_get, ℕ, ◌<◌, ◌≡◌};
+ghost use Rattle.{c104_node.specs.Places.states, c104_regs.specs.declared.registers.TheConstants.LINKS};
+ghost use Rattle.c104_run.specs.{Engines.{DoesPart, engine_network}, NotedSwitches.{AreNoted, AreSo, GrantsNone}};
+ghost use Rattle.c104_run.specs.NotedSwitches.{LeavesOthers, LeavesUnnoted};
+ghost use Rattle.c104_run.specs.RoundParts.{claim_walk, crossing_part, drain_walk, input_walk, link_walk, output_walk, port_walk};
+ghost use Rattle.c104_run.specs.RoundParts.{switch_walk, terminal_walk};
+ghost use Rattle.c104_node.specs.declared.port_part.PortPart.TheVariants as part;
 ghost use Rattle.c104_plan.specs.declared.ports.Port.TheVariants as port;
 
+use super::noted::Noted;
 use crate::engine::Engine;
+use crate::live_places::LivePlaces;
 use crate::meter::Meter;
 use c104_event::{EventFault, Port};
 use c104_node::{Crossing, Place, PortPart};
 use c104_token::TokenKind;
 
 impl<T: TokenKind, P: Place<T>> Engine<T, P> {
-    /// The events of a part at the wired links of the switches.
-    #[inline(always)]
-    pub(crate) fn walk_switches<M: Meter<T>>(
+    /// The grants at the wired links of the switches: of those that are noted, and of the far ends of what was granted.
+    pub(crate) fn grant_switches<M: Meter<T>>(
         &mut self,
         meter: &mut M,
-        part: PortPart,
+        granting: &mut LivePlaces,
     ) -> Result<bool, EventFault>
+        requires { AreSo (GrantsNone T.kind self.old.plan) granting.old (states (map P.shown self.old.places))
+            0 (length self.old.plan.switches) }
         ensures { DoesPart T.kind P.keeps M.sees P.shown self.old meter.old
-            (λ plan. switch_walk plan part) result self.new meter.new }
+            (λ plan. switch_walk plan part.Credit) result self.new meter.new }
     {
         let mut changed = false;
         let mut from = 0;
-        while let Some(switch) = self.next_switch(from) {
-            let done = self.walk_links(meter, part, switch)?;
+        while let Some(switch) = self.next_granting(granting, from) {
+            let done = self.grant_links(meter, granting, switch)?;
             changed |= done;
             from = switch + 1;
         }
         Ok(changed)
     }
 
-    /// The events of a part at the wired links of a switch.
+    /// The grants at the wired links of a switch.
     #[inline(always)]
-    fn walk_links<M: Meter<T>>(
+    fn grant_links<M: Meter<T>>(
         &mut self,
         meter: &mut M,
-        part: PortPart,
+        granting: &mut LivePlaces,
         switch: usize,
     ) -> Result<bool, EventFault>
         requires { switch < length self.old.plan.switches }
-        ensures { DoesPart T.kind P.keeps M.sees P.shown self.old meter.old
-            (λ plan. link_walk plan part switch) result self.new meter.new }
+        ensures does { DoesPart T.kind P.keeps M.sees P.shown self.old meter.old
+            (λ plan. link_walk plan part.Credit switch) result self.new meter.new }
+        ensures others { LeavesUnnoted switch granting.old (states (map P.shown self.old.places))
+            granting.new (states (map P.shown self.new.places)) }
     {
         let mut changed = false;
         let mut from = 0;
-        while let Some(link) = self.next_link(part, switch, from) {
-            let done = self.try_at(meter, part, Port::Switch(switch, link))?;
+        while let Some(link) = self.next_link(PortPart::Credit, switch, from) {
+            let done = self.attempt_grant(meter, granting, switch, link)?;
             changed |= done;
             from = link + 1;
         }
         Ok(changed)
     }
 
-    /// The events of a part at the wired terminals.
+    /// What crosses from the wired links of the switches.
+    pub(crate) fn cross_switches<M: Meter<T>>(&mut self, meter: &mut M) -> Result<bool, EventFault>
+        ensures { DoesPart T.kind P.keeps M.sees P.shown self.old meter.old
+            (λ plan. switch_walk plan part.Cross) result self.new meter.new }
+    {
+        let mut changed = false;
+        let mut from = 0;
+        while let Some(switch) = self.next_switch(from) {
+            let done = self.cross_links(meter, switch)?;
+            changed |= done;
+            from = switch + 1;
+        }
+        Ok(changed)
+    }
+
+    /// What crosses from the wired links of a switch.
     #[inline(always)]
+    fn cross_links<M: Meter<T>>(&mut self, meter: &mut M, switch: usize) -> Result<bool, EventFault>
+        requires { switch < length self.old.plan.switches }
+        ensures { DoesPart T.kind P.keeps M.sees P.shown self.old meter.old
+            (λ plan. link_walk plan part.Cross switch) result self.new meter.new }
+    {
+        let mut changed = false;
+        let mut from = 0;
+        while let Some(link) = self.next_link(PortPart::Cross, switch, from) {
+            let done = self.attempt_part(meter, Port::Switch(switch, link), Crossing::Token)?;
+            changed |= done;
+            from = link + 1;
+        }
+        Ok(changed)
+    }
+
+    /// What crosses from the wired terminals: grants, or tokens.
     pub(crate) fn walk_terminals<M: Meter<T>>(
         &mut self,
         meter: &mut M,
-        part: PortPart,
+        crossing: Crossing,
     ) -> Result<bool, EventFault>
         ensures { DoesPart T.kind P.keeps M.sees P.shown self.old meter.old
-            (λ plan. terminal_walk plan part) result self.new meter.new }
+            (λ plan. terminal_walk plan (crossing_part crossing)) result self.new meter.new }
     {
         let mut changed = false;
         let mut from = 0;
         while let Some(terminal) = self.next_terminal(from) {
-            let done = self.try_terminal(meter, part, terminal)?;
+            let done = self.try_terminal(meter, crossing, terminal)?;
             changed |= done;
             from = terminal + 1;
         }
         Ok(changed)
     }
 
-    /// The event of a part at a terminal, if it is wired.
+    /// What crosses from a terminal, if it is wired.
     #[inline(always)]
     fn try_terminal<M: Meter<T>>(
         &mut self,
         meter: &mut M,
-        part: PortPart,
+        crossing: Crossing,
         terminal: usize,
     ) -> Result<bool, EventFault>
         requires { terminal < length self.old.plan.terminals }
         ensures { DoesPart T.kind P.keeps M.sees P.shown self.old meter.old
-            (λ plan. port_walk plan part port.Terminal terminal) result self.new meter.new }
+            (λ plan. port_walk plan (crossing_part crossing) port.Terminal terminal) result self.new meter.new }
     {
-        if !self.is_ready(part, terminal) {
+        if !self.is_ready(crossing, terminal) {
             return Ok(false);
         }
-        self.try_at(meter, part, Port::Terminal(terminal))
+        self.attempt_part(meter, Port::Terminal(terminal), crossing)
     }
 
-    /// The event of a part at a wired port, which is ready for it; for a turn, which may be.
-    #[inline(always)]
-    fn try_at<M: Meter<T>>(
+    /// The turns of the inputs at the wired links of the switches, and what they leave: it is noted at which switches claims
+    /// and grants may be done.
+    pub(crate) fn turn_switches<M: Meter<T>>(
         &mut self,
         meter: &mut M,
-        part: PortPart,
-        port: Port,
+        noted: &mut Noted,
     ) -> Result<bool, EventFault>
-        requires { CanTry T.kind (engine_network P.shown self.old) part port }
-        ensures { DoesPart T.kind P.keeps M.sees P.shown self.old meter.old
-            (λ plan. wired_events plan part port) result self.new meter.new }
+        ensures does { DoesPart T.kind P.keeps M.sees P.shown self.old meter.old
+            (λ plan. switch_walk plan part.Turn) result self.new meter.new }
+        ensures noted { OnOk result (AreNoted T.kind self.old.plan noted.new.claiming noted.new.granting
+            (states (map P.shown self.new.places))) }
     {
-        match part {
-            PortPart::Credit => self.attempt_joint(meter, port, Crossing::Grant),
-            PortPart::Cross => self.attempt_joint(meter, port, Crossing::Token),
-            PortPart::Turn => self.try_turn(meter, port),
-        }
-    }
-
-    /// The input at a wired port takes a turn, with word 0, if it is a switch's.
-    #[inline(always)]
-    fn try_turn<M: Meter<T>>(&mut self, meter: &mut M, port: Port) -> Result<bool, EventFault>
-        requires { wired_fault self.old.plan port ≡ None }
-        ensures { DoesPart T.kind P.keeps M.sees P.shown self.old meter.old
-            (λ plan. turn_at port) result self.new meter.new }
-    {
-        match port {
-            Port::Switch(switch, link) => self.attempt_turn(meter, switch, link),
-            Port::Terminal(_) => Ok(false),
-        }
-    }
-
-    /// The claims of all switches.
-    pub(crate) fn claim_outputs<M: Meter<T>>(&mut self, meter: &mut M) -> Result<bool, EventFault>
-        ensures { DoesPart T.kind P.keeps M.sees P.shown self.old meter.old
-            claim_walk result self.new meter.new }
-    {
+        *noted = Noted::none();
         let mut changed = false;
         let mut from = 0;
         while let Some(switch) = self.next_switch(from) {
+            let done = self.turn_links(meter, switch)?;
+            self.note(switch, noted);
+            changed |= done;
+            from = switch + 1;
+        }
+        Ok(changed)
+    }
+
+    /// The turns of the inputs at the wired links of a switch.
+    #[inline(always)]
+    fn turn_links<M: Meter<T>>(&mut self, meter: &mut M, switch: usize) -> Result<bool, EventFault>
+        requires { switch < length self.old.plan.switches }
+        ensures does { DoesPart T.kind P.keeps M.sees P.shown self.old meter.old
+            (λ plan. link_walk plan part.Turn switch) result self.new meter.new }
+        ensures others { LeavesOthers switch (states (map P.shown self.old.places)) (states (map P.shown self.new.places)) }
+    {
+        let mut changed = false;
+        let mut from = 0;
+        while let Some(link) = self.next_link(PortPart::Turn, switch, from) {
+            let done = self.attempt_turn(meter, switch, link)?;
+            changed |= done;
+            from = link + 1;
+        }
+        Ok(changed)
+    }
+
+    /// The claims of all switches: of those that are noted. What a claim leaves isn't asked: the switch may grant.
+    pub(crate) fn claim_outputs<M: Meter<T>>(
+        &mut self,
+        meter: &mut M,
+        noted: &mut Noted,
+    ) -> Result<bool, EventFault>
+        requires { AreNoted T.kind self.old.plan noted.old.claiming noted.old.granting (states (map P.shown self.old.places)) }
+        ensures does { DoesPart T.kind P.keeps M.sees P.shown self.old meter.old
+            claim_walk result self.new meter.new }
+        ensures grants { OnOk result (AreSo (GrantsNone T.kind self.old.plan) noted.new.granting
+            (states (map P.shown self.new.places)) 0 (length self.old.plan.switches)) }
+    {
+        let mut changed = false;
+        let mut from = 0;
+        while let Some(switch) = self.next_claiming(&noted.claiming, from) {
+            noted.granting.add(switch);
             let done = self.claim_in_switch(meter, switch)?;
             changed |= done;
             from = switch + 1;
@@ -153,8 +210,9 @@ impl<T: TokenKind, P: Place<T>> Engine<T, P> {
         switch: usize,
     ) -> Result<bool, EventFault>
         requires { switch < length self.old.plan.switches }
-        ensures { DoesPart T.kind P.keeps M.sees P.shown self.old meter.old
+        ensures does { DoesPart T.kind P.keeps M.sees P.shown self.old meter.old
             (λ plan. input_walk switch) result self.new meter.new }
+        ensures others { LeavesOthers switch (states (map P.shown self.old.places)) (states (map P.shown self.new.places)) }
     {
         let mut changed = false;
         let mut from = 0;
@@ -176,8 +234,9 @@ impl<T: TokenKind, P: Place<T>> Engine<T, P> {
     ) -> Result<bool, EventFault>
         requires switch { switch < length self.old.plan.switches }
         requires input { input < LINKS }
-        ensures { DoesPart T.kind P.keeps M.sees P.shown self.old meter.old
+        ensures does { DoesPart T.kind P.keeps M.sees P.shown self.old meter.old
             (λ plan. output_walk switch input) result self.new meter.new }
+        ensures others { LeavesOthers switch (states (map P.shown self.old.places)) (states (map P.shown self.new.places)) }
     {
         let mut changed = false;
         let mut from = 0;
@@ -191,8 +250,10 @@ impl<T: TokenKind, P: Place<T>> Engine<T, P> {
 
     /// A token's arrival at each terminal.
     pub(crate) fn drain_terminals<M: Meter<T>>(&mut self, meter: &mut M) -> Result<bool, EventFault>
-        ensures { DoesPart T.kind P.keeps M.sees P.shown self.old meter.old
+        ensures does { DoesPart T.kind P.keeps M.sees P.shown self.old meter.old
             drain_walk result self.new meter.new }
+        ensures switches { (j : ℕ) → j < length self.old.plan.switches →
+            slice_get (states (map P.shown self.new.places)) j ≡ slice_get (states (map P.shown self.old.places)) j }
     {
         let mut changed = false;
         let mut from = 0;

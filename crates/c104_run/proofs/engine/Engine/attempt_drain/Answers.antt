@@ -1,9 +1,10 @@
+use Rattle.c104_node.proofs.IdleNodes.{alone_stays}
 use Rattle.{c104_event.specs.declared.events.Event.Event, c104_node.specs.{PortActs.Acts, declared.acts.ActOf.ActOf}}
 use Rattle.c104_run.{proofs.{ActAttempts.{alone_tried, drain_possible}, LiveRounds.drain_begins}, specs.EventsAtPlaces.told_answer}
-use Rattle.{c104_run.specs.NetRecords.{is_done, ticket_after}, std.proofs.Common.{Option, Some, ap, sym, ℕ}}
+use Rattle.{c104_run.specs.NetRecords.{is_done, ticket_after}, std.proofs.Common.{Option, Some, ap, length, sym, ℕ, ◌-◌}}
 
-pub returns : Rattle.c104_run.proofs.engine.Engine.attempt_drain.Goals.returns
-returns g c =
+pub returns-clause-does : Rattle.c104_run.proofs.engine.Engine.attempt_drain.Goals.returns-clause-does
+returns-clause-does g c =
     let drain : ℕ → Option (Acts g.row.T.Denot) = λ k. Some (Acts.Alone k ActOf.Drain) in
     rw (c.counted.ensures.told, c.counted.ensures.next) (record {
       plan = c.do_next-answer.ensures.plan;
@@ -15,3 +16,6 @@ returns g c =
 
 pub do_next-answer-requires-clause-begins : Rattle.c104_run.proofs.engine.Engine.attempt_drain.Goals.do_next-answer-requires-clause-begins
 do_next-answer-requires-clause-begins g c = drain_begins g.T.TokenKind.kind c.args.self.now.plan c.terminal_place-place.result
+
+pub returns-clause-others : Rattle.c104_run.proofs.engine.Engine.attempt_drain.Goals.returns-clause-others
+returns-clause-others g c = rw (c.counted.ensures.next, sym c.terminal_place-place.ensures) (record { stay = λ j other. alone_stays g.T.TokenKind.kind g.P.Place.keeps _ _ _ c.do_next-answer.result j c.terminal_place-place.result (c.terminal_place-place.result - length c.args.self.now.plan.switches) ActOf.Drain c.do_next-answer.ensures.done other })

@@ -1,9 +1,9 @@
 use Rattle.c104_node.{proofs.IdleNodes.joint_stays, specs.{Acts.nodes_act, Places.states, PortActs.near_act, declared.ends.End.End}}
-use Rattle.c104_run.proofs.{ActAttempts.joint_tried, Engines.{acted_kept, put_back}, LiveRounds.{live_joint, ready_live}}
+use Rattle.c104_run.proofs.{ActAttempts.joint_tried, NotedSwitches.one_far, Engines.{acted_kept, put_back}, LiveRounds.{live_joint, ready_live}}
 use Rattle.c104_run.specs.{Engines.{EngineView, engine_of}, EventActs.{crossing_event, port_place}, EventsAtPlaces.told_answer}
 use Rattle.c104_run.specs.{LivePlaces.is_live, Meters.{metered_apply, metered_of}, NetRecords.{is_done, ticket_after}, Network.wired_fault}
-use Rattle.{c104_run.specs.RoundParts.{PartEnds, done_answer}, std.proofs.Common.{List, None, [], ap, is_some, map, refl, subst, sym, true}}
-use Rattle.std.{proofs.{Common.{◌∙◌, ◌∷◌, ◌≡◌}, lemmas.List.with_items_is}, specs.Vec.with_items}
+use Rattle.{c104_run.specs.RoundParts.{PartEnds, done_answer}, std.proofs.Common.{List, None, [], ap, is_some, map, refl, slice_get, subst, sym, true}}
+use Rattle.std.{proofs.{Common.{◌∙◌, ◌∷◌, ◌≡◌, ◌≢◌}, lemmas.List.with_items_is}, specs.Vec.with_items}
 use Rattle.c104_run.proofs.engine.Engine.attempt_joint.Goals as goal
 
 pub invariant_of-self : goal.invariant_of-self
@@ -20,8 +20,8 @@ invariant_of-self g c =
     c.add.ensures.here c.add.ensures.others
     (λ j from to. joint_stays g.T.TokenKind.kind g.P.Place.keeps _ _ _ c.joint_from-answer.result j _ _ _ c.joint_from-answer.ensures from to) was) c.self.invariant
 
-pub returns : goal.returns
-returns g c =
+pub returns-clause-does : goal.returns-clause-does
+returns-clause-does g c =
     let put_is = with_items_is c.self.inside.places c.joint_from-answer.new.places (c.joint_from-answer.auto.places ∙ c.as_mut_slice-places.ensures.len) in
     let wired : wired_fault c.self.inside.wires c.args.port ≡ None = subst (λ (e : EngineView g.row.P.Denot). wired_fault e.plan c.args.port ≡ None) (sym c.self.view_is) c.requires.wired in
     rw (c.counted.ensures.told, c.counted.ensures.next, sym c.self.view_is) (record {
@@ -32,3 +32,13 @@ returns g c =
           (joint_tried g.T.TokenKind.kind g.P.Place.keeps g.M.Meter.sees g.P.Place.shown g.met.P.Place.limited c.self.inside.wires c.as_mut_slice-places.result.now c.joint_from-answer.new.places c.self.inside.count (ticket_after c.self.inside.count (is_done (told_answer g.T.TokenKind.kind c.joint_from-answer.result))) c.args.meter.now c.tell_joint.new.meter c.joint_from-answer.result refl
           c.args.port c.far_port.result c.args.crossing c.wired_ends-ends.result.near c.wired_ends-ends.result.far c.wired_ends-ends.ensures.near c.wired_ends-ends.ensures.far c.far_port.ensures c.tell_joint.ensures wired c.joint_from-answer.ensures);
     })
+
+pub returns-clause-others : goal.returns-clause-others
+returns-clause-others g c =
+    let put_is = with_items_is c.self.inside.places c.joint_from-answer.new.places (c.joint_from-answer.auto.places ∙ c.as_mut_slice-places.ensures.len) in
+    rw (c.counted.ensures.next, sym c.self.view_is) (λ far is j from to.
+      let away = subst (λ (e : EngineView g.row.P.Denot). j ≢ port_place e.plan c.args.port) (sym c.self.view_is) from in
+      put_back (λ (olds news : List g.row.P.Denot). slice_get (states (map g.P.Place.shown news)) j ≡ slice_get (states (map g.P.Place.shown olds)) j)
+      c.self.inside.places.items c.as_mut_slice-places.result.now c.joint_from-answer.new.places (with_items c.self.inside.places c.joint_from-answer.new.places).items c.as_mut_slice-places.ensures.value put_is
+      (joint_stays g.T.TokenKind.kind g.P.Place.keeps _ _ _ c.joint_from-answer.result j _ _ _ c.joint_from-answer.ensures
+      (λ same. away (same ∙ ap (λ (end : End). end.node) c.wired_ends-ends.ensures.near)) (λ same. to (same ∙ one_far _ _ _ c.wired_ends-ends.ensures.far is))))

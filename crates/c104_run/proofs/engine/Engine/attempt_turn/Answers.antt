@@ -1,8 +1,12 @@
-use Rattle.{c104_event.specs.declared.events.Event.Event, c104_run.proofs.{ActAttempts.turn_possible, LiveRounds.turn_begins}}
-use Rattle.std.proofs.Common.{refl}
+use Rattle.{c104_event.specs.declared.events.Event.Event, c104_node.specs.declared.port_part.PortPart.PortPart, c104_plan.specs.declared.ports.Port.Port}
+use Rattle.c104_run.proofs.{ActAttempts.turn_possible, EngineParts.does_so, LiveRounds.turn_begins, PortWalks.wired_one}
+use Rattle.std.proofs.Common.{refl, sym}
+use Rattle.c104_run.proofs.engine.Engine.attempt_turn.Goals as goal
 
-pub returns : Rattle.c104_run.proofs.engine.Engine.attempt_turn.Goals.returns
-returns g c = c.attempt_alone.ensures (Event.Input c.args.switch c.args.link 0) (turn_possible c.args.self.now.plan c.args.switch c.args.link 0 c.requires) refl (λ reply. refl)
+pub returns-clause-does : goal.returns-clause-does
+returns-clause-does g c =
+    does_so (sym (wired_one c.args.self.now.plan PortPart.Turn (Port.Switch c.args.switch c.args.link) c.requires.linked))
+    (c.attempt_alone.ensures.does (Event.Input c.args.switch c.args.link 0) (turn_possible c.args.self.now.plan c.args.switch c.args.link 0 c.requires.wired) refl (λ reply. refl))
 
-pub attempt_alone-requires-clause-begins : Rattle.c104_run.proofs.engine.Engine.attempt_turn.Goals.attempt_alone-requires-clause-begins
-attempt_alone-requires-clause-begins g c = turn_begins g.T.TokenKind.kind c.args.self.now.plan c.args.switch c.args.link c.requires
+pub attempt_alone-requires-clause-begins : goal.attempt_alone-requires-clause-begins
+attempt_alone-requires-clause-begins g c = turn_begins g.T.TokenKind.kind c.args.self.now.plan c.args.switch c.args.link c.requires.wired
