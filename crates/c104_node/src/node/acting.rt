@@ -72,7 +72,13 @@ impl<T: TokenKind> NodeOf<T> {
     {
         match act {
             ActOf::Step(action) => match self {
-                NodeOf::Switch(switch) => step(switch, action),
+                NodeOf::Switch(switch) => match action {
+                    ActionOf::Enter(link, token) => done(switch.enter(*link, *token)),
+                    ActionOf::Leave(link) => gave(switch.leave(*link)),
+                    ActionOf::CreditOut(link) => done(switch.credit_out(*link)),
+                    ActionOf::CreditIn(link) => done(switch.credit_in(*link)),
+                    _ => seldom(switch, action),
+                },
                 NodeOf::Terminal(_) => ReplyOf::NotReady,
             },
             ActOf::Send(_) | ActOf::Drain => unreachable!(),
@@ -189,21 +195,7 @@ impl<T: TokenKind> NodeOf<T> {
     }
 }
 
-/// A switch does an action, as `SwitchOf::act`: those at the ends of wires in arms of their own, which are a call less.
-#[inline(always)]
-fn step<T: TokenKind>(switch: &mut SwitchOf<T>, action: &ActionOf<T>) -> ReplyOf<T>
-    ensures { (result, switch.new) ≡ switch_step T.kind switch.old action.now }
-{
-    match action {
-        ActionOf::Enter(link, token) => done(switch.enter(*link, *token)),
-        ActionOf::Leave(link) => gave(switch.leave(*link)),
-        ActionOf::CreditOut(link) => done(switch.credit_out(*link)),
-        ActionOf::CreditIn(link) => done(switch.credit_in(*link)),
-        _ => seldom(switch, action),
-    }
-}
-
-/// The same of any action, by a call.
+/// A switch does an action, as `SwitchOf::act`, by a call.
 #[inline(never)]
 fn seldom<T: TokenKind>(switch: &mut SwitchOf<T>, action: &ActionOf<T>) -> ReplyOf<T>
     ensures { (result, switch.new) ≡ switch_step T.kind switch.old action.now }
