@@ -104,7 +104,7 @@ impl<T: TokenKind, P: RecordedPlace<T>> RecordedNet<T, P> {
         ensures due { AnswersRecord self.old event.now result self.new }
         ensures done { DoneLaw }
     {
-        self.apply_metered(event, &mut Unmetered)
+        self.engine.do_event(event, &mut Unmetered)
     }
 
     /// The same, and tells a meter of the token, where one crosses a wire or arrives.
