@@ -12,27 +12,7 @@ use c104_event::{EventFault, Port};
 use c104_switch::ReplyOf;
 use c104_token::{NoMemory, TokenKind};
 
-/// Something crosses a wire between the nodes at two places, or nothing changes.
-#[inline(always)]
-pub fn joint_at<T: TokenKind, P: Place<T>>(
-    places: &mut [P],
-    near: usize,
-    far: usize,
-    joint: Joint,
-    stamp: Stamp,
-) -> Result<ReplyOf<T>, EventFault>
-    requires apart { near ≢ far }
-    requires near_linked { links_at (bases (map P.shown places.old)) near (port_link joint.near) ≡ true }
-    requires far_linked { links_at (bases (map P.shown places.old)) far (port_link joint.far) ≡ true }
-    ensures { JointDone T.kind P.keeps near far joint stamp (map P.shown places.old) result (map P.shown places.new) }
-{
-    if !can_near_at(places, near, joint.crossing, joint.near) {
-        return Ok(ReplyOf::NotReady);
-    }
-    joint_from(places, near, far, joint, stamp)
-}
-
-/// The same where the node at the first place is ready.
+/// Something crosses a wire between the nodes at two places, of which the first is ready for it, or nothing changes.
 #[inline(always)]
 pub fn joint_from<T: TokenKind, P: Place<T>>(
     places: &mut [P],

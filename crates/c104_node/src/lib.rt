@@ -5,7 +5,7 @@
 //! (`NodeStart`) where a node began. A `Node` keeps both, and a `CountedNode` how many entries these would be.
 //!
 //! A `Place` is a node and what is kept beside it. One act at one place (`attempt_at`), or one at each of two
-//! (`joint_at`), is done as a whole or changes nothing. Which nodes are joined by wires, and at which places they
+//! (`joint_from`), is done as a whole or changes nothing. Which nodes are joined by wires, and at which places they
 //! stand, isn't known here.
 #![tactic(auto)]
 
@@ -32,7 +32,7 @@ pub use acts::{Act, ActOf, Entry, same_reply};
 pub use counted::CountedNode;
 pub use crossings::{Crossing, Joint};
 pub use ends::End;
-pub use joint::{can_near_at, joint_at, joint_from};
+pub use joint::{can_near_at, joint_from};
 pub use node::NodeOf;
 pub use node::starts::add_starts;
 pub use origins::{Origin, origin_of, origins_of};

@@ -1,19 +1,14 @@
-//! The acts of an event, done at the places of nodes.
+//! What an event asks of one node, done at its place.
 //!
 //! Whether a trace is full is tested right before the first growth, the copy of a packet among them, and so before memory
-//! runs out. Room is made before the first act, so that of the two acts of a wire the second can't be refused.
+//! runs out.
 ghost use Rattle.std.specs.Prelude.{MatchOption, None, false, is_some, length, map, slice_get, true, unwrap_or, ◌-◌, ◌<◌, ◌≡◌};
-ghost use Rattle.c104_node.specs.{ActLinks.act_link, Acts.{IsWithinLimits, nodes_act}, PlaceActs.AloneDone, Places.{bases, fulls}};
-ghost use Rattle.{c104_node.specs.{Places.{room_fault, states}, PortActs.act_limit, Traces.full_at}, c104_run.specs.AskedActs.AreEnds};
-ghost use Rattle.c104_run.specs.{AskedActs.acts_asked, EventsAtPlaces.ActsDone, KnownWires.KnowWires};
+ghost use Rattle.c104_node.specs.{ActLinks.act_link, Acts.{IsWithinLimits, nodes_act}, PlaceActs.AloneDone, Places.fulls};
+ghost use Rattle.c104_node.specs.{Places.{room_fault, states}, PortActs.act_limit, Traces.full_at};
 ghost use Rattle.c104_node.specs.declared.acts.ActOf.TheVariants as act;
 
-use crate::asked::Asked;
 use c104_event::EventFault;
-use c104_node::{
-    ActOf, Place, SentPacket, Stamp, attempt_at, is_full_at, joint_at, node_at, ready_at,
-};
-use c104_plan::Plan;
+use c104_node::{ActOf, Place, SentPacket, Stamp, attempt_at, is_full_at, node_at, ready_at};
 use c104_switch::ReplyOf;
 use c104_token::{Packet, TokenKind};
 
@@ -83,7 +78,7 @@ pub fn do_alone<T: TokenKind, P: Place<T>>(
 
 /// The terminal at a place sends a packet, if the limit of its list doesn't refuse it. The packet is copied only then.
 #[inline(always)]
-fn do_send<T: TokenKind, P: Place<T>>(
+pub fn do_send<T: TokenKind, P: Place<T>>(
     switches: usize,
     places: &mut [P],
     place: usize,
@@ -131,25 +126,4 @@ fn send_open<T: TokenKind, P: Place<T>>(
     };
     let number = place.saturating_sub(switches);
     attempt_at(places, place, number, stamp, ActOf::Send(copy))
-}
-
-/// Does what an event asks at these places, or changes nothing.
-#[inline(always)]
-pub fn do_acts<T: TokenKind, P: Place<T>>(
-    plan: &Plan,
-    places: &mut [P],
-    asked: Asked<'_, T>,
-    stamp: Stamp,
-) -> Result<ReplyOf<T>, EventFault>
-    requires ends { AreEnds plan.now asked }
-    requires knows { KnowWires plan.now (bases (map P.shown places.old)) }
-    ensures { ActsDone T.kind P.keeps plan.now stamp (acts_asked asked.entry)
-        (map P.shown places.old) result (map P.shown places.new) }
-{
-    let switches = plan.switches().len();
-    match asked {
-        Asked::Alone(place, act) => do_alone(switches, places, place, act, stamp),
-        Asked::Send(place, packet) => do_send(switches, places, place, packet, stamp),
-        Asked::Joint(near, far, joint) => joint_at(places, near, far, joint, stamp),
-    }
 }

@@ -4,24 +4,20 @@
 //! a network over some kind of token and of place has an engine, and beside it what is kept of the network. The places know
 //! their wires, and the set of live ones has each at which something of a round may begin: that is what every engine keeps.
 ghost use Rattle.std.specs.Prelude.{map, ◌≡◌};
-ghost use Rattle.{c104_node.specs.{Places.bases, Traces.seatless}, c104_plan.specs.Plans.IsPlan, c104_run.specs.Engines.EngineView};
-ghost use Rattle.c104_run.specs.{Engines.{IsEngine, engine_network, engine_of}, EventsAtPlaces.EventDone, KnownWires.KnowWires};
-ghost use Rattle.c104_run.specs.{Meters.{meter_if, own_reply}, NetRecords.{is_done, ticket_after}};
+ghost use Rattle.{c104_node.specs.Places.bases, c104_plan.specs.Plans.IsPlan, c104_run.specs.Engines.EngineView};
+ghost use Rattle.c104_run.specs.{Engines.{IsEngine, engine_of}, KnownWires.KnowWires};
 
 mod beginning;
+mod events;
 mod reasons;
 mod rounds;
 mod standstill;
 mod views;
 
-use crate::events::happen_to;
 use crate::live_places::LivePlaces;
-use crate::meter::Meter;
 use crate::wires::Wires;
-use c104_event::{Event, EventFault};
-use c104_node::{Place, Stamp};
+use c104_node::Place;
 use c104_plan::Plan;
-use c104_switch::Reply;
 use c104_token::TokenKind;
 use std::marker::{Model, PhantomData};
 
@@ -118,50 +114,5 @@ impl<T: TokenKind, P: Place<T>> Engine<T, P> {
             token: _,
         } = self;
         (wires, places, count)
-    }
-
-    /// Does an event: the acts that it asks, or none. It is counted where it was done, and its number is its ticket. A meter
-    /// is told of the token that crosses or arrives.
-    #[inline(always)]
-    pub fn do_event<M: Meter<T>>(
-        &mut self,
-        event: &Event,
-        meter: &mut M,
-    ) -> Result<Reply, EventFault>
-        ensures plan { self.new.plan ≡ self.old.plan }
-        ensures done { EventDone T.kind P.keeps self.old.plan (seatless self.old.count) event.now
-            (map P.shown self.old.places) result (map P.shown self.new.places) }
-        ensures count { self.new.count ≡ ticket_after self.old.count (is_done result) }
-        ensures metered { meter.new ≡ meter_if M.sees (is_done result) meter.old event.now
-            (own_reply T.kind (engine_network P.shown self.old) event.now) }
-        ensures kept { IsPlan self.old.plan }
-    {
-        let stamp = Stamp {
-            ticket: self.count,
-            seat: None,
-        };
-        let answer = happen_to(&self.wires, self.places.as_mut_slice(), stamp, event, meter);
-        self.count = ticket_after(self.count, was_done(&answer));
-        self.live.fill();
-        answer
-    }
-}
-
-/// How many events were done, after one that may have been.
-// Saturating: no network comes near the end, since its traces are full long before.
-fn ticket_after(count: u64, done: bool) -> u64
-    ensures { result ≡ ticket_after count done }
-{
-    if done { count.saturating_add(1) } else { count }
-}
-
-/// Whether an event that was answered so was done.
-fn was_done(answer: &Result<Reply, EventFault>) -> bool
-    ensures { result ≡ is_done answer.now }
-{
-    match answer {
-        Ok(Reply::NotReady) => false,
-        Ok(_) => true,
-        Err(_) => false,
     }
 }

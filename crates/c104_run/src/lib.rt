@@ -24,7 +24,6 @@ mod asked;
 mod asks;
 mod doing;
 mod engine;
-mod events;
 mod faults;
 mod live_places;
 mod meter;
