@@ -122,6 +122,7 @@ impl<T: TokenKind> InBufferOf<T> {
     }
 
     /// Whether `grant` would grant.
+    #[inline(always)]
     pub fn can_grant(&self) -> bool
         ensures { result ≡ is_some (incoming_grant self.now) }
     {
@@ -131,6 +132,7 @@ impl<T: TokenKind> InBufferOf<T> {
 
     /// Takes in a token that came over the wire, which uses one of those granted. Where none is
     /// granted, hands the token back and changes nothing.
+    #[inline(always)]
     pub fn accept(&mut self, token: T) -> Result<(), T>
         ensures { (result, self.new) ≡
             result_outcome token (incoming_accept token self.old) self.old }
@@ -145,6 +147,7 @@ impl<T: TokenKind> InBufferOf<T> {
 
     /// Takes the first token out, if there is one. Its room is for a later grant: what is granted
     /// stays as it is.
+    #[inline(always)]
     pub fn take(&mut self) -> Option<T>
         ensures taken { (result, self.new) ≡ option_outcome (incoming_take self.old) self.old }
         ensures rest { self.new ≡ without_first self.old }

@@ -92,6 +92,7 @@ impl<T: TokenKind> OutBufferOf<T> {
     }
 
     /// Whether `put` would append a token.
+    #[inline(always)]
     pub fn can_put(&self) -> bool
         ensures { (token : T) → result ≡ is_some (outgoing_put token self.now) }
     {
@@ -99,6 +100,7 @@ impl<T: TokenKind> OutBufferOf<T> {
     }
 
     /// Appends a token. Where the buffer holds eight, hands the token back and changes nothing.
+    #[inline(always)]
     pub fn put(&mut self, token: T) -> Result<(), T>
         ensures { (result, self.new) ≡ result_outcome token (outgoing_put token self.old) self.old }
     {
@@ -126,6 +128,7 @@ impl<T: TokenKind> OutBufferOf<T> {
     }
 
     /// Whether `emit` would give a token.
+    #[inline(always)]
     pub fn can_emit(&self) -> bool
         ensures { result ≡ is_some (outgoing_emit self.now) }
     {
@@ -134,6 +137,7 @@ impl<T: TokenKind> OutBufferOf<T> {
 
     /// Takes out the first token to send it, which spends one credit. None, and nothing changes,
     /// where the buffer is empty or has no credit.
+    #[inline(always)]
     pub fn emit(&mut self) -> Option<T>
         ensures { (result, self.new) ≡ option_outcome (outgoing_emit self.old) self.old }
     {

@@ -5,6 +5,11 @@ use Rattle.std.proofs.Common.{Bool, List, None, Option, Some, [], ap, arith, fal
 use Rattle.std.proofs.{Common.{slice_set, sym, true, ℕ, ◌&&◌, ◌++◌, ◌<◌, ◌||◌, ◌∙◌, ◌∷◌, ◌≡◌, ◌≢◌, ◌≤◌}, lemmas.Bool.Decides.nat_tests}
 use Rattle.std.{proofs.lemmas.Option.slice_get-get_or, specs.Option.option_map_or}
 
+-- where there is nothing to send, nothing leaves
+pub nothing_left : {A S : Type 0} (step : Option (A × S)) (old : S) → false ≡ is_some step → ◌≡◌ {A = Option A × S} (None, old) (option_outcome step old)
+nothing_left None old is = refl
+nothing_left (Some p) old is = absurd (cc is)
+
 module _ {A : Type 0} where
   abbrev sends : Outgoing A → Bool
   sends q = is_some (outgoing_emit q)

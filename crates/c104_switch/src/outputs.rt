@@ -73,10 +73,14 @@ impl<T: TokenKind> OutputsOf<T> {
     }
 
     /// The first token of an output goes out, where there are a token and a credit.
+    #[inline(always)]
     pub fn leave(&mut self, link: usize) -> Option<T>
         ensures { (result, self.new) ≡
             option_outcome (yield_step_at self.old link buffer.outgoing_emit) self.old }
     {
+        if !self.can_leave(link) {
+            return None;
+        }
         let list = &mut self.list;
         if link >= list.len() {
             return None;
@@ -104,6 +108,7 @@ impl<T: TokenKind> OutputsOf<T> {
     }
 
     /// A token joins an output, where there is room for it.
+    #[inline(always)]
     pub fn put(&mut self, link: usize, token: T) -> bool
         ensures { (result, self.new) ≡
             bool_outcome (step_at self.old link (buffer.outgoing_put token)) self.old }
@@ -152,6 +157,7 @@ impl<T: TokenKind> OutputsOf<T> {
     }
 
     /// Whether `leave` would give a token.
+    #[inline(always)]
     pub fn can_leave(&self, link: usize) -> bool
         ensures { result ≡ is_some (yield_step_at self.now link buffer.outgoing_emit) }
     {
@@ -205,6 +211,7 @@ fn sending_of<T: TokenKind>(list: &[OutBufferOf<T>]) -> LinkSet
 }
 
 /// A token joins an output buffer, where there is room for it.
+#[inline(always)]
 fn put<T: TokenKind>(output: &mut OutBufferOf<T>, token: T) -> bool
     ensures { (result, output.new) ≡
         bool_outcome (buffer.outgoing_put token output.old) output.old }

@@ -1,5 +1,5 @@
 //! The switch: what is set at each link, and the two sides of each link.
-ghost use Rattle.std.specs.{Option.option_copied, Prelude.{IfOk, true, ◌≡◌}};
+ghost use Rattle.std.specs.{Option.option_copied, Prelude.{IfOk, false, true, ◌≡◌}};
 ghost use Rattle.{c104_crossbar.specs.Marks.ArePartition, c104_link.specs.{Buffers.IsValidCap, Steps.{bool_outcome, option_outcome}}};
 ghost use Rattle.c104_switch.specs.{Claims.switch_claim, Holding.{claim_at, held_claims}, Soundness.IsSound, Switch.new_switch};
 ghost use Rattle.c104_switch.specs.Switch.{new_switch_with, switch_credit_in, switch_credit_out, switch_enter, switch_leave};
@@ -188,10 +188,10 @@ impl<T: TokenKind> SwitchOf<T> {
             bool_outcome (switch_input T.kind self.old link word) self.old }
     {
         if !self.registers.started() {
-            return false;
+            return unready();
         }
         let Some(settings) = self.registers.all_settings().get(link) else {
-            return false;
+            return unready();
         };
         self.inputs.turn(link, settings, word, &mut self.outputs)
     }
@@ -206,4 +206,13 @@ impl<T: TokenKind> SwitchOf<T> {
                 .inputs
                 .claim(input, &self.registers, output, &mut self.outputs)
     }
+}
+
+/// False. It is a call of what is seldom called: so the other branch is the one that is made quick.
+#[cold]
+#[inline(never)]
+fn unready() -> bool
+    ensures { result ≡ false }
+{
+    false
 }

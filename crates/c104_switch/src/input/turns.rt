@@ -1,5 +1,5 @@
 //! What an input does with its first token.
-ghost use Rattle.std.specs.Prelude.{false, if◌then◌else◌, is_some, true, ℕ, ◌++◌, ◌≡◌};
+ghost use Rattle.std.specs.Prelude.{IfSome, false, if◌then◌else◌, is_some, true, ℕ, ◌++◌, ◌≡◌};
 ghost use Rattle.{c104_regs.specs.declared.settings.Settings.Settings as TheSettings, c104_switch.specs.Headers.phase_after_header};
 ghost use Rattle.c104_switch.specs.{Headers.random_header, Holding.{HasStreamed, freed_claims, is_done_turn, phase_claims}, Phases.HasRoom};
 ghost use Rattle.c104_switch.specs.{Phases.{IsReading, Sinking, tokens_read}, Stages.stage_phase, Switch.{Fresh, Stream, count_after}};
@@ -56,6 +56,17 @@ impl<T: TokenKind> InputOf<T> {
         Turn::Done
     }
 
+    /// The output that the packet streams to, if it does.
+    #[inline(always)]
+    pub fn streams_to(&self) -> Option<usize>
+        ensures { IfSome result (λ output. self.now.phase ≡ Stream output) }
+    {
+        match &self.stage {
+            Stage::Stream(claim) => Some(claim.output()),
+            Stage::Fresh | Stage::Head | Stage::Want(_) | Stage::Sinking => None,
+        }
+    }
+
     /// Whether `turn` would do something, which no setting and no word decides.
     pub fn can_turn(&self, outputs: &OutputsOf<T>) -> bool
         ensures { (settings : TheSettings) (word : ℕ) →
@@ -86,7 +97,7 @@ impl<T: TokenKind> InputOf<T> {
     /// The first token of a packet that streams to this output goes on, where there are a token and
     /// room for it. A terminator ends the packet and gives the claim back.
     #[inline(always)]
-    fn stream(&mut self, output: usize, outputs: &mut OutputsOf<T>) -> Turn
+    pub fn stream(&mut self, output: usize, outputs: &mut OutputsOf<T>) -> Turn
         requires { self.old.phase ≡ Stream output }
         ensures turned { (settings : TheSettings) (word : ℕ) → IsTurn T.kind settings word
             self.old outputs.old (is_done_turn result) self.new outputs.new }
