@@ -1,49 +1,17 @@
 -- What arrived, as bytes and the tokens that are more than a byte: one token more, and the token at a place.
-use Rattle.c104_node.{proofs.Waiting.drop_there, specs.Arrivals.{AreInside, IsArrived, OtherOf, arrived_list, counted_other, others_in}}
-use Rattle.{c104_node.specs.Arrivals.overlaid, c104_token.specs.Kinds.{Kind, byte_token}, std.proofs.Common.{List, None, Option, Some, []}}
-use Rattle.std.proofs.Common.{ap, arith, drop, inl, inr, length, length-append, map, refl, slice_get, slice_set, subst, suc, sym, take}
-use Rattle.std.proofs.{Common.{zero, ℕ, ◌++◌, ◌+◌, ◌<◌, ◌∙◌, ◌∷◌, ◌≡◌, ◌≤◌, ◌⊎◌}, lemmas.List.{length-map, length-set, map-append}}
-use Rattle.std.{proofs.lemmas.Option.slice_get-map, specs.Option.option_map}
-
-same_or : (m n : ℕ) → (m ≡ n) ⊎ (m ≡ n → ⊥)
-same_or zero zero = inl refl
-same_or zero (suc n) = inr (λ is. omega (arith, is))
-same_or (suc m) zero = inr (λ is. omega (arith, is))
-same_or (suc m) (suc n) = elim (same_or m n) [ inl is ↦ inl (ap suc is) | inr differ ↦ inr (λ is. differ (omega (arith, is))) ]
+use Rattle.c104_node.{proofs.{Waiting.drop_there, WireEnds.{get_set_other, get_set_same}}, specs.Arrivals.{AreInside, IsArrived, OtherOf}}
+use Rattle.{c104_node.specs.Arrivals.{arrived_list, counted_other, others_in, overlaid}, c104_token.specs.Kinds.{Kind, byte_token}}
+use Rattle.std.proofs.Common.{List, None, Option, Some, [], ap, arith, drop, inl, inr, length, length-append, map, refl, slice_get}
+use Rattle.std.proofs.{Common.{slice_set, subst, suc, sym, take, ℕ, ◌++◌, ◌+◌, ◌<◌, ◌∙◌, ◌∷◌, ◌≡◌, ◌≤◌}, Math.Seq.set-append_seam}
+use Rattle.std.proofs.{Math.Seq.take-suc, lemmas.{Bool.cases_eq, List.{length-map, length-set, map-append, set-append_left}}}
+use Rattle.std.{proofs.lemmas.Option.{get_or_from_slice_get, slice_get-map, slice_get_within}, specs.Option.option_map}
 
 take_there : {X : Type 0} (xs : List X) (k : ℕ) (x : X) → slice_get xs k ≡ Some x → take (suc k) xs ≡ take k xs ++ x ∷ []
-take_there [] k x is = cc
-take_there (y ∷ xs) zero x is = let same : y ≡ x = cc in ap (λ z. z ∷ []) same
-take_there (y ∷ xs) (suc k) x is = ap (λ zs. y ∷ zs) (take_there xs k x is)
+take_there xs k x is = take-suc xs k x (slice_get_within xs k x is) ∙ ap (λ z. take k xs ++ z ∷ []) (get_or_from_slice_get xs k x x is)
 
 module _ {A : Type 0} where
-  -- past its end a list stays
-  pub set_past : (xs : List A) (k : ℕ) (y : A) → length xs ≤ k → slice_set xs k y ≡ xs
-  set_past [] k y past = refl
-  set_past (z ∷ xs) zero y past = absurd (let no : ⊥ = omega (arith, past) in no)
-  set_past (z ∷ xs) (suc k) y past = ap (λ (ys : List A). z ∷ ys) (set_past xs k y (omega (arith, past)))
-
-  set_before : (xs : List A) (x y : A) (k : ℕ) → k < length xs → slice_set (xs ++ x ∷ []) k y ≡ slice_set xs k y ++ x ∷ []
-  set_before [] x y k inside = absurd (let no : ⊥ = omega (arith, inside) in no)
-  set_before (z ∷ xs) x y zero inside = refl
-  set_before (z ∷ xs) x y (suc k) inside = ap (λ (ys : List A). z ∷ ys) (set_before xs x y k (omega (arith, inside)))
-
   set_end : (xs : List A) (x y : A) (k : ℕ) → k ≡ length xs → slice_set (xs ++ x ∷ []) k y ≡ xs ++ y ∷ []
-  set_end [] x y k is = ap (λ (j : ℕ). slice_set (x ∷ []) j y) is
-  set_end (z ∷ xs) x y zero is = absurd (let no : ⊥ = omega (arith, is) in no)
-  set_end (z ∷ xs) x y (suc k) is = ap (λ (ys : List A). z ∷ ys) (set_end xs x y k (omega (arith, is)))
-
-  set_there : (xs : List A) (k : ℕ) (x y : A) → slice_get xs k ≡ Some x → slice_get (slice_set xs k y) k ≡ Some y
-  set_there [] k x y is = cc
-  set_there (z ∷ xs) zero x y is = refl
-  set_there (z ∷ xs) (suc k) x y is = set_there xs k x y is
-
-  set_elsewhere : (xs : List A) (k j : ℕ) (y : A) → (k ≡ j → ⊥) → slice_get (slice_set xs k y) j ≡ slice_get xs j
-  set_elsewhere [] k j y differ = refl
-  set_elsewhere (z ∷ xs) zero zero y differ = absurd (differ refl)
-  set_elsewhere (z ∷ xs) zero (suc j) y differ = refl
-  set_elsewhere (z ∷ xs) (suc k) zero y differ = refl
-  set_elsewhere (z ∷ xs) (suc k) (suc j) y differ = set_elsewhere xs k j y (λ same. differ (ap suc same))
+  set_end xs x y k is = ap (λ (j : ℕ). slice_set (xs ++ x ∷ []) j y) is ∙ set-append_seam xs x [] y
 
   pub overlaid_length : (os : List (OtherOf A)) (xs : List A) → length (overlaid os xs) ≡ length xs
   overlaid_length [] xs = refl
@@ -56,7 +24,7 @@ module _ {A : Type 0} where
   overlaid_longer : (os : List (OtherOf A)) (xs : List A) (x : A) → AreInside (length xs) os → overlaid os (xs ++ x ∷ []) ≡ overlaid os xs ++ x ∷ []
   overlaid_longer [] xs x inside = refl
   overlaid_longer (o ∷ os) xs x inside =
-      ap (overlaid os) (set_before xs x o.token o.place inside.0)
+      ap (overlaid os) (set-append_left xs (x ∷ []) o.place o.token inside.0)
       ∙ overlaid_longer os (slice_set xs o.place o.token) x (subst (λ (n : ℕ). AreInside n os) (sym (length-set xs o.place o.token)) inside.1)
 
   inside_longer : (os : List (OtherOf A)) (m n : ℕ) → m ≤ n → AreInside m os → AreInside n os
@@ -69,13 +37,13 @@ module _ {A : Type 0} where
 
   -- a token that is laid over another place, or over this one
   pub other_elsewhere : (os : List (OtherOf A)) (o : OtherOf A) (xs : List A) (k : ℕ) (x : A) → (o.place ≡ k → ⊥) → slice_get (overlaid os xs) k ≡ Some x → slice_get (overlaid (os ++ o ∷ []) xs) k ≡ Some x
-  other_elsewhere os o xs k x differ is = ap (λ (ys : List A). slice_get ys k) (overlaid_more os o xs) ∙ set_elsewhere (overlaid os xs) o.place k o.token differ ∙ is
+  other_elsewhere os o xs k x differ is = ap (λ (ys : List A). slice_get ys k) (overlaid_more os o xs) ∙ get_set_other (overlaid os xs) o.place k o.token differ ∙ is
 
   pub other_there : (os : List (OtherOf A)) (o : OtherOf A) (xs : List A) (k : ℕ) (x : A) → o.place ≡ k → slice_get (overlaid os xs) k ≡ Some x → slice_get (overlaid (os ++ o ∷ []) xs) k ≡ Some o.token
   other_there os o xs k x same is =
       ap (λ (ys : List A). slice_get ys k) (overlaid_more os o xs)
       ∙ ap (λ (j : ℕ). slice_get (slice_set (overlaid os xs) j o.token) k) same
-      ∙ set_there (overlaid os xs) k x o.token is
+      ∙ get_set_same (overlaid os xs) k x o.token is
 
   -- one more is laid over a list
   pub next_laid : (os : List (OtherOf A)) (k : ℕ) (o : OtherOf A) (xs now all : List A) → slice_get os k ≡ Some o → now ≡ slice_set xs o.place o.token → overlaid (drop k os) xs ≡ all → overlaid (drop (k + 1) os) now ≡ all
@@ -92,7 +60,7 @@ module _ {A : Type 0} where
       let one : k + 1 ≡ suc k = omega arith in
       ap (λ (j : ℕ). slice_get (overlaid (take j os) xs) i) one
       ∙ ap (λ (ps : List (OtherOf A)). slice_get (overlaid ps xs) i) (take_there os k o there)
-      ∙ elim (same_or o.place i) [
+      ∙ elim (cases_eq o.place i) [
         | inl same ↦ other_there (take k os) o xs i x same before ∙ ap Some (sym (here same))
         | inr differ ↦ other_elsewhere (take k os) o xs i x differ before ∙ ap Some (sym (elsewhere differ))
       ]

@@ -8,19 +8,14 @@ use Rattle.c104_node.specs.declared.{acts.{ActOf.ActOf, Entry.Entry}, crossings.
 use Rattle.c104_node.specs.declared.{crossings.Joint.Joint, node.NodeOf.NodeOf, stamps.Stamp.Stamp}
 use Rattle.{c104_plan.specs.declared.ports.Port.Port, c104_switch.specs.{Actions.is_ready, declared.actions.ReplyOf.ReplyOf}}
 use Rattle.{c104_token.specs.Kinds.Kind, std.proofs.Common.{Bool, Err, List, None, Ok, Option, Some, [], ap, arith, false, if◌then◌else◌}}
-use Rattle.std.proofs.Common.{is_some, length, map, nat_lt, refl, slice_get, slice_set, subst, sym, true, ℕ, ◌<◌, ◌||◌, ◌∙◌, ◌∷◌, ◌≡◌, ◌≢◌}
-use Rattle.std.proofs.{Common.◌≤◌, lemmas.{Bool.Decides.nat_tests, Option.slice_get_past}}
+use Rattle.std.proofs.Common.{is_some, length, map, refl, slice_get, slice_set, subst, sym, true, ℕ, ⊎_elim, ◌<◌, ◌||◌, ◌∙◌, ◌∷◌, ◌≡◌, ◌≢◌}
+use Rattle.std.proofs.{Common.◌≤◌, lemmas.{Bool.cases_lt, Option.slice_get_past}}
 
 -- what is done answers so
 pub ready_answer : {A : Type 0} (crossing : Crossing) (r : ReplyOf A) → IsAnswerOf crossing r → is_ready r ≡ true
-ready_answer Token ReplyOf.Done is = absurd is
-ready_answer Token ReplyOf.NotReady is = absurd is
 ready_answer Token (ReplyOf.Token x) is = refl
-ready_answer Token (ReplyOf.Control bytes) is = absurd is
 ready_answer Grant ReplyOf.Done is = refl
-ready_answer Grant ReplyOf.NotReady is = absurd is
-ready_answer Grant (ReplyOf.Token x) is = absurd is
-ready_answer Grant (ReplyOf.Control bytes) is = absurd is
+ready_answer crossing r is = absurd is
 
 module _ {A : Type 0} where
   token_answer : (made : Option (A × Node A)) (r : ReplyOf A × Node A) → token_by made ≡ Some r → IsAnswerOf Token r.0
@@ -35,30 +30,20 @@ module _ {A : Type 0} (kind : Kind A) where
   -- the first end answers what crosses
   pub near_answers : (crossing : Crossing) (p : Port) (n : Node A) (r : ReplyOf A × Node A) → node_act kind 0 (near_act crossing p) n ≡ Some r → IsAnswerOf crossing r.0
   near_answers Token (Port.Switch s l) (NodeOf.Switch x) r is = token_answer (node_leave l (NodeOf.Switch x)) r is
-  near_answers Token (Port.Switch s l) (NodeOf.Terminal x) r is = absurd (cc)
-  near_answers Token (Port.Terminal t) (NodeOf.Switch x) r is = absurd (cc)
   near_answers Token (Port.Terminal t) (NodeOf.Terminal x) r is = token_answer (node_leave 0 (NodeOf.Terminal x)) r is
   near_answers Grant (Port.Switch s l) (NodeOf.Switch x) r is = subst (IsAnswerOf Grant) (sym (done_answer (node_credit_out l (NodeOf.Switch x)) r is)) tt
-  near_answers Grant (Port.Switch s l) (NodeOf.Terminal x) r is = absurd (cc)
-  near_answers Grant (Port.Terminal t) (NodeOf.Switch x) r is = absurd (cc)
   near_answers Grant (Port.Terminal t) (NodeOf.Terminal x) r is = subst (IsAnswerOf Grant) (sym (done_answer (node_credit_out 0 (NodeOf.Terminal x)) r is)) tt
+  near_answers crossing p n r is = absurd (cc)
 
   -- and the other end that it came in
   pub far_done : (crossing : Crossing) (a : ReplyOf A) (q : Port) (m : Node A) (r : ReplyOf A × Node A) → IsAnswerOf crossing a → node_act kind 0 (far_act q a) m ≡ Some r → r.0 ≡ ReplyOf.Done
-  far_done Token ReplyOf.Done q m r answer is = absurd answer
-  far_done Token ReplyOf.NotReady q m r answer is = absurd answer
   far_done Token (ReplyOf.Token x) (Port.Switch s l) (NodeOf.Switch y) r answer is = done_answer (node_enter x l (NodeOf.Switch y)) r is
-  far_done Token (ReplyOf.Token x) (Port.Switch s l) (NodeOf.Terminal y) r answer is = absurd (cc)
-  far_done Token (ReplyOf.Token x) (Port.Terminal t) (NodeOf.Switch y) r answer is = absurd (cc)
   far_done Token (ReplyOf.Token x) (Port.Terminal t) (NodeOf.Terminal y) r answer is = done_answer (node_enter x 0 (NodeOf.Terminal y)) r is
-  far_done Token (ReplyOf.Control bytes) q m r answer is = absurd answer
+  far_done Token (ReplyOf.Token x) q m r answer is = absurd (cc)
   far_done Grant ReplyOf.Done (Port.Switch s l) (NodeOf.Switch y) r answer is = done_answer (node_credit_in l (NodeOf.Switch y)) r is
-  far_done Grant ReplyOf.Done (Port.Switch s l) (NodeOf.Terminal y) r answer is = absurd (cc)
-  far_done Grant ReplyOf.Done (Port.Terminal t) (NodeOf.Switch y) r answer is = absurd (cc)
   far_done Grant ReplyOf.Done (Port.Terminal t) (NodeOf.Terminal y) r answer is = done_answer (node_credit_in 0 (NodeOf.Terminal y)) r is
-  far_done Grant ReplyOf.NotReady q m r answer is = absurd answer
-  far_done Grant (ReplyOf.Token x) q m r answer is = absurd answer
-  far_done Grant (ReplyOf.Control bytes) q m r answer is = absurd answer
+  far_done Grant ReplyOf.Done q m r answer is = absurd (cc)
+  far_done crossing a q m r answer is = absurd answer
 
   -- what goes out at a port goes over its link
   pub near_linked : (links : ℕ → Bool) (crossing : Crossing) (p : Port) → links (port_link p) ≡ true → on_links links (near_act {A = A} crossing p) ≡ true
@@ -69,16 +54,11 @@ module _ {A : Type 0} (kind : Kind A) where
 
   -- a node that can act is there
   acts_inside : (nodes : List (Node A)) (k : ℕ) (a : ActOf A) → is_some (nodes_act kind nodes k 0 a) ≡ true → k < length nodes
-  acts_inside nodes k a ready = by_test (nat_lt k (length nodes)) refl
-    where
-      by_test : (b : Bool) → nat_lt k (length nodes) ≡ b → k < length nodes
-      by_test true is = grind (arith, nat_tests)
-      by_test false is =
-          let past : length nodes ≤ k = grind (arith, nat_tests) in
-          let none : slice_get nodes k ≡ None = slice_get_past nodes k past in
-          let gone : nodes_act kind nodes k 0 a ≡ None = rw none refl in
-          let no : false ≡ true = sym (ap is_some gone) ∙ ready in
-          absurd (cc)
+  acts_inside nodes k a ready = ⊎_elim (λ (inside : k < length nodes). inside)
+      (λ (past : length nodes ≤ k). absurd (
+      let gone : nodes_act kind nodes k 0 a ≡ None = rw (slice_get_past nodes k past) refl in
+      let no : false ≡ true = sym (ap is_some gone) ∙ ready in cc))
+      (cases_lt k (length nodes))
 
   pub place_inside : {P : Type 0} (shown : P → Shown A) (xs : List P) (k : ℕ) (a : ActOf A) → is_some (nodes_act kind (states (map shown xs)) k 0 a) ≡ true → k < length xs
   place_inside shown xs k a ready =

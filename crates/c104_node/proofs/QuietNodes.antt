@@ -1,11 +1,12 @@
 -- A switch is quiet where all its links are seen to be, and only there; and a run that begins keeps the
 -- balance.
-use Rattle.{c104_link.specs.Buffers.Outgoing, c104_node.specs.{Nodes.Node, Quiet.{IsQuietInput, IsQuietNode, IsQuietOutput, IsQuietSwitch}}}
-use Rattle.{c104_node.specs.Quiet.{is_fresh, is_quiet_view}, c104_regs.specs.declared.registers.TheConstants.LINKS}
-use Rattle.c104_switch.specs.{Soundness.IsSound, Switch.{Input, Switch as SwitchState}, Views.{link_view, phase_view}}
-use Rattle.{c104_switch.specs.declared.phase.Phase.{Phase, TheVariants.{Fresh, Head, Sinking, Stream, Want}}, c104_token.specs.Kinds.Kind}
-use Rattle.std.proofs.Common.{Bool, List, Some, [], arith, false, get_or, inl, inr, length, nat_eq, refl, slice_get, subst, sym, true, ℕ}
-use Rattle.std.proofs.{Common.{◌&&◌, ◌+◌, ◌<◌, ◌∙◌, ◌∷◌, ◌≡◌}, lemmas.{Bool.{Decides.nat_tests, cases_eq}, Option.slice_get-get_or}}
+use Rattle.{c104_link.specs.Buffers.Outgoing, c104_node.{proofs.EachSoFar.each_next, specs.{Nodes.Node, Quiet.{IsQuietInput, IsQuietNode}}}}
+use Rattle.c104_node.specs.Quiet.{IsQuietOutput, IsQuietSwitch, is_fresh, is_quiet_view}
+use Rattle.{c104_regs.specs.declared.registers.TheConstants.LINKS, c104_switch.specs.{Soundness.IsSound, Switch.Input}}
+use Rattle.c104_switch.specs.{Switch.Switch as SwitchState, Views.{link_view, phase_view}, declared.phase.Phase.{Phase, TheVariants.Fresh}}
+use Rattle.{c104_switch.specs.declared.phase.Phase.TheVariants.{Head, Sinking, Stream, Want}, c104_token.specs.Kinds.Kind}
+use Rattle.std.proofs.Common.{Bool, List, Some, [], arith, false, get_or, length, nat_eq, refl, slice_get, sym, true, ℕ, ◌&&◌, ◌+◌, ◌<◌}
+use Rattle.std.proofs.{Common.{◌∙◌, ◌∷◌, ◌≡◌}, lemmas.{Bool.Decides.nat_tests, Option.slice_get-get_or}}
 
 -- where one of two is not, not both are
 both : (a b : Bool) → (a && b) ≡ true → (a ≡ true) × (b ≡ true)
@@ -51,12 +52,4 @@ module _ {A : Type 0} (kind : Kind A) where
 
 -- the nodes up to one, and this one
 pub quiet_next : {A : Type 0} (nodes : List (Node A)) (i : ℕ) (n : Node A) → i < length nodes → n ≡ get_or nodes i n → IsQuietNode n → ((k : ℕ) (d : Node A) → k < i → IsQuietNode (get_or nodes k d)) → (k : ℕ) (d : Node A) → k < i + 1 → IsQuietNode (get_or nodes k d)
-quiet_next nodes i n inside is quiet before k d below =
-    elim (cases_eq k i) [
-      | inl same ↦ (
-          let here : Some (get_or nodes i d) ≡ Some (get_or nodes i n) = sym (slice_get-get_or nodes i d inside) ∙ slice_get-get_or nodes i n inside in
-          let one : get_or nodes i d ≡ n = (let first : get_or nodes i d ≡ get_or nodes i n = cc in first) ∙ sym is in
-          subst (λ j. IsQuietNode (get_or nodes j d)) (sym same) (subst IsQuietNode (sym one) quiet)
-          )
-      | inr differs ↦ before k d (omega (arith, below, differs))
-    ]
+quiet_next nodes i n = each_next IsQuietNode nodes i n

@@ -1,9 +1,8 @@
 -- An act that is done answers something else than that it is not ready.
-use Rattle.c104_node.specs.{Acts.{control_by, done_by, node_act, reply_outcome, token_by}, Nodes.{Node, node_claim, node_control}}
-use Rattle.c104_node.specs.Nodes.{node_credit_in, node_credit_out, node_drain, node_enter, node_input, node_leave, node_send}
-use Rattle.{c104_node.specs.declared.{acts.ActOf.ActOf, node.NodeOf.NodeOf}, c104_switch.specs.Actions.is_ready}
-use Rattle.{c104_switch.specs.declared.actions.{ActionOf.ActionOf, ReplyOf.ReplyOf}, c104_token.specs.Kinds.Kind, std.proofs.Common.List}
-use Rattle.std.proofs.Common.{None, Option, Some, ap, is_some, refl, sym, true, ℕ, ◌≡◌}
+use Rattle.c104_node.specs.{Acts.{control_by, done_by, node_act, reply_outcome, token_by}, Nodes.{Node, node_control, node_drain}}
+use Rattle.c104_node.specs.{Nodes.{node_leave, node_send}, declared.{acts.ActOf.ActOf, node.NodeOf.NodeOf}}
+use Rattle.{c104_switch.specs.{Actions.is_ready, declared.actions.{ActionOf.ActionOf, ReplyOf.ReplyOf}}, c104_token.specs.Kinds.Kind}
+use Rattle.std.proofs.Common.{List, None, Option, Some, ap, is_some, refl, sym, true, ℕ, ◌≡◌}
 
 module _ {A S : Type 0} where
   done_ready : (made : Option S) (r : ReplyOf A × S) → done_by made ≡ Some r → is_ready r.0 ≡ true
@@ -31,21 +30,12 @@ answered_ready (Some q) r new old answered gives = refl
 module _ {A : Type 0} (kind : Kind A) where
   -- an act that is done answers something else than that it isn't ready
   pub act_ready : (number : ℕ) (a : ActOf A) (n : Node A) (r : ReplyOf A × Node A) → node_act kind number a n ≡ Some r → is_ready r.0 ≡ true
-  act_ready number (ActOf.Step (ActionOf.Enter l x)) (NodeOf.Switch s) r is = done_ready (node_enter x l (NodeOf.Switch s)) r is
   act_ready number (ActOf.Step (ActionOf.Leave l)) (NodeOf.Switch s) r is = token_ready (node_leave l (NodeOf.Switch s)) r is
-  act_ready number (ActOf.Step (ActionOf.CreditOut l)) (NodeOf.Switch s) r is = done_ready (node_credit_out l (NodeOf.Switch s)) r is
-  act_ready number (ActOf.Step (ActionOf.CreditIn l)) (NodeOf.Switch s) r is = done_ready (node_credit_in l (NodeOf.Switch s)) r is
-  act_ready number (ActOf.Step (ActionOf.Input l word)) (NodeOf.Switch s) r is = done_ready (node_input kind l word (NodeOf.Switch s)) r is
-  act_ready number (ActOf.Step (ActionOf.Claim i o)) (NodeOf.Switch s) r is = done_ready (node_claim i o (NodeOf.Switch s)) r is
   act_ready number (ActOf.Step (ActionOf.Control bytes)) (NodeOf.Switch s) r is = control_ready (node_control bytes (NodeOf.Switch s)) r is
-  act_ready number (ActOf.Step a) (NodeOf.Terminal t) r is = absurd (cc)
+  act_ready number (ActOf.Step a) (NodeOf.Switch s) r is = done_ready _ r is
   act_ready number (ActOf.Send packet) n r is = done_ready (node_send kind number packet n) r is
   act_ready number ActOf.Drain n r is = token_ready (node_drain n) r is
-  act_ready number ActOf.Leave (NodeOf.Switch s) r is = absurd (cc)
   act_ready number ActOf.Leave (NodeOf.Terminal t) r is = token_ready (node_leave 0 (NodeOf.Terminal t)) r is
-  act_ready number (ActOf.Enter x) (NodeOf.Switch s) r is = absurd (cc)
-  act_ready number (ActOf.Enter x) (NodeOf.Terminal t) r is = done_ready (node_enter x 0 (NodeOf.Terminal t)) r is
-  act_ready number ActOf.CreditOut (NodeOf.Switch s) r is = absurd (cc)
-  act_ready number ActOf.CreditOut (NodeOf.Terminal t) r is = done_ready (node_credit_out 0 (NodeOf.Terminal t)) r is
-  act_ready number ActOf.CreditIn (NodeOf.Switch s) r is = absurd (cc)
-  act_ready number ActOf.CreditIn (NodeOf.Terminal t) r is = done_ready (node_credit_in 0 (NodeOf.Terminal t)) r is
+  act_ready number (ActOf.Step a) (NodeOf.Terminal t) r is = absurd (cc)
+  act_ready number a (NodeOf.Terminal t) r is = done_ready _ r is
+  act_ready number a (NodeOf.Switch s) r is = absurd (cc)

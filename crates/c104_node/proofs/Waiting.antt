@@ -4,19 +4,14 @@ use Rattle.c104_node.specs.{Outboxes.{taken_of, waiting_from, waiting_taken}, Te
 use Rattle.c104_token.specs.{Kinds.Kind, Packets.packet_tokens, Tokens.end_token, declared.packets.Packet.Packet}
 use Rattle.{c104_token.specs.declared.tokens.Token.{TheVariants.Byte, Token}, std.proofs.Common.{List, None, Option, Some, [], ap}}
 use Rattle.std.proofs.Common.{append-nil, append_assoc, arith, drop, get_or, length, length-append, map, refl, slice_get, subst, suc, sym}
-use Rattle.std.proofs.{Common.{zero, ℕ, ⊎_elim, ◌++◌, ◌+◌, ◌-◌, ◌<◌, ◌∙◌, ◌∷◌, ◌≡◌, ◌≤◌, ◌⊎◌}, lemmas.List.{length-map, map-append}}
-use Rattle.std.proofs.lemmas.Option.{slice_get-get_or, slice_get_within}
+use Rattle.std.proofs.{Common.{zero, ℕ, ⊎_elim, ◌++◌, ◌+◌, ◌-◌, ◌<◌, ◌∙◌, ◌∷◌, ◌≡◌, ◌≤◌, ◌⊎◌}, lemmas.List.{drop-append-le, drop_at}}
+use Rattle.std.proofs.lemmas.{List.{length-drop, length-map, map-append}, Option.{slice_get-get_or, slice_get_within}}
 
 -- a list from a place on begins with the element there
 pub drop_there : {X : Type 0} (xs : List X) (k : ℕ) (x : X) → slice_get xs k ≡ Some x → drop k xs ≡ x ∷ drop (suc k) xs
 drop_there [] k x is = cc
 drop_there (y ∷ xs) zero x is = let same : y ≡ x = cc in ap (λ z. z ∷ xs) same
 drop_there (y ∷ xs) (suc k) x is = drop_there xs k x is
-
-drop_past : {X : Type 0} (xs ys : List X) (k : ℕ) → k ≡ length xs → drop k (xs ++ ys) ≡ ys
-drop_past [] ys k is = ap (λ j. drop j ys) is
-drop_past (x ∷ xs) ys zero is = absurd (let no : ⊥ = omega (arith, is) in no)
-drop_past (x ∷ xs) ys (suc k) is = drop_past xs ys k (omega (arith, is))
 
 pub posted_at : (posted lent : List TerminalPacket) (next : ℕ) (p : TerminalPacket) → lent ≡ posted → next < length lent → p ≡ get_or lent next p → slice_get posted next ≡ Some p
 posted_at posted lent next p same inside is = subst (λ (ps : List TerminalPacket). slice_get ps next ≡ Some p) same (slice_get-get_or lent next p inside ∙ ap Some (sym is))
@@ -25,11 +20,6 @@ pub get_before : {X : Type 0} (xs ys : List X) (k : ℕ) (x : X) → slice_get x
 get_before [] ys k x is = cc
 get_before (y ∷ xs) ys zero x is = is
 get_before (y ∷ xs) ys (suc k) x is = get_before xs ys k x is
-
-drop_append : {X : Type 0} (xs ys : List X) (k : ℕ) → k ≤ length xs → drop k (xs ++ ys) ≡ drop k xs ++ ys
-drop_append xs ys zero inside = refl
-drop_append [] ys (suc k) inside = absurd (let no : ⊥ = omega (arith, inside) in no)
-drop_append (x ∷ xs) ys (suc k) inside = drop_append xs ys k (omega (arith, inside))
 
 first_place : (o : Option TerminalPacket) → IsPlace 0 o
 first_place None = refl
@@ -90,7 +80,7 @@ module _ {A : Type 0} (kind : Kind A) where
             (λ past.
             let last : place ≡ length p.packet.bytes = (let placed = subst (IsPlace place) here kept.placed in omega (arith, placed, past)) in
             let end : suc place ≡ length (sent_tokens kind p.terminal next p.packet) = (let l = sent_length p.terminal next p.packet in omega (arith, l, last)) in
-            ap (drop (suc place)) opened ∙ drop_past (sent_tokens kind p.terminal next p.packet) (posted_tokens kind (suc next) (drop (suc next) posted)) (suc place) end
+            ap (drop (suc place)) opened ∙ drop_at (sent_tokens kind p.terminal next p.packet) (posted_tokens kind (suc next) (drop (suc next) posted)) (suc place) (sym end)
             ∙ ap (λ (k : ℕ). waiting_from kind k 0 posted) (let one : suc next ≡ after = omega (arith, past) in one) ∙ ap (λ (j : ℕ). waiting_from kind after j posted) (sym past.2))
             passed)
 
@@ -126,17 +116,12 @@ module _ {A : Type 0} (kind : Kind A) where
       let one = sent_length p.terminal next p.packet in
       omega (arith, all, one, is)
 
-  drop_counts : (xs : List TerminalPacket) (k : ℕ) → k ≤ length xs → k + length (drop k xs) ≡ length xs
-  drop_counts xs zero inside = omega arith
-  drop_counts [] (suc k) inside = absurd (let no : ⊥ = omega (arith, inside) in no)
-  drop_counts (x ∷ xs) (suc k) inside = let rest = drop_counts xs k (omega (arith, inside)) in omega (arith, rest)
-
   waits_more : (posted : List TerminalPacket) (next place waiting : ℕ) (p : TerminalPacket) → IsOutbox kind next place waiting posted → waiting_from kind next place (posted ++ p ∷ []) ≡ waiting_from kind next place posted ++ sent_tokens kind p.terminal (length posted) p.packet
   waits_more posted next place waiting p is =
-      ap (λ ps. drop place (posted_tokens kind next ps)) (drop_append posted (p ∷ []) next is.inside)
+      ap (λ ps. drop place (posted_tokens kind next ps)) (drop-append-le next posted (p ∷ []) is.inside)
       ∙ ap (drop place) (posted_more next (drop next posted) p)
-      ∙ drop_append (posted_tokens kind next (drop next posted)) (sent_tokens kind p.terminal (next + length (drop next posted)) p.packet) place (within posted next place (slice_get posted next) refl is.placed)
-      ∙ ap (λ (k : ℕ). waiting_from kind next place posted ++ sent_tokens kind p.terminal k p.packet) (drop_counts posted next is.inside)
+      ∙ drop-append-le place (posted_tokens kind next (drop next posted)) (sent_tokens kind p.terminal (next + length (drop next posted)) p.packet) (within posted next place (slice_get posted next) refl is.placed)
+      ∙ ap (λ (k : ℕ). waiting_from kind next place posted ++ sent_tokens kind p.terminal k p.packet) (let left = length-drop next posted in let all : next + length (drop next posted) ≡ length posted = omega (arith, left, is.inside) in all)
 
   module _ (posted more : List TerminalPacket) (next place waiting : ℕ) (p : TerminalPacket) (packet : Packet) (same : p.packet ≡ packet) (joined : more ≡ posted ++ p ∷ []) (is : IsOutbox kind next place waiting posted) where
     pub sends : (input : Incoming A) (credit : ℕ) (arrived : List A) → ◌≡◌ {A = Terminal A} (record { input = input; output = record { items = waiting_from kind next place more; credit = credit }; sent = map packet_of more; arrived = arrived })

@@ -176,7 +176,7 @@ fn overlay<T: TokenKind>(list: &mut [T], others: &[OtherOf<T>])
 }
 
 /// A token takes its place in a list, if it has such a place.
-#[tactic(auto, using(crate::proofs::ArrivedLists::set_past))]
+#[tactic(auto, using(std::proofs::lemmas::List::set_past))]
 fn lay<T: TokenKind>(list: &mut [T], other: &OtherOf<T>)
     ensures { list.new ≡ slice_set list.old other.now.place other.now.token }
 {
