@@ -1,14 +1,14 @@
 -- No act changes how large a node's buffers are.
-use Rattle.c104_control.specs.{Reading.read_command, declared.commands.Command.{Command, TheVariants.{CPeek, CPoke, Identify, Reset}}}
-use Rattle.c104_control.specs.declared.{commands.Command.TheVariants.Start, faults.CommandFault.CommandFault, replies.Answer.Answer}
-use Rattle.c104_control.specs.declared.replies.{Answer.TheVariants.{Refused, Started}, TheConstants.ALREADY_STARTED}
-use Rattle.c104_link.{proofs.MadeSteps.{All-at_place, All-place, given, required, with_place_made}, specs.Buffers.{Incoming, Outgoing}}
-use Rattle.c104_link.specs.Buffers.{incoming_accept, incoming_grant, outgoing_credited, outgoing_emit, outgoing_put, without_first}
-use Rattle.{c104_link.specs.Steps.{joint_step_at, step_at, yield_step_at, ◌>>=◌}, c104_node.specs.Acts.{done_by, node_act, token_by}}
-use Rattle.c104_node.specs.{Nodes.{Node, as_switch, as_terminal}, Records.{HasCap, IsNodeRun}, Starts.{start_node, start_of}}
-use Rattle.c104_node.specs.Terminals.{Terminal, terminal_credit_in, terminal_credit_out, terminal_drain, terminal_enter, terminal_leave}
-use Rattle.c104_node.specs.{Terminals.{terminal_send, with_input, with_output}, declared.acts.{ActOf.ActOf, Entry.Entry}}
-use Rattle.{c104_node.specs.declared.{node.NodeOf.NodeOf, starts.NodeStart.NodeStart}, c104_regs.specs.declared.settings.Settings.Settings}
+use Rattle.c104_control.specs.{Reading.read_command, declared.commands.Command.{Command, TheVariants.{Reset, Start}}}
+use Rattle.c104_control.specs.declared.{faults.CommandFault.CommandFault, replies.Answer.{Answer, TheVariants.{Refused, Started}}}
+use Rattle.{c104_control.specs.declared.replies.TheConstants.ALREADY_STARTED, c104_link.proofs.MadeSteps.{All-at_place, All-place, given}}
+use Rattle.c104_link.{proofs.MadeSteps.{required, with_place_made}, specs.Buffers.{Incoming, Outgoing, incoming_accept, incoming_grant}}
+use Rattle.c104_link.specs.{Buffers.{outgoing_credited, outgoing_emit, outgoing_put, without_first}, Steps.{joint_step_at, step_at}}
+use Rattle.{c104_link.specs.Steps.{yield_step_at, ◌>>=◌}, c104_node.specs.{Acts.{done_by, node_act, token_by}, Nodes.{Node, is_switch}}}
+use Rattle.c104_node.specs.{Records.{HasCap, IsNodeRun}, Starts.{start_node, start_of}, Terminals.{Terminal, terminal_credit_in}}
+use Rattle.c104_node.specs.Terminals.{terminal_credit_out, terminal_drain, terminal_enter, terminal_leave, terminal_send, with_input}
+use Rattle.c104_node.specs.{Terminals.with_output, declared.{acts.{ActOf.ActOf, Entry.Entry}, node.NodeOf.NodeOf}}
+use Rattle.{c104_node.specs.declared.starts.NodeStart.NodeStart, c104_regs.specs.declared.settings.Settings.Settings}
 use Rattle.c104_switch.specs.{Actions.Reply, Claims.{input_claim, inputs_claim, put_header, streaming_input, switch_claim}}
 use Rattle.c104_switch.specs.{Commands.input_reset, Control.{switch_control, switch_obey, switch_obey_if_read}, Group.is_in_group}
 use Rattle.c104_switch.specs.{Starts.{link_starts, start_input}, Switch.{Input, Switch, input_accept, input_grant, is_owned}}
@@ -87,12 +87,9 @@ module _ (t : Settings) (word : ℕ) (p : Input Token) (qs : List (Outgoing Toke
   turn_size is = given (slice_get p.buffer.items 0) _ y is (λ x first more. phase_size p.phase x more)
 
 claim_size : (settings : List Settings) (p : Input Token) (qs : List (Outgoing Token)) (o : ℕ) (phase : Phase (List Token)) (y : Sides) → input_claim settings p qs o phase ≡ Some y → y.0.buffer.cap ≡ p.buffer.cap
-claim_size settings p qs o Fresh y is = cc
-claim_size settings p qs o (Head b) y is = cc
 claim_size settings p qs o (Want b g) y is = required (is_in_group settings g o) _ y is (λ joined more. given (slice_get settings o) _ y more (λ t own most. given (step_at qs o (put_header t b)) _ y most (λ rs made last.
     let same : (streaming_input p o, rs) ≡ y = cc in ap (λ (r : Sides). r.0.buffer.cap) (sym same))))
-claim_size settings p qs o (Stream q) y is = cc
-claim_size settings p qs o Sinking y is = cc
+claim_size settings p qs o phase y is = absurd (cc)
 
 -- so no act does
 module _ (cap : ℕ) where
@@ -113,9 +110,7 @@ module _ (cap : ℕ) where
     obeyed_sized : (c : Command) → All (HasSize cap) (switch_obey s c).1.inputs
     obeyed_sized Start = started_sized s.started (Refused ALREADY_STARTED) Started
     obeyed_sized Reset = reset_sized s.inputs sized
-    obeyed_sized Identify = sized
-    obeyed_sized (CPeek a) = sized
-    obeyed_sized (CPoke a v) = sized
+    obeyed_sized c = sized
 
     read_sized : (c : Result Command CommandFault) → All (HasSize cap) (switch_obey_if_read s c).1.inputs
     read_sized (Ok c) = obeyed_sized c
@@ -124,87 +119,79 @@ module _ (cap : ℕ) where
     made_sized : (f : Input Token → Option (Input Token)) (l : ℕ) (ps : List (Input Token)) → step_at s.inputs l f ≡ Some ps → ((p q : Input Token) → f p ≡ Some q → q.buffer.cap ≡ p.buffer.cap) → All (HasSize cap) ps
     made_sized f l ps is same = All-at_place (HasSize cap) s.inputs l f ps is (λ p q made one. same p q made ∙ one) sized
 
+  -- a node stays of its kind, and its buffers of their size
+  abbrev Keeps : Node Token → Node Token → Type 0
+  Keeps n m = (is_switch m ≡ is_switch n) × (IsSized cap n → IsSized cap m)
+
   module _ (r : Reply) (m : Node Token) where
-    -- what a step of a switch leaves
-    switch_sized : (made : Option (Switch Token)) → ((s : Switch Token) → made ≡ Some s → All (HasSize cap) s.inputs) → done_by (made >>= as_switch) ≡ Some (r, m) → IsSized cap m
-    switch_sized None sized is = cc
-    switch_sized (Some s) sized is = let both : ◌≡◌ {A = Reply × Node Token} (ReplyOf.Done, NodeOf.Switch s) (r, m) = cc in subst (λ (p : Reply × Node Token). IsSized cap p.1) both (sized s refl)
+    -- what a step of a switch or a terminal leaves, and one that gives a token
+    done_keeps : {S : Type 0} (put : S → Node Token) (n : Node Token) (made : Option S) → ((s : S) → made ≡ Some s → Keeps n (put s)) → done_by (made >>= (λ s. Some (put s))) ≡ Some (r, m) → Keeps n m
+    done_keeps put n None keeps is = absurd (cc)
+    done_keeps put n (Some s) keeps is = let both : ◌≡◌ {A = Reply × Node Token} (ReplyOf.Done, put s) (r, m) = cc in subst (λ (p : Reply × Node Token). Keeps n p.1) both (keeps s refl)
 
-    left_sized : (made : Option (Token × Switch Token)) → ((v : Token × Switch Token) → made ≡ Some v → All (HasSize cap) v.1.inputs) → token_by (made >>= (λ v. Some (v.0, NodeOf.Switch v.1))) ≡ Some (r, m) → IsSized cap m
-    left_sized None sized is = cc
-    left_sized (Some v) sized is = let both : ◌≡◌ {A = Reply × Node Token} (ReplyOf.Token v.0, NodeOf.Switch v.1) (r, m) = cc in subst (λ (p : Reply × Node Token). IsSized cap p.1) both (sized v refl)
+    token_keeps : {S : Type 0} (put : S → Node Token) (n : Node Token) (made : Option (Token × S)) → ((v : Token × S) → made ≡ Some v → Keeps n (put v.1)) → token_by (made >>= (λ v. Some (v.0, put v.1))) ≡ Some (r, m) → Keeps n m
+    token_keeps put n None keeps is = absurd (cc)
+    token_keeps put n (Some v) keeps is = let both : ◌≡◌ {A = Reply × Node Token} (ReplyOf.Token v.0, put v.1) (r, m) = cc in subst (λ (p : Reply × Node Token). Keeps n p.1) both (keeps v refl)
 
-    -- and of a terminal
-    terminal_sized : (made : Option (Terminal Token)) → ((t : Terminal Token) → made ≡ Some t → t.input.cap ≡ cap) → done_by (made >>= as_terminal) ≡ Some (r, m) → IsSized cap m
-    terminal_sized None sized is = cc
-    terminal_sized (Some t) sized is = let both : ◌≡◌ {A = Reply × Node Token} (ReplyOf.Done, NodeOf.Terminal t) (r, m) = cc in subst (λ (p : Reply × Node Token). IsSized cap p.1) both (sized t refl)
-
-    gone_sized : (made : Option (Token × Terminal Token)) → ((v : Token × Terminal Token) → made ≡ Some v → v.1.input.cap ≡ cap) → token_by (made >>= (λ v. Some (v.0, NodeOf.Terminal v.1))) ≡ Some (r, m) → IsSized cap m
-    gone_sized None sized is = cc
-    gone_sized (Some v) sized is = let both : ◌≡◌ {A = Reply × Node Token} (ReplyOf.Token v.0, NodeOf.Terminal v.1) (r, m) = cc in subst (λ (p : Reply × Node Token). IsSized cap p.1) both (sized v refl)
-
-    act_sized : (number : ℕ) (a : ActOf Token) (n : Node Token) → node_act plain_kind number a n ≡ Some (r, m) → IsSized cap n → IsSized cap m
-    act_sized number (ActOf.Step (ActionOf.Enter l x)) (NodeOf.Switch s) is sized =
-        switch_sized (switch_enter s l x) (λ s' made. given (step_at s.inputs l (input_accept x)) _ s' made (λ ps stepped last.
+    act_keeps : (number : ℕ) (a : ActOf Token) (n : Node Token) → node_act plain_kind number a n ≡ Some (r, m) → Keeps n m
+    act_keeps number (ActOf.Step (ActionOf.Enter l x)) (NodeOf.Switch s) is =
+        done_keeps NodeOf.Switch (NodeOf.Switch s) (switch_enter s l x) (λ s' made. (refl, λ sized. given (step_at s.inputs l (input_accept x)) _ s' made (λ ps stepped last.
         let set : with_inputs s ps ≡ s' = cc in
-        subst (λ (v : Switch Token). All (HasSize cap) v.inputs) set (made_sized s sized (input_accept x) l ps stepped (λ p q came. buffer_size p q (incoming_accept x p.buffer) (accepted_size x p.buffer) came)))) is
-    act_sized number (ActOf.Step (ActionOf.Leave l)) (NodeOf.Switch s) is sized =
-        left_sized (switch_leave s l) (λ v made. given (yield_step_at s.outputs l outgoing_emit) _ v made (λ y stepped last.
+        subst (λ (v : Switch Token). All (HasSize cap) v.inputs) set (made_sized s sized (input_accept x) l ps stepped (λ p q came. buffer_size p q (incoming_accept x p.buffer) (accepted_size x p.buffer) came))))) is
+    act_keeps number (ActOf.Step (ActionOf.Leave l)) (NodeOf.Switch s) is =
+        token_keeps NodeOf.Switch (NodeOf.Switch s) (switch_leave s l) (λ v made. (refl, λ sized. given (yield_step_at s.outputs l outgoing_emit) _ v made (λ y stepped last.
         let set : (y.0, with_outputs s y.1) ≡ v = cc in
-        subst (λ (w : Token × Switch Token). All (HasSize cap) w.1.inputs) set sized)) is
-    act_sized number (ActOf.Step (ActionOf.CreditOut l)) (NodeOf.Switch s) is sized =
-        switch_sized (switch_credit_out s l) (λ s' made. required s.started _ s' made (λ on more. given (step_at s.inputs l input_grant) _ s' more (λ ps stepped last.
+        subst (λ (w : Token × Switch Token). All (HasSize cap) w.1.inputs) set sized))) is
+    act_keeps number (ActOf.Step (ActionOf.CreditOut l)) (NodeOf.Switch s) is =
+        done_keeps NodeOf.Switch (NodeOf.Switch s) (switch_credit_out s l) (λ s' made. (refl, λ sized. required s.started _ s' made (λ on more. given (step_at s.inputs l input_grant) _ s' more (λ ps stepped last.
         let set : with_inputs s ps ≡ s' = cc in
-        subst (λ (v : Switch Token). All (HasSize cap) v.inputs) set (made_sized s sized input_grant l ps stepped (λ p q came. buffer_size p q (incoming_grant p.buffer) (granted_size p.buffer) came))))) is
-    act_sized number (ActOf.Step (ActionOf.CreditIn l)) (NodeOf.Switch s) is sized =
-        switch_sized (switch_credit_in s l) (λ s' made. given (step_at s.outputs l outgoing_credited) _ s' made (λ qs stepped last.
+        subst (λ (v : Switch Token). All (HasSize cap) v.inputs) set (made_sized s sized input_grant l ps stepped (λ p q came. buffer_size p q (incoming_grant p.buffer) (granted_size p.buffer) came)))))) is
+    act_keeps number (ActOf.Step (ActionOf.CreditIn l)) (NodeOf.Switch s) is =
+        done_keeps NodeOf.Switch (NodeOf.Switch s) (switch_credit_in s l) (λ s' made. (refl, λ sized. given (step_at s.outputs l outgoing_credited) _ s' made (λ qs stepped last.
         let set : with_outputs s qs ≡ s' = cc in
-        subst (λ (v : Switch Token). All (HasSize cap) v.inputs) set sized)) is
-    act_sized number (ActOf.Step (ActionOf.Input l word)) (NodeOf.Switch s) is sized =
-        switch_sized (switch_input plain_kind s l word) (λ s' made. required s.started _ s' made (λ on more. given (slice_get s.settings l) _ s' more (λ t own most. given (inputs_turn plain_kind t word s.inputs s.outputs l) _ s' most (λ y turned last.
+        subst (λ (v : Switch Token). All (HasSize cap) v.inputs) set sized))) is
+    act_keeps number (ActOf.Step (ActionOf.Input l word)) (NodeOf.Switch s) is =
+        done_keeps NodeOf.Switch (NodeOf.Switch s) (switch_input plain_kind s l word) (λ s' made. (refl, λ sized. required s.started _ s' made (λ on more. given (slice_get s.settings l) _ s' more (λ t own most. given (inputs_turn plain_kind t word s.inputs s.outputs l) _ s' most (λ y turned last.
         let set : with_sides s y ≡ s' = cc in
-        subst (λ (v : Switch Token). All (HasSize cap) v.inputs) set (joint_sized s.inputs l (λ p. input_turn plain_kind t word p s.outputs) y turned (λ p z took. turn_size t word p s.outputs z took) sized))))) is
-    act_sized number (ActOf.Step (ActionOf.Claim i o)) (NodeOf.Switch s) is sized =
-        switch_sized (switch_claim s i o) (λ s' made. required s.started _ s' made (λ on more. given (inputs_claim s.settings s.inputs s.outputs i o) _ s' more (λ y claimed last.
+        subst (λ (v : Switch Token). All (HasSize cap) v.inputs) set (joint_sized s.inputs l (λ p. input_turn plain_kind t word p s.outputs) y turned (λ p z took. turn_size t word p s.outputs z took) sized)))))) is
+    act_keeps number (ActOf.Step (ActionOf.Claim i o)) (NodeOf.Switch s) is =
+        done_keeps NodeOf.Switch (NodeOf.Switch s) (switch_claim s i o) (λ s' made. (refl, λ sized. required s.started _ s' made (λ on more. given (inputs_claim s.settings s.inputs s.outputs i o) _ s' more (λ y claimed last.
         let set : with_sides s y ≡ s' = cc in
         subst (λ (v : Switch Token). All (HasSize cap) v.inputs) set (required (not (is_owned s.inputs o)) _ y claimed (λ free rest.
-        joint_sized s.inputs i (λ p. input_claim s.settings p s.outputs o p.phase) y rest (λ p z took. claim_size s.settings p s.outputs o p.phase z took) sized))))) is
-    act_sized number (ActOf.Step (ActionOf.Control bytes)) (NodeOf.Switch s) is sized =
+        joint_sized s.inputs i (λ p. input_claim s.settings p s.outputs o p.phase) y rest (λ p z took. claim_size s.settings p s.outputs o p.phase z took) sized)))))) is
+    act_keeps number (ActOf.Step (ActionOf.Control bytes)) (NodeOf.Switch s) is =
         let v = switch_control s bytes in
         let both : ◌≡◌ {A = Reply × Node Token} (ReplyOf.Control v.0, NodeOf.Switch v.1) (r, m) = cc in
-        subst (λ (p : Reply × Node Token). IsSized cap p.1) both (read_sized s sized (read_command bytes))
-    act_sized number (ActOf.Step a) (NodeOf.Terminal t) is sized = cc
-    act_sized number (ActOf.Send packet) (NodeOf.Switch s) is sized = cc
-    act_sized number (ActOf.Send packet) (NodeOf.Terminal t) is sized =
+        subst (λ (p : Reply × Node Token). Keeps (NodeOf.Switch s) p.1) both (refl, λ sized. read_sized s sized (read_command bytes))
+    act_keeps number (ActOf.Send packet) (NodeOf.Terminal t) is =
         let both : ◌≡◌ {A = Reply × Node Token} (ReplyOf.Done, NodeOf.Terminal (terminal_send plain_kind number packet t)) (r, m) = cc in
-        subst (λ (p : Reply × Node Token). IsSized cap p.1) both sized
-    act_sized number ActOf.Drain (NodeOf.Switch s) is sized = cc
-    act_sized number ActOf.Drain (NodeOf.Terminal t) is sized =
-        gone_sized (terminal_drain t) (λ v made. given (slice_get t.input.items 0) _ v made (λ x first last.
+        subst (λ (p : Reply × Node Token). Keeps (NodeOf.Terminal t) p.1) both (refl, λ sized. sized)
+    act_keeps number ActOf.Drain (NodeOf.Terminal t) is =
+        token_keeps NodeOf.Terminal (NodeOf.Terminal t) (terminal_drain t) (λ v made. (refl, λ sized. given (slice_get t.input.items 0) _ v made (λ x first last.
         let set : (x, record t { input = without_first t.input; arrived = t.arrived ++ x ∷ [] }) ≡ v = cc in
-        subst (λ (w : Token × Terminal Token). w.1.input.cap ≡ cap) set sized)) is
-    act_sized number ActOf.Leave (NodeOf.Switch s) is sized = cc
-    act_sized number ActOf.Leave (NodeOf.Terminal t) is sized =
-        gone_sized (terminal_leave t) (λ v made. given (outgoing_emit t.output) _ v made (λ y went last.
+        subst (λ (w : Token × Terminal Token). w.1.input.cap ≡ cap) set sized))) is
+    act_keeps number ActOf.Leave (NodeOf.Terminal t) is =
+        token_keeps NodeOf.Terminal (NodeOf.Terminal t) (terminal_leave t) (λ v made. (refl, λ sized. given (outgoing_emit t.output) _ v made (λ y went last.
         let set : (y.0, with_output t y.1) ≡ v = cc in
-        subst (λ (w : Token × Terminal Token). w.1.input.cap ≡ cap) set sized)) is
-    act_sized number (ActOf.Enter x) (NodeOf.Switch s) is sized = cc
-    act_sized number (ActOf.Enter x) (NodeOf.Terminal t) is sized =
-        terminal_sized (terminal_enter x t) (λ t' made. given (incoming_accept x t.input) _ t' made (λ b came last.
+        subst (λ (w : Token × Terminal Token). w.1.input.cap ≡ cap) set sized))) is
+    act_keeps number (ActOf.Enter x) (NodeOf.Terminal t) is =
+        done_keeps NodeOf.Terminal (NodeOf.Terminal t) (terminal_enter x t) (λ t' made. (refl, λ sized. given (incoming_accept x t.input) _ t' made (λ b came last.
         let set : with_input t b ≡ t' = cc in
-        subst (λ (v : Terminal Token). v.input.cap ≡ cap) set (accepted_size x t.input b came ∙ sized))) is
-    act_sized number ActOf.CreditOut (NodeOf.Switch s) is sized = cc
-    act_sized number ActOf.CreditOut (NodeOf.Terminal t) is sized =
-        terminal_sized (terminal_credit_out t) (λ t' made. given (incoming_grant t.input) _ t' made (λ b came last.
+        subst (λ (v : Terminal Token). v.input.cap ≡ cap) set (accepted_size x t.input b came ∙ sized)))) is
+    act_keeps number ActOf.CreditOut (NodeOf.Terminal t) is =
+        done_keeps NodeOf.Terminal (NodeOf.Terminal t) (terminal_credit_out t) (λ t' made. (refl, λ sized. given (incoming_grant t.input) _ t' made (λ b came last.
         let set : with_input t b ≡ t' = cc in
-        subst (λ (v : Terminal Token). v.input.cap ≡ cap) set (granted_size t.input b came ∙ sized))) is
-    act_sized number ActOf.CreditIn (NodeOf.Switch s) is sized = cc
-    act_sized number ActOf.CreditIn (NodeOf.Terminal t) is sized =
-        terminal_sized (terminal_credit_in t) (λ t' made. given (outgoing_credited t.output) _ t' made (λ q came last.
+        subst (λ (v : Terminal Token). v.input.cap ≡ cap) set (granted_size t.input b came ∙ sized)))) is
+    act_keeps number ActOf.CreditIn (NodeOf.Terminal t) is =
+        done_keeps NodeOf.Terminal (NodeOf.Terminal t) (terminal_credit_in t) (λ t' made. (refl, λ sized. given (outgoing_credited t.output) _ t' made (λ q came last.
         let set : with_output t q ≡ t' = cc in
-        subst (λ (v : Terminal Token). v.input.cap ≡ cap) set sized)) is
+        subst (λ (v : Terminal Token). v.input.cap ≡ cap) set sized))) is
+    act_keeps number a n is = absurd (cc)
 
-  -- nor does a run
-  pub run_sized : (wired : ℕ) (from to : Node Token) (entries : List Entry) → IsNodeRun wired from entries to → IsSized cap from → IsSized cap to
-  run_sized wired from to [] run sized = subst (IsSized cap) (sym run) sized
-  run_sized wired from to (e ∷ entries) run sized = run_sized wired run.0 to entries run.3 (act_sized e.reply run.0 0 e.act from run.2 sized)
+  -- so does a run
+  pub run_keeps : (wired : ℕ) (from to : Node Token) (entries : List Entry) → IsNodeRun wired from entries to → Keeps from to
+  run_keeps wired from to [] run = (ap is_switch run, λ sized. subst (IsSized cap) (sym run) sized)
+  run_keeps wired from to (e ∷ entries) run =
+      let first = act_keeps e.reply run.0 0 e.act from run.2 in
+      let rest = run_keeps wired run.0 to entries run.3 in
+      (rest.0 ∙ first.0, λ sized. rest.1 (first.1 sized))

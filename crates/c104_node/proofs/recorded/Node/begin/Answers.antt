@@ -1,4 +1,4 @@
-use Rattle.c104_node.{proofs.{BegunRecords.run_kind, BufferSizes.{run_sized, sized_start, start_sized}}, specs.Records.HasCap}
+use Rattle.c104_node.{proofs.{BegunRecords.run_kind, BufferSizes.{run_keeps, sized_start, start_sized}}, specs.Records.HasCap}
 use Rattle.{c104_node.specs.{Starts.start_node, declared.acts.Entry.Entry}, std.proofs.Common.{ap, arith, length, subst, sym, ◌∙◌, ◌≡◌}}
 use Rattle.c104_node.proofs.recorded.Node.begin.Goals as goal
 
@@ -12,7 +12,7 @@ stood c = c.begin.ensures.stands ∙ ap start_node (sym c.write_start.ensures)
 pub invariant_of-self : goal.invariant_of-self
 invariant_of-self c = record {
   sized = subst (HasCap c.self.inside.cap) (sym c.write_start.ensures) (sized_start c.self.inside.cap c.self.inside.core
-      (run_sized c.self.inside.cap c.self.inside.wired (start_node c.self.inside.start) c.self.inside.core c.self.inside.trace.items c.self.invariant.run (start_sized c.self.inside.cap c.self.inside.start c.self.invariant.sized)));
+      ((run_keeps c.self.inside.cap c.self.inside.wired (start_node c.self.inside.start) c.self.inside.core c.self.inside.trace.items c.self.invariant.run).1 (start_sized c.self.inside.cap c.self.inside.start c.self.invariant.sized)));
   run = rw c.clear.ensures.items (stood c);
   within = omega (arith, ap (length {A = Entry}) c.clear.ensures.items);
 }
