@@ -4,7 +4,7 @@ use Rattle.{c104_node.specs.Arrivals.{arrived_list, counted_other, others_in, ov
 use Rattle.std.proofs.Common.{List, None, Option, Some, [], ap, arith, drop, inl, inr, length, length-append, map, refl, slice_get}
 use Rattle.std.proofs.{Common.{slice_set, subst, suc, sym, take, ℕ, ◌++◌, ◌+◌, ◌<◌, ◌∙◌, ◌∷◌, ◌≡◌, ◌≤◌}, Math.Seq.set-append_seam}
 use Rattle.std.proofs.{Math.Seq.take-suc, lemmas.{Bool.cases_eq, List.{length-map, length-set, map-append, set-append_left}}}
-use Rattle.std.{proofs.lemmas.Option.{get_or_from_slice_get, slice_get-map, slice_get_within}, specs.Option.option_map}
+use Rattle.std.proofs.lemmas.Option.{get_or_from_slice_get, slice_get-map, slice_get_within}
 
 take_there : {X : Type 0} (xs : List X) (k : ℕ) (x : X) → slice_get xs k ≡ Some x → take (suc k) xs ≡ take k xs ++ x ∷ []
 take_there xs k x is = take-suc xs k x (slice_get_within xs k x is) ∙ ap (λ z. take k xs ++ z ∷ []) (get_or_from_slice_get xs k x x is)
@@ -40,10 +40,7 @@ module _ {A : Type 0} where
   other_elsewhere os o xs k x differ is = ap (λ (ys : List A). slice_get ys k) (overlaid_more os o xs) ∙ get_set_other (overlaid os xs) o.place k o.token differ ∙ is
 
   pub other_there : (os : List (OtherOf A)) (o : OtherOf A) (xs : List A) (k : ℕ) (x : A) → o.place ≡ k → slice_get (overlaid os xs) k ≡ Some x → slice_get (overlaid (os ++ o ∷ []) xs) k ≡ Some o.token
-  other_there os o xs k x same is =
-      ap (λ (ys : List A). slice_get ys k) (overlaid_more os o xs)
-      ∙ ap (λ (j : ℕ). slice_get (slice_set (overlaid os xs) j o.token) k) same
-      ∙ get_set_same (overlaid os xs) k x o.token is
+  other_there os o xs k x h1 h2 = search (arith, overlaid_more, get_set_same)
 
   -- one more is laid over a list
   pub next_laid : (os : List (OtherOf A)) (k : ℕ) (o : OtherOf A) (xs now all : List A) → slice_get os k ≡ Some o → now ≡ slice_set xs o.place o.token → overlaid (drop k os) xs ≡ all → overlaid (drop (k + 1) os) now ≡ all
@@ -68,10 +65,7 @@ module _ {A : Type 0} where
 module _ {A : Type 0} (kind : Kind A) where
   -- the token of a byte at its place, before others are laid over it
   pub byte_there : (bytes lent : List ℕ) (k b : ℕ) → lent ≡ bytes → slice_get lent k ≡ Some b → slice_get (map (byte_token kind) bytes) k ≡ Some (byte_token kind b)
-  byte_there bytes lent k b same there =
-      slice_get-map (byte_token kind) bytes k
-      ∙ ap (λ (bs : List ℕ). option_map (byte_token kind) (slice_get bs k)) (sym same)
-      ∙ ap (option_map (byte_token kind)) there
+  byte_there bytes lent k b h1 h2 = search (arith, slice_get-map)
 
   counted_sum : (b : Option ℕ) (m n : ℕ) → counted_other kind b m + n ≡ counted_other kind b (m + n)
   counted_sum None m n = omega arith
@@ -86,19 +80,14 @@ module _ {A : Type 0} (kind : Kind A) where
 
   -- one byte more
   longer : (bytes : List ℕ) (os : List (OtherOf A)) (b : ℕ) → AreInside (length bytes) os → arrived_list kind (bytes ++ b ∷ []) os ≡ arrived_list kind bytes os ++ byte_token kind b ∷ []
-  longer bytes os b inside =
-      ap (overlaid os) (map-append (byte_token kind) bytes (b ∷ []))
-      ∙ overlaid_longer os (map (byte_token kind) bytes) (byte_token kind b) (subst (λ (n : ℕ). AreInside n os) (sym (length-map bytes (byte_token kind))) inside)
+  longer bytes os b h1 = search (arith, map-append, overlaid_longer, length-map)
 
   longer_inside : (bytes : List ℕ) (os : List (OtherOf A)) (b : ℕ) → AreInside (length bytes) os → AreInside (length (bytes ++ b ∷ [])) os
   longer_inside bytes os b inside = let more = length-append bytes (b ∷ []) in inside_longer os (length bytes) (length (bytes ++ b ∷ [])) (omega (arith, more)) inside
 
   -- a token that is a byte arrived
   pub byte_more : (bytes now : List ℕ) (os : List (OtherOf A)) (b : ℕ) (x : A) → IsArrived kind bytes os → now ≡ bytes ++ b ∷ [] → x ≡ byte_token kind b → arrived_list kind now os ≡ arrived_list kind bytes os ++ x ∷ []
-  byte_more bytes now os b x is joined same =
-      ap (λ (bs : List ℕ). arrived_list kind bs os) joined
-      ∙ longer bytes os b is.inside
-      ∙ ap (λ (y : A). arrived_list kind bytes os ++ y ∷ []) (sym same)
+  byte_more bytes now os b x h1 h2 h3 = search (arith, longer)
 
   pub byte_keeps : (bytes now : List ℕ) (os : List (OtherOf A)) (b : ℕ) (x : A) → IsArrived kind bytes os → now ≡ bytes ++ b ∷ [] → x ≡ byte_token kind b → kind.byte x ≡ Some b → IsArrived kind now os
   byte_keeps bytes now os b x is joined same told =
@@ -112,12 +101,7 @@ module _ {A : Type 0} (kind : Kind A) where
 
   -- a token that is more than a byte arrived
   pub other_more : (bytes now : List ℕ) (os later : List (OtherOf A)) (b : ℕ) (o : OtherOf A) → IsArrived kind bytes os → now ≡ bytes ++ b ∷ [] → later ≡ os ++ o ∷ [] → o.place ≡ length bytes → arrived_list kind now later ≡ arrived_list kind bytes os ++ o.token ∷ []
-  other_more bytes now os later b o is joined laid placed =
-      ap (λ (bs : List ℕ). arrived_list kind bs later) joined
-      ∙ ap (λ (ps : List (OtherOf A)). arrived_list kind (bytes ++ b ∷ []) ps) laid
-      ∙ overlaid_more os o (map (byte_token kind) (bytes ++ b ∷ []))
-      ∙ ap (λ (ys : List A). slice_set ys o.place o.token) (longer bytes os b is.inside)
-      ∙ set_end (arrived_list kind bytes os) (byte_token kind b) o.token o.place (placed ∙ sym (arrived_length bytes os))
+  other_more bytes now os later b o h1 h2 h3 h4 = search (arith, overlaid_more, longer, set_end, arrived_length)
 
   pub other_keeps : (bytes now : List ℕ) (os later : List (OtherOf A)) (b : ℕ) (o : OtherOf A) → IsArrived kind bytes os → now ≡ bytes ++ b ∷ [] → later ≡ os ++ o ∷ [] → o.place ≡ length bytes → kind.byte o.token ≡ None → IsArrived kind now later
   other_keeps bytes now os later b o is joined laid placed told =

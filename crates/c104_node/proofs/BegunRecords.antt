@@ -33,9 +33,7 @@ switch_stands {A} s same quiet =
     ∙ ap (λ (qs : List (Outgoing A)). NodeOf.Switch (record s { outputs = qs })) (outputs_back s.inputs s.outputs same quiet.1)
 
 pub terminal_stands : {A : Type 0} (t : Terminal A) → IsQuietNode (NodeOf.Terminal t) → start_node (start_of (NodeOf.Terminal t)) ≡ node_begin (NodeOf.Terminal t)
-terminal_stands {A} t quiet =
-    ap (λ (xs : List A). NodeOf.Terminal (record { input = record { cap = t.input.cap; items = xs; granted = t.input.granted }; output = record { items = []; credit = t.output.credit }; sent = []; arrived = [] })) (sym quiet.0)
-    ∙ ap (λ (xs : List A). NodeOf.Terminal (record { input = t.input; output = record { items = xs; credit = t.output.credit }; sent = []; arrived = [] })) (sym quiet.1)
+terminal_stands t h1 = grind arith
 
 -- a run leaves a node of the same kind
 pub run_kind : (wired : ℕ) (from to : Node Token) (entries : List Entry) → IsNodeRun wired from entries to → is_switch to ≡ is_switch from

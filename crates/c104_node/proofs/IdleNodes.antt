@@ -1,16 +1,14 @@
 -- A node at which nothing of a round can begin, by what is asked of it; and what acts of other nodes leave there.
 use Rattle.{c104_crossbar.specs.Groups.has_bit, c104_event.specs.declared.faults.EventFault.EventFault}
 use Rattle.{c104_link.{proofs.MadeSteps.from_place_made, specs.Steps.{step_at, ◌>>=◌}}, c104_node.proofs.WireEnds.get_set_other}
-use Rattle.c104_node.specs.{Acts.{done_by, node_act, nodes_act, token_by}, Idle.IsIdleNode, Nodes.{Node, as_switch, as_terminal}}
-use Rattle.c104_node.specs.{Nodes.node_claim, PlaceActs.{ActsEnd, AloneDone, JointDone}, Places.{Shown, states}, PortActs.far_act}
-use Rattle.c104_node.specs.{PortActs.{joint_step, near_act}, PortParts.is_node_ready, Records.has_link, Terminals.Terminal}
-use Rattle.c104_node.specs.{Terminals.{terminal_credit_out, terminal_drain, terminal_leave}, declared.acts.ActOf.ActOf}
-use Rattle.c104_node.specs.declared.{crossings.Joint.Joint, node.NodeOf.NodeOf, port_part.PortPart.{PortPart, TheVariants.{Credit, Cross}}}
-use Rattle.{c104_node.specs.declared.{port_part.PortPart.TheVariants.Turn, stamps.Stamp.Stamp}, c104_switch.specs.Claims.IsNextLink}
+use Rattle.c104_node.specs.{Acts.{node_act, nodes_act}, Idle.IsIdleNode, Nodes.{Node, node_claim}, PlaceActs.{ActsEnd, AloneDone}}
+use Rattle.c104_node.specs.{PlaceActs.JointDone, Places.{Shown, states}, PortActs.{far_act, joint_step, near_act}, Records.has_link}
+use Rattle.c104_node.specs.{Terminals.{Terminal, terminal_credit_out, terminal_drain, terminal_leave}, declared.acts.ActOf.ActOf}
+use Rattle.{c104_node.specs.declared.{crossings.Joint.Joint, node.NodeOf.NodeOf, stamps.Stamp.Stamp}, c104_switch.specs.Claims.IsNextLink}
 use Rattle.c104_switch.specs.{Claims.switch_claim, Switch.{Switch as State, switch_credit_out, switch_leave}, Turns.switch_input}
 use Rattle.{c104_switch.specs.declared.actions.ReplyOf.ReplyOf, c104_token.specs.Kinds.Kind, std.proofs.Common.{Bool, Err, List, None, Ok}}
-use Rattle.std.proofs.Common.{Option, Result, Some, ap, arith, false, is_some, nat_lt, not, refl, slice_get, slice_set, sym, true, ℕ, ◌&&◌}
-use Rattle.std.proofs.{Common.{◌<◌, ◌∙◌, ◌≡◌, ◌≢◌}, lemmas.Bool.Decides.nat_tests}
+use Rattle.std.proofs.Common.{Option, Result, Some, ap, arith, false, is_some, not, refl, slice_get, slice_set, sym, true, ℕ, ◌&&◌, ◌<◌}
+use Rattle.std.proofs.Common.{◌∙◌, ◌≡◌, ◌≢◌}
 
 -- what isn't so of a test that was passed over
 first_false : (a b : Bool) → (a && b) ≡ false → b ≡ true → a ≡ false
@@ -19,11 +17,7 @@ first_false false b none is = refl
 
 -- a link of a set is one below 32 whose bit is set
 link_inside : (set l : ℕ) → has_link set l ≡ true → (l < 32) × (has_bit set l ≡ true)
-link_inside set l is = by_test (nat_lt l 32) refl is
-  where
-    by_test : (b : Bool) → nat_lt l 32 ≡ b → (b && has_bit set l) ≡ true → (l < 32) × (has_bit set l ≡ true)
-    by_test true below is = (grind (arith, nat_tests), is)
-    by_test false below is = absurd (cc)
+link_inside set l h1 = grind arith
 
 -- what a test says of its opposite
 pub opposite : (b : Bool) → not b ≡ true → b ≡ false
@@ -38,46 +32,15 @@ module _ {A : Type 0} (kind : Kind A) where
   -- a switch of which no link that is asked is ready, and no input wants an output
   pub idle_switch : (s : State A) (wired : ℕ) → IsNextLink (λ l. is_some (switch_credit_out s l) && has_bit wired l) 0 None → IsNextLink (λ l. is_some (switch_leave s l) && has_bit wired l) 0 None →
       ((l word : ℕ) → l < 32 → has_bit wired l ≡ true → switch_input kind s l word ≡ None) → ((i o : ℕ) → i < 32 → switch_claim s i o ≡ None) → IsIdleNode kind (has_link wired) (NodeOf.Switch s)
-  idle_switch s wired granting leaving turning wanting = record {
-    links = λ part l is. by_part part l (link_inside wired l is);
-    claims = λ i o inside. by_claim i o (wanting i o inside);
-    grants = refl;
-    leaves = refl;
-    drains = λ number. refl;
-  }
-    where
-      by_claim : (i o : ℕ) → switch_claim s i o ≡ None → node_claim i o (NodeOf.Switch s) ≡ None
-      by_claim i o none = ap (λ (made : Option (State A)). made >>= as_switch) none
-
-      by_part : (part : PortPart) (l : ℕ) → (l < 32) × (has_bit wired l ≡ true) → is_node_ready kind part l (NodeOf.Switch s) ≡ false
-      by_part Credit l inside = let none : switch_credit_out s l ≡ None = none_is (switch_credit_out s l) (first_false _ _ (granting.0 l (omega arith) inside.0) inside.1) in ap (λ (made : Option (State A)). is_some (done_by {A = A} (made >>= as_switch))) none
-      by_part Cross l inside = let none : switch_leave s l ≡ None = none_is (switch_leave s l) (first_false _ _ (leaving.0 l (omega arith) inside.0) inside.1) in ap (λ (made : Option (A × State A)). is_some (token_by (made >>= (λ r. Some (r.0, NodeOf.Switch r.1))))) none
-      by_part Turn l inside = let none : switch_input kind s l 0 ≡ None = turning l 0 inside.0 inside.1 in ap (λ (made : Option (State A)). is_some (done_by {A = A} (made >>= as_switch))) none
+  idle_switch s wired h1 h2 h3 h4 = grind arith
 
   -- a terminal that neither grants nor sends, and at which nothing arrives
   pub idle_terminal : (t : Terminal A) (wired : ℕ) → is_some (terminal_credit_out t) ≡ false → is_some (terminal_leave t) ≡ false → is_some (terminal_drain t) ≡ false → IsIdleNode kind (has_link wired) (NodeOf.Terminal t)
-  idle_terminal t wired granting leaving draining = record {
-    links = λ part l is. by_part part l;
-    claims = λ i o inside. refl;
-    grants = ap (λ (made : Option (Terminal A)). is_some (done_by {A = A} (made >>= as_terminal))) (none_is (terminal_credit_out t) granting);
-    leaves = ap (λ (made : Option (A × Terminal A)). is_some (token_by (made >>= (λ r. Some (r.0, NodeOf.Terminal r.1))))) (none_is (terminal_leave t) leaving);
-    drains = λ number. ap (λ (made : Option (A × Terminal A)). is_some (token_by (made >>= (λ r. Some (r.0, NodeOf.Terminal r.1))))) (none_is (terminal_drain t) draining);
-  }
-    where
-      by_part : (part : PortPart) (l : ℕ) → is_node_ready kind part l (NodeOf.Terminal t) ≡ false
-      by_part Credit l = refl
-      by_part Cross l = refl
-      by_part Turn l = refl
+  idle_terminal t wired h1 h2 h3 = grind arith
 
   -- the same links, told in another way
   pub idle_by : (n : Node A) (wired others : ℕ → Bool) → ((l : ℕ) → wired l ≡ others l) → IsIdleNode kind wired n → IsIdleNode kind others n
-  idle_by n wired others same idle = record {
-    links = λ part l is. idle.links part l (same l ∙ is);
-    claims = idle.claims;
-    grants = idle.grants;
-    leaves = idle.leaves;
-    drains = idle.drains;
-  }
+  idle_by n wired others h1 h2 = grind arith
 
   -- what no node there does is not ready there
   module _ (nodes : List (Node A)) (k : ℕ) where
@@ -93,17 +56,11 @@ module _ {A : Type 0} (kind : Kind A) where
         by_node (Some n) is = rw is (by_made (node_act kind number a n) (none n is))
 
     pub unclaimed_there : (i o : ℕ) → ((n : Node A) → slice_get nodes k ≡ Some n → node_claim i o n ≡ None) → step_at nodes k (node_claim i o) ≡ None
-    unclaimed_there i o none = by_node (slice_get nodes k) refl
-      where
-        by_node : (found : Option (Node A)) → slice_get nodes k ≡ found → step_at nodes k (node_claim i o) ≡ None
-        by_node None is = rw is refl
-        by_node (Some n) is = rw (is, none n is) refl
+    unclaimed_there i o h1 = grind arith
 
   -- acts change no other node than those that do them
   act_frame : (nodes : List (Node A)) (k number : ℕ) (a : ActOf A) (r : ReplyOf A × List (Node A)) → nodes_act kind nodes k number a ≡ Some r → (j : ℕ) → j ≢ k → slice_get r.1 j ≡ slice_get nodes j
-  act_frame nodes k number a r is j other =
-      from_place_made nodes k (node_act kind number a) r is (λ n y here made set.
-      ap (λ (z : ReplyOf A × List (Node A)). slice_get z.1 j) (sym set) ∙ get_set_other nodes k j y.1 (λ same. other (sym same)))
+  act_frame nodes k number a r h1 j h2 = search (arith, from_place_made, get_set_other)
 
   joint_frame : (nodes : List (Node A)) (near far : ℕ) (joint : Joint) (r : ReplyOf A × List (Node A)) → joint_step kind near far joint.near joint.far joint.crossing nodes ≡ Some r → (j : ℕ) → j ≢ near → j ≢ far → slice_get r.1 j ≡ slice_get nodes j
   joint_frame nodes near far joint r is j from to = by_near (nodes_act kind nodes near 0 (near_act joint.crossing joint.near)) refl is

@@ -1,21 +1,18 @@
 -- What crosses a wire, among all nodes: where both ends are ready both act, and else nothing changes.
 use Rattle.{c104_event.specs.declared.faults.EventFault.EventFault, c104_link.{proofs.MadeSteps.from_place_made, specs.Steps.◌>>=◌}}
 use Rattle.c104_node.{proofs.{PlaceSteps.as_many, WireEnds.get_set_other}, specs.{ActLinks.{on_links, port_link}, Acts.{done_by, node_act}}}
-use Rattle.c104_node.specs.{Acts.{nodes_act, reply_outcome, token_by}, Nodes.{Node, node_credit_in, node_credit_out, node_enter}}
-use Rattle.c104_node.specs.{Nodes.node_leave, PlaceActs.{HasActedAt, JointDone}, Places.{Shown, bases, fulls, room_fault, states, traces}}
-use Rattle.c104_node.specs.{PortActs.{IsAnswerOf, far_act, joint_step, near_act}, Traces.{full_at, kept_entry, noted_all, noted_at}}
-use Rattle.c104_node.specs.declared.{acts.{ActOf.ActOf, Entry.Entry}, crossings.Crossing.{Crossing, TheVariants.{Grant, Token}}}
-use Rattle.c104_node.specs.declared.{crossings.Joint.Joint, node.NodeOf.NodeOf, stamps.Stamp.Stamp}
+use Rattle.c104_node.specs.{Acts.{nodes_act, reply_outcome, token_by}, Nodes.Node, PlaceActs.{HasActedAt, JointDone}, Places.{Shown, bases}}
+use Rattle.c104_node.specs.{Places.{fulls, room_fault, states, traces}, PortActs.{IsAnswerOf, far_act, joint_step, near_act}}
+use Rattle.c104_node.specs.{Traces.{full_at, kept_entry, noted_all, noted_at}, declared.acts.{ActOf.ActOf, Entry.Entry}}
+use Rattle.c104_node.specs.declared.{crossings.{Crossing.{Crossing, TheVariants.Token}, Joint.Joint}, stamps.Stamp.Stamp}
 use Rattle.{c104_plan.specs.declared.ports.Port.Port, c104_switch.specs.{Actions.is_ready, declared.actions.ReplyOf.ReplyOf}}
 use Rattle.{c104_token.specs.Kinds.Kind, std.proofs.Common.{Bool, Err, List, None, Ok, Option, Some, [], ap, arith, false, if◌then◌else◌}}
-use Rattle.std.proofs.Common.{is_some, length, map, refl, slice_get, slice_set, subst, sym, true, ℕ, ⊎_elim, ◌<◌, ◌||◌, ◌∙◌, ◌∷◌, ◌≡◌, ◌≢◌}
-use Rattle.std.proofs.{Common.◌≤◌, lemmas.{Bool.cases_lt, Option.slice_get_past}}
+use Rattle.std.proofs.Common.{is_some, length, map, refl, slice_get, slice_set, subst, sym, true, ℕ, ◌<◌, ◌||◌, ◌∙◌, ◌∷◌, ◌≡◌, ◌≢◌}
+use Rattle.std.proofs.lemmas.{Bool.cases_lt, Option.slice_get_past}
 
 -- what is done answers so
 pub ready_answer : {A : Type 0} (crossing : Crossing) (r : ReplyOf A) → IsAnswerOf crossing r → is_ready r ≡ true
-ready_answer Token (ReplyOf.Token x) is = refl
-ready_answer Grant ReplyOf.Done is = refl
-ready_answer crossing r is = absurd is
+ready_answer crossing r h1 = grind arith
 
 module _ {A : Type 0} where
   token_answer : (made : Option (A × Node A)) (r : ReplyOf A × Node A) → token_by made ≡ Some r → IsAnswerOf Token r.0
@@ -29,41 +26,22 @@ module _ {A : Type 0} where
 module _ {A : Type 0} (kind : Kind A) where
   -- the first end answers what crosses
   pub near_answers : (crossing : Crossing) (p : Port) (n : Node A) (r : ReplyOf A × Node A) → node_act kind 0 (near_act crossing p) n ≡ Some r → IsAnswerOf crossing r.0
-  near_answers Token (Port.Switch s l) (NodeOf.Switch x) r is = token_answer (node_leave l (NodeOf.Switch x)) r is
-  near_answers Token (Port.Terminal t) (NodeOf.Terminal x) r is = token_answer (node_leave 0 (NodeOf.Terminal x)) r is
-  near_answers Grant (Port.Switch s l) (NodeOf.Switch x) r is = subst (IsAnswerOf Grant) (sym (done_answer (node_credit_out l (NodeOf.Switch x)) r is)) tt
-  near_answers Grant (Port.Terminal t) (NodeOf.Terminal x) r is = subst (IsAnswerOf Grant) (sym (done_answer (node_credit_out 0 (NodeOf.Terminal x)) r is)) tt
-  near_answers crossing p n r is = absurd (cc)
+  near_answers crossing p n r h1 = grind arith
 
   -- and the other end that it came in
   pub far_done : (crossing : Crossing) (a : ReplyOf A) (q : Port) (m : Node A) (r : ReplyOf A × Node A) → IsAnswerOf crossing a → node_act kind 0 (far_act q a) m ≡ Some r → r.0 ≡ ReplyOf.Done
-  far_done Token (ReplyOf.Token x) (Port.Switch s l) (NodeOf.Switch y) r answer is = done_answer (node_enter x l (NodeOf.Switch y)) r is
-  far_done Token (ReplyOf.Token x) (Port.Terminal t) (NodeOf.Terminal y) r answer is = done_answer (node_enter x 0 (NodeOf.Terminal y)) r is
-  far_done Token (ReplyOf.Token x) q m r answer is = absurd (cc)
-  far_done Grant ReplyOf.Done (Port.Switch s l) (NodeOf.Switch y) r answer is = done_answer (node_credit_in l (NodeOf.Switch y)) r is
-  far_done Grant ReplyOf.Done (Port.Terminal t) (NodeOf.Terminal y) r answer is = done_answer (node_credit_in 0 (NodeOf.Terminal y)) r is
-  far_done Grant ReplyOf.Done q m r answer is = absurd (cc)
-  far_done crossing a q m r answer is = absurd answer
+  far_done crossing a q m r h1 h2 = grind arith
 
   -- what goes out at a port goes over its link
   pub near_linked : (links : ℕ → Bool) (crossing : Crossing) (p : Port) → links (port_link p) ≡ true → on_links links (near_act {A = A} crossing p) ≡ true
-  near_linked links Token (Port.Switch s l) linked = linked
-  near_linked links Token (Port.Terminal t) linked = linked
-  near_linked links Grant (Port.Switch s l) linked = linked
-  near_linked links Grant (Port.Terminal t) linked = linked
+  near_linked links crossing p h1 = grind arith
 
   -- a node that can act is there
   acts_inside : (nodes : List (Node A)) (k : ℕ) (a : ActOf A) → is_some (nodes_act kind nodes k 0 a) ≡ true → k < length nodes
-  acts_inside nodes k a ready = ⊎_elim (λ (inside : k < length nodes). inside)
-      (λ (past : length nodes ≤ k). absurd (
-      let gone : nodes_act kind nodes k 0 a ≡ None = rw (slice_get_past nodes k past) refl in
-      let no : false ≡ true = sym (ap is_some gone) ∙ ready in cc))
-      (cases_lt k (length nodes))
+  acts_inside nodes k a h1 = search (arith, slice_get_past, cases_lt)
 
   pub place_inside : {P : Type 0} (shown : P → Shown A) (xs : List P) (k : ℕ) (a : ActOf A) → is_some (nodes_act kind (states (map shown xs)) k 0 a) ≡ true → k < length xs
-  place_inside shown xs k a ready =
-      let inside = acts_inside (states (map shown xs)) k a ready in
-      let many = as_many (λ (s : Shown A). s.state) shown xs in omega (arith, many, inside)
+  place_inside shown xs k a h1 = search (arith, acts_inside, as_many)
 
 module _ {A : Type 0} (kind : Kind A) (p q : Port) (crossing : Crossing) (near far : ℕ) (nodes : List (Node A)) where
   abbrev put_at : List (Node A) → ℕ → ReplyOf A × Node A → Option (ReplyOf A × List (Node A))
@@ -92,15 +70,7 @@ module _ {A : Type 0} (kind : Kind A) (p q : Port) (crossing : Crossing) (near f
   module _ (apart : near ≢ far) where
     -- whether the far end can act is told by the node there alone
     some_at : (a : ActOf A) (ns ms : List (Node A)) → slice_get ns far ≡ slice_get ms far → is_some (nodes_act kind ns far 0 a) ≡ is_some (nodes_act kind ms far 0 a)
-    some_at a ns ms same = ap (λ (o : Option (Node A)). is_some (o >>= (λ n. node_act kind 0 a n >>= put_at ns far))) same ∙ by_node (slice_get ms far)
-      where
-        by_made : (made : Option (ReplyOf A × Node A)) → is_some (made >>= put_at ns far) ≡ is_some (made >>= put_at ms far)
-        by_made None = refl
-        by_made (Some y) = refl
-
-        by_node : (o : Option (Node A)) → is_some (o >>= (λ n. node_act kind 0 a n >>= put_at ns far)) ≡ is_some (o >>= (λ n. node_act kind 0 a n >>= put_at ms far))
-        by_node None = refl
-        by_node (Some n) = by_made (node_act kind 0 a n)
+    some_at a ns ms h1 = grind arith
 
     -- and what goes out at the near end changes nothing there
     far_kept : (a : ActOf A) (r : ReplyOf A × List (Node A)) → HasGone r → is_some (nodes_act kind r.1 far 0 a) ≡ is_some (nodes_act kind nodes far 0 a)

@@ -1,13 +1,12 @@
 -- From one place to all places: what is read there, and what an act changes.
 use Rattle.{c104_link.specs.Steps.◌>>=◌, c104_node.proofs.{ReadyActs.{act_ready, made_ready}, WireEnds.{get_set_other, get_set_same}}}
-use Rattle.c104_node.specs.{ActLinks.act_link, Acts.{node_act, nodes_act}, Nodes.Node, PlaceActs.{HasActed, HasActedAt}, Places.HasRoomAt}
-use Rattle.c104_node.specs.{Places.{PlaceBase, Shown, bases, fulls, states, traces}, PortActs.act_limit, Traces.{full_at, kept_entry}}
-use Rattle.c104_node.specs.{Traces.{noted, noted_in, part}, WiredPlaces.{is_linked, is_linked_at, links_at, links_of}}
-use Rattle.{c104_node.specs.declared.{acts.ActOf.ActOf, stamps.Stamp.Stamp}, c104_switch.specs.Actions.is_ready}
-use Rattle.{c104_switch.specs.declared.actions.ReplyOf.ReplyOf, c104_token.specs.Kinds.Kind, std.proofs.Common.{Bool, Err, IsErr, IsErrAnd}}
-use Rattle.std.proofs.Common.{List, None, Ok, OnOk, Option, Result, Some, ap, arith, false, get_or, if◌then◌else◌, is_some, length, map}
-use Rattle.std.proofs.Common.{nat_lt, option_map, refl, slice_get, slice_set, subst, sym, true, unwrap_or, ℕ, ◌<◌, ◌∙◌, ◌≡◌, ◌≢◌}
-use Rattle.std.proofs.{Math.Seq.map-set_same, lemmas.{Bool.{Decides.nat_tests, both_ways}, List.{length-map, map-set}}}
+use Rattle.c104_node.specs.{Acts.{node_act, nodes_act}, Nodes.Node, PlaceActs.{HasActed, HasActedAt}, Places.{HasRoomAt, Shown, bases}}
+use Rattle.c104_node.specs.{Places.{fulls, states, traces}, PortActs.act_limit, Traces.{full_at, kept_entry, noted, noted_in}}
+use Rattle.c104_node.specs.{WiredPlaces.{is_linked, is_linked_at}, declared.{acts.ActOf.ActOf, stamps.Stamp.Stamp}}
+use Rattle.{c104_switch.specs.{Actions.is_ready, declared.actions.ReplyOf.ReplyOf}, c104_token.specs.Kinds.Kind, std.proofs.Common.Bool}
+use Rattle.std.proofs.Common.{Err, IsErr, IsErrAnd, List, None, Ok, OnOk, Option, Result, Some, ap, arith, false, get_or, if◌then◌else◌}
+use Rattle.std.proofs.Common.{is_some, length, map, nat_lt, option_map, slice_get, slice_set, subst, sym, true, unwrap_or, ℕ, ◌<◌, ◌∙◌, ◌≡◌}
+use Rattle.std.proofs.{Common.◌≢◌, Math.Seq.map-set_same, lemmas.{Bool.{Decides.nat_tests, both_ways}, List.{length-map, map-set}}}
 use Rattle.std.proofs.lemmas.Option.{get_or_from_slice_get, slice_get-get_or, slice_get-map, slice_get_past}
 
 -- what a place shows, read from the list of all
@@ -37,13 +36,7 @@ module _ {A P : Type 0} (shown : P → Shown A) (xs : List P) (k : ℕ) (d : P) 
   free_there free = sym (ap (λ (o : Option Bool). unwrap_or o false) (read_inside (λ (s : Shown A). s.full) shown xs k d inside)) ∙ free
 
   pub ready_there : (kind : Kind A) (number : ℕ) (a : ActOf A) → is_some (nodes_act kind (states (map shown xs)) k number a) ≡ true → is_some (node_act kind number a (shown (get_or xs k d)).state) ≡ true
-  ready_there kind number a ready =
-      by_made (node_act kind number a (shown (get_or xs k d)).state)
-      (rw (read_inside (λ (s : Shown A). s.state) shown xs k d inside) at ready)
-    where
-      by_made : (made : Option (ReplyOf A × Node A)) → is_some {T = ReplyOf A × List (Node A)} (made >>= (λ y. Some (y.0, slice_set (states (map shown xs)) k y.1))) ≡ true → is_some made ≡ true
-      by_made None ready = ready
-      by_made (Some y) ready = refl
+  ready_there kind number a h1 = search (arith, read_inside)
 
 -- what a place shows after an act, among what all show
 module _ {A : Type 0} (olds : List (Shown A)) (k : ℕ) (old new : Shown A) (there : slice_get olds k ≡ Some old) where
@@ -106,14 +99,7 @@ err_is (Err d) e is = ap Err is.1
 module _ {A : Type 0} where
   -- what is so at a place of a list is so of the place
   pub linked_there : {P : Type 0} (shown : P → Shown A) (xs : List P) (k : ℕ) (d : P) → k < length xs → (a : ActOf A) → is_linked_at (bases (map shown xs)) k a ≡ true → is_linked (shown (get_or xs k d)).base a ≡ true
-  linked_there shown xs k d inside a linked = by_link (act_link a) linked
-    where
-      here : slice_get (bases (map shown xs)) k ≡ Some (shown (get_or xs k d)).base
-      here = shown_at (λ (s : Shown A). s.base) shown xs k (Some (get_or xs k d)) (slice_get-get_or xs k d inside)
-
-      by_link : (o : Option ℕ) → part true (links_at (bases (map shown xs)) k) o ≡ true → part true (links_of (shown (get_or xs k d)).base) o ≡ true
-      by_link None is = refl
-      by_link (Some l) is = sym (ap (part true (λ (b : PlaceBase). links_of b l)) here) ∙ is
+  linked_there shown xs k d h1 a h2 = search (arith, shown_at, slice_get-get_or)
 
   pub below_there : {P : Type 0} (shown : P → Shown A) (xs : List P) (k : ℕ) (d : P) → k < length xs → (a : ActOf A) → act_limit (slice_get (states (map shown xs)) k) a ≡ None → act_limit (Some (shown (get_or xs k d)).state) a ≡ None
   below_there shown xs k d inside a below = sym (ap (λ (o : Option (Node A)). act_limit o a) (shown_at (λ (s : Shown A). s.state) shown xs k (Some (get_or xs k d)) (slice_get-get_or xs k d inside))) ∙ below

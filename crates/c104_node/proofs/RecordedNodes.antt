@@ -1,13 +1,12 @@
 -- A node with its record: its run goes on by an act; and plain tokens don't tell the number of a terminal.
 use Rattle.{c104_event.specs.declared.faults.EventFault.EventFault, c104_node.proofs.ReadyActs.{act_ready, made_ready}}
-use Rattle.c104_node.specs.{ActLinks.on_links, Acts.{IsWithinLimits, done_by, node_act, reply_outcome}, Nodes.Node, PortActs.act_limit}
+use Rattle.c104_node.specs.{ActLinks.on_links, Acts.{IsWithinLimits, node_act, reply_outcome}, Nodes.Node, PortActs.act_limit}
 use Rattle.c104_node.specs.Records.{IsNodeRun, IsRecorded, MayAct, NodeRecord, after_act, fault_first, has_link, is_full, recorded_limit}
 use Rattle.c104_node.specs.{Records.recorded_step, Starts.start_node, Terminals.sent_from, Traces.{entry_of, trace_limit}}
-use Rattle.c104_node.specs.declared.{acts.{ActOf.ActOf, Entry.Entry}, node.NodeOf.NodeOf, stamps.Stamp.Stamp}
-use Rattle.{c104_switch.specs.Actions.{Reply, is_ready}, c104_token.specs.{Kinds.plain_kind, declared.tokens.Token.Token}}
-use Rattle.std.proofs.Common.{Bool, List, None, Option, Some, [], ap, arith, false, is_some, length, length-append, nat_le, refl, subst}
-use Rattle.std.proofs.{Common.{suc, sym, true, ℕ, ◌++◌, ◌+◌, ◌∙◌, ◌∷◌, ◌≡◌}, lemmas.Bool.{Decides.nat_tests, both_ways}}
-use Rattle.std.specs.Prelude.{if◌then◌else◌}
+use Rattle.{c104_node.specs.declared.{acts.{ActOf.ActOf, Entry.Entry}, stamps.Stamp.Stamp}, c104_switch.specs.Actions.{Reply, is_ready}}
+use Rattle.{c104_token.specs.{Kinds.plain_kind, declared.tokens.Token.Token}, std.proofs.Common.{Bool, List, None, Option, Some, [], ap}}
+use Rattle.std.proofs.Common.{arith, false, is_some, length, length-append, nat_le, refl, subst, suc, sym, true, ℕ, ◌++◌, ◌+◌, ◌∙◌, ◌∷◌}
+use Rattle.std.{proofs.{Common.◌≡◌, lemmas.Bool.Decides.nat_tests}, specs.Prelude.if◌then◌else◌}
 
 -- the run goes on by one act
 run_on : (wired : ℕ) (from mid to : Node Token) (entries : List Entry) (e : Entry) → IsNodeRun wired from entries mid → MayAct wired mid e.act → node_act plain_kind 0 e.act mid ≡ Some (e.reply, to) → IsNodeRun wired from (entries ++ e ∷ []) to
@@ -17,11 +16,7 @@ run_on wired from mid to (d ∷ entries) e run may made = (run.0, run.1, run.2, 
 module _ (n : NodeRecord) (a : ActOf Token) where
   -- an act that is ready goes over no link without a wire, and its node is ready for it
   pub linked_ready : is_some (recorded_step n a) ≡ true → (on_links (has_link n.wired) a ≡ true) × (recorded_step n a ≡ node_act plain_kind 0 a n.state)
-  linked_ready ready = by_link (on_links (has_link n.wired) a) (node_act plain_kind 0 a n.state) ready
-    where
-      by_link : (b : Bool) (made : Option (Reply × Node Token)) → is_some (if b then made else None) ≡ true → (b ≡ true) × ((if b then made else None) ≡ made)
-      by_link true made ready = (refl, refl)
-      by_link false made ready = absurd (both_ways false refl ready)
+  linked_ready h1 = grind arith
 
   -- where no limit of the node refuses it, none of its lists does, and its trace isn't full
   limit_none : recorded_limit n a ≡ None → (act_limit (Some n.state) a ≡ None) × (is_full n ≡ false)
@@ -60,10 +55,7 @@ same_sent a b n m i j (x ∷ xs) = ap (λ ys. x ∷ ys) (same_sent a b n m (suc 
 
 -- whatever a terminal's number, over plain tokens its acts are the same
 pub number_plain : (a b : ℕ) (x : ActOf Token) (n : Node Token) → node_act plain_kind a x n ≡ node_act plain_kind b x n
-number_plain a b (ActOf.Send packet) (NodeOf.Terminal t) =
-    ap (λ (items : List Token). done_by {A = Token} {S = Node Token} (Some (NodeOf.Terminal (record t { output = record { items = t.output.items ++ items; credit = t.output.credit }; sent = t.sent ++ packet ∷ [] }))))
-    (same_sent a b (length t.sent) (length t.sent) 0 0 _)
-number_plain a b x n = refl
+number_plain a b x n = cc
 
 -- an act of a node as a place of a network, whatever its number there
 module _ (n : NodeRecord) (number : ℕ) (a : ActOf Token) (linked : on_links (has_link n.wired) a ≡ true) (ready : is_some (node_act plain_kind number a n.state) ≡ true) where

@@ -85,18 +85,7 @@ module _ {A : Type 0} (kind : Kind A) where
             passed)
 
         pub rest_keeps : IsOutbox kind after at (waiting - 1) posted
-        rest_keeps =
-            let all : length (waiting_from kind next place posted) ≡ suc (length (waiting_from kind after at posted)) = ap (length {A = A}) rest_waits in
-            let below : next < length posted = slice_get_within posted next p here in
-            let counted = kept.counted in
-            record {
-              inside = ⊎_elim (λ inside. omega (arith, inside, below)) (λ past. omega (arith, past, below)) passed;
-              placed = ⊎_elim
-                  (λ inside. subst (λ (k : ℕ). IsPlace at (slice_get posted k)) (sym inside.1) (subst (IsPlace at) (sym here) (omega (arith, inside))))
-                  (λ past. subst (λ (j : ℕ). IsPlace j (slice_get posted after)) (sym past.2) (first_place (slice_get posted after)))
-                  passed;
-              counted = omega (arith, all, counted);
-            }
+        rest_keeps = search (arith, rest_waits, slice_get_within)
 
         pub rest_taken : (t : Terminal A) → t.output.items ≡ waiting_from kind next place posted → waiting_taken t ≡ (Some x, record t { output = record { items = waiting_from kind after at posted; credit = t.output.credit } })
         rest_taken t items = ap (taken_of t) (items ∙ rest_waits)
@@ -117,11 +106,7 @@ module _ {A : Type 0} (kind : Kind A) where
       omega (arith, all, one, is)
 
   waits_more : (posted : List TerminalPacket) (next place waiting : ℕ) (p : TerminalPacket) → IsOutbox kind next place waiting posted → waiting_from kind next place (posted ++ p ∷ []) ≡ waiting_from kind next place posted ++ sent_tokens kind p.terminal (length posted) p.packet
-  waits_more posted next place waiting p is =
-      ap (λ ps. drop place (posted_tokens kind next ps)) (drop-append-le next posted (p ∷ []) is.inside)
-      ∙ ap (drop place) (posted_more next (drop next posted) p)
-      ∙ drop-append-le place (posted_tokens kind next (drop next posted)) (sent_tokens kind p.terminal (next + length (drop next posted)) p.packet) (within posted next place (slice_get posted next) refl is.placed)
-      ∙ ap (λ (k : ℕ). waiting_from kind next place posted ++ sent_tokens kind p.terminal k p.packet) (let left = length-drop next posted in let all : next + length (drop next posted) ≡ length posted = omega (arith, left, is.inside) in all)
+  waits_more posted next place waiting p h1 = search (arith, drop-append-le, posted_more, within, length-drop)
 
   module _ (posted more : List TerminalPacket) (next place waiting : ℕ) (p : TerminalPacket) (packet : Packet) (same : p.packet ≡ packet) (joined : more ≡ posted ++ p ∷ []) (is : IsOutbox kind next place waiting posted) where
     pub sends : (input : Incoming A) (credit : ℕ) (arrived : List A) → ◌≡◌ {A = Terminal A} (record { input = input; output = record { items = waiting_from kind next place more; credit = credit }; sent = map packet_of more; arrived = arrived })
