@@ -132,7 +132,6 @@ impl<T: TokenKind> InBufferOf<T> {
 
     /// Takes in a token that came over the wire, which uses one of those granted. Where none is
     /// granted, hands the token back and changes nothing.
-    #[inline(always)]
     pub fn accept(&mut self, token: T) -> Result<(), T>
         ensures { (result, self.new) ≡
             result_outcome token (incoming_accept token self.old) self.old }

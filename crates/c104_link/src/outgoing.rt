@@ -137,7 +137,6 @@ impl<T: TokenKind> OutBufferOf<T> {
 
     /// Takes out the first token to send it, which spends one credit. None, and nothing changes,
     /// where the buffer is empty or has no credit.
-    #[inline(always)]
     pub fn emit(&mut self) -> Option<T>
         ensures { (result, self.new) ≡ option_outcome (outgoing_emit self.old) self.old }
     {

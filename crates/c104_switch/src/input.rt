@@ -113,7 +113,6 @@ impl<T: TokenKind> InputOf<T> {
     }
 
     /// Takes a token in, where one is granted.
-    #[inline(always)]
     pub fn accept(&mut self, token: T) -> bool
         ensures { (result, self.new) ≡ bool_outcome (input_accept token self.old) self.old }
     {

@@ -73,7 +73,6 @@ impl<T: TokenKind> OutputsOf<T> {
     }
 
     /// The first token of an output goes out, where there are a token and a credit.
-    #[inline(always)]
     pub fn leave(&mut self, link: usize) -> Option<T>
         ensures { (result, self.new) ≡
             option_outcome (yield_step_at self.old link buffer.outgoing_emit) self.old }
