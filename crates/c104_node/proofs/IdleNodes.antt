@@ -10,23 +10,10 @@ use Rattle.{c104_switch.specs.declared.actions.ReplyOf.ReplyOf, c104_token.specs
 use Rattle.std.proofs.Common.{Option, Result, Some, ap, arith, false, is_some, not, refl, slice_get, slice_set, sym, true, ℕ, ◌&&◌, ◌<◌}
 use Rattle.std.proofs.Common.{◌∙◌, ◌≡◌, ◌≢◌}
 
--- what isn't so of a test that was passed over
-first_false : (a b : Bool) → (a && b) ≡ false → b ≡ true → a ≡ false
-first_false true b none is = absurd (let no : true ≡ false = sym is ∙ none in cc)
-first_false false b none is = refl
-
--- a link of a set is one below 32 whose bit is set
-link_inside : (set l : ℕ) → has_link set l ≡ true → (l < 32) × (has_bit set l ≡ true)
-link_inside set l h1 = grind arith
-
 -- what a test says of its opposite
 pub opposite : (b : Bool) → not b ≡ true → b ≡ false
 opposite true is = absurd (cc)
 opposite false is = refl
-
-none_is : {X : Type 0} (o : Option X) → is_some o ≡ false → o ≡ None
-none_is None is = refl
-none_is (Some x) is = absurd (cc)
 
 module _ {A : Type 0} (kind : Kind A) where
   -- a switch of which no link that is asked is ready, and no input wants an output

@@ -1,10 +1,10 @@
 -- What crosses a wire, among all nodes: where both ends are ready both act, and else nothing changes.
 use Rattle.{c104_event.specs.declared.faults.EventFault.EventFault, c104_link.{proofs.MadeSteps.from_place_made, specs.Steps.◌>>=◌}}
-use Rattle.c104_node.{proofs.{PlaceSteps.as_many, WireEnds.get_set_other}, specs.{ActLinks.{on_links, port_link}, Acts.{done_by, node_act}}}
-use Rattle.c104_node.specs.{Acts.{nodes_act, reply_outcome, token_by}, Nodes.Node, PlaceActs.{HasActedAt, JointDone}, Places.{Shown, bases}}
-use Rattle.c104_node.specs.{Places.{fulls, room_fault, states, traces}, PortActs.{IsAnswerOf, far_act, joint_step, near_act}}
-use Rattle.c104_node.specs.{Traces.{full_at, kept_entry, noted_all, noted_at}, declared.acts.{ActOf.ActOf, Entry.Entry}}
-use Rattle.c104_node.specs.declared.{crossings.{Crossing.{Crossing, TheVariants.Token}, Joint.Joint}, stamps.Stamp.Stamp}
+use Rattle.c104_node.{proofs.{PlaceSteps.as_many, WireEnds.get_set_other}, specs.{ActLinks.{on_links, port_link}, Acts.node_act}}
+use Rattle.c104_node.specs.{Acts.{nodes_act, reply_outcome}, Nodes.Node, PlaceActs.{HasActedAt, JointDone}, Places.{Shown, bases, fulls}}
+use Rattle.c104_node.specs.{Places.{room_fault, states, traces}, PortActs.{IsAnswerOf, far_act, joint_step, near_act}, Traces.full_at}
+use Rattle.c104_node.specs.{Traces.{kept_entry, noted_all, noted_at}, declared.acts.{ActOf.ActOf, Entry.Entry}}
+use Rattle.c104_node.specs.declared.{crossings.{Crossing.Crossing, Joint.Joint}, stamps.Stamp.Stamp}
 use Rattle.{c104_plan.specs.declared.ports.Port.Port, c104_switch.specs.{Actions.is_ready, declared.actions.ReplyOf.ReplyOf}}
 use Rattle.{c104_token.specs.Kinds.Kind, std.proofs.Common.{Bool, Err, List, None, Ok, Option, Some, [], ap, arith, false, if◌then◌else◌}}
 use Rattle.std.proofs.Common.{is_some, length, map, refl, slice_get, slice_set, subst, sym, true, ℕ, ◌<◌, ◌||◌, ◌∙◌, ◌∷◌, ◌≡◌, ◌≢◌}
@@ -13,15 +13,6 @@ use Rattle.std.proofs.lemmas.{Bool.cases_lt, Option.slice_get_past}
 -- what is done answers so
 pub ready_answer : {A : Type 0} (crossing : Crossing) (r : ReplyOf A) → IsAnswerOf crossing r → is_ready r ≡ true
 ready_answer crossing r h1 = grind arith
-
-module _ {A : Type 0} where
-  token_answer : (made : Option (A × Node A)) (r : ReplyOf A × Node A) → token_by made ≡ Some r → IsAnswerOf Token r.0
-  token_answer None r is = absurd (cc)
-  token_answer (Some v) r is = let same : ReplyOf.Token v.0 ≡ r.0 = (let both : ◌≡◌ {A = Option (ReplyOf A × Node A)} (Some (ReplyOf.Token v.0, v.1)) (Some r) = is in cc) in subst (IsAnswerOf Token) same tt
-
-  done_answer : (made : Option (Node A)) (r : ReplyOf A × Node A) → done_by made ≡ Some r → r.0 ≡ ReplyOf.Done
-  done_answer None r is = absurd (cc)
-  done_answer (Some v) r is = let both : ◌≡◌ {A = Option (ReplyOf A × Node A)} (Some (ReplyOf.Done, v)) (Some r) = is in cc
 
 module _ {A : Type 0} (kind : Kind A) where
   -- the first end answers what crosses
@@ -44,9 +35,6 @@ module _ {A : Type 0} (kind : Kind A) where
   place_inside shown xs k a h1 = search (arith, acts_inside, as_many)
 
 module _ {A : Type 0} (kind : Kind A) (p q : Port) (crossing : Crossing) (near far : ℕ) (nodes : List (Node A)) where
-  abbrev put_at : List (Node A) → ℕ → ReplyOf A × Node A → Option (ReplyOf A × List (Node A))
-  put_at ns k y = Some (y.0, slice_set ns k y.1)
-
   abbrev with_reply : ReplyOf A → ReplyOf A × List (Node A) → Option (ReplyOf A × List (Node A))
   with_reply told s = Some (told, s.1)
 
@@ -59,8 +47,7 @@ module _ {A : Type 0} (kind : Kind A) (p q : Port) (crossing : Crossing) (near f
 
   -- it answers what crosses
   pub gone_answers : (r : ReplyOf A × List (Node A)) → HasGone r → IsAnswerOf crossing r.0
-  gone_answers r gone = from_place_made nodes near (node_act kind 0 (near_act crossing p)) r gone (λ n v here made set.
-      subst (λ (z : ReplyOf A × List (Node A)). IsAnswerOf crossing z.0) set (near_answers kind crossing p n v made))
+  gone_answers r gone = search (arith, from_place_made, near_answers)
 
   -- the far end answers that it came in
   pub came_answers : (r s : ReplyOf A × List (Node A)) → HasGone r → nodes_act kind r.1 far 0 (far_act q r.0) ≡ Some s → s.0 ≡ ReplyOf.Done

@@ -3,10 +3,10 @@ use Rattle.{c104_link.specs.Steps.◌>>=◌, c104_node.proofs.{ReadyActs.{act_re
 use Rattle.c104_node.specs.{Acts.{node_act, nodes_act}, Nodes.Node, PlaceActs.{HasActed, HasActedAt}, Places.{HasRoomAt, Shown, bases}}
 use Rattle.c104_node.specs.{Places.{fulls, states, traces}, PortActs.act_limit, Traces.{full_at, kept_entry, noted, noted_in}}
 use Rattle.c104_node.specs.{WiredPlaces.{is_linked, is_linked_at}, declared.{acts.ActOf.ActOf, stamps.Stamp.Stamp}}
-use Rattle.{c104_switch.specs.{Actions.is_ready, declared.actions.ReplyOf.ReplyOf}, c104_token.specs.Kinds.Kind, std.proofs.Common.Bool}
-use Rattle.std.proofs.Common.{Err, IsErr, IsErrAnd, List, None, Ok, OnOk, Option, Result, Some, ap, arith, false, get_or, if◌then◌else◌}
-use Rattle.std.proofs.Common.{is_some, length, map, nat_lt, option_map, slice_get, slice_set, subst, sym, true, unwrap_or, ℕ, ◌<◌, ◌∙◌, ◌≡◌}
-use Rattle.std.proofs.{Common.◌≢◌, Math.Seq.map-set_same, lemmas.{Bool.{Decides.nat_tests, both_ways}, List.{length-map, map-set}}}
+use Rattle.{c104_switch.specs.declared.actions.ReplyOf.ReplyOf, c104_token.specs.Kinds.Kind, std.proofs.Common.{Bool, Err, IsErr, IsErrAnd}}
+use Rattle.std.proofs.Common.{List, None, Ok, OnOk, Option, Result, Some, ap, arith, false, get_or, if◌then◌else◌, is_some, length, map}
+use Rattle.std.proofs.Common.{nat_lt, option_map, slice_get, slice_set, subst, sym, true, unwrap_or, ℕ, ◌<◌, ◌∙◌, ◌≡◌, ◌≢◌}
+use Rattle.std.proofs.{Math.Seq.map-set_same, lemmas.{Bool.{Decides.nat_tests, both_ways}, List.{length-map, map-set}}}
 use Rattle.std.proofs.lemmas.Option.{get_or_from_slice_get, slice_get-get_or, slice_get-map, slice_get_past}
 
 -- what a place shows, read from the list of all
@@ -71,8 +71,7 @@ module _ {A : Type 0} (olds : List (Shown A)) (k : ℕ) (old new : Shown A) (the
 
 -- where it was ready it isn't answered that it isn't
 pub never_unready : {A : Type 0} (kind : Kind A) (keeps : Bool) (stamp : Stamp) (a : ActOf A) (old new : Shown A) (reply : ReplyOf A) → is_some (node_act kind 0 a old.state) ≡ true → HasActed kind keeps 0 stamp a old reply new → reply ≡ ReplyOf.NotReady → ⊥
-never_unready kind keeps stamp a old new reply ready is unready =
-    both_ways (is_ready reply) (ap is_ready unready) (act_ready kind 0 a old.state (reply, new.state) (made_ready (node_act kind 0 a old.state) reply new.state old.state ready is.acted))
+never_unready kind keeps stamp a old new reply ready is unready = search (arith, both_ways, act_ready, made_ready)
 
 -- an act at one place of a list, as it ends at all
 pub acts_at : {A P : Type 0} (shown : P → Shown A) (xs : List P) (k : ℕ) (d new : P) → k < length xs → (kind : Kind A) (keeps : Bool) (stamp : Stamp) (a : ActOf A) (reply : ReplyOf A) →

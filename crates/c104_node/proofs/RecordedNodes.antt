@@ -2,11 +2,11 @@
 use Rattle.{c104_event.specs.declared.faults.EventFault.EventFault, c104_node.proofs.ReadyActs.{act_ready, made_ready}}
 use Rattle.c104_node.specs.{ActLinks.on_links, Acts.{IsWithinLimits, node_act, reply_outcome}, Nodes.Node, PortActs.act_limit}
 use Rattle.c104_node.specs.Records.{IsNodeRun, IsRecorded, MayAct, NodeRecord, after_act, fault_first, has_link, is_full, recorded_limit}
-use Rattle.c104_node.specs.{Records.recorded_step, Starts.start_node, Terminals.sent_from, Traces.{entry_of, trace_limit}}
-use Rattle.{c104_node.specs.declared.{acts.{ActOf.ActOf, Entry.Entry}, stamps.Stamp.Stamp}, c104_switch.specs.Actions.{Reply, is_ready}}
+use Rattle.c104_node.specs.{Records.recorded_step, Starts.start_node, Traces.{entry_of, trace_limit}, declared.acts.ActOf.ActOf}
+use Rattle.{c104_node.specs.declared.{acts.Entry.Entry, stamps.Stamp.Stamp}, c104_switch.specs.Actions.{Reply, is_ready}}
 use Rattle.{c104_token.specs.{Kinds.plain_kind, declared.tokens.Token.Token}, std.proofs.Common.{Bool, List, None, Option, Some, [], ap}}
-use Rattle.std.proofs.Common.{arith, false, is_some, length, length-append, nat_le, refl, subst, suc, sym, true, ℕ, ◌++◌, ◌+◌, ◌∙◌, ◌∷◌}
-use Rattle.std.{proofs.{Common.◌≡◌, lemmas.Bool.Decides.nat_tests}, specs.Prelude.if◌then◌else◌}
+use Rattle.std.proofs.Common.{arith, false, is_some, length, length-append, nat_le, refl, subst, sym, true, ℕ, ◌++◌, ◌+◌, ◌∙◌, ◌∷◌, ◌≡◌}
+use Rattle.std.{proofs.lemmas.Bool.Decides.nat_tests, specs.Prelude.if◌then◌else◌}
 
 -- the run goes on by one act
 run_on : (wired : ℕ) (from mid to : Node Token) (entries : List Entry) (e : Entry) → IsNodeRun wired from entries mid → MayAct wired mid e.act → node_act plain_kind 0 e.act mid ≡ Some (e.reply, to) → IsNodeRun wired from (entries ++ e ∷ []) to
@@ -48,10 +48,6 @@ module _ (n : NodeRecord) (a : ActOf Token) where
           let free : nat_le trace_limit (length n.trace) ≡ false = (limit_none none).1 in
           grind (arith, nat_tests, more, free);
     }
-
-same_sent : (a b n m i j : ℕ) (xs : List Token) → sent_from plain_kind a n i xs ≡ sent_from plain_kind b m j xs
-same_sent a b n m i j [] = refl
-same_sent a b n m i j (x ∷ xs) = ap (λ ys. x ∷ ys) (same_sent a b n m (suc i) (suc j) xs)
 
 -- whatever a terminal's number, over plain tokens its acts are the same
 pub number_plain : (a b : ℕ) (x : ActOf Token) (n : Node Token) → node_act plain_kind a x n ≡ node_act plain_kind b x n
