@@ -40,7 +40,7 @@ module _ {A : Type 0} where
   other_elsewhere os o xs k x differ is = ap (λ (ys : List A). slice_get ys k) (overlaid_more os o xs) ∙ get_set_other (overlaid os xs) o.place k o.token differ ∙ is
 
   pub other_there : (os : List (OtherOf A)) (o : OtherOf A) (xs : List A) (k : ℕ) (x : A) → o.place ≡ k → slice_get (overlaid os xs) k ≡ Some x → slice_get (overlaid (os ++ o ∷ []) xs) k ≡ Some o.token
-  other_there os o xs k x h1 h2 = search (arith, overlaid_more, get_set_same)
+  other_there os o xs k x same is = search (arith, overlaid_more, get_set_same)
 
   -- one more is laid over a list
   pub next_laid : (os : List (OtherOf A)) (k : ℕ) (o : OtherOf A) (xs now all : List A) → slice_get os k ≡ Some o → now ≡ slice_set xs o.place o.token → overlaid (drop k os) xs ≡ all → overlaid (drop (k + 1) os) now ≡ all
@@ -65,7 +65,7 @@ module _ {A : Type 0} where
 module _ {A : Type 0} (kind : Kind A) where
   -- the token of a byte at its place, before others are laid over it
   pub byte_there : (bytes lent : List ℕ) (k b : ℕ) → lent ≡ bytes → slice_get lent k ≡ Some b → slice_get (map (byte_token kind) bytes) k ≡ Some (byte_token kind b)
-  byte_there bytes lent k b h1 h2 = search (arith, slice_get-map)
+  byte_there bytes lent k b same there = search (arith, slice_get-map)
 
   counted_sum : (b : Option ℕ) (m n : ℕ) → counted_other kind b m + n ≡ counted_other kind b (m + n)
   counted_sum None m n = omega arith
@@ -80,14 +80,14 @@ module _ {A : Type 0} (kind : Kind A) where
 
   -- one byte more
   longer : (bytes : List ℕ) (os : List (OtherOf A)) (b : ℕ) → AreInside (length bytes) os → arrived_list kind (bytes ++ b ∷ []) os ≡ arrived_list kind bytes os ++ byte_token kind b ∷ []
-  longer bytes os b h1 = search (arith, map-append, overlaid_longer, length-map)
+  longer bytes os b inside = search (arith, map-append, overlaid_longer, length-map)
 
   longer_inside : (bytes : List ℕ) (os : List (OtherOf A)) (b : ℕ) → AreInside (length bytes) os → AreInside (length (bytes ++ b ∷ [])) os
   longer_inside bytes os b inside = let more = length-append bytes (b ∷ []) in inside_longer os (length bytes) (length (bytes ++ b ∷ [])) (omega (arith, more)) inside
 
   -- a token that is a byte arrived
   pub byte_more : (bytes now : List ℕ) (os : List (OtherOf A)) (b : ℕ) (x : A) → IsArrived kind bytes os → now ≡ bytes ++ b ∷ [] → x ≡ byte_token kind b → arrived_list kind now os ≡ arrived_list kind bytes os ++ x ∷ []
-  byte_more bytes now os b x h1 h2 h3 = search (arith, longer)
+  byte_more bytes now os b x is joined same = search (arith, longer)
 
   pub byte_keeps : (bytes now : List ℕ) (os : List (OtherOf A)) (b : ℕ) (x : A) → IsArrived kind bytes os → now ≡ bytes ++ b ∷ [] → x ≡ byte_token kind b → kind.byte x ≡ Some b → IsArrived kind now os
   byte_keeps bytes now os b x is joined same told =
@@ -101,7 +101,7 @@ module _ {A : Type 0} (kind : Kind A) where
 
   -- a token that is more than a byte arrived
   pub other_more : (bytes now : List ℕ) (os later : List (OtherOf A)) (b : ℕ) (o : OtherOf A) → IsArrived kind bytes os → now ≡ bytes ++ b ∷ [] → later ≡ os ++ o ∷ [] → o.place ≡ length bytes → arrived_list kind now later ≡ arrived_list kind bytes os ++ o.token ∷ []
-  other_more bytes now os later b o h1 h2 h3 h4 = search (arith, overlaid_more, longer, set_end, arrived_length)
+  other_more bytes now os later b o is joined laid placed = search (arith, overlaid_more, longer, set_end, arrived_length)
 
   pub other_keeps : (bytes now : List ℕ) (os later : List (OtherOf A)) (b : ℕ) (o : OtherOf A) → IsArrived kind bytes os → now ≡ bytes ++ b ∷ [] → later ≡ os ++ o ∷ [] → o.place ≡ length bytes → kind.byte o.token ≡ None → IsArrived kind now later
   other_keeps bytes now os later b o is joined laid placed told =

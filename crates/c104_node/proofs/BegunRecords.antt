@@ -33,7 +33,7 @@ switch_stands {A} s same quiet =
     ∙ ap (λ (qs : List (Outgoing A)). NodeOf.Switch (record s { outputs = qs })) (outputs_back s.inputs s.outputs same quiet.1)
 
 pub terminal_stands : {A : Type 0} (t : Terminal A) → IsQuietNode (NodeOf.Terminal t) → start_node (start_of (NodeOf.Terminal t)) ≡ node_begin (NodeOf.Terminal t)
-terminal_stands t h1 = grind arith
+terminal_stands t quiet = grind arith
 
 -- a run leaves a node of the same kind
 pub run_kind : (wired : ℕ) (from to : Node Token) (entries : List Entry) → IsNodeRun wired from entries to → is_switch to ≡ is_switch from

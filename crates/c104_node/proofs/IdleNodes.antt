@@ -19,15 +19,15 @@ module _ {A : Type 0} (kind : Kind A) where
   -- a switch of which no link that is asked is ready, and no input wants an output
   pub idle_switch : (s : State A) (wired : ℕ) → IsNextLink (λ l. is_some (switch_credit_out s l) && has_bit wired l) 0 None → IsNextLink (λ l. is_some (switch_leave s l) && has_bit wired l) 0 None →
       ((l word : ℕ) → l < 32 → has_bit wired l ≡ true → switch_input kind s l word ≡ None) → ((i o : ℕ) → i < 32 → switch_claim s i o ≡ None) → IsIdleNode kind (has_link wired) (NodeOf.Switch s)
-  idle_switch s wired h1 h2 h3 h4 = grind arith
+  idle_switch s wired granting leaving turning wanting = grind arith
 
   -- a terminal that neither grants nor sends, and at which nothing arrives
   pub idle_terminal : (t : Terminal A) (wired : ℕ) → is_some (terminal_credit_out t) ≡ false → is_some (terminal_leave t) ≡ false → is_some (terminal_drain t) ≡ false → IsIdleNode kind (has_link wired) (NodeOf.Terminal t)
-  idle_terminal t wired h1 h2 h3 = grind arith
+  idle_terminal t wired granting leaving draining = grind arith
 
   -- the same links, told in another way
   pub idle_by : (n : Node A) (wired others : ℕ → Bool) → ((l : ℕ) → wired l ≡ others l) → IsIdleNode kind wired n → IsIdleNode kind others n
-  idle_by n wired others h1 h2 = grind arith
+  idle_by n wired others same idle = grind arith
 
   -- what no node there does is not ready there
   module _ (nodes : List (Node A)) (k : ℕ) where
@@ -43,11 +43,11 @@ module _ {A : Type 0} (kind : Kind A) where
         by_node (Some n) is = rw is (by_made (node_act kind number a n) (none n is))
 
     pub unclaimed_there : (i o : ℕ) → ((n : Node A) → slice_get nodes k ≡ Some n → node_claim i o n ≡ None) → step_at nodes k (node_claim i o) ≡ None
-    unclaimed_there i o h1 = grind arith
+    unclaimed_there i o none = grind arith
 
   -- acts change no other node than those that do them
   act_frame : (nodes : List (Node A)) (k number : ℕ) (a : ActOf A) (r : ReplyOf A × List (Node A)) → nodes_act kind nodes k number a ≡ Some r → (j : ℕ) → j ≢ k → slice_get r.1 j ≡ slice_get nodes j
-  act_frame nodes k number a r h1 j h2 = search (arith, from_place_made, get_set_other)
+  act_frame nodes k number a r is j other = search (arith, from_place_made, get_set_other)
 
   joint_frame : (nodes : List (Node A)) (near far : ℕ) (joint : Joint) (r : ReplyOf A × List (Node A)) → joint_step kind near far joint.near joint.far joint.crossing nodes ≡ Some r → (j : ℕ) → j ≢ near → j ≢ far → slice_get r.1 j ≡ slice_get nodes j
   joint_frame nodes near far joint r is j from to = by_near (nodes_act kind nodes near 0 (near_act joint.crossing joint.near)) refl is

@@ -11,7 +11,7 @@ module _ {A : Type 0} (b new : Incoming A) (x : A) where
     pub granted : new.granted + 1 ≡ b.granted
 
   pub has_taken : ◌≡◌ {A = Result (Unit {0}) A × Incoming A} (Ok tt, new) (result_outcome x (incoming_accept x b) b) → HasTaken
-  has_taken h1 = grind arith
+  has_taken is = grind arith
 
 -- one more of its tokens
 pub token_next : {A : Type 0} (xs made next : List A) (i : ℕ) (x : A) → Some x ≡ slice_get xs i → made ≡ take i xs → next ≡ made ++ x ∷ [] → next ≡ take (i + 1) xs

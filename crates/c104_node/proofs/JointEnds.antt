@@ -12,27 +12,27 @@ use Rattle.std.proofs.lemmas.{Bool.cases_lt, Option.slice_get_past}
 
 -- what is done answers so
 pub ready_answer : {A : Type 0} (crossing : Crossing) (r : ReplyOf A) → IsAnswerOf crossing r → is_ready r ≡ true
-ready_answer crossing r h1 = grind arith
+ready_answer crossing r is = grind arith
 
 module _ {A : Type 0} (kind : Kind A) where
   -- the first end answers what crosses
   pub near_answers : (crossing : Crossing) (p : Port) (n : Node A) (r : ReplyOf A × Node A) → node_act kind 0 (near_act crossing p) n ≡ Some r → IsAnswerOf crossing r.0
-  near_answers crossing p n r h1 = grind arith
+  near_answers crossing p n r is = grind arith
 
   -- and the other end that it came in
   pub far_done : (crossing : Crossing) (a : ReplyOf A) (q : Port) (m : Node A) (r : ReplyOf A × Node A) → IsAnswerOf crossing a → node_act kind 0 (far_act q a) m ≡ Some r → r.0 ≡ ReplyOf.Done
-  far_done crossing a q m r h1 h2 = grind arith
+  far_done crossing a q m r answer is = grind arith
 
   -- what goes out at a port goes over its link
   pub near_linked : (links : ℕ → Bool) (crossing : Crossing) (p : Port) → links (port_link p) ≡ true → on_links links (near_act {A = A} crossing p) ≡ true
-  near_linked links crossing p h1 = grind arith
+  near_linked links crossing p linked = grind arith
 
   -- a node that can act is there
   acts_inside : (nodes : List (Node A)) (k : ℕ) (a : ActOf A) → is_some (nodes_act kind nodes k 0 a) ≡ true → k < length nodes
-  acts_inside nodes k a h1 = search (arith, slice_get_past, cases_lt)
+  acts_inside nodes k a ready = search (arith, slice_get_past, cases_lt)
 
   pub place_inside : {P : Type 0} (shown : P → Shown A) (xs : List P) (k : ℕ) (a : ActOf A) → is_some (nodes_act kind (states (map shown xs)) k 0 a) ≡ true → k < length xs
-  place_inside shown xs k a h1 = search (arith, acts_inside, as_many)
+  place_inside shown xs k a ready = search (arith, acts_inside, as_many)
 
 module _ {A : Type 0} (kind : Kind A) (p q : Port) (crossing : Crossing) (near far : ℕ) (nodes : List (Node A)) where
   abbrev with_reply : ReplyOf A → ReplyOf A × List (Node A) → Option (ReplyOf A × List (Node A))
@@ -57,7 +57,7 @@ module _ {A : Type 0} (kind : Kind A) (p q : Port) (crossing : Crossing) (near f
   module _ (apart : near ≢ far) where
     -- whether the far end can act is told by the node there alone
     some_at : (a : ActOf A) (ns ms : List (Node A)) → slice_get ns far ≡ slice_get ms far → is_some (nodes_act kind ns far 0 a) ≡ is_some (nodes_act kind ms far 0 a)
-    some_at a ns ms h1 = grind arith
+    some_at a ns ms same = grind arith
 
     -- and what goes out at the near end changes nothing there
     far_kept : (a : ActOf A) (r : ReplyOf A × List (Node A)) → HasGone r → is_some (nodes_act kind r.1 far 0 a) ≡ is_some (nodes_act kind nodes far 0 a)

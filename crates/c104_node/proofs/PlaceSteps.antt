@@ -36,7 +36,7 @@ module _ {A P : Type 0} (shown : P → Shown A) (xs : List P) (k : ℕ) (d : P) 
   free_there free = sym (ap (λ (o : Option Bool). unwrap_or o false) (read_inside (λ (s : Shown A). s.full) shown xs k d inside)) ∙ free
 
   pub ready_there : (kind : Kind A) (number : ℕ) (a : ActOf A) → is_some (nodes_act kind (states (map shown xs)) k number a) ≡ true → is_some (node_act kind number a (shown (get_or xs k d)).state) ≡ true
-  ready_there kind number a h1 = search (arith, read_inside)
+  ready_there kind number a ready = search (arith, read_inside)
 
 -- what a place shows after an act, among what all show
 module _ {A : Type 0} (olds : List (Shown A)) (k : ℕ) (old new : Shown A) (there : slice_get olds k ≡ Some old) where
@@ -98,7 +98,7 @@ err_is (Err d) e is = ap Err is.1
 module _ {A : Type 0} where
   -- what is so at a place of a list is so of the place
   pub linked_there : {P : Type 0} (shown : P → Shown A) (xs : List P) (k : ℕ) (d : P) → k < length xs → (a : ActOf A) → is_linked_at (bases (map shown xs)) k a ≡ true → is_linked (shown (get_or xs k d)).base a ≡ true
-  linked_there shown xs k d h1 a h2 = search (arith, shown_at, slice_get-get_or)
+  linked_there shown xs k d inside a linked = search (arith, shown_at, slice_get-get_or)
 
   pub below_there : {P : Type 0} (shown : P → Shown A) (xs : List P) (k : ℕ) (d : P) → k < length xs → (a : ActOf A) → act_limit (slice_get (states (map shown xs)) k) a ≡ None → act_limit (Some (shown (get_or xs k d)).state) a ≡ None
   below_there shown xs k d inside a below = sym (ap (λ (o : Option (Node A)). act_limit o a) (shown_at (λ (s : Shown A). s.state) shown xs k (Some (get_or xs k d)) (slice_get-get_or xs k d inside))) ∙ below

@@ -16,7 +16,7 @@ run_on wired from mid to (d ∷ entries) e run may made = (run.0, run.1, run.2, 
 module _ (n : NodeRecord) (a : ActOf Token) where
   -- an act that is ready goes over no link without a wire, and its node is ready for it
   pub linked_ready : is_some (recorded_step n a) ≡ true → (on_links (has_link n.wired) a ≡ true) × (recorded_step n a ≡ node_act plain_kind 0 a n.state)
-  linked_ready h1 = grind arith
+  linked_ready ready = grind arith
 
   -- where no limit of the node refuses it, none of its lists does, and its trace isn't full
   limit_none : recorded_limit n a ≡ None → (act_limit (Some n.state) a ≡ None) × (is_full n ≡ false)

@@ -106,7 +106,7 @@ module _ {A : Type 0} (kind : Kind A) where
       omega (arith, all, one, is)
 
   waits_more : (posted : List TerminalPacket) (next place waiting : ℕ) (p : TerminalPacket) → IsOutbox kind next place waiting posted → waiting_from kind next place (posted ++ p ∷ []) ≡ waiting_from kind next place posted ++ sent_tokens kind p.terminal (length posted) p.packet
-  waits_more posted next place waiting p h1 = search (arith, drop-append-le, posted_more, within, length-drop)
+  waits_more posted next place waiting p is = search (arith, drop-append-le, posted_more, within, length-drop)
 
   module _ (posted more : List TerminalPacket) (next place waiting : ℕ) (p : TerminalPacket) (packet : Packet) (same : p.packet ≡ packet) (joined : more ≡ posted ++ p ∷ []) (is : IsOutbox kind next place waiting posted) where
     pub sends : (input : Incoming A) (credit : ℕ) (arrived : List A) → ◌≡◌ {A = Terminal A} (record { input = input; output = record { items = waiting_from kind next place more; credit = credit }; sent = map packet_of more; arrived = arrived })
