@@ -44,12 +44,7 @@ module _ {A : Type 0} where
 
   -- one more is laid over a list
   pub next_laid : (os : List (OtherOf A)) (k : ℕ) (o : OtherOf A) (xs now all : List A) → slice_get os k ≡ Some o → now ≡ slice_set xs o.place o.token → overlaid (drop k os) xs ≡ all → overlaid (drop (k + 1) os) now ≡ all
-  next_laid os k o xs now all there set before =
-      let one : k + 1 ≡ suc k = omega arith in
-      ap (λ (j : ℕ). overlaid (drop j os) now) one
-      ∙ ap (overlaid (drop (suc k) os)) set
-      ∙ ap (λ (ps : List (OtherOf A)). overlaid ps xs) (sym (drop_there os k o there))
-      ∙ before
+  next_laid os k o xs now all there set before = search (arith, drop_there)
 
   -- the token at a place where one more is laid over a list
   pub next_among : (os : List (OtherOf A)) (k : ℕ) (o : OtherOf A) (i : ℕ) (x y : A) (xs : List A) → slice_get os k ≡ Some o → (o.place ≡ i → y ≡ o.token) → ((o.place ≡ i → ⊥) → y ≡ x) → slice_get (overlaid (take k os) xs) i ≡ Some x → slice_get (overlaid (take (k + 1) os) xs) i ≡ Some y
@@ -68,8 +63,7 @@ module _ {A : Type 0} (kind : Kind A) where
   byte_there bytes lent k b same there = search (arith, slice_get-map)
 
   counted_sum : (b : Option ℕ) (m n : ℕ) → counted_other kind b m + n ≡ counted_other kind b (m + n)
-  counted_sum None m n = omega arith
-  counted_sum (Some b) m n = refl
+  counted_sum b m n = search arith
 
   others_sum : (xs : List A) (x : A) → others_in kind (xs ++ x ∷ []) ≡ others_in kind xs + others_in kind (x ∷ [])
   others_sum [] x = omega arith

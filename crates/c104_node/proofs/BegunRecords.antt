@@ -28,9 +28,7 @@ module _ {A : Type 0} where
 
 -- where no token stands, a node at the start that it is at stands as it begins a run
 pub switch_stands : {A : Type 0} (s : Switch A) → length s.inputs ≡ length s.outputs → IsQuietNode (NodeOf.Switch s) → start_node (start_of (NodeOf.Switch s)) ≡ node_begin (NodeOf.Switch s)
-switch_stands {A} s same quiet =
-    ap (λ (ps : List (Input A)). NodeOf.Switch (record s { inputs = ps; outputs = map start_output (link_starts s.inputs s.outputs) })) (inputs_back s.inputs s.outputs same quiet.0)
-    ∙ ap (λ (qs : List (Outgoing A)). NodeOf.Switch (record s { outputs = qs })) (outputs_back s.inputs s.outputs same quiet.1)
+switch_stands {A} s same quiet = search (arith, inputs_back, outputs_back)
 
 pub terminal_stands : {A : Type 0} (t : Terminal A) → IsQuietNode (NodeOf.Terminal t) → start_node (start_of (NodeOf.Terminal t)) ≡ node_begin (NodeOf.Terminal t)
 terminal_stands t quiet = grind arith

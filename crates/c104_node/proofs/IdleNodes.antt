@@ -7,13 +7,11 @@ use Rattle.c104_node.specs.{Terminals.{Terminal, terminal_credit_out, terminal_d
 use Rattle.{c104_node.specs.declared.{crossings.Joint.Joint, node.NodeOf.NodeOf, stamps.Stamp.Stamp}, c104_switch.specs.Claims.IsNextLink}
 use Rattle.c104_switch.specs.{Claims.switch_claim, Switch.{Switch as State, switch_credit_out, switch_leave}, Turns.switch_input}
 use Rattle.{c104_switch.specs.declared.actions.ReplyOf.ReplyOf, c104_token.specs.Kinds.Kind, std.proofs.Common.{Bool, Err, List, None, Ok}}
-use Rattle.std.proofs.Common.{Option, Result, Some, ap, arith, false, is_some, not, refl, slice_get, slice_set, sym, true, ℕ, ◌&&◌, ◌<◌}
-use Rattle.std.proofs.Common.{◌∙◌, ◌≡◌, ◌≢◌}
+use Rattle.std.proofs.Common.{Option, Result, Some, ap, arith, false, is_some, not, refl, slice_get, sym, true, ℕ, ◌&&◌, ◌<◌, ◌∙◌, ◌≡◌, ◌≢◌}
 
 -- what a test says of its opposite
 pub opposite : (b : Bool) → not b ≡ true → b ≡ false
-opposite true is = absurd (cc)
-opposite false is = refl
+opposite b is = search arith
 
 module _ {A : Type 0} (kind : Kind A) where
   -- a switch of which no link that is asked is ready, and no input wants an output
@@ -32,15 +30,7 @@ module _ {A : Type 0} (kind : Kind A) where
   -- what no node there does is not ready there
   module _ (nodes : List (Node A)) (k : ℕ) where
     pub unready_there : (number : ℕ) (a : ActOf A) → ((n : Node A) → slice_get nodes k ≡ Some n → is_some (node_act kind number a n) ≡ false) → is_some (nodes_act kind nodes k number a) ≡ false
-    unready_there number a none = by_node (slice_get nodes k) refl
-      where
-        by_made : (made : Option (ReplyOf A × Node A)) → is_some made ≡ false → is_some {T = ReplyOf A × List (Node A)} (made >>= (λ y. Some (y.0, slice_set nodes k y.1))) ≡ false
-        by_made None is = refl
-        by_made (Some y) is = absurd (cc)
-
-        by_node : (o : Option (Node A)) → slice_get nodes k ≡ o → is_some (nodes_act kind nodes k number a) ≡ false
-        by_node None is = rw is refl
-        by_node (Some n) is = rw is (by_made (node_act kind number a n) (none n is))
+    unready_there number a none = search arith
 
     pub unclaimed_there : (i o : ℕ) → ((n : Node A) → slice_get nodes k ≡ Some n → node_claim i o n ≡ None) → step_at nodes k (node_claim i o) ≡ None
     unclaimed_there i o none = grind arith

@@ -1,14 +1,13 @@
 -- What crosses a wire, among all nodes: where both ends are ready both act, and else nothing changes.
 use Rattle.{c104_event.specs.declared.faults.EventFault.EventFault, c104_link.{proofs.MadeSteps.from_place_made, specs.Steps.◌>>=◌}}
 use Rattle.c104_node.{proofs.{PlaceSteps.as_many, WireEnds.get_set_other}, specs.{ActLinks.{on_links, port_link}, Acts.node_act}}
-use Rattle.c104_node.specs.{Acts.{nodes_act, reply_outcome}, Nodes.Node, PlaceActs.{HasActedAt, JointDone}, Places.{Shown, bases, fulls}}
-use Rattle.c104_node.specs.{Places.{room_fault, states, traces}, PortActs.{IsAnswerOf, far_act, joint_step, near_act}, Traces.full_at}
-use Rattle.c104_node.specs.{Traces.{kept_entry, noted_all, noted_at}, declared.acts.{ActOf.ActOf, Entry.Entry}}
-use Rattle.c104_node.specs.declared.{crossings.{Crossing.Crossing, Joint.Joint}, stamps.Stamp.Stamp}
+use Rattle.c104_node.specs.{Acts.nodes_act, Nodes.Node, PlaceActs.{HasActedAt, JointDone}, Places.{Shown, bases, fulls, room_fault, states}}
+use Rattle.c104_node.specs.{Places.traces, PortActs.{IsAnswerOf, far_act, joint_step, near_act}, Traces.{full_at, kept_entry}}
+use Rattle.c104_node.specs.declared.{acts.{ActOf.ActOf, Entry.Entry}, crossings.{Crossing.Crossing, Joint.Joint}, stamps.Stamp.Stamp}
 use Rattle.{c104_plan.specs.declared.ports.Port.Port, c104_switch.specs.{Actions.is_ready, declared.actions.ReplyOf.ReplyOf}}
-use Rattle.{c104_token.specs.Kinds.Kind, std.proofs.Common.{Bool, Err, List, None, Ok, Option, Some, [], ap, arith, false, if◌then◌else◌}}
-use Rattle.std.proofs.Common.{is_some, length, map, refl, slice_get, slice_set, subst, sym, true, ℕ, ◌<◌, ◌||◌, ◌∙◌, ◌∷◌, ◌≡◌, ◌≢◌}
-use Rattle.std.proofs.lemmas.{Bool.cases_lt, Option.slice_get_past}
+use Rattle.{c104_token.specs.Kinds.Kind, std.proofs.Common.{Bool, Err, List, None, Ok, Option, Some, ap, arith, false, is_some, length}}
+use Rattle.std.proofs.{Common.{map, refl, slice_get, slice_set, subst, sym, true, ℕ, ◌<◌, ◌||◌, ◌∙◌, ◌≡◌, ◌≢◌}, lemmas.Bool.cases_lt}
+use Rattle.std.proofs.lemmas.Option.{slice_get_past}
 
 -- what is done answers so
 pub ready_answer : {A : Type 0} (crossing : Crossing) (r : ReplyOf A) → IsAnswerOf crossing r → is_ready r ≡ true
@@ -104,11 +103,7 @@ module _ {A : Type 0} (kind : Kind A) (keeps : Bool) (near far : ℕ) (joint : J
 
   -- where one end isn't ready
   pub none_crosses : made ≡ None → JointDone kind keeps near far joint stamp olds (Ok ReplyOf.NotReady) olds
-  none_crosses none = record {
-    ends = (ap (λ (m : Option (ReplyOf A × List (Node A))). reply_outcome m (states olds)) (sym none), λ ready. absurd (let no : ⊥ = cc in no));
-    base = refl;
-    trace = refl;
-  }
+  none_crosses none = search arith
 
   -- where both are, and it is refused
   pub crossing_refused : (f : EventFault) (news : List (Shown A)) → f ≡ room_fault (full_at (fulls olds) near || full_at (fulls olds) far) → is_some made ≡ true → news ≡ olds → JointDone kind keeps near far joint stamp olds (Err f) news
@@ -136,16 +131,4 @@ module _ {A : Type 0} (kind : Kind A) (keeps : Bool) (near far : ℕ) (joint : J
 
     -- and where that has acted too, something crossed
     pub has_crossed : (last : ReplyOf A) (news : List (Shown A)) → HasActedAt kind keeps far 0 stamp (far_act joint.far told) mids last news → (full_at (fulls olds) near || full_at (fulls olds) far) ≡ false → JointDone kind keeps near far joint stamp olds (Ok told) news
-    has_crossed last news came free = record {
-      ends = (sym (ap (λ (m : Option (ReplyOf A × List (Node A))). reply_outcome m (states olds)) both), λ ready. (refl, free));
-      base = came.base ∙ left.base;
-      trace =
-          came.trace ∙ ap (λ r. noted_at keeps (traces mids) far (kept_entry kind stamp (far_act joint.far told) r)) done ∙ ap (λ ts. noted_at keeps ts far coming) left.trace
-          ∙ sym (ap (λ b. noted_all keeps (traces olds) (if b then (near, going) ∷ (far, coming) ∷ [] else [])) (ready_answer joint.crossing told left_answers));
-    }
-      where
-        both : joint_step kind near far joint.near joint.far joint.crossing (states olds) ≡ Some (told, states news)
-        both = ap (λ (m : Option (ReplyOf A × List (Node A))). m >>= from_near kind joint.near joint.far joint.crossing near far (states olds)) left.acted ∙ ap (λ (m : Option (ReplyOf A × List (Node A))). m >>= with_reply kind joint.near joint.far joint.crossing near far (states olds) told) came.acted
-
-        done : last ≡ ReplyOf.Done
-        done = came_answers kind joint.near joint.far joint.crossing near far (states olds) (told, states mids) (last, states news) left.acted came.acted
+    has_crossed last news came free = search (arith, ready_answer, came_answers)

@@ -1,13 +1,12 @@
 -- From one place to all places: what is read there, and what an act changes.
 use Rattle.{c104_link.specs.Steps.◌>>=◌, c104_node.proofs.{ReadyActs.{act_ready, made_ready}, WireEnds.{get_set_other, get_set_same}}}
 use Rattle.c104_node.specs.{Acts.{node_act, nodes_act}, Nodes.Node, PlaceActs.{HasActed, HasActedAt}, Places.{HasRoomAt, Shown, bases}}
-use Rattle.c104_node.specs.{Places.{fulls, states, traces}, PortActs.act_limit, Traces.{full_at, kept_entry, noted, noted_in}}
-use Rattle.c104_node.specs.{WiredPlaces.{is_linked, is_linked_at}, declared.{acts.ActOf.ActOf, stamps.Stamp.Stamp}}
-use Rattle.{c104_switch.specs.declared.actions.ReplyOf.ReplyOf, c104_token.specs.Kinds.Kind, std.proofs.Common.{Bool, Err, IsErr, IsErrAnd}}
-use Rattle.std.proofs.Common.{List, None, Ok, OnOk, Option, Result, Some, ap, arith, false, get_or, if◌then◌else◌, is_some, length, map}
-use Rattle.std.proofs.Common.{nat_lt, option_map, slice_get, slice_set, subst, sym, true, unwrap_or, ℕ, ◌<◌, ◌∙◌, ◌≡◌, ◌≢◌}
-use Rattle.std.proofs.{Math.Seq.map-set_same, lemmas.{Bool.{Decides.nat_tests, both_ways}, List.{length-map, map-set}}}
-use Rattle.std.proofs.lemmas.Option.{get_or_from_slice_get, slice_get-get_or, slice_get-map, slice_get_past}
+use Rattle.c104_node.specs.{Places.{fulls, states}, PortActs.act_limit, Traces.full_at, WiredPlaces.{is_linked, is_linked_at}}
+use Rattle.{c104_node.specs.declared.{acts.ActOf.ActOf, stamps.Stamp.Stamp}, c104_switch.specs.declared.actions.ReplyOf.ReplyOf}
+use Rattle.{c104_token.specs.Kinds.Kind, std.proofs.Common.{Bool, Err, IsErr, IsErrAnd, List, None, Ok, OnOk, Option, Result, Some, ap}}
+use Rattle.std.proofs.Common.{arith, false, get_or, is_some, length, map, nat_lt, option_map, slice_get, slice_set, subst, sym, true}
+use Rattle.std.proofs.{Common.{unwrap_or, ℕ, ◌<◌, ◌∙◌, ◌≡◌, ◌≢◌}, Math.Seq.map-set_same, lemmas.Bool.{Decides.nat_tests, both_ways}}
+use Rattle.std.proofs.lemmas.{List.{length-map, map-set}, Option.{get_or_from_slice_get, slice_get-get_or, slice_get-map, slice_get_past}}
 
 -- what a place shows, read from the list of all
 module _ {A P S : Type 0} (f : Shown A → S) (shown : P → Shown A) (xs : List P) (k : ℕ) where
@@ -57,17 +56,7 @@ module _ {A : Type 0} (olds : List (Shown A)) (k : ℕ) (old new : Shown A) (the
 
     -- an act that it was ready for is made, and an entry is kept of it
     acted_there : (keeps : Bool) (stamp : Stamp) (reply : ReplyOf A) → is_some (node_act kind number a old.state) ≡ true → HasActed kind keeps number stamp a old reply new → HasActedAt kind keeps k number stamp a olds reply (slice_set olds k new)
-    acted_there keeps stamp reply ready is = record {
-      acted = all_is ∙ ap (λ made. made >>= put) made ∙ ap (λ ns. Some (reply, ns)) (sym (map-set (λ (s : Shown A). s.state) olds k new));
-      base = kept_same (λ (s : Shown A). s.base) is.base;
-      trace =
-          map-set (λ (s : Shown A). s.trace) olds k new
-          ∙ ap (slice_set (traces olds) k) (is.trace ∙ ap (λ b. if b then noted keeps old.trace (kept_entry kind stamp a reply) else old.trace) (act_ready kind number a old.state (reply, new.state) made))
-          ∙ sym (ap (noted_in keeps (traces olds) k (kept_entry kind stamp a reply)) (seen_there (λ (s : Shown A). s.trace)));
-    }
-      where
-        made : node_act kind number a old.state ≡ Some (reply, new.state)
-        made = made_ready (node_act kind number a old.state) reply new.state old.state ready is.acted
+    acted_there keeps stamp reply ready is = search (arith, all_is, map-set, kept_same, act_ready, seen_there, made_ready)
 
 -- where it was ready it isn't answered that it isn't
 pub never_unready : {A : Type 0} (kind : Kind A) (keeps : Bool) (stamp : Stamp) (a : ActOf A) (old new : Shown A) (reply : ReplyOf A) → is_some (node_act kind 0 a old.state) ≡ true → HasActed kind keeps 0 stamp a old reply new → reply ≡ ReplyOf.NotReady → ⊥
@@ -92,8 +81,7 @@ room_made has_room xs k d new inside (Ok u) room = λ p at.
 room_made has_room xs k d new inside (Err e) room = tt
 
 pub err_is : {X E : Type 0} (result : Result X E) (e : E) → IsErr result × IsErrAnd result (λ d. d ≡ e) → result ≡ Err e
-err_is (Ok x) e is = absurd (cc is.0)
-err_is (Err d) e is = ap Err is.1
+err_is result e is = search arith
 
 module _ {A : Type 0} where
   -- what is so at a place of a list is so of the place

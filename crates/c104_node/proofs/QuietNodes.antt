@@ -4,9 +4,8 @@ use Rattle.{c104_link.specs.Buffers.Outgoing, c104_node.{proofs.EachSoFar.each_n
 use Rattle.c104_node.specs.Quiet.{IsQuietOutput, IsQuietSwitch, is_fresh, is_quiet_view}
 use Rattle.{c104_regs.specs.declared.registers.TheConstants.LINKS, c104_switch.specs.{Soundness.IsSound, Switch.Input}}
 use Rattle.c104_switch.specs.{Switch.Switch as SwitchState, Views.{link_view, phase_view}, declared.phase.Phase.{Phase, TheVariants.Fresh}}
-use Rattle.{c104_switch.specs.declared.phase.Phase.TheVariants.{Head, Sinking, Stream, Want}, c104_token.specs.Kinds.Kind}
-use Rattle.std.proofs.Common.{Bool, List, Some, [], arith, false, get_or, length, nat_eq, refl, slice_get, sym, true, ℕ, ◌&&◌, ◌+◌, ◌<◌}
-use Rattle.std.proofs.{Common.{◌∙◌, ◌∷◌, ◌≡◌}, lemmas.{Bool.Decides.nat_tests, Option.slice_get-get_or}}
+use Rattle.{c104_token.specs.Kinds.Kind, std.proofs.Common.{Bool, List, Some, [], arith, false, get_or, length, nat_eq, refl, slice_get}}
+use Rattle.std.proofs.{Common.{sym, true, ℕ, ◌&&◌, ◌+◌, ◌<◌, ◌∙◌, ◌∷◌, ◌≡◌}, lemmas.{Bool.Decides.nat_tests, Option.slice_get-get_or}}
 
 -- where one of two is not, not both are
 both : (a b : Bool) → (a && b) ≡ true → (a ≡ true) × (b ≡ true)
@@ -19,21 +18,14 @@ empty_is (x ∷ xs) is = let none : length (x ∷ xs) ≡ 0 = grind (arith, nat_
 
 module _ {A : Type 0} (kind : Kind A) where
   fresh_is : (phase : Phase (List A)) → is_fresh (phase_view kind phase) ≡ true → phase ≡ Fresh
-  fresh_is Fresh is = refl
-  fresh_is (Head b) is = cc
-  fresh_is (Want b g) is = cc
-  fresh_is (Stream o) is = cc
-  fresh_is Sinking is = cc
+  fresh_is phase is = search arith
 
   -- what is seen of the two sides of a link
   abbrev seen : Input A → Outgoing A → Bool
   seen p q = nat_eq (length p.buffer.items) 0 && (nat_eq (length q.items) 0 && is_fresh (phase_view kind p.phase))
 
   seen_quiet : (p : Input A) (q : Outgoing A) → seen p q ≡ true → IsQuietInput p × IsQuietOutput q
-  seen_quiet p q is =
-      let first = both (nat_eq (length p.buffer.items) 0) (nat_eq (length q.items) 0 && is_fresh (phase_view kind p.phase)) is in
-      let rest = both (nat_eq (length q.items) 0) (is_fresh (phase_view kind p.phase)) first.1 in
-      ((empty_is p.buffer.items first.0, fresh_is p.phase rest.1), empty_is q.items rest.0)
+  seen_quiet p q is = search (arith, both, empty_is, fresh_is)
 
   module _ (s : SwitchState A) (sound : IsSound s) where
     view_is : (l : ℕ) (p : Input A) (q : Outgoing A) → slice_get s.inputs l ≡ Some p → slice_get s.outputs l ≡ Some q → is_quiet_view (link_view kind s l) ≡ seen p q

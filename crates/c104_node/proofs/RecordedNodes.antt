@@ -1,12 +1,11 @@
 -- A node with its record: its run goes on by an act; and plain tokens don't tell the number of a terminal.
-use Rattle.{c104_event.specs.declared.faults.EventFault.EventFault, c104_node.proofs.ReadyActs.{act_ready, made_ready}}
-use Rattle.c104_node.specs.{ActLinks.on_links, Acts.{IsWithinLimits, node_act, reply_outcome}, Nodes.Node, PortActs.act_limit}
-use Rattle.c104_node.specs.Records.{IsNodeRun, IsRecorded, MayAct, NodeRecord, after_act, fault_first, has_link, is_full, recorded_limit}
-use Rattle.c104_node.specs.{Records.recorded_step, Starts.start_node, Traces.{entry_of, trace_limit}, declared.acts.ActOf.ActOf}
-use Rattle.{c104_node.specs.declared.{acts.Entry.Entry, stamps.Stamp.Stamp}, c104_switch.specs.Actions.{Reply, is_ready}}
-use Rattle.{c104_token.specs.{Kinds.plain_kind, declared.tokens.Token.Token}, std.proofs.Common.{Bool, List, None, Option, Some, [], ap}}
-use Rattle.std.proofs.Common.{arith, false, is_some, length, length-append, nat_le, refl, subst, sym, true, ℕ, ◌++◌, ◌+◌, ◌∙◌, ◌∷◌, ◌≡◌}
-use Rattle.std.{proofs.lemmas.Bool.Decides.nat_tests, specs.Prelude.if◌then◌else◌}
+use Rattle.c104_node.{proofs.ReadyActs.{act_ready, made_ready}, specs.{ActLinks.on_links, Acts.{IsWithinLimits, node_act, reply_outcome}}}
+use Rattle.c104_node.specs.{Nodes.Node, PortActs.act_limit, Records.{IsNodeRun, IsRecorded, MayAct, NodeRecord, after_act, fault_first}}
+use Rattle.c104_node.specs.{Records.{has_link, is_full, recorded_limit, recorded_step}, declared.acts.{ActOf.ActOf, Entry.Entry}}
+use Rattle.{c104_node.specs.declared.stamps.Stamp.Stamp, c104_switch.specs.Actions.{Reply, is_ready}, c104_token.specs.Kinds.plain_kind}
+use Rattle.{c104_token.specs.declared.tokens.Token.Token, std.proofs.Common.{List, None, Some, [], ap, arith, false, is_some}}
+use Rattle.std.proofs.{Common.{length-append, refl, subst, sym, true, ℕ, ◌++◌, ◌∙◌, ◌∷◌, ◌≡◌}, lemmas.Bool.Decides.nat_tests}
+use Rattle.std.specs.Prelude.{if◌then◌else◌}
 
 -- the run goes on by one act
 run_on : (wired : ℕ) (from mid to : Node Token) (entries : List Entry) (e : Entry) → IsNodeRun wired from entries mid → MayAct wired mid e.act → node_act plain_kind 0 e.act mid ≡ Some (e.reply, to) → IsNodeRun wired from (entries ++ e ∷ []) to
@@ -20,12 +19,7 @@ module _ (n : NodeRecord) (a : ActOf Token) where
 
   -- where no limit of the node refuses it, none of its lists does, and its trace isn't full
   limit_none : recorded_limit n a ≡ None → (act_limit (Some n.state) a ≡ None) × (is_full n ≡ false)
-  limit_none none = by_fault (act_limit (Some n.state) a) (is_full n) none
-    where
-      by_fault : (f : Option EventFault) (full : Bool) → fault_first f full ≡ None → (f ≡ None) × (full ≡ false)
-      by_fault None true none = absurd (cc)
-      by_fault None false none = (refl, refl)
-      by_fault (Some f) full none = absurd (cc)
+  limit_none none = search arith
 
   module _ (r : Reply) (to : Node Token) (ready : is_some (recorded_step n a) ≡ true) (gives : ◌≡◌ {A = Reply × Node Token} (r, to) (reply_outcome (node_act plain_kind 0 a n.state) n.state)) where
     node_made : node_act plain_kind 0 a n.state ≡ Some (r, to)
@@ -40,14 +34,7 @@ module _ (n : NodeRecord) (a : ActOf Token) where
 
     -- and the node keeps what its type says
     pub recorded_kept : (stamp : Stamp) → IsRecorded n → IsWithinLimits a → recorded_limit n a ≡ None → IsRecorded (after_act n stamp a r to)
-    recorded_kept stamp kept short none = record {
-      sized = kept.sized;
-      run = run_on n.wired (start_node n.start) n.state to n.trace (entry_of stamp a r) kept.run (record { short = short; linked = (linked_ready ready).0; below = (limit_none none).0 }) node_made;
-      within =
-          let more : length (n.trace ++ entry_of stamp a r ∷ []) ≡ length n.trace + 1 = length-append n.trace (entry_of stamp a r ∷ []) in
-          let free : nat_le trace_limit (length n.trace) ≡ false = (limit_none none).1 in
-          grind (arith, nat_tests, more, free);
-    }
+    recorded_kept stamp kept short none = search (arith, run_on, linked_ready, limit_none, node_made, length-append, nat_tests)
 
 -- whatever a terminal's number, over plain tokens its acts are the same
 pub number_plain : (a b : ℕ) (x : ActOf Token) (n : Node Token) → node_act plain_kind a x n ≡ node_act plain_kind b x n

@@ -22,8 +22,7 @@ get_before (y ∷ xs) ys zero x is = is
 get_before (y ∷ xs) ys (suc k) x is = get_before xs ys k x is
 
 first_place : (o : Option TerminalPacket) → IsPlace 0 o
-first_place None = refl
-first_place (Some q) = omega arith
+first_place o = search arith
 
 module _ {A : Type 0} (kind : Kind A) where
   from_length : (t n j : ℕ) (xs : List Token) → length (sent_from kind t n j xs) ≡ length xs
@@ -111,26 +110,7 @@ module _ {A : Type 0} (kind : Kind A) where
   module _ (posted more : List TerminalPacket) (next place waiting : ℕ) (p : TerminalPacket) (packet : Packet) (same : p.packet ≡ packet) (joined : more ≡ posted ++ p ∷ []) (is : IsOutbox kind next place waiting posted) where
     pub sends : (input : Incoming A) (credit : ℕ) (arrived : List A) → ◌≡◌ {A = Terminal A} (record { input = input; output = record { items = waiting_from kind next place more; credit = credit }; sent = map packet_of more; arrived = arrived })
         (terminal_send kind p.terminal packet (record { input = input; output = record { items = waiting_from kind next place posted; credit = credit }; sent = map packet_of posted; arrived = arrived }))
-    sends input credit arrived =
-        let items : waiting_from kind next place more ≡ waiting_from kind next place posted ++ sent_tokens kind p.terminal (length (map packet_of posted)) packet =
-        ap (waiting_from kind next place) joined ∙ waits_more posted next place waiting p is
-        ∙ ap (λ (k : ℕ). waiting_from kind next place posted ++ sent_tokens kind p.terminal k p.packet) (sym (length-map posted packet_of))
-        ∙ ap (λ (q : Packet). waiting_from kind next place posted ++ sent_tokens kind p.terminal (length (map packet_of posted)) q) same in
-        let sent : map packet_of more ≡ map packet_of posted ++ packet ∷ [] = ap (map packet_of) joined ∙ map-append packet_of posted (p ∷ []) ∙ ap (λ (q : Packet). map packet_of posted ++ q ∷ []) same in
-        ap (λ (xs : List A). record { input = input; output = record { items = xs; credit = credit }; sent = map packet_of more; arrived = arrived }) items
-        ∙ ap (λ (ps : List Packet). record { input = input; output = record { items = waiting_from kind next place posted ++ sent_tokens kind p.terminal (length (map packet_of posted)) packet; credit = credit }; sent = ps; arrived = arrived }) sent
+    sends input credit arrived = search (arith, waits_more, length-map, map-append)
 
     pub sends_keeps : (after : ℕ) → after ≡ waiting + (length packet.bytes + 1) → IsOutbox kind next place after more
-    sends_keeps after grown = subst (λ (ps : List TerminalPacket). IsOutbox kind next place after ps) (sym joined) (record {
-      inside = let l : length (posted ++ p ∷ []) ≡ length posted + 1 = length-append posted (p ∷ []) in omega (arith, l, is.inside);
-      placed = by_place (slice_get posted next) refl is.placed;
-      counted =
-          let all : length (waiting_from kind next place (posted ++ p ∷ [])) ≡ length (waiting_from kind next place posted) + length (sent_tokens kind p.terminal (length posted) p.packet) = ap (length {A = A}) (waits_more posted next place waiting p is) ∙ length-append (waiting_from kind next place posted) (sent_tokens kind p.terminal (length posted) p.packet) in
-          let l = sent_length p.terminal (length posted) p.packet in
-          let b : length p.packet.bytes ≡ length packet.bytes = ap (λ (q : Packet). length q.bytes) same in
-          omega (arith, all, l, b, grown, is.counted);
-    })
-      where
-        by_place : (o : Option TerminalPacket) → slice_get posted next ≡ o → IsPlace place o → IsPlace place (slice_get (posted ++ p ∷ []) next)
-        by_place (Some q) at placed = subst (IsPlace place) (sym (get_before posted (p ∷ []) next q at)) placed
-        by_place None at placed = subst (λ (j : ℕ). IsPlace j (slice_get (posted ++ p ∷ []) next)) (sym placed) (first_place (slice_get (posted ++ p ∷ []) next))
+    sends_keeps after grown = search (arith, length-append, waits_more, sent_length, get_before, first_place)
