@@ -59,7 +59,7 @@ module _ {A B : Type 0} (f : A → B) where
   outputs_same [] = refl
   outputs_same (l ∷ links) = ap (λ z. start_output l ∷ z) (outputs_same links)
 
-  node_same : (s : NodeStart) → map_node f (start_node s) ≡ start_node s
+  pub node_same : (s : NodeStart) → map_node f (start_node s) ≡ start_node s
   node_same (NodeStart.Switch s) = rw (inputs_same s.links, outputs_same s.links) refl
   node_same (NodeStart.Terminal t) = refl
 

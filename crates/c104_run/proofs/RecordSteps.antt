@@ -102,33 +102,37 @@ module _ (old new : NetRecord) (is_plan : IsPlan old.network.plan) (same_plan : 
       let count = nodes_counted plan old.network.nodes before.steady.in_place in
       omega (arith, total, traces_counted, count, before.counted, is_plan.few_switches, is_plan.terminals.few)
 
-  done_kept : (r : Reply) → is_ready r ≡ true → AnswersWith plain_kind full old.network e (Ok r) new.network → full ≡ false →
-      new.traces ≡ noted_all true old.traces (event_deeds plan (seatless old.count) e r) → new.starts ≡ old.starts → new.count ≡ ticket_after old.count true → IsNetRecord new
-  done_kept r ready answers free noted starts count =
-      let nodes : List (Node Token) = old.network.nodes in
-      let after : Network Token = network_of plan new.network.nodes in
-      let is_after : new.network ≡ after = ap (λ p. network_of p new.network.nodes) same_plan in
-      let due : ◌≡◌ {A = Result Reply EventFault × Network Token} (Ok r, new.network) (network_apply plain_kind old.network e) = elim answers [ inl is ↦ is | inr refused ↦ absurd (cc refused.0) ] in
-      let deeds : List Deed = event_deeds plan (seatless old.count) e r in
-      let room : HaveRoom old.traces deeds = deeds_room plan is_plan nodes before.steady old.traces traces_counted (seatless old.count) r new.network ready e (done_made plain_kind old.network new.network r e due ready) free in
-      let one_more : new.count ≡ old.count + 1 = count ∙ sym ticket_left in
-      let more = all_more old.traces deeds room in
-      let run = before.told in
-      let on = record_on plain_kind plan seatless (map start_node old.starts) nodes new.network.nodes old.traces new.traces old.count run.0 full e r before.steady.in_place run.1
-      (subst (λ net. AnswersWith plain_kind full old.network e (Ok r) net) is_after answers) ready
-      noted (seatless_order plan 0 (run.0 ++ (e, r) ∷ [])) in
-      record {
-        steady = applied_with plain_kind plan is_plan nodes before.steady full e (Ok r) new.network answers;
-        started = subst (λ p. IsSteady {A = Token} (network_of p (map start_node new.starts))) (sym same_plan) (subst (λ ss. IsSteady {A = Token} (network_of plan (map start_node ss))) (sym starts) before.started);
-        told = (
-          run.0 ++ (e, r) ∷ [],
-          subst (λ p. IsRunRecord plain_kind p seatless (map start_node new.starts) new.network.nodes new.traces new.count (run.0 ++ (e, r) ∷ [])) (sym same_plan)
-              (subst (λ ss. IsRunRecord plain_kind plan seatless (map start_node ss) new.network.nodes new.traces new.count (run.0 ++ (e, r) ∷ [])) (sym starts)
-              (subst (λ n. IsRunRecord plain_kind plan seatless (map start_node old.starts) new.network.nodes new.traces n (run.0 ++ (e, r) ∷ [])) (sym one_more) on)),
-        );
-        within = subst (λ ts. All IsWithinLimit ts) (sym noted) (all_within old.traces deeds room before.within);
-        counted = subst (λ ts. new.count ≤ total_entries ts) (sym noted) (omega (arith, one_more, more, before.counted));
-      }
+  module _ (r : Reply) (ready : is_ready r ≡ true) (is : RecordsEvent old e (Ok r) new) where
+    abbrev added : List Deed
+    added = event_deeds plan (seatless old.count) e r
+
+    room : HaveRoom old.traces added
+    room =
+        let due : ◌≡◌ {A = Result Reply EventFault × Network Token} (Ok r, new.network) (network_apply plain_kind old.network e) = elim is.answers [ inl is ↦ is | inr refused ↦ absurd (cc refused.0) ] in
+        deeds_room plan is_plan old.network.nodes before.steady old.traces traces_counted (seatless old.count) r new.network ready e (done_made plain_kind old.network new.network r e due ready) (is.free ready)
+
+    one_more : new.count ≡ old.count + 1
+    one_more = is.count ∙ ap (ticket_after old.count) ready ∙ sym ticket_left
+
+    -- its run goes on by an event that was done
+    pub run_on : IsRunRecord plain_kind new.network.plan seatless (map start_node new.starts) new.network.nodes new.traces new.count (before.told.0 ++ (e, r) ∷ [])
+    run_on =
+        let is_after : new.network ≡ network_of plan new.network.nodes = ap (λ p. network_of p new.network.nodes) same_plan in
+        let on = record_on plain_kind plan seatless (map start_node old.starts) old.network.nodes new.network.nodes old.traces new.traces old.count before.told.0 full e r before.steady.in_place before.told.1
+        (subst (λ net. AnswersWith plain_kind full old.network e (Ok r) net) is_after is.answers) ready
+        is.traces (seatless_order plan 0 (before.told.0 ++ (e, r) ∷ [])) in
+        subst (λ p. IsRunRecord plain_kind p seatless (map start_node new.starts) new.network.nodes new.traces new.count (before.told.0 ++ (e, r) ∷ [])) (sym same_plan)
+        (subst (λ ss. IsRunRecord plain_kind plan seatless (map start_node ss) new.network.nodes new.traces new.count (before.told.0 ++ (e, r) ∷ [])) (sym is.starts)
+        (subst (λ n. IsRunRecord plain_kind plan seatless (map start_node old.starts) new.network.nodes new.traces n (before.told.0 ++ (e, r) ∷ [])) (sym one_more) on))
+
+    done_kept : IsNetRecord new
+    done_kept = record {
+      steady = applied_with plain_kind plan is_plan old.network.nodes before.steady full e (Ok r) new.network is.answers;
+      started = subst (λ p. IsSteady {A = Token} (network_of p (map start_node new.starts))) (sym same_plan) (subst (λ ss. IsSteady {A = Token} (network_of plan (map start_node ss))) (sym is.starts) before.started);
+      told = (before.told.0 ++ (e, r) ∷ [], run_on);
+      within = subst (λ ts. All IsWithinLimit ts) (sym is.traces) (all_within old.traces added room before.within);
+      counted = let more = all_more old.traces added room in subst (λ ts. new.count ≤ total_entries ts) (sym is.traces) (omega (arith, one_more, more, before.counted));
+    }
 
   undone_kept : (answer : Result Reply EventFault) → is_done answer ≡ false → RecordsEvent old e answer new → IsNetRecord new
   undone_kept answer undone is =
@@ -142,6 +146,6 @@ module _ (old new : NetRecord) (is_plan : IsPlan old.network.plan) (same_plan : 
   event_kept (Ok r) is = by_reply (is_ready r) refl
     where
       by_reply : (done : Bool) → is_ready r ≡ done → IsNetRecord new
-      by_reply true ready = done_kept r ready is.answers (is.free ready) is.traces is.starts (is.count ∙ ap (ticket_after old.count) ready)
+      by_reply true ready = done_kept r ready is
       by_reply false undone = undone_kept (Ok r) undone is
   event_kept (Err f) is = undone_kept (Err f) refl is

@@ -1,11 +1,17 @@
 -- A start is where a node at it stands.
-use Rattle.c104_node.{proofs.StartCopies.switch_back, specs.{Starts.{start_node, start_of}, declared.starts.NodeStart.NodeStart}}
+use Rattle.{c104_node.specs.{Starts.{start_node, start_of}, declared.starts.NodeStart.NodeStart}, c104_switch.specs.Starts.link_starts}
+use Rattle.c104_switch.specs.{Starts.{start_input, start_output}, declared.link_start.LinkStart.LinkStart}
 use Rattle.{c104_token.specs.declared.tokens.Token.Token, std.proofs.Common.{List, [], ap, map, refl, sym, ◌∙◌, ◌∷◌, ◌≡◌}}
 
-start_back : (s : NodeStart) → s ≡ start_of (start_node {A = Token} s)
-start_back (NodeStart.Switch s) = sym (ap NodeStart.Switch (switch_back s))
-start_back (NodeStart.Terminal t) = refl
+module _ (A : Type 0) where
+  links_back : (links : List LinkStart) → link_starts {A = A} (map start_input links) (map start_output links) ≡ links
+  links_back [] = refl
+  links_back (l ∷ links) = ap (λ (ls : List LinkStart). l ∷ ls) (links_back links)
+
+  pub start_back : (s : NodeStart) → s ≡ start_of (start_node {A = A} s)
+  start_back (NodeStart.Switch s) = sym (ap (λ (ls : List LinkStart). NodeStart.Switch (record s { links = ls })) (links_back s.links))
+  start_back (NodeStart.Terminal t) = refl
 
 pub starts_back : (starts : List NodeStart) → starts ≡ map start_of (map (start_node {A = Token}) starts)
 starts_back [] = refl
-starts_back (s ∷ starts) = ap (λ x. x ∷ starts) (start_back s) ∙ ap (λ xs. start_of (start_node {A = Token} s) ∷ xs) (starts_back starts)
+starts_back (s ∷ starts) = ap (λ x. x ∷ starts) (start_back Token s) ∙ ap (λ xs. start_of (start_node {A = Token} s) ∷ xs) (starts_back starts)

@@ -1,9 +1,10 @@
-//! The nodes of a new network of tagged tokens.
+//! The nodes of a network of tagged tokens where a run starts.
 ghost use Rattle.std.specs.Prelude.{OnOk, [], map, ◌++◌, ◌≡◌};
-ghost use Rattle.{c104_node.specs.{Terminals.new_terminal, TracedRecords.first_traced}, c104_switch.specs.Switch.new_switch};
+ghost use Rattle.c104_node.specs.{Starts.start_node, Terminals.new_terminal, TracedRecords.first_traced};
+ghost use Rattle.c104_switch.specs.Switch.{new_switch};
 ghost use Rattle.c104_node.specs.declared.node.NodeOf.TheVariants as node;
 
-use c104_node::{CountedNode, NodeOf, TerminalOf};
+use c104_node::{CountedNode, NodeOf, NodeStart, TerminalOf};
 use c104_plan::Plan;
 use c104_switch::SwitchOf;
 use c104_token::NoMemory;
@@ -52,6 +53,23 @@ fn add_terminals(alloc: Global, plan: &Plan, list: &mut Vec<CountedNode>) -> Res
         list.reserve(1)?;
         let core = TerminalOf::new(alloc, cap)?;
         list.push_reserved(CountedNode::new(NodeOf::Terminal(core)));
+    }
+    Ok(())
+}
+
+/// The nodes at these starts join an empty list. The only error is out of memory.
+pub fn add_started_nodes(
+    alloc: Global,
+    starts: &[NodeStart],
+    list: &mut Vec<CountedNode>,
+) -> Result<(), NoMemory>
+    requires { list.old.items ≡ [] }
+    ensures { OnOk result (list.new.items ≡ map (λ start. first_traced (start_node start)) starts.now) }
+{
+    for start in starts {
+        list.reserve(1)?;
+        let core = NodeOf::from_start(alloc, start)?;
+        list.push_reserved(CountedNode::new(core));
     }
     Ok(())
 }

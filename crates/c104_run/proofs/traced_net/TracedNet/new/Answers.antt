@@ -15,4 +15,4 @@ invariant_of-result c =
 pub returns-in-Ok : goal.returns-in-Ok
 returns-in-Ok c =
     let same : c.in_ok-wires.wires ≡ c.args.plan.now = c.in_ok-wires.ensures ∙ c.in_ok-copy.ensures.cases in
-    rw c.new-in-Ok.ensures (traced_new_is c.args.plan.now c.in_ok-wires.wires c.add_new_nodes.new.list.items same c.in-Ok.ensures c.switches-switches.ensures.kept)
+    rw c.new-in-Ok.ensures (traced_new_is c.args.plan.now c.in_ok-wires.wires c.add_new_nodes.new.list.items same c.in-Ok.ensures)
