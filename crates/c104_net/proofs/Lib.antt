@@ -1,4 +1,3 @@
-pub mod BarePlaces
 pub mod JointKeeps
 pub mod Channels
 pub mod PacketInvariant

@@ -1,24 +1,26 @@
 -- What a run that is done once more tells of where its packets came from.
-use Rattle.{c104_check.specs.Routes.{IsAccepted, routes_of}, c104_event.specs.declared.{events.Event.Event, faults.EventFault.EventFault}}
-use Rattle.{c104_link.specs.Steps.◌>>=◌, c104_net.proofs.NamedOrigins.{found_origins, named_origins, quiet_traced, sent_plain}}
-use Rattle.c104_net.proofs.{OriginPieces.packet_origin, Promises.headline, SentBytes.{AreBytesSent, IsFitEntry, fit_run, run_bytes}}
-use Rattle.c104_net.proofs.{StartMaps.{starts_are, still_placed}, SureOrigins.arrived_sure, ToldEvents.events_told, TracedRuns.run_after}
-use Rattle.c104_net.{proofs.TracedRuns.{token_of, traced_from}, specs.{Deliveries.{Promise, arrived_at}, Replays.LeadTo}}
-use Rattle.c104_net.specs.{RunOrigins.AreOrigins, ToldEvents.told_events, TracedEnds.traced_end, Unchanged.{AreStartsOf, IsUnchanged}}
-use Rattle.c104_node.specs.{MappedNodes.map_node, Nodes.{Node, arrived_tokens, is_switch, node_arrived, terminals_of}, Origins.AreSure}
-use Rattle.c104_node.specs.{Origins.origins_in, Starts.start_node, Terminals.Terminal, Traced.traced_kind, Traces.part}
-use Rattle.c104_node.specs.declared.{acts.Entry.Entry, ends.End.End, node.NodeOf.NodeOf, origins.Origin.Origin, stamps.Stamp.Stamp}
-use Rattle.{c104_node.specs.declared.{starts.NodeStart.NodeStart, traced.Traced.Traced}, c104_plan.specs.{PlanImage.Image, Plans.IsPlan}}
-use Rattle.{c104_plan.specs.Plans.Plan, c104_run.proofs.{Finishing.{arrived_same, terminals_counted}, NodeMaps.kinds_plain}}
+use Rattle.{c104_check.specs.Routes.{IsAccepted, routes_of}, c104_event.specs.declared.events.Event.Event, c104_link.specs.Steps.◌>>=◌}
+use Rattle.c104_net.proofs.{NamedOrigins.{found_origins, named_origins, quiet_traced, sent_plain}, OriginPieces.packet_origin}
+use Rattle.c104_net.proofs.{Promises.headline, SentBytes.{AreBytesSent, IsFitEntry, fit_run, run_bytes}, StartMaps.starts_are}
+use Rattle.c104_net.proofs.{StartMaps.still_placed, SureOrigins.arrived_sure, ToldEvents.events_told, TracedRuns.{run_after, token_of}}
+use Rattle.c104_net.{proofs.TracedRuns.traced_from, specs.{Deliveries.{Promise, arrived_at}, Merges.by_ticket, Replays.TellsOn}}
+use Rattle.c104_net.specs.{RunOrigins.AreOrigins, ToldEvents.{told_by, told_event, told_events}, TracedEnds.traced_end}
+use Rattle.{c104_net.specs.Unchanged.{AreStartsOf, IsUnchanged}, c104_node.specs.{MappedNodes.map_node, Nodes.{Node, arrived_tokens}}}
+use Rattle.c104_node.specs.{Nodes.{is_switch, node_arrived, terminals_of}, Origins.{AreSure, origins_in}, Starts.start_node}
+use Rattle.c104_node.specs.{Terminals.Terminal, Traced.traced_kind, Traces.part, declared.{acts.Entry.Entry, ends.End.End}}
+use Rattle.c104_node.specs.declared.{node.NodeOf.NodeOf, origins.Origin.Origin, stamps.Stamp.Stamp, starts.NodeStart.NodeStart}
+use Rattle.{c104_node.specs.declared.traced.Traced.Traced, c104_plan.specs.{PlanImage.Image, Plans.{IsPlan, Plan}}}
+use Rattle.c104_run.proofs.{Finishing.{arrived_same, terminals_counted}, NodeMaps.kinds_plain, StartsBack.starts_back}
 use Rattle.c104_run.specs.{Balance.{AreInPlace, IsSteady, credit_at, credit_of, granted_at, granted_of}, Ends.end_of, EventRuns.run_events}
-use Rattle.c104_run.specs.{EventRuns.unless_fault, Finished.{FinishedRun, network_finish, run_arrived}, FinishedRecords.FinishedRecord}
-use Rattle.c104_run.specs.{FinishedRecords.{IsFinishedRecord, ended_record}, NetRecords.NetRecord, Network.{Network, network_apply}}
-use Rattle.c104_run.specs.{Network.{network_arrived, network_of, terminal_place}, Runs.{IsDoneRun, IsRunRecord}, TracedRuns.IsTracedRun}
-use Rattle.{c104_run.specs.WiredActs.IsRecordedAt, c104_switch.specs.{Actions.Reply, Starts.{start_input, start_output}}}
-use Rattle.{c104_switch.specs.declared.link_start.LinkStart.LinkStart, c104_token.specs.{Kinds.plain_kind, declared.tokens.Token.Token}}
-use Rattle.std.proofs.Common.{All, Err, IfOk, List, None, Ok, Option, Result, Some, [], ap, arith, get_or, if◌then◌else◌, length, map}
-use Rattle.std.proofs.Common.{nat_lt, option_map, refl, slice_get, subst, sym, true, ℕ, ⊎_elim, ◌<◌, ◌∙◌, ◌∷◌, ◌≡◌, ◌≤◌}
-use Rattle.std.proofs.lemmas.{Bool.Decides.nat_tests, List.length-map, Option.{slice_get-map, slice_get_cases}}
+use Rattle.c104_run.specs.{Finished.{FinishedRun, network_finish, run_arrived}, FinishedRecords.{FinishedRecord, IsFinishedRecord}}
+use Rattle.c104_run.specs.{FinishedRecords.{ended_record, record_finish}, NetRecords.{NetRecord, fresh_record}, Network.Network}
+use Rattle.c104_run.specs.{Network.{network_apply, network_arrived, network_of, terminal_place}, Runs.{IsDoneRun, IsRunRecord}}
+use Rattle.{c104_run.specs.{TracedRuns.IsTracedRun, WiredActs.IsRecordedAt}, c104_switch.specs.{Actions.Reply, Starts.start_input}}
+use Rattle.{c104_switch.specs.{Starts.start_output, declared.link_start.LinkStart.LinkStart}, c104_token.specs.Kinds.plain_kind}
+use Rattle.{c104_token.specs.declared.tokens.Token.Token, std.proofs.Common.{All, Err, IfOk, List, None, Ok, Option, Result, Some, [], ap}}
+use Rattle.std.proofs.Common.{arith, get_or, if◌then◌else◌, length, map, nat_lt, option_map, refl, slice_get, subst, suc, sym, true, ℕ}
+use Rattle.std.proofs.{Common.{⊎_elim, ◌++◌, ◌<◌, ◌∙◌, ◌∷◌, ◌≡◌, ◌≤◌}, lemmas.{Bool.Decides.nat_tests, List.length-map}}
+use Rattle.std.proofs.lemmas.Option.{slice_get-map, slice_get_cases}
 
 -- starts read no token: what holds of the credits at a start holds of them over any kind of token
 module _ (A B : Type 0) where
@@ -97,9 +99,6 @@ module _ (run : FinishedRecord) (is_plan : IsPlan run.finished.plan) (kept : IsK
   pub traced : (traced : List (Node Traced)) × IsTracedRun run.finished.plan run.starts kept.events kept.nodes traced
   traced = traced_from run.finished.plan run.starts kept.nodes kept.events kept.told.run
 
-  pub steady_start : IsSteady {A = Traced} (network_of run.finished.plan (map start_node run.starts))
-  steady_start = still_steady Token Traced run.finished.plan run.starts kept.started
-
 -- the origins of what arrived at each terminal among nodes
 abbrev pub terminal_origins : Terminal Traced → List Origin
 terminal_origins t = origins_in t.arrived
@@ -159,8 +158,10 @@ module _ (run : FinishedRecord) (is_plan : IsPlan run.finished.plan) (kept : IsK
       (events_told run.finished.plan is_plan kept.stamps (map start_node run.starts) kept.nodes run.traces run.count kept.events kept.told kept.started.in_place)
       ∙ run_after traced_kind (network_of run.finished.plan (map start_node run.starts)) (network_of run.finished.plan (traced run is_plan kept).0) kept.events (traced run is_plan kept).1.run
 
-  pub origins_are : AreOrigins run (map terminal_origins (terminals_of (traced run is_plan kept).0))
-  origins_are =
+  -- lists that are those of where the traced run ends are the origins of the run
+  origins_are : (lists : List (List Origin)) → length lists ≡ length run.finished.plan.terminals →
+      ((t : ℕ) → t < length run.finished.plan.terminals → slice_get lists t ≡ Some (origins_in (arrived_at (traced_end run) t))) → AreOrigins run lists
+  origins_are lists counted each =
       let found = traced run is_plan kept in
       let promised : (image : Image) → IsAccepted (routes_of run.finished.plan image) → AreStartsOf run.finished.plan image run.starts → IsUnchanged (routes_of run.finished.plan image) kept.events → Promise (routes_of run.finished.plan image) (network_of run.finished.plan found.0) = λ image accepted are unchanged. headline image (network_of run.finished.plan (map start_node run.starts)) (network_of run.finished.plan found.0) kept.events is_plan accepted (starts_are run.finished.plan image run.starts are) found.1.run unchanged kept.sent in
       let is : network_of run.finished.plan found.0 ≡ traced_end run = sym ends_traced in
@@ -174,8 +175,8 @@ module _ (run : FinishedRecord) (is_plan : IsPlan run.finished.plan) (kept : IsK
         same_plan = ap (λ (net : Network Traced). net.plan) ends_traced;
         plain = subst (λ (net : Network Traced). (t : ℕ) → t < length run.finished.plan.terminals → run_arrived run.finished t ≡ Some (map (λ (x : Traced). x.token) (arrived_at net t))) is (plain_there run.finished.plan found.0 traced_placed run.finished kept.nodes kept.ended kept.placed found.1.plain);
         sure = subst (λ (net : Network Traced). (t : ℕ) → AreSure (arrived_at net t)) is (arrived_sure run.finished.plan run.starts kept.events (network_of run.finished.plan found.0) found.1.run);
-        counted = lists_counted run.finished.plan found.0 traced_placed;
-        each = subst (λ (net : Network Traced). (t : ℕ) → t < length run.finished.plan.terminals → slice_get (map terminal_origins (terminals_of found.0)) t ≡ Some (origins_in (arrived_at net t))) is (list_there run.finished.plan found.0 traced_placed);
+        counted = counted;
+        each = each;
         promise = λ image accepted are unchanged. subst (Promise (routes_of run.finished.plan image)) is (promised image accepted are unchanged);
         named = λ image accepted are unchanged. named_origins (routes_of run.finished.plan image) (traced_end run) (subst (Promise (routes_of run.finished.plan image)) is (promised image accepted are unchanged));
         found = λ image accepted are unchanged quiet a n t p sent whole owned.
@@ -184,28 +185,42 @@ module _ (run : FinishedRecord) (is_plan : IsPlan run.finished.plan) (kept : IsK
             (ap (λ ps. slice_get ps n) (sym (sent_plain run.finished.plan found.0 kept.nodes found.1.plain a)) ∙ sent) whole owned);
       }
 
--- events that lead somewhere, each applied in turn, end where they lead
-led_there : (net ended : Network Traced) (events : List Event) → LeadTo net events ended → ended ≡ (run_events (network_apply traced_kind) net events).1
-led_there net ended [] is = is
-led_there net ended (e ∷ events) is =
-    led_there is.1 ended events is.3
-    ∙ ap (λ (z : Result Reply EventFault × Network Traced). (unless_fault z.0 z.1 (λ next. run_events (network_apply traced_kind) next events)).1) is.2
+  pub origins_lent : (lists : List (List Origin)) → lists ≡ map terminal_origins (terminals_of (traced run is_plan kept).0) → AreOrigins run lists
+  origins_lent lists are =
+      let nodes : List (Node Traced) = (traced run is_plan kept).0 in
+      origins_are lists (ap length are ∙ lists_counted run.finished.plan nodes traced_placed)
+      (λ t inside. ap (λ ls. slice_get ls t) are ∙ list_there run.finished.plan nodes traced_placed t inside ∙ ap (λ (net : Network Traced). Some (origins_in (arrived_at net t))) (sym ends_traced))
 
+-- runs from the same starts, whose traces tell the same events, end alike over tokens that tell where they came from
+same_end : (one two : FinishedRecord) → one.finished.plan ≡ two.finished.plan → one.starts ≡ two.starts → told_events one.finished.plan one.traces ≡ told_events two.finished.plan two.traces → traced_end one ≡ traced_end two
+unfolding traced_end
+same_end one two plan starts told =
+    ap (λ (p : Plan). (run_events (network_apply traced_kind) (network_of p (map start_node one.starts)) (told_events one.finished.plan one.traces)).1) plan
+    ∙ ap (λ (ss : List NodeStart). (run_events (network_apply traced_kind) (network_of two.finished.plan (map start_node ss)) (told_events one.finished.plan one.traces)).1) starts
+    ∙ ap (λ (es : List Event). (run_events (network_apply traced_kind) (network_of two.finished.plan (map start_node two.starts)) es).1) told
+
+-- where nothing was done no event is told
+none_by : (switches k : ℕ) (nodes : List (Node Token)) → told_by switches k (map (λ n. []) nodes) ≡ []
+none_by switches k [] = refl
+none_by switches k (n ∷ nodes) = none_by switches (suc k) nodes
+
+none_told : (net : Network Token) → told_events net.plan (fresh_record net).traces ≡ []
+unfolding told_events
+none_told net = ap (λ es. map told_event (by_ticket es)) (none_by (length net.plan.switches) 0 net.nodes)
+
+-- the origins that a network tells in which a run was done once more are those of the run
 module _ (run : FinishedRecord) (is_plan : IsPlan run.finished.plan) (kept : IsKeptRun run) where
-  -- the events that the traces tell lead to the end of the run over tokens that tell where they came from
-  pub led_lent : (lent : List (List Entry)) (starts : List NodeStart) (net ended : Network Traced) → lent ≡ run.traces → starts ≡ run.starts → net ≡ network_of run.finished.plan (map start_node starts) → LeadTo net (told_events run.finished.plan lent) ended → ended ≡ network_of run.finished.plan (traced run is_plan kept).0
-  unfolding traced_end
-  led_lent lent starts net ended lent_is starts_is net_is led =
-      led_there net ended (told_events run.finished.plan lent) led
-      ∙ ap (λ (n : Network Traced). (run_events (network_apply traced_kind) n (told_events run.finished.plan lent)).1) (net_is ∙ ap (λ (s : List NodeStart). network_of run.finished.plan (map start_node s)) starts_is)
-      ∙ ap (λ (ts : List (List Entry)). (run_events (network_apply traced_kind) (network_of run.finished.plan (map start_node run.starts)) (told_events run.finished.plan ts)).1) lent_is
-      ∙ ends_traced run is_plan kept
+  abbrev start : Network Token
+  start = network_of run.finished.plan (map start_node run.starts)
 
-  -- the lists of the run that was done once more are the origins of the run
-  pub origins_lent : (net : Network Traced) (again : FinishedRun Traced) (lists : List (List Origin)) → net ≡ network_of run.finished.plan (traced run is_plan kept).0 → again ≡ network_finish net → lists ≡ map terminal_origins again.terminals → AreOrigins run lists
-  origins_lent net again lists net_is again_is lists_are =
-      let ends : again.terminals ≡ terminals_of (traced run is_plan kept).0 = ap (λ (r : FinishedRun Traced). r.terminals) again_is ∙ ap (λ (n : Network Traced). terminals_of n.nodes) net_is in
-      subst (AreOrigins run) (sym (lists_are ∙ ap (map terminal_origins) ends)) (origins_are run is_plan kept)
+  pub origins_replayed : (first last : NetRecord) (lists : List (List Origin)) → first ≡ fresh_record start → TellsOn first (told_events first.network.plan run.traces) last → AreOrigins (record_finish last) lists → AreOrigins run lists
+  origins_replayed first last lists begun on are =
+      let plan : last.network.plan ≡ run.finished.plan = on.plan ∙ ap (λ (r : NetRecord). r.network.plan) begun in
+      let told : told_events last.network.plan last.traces ≡ told_events run.finished.plan run.traces =
+      on.told ∙ ap (λ (r : NetRecord). told_events r.network.plan r.traces ++ told_events r.network.plan run.traces) begun ∙ ap (λ es. es ++ told_events run.finished.plan run.traces) (none_told start) in
+      let ends : traced_end (record_finish last) ≡ traced_end run = same_end (record_finish last) run plan (on.starts ∙ ap (λ (r : NetRecord). r.starts) begun ∙ sym (starts_back run.starts)) told in
+      origins_are run is_plan kept lists (are.counted ∙ ap (λ (p : Plan). length p.terminals) plan)
+      (λ t inside. are.each t (subst (λ (p : Plan). t < length p.terminals) (sym plan) inside) ∙ ap (λ (net : Network Traced). Some (origins_in (arrived_at net t))) ends)
 
 -- what is said of a result, with what follows of it
 pub if_ok : {X E : Type 0} (P Q : X → Type 0) (r : Result X E) → ((x : X) → P x → Q x) → IfOk r P → IfOk r Q

@@ -7,12 +7,11 @@ use Rattle.c104_node.specs.{Tagged.tagged_origins, TracedRecords.{IsFit, TracedR
 use Rattle.c104_node.specs.{Traces.seatless, declared.{acts.Entry.Entry, node.NodeOf.NodeOf, origins.Origin.Origin}}
 use Rattle.c104_node.specs.declared.{starts.NodeStart.NodeStart, tagged.TaggedToken.TaggedToken, traced.Traced.Traced}
 use Rattle.{c104_plan.specs.Plans.{IsPlan, Plan}, c104_run.proofs.{Finishing.terminals_append, RecordedNets.states_shown}}
-use Rattle.c104_run.specs.{Finished.network_finish, FinishedRecords.{FinishedRecord, record_finish}, MeteredRuns.AreOwnNodes}
-use Rattle.c104_run.specs.{NetRecords.{IsWithinLimit, NetRecord}, Network.{Network, network_of}, RecordedNets.IsRecordedNet}
-use Rattle.c104_run.specs.{RecordedNets.places_record, RecordedPlaces.{counted_keeps, counted_reading}, Runs.{at_node, run_deeds}}
-use Rattle.{c104_run.specs.TracedRuns.{IsTracedRun, map_network}, std.proofs.Common.{All, List, None, Some, [], ap, append-nil, arith}}
-use Rattle.std.proofs.Common.{get_or, inl, inr, length, map, refl, slice_get, subst, suc, sym, take, zero, ℕ, ◌++◌, ◌+◌, ◌<◌, ◌∙◌, ◌∷◌, ◌≡◌}
-use Rattle.std.proofs.{Common.◌≤◌, lemmas.{Bool.cases_eq, List.{map-append, map_more}}}
+use Rattle.c104_run.specs.{FinishedRecords.{FinishedRecord, record_finish}, MeteredRuns.AreOwnNodes, NetRecords.{IsWithinLimit, NetRecord}}
+use Rattle.c104_run.specs.{Network.{Network, network_of}, RecordedNets.{IsRecordedNet, places_record}, RecordedPlaces.counted_keeps}
+use Rattle.c104_run.specs.{RecordedPlaces.counted_reading, Runs.{at_node, run_deeds}, TracedRuns.{IsTracedRun, map_network}}
+use Rattle.std.proofs.Common.{All, List, None, Some, [], ap, append-nil, arith, get_or, inl, inr, length, map, refl, slice_get, subst, suc}
+use Rattle.std.proofs.{Common.{sym, take, zero, ℕ, ◌++◌, ◌+◌, ◌<◌, ◌∙◌, ◌∷◌, ◌≡◌, ◌≤◌}, lemmas.{Bool.cases_eq, List.{map-append, map_more}}}
 
 -- the origins of what arrived at the terminals among nodes
 abbrev pub arrived_origins : List TracedRecord → List (List Origin)
@@ -111,4 +110,4 @@ module _ (plan : Plan) (is_plan : IsPlan plan) (nodes : List TracedRecord) (coun
     }
 
     pub traced_origins : (lists : List (List Origin)) → lists ≡ arrived_origins nodes → AreOrigins run lists
-    traced_origins lists are = origins_lent run is_plan kept there (network_finish there) lists (sym ends_there ∙ ends_traced run is_plan kept) refl (are ∙ lists_are)
+    traced_origins lists are = origins_lent run is_plan kept lists (are ∙ lists_are ∙ ap (λ (n : Network Traced). map terminal_origins (terminals_of n.nodes)) (sym ends_there ∙ ends_traced run is_plan kept))

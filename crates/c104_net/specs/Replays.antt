@@ -1,8 +1,7 @@
--- What traces tell of a run that is done once more, over tokens that tell where they came from.
-use Rattle.{c104_event.specs.declared.{events.Event.Event, faults.EventFault.EventFault}, c104_net.specs.declared.leading.Lead.Lead}
-use Rattle.{c104_node.specs.{Traced.traced_kind, declared.{acts.Entry.Entry, traced.Traced.Traced}}, c104_run.specs.EventActs.act_event}
-use Rattle.{c104_run.specs.Network.{Network, network_apply}, c104_switch.specs.Actions.Reply}
-use Rattle.std.specs.Prelude.{List, None, Ok, Option, Result, Some, [], slice_get, unwrap_or, ℕ, ◌∷◌, ◌≡◌}
+-- What traces tell of a run that is done once more.
+use Rattle.{c104_event.specs.declared.events.Event.Event, c104_net.specs.{ToldEvents.told_events, declared.leading.Lead.Lead}}
+use Rattle.{c104_node.specs.declared.acts.Entry.Entry, c104_run.specs.{EventActs.act_event, NetRecords.NetRecord}}
+use Rattle.std.specs.Prelude.{List, None, Option, Some, [], slice_get, unwrap_or, ℕ, ◌++◌, ◌≡◌}
 
 -- an event, if there is one, and else a certain one in its place
 abbrev pub event_or : Option Event → Event
@@ -23,11 +22,9 @@ lead_event switches traces x =
 abbrev pub with_ticket : Lead → ℕ × Lead
 with_ticket x = (x.ticket, x)
 
--- events lead from one network to another: each was answered in turn, and none was refused
-abbrev pub LeadTo : Network Traced → List Event → Network Traced → Type 0
-LeadTo net [] ended = ended ≡ net
-LeadTo net (e ∷ events) ended =
-    (r : Reply)
-    × (next : Network Traced)
-    × (◌≡◌ {A = Result Reply EventFault × Network Traced} (Ok r, next) (network_apply traced_kind net e))
-    × LeadTo next events ended
+-- a network of tagged tokens before events were done again, and after: its traces tell these events after those that they
+-- told, and its plan and its starts stay
+pub record TellsOn (old : NetRecord) (events : List Event) (new : NetRecord) : Type 0 where
+  pub plan : new.network.plan ≡ old.network.plan
+  pub starts : new.starts ≡ old.starts
+  pub told : told_events new.network.plan new.traces ≡ told_events old.network.plan old.traces ++ events

@@ -4,13 +4,11 @@
 //! of a network need of both. Its own are the theorems, which know the check of labels.
 //!
 //! `sort_leads` and `event_of` find the events of a run again from the entries that lead in them, each a `Lead`.
-//! `Origins` tells which packet each received packet was: of a `Run`, which is replayed over tokens that tell where
-//! they came from, and of a `TracedNet`, whose tokens tell it as they arrive. `MeteredNet` tells a meter of the tokens that
+//! `Origins` tells which packet each received packet was: of a `TracedNet`, whose tokens tell it as they arrive, and of a
+//! `Run`, which is done once more by one. `MeteredNet` tells a meter of the tokens that
 //! cross the wires of one.
 #![tactic(auto)]
 
-mod bare_net;
-mod bare_run;
 mod leading;
 mod metered_net;
 mod replays;

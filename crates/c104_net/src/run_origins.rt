@@ -1,15 +1,13 @@
 //! Where the packets came from that arrived in a run.
-ghost use Rattle.std.specs.{Global.Vec as Kept, Prelude.{IfOk, Ok, map, ◌≡◌}};
-ghost use Rattle.{c104_net.specs.{RunOrigins.AreOrigins, ToldRuns.TellsEachRun}, c104_node.specs.{Origins.origins_in, Terminals.Terminal}};
-ghost use Rattle.c104_node.specs.declared.{origins.Origin.Origin as TheOrigin, traced.Traced.Traced as TheTraced};
-ghost use Rattle.c104_run.specs.FinishedRecords.{FinishedRecord};
+ghost use Rattle.std.specs.{Global.Vec as Kept, Prelude.{IfOk, map}};
+ghost use Rattle.c104_net.specs.{Replays.TellsOn, RunOrigins.AreOrigins, ToldEvents.told_events, ToldRuns.TellsEachRun};
+ghost use Rattle.c104_node.specs.declared.origins.Origin.{Origin as TheOrigin};
+ghost use Rattle.c104_run.specs.FinishedRecords.{FinishedRecord, record_finish};
 
-use crate::bare_net::NetOf;
-use crate::bare_run::RunOf;
 use crate::replays::replay_all;
-use c104_node::{ArrivedOf, Origin, Traced, origins_of};
-use c104_run::Run;
-use c104_token::NoMemory;
+use c104_node::{Entry, Origin};
+use c104_run::{Run, TracedNet};
+use c104_token::{Items, NoMemory};
 use std::alloc::Global;
 
 /// Tells where the packets came from that arrived.
@@ -32,8 +30,7 @@ impl Origins for Run {
     ghost ended = { λ (run : FinishedRecord). run };
 
     /// For each terminal of the plan, in order, the origins of the packets whose terminators arrived there, in the
-    /// order of their arrival. The run is done once more, over tokens that tell where they came from. The only
-    /// error is out of memory.
+    /// order of their arrival. The run is done once more, over tokens that tell them. The only error is out of memory.
     fn origins(&self, alloc: Global) -> Result<Vec<Vec<Origin>>, NoMemory>
         ensures { IfOk result (λ lists. AreOrigins self.now (map (λ (list : Kept TheOrigin). list.items) lists.items)) }
     {
@@ -42,10 +39,10 @@ impl Origins for Run {
         let _switches = plan.switches();
         let traces = self.traces();
         let starts = self.starts();
-        let mut net = NetOf::<Traced>::from_starts(alloc, plan, starts)?;
-        let replayed = replay_all(alloc, &mut net, plan, traces);
-        let run = net.finish();
-        origins_after(alloc, replayed, &run)
+        let mut net = TracedNet::from_starts(alloc, plan, starts)?;
+        let lists = origins_again(alloc, &mut net, traces);
+        net.retire();
+        lists
     }
 
     /// Whichever events left the traces of the nodes are those that the traces tell. This is a law: nothing is done.
@@ -59,38 +56,16 @@ impl Origins for Run {
     }
 }
 
-/// The origins of what arrived at each terminal of a run that was done once more, or why it wasn't.
-fn origins_after(
+/// The origins of what arrives at each terminal where the run of these traces is done once more, from its start. The only
+/// error is out of memory.
+fn origins_again(
     alloc: Global,
-    replayed: Result<(), NoMemory>,
-    run: &RunOf<Traced>,
+    net: &mut TracedNet,
+    traces: &[Items<Entry>],
 ) -> Result<Vec<Vec<Origin>>, NoMemory>
-    ensures { IfOk result (λ lists. (replayed ≡ Ok tt)
-        × (map (λ (list : Kept TheOrigin). list.items) lists.items
-        ≡ map (λ (t : Terminal TheTraced). origins_in t.arrived) run.now.terminals)) }
+    ensures { IfOk result (λ lists. TellsOn net.old (told_events net.old.network.plan traces.now) net.new
+        × AreOrigins (record_finish net.new) (map (λ (list : Kept TheOrigin). list.items) lists.items)) }
 {
-    replayed?;
-    origins_at(alloc, run)
-}
-
-/// The origins of what arrived at each terminal, in order. The only error is out of memory.
-fn origins_at(alloc: Global, run: &RunOf<Traced>) -> Result<Vec<Vec<Origin>>, NoMemory>
-    ensures { IfOk result (λ lists.
-        map (λ (list : Kept TheOrigin). list.items) lists.items
-        ≡ map (λ (t : Terminal TheTraced). origins_in t.arrived) run.now.terminals) }
-{
-    let mut lists = Vec::new(alloc);
-    let terminals = run.terminals.as_slice();
-    for terminal in terminals {
-        lists.push(arrived_origins(alloc, terminal.arrived())?)?;
-    }
-    Ok(lists)
-}
-
-/// The origins of what arrived at a terminal. The only error is out of memory.
-fn arrived_origins(alloc: Global, arrived: &ArrivedOf<Traced>) -> Result<Vec<Origin>, NoMemory>
-    ensures { IfOk result (λ list. list.items ≡ origins_in arrived.now) }
-{
-    let tokens = arrived.to_list(alloc)?;
-    origins_of(alloc, tokens.as_slice())
+    replay_all(alloc, net, traces)?;
+    net.origins(alloc)
 }
