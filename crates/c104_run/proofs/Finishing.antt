@@ -2,9 +2,9 @@
 use Rattle.{c104_link.specs.Steps.◌>>=◌, c104_node.specs.Nodes.{Node, is_switch, node_arrived, terminals_of}}
 use Rattle.{c104_node.specs.declared.node.NodeOf.TheVariants.{Switch, Terminal}, c104_plan.specs.Plans.Plan}
 use Rattle.c104_run.specs.{Balance.AreInPlace, Finished.{network_finish, run_arrived}, Network.{Network, network_arrived}}
-use Rattle.std.proofs.Common.{Bool, List, None, Option, Some, [], ap, append_assoc, arith, false, if◌then◌else◌, length, map, nat_lt, refl}
-use Rattle.std.proofs.Common.{replicate, reverse, slice_get, suc, sym, true, zero, ℕ, ◌++◌, ◌+◌, ◌∙◌, ◌∷◌, ◌≡◌}
-use Rattle.std.proofs.lemmas.{Bool.Decides.nat_tests, List.reverse-append, Option.slice_get_past}
+use Rattle.std.proofs.Common.{Bool, List, None, Option, Some, [], ap, arith, false, if◌then◌else◌, length, map, nat_lt, refl, replicate}
+use Rattle.std.proofs.{Common.{slice_get, suc, sym, true, zero, ℕ, ◌++◌, ◌+◌, ◌∙◌, ◌∷◌, ◌≡◌}, lemmas.Bool.Decides.nat_tests}
+use Rattle.std.proofs.lemmas.Option.{slice_get_past}
 use Rattle.c104_node.specs.Terminals as terminal
 
 module _ {A : Type 0} where
@@ -17,17 +17,6 @@ module _ {A : Type 0} where
   -- the last node leaves
   pub terminals_popped : (list rest : List (Node A)) (n : Node A) (back : List (terminal.Terminal A)) → list ≡ rest ++ n ∷ [] → back ≡ terminals_of (n ∷ []) → terminals_of list ≡ terminals_of rest ++ back
   terminals_popped list rest n back is gives = ap terminals_of is ∙ terminals_append rest (n ∷ []) ∙ ap (λ ts. terminals_of rest ++ ts) (sym gives)
-
-  -- a terminal that leaves joins those that left before, the last first
-  pub terminals_on : (all : List (terminal.Terminal A)) (list rest : List (Node A)) (t : terminal.Terminal A) (room more : List (terminal.Terminal A)) → terminals_of list ≡ terminals_of rest ++ t ∷ [] → more ≡ room ++ t ∷ [] → terminals_of list ++ reverse room ≡ all → terminals_of rest ++ reverse more ≡ all
-  terminals_on all list rest t room more last joined before =
-      let turned : reverse more ≡ t ∷ reverse room = ap reverse joined ∙ reverse-append room (t ∷ []) in
-      ap (λ ts. terminals_of rest ++ ts) turned ∙ sym (append_assoc (terminals_of rest) (t ∷ []) (reverse room)) ∙ ap (λ ts. ts ++ reverse room) (sym last) ∙ before
-
-  -- no node is left
-  pub terminals_end : (list : List (Node A)) → length list ≡ 0 → terminals_of list ≡ []
-  terminals_end [] none = refl
-  terminals_end (n ∷ nodes) none = absurd (let no : ⊥ = omega arith in no)
 
   -- how many terminals there are
   count_terminals : (a b : ℕ) (nodes : List (Node A)) → map is_switch nodes ≡ replicate a true ++ replicate b false → length (terminals_of nodes) ≡ b

@@ -16,7 +16,7 @@ use crate::wires::Wires;
 use c104_node::{CountedNode, NodeStart, TaggedToken};
 use c104_plan::Plan;
 use c104_token::NoMemory;
-use nodes::{add_new_nodes, add_started_nodes};
+use nodes::{add_nodes, new_starts};
 use std::alloc::Global;
 
 /// A network of tokens that tell where their packets came from. Of what its nodes did it keeps how many entries their
@@ -34,19 +34,8 @@ impl TracedNet {
     {
         // The proof reads here what every plan keeps.
         let _switches = plan.switches();
-        let copy = plan.clone()?;
-        let wires = Wires::new(alloc, copy)?;
-        let mut places = Vec::new(alloc);
-        match add_new_nodes(alloc, plan, &mut places) {
-            Ok(()) => Ok(TracedNet {
-                engine: Engine::new(wires, places),
-                room: (),
-            }),
-            Err(error) => {
-                retire_places(places);
-                Err(error)
-            }
-        }
+        let starts = new_starts(alloc, plan)?;
+        TracedNet::from_starts(alloc, plan, starts.as_slice())
     }
 
     /// A network of this plan whose nodes stand at these starts, and nothing done yet. The only error is out of memory.
@@ -57,7 +46,7 @@ impl TracedNet {
         let copy = plan.clone()?;
         let wires = Wires::new(alloc, copy)?;
         let mut places = Vec::new(alloc);
-        match add_started_nodes(alloc, starts, &mut places) {
+        match add_nodes(alloc, starts, &mut places) {
             Ok(()) => Ok(TracedNet {
                 engine: Engine::new(wires, places),
                 room: (),

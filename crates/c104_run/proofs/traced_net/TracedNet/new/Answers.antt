@@ -1,18 +1,14 @@
-use Rattle.{c104_node.specs.TracedRecords.counted_shown, c104_run.proofs.{KnownWires.unknown, TracedFirsts.{traced_new, traced_new_is}}}
-use Rattle.std.proofs.Common.{refl, ◌∙◌, ◌≡◌}
+use Rattle.{c104_node.specs.{Nodes.Node, Starts.start_node}, c104_run.proofs.{BalancePlaced.steady_new, TracedFirsts.new_nodes}}
+use Rattle.{c104_run.specs.{NetRecords.fresh_record, Network.network_of}, c104_token.specs.declared.tokens.Token.Token}
+use Rattle.std.proofs.Common.{IfOk, List, map, subst, ◌∙◌, ◌≡◌}
 use Rattle.c104_run.proofs.traced_net.TracedNet.new.Goals as goal
 
-pub new-requires-in-Ok : goal.new-requires-in-Ok
-new-requires-in-Ok c = unknown counted_shown (λ n. refl) c.in_ok-wires.wires c.add_new_nodes.new.list.items
+pub from_starts-requires : goal.from_starts-requires
+from_starts-requires c =
+    steady_new {A = Token} c.args.plan.now (map start_node c.as_slice.result.now) (new_nodes c.args.plan.now c.as_slice.result.now (c.as_slice.ensures.value ∙ c.in_ok-starts.ensures))
+    c.switches-switches.ensures.kept
 
-pub invariant_of-result : goal.invariant_of-result
-invariant_of-result c =
-    let same : c.in_ok-wires.wires ≡ c.args.plan.now = c.in_ok-wires.ensures ∙ c.in_ok-copy.ensures.cases in (
-      rw c.new-in-Ok.ensures (traced_new c.args.plan.now c.in_ok-wires.wires c.add_new_nodes.new.list.items same c.in-Ok.ensures c.switches-switches.ensures.kept),
-      tt,
-    )
-
-pub returns-in-Ok : goal.returns-in-Ok
-returns-in-Ok c =
-    let same : c.in_ok-wires.wires ≡ c.args.plan.now = c.in_ok-wires.ensures ∙ c.in_ok-copy.ensures.cases in
-    rw c.new-in-Ok.ensures (traced_new_is c.args.plan.now c.in_ok-wires.wires c.add_new_nodes.new.list.items same c.in-Ok.ensures)
+pub returns : goal.returns
+returns c =
+    subst (λ (nodes : List (Node Token)). IfOk c.from_starts.result (λ net. net ≡ fresh_record (network_of c.args.plan.now nodes)))
+    (new_nodes c.args.plan.now c.as_slice.result.now (c.as_slice.ensures.value ∙ c.in_ok-starts.ensures)) c.from_starts.ensures
