@@ -17,8 +17,8 @@ mod traced_origins;
 
 pub use c104_event::{Event, EventFault, Port};
 pub use c104_node::{
-    Act, ActOf, ArrivedOf, Entry, Node, NodeStart, Origin, SentPacket, Source, Stamp, TaggedToken,
-    TerminalStart, TerminalView, Traced, all_started, origin_of, origins_of,
+    Act, ActOf, ArrivedOf, Entry, Node, NodeStart, Origin, SentPacket, Stamp, TaggedToken,
+    TerminalStart, TerminalView, all_started,
 };
 pub use c104_run::{
     Meter, Net, NetParts, PlaceFault, Reason, RecordedNet, RecordedPlace, Run, TracedNet,

@@ -1,7 +1,7 @@
 -- Places of nodes: a node, and whatever is kept beside it; what is shown of it, and room for what is kept.
 use Rattle.{c104_event.specs.declared.faults.EventFault.EventFault, c104_node.specs.{Nodes.Node, Traces.is_trace_full}}
 use Rattle.c104_node.specs.declared.{acts.Entry.Entry, starts.NodeStart.NodeStart}
-use Rattle.std.specs.Prelude.{Bool, List, None, Option, Some, [], false, map, slice_get, true, ℕ, ◌&&◌, ◌≡◌}
+use Rattle.std.specs.Prelude.{Bool, List, None, Option, Some, false, map, slice_get, true, ℕ, ◌&&◌, ◌≡◌}
 
 -- what no act changes of a place: where its node started, if that is kept, and which of its links have wires, if that is
 pub record PlaceBase : Type 0 where
@@ -19,10 +19,6 @@ pub record Shown (A : Type 0) : Type 0 where
   pub base : PlaceBase
   pub trace : List Entry
   pub full : Bool
-
--- a node alone, of which nothing is kept
-abbrev pub bare_shown : {A : Type 0} → Node A → Shown A
-bare_shown n = record { state = n; base = record { start = None; wired = None }; trace = []; full = false }
 
 abbrev pub base_start : PlaceBase → Option NodeStart
 base_start b = b.start

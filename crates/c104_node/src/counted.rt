@@ -88,8 +88,7 @@ impl CountedNode {
 impl Place<TaggedToken> for CountedNode {
     ghost use Rattle.std.specs.Prelude.{OnOk, false, length, refl, true, ◌<◌, ◌≡◌};
     ghost use Rattle.c104_node.specs.{Acts.{IsWithinLimits, wants_memory}, PlaceActs.{ActEnds, HasActed}, Tagged.tagged_kind};
-    ghost use Rattle.c104_node.specs.TracedRecords.{counted_shown};
-    ghost use Rattle.c104_node.specs.Traces.{trace_limit};
+    ghost use Rattle.c104_node.specs.{TracedRecords.counted_shown, Traces.trace_limit};
 
     ghost shown = { counted_shown };
 

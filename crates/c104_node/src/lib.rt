@@ -34,8 +34,7 @@ pub use crossings::{Crossing, Joint};
 pub use ends::End;
 pub use joint::{can_near_at, joint_from};
 pub use node::NodeOf;
-pub use node::starts::add_starts;
-pub use origins::{Origin, origin_of, origins_of};
+pub use origins::Origin;
 pub use place::Place;
 pub use places::{
     attempt_at, is_full_at, is_idle_at, next_claim_at, next_ready_at, next_wanting_at, node_at,

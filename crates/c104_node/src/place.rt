@@ -1,8 +1,7 @@
 //! What stands for each node of a network: the node, and whatever is kept beside it.
 ghost use Rattle.std.specs.Prelude.{Bool, None, OnOk, Some, false, true, ◌≡◌};
 ghost use Rattle.c104_node.specs.{Acts.{IsWithinLimits, wants_memory}, PlaceActs.{ActEnds, HasActed}, Places.{IsFullByTrace, Shown}};
-ghost use Rattle.c104_node.specs.PortActs.{act_limit};
-ghost use Rattle.c104_node.specs.WiredPlaces.{is_linked};
+ghost use Rattle.c104_node.specs.{PortActs.act_limit, WiredPlaces.is_linked};
 
 use crate::acts::ActOf;
 use crate::node::NodeOf;
@@ -59,56 +58,4 @@ pub trait Place<T: TokenKind> {
 
     /// A place is full where its trace is.
     ghost limited: { (place : Self) → IsFullByTrace keeps (shown place) };
-}
-
-/// The node alone, of whose acts nothing is kept.
-impl<T: TokenKind> Place<T> for NodeOf<T> {
-    ghost use Rattle.std.specs.Prelude.{OnOk, false, refl, ◌≡◌};
-    ghost use Rattle.c104_node.specs.{Acts.IsWithinLimits, PlaceActs.ActEnds, Places.bare_shown};
-
-    ghost shown = { bare_shown };
-
-    ghost keeps = { false };
-
-    ghost limited = { λ n. refl };
-
-    ghost has_room = { λ n. Unit {0} };
-
-    fn node(&self) -> &NodeOf<T>
-        ensures { result.now ≡ self.now }
-    {
-        self
-    }
-
-    #[inline(always)]
-    fn is_full(&self) -> bool
-        ensures { result ≡ false }
-    {
-        false
-    }
-
-    #[inline(always)]
-    fn room(&mut self) -> Result<(), NoMemory>
-        ensures shown { bare_shown self.new ≡ bare_shown self.old }
-        ensures room { OnOk result (Unit {0}) }
-    {
-        Ok(())
-    }
-
-    #[inline(always)]
-    fn act(&mut self, number: usize, _stamp: Stamp, act: ActOf<T>) -> Result<ReplyOf<T>, NoMemory>
-        requires { IsWithinLimits act }
-        ensures { ActEnds T.kind false number _stamp act (bare_shown self.old) result (bare_shown self.new) }
-    {
-        NodeOf::act(self, number, &act)
-    }
-
-    #[inline(always)]
-    fn act_light(&mut self, _stamp: Stamp, act: ActOf<T>) -> ReplyOf<T>
-        requires short { IsWithinLimits act }
-        requires light { wants_memory act ≡ false }
-        ensures { HasActed T.kind false 0 _stamp act (bare_shown self.old) result (bare_shown self.new) }
-    {
-        NodeOf::act_light(self, &act)
-    }
 }

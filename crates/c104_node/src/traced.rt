@@ -1,9 +1,8 @@
-//! Tokens that tell where they came from.
+//! Tokens that tell where they came from. No run is made of them: contracts alone name them.
 
-use c104_token::{Token, TokenKind};
+use c104_token::Token;
 
 /// Where a token of a packet came from.
-#[derive(Clone, Copy, Debug, PartialEq, Eq)]
 pub struct Source {
     /// The terminal that sent the packet.
     pub terminal: usize,
@@ -14,45 +13,9 @@ pub struct Source {
 }
 
 /// A token, and where it came from. A token of a random header came from nowhere.
-#[derive(Clone, Copy, Debug, PartialEq, Eq)]
 pub struct Traced {
     /// The token itself.
     pub token: Token,
     /// Where it came from, if a terminal sent it.
     pub source: Option<Source>,
-}
-
-impl TokenKind for Traced {
-    ghost use Rattle.c104_node.specs.Traced.{traced_kind};
-
-    ghost kind = { traced_kind };
-
-    fn plain(&self) -> Token {
-        self.token
-    }
-
-    fn byte(&self) -> Option<u8> {
-        match (self.token, self.source) {
-            (Token::Byte(byte), None) => Some(byte),
-            _ => None,
-        }
-    }
-
-    fn random(_place: usize, token: Token) -> Self {
-        Traced {
-            token,
-            source: None,
-        }
-    }
-
-    fn sent(terminal: usize, number: usize, place: usize, token: Token) -> Self {
-        Traced {
-            token,
-            source: Some(Source {
-                terminal,
-                number,
-                place,
-            }),
-        }
-    }
 }

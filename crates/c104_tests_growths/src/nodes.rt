@@ -4,10 +4,7 @@ use crate::ground::{Ground, Suite, is_right_on};
 use crate::growths::{Growing, Refusal, is_right};
 use crate::outcomes::Outcome;
 use c104_net::Net;
-use c104_node::{
-    Act, ActOf, Node, NodeOf, NodeStart, SentPacket, Source, TaggedToken, Traced, add_starts,
-    origins_of, tagged_origins,
-};
+use c104_node::{Act, ActOf, Node, NodeOf, NodeStart, SentPacket, TaggedToken, tagged_origins};
 use c104_token::{NoMemory, Packet, Token, TokenKind};
 use std::alloc::Global;
 
@@ -21,14 +18,6 @@ pub fn nodes_of(net: Net) -> Vec<Node> {
 pub fn retire_all(mut nodes: Vec<Node>) {
     while let Some(node) = nodes.pop() {
         node.retire();
-    }
-    nodes.destroy_empty();
-}
-
-/// The same of nodes that keep nothing.
-fn retire_bare(mut nodes: Vec<NodeOf<Token>>) {
-    while let Some(node) = nodes.pop() {
-        let _terminal = node.retire();
     }
     nodes.destroy_empty();
 }
@@ -52,22 +41,6 @@ impl Growing for Making<'_> {
     }
 }
 
-/// The nodes at starts are made. Those that were made before a refusal are in the list, which is retired.
-#[derive(Drop)]
-struct MakingAll<'a>(&'a [NodeStart]);
-
-impl Growing for MakingAll<'_> {
-    fn call(&self, alloc: Global, refusal: Refusal) -> Outcome {
-        let mut nodes: Vec<NodeOf<Token>> = Vec::new(alloc);
-        refusal.begin(alloc);
-        let result = add_starts(alloc, self.0, &mut nodes);
-        refusal.end(alloc);
-        let is_kept = nodes.len() <= self.0.len();
-        retire_bare(nodes);
-        Outcome::of(result).if_kept(is_kept)
-    }
-}
-
 /// Nodes at the starts of a run.
 #[derive(Drop)]
 struct StartCalls;
@@ -78,8 +51,7 @@ impl Suite for StartCalls {
             return false;
         };
         let run = net.finish();
-        let are_right = are_made(rt, run.starts())
-            && is_right(rt, "add_starts", &MakingAll(run.starts()));
+        let are_right = are_made(rt, run.starts());
         drop_run(run);
         are_right
     }
@@ -185,33 +157,16 @@ impl Growing for CopyingPacket<'_> {
     }
 }
 
-/// The end of a packet, of which each kind of token tells where it came from.
+/// The origin of a packet is told by its end.
 #[derive(Clone, Copy)]
-enum Ending {
-    Traced,
-    Tagged,
-}
+struct Telling;
 
-impl Growing for Ending {
+impl Growing for Telling {
     fn call(&self, alloc: Global, refusal: Refusal) -> Outcome {
         refusal.begin(alloc);
-        let found = match self {
-            Ending::Traced => Outcome::of(origins_of(alloc, &[traced_end()])),
-            Ending::Tagged => Outcome::of(tagged_origins(alloc, &[tagged_end()])),
-        };
+        let found = Outcome::of(tagged_origins(alloc, &[tagged_end()]));
         refusal.end(alloc);
         found
-    }
-}
-
-fn traced_end() -> Traced {
-    Traced {
-        token: Token::Eop,
-        source: Some(Source {
-            terminal: 0,
-            number: 0,
-            place: 2,
-        }),
     }
 }
 
@@ -235,6 +190,5 @@ fn is_packet_copied(rt: &HostRuntime) -> bool {
 #[test]
 fn packets_of_nodes(rt: HostRuntime) {
     assert!(rt; is_packet_copied(&rt));
-    assert!(rt; is_right(&rt, "origins_of", &Ending::Traced));
-    assert!(rt; is_right(&rt, "tagged_origins", &Ending::Tagged));
+    assert!(rt; is_right(&rt, "tagged_origins", &Telling));
 }

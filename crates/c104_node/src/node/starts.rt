@@ -1,5 +1,5 @@
 //! Nodes from their starts.
-ghost use Rattle.std.specs.Prelude.{◌≡◌, map, [], IfOk, OnOk};
+ghost use Rattle.std.specs.Prelude.{IfOk, ◌≡◌};
 ghost use Rattle.c104_node.specs.Starts.{start_node};
 
 use crate::node::NodeOf;
@@ -25,21 +25,4 @@ impl<T: TokenKind> NodeOf<T> {
             }
         }
     }
-}
-
-/// The nodes at these starts join an empty list. The only error is out of memory.
-pub fn add_starts<T: TokenKind>(
-    alloc: Global,
-    starts: &[NodeStart],
-    list: &mut Vec<NodeOf<T>>,
-) -> Result<(), NoMemory>
-    requires { list.old.items ≡ [] }
-    ensures { OnOk result (list.new.items ≡ map start_node starts.now) }
-{
-    for start in starts {
-        list.reserve(1)?;
-        let node = NodeOf::from_start(alloc, start)?;
-        list.push_reserved(node);
-    }
-    Ok(())
 }

@@ -10,8 +10,7 @@ use c104_token::{NoMemory, Token};
 impl Place<Token> for Node {
     ghost use Rattle.std.specs.Prelude.{None, OnOk, Some, false, refl, true, ◌<◌, ◌≡◌};
     ghost use Rattle.c104_node.specs.{ActLinks.on_links, Acts.{IsWithinLimits, wants_memory}, PlaceActs.{ActEnds, HasActed}};
-    ghost use Rattle.c104_node.specs.PortActs.{act_limit};
-    ghost use Rattle.{c104_node.specs.Records.{has_link, is_full, node_shown}, c104_token.specs.Kinds.plain_kind};
+    ghost use Rattle.{c104_node.specs.{PortActs.act_limit, Records.{has_link, is_full, node_shown}}, c104_token.specs.Kinds.plain_kind};
 
     ghost shown = { node_shown };
 
