@@ -1,10 +1,11 @@
 -- What is noted of switches: that it holds on from one to the next, and that what isn't noted does nothing.
-use Rattle.c104_node.specs.{Acts.{node_act, nodes_act}, Nodes.{Node, node_claim}, declared.{acts.ActOf.ActOf, ends.End.End}}
-use Rattle.{c104_link.specs.Steps.{step_at, ◌>>=◌}, c104_run.specs.{LivePlaces.{IsIdlePlace, is_live}, NotedSwitches.{AreSo, IsSoAt, LeavesEnds, LeavesOthers, LeavesUnnoted}}}
-use Rattle.{c104_plan.specs.{Plans.Plan, declared.ports.Port.Port}, c104_run.specs.{FarEnds.far_end, Network.terminal_place}}
-use Rattle.{c104_switch.specs.declared.actions.ReplyOf.ReplyOf, c104_token.specs.Kinds.Kind}
-use Rattle.std.proofs.Common.{Bool, List, None, Option, Some, ap, arith, false, inl, inr, is_some, length, refl, slice_get, slice_set, subst, sym, true, ℕ}
-use Rattle.std.proofs.{Common.{◌+◌, ◌<◌, ◌∙◌, ◌≡◌, ◌≢◌, ◌≤◌}, lemmas.Bool.{Decides.nat_tests, cases_eq, cases_lt}}
+use Rattle.{c104_link.specs.Steps.step_at, c104_node.specs.{Acts.{node_act, nodes_act}, Nodes.{Node, node_claim}}}
+use Rattle.{c104_node.specs.declared.{acts.ActOf.ActOf, ends.End.End}, c104_plan.specs.{Plans.Plan, declared.ports.Port.Port}}
+use Rattle.c104_run.specs.{FarEnds.far_end, LivePlaces.is_live, Network.terminal_place, NotedSwitches.{AreSo, IsSoAt, LeavesEnds}}
+use Rattle.{c104_run.specs.NotedSwitches.{LeavesOthers, LeavesUnnoted}, c104_switch.specs.declared.actions.ReplyOf.ReplyOf}
+use Rattle.{c104_token.specs.Kinds.Kind, std.proofs.Common.{Bool, List, None, Option, Some, ap, arith, false, inl, inr, is_some, length}}
+use Rattle.std.proofs.{Common.{refl, slice_get, slice_set, subst, sym, true, ℕ, ◌+◌, ◌<◌, ◌∙◌, ◌≡◌, ◌≢◌, ◌≤◌}, lemmas.Bool.cases_eq}
+use Rattle.std.proofs.lemmas.Bool.{cases_lt}
 
 module _ {A : Type 0} (nodes : List (Node A)) (k : ℕ) (n : Node A) (here : slice_get nodes k ≡ Some n) where
   -- a node claims what is claimed at its place, and is ready for what its place is

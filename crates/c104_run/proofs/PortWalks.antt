@@ -1,16 +1,15 @@
 -- A round as it is walked: part after part, number by number, with what has no wire or isn't ready left out.
-use Rattle.{c104_crossbar.specs.Groups.has_bit, c104_event.specs.declared.events.Event.Event, c104_node.specs.Nodes.Node}
-use Rattle.c104_node.specs.{PortParts.{IsFoundReady, IsNearReady, is_ready_at}, declared.port_part.PortPart.{PortPart, TheVariants.Credit}}
-use Rattle.{c104_node.specs.declared.port_part.PortPart.TheVariants.{Cross, Turn}, c104_plan.specs.{Plans.Plan, declared.ports.Port.Port}}
-use Rattle.c104_run.{proofs.{IdleEvents.{idle_credit, idle_cross, idle_turn}, PartRuns.singles}, specs.EventActs.port_place}
-use Rattle.c104_run.specs.{Network.{Network, wired_fault}, RoundParts.{AreIdle, IsNext, input_walk, link_walk, output_walk, port_events}}
-use Rattle.c104_run.specs.{RoundParts.{port_walk, switch_walk, terminal_walk, walked_round, wired_events}, Rounds.{all_claims, claims_of}}
-use Rattle.c104_run.specs.Rounds.{is_wired, link_numbers, round, switch_claims, turn_at, wired_links, wired_ports, wired_terminals}
-use Rattle.c104_node.specs.{Acts.nodes_act, PortActs.near_act, declared.crossings.Crossing.Crossing}
-use Rattle.{c104_run.specs.{EventActs.crossing_event, RoundParts.crossing_part}, std.specs.Prelude.is_some}
-use Rattle.{c104_token.specs.Kinds.Kind, std.proofs.Common.{Bool, IfSome, List, None, Option, Some, [], ap, append-nil, arith, false}}
-use Rattle.std.proofs.Common.{filter, length, map, refl, subst, sym, true, unwrap_or, ℕ, ◌++◌, ◌<◌, ◌∙◌, ◌∷◌, ◌≡◌, ◌≤◌}
-use Rattle.std.{proofs.lemmas.{Grind.flat_map-append, List.Elements.filter-append}, specs.List.{flat_map, range_with_len}}
+use Rattle.{c104_crossbar.specs.Groups.has_bit, c104_event.specs.declared.events.Event.Event, c104_node.specs.{Acts.nodes_act, Nodes.Node}}
+use Rattle.c104_node.specs.{PortActs.near_act, PortParts.{IsFoundReady, IsNearReady, is_ready_at}, declared.crossings.Crossing.Crossing}
+use Rattle.{c104_node.specs.declared.port_part.PortPart.{PortPart, TheVariants.{Credit, Cross, Turn}}, c104_plan.specs.Plans.Plan}
+use Rattle.{c104_plan.specs.declared.ports.Port.Port, c104_run.proofs.{IdleEvents.{idle_credit, idle_cross, idle_turn}, PartRuns.singles}}
+use Rattle.c104_run.specs.{EventActs.{crossing_event, port_place}, Network.{Network, wired_fault}, RoundParts.{AreIdle, IsNext}}
+use Rattle.c104_run.specs.RoundParts.{crossing_part, input_walk, link_walk, output_walk, port_events, port_walk, switch_walk, terminal_walk}
+use Rattle.c104_run.specs.{RoundParts.{walked_round, wired_events}, Rounds.{all_claims, claims_of, is_wired, link_numbers, round}}
+use Rattle.{c104_run.specs.Rounds.{switch_claims, turn_at, wired_links, wired_ports, wired_terminals}, c104_token.specs.Kinds.Kind}
+use Rattle.std.proofs.Common.{Bool, IfSome, List, None, Option, Some, [], ap, append-nil, arith, false, filter, length, map, refl, subst}
+use Rattle.std.proofs.{Common.{sym, true, unwrap_or, ℕ, ◌++◌, ◌<◌, ◌∙◌, ◌∷◌, ◌≡◌, ◌≤◌}, lemmas.Grind.flat_map-append}
+use Rattle.std.{proofs.lemmas.List.Elements.filter-append, specs.{List.{flat_map, range_with_len}, Prelude.is_some}}
 
 -- what is so of an element is so by what follows from it
 pub if_some : {X : Type 0} (P Q : X → Type 0) (o : Option X) → ((x : X) → P x → Q x) → IfSome o P → IfSome o Q

@@ -1,8 +1,7 @@
 -- What a round notes of the switches after their turns, in sets: what isn't in one begins nothing of the kind.
-use Rattle.{c104_node.specs.{Nodes.{Node, node_claim}, PortParts.is_node_ready}, c104_plan.specs.Plans.Plan}
-use Rattle.{c104_node.specs.declared.port_part.PortPart.PortPart, c104_regs.specs.declared.registers.TheConstants.LINKS}
-use Rattle.{c104_node.specs.declared.ends.End.End, c104_plan.specs.declared.ports.Port.Port, c104_token.specs.Kinds.Kind}
-use Rattle.c104_run.specs.{EventActs.port_place, FarEnds.far_end, LivePlaces.is_live, Rounds.is_wired}
+use Rattle.c104_node.specs.{Nodes.{Node, node_claim}, PortParts.is_node_ready, declared.{ends.End.End, port_part.PortPart.PortPart}}
+use Rattle.{c104_plan.specs.{Plans.Plan, declared.ports.Port.Port}, c104_regs.specs.declared.registers.TheConstants.LINKS}
+use Rattle.{c104_run.specs.{EventActs.port_place, FarEnds.far_end, LivePlaces.is_live, Rounds.is_wired}, c104_token.specs.Kinds.Kind}
 use Rattle.std.specs.Prelude.{List, None, Some, false, length, slice_get, true, ℕ, ◌<◌, ◌≡◌, ◌≢◌, ◌≤◌}
 
 -- no input of a node claims an output

@@ -7,9 +7,8 @@
 #![tactic(auto, using(crate::proofs::EngineParts::engine_parts))]
 
 ghost use Rattle.std.specs.Prelude.{OnOk, length, map, slice_get, ℕ, ◌<◌, ◌≡◌};
-ghost use Rattle.{c104_node.specs.Places.states, c104_regs.specs.declared.registers.TheConstants.LINKS};
-ghost use Rattle.c104_run.specs.{Engines.{DoesPart, engine_network}, NotedSwitches.{AreNoted, AreSo, GrantsNone}};
-ghost use Rattle.c104_run.specs.NotedSwitches.{LeavesOthers, LeavesUnnoted};
+ghost use Rattle.{c104_node.specs.Places.states, c104_regs.specs.declared.registers.TheConstants.LINKS, c104_run.specs.Engines.DoesPart};
+ghost use Rattle.c104_run.specs.{Engines.engine_network, NotedSwitches.{AreNoted, AreSo, GrantsNone, LeavesOthers, LeavesUnnoted}};
 ghost use Rattle.c104_run.specs.RoundParts.{claim_walk, crossing_part, drain_walk, input_walk, link_walk, output_walk, port_walk};
 ghost use Rattle.c104_run.specs.RoundParts.{switch_walk, terminal_walk};
 ghost use Rattle.c104_node.specs.declared.port_part.PortPart.TheVariants as part;

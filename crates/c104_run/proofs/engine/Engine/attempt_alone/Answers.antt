@@ -1,6 +1,5 @@
-use Rattle.c104_node.proofs.IdleNodes.{alone_stays}
-use Rattle.c104_run.{proofs.{ActAttempts.alone_tried, MeteredSteps.silent_meter}, specs.{EventsAtPlaces.told_answer, NetRecords.is_done}}
-use Rattle.{c104_run.specs.NetRecords.ticket_after, std.proofs.Common.ap}
+use Rattle.{c104_node.proofs.IdleNodes.alone_stays, c104_run.proofs.{ActAttempts.alone_tried, MeteredSteps.silent_meter}}
+use Rattle.{c104_run.specs.{EventsAtPlaces.told_answer, NetRecords.{is_done, ticket_after}}, std.proofs.Common.ap}
 
 pub returns-clause-does : Rattle.c104_run.proofs.engine.Engine.attempt_alone.Goals.returns-clause-does
 returns-clause-does g c = λ e possible known none.

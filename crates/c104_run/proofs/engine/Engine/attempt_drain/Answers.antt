@@ -1,7 +1,7 @@
-use Rattle.c104_node.proofs.IdleNodes.{alone_stays}
-use Rattle.{c104_event.specs.declared.events.Event.Event, c104_node.specs.{PortActs.Acts, declared.acts.ActOf.ActOf}}
-use Rattle.c104_run.{proofs.{ActAttempts.{alone_tried, drain_possible}, LiveRounds.drain_begins}, specs.EventsAtPlaces.told_answer}
-use Rattle.{c104_run.specs.NetRecords.{is_done, ticket_after}, std.proofs.Common.{Option, Some, ap, length, sym, ℕ, ◌-◌}}
+use Rattle.{c104_event.specs.declared.events.Event.Event, c104_node.{proofs.IdleNodes.alone_stays, specs.PortActs.Acts}}
+use Rattle.{c104_node.specs.declared.acts.ActOf.ActOf, c104_run.proofs.{ActAttempts.{alone_tried, drain_possible}, LiveRounds.drain_begins}}
+use Rattle.{c104_run.specs.{EventsAtPlaces.told_answer, NetRecords.{is_done, ticket_after}}, std.proofs.Common.{Option, Some, ap, length}}
+use Rattle.std.proofs.Common.{sym, ℕ, ◌-◌}
 
 pub returns-clause-does : Rattle.c104_run.proofs.engine.Engine.attempt_drain.Goals.returns-clause-does
 returns-clause-does g c =

@@ -1,9 +1,10 @@
 use Rattle.c104_node.{proofs.IdleNodes.joint_stays, specs.{Acts.nodes_act, Places.states, PortActs.near_act, declared.ends.End.End}}
-use Rattle.c104_run.proofs.{ActAttempts.joint_tried, NotedSwitches.one_far, Engines.{acted_kept, put_back}, LiveRounds.{live_joint, ready_live}}
-use Rattle.c104_run.specs.{Engines.{EngineView, engine_of}, EventActs.{crossing_event, port_place}, EventsAtPlaces.told_answer}
-use Rattle.c104_run.specs.{LivePlaces.is_live, Meters.{metered_apply, metered_of}, NetRecords.{is_done, ticket_after}, Network.wired_fault}
-use Rattle.{c104_run.specs.RoundParts.{PartEnds, done_answer}, std.proofs.Common.{List, None, [], ap, is_some, map, refl, slice_get, subst, sym, true}}
-use Rattle.std.{proofs.{Common.{◌∙◌, ◌∷◌, ◌≡◌, ◌≢◌}, lemmas.List.with_items_is}, specs.Vec.with_items}
+use Rattle.c104_run.proofs.{ActAttempts.joint_tried, Engines.{acted_kept, put_back}, LiveRounds.{live_joint, ready_live}}
+use Rattle.c104_run.{proofs.NotedSwitches.one_far, specs.{Engines.{EngineView, engine_of}, EventActs.{crossing_event, port_place}}}
+use Rattle.c104_run.specs.{EventsAtPlaces.told_answer, LivePlaces.is_live, Meters.{metered_apply, metered_of}, NetRecords.is_done}
+use Rattle.{c104_run.specs.{NetRecords.ticket_after, Network.wired_fault, RoundParts.{PartEnds, done_answer}}, std.proofs.Common.List}
+use Rattle.std.proofs.Common.{None, [], ap, is_some, map, refl, slice_get, subst, sym, true, ◌∙◌, ◌∷◌, ◌≡◌, ◌≢◌}
+use Rattle.std.{proofs.lemmas.List.with_items_is, specs.Vec.with_items}
 use Rattle.c104_run.proofs.engine.Engine.attempt_joint.Goals as goal
 
 pub invariant_of-self : goal.invariant_of-self
@@ -37,8 +38,8 @@ pub returns-clause-others : goal.returns-clause-others
 returns-clause-others g c =
     let put_is = with_items_is c.self.inside.places c.joint_from-answer.new.places (c.joint_from-answer.auto.places ∙ c.as_mut_slice-places.ensures.len) in
     rw (c.counted.ensures.next, sym c.self.view_is) (λ far is j from to.
-      let away = subst (λ (e : EngineView g.row.P.Denot). j ≢ port_place e.plan c.args.port) (sym c.self.view_is) from in
-      put_back (λ (olds news : List g.row.P.Denot). slice_get (states (map g.P.Place.shown news)) j ≡ slice_get (states (map g.P.Place.shown olds)) j)
-      c.self.inside.places.items c.as_mut_slice-places.result.now c.joint_from-answer.new.places (with_items c.self.inside.places c.joint_from-answer.new.places).items c.as_mut_slice-places.ensures.value put_is
-      (joint_stays g.T.TokenKind.kind g.P.Place.keeps _ _ _ c.joint_from-answer.result j _ _ _ c.joint_from-answer.ensures
-      (λ same. away (same ∙ ap (λ (end : End). end.node) c.wired_ends-ends.ensures.near)) (λ same. to (same ∙ one_far _ _ _ c.wired_ends-ends.ensures.far is))))
+    let away = subst (λ (e : EngineView g.row.P.Denot). j ≢ port_place e.plan c.args.port) (sym c.self.view_is) from in
+    put_back (λ (olds news : List g.row.P.Denot). slice_get (states (map g.P.Place.shown news)) j ≡ slice_get (states (map g.P.Place.shown olds)) j)
+    c.self.inside.places.items c.as_mut_slice-places.result.now c.joint_from-answer.new.places (with_items c.self.inside.places c.joint_from-answer.new.places).items c.as_mut_slice-places.ensures.value put_is
+    (joint_stays g.T.TokenKind.kind g.P.Place.keeps _ _ _ c.joint_from-answer.result j _ _ _ c.joint_from-answer.ensures
+    (λ same. away (same ∙ ap (λ (end : End). end.node) c.wired_ends-ends.ensures.near)) (λ same. to (same ∙ one_far _ _ _ c.wired_ends-ends.ensures.far is))))

@@ -1,4 +1,5 @@
-use Rattle.{c104_run.{proofs.{EngineParts.does_so, PortWalks.{crossing_ready, wired_crossing}}, specs.Engines.engine_network}, std.proofs.Common.sym}
+use Rattle.c104_run.{proofs.{EngineParts.does_so, PortWalks.{crossing_ready, wired_crossing}}, specs.Engines.engine_network}
+use Rattle.std.proofs.Common.{sym}
 use Rattle.c104_run.proofs.engine.Engine.attempt_part.Goals as goal
 
 pub returns-clause-does : goal.returns-clause-does

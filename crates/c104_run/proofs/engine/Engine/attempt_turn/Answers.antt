@@ -1,6 +1,6 @@
-use Rattle.{c104_event.specs.declared.events.Event.Event, c104_node.specs.declared.port_part.PortPart.PortPart, c104_plan.specs.declared.ports.Port.Port}
-use Rattle.c104_run.proofs.{ActAttempts.turn_possible, EngineParts.does_so, LiveRounds.turn_begins, PortWalks.wired_one}
-use Rattle.std.proofs.Common.{refl, sym}
+use Rattle.{c104_event.specs.declared.events.Event.Event, c104_node.specs.declared.port_part.PortPart.PortPart}
+use Rattle.{c104_plan.specs.declared.ports.Port.Port, c104_run.proofs.{ActAttempts.turn_possible, EngineParts.does_so}}
+use Rattle.{c104_run.proofs.{LiveRounds.turn_begins, PortWalks.wired_one}, std.proofs.Common.{refl, sym}}
 use Rattle.c104_run.proofs.engine.Engine.attempt_turn.Goals as goal
 
 pub returns-clause-does : goal.returns-clause-does

@@ -1,6 +1,6 @@
-use Rattle.{c104_node.specs.Places.states, c104_run.specs.NotedSwitches.LeavesOthers, std.proofs.Common.map}
-use Rattle.{c104_event.specs.declared.events.Event.Event, c104_plan.specs.Plans.Plan, c104_run.proofs.EngineParts.SoFar}
-use Rattle.{c104_run.specs.Rounds.link_numbers, std.proofs.Common.{[], ℕ, ◌-◌, ◌∷◌}}
+use Rattle.{c104_event.specs.declared.events.Event.Event, c104_node.specs.Places.states, c104_plan.specs.Plans.Plan}
+use Rattle.{c104_run.{proofs.EngineParts.SoFar, specs.{NotedSwitches.LeavesOthers, Rounds.link_numbers}}, std.proofs.Common.{[], map, ℕ}}
+use Rattle.std.proofs.Common.{◌-◌, ◌∷◌}
 use Rattle.c104_run.proofs.engine.Engine.claim_for_input.Given as goal
 
 -- the claims so far, which leave the nodes at all other places

@@ -1,6 +1,5 @@
-use Rattle.{c104_node.specs.Places.states, c104_run.specs.NotedSwitches.LeavesOthers, std.proofs.Common.map}
-use Rattle.{c104_plan.specs.Plans.Plan, c104_run.{proofs.EngineParts.SoFar, specs.{RoundParts.output_walk, Rounds.link_numbers}}}
-use Rattle.std.proofs.Common.{◌-◌}
+use Rattle.{c104_node.specs.Places.states, c104_plan.specs.Plans.Plan, c104_run.proofs.EngineParts.SoFar}
+use Rattle.{c104_run.specs.{NotedSwitches.LeavesOthers, RoundParts.output_walk, Rounds.link_numbers}, std.proofs.Common.{map, ◌-◌}}
 use Rattle.c104_run.proofs.engine.Engine.claim_in_switch.Given as goal
 
 -- the claims of the inputs so far

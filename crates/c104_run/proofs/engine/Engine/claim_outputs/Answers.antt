@@ -1,6 +1,6 @@
-use Rattle.{c104_node.specs.Places.states, c104_plan.specs.Plans.Plan}
-use Rattle.c104_run.proofs.{EngineParts.{none_yet, step_done, step_stops, steps_done}, NotedSwitches.{noted_behind, noted_there}}
-use Rattle.{c104_run.specs.NotedSwitches.{AreSo, ClaimsNone, GrantsNone}, std.proofs.Common.{length, map, subst, sym}}
+use Rattle.{c104_node.specs.Places.states, c104_plan.specs.Plans.Plan, c104_run.proofs.EngineParts.{none_yet, step_done, step_stops}}
+use Rattle.c104_run.{proofs.{EngineParts.steps_done, NotedSwitches.{noted_behind, noted_there}}, specs.NotedSwitches.{AreSo, ClaimsNone}}
+use Rattle.{c104_run.specs.NotedSwitches.GrantsNone, std.proofs.Common.{length, map, subst, sym}}
 use Rattle.c104_run.proofs.engine.Engine.claim_outputs.Goals as goal
 
 pub loop-switch-init : goal.loop-switch-init

@@ -1,6 +1,6 @@
-use Rattle.{c104_node.specs.Places.states, c104_plan.specs.Plans.Plan, c104_run.proofs.EngineParts.SoFar}
-use Rattle.c104_run.specs.{NotedSwitches.{AreSo, ClaimsNone, GrantsNone}, RoundParts.input_walk}
-use Rattle.std.{proofs.Common.{length, map, ◌-◌}, specs.List.range_with_len}
+use Rattle.{c104_node.specs.Places.states, c104_plan.specs.Plans.Plan, c104_run.{proofs.EngineParts.SoFar, specs.NotedSwitches.AreSo}}
+use Rattle.{c104_run.specs.{NotedSwitches.{ClaimsNone, GrantsNone}, RoundParts.input_walk}, std.proofs.Common.{length, map, ◌-◌}}
+use Rattle.std.specs.List.{range_with_len}
 use Rattle.c104_run.proofs.engine.Engine.claim_outputs.Given as goal
 
 -- the claims of the switches so far; of the others those that aren't noted claim nothing

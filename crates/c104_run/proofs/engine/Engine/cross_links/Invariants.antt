@@ -1,6 +1,5 @@
-use Rattle.c104_node.specs.declared.port_part.PortPart.{PortPart}
-use Rattle.{c104_plan.specs.{Plans.Plan, declared.ports.Port.Port}, c104_run.{proofs.EngineParts.SoFar, specs.RoundParts.port_walk}}
-use Rattle.{c104_run.specs.Rounds.link_numbers, std.proofs.Common.◌-◌}
+use Rattle.{c104_node.specs.declared.port_part.PortPart.PortPart, c104_plan.specs.{Plans.Plan, declared.ports.Port.Port}}
+use Rattle.{c104_run.{proofs.EngineParts.SoFar, specs.{RoundParts.port_walk, Rounds.link_numbers}}, std.proofs.Common.◌-◌}
 use Rattle.c104_run.proofs.engine.Engine.cross_links.Given as goal
 
 -- the events of the links so far

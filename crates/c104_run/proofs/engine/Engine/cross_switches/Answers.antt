@@ -1,5 +1,4 @@
-use Rattle.c104_node.specs.declared.port_part.PortPart.{PortPart}
-use Rattle.c104_run.proofs.EngineParts.{step_done, step_stops, steps_done}
+use Rattle.{c104_node.specs.declared.port_part.PortPart.PortPart, c104_run.proofs.EngineParts.{step_done, step_stops, steps_done}}
 use Rattle.c104_run.proofs.engine.Engine.cross_switches.Goals as goal
 
 pub loop-switch-preserved : goal.loop-switch-preserved

@@ -1,6 +1,5 @@
-use Rattle.c104_node.specs.declared.port_part.PortPart.{PortPart}
-use Rattle.{c104_plan.specs.Plans.Plan, c104_run.{proofs.EngineParts.SoFar, specs.RoundParts.link_walk}, std.proofs.Common.{length, ◌-◌}}
-use Rattle.std.specs.List.{range_with_len}
+use Rattle.{c104_node.specs.declared.port_part.PortPart.PortPart, c104_plan.specs.Plans.Plan, c104_run.proofs.EngineParts.SoFar}
+use Rattle.{c104_run.specs.RoundParts.link_walk, std.{proofs.Common.{length, ◌-◌}, specs.List.range_with_len}}
 use Rattle.c104_run.proofs.engine.Engine.cross_switches.Given as goal
 
 -- the events of the switches so far

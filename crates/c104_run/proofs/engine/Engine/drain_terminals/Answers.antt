@@ -1,4 +1,4 @@
-use Rattle.{c104_run.proofs.{EngineParts.{none_yet, step_done, step_stops, steps_done}, NotedSwitches.stay_on}, std.proofs.Common.{arith, refl}}
+use Rattle.{c104_run.proofs.{EngineParts.{none_yet, step_done, step_stops, steps_done}, NotedSwitches.stay_on}, std.proofs.Common.refl}
 use Rattle.c104_run.proofs.engine.Engine.drain_terminals.Goals as goal
 
 pub loop-terminal-init : goal.loop-terminal-init

@@ -1,5 +1,6 @@
-use Rattle.{c104_event.specs.declared.events.Event.Event, c104_plan.specs.Plans.Plan, c104_run.proofs.EngineParts.SoFar}
-use Rattle.{c104_node.specs.Places.states, std.{proofs.Common.{[], length, map, slice_get, ℕ, ◌-◌, ◌<◌, ◌∷◌, ◌≡◌}, specs.List.range_with_len}}
+use Rattle.{c104_event.specs.declared.events.Event.Event, c104_node.specs.Places.states, c104_plan.specs.Plans.Plan}
+use Rattle.{c104_run.proofs.EngineParts.SoFar, std.proofs.Common.{[], length, map, slice_get, ℕ, ◌-◌, ◌<◌, ◌∷◌, ◌≡◌}}
+use Rattle.std.specs.List.{range_with_len}
 use Rattle.c104_run.proofs.engine.Engine.drain_terminals.Given as goal
 
 -- the arrivals so far, which leave the switches

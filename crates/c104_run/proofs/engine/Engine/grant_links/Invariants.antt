@@ -1,6 +1,6 @@
-use Rattle.{c104_node.specs.Places.states, c104_plan.specs.{Plans.Plan, declared.ports.Port.Port}, c104_run.proofs.EngineParts.SoFar}
-use Rattle.c104_node.specs.declared.port_part.PortPart.{PortPart}
-use Rattle.{c104_run.specs.{NotedSwitches.LeavesUnnoted, RoundParts.port_walk, Rounds.link_numbers}, std.proofs.Common.{map, ◌-◌}}
+use Rattle.{c104_node.specs.{Places.states, declared.port_part.PortPart.PortPart}, c104_plan.specs.{Plans.Plan, declared.ports.Port.Port}}
+use Rattle.c104_run.{proofs.EngineParts.SoFar, specs.{NotedSwitches.LeavesUnnoted, RoundParts.port_walk, Rounds.link_numbers}}
+use Rattle.std.proofs.Common.{map, ◌-◌}
 use Rattle.c104_run.proofs.engine.Engine.grant_links.Given as goal
 
 -- the grants of the links so far, which leave the nodes at all other places that aren't in the set

@@ -1,6 +1,6 @@
-use Rattle.{c104_node.specs.{Places.states, declared.port_part.PortPart.PortPart}, c104_plan.specs.Plans.Plan, c104_run.proofs.EngineParts.SoFar}
-use Rattle.c104_run.specs.{NotedSwitches.{AreSo, GrantsNone}, RoundParts.link_walk}
-use Rattle.std.{proofs.Common.{length, map, ◌-◌}, specs.List.range_with_len}
+use Rattle.{c104_node.specs.{Places.states, declared.port_part.PortPart.PortPart}, c104_plan.specs.Plans.Plan}
+use Rattle.{c104_run.{proofs.EngineParts.SoFar, specs.{NotedSwitches.{AreSo, GrantsNone}, RoundParts.link_walk}}, std.proofs.Common.length}
+use Rattle.std.{proofs.Common.{map, ◌-◌}, specs.List.range_with_len}
 use Rattle.c104_run.proofs.engine.Engine.grant_switches.Given as goal
 
 -- the grants of the switches so far; of the others those that aren't noted grant nothing

@@ -1,8 +1,7 @@
 use Rattle.c104_run.{proofs.{LiveRounds.unclaimed_inputs, PortWalks.{if_some, next_found}}, specs.Engines.engine_network}
 use Rattle.std.proofs.Common.{IfSome, length, refl, sym, ◌<◌, ◌≤◌}
-use Rattle.c104_run.proofs.engine.Engine.next_claiming.Goals as goal
 
-pub returns-clause-next : goal.returns-clause-next
+pub returns-clause-next : Rattle.c104_run.proofs.engine.Engine.next_claiming.Goals.returns-clause-next
 returns-clause-next g c =
     let found : IfSome c.next.result (λ k. (c.args.from ≤ k) × (k < length c.args.self.now.plan.switches)) = rw (sym c.switch_count.ensures.count) (if_some _ _ c.next.result (λ k is. (is.0, is.1)) c.next.ensures.found) in
     next_found g.T.TokenKind.kind (engine_network g.P.Place.shown c.args.self.now) _ _ _ _ _ refl (found)

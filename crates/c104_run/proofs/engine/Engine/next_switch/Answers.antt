@@ -1,5 +1,4 @@
-use Rattle.c104_run.{proofs.{LiveRounds.idle_ports, PortWalks.next_found}, specs.Engines.engine_network}
-use Rattle.std.proofs.Common.{refl}
+use Rattle.{c104_run.{proofs.{LiveRounds.idle_ports, PortWalks.next_found}, specs.Engines.engine_network}, std.proofs.Common.refl}
 use Rattle.c104_run.proofs.engine.Engine.next_switch.Goals as goal
 
 pub returns-clause-ports : goal.returns-clause-ports

@@ -1,5 +1,5 @@
-use Rattle.{c104_node.specs.PortParts.part_act, c104_node.specs.declared.port_part.PortPart.PortPart, c104_run.proofs.NotedSwitches.{claimed_here, not_noted, ready_here}}
-use Rattle.std.proofs.Common.{arith, sym, ◌∙◌}
+use Rattle.{c104_node.specs.{PortParts.part_act, declared.port_part.PortPart.PortPart}, c104_run.proofs.NotedSwitches.claimed_here}
+use Rattle.{c104_run.proofs.NotedSwitches.{not_noted, ready_here}, std.proofs.Common.{arith, sym, ◌∙◌}}
 use Rattle.c104_run.proofs.engine.Engine.note.Goals as goal
 
 pub returns-clause-claims : goal.returns-clause-claims

@@ -1,6 +1,6 @@
-use Rattle.{c104_node.{proofs.PlaceSteps.err_is, specs.Places.states}, c104_plan.specs.Plans.Plan}
-use Rattle.c104_run.{proofs.{EngineParts.{does_after, does_before, does_round, does_stop}, NotedSwitches.noted_stays}, specs.NotedSwitches.{AreNoted, AreSo, GrantsNone}}
-use Rattle.std.proofs.Common.{length, map, subst, sym, ◌<◌, ◌∙◌}
+use Rattle.{c104_node.{proofs.PlaceSteps.err_is, specs.Places.states}, c104_plan.specs.Plans.Plan, c104_run.proofs.EngineParts.does_after}
+use Rattle.c104_run.{proofs.{EngineParts.{does_before, does_round, does_stop}, NotedSwitches.noted_stays}, specs.NotedSwitches.AreNoted}
+use Rattle.{c104_run.specs.NotedSwitches.{AreSo, GrantsNone}, std.proofs.Common.{length, map, subst, sym, ◌<◌, ◌∙◌}}
 use Rattle.c104_run.proofs.engine.Engine.round_by.Goals as goal
 
 pub returns-clause-does : goal.returns-clause-does

@@ -1,7 +1,7 @@
-use Rattle.{c104_node.specs.Places.states, c104_plan.specs.Plans.Plan, c104_run.{proofs.NotedSwitches.all_noted, specs.NotedSwitches.{AreSo, GrantsNone}}}
-use Rattle.{c104_node.proofs.PlaceSteps.err_is, c104_run.proofs.RoundsTaken.{round_idle, round_refused, round_taken}}
-use Rattle.{c104_run.specs.{Engines.engine_at, EventRuns.run_events, Meters.metered_apply, Rounds.{round, rounds}}, std.proofs.Common.ap}
-use Rattle.std.proofs.Common.{arith, inl, length, map, refl, subst, sym, ◌∙◌, ◌≡◌}
+use Rattle.{c104_node.{proofs.PlaceSteps.err_is, specs.Places.states}, c104_plan.specs.Plans.Plan, c104_run.proofs.NotedSwitches.all_noted}
+use Rattle.c104_run.{proofs.RoundsTaken.{round_idle, round_refused, round_taken}, specs.{Engines.engine_at, EventRuns.run_events}}
+use Rattle.{c104_run.specs.{Meters.metered_apply, NotedSwitches.{AreSo, GrantsNone}, Rounds.{round, rounds}}, std.proofs.Common.{ap, arith}}
+use Rattle.std.proofs.Common.{inl, length, map, refl, subst, sym, ◌∙◌, ◌≡◌}
 use Rattle.c104_run.proofs.engine.Engine.rounds.Goals as goal
 
 pub loop-round-init : goal.loop-round-init

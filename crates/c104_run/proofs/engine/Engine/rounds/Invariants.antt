@@ -1,5 +1,5 @@
-use Rattle.{c104_node.specs.Places.states, c104_run.specs.NotedSwitches.{AreSo, GrantsNone}, std.proofs.Common.{length, map}}
-use Rattle.{c104_run.specs.{Engines.engine_at, EventRuns.run_events, Meters.metered_apply, Rounds.rounds}, std.proofs.Common.{Ok, ◌≡◌}}
+use Rattle.{c104_node.specs.Places.states, c104_run.specs.{Engines.engine_at, EventRuns.run_events, Meters.metered_apply}}
+use Rattle.{c104_run.specs.{NotedSwitches.{AreSo, GrantsNone}, Rounds.rounds}, std.proofs.Common.{Ok, length, map, ◌≡◌}}
 
 -- the rounds so far are done without a fault, and what they noted of grants holds
 abbrev pub invariant-loop-round : Rattle.c104_run.proofs.engine.Engine.rounds.Given.invariant-loop-round

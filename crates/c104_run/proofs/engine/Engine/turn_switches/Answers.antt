@@ -1,6 +1,7 @@
-use Rattle.{c104_node.specs.{Nodes.Node, Places.states, declared.port_part.PortPart.PortPart}, c104_plan.specs.Plans.Plan}
-use Rattle.c104_run.{proofs.{EngineParts.{none_yet, step_done, step_stops, steps_done}, LiveRounds.idle_part, NotedSwitches.{noted_next, noted_rest, nothing_noted}}, specs.Engines.engine_network}
-use Rattle.{c104_run.specs.NotedSwitches.{ClaimsNone, GrantsNone, IsSoAt}, std.proofs.Common.{arith, length, map, subst, ◌∙◌}}
+use Rattle.{c104_node.specs.{Places.states, declared.port_part.PortPart.PortPart}, c104_plan.specs.Plans.Plan}
+use Rattle.c104_run.proofs.{EngineParts.{none_yet, step_done, step_stops, steps_done}, LiveRounds.idle_part, NotedSwitches.noted_next}
+use Rattle.c104_run.{proofs.NotedSwitches.{noted_rest, nothing_noted}, specs.{Engines.engine_network, NotedSwitches.ClaimsNone}}
+use Rattle.{c104_run.specs.NotedSwitches.{GrantsNone, IsSoAt}, std.proofs.Common.{arith, length, map, subst, ◌∙◌}}
 use Rattle.c104_run.proofs.engine.Engine.turn_switches.Goals as goal
 
 pub loop-switch-init : goal.loop-switch-init
@@ -8,14 +9,14 @@ loop-switch-init g c = (none_yet, nothing_noted ClaimsNone _ _, nothing_noted (G
 
 pub loop-switch-preserved : goal.loop-switch-preserved
 loop-switch-preserved g c =
-  let inside = (c.in-Some.ensures.ports PortPart.Turn).found.1 in (
-  step_done c.loop-switch.invariant.0 (c.in-Some.ensures.ports PortPart.Turn) c.in_ok-done.ensures.does,
-  noted_next ClaimsNone _ _ _ _ _ c.in_ok-done.ensures.others c.note.ensures.claiming c.loop-switch.from c.loop-switch.invariant.1
-  (λ j from below n here. ((c.in-Some.ensures.passed j from below).idle n here).claims) c.note.ensures.claims,
-  noted_next (GrantsNone g.T.TokenKind.kind c.args.self.now.plan) _ _ _ _ _ c.in_ok-done.ensures.others c.note.ensures.granting c.loop-switch.from c.loop-switch.invariant.2
-  (λ j from below n here. subst (λ (p : Plan). GrantsNone g.T.TokenKind.kind p j n) c.loop-switch.invariant.0.done.plan (idle_part g.T.TokenKind.kind (engine_network g.P.Place.shown c.loop-switch.self) j (omega (arith, below, inside)) (c.in-Some.ensures.passed j from below) PortPart.Credit n here))
-  (subst (λ (p : Plan). IsSoAt (GrantsNone g.T.TokenKind.kind p) c.note.new.noted.granting (states (map g.P.Place.shown c.turn_links.new.self.places)) c.in-Some.switch) (c.in_ok-done.ensures.does.plan ∙ c.loop-switch.invariant.0.done.plan) c.note.ensures.grants),
-)
+    let inside = (c.in-Some.ensures.ports PortPart.Turn).found.1 in (
+      step_done c.loop-switch.invariant.0 (c.in-Some.ensures.ports PortPart.Turn) c.in_ok-done.ensures.does,
+      noted_next ClaimsNone _ _ _ _ _ c.in_ok-done.ensures.others c.note.ensures.claiming c.loop-switch.from c.loop-switch.invariant.1
+          (λ j from below n here. ((c.in-Some.ensures.passed j from below).idle n here).claims) c.note.ensures.claims,
+      noted_next (GrantsNone g.T.TokenKind.kind c.args.self.now.plan) _ _ _ _ _ c.in_ok-done.ensures.others c.note.ensures.granting c.loop-switch.from c.loop-switch.invariant.2
+          (λ j from below n here. subst (λ (p : Plan). GrantsNone g.T.TokenKind.kind p j n) c.loop-switch.invariant.0.done.plan (idle_part g.T.TokenKind.kind (engine_network g.P.Place.shown c.loop-switch.self) j (omega (arith, below, inside)) (c.in-Some.ensures.passed j from below) PortPart.Credit n here))
+          (subst (λ (p : Plan). IsSoAt (GrantsNone g.T.TokenKind.kind p) c.note.new.noted.granting (states (map g.P.Place.shown c.turn_links.new.self.places)) c.in-Some.switch) (c.in_ok-done.ensures.does.plan ∙ c.loop-switch.invariant.0.done.plan) c.note.ensures.grants),
+    )
 
 pub returns-clause-does : goal.returns-clause-does
 returns-clause-does g c = steps_done c.loop-switch.invariant.0 (c.in_default.ensures.ports PortPart.Turn)

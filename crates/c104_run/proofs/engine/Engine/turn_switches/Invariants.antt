@@ -1,5 +1,5 @@
-use Rattle.{c104_node.specs.{Places.states, declared.port_part.PortPart.PortPart}, c104_plan.specs.Plans.Plan, c104_run.proofs.EngineParts.SoFar}
-use Rattle.c104_run.specs.{NotedSwitches.{AreSo, ClaimsNone, GrantsNone}, RoundParts.link_walk}
+use Rattle.{c104_node.specs.{Places.states, declared.port_part.PortPart.PortPart}, c104_plan.specs.Plans.Plan}
+use Rattle.c104_run.{proofs.EngineParts.SoFar, specs.{NotedSwitches.{AreSo, ClaimsNone, GrantsNone}, RoundParts.link_walk}}
 use Rattle.std.{proofs.Common.{length, map, ◌-◌}, specs.List.range_with_len}
 use Rattle.c104_run.proofs.engine.Engine.turn_switches.Given as goal
 

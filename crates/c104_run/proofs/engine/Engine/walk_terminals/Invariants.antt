@@ -1,5 +1,5 @@
-use Rattle.{c104_plan.specs.{Plans.Plan, declared.ports.Port.Port}, c104_run.{proofs.EngineParts.SoFar, specs.RoundParts.{crossing_part, port_walk}}}
-use Rattle.std.{proofs.Common.{length, ◌-◌}, specs.List.range_with_len}
+use Rattle.{c104_plan.specs.{Plans.Plan, declared.ports.Port.Port}, c104_run.{proofs.EngineParts.SoFar, specs.RoundParts.crossing_part}}
+use Rattle.{c104_run.specs.RoundParts.port_walk, std.{proofs.Common.{length, ◌-◌}, specs.List.range_with_len}}
 use Rattle.c104_run.proofs.engine.Engine.walk_terminals.Given as goal
 
 -- the events of the terminals so far
