@@ -1,13 +1,13 @@
 -- Turns of inputs and claims of a traced run keep the invariant.
 use Rattle.{c104_check.specs.{Routes.{IsRandomized, routes_of, settings_at}, Walks.port_of}, c104_event.specs.declared.events.Event.Event}
 use Rattle.c104_link.{proofs.MadeSteps.{at_place_made, given, required, with_place_made}, specs.Buffers.{Outgoing, outgoing_put}}
-use Rattle.{c104_link.specs.{Buffers.outgoing_put_all, Steps.{joint_step_at, step_at}}, c104_net.proofs.InputMoves.{HasRead, claim_step}}
-use Rattle.c104_net.proofs.InputMoves.{decide_step, has_few, has_wire, head_step, random_step, short_step, sink_step, stream_step}
-use Rattle.c104_net.proofs.{LinkEvents.{Leaves, StillHolds, kept_same, world_of, worlds}, NodeViews.{arrivals, arrivals_same, at_id}}
-use Rattle.c104_net.proofs.NodeViews.{content_put, content_take, ins, ins_put, items_in, kinds_same, out_at, outs, outs_put, outs_same}
-use Rattle.c104_net.proofs.{NodeViews.{part_set, phases, phases_put, sents_same, settings_same, terminal_fresh}, PacketInvariant.Holds}
-use Rattle.c104_net.proofs.{PacketInvariant.{IsLabelled, IsWired, kept_by}, PortChanges.{at, at_other}, RandomHeaders.random_length}
-use Rattle.c104_net.{proofs.TokenMoves.{claim_world, pass_world, read_world, still_world}, specs.Deliveries.deletes}
+use Rattle.{c104_link.specs.Steps.{joint_step_at, step_at}, c104_net.proofs.InputMoves.{HasRead, claim_step, decide_step, has_few}}
+use Rattle.c104_net.proofs.{InputMoves.{has_wire, head_step, random_step, short_step, sink_step, stream_step}, LinkEvents.Leaves}
+use Rattle.c104_net.proofs.{LinkEvents.{StillHolds, kept_same, world_of, worlds}, NodeViews.{arrivals, arrivals_same, at_id, content_put}}
+use Rattle.c104_net.proofs.NodeViews.{content_take, ins, ins_put, items_in, kinds_same, out_at, outs, outs_put, outs_same, part_set, phases}
+use Rattle.c104_net.proofs.{NodeViews.{phases_put, sents_same, settings_same, terminal_fresh}, PacketInvariant.{Holds, IsLabelled, IsWired}}
+use Rattle.c104_net.proofs.{PacketInvariant.kept_by, PortChanges.{at, at_other}, RandomHeaders.random_length, TokenMoves.claim_world}
+use Rattle.c104_net.{proofs.TokenMoves.{pass_world, read_world, still_world}, specs.Deliveries.deletes}
 use Rattle.c104_node.{proofs.NextTokens.first_some, specs.{Nodes.{Node, node_claim, node_input}, Traced.traced_kind, Traces.part}}
 use Rattle.{c104_node.specs.declared.{node.NodeOf.NodeOf, traced.Traced.Traced}, c104_plan.specs.{PlanImage.Image, Plans.Plan, Wiring.peer}}
 use Rattle.{c104_plan.specs.declared.ports.Port.Port, c104_regs.specs.{Settings.header_length, declared.settings.Settings.Settings}}
@@ -19,8 +19,8 @@ use Rattle.c104_switch.specs.Turns.{input_turn, phase_after_token, random_turn, 
 use Rattle.c104_switch.specs.declared.{actions.ReplyOf.ReplyOf, phase.Phase.{Phase, TheVariants.{Fresh, Head, Sinking, Stream, Want}}}
 use Rattle.{c104_token.specs.Tokens.is_end, std.proofs.Common.{Bool, List, Option, Some, [], ap, append-nil, arith, drop, false}}
 use Rattle.std.proofs.Common.{if◌then◌else◌, inl, inr, length, length-append, nat_le, nat_lt, not, refl, slice_get, slice_set, subst, suc}
-use Rattle.std.proofs.Common.{sym, true, zero, ℕ, ⊎_elim, ◌&&◌, ◌++◌, ◌+◌, ◌<◌, ◌==◌, ◌||◌, ◌∙◌, ◌∷◌, ◌≡◌, ◌≢◌, ◌⊎◌}
-use Rattle.std.proofs.lemmas.Bool.{and_cases, and_parts, cases_Bool, eq-eqb, le-leb, leb-false, leb-true, not-false, not-true, true≢false}
+use Rattle.std.proofs.{Common.{sym, true, zero, ℕ, ⊎_elim, ◌&&◌, ◌++◌, ◌<◌, ◌==◌, ◌||◌, ◌∙◌, ◌∷◌, ◌≡◌, ◌≢◌, ◌⊎◌}, lemmas.Bool.and_cases}
+use Rattle.std.proofs.lemmas.Bool.{and_parts, cases_Bool, eq-eqb, le-leb, leb-false, leb-true, not-false, not-true, true≢false}
 use Rattle.std.proofs.lemmas.Option.{some_pair_parts}
 use Rattle.c104_interval.specs.Selection as table
 
@@ -181,11 +181,7 @@ module _ (plan : Plan) (image : Image) (labelled : IsLabelled (routes_of plan im
 
   -- what a header does to an output
   header_put : (so : Settings) (b : List Traced) (q q' : Outgoing Traced) → put_header so b q ≡ Some q' → q'.items ≡ (if so.delete_header then q.items else q.items ++ b)
-  header_put so b q q' e = ⊎_elim
-      (λ (m : so.delete_header ≡ true). let f : Some q ≡ Some q' = rw m at e in let d : q ≡ q' = cc in rw m (sym (ap (λ (z : Outgoing Traced). z.items) d)))
-      (λ (m : so.delete_header ≡ false). let f : outgoing_put_all b q ≡ Some q' = rw m at e in required (nat_le (length q.items + length b) 8) _ q' f (λ h g.
-      (let d : record { items = q.items ++ b; credit = q.credit } ≡ q' = cc in rw m (sym (ap (λ (z : Outgoing Traced). z.items) d)))))
-      (cases_Bool so.delete_header)
+  header_put so b q q' h1 = grind arith
 
   claimed_kept : (s i o : ℕ) (S : Switch Traced) (eS : slice_get nodes s ≡ Some (NodeOf.Switch S)) (free : is_owned S.inputs o ≡ false) (p : Input Traced) (ep : slice_get S.inputs i ≡ Some p) (y : Input Traced × List (Outgoing Traced)) (ph : Phase (List Traced)) → p.phase ≡ ph → input_claim S.settings p S.outputs o ph ≡ Some y → Holds (routes_of plan image) (world_of plan image (slice_set nodes s (NodeOf.Switch (changed S i y.0 y.1))))
   claimed_kept s i o S eS free p ep y (Want b g) e f =

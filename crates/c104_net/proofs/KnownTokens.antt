@@ -6,7 +6,7 @@ use Rattle.{c104_net.proofs.{SentCounts.{sent_count, step_counts}, SureOrigins.{
 use Rattle.c104_node.specs.{Nodes.{Node, terminals_of}, Origins.{AreSure, IsSure, origins_in}, Starts.start_node, Tagged.tag}
 use Rattle.c104_node.specs.{Tagged.tagged_origins, Terminals.Terminal, Traced.{sent_token, traced_kind}, Traces.Deed}
 use Rattle.c104_node.specs.declared.{node.NodeOf.NodeOf, origins.Origin.Origin, stamps.Stamp.Stamp, starts.NodeStart.NodeStart}
-use Rattle.{c104_node.specs.declared.{tagged.TaggedToken.TaggedToken, traced.{Source.Source, Traced.Traced}}, c104_plan.specs.Plans.Plan}
+use Rattle.{c104_node.specs.declared.{tagged.TaggedToken.TaggedToken, traced.Traced.Traced}, c104_plan.specs.Plans.Plan}
 use Rattle.c104_run.proofs.{NoFaults.node_there, NodeMaps.starts_same, RoundJoins.apply_plan, StepMaps.{IsSentAlike, apply_alike}}
 use Rattle.c104_run.{proofs.TaggedRuns.{IsSmall, origins_same}, specs.{EventDeeds.event_deeds, Network.{Network, event_fault}}}
 use Rattle.c104_run.specs.{Network.{network_apply, network_of, network_step, terminal_place}, Runs.{IsDoneRun, run_deeds}}
@@ -23,10 +23,7 @@ abbrev pub known_of : Known → Traced
 known_of x = x.0
 
 small_sent : (t n j : ℕ) (x : Token) → t < 65536 → n < 4294967296 → IsSmall (sent_token t n j x)
-small_sent t n j x terminal number = record {
-  terminal = λ s is. (let same : record { terminal = t; number = n; place = j } ≡ s = cc in subst (λ (s : Source). s.terminal < 65536) same terminal);
-  number = λ s is. (let same : record { terminal = t; number = n; place = j } ≡ s = cc in subst (λ (s : Source). s.number < 4294967296) same number);
-}
+small_sent t n j x h1 h2 = grind arith
 
 small_none : (x : Token) → IsSmall (record { token = x; source = None })
 small_none x = record { terminal = λ s is. absurd (let no : ⊥ = cc in no); number = λ s is. absurd (let no : ⊥ = cc in no) }

@@ -25,7 +25,6 @@ pub mod TracedRuns
 pub mod SureOrigins
 pub mod OriginPieces
 pub mod NamedOrigins
-pub mod LeadingSteps
 pub mod StableSorts
 pub mod SortedLeads
 pub mod GatheredLeads

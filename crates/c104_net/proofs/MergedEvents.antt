@@ -112,12 +112,7 @@ module _ (plan : Plan) (stamps : ℕ → Stamp) where
   all_from n (e ∷ events) = let from : nat_le 0 (event_place plan e.0) ≡ true = grind (arith, nat_tests) in rw from (ap (λ es. e.0 ∷ es) (all_from (suc n) events))
 
   same_at : (k n : ℕ) (events : List (Event × Reply)) → events_at plan stamps k n events ≡ values_at plan stamps (λ e. e) k n events
-  same_at k n [] = refl
-  same_at k n (e ∷ events) = by_place (same_at k (suc n) events) (nat_eq (event_place plan e.0) k)
-    where
-      by_place : events_at plan stamps k (suc n) events ≡ values_at plan stamps (λ e. e) k (suc n) events → (b : Bool) → (if b then ((stamps n).ticket, e.0) ∷ events_at plan stamps k (suc n) events else events_at plan stamps k (suc n) events) ≡ (if b then ((stamps n).ticket, e.0) ∷ values_at plan stamps (λ e. e) k (suc n) events else values_at plan stamps (λ e. e) k (suc n) events)
-      by_place rest true = ap (λ es. ((stamps n).ticket, e.0) ∷ es) rest
-      by_place rest false = rest
+  same_at k n events = cc
 
   -- traces from a place on, each of which tells the events that lead there
   abbrev pub TellEvents : ℕ → List (List Entry) → List (Event × Reply) → Type 0

@@ -2,11 +2,10 @@
 use Rattle.{c104_check.specs.Routes.Routes, c104_net.proofs.{HeaderReads.bytes_push, PacketInvariant.bytes_only}}
 use Rattle.{c104_net.specs.Deliveries.{IsDelivered, cut_at, deletes}, c104_node.specs.Origins.{AreSure, origin_by, origin_of, origins_in}}
 use Rattle.c104_node.specs.{Terminals.{sent_from, sent_tokens}, Traced.traced_kind, declared.{origins.Origin.Origin, traced.Source.Source}}
-use Rattle.{c104_node.specs.declared.traced.Traced.Traced, c104_plan.specs.declared.ports.Port.Port, c104_run.specs.Network.Network}
-use Rattle.c104_token.specs.{Cut.{unfinished_piece, whole_pieces}, Tokens.{end_token, is_end}, declared.tokens.Mark.Mark}
-use Rattle.{c104_token.specs.declared.tokens.Token.{TheVariants.Byte, Token}, std.proofs.Common.{Bool, List, None, Option, Some, [], ap}}
-use Rattle.std.proofs.Common.{append-nil, append_assoc, arith, drop, false, flat_map, if◌then◌else◌, length, map, refl, suc, sym, true}
-use Rattle.std.proofs.{Common.{zero, ℕ, ⊎_elim, ◌++◌, ◌∙◌, ◌∷◌, ◌≡◌, ◌≤◌}, lemmas.Bool.{cases_Bool, leb-true}}
+use Rattle.{c104_node.specs.declared.traced.Traced.Traced, c104_run.specs.Network.Network, c104_token.specs.Cut.unfinished_piece}
+use Rattle.c104_token.specs.{Cut.whole_pieces, Tokens.{end_token, is_end}, declared.tokens.{Mark.Mark, Token.{TheVariants.Byte, Token}}}
+use Rattle.std.proofs.Common.{List, Some, [], ap, append-nil, append_assoc, arith, drop, false, flat_map, if◌then◌else◌, length, map, refl}
+use Rattle.std.proofs.{Common.{suc, sym, true, zero, ℕ, ⊎_elim, ◌++◌, ◌∙◌, ◌∷◌, ◌≡◌, ◌≤◌}, lemmas.Bool.{cases_Bool, leb-true}}
 use Rattle.std.specs.Prelude.{option_to_list}
 
 abbrev plain : Traced → Token
@@ -76,12 +75,4 @@ sent_origin a n j (suc k) (b ∷ bytes) m h = sent_origin a n (suc j) k bytes m 
 
 -- a received packet is named by its one origin
 pub delivered_origin : (routes : Routes) (net : Network Traced) (t : ℕ) (piece : List Traced) (d : IsDelivered routes net t piece) → origins_in piece ≡ packet_origin d.terminal d.number ∷ []
-delivered_origin routes net t piece d = ap origins_in d.whole ∙ by_cut (routes.peer (Port.Terminal t))
-  where
-    short : (b : Bool) → (if b then routes.header else 0) ≤ length d.packet.bytes
-    short true = leb-true routes.header (length d.packet.bytes) d.complete
-    short false = omega arith
-
-    by_cut : (q : Option Port) → origins_in (drop (cut_at routes q) (sent_tokens traced_kind d.terminal d.number d.packet)) ≡ packet_origin d.terminal d.number ∷ []
-    by_cut None = sent_origin d.terminal d.number 0 0 d.packet.bytes d.packet.mark (omega arith)
-    by_cut (Some p) = sent_origin d.terminal d.number 0 (if deletes routes p then routes.header else 0) d.packet.bytes d.packet.mark (short (deletes routes p))
+delivered_origin routes net t piece d = search (arith, origins_in, leb-true, cut_at, sent_tokens, traced_kind, sent_origin, deletes)
