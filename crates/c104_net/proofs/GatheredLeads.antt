@@ -36,10 +36,10 @@ module _ (switches : ℕ) (traces : List (List Entry)) (place : ℕ) where
   -- one that doesn't was passed over
   pub pass_on : (at : ℕ) (trace : List Entry) (e : Entry) (items new : List Lead) (all : List (ℕ × Event)) → slice_get trace at ≡ Some e → leads e.act ≡ false → new ≡ items →
       SoFar items (led_events switches place (drop at trace)) ≡ all → SoFar new (led_events switches place (drop (at + 1) trace)) ≡ all
-  pass_on at trace e items new all h1 h2 h3 h4 = search (arith, led_events, drop_there, led_false)
+  pass_on at trace e items new all h1 h2 h3 h4 = search (arith, drop_there, led_false)
 
   -- those of one more trace were added
   pub trace_on : (trace : List Entry) (items new : List Lead) (all : List (ℕ × Event)) → slice_get traces place ≡ Some trace →
       map (lead_event switches traces) new ≡ SoFar items (led_events switches place trace) →
       SoFar items (told_by switches place (drop place traces)) ≡ all → SoFar new (told_by switches (place + 1) (drop (place + 1) traces)) ≡ all
-  trace_on trace items new all h1 h2 h3 = search (arith, told_by, led_events, drop_there, append_assoc, lead_event)
+  trace_on trace items new all h1 h2 h3 = search (arith, drop_there, append_assoc)

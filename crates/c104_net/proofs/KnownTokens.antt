@@ -3,17 +3,16 @@
 use Rattle.{c104_event.specs.declared.{events.Event.Event, faults.EventFault.EventFault}, c104_net.proofs.RunOrigins.terminal_origins}
 use Rattle.c104_net.proofs.{RunSteps.{done_possible, done_step_is}, SentCounts.{AddsSent, IsBounded, bounded_on, counts, low_number}}
 use Rattle.{c104_net.proofs.{SentCounts.{sent_count, step_counts}, SureOrigins.{mapped, sure_sent}}, c104_node.specs.MappedNodes.map_node}
-use Rattle.c104_node.specs.{Nodes.{Node, terminals_of}, Origins.{AreSure, IsSure, origins_in}, Starts.start_node, Tagged.tag}
-use Rattle.c104_node.specs.{Tagged.tagged_origins, Terminals.Terminal, Traced.{sent_token, traced_kind}, Traces.Deed}
-use Rattle.c104_node.specs.declared.{node.NodeOf.NodeOf, origins.Origin.Origin, stamps.Stamp.Stamp, starts.NodeStart.NodeStart}
-use Rattle.{c104_node.specs.declared.{tagged.TaggedToken.TaggedToken, traced.Traced.Traced}, c104_plan.specs.Plans.Plan}
-use Rattle.c104_run.proofs.{NoFaults.node_there, NodeMaps.starts_same, RoundJoins.apply_plan, StepMaps.{IsSentAlike, apply_alike}}
-use Rattle.c104_run.{proofs.TaggedRuns.{IsSmall, origins_same}, specs.{EventDeeds.event_deeds, Network.{Network, event_fault}}}
-use Rattle.c104_run.specs.{Network.{network_apply, network_of, network_step, terminal_place}, Runs.{IsDoneRun, run_deeds}}
-use Rattle.{c104_run.specs.TracedRuns.map_network, c104_switch.specs.Actions.{Reply, is_ready}, c104_token.specs.Kinds.Kind}
-use Rattle.{c104_token.specs.declared.tokens.Token.{TheVariants.Byte, Token}, std.proofs.Common.{List, None, Ok, Result, Some, [], ap}}
-use Rattle.std.proofs.Common.{arith, length, map, refl, slice_get, subst, suc, sym, true, ℕ, ◌%◌, ◌++◌, ◌<◌, ◌∙◌, ◌∷◌, ◌≡◌, ◌≤◌}
-use Rattle.std.{proofs.lemmas.{Bool.true≢false, Option.slice_get-map}, specs.Option.option_map}
+use Rattle.c104_node.specs.{Nodes.{Node, terminals_of}, Origins.{AreSure, IsSure}, Starts.start_node, Tagged.{tag, tagged_origins}}
+use Rattle.c104_node.specs.{Terminals.Terminal, Traced.{sent_token, traced_kind}, Traces.Deed, declared.node.NodeOf.NodeOf}
+use Rattle.c104_node.specs.declared.{origins.Origin.Origin, stamps.Stamp.Stamp, starts.NodeStart.NodeStart, tagged.TaggedToken.TaggedToken}
+use Rattle.{c104_node.specs.declared.traced.Traced.Traced, c104_plan.specs.Plans.Plan, c104_run.proofs.NoFaults.node_there}
+use Rattle.c104_run.proofs.{NodeMaps.starts_same, RoundJoins.apply_plan, StepMaps.{IsSentAlike, apply_alike}, TaggedRuns.IsSmall}
+use Rattle.c104_run.{proofs.TaggedRuns.origins_same, specs.{EventDeeds.event_deeds, Network.{Network, event_fault, network_apply}}}
+use Rattle.c104_run.specs.{Network.{network_of, network_step, terminal_place}, Runs.{IsDoneRun, run_deeds}, TracedRuns.map_network}
+use Rattle.{c104_switch.specs.Actions.{Reply, is_ready}, c104_token.specs.{Kinds.Kind, declared.tokens.Token.{TheVariants.Byte, Token}}}
+use Rattle.std.proofs.Common.{List, None, Ok, Result, Some, [], ap, arith, length, map, refl, slice_get, subst, suc, sym, true, ℕ, ◌%◌}
+use Rattle.std.{proofs.{Common.{◌++◌, ◌<◌, ◌∙◌, ◌∷◌, ◌≡◌, ◌≤◌}, lemmas.{Bool.true≢false, Option.slice_get-map}}, specs.Option.option_map}
 
 -- a token with what is known of it
 abbrev pub Known : Type 0
@@ -104,9 +103,7 @@ tagged_lists t = tagged_origins t.arrived
 known_lists : (nodes : List (Node Known)) → map tagged_lists (terminals_of (map (map_node tag) (map (map_node known_of) nodes))) ≡ map terminal_origins (terminals_of (map (map_node known_of) nodes))
 known_lists [] = refl
 known_lists (NodeOf.Switch s ∷ nodes) = known_lists nodes
-known_lists (NodeOf.Terminal t ∷ nodes) =
-    ap (λ l. l ∷ map tagged_lists (terminals_of (map (map_node tag) (map (map_node known_of) nodes)))) (origins_same (map known_of t.arrived) (all_sure t.arrived) (all_small t.arrived))
-    ∙ ap (λ ls. origins_in (map known_of t.arrived) ∷ ls) (known_lists nodes)
+known_lists (NodeOf.Terminal t ∷ nodes) = search (arith, origins_same, all_sure, all_small, known_lists nodes)
 
 -- what is kept of the tokens that arrived in a run from a start tells the same packets
 pub lists_same : (plan : Plan) (starts : List NodeStart) (stamps : ℕ → Stamp) (events : List (Event × Reply)) (ended : Network Traced) → length plan.terminals ≤ 65536 → IsBounded (counts (map (start_node {A = Traced}) starts)) (run_deeds plan stamps 0 events) → IsDoneRun traced_kind (network_of plan (map start_node starts)) events ended → map tagged_lists (terminals_of (map (map_node tag) ended.nodes)) ≡ map terminal_origins (terminals_of ended.nodes)

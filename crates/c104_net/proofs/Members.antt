@@ -1,7 +1,7 @@
 -- What is in a list, by recursion, and what stands at a place of one.
-use Rattle.std.proofs.Common.{Bool, List, Some, [], ap, arith, false, filter, if◌then◌else◌, inl, inr, length, map, slice_get, subst, suc}
-use Rattle.std.proofs.{Common.{sym, true, zero, ℕ, ⊎_elim, ◌++◌, ◌+◌, ◌<◌, ◌∙◌, ◌∷◌, ◌≡◌, ◌≢◌, ◌≤◌, ◌⊎◌}, lemmas.Bool.cases_eq}
-use Rattle.std.{proofs.lemmas.Option.slice_get_cases, specs.{List.{flat_map, range_with_len}, Prelude.Contains}}
+use Rattle.std.proofs.Common.{Bool, List, Some, [], ap, arith, filter, inl, inr, length, map, slice_get, subst, suc, sym, true, zero, ℕ}
+use Rattle.std.proofs.{Common.{⊎_elim, ◌++◌, ◌+◌, ◌<◌, ◌∙◌, ◌∷◌, ◌≡◌, ◌≢◌, ◌≤◌, ◌⊎◌}, lemmas.{Bool.cases_eq, Option.slice_get_cases}}
+use Rattle.std.specs.{List.{flat_map, range_with_len}, Prelude.Contains}
 
 module _ {X : Type 0} where
   abbrev pub IsIn : X → List X → Type 0
@@ -25,11 +25,7 @@ module _ {X : Type 0} where
   pub in_filter : (p : X → Bool) (x : X) (xs : List X) → IsIn x xs → p x ≡ true → IsIn x (filter p xs)
   in_filter p x [] h k = absurd h
   in_filter p x (y ∷ xs) (inl e) k = let here : p y ≡ true = ap p (sym e) ∙ k in rw here (inl e)
-  in_filter p x (y ∷ xs) (inr h) k = later (p y) (in_filter p x xs h k)
-    where
-      later : (b : Bool) → IsIn x (filter p xs) → IsIn x (if b then y ∷ filter p xs else filter p xs)
-      later true h = inr h
-      later false h = h
+  in_filter p x (y ∷ xs) (inr h) k = search (arith, in_filter p x xs h k)
 
 pub in_map : {X Y : Type 0} (f : X → Y) (x : X) (xs : List X) → IsIn x xs → IsIn (f x) (map f xs)
 in_map f x [] h = absurd h

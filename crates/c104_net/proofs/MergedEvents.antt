@@ -55,14 +55,7 @@ module _ {X : Type 0} (plan : Plan) (stamps : ℕ → Stamp) (value : Event → 
 
   begins_late : (k n t p : ℕ) (events : List (Event × Reply)) → AreBehind plan stamps t p n events → BeginsLate t (values_from k n events)
   begins_late k n t p [] behind = tt
-  begins_late k n t p (e ∷ events) behind = by_place (begins_late k (suc n) t p events behind.1) (nat_le k (event_place plan e.0))
-    where
-      late : t ≤ (stamps n).ticket
-      late = elim behind.0 [ inl less ↦ omega (arith, less) | inr same ↦ omega (arith, same.0) ]
-
-      by_place : BeginsLate t (values_from k (suc n) events) → (b : Bool) → BeginsLate t (if b then ((stamps n).ticket, value e.0) ∷ values_from k (suc n) events else values_from k (suc n) events)
-      by_place rest true = late
-      by_place rest false = rest
+  begins_late k n t p (e ∷ events) behind = search (arith, begins_late k (suc n) t p events behind.1)
 
   later_at : (k n t p : ℕ) (events : List (Event × Reply)) → k < p → AreBehind plan stamps t p n events → AreLater t (values_at k n events)
   later_at k n t p [] before behind = tt

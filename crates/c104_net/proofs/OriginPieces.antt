@@ -1,7 +1,7 @@
 -- The origins of what arrived are those of its whole pieces in turn, and a received packet's piece has that packet's.
 use Rattle.{c104_check.specs.Routes.Routes, c104_net.proofs.{HeaderReads.bytes_push, PacketInvariant.bytes_only}}
-use Rattle.{c104_net.specs.Deliveries.{IsDelivered, cut_at, deletes}, c104_node.specs.Origins.{AreSure, origin_by, origin_of, origins_in}}
-use Rattle.c104_node.specs.{Terminals.{sent_from, sent_tokens}, Traced.traced_kind, declared.{origins.Origin.Origin, traced.Source.Source}}
+use Rattle.{c104_net.specs.Deliveries.IsDelivered, c104_node.specs.Origins.{AreSure, origin_by, origin_of, origins_in}}
+use Rattle.c104_node.specs.{Terminals.sent_from, Traced.traced_kind, declared.{origins.Origin.Origin, traced.Source.Source}}
 use Rattle.{c104_node.specs.declared.traced.Traced.Traced, c104_run.specs.Network.Network, c104_token.specs.Cut.unfinished_piece}
 use Rattle.c104_token.specs.{Cut.whole_pieces, Tokens.{end_token, is_end}, declared.tokens.{Mark.Mark, Token.{TheVariants.Byte, Token}}}
 use Rattle.std.proofs.Common.{List, Some, [], ap, append-nil, append_assoc, arith, drop, false, flat_map, if◌then◌else◌, length, map, refl}
@@ -75,4 +75,4 @@ sent_origin a n j (suc k) (b ∷ bytes) m h = sent_origin a n (suc j) k bytes m 
 
 -- a received packet is named by its one origin
 pub delivered_origin : (routes : Routes) (net : Network Traced) (t : ℕ) (piece : List Traced) (d : IsDelivered routes net t piece) → origins_in piece ≡ packet_origin d.terminal d.number ∷ []
-delivered_origin routes net t piece d = search (arith, origins_in, leb-true, cut_at, sent_tokens, traced_kind, sent_origin, deletes)
+delivered_origin routes net t piece d = search (arith, leb-true, sent_origin)

@@ -10,9 +10,9 @@ use Rattle.{c104_node.specs.declared.starts.NodeStart.NodeStart, c104_plan.specs
 use Rattle.c104_run.{proofs.EventSteps.send_named, specs.{EventDeeds.event_deeds, NetRecords.IsWithinLimit, Network.{Network, network_of}}}
 use Rattle.{c104_run.specs.{Network.{network_step, terminal_place}, Runs.at_node}, c104_switch.specs.Actions.{Reply, is_ready}}
 use Rattle.{c104_switch.specs.declared.actions.ReplyOf.ReplyOf, c104_token.specs.{Kinds.Kind, declared.packets.Packet.Packet}}
-use Rattle.std.proofs.Common.{All, Bool, List, None, Option, Some, [], ap, arith, false, if◌then◌else◌, inl, inr, length, length-append}
-use Rattle.std.proofs.Common.{map, nat_eq, option_map, refl, slice_get, slice_set, subst, suc, sym, true, zero, ℕ, ◌++◌, ◌+◌, ◌∙◌, ◌∷◌, ◌≡◌}
-use Rattle.std.proofs.{Common.◌≤◌, lemmas.{Bool.cases_eq, List.map-set, Option.slice_get-map}}
+use Rattle.std.proofs.Common.{All, List, None, Option, Some, [], ap, arith, inl, inr, length, length-append, map, nat_eq, option_map, refl}
+use Rattle.std.proofs.{Common.{slice_get, slice_set, subst, suc, sym, true, zero, ℕ, ◌++◌, ◌+◌, ◌∙◌, ◌∷◌, ◌≡◌, ◌≤◌}, lemmas.Bool.cases_eq}
+use Rattle.std.proofs.lemmas.{List.map-set, Option.slice_get-map}
 use Rattle.c104_link.specs.Buffers as buffer
 use Rattle.c104_node.specs.Terminals as terminal
 use Rattle.c104_switch.specs.Claims as claims
@@ -92,9 +92,7 @@ module _ {A : Type 0} where
   -- so of the nodes
   set_counts : (nodes : List (Node A)) (i : ℕ) (n m : Node A) → slice_get nodes i ≡ Some n → sent_count m ≡ sent_count n → counts (slice_set nodes i m) ≡ counts nodes
   set_counts [] i n m is keeps = refl
-  set_counts (o ∷ nodes) zero n m is keeps =
-      let same : o ≡ n = cc in
-      ap (λ c. c ∷ counts nodes) (keeps ∙ ap sent_count (sym same))
+  set_counts (o ∷ nodes) zero n m is keeps = search arith
   set_counts (o ∷ nodes) (suc i) n m is keeps = ap (λ cs. sent_count o ∷ cs) (set_counts nodes i n m is keeps)
 
   yield_kept : {Y : Type 0} (nodes : List (Node A)) (i : ℕ) (f : Node A → Option (Y × Node A)) (r : Y × List (Node A)) → yield_step_at nodes i f ≡ Some r → ((n : Node A) (y : Y × Node A) → f n ≡ Some y → sent_count y.1 ≡ sent_count n) → counts r.1 ≡ counts nodes
@@ -117,8 +115,7 @@ module _ {A : Type 0} (kind : Kind A) (plan : Plan) (nodes : List (Node A)) wher
       (λ ns. counts ns ≡ counts nodes) (λ ns k n m here keeps same. set_counts ns k n m here keeps ∙ same) plan nodes e of r is refl
 
   pub step_counts : (e : Event) (r : Reply × Network A) → network_step kind (network_of plan nodes) e ≡ Some r → AddsSent plan e (counts nodes) (counts r.1.nodes)
-  step_counts (Event.Control s bytes) r is = given (yield_step_at nodes s (node_control bytes)) _ r (control_named kind (network_of plan nodes) s bytes ∙ is) (λ v made last.
-      by_last (ReplyOf.Control v.0) v.1 r (λ cs. cs ≡ counts nodes) last (yield_kept nodes s (node_control bytes) v made (control_keeps bytes)))
+  step_counts (Event.Control s bytes) r is = search (arith, given, control_named, by_last, yield_kept, control_keeps)
   step_counts (Event.Send t packet) r is = given (step_at nodes (terminal_place plan t) (node_send kind t packet)) _ r (send_named kind (network_of plan nodes) t packet ∙ is) (λ v made last.
       by_last ReplyOf.Done v r (λ cs. AddsSent plan (Event.Send t packet) (counts nodes) cs) last (at_place_made nodes (terminal_place plan t) (node_send kind t packet) v made (λ n m here step set. (
         sent_count n,
@@ -136,11 +133,7 @@ IsBounded cs ds = (k c : ℕ) → slice_get cs k ≡ Some c → c + length (at_n
 
 at_more : (k : ℕ) (ds rest : List Deed) → length (at_node k rest) ≤ length (at_node k (ds ++ rest))
 at_more k [] rest = omega arith
-at_more k (d ∷ ds) rest = by_place (at_more k ds rest) (nat_eq d.0 k)
-  where
-    by_place : length (at_node k rest) ≤ length (at_node k (ds ++ rest)) → (b : Bool) → length (at_node k rest) ≤ length (if b then d.1 ∷ at_node k (ds ++ rest) else at_node k (ds ++ rest))
-    by_place less true = omega (arith, less)
-    by_place less false = less
+at_more k (d ∷ ds) rest = search (arith, nat_eq, at_more k ds rest)
 
 later : (cs after : List ℕ) (ds rest : List Deed) → after ≡ cs → IsBounded cs (ds ++ rest) → IsBounded after rest
 later cs after ds rest same bound = λ k c at. (let one = bound k c (ap (λ xs. slice_get xs k) (sym same) ∙ at) in let more = at_more k ds rest in omega (arith, one, more))

@@ -30,11 +30,7 @@ module _ {X : Type 0} where
 
   from_join : (t : ℕ) (x : ℕ × X) (ys : List (ℕ × X)) → t ≤ x.0 → AreFrom t ys → AreFrom t (join_by_ticket x ys)
   from_join t x [] first from = (first, tt)
-  from_join t x (y ∷ ys) first from = by_test (from_join t x ys first from.1) (nat_le x.0 y.0)
-    where
-      by_test : AreFrom t (join_by_ticket x ys) → (b : Bool) → AreFrom t (if b then x ∷ y ∷ ys else y ∷ join_by_ticket x ys)
-      by_test rest true = (first, from)
-      by_test rest false = (from.0, rest)
+  from_join t x (y ∷ ys) first from = search (arith, from_join t x ys first from.1)
 
   join_ascends : (x : ℕ × X) (ys : List (ℕ × X)) → Ascend ys → Ascend (join_by_ticket x ys)
   join_ascends x [] up = (tt, tt)
@@ -51,15 +47,7 @@ module _ {X : Type 0} where
   -- a thing that joins stands before those of its ticket
   join_ticket : (t : ℕ) (x : ℕ × X) (ys : List (ℕ × X)) → OfTicket t (join_by_ticket x ys) ≡ OfTicket t (x ∷ ys)
   join_ticket t x [] = refl
-  join_ticket t x (y ∷ ys) = by_test (join_ticket t x ys) (nat_le x.0 y.0) refl (nat_eq t x.0) refl (nat_eq t y.0) refl
-    where
-      by_test : OfTicket t (join_by_ticket x ys) ≡ OfTicket t (x ∷ ys) → (b : Bool) → nat_le x.0 y.0 ≡ b → (c : Bool) → nat_eq t x.0 ≡ c → (d : Bool) → nat_eq t y.0 ≡ d →
-          OfTicket t (if b then x ∷ y ∷ ys else y ∷ join_by_ticket x ys) ≡ (if c then x ∷ (if d then y ∷ OfTicket t ys else OfTicket t ys) else (if d then y ∷ OfTicket t ys else OfTicket t ys))
-      by_test rest true is c at d there = rw (at, there) refl
-      by_test rest false is true at true there = absurd (let no : ⊥ = grind (arith, nat_tests) in no)
-      by_test rest false is true at false there = rw there (rest ∙ rw at refl)
-      by_test rest false is false at true there = rw there (ap (λ zs. y ∷ zs) (rest ∙ rw at refl))
-      by_test rest false is false at false there = rw there (rest ∙ rw at refl)
+  join_ticket t x (y ∷ ys) = search (arith, nat_eq, nat_tests, join_ticket t x ys)
 
   sorted_ticket : (t : ℕ) (xs : List (ℕ × X)) → OfTicket t (by_ticket xs) ≡ OfTicket t xs
   sorted_ticket t [] = refl
@@ -124,11 +112,7 @@ module _ {Y X : Type 0} (f : Y → ℕ × X) where
 
   tickets_from : (t : ℕ) (p : Y → Bool) (ys : List Y) → ((y : Y) → p y ≡ nat_eq t (f y).0) → OfTicket t (map f ys) ≡ map f (filter p ys)
   tickets_from t p [] same = refl
-  tickets_from t p (y ∷ ys) same = by_test (tickets_from t p ys same) (p y) refl
-    where
-      by_test : OfTicket t (map f ys) ≡ map f (filter p ys) → (b : Bool) → p y ≡ b → OfTicket t (map f (y ∷ ys)) ≡ map f (cond b (y ∷ filter p ys) (filter p ys))
-      by_test rest true is = rw (sym (same y) ∙ is) (ap (λ zs. f y ∷ zs) rest)
-      by_test rest false is = rw (sym (same y) ∙ is) rest
+  tickets_from t p (y ∷ ys) same = search (arith, tickets_from t p ys same)
 
   -- a stable sort by ticket, where g makes a thing of any ticket
   pub stable_is : (g : ℕ → Y) → ((t : ℕ) → (f (g t)).0 ≡ t) → (xs ys : List Y) → IsNonDecreasingBy (λ y. (f y).0) ys → IsStableByKey (λ y. (f y).0) nat_cmp xs ys → map f ys ≡ by_ticket (map f xs)
