@@ -181,7 +181,7 @@ module _ (plan : Plan) (image : Image) (labelled : IsLabelled (routes_of plan im
 
   -- what a header does to an output
   header_put : (so : Settings) (b : List Traced) (q q' : Outgoing Traced) → put_header so b q ≡ Some q' → q'.items ≡ (if so.delete_header then q.items else q.items ++ b)
-  header_put so b q q' h1 = grind arith
+  header_put so b q q' e = grind arith
 
   claimed_kept : (s i o : ℕ) (S : Switch Traced) (eS : slice_get nodes s ≡ Some (NodeOf.Switch S)) (free : is_owned S.inputs o ≡ false) (p : Input Traced) (ep : slice_get S.inputs i ≡ Some p) (y : Input Traced × List (Outgoing Traced)) (ph : Phase (List Traced)) → p.phase ≡ ph → input_claim S.settings p S.outputs o ph ≡ Some y → Holds (routes_of plan image) (world_of plan image (slice_set nodes s (NodeOf.Switch (changed S i y.0 y.1))))
   claimed_kept s i o S eS free p ep y (Want b g) e f =

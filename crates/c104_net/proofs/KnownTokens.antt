@@ -22,7 +22,7 @@ abbrev pub known_of : Known → Traced
 known_of x = x.0
 
 small_sent : (t n j : ℕ) (x : Token) → t < 65536 → n < 4294967296 → IsSmall (sent_token t n j x)
-small_sent t n j x h1 h2 = grind arith
+small_sent t n j x terminal number = grind arith
 
 small_none : (x : Token) → IsSmall (record { token = x; source = None })
 small_none x = record { terminal = λ s is. absurd (let no : ⊥ = cc in no); number = λ s is. absurd (let no : ⊥ = cc in no) }
