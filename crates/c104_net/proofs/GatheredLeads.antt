@@ -1,8 +1,8 @@
 -- The entries that lead, as they are gathered.
 use Rattle.{c104_event.specs.declared.events.Event.Event, c104_net.specs.{Leading.{leads, led_events}, Replays.{entry_event, lead_event}}}
 use Rattle.{c104_net.specs.{ToldEvents.told_by, declared.leading.Lead.Lead}, c104_node.proofs.Waiting.drop_there}
-use Rattle.{c104_node.specs.declared.acts.Entry.Entry, std.proofs.Common.{List, Some, [], ap, append_assoc, arith, drop, false, map}}
-use Rattle.std.proofs.{Common.{slice_get, suc, sym, true, ℕ, ◌++◌, ◌+◌, ◌∙◌, ◌∷◌, ◌≡◌}, lemmas.List.map-append}
+use Rattle.{c104_node.specs.declared.acts.Entry.Entry, std.proofs.Common.{List, Some, [], append_assoc, arith, drop, false, map, slice_get}}
+use Rattle.std.proofs.{Common.{true, ℕ, ◌++◌, ◌+◌, ◌∷◌, ◌≡◌}, lemmas.List.map-append}
 
 module _ (switches k : ℕ) where
   -- an entry that leads tells its event first
@@ -24,14 +24,7 @@ module _ (switches : ℕ) (traces : List (List Entry)) (place : ℕ) where
   -- one more that leads was added
   pub add_on : (at : ℕ) (trace : List Entry) (e : Entry) (items new : List Lead) (all : List (ℕ × Event)) → slice_get traces place ≡ Some trace → slice_get trace at ≡ Some e → leads e.act ≡ true → new ≡ items ++ record { ticket = e.ticket; place = place; at = at } ∷ [] →
       SoFar items (led_events switches place (drop at trace)) ≡ all → SoFar new (led_events switches place (drop (at + 1) trace)) ≡ all
-  add_on at trace e items new all there here is added before =
-      let next : suc at ≡ at + 1 = omega arith in
-      let one : ℕ × Event = (e.ticket, entry_event switches place (Some e)) in
-      let rest : List (ℕ × Event) = led_events switches place (drop (at + 1) trace) in
-      let head : led_events switches place (drop at trace) ≡ one ∷ rest = ap (led_events switches place) (drop_there trace at e here) ∙ led_true switches place e (drop (suc at) trace) is ∙ ap (λ i. one ∷ led_events switches place (drop i trace)) next in
-      ap (λ xs. SoFar xs rest) added ∙ ap (λ xs. xs ++ rest) (map-append (lead_event switches traces) items (record { ticket = e.ticket; place = place; at = at } ∷ []))
-      ∙ ap (λ x. (map (lead_event switches traces) items ++ x ∷ []) ++ rest) (lead_at at trace e there here) ∙ append_assoc (map (lead_event switches traces) items) (one ∷ []) rest
-      ∙ ap (SoFar items) (sym head) ∙ before
+  add_on at trace e items new all there here is added before = search (arith, drop_there, led_true, map-append, lead_at, append_assoc)
 
   -- one that doesn't was passed over
   pub pass_on : (at : ℕ) (trace : List Entry) (e : Entry) (items new : List Lead) (all : List (ℕ × Event)) → slice_get trace at ≡ Some e → leads e.act ≡ false → new ≡ items →

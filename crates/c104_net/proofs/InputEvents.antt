@@ -135,7 +135,7 @@ module _ (plan : Plan) (image : Image) (labelled : IsLabelled (routes_of plan im
 
       turn_kept : (word : ℕ) (r : Input Traced × List (Outgoing Traced)) → turn_by_phase traced_kind s0 word p S.outputs p.phase x ≡ Some r → Holds (routes_of plan image) (world_of plan image (slice_set nodes s (NodeOf.Switch (changed S i r.0 r.1))))
       unfolding HoldsWith
-      turn_kept word r f = phase_kept word r p.phase refl f
+      turn_kept word r f = search (arith, phase_kept)
 
   -- the nodes with one switch changed are what an event leaves
   changed_leaves : (net' : Network Traced) (s i : ℕ) (S S' : Switch Traced) (n' : Node Traced) (y : Input Traced × List (Outgoing Traced)) (v : List (Input Traced) × List (Outgoing Traced)) (ended : List (Node Traced)) (r : Reply) → slice_get nodes s ≡ Some (NodeOf.Switch S) →
@@ -171,8 +171,7 @@ module _ (plan : Plan) (image : Image) (labelled : IsLabelled (routes_of plan im
           changed_leaves net' s i S S' n' y v ended r en d1 f3 d0 hv e2 k)))))))
 
   or_false : (a b : Bool) → (a || b) ≡ false → b ≡ false
-  or_false true b h = absurd (true≢false h)
-  or_false false b h = h
+  or_false a b h = search (arith, true≢false)
 
   not_owned : (inputs : List (Input Traced)) (o j : ℕ) → is_owned inputs o ≡ false → part Fresh (λ (z : Input Traced). z.phase) (slice_get inputs j) ≢ Stream o
   not_owned [] o j h = λ e. absurd (cc)

@@ -31,8 +31,7 @@ module _ {X : Type 0} where
   AreLater t (y ∷ ys) = (t < y.0) × AreLater t ys
 
   join_first : (x : ℕ × X) (ys : List (ℕ × X)) → BeginsLate x.0 ys → join_by_ticket x ys ≡ x ∷ ys
-  join_first x [] late = refl
-  join_first x (y ∷ ys) late = let here : nat_le x.0 y.0 ≡ true = grind (arith, nat_tests) in rw here refl
+  join_first x ys late = search (arith, nat_tests)
 
   join_past : (x y : ℕ × X) (ys : List (ℕ × X)) → y.0 < x.0 → join_by_ticket x (y ∷ ys) ≡ y ∷ join_by_ticket x ys
   join_past x y ys past = let there : nat_le x.0 y.0 ≡ false = grind (arith, nat_tests) in rw there refl

@@ -35,8 +35,7 @@ module _ {A : Type 0} (plan : Plan) (is_plan : IsPlan plan) (nodes : List (Node 
 
   -- the node of a port that is wired is of the port's kind
   pub matches : (P Q : Port) (n : Node A) → peer plan P ≡ Some Q → slice_get nodes (end_of plan P).node ≡ Some n → Matches P n
-  matches (Port.Switch s l) Q n w e = matches_switch s l n (switch_inside plan is_plan s l Q w).0 e
-  matches (Port.Terminal t) Q n w e = matches_terminal t n e
+  matches P Q n w e = search (arith, matches_switch, switch_inside, matches_terminal)
 
   -- a terminal's node is one of a terminal of the plan, which has a wire to a switch
   pub host_of : (t : ℕ) (n : Node A) → slice_get nodes (terminal_place plan t) ≡ Some n → (s : ℕ) × (i : ℕ) × (peer plan (Port.Terminal t) ≡ Some (Port.Switch s i))

@@ -4,9 +4,9 @@ use Rattle.c104_net.proofs.{RunOrigins.{IsKeptRun, ends_traced, origins_lent, te
 use Rattle.c104_net.{proofs.SentCounts.bounded_first, specs.{RunOrigins.AreOrigins, TracedEnds.traced_end}}
 use Rattle.c104_node.specs.{MappedNodes.map_node, Nodes.{Node, node_arrived, terminals_of}, Starts.start_node, Tagged.{tag, tagged_kind}}
 use Rattle.c104_node.specs.{Tagged.tagged_origins, TracedRecords.{IsFit, TracedRecord, traced_start, traced_state, traced_trace}}
-use Rattle.c104_node.specs.{Traces.seatless, declared.{acts.Entry.Entry, node.NodeOf.NodeOf, origins.Origin.Origin}}
-use Rattle.c104_node.specs.declared.{starts.NodeStart.NodeStart, tagged.TaggedToken.TaggedToken, traced.Traced.Traced}
-use Rattle.{c104_plan.specs.Plans.{IsPlan, Plan}, c104_run.proofs.{Finishing.terminals_append, RecordedNets.states_shown}}
+use Rattle.c104_node.specs.{Traces.seatless, declared.{acts.Entry.Entry, origins.Origin.Origin, starts.NodeStart.NodeStart}}
+use Rattle.{c104_node.specs.declared.{tagged.TaggedToken.TaggedToken, traced.Traced.Traced}, c104_plan.specs.Plans.{IsPlan, Plan}}
+use Rattle.c104_run.proofs.{Finishing.terminals_append, RecordedNets.states_shown}
 use Rattle.c104_run.specs.{FinishedRecords.{FinishedRecord, record_finish}, MeteredRuns.AreOwnNodes, NetRecords.{IsWithinLimit, NetRecord}}
 use Rattle.c104_run.specs.{Network.{Network, network_of}, RecordedNets.{IsRecordedNet, places_record}, RecordedPlaces.counted_keeps}
 use Rattle.c104_run.specs.{RecordedPlaces.counted_reading, Runs.{at_node, run_deeds}, TracedRuns.{IsTracedRun, map_network}}
@@ -18,12 +18,10 @@ abbrev pub arrived_origins : List TracedRecord → List (List Origin)
 arrived_origins nodes = map tagged_lists (terminals_of (map traced_state nodes))
 
 origins_one : (n : Node TaggedToken) (tokens : List TaggedToken) → Some tokens ≡ node_arrived n → map tagged_lists (terminals_of (n ∷ [])) ≡ tagged_origins tokens ∷ []
-origins_one (NodeOf.Switch s) tokens is = cc
-origins_one (NodeOf.Terminal t) tokens is = let same : tokens ≡ t.arrived = cc in ap (λ ts. tagged_origins ts ∷ []) (sym same)
+origins_one n tokens is = search arith
 
 origins_none : (n : Node TaggedToken) → None ≡ node_arrived n → map tagged_lists (terminals_of (n ∷ [])) ≡ []
-origins_none (NodeOf.Switch s) is = refl
-origins_none (NodeOf.Terminal t) is = cc
+origins_none n is = search arith
 
 -- those of one node more
 next_origins : (nodes : List TracedRecord) (i : ℕ) (n : TracedRecord) → i < length nodes → n ≡ get_or nodes i n → arrived_origins (take (i + 1) nodes) ≡ arrived_origins (take i nodes) ++ map tagged_lists (terminals_of (n.state ∷ []))
