@@ -55,10 +55,7 @@ random_known : (j b : ℕ) → traced_kind.random j (Byte b) ≡ known_of (known
 random_known j b = refl
 
 sent_alike : (t n j : ℕ) (x : Token) → t < 65536 → n < 4294967296 → sent_token t n j x ≡ sent_token (t % 65536) (n % 4294967296) j x
-sent_alike t n j x terminal number =
-    let one : t ≡ t % 65536 = grind (arith, terminal) in
-    let two : n ≡ n % 4294967296 = grind (arith, number) in
-    ap (λ (k : ℕ). sent_token k n j x) one ∙ ap (λ (k : ℕ). sent_token (t % 65536) k j x) two
+sent_alike t n j x terminal number = search arith
 
 -- what an event of such a run sends has small numbers
 alike : (net : Network Known) (e : Event) (r : Reply) (stamp : Stamp) (rest : List Deed) → length net.plan.terminals ≤ 65536 → event_fault net.plan e ≡ None → is_ready r ≡ true → IsBounded (counts (map (map_node known_of) net.nodes)) (event_deeds net.plan stamp e r ++ rest) → IsSentAlike known_of known_kind traced_kind plain_known random_known net e

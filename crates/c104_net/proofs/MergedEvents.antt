@@ -2,9 +2,9 @@
 use Rattle.{c104_event.specs.declared.events.Event.Event, c104_net.specs.{Leading.{events_at, led_events}, Merges.by_ticket}}
 use Rattle.{c104_net.specs.{Merges.join_by_ticket, ToldEvents.{told_by, told_event}}, c104_node.specs.declared.acts.Entry.Entry}
 use Rattle.{c104_node.specs.declared.stamps.Stamp.Stamp, c104_plan.specs.Plans.Plan, c104_run.specs.EventPlaces.event_place}
-use Rattle.{c104_run.specs.Runs.{AreBehind, AreInOrder}, c104_switch.specs.Actions.Reply, std.proofs.Common.{Bool, List, Some, [], ap}}
-use Rattle.std.proofs.Common.{arith, false, if◌then◌else◌, inl, inr, length, map, nat_eq, nat_le, refl, slice_get, subst, suc, sym, true, ℕ}
-use Rattle.std.proofs.{Common.{◌++◌, ◌+◌, ◌<◌, ◌∙◌, ◌∷◌, ◌≡◌, ◌≤◌}, lemmas.Bool.Decides.nat_tests}
+use Rattle.{c104_run.specs.Runs.{AreBehind, AreInOrder}, c104_switch.specs.Actions.Reply, std.proofs.Common.{List, Some, [], ap, arith}}
+use Rattle.std.proofs.Common.{false, if◌then◌else◌, length, map, nat_eq, nat_le, refl, slice_get, subst, suc, sym, true, ℕ, ◌++◌, ◌+◌, ◌<◌}
+use Rattle.std.proofs.{Common.{◌∙◌, ◌∷◌, ◌≡◌, ◌≤◌}, lemmas.Bool.Decides.nat_tests}
 
 -- the event alone, without its reply
 abbrev pub event_alone : Event × Reply → Event
@@ -58,36 +58,12 @@ module _ {X : Type 0} (plan : Plan) (stamps : ℕ → Stamp) (value : Event → 
 
   later_at : (k n t p : ℕ) (events : List (Event × Reply)) → k < p → AreBehind plan stamps t p n events → AreLater t (values_at k n events)
   later_at k n t p [] before behind = tt
-  later_at k n t p (e ∷ events) before behind = by_place (later_at k (suc n) t p events before behind.1) (nat_eq (event_place plan e.0) k) refl
-    where
-      by_place : AreLater t (values_at k (suc n) events) → (b : Bool) → nat_eq (event_place plan e.0) k ≡ b → AreLater t (if b then ((stamps n).ticket, value e.0) ∷ values_at k (suc n) events else values_at k (suc n) events)
-      by_place rest true at =
-          let here : event_place plan e.0 ≡ k = grind (arith, nat_tests) in
-          let later : t < (stamps n).ticket = elim behind.0 [ inl less ↦ less | inr same ↦ absurd (let no : ⊥ = omega (arith, same.1, here, before) in no) ] in
-          (later, rest)
-      by_place rest false at = rest
+  later_at k n t p (e ∷ events) before behind = search (arith, nat_tests, later_at k (suc n) t p events before behind.1)
 
   -- what a place tells joins what the places behind it tell
   merged : (k n : ℕ) (events : List (Event × Reply)) → AreInOrder plan stamps n events → joined (values_at k n events) (values_from (suc k) n events) ≡ values_from k n events
   merged k n [] rising = refl
-  merged k n (e ∷ events) rising = by_place (merged k (suc n) events rising.1) (nat_eq (event_place plan e.0) k) refl (nat_le (suc k) (event_place plan e.0)) refl
-    where
-      here : ℕ × X
-      here = ((stamps n).ticket, value e.0)
-
-      by_place : joined (values_at k (suc n) events) (values_from (suc k) (suc n) events) ≡ values_from k (suc n) events → (at : Bool) → nat_eq (event_place plan e.0) k ≡ at → (past : Bool) → nat_le (suc k) (event_place plan e.0) ≡ past →
-          joined (if at then here ∷ values_at k (suc n) events else values_at k (suc n) events) (if past then here ∷ values_from (suc k) (suc n) events else values_from (suc k) (suc n) events) ≡ values_from k n (e ∷ events)
-      by_place rest true at true past = absurd (let no : ⊥ = grind (arith, nat_tests) in no)
-      by_place rest true at false past =
-          let from : nat_le k (event_place plan e.0) ≡ true = grind (arith, nat_tests) in
-          rw from (ap (join_by_ticket here) rest ∙ join_first here (values_from k (suc n) events) (begins_late k (suc n) here.0 (event_place plan e.0) events rising.0))
-      by_place rest false at true past =
-          let from : nat_le k (event_place plan e.0) ≡ true = grind (arith, nat_tests) in
-          let before : k < event_place plan e.0 = grind (arith, nat_tests) in
-          rw from (joined_past (values_at k (suc n) events) here (values_from (suc k) (suc n) events) (later_at k (suc n) here.0 (event_place plan e.0) events before rising.0) ∙ ap (λ vs. here ∷ vs) rest)
-      by_place rest false at false past =
-          let from : nat_le k (event_place plan e.0) ≡ false = grind (arith, nat_tests) in
-          rw from rest
+  merged k n (e ∷ events) rising = search (arith, nat_tests, join_first, begins_late, joined_past, later_at, merged k (suc n) events rising.1)
 
   -- nothing leads behind all places
   none_from : (k n : ℕ) (events : List (Event × Reply)) → ((i : ℕ) (e : Event × Reply) → slice_get events i ≡ Some e → event_place plan e.0 < k) → values_from k n events ≡ []

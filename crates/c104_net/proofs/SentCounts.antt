@@ -10,15 +10,10 @@ use Rattle.{c104_node.specs.declared.starts.NodeStart.NodeStart, c104_plan.specs
 use Rattle.c104_run.{proofs.EventSteps.send_named, specs.{EventDeeds.event_deeds, NetRecords.IsWithinLimit, Network.{Network, network_of}}}
 use Rattle.{c104_run.specs.{Network.{network_step, terminal_place}, Runs.at_node}, c104_switch.specs.Actions.{Reply, is_ready}}
 use Rattle.{c104_switch.specs.declared.actions.ReplyOf.ReplyOf, c104_token.specs.{Kinds.Kind, declared.packets.Packet.Packet}}
-use Rattle.std.proofs.Common.{All, List, None, Option, Some, [], ap, arith, inl, inr, length, length-append, map, nat_eq, option_map, refl}
-use Rattle.std.proofs.{Common.{slice_get, slice_set, subst, suc, sym, true, zero, ℕ, ◌++◌, ◌+◌, ◌∙◌, ◌∷◌, ◌≡◌, ◌≤◌}, lemmas.Bool.cases_eq}
+use Rattle.std.proofs.Common.{All, List, None, Option, Some, [], ap, arith, length, length-append, map, nat_eq, option_map, refl, slice_get}
+use Rattle.std.proofs.{Common.{slice_set, subst, suc, sym, true, zero, ℕ, ◌++◌, ◌+◌, ◌∙◌, ◌∷◌, ◌≡◌, ◌≤◌}, lemmas.Bool.cases_eq}
 use Rattle.std.proofs.lemmas.{List.map-set, Option.slice_get-map}
-use Rattle.c104_link.specs.Buffers as buffer
 use Rattle.c104_node.specs.Terminals as terminal
-use Rattle.c104_switch.specs.Claims as claims
-use Rattle.c104_switch.specs.Control as controls
-use Rattle.c104_switch.specs.Switch as switch
-use Rattle.c104_switch.specs.Turns as turns
 
 module _ {A : Type 0} where
   abbrev pub sent_count : Node A → ℕ
@@ -31,8 +26,7 @@ module _ {A : Type 0} where
   -- a terminal that has sent as much, and one of which a token comes
   module _ {X : Type 0} (t : terminal.Terminal A) (f : X → terminal.Terminal A) (same : (x : X) → length (f x).sent ≡ length t.sent) where
     made_same : (made : Option X) (m : Node A) → ((made >>= (λ x. Some (f x))) >>= as_terminal) ≡ Some m → sent_count m ≡ length t.sent
-    made_same None m is = cc
-    made_same (Some x) m is = let one : ◌≡◌ {A = Node A} (Terminal (f x)) m = cc in ap sent_count (sym one) ∙ same x
+    made_same made m is = search arith
 
     abbrev taken : (X → A) → X → Option (A × terminal.Terminal A)
     taken g x = Some (g x, f x)
@@ -41,53 +35,35 @@ module _ {A : Type 0} where
     with_terminal v = Some (v.0, Terminal v.1)
 
     yield_same : (g : X → A) (made : Option X) (r : A × Node A) → ((made >>= taken g) >>= with_terminal) ≡ Some r → sent_count r.1 ≡ length t.sent
-    yield_same g None r is = cc
-    yield_same g (Some x) r is = let one : ◌≡◌ {A = A × Node A} (g x, Terminal (f x)) r = cc in ap (λ (r : A × Node A). sent_count r.1) (sym one) ∙ same x
+    yield_same g made r is = search arith
 
   -- each step of one node but Send keeps the number
   leave_keeps : (l : ℕ) (n : Node A) (r : A × Node A) → node_leave l n ≡ Some r → sent_count r.1 ≡ sent_count n
-  leave_keeps l (Switch s) r is = given (switch.switch_leave s l) _ r is (λ v out last.
-      let two : ◌≡◌ {A = A × Node A} (v.0, Switch v.1) r = cc in
-      ap (λ (r : A × Node A). sent_count r.1) (sym two))
-  leave_keeps l (Terminal t) r is = yield_same t (λ (w : A × buffer.Outgoing A). terminal.with_output t w.1) (λ w. refl) (λ w. w.0) (buffer.outgoing_emit t.output) r is
+  leave_keeps l n r is = search (arith, given, yield_same)
 
   enter_keeps : (x : A) (l : ℕ) (n m : Node A) → node_enter x l n ≡ Some m → sent_count m ≡ sent_count n
-  enter_keeps x l (Switch s) m is = given (switch.switch_enter s l x) _ m is (λ s' made last. let two : ◌≡◌ {A = Node A} (Switch s') m = cc in ap sent_count (sym two))
-  enter_keeps x l (Terminal t) m is = made_same t (terminal.with_input t) (λ b. refl) (buffer.incoming_accept x t.input) m is
+  enter_keeps x l n m is = search (arith, given, made_same)
 
   credit_out_keeps : (l : ℕ) (n m : Node A) → node_credit_out l n ≡ Some m → sent_count m ≡ sent_count n
-  credit_out_keeps l (Switch s) m is = given (switch.switch_credit_out s l) _ m is (λ s' made last. let two : ◌≡◌ {A = Node A} (Switch s') m = cc in ap sent_count (sym two))
-  credit_out_keeps l (Terminal t) m is = made_same t (terminal.with_input t) (λ b. refl) (buffer.incoming_grant t.input) m is
+  credit_out_keeps l n m is = search (arith, given, made_same)
 
   credit_in_keeps : (l : ℕ) (n m : Node A) → node_credit_in l n ≡ Some m → sent_count m ≡ sent_count n
-  credit_in_keeps l (Switch s) m is = given (switch.switch_credit_in s l) _ m is (λ s' made last. let two : ◌≡◌ {A = Node A} (Switch s') m = cc in ap sent_count (sym two))
-  credit_in_keeps l (Terminal t) m is = made_same t (terminal.with_output t) (λ b. refl) (buffer.outgoing_credited t.output) m is
+  credit_in_keeps l n m is = search (arith, given, made_same)
 
   input_keeps : (kind : Kind A) (i word : ℕ) (n m : Node A) → node_input kind i word n ≡ Some m → sent_count m ≡ sent_count n
-  input_keeps kind i word (Switch s) m is = given (turns.switch_input kind s i word) _ m is (λ s' made last. let two : ◌≡◌ {A = Node A} (Switch s') m = cc in ap sent_count (sym two))
-  input_keeps kind i word (Terminal t) m is = cc
+  input_keeps kind i word n m is = search (arith, given)
 
   claim_keeps : (i o : ℕ) (n m : Node A) → node_claim i o n ≡ Some m → sent_count m ≡ sent_count n
-  claim_keeps i o (Switch s) m is = given (claims.switch_claim s i o) _ m is (λ s' made last. let two : ◌≡◌ {A = Node A} (Switch s') m = cc in ap sent_count (sym two))
-  claim_keeps i o (Terminal t) m is = cc
+  claim_keeps i o n m is = search (arith, given)
 
   control_keeps : (bytes : List ℕ) (n : Node A) (r : List ℕ × Node A) → node_control bytes n ≡ Some r → sent_count r.1 ≡ sent_count n
-  control_keeps bytes (Switch s) r is =
-      let same : ◌≡◌ {A = List ℕ × Node A} ((controls.switch_control s bytes).0, Switch (controls.switch_control s bytes).1) r = cc in
-      ap (λ (r : List ℕ × Node A). sent_count r.1) (sym same)
-  control_keeps bytes (Terminal t) r is = cc
+  control_keeps bytes n r is = search arith
 
   drain_keeps : (n : Node A) (r : A × Node A) → node_drain n ≡ Some r → sent_count r.1 ≡ sent_count n
-  drain_keeps (Switch s) r is = cc
-  drain_keeps (Terminal t) r is = yield_same t (λ (x : A). record t { input = buffer.without_first t.input; arrived = t.arrived ++ x ∷ [] }) (λ x. refl) (λ x. x) (slice_get t.input.items 0) r is
+  drain_keeps n r is = search (arith, yield_same)
 
   send_adds : (kind : Kind A) (number : ℕ) (packet : Packet) (n m : Node A) → node_send kind number packet n ≡ Some m → sent_count m ≡ suc (sent_count n)
-  send_adds kind number packet (Switch s) m is = cc
-  send_adds kind number packet (Terminal t) m is =
-      let one : ◌≡◌ {A = Node A} (Terminal (terminal.terminal_send kind number packet t)) m = cc in
-      let more : length (t.sent ++ packet ∷ []) ≡ length t.sent + 1 = length-append t.sent (packet ∷ []) in
-      let last : length t.sent + 1 ≡ suc (length t.sent) = omega arith in
-      ap sent_count (sym one) ∙ more ∙ last
+  send_adds kind number packet n m is = search (arith, length-append)
 
   -- so of the nodes
   set_counts : (nodes : List (Node A)) (i : ℕ) (n m : Node A) → slice_get nodes i ≡ Some n → sent_count m ≡ sent_count n → counts (slice_set nodes i m) ≡ counts nodes
@@ -105,9 +81,7 @@ AddsSent plan e before after = after ≡ before
 
 module _ {A : Type 0} (kind : Kind A) (plan : Plan) (nodes : List (Node A)) where
   by_last : (told : Reply) (after : List (Node A)) (r : Reply × Network A) (P : List ℕ → Type 0) → ◌≡◌ {A = Option (Reply × Network A)} (Some (told, network_of plan after)) (Some r) → P (counts after) → P (counts r.1.nodes)
-  by_last told after r P is holds =
-      let same : ◌≡◌ {A = Reply × Network A} (told, network_of plan after) r = cc in
-      subst (λ (r : Reply × Network A). P (counts r.1.nodes)) same holds
+  by_last told after r P is holds = search arith
 
   round_counts : (e : Event) → IsOfRound e → (r : Reply × Network A) → network_step kind (network_of plan nodes) e ≡ Some r → counts r.1.nodes ≡ counts nodes
   round_counts e of r is =
@@ -146,21 +120,7 @@ low_number plan t packet stamp r cs rest c ready bound at =
 
 -- an event that was done keeps them within the limit
 pub bounded_on : (plan : Plan) (e : Event) (stamp : Stamp) (r : Reply) (cs after : List ℕ) (rest : List Deed) → is_ready r ≡ true → AddsSent plan e cs after → IsBounded cs (event_deeds plan stamp e r ++ rest) → IsBounded after rest
-bounded_on plan (Event.Send t packet) stamp r cs after rest ready adds bound = λ k c at.
-    elim (cases_eq (terminal_place plan t) k) [
-      | inl same ↦ subst (λ (j : ℕ). c + length (at_node j rest) ≤ trace_limit) same (
-          let there : slice_get after (terminal_place plan t) ≡ Some (suc adds.0) = ap (λ xs. slice_get xs (terminal_place plan t)) adds.2 ∙ get_set_same cs (terminal_place plan t) adds.0 (suc adds.0) adds.1 in
-          let both : Some c ≡ Some (suc adds.0) = sym at ∙ ap (slice_get after) (sym same) ∙ there in
-          let is : c ≡ suc adds.0 = cc in
-          let low = low_number plan t packet stamp r cs rest adds.0 ready bound adds.1 in
-          omega (arith, low, is))
-      | inr other ↦ (
-          let before : slice_get cs k ≡ Some c = sym (get_set_other cs (terminal_place plan t) k (suc adds.0) other) ∙ ap (λ xs. slice_get xs k) (sym adds.2) ∙ at in
-          let one = bound k c before in
-          let more = at_more k (event_deeds plan stamp (Event.Send t packet) r) rest in
-          omega (arith, one, more))
-    ]
-bounded_on plan e stamp r cs after rest ready adds bound = later cs after (event_deeds plan stamp e r) rest adds bound
+bounded_on plan e stamp r cs after rest ready adds bound = search (arith, cases_eq, get_set_same, low_number, get_set_other, at_more, later)
 
 -- at a start nothing was sent
 none_sent : (A : Type 0) (starts : List NodeStart) (k c : ℕ) → slice_get (counts (map (start_node {A = A}) starts)) k ≡ Some c → c ≡ 0

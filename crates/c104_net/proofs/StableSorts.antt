@@ -1,9 +1,8 @@
 -- A stable sort by ticket: lists that ascend by ticket and have the same things of each ticket in the same order are one
 -- list.
-use Rattle.{c104_net.specs.Merges.{by_ticket, join_by_ticket}, std.proofs.Common.{Bool, List, [], ap, arith, cond, false, filter, get_or}}
-use Rattle.std.proofs.Common.{if◌then◌else◌, length, map, nat_eq, nat_le, nat_lt, not, refl, suc, sym, true, ℕ, ◌&&◌, ◌<◌, ◌==◌, ◌∙◌, ◌∷◌}
-use Rattle.std.{proofs.{Common.{◌≡◌, ◌≤◌}, lemmas.Bool.Decides.nat_tests}, specs.List.Sorted.{IsNonDecreasingBy, IsStableByKey}}
-use Rattle.std.specs.{Ordering.{is_lt, nat_cmp}, declared.cmp.Ordering.TheVariants.{Equal, Greater, Less}}
+use Rattle.{c104_net.specs.Merges.{by_ticket, join_by_ticket}, std.proofs.Common.{Bool, List, [], ap, arith, false, filter, get_or}}
+use Rattle.std.proofs.Common.{if◌then◌else◌, length, map, nat_eq, nat_le, not, refl, suc, sym, true, ℕ, ◌&&◌, ◌<◌, ◌∙◌, ◌∷◌, ◌≡◌, ◌≤◌}
+use Rattle.std.{proofs.lemmas.Bool.Decides.nat_tests, specs.{List.Sorted.{IsNonDecreasingBy, IsStableByKey}, Ordering.{is_lt, nat_cmp}}}
 
 itself : (t : ℕ) → nat_eq t t ≡ true
 itself t = grind (arith, nat_tests)
@@ -34,11 +33,7 @@ module _ {X : Type 0} where
 
   join_ascends : (x : ℕ × X) (ys : List (ℕ × X)) → Ascend ys → Ascend (join_by_ticket x ys)
   join_ascends x [] up = (tt, tt)
-  join_ascends x (y ∷ ys) up = by_test (join_ascends x ys up.1) (nat_le x.0 y.0) refl
-    where
-      by_test : Ascend (join_by_ticket x ys) → (b : Bool) → nat_le x.0 y.0 ≡ b → Ascend (if b then x ∷ y ∷ ys else y ∷ join_by_ticket x ys)
-      by_test rest true is = let first : x.0 ≤ y.0 = grind (arith, nat_tests) in ((first, from_before x.0 y.0 ys first up.0), up)
-      by_test rest false is = (from_join y.0 x ys (grind (arith, nat_tests)) up.0, rest)
+  join_ascends x (y ∷ ys) up = search (arith, nat_tests, from_before, from_join, join_ascends x ys up.1)
 
   sorted_ascends : (xs : List (ℕ × X)) → Ascend (by_ticket xs)
   sorted_ascends [] = tt
@@ -92,12 +87,7 @@ module _ {X : Type 0} where
 
 -- two tickets tie where they are equal
 ties_are : (a b : ℕ) → (not (is_lt (nat_cmp a b)) && not (is_lt (nat_cmp b a))) ≡ nat_eq a b
-ties_are a b = by_less (nat_lt a b) refl (nat_lt b a) refl
-  where
-    by_less : (c : Bool) → nat_lt a b ≡ c → (d : Bool) → nat_lt b a ≡ d → (not (is_lt (cond c Less (cond (a == b) Equal Greater))) && not (is_lt (cond d Less (cond (b == a) Equal Greater)))) ≡ nat_eq a b
-    by_less true is d at = let differs : nat_eq a b ≡ false = grind (arith, nat_tests) in sym differs
-    by_less false is true at = let differs : nat_eq a b ≡ false = grind (arith, nat_tests) in rw differs refl
-    by_less false is false at = let equal : nat_eq a b ≡ true = grind (arith, nat_tests) in let other : nat_eq b a ≡ true = grind (arith, nat_tests) in rw (equal, other) refl
+ties_are a b = search (arith, nat_tests)
 
 -- things of which each gives a ticket and something else
 module _ {Y X : Type 0} (f : Y → ℕ × X) where

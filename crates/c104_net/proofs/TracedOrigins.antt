@@ -10,8 +10,8 @@ use Rattle.c104_run.proofs.{Finishing.terminals_append, RecordedNets.states_show
 use Rattle.c104_run.specs.{FinishedRecords.{FinishedRecord, record_finish}, MeteredRuns.AreOwnNodes, NetRecords.{IsWithinLimit, NetRecord}}
 use Rattle.c104_run.specs.{Network.{Network, network_of}, RecordedNets.{IsRecordedNet, places_record}, RecordedPlaces.counted_keeps}
 use Rattle.c104_run.specs.{RecordedPlaces.counted_reading, Runs.{at_node, run_deeds}, TracedRuns.{IsTracedRun, map_network}}
-use Rattle.std.proofs.Common.{All, List, None, Some, [], ap, append-nil, arith, get_or, inl, inr, length, map, refl, slice_get, subst, suc}
-use Rattle.std.proofs.{Common.{sym, take, zero, ℕ, ◌++◌, ◌+◌, ◌<◌, ◌∙◌, ◌∷◌, ◌≡◌, ◌≤◌}, lemmas.{Bool.cases_eq, List.{map-append, map_more}}}
+use Rattle.std.proofs.Common.{All, List, None, Some, [], ap, append-nil, arith, get_or, length, map, refl, slice_get, subst, suc, sym, take}
+use Rattle.std.proofs.{Common.{zero, ℕ, ◌++◌, ◌+◌, ◌<◌, ◌∙◌, ◌∷◌, ◌≡◌, ◌≤◌}, lemmas.{Bool.cases_eq, List.{map-append, map_more}}}
 
 -- the origins of what arrived at the terminals among nodes
 abbrev pub arrived_origins : List TracedRecord → List (List Origin)
@@ -41,11 +41,7 @@ origins_past nodes i n lists inside is none before =
 
 -- the same of what nodes keep
 pub fit_on : (nodes : List TracedRecord) (i : ℕ) (n : TracedRecord) → slice_get nodes i ≡ Some n → All IsFit n.trace → ((k : ℕ) (m : TracedRecord) → k < i → slice_get nodes k ≡ Some m → All IsFit m.trace) → (k : ℕ) (m : TracedRecord) → k < i + 1 → slice_get nodes k ≡ Some m → All IsFit m.trace
-fit_on nodes i n there fit before = λ k m below at.
-    elim (cases_eq k i) [
-      | inl same ↦ (let one : Some m ≡ Some n = sym at ∙ ap (slice_get nodes) same ∙ there in let is : m ≡ n = cc in subst (λ (x : TracedRecord). All IsFit x.trace) (sym is) fit)
-      | inr differs ↦ before k m (omega (arith, below, differs)) at
-    ]
+fit_on nodes i n there fit before = search (arith, cases_eq)
 
 pub fit_there : (nodes : List TracedRecord) → ((k : ℕ) (m : TracedRecord) → slice_get nodes k ≡ Some m → All IsFit m.trace) → (k : ℕ) (trace : List Entry) → slice_get (map traced_trace nodes) k ≡ Some trace → All IsFitEntry trace
 fit_there [] fit k trace at = cc
