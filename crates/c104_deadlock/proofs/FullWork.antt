@@ -4,11 +4,11 @@ use Rattle.c104_check.specs.{ChannelDependencies.IsNeverRandomized, Routes.{Rout
 use Rattle.{c104_check.specs.declared.ports.SwitchPort.SwitchPort, c104_deadlock.proofs.WorkBounds.{level_more, sum_more, weigh_more}}
 use Rattle.c104_deadlock.specs.HeaderWork.{ahead_at, ahead_by, first_ahead, full_input, full_link, full_node, full_output, full_work}
 use Rattle.c104_deadlock.specs.{HeaderWork.{none_ahead, random_ahead, random_bound, random_work, work}, Work.{header_held, highest_rank}}
-use Rattle.{c104_deadlock.specs.Work.level, c104_link.specs.Buffers.Outgoing, c104_node.specs.{Nodes.Node, declared.node.NodeOf.NodeOf}}
-use Rattle.{c104_plan.specs.{Plans.Plan, Wiring.peer, declared.ports.Port.Port}, c104_regs.specs.declared.settings.Settings.Settings}
-use Rattle.{c104_switch.specs.{Switch.Input, declared.phase.Phase.{Phase, TheVariants.Fresh}}, std.proofs.Common.{List, None, Option, Some}}
-use Rattle.std.proofs.{Common.{arith, false, length, refl, suc, true, zero, ℕ, ⊎_elim, ◌*◌, ◌+◌, ◌-◌, ◌≡◌, ◌≤◌}, Math.Nat.suc-mul}
-use Rattle.std.proofs.{Math.Nat.zero-mul, lemmas.Bool.cases_Bool}
+use Rattle.{c104_deadlock.specs.Work.level, c104_link.specs.Buffers.Outgoing, c104_node.specs.Nodes.Node, c104_plan.specs.Plans.Plan}
+use Rattle.{c104_plan.specs.declared.ports.Port.Port, c104_regs.specs.declared.settings.Settings.Settings, c104_switch.specs.Switch.Input}
+use Rattle.{c104_switch.specs.declared.phase.Phase.{Phase, TheVariants.Fresh}, std.proofs.Common.{List, None, Option, Some, arith, false}}
+use Rattle.std.proofs.{Common.{length, refl, suc, true, zero, ℕ, ⊎_elim, ◌*◌, ◌+◌, ◌≡◌, ◌≤◌}, Math.Nat.{suc-mul, zero-mul}}
+use Rattle.std.proofs.lemmas.Bool.{cases_Bool}
 
 -- By higher ranks
 
@@ -31,26 +31,13 @@ module _ (plan : Plan) (rank high ahead most : SwitchPort → ℕ) (less : (p : 
     first_more s l ph = omega arith
 
     input_more : (s l : ℕ) (p : Input A) → full_input plan rank ahead s l p ≤ full_input plan high most s l p
-    input_more s l p =
-        let far = less (port_of s l) in
-        let here = fewer (port_of s l) in
-        let items = weigh_more (8 * level plan rank (Some (Port.Switch s l)) + 2 + ahead (port_of s l)) (8 * level plan high (Some (Port.Switch s l)) + 2 + most (port_of s l)) (omega (arith, far, here)) p.buffer.items in
-        let header = weigh_more (8 * level plan rank (Some (Port.Switch s l))) (8 * level plan high (Some (Port.Switch s l))) (omega (arith, far)) (header_held p.phase) in
-        let first = first_more s l p.phase in
-        omega (arith, items, header, first)
+    input_more s l p = search (arith, port_of, weigh_more, level, header_held, first_more)
 
     output_more : (q : Option Port) (out : Outgoing A) → full_output plan rank ahead (level plan rank q) (ahead_at plan rank ahead q) out ≤ full_output plan high most (level plan high q) (ahead_at plan high most q) out
-    output_more q out =
-        let far = level_more plan rank high less q in
-        let here = ahead_more q in
-        weigh_more (8 * level plan rank q + 4 + ahead_at plan rank ahead q) (8 * level plan high q + 4 + ahead_at plan high most q) (omega (arith, far, here)) out.items
+    output_more q out = search (arith, level_more, weigh_more, level, ahead_at)
 
     node_more : (k : ℕ) (n : Node A) → full_node plan rank ahead k n ≤ full_node plan high most k n
-    node_more k (NodeOf.Switch S) =
-        let inputs = sum_more (full_input plan rank ahead k) (full_input plan high most k) (input_more k) 0 S.inputs in
-        let outputs = sum_more (full_link plan rank ahead k) (full_link plan high most k) (λ l q. output_more (peer plan (Port.Switch k l)) q) 0 S.outputs in
-        omega (arith, inputs, outputs)
-    node_more k (NodeOf.Terminal T) = let out = output_more (peer plan (Port.Terminal (k - length plan.switches))) T.output in omega (arith, out)
+    node_more k n = search (arith, sum_more, full_input, input_more, full_link, output_more)
 
     full_more : (nodes : List (Node A)) → full_work plan rank ahead nodes ≤ full_work plan high most nodes
     full_more nodes = sum_more (full_node plan rank ahead) (full_node plan high most) node_more 0 nodes

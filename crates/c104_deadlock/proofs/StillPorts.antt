@@ -91,10 +91,7 @@ module _ (routes : Routes) (wired : IsWired routes.peer) where
   module _ (w : World) (g : Ghost) where
     -- an input that has read all of its packet waits for one
     fresh_of : (Q : Port) (ph : Phase (List Traced)) → Suits routes w.book g Q ph → g.rest Q ≡ [] → ph ≡ Fresh
-    fresh_of Q Fresh u e = refl
-    fresh_of Q (Head b) u e = absurd (rw e at u.2)
-    fresh_of Q (Want b l) u e = absurd (rw e at u.1)
-    fresh_of Q ph u e = absurd (rw e at u.0)
+    fresh_of Q ph h1 h2 = grind arith
 
     -- and so does one without a wire
     no_wire : {X : Type 0} (Q : Port) → routes.peer Q ≡ None → (P : Port) × (routes.peer Q ≡ Some P) → X

@@ -8,15 +8,13 @@ use Rattle.c104_run.{proofs.UnreadyEvents.{StandsAt, switch_there, terminal_ther
 use Rattle.c104_run.specs.{Balance.granted_at, Ends.end_of, Network.{network_of, terminal_place}, ReasonMeanings.IsCreditInReason}
 use Rattle.c104_run.specs.{ReasonMeanings.{IsCreditOutReason, IsEnterReason, IsEventReason, IsLeaveReason, IsSaidAt}, Reasons.is_unready}
 use Rattle.c104_run.specs.{Reasons.network_why, Standstill.{IsStarted, IsStartedSwitch, IsStill, IsUnready}, declared.reason.Reason.Reason}
-use Rattle.c104_switch.specs.{Group.is_in_group, Phases.is_want, ReasonMeanings.{IsAcceptReason, IsCreditedReason, IsEmitReason}}
-use Rattle.c104_switch.specs.{ReasonMeanings.{IsGrantReason, IsReason, IsTakeReason}, Switch.{Input, Switch}}
-use Rattle.c104_switch.specs.declared.{actions.ActionOf.ActionOf, phase.Phase.TheVariants.{Stream, Want}}
-use Rattle.c104_switch.specs.declared.unready.Unready.TheVariants.{CreditFull, NoCredit, NoLink, NoRoom, NoRoomForHeader, NoToken}
-use Rattle.c104_switch.specs.declared.unready.Unready.TheVariants.{NotGranted, NotStarted, OutputFull, OutsideGroup, Owned, WantsNothing}
-use Rattle.{c104_switch.specs.declared.unready.Unready.{TheVariants.WantsOutput, Unready}, c104_token.specs.Kinds.Kind}
-use Rattle.std.proofs.Common.{IfSome, IsSomeAnd, List, None, Option, Some, [], ap, arith, false, inl, inr, is_some, length, refl, slice_get}
-use Rattle.std.proofs.{Common.{subst, sym, true, ℕ, ⊎_elim, ◌+◌, ◌<◌, ◌∙◌, ◌∷◌, ◌≡◌, ◌≤◌, ◌⊎◌}, lemmas.Bool.true≢false}
-use Rattle.std.proofs.lemmas.Option.{slice_get_within}
+use Rattle.c104_switch.specs.{Group.is_in_group, Phases.is_want, ReasonMeanings.{IsAcceptReason, IsEmitReason, IsGrantReason, IsReason}}
+use Rattle.c104_switch.specs.{Switch.{Input, Switch}, declared.{actions.ActionOf.ActionOf, phase.Phase.TheVariants.{Stream, Want}}}
+use Rattle.c104_switch.specs.declared.unready.Unready.TheVariants.{NoCredit, NoLink, NoRoom, NoRoomForHeader, NoToken, NotGranted}
+use Rattle.c104_switch.specs.declared.unready.Unready.{TheVariants.{NotStarted, OutsideGroup, Owned, WantsNothing}, Unready}
+use Rattle.{c104_token.specs.Kinds.Kind, std.proofs.Common.{IfSome, IsSomeAnd, List, None, Option, Some, [], ap, arith, false, inl, inr}}
+use Rattle.std.proofs.Common.{is_some, length, refl, slice_get, subst, sym, true, ℕ, ⊎_elim, ◌+◌, ◌<◌, ◌∙◌, ◌∷◌, ◌≡◌, ◌≤◌, ◌⊎◌}
+use Rattle.std.proofs.lemmas.{Bool.true≢false, Option.slice_get_within}
 
 -- what is said of a link that there is
 module _ {A : Type 0} (S : Switch A) (started : IsStartedSwitch S) where
@@ -25,30 +23,20 @@ module _ {A : Type 0} (S : Switch A) (started : IsStartedSwitch S) where
     within h = omega (arith, h, slice_get_within S.inputs l p is_input)
 
     no_grant : (u : Unready) → IsReason S (ActionOf.CreditOut l) u → p.buffer.cap < length p.buffer.items + p.buffer.granted + 8
-    no_grant NoLink r = absurd (within r)
-    no_grant NotStarted r = absurd (true≢false (sym started.started ∙ r))
-    no_grant NoRoom r = rw is_input at r
-    no_grant u r = absurd (rw is_input at r)
+    no_grant u h1 = search (arith, within, true≢false)
 
     no_entry : (x : A) (u : Unready) → IsReason S (ActionOf.Enter l x) u → p.buffer.granted ≡ 0
-    no_entry x NoLink r = absurd (within r)
-    no_entry x NotGranted r = rw is_input at r
-    no_entry x u r = absurd (rw is_input at r)
+    no_entry x u h1 = search (arith, within)
 
   module _ (l : ℕ) (q : Outgoing A) (is_output : slice_get S.outputs l ≡ Some q) where
     beyond : length S.outputs ≤ l → ⊥
     beyond h = omega (arith, h, slice_get_within S.outputs l q is_output)
 
     no_credit : (u : Unready) → IsReason S (ActionOf.CreditIn l) u → 64 < q.credit + 8
-    no_credit NoLink r = absurd (beyond r)
-    no_credit CreditFull r = rw is_output at r
-    no_credit u r = absurd (rw is_output at r)
+    no_credit u h1 = search (arith, beyond)
 
     no_leave : (u : Unready) → IsReason S (ActionOf.Leave l) u → 0 < q.credit → q.items ≡ []
-    no_leave NoLink r some = absurd (beyond r)
-    no_leave NoToken r some = rw is_output at r
-    no_leave NoCredit r some = let k : (0 < length q.items) × (q.credit ≡ 0) = rw is_output at r in absurd (omega (arith, k.1, some))
-    no_leave u r some = absurd (rw is_output at r)
+    no_leave u h1 h2 = search (arith, beyond)
 
   -- an input that takes no turn
   abbrev pub IsStuck : ℕ → Input A → Type 0
@@ -58,12 +46,7 @@ module _ {A : Type 0} (S : Switch A) (started : IsStartedSwitch S) where
       ⊎ ((o : ℕ) × (p.phase ≡ Stream o) × ((q : Outgoing A) → slice_get S.outputs o ≡ Some q → 8 ≤ length q.items)))
 
   no_turn : (l : ℕ) (p : Input A) (is_input : slice_get S.inputs l ≡ Some p) → l < 32 → (u : Unready) → IsReason S (ActionOf.Input l 0) u → IsStuck l p
-  no_turn l p is_input below NoLink r = absurd (⊎_elim (λ (h : length S.settings ≤ l). omega (arith, h, below, started.settings)) (λ h. within l p is_input h) r)
-  no_turn l p is_input below NotStarted r = absurd (true≢false (sym started.started ∙ r))
-  no_turn l p is_input below NoToken r = inl (rw is_input at r)
-  no_turn l p is_input below (WantsOutput g) r = let k : (b : List A) × (p.phase ≡ Want b g) = rw is_input at r in inr (inl (k.0, g, k.1))
-  no_turn l p is_input below (OutputFull o) r = let k : (p.phase ≡ Stream o) × ((q : Outgoing A) → slice_get S.outputs o ≡ Some q → 8 ≤ length q.items) = rw is_input at r in inr (inr (o, k.0, k.1))
-  no_turn l p is_input below u r = absurd (rw is_input at r)
+  no_turn l p is_input h1 u h2 = grind arith
 
   -- an input that wants a link with room gets it, unless another input has it
   no_claim : (i g : ℕ) (b : List A) (p : Input A) (q : Outgoing A) → slice_get S.inputs i ≡ Some p → slice_get S.outputs g ≡ Some q → g < 32 → p.phase ≡ Want b g → q.items ≡ [] → length b ≤ 8 → (u : Unready) → IsReason S (ActionOf.Claim i g) u → (k : ℕ) × (owner : Input A) × (slice_get S.inputs k ≡ Some owner) × (owner.phase ≡ Stream g)
@@ -159,22 +142,7 @@ module _ {A : Type 0} (kind : Kind A) (plan : Plan) (is_plan : IsPlan plan) (nod
 
   -- and so has one whose far end takes no more
   credit_some : (P Q : Port) (c : ℕ) (u : Unready) → peer plan P ≡ Some Q → credit_at nodes (end_of plan P) ≡ Some c → IsSaidAt (network_of plan nodes) IsCreditInReason P u → 0 < c
-  credit_some (Port.Switch s l) Q c u wired has said =
-      let k = link_at s l Q wired in
-      let e : Some k.output.credit ≡ Some c = sym (rw (k.here, k.output_is) refl) ∙ has in
-      let d : k.output.credit ≡ c = cc in
-      let r : IsReason k.switch (ActionOf.CreditIn l) u = rw k.here at said in
-      omega (arith, d, no_credit k.switch k.started_is l k.output k.output_is u r)
-  credit_some (Port.Terminal t) Q c u wired has said =
-      let k = terminal_at t Q wired in
-      let e : Some k.0.output.credit ≡ Some c = sym (rw k.1 refl) ∙ has in
-      let d : k.0.output.credit ≡ c = cc in
-      let full : 64 < k.0.output.credit + 8 = full_of k.0.output u (rw k.1 at said) in
-      omega (arith, d, full)
-    where
-      full_of : (q : Outgoing A) (u : Unready) → IsCreditedReason q u → 64 < q.credit + 8
-      full_of q CreditFull r = r
-      full_of q u r = absurd r
+  credit_some P Q c u h1 h2 h3 = search (arith, link_at, terminal_at)
 
   -- where there is credit, what can't leave isn't there
   none_leaves : (P Q : Port) (c : ℕ) (u : Unready) → peer plan P ≡ Some Q → credit_at nodes (end_of plan P) ≡ Some c → 0 < c → IsSaidAt (network_of plan nodes) IsLeaveReason P u → outs plan nodes P ≡ []
@@ -241,15 +209,7 @@ module _ {A : Type 0} (kind : Kind A) (plan : Plan) (is_plan : IsPlan plan) (nod
 
   -- nothing stands at a terminal
   pub arrived : (t : ℕ) (Q : Port) → peer plan (Port.Terminal t) ≡ Some Q → ins plan nodes (Port.Terminal t) ≡ []
-  arrived t Q wired =
-      let k = terminal_at t Q wired in
-      let r = reason_of (Event.Drain t) (still.drains t (terminal_inside plan is_plan t Q wired)) in
-      let see : ins plan nodes (Port.Terminal t) ≡ k.0.input.items = rw k.1 refl in
-      see ∙ none_of k.0.input r.0.unready (rw k.1 at r.1.1)
-    where
-      none_of : (b : Incoming A) (u : Unready) → IsTakeReason b u → b.items ≡ []
-      none_of b NoToken r = r
-      none_of b u r = absurd r
+  arrived t Q h1 = search (arith, terminal_at, reason_of, terminal_inside, ins)
 
   -- an input with a token wants an output, or streams to one that is full
   pub stuck : (s l : ℕ) (Q : Port) → peer plan (Port.Switch s l) ≡ Some Q →

@@ -5,10 +5,9 @@ use Rattle.c104_deadlock.specs.Work.{highest_rank, level, most_weight, node_room
 use Rattle.{c104_deadlock.specs.Work.weigh, c104_link.{proofs.MadeSteps.given, specs.Buffers.Outgoing}, c104_node.specs.Nodes.Node}
 use Rattle.{c104_node.specs.{Traces.part, declared.node.NodeOf.NodeOf}, c104_plan.specs.{Plans.Plan, Wiring.peer, declared.ports.Port.Port}}
 use Rattle.c104_switch.specs.{Phases.with_header, Rooms.room_left, Switch.{Input, Switch}, Views.{link_view, sides_view}}
-use Rattle.c104_switch.specs.declared.{actions.LinkView.LinkView, phase.Phase.{Phase, TheVariants.{Fresh, Head, Want}}}
-use Rattle.{c104_token.specs.Kinds.Kind, std.proofs.Common.{List, Option, Some, [], ap, arith, inl, inr, length, map, min, refl, slice_get}}
-use Rattle.std.proofs.{Common.{subst, suc, sym, take, zero, ℕ, ⊎_elim, ◌*◌, ◌+◌, ◌-◌, ◌<◌, ◌∙◌, ◌∷◌, ◌≡◌, ◌≤◌, ◌⊎◌}, Math.Nat.add-mul}
-use Rattle.std.proofs.{Math.Nat.{min-eq_left, min-eq_right, suc-mul, zero-mul}, lemmas.{Bool.cases_lt, List.length-map}}
+use Rattle.{c104_switch.specs.declared.{actions.LinkView.LinkView, phase.Phase.{Phase, TheVariants.Fresh}}, c104_token.specs.Kinds.Kind}
+use Rattle.std.proofs.Common.{List, Option, Some, [], ap, arith, length, map, refl, slice_get, subst, suc, sym, take, zero, ℕ, ◌*◌, ◌+◌}
+use Rattle.std.proofs.{Common.{◌-◌, ◌<◌, ◌∙◌, ◌∷◌, ◌≡◌, ◌≤◌}, Math.Nat.{add-mul, suc-mul, zero-mul}, lemmas.List.length-map}
 
 module _ {X : Type 0} where
   pub weigh_more : (a b : ℕ) → a ≤ b → (xs : List X) → weigh a xs ≤ weigh b xs
@@ -55,17 +54,10 @@ module _ (plan : Plan) (rank : SwitchPort → ℕ) where
     none_first ph = refl
 
     pub plain_input : (s l : ℕ) (p : Input A) → (weigh (8 * (rank (port_of s l) + 1) + 2) p.buffer.items + room_left p.buffer) + weigh (8 * (rank (port_of s l) + 1)) (header_held p.phase) ≡ full_input plan rank none_ahead s l p
-    plain_input s l p =
-        let weight : 8 * (rank (port_of s l) + 1) + 2 ≡ 8 * (rank (port_of s l) + 1) + 2 + 0 = omega arith in
-        let items = ap (λ n. weigh n p.buffer.items) weight in
-        let first = none_first p.phase in
-        omega (arith, items, first)
+    plain_input s l p = grind arith
 
     pub plain_output : (q : Option Port) (out : Outgoing A) → weigh (8 * level plan rank q + 4) out.items ≡ full_output plan rank none_ahead (level plan rank q) (ahead_at plan rank none_ahead q) out
-    plain_output q out =
-        let none = none_at q in
-        let weight : 8 * level plan rank q + 4 ≡ 8 * level plan rank q + 4 + ahead_at plan rank none_ahead q = omega (arith, none) in
-        ap (λ n. weigh n out.items) weight
+    plain_output q out = grind arith
 
 -- the bound by tokens and room alone
 module _ (most : ℕ) where
@@ -130,46 +122,18 @@ module _ (plan : Plan) where
 
 -- the length of a header is seen
 pub held_length : {A B : Type 0} (f : A → B) (phase : Phase (List A)) → length (header_held (with_header (map f) phase)) ≡ length (header_held phase)
-held_length f (Head b) = length-map b f
-held_length f (Want b g) = length-map b f
-held_length f phase = refl
-
-le_cases : (a b : ℕ) → (a ≤ b) ⊎ (b ≤ a)
-le_cases a b = ⊎_elim (λ (h : a < b). inl (omega (arith, h))) (λ (h : b ≤ a). inr h) (cases_lt a b)
-
--- numbers that are told up to a limit, and their sum
-module _ (limit : ℕ) where
-  least_low : (n : ℕ) → n ≤ limit → min n limit ≡ n
-  least_low n low = min-eq_left low
-
-  least_high : (n : ℕ) → limit ≤ n → min n limit ≡ limit
-  least_high n high = min-eq_right high
-
-  least_left : (a b : ℕ) → min (min a limit + b) limit ≡ min (a + b) limit
-  least_left a b = ⊎_elim (λ (low : a ≤ limit). ap (λ n. min (n + b) limit) (least_low a low)) (λ (high : limit ≤ a). ap (λ n. min (n + b) limit) (least_high a high) ∙ least_high (limit + b) (omega arith) ∙ sym (least_high (a + b) (omega (arith, high)))) (le_cases a limit)
-
-  least_sum : (a b : ℕ) → min (min a limit + min b limit) limit ≡ min (a + b) limit
-  least_sum a b = ⊎_elim (λ (low : a ≤ limit). ⊎_elim (λ (few : b ≤ limit). ap (λ n. min n limit) (ap (λ n. n + min b limit) (least_low a low) ∙ ap (λ n. a + n) (least_low b few))) (λ (many : limit ≤ b). over a b (ap (λ n. min a limit + n) (least_high b many)) (omega (arith, many))) (le_cases b limit)) (λ (high : limit ≤ a). over_first a b (least_high a high) (omega (arith, high))) (le_cases a limit)
-    where
-      over : (a b : ℕ) → min a limit + min b limit ≡ min a limit + limit → limit ≤ a + b → min (min a limit + min b limit) limit ≡ min (a + b) limit
-      over a b is high = ap (λ n. min n limit) is ∙ least_high (min a limit + limit) (omega arith) ∙ sym (least_high (a + b) high)
-
-      over_first : (a b : ℕ) → min a limit ≡ limit → limit ≤ a + b → min (min a limit + min b limit) limit ≡ min (a + b) limit
-      over_first a b is high = ap (λ n. min (n + min b limit) limit) is ∙ least_high (limit + min b limit) (omega arith) ∙ sym (least_high (a + b) high)
+held_length f phase = search (arith, length-map, phase)
 
 pub told_sum : (a b : ℕ) → told_work (told_work a + told_work b) ≡ told_work (a + b)
-told_sum a b = least_sum 18446744073709551615 a b
+told_sum a b = omega arith
 
 told_left : (a b : ℕ) → told_work (told_work a + b) ≡ told_work (a + b)
-told_left a b = least_left 18446744073709551615 a b
+told_left a b = omega arith
 
 module _ {X : Type 0} where
   -- one element more of a list
   pub one_next : (f : ℕ → X → ℕ) (xs : List X) (i : ℕ) (x : X) (sum one next : ℕ) → slice_get xs i ≡ Some x → sum ≡ told_work (sum_at f 0 (take i xs)) → one ≡ told_work (f i x) → next ≡ told_work (sum + one) → next ≡ told_work (sum_at f 0 (take (i + 1) xs))
-  one_next f xs i x sum one next here so_far this is =
-      let more : sum_at f 0 (take (suc i) xs) ≡ sum_at f 0 (take i xs) + f i x = sum_next f 0 i xs ∙ ap (λ o. sum_at f 0 (take i xs) + part 0 (f (0 + i)) o) here ∙ (let same : 0 + i ≡ i = omega arith in ap (λ k. sum_at f 0 (take i xs) + f k x) same) in
-      let step : suc i ≡ i + 1 = omega arith in
-      is ∙ ap (λ n. told_work (n + one)) so_far ∙ ap (λ n. told_work (told_work (sum_at f 0 (take i xs)) + n)) this ∙ told_sum (sum_at f 0 (take i xs)) (f i x) ∙ ap told_work (sym more) ∙ ap (λ k. told_work (sum_at f 0 (take k xs))) step
+  one_next f xs i x sum one next h1 h2 h3 h4 = search (arith, sum_at, sum_next, told_work)
 
 module _ {X Y : Type 0} where
   -- and of two at a time
@@ -185,10 +149,10 @@ module _ {X Y : Type 0} where
 
 -- what comes in, a header, and what goes out, as they are added
 pub incoming_told : (a b w x : ℕ) → w ≡ told_work a → x ≡ told_work (w + b) → x ≡ told_work (a + b)
-incoming_told a b w x is sum = sum ∙ ap (λ n. told_work (n + b)) is ∙ told_left a b
+incoming_told a b w x is sum = omega (arith, is, sum)
 
 pub added_told : (a b w x y : ℕ) → w ≡ told_work a → x ≡ told_work b → y ≡ told_work (w + x) → y ≡ told_work (a + b)
-added_told a b w x y first second sum = sum ∙ ap (λ n. told_work (n + x)) first ∙ ap (λ n. told_work (told_work a + n)) second ∙ told_sum a b
+added_told a b w x y first second sum = omega (arith, first, second, sum)
 
 -- the two sides of a link, as they are seen
 pub view_parts : {A : Type 0} (kind : Kind A) (S : Switch A) (l : ℕ) (v : LinkView) → link_view kind S l ≡ Some v → (p : Input A) × (q : Outgoing A) × (slice_get S.inputs l ≡ Some p) × (slice_get S.outputs l ≡ Some q) × (sides_view kind S.inputs l p q ≡ v)
@@ -196,4 +160,4 @@ view_parts kind S l v is = given (slice_get S.inputs l) _ v is (λ p ep e1. give
 
 -- told in full where it is below a number that is told
 pub told_below : (n m : ℕ) → told_work n < m → m ≤ 18446744073709551615 → n < m
-told_below n m below within = ⊎_elim (λ (low : n ≤ 18446744073709551615). let same : told_work n ≡ n = least_low 18446744073709551615 n low in subst (λ k. k < m) same below) (λ (high : 18446744073709551615 ≤ n). let same : told_work n ≡ 18446744073709551615 = least_high 18446744073709551615 n high in let over : 18446744073709551615 < m = subst (λ k. k < m) same below in absurd (let no : ⊥ = omega (arith, over, within) in no)) (le_cases n 18446744073709551615)
+told_below n m below within = omega (arith, below, within)

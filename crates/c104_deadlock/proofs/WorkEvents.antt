@@ -5,21 +5,21 @@ use Rattle.c104_deadlock.{proofs.WorkSteps.{leave_work, own, sum_set, turn_work}
 use Rattle.{c104_deadlock.specs.Work.level, c104_event.specs.declared.{events.Event.Event, faults.EventFault.EventFault}}
 use Rattle.c104_link.proofs.MadeSteps.{at_place_made, from_place_made, given, length-at_place, place_after_set, required, with_place_made}
 use Rattle.c104_link.specs.Buffers.{Incoming, Outgoing, incoming_accept, incoming_grant, outgoing_credited, outgoing_emit, outgoing_put}
-use Rattle.c104_link.specs.{Buffers.without_first, Steps.{joint_step_at, step_at, yield_step_at, ◌>>=◌}}
-use Rattle.c104_net.proofs.{JointKeeps.{IsOfRound, IsPlainAsk, asks_plain, round_keeps}, LinkActs.{Matches, credit_out_same, leave_same}}
-use Rattle.{c104_net.proofs.PlanWires.matches, c104_node.proofs.{NamedWires.{nodes_credit, nodes_cross}, NextTokens.first_some}}
-use Rattle.c104_node.specs.Nodes.{Node, is_switch, node_claim, node_credit_in, node_credit_out, node_drain, node_enter, node_input}
-use Rattle.c104_node.specs.{Nodes.node_leave, Terminals.{Terminal, terminal_credit_in, terminal_credit_out, terminal_drain, terminal_enter}}
-use Rattle.c104_node.specs.{Terminals.terminal_leave, declared.crossings.Crossing.{Crossing, TheVariants.{Grant, Token}}}
-use Rattle.{c104_node.specs.declared.node.NodeOf.NodeOf, c104_plan.specs.{Plans.{IsPlan, Plan}, Wiring.peer, declared.ports.Port.Port}}
-use Rattle.{c104_regs.specs.{Settings.header_length, declared.settings.Settings.Settings}, c104_run.proofs.AskCases.{AreCases, of_event}}
-use Rattle.c104_run.proofs.{BalanceWires.peer_back, EventSteps.{claim_named, credit_named, cross_named, drain_named, input_named}}
-use Rattle.c104_run.specs.{Balance.AreInPlace, Ends.end_of, EventActs.{Ask, acts_step, ask_acts}, Network.{Network, network_of}}
-use Rattle.c104_run.specs.{Network.{network_step, terminal_place, told_step, wired_fault}, Standstill.{IsStarted, IsStartedNode}}
-use Rattle.{c104_run.specs.Standstill.IsStartedSwitch, c104_switch.specs.{Actions.Reply, Claims.{input_claim, inputs_claim, put_header}}}
-use Rattle.c104_switch.specs.{Claims.{streaming_input, switch_claim}, Group.is_in_group, Switch.{Input, Switch, input_accept, input_grant}}
-use Rattle.c104_switch.specs.Switch.{is_owned, switch_credit_in, switch_credit_out, switch_enter, switch_leave, with_sides}
-use Rattle.c104_switch.specs.Turns.{header_turn, input_after_token, input_turn, phase_after_token, random_turn, switch_input, turn_by_phase}
+use Rattle.{c104_link.specs.Steps.{joint_step_at, step_at, yield_step_at, ◌>>=◌}, c104_net.proofs.JointKeeps.{IsOfRound, IsPlainAsk}}
+use Rattle.c104_net.proofs.{JointKeeps.{asks_plain, round_keeps}, LinkActs.{Matches, credit_out_same, leave_same}, PlanWires.matches}
+use Rattle.c104_node.{proofs.{NamedWires.{nodes_credit, nodes_cross}, NextTokens.first_some}, specs.Nodes.{Node, is_switch, node_claim}}
+use Rattle.c104_node.specs.Nodes.{node_credit_in, node_credit_out, node_drain, node_enter, node_input, node_leave}
+use Rattle.c104_node.specs.Terminals.{terminal_credit_in, terminal_credit_out, terminal_enter, terminal_leave}
+use Rattle.c104_node.specs.declared.{crossings.Crossing.{Crossing, TheVariants.{Grant, Token}}, node.NodeOf.NodeOf}
+use Rattle.{c104_plan.specs.{Plans.{IsPlan, Plan}, Wiring.peer, declared.ports.Port.Port}, c104_regs.specs.Settings.header_length}
+use Rattle.{c104_regs.specs.declared.settings.Settings.Settings, c104_run.proofs.{AskCases.{AreCases, of_event}, BalanceWires.peer_back}}
+use Rattle.c104_run.{proofs.EventSteps.{claim_named, credit_named, cross_named, drain_named, input_named}, specs.Balance.AreInPlace}
+use Rattle.c104_run.specs.{Ends.end_of, EventActs.{Ask, acts_step, ask_acts}, Network.{Network, network_of, network_step, terminal_place}}
+use Rattle.c104_run.specs.{Network.{told_step, wired_fault}, Standstill.{IsStarted, IsStartedNode, IsStartedSwitch}}
+use Rattle.c104_switch.specs.{Actions.Reply, Claims.{input_claim, inputs_claim, put_header, streaming_input, switch_claim}}
+use Rattle.c104_switch.specs.{Group.is_in_group, Switch.{Input, Switch, input_accept, input_grant, is_owned, switch_credit_in}}
+use Rattle.c104_switch.specs.{Switch.{switch_credit_out, switch_enter, switch_leave, with_sides}, Turns.{header_turn, input_after_token}}
+use Rattle.c104_switch.specs.Turns.{input_turn, phase_after_token, random_turn, switch_input, turn_by_phase}
 use Rattle.c104_switch.specs.declared.{actions.ReplyOf.ReplyOf, phase.Phase.{Phase, TheVariants.{Fresh, Head, Sinking, Stream, Want}}}
 use Rattle.{c104_token.specs.{Kinds.Kind, Tokens.is_end}, std.proofs.Common.{List, Option, Some, [], ap, arith, false, length, map, nat_le}}
 use Rattle.std.proofs.Common.{nat_lt, not, refl, slice_get, slice_set, subst, sym, true, ℕ, ⊎_elim, ◌&&◌, ◌*◌, ◌++◌, ◌+◌, ◌-◌, ◌<◌, ◌∙◌}
@@ -191,16 +191,7 @@ module _ {A : Type 0} where
       (let d : NodeOf.Terminal (record T { input = b }) ≡ m = cc in subst IsStartedNode d (subst (λ n. 8 ≤ n) (sym (accept_cap x T.input b eb)) a))))
 
   leave_started : (l : ℕ) (n : Node A) (r : A × Node A) → node_leave l n ≡ Some r → IsStartedNode n → IsStartedNode r.1
-  leave_started l (NodeOf.Switch S) r e a =
-      given (switch_leave S l) _ r e (λ v f1 f2. given (yield_step_at S.outputs l outgoing_emit) _ v f1 (λ qs g1 g2. from_place_made S.outputs l outgoing_emit qs g1 (λ q y eq ey h2.
-      (let d1 : ◌≡◌ {A = A × Switch A} (y.0, with_sides S (S.inputs, slice_set S.outputs l y.1)) v = ap (λ (z : A × List (Outgoing A)). (z.0, with_sides S (S.inputs, z.1))) h2 ∙ cc in
-      let d : ◌≡◌ {A = A × Node A} (y.0, NodeOf.Switch (with_sides S (S.inputs, slice_set S.outputs l y.1))) r = ap (λ (z : A × Switch A). (z.0, NodeOf.Switch z.1)) d1 ∙ cc in
-      subst (λ (z : A × Node A). IsStartedNode z.1) d (started_outputs S a (slice_set S.outputs l y.1) (length-set S.outputs l y.1))))))
-  leave_started l (NodeOf.Terminal T) r e a =
-      given (terminal_leave T) _ r e (λ v f1 f2. given (outgoing_emit T.output) _ v f1 (λ y ey g2.
-      (let d1 : ◌≡◌ {A = A × Terminal A} (y.0, record T { output = y.1 }) v = cc in
-      let d : ◌≡◌ {A = A × Node A} (y.0, NodeOf.Terminal (record T { output = y.1 })) r = ap (λ (z : A × Terminal A). (z.0, NodeOf.Terminal z.1)) d1 ∙ cc in
-      subst (λ (z : A × Node A). IsStartedNode z.1) d a)))
+  leave_started l n r h1 h2 = search (arith, given, switch_leave, yield_step_at, outgoing_emit, from_place_made, with_sides, length-set, terminal_leave)
 
   credit_out_started : (l : ℕ) (n m : Node A) → node_credit_out l n ≡ Some m → IsStartedNode n → IsStartedNode m
   credit_out_started l (NodeOf.Switch S) m e a =
@@ -212,21 +203,10 @@ module _ {A : Type 0} where
       (let d : NodeOf.Terminal (record T { input = b }) ≡ m = cc in subst IsStartedNode d (subst (λ n. 8 ≤ n) (sym (grant_cap T.input b eb)) a))))
 
   credit_in_started : (l : ℕ) (n m : Node A) → node_credit_in l n ≡ Some m → IsStartedNode n → IsStartedNode m
-  credit_in_started l (NodeOf.Switch S) m e a =
-      given (switch_credit_in S l) _ m e (λ S' f1 f2. given (step_at S.outputs l outgoing_credited) _ S' f1 (λ qs g1 g2. at_place_made S.outputs l outgoing_credited qs g1 (λ q q' eq h1 h2.
-      (let d : NodeOf.Switch (with_sides S (S.inputs, slice_set S.outputs l q')) ≡ m = cc in
-      subst IsStartedNode d (started_outputs S a (slice_set S.outputs l q') (length-set S.outputs l q'))))))
-  credit_in_started l (NodeOf.Terminal T) m e a =
-      given (terminal_credit_in T) _ m e (λ T' f1 f2. given (outgoing_credited T.output) _ T' f1 (λ q eq g2.
-      (let d : NodeOf.Terminal (record T { output = q }) ≡ m = cc in subst IsStartedNode d a)))
+  credit_in_started l n m h1 h2 = search (arith, given, switch_credit_in, step_at, outgoing_credited, at_place_made, with_sides, length-set, terminal_credit_in)
 
   drain_started : (n : Node A) (r : A × Node A) → node_drain n ≡ Some r → IsStartedNode n → IsStartedNode r.1
-  drain_started (NodeOf.Switch S) r e a = absurd (cc)
-  drain_started (NodeOf.Terminal T) r e a = given (terminal_drain T) _ r e (λ z ez g1. given (slice_get T.input.items 0) _ z ez (λ x ex g2.
-      (let T' : Terminal A = record T { input = without_first T.input; arrived = T.arrived ++ x ∷ [] } in
-      let dz : ◌≡◌ {A = A × Terminal A} (x, T') z = cc in
-      let d : ◌≡◌ {A = A × Node A} (x, NodeOf.Terminal T') r = ap (λ (w : A × Terminal A). (w.0, NodeOf.Terminal w.1)) dz ∙ cc in
-      subst (λ (z : A × Node A). IsStartedNode z.1) d a)))
+  drain_started n r h1 h2 = grind arith
 
   -- a turn and a claim keep the capacity of the buffer, and how many outputs there are
   abbrev Keeps : Input A → List (Outgoing A) → Input A × List (Outgoing A) → Type 0
@@ -247,9 +227,7 @@ module _ {A : Type 0} where
   turn_keeps kind t word p qs x Sinking r e = let d : (input_after_token p (phase_after_token kind x Sinking) false false, qs) ≡ r = cc in subst (Keeps p qs) d (refl, refl)
 
   claim_keeps : (settings : List Settings) (p : Input A) (qs : List (Outgoing A)) (o : ℕ) (ph : Phase (List A)) (r : Input A × List (Outgoing A)) → input_claim settings p qs o ph ≡ Some r → Keeps p qs r
-  claim_keeps settings p qs o (Want b g) r e = required (is_in_group settings g o) _ r e (λ group f0. given (slice_get settings o) _ r f0 (λ t et f1. given (step_at qs o (put_header t b)) _ r f1 (λ rs f2 f3.
-      (let d : (streaming_input p o, rs) ≡ r = cc in subst (Keeps p qs) d (refl, length-at_place qs o (put_header t b) rs f2)))))
-  claim_keeps settings p qs o ph r e = absurd (cc)
+  claim_keeps settings p qs o ph r h1 = search (arith, settings, required, is_in_group, given, step_at, put_header, streaming_input, length-at_place)
 
   input_started : (kind : Kind A) (i word : ℕ) (n m : Node A) → node_input kind i word n ≡ Some m → IsStartedNode n → IsStartedNode m
   input_started kind i word (NodeOf.Terminal T) m e a = absurd (cc)

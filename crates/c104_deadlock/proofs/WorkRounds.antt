@@ -22,9 +22,7 @@ of_round : (plan : Plan) → AllByRecursion IsOfRound (round plan)
 of_round plan = each_of_round plan IsOfRound (λ p q wire. tt) (λ p q wire. tt) (λ s l q wire. tt) (λ s i o inside input output. tt) (λ t inside. tt)
 
 may_happen : (routes : Routes) (e : Event) (r : Reply) → IsOfRound e → MayHappen routes e r
-may_happen routes (Event.Send t p) r of = absurd of
-may_happen routes (Event.Control s bytes) r of = absurd of
-may_happen routes e r of = tt
+may_happen routes e r h1 = grind arith
 
 sends_none : (e : Event) → IsOfRound e → SendsBytes e
 sends_none (Event.Send t p) of = absurd of

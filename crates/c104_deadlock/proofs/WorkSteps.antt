@@ -1,24 +1,23 @@
 -- Each event of a round that is done leaves less work.
-use Rattle.{c104_check.specs.{Walks.port_of, declared.ports.SwitchPort.SwitchPort}, c104_deadlock.proofs.WorkBounds.weigh_is}
-use Rattle.c104_deadlock.specs.HeaderWork.{ahead_at, first_ahead, full_incoming, full_input, full_inputs, full_link, full_node, full_output}
-use Rattle.{c104_deadlock.specs.{HeaderWork.full_outputs, Work.{header_held, level, sum_at, weigh}}, c104_interval.specs.Selection.select}
-use Rattle.{c104_interval.specs.declared.intervals.Select.{Select, TheVariants.Link}, c104_link.proofs.MadeSteps.at_place_made}
-use Rattle.c104_link.{proofs.MadeSteps.{from_place_made, given, required}, specs.Buffers.{Incoming, Outgoing, incoming_accept}}
-use Rattle.c104_link.specs.Buffers.{incoming_grant, outgoing_credited, outgoing_emit, outgoing_put, outgoing_put_all, without_first}
-use Rattle.{c104_link.specs.Steps.{step_at, yield_step_at}, c104_net.proofs.LinkActs.Matches, c104_node.proofs.NextTokens.first_some}
-use Rattle.c104_node.specs.{Nodes.{Node, node_credit_in, node_credit_out, node_drain, node_enter, node_leave}, Terminals.Terminal}
-use Rattle.c104_node.specs.Terminals.{terminal_credit_in, terminal_credit_out, terminal_drain, terminal_enter, terminal_leave, with_input}
-use Rattle.{c104_node.specs.{Terminals.with_output, declared.node.NodeOf.NodeOf}, c104_plan.specs.{Plans.Plan, Wiring.peer}}
-use Rattle.{c104_plan.specs.declared.ports.Port.Port, c104_regs.specs.{Settings.header_length, declared.settings.Settings.Settings}}
-use Rattle.{c104_run.specs.{Ends.end_of, Network.terminal_place}, c104_switch.specs.Claims.{input_claim, put_header, streaming_input}}
-use Rattle.c104_switch.specs.{Group.is_in_group, Headers.{decided_phase, header_value, is_sink, phase_after_header, random_header}}
-use Rattle.c104_switch.specs.Switch.{Input, Switch, input_accept, input_grant, switch_credit_in, switch_credit_out, switch_enter}
-use Rattle.c104_switch.specs.{Switch.{switch_leave, with_buffer, with_inputs, with_outputs}, Turns.{header_turn, input_after_token}}
-use Rattle.c104_switch.specs.{Turns.{phase_after_token, random_turn, turn_by_phase}, declared.phase.Phase.{Phase, TheVariants.Fresh}}
-use Rattle.{c104_switch.specs.declared.phase.Phase.TheVariants.{Head, Sinking, Stream, Want}, c104_token.specs.{Kinds.Kind, Tokens.is_end}}
-use Rattle.std.proofs.Common.{Bool, List, Some, [], ap, arith, drop, false, length, length-append, nat_le, nat_lt, not, refl, slice_get}
-use Rattle.std.proofs.Common.{slice_set, subst, suc, sym, true, zero, ℕ, ⊎_elim, ◌&&◌, ◌*◌, ◌++◌, ◌+◌, ◌-◌, ◌<◌, ◌∙◌, ◌∷◌, ◌≡◌, ◌≤◌}
-use Rattle.std.proofs.lemmas.Bool.{Decides.nat_tests, and_parts, cases_Bool, le-leb, leb-true}
+use Rattle.{c104_check.specs.{Walks.port_of, declared.ports.SwitchPort.SwitchPort}, c104_deadlock.specs.HeaderWork.{ahead_at, first_ahead}}
+use Rattle.c104_deadlock.specs.HeaderWork.{full_incoming, full_input, full_inputs, full_link, full_node, full_output, full_outputs}
+use Rattle.{c104_deadlock.specs.Work.{header_held, level, sum_at, weigh}, c104_interval.specs.declared.intervals.Select.Select}
+use Rattle.{c104_interval.specs.declared.intervals.Select.TheVariants.Link, c104_link.proofs.MadeSteps.{at_place_made, from_place_made}}
+use Rattle.c104_link.{proofs.MadeSteps.{given, required}, specs.Buffers.{Incoming, Outgoing, incoming_accept, incoming_grant}}
+use Rattle.c104_link.specs.{Buffers.{outgoing_credited, outgoing_emit, outgoing_put, outgoing_put_all, without_first}, Steps.step_at}
+use Rattle.{c104_link.specs.Steps.yield_step_at, c104_net.proofs.LinkActs.Matches, c104_node.specs.Nodes.{Node, node_credit_in}}
+use Rattle.c104_node.specs.{Nodes.{node_credit_out, node_drain, node_enter, node_leave}, Terminals.{Terminal, terminal_credit_in}}
+use Rattle.c104_node.specs.Terminals.{terminal_credit_out, terminal_enter, terminal_leave, with_input, with_output}
+use Rattle.{c104_node.specs.declared.node.NodeOf.NodeOf, c104_plan.specs.{Plans.Plan, Wiring.peer, declared.ports.Port.Port}}
+use Rattle.{c104_regs.specs.{Settings.header_length, declared.settings.Settings.Settings}, c104_run.specs.Ends.end_of}
+use Rattle.{c104_run.specs.Network.terminal_place, c104_switch.specs.{Claims.{input_claim, put_header, streaming_input}, Group.is_in_group}}
+use Rattle.c104_switch.specs.{Headers.{decided_phase, phase_after_header, random_header}, Switch.{Input, Switch, input_accept, input_grant}}
+use Rattle.c104_switch.specs.Switch.{switch_credit_in, switch_credit_out, switch_enter, switch_leave, with_buffer, with_inputs}
+use Rattle.c104_switch.specs.{Switch.with_outputs, Turns.{header_turn, input_after_token, phase_after_token, random_turn, turn_by_phase}}
+use Rattle.{c104_switch.specs.declared.phase.Phase.{Phase, TheVariants.{Fresh, Head, Sinking, Stream, Want}}, c104_token.specs.Kinds.Kind}
+use Rattle.{c104_token.specs.Tokens.is_end, std.proofs.Common.{Bool, List, Some, [], ap, arith, drop, false, length, length-append, nat_le}}
+use Rattle.std.proofs.Common.{nat_lt, not, refl, slice_get, slice_set, subst, suc, sym, true, zero, ℕ, ⊎_elim, ◌&&◌, ◌*◌, ◌++◌, ◌+◌, ◌-◌}
+use Rattle.std.proofs.{Common.{◌<◌, ◌∙◌, ◌∷◌, ◌≡◌, ◌≤◌}, lemmas.Bool.{Decides.nat_tests, and_parts, cases_Bool}}
 
 module _ {X : Type 0} where
   pub weigh-append : (a : ℕ) (xs ys : List X) → weigh a (xs ++ ys) ≡ weigh a xs + weigh a ys
@@ -66,28 +65,16 @@ module _ (plan : Plan) where
 module _ {A : Type 0} (plan : Plan) (rank ahead : SwitchPort → ℕ) where
   -- a buffer that takes a token in, or grants, or loses its first token
   accept_work : (far a : ℕ) (x : A) (b c : Incoming A) → incoming_accept x b ≡ Some c → full_incoming plan rank ahead far a c ≡ full_incoming plan rank ahead far a b + (8 * far + 2 + a)
-  accept_work far a x b c e = required (nat_lt 0 b.granted) _ c e (λ h f.
-      (let d : record { cap = b.cap; items = b.items ++ x ∷ []; granted = b.granted - 1 } ≡ c = cc in
-      let some : 0 < b.granted = grind (arith, nat_tests) in
-      let long = length-append b.items (x ∷ []) in
-      let heavy = weigh-append (8 * far + 2 + a) b.items (x ∷ []) in
-      subst (λ z. full_incoming plan rank ahead far a z ≡ full_incoming plan rank ahead far a b + (8 * far + 2 + a)) d (omega (arith, some, long, heavy))))
+  accept_work far a x b c h1 = search (arith, required, nat_tests, length-append, weigh-append, full_incoming)
 
   grant_work : (far a : ℕ) (b c : Incoming A) → incoming_grant b ≡ Some c → full_incoming plan rank ahead far a c + 8 ≡ full_incoming plan rank ahead far a b
-  grant_work far a b c e = required (nat_le (length b.items + b.granted + 8) b.cap) _ c e (λ h f.
-      (let d : record { cap = b.cap; items = b.items; granted = b.granted + 8 } ≡ c = cc in
-      let fits : length b.items + b.granted + 8 ≤ b.cap = leb-true (length b.items + b.granted + 8) b.cap h in
-      subst (λ z. full_incoming plan rank ahead far a z + 8 ≡ full_incoming plan rank ahead far a b) d (omega (arith, fits))))
+  grant_work far a b c h1 = grind arith
 
   first_work : (far a : ℕ) (x : A) (b : Incoming A) → b.items ≡ x ∷ drop 1 b.items → full_incoming plan rank ahead far a (without_first b) + (8 * far + 2 + a) ≤ full_incoming plan rank ahead far a b + 1
   first_work far a x b e = rw e (omega arith)
 
   emit_work : (far a : ℕ) (q : Outgoing A) (r : A × Outgoing A) → outgoing_emit q ≡ Some r → full_output plan rank ahead far a r.1 + (8 * far + 4 + a) ≡ full_output plan rank ahead far a q
-  emit_work far a q r e = given (slice_get q.items 0) _ r e (λ x ex f. required (nat_lt 0 q.credit) _ r f (λ h f2.
-      (let d : (x, record { items = drop 1 q.items; credit = q.credit - 1 }) ≡ r = cc in
-      let first : q.items ≡ x ∷ drop 1 q.items = first_some q.items x ex in
-      let heavy : weigh (8 * far + 4 + a) q.items ≡ (8 * far + 4 + a) + weigh (8 * far + 4 + a) (drop 1 q.items) = ap (weigh (8 * far + 4 + a)) first in
-      subst (λ (z : A × Outgoing A). full_output plan rank ahead far a z.1 + (8 * far + 4 + a) ≡ full_output plan rank ahead far a q) d (omega (arith, heavy)))))
+  emit_work far a q r h1 = grind arith
 
   credited_work : (far a : ℕ) (q r : Outgoing A) → outgoing_credited q ≡ Some r → full_output plan rank ahead far a r ≡ full_output plan rank ahead far a q
   credited_work far a q r e = required (nat_le (q.credit + 8) 64) _ r e (λ h f. (let d : record { items = q.items; credit = q.credit + 8 } ≡ r = cc in subst (λ z. full_output plan rank ahead far a z ≡ full_output plan rank ahead far a q) d refl))
@@ -162,13 +149,7 @@ module _ {A : Type 0} (plan : Plan) (rank ahead : SwitchPort → ℕ) where
   credit_in_work P n m k e = absurd k
 
   pub drain_work : (k : ℕ) (n : Node A) (r : A × Node A) → node_drain n ≡ Some r → full_node plan rank ahead k r.1 + 1 ≤ full_node plan rank ahead k n
-  drain_work k (NodeOf.Switch S) r e = absurd (cc)
-  drain_work k (NodeOf.Terminal T) r e = given (terminal_drain T) _ r e (λ z ez g1. given (slice_get T.input.items 0) _ z ez (λ x ex g2.
-      (let T' : Terminal A = record T { input = without_first T.input; arrived = T.arrived ++ x ∷ [] } in
-      let dz : ◌≡◌ {A = A × Terminal A} (x, T') z = cc in
-      let d : ◌≡◌ {A = A × Node A} (x, NodeOf.Terminal T') r = ap (λ (w : A × Terminal A). (w.0, NodeOf.Terminal w.1)) dz ∙ cc in
-      let one = first_work 0 0 x T.input (first_some T.input.items x ex) in
-      subst (λ (z : A × Node A). full_node plan rank ahead k z.1 + 1 ≤ full_node plan rank ahead k (NodeOf.Terminal T)) d (omega (arith, one)))))
+  drain_work k n r h1 = grind arith
 
   module _ (kind : Kind A) (s i : ℕ) where
     abbrev far : ℕ
@@ -195,10 +176,7 @@ module _ {A : Type 0} (plan : Plan) (rank ahead : SwitchPort → ℕ) where
 
     -- what is kept of a header after one more token of it
     held_after : (c : ℕ) (t : Settings) (b : List A) → weigh c (header_held (phase_after_header kind t b).0) ≤ weigh c b
-    held_after c t b = ⊎_elim
-        (λ (h : nat_le (header_length t) (length b) ≡ true). rw h (held_decided c b (select t.table (header_value kind b))))
-        (λ (h : nat_le (header_length t) (length b) ≡ false). rw h (omega arith))
-        (cases_Bool (nat_le (header_length t) (length b)))
+    held_after c t b = grind arith
 
     -- an input after its first token, in any phase that holds no more than this
     used_work : (p : Input A) (x : A) (phase : Phase (List A)) (sunk short : Bool) → p.buffer.items ≡ x ∷ drop 1 p.buffer.items → full_input plan rank ahead s i (input_after_token p phase sunk short) + (8 * far + 2 + a) + weigh (8 * far) (header_held p.phase) + waits p.phase ≤ full_input plan rank ahead s i p + 1 + weigh (8 * far) (header_held phase) + waits phase
@@ -221,19 +199,7 @@ module _ {A : Type 0} (plan : Plan) (rank ahead : SwitchPort → ℕ) where
     random_long t word = ⊎_elim (λ (h : t.two_byte ≡ true). rw h refl) (λ (h : t.two_byte ≡ false). rw h refl) (cases_Bool t.two_byte)
 
     random_turn_work : (t : Settings) (word : ℕ) (p : Input A) → p.phase ≡ Fresh → a ≡ header_length t * (8 * far) + 1 → full_input plan rank ahead s i (random_turn kind t word p) + 1 ≤ full_input plan rank ahead s i p
-    random_turn_work t word p is pays =
-        let rs = random_header kind t word in
-        let sel = select t.table (header_value kind rs) in
-        let long = random_long t word in
-        let after : phase_after_header kind t rs ≡ (decided_phase rs sel, is_sink sel) = rw (le-leb (header_length t) (length rs) (omega (arith, long))) refl in
-        let phase : (random_turn kind t word p).phase ≡ decided_phase rs sel = ap (λ (z : Phase (List A) × Bool). z.0) after in
-        let held = held_decided (8 * far) rs sel in
-        let heavy : weigh (8 * far) rs ≡ header_length t * (8 * far) = sym (weigh_is (8 * far) rs) ∙ ap (λ n. n * (8 * far)) long in
-        let gone : waits (random_turn kind t word p).phase ≡ 0 = ap waits phase ∙ waits_decided rs sel in
-        let kept : weigh (8 * far) (header_held (random_turn kind t word p).phase) ≡ weigh (8 * far) (header_held (decided_phase rs sel)) = ap (λ z. weigh (8 * far) (header_held z)) phase in
-        let was : waits p.phase ≡ a = ap waits is in
-        let none : weigh (8 * far) (header_held p.phase) ≡ 0 = ap (λ z. weigh (8 * far) (header_held z)) is in
-        omega (arith, held, heavy, gone, kept, was, none, pays)
+    random_turn_work t word p h1 h2 = grind arith
 
     -- what an input and the outputs leave
     abbrev pub IsLess : Input A → List (Outgoing A) → Input A × List (Outgoing A) → Type 0
