@@ -2,13 +2,12 @@
 -- packets the work that is left.
 use Rattle.c104_check.specs.{ChannelDependencies.IsNeverRandomized, Routes.{Routes, link_settings}, Walks.port_of}
 use Rattle.{c104_check.specs.declared.ports.SwitchPort.SwitchPort, c104_deadlock.proofs.WorkBounds.{level_more, sum_more, weigh_more}}
-use Rattle.c104_deadlock.specs.HeaderWork.{ahead_at, ahead_by, first_ahead, full_input, full_link, full_node, full_output, full_work}
-use Rattle.c104_deadlock.specs.{HeaderWork.{none_ahead, random_ahead, random_bound, random_work, work}, Work.{header_held, highest_rank}}
-use Rattle.{c104_deadlock.specs.Work.level, c104_link.specs.Buffers.Outgoing, c104_node.specs.Nodes.Node, c104_plan.specs.Plans.Plan}
-use Rattle.{c104_plan.specs.declared.ports.Port.Port, c104_regs.specs.declared.settings.Settings.Settings, c104_switch.specs.Switch.Input}
-use Rattle.{c104_switch.specs.declared.phase.Phase.{Phase, TheVariants.Fresh}, std.proofs.Common.{List, None, Option, Some, arith, false}}
-use Rattle.std.proofs.{Common.{length, refl, suc, true, zero, ℕ, ⊎_elim, ◌*◌, ◌+◌, ◌≡◌, ◌≤◌}, Math.Nat.{suc-mul, zero-mul}}
-use Rattle.std.proofs.lemmas.Bool.{cases_Bool}
+use Rattle.c104_deadlock.specs.HeaderWork.{ahead_at, ahead_by, first_ahead, full_input, full_node, full_output, full_work, none_ahead}
+use Rattle.c104_deadlock.specs.{HeaderWork.{random_ahead, random_bound, random_work, work}, Work.{highest_rank, level}}
+use Rattle.{c104_link.specs.Buffers.Outgoing, c104_node.specs.Nodes.Node, c104_plan.specs.{Plans.Plan, declared.ports.Port.Port}}
+use Rattle.{c104_regs.specs.declared.settings.Settings.Settings, c104_switch.specs.{Switch.Input, declared.phase.Phase.Phase}}
+use Rattle.{c104_switch.specs.declared.phase.Phase.TheVariants.Fresh, std.proofs.Common.{List, None, Option, Some, arith, false, length}}
+use Rattle.std.proofs.{Common.{refl, suc, true, zero, ℕ, ⊎_elim, ◌*◌, ◌+◌, ◌≡◌, ◌≤◌}, Math.Nat.{suc-mul, zero-mul}, lemmas.Bool.cases_Bool}
 
 -- By higher ranks
 
@@ -31,13 +30,13 @@ module _ (plan : Plan) (rank high ahead most : SwitchPort → ℕ) (less : (p : 
     first_more s l ph = omega arith
 
     input_more : (s l : ℕ) (p : Input A) → full_input plan rank ahead s l p ≤ full_input plan high most s l p
-    input_more s l p = search (arith, port_of, weigh_more, level, header_held, first_more)
+    input_more s l p = search (arith, weigh_more, first_more)
 
     output_more : (q : Option Port) (out : Outgoing A) → full_output plan rank ahead (level plan rank q) (ahead_at plan rank ahead q) out ≤ full_output plan high most (level plan high q) (ahead_at plan high most q) out
-    output_more q out = search (arith, level_more, weigh_more, level, ahead_at)
+    output_more q out = search (arith, level_more, weigh_more)
 
     node_more : (k : ℕ) (n : Node A) → full_node plan rank ahead k n ≤ full_node plan high most k n
-    node_more k n = search (arith, sum_more, full_input, input_more, full_link, output_more)
+    node_more k n = search (arith, sum_more, input_more, output_more)
 
     full_more : (nodes : List (Node A)) → full_work plan rank ahead nodes ≤ full_work plan high most nodes
     full_more nodes = sum_more (full_node plan rank ahead) (full_node plan high most) node_more 0 nodes

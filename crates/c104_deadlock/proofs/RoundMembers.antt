@@ -5,9 +5,9 @@ use Rattle.{c104_plan.specs.{Plans.{IsPlan, Plan}, Wiring.peer, declared.ports.P
 use Rattle.c104_run.{proofs.{BalanceWires.terminal_inside, PartRuns.{single, singles}, RoundLists.links_passed}, specs.Network.Network}
 use Rattle.c104_run.specs.Rounds.{all_claims, all_drains, claims_of, is_wired, link_numbers, round, switch_claims, turn_at, wired_links}
 use Rattle.c104_run.specs.{Rounds.{wired_ports, wired_terminals}, Standstill.{IsStill, IsUnready, StandsStill}}
-use Rattle.{c104_token.specs.Kinds.Kind, std.proofs.Common.{List, None, Option, Some, [], ap, arith, filter, if◌then◌else◌, inl, is_some}}
-use Rattle.std.proofs.{Common.{length, map, refl, subst, sym, ℕ, ◌++◌, ◌+◌, ◌<◌, ◌∷◌, ◌≡◌}, lemmas.Grind.flat_map-append}
-use Rattle.std.{proofs.lemmas.List.Elements.All-contains, specs.List.{AllByRecursion, flat_map, range_with_len}}
+use Rattle.{c104_token.specs.Kinds.Kind, std.proofs.Common.{List, Some, [], ap, arith, filter, inl, is_some, length, map, refl, subst, sym}}
+use Rattle.std.proofs.{Common.{ℕ, ◌++◌, ◌<◌, ◌∷◌, ◌≡◌}, lemmas.{Grind.flat_map-append, List.Elements.All-contains}}
+use Rattle.std.specs.List.{AllByRecursion, flat_map, range_with_len}
 
 in_links : (l : ℕ) → l < 32 → IsIn l link_numbers
 in_links l below = subst (IsIn l) (links_passed 32 refl) (in_range 0 32 l (omega arith) (omega (arith, below)))
@@ -40,12 +40,10 @@ module _ (plan : Plan) (is_plan : IsPlan plan) where
   drains = all_drains (length plan.terminals)
 
   pub credit_in : (p q : Port) → peer plan p ≡ Some q → IsIn (Event.Credit p) (round plan)
-  credit_in p q wire = in_left (Event.Credit p) (credits ++ crosses ++ turns ++ claims) drains (in_left (Event.Credit p) (credits ++ crosses ++ turns) claims (in_left (Event.Credit p) (credits ++ crosses) turns (in_left (Event.Credit p) credits crosses
-      (in_map Event.Credit p (wired_ports plan) (wired_in p q wire)))))
+  credit_in p q wire = search (arith, in_left, in_map, wired_in)
 
   pub cross_in : (p q : Port) → peer plan p ≡ Some q → IsIn (Event.Cross p) (round plan)
-  cross_in p q wire = in_left (Event.Cross p) (credits ++ crosses ++ turns ++ claims) drains (in_left (Event.Cross p) (credits ++ crosses ++ turns) claims (in_left (Event.Cross p) (credits ++ crosses) turns (in_right (Event.Cross p) credits crosses
-      (in_map Event.Cross p (wired_ports plan) (wired_in p q wire)))))
+  cross_in p q wire = search (arith, in_left, in_right, in_map, wired_in)
 
   pub input_in : (s l : ℕ) (q : Port) → peer plan (Port.Switch s l) ≡ Some q → IsIn (Event.Input s l 0) (round plan)
   input_in s l q wire = in_left (Event.Input s l 0) (credits ++ crosses ++ turns ++ claims) drains (in_left (Event.Input s l 0) (credits ++ crosses ++ turns) claims (in_right (Event.Input s l 0) (credits ++ crosses) turns
@@ -69,11 +67,7 @@ module _ (plan : Plan) (P : Event → Type 0) where
   module _ (events_of : Port → List Event) (each : (p q : Port) → peer plan p ≡ Some q → AllByRecursion P (events_of p)) where
     each_port : (ps : List Port) → AllByRecursion P (flat_map events_of (filter (is_wired plan) ps))
     each_port [] = tt
-    each_port (p ∷ ps) = by_wire (peer plan p) refl (each_port ps)
-      where
-        by_wire : (o : Option Port) → peer plan p ≡ o → AllByRecursion P (flat_map events_of (filter (is_wired plan) ps)) → AllByRecursion P (flat_map events_of (if is_some o then p ∷ filter (is_wired plan) ps else filter (is_wired plan) ps))
-        by_wire None none rest = rest
-        by_wire (Some q) wire rest = each_append P (events_of p) (flat_map events_of (filter (is_wired plan) ps)) (each p q wire) rest
+    each_port (p ∷ ps) = search (arith, each_append, each, each_port ps)
 
     each_switch : (ss : List ℕ) → AllByRecursion P (flat_map events_of (flat_map (wired_links plan) ss))
     each_switch [] = tt

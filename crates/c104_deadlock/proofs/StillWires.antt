@@ -2,19 +2,18 @@
 use Rattle.{c104_check.proofs.RouteLemmas.own_link, c104_event.specs.declared.events.Event.Event, c104_link.specs.Buffers.Incoming}
 use Rattle.{c104_link.specs.Buffers.Outgoing, c104_net.proofs.{Members.element_at, NodeViews.{ins, outs, phases}}}
 use Rattle.{c104_node.specs.{Nodes.Node, Terminals.Terminal, declared.node.NodeOf.NodeOf}, c104_plan.specs.Plans.{IsPlan, Plan}}
-use Rattle.{c104_plan.specs.{Wiring.peer, declared.ports.Port.Port}, c104_regs.specs.Groups.continues_at}
-use Rattle.c104_run.proofs.{BalanceWires.{peer_back, switch_inside, terminal_inside}, EventReasons.event_reason_holds}
-use Rattle.c104_run.{proofs.UnreadyEvents.{StandsAt, switch_there, terminal_there, unready_answered}, specs.Balance.{IsSteady, credit_at}}
-use Rattle.c104_run.specs.{Balance.granted_at, Ends.end_of, Network.{network_of, terminal_place}, ReasonMeanings.IsCreditInReason}
-use Rattle.c104_run.specs.{ReasonMeanings.{IsCreditOutReason, IsEnterReason, IsEventReason, IsLeaveReason, IsSaidAt}, Reasons.is_unready}
-use Rattle.c104_run.specs.{Reasons.network_why, Standstill.{IsStarted, IsStartedSwitch, IsStill, IsUnready}, declared.reason.Reason.Reason}
-use Rattle.c104_switch.specs.{Group.is_in_group, Phases.is_want, ReasonMeanings.{IsAcceptReason, IsEmitReason, IsGrantReason, IsReason}}
-use Rattle.c104_switch.specs.{Switch.{Input, Switch}, declared.{actions.ActionOf.ActionOf, phase.Phase.TheVariants.{Stream, Want}}}
-use Rattle.c104_switch.specs.declared.unready.Unready.TheVariants.{NoCredit, NoLink, NoRoom, NoRoomForHeader, NoToken, NotGranted}
-use Rattle.c104_switch.specs.declared.unready.Unready.{TheVariants.{NotStarted, OutsideGroup, Owned, WantsNothing}, Unready}
-use Rattle.{c104_token.specs.Kinds.Kind, std.proofs.Common.{IfSome, IsSomeAnd, List, None, Option, Some, [], ap, arith, false, inl, inr}}
-use Rattle.std.proofs.Common.{is_some, length, refl, slice_get, subst, sym, true, ℕ, ⊎_elim, ◌+◌, ◌<◌, ◌∙◌, ◌∷◌, ◌≡◌, ◌≤◌, ◌⊎◌}
-use Rattle.std.proofs.lemmas.{Bool.true≢false, Option.slice_get_within}
+use Rattle.{c104_plan.specs.{Wiring.peer, declared.ports.Port.Port}, c104_run.proofs.BalanceWires.{peer_back, switch_inside}}
+use Rattle.c104_run.proofs.{BalanceWires.terminal_inside, EventReasons.event_reason_holds, UnreadyEvents.{StandsAt, switch_there}}
+use Rattle.c104_run.{proofs.UnreadyEvents.{terminal_there, unready_answered}, specs.Balance.{IsSteady, credit_at, granted_at}}
+use Rattle.c104_run.specs.{Ends.end_of, Network.{network_of, terminal_place}, ReasonMeanings.{IsCreditInReason, IsCreditOutReason}}
+use Rattle.c104_run.specs.{ReasonMeanings.{IsEnterReason, IsEventReason, IsLeaveReason, IsSaidAt}, Reasons.{is_unready, network_why}}
+use Rattle.c104_run.specs.{Standstill.{IsStarted, IsStartedSwitch, IsStill, IsUnready}, declared.reason.Reason.Reason}
+use Rattle.c104_switch.specs.{Phases.is_want, ReasonMeanings.{IsGrantReason, IsReason}, Switch.{Input, Switch}}
+use Rattle.c104_switch.specs.declared.{actions.ActionOf.ActionOf, phase.Phase.TheVariants.{Stream, Want}}
+use Rattle.c104_switch.specs.declared.unready.Unready.TheVariants.{NoLink, NoRoom, NoRoomForHeader, NotStarted, OutsideGroup, Owned}
+use Rattle.{c104_switch.specs.declared.unready.Unready.{TheVariants.WantsNothing, Unready}, c104_token.specs.Kinds.Kind}
+use Rattle.std.proofs.Common.{IfSome, List, None, Option, Some, [], ap, arith, false, inl, inr, is_some, length, refl, slice_get, subst}
+use Rattle.std.proofs.{Common.{sym, true, ℕ, ⊎_elim, ◌+◌, ◌<◌, ◌∙◌, ◌∷◌, ◌≡◌, ◌≤◌, ◌⊎◌}, lemmas.{Bool.true≢false, Option.slice_get_within}}
 
 -- what is said of a link that there is
 module _ {A : Type 0} (S : Switch A) (started : IsStartedSwitch S) where
@@ -53,25 +52,9 @@ module _ {A : Type 0} (S : Switch A) (started : IsStartedSwitch S) where
   no_claim i g b p q is_input is_output below wants none few NoLink r = absurd (⊎_elim (λ (h : length S.inputs ≤ i). within i p is_input h) (λ (h : (length S.settings ≤ g) ⊎ (length S.outputs ≤ g)). ⊎_elim (λ (h : length S.settings ≤ g). omega (arith, h, below, started.settings)) (λ h. beyond g q is_output h) h) r)
   no_claim i g b p q is_input is_output below wants none few NotStarted r = absurd (true≢false (sym started.started ∙ r))
   no_claim i g b p q is_input is_output below wants none few WantsNothing r = let k : is_want p.phase ≡ false = rw is_input at r in absurd (true≢false (sym (ap is_want wants) ∙ k))
-  no_claim i g b p q is_input is_output below wants none few (OutsideGroup g') r =
-      let k : (b' : List A) × (p.phase ≡ Want b' g') × (is_in_group S.settings g' g ≡ false) = rw is_input at r in
-      let e : Want b g ≡ Want k.0 g' = sym wants ∙ k.1 in
-      let d : g ≡ g' = cc in
-      absurd (true≢false (sym (own_link (continues_at S.settings) g) ∙ ap (λ z. is_in_group S.settings z g) d ∙ k.2))
-  no_claim i g b p q is_input is_output below wants none few (Owned j) r = by_owner (slice_get S.inputs j) refl (rw is_input at r)
-    where
-      by_owner : (o : Option (Input A)) → slice_get S.inputs j ≡ o → IsSomeAnd o (λ (owner : Input A). owner.phase ≡ Stream g) → (k : ℕ) × (owner : Input A) × (slice_get S.inputs k ≡ Some owner) × (owner.phase ≡ Stream g)
-      by_owner None e h = absurd h
-      by_owner (Some owner) e h = (j, owner, e, h)
-  no_claim i g b p q is_input is_output below wants none few NoRoomForHeader r = absurd (full (rw is_input at r))
-    where
-      full : (b' : List A) × (g' : ℕ) × (p.phase ≡ Want b' g') × IsSomeAnd (slice_get S.outputs g) (λ q. 8 < length q.items + length b') × IsSomeAnd (slice_get S.settings g) (λ t. t.delete_header ≡ false) → ⊥
-      full k =
-          let e : Want b g ≡ Want k.0 k.1 = sym wants ∙ k.2 in
-          let d : b ≡ k.0 = cc in
-          let over : 8 < length q.items + length k.0 = rw is_output at k.3 in
-          let more : 8 < 0 + length b = rw (none, ← d) at over in
-          omega (arith, few, more)
+  no_claim i g b p q is_input is_output below wants none few (OutsideGroup g') r = search (arith, true≢false, own_link)
+  no_claim i g b p q is_input is_output below wants none few (Owned j) r = search arith
+  no_claim i g b p q is_input is_output below wants none few NoRoomForHeader r = search arith
   no_claim i g b p q is_input is_output below wants none few u r = absurd (rw is_input at r)
 
 module _ {A : Type 0} (kind : Kind A) (plan : Plan) (is_plan : IsPlan plan) (nodes : List (Node A)) (steady : IsSteady (network_of plan nodes)) (started : IsStarted (network_of plan nodes)) (still : IsStill kind (network_of plan nodes)) where
@@ -146,24 +129,8 @@ module _ {A : Type 0} (kind : Kind A) (plan : Plan) (is_plan : IsPlan plan) (nod
 
   -- where there is credit, what can't leave isn't there
   none_leaves : (P Q : Port) (c : ℕ) (u : Unready) → peer plan P ≡ Some Q → credit_at nodes (end_of plan P) ≡ Some c → 0 < c → IsSaidAt (network_of plan nodes) IsLeaveReason P u → outs plan nodes P ≡ []
-  none_leaves (Port.Switch s l) Q c u wired has some said =
-      let k = link_at s l Q wired in
-      let e : Some k.output.credit ≡ Some c = sym (rw (k.here, k.output_is) refl) ∙ has in
-      let d : k.output.credit ≡ c = cc in
-      let see : outs plan nodes (Port.Switch s l) ≡ k.output.items = rw (k.here, k.output_is) refl in
-      let r : IsReason k.switch (ActionOf.Leave l) u = rw k.here at said in
-      see ∙ no_leave k.switch k.started_is l k.output k.output_is u r (omega (arith, d, some))
-  none_leaves (Port.Terminal t) Q c u wired has some said =
-      let k = terminal_at t Q wired in
-      let e : Some k.0.output.credit ≡ Some c = sym (rw k.1 refl) ∙ has in
-      let d : k.0.output.credit ≡ c = cc in
-      let see : outs plan nodes (Port.Terminal t) ≡ k.0.output.items = rw k.1 refl in
-      see ∙ none_of k.0.output (omega (arith, d, some)) u (rw k.1 at said)
-    where
-      none_of : (q : Outgoing A) → 0 < q.credit → (u : Unready) → IsEmitReason q u → q.items ≡ []
-      none_of q some NoToken r = r
-      none_of q some NoCredit r = absurd (omega (arith, r.1, some))
-      none_of q some u r = absurd r
+  none_leaves (Port.Switch s l) Q c u wired has some said = search (arith, link_at, outs, no_leave)
+  none_leaves (Port.Terminal t) Q c u wired has some said = search (arith, terminal_at, outs)
 
   -- and a token can enter
   enters : (Q P : Port) (x : A) (c : ℕ) (u : Unready) → peer plan Q ≡ Some P → granted_at nodes (end_of plan Q) ≡ Some c → 0 < c → IsSaidAt (network_of plan nodes) IsEnterReason Q u → ⊥
@@ -173,16 +140,7 @@ module _ {A : Type 0} (kind : Kind A) (plan : Plan) (is_plan : IsPlan plan) (nod
       let d : k.input.buffer.granted ≡ c = cc in
       let r : (y : A) → IsReason k.switch (ActionOf.Enter l y) u = rw k.here at said in
       omega (arith, d, some, no_entry k.switch k.started_is l k.input k.input_is x u (r x))
-  enters (Port.Terminal t) P x c u wired grants some said =
-      let k = terminal_at t P wired in
-      let e : Some k.0.input.granted ≡ Some c = sym (rw k.1 refl) ∙ grants in
-      let d : k.0.input.granted ≡ c = cc in
-      let none : k.0.input.granted ≡ 0 = none_of k.0.input u (rw k.1 at said) in
-      omega (arith, d, some, none)
-    where
-      none_of : (b : Incoming A) (u : Unready) → IsAcceptReason b u → b.granted ≡ 0
-      none_of b NotGranted r = r
-      none_of b u r = absurd r
+  enters (Port.Terminal t) P x c u wired grants some said = search (arith, terminal_at)
 
   -- where nothing stands at an input, nothing waits at the other end of its wire
   pub drained : (P Q : Port) → peer plan P ≡ Some Q → ins plan nodes Q ≡ [] → outs plan nodes P ≡ []

@@ -7,7 +7,7 @@ use Rattle.{c104_node.specs.{Traces.part, declared.node.NodeOf.NodeOf}, c104_pla
 use Rattle.c104_switch.specs.{Phases.with_header, Rooms.room_left, Switch.{Input, Switch}, Views.{link_view, sides_view}}
 use Rattle.{c104_switch.specs.declared.{actions.LinkView.LinkView, phase.Phase.{Phase, TheVariants.Fresh}}, c104_token.specs.Kinds.Kind}
 use Rattle.std.proofs.Common.{List, Option, Some, [], ap, arith, length, map, refl, slice_get, subst, suc, sym, take, zero, ℕ, ◌*◌, ◌+◌}
-use Rattle.std.proofs.{Common.{◌-◌, ◌<◌, ◌∙◌, ◌∷◌, ◌≡◌, ◌≤◌}, Math.Nat.{add-mul, suc-mul, zero-mul}, lemmas.List.length-map}
+use Rattle.std.proofs.{Common.{◌<◌, ◌∙◌, ◌∷◌, ◌≡◌, ◌≤◌}, Math.Nat.{add-mul, suc-mul, zero-mul}, lemmas.List.length-map}
 
 module _ {X : Type 0} where
   pub weigh_more : (a b : ℕ) → a ≤ b → (xs : List X) → weigh a xs ≤ weigh b xs
@@ -31,10 +31,7 @@ module _ {X : Type 0} where
       none zero = refl
       none (suc i) = refl
   sum_next f j zero (x ∷ xs) = let same : j + zero ≡ j = omega arith in subst (λ k. f j x + 0 ≡ 0 + f k x) (sym same) (omega arith)
-  sum_next f j (suc i) (x ∷ xs) =
-      let next : suc j + i ≡ j + suc i = omega arith in
-      let rest : sum_at f (suc j) (take (suc i) xs) ≡ sum_at f (suc j) (take i xs) + part 0 (f (j + suc i)) (slice_get xs i) = subst (λ k. sum_at f (suc j) (take (suc i) xs) ≡ sum_at f (suc j) (take i xs) + part 0 (f k) (slice_get xs i)) next (sum_next f (suc j) i xs) in
-      omega (arith, rest)
+  sum_next f j (suc i) (x ∷ xs) = search (arith, sum_next f (suc j) i xs)
 
 module _ (plan : Plan) (rank high : SwitchPort → ℕ) (less : (p : SwitchPort) → rank p ≤ high p) where
   pub level_more : (q : Option Port) → level plan rank q ≤ level plan high q
@@ -111,18 +108,14 @@ module _ (plan : Plan) where
         let outputs = sum_only top (full_link plan (highest_rank plan) none_ahead k) (λ l q. length q.items) (λ l q. output_most (peer plan (Port.Switch k l)) q) 0 S.outputs in
         let both = add-mul (sum_at (λ l p. length p.buffer.items + length (header_held p.phase)) 0 S.inputs) (sum_at (λ l q. length q.items) 0 S.outputs) top in
         omega (arith, inputs, outputs, both)
-    node_most k (NodeOf.Terminal T) =
-        let items = weigh_most top 2 (omega arith) T.input.items in
-        let out = output_most (peer plan (Port.Terminal (k - length plan.switches))) T.output in
-        let both = add-mul (length T.input.items) (length T.output.items) top in
-        omega (arith, items, out, both)
+    node_most k (NodeOf.Terminal T) = search (arith, weigh_most, output_most, add-mul)
 
     pub bound_by_tokens : (nodes : List (Node A)) → work_bound plan nodes ≤ tokens_held nodes * most_weight plan + room_held nodes
     bound_by_tokens nodes = sum_most top (full_node plan (highest_rank plan) none_ahead) (λ k n. node_tokens n) (λ k n. node_room n) node_most 0 nodes
 
 -- the length of a header is seen
 pub held_length : {A B : Type 0} (f : A → B) (phase : Phase (List A)) → length (header_held (with_header (map f) phase)) ≡ length (header_held phase)
-held_length f phase = search (arith, length-map, phase)
+held_length f phase = search (arith, length-map)
 
 pub told_sum : (a b : ℕ) → told_work (told_work a + told_work b) ≡ told_work (a + b)
 told_sum a b = omega arith
@@ -133,7 +126,7 @@ told_left a b = omega arith
 module _ {X : Type 0} where
   -- one element more of a list
   pub one_next : (f : ℕ → X → ℕ) (xs : List X) (i : ℕ) (x : X) (sum one next : ℕ) → slice_get xs i ≡ Some x → sum ≡ told_work (sum_at f 0 (take i xs)) → one ≡ told_work (f i x) → next ≡ told_work (sum + one) → next ≡ told_work (sum_at f 0 (take (i + 1) xs))
-  one_next f xs i x sum one next h1 h2 h3 h4 = search (arith, sum_at, sum_next, told_work)
+  one_next f xs i x sum one next h1 h2 h3 h4 = search (arith, sum_next)
 
 module _ {X Y : Type 0} where
   -- and of two at a time

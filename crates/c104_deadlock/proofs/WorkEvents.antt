@@ -4,26 +4,24 @@ use Rattle.c104_deadlock.proofs.WorkSteps.{claim_work, credit_in_work, credit_ou
 use Rattle.c104_deadlock.{proofs.WorkSteps.{leave_work, own, sum_set, turn_work}, specs.HeaderWork.{ahead_at, full_node, full_work}}
 use Rattle.{c104_deadlock.specs.Work.level, c104_event.specs.declared.{events.Event.Event, faults.EventFault.EventFault}}
 use Rattle.c104_link.proofs.MadeSteps.{at_place_made, from_place_made, given, length-at_place, place_after_set, required, with_place_made}
-use Rattle.c104_link.specs.Buffers.{Incoming, Outgoing, incoming_accept, incoming_grant, outgoing_credited, outgoing_emit, outgoing_put}
-use Rattle.{c104_link.specs.Steps.{joint_step_at, step_at, yield_step_at, ◌>>=◌}, c104_net.proofs.JointKeeps.{IsOfRound, IsPlainAsk}}
-use Rattle.c104_net.proofs.{JointKeeps.{asks_plain, round_keeps}, LinkActs.{Matches, credit_out_same, leave_same}, PlanWires.matches}
-use Rattle.c104_node.{proofs.{NamedWires.{nodes_credit, nodes_cross}, NextTokens.first_some}, specs.Nodes.{Node, is_switch, node_claim}}
-use Rattle.c104_node.specs.Nodes.{node_credit_in, node_credit_out, node_drain, node_enter, node_input, node_leave}
-use Rattle.c104_node.specs.Terminals.{terminal_credit_in, terminal_credit_out, terminal_enter, terminal_leave}
-use Rattle.c104_node.specs.declared.{crossings.Crossing.{Crossing, TheVariants.{Grant, Token}}, node.NodeOf.NodeOf}
-use Rattle.{c104_plan.specs.{Plans.{IsPlan, Plan}, Wiring.peer, declared.ports.Port.Port}, c104_regs.specs.Settings.header_length}
+use Rattle.c104_link.specs.{Buffers.{Incoming, Outgoing, incoming_accept, incoming_grant}, Steps.{joint_step_at, step_at, yield_step_at}}
+use Rattle.{c104_link.specs.Steps.◌>>=◌, c104_net.proofs.{JointKeeps.{IsOfRound, IsPlainAsk, asks_plain, round_keeps}, LinkActs.Matches}}
+use Rattle.{c104_net.proofs.{LinkActs.{credit_out_same, leave_same}, PlanWires.matches}, c104_node.proofs.NamedWires.nodes_credit}
+use Rattle.c104_node.{proofs.{NamedWires.nodes_cross, NextTokens.first_some}, specs.Nodes.{Node, is_switch, node_claim, node_credit_in}}
+use Rattle.c104_node.specs.{Nodes.{node_credit_out, node_drain, node_enter, node_input, node_leave}, declared.crossings.Crossing.Crossing}
+use Rattle.{c104_node.specs.declared.{crossings.Crossing.TheVariants.{Grant, Token}, node.NodeOf.NodeOf}, c104_plan.specs.Plans.IsPlan}
+use Rattle.{c104_plan.specs.{Plans.Plan, Wiring.peer, declared.ports.Port.Port}, c104_regs.specs.Settings.header_length}
 use Rattle.{c104_regs.specs.declared.settings.Settings.Settings, c104_run.proofs.{AskCases.{AreCases, of_event}, BalanceWires.peer_back}}
 use Rattle.c104_run.{proofs.EventSteps.{claim_named, credit_named, cross_named, drain_named, input_named}, specs.Balance.AreInPlace}
 use Rattle.c104_run.specs.{Ends.end_of, EventActs.{Ask, acts_step, ask_acts}, Network.{Network, network_of, network_step, terminal_place}}
 use Rattle.c104_run.specs.{Network.{told_step, wired_fault}, Standstill.{IsStarted, IsStartedNode, IsStartedSwitch}}
-use Rattle.c104_switch.specs.{Actions.Reply, Claims.{input_claim, inputs_claim, put_header, streaming_input, switch_claim}}
-use Rattle.c104_switch.specs.{Group.is_in_group, Switch.{Input, Switch, input_accept, input_grant, is_owned, switch_credit_in}}
-use Rattle.c104_switch.specs.{Switch.{switch_credit_out, switch_enter, switch_leave, with_sides}, Turns.{header_turn, input_after_token}}
-use Rattle.c104_switch.specs.Turns.{input_turn, phase_after_token, random_turn, switch_input, turn_by_phase}
-use Rattle.c104_switch.specs.declared.{actions.ReplyOf.ReplyOf, phase.Phase.{Phase, TheVariants.{Fresh, Head, Sinking, Stream, Want}}}
-use Rattle.{c104_token.specs.{Kinds.Kind, Tokens.is_end}, std.proofs.Common.{List, Option, Some, [], ap, arith, false, length, map, nat_le}}
-use Rattle.std.proofs.Common.{nat_lt, not, refl, slice_get, slice_set, subst, sym, true, ℕ, ⊎_elim, ◌&&◌, ◌*◌, ◌++◌, ◌+◌, ◌-◌, ◌<◌, ◌∙◌}
-use Rattle.std.proofs.{Common.{◌∷◌, ◌≡◌, ◌≤◌}, lemmas.{Bool.cases_Bool, List.length-set, Option.some_pair_parts}}
+use Rattle.c104_switch.specs.{Actions.Reply, Claims.{input_claim, inputs_claim, switch_claim}, Group.is_in_group, Switch.{Input, Switch}}
+use Rattle.c104_switch.specs.{Switch.{input_grant, is_owned, switch_credit_out, with_sides}, Turns.{header_turn, input_after_token}}
+use Rattle.c104_switch.specs.{Turns.{input_turn, phase_after_token, switch_input, turn_by_phase}, declared.actions.ReplyOf.ReplyOf}
+use Rattle.{c104_switch.specs.declared.phase.Phase.{Phase, TheVariants.{Fresh, Head, Sinking, Stream, Want}}, c104_token.specs.Kinds.Kind}
+use Rattle.{c104_token.specs.Tokens.is_end, std.proofs.Common.{List, Option, Some, [], ap, arith, false, length, map, nat_le, nat_lt, not}}
+use Rattle.std.proofs.Common.{refl, slice_get, slice_set, subst, sym, true, ℕ, ⊎_elim, ◌*◌, ◌++◌, ◌+◌, ◌-◌, ◌<◌, ◌∙◌, ◌∷◌, ◌≡◌, ◌≤◌}
+use Rattle.std.proofs.lemmas.{Bool.cases_Bool, List.length-set, Option.some_pair_parts}
 
 -- what each way of a packet goes down, and what is counted in advance: at an input that puts random headers what one
 -- weighs, and one for the turn; at one that a switch is wired to nothing
@@ -182,28 +180,21 @@ module _ {A : Type 0} where
   grant_cap b c e = required (nat_le (length b.items + b.granted + 8) b.cap) _ c e (λ h f. (let d : record { cap = b.cap; items = b.items; granted = b.granted + 8 } ≡ c = cc in sym (ap (λ (z : Incoming A). z.cap) d)))
 
   enter_started : (x : A) (l : ℕ) (n m : Node A) → node_enter x l n ≡ Some m → IsStartedNode n → IsStartedNode m
-  enter_started x l (NodeOf.Switch S) m e a =
-      given (switch_enter S l x) _ m e (λ S' f1 f2. given (step_at S.inputs l (input_accept x)) _ S' f1 (λ ps g1 g2. at_place_made S.inputs l (input_accept x) ps g1 (λ p p' ep h1 h2. given (incoming_accept x p.buffer) _ p' h1 (λ b eb h3.
-      (let d : NodeOf.Switch (with_sides S (slice_set S.inputs l (record p { buffer = b }), S.outputs)) ≡ m = cc in
-      subst IsStartedNode d (started_sides S a l p (record p { buffer = b }) S.outputs ep (accept_cap x p.buffer b eb) refl))))))
-  enter_started x l (NodeOf.Terminal T) m e a =
-      given (terminal_enter x T) _ m e (λ T' f1 f2. given (incoming_accept x T.input) _ T' f1 (λ b eb g2.
-      (let d : NodeOf.Terminal (record T { input = b }) ≡ m = cc in subst IsStartedNode d (subst (λ n. 8 ≤ n) (sym (accept_cap x T.input b eb)) a))))
+  enter_started x l (NodeOf.Switch S) m e a = search (arith, given, at_place_made, started_sides)
+  enter_started x l (NodeOf.Terminal T) m e a = search (arith, given, accept_cap)
 
   leave_started : (l : ℕ) (n : Node A) (r : A × Node A) → node_leave l n ≡ Some r → IsStartedNode n → IsStartedNode r.1
-  leave_started l n r h1 h2 = search (arith, given, switch_leave, yield_step_at, outgoing_emit, from_place_made, with_sides, length-set, terminal_leave)
+  leave_started l n r h1 h2 = search (arith, given, from_place_made, length-set)
 
   credit_out_started : (l : ℕ) (n m : Node A) → node_credit_out l n ≡ Some m → IsStartedNode n → IsStartedNode m
   credit_out_started l (NodeOf.Switch S) m e a =
       given (switch_credit_out S l) _ m e (λ S' f1 f2. required S.started _ S' f1 (λ started f0. given (step_at S.inputs l input_grant) _ S' f0 (λ ps g1 g2. at_place_made S.inputs l input_grant ps g1 (λ p p' ep h1 h2. given (incoming_grant p.buffer) _ p' h1 (λ b eb h3.
       (let d : NodeOf.Switch (with_sides S (slice_set S.inputs l (record p { buffer = b }), S.outputs)) ≡ m = cc in
       subst IsStartedNode d (started_sides S a l p (record p { buffer = b }) S.outputs ep (grant_cap p.buffer b eb) refl)))))))
-  credit_out_started l (NodeOf.Terminal T) m e a =
-      given (terminal_credit_out T) _ m e (λ T' f1 f2. given (incoming_grant T.input) _ T' f1 (λ b eb g2.
-      (let d : NodeOf.Terminal (record T { input = b }) ≡ m = cc in subst IsStartedNode d (subst (λ n. 8 ≤ n) (sym (grant_cap T.input b eb)) a))))
+  credit_out_started l (NodeOf.Terminal T) m e a = search (arith, given, grant_cap)
 
   credit_in_started : (l : ℕ) (n m : Node A) → node_credit_in l n ≡ Some m → IsStartedNode n → IsStartedNode m
-  credit_in_started l n m h1 h2 = search (arith, given, switch_credit_in, step_at, outgoing_credited, at_place_made, with_sides, length-set, terminal_credit_in)
+  credit_in_started l n m h1 h2 = search (arith, given, at_place_made, length-set)
 
   drain_started : (n : Node A) (r : A × Node A) → node_drain n ≡ Some r → IsStartedNode n → IsStartedNode r.1
   drain_started n r h1 h2 = grind arith
@@ -216,18 +207,14 @@ module _ {A : Type 0} where
   header_cap kind t p b x = ⊎_elim (λ (m : is_end (kind.plain x) ≡ true). rw m refl) (λ (m : is_end (kind.plain x) ≡ false). rw m refl) (cases_Bool (is_end (kind.plain x)))
 
   turn_keeps : (kind : Kind A) (t : Settings) (word : ℕ) (p : Input A) (qs : List (Outgoing A)) (x : A) (ph : Phase (List A)) (r : Input A × List (Outgoing A)) → turn_by_phase kind t word p qs ph x ≡ Some r → Keeps p qs r
-  turn_keeps kind t word p qs x Fresh r e = ⊎_elim
-      (λ (h : (t.randomize && not (is_end (kind.plain x))) ≡ true). (let f : Some (random_turn kind t word p, qs) ≡ Some r = rw h at e in let d : (random_turn kind t word p, qs) ≡ r = cc in subst (Keeps p qs) d (refl, refl)))
-      (λ (h : (t.randomize && not (is_end (kind.plain x))) ≡ false). (let f : Some (header_turn kind t p [] x, qs) ≡ Some r = rw h at e in let d : (header_turn kind t p [] x, qs) ≡ r = cc in subst (Keeps p qs) d (header_cap kind t p [] x, refl)))
-      (cases_Bool (t.randomize && not (is_end (kind.plain x))))
+  turn_keeps kind t word p qs x Fresh r e = search (arith, header_cap, cases_Bool)
   turn_keeps kind t word p qs x (Head b) r e = let d : (header_turn kind t p b x, qs) ≡ r = cc in subst (Keeps p qs) d (header_cap kind t p b x, refl)
   turn_keeps kind t word p qs x (Want b g) r e = absurd (cc)
-  turn_keeps kind t word p qs x (Stream o) r e = given (step_at qs o (outgoing_put x)) _ r e (λ rs f1 f2.
-      (let d : (input_after_token p (phase_after_token kind x (Stream o)) false false, rs) ≡ r = cc in subst (Keeps p qs) d (refl, length-at_place qs o (outgoing_put x) rs f1)))
+  turn_keeps kind t word p qs x (Stream o) r e = search (arith, given, length-at_place)
   turn_keeps kind t word p qs x Sinking r e = let d : (input_after_token p (phase_after_token kind x Sinking) false false, qs) ≡ r = cc in subst (Keeps p qs) d (refl, refl)
 
   claim_keeps : (settings : List Settings) (p : Input A) (qs : List (Outgoing A)) (o : ℕ) (ph : Phase (List A)) (r : Input A × List (Outgoing A)) → input_claim settings p qs o ph ≡ Some r → Keeps p qs r
-  claim_keeps settings p qs o ph r h1 = search (arith, settings, required, is_in_group, given, step_at, put_header, streaming_input, length-at_place)
+  claim_keeps settings p qs o ph r h1 = search (arith, required, given, length-at_place)
 
   input_started : (kind : Kind A) (i word : ℕ) (n m : Node A) → node_input kind i word n ≡ Some m → IsStartedNode n → IsStartedNode m
   input_started kind i word (NodeOf.Terminal T) m e a = absurd (cc)

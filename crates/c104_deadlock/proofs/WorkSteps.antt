@@ -6,8 +6,7 @@ use Rattle.{c104_interval.specs.declared.intervals.Select.TheVariants.Link, c104
 use Rattle.c104_link.{proofs.MadeSteps.{given, required}, specs.Buffers.{Incoming, Outgoing, incoming_accept, incoming_grant}}
 use Rattle.c104_link.specs.{Buffers.{outgoing_credited, outgoing_emit, outgoing_put, outgoing_put_all, without_first}, Steps.step_at}
 use Rattle.{c104_link.specs.Steps.yield_step_at, c104_net.proofs.LinkActs.Matches, c104_node.specs.Nodes.{Node, node_credit_in}}
-use Rattle.c104_node.specs.{Nodes.{node_credit_out, node_drain, node_enter, node_leave}, Terminals.{Terminal, terminal_credit_in}}
-use Rattle.c104_node.specs.Terminals.{terminal_credit_out, terminal_enter, terminal_leave, with_input, with_output}
+use Rattle.c104_node.specs.{Nodes.{node_credit_out, node_drain, node_enter, node_leave}, Terminals.{terminal_enter, with_input}}
 use Rattle.{c104_node.specs.declared.node.NodeOf.NodeOf, c104_plan.specs.{Plans.Plan, Wiring.peer, declared.ports.Port.Port}}
 use Rattle.{c104_regs.specs.{Settings.header_length, declared.settings.Settings.Settings}, c104_run.specs.Ends.end_of}
 use Rattle.{c104_run.specs.Network.terminal_place, c104_switch.specs.{Claims.{input_claim, put_header, streaming_input}, Group.is_in_group}}
@@ -16,8 +15,8 @@ use Rattle.c104_switch.specs.Switch.{switch_credit_in, switch_credit_out, switch
 use Rattle.c104_switch.specs.{Switch.with_outputs, Turns.{header_turn, input_after_token, phase_after_token, random_turn, turn_by_phase}}
 use Rattle.{c104_switch.specs.declared.phase.Phase.{Phase, TheVariants.{Fresh, Head, Sinking, Stream, Want}}, c104_token.specs.Kinds.Kind}
 use Rattle.{c104_token.specs.Tokens.is_end, std.proofs.Common.{Bool, List, Some, [], ap, arith, drop, false, length, length-append, nat_le}}
-use Rattle.std.proofs.Common.{nat_lt, not, refl, slice_get, slice_set, subst, suc, sym, true, zero, ℕ, ⊎_elim, ◌&&◌, ◌*◌, ◌++◌, ◌+◌, ◌-◌}
-use Rattle.std.proofs.{Common.{◌<◌, ◌∙◌, ◌∷◌, ◌≡◌, ◌≤◌}, lemmas.Bool.{Decides.nat_tests, and_parts, cases_Bool}}
+use Rattle.std.proofs.Common.{nat_lt, refl, slice_get, slice_set, subst, suc, sym, true, zero, ℕ, ⊎_elim, ◌*◌, ◌++◌, ◌+◌, ◌-◌, ◌<◌, ◌∙◌}
+use Rattle.std.proofs.{Common.{◌∷◌, ◌≡◌, ◌≤◌}, lemmas.Bool.{Decides.nat_tests, and_parts, cases_Bool}}
 
 module _ {X : Type 0} where
   pub weigh-append : (a : ℕ) (xs ys : List X) → weigh a (xs ++ ys) ≡ weigh a xs + weigh a ys
@@ -65,7 +64,7 @@ module _ (plan : Plan) where
 module _ {A : Type 0} (plan : Plan) (rank ahead : SwitchPort → ℕ) where
   -- a buffer that takes a token in, or grants, or loses its first token
   accept_work : (far a : ℕ) (x : A) (b c : Incoming A) → incoming_accept x b ≡ Some c → full_incoming plan rank ahead far a c ≡ full_incoming plan rank ahead far a b + (8 * far + 2 + a)
-  accept_work far a x b c h1 = search (arith, required, nat_tests, length-append, weigh-append, full_incoming)
+  accept_work far a x b c h1 = search (arith, required, nat_tests, length-append, weigh-append)
 
   grant_work : (far a : ℕ) (b c : Incoming A) → incoming_grant b ≡ Some c → full_incoming plan rank ahead far a c + 8 ≡ full_incoming plan rank ahead far a b
   grant_work far a b c h1 = grind arith
@@ -109,15 +108,7 @@ module _ {A : Type 0} (plan : Plan) (rank ahead : SwitchPort → ℕ) where
       let one = emit_work (far_of plan rank (Port.Switch s l)) (at_far plan rank ahead (Port.Switch s l)) q y ey in
       let all = output_set s S l q y.1 eq in
       subst (λ (z : A × Node A). full_node plan rank ahead s z.1 + (8 * far_of plan rank (Port.Switch s l) + 4 + at_far plan rank ahead (Port.Switch s l)) ≡ full_node plan rank ahead s (NodeOf.Switch S)) d (omega (arith, one, all))))))
-  leave_work (Port.Terminal t) (NodeOf.Terminal T) r k e =
-      given (terminal_leave T) _ r e (λ v f1 f2. given (outgoing_emit T.output) _ v f1 (λ y ey g2.
-      (let d1 : ◌≡◌ {A = A × Terminal A} (y.0, with_output T y.1) v = cc in
-      let d : ◌≡◌ {A = A × Node A} (y.0, NodeOf.Terminal (with_output T y.1)) r = ap (λ (z : A × Terminal A). (z.0, NodeOf.Terminal z.1)) d1 ∙ cc in
-      let far : ℕ = level plan rank (peer plan (Port.Terminal (terminal_place plan t - length plan.switches))) in
-      let same : far ≡ far_of plan rank (Port.Terminal t) = ap (λ n. level plan rank (peer plan (Port.Terminal n))) (terminal_number plan t) in
-      let ahead_is : ahead_at plan rank ahead (peer plan (Port.Terminal (terminal_place plan t - length plan.switches))) ≡ at_far plan rank ahead (Port.Terminal t) = ap (λ n. ahead_at plan rank ahead (peer plan (Port.Terminal n))) (terminal_number plan t) in
-      let one = emit_work far (ahead_at plan rank ahead (peer plan (Port.Terminal (terminal_place plan t - length plan.switches)))) T.output y ey in
-      subst (λ (z : A × Node A). full_node plan rank ahead (terminal_place plan t) z.1 + (8 * far_of plan rank (Port.Terminal t) + 4 + at_far plan rank ahead (Port.Terminal t)) ≡ full_node plan rank ahead (terminal_place plan t) (NodeOf.Terminal T)) d (omega (arith, one, same, ahead_is)))))
+  leave_work (Port.Terminal t) (NodeOf.Terminal T) r k e = search (arith, given, terminal_number)
   leave_work P n r k e = absurd k
 
   pub credit_out_work : (P : Port) (n m : Node A) → Matches P n → node_credit_out (end_of plan P).link n ≡ Some m → full_node plan rank ahead (end_of plan P).node m + 8 ≡ full_node plan rank ahead (end_of plan P).node n
@@ -127,11 +118,7 @@ module _ {A : Type 0} (plan : Plan) (rank ahead : SwitchPort → ℕ) where
       let one = grant_work (own plan rank (Port.Switch s l)) (at_own plan rank ahead (Port.Switch s l)) p.buffer b eb in
       let all = input_set s S l p (with_buffer p b) ep in
       subst (λ z. full_node plan rank ahead s z + 8 ≡ full_node plan rank ahead s (NodeOf.Switch S)) d (omega (arith, one, all))))))))
-  credit_out_work (Port.Terminal t) (NodeOf.Terminal T) m k e =
-      given (terminal_credit_out T) _ m e (λ T' f1 f2. given (incoming_grant T.input) _ T' f1 (λ b eb g2.
-      (let d : NodeOf.Terminal (with_input T b) ≡ m = cc in
-      let one = grant_work 0 0 T.input b eb in
-      subst (λ z. full_node plan rank ahead (terminal_place plan t) z + 8 ≡ full_node plan rank ahead (terminal_place plan t) (NodeOf.Terminal T)) d (omega (arith, one)))))
+  credit_out_work (Port.Terminal t) (NodeOf.Terminal T) m k e = search (arith, given, grant_work)
   credit_out_work P n m k e = absurd k
 
   pub credit_in_work : (P : Port) (n m : Node A) → Matches P n → node_credit_in (end_of plan P).link n ≡ Some m → full_node plan rank ahead (end_of plan P).node m ≡ full_node plan rank ahead (end_of plan P).node n
@@ -141,11 +128,7 @@ module _ {A : Type 0} (plan : Plan) (rank ahead : SwitchPort → ℕ) where
       let one = credited_work (far_of plan rank (Port.Switch s l)) (at_far plan rank ahead (Port.Switch s l)) q q' h1 in
       let all = output_set s S l q q' eq in
       subst (λ z. full_node plan rank ahead s z ≡ full_node plan rank ahead s (NodeOf.Switch S)) d (omega (arith, one, all))))))
-  credit_in_work (Port.Terminal t) (NodeOf.Terminal T) m k e =
-      given (terminal_credit_in T) _ m e (λ T' f1 f2. given (outgoing_credited T.output) _ T' f1 (λ q eq g2.
-      (let d : NodeOf.Terminal (with_output T q) ≡ m = cc in
-      let one = credited_work (level plan rank (peer plan (Port.Terminal (terminal_place plan t - length plan.switches)))) (ahead_at plan rank ahead (peer plan (Port.Terminal (terminal_place plan t - length plan.switches)))) T.output q eq in
-      subst (λ z. full_node plan rank ahead (terminal_place plan t) z ≡ full_node plan rank ahead (terminal_place plan t) (NodeOf.Terminal T)) d (omega (arith, one)))))
+  credit_in_work (Port.Terminal t) (NodeOf.Terminal T) m k e = search (arith, given, credited_work)
   credit_in_work P n m k e = absurd k
 
   pub drain_work : (k : ℕ) (n : Node A) (r : A × Node A) → node_drain n ≡ Some r → full_node plan rank ahead k r.1 + 1 ≤ full_node plan rank ahead k n
@@ -206,19 +189,8 @@ module _ {A : Type 0} (plan : Plan) (rank ahead : SwitchPort → ℕ) where
     IsLess p qs r = full_input plan rank ahead s i r.0 + full_outputs plan rank ahead s r.1 + 1 ≤ full_input plan rank ahead s i p + full_outputs plan rank ahead s qs
 
     pub turn_work : (S : Switch A) (t : Settings) (word : ℕ) (p : Input A) (x : A) (r : Input A × List (Outgoing A)) (ph : Phase (List A)) → (t.randomize ≡ true → a ≡ header_length t * (8 * far) + 1) → ((o : ℕ) → ph ≡ Stream o → (far_of plan rank (Port.Switch s o) + 1 ≤ far) × (at_far plan rank ahead (Port.Switch s o) ≡ 0)) → p.phase ≡ ph → p.buffer.items ≡ x ∷ drop 1 p.buffer.items → turn_by_phase kind t word p S.outputs ph x ≡ Some r → IsLess p S.outputs r
-    turn_work S t word p x r Fresh puts falls is items e = ⊎_elim
-        (λ (m : (t.randomize && not (is_end (kind.plain x))) ≡ true).
-        (let e' : Some (random_turn kind t word p, S.outputs) ≡ Some r = rw m at e in
-        let d : (random_turn kind t word p, S.outputs) ≡ r = cc in
-        subst (IsLess p S.outputs) d (let one = random_turn_work t word p is (puts (and_parts t.randomize (not (is_end (kind.plain x))) m).0) in omega (arith, one))))
-        (λ (m : (t.randomize && not (is_end (kind.plain x))) ≡ false).
-        (let e' : Some (header_turn kind t p [] x, S.outputs) ≡ Some r = rw m at e in
-        let d : (header_turn kind t p [] x, S.outputs) ≡ r = cc in
-        subst (IsLess p S.outputs) d (let one = header_work t p [] x items (ap header_held is) in omega (arith, one))))
-        (cases_Bool (t.randomize && not (is_end (kind.plain x))))
-    turn_work S t word p x r (Head b) puts falls is items e =
-        let d : (header_turn kind t p b x, S.outputs) ≡ r = cc in
-        subst (IsLess p S.outputs) d (let one = header_work t p b x items (ap header_held is) in omega (arith, one))
+    turn_work S t word p x r Fresh puts falls is items e = search (arith, random_turn_work, and_parts, header_work)
+    turn_work S t word p x r (Head b) puts falls is items e = search (arith, header_work)
     turn_work S t word p x r (Want b g) puts falls is items e = absurd (cc)
     turn_work S t word p x r (Stream o) puts falls is items e = given (step_at S.outputs o (outgoing_put x)) _ r e (λ rs f1 f2. at_place_made S.outputs o (outgoing_put x) rs f1 (λ q q' eq g d1. required (nat_lt (length q.items) 8) _ q' g (λ h g2.
         (let p' = input_after_token p (phase_after_token kind x (Stream o)) false false in
@@ -234,12 +206,7 @@ module _ {A : Type 0} (plan : Plan) (rank ahead : SwitchPort → ℕ) where
       where
         no_header : (x : A) (ph : Phase (List A)) → header_held ph ≡ [] → weigh (8 * far) (header_held (phase_after_token kind x ph)) ≡ 0
         no_header x ph h = ⊎_elim (λ (m : is_end (kind.plain x) ≡ true). rw m refl) (λ (m : is_end (kind.plain x) ≡ false). rw (m, h) refl) (cases_Bool (is_end (kind.plain x)))
-    turn_work S t word p x r Sinking puts falls is items e =
-        let p' = input_after_token p (phase_after_token kind x Sinking) false false in
-        let d : (p', S.outputs) ≡ r = cc in
-        let one = used_work p x (phase_after_token kind x Sinking) false false items in
-        let held : weigh (8 * far) (header_held (phase_after_token kind x Sinking)) ≡ 0 = ⊎_elim (λ (m : is_end (kind.plain x) ≡ true). rw m refl) (λ (m : is_end (kind.plain x) ≡ false). rw m refl) (cases_Bool (is_end (kind.plain x))) in
-        subst (IsLess p S.outputs) d (omega (arith, one, held, waits_low (phase_after_token kind x Sinking)))
+    turn_work S t word p x r Sinking puts falls is items e = search (arith, used_work, cases_Bool, waits_low)
 
     pub claim_work : (S : Switch A) (o : ℕ) (p : Input A) (r : Input A × List (Outgoing A)) (ph : Phase (List A)) → ((b : List A) (g : ℕ) → ph ≡ Want b g → is_in_group S.settings g o ≡ true → (0 < length b) × (far_of plan rank (Port.Switch s o) + 1 ≤ far) × (at_far plan rank ahead (Port.Switch s o) ≡ 0)) → p.phase ≡ ph → input_claim S.settings p S.outputs o ph ≡ Some r → IsLess p S.outputs r
     claim_work S o p r (Want b g) falls is e = required (is_in_group S.settings g o) _ r e (λ group f0. given (slice_get S.settings o) _ r f0 (λ t et f1. given (step_at S.outputs o (put_header t b)) _ r f1 (λ rs f2 f3. at_place_made S.outputs o (put_header t b) rs f2 (λ q q' eq put d1.
