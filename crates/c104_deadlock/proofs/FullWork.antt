@@ -20,10 +20,6 @@ times_more (suc n) a b less =
     omega (arith, rest, one, other, less)
 
 module _ (plan : Plan) (rank high ahead most : SwitchPort → ℕ) (less : (p : SwitchPort) → rank p ≤ high p) (fewer : (p : SwitchPort) → ahead p ≤ most p) where
-  ahead_more : (q : Option Port) → ahead_at plan rank ahead q ≤ ahead_at plan high most q
-  ahead_more (Some (Port.Switch s l)) = let here = fewer (port_of s l) in omega (arith, here)
-  ahead_more q = omega arith
-
   module _ {A : Type 0} where
     first_more : (s l : ℕ) (ph : Phase (List A)) → first_ahead plan rank ahead (ahead (port_of s l)) ph ≤ first_ahead plan high most (most (port_of s l)) ph
     first_more s l Fresh = let here = fewer (port_of s l) in omega (arith, here)

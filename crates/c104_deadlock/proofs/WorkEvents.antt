@@ -170,9 +170,6 @@ module _ {A : Type 0} where
           (place_after_set S.inputs l k r q here);
     }
 
-    started_outputs : (qs : List (Outgoing A)) → length qs ≡ length S.outputs → IsStartedSwitch (with_sides S (S.inputs, qs))
-    started_outputs qs long = record { started = started.started; settings = started.settings; inputs = started.inputs; outputs = long ∙ started.outputs; room = started.room }
-
   accept_cap : (x : A) (b c : Incoming A) → incoming_accept x b ≡ Some c → c.cap ≡ b.cap
   accept_cap x b c e = required (nat_lt 0 b.granted) _ c e (λ h f. (let d : record { cap = b.cap; items = b.items ++ x ∷ []; granted = b.granted - 1 } ≡ c = cc in sym (ap (λ (z : Incoming A). z.cap) d)))
 

@@ -1,8 +1,7 @@
 -- Each event of a round that is done leaves less work.
 use Rattle.{c104_check.specs.{Walks.port_of, declared.ports.SwitchPort.SwitchPort}, c104_deadlock.specs.HeaderWork.{ahead_at, first_ahead}}
 use Rattle.c104_deadlock.specs.HeaderWork.{full_incoming, full_input, full_inputs, full_link, full_node, full_output, full_outputs}
-use Rattle.{c104_deadlock.specs.Work.{header_held, level, sum_at, weigh}, c104_interval.specs.declared.intervals.Select.Select}
-use Rattle.{c104_interval.specs.declared.intervals.Select.TheVariants.Link, c104_link.proofs.MadeSteps.{at_place_made, from_place_made}}
+use Rattle.{c104_deadlock.specs.Work.{header_held, level, sum_at, weigh}, c104_link.proofs.MadeSteps.{at_place_made, from_place_made}}
 use Rattle.c104_link.{proofs.MadeSteps.{given, required}, specs.Buffers.{Incoming, Outgoing, incoming_accept, incoming_grant}}
 use Rattle.c104_link.specs.{Buffers.{outgoing_credited, outgoing_emit, outgoing_put, outgoing_put_all, without_first}, Steps.step_at}
 use Rattle.{c104_link.specs.Steps.yield_step_at, c104_net.proofs.LinkActs.Matches, c104_node.specs.Nodes.{Node, node_credit_in}}
@@ -10,9 +9,9 @@ use Rattle.c104_node.specs.{Nodes.{node_credit_out, node_drain, node_enter, node
 use Rattle.{c104_node.specs.declared.node.NodeOf.NodeOf, c104_plan.specs.{Plans.Plan, Wiring.peer, declared.ports.Port.Port}}
 use Rattle.{c104_regs.specs.{Settings.header_length, declared.settings.Settings.Settings}, c104_run.specs.Ends.end_of}
 use Rattle.{c104_run.specs.Network.terminal_place, c104_switch.specs.{Claims.{input_claim, put_header, streaming_input}, Group.is_in_group}}
-use Rattle.c104_switch.specs.{Headers.{decided_phase, phase_after_header, random_header}, Switch.{Input, Switch, input_accept, input_grant}}
-use Rattle.c104_switch.specs.Switch.{switch_credit_in, switch_credit_out, switch_enter, switch_leave, with_buffer, with_inputs}
-use Rattle.c104_switch.specs.{Switch.with_outputs, Turns.{header_turn, input_after_token, phase_after_token, random_turn, turn_by_phase}}
+use Rattle.c104_switch.specs.{Headers.phase_after_header, Switch.{Input, Switch, input_accept, input_grant, switch_credit_in}}
+use Rattle.c104_switch.specs.Switch.{switch_credit_out, switch_enter, switch_leave, with_buffer, with_inputs, with_outputs}
+use Rattle.c104_switch.specs.Turns.{header_turn, input_after_token, phase_after_token, random_turn, turn_by_phase}
 use Rattle.{c104_switch.specs.declared.phase.Phase.{Phase, TheVariants.{Fresh, Head, Sinking, Stream, Want}}, c104_token.specs.Kinds.Kind}
 use Rattle.{c104_token.specs.Tokens.is_end, std.proofs.Common.{Bool, List, Some, [], ap, arith, drop, false, length, length-append, nat_le}}
 use Rattle.std.proofs.Common.{nat_lt, refl, slice_get, slice_set, subst, suc, sym, true, zero, ℕ, ⊎_elim, ◌*◌, ◌++◌, ◌+◌, ◌-◌, ◌<◌, ◌∙◌}
@@ -149,14 +148,6 @@ module _ {A : Type 0} (plan : Plan) (rank ahead : SwitchPort → ℕ) where
     waits_low Fresh = omega arith
     waits_low ph = omega arith
 
-    held_decided : (c : ℕ) (b : List A) (sel : Select) → weigh c (header_held (decided_phase b sel)) ≤ weigh c b
-    held_decided c b (Link g) = omega arith
-    held_decided c b sel = omega arith
-
-    waits_decided : (b : List A) (sel : Select) → waits (decided_phase b sel) ≡ 0
-    waits_decided b (Link g) = refl
-    waits_decided b sel = refl
-
     -- what is kept of a header after one more token of it
     held_after : (c : ℕ) (t : Settings) (b : List A) → weigh c (header_held (phase_after_header kind t b).0) ≤ weigh c b
     held_after c t b = grind arith
@@ -177,10 +168,7 @@ module _ {A : Type 0} (plan : Plan) (rank ahead : SwitchPort → ℕ) where
         omega (arith, one, held, more, same, waits_low after.0)))
         (cases_Bool (is_end (kind.plain x)))
 
-    -- a random header that is put, paid by what was counted for it
-    random_long : (t : Settings) (word : ℕ) → length (random_header kind t word) ≡ header_length t
-    random_long t word = ⊎_elim (λ (h : t.two_byte ≡ true). rw h refl) (λ (h : t.two_byte ≡ false). rw h refl) (cases_Bool t.two_byte)
-
+    -- a random header that is put is paid by what was counted for it
     random_turn_work : (t : Settings) (word : ℕ) (p : Input A) → p.phase ≡ Fresh → a ≡ header_length t * (8 * far) + 1 → full_input plan rank ahead s i (random_turn kind t word p) + 1 ≤ full_input plan rank ahead s i p
     random_turn_work t word p h1 h2 = grind arith
 
