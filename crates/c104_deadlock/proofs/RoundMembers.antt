@@ -77,8 +77,7 @@ module _ (plan : Plan) (P : Event → Type 0) where
     each_wired = joined events_of (flat_map (wired_links plan) (range_with_len 0 (length plan.switches))) (wired_terminals plan) (each_switch (range_with_len 0 (length plan.switches))) (each_port (map Port.Terminal (range_with_len 0 (length plan.terminals))))
 
   each_turn : ((s l : ℕ) (q : Port) → peer plan (Port.Switch s l) ≡ Some q → P (Event.Input s l 0)) → (p q : Port) → peer plan p ≡ Some q → AllByRecursion P (turn_at p)
-  each_turn of_turn (Port.Switch s l) q wire = (of_turn s l q wire, tt)
-  each_turn of_turn (Port.Terminal t) q wire = tt
+  each_turn of_turn p q wire = search arith
 
   pub each_of_round : ((p q : Port) → peer plan p ≡ Some q → P (Event.Credit p)) → ((p q : Port) → peer plan p ≡ Some q → P (Event.Cross p)) → ((s l : ℕ) (q : Port) → peer plan (Port.Switch s l) ≡ Some q → P (Event.Input s l 0)) →
       ((s i o : ℕ) → s < length plan.switches → i < 32 → o < 32 → P (Event.Claim s i o)) → ((t : ℕ) → t < length plan.terminals → P (Event.Drain t)) → AllByRecursion P (round plan)

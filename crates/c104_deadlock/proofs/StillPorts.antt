@@ -75,8 +75,7 @@ module _ (routes : Routes) (wired : IsWired routes.peer) where
   begun_wire entry p true at (r, m, random, reaches, discards) = reached_wire r m entry p at reaches
 
   beginning_wire : (h : ℕ) (p : SwitchPort) → IsBeginningBy routes h p → HasWire p
-  beginning_wire h p (inl (t, owned, (u, behind, (entry, at, begins)))) = begun_wire entry p behind (entry_wire u entry at) begins
-  beginning_wire h p (inr (t, at, random)) = entry_wire t p at
+  beginning_wire h p begins = search (arith, begun_wire, entry_wire)
 
   arrived_wire : (h : ℕ) (p : SwitchPort) → MayComeBy routes h p → HasWire p
   arrived_wire h p (x, m, begins, reaches) = reached_wire h m x p (beginning_wire h x begins) reaches
@@ -91,7 +90,7 @@ module _ (routes : Routes) (wired : IsWired routes.peer) where
   module _ (w : World) (g : Ghost) where
     -- an input that has read all of its packet waits for one
     fresh_of : (Q : Port) (ph : Phase (List Traced)) → Suits routes w.book g Q ph → g.rest Q ≡ [] → ph ≡ Fresh
-    fresh_of Q ph h1 h2 = grind arith
+    fresh_of Q ph u e = grind arith
 
     -- and so does one without a wire
     no_wire : {X : Type 0} (Q : Port) → routes.peer Q ≡ None → (P : Port) × (routes.peer Q ≡ Some P) → X
@@ -106,8 +105,7 @@ module _ (routes : Routes) (wired : IsWired routes.peer) where
 
     -- and nothing stands before it
     unwired_content : (Q : Port) (content due : List Traced) → routes.peer Q ≡ None → IsChannel (IsPiece routes w.book Q) [] content due → content ≡ []
-    unwired_content Q [] due none run = refl
-    unwired_content Q (x ∷ xs) due none run = no_wire Q none run.1.wire
+    unwired_content Q content due none run = search (arith, no_wire)
 
 module _ (plan : Plan) (image : Image) (is_plan : IsPlan plan) (labelled : IsLabelled (routes_of plan image)) (nodes : List (Node Traced)) (good : IsSettled plan image is_plan labelled nodes) (steady : IsSteady (network_of plan nodes)) (started : IsStarted (network_of plan nodes)) (still : IsStill traced_kind (network_of plan nodes))
     (rank : SwitchPort → ℕ) (falls : IsRanking (routes_of plan image) rank) where

@@ -22,20 +22,20 @@ module _ {A : Type 0} (S : Switch A) (started : IsStartedSwitch S) where
     within h = omega (arith, h, slice_get_within S.inputs l p is_input)
 
     no_grant : (u : Unready) → IsReason S (ActionOf.CreditOut l) u → p.buffer.cap < length p.buffer.items + p.buffer.granted + 8
-    no_grant u h1 = search (arith, within, true≢false)
+    no_grant u r = search (arith, within, true≢false)
 
     no_entry : (x : A) (u : Unready) → IsReason S (ActionOf.Enter l x) u → p.buffer.granted ≡ 0
-    no_entry x u h1 = search (arith, within)
+    no_entry x u r = search (arith, within)
 
   module _ (l : ℕ) (q : Outgoing A) (is_output : slice_get S.outputs l ≡ Some q) where
     beyond : length S.outputs ≤ l → ⊥
     beyond h = omega (arith, h, slice_get_within S.outputs l q is_output)
 
     no_credit : (u : Unready) → IsReason S (ActionOf.CreditIn l) u → 64 < q.credit + 8
-    no_credit u h1 = search (arith, beyond)
+    no_credit u r = search (arith, beyond)
 
     no_leave : (u : Unready) → IsReason S (ActionOf.Leave l) u → 0 < q.credit → q.items ≡ []
-    no_leave u h1 h2 = search (arith, beyond)
+    no_leave u r some = search (arith, beyond)
 
   -- an input that takes no turn
   abbrev pub IsStuck : ℕ → Input A → Type 0
@@ -45,7 +45,7 @@ module _ {A : Type 0} (S : Switch A) (started : IsStartedSwitch S) where
       ⊎ ((o : ℕ) × (p.phase ≡ Stream o) × ((q : Outgoing A) → slice_get S.outputs o ≡ Some q → 8 ≤ length q.items)))
 
   no_turn : (l : ℕ) (p : Input A) (is_input : slice_get S.inputs l ≡ Some p) → l < 32 → (u : Unready) → IsReason S (ActionOf.Input l 0) u → IsStuck l p
-  no_turn l p is_input h1 u h2 = grind arith
+  no_turn l p is_input below u r = grind arith
 
   -- an input that wants a link with room gets it, unless another input has it
   no_claim : (i g : ℕ) (b : List A) (p : Input A) (q : Outgoing A) → slice_get S.inputs i ≡ Some p → slice_get S.outputs g ≡ Some q → g < 32 → p.phase ≡ Want b g → q.items ≡ [] → length b ≤ 8 → (u : Unready) → IsReason S (ActionOf.Claim i g) u → (k : ℕ) × (owner : Input A) × (slice_get S.inputs k ≡ Some owner) × (owner.phase ≡ Stream g)
@@ -125,7 +125,7 @@ module _ {A : Type 0} (kind : Kind A) (plan : Plan) (is_plan : IsPlan plan) (nod
 
   -- and so has one whose far end takes no more
   credit_some : (P Q : Port) (c : ℕ) (u : Unready) → peer plan P ≡ Some Q → credit_at nodes (end_of plan P) ≡ Some c → IsSaidAt (network_of plan nodes) IsCreditInReason P u → 0 < c
-  credit_some P Q c u h1 h2 h3 = search (arith, link_at, terminal_at)
+  credit_some P Q c u wired has said = search (arith, link_at, terminal_at)
 
   -- where there is credit, what can't leave isn't there
   none_leaves : (P Q : Port) (c : ℕ) (u : Unready) → peer plan P ≡ Some Q → credit_at nodes (end_of plan P) ≡ Some c → 0 < c → IsSaidAt (network_of plan nodes) IsLeaveReason P u → outs plan nodes P ≡ []
@@ -167,7 +167,7 @@ module _ {A : Type 0} (kind : Kind A) (plan : Plan) (is_plan : IsPlan plan) (nod
 
   -- nothing stands at a terminal
   pub arrived : (t : ℕ) (Q : Port) → peer plan (Port.Terminal t) ≡ Some Q → ins plan nodes (Port.Terminal t) ≡ []
-  arrived t Q h1 = search (arith, terminal_at, reason_of, terminal_inside, ins)
+  arrived t Q wired = search (arith, terminal_at, reason_of, terminal_inside, ins)
 
   -- an input with a token wants an output, or streams to one that is full
   pub stuck : (s l : ℕ) (Q : Port) → peer plan (Port.Switch s l) ≡ Some Q →

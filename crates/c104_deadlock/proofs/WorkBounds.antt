@@ -6,8 +6,8 @@ use Rattle.{c104_deadlock.specs.Work.weigh, c104_link.{proofs.MadeSteps.given, s
 use Rattle.{c104_node.specs.{Traces.part, declared.node.NodeOf.NodeOf}, c104_plan.specs.{Plans.Plan, Wiring.peer, declared.ports.Port.Port}}
 use Rattle.c104_switch.specs.{Phases.with_header, Rooms.room_left, Switch.{Input, Switch}, Views.{link_view, sides_view}}
 use Rattle.{c104_switch.specs.declared.{actions.LinkView.LinkView, phase.Phase.{Phase, TheVariants.Fresh}}, c104_token.specs.Kinds.Kind}
-use Rattle.std.proofs.Common.{List, Option, Some, [], ap, arith, length, map, refl, slice_get, subst, suc, sym, take, zero, ℕ, ◌*◌, ◌+◌}
-use Rattle.std.proofs.{Common.{◌<◌, ◌∙◌, ◌∷◌, ◌≡◌, ◌≤◌}, Math.Nat.{add-mul, suc-mul, zero-mul}, lemmas.List.length-map}
+use Rattle.std.proofs.Common.{List, Option, Some, [], arith, length, map, refl, slice_get, subst, suc, sym, take, zero, ℕ, ◌*◌, ◌+◌, ◌<◌}
+use Rattle.std.proofs.{Common.{◌∷◌, ◌≡◌, ◌≤◌}, Math.Nat.{add-mul, suc-mul, zero-mul}, lemmas.List.length-map}
 
 module _ {X : Type 0} where
   pub weigh_more : (a b : ℕ) → a ≤ b → (xs : List X) → weigh a xs ≤ weigh b xs
@@ -123,19 +123,12 @@ told_sum a b = omega arith
 module _ {X : Type 0} where
   -- one element more of a list
   pub one_next : (f : ℕ → X → ℕ) (xs : List X) (i : ℕ) (x : X) (sum one next : ℕ) → slice_get xs i ≡ Some x → sum ≡ told_work (sum_at f 0 (take i xs)) → one ≡ told_work (f i x) → next ≡ told_work (sum + one) → next ≡ told_work (sum_at f 0 (take (i + 1) xs))
-  one_next f xs i x sum one next h1 h2 h3 h4 = search (arith, sum_next)
+  one_next f xs i x sum one next here so_far this is = search (arith, sum_next)
 
 module _ {X Y : Type 0} where
   -- and of two at a time
   pub both_next : (f : ℕ → X → ℕ) (h : ℕ → Y → ℕ) (xs : List X) (ys : List Y) (i sum one next : ℕ) → sum ≡ told_work (sum_at f 0 (take i xs) + sum_at h 0 (take i ys)) → one ≡ told_work (part 0 (f i) (slice_get xs i) + part 0 (h i) (slice_get ys i)) → next ≡ told_work (sum + one) → next ≡ told_work (sum_at f 0 (take (i + 1) xs) + sum_at h 0 (take (i + 1) ys))
-  both_next f h xs ys i sum one next so_far this is =
-      let zeroth : 0 + i ≡ i = omega arith in
-      let first : sum_at f 0 (take (suc i) xs) ≡ sum_at f 0 (take i xs) + part 0 (f i) (slice_get xs i) = sum_next f 0 i xs ∙ ap (λ k. sum_at f 0 (take i xs) + part 0 (f k) (slice_get xs i)) zeroth in
-      let second : sum_at h 0 (take (suc i) ys) ≡ sum_at h 0 (take i ys) + part 0 (h i) (slice_get ys i) = sum_next h 0 i ys ∙ ap (λ k. sum_at h 0 (take i ys) + part 0 (h k) (slice_get ys i)) zeroth in
-      let both : (sum_at f 0 (take i xs) + sum_at h 0 (take i ys)) + (part 0 (f i) (slice_get xs i) + part 0 (h i) (slice_get ys i)) ≡ sum_at f 0 (take (suc i) xs) + sum_at h 0 (take (suc i) ys) = omega (arith, first, second) in
-      let step : suc i ≡ i + 1 = omega arith in
-      is ∙ ap (λ n. told_work (n + one)) so_far ∙ ap (λ n. told_work (told_work (sum_at f 0 (take i xs) + sum_at h 0 (take i ys)) + n)) this
-      ∙ told_sum (sum_at f 0 (take i xs) + sum_at h 0 (take i ys)) (part 0 (f i) (slice_get xs i) + part 0 (h i) (slice_get ys i)) ∙ ap told_work both ∙ ap (λ k. told_work (sum_at f 0 (take k xs) + sum_at h 0 (take k ys))) step
+  both_next f h xs ys i sum one next so_far this is = search (arith, sum_next)
 
 -- what comes in, a header, and what goes out, as they are added
 pub incoming_told : (a b w x : ℕ) → w ≡ told_work a → x ≡ told_work (w + b) → x ≡ told_work (a + b)

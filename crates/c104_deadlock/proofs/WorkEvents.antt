@@ -16,12 +16,11 @@ use Rattle.c104_run.{proofs.EventSteps.{claim_named, credit_named, cross_named, 
 use Rattle.c104_run.specs.{Ends.end_of, EventActs.{Ask, acts_step, ask_acts}, Network.{Network, network_of, network_step, terminal_place}}
 use Rattle.c104_run.specs.{Network.{told_step, wired_fault}, Standstill.{IsStarted, IsStartedNode, IsStartedSwitch}}
 use Rattle.c104_switch.specs.{Actions.Reply, Claims.{input_claim, inputs_claim, switch_claim}, Group.is_in_group, Switch.{Input, Switch}}
-use Rattle.c104_switch.specs.{Switch.{input_grant, is_owned, switch_credit_out, with_sides}, Turns.{header_turn, input_after_token}}
-use Rattle.c104_switch.specs.{Turns.{input_turn, phase_after_token, switch_input, turn_by_phase}, declared.actions.ReplyOf.ReplyOf}
-use Rattle.{c104_switch.specs.declared.phase.Phase.{Phase, TheVariants.{Fresh, Head, Sinking, Stream, Want}}, c104_token.specs.Kinds.Kind}
-use Rattle.{c104_token.specs.Tokens.is_end, std.proofs.Common.{List, Option, Some, [], ap, arith, false, length, map, nat_le, nat_lt, not}}
-use Rattle.std.proofs.Common.{refl, slice_get, slice_set, subst, sym, true, ℕ, ⊎_elim, ◌*◌, ◌++◌, ◌+◌, ◌-◌, ◌<◌, ◌∙◌, ◌∷◌, ◌≡◌, ◌≤◌}
-use Rattle.std.proofs.lemmas.{Bool.cases_Bool, List.length-set, Option.some_pair_parts}
+use Rattle.c104_switch.specs.{Switch.{input_grant, is_owned, switch_credit_out, with_sides}, Turns.{header_turn, input_turn, switch_input}}
+use Rattle.c104_switch.specs.{Turns.turn_by_phase, declared.{actions.ReplyOf.ReplyOf, phase.Phase.{Phase, TheVariants.{Stream, Want}}}}
+use Rattle.{c104_token.specs.{Kinds.Kind, Tokens.is_end}, std.proofs.Common.{List, Option, Some, [], ap, arith, false, length, map, nat_le}}
+use Rattle.std.proofs.Common.{nat_lt, not, refl, slice_get, slice_set, subst, sym, true, ℕ, ⊎_elim, ◌*◌, ◌++◌, ◌+◌, ◌-◌, ◌<◌, ◌∙◌, ◌∷◌, ◌≡◌}
+use Rattle.std.proofs.{Common.◌≤◌, lemmas.{Bool.cases_Bool, List.length-set, Option.some_pair_parts}}
 
 -- what each way of a packet goes down, and what is counted in advance: at an input that puts random headers what one
 -- weighs, and one for the turn; at one that a switch is wired to nothing
@@ -142,14 +141,7 @@ module _ {A : Type 0} (kind : Kind A) (plan : Plan) (is_plan : IsPlan plan) (ran
   over_less p Grant of = credit_less p
 
   steps_less : AreCases plan LeavesLess
-  steps_less = record {
-    over = over_less;
-    turn = λ s i word other of. input_less s i word;
-    claim = λ s i o other of. claim_less s i o;
-    control = λ s bytes other of. absurd of;
-    send = λ t packet other of. absurd of;
-    drain = λ t other of. drain_less t;
-  }
+  steps_less = search (arith, over_less, input_less, claim_less, drain_less)
 
   -- each event of a round that is done leaves less
   pub event_less : (e : Event) (r : Reply) (net' : Network A) → IsOfRound e → network_step kind (network_of plan nodes) e ≡ Some (r, net') → Less net'
@@ -181,7 +173,7 @@ module _ {A : Type 0} where
   enter_started x l (NodeOf.Terminal T) m e a = search (arith, given, accept_cap)
 
   leave_started : (l : ℕ) (n : Node A) (r : A × Node A) → node_leave l n ≡ Some r → IsStartedNode n → IsStartedNode r.1
-  leave_started l n r h1 h2 = search (arith, given, from_place_made, length-set)
+  leave_started l n r e a = search (arith, given, from_place_made, length-set)
 
   credit_out_started : (l : ℕ) (n m : Node A) → node_credit_out l n ≡ Some m → IsStartedNode n → IsStartedNode m
   credit_out_started l (NodeOf.Switch S) m e a =
@@ -191,10 +183,10 @@ module _ {A : Type 0} where
   credit_out_started l (NodeOf.Terminal T) m e a = search (arith, given, grant_cap)
 
   credit_in_started : (l : ℕ) (n m : Node A) → node_credit_in l n ≡ Some m → IsStartedNode n → IsStartedNode m
-  credit_in_started l n m h1 h2 = search (arith, given, at_place_made, length-set)
+  credit_in_started l n m e a = search (arith, given, at_place_made, length-set)
 
   drain_started : (n : Node A) (r : A × Node A) → node_drain n ≡ Some r → IsStartedNode n → IsStartedNode r.1
-  drain_started n r h1 h2 = grind arith
+  drain_started n r e a = grind arith
 
   -- a turn and a claim keep the capacity of the buffer, and how many outputs there are
   abbrev Keeps : Input A → List (Outgoing A) → Input A × List (Outgoing A) → Type 0
@@ -204,14 +196,10 @@ module _ {A : Type 0} where
   header_cap kind t p b x = ⊎_elim (λ (m : is_end (kind.plain x) ≡ true). rw m refl) (λ (m : is_end (kind.plain x) ≡ false). rw m refl) (cases_Bool (is_end (kind.plain x)))
 
   turn_keeps : (kind : Kind A) (t : Settings) (word : ℕ) (p : Input A) (qs : List (Outgoing A)) (x : A) (ph : Phase (List A)) (r : Input A × List (Outgoing A)) → turn_by_phase kind t word p qs ph x ≡ Some r → Keeps p qs r
-  turn_keeps kind t word p qs x Fresh r e = search (arith, header_cap, cases_Bool)
-  turn_keeps kind t word p qs x (Head b) r e = let d : (header_turn kind t p b x, qs) ≡ r = cc in subst (Keeps p qs) d (header_cap kind t p b x, refl)
-  turn_keeps kind t word p qs x (Want b g) r e = absurd (cc)
-  turn_keeps kind t word p qs x (Stream o) r e = search (arith, given, length-at_place)
-  turn_keeps kind t word p qs x Sinking r e = let d : (input_after_token p (phase_after_token kind x Sinking) false false, qs) ≡ r = cc in subst (Keeps p qs) d (refl, refl)
+  turn_keeps kind t word p qs x ph r e = search (arith, header_cap, cases_Bool, given, length-at_place)
 
   claim_keeps : (settings : List Settings) (p : Input A) (qs : List (Outgoing A)) (o : ℕ) (ph : Phase (List A)) (r : Input A × List (Outgoing A)) → input_claim settings p qs o ph ≡ Some r → Keeps p qs r
-  claim_keeps settings p qs o ph r h1 = search (arith, required, given, length-at_place)
+  claim_keeps settings p qs o ph r e = search (arith, required, given, length-at_place)
 
   input_started : (kind : Kind A) (i word : ℕ) (n m : Node A) → node_input kind i word n ≡ Some m → IsStartedNode n → IsStartedNode m
   input_started kind i word (NodeOf.Terminal T) m e a = absurd (cc)

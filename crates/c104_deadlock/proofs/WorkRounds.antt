@@ -22,15 +22,13 @@ of_round : (plan : Plan) → AllByRecursion IsOfRound (round plan)
 of_round plan = each_of_round plan IsOfRound (λ p q wire. tt) (λ p q wire. tt) (λ s l q wire. tt) (λ s i o inside input output. tt) (λ t inside. tt)
 
 may_happen : (routes : Routes) (e : Event) (r : Reply) → IsOfRound e → MayHappen routes e r
-may_happen routes e r h1 = grind arith
+may_happen routes e r of = grind arith
 
 sends_none : (e : Event) → IsOfRound e → SendsBytes e
-sends_none (Event.Send t p) of = absurd of
-sends_none e of = tt
+sends_none e of = search arith
 
 not_ready : (r : Reply) → is_ready r ≡ false → r ≡ ReplyOf.NotReady
-not_ready ReplyOf.NotReady is = refl
-not_ready r is = absurd (cc is)
+not_ready r is = search arith
 
 module _ (plan : Plan) (image : Image) (is_plan : IsPlan plan) (labelled : IsLabelled (routes_of plan image)) (rank : SwitchPort → ℕ) (falls : IsRanking (routes_of plan image) rank) where
   goes_down : (s i l o : ℕ) (R : Port) → IsChosen (routes_of plan image) (Port.Switch s i) l → group_at (routes_of plan image) (Port.Switch s i) l o ≡ true → peer plan (Port.Switch s o) ≡ Some R → far_of plan rank (Port.Switch s o) + 1 ≤ own plan rank (Port.Switch s i)

@@ -63,16 +63,16 @@ module _ (plan : Plan) where
 module _ {A : Type 0} (plan : Plan) (rank ahead : SwitchPort → ℕ) where
   -- a buffer that takes a token in, or grants, or loses its first token
   accept_work : (far a : ℕ) (x : A) (b c : Incoming A) → incoming_accept x b ≡ Some c → full_incoming plan rank ahead far a c ≡ full_incoming plan rank ahead far a b + (8 * far + 2 + a)
-  accept_work far a x b c h1 = search (arith, required, nat_tests, length-append, weigh-append)
+  accept_work far a x b c e = search (arith, required, nat_tests, length-append, weigh-append)
 
   grant_work : (far a : ℕ) (b c : Incoming A) → incoming_grant b ≡ Some c → full_incoming plan rank ahead far a c + 8 ≡ full_incoming plan rank ahead far a b
-  grant_work far a b c h1 = grind arith
+  grant_work far a b c e = grind arith
 
   first_work : (far a : ℕ) (x : A) (b : Incoming A) → b.items ≡ x ∷ drop 1 b.items → full_incoming plan rank ahead far a (without_first b) + (8 * far + 2 + a) ≤ full_incoming plan rank ahead far a b + 1
   first_work far a x b e = rw e (omega arith)
 
   emit_work : (far a : ℕ) (q : Outgoing A) (r : A × Outgoing A) → outgoing_emit q ≡ Some r → full_output plan rank ahead far a r.1 + (8 * far + 4 + a) ≡ full_output plan rank ahead far a q
-  emit_work far a q r h1 = grind arith
+  emit_work far a q r e = grind arith
 
   credited_work : (far a : ℕ) (q r : Outgoing A) → outgoing_credited q ≡ Some r → full_output plan rank ahead far a r ≡ full_output plan rank ahead far a q
   credited_work far a q r e = required (nat_le (q.credit + 8) 64) _ r e (λ h f. (let d : record { items = q.items; credit = q.credit + 8 } ≡ r = cc in subst (λ z. full_output plan rank ahead far a z ≡ full_output plan rank ahead far a q) d refl))
@@ -131,7 +131,7 @@ module _ {A : Type 0} (plan : Plan) (rank ahead : SwitchPort → ℕ) where
   credit_in_work P n m k e = absurd k
 
   pub drain_work : (k : ℕ) (n : Node A) (r : A × Node A) → node_drain n ≡ Some r → full_node plan rank ahead k r.1 + 1 ≤ full_node plan rank ahead k n
-  drain_work k n r h1 = grind arith
+  drain_work k n r e = grind arith
 
   module _ (kind : Kind A) (s i : ℕ) where
     abbrev far : ℕ
@@ -145,8 +145,7 @@ module _ {A : Type 0} (plan : Plan) (rank ahead : SwitchPort → ℕ) where
     waits ph = first_ahead plan rank ahead a ph
 
     waits_low : (ph : Phase (List A)) → waits ph ≤ a
-    waits_low Fresh = omega arith
-    waits_low ph = omega arith
+    waits_low ph = search arith
 
     -- what is kept of a header after one more token of it
     held_after : (c : ℕ) (t : Settings) (b : List A) → weigh c (header_held (phase_after_header kind t b).0) ≤ weigh c b
@@ -170,7 +169,7 @@ module _ {A : Type 0} (plan : Plan) (rank ahead : SwitchPort → ℕ) where
 
     -- a random header that is put is paid by what was counted for it
     random_turn_work : (t : Settings) (word : ℕ) (p : Input A) → p.phase ≡ Fresh → a ≡ header_length t * (8 * far) + 1 → full_input plan rank ahead s i (random_turn kind t word p) + 1 ≤ full_input plan rank ahead s i p
-    random_turn_work t word p h1 h2 = grind arith
+    random_turn_work t word p is pays = grind arith
 
     -- what an input and the outputs leave
     abbrev pub IsLess : Input A → List (Outgoing A) → Input A × List (Outgoing A) → Type 0
