@@ -3,27 +3,21 @@
 use Rattle.c104_check.specs.{ChannelDependencies.IsNeverRandomized, Routes.{Routes, link_settings}, Walks.port_of}
 use Rattle.{c104_check.specs.declared.ports.SwitchPort.SwitchPort, c104_deadlock.proofs.WorkBounds.{level_more, sum_more, weigh_more}}
 use Rattle.c104_deadlock.specs.HeaderWork.{ahead_at, ahead_by, first_ahead, full_input, full_node, full_output, full_work, none_ahead}
-use Rattle.c104_deadlock.specs.{HeaderWork.{random_ahead, random_bound, random_work, work}, Work.{highest_rank, level}}
-use Rattle.{c104_link.specs.Buffers.Outgoing, c104_node.specs.Nodes.Node, c104_plan.specs.{Plans.Plan, declared.ports.Port.Port}}
+use Rattle.{c104_deadlock.specs.{HeaderWork.{random_ahead, random_bound, random_work, work}, Work.level}, c104_link.specs.Buffers.Outgoing}
+use Rattle.{c104_node.specs.Nodes.Node, c104_plan.specs.{Plans.Plan, declared.ports.Port.Port}}
 use Rattle.{c104_regs.specs.declared.settings.Settings.Settings, c104_switch.specs.{Switch.Input, declared.phase.Phase.Phase}}
-use Rattle.{c104_switch.specs.declared.phase.Phase.TheVariants.Fresh, std.proofs.Common.{List, None, Option, Some, arith, false, length}}
-use Rattle.std.proofs.{Common.{refl, suc, true, zero, ℕ, ⊎_elim, ◌*◌, ◌+◌, ◌≡◌, ◌≤◌}, Math.Nat.{suc-mul, zero-mul}, lemmas.Bool.cases_Bool}
+use Rattle.std.proofs.{Common.{List, None, Option, Some, arith, false, length, refl, true, ℕ, ⊎_elim, ◌*◌, ◌≡◌, ◌≤◌}, Math.Nat.suc-mul}
+use Rattle.std.proofs.{Math.Nat.zero-mul, lemmas.Bool.cases_Bool}
 
 -- By higher ranks
 
 times_more : (n a b : ℕ) → a ≤ b → n * a ≤ n * b
-times_more zero a b less = let one = zero-mul a in let other = zero-mul b in omega (arith, one, other)
-times_more (suc n) a b less =
-    let rest = times_more n a b less in
-    let one = suc-mul n a in
-    let other = suc-mul n b in
-    omega (arith, rest, one, other, less)
+times_more n a b less = search (arith, zero-mul, suc-mul)
 
 module _ (plan : Plan) (rank high ahead most : SwitchPort → ℕ) (less : (p : SwitchPort) → rank p ≤ high p) (fewer : (p : SwitchPort) → ahead p ≤ most p) where
   module _ {A : Type 0} where
     first_more : (s l : ℕ) (ph : Phase (List A)) → first_ahead plan rank ahead (ahead (port_of s l)) ph ≤ first_ahead plan high most (most (port_of s l)) ph
-    first_more s l Fresh = let here = fewer (port_of s l) in omega (arith, here)
-    first_more s l ph = omega arith
+    first_more s l ph = search arith
 
     input_more : (s l : ℕ) (p : Input A) → full_input plan rank ahead s l p ≤ full_input plan high most s l p
     input_more s l p = search (arith, weigh_more, first_more)
@@ -39,21 +33,11 @@ module _ (plan : Plan) (rank high ahead most : SwitchPort → ℕ) (less : (p : 
 
 -- where no rank is higher than there are inputs, no work is above the bound
 pub random_within : {A : Type 0} (plan : Plan) (routes : Routes) (rank : SwitchPort → ℕ) → ((p : SwitchPort) → rank p ≤ 32 * length plan.switches) → (nodes : List (Node A)) → random_work plan routes rank nodes ≤ random_bound plan routes nodes
-random_within plan routes rank low nodes = full_more plan rank (highest_rank plan) (random_ahead routes rank) (random_ahead routes (highest_rank plan)) low (λ p. by_settings p (link_settings routes.settings p)) nodes
-  where
-    by_settings : (p : SwitchPort) (x : Option Settings) → ahead_by routes.header (rank p) x ≤ ahead_by routes.header (highest_rank plan p) x
-    by_settings p None = omega arith
-    by_settings p (Some x) = ⊎_elim
-        (λ (k : x.randomize ≡ true). rw k (let here = low p in let more = times_more routes.header (8 * (rank p + 1)) (8 * (highest_rank plan p + 1)) (omega (arith, here)) in omega (arith, more)))
-        (λ (k : x.randomize ≡ false). rw k (omega arith))
-        (cases_Bool x.randomize)
+random_within plan routes rank low nodes = search (arith, full_more, times_more, cases_Bool)
 
 -- the same where as much is counted in advance
 full_same : {A : Type 0} (plan : Plan) (rank ahead other : SwitchPort → ℕ) → ((p : SwitchPort) → ahead p ≡ other p) → (nodes : List (Node A)) → full_work plan rank ahead nodes ≡ full_work plan rank other nodes
-full_same plan rank ahead other same nodes =
-    let one = full_more plan rank rank ahead other (λ p. omega arith) (λ p. let is = same p in omega (arith, is)) nodes in
-    let more = full_more plan rank rank other ahead (λ p. omega arith) (λ p. let is = same p in omega (arith, is)) nodes in
-    omega (arith, one, more)
+full_same plan rank ahead other same nodes = search (arith, full_more)
 
 -- where no link puts random headers before packets, the work is that of the tokens that there are
 pub plain_work : {A : Type 0} (plan : Plan) (routes : Routes) (rank : SwitchPort → ℕ) → IsNeverRandomized routes → (nodes : List (Node A)) → random_work plan routes rank nodes ≡ work plan rank nodes

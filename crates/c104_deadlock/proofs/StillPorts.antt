@@ -33,8 +33,7 @@ below_total f (suc n) k h = ⊎_elim
 
 module _ {A : Type 0} where
   stream_or_not : (ph : Phase (List A)) (o : ℕ) → (ph ≡ Stream o) ⊎ (ph ≢ Stream o)
-  stream_or_not (Stream p) o = ⊎_elim (λ (e : p ≡ o). inl (ap Stream e)) (λ (n : p ≢ o). inr (λ e. n (cc))) (cases_eq p o)
-  stream_or_not ph o = inr (λ e. absurd (cc))
+  stream_or_not ph o = search (arith, cases_eq)
 
   abbrev phase_of : List (Input A) → ℕ → Phase (List A)
   phase_of inputs k = part Fresh (λ (p : Input A). p.phase) (slice_get inputs k)
@@ -71,8 +70,7 @@ module _ (routes : Routes) (wired : IsWired routes.peer) where
 
   -- so one leads to where packets begin to go by a header, and to where they may come by it
   begun_wire : (entry p : SwitchPort) (behind : Bool) → HasWire entry → Begins routes entry behind p → HasWire p
-  begun_wire entry p false at (same, plain) = subst HasWire (sym same) at
-  begun_wire entry p true at (r, m, random, reaches, discards) = reached_wire r m entry p at reaches
+  begun_wire entry p behind at begins = search (arith, reached_wire)
 
   beginning_wire : (h : ℕ) (p : SwitchPort) → IsBeginningBy routes h p → HasWire p
   beginning_wire h p begins = search (arith, begun_wire, entry_wire)
@@ -139,15 +137,7 @@ module _ (plan : Plan) (image : Image) (is_plan : IsPlan plan) (labelled : IsLab
 
   -- what streams on from an input goes on where the output is empty
   streams_on : (s k o : ℕ) (P Q : Port) → peer plan (port.Switch s k) ≡ Some P → peer plan (port.Switch s o) ≡ Some Q → phases plan nodes (port.Switch s k) ≡ Stream o → outs plan nodes (port.Switch s o) ≡ [] → ins plan nodes (port.Switch s k) ≡ []
-  streams_on s k o P Q wire to_q streams none = ⊎_elim (λ (e : ins plan nodes (port.Switch s k) ≡ []). e)
-      (λ (h : ((b : List Traced) × (l : ℕ) × (phases plan nodes (port.Switch s k) ≡ Want b l)) ⊎ ((p : ℕ) × (phases plan nodes (port.Switch s k) ≡ Stream p) × ((T : Port) → peer plan (port.Switch s p) ≡ Some T → 8 ≤ length (outs plan nodes (port.Switch s p))))). absurd (⊎_elim
-      (λ (h : (b : List Traced) × (l : ℕ) × (phases plan nodes (port.Switch s k) ≡ Want b l)). (let e : Want h.0 h.1 ≡ Stream o = sym h.2 ∙ streams in cc))
-      (λ (h : (p : ℕ) × (phases plan nodes (port.Switch s k) ≡ Stream p) × ((T : Port) → peer plan (port.Switch s p) ≡ Some T → 8 ≤ length (outs plan nodes (port.Switch s p)))).
-      (let e : ◌≡◌ {A = Phase (List Traced)} (Stream h.0) (Stream o) = sym h.1 ∙ streams in let d : h.0 ≡ o = cc in
-      let full : 8 ≤ length (outs plan nodes (port.Switch s o)) = subst (λ z. 8 ≤ length (outs plan nodes (port.Switch s z))) d (h.2 Q (subst (λ z. peer plan (port.Switch s z) ≡ Some Q) (sym d) to_q)) in
-      let over : 8 ≤ 0 = rw none at full in omega (arith, over)))
-      h))
-      (stuck traced_kind plan is_plan nodes steady started still s k P wire)
+  streams_on s k o P Q wire to_q streams none = search (arith, stuck)
 
   -- what an input streams is what its output's far input waits for
   abbrev Streams : ℕ → ℕ → ℕ → Type 0
@@ -249,8 +239,7 @@ module _ (plan : Plan) (image : Image) (is_plan : IsPlan plan) (labelled : IsLab
 
   -- nothing stands at a port that has a wire
   none_in : (Q P : Port) → peer plan Q ≡ Some P → ins plan nodes Q ≡ []
-  none_in (port.Switch s l) P wire = empty (suc (rank (port_of s l))) s l P (omega arith) wire
-  none_in (port.Terminal t) P wire = arrived traced_kind plan is_plan nodes steady started still t P wire
+  none_in Q P wire = search (arith, empty, arrived)
 
   rest_read : (Q P : Port) → peer plan Q ≡ Some P → good.holds.0.rest Q ≡ []
   rest_read (port.Switch s l) P wire = idle (suc bound) s l P (omega arith) wire (none_in (port.Switch s l) P wire)

@@ -8,12 +8,11 @@ use Rattle.c104_run.{proofs.UnreadyEvents.{terminal_there, unready_answered}, sp
 use Rattle.c104_run.specs.{Ends.end_of, Network.{network_of, terminal_place}, ReasonMeanings.{IsCreditInReason, IsCreditOutReason}}
 use Rattle.c104_run.specs.{ReasonMeanings.{IsEnterReason, IsEventReason, IsLeaveReason, IsSaidAt}, Reasons.{is_unready, network_why}}
 use Rattle.c104_run.specs.{Standstill.{IsStarted, IsStartedSwitch, IsStill, IsUnready}, declared.reason.Reason.Reason}
-use Rattle.c104_switch.specs.{Phases.is_want, ReasonMeanings.{IsGrantReason, IsReason}, Switch.{Input, Switch}}
-use Rattle.c104_switch.specs.declared.{actions.ActionOf.ActionOf, phase.Phase.TheVariants.{Stream, Want}}
-use Rattle.c104_switch.specs.declared.unready.Unready.TheVariants.{NoLink, NoRoom, NoRoomForHeader, NotStarted, OutsideGroup, Owned}
-use Rattle.{c104_switch.specs.declared.unready.Unready.{TheVariants.WantsNothing, Unready}, c104_token.specs.Kinds.Kind}
-use Rattle.std.proofs.Common.{IfSome, List, None, Option, Some, [], ap, arith, false, inl, inr, is_some, length, refl, slice_get, subst}
-use Rattle.std.proofs.{Common.{sym, true, ℕ, ⊎_elim, ◌+◌, ◌<◌, ◌∙◌, ◌∷◌, ◌≡◌, ◌≤◌, ◌⊎◌}, lemmas.{Bool.true≢false, Option.slice_get_within}}
+use Rattle.c104_switch.specs.{ReasonMeanings.{IsGrantReason, IsReason}, Switch.{Input, Switch}, declared.actions.ActionOf.ActionOf}
+use Rattle.c104_switch.specs.declared.{phase.Phase.TheVariants.{Stream, Want}, unready.Unready.{TheVariants.NoRoom, Unready}}
+use Rattle.{c104_token.specs.Kinds.Kind, std.proofs.Common.{IfSome, List, None, Option, Some, [], ap, arith, false, inl, inr, is_some}}
+use Rattle.std.proofs.Common.{length, refl, slice_get, subst, sym, true, ℕ, ⊎_elim, ◌+◌, ◌<◌, ◌∙◌, ◌∷◌, ◌≡◌, ◌≤◌, ◌⊎◌}
+use Rattle.std.proofs.lemmas.{Bool.true≢false, Option.slice_get_within}
 
 -- what is said of a link that there is
 module _ {A : Type 0} (S : Switch A) (started : IsStartedSwitch S) where
@@ -49,13 +48,7 @@ module _ {A : Type 0} (S : Switch A) (started : IsStartedSwitch S) where
 
   -- an input that wants a link with room gets it, unless another input has it
   no_claim : (i g : ℕ) (b : List A) (p : Input A) (q : Outgoing A) → slice_get S.inputs i ≡ Some p → slice_get S.outputs g ≡ Some q → g < 32 → p.phase ≡ Want b g → q.items ≡ [] → length b ≤ 8 → (u : Unready) → IsReason S (ActionOf.Claim i g) u → (k : ℕ) × (owner : Input A) × (slice_get S.inputs k ≡ Some owner) × (owner.phase ≡ Stream g)
-  no_claim i g b p q is_input is_output below wants none few NoLink r = absurd (⊎_elim (λ (h : length S.inputs ≤ i). within i p is_input h) (λ (h : (length S.settings ≤ g) ⊎ (length S.outputs ≤ g)). ⊎_elim (λ (h : length S.settings ≤ g). omega (arith, h, below, started.settings)) (λ h. beyond g q is_output h) h) r)
-  no_claim i g b p q is_input is_output below wants none few NotStarted r = absurd (true≢false (sym started.started ∙ r))
-  no_claim i g b p q is_input is_output below wants none few WantsNothing r = let k : is_want p.phase ≡ false = rw is_input at r in absurd (true≢false (sym (ap is_want wants) ∙ k))
-  no_claim i g b p q is_input is_output below wants none few (OutsideGroup g') r = search (arith, true≢false, own_link)
-  no_claim i g b p q is_input is_output below wants none few (Owned j) r = search arith
-  no_claim i g b p q is_input is_output below wants none few NoRoomForHeader r = search arith
-  no_claim i g b p q is_input is_output below wants none few u r = absurd (rw is_input at r)
+  no_claim i g b p q is_input is_output below wants none few u r = search (arith, within, beyond, true≢false, own_link)
 
 module _ {A : Type 0} (kind : Kind A) (plan : Plan) (is_plan : IsPlan plan) (nodes : List (Node A)) (steady : IsSteady (network_of plan nodes)) (started : IsStarted (network_of plan nodes)) (still : IsStill kind (network_of plan nodes)) where
   -- an event that isn't ready has its reason
@@ -100,15 +93,7 @@ module _ {A : Type 0} (kind : Kind A) (plan : Plan) (is_plan : IsPlan plan) (nod
 
   -- an input that holds nothing and grants nothing more has granted already
   granted_some : (Q P : Port) (c : ℕ) (u : Unready) → peer plan Q ≡ Some P → granted_at nodes (end_of plan Q) ≡ Some c → ins plan nodes Q ≡ [] → IsSaidAt (network_of plan nodes) IsCreditOutReason Q u → 0 < c
-  granted_some (Port.Switch s l) P c u wired grants none said =
-      let k = link_at s l P wired in
-      let e : Some k.input.buffer.granted ≡ Some c = sym (rw (k.here, k.input_is) refl) ∙ grants in
-      let d : k.input.buffer.granted ≡ c = cc in
-      let see : ins plan nodes (Port.Switch s l) ≡ k.input.buffer.items = rw (k.here, k.input_is) refl in
-      let empty : k.input.buffer.items ≡ [] = sym see ∙ none in
-      let r : IsReason k.switch (ActionOf.CreditOut l) u = rw k.here at said in
-      let full : k.input.buffer.cap < 0 + k.input.buffer.granted + 8 = rw empty at (no_grant k.switch k.started_is l k.input k.input_is u r) in
-      omega (arith, full, d, k.started_is.room l k.input k.input_is)
+  granted_some (Port.Switch s l) P c u wired grants none said = search (arith, link_at, no_grant)
   granted_some (Port.Terminal t) P c u wired grants none said =
       let k = terminal_at t P wired in
       let e : Some k.0.input.granted ≡ Some c = sym (rw k.1 refl) ∙ grants in
@@ -129,8 +114,7 @@ module _ {A : Type 0} (kind : Kind A) (plan : Plan) (is_plan : IsPlan plan) (nod
 
   -- where there is credit, what can't leave isn't there
   none_leaves : (P Q : Port) (c : ℕ) (u : Unready) → peer plan P ≡ Some Q → credit_at nodes (end_of plan P) ≡ Some c → 0 < c → IsSaidAt (network_of plan nodes) IsLeaveReason P u → outs plan nodes P ≡ []
-  none_leaves (Port.Switch s l) Q c u wired has some said = search (arith, link_at, outs, no_leave)
-  none_leaves (Port.Terminal t) Q c u wired has some said = search (arith, terminal_at, outs)
+  none_leaves P Q c u wired has some said = search (arith, link_at, no_leave, terminal_at)
 
   -- and a token can enter
   enters : (Q P : Port) (x : A) (c : ℕ) (u : Unready) → peer plan Q ≡ Some P → granted_at nodes (end_of plan Q) ≡ Some c → 0 < c → IsSaidAt (network_of plan nodes) IsEnterReason Q u → ⊥
@@ -167,7 +151,7 @@ module _ {A : Type 0} (kind : Kind A) (plan : Plan) (is_plan : IsPlan plan) (nod
 
   -- nothing stands at a terminal
   pub arrived : (t : ℕ) (Q : Port) → peer plan (Port.Terminal t) ≡ Some Q → ins plan nodes (Port.Terminal t) ≡ []
-  arrived t Q wired = search (arith, terminal_at, reason_of, terminal_inside, ins)
+  arrived t Q wired = search (arith, terminal_at, reason_of, terminal_inside)
 
   -- an input with a token wants an output, or streams to one that is full
   pub stuck : (s l : ℕ) (Q : Port) → peer plan (Port.Switch s l) ≡ Some Q →

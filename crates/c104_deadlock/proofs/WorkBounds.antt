@@ -1,13 +1,12 @@
 -- Work by ranks that are higher is more, so all work has a bound; and work as it is summed up.
 use Rattle.{c104_check.specs.{Walks.port_of, declared.ports.SwitchPort.SwitchPort}, c104_deadlock.specs.HeaderWork.{ahead_at, first_ahead}}
-use Rattle.c104_deadlock.specs.{HeaderWork.{full_input, full_link, full_node, full_output, none_ahead, work_bound}, Work.header_held}
-use Rattle.c104_deadlock.specs.Work.{highest_rank, level, most_weight, node_room, node_tokens, room_held, sum_at, tokens_held, told_work}
-use Rattle.{c104_deadlock.specs.Work.weigh, c104_link.{proofs.MadeSteps.given, specs.Buffers.Outgoing}, c104_node.specs.Nodes.Node}
-use Rattle.{c104_node.specs.{Traces.part, declared.node.NodeOf.NodeOf}, c104_plan.specs.{Plans.Plan, Wiring.peer, declared.ports.Port.Port}}
-use Rattle.c104_switch.specs.{Phases.with_header, Rooms.room_left, Switch.{Input, Switch}, Views.{link_view, sides_view}}
-use Rattle.{c104_switch.specs.declared.{actions.LinkView.LinkView, phase.Phase.{Phase, TheVariants.Fresh}}, c104_token.specs.Kinds.Kind}
-use Rattle.std.proofs.Common.{List, Option, Some, [], arith, length, map, refl, slice_get, subst, suc, sym, take, zero, ℕ, ◌*◌, ◌+◌, ◌<◌}
-use Rattle.std.proofs.{Common.{◌∷◌, ◌≡◌, ◌≤◌}, Math.Nat.{add-mul, suc-mul, zero-mul}, lemmas.List.length-map}
+use Rattle.c104_deadlock.specs.{HeaderWork.{full_input, full_node, full_output, none_ahead, work_bound}, Work.{header_held, highest_rank}}
+use Rattle.c104_deadlock.specs.Work.{level, most_weight, node_room, node_tokens, room_held, sum_at, tokens_held, told_work, weigh}
+use Rattle.{c104_link.{proofs.MadeSteps.given, specs.Buffers.Outgoing}, c104_node.specs.{Nodes.Node, Traces.part}}
+use Rattle.{c104_plan.specs.{Plans.Plan, declared.ports.Port.Port}, c104_switch.specs.{Phases.with_header, Rooms.room_left, Switch.Input}}
+use Rattle.c104_switch.specs.{Switch.Switch, Views.{link_view, sides_view}, declared.{actions.LinkView.LinkView, phase.Phase.Phase}}
+use Rattle.{c104_token.specs.Kinds.Kind, std.proofs.Common.{List, Option, Some, [], arith, length, map, refl, slice_get, subst, suc, sym}}
+use Rattle.std.proofs.{Common.{take, zero, ℕ, ◌*◌, ◌+◌, ◌<◌, ◌∷◌, ◌≡◌, ◌≤◌}, Math.Nat.{add-mul, suc-mul, zero-mul}, lemmas.List.length-map}
 
 module _ {X : Type 0} where
   pub weigh_more : (a b : ℕ) → a ≤ b → (xs : List X) → weigh a xs ≤ weigh b xs
@@ -35,20 +34,17 @@ module _ {X : Type 0} where
 
 module _ (plan : Plan) (rank high : SwitchPort → ℕ) (less : (p : SwitchPort) → rank p ≤ high p) where
   pub level_more : (q : Option Port) → level plan rank q ≤ level plan high q
-  level_more (Some (Port.Switch s l)) = let here = less (port_of s l) in omega (arith, here)
-  level_more q = omega arith
+  level_more q = search arith
 
 -- where nothing is counted in advance
 
 module _ (plan : Plan) (rank : SwitchPort → ℕ) where
   none_at : (q : Option Port) → ahead_at plan rank none_ahead q ≡ 0
-  none_at (Some (Port.Switch s l)) = refl
-  none_at q = refl
+  none_at q = search arith
 
   module _ {A : Type 0} where
     none_first : (ph : Phase (List A)) → first_ahead plan rank none_ahead 0 ph ≡ 0
-    none_first Fresh = refl
-    none_first ph = refl
+    none_first ph = search arith
 
     pub plain_input : (s l : ℕ) (p : Input A) → (weigh (8 * (rank (port_of s l) + 1) + 2) p.buffer.items + room_left p.buffer) + weigh (8 * (rank (port_of s l) + 1)) (header_held p.phase) ≡ full_input plan rank none_ahead s l p
     plain_input s l p = grind arith
@@ -80,35 +76,20 @@ module _ (most : ℕ) where
 
 module _ (plan : Plan) where
   level_most : (q : Option Port) → level plan (highest_rank plan) q ≤ 32 * length plan.switches + 1
-  level_most (Some (Port.Switch s l)) = omega arith
-  level_most q = omega arith
+  level_most q = search arith
 
   abbrev top : ℕ
   top = most_weight plan
 
   module _ {A : Type 0} where
     input_most : (s l : ℕ) (p : Input A) → full_input plan (highest_rank plan) none_ahead s l p ≤ (length p.buffer.items + length (header_held p.phase)) * most_weight plan + room_left p.buffer
-    input_most s l p =
-        let far = level_most (Some (Port.Switch s l)) in
-        let items = weigh_most top (8 * level plan (highest_rank plan) (Some (Port.Switch s l)) + 2) (omega (arith, far)) p.buffer.items in
-        let header = weigh_most top (8 * level plan (highest_rank plan) (Some (Port.Switch s l))) (omega (arith, far)) (header_held p.phase) in
-        let both = add-mul (length p.buffer.items) (length (header_held p.phase)) top in
-        let plain = plain_input plan (highest_rank plan) s l p in
-        omega (arith, items, header, both, plain)
+    input_most s l p = search (arith, level_most, weigh_most, add-mul, plain_input)
 
     output_most : (q : Option Port) (out : Outgoing A) → full_output plan (highest_rank plan) none_ahead (level plan (highest_rank plan) q) (ahead_at plan (highest_rank plan) none_ahead q) out ≤ length out.items * most_weight plan
-    output_most q out =
-        let far = level_most q in
-        let none = none_at plan (highest_rank plan) q in
-        weigh_most top (8 * level plan (highest_rank plan) q + 4 + ahead_at plan (highest_rank plan) none_ahead q) (omega (arith, far, none)) out.items
+    output_most q out = search (arith, level_most, none_at, weigh_most)
 
     node_most : (k : ℕ) (n : Node A) → full_node plan (highest_rank plan) none_ahead k n ≤ node_tokens n * most_weight plan + node_room n
-    node_most k (NodeOf.Switch S) =
-        let inputs = sum_most top (full_input plan (highest_rank plan) none_ahead k) (λ l p. length p.buffer.items + length (header_held p.phase)) (λ l p. room_left p.buffer) (input_most k) 0 S.inputs in
-        let outputs = sum_only top (full_link plan (highest_rank plan) none_ahead k) (λ l q. length q.items) (λ l q. output_most (peer plan (Port.Switch k l)) q) 0 S.outputs in
-        let both = add-mul (sum_at (λ l p. length p.buffer.items + length (header_held p.phase)) 0 S.inputs) (sum_at (λ l q. length q.items) 0 S.outputs) top in
-        omega (arith, inputs, outputs, both)
-    node_most k (NodeOf.Terminal T) = search (arith, weigh_most, output_most, add-mul)
+    node_most k n = search (arith, sum_most, input_most, sum_only, output_most, add-mul, weigh_most)
 
     pub bound_by_tokens : (nodes : List (Node A)) → work_bound plan nodes ≤ tokens_held nodes * most_weight plan + room_held nodes
     bound_by_tokens nodes = sum_most top (full_node plan (highest_rank plan) none_ahead) (λ k n. node_tokens n) (λ k n. node_room n) node_most 0 nodes

@@ -16,8 +16,8 @@ use Rattle.c104_run.{proofs.EventSteps.{claim_named, credit_named, cross_named, 
 use Rattle.c104_run.specs.{Ends.end_of, EventActs.{Ask, acts_step, ask_acts}, Network.{Network, network_of, network_step, terminal_place}}
 use Rattle.c104_run.specs.{Network.{told_step, wired_fault}, Standstill.{IsStarted, IsStartedNode, IsStartedSwitch}}
 use Rattle.c104_switch.specs.{Actions.Reply, Claims.{input_claim, inputs_claim, switch_claim}, Group.is_in_group, Switch.{Input, Switch}}
-use Rattle.c104_switch.specs.{Switch.{input_grant, is_owned, switch_credit_out, with_sides}, Turns.{header_turn, input_turn, switch_input}}
-use Rattle.c104_switch.specs.{Turns.turn_by_phase, declared.{actions.ReplyOf.ReplyOf, phase.Phase.{Phase, TheVariants.{Stream, Want}}}}
+use Rattle.c104_switch.specs.{Switch.{is_owned, with_sides}, Turns.{header_turn, input_turn, switch_input, turn_by_phase}}
+use Rattle.c104_switch.specs.declared.{actions.ReplyOf.ReplyOf, phase.Phase.{Phase, TheVariants.{Stream, Want}}}
 use Rattle.{c104_token.specs.{Kinds.Kind, Tokens.is_end}, std.proofs.Common.{List, Option, Some, [], ap, arith, false, length, map, nat_le}}
 use Rattle.std.proofs.Common.{nat_lt, not, refl, slice_get, slice_set, subst, sym, true, ℕ, ⊎_elim, ◌*◌, ◌++◌, ◌+◌, ◌-◌, ◌<◌, ◌∙◌, ◌∷◌, ◌≡◌}
 use Rattle.std.proofs.{Common.◌≤◌, lemmas.{Bool.cases_Bool, List.length-set, Option.some_pair_parts}}
@@ -151,16 +151,7 @@ module _ {A : Type 0} (kind : Kind A) (plan : Plan) (is_plan : IsPlan plan) (ran
 module _ {A : Type 0} where
   module _ (S : Switch A) (started : IsStartedSwitch S) where
     started_sides : (l : ℕ) (p r : Input A) (qs : List (Outgoing A)) → slice_get S.inputs l ≡ Some p → r.buffer.cap ≡ p.buffer.cap → length qs ≡ length S.outputs → IsStartedSwitch (with_sides S (slice_set S.inputs l r, qs))
-    started_sides l p r qs is same long = record {
-      started = started.started;
-      settings = started.settings;
-      inputs = length-set S.inputs l r ∙ started.inputs;
-      outputs = long ∙ started.outputs;
-      room = λ k q here. ⊎_elim
-          (λ (h : (l ≡ k) × (r ≡ q)). subst (λ (z : Input A). 8 ≤ z.buffer.cap) h.1 (subst (λ n. 8 ≤ n) (sym same) (started.room l p is)))
-          (λ h. started.room k q h)
-          (place_after_set S.inputs l k r q here);
-    }
+    started_sides l p r qs is same long = search (arith, length-set, place_after_set)
 
   accept_cap : (x : A) (b c : Incoming A) → incoming_accept x b ≡ Some c → c.cap ≡ b.cap
   accept_cap x b c e = required (nat_lt 0 b.granted) _ c e (λ h f. (let d : record { cap = b.cap; items = b.items ++ x ∷ []; granted = b.granted - 1 } ≡ c = cc in sym (ap (λ (z : Incoming A). z.cap) d)))
@@ -169,18 +160,13 @@ module _ {A : Type 0} where
   grant_cap b c e = required (nat_le (length b.items + b.granted + 8) b.cap) _ c e (λ h f. (let d : record { cap = b.cap; items = b.items; granted = b.granted + 8 } ≡ c = cc in sym (ap (λ (z : Incoming A). z.cap) d)))
 
   enter_started : (x : A) (l : ℕ) (n m : Node A) → node_enter x l n ≡ Some m → IsStartedNode n → IsStartedNode m
-  enter_started x l (NodeOf.Switch S) m e a = search (arith, given, at_place_made, started_sides)
-  enter_started x l (NodeOf.Terminal T) m e a = search (arith, given, accept_cap)
+  enter_started x l n m e a = search (arith, given, at_place_made, started_sides, accept_cap)
 
   leave_started : (l : ℕ) (n : Node A) (r : A × Node A) → node_leave l n ≡ Some r → IsStartedNode n → IsStartedNode r.1
   leave_started l n r e a = search (arith, given, from_place_made, length-set)
 
   credit_out_started : (l : ℕ) (n m : Node A) → node_credit_out l n ≡ Some m → IsStartedNode n → IsStartedNode m
-  credit_out_started l (NodeOf.Switch S) m e a =
-      given (switch_credit_out S l) _ m e (λ S' f1 f2. required S.started _ S' f1 (λ started f0. given (step_at S.inputs l input_grant) _ S' f0 (λ ps g1 g2. at_place_made S.inputs l input_grant ps g1 (λ p p' ep h1 h2. given (incoming_grant p.buffer) _ p' h1 (λ b eb h3.
-      (let d : NodeOf.Switch (with_sides S (slice_set S.inputs l (record p { buffer = b }), S.outputs)) ≡ m = cc in
-      subst IsStartedNode d (started_sides S a l p (record p { buffer = b }) S.outputs ep (grant_cap p.buffer b eb) refl)))))))
-  credit_out_started l (NodeOf.Terminal T) m e a = search (arith, given, grant_cap)
+  credit_out_started l n m e a = search (arith, given, required, at_place_made, started_sides, grant_cap)
 
   credit_in_started : (l : ℕ) (n m : Node A) → node_credit_in l n ≡ Some m → IsStartedNode n → IsStartedNode m
   credit_in_started l n m e a = search (arith, given, at_place_made, length-set)
@@ -216,17 +202,7 @@ module _ {A : Type 0} where
       subst IsStartedNode d (started_sides S a i p y.0 y.1 ep k.0 k.1))))))))
 
   claim_started : (i o : ℕ) (n m : Node A) → node_claim i o n ≡ Some m → IsStartedNode n → IsStartedNode m
-  claim_started i o (NodeOf.Terminal T) m e a = absurd (cc)
-  claim_started i o (NodeOf.Switch S) m e a =
-      given (switch_claim S i o) _ m e (λ S' eS' d0.
-      required S.started _ S' eS' (λ h f1.
-      given (inputs_claim S.settings S.inputs S.outputs i o) _ S' f1 (λ v ev f3.
-      required (not (is_owned S.inputs o)) _ v ev (λ free f4.
-      with_place_made S.inputs i (λ p. input_claim S.settings p S.outputs o p.phase) v f4 (λ p y ep ey d1.
-      (let k = claim_keeps S.settings p S.outputs o p.phase y ey in
-      let b : with_sides S v ≡ S' = cc in let c : NodeOf.Switch S' ≡ m = cc in
-      let d : ◌≡◌ {A = Node A} (NodeOf.Switch (with_sides S (slice_set S.inputs i y.0, y.1))) m = ap (λ (z : List (Input A) × List (Outgoing A)). NodeOf.Switch (with_sides S z)) d1 ∙ ap NodeOf.Switch b ∙ c in
-      subst IsStartedNode d (started_sides S a i p y.0 y.1 ep k.0 k.1)))))))
+  claim_started i o n m e a = search (arith, given, required, with_place_made, claim_keeps, started_sides)
 
   abbrev pub AreStarted : List (Node A) → Type 0
   AreStarted nodes = (k : ℕ) (n : Node A) → slice_get nodes k ≡ Some n → IsStartedNode n

@@ -32,10 +32,7 @@ not_ready r is = search arith
 
 module _ (plan : Plan) (image : Image) (is_plan : IsPlan plan) (labelled : IsLabelled (routes_of plan image)) (rank : SwitchPort → ℕ) (falls : IsRanking (routes_of plan image) rank) where
   goes_down : (s i l o : ℕ) (R : Port) → IsChosen (routes_of plan image) (Port.Switch s i) l → group_at (routes_of plan image) (Port.Switch s i) l o ≡ true → peer plan (Port.Switch s o) ≡ Some R → far_of plan rank (Port.Switch s o) + 1 ≤ own plan rank (Port.Switch s i)
-  goes_down s i l o (Port.Terminal t) chosen group wire = rw wire (omega arith)
-  goes_down s i l o (Port.Switch s' i') chosen group wire =
-      let r = falls (port_of s i) (port_of s' i') (depends_on (routes_of plan image) (wired plan is_plan) s i l o s' i' chosen group wire) in
-      rw wire (omega (arith, r))
+  goes_down s i l o R chosen group wire = search (arith, depends_on, wired)
 
   -- nothing is counted in advance at an input that a switch is wired to, since no random headers are put there
   ahead_inner : (s l : ℕ) (z o : ℕ) → peer plan (Port.Switch s l) ≡ Some (Port.Switch z o) → random_ahead (routes_of plan image) rank (port_of s l) ≡ 0

@@ -156,16 +156,7 @@ module _ {A : Type 0} (plan : Plan) (rank ahead : SwitchPort → ℕ) where
     used_work p x phase sunk short e = let one = first_work far a x p.buffer e in omega (arith, one)
 
     header_work : (t : Settings) (p : Input A) (b : List A) (x : A) → p.buffer.items ≡ x ∷ drop 1 p.buffer.items → header_held p.phase ≡ b → full_input plan rank ahead s i (header_turn kind t p b x) + 1 ≤ full_input plan rank ahead s i p
-    header_work t p b x e h = ⊎_elim
-        (λ (m : is_end (kind.plain x) ≡ true). rw m (let one = used_work p x Fresh false true e in omega (arith, one)))
-        (λ (m : is_end (kind.plain x) ≡ false). rw m (
-        let after = phase_after_header kind t (b ++ x ∷ []) in
-        let one = used_work p x after.0 after.1 false e in
-        let held = held_after (8 * far) t (b ++ x ∷ []) in
-        let more = weigh-append (8 * far) b (x ∷ []) in
-        let same : weigh (8 * far) (header_held p.phase) ≡ weigh (8 * far) b = ap (weigh (8 * far)) h in
-        omega (arith, one, held, more, same, waits_low after.0)))
-        (cases_Bool (is_end (kind.plain x)))
+    header_work t p b x e h = search (arith, used_work, held_after, weigh-append, waits_low, cases_Bool)
 
     -- a random header that is put is paid by what was counted for it
     random_turn_work : (t : Settings) (word : ℕ) (p : Input A) → p.phase ≡ Fresh → a ≡ header_length t * (8 * far) + 1 → full_input plan rank ahead s i (random_turn kind t word p) + 1 ≤ full_input plan rank ahead s i p
