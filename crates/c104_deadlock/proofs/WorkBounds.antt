@@ -98,9 +98,6 @@ module _ (plan : Plan) where
 pub held_length : {A B : Type 0} (f : A → B) (phase : Phase (List A)) → length (header_held (with_header (map f) phase)) ≡ length (header_held phase)
 held_length f phase = search (arith, length-map)
 
-pub told_sum : (a b : ℕ) → told_work (told_work a + told_work b) ≡ told_work (a + b)
-told_sum a b = omega arith
-
 module _ {X : Type 0} where
   -- one element more of a list
   pub one_next : (f : ℕ → X → ℕ) (xs : List X) (i : ℕ) (x : X) (sum one next : ℕ) → slice_get xs i ≡ Some x → sum ≡ told_work (sum_at f 0 (take i xs)) → one ≡ told_work (f i x) → next ≡ told_work (sum + one) → next ≡ told_work (sum_at f 0 (take (i + 1) xs))
