@@ -125,58 +125,40 @@ module _ (cap : ℕ) where
 
   module _ (r : Reply) (m : Node Token) where
     -- what a step of a switch or a terminal leaves, and one that gives a token
-    done_keeps : {S : Type 0} (put : S → Node Token) (n : Node Token) (made : Option S) → ((s : S) → made ≡ Some s → Keeps n (put s)) → done_by (made >>= (λ s. Some (put s))) ≡ Some (r, m) → Keeps n m
-    done_keeps put n None keeps is = absurd (cc)
-    done_keeps put n (Some s) keeps is = let both : ◌≡◌ {A = Reply × Node Token} (ReplyOf.Done, put s) (r, m) = cc in subst (λ (p : Reply × Node Token). Keeps n p.1) both (keeps s refl)
+    done_keeps : {S : Type 0} (put : S → Node Token) (n : Node Token) (made : Option S) → ((s : S) → is_switch (put s) ≡ is_switch n) → ((s : S) → made ≡ Some s → IsSized cap n → IsSized cap (put s)) → done_by (made >>= (λ s. Some (put s))) ≡ Some (r, m) → Keeps n m
+    done_keeps put n None kept keeps is = absurd (cc)
+    done_keeps put n (Some s) kept keeps is = let both : ◌≡◌ {A = Reply × Node Token} (ReplyOf.Done, put s) (r, m) = cc in subst (λ (p : Reply × Node Token). Keeps n p.1) both (kept s, keeps s refl)
 
-    token_keeps : {S : Type 0} (put : S → Node Token) (n : Node Token) (made : Option (Token × S)) → ((v : Token × S) → made ≡ Some v → Keeps n (put v.1)) → token_by (made >>= (λ v. Some (v.0, put v.1))) ≡ Some (r, m) → Keeps n m
-    token_keeps put n None keeps is = absurd (cc)
-    token_keeps put n (Some v) keeps is = let both : ◌≡◌ {A = Reply × Node Token} (ReplyOf.Token v.0, put v.1) (r, m) = cc in subst (λ (p : Reply × Node Token). Keeps n p.1) both (keeps v refl)
+    token_keeps : {S : Type 0} (put : S → Node Token) (n : Node Token) (made : Option (Token × S)) → ((s : S) → is_switch (put s) ≡ is_switch n) → ((v : Token × S) → made ≡ Some v → IsSized cap n → IsSized cap (put v.1)) → token_by (made >>= (λ v. Some (v.0, put v.1))) ≡ Some (r, m) → Keeps n m
+    token_keeps put n None kept keeps is = absurd (cc)
+    token_keeps put n (Some v) kept keeps is = let both : ◌≡◌ {A = Reply × Node Token} (ReplyOf.Token v.0, put v.1) (r, m) = cc in subst (λ (p : Reply × Node Token). Keeps n p.1) both (kept v.1, keeps v refl)
 
     act_keeps : (number : ℕ) (a : ActOf Token) (n : Node Token) → node_act plain_kind number a n ≡ Some (r, m) → Keeps n m
     act_keeps number (ActOf.Step (ActionOf.Enter l x)) (NodeOf.Switch s) is =
-        done_keeps NodeOf.Switch (NodeOf.Switch s) (switch_enter s l x) (λ s' made. (
-          refl,
-          λ sized. given (step_at s.inputs l (input_accept x)) _ s' made (λ ps stepped last.
-              let set : with_inputs s ps ≡ s' = cc in
-              subst (λ (v : Switch Token). All (HasSize cap) v.inputs) set (made_sized s sized (input_accept x) l ps stepped (λ p q came. buffer_size p q (incoming_accept x p.buffer) (accepted_size x p.buffer) came))),
-        )) is
+        done_keeps NodeOf.Switch (NodeOf.Switch s) (switch_enter s l x) (λ s. refl) (λ s' made sized. given (step_at s.inputs l (input_accept x)) _ s' made (λ ps stepped last.
+        let set : with_inputs s ps ≡ s' = cc in
+        subst (λ (v : Switch Token). All (HasSize cap) v.inputs) set (made_sized s sized (input_accept x) l ps stepped (λ p q came. buffer_size p q (incoming_accept x p.buffer) (accepted_size x p.buffer) came)))) is
     act_keeps number (ActOf.Step (ActionOf.Leave l)) (NodeOf.Switch s) is =
-        token_keeps NodeOf.Switch (NodeOf.Switch s) (switch_leave s l) (λ v made. (
-          refl,
-          λ sized. given (yield_step_at s.outputs l outgoing_emit) _ v made (λ y stepped last.
-              let set : (y.0, with_outputs s y.1) ≡ v = cc in
-              subst (λ (w : Token × Switch Token). All (HasSize cap) w.1.inputs) set sized),
-        )) is
+        token_keeps NodeOf.Switch (NodeOf.Switch s) (switch_leave s l) (λ s. refl) (λ v made sized. given (yield_step_at s.outputs l outgoing_emit) _ v made (λ y stepped last.
+        let set : (y.0, with_outputs s y.1) ≡ v = cc in
+        subst (λ (w : Token × Switch Token). All (HasSize cap) w.1.inputs) set sized)) is
     act_keeps number (ActOf.Step (ActionOf.CreditOut l)) (NodeOf.Switch s) is =
-        done_keeps NodeOf.Switch (NodeOf.Switch s) (switch_credit_out s l) (λ s' made. (
-          refl,
-          λ sized. required s.started _ s' made (λ on more. given (step_at s.inputs l input_grant) _ s' more (λ ps stepped last.
-              let set : with_inputs s ps ≡ s' = cc in
-              subst (λ (v : Switch Token). All (HasSize cap) v.inputs) set (made_sized s sized input_grant l ps stepped (λ p q came. buffer_size p q (incoming_grant p.buffer) (granted_size p.buffer) came)))),
-        )) is
+        done_keeps NodeOf.Switch (NodeOf.Switch s) (switch_credit_out s l) (λ s. refl) (λ s' made sized. required s.started _ s' made (λ on more. given (step_at s.inputs l input_grant) _ s' more (λ ps stepped last.
+        let set : with_inputs s ps ≡ s' = cc in
+        subst (λ (v : Switch Token). All (HasSize cap) v.inputs) set (made_sized s sized input_grant l ps stepped (λ p q came. buffer_size p q (incoming_grant p.buffer) (granted_size p.buffer) came))))) is
     act_keeps number (ActOf.Step (ActionOf.CreditIn l)) (NodeOf.Switch s) is =
-        done_keeps NodeOf.Switch (NodeOf.Switch s) (switch_credit_in s l) (λ s' made. (
-          refl,
-          λ sized. given (step_at s.outputs l outgoing_credited) _ s' made (λ qs stepped last.
-              let set : with_outputs s qs ≡ s' = cc in
-              subst (λ (v : Switch Token). All (HasSize cap) v.inputs) set sized),
-        )) is
+        done_keeps NodeOf.Switch (NodeOf.Switch s) (switch_credit_in s l) (λ s. refl) (λ s' made sized. given (step_at s.outputs l outgoing_credited) _ s' made (λ qs stepped last.
+        let set : with_outputs s qs ≡ s' = cc in
+        subst (λ (v : Switch Token). All (HasSize cap) v.inputs) set sized)) is
     act_keeps number (ActOf.Step (ActionOf.Input l word)) (NodeOf.Switch s) is =
-        done_keeps NodeOf.Switch (NodeOf.Switch s) (switch_input plain_kind s l word) (λ s' made. (
-          refl,
-          λ sized. required s.started _ s' made (λ on more. given (slice_get s.settings l) _ s' more (λ t own most. given (inputs_turn plain_kind t word s.inputs s.outputs l) _ s' most (λ y turned last.
-              let set : with_sides s y ≡ s' = cc in
-              subst (λ (v : Switch Token). All (HasSize cap) v.inputs) set (joint_sized s.inputs l (λ p. input_turn plain_kind t word p s.outputs) y turned (λ p z took. turn_size t word p s.outputs z took) sized)))),
-        )) is
+        done_keeps NodeOf.Switch (NodeOf.Switch s) (switch_input plain_kind s l word) (λ s. refl) (λ s' made sized. required s.started _ s' made (λ on more. given (slice_get s.settings l) _ s' more (λ t own most. given (inputs_turn plain_kind t word s.inputs s.outputs l) _ s' most (λ y turned last.
+        let set : with_sides s y ≡ s' = cc in
+        subst (λ (v : Switch Token). All (HasSize cap) v.inputs) set (joint_sized s.inputs l (λ p. input_turn plain_kind t word p s.outputs) y turned (λ p z took. turn_size t word p s.outputs z took) sized))))) is
     act_keeps number (ActOf.Step (ActionOf.Claim i o)) (NodeOf.Switch s) is =
-        done_keeps NodeOf.Switch (NodeOf.Switch s) (switch_claim s i o) (λ s' made. (
-          refl,
-          λ sized. required s.started _ s' made (λ on more. given (inputs_claim s.settings s.inputs s.outputs i o) _ s' more (λ y claimed last.
-              let set : with_sides s y ≡ s' = cc in
-              subst (λ (v : Switch Token). All (HasSize cap) v.inputs) set (required (not (is_owned s.inputs o)) _ y claimed (λ free rest.
-              joint_sized s.inputs i (λ p. input_claim s.settings p s.outputs o p.phase) y rest (λ p z took. claim_size s.settings p s.outputs o p.phase z took) sized)))),
-        )) is
+        done_keeps NodeOf.Switch (NodeOf.Switch s) (switch_claim s i o) (λ s. refl) (λ s' made sized. required s.started _ s' made (λ on more. given (inputs_claim s.settings s.inputs s.outputs i o) _ s' more (λ y claimed last.
+        let set : with_sides s y ≡ s' = cc in
+        subst (λ (v : Switch Token). All (HasSize cap) v.inputs) set (required (not (is_owned s.inputs o)) _ y claimed (λ free rest.
+        joint_sized s.inputs i (λ p. input_claim s.settings p s.outputs o p.phase) y rest (λ p z took. claim_size s.settings p s.outputs o p.phase z took) sized))))) is
     act_keeps number (ActOf.Step (ActionOf.Control bytes)) (NodeOf.Switch s) is =
         let v = switch_control s bytes in
         let both : ◌≡◌ {A = Reply × Node Token} (ReplyOf.Control v.0, NodeOf.Switch v.1) (r, m) = cc in
@@ -185,40 +167,25 @@ module _ (cap : ℕ) where
         let both : ◌≡◌ {A = Reply × Node Token} (ReplyOf.Done, NodeOf.Terminal (terminal_send plain_kind number packet t)) (r, m) = cc in
         subst (λ (p : Reply × Node Token). Keeps (NodeOf.Terminal t) p.1) both (refl, λ sized. sized)
     act_keeps number ActOf.Drain (NodeOf.Terminal t) is =
-        token_keeps NodeOf.Terminal (NodeOf.Terminal t) (terminal_drain t) (λ v made. (
-          refl,
-          λ sized. given (slice_get t.input.items 0) _ v made (λ x first last.
-              let set : (x, record t { input = without_first t.input; arrived = t.arrived ++ x ∷ [] }) ≡ v = cc in
-              subst (λ (w : Token × Terminal Token). w.1.input.cap ≡ cap) set sized),
-        )) is
+        token_keeps NodeOf.Terminal (NodeOf.Terminal t) (terminal_drain t) (λ s. refl) (λ v made sized. given (slice_get t.input.items 0) _ v made (λ x first last.
+        let set : (x, record t { input = without_first t.input; arrived = t.arrived ++ x ∷ [] }) ≡ v = cc in
+        subst (λ (w : Token × Terminal Token). w.1.input.cap ≡ cap) set sized)) is
     act_keeps number ActOf.Leave (NodeOf.Terminal t) is =
-        token_keeps NodeOf.Terminal (NodeOf.Terminal t) (terminal_leave t) (λ v made. (
-          refl,
-          λ sized. given (outgoing_emit t.output) _ v made (λ y went last.
-              let set : (y.0, with_output t y.1) ≡ v = cc in
-              subst (λ (w : Token × Terminal Token). w.1.input.cap ≡ cap) set sized),
-        )) is
+        token_keeps NodeOf.Terminal (NodeOf.Terminal t) (terminal_leave t) (λ s. refl) (λ v made sized. given (outgoing_emit t.output) _ v made (λ y went last.
+        let set : (y.0, with_output t y.1) ≡ v = cc in
+        subst (λ (w : Token × Terminal Token). w.1.input.cap ≡ cap) set sized)) is
     act_keeps number (ActOf.Enter x) (NodeOf.Terminal t) is =
-        done_keeps NodeOf.Terminal (NodeOf.Terminal t) (terminal_enter x t) (λ t' made. (
-          refl,
-          λ sized. given (incoming_accept x t.input) _ t' made (λ b came last.
-              let set : with_input t b ≡ t' = cc in
-              subst (λ (v : Terminal Token). v.input.cap ≡ cap) set (accepted_size x t.input b came ∙ sized)),
-        )) is
+        done_keeps NodeOf.Terminal (NodeOf.Terminal t) (terminal_enter x t) (λ s. refl) (λ t' made sized. given (incoming_accept x t.input) _ t' made (λ b came last.
+        let set : with_input t b ≡ t' = cc in
+        subst (λ (v : Terminal Token). v.input.cap ≡ cap) set (accepted_size x t.input b came ∙ sized))) is
     act_keeps number ActOf.CreditOut (NodeOf.Terminal t) is =
-        done_keeps NodeOf.Terminal (NodeOf.Terminal t) (terminal_credit_out t) (λ t' made. (
-          refl,
-          λ sized. given (incoming_grant t.input) _ t' made (λ b came last.
-              let set : with_input t b ≡ t' = cc in
-              subst (λ (v : Terminal Token). v.input.cap ≡ cap) set (granted_size t.input b came ∙ sized)),
-        )) is
+        done_keeps NodeOf.Terminal (NodeOf.Terminal t) (terminal_credit_out t) (λ s. refl) (λ t' made sized. given (incoming_grant t.input) _ t' made (λ b came last.
+        let set : with_input t b ≡ t' = cc in
+        subst (λ (v : Terminal Token). v.input.cap ≡ cap) set (granted_size t.input b came ∙ sized))) is
     act_keeps number ActOf.CreditIn (NodeOf.Terminal t) is =
-        done_keeps NodeOf.Terminal (NodeOf.Terminal t) (terminal_credit_in t) (λ t' made. (
-          refl,
-          λ sized. given (outgoing_credited t.output) _ t' made (λ q came last.
-              let set : with_output t q ≡ t' = cc in
-              subst (λ (v : Terminal Token). v.input.cap ≡ cap) set sized),
-        )) is
+        done_keeps NodeOf.Terminal (NodeOf.Terminal t) (terminal_credit_in t) (λ s. refl) (λ t' made sized. given (outgoing_credited t.output) _ t' made (λ q came last.
+        let set : with_output t q ≡ t' = cc in
+        subst (λ (v : Terminal Token). v.input.cap ≡ cap) set sized)) is
     act_keeps number a n is = absurd (cc)
 
   -- so does a run
