@@ -63,7 +63,8 @@ module _ {X : Type 0} (plan : Plan) (stamps : ℕ → Stamp) (value : Event → 
   -- what a place tells joins what the places behind it tell
   merged : (k n : ℕ) (events : List (Event × Reply)) → AreInOrder plan stamps n events → joined (values_at k n events) (values_from (suc k) n events) ≡ values_from k n events
   merged k n [] rising = refl
-  merged k n (e ∷ events) rising = search (arith, nat_tests, join_first, begins_late, joined_past, later_at, merged k (suc n) events rising.1)
+  merged k n (e ∷ events) rising =
+      search (arith, nat_tests, join_first, begins_late, joined_past, later_at, merged k (suc n) events rising.1)
 
   -- nothing leads behind all places
   none_from : (k n : ℕ) (events : List (Event × Reply)) → ((i : ℕ) (e : Event × Reply) → slice_get events i ≡ Some e → event_place plan e.0 < k) → values_from k n events ≡ []
