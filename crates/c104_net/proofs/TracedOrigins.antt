@@ -6,12 +6,12 @@ use Rattle.c104_node.specs.{MappedNodes.map_node, Nodes.{Node, node_arrived, ter
 use Rattle.c104_node.specs.{Tagged.tagged_origins, TracedRecords.{IsFit, TracedRecord, traced_start, traced_state, traced_trace}}
 use Rattle.c104_node.specs.{Traces.seatless, declared.{acts.Entry.Entry, origins.Origin.Origin, starts.NodeStart.NodeStart}}
 use Rattle.{c104_node.specs.declared.{tagged.TaggedToken.TaggedToken, traced.Traced.Traced}, c104_plan.specs.Plans.{IsPlan, Plan}}
-use Rattle.c104_run.proofs.{Finishing.terminals_append, RecordedNets.states_shown}
-use Rattle.c104_run.specs.{FinishedRecords.{FinishedRecord, record_finish}, MeteredRuns.AreOwnNodes, NetRecords.{IsWithinLimit, NetRecord}}
-use Rattle.c104_run.specs.{Network.{Network, network_of}, RecordedNets.{IsRecordedNet, places_record}, RecordedPlaces.counted_keeps}
-use Rattle.c104_run.specs.{RecordedPlaces.counted_reading, Runs.{at_node, run_deeds}, TracedRuns.{IsTracedRun, map_network}}
-use Rattle.std.proofs.Common.{All, List, None, Some, [], ap, append-nil, arith, get_or, length, map, refl, slice_get, subst, suc, sym, take}
-use Rattle.std.proofs.{Common.{zero, ℕ, ◌++◌, ◌+◌, ◌<◌, ◌∙◌, ◌∷◌, ◌≡◌, ◌≤◌}, lemmas.{Bool.cases_eq, List.{map-append, map_more}}}
+use Rattle.c104_run.{proofs.{Finishing.terminals_append, RecordedNets.states_shown}, specs.FinishedRecords.{FinishedRecord, record_finish}}
+use Rattle.c104_run.specs.{MeteredRuns.AreOwnNodes, NetRecords.{IsWithinLimit, NetRecord}, Network.{Network, network_of}}
+use Rattle.c104_run.specs.{RecordedNets.{IsRecordedNet, places_record}, RecordedPlaces.{counted_keeps, counted_reading}, Runs.at_node}
+use Rattle.{c104_run.specs.{Runs.run_deeds, TracedRuns.{IsTracedRun, map_network}}, std.proofs.Common.{All, List, None, Some, [], ap}}
+use Rattle.std.proofs.Common.{append-nil, arith, get_or, length, map, refl, slice_get, subst, suc, sym, take, zero, ℕ, ◌++◌, ◌+◌, ◌<◌, ◌∙◌}
+use Rattle.std.proofs.{Common.{◌∷◌, ◌≡◌, ◌≤◌}, lemmas.{Bool.cases_eq, List.{map-append, map_more}}}
 
 -- the origins of what arrived at the terminals among nodes
 abbrev pub arrived_origins : List TracedRecord → List (List Origin)

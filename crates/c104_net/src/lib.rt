@@ -26,5 +26,5 @@ pub use c104_run::{
 };
 pub use leading::{Lead, event_of, sort_leads};
 pub use metered_net::MeteredNet;
-pub use run_origins::Origins;
+pub use run_origins::{Origins, replayed};
 pub use traced_origins::WaitingTokens;

@@ -1,13 +1,13 @@
 //! Where the packets came from that arrived in a run.
 ghost use Rattle.std.specs.{Global.Vec as Kept, Prelude.{IfOk, map}};
 ghost use Rattle.c104_net.specs.{Replays.TellsOn, RunOrigins.AreOrigins, ToldEvents.told_events, ToldRuns.TellsEachRun};
-ghost use Rattle.c104_node.specs.declared.origins.Origin.{Origin as TheOrigin};
-ghost use Rattle.c104_run.specs.FinishedRecords.{FinishedRecord, record_finish};
+ghost use Rattle.c104_node.specs.{Starts.start_node, declared.origins.Origin.Origin as TheOrigin};
+ghost use Rattle.c104_run.specs.{FinishedRecords.FinishedRecord, NetRecords.fresh_record, Network.network_of};
 
 use crate::replays::replay_all;
-use c104_node::{Entry, Origin};
+use c104_node::Origin;
 use c104_run::{Run, TracedNet};
-use c104_token::{Items, NoMemory};
+use c104_token::NoMemory;
 use std::alloc::Global;
 
 /// Tells where the packets came from that arrived.
@@ -37,10 +37,9 @@ impl Origins for Run {
         // The proof reads here what every plan keeps.
         let plan = self.plan();
         let _switches = plan.switches();
-        let traces = self.traces();
-        let starts = self.starts();
-        let mut net = TracedNet::from_starts(alloc, plan, starts)?;
-        let lists = origins_again(alloc, &mut net, traces);
+        let _starts = self.starts();
+        let net = replayed(alloc, self)?;
+        let lists = net.origins(alloc);
         net.retire();
         lists
     }
@@ -56,16 +55,24 @@ impl Origins for Run {
     }
 }
 
-/// The origins of what arrives at each terminal where the run of these traces is done once more, from its start. The only
-/// error is out of memory.
-fn origins_again(
-    alloc: Global,
-    net: &mut TracedNet,
-    traces: &[Items<Entry>],
-) -> Result<Vec<Vec<Origin>>, NoMemory>
-    ensures { IfOk result (λ lists. TellsOn net.old (told_events net.old.network.plan traces.now) net.new
-        × AreOrigins (record_finish net.new) (map (λ (list : Kept TheOrigin). list.items) lists.items)) }
+/// The network in which a run is done once more, from where its nodes started, over tokens that tell the origins of packets.
+/// The only error is out of memory.
+pub fn replayed(alloc: Global, run: &Run) -> Result<TracedNet, NoMemory>
+    ensures { IfOk result (λ net.
+        TellsOn (fresh_record (network_of run.now.finished.plan (map start_node run.now.starts)))
+        (told_events run.now.finished.plan run.now.traces) net) }
 {
-    replay_all(alloc, net, traces)?;
-    net.origins(alloc)
+    // The proof reads here what every plan keeps.
+    let plan = run.plan();
+    let _switches = plan.switches();
+    let traces = run.traces();
+    let starts = run.starts();
+    let mut net = TracedNet::from_starts(alloc, plan, starts)?;
+    match replay_all(alloc, &mut net, traces) {
+        Ok(()) => Ok(net),
+        Err(error) => {
+            net.retire();
+            Err(error)
+        }
+    }
 }

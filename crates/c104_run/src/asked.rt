@@ -1,8 +1,8 @@
 //! What an event asks of the nodes of a network, by the plan's ports alone.
 //!
-//! A port says which kind of node is there. In a network of bare nodes that has a terminal at a switch's place, what
-//! would cross a wire there is NotReady; no network with a record has such nodes. The far act is made from what the near
-//! one answered, so a token and a grant are one case.
+//! A port says which kind of node is there. Of nodes that have a terminal at a switch's place, what would cross a wire there
+//! is NotReady; no network has such nodes. The far act is made from what the near one answered, so a token and a grant are
+//! one case.
 ghost use Rattle.std.specs.Prelude.{IfOk, MatchResult, None, Some, if◌then◌else◌, length, ℕ, ◌≡◌};
 ghost use Rattle.{c104_plan.specs.{Plans.Plan, Wiring.peer}, c104_run.specs.AskedActs.{AreEnds, acts_asked}};
 ghost use Rattle.c104_run.specs.{EventActs.{Ask as TheAsk, crossing_acts, event_acts}, FarEnds.far_end};

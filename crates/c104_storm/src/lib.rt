@@ -7,14 +7,13 @@
 //! description, as a command of the program.
 //!
 //! What people are told beside it needs a network whose tokens tell where they came from: it is made only where someone
-//! reads the messages, and does once more what the workers have done (`replay`).
+//! reads the messages, and does once more the run that the audit finds (`replayed`, c104_net).
 #![tactic(auto)]
 
 mod commands;
 mod end_texts;
 mod endings;
 mod packets;
-mod replaying;
 mod sends;
 mod storms;
 mod telling;

@@ -2,7 +2,7 @@
 //!
 //! The network is placed, where a run's is loaded: that both come to the same network is proved of the load.
 ghost use Rattle.std.specs.Prelude.{length, ◌≡◌, ◌≤◌};
-ghost use Rattle.{c104_plan.specs.{PlanImage.Fits, Plans.Plan as ThePlan}, c104_storm.specs.Sends.{new_sending, send_outcome}};
+ghost use Rattle.{c104_plan.specs.{PlanImage.{Fits, Image as TheImage}, Plans.Plan as ThePlan}, c104_storm.specs.Sends.{new_sending, send_outcome}};
 ghost use Rattle.{c104_storm.specs.Storms.{StormsOn, StormsPlan}, c104_stream.specs.Scripts.AnswersScript};
 ghost use Rattle.c104_workers.specs.Fabrics.{AreSeatsOf, handed_of};
 
@@ -45,7 +45,7 @@ pub fn storm_plan<R: Threads + Wait + Sync, S: Read, W: Write, M: Messages>(
         (W.contents writer.old) (W.contents writer.new) result }
 {
     let sending = Sending::new(alloc, plan, image)?;
-    storm_script(alloc, rt, workers, sending, image, script, writer, messages)
+    storm_script(alloc, rt, workers, sending, script, writer, messages)
 }
 
 /// The same of a network that is before the first line of the script.
@@ -54,21 +54,18 @@ fn storm_script<R: Threads + Wait + Sync, S: Read, W: Write, M: Messages>(
     rt: &R,
     workers: u8,
     sending: Sending,
-    image: &Image,
     script: &mut S,
     writer: &mut W,
     messages: &mut M,
 ) -> Result<bool, Halt>
     requires some { (1 ≤ workers) × (workers ≤ MAX_WORKERS) }
-    ensures { (plan : ThePlan) → sending ≡ new_sending plan image.now →
-        StormsPlan plan image.now (S.remaining script.old) (S.remaining script.new)
+    ensures { (plan : ThePlan) (image : TheImage) → sending ≡ new_sending plan image →
+        StormsPlan plan image (S.remaining script.old) (S.remaining script.new)
         (W.contents writer.old) (W.contents writer.new) result }
 {
     let mut sending = sending;
     match answer_sends(alloc, &mut sending, script, writer, messages) {
-        Ok(is_long) => storm_net(
-            alloc, rt, workers, sending, image, is_long, writer, messages,
-        ),
+        Ok(is_long) => storm_net(alloc, rt, workers, sending, is_long, writer, messages),
         Err(halt) => {
             sending.retire();
             Err(halt)
@@ -99,7 +96,6 @@ fn storm_net<R: Threads + Wait + Sync, W: Write, M: Messages>(
     rt: &R,
     workers: u8,
     sending: Sending,
-    image: &Image,
     is_long: bool,
     writer: &mut W,
     messages: &mut M,
@@ -111,9 +107,7 @@ fn storm_net<R: Threads + Wait + Sync, W: Write, M: Messages>(
     let Sending { net, is_faulty } = sending;
     let sent = Sent { is_long, is_faulty };
     match Fabric::new(alloc, net, usize::from(workers)) {
-        Ok((fabric, seats)) => {
-            storm_fabric(alloc, rt, fabric, seats, image, sent, writer, messages)
-        }
+        Ok((fabric, seats)) => storm_fabric(alloc, rt, fabric, seats, sent, writer, messages),
         Err((net, _)) => {
             // The number of seats is one that there may be, so that there was no memory.
             net.retire();
@@ -128,7 +122,6 @@ fn storm_fabric<R: Threads + Wait + Sync, W: Write, M: Messages>(
     rt: &R,
     fabric: Fabric,
     seats: Vec<Seat>,
-    image: &Image,
     sent: Sent,
     writer: &mut W,
     messages: &mut M,
@@ -143,7 +136,7 @@ fn storm_fabric<R: Threads + Wait + Sync, W: Write, M: Messages>(
     let gathered = fabric.close(seats);
     let written = write_end(alloc, &gathered, sent, worked, writer);
     if written.is_ok() {
-        explain_end(alloc, image, &gathered, sent, worked, messages);
+        explain_end(alloc, &gathered, sent, worked, messages);
     }
     gathered.retire();
     written

@@ -1,13 +1,12 @@
 //! What people are told of a storm.
 
 use crate::endings::Sent;
-use crate::replaying::{count_sent, replay};
 use crate::working::Worked;
 use c104_event::EventFault;
 use c104_explain::{leftover_messages, standstill_message, tell_leftovers};
 use c104_mistakes::{About, Messages, fault_message, refusal_message, tell_if_long, tell_lines};
-use c104_net::TracedNet;
-use c104_plan::{Image, Plan};
+use c104_net::{ActOf, Entry, TracedNet, replayed};
+use c104_plan::Plan;
 use c104_script::{Answer, LineFault};
 use c104_workers::Gathered;
 use std::alloc::Global;
@@ -48,7 +47,6 @@ fn send_fault_message(alloc: Global, line: &[u8], fault: LineFault) -> Option<St
 /// messages and there is memory for it.
 pub(crate) fn explain_end<M: Messages>(
     alloc: Global,
-    image: &Image,
     gathered: &Gathered,
     sent: Sent,
     worked: Worked,
@@ -61,7 +59,7 @@ pub(crate) fn explain_end<M: Messages>(
     if let Worked::Stopped(_, fault) = worked {
         messages.tell(About::Run, stop_message(fault));
     }
-    let Ok(net) = replay(alloc, image, gathered) else {
+    let Some(net) = network_of(alloc, gathered) else {
         return;
     };
     if worked == Worked::NotQuiet && net.stands_still() {
@@ -69,6 +67,30 @@ pub(crate) fn explain_end<M: Messages>(
     }
     tell_leftovers(&leftover_messages(alloc, &net), messages);
     net.retire();
+}
+
+/// A network whose tokens tell where they came from, in which the run of a storm is done once more, whether it ended quiet or
+/// not. None where the audit finds no run, and out of memory.
+fn network_of(alloc: Global, gathered: &Gathered) -> Option<TracedNet> {
+    let run = gathered.audit(alloc).ok()?;
+    replayed(alloc, &run).ok()
+}
+
+/// How many packets were sent before the workers began.
+fn count_sent(gathered: &Gathered) -> usize {
+    let mut count = 0usize;
+    for node in gathered.nodes() {
+        count = count.saturating_add(count_sends(node.trace()));
+    }
+    count
+}
+
+/// How many packets were sent in a trace.
+fn count_sends(trace: &[Entry]) -> usize {
+    trace
+        .iter()
+        .filter(|entry| matches!(entry.act, ActOf::Send(_)))
+        .count()
 }
 
 /// Tells who waits for whom in a network that stands still, into which a number of packets were sent.
