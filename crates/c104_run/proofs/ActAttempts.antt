@@ -1,25 +1,22 @@
 -- An event that is tried by its acts, as a part of a round.
 use Rattle.{c104_event.specs.declared.{events.Event.Event, faults.EventFault.EventFault}, c104_node.specs.PlaceActs.{AloneDone, JointDone}}
 use Rattle.c104_node.specs.{Places.{IsFullByTrace, Shown}, PortActs.Acts, Traces.seatless, declared.acts.ActOf.ActOf}
-use Rattle.{c104_node.specs.declared.{crossings.Crossing.{Crossing, TheVariants.{Grant, Token}}, ends.End.End}, c104_plan.specs.Plans.Plan}
-use Rattle.{c104_plan.specs.{Wiring.peer, declared.ports.Port.Port}, c104_run.proofs.{ActAnswers.event_done, MeteredSteps.part_done}}
-use Rattle.c104_run.{proofs.{MeteredSteps.told_meter, StageSteps.fulls_kept}, specs.{Ends.end_of, EventActs.crossing_acts}}
-use Rattle.c104_run.specs.{EventActs.{crossing_event, event_acts, port_place}, EventsAtPlaces.{ActsDone, told_answer}, FarEnds.far_end}
-use Rattle.c104_run.specs.{Meters.{Sees, meter_told, metered_apply, metered_of}, NetRecords.{is_done, ticket_after}, Network.event_fault}
-use Rattle.c104_run.specs.{Network.{link_fault, wire_fault, wired_fault}, RoundParts.{PartEnds, done_answer}}
+use Rattle.{c104_node.specs.declared.{crossings.Crossing.Crossing, ends.End.End}, c104_plan.specs.{Plans.Plan, Wiring.peer}}
+use Rattle.{c104_plan.specs.declared.ports.Port.Port, c104_run.proofs.{ActAnswers.event_done, MeteredSteps.{part_done, told_meter}}}
+use Rattle.c104_run.{proofs.StageSteps.fulls_kept, specs.{Ends.end_of, EventActs.{crossing_acts, crossing_event, event_acts, port_place}}}
+use Rattle.c104_run.specs.{EventsAtPlaces.{ActsDone, told_answer}, FarEnds.far_end, Meters.{Sees, meter_told, metered_apply, metered_of}}
+use Rattle.c104_run.specs.{NetRecords.{is_done, ticket_after}, Network.{event_fault, wired_fault}, RoundParts.{PartEnds, done_answer}}
 use Rattle.{c104_switch.specs.declared.actions.ReplyOf.ReplyOf, c104_token.specs.Kinds.Kind, std.proofs.Common.{Bool, List, None, Option}}
-use Rattle.std.proofs.Common.{Result, Some, [], ap, arith, false, if◌then◌else◌, length, map, nat_lt, option_map, refl, subst, sym, true, ℕ}
-use Rattle.std.proofs.{Common.{◌-◌, ◌<◌, ◌∙◌, ◌∷◌, ◌≡◌}, lemmas.Bool.Decides.nat_tests}
+use Rattle.std.proofs.Common.{Result, Some, [], ap, arith, length, map, nat_lt, refl, subst, true, ℕ, ◌-◌, ◌<◌, ◌∙◌, ◌∷◌, ◌≡◌}
+use Rattle.std.proofs.lemmas.Bool.Decides.{nat_tests}
 
 -- what can happen at a wired port: what crosses from there, of whatever kind
 crossing_possible : (plan : Plan) (crossing : Crossing) (p : Port) → wired_fault plan p ≡ None → event_fault plan (crossing_event crossing p) ≡ None
-crossing_possible plan Token p wired = wired
-crossing_possible plan Grant p wired = wired
+crossing_possible plan crossing p wired = search arith
 
 -- it asks that this crosses
 crossing_known : {A : Type 0} (plan : Plan) (crossing : Crossing) (p : Port) → ◌≡◌ {A = Option (Acts A)} (event_acts plan (crossing_event crossing p)) (crossing_acts crossing p (peer plan p))
-crossing_known plan Token p = refl
-crossing_known plan Grant p = refl
+crossing_known plan crossing p = search arith
 
 module _ {A M P : Type 0} (kind : Kind A) (keeps : Bool) (sees : Sees M A) (shown : P → Shown A) (limited : (p : P) → IsFullByTrace keeps (shown p)) (plan : Plan) (olds news : List P) (count counted : ℕ) (m n : M)
     (told : Result (ReplyOf A) EventFault) (counts : counted ≡ ticket_after count (is_done (told_answer kind told))) where
@@ -46,9 +43,7 @@ module _ {A M P : Type 0} (kind : Kind A) (keeps : Bool) (sees : Sees M A) (show
     near_place = ap (λ (end : End). end.node) near_is
 
     far_place : far.node ≡ port_place plan q
-    far_place =
-        let both : Some (end_of plan q) ≡ Some far = sym (ap (option_map (end_of plan)) wired) ∙ far_is in
-        let one : end_of plan q ≡ far = cc in ap (λ (end : End). end.node) (sym one)
+    far_place = search arith
 
     pub joint_tried : n ≡ meter_told sees m (crossing_event crossing p) told → wired_fault plan p ≡ None → IsEnded near.node far.node → IsTried (crossing_event crossing p)
     joint_tried tells possible done =
@@ -57,23 +52,11 @@ module _ {A M P : Type 0} (kind : Kind A) (keeps : Bool) (sees : Sees M A) (show
 
 -- what can happen at a wired link: a turn of its input
 pub turn_possible : (plan : Plan) (s l word : ℕ) → wired_fault plan (Port.Switch s l) ≡ None → event_fault plan (Event.Input s l word) ≡ None
-turn_possible plan s l word = by_switch (nat_lt s (length plan.switches))
-  where
-    by_link : (b : Bool) → (if b then wire_fault (peer plan (Port.Switch s l)) else Some EventFault.NoLink) ≡ None → (if b then None else Some EventFault.NoLink) ≡ None
-    by_link true is = refl
-    by_link false is = is
-
-    by_switch : (b : Bool) → (if b then link_fault l (wire_fault (peer plan (Port.Switch s l))) else Some EventFault.NoNode) ≡ None → (if b then link_fault l None else Some EventFault.NoNode) ≡ None
-    by_switch true is = by_link (nat_lt l 32) is
-    by_switch false is = is
+turn_possible plan s l word = search arith
 
 -- a claim at two links of a switch
 pub claim_possible : (plan : Plan) (s i o : ℕ) → s < length plan.switches → i < 32 → o < 32 → event_fault plan (Event.Claim s i o) ≡ None
-claim_possible plan s i o switch input output =
-    let one : nat_lt s (length plan.switches) ≡ true = grind (arith, nat_tests) in
-    let two : nat_lt i 32 ≡ true = grind (arith, nat_tests) in
-    let three : nat_lt o 32 ≡ true = grind (arith, nat_tests) in
-    rw (one, two, three) refl
+claim_possible plan s i o switch input output = search (arith, nat_tests)
 
 -- an arrival at a terminal
 pub drain_possible : (plan : Plan) (t : ℕ) → t < length plan.terminals → event_fault plan (Event.Drain t) ≡ None

@@ -5,7 +5,7 @@ use Rattle.c104_control.specs.declared.replies.{Answer.TheVariants.{Refused, Sta
 use Rattle.{c104_link.specs.{Buffers.outgoing_clear, Steps.◌>>=◌}, c104_node.specs.declared.node.NodeOf.TheVariants.Switch}
 use Rattle.{c104_run.proofs.{BalancePlaces.Rests, BalanceTurns.{credit_seen, granted_seen}}, c104_switch.specs.Commands.input_reset}
 use Rattle.{c104_switch.specs.{Commands.switch_reset, Control.{switch_control, switch_obey, switch_obey_if_read}}, std.proofs.Common.Bool}
-use Rattle.std.proofs.Common.{Err, List, Ok, Option, Result, [], false, if◌then◌else◌, map, refl, slice_get, suc, true, zero, ℕ, ◌∷◌, ◌≡◌}
+use Rattle.std.proofs.Common.{Err, List, Ok, Option, Result, [], arith, if◌then◌else◌, map, refl, slice_get, suc, true, zero, ℕ, ◌∷◌, ◌≡◌}
 use Rattle.c104_switch.specs.Switch as switch
 
 -- a number that each element of a list keeps
@@ -29,8 +29,7 @@ module _ {A : Type 0} (s : switch.Switch A) where
 
   -- a start changes the sides of no link
   start_rests : (b : Bool) (again first : Answer) → Rests (Switch s) (Switch (if◌then◌else◌ {A = Answer × switch.Switch A} b (again, s) (first, record s { started = true })).1)
-  start_rests true again first = same_sides s.started s.settings
-  start_rests false again first = same_sides true s.settings
+  start_rests b again first = search (arith, same_sides)
 
   obeyed_rests : (c : Command) → Rests (Switch s) (Switch (switch_obey s c).1)
   obeyed_rests Start = start_rests s.started (Refused ALREADY_STARTED) Started

@@ -7,11 +7,10 @@ use Rattle.{c104_plan.specs.declared.ports.Port.Port, c104_run.proofs.{AskCases.
 use Rattle.c104_run.proofs.{BalanceNodes.{control_rests, drain_rests, input_rests, send_rests}, BalanceSteps.{steady_at, steady_credited}}
 use Rattle.c104_run.proofs.{BalanceSteps.{steady_crossed, steady_from}, EventSteps.{claim_named, control_named, credit_named, cross_named}}
 use Rattle.c104_run.{proofs.EventSteps.{drain_named, input_named, send_named}, specs.{Balance.IsSteady, Ends.end_of, EventActs.Ask}}
-use Rattle.c104_run.specs.{EventActs.{acts_step, ask_acts}, Network.{AnswersEvent, AnswersWith, Network, event_fault, event_limit}}
-use Rattle.c104_run.specs.Network.{network_of, network_step, outcome_if_possible, outcome_if_ready, outcome_within_limit, terminal_place}
-use Rattle.{c104_run.specs.Network.{told_step, wired_fault}, c104_switch.specs.{Actions.Reply, declared.actions.ReplyOf.ReplyOf}}
-use Rattle.{c104_token.specs.Kinds.Kind, std.proofs.Common.{Bool, List, None, Option, Result, Some, ap, false, inl, inr, refl, subst, sym}}
-use Rattle.std.proofs.Common.{◌∙◌, ◌≡◌}
+use Rattle.c104_run.specs.{EventActs.{acts_step, ask_acts}, Network.{AnswersEvent, AnswersWith, Network, event_limit, network_of}}
+use Rattle.c104_run.specs.Network.{network_step, outcome_if_possible, outcome_if_ready, outcome_within_limit, terminal_place, told_step}
+use Rattle.{c104_run.specs.Network.wired_fault, c104_switch.specs.{Actions.Reply, declared.actions.ReplyOf.ReplyOf}}
+use Rattle.{c104_token.specs.Kinds.Kind, std.proofs.Common.{Bool, List, None, Option, Result, Some, arith, false, ◌∙◌, ◌≡◌}}
 
 module _ {A : Type 0} (kind : Kind A) (plan : Plan) (is_plan : IsPlan plan) (nodes : List (Node A)) (steady : IsSteady (network_of plan nodes)) where
   abbrev net : Network A
@@ -19,9 +18,7 @@ module _ {A : Type 0} (kind : Kind A) (plan : Plan) (is_plan : IsPlan plan) (nod
 
   -- what is answered and left, of the nodes that a step leaves
   by_last : (told : Reply) (after : List (Node A)) (r : Reply × Network A) → ◌≡◌ {A = Option (Reply × Network A)} (Some (told, network_of plan after)) (Some r) → IsSteady (network_of plan after) → IsSteady r.1
-  by_last told after r is holds =
-      let same : ◌≡◌ {A = Reply × Network A} (told, network_of plan after) r = cc in
-      subst (λ (r : Reply × Network A). IsSteady r.1) same holds
+  by_last told after r is holds = search arith
 
   -- what is left of what was asked, where it was ready
   abbrev LeavesSteady : Option EventFault → Ask A → Type 0
@@ -52,21 +49,18 @@ module _ {A : Type 0} (kind : Kind A) (plan : Plan) (is_plan : IsPlan plan) (nod
   step_steady e = of_event plan LeavesSteady steps_steady e
 
   by_limit : (limit : Option EventFault) (r : Reply × Network A) → IsSteady r.1 → IsSteady (outcome_within_limit kind net limit r).1
-  by_limit None r holds = holds
-  by_limit (Some f) r holds = steady
+  by_limit limit r holds = search arith
 
   by_step : (e : Event) (made : Option (Reply × Network A)) → network_step kind net e ≡ made → IsSteady (outcome_if_ready kind net e made).1
   by_step e None made = steady
   by_step e (Some r) made = by_limit (event_limit net e) r (step_steady e r made)
 
   by_fault : (e : Event) (fault : Option EventFault) → IsSteady (outcome_if_possible kind net e fault).1
-  by_fault e None = by_step e (network_step kind net e) refl
-  by_fault e (Some f) = steady
+  by_fault e fault = search (arith, by_step)
 
   -- what an event leaves, whatever it answers
   pub applied_with : (full : Bool) (e : Event) (answer : Result Reply EventFault) (after : Network A) → AnswersWith kind full net e answer after → IsSteady after
-  applied_with full e answer after (inl is) = subst IsSteady (sym (ap (λ (r : Result Reply EventFault × Network A). r.1) is)) (by_fault e (event_fault plan e))
-  applied_with full e answer after (inr same) = subst IsSteady (sym same.2) steady
+  applied_with full e answer after h1 = search (arith, by_fault)
 
   pub applied_steady : (e : Event) (answer : Result Reply EventFault) (after : Network A) → AnswersEvent kind net e answer after → IsSteady after
   applied_steady e answer after is = applied_with false e answer after is

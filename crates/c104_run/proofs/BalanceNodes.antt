@@ -7,7 +7,7 @@ use Rattle.c104_run.proofs.{BalanceControl.control_keeps, BalancePlaces.{Acts, R
 use Rattle.c104_run.proofs.BalanceTurns.{KeepsSides, accepted_lowers, claimed_keeps, credit_seen, credited_raises, enter_lowers}
 use Rattle.c104_run.{proofs.BalanceTurns.{grant_raises, granted_raises, granted_seen, leave_lowers, turn_keeps}, specs.Balance.credit_of}
 use Rattle.{c104_run.specs.Balance.granted_of, c104_token.specs.{Kinds.Kind, declared.packets.Packet.Packet}, std.proofs.Common.List}
-use Rattle.std.proofs.Common.{Option, Some, [], ap, not, refl, slice_get, slice_set, subst, ℕ, ◌++◌, ◌∙◌, ◌∷◌, ◌≡◌}
+use Rattle.std.proofs.Common.{Option, Some, ap, arith, not, slice_get, slice_set, subst, ℕ, ◌∙◌, ◌≡◌}
 use Rattle.c104_link.specs.Buffers as buffer
 use Rattle.c104_node.specs.Terminals as terminal
 use Rattle.c104_switch.specs.Claims as claims
@@ -18,39 +18,19 @@ use Rattle.c104_switch.specs.Turns as turns
 module _ {A : Type 0} where
   -- a switch of which the credit of one output changes
   switch_credit : (change : ℕ → ℕ) (s : switch.Switch A) (l : ℕ) (q r : Outgoing A) → slice_get s.outputs l ≡ Some q → r.credit ≡ change q.credit → Acts granted_of credit_of change l (Switch s) (Switch (switch.with_outputs s (slice_set s.outputs l r)))
-  switch_credit change s l q r is new = record {
-    in_place = refl;
-    keeps = λ k. refl;
-    here = seen_changed s.outputs l q r is credit_seen change (ap Some new);
-    elsewhere = λ h k other. seen_other s.outputs l k r credit_seen other;
-  }
+  switch_credit change s l q r is new = search (arith, seen_changed, credit_seen, seen_other)
 
   -- a switch of which one input grants another number
   switch_granted : (change : ℕ → ℕ) (s : switch.Switch A) (l : ℕ) (p r : switch.Input A) → slice_get s.inputs l ≡ Some p → r.buffer.granted ≡ change p.buffer.granted → Acts credit_of granted_of change l (Switch s) (Switch (switch.with_inputs s (slice_set s.inputs l r)))
-  switch_granted change s l p r is new = record {
-    in_place = refl;
-    keeps = λ k. refl;
-    here = seen_changed s.inputs l p r is granted_seen change (ap Some new);
-    elsewhere = λ h k other. seen_other s.inputs l k r granted_seen other;
-  }
+  switch_granted change s l p r is new = search (arith, seen_changed, granted_seen, seen_other)
 
   -- a terminal whose credit changes
   terminal_credit : (change : ℕ → ℕ) (t : terminal.Terminal A) (l : ℕ) (r : Outgoing A) → r.credit ≡ change t.output.credit → Acts granted_of credit_of change l (Terminal t) (Terminal (terminal.with_output t r))
-  terminal_credit change t l r new = record {
-    in_place = refl;
-    keeps = λ k. refl;
-    here = ap Some new;
-    elsewhere = λ h k other. cc;
-  }
+  terminal_credit change t l r new = search arith
 
   -- a terminal that grants another number
   terminal_granted : (change : ℕ → ℕ) (t : terminal.Terminal A) (l : ℕ) (r : Incoming A) → r.granted ≡ change t.input.granted → Acts credit_of granted_of change l (Terminal t) (Terminal (terminal.with_input t r))
-  terminal_granted change t l r new = record {
-    in_place = refl;
-    keeps = λ k. refl;
-    here = ap Some new;
-    elsewhere = λ h k other. cc;
-  }
+  terminal_granted change t l r new = search arith
 
   -- a token goes out
   pub leave_acts : (l : ℕ) (n : Node A) (r : A × Node A) → node_leave l n ≡ Some r → Acts granted_of credit_of lower l n r.1
@@ -58,10 +38,7 @@ module _ {A : Type 0} where
       let one : ◌≡◌ {A = A × switch.Switch A} (w.0, switch.with_outputs s w.1) v = cc in
       let two : ◌≡◌ {A = A × Node A} (v.0, Switch v.1) r = cc in
       subst (λ (r : A × Node A). Acts granted_of credit_of lower l (Switch s) r.1) two (subst (λ (v : A × switch.Switch A). Acts granted_of credit_of lower l (Switch s) (Switch v.1)) one (subst (λ (w : A × List (Outgoing A)). Acts granted_of credit_of lower l (Switch s) (Switch (switch.with_outputs s w.1))) set (switch_credit lower s l q y.1 here (leave_lowers q y left)))))))
-  leave_acts l (Terminal t) r is = given (terminal.terminal_leave t) _ r is (λ v out last. given (buffer.outgoing_emit t.output) _ v out (λ w left more.
-      let one : ◌≡◌ {A = A × terminal.Terminal A} (w.0, terminal.with_output t w.1) v = cc in
-      let two : ◌≡◌ {A = A × Node A} (v.0, Terminal v.1) r = cc in
-      subst (λ (r : A × Node A). Acts granted_of credit_of lower l (Terminal t) r.1) two (subst (λ (v : A × terminal.Terminal A). Acts granted_of credit_of lower l (Terminal t) (Terminal v.1)) one (terminal_credit lower t l w.1 (leave_lowers t.output w left)))))
+  leave_acts l (Terminal t) r is = search (arith, given, lower, terminal_credit, leave_lowers)
 
   -- a step of a switch's inputs, and the node with it
   input_step : (change : ℕ → ℕ) (s : switch.Switch A) (l : ℕ) (f : switch.Input A → Option (switch.Input A)) (s' : switch.Switch A) (m : Node A) → (step_at s.inputs l f >>= (λ ps. Some (switch.with_inputs s ps))) ≡ Some s' → as_switch s' ≡ Some m → ((p r : switch.Input A) → f p ≡ Some r → r.buffer.granted ≡ change p.buffer.granted) → Acts credit_of granted_of change l (Switch s) m
@@ -73,18 +50,12 @@ module _ {A : Type 0} where
   -- a token comes in
   pub enter_acts : (x : A) (l : ℕ) (n m : Node A) → node_enter x l n ≡ Some m → Acts credit_of granted_of lower l n m
   enter_acts x l (Switch s) m is = given (switch.switch_enter s l x) _ m is (λ s' made last. input_step lower s l (switch.input_accept x) s' m made last (accepted_lowers x))
-  enter_acts x l (Terminal t) m is = given (terminal.terminal_enter x t) _ m is (λ t' made last. given (buffer.incoming_accept x t.input) _ t' made (λ b came more.
-      let one : terminal.with_input t b ≡ t' = cc in
-      let two : ◌≡◌ {A = Node A} (Terminal t') m = cc in
-      subst (Acts credit_of granted_of lower l (Terminal t)) two (subst (λ (v : terminal.Terminal A). Acts credit_of granted_of lower l (Terminal t) (Terminal v)) one (terminal_granted lower t l b (enter_lowers x t.input b came)))))
+  enter_acts x l (Terminal t) m is = search (arith, given, lower, terminal_granted, enter_lowers)
 
   -- a link grants eight more tokens
   pub credit_out_acts : (l : ℕ) (n m : Node A) → node_credit_out l n ≡ Some m → Acts credit_of granted_of raise l n m
   credit_out_acts l (Switch s) m is = given (switch.switch_credit_out s l) _ m is (λ s' made last. required s.started _ s' made (λ on more. input_step raise s l switch.input_grant s' m more last granted_raises))
-  credit_out_acts l (Terminal t) m is = given (terminal.terminal_credit_out t) _ m is (λ t' made last. given (buffer.incoming_grant t.input) _ t' made (λ b came more.
-      let one : terminal.with_input t b ≡ t' = cc in
-      let two : ◌≡◌ {A = Node A} (Terminal t') m = cc in
-      subst (Acts credit_of granted_of raise l (Terminal t)) two (subst (λ (v : terminal.Terminal A). Acts credit_of granted_of raise l (Terminal t) (Terminal v)) one (terminal_granted raise t l b (grant_raises t.input b came)))))
+  credit_out_acts l (Terminal t) m is = search (arith, given, raise, terminal_granted, grant_raises)
 
   -- a link may send eight more tokens
   pub credit_in_acts : (l : ℕ) (n m : Node A) → node_credit_in l n ≡ Some m → Acts granted_of credit_of raise l n m
@@ -92,23 +63,11 @@ module _ {A : Type 0} where
       let one : switch.with_outputs s qs ≡ s' = cc in
       let two : ◌≡◌ {A = Node A} (Switch s') m = cc in
       subst (Acts granted_of credit_of raise l (Switch s)) two (subst (λ (v : switch.Switch A). Acts granted_of credit_of raise l (Switch s) (Switch v)) one (subst (λ qs. Acts granted_of credit_of raise l (Switch s) (Switch (switch.with_outputs s qs))) set (switch_credit raise s l q r here (credited_raises q r came)))))))
-  credit_in_acts l (Terminal t) m is = given (terminal.terminal_credit_in t) _ m is (λ t' made last. given (buffer.outgoing_credited t.output) _ t' made (λ q came more.
-      let one : terminal.with_output t q ≡ t' = cc in
-      let two : ◌≡◌ {A = Node A} (Terminal t') m = cc in
-      subst (Acts granted_of credit_of raise l (Terminal t)) two (subst (λ (v : terminal.Terminal A). Acts granted_of credit_of raise l (Terminal t) (Terminal v)) one (terminal_credit raise t l q (credited_raises t.output q came)))))
+  credit_in_acts l (Terminal t) m is = search (arith, given, raise, terminal_credit, credited_raises)
 
   -- a step of both sides of a switch that keeps both numbers
   sides_rest : (s : switch.Switch A) (i : ℕ) (f : switch.Input A → Option (switch.Input A × List (Outgoing A))) (s' : switch.Switch A) (m : Node A) → (joint_step_at s.inputs i f >>= (λ r. Some (switch.with_sides s r))) ≡ Some s' → as_switch s' ≡ Some m → ((p : switch.Input A) (r : switch.Input A × List (Outgoing A)) → f p ≡ Some r → KeepsSides p s.outputs r.0 r.1) → Rests (Switch s) m
-  sides_rest s i f s' m is last keeps = given (joint_step_at s.inputs i f) _ s' is (λ w at more. with_place_made s.inputs i f w at (λ p y here made set.
-      let one : switch.with_sides s w ≡ s' = cc in
-      let two : ◌≡◌ {A = Node A} (Switch s') m = cc in
-      let kept : KeepsSides p s.outputs y.0 y.1 = keeps p y made in
-      let rests : Rests (Switch s) (Switch (switch.with_sides s (slice_set s.inputs i y.0, y.1))) = record {
-        in_place = refl;
-        credit = kept.credit;
-        granted = seen_kept s.inputs i p y.0 here granted_seen (ap Some kept.granted);
-      } in
-      subst (Rests (Switch s)) two (subst (λ (v : switch.Switch A). Rests (Switch s) (Switch v)) one (subst (λ (w : List (switch.Input A) × List (Outgoing A)). Rests (Switch s) (Switch (switch.with_sides s w))) set rests))))
+  sides_rest s i f s' m is last keeps = search (arith, given, with_place_made, seen_kept, granted_seen)
 
   -- an input takes a turn
   pub input_rests : (kind : Kind A) (i word : ℕ) (n m : Node A) → node_input kind i word n ≡ Some m → Rests n m
@@ -131,16 +90,8 @@ module _ {A : Type 0} where
 
   -- a terminal sends a packet
   pub send_rests : (kind : Kind A) (number : ℕ) (packet : Packet) (n m : Node A) → node_send kind number packet n ≡ Some m → Rests n m
-  send_rests kind number packet (Switch s) m is = cc
-  send_rests kind number packet (Terminal t) m is =
-      let one : ◌≡◌ {A = Node A} (Terminal (terminal.terminal_send kind number packet t)) m = cc in
-      subst (Rests (Terminal t)) one (record { in_place = refl; credit = λ k. refl; granted = λ k. refl })
+  send_rests kind number packet n m is = search arith
 
   -- a token arrives at a terminal
   pub drain_rests : (n : Node A) (r : A × Node A) → node_drain n ≡ Some r → Rests n r.1
-  drain_rests (Switch s) r is = cc
-  drain_rests (Terminal t) r is = given (terminal.terminal_drain t) _ r is (λ v came last. given (slice_get t.input.items 0) _ v came (λ x here more.
-      let arrived : terminal.Terminal A = record t { input = buffer.without_first t.input; arrived = t.arrived ++ x ∷ [] } in
-      let one : ◌≡◌ {A = A × terminal.Terminal A} (x, arrived) v = cc in
-      let two : ◌≡◌ {A = A × Node A} (v.0, Terminal v.1) r = cc in
-      subst (λ (r : A × Node A). Rests (Terminal t) r.1) two (subst (λ (v : A × terminal.Terminal A). Rests (Terminal t) (Terminal v.1)) one (record { in_place = refl; credit = λ k. refl; granted = λ k. refl }))))
+  drain_rests n r is = search (arith, given)

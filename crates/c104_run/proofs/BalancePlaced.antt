@@ -18,9 +18,7 @@ get_first (x ∷ xs) ys (suc i) inside = get_first xs ys i (omega arith)
 
 get_second : {X : Type 0} (xs ys : List X) (j : ℕ) → slice_get (xs ++ ys) (length xs + j) ≡ slice_get ys j
 get_second {X} [] ys j = let same : length {A = X} [] + j ≡ j = omega arith in ap (slice_get ys) same
-get_second (x ∷ xs) ys j =
-    let same : suc (length xs) + j ≡ suc (length xs + j) = omega arith in
-    ap (slice_get (x ∷ xs ++ ys)) same ∙ get_second xs ys j
+get_second (x ∷ xs) ys j = search (arith, get_second xs ys j)
 
 -- an element of a list of one element over and over
 get_replicate : {X : Type 0} (n i : ℕ) (x : X) → i < n → slice_get (replicate n x) i ≡ Some x

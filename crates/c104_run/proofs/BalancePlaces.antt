@@ -23,11 +23,7 @@ module _ {X : Type 0} (xs : List X) (i : ℕ) (x y : X) (is : slice_get xs i ≡
 
   -- a number that is the same of the new element is the same at every place
   pub seen_kept : (f : X → Option ℕ) → f y ≡ f x → (j : ℕ) → (slice_get (slice_set xs i y) j >>= f) ≡ (slice_get xs j >>= f)
-  seen_kept f keeps j =
-      elim (cases_eq i j) [
-        | inl same ↦ subst (λ k. (slice_get (slice_set xs i y) k >>= f) ≡ (slice_get xs k >>= f)) same (seen_here f ∙ keeps ∙ sym (ap (λ o. o >>= f) is))
-        | inr other ↦ ap (λ o. o >>= f) (get_set_other xs i j y other)
-      ]
+  seen_kept f keeps j = search (arith, cases_eq, seen_here, get_set_other)
 
   -- a number that changes at the place
   pub seen_changed : (f : X → Option ℕ) (change : ℕ → ℕ) → f y ≡ changed change (f x) → (slice_get (slice_set xs i y) i >>= f) ≡ changed change (slice_get xs i >>= f)
@@ -78,9 +74,7 @@ pub record Rests {A : Type 0} (n m : Node A) : Type 0 where
 -- a switch stays a switch, and a terminal a terminal
 pub still_in_place : {A : Type 0} (nodes : List (Node A)) (i : ℕ) (n m : Node A) → slice_get nodes i ≡ Some n → is_switch m ≡ is_switch n → map is_switch (slice_set nodes i m) ≡ map is_switch nodes
 still_in_place [] i n m is keeps = refl
-still_in_place (o ∷ nodes) zero n m is keeps =
-    let same : o ≡ n = cc in
-    ap (λ b. b ∷ map is_switch nodes) (keeps ∙ ap is_switch (sym same))
+still_in_place (o ∷ nodes) zero n m is keeps = search arith
 still_in_place (o ∷ nodes) (suc i) n m is keeps = ap (λ bs. is_switch o ∷ bs) (still_in_place nodes i n m is keeps)
 
 -- a step of the node at an end of a wire is one of the nodes

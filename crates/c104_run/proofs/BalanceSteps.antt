@@ -6,22 +6,12 @@ use Rattle.{c104_plan.specs.declared.ports.Port.Port, c104_run.proofs.BalanceNod
 use Rattle.c104_run.proofs.{BalanceNodes.leave_acts, BalancePlaces.{ActsAt, Rests, acts_at, changed, lower, raise, seen_kept}}
 use Rattle.c104_run.proofs.{BalancePlaces.{still_in_place, switches_first}, BalanceWires.{ends_apart, peer_back, peer_one, port_cases}}
 use Rattle.{c104_run.specs.{Balance.{AreLevel, IsSteady, credit_of, granted_of}, Ends.end_of, Network.network_of}, std.proofs.Common.List}
-use Rattle.std.proofs.Common.{Option, Some, ap, inl, inr, length, slice_get, slice_set, subst, sym, ℕ, ◌∙◌, ◌≡◌, ◌≢◌}
+use Rattle.std.proofs.Common.{Option, Some, ap, arith, inl, inr, length, slice_get, slice_set, subst, sym, ℕ, ◌∙◌, ◌≡◌, ◌≢◌}
 
 module _ {A : Type 0} (plan : Plan) where
   -- a step of one node that keeps both numbers
   rest_steady : (nodes : List (Node A)) (i : ℕ) (n m : Node A) → slice_get nodes i ≡ Some n → Rests n m → IsSteady (network_of plan nodes) → IsSteady (network_of plan (slice_set nodes i m))
-  rest_steady nodes i n m is rests steady = record {
-    in_place = still_in_place nodes i n m is rests.in_place ∙ steady.in_place;
-    balanced = λ p q wired.
-        let from : End = end_of plan p in
-        let to : End = end_of plan q in
-        let was : AreLevel nodes from to = steady.balanced p q wired in (
-          was.0,
-          seen_kept nodes i n m is (credit_of from.link) (rests.credit from.link) from.node ∙ was.1,
-          seen_kept nodes i n m is (granted_of to.link) (rests.granted to.link) to.node ∙ was.2,
-        );
-  }
+  rest_steady nodes i n m is rests steady = search (arith, still_in_place, seen_kept)
 
   -- a step at one place
   pub steady_at : (nodes after : List (Node A)) (i : ℕ) (f : Node A → Option (Node A)) → step_at nodes i f ≡ Some after → ((n m : Node A) → f n ≡ Some m → Rests n m) → IsSteady (network_of plan nodes) → IsSteady (network_of plan after)

@@ -1,12 +1,11 @@
 -- A turn and a claim keep what an input has granted and what credit each output has.
 use Rattle.c104_link.{proofs.MadeSteps.{at_place_made, given, required}, specs.Buffers.{Incoming, Outgoing, outgoing_put, outgoing_put_all}}
 use Rattle.{c104_link.specs.Steps.{require, step_at, ◌>>=◌, ◌>>◌}, c104_run.proofs.BalancePlaces.{lower, raise, seen_kept}}
-use Rattle.c104_switch.specs.{Claims.{input_claim, put_header, streaming_input}, Group.is_in_group, Headers.phase_after_header}
-use Rattle.c104_switch.specs.{Switch.{Input, input_accept, input_grant, with_buffer}, Turns.{header_turn, input_after_token, input_turn}}
-use Rattle.c104_switch.specs.{Turns.{phase_after_token, random_turn, turn_by_phase}, declared.phase.Phase.{Phase, TheVariants.Fresh}}
-use Rattle.{c104_switch.specs.declared.phase.Phase.TheVariants.{Head, Sinking, Stream, Want}, c104_token.specs.{Kinds.Kind, Tokens.is_end}}
-use Rattle.std.proofs.Common.{Bool, List, Option, Some, [], ap, drop, false, if◌then◌else◌, length, nat_le, nat_lt, not, refl, slice_get}
-use Rattle.std.proofs.Common.{subst, sym, true, ℕ, ◌&&◌, ◌++◌, ◌+◌, ◌-◌, ◌∷◌, ◌≡◌}
+use Rattle.c104_switch.specs.{Claims.{input_claim, put_header}, Headers.phase_after_header, Switch.{Input, input_accept, input_grant}}
+use Rattle.c104_switch.specs.{Turns.{header_turn, input_after_token, input_turn, turn_by_phase}, declared.phase.Phase.Phase}
+use Rattle.{c104_switch.specs.declared.phase.Phase.TheVariants.Fresh, c104_token.specs.{Kinds.Kind, Tokens.is_end}, std.proofs.Common.Bool}
+use Rattle.std.proofs.Common.{List, Option, Some, [], ap, arith, drop, false, if◌then◌else◌, length, nat_le, nat_lt, refl, slice_get, subst}
+use Rattle.std.proofs.Common.{true, ℕ, ◌++◌, ◌+◌, ◌-◌, ◌∷◌, ◌≡◌}
 use Rattle.c104_link.specs.Buffers as buffer
 
 -- a number that stays the same in what a step gives under a condition
@@ -23,11 +22,7 @@ module _ {A : Type 0} where
 
   -- a header that joins an output, or is deleted
   put_header_keeps : (s : _) (b : List A) (q r : Outgoing A) → put_header s b q ≡ Some r → r.credit ≡ q.credit
-  put_header_keeps s b q r is = by_delete s.delete_header is
-    where
-      by_delete : (delete : Bool) → (if delete then Some q else outgoing_put_all b q) ≡ Some r → r.credit ≡ q.credit
-      by_delete true made = let same : q ≡ r = cc in ap (λ (q : Outgoing A). q.credit) (sym same)
-      by_delete false made = put_all_keeps b q r made
+  put_header_keeps s b q r is = search (arith, put_all_keeps)
 
   -- a token that goes out uses one credit
   pub leave_lowers : (q : Outgoing A) (r : A × Outgoing A) → buffer.outgoing_emit q ≡ Some r → r.1.credit ≡ lower q.credit
@@ -47,14 +42,10 @@ module _ {A : Type 0} where
 
   -- the same of an input
   pub accepted_lowers : (x : A) (p r : Input A) → input_accept x p ≡ Some r → r.buffer.granted ≡ lower p.buffer.granted
-  accepted_lowers x p r is = given (buffer.incoming_accept x p.buffer) _ r is (λ b made last.
-      let same : with_buffer p b ≡ r = cc in
-      subst (λ (r : Input A). r.buffer.granted ≡ lower p.buffer.granted) same (enter_lowers x p.buffer b made))
+  accepted_lowers x p r is = search (arith, given, lower, enter_lowers)
 
   pub granted_raises : (p r : Input A) → input_grant p ≡ Some r → r.buffer.granted ≡ raise p.buffer.granted
-  granted_raises p r is = given (buffer.incoming_grant p.buffer) _ r is (λ b made last.
-      let same : with_buffer p b ≡ r = cc in
-      subst (λ (r : Input A). r.buffer.granted ≡ raise p.buffer.granted) same (grant_raises p.buffer b made))
+  granted_raises p r is = search (arith, given, raise, grant_raises)
 
   -- the credit of an output
   abbrev pub credit_seen : Outgoing A → Option ℕ
@@ -81,14 +72,11 @@ module _ {A : Type 0} where
 
   -- a claim
   pub claimed_keeps : (settings : _) (p : Input A) (qs : List (Outgoing A)) (o : ℕ) (phase : Phase (List A)) (r : Input A × List (Outgoing A)) → input_claim settings p qs o phase ≡ Some r → KeepsSides p qs r.0 r.1
-  claimed_keeps settings p qs o (Want b g) r is = required (is_in_group settings g o) _ r is (λ joined more. given (slice_get settings o) _ r more (λ t own most. given (step_at qs o (put_header t b)) _ r most (λ rs made last.
-      keeps_made p qs (streaming_input p o) rs r last refl (outputs_keep qs o (put_header t b) rs made (put_header_keeps t b)))))
-  claimed_keeps settings p qs o phase r is = cc
+  claimed_keeps settings p qs o phase r is = search (arith, required, given, keeps_made, outputs_keep, put_header_keeps)
 
   -- an input that is one of two that granted the same
   granted_either : (n : ℕ) (b : Bool) (p q : Input A) → p.buffer.granted ≡ n → q.buffer.granted ≡ n → (if b then p else q).buffer.granted ≡ n
-  granted_either n true p q one other = one
-  granted_either n false p q one other = other
+  granted_either n b p q one other = search arith
 
 module _ {A : Type 0} (kind : Kind A) where
   -- an input that reads a token of a header
@@ -97,16 +85,7 @@ module _ {A : Type 0} (kind : Kind A) where
 
   -- a turn, by the phase
   by_phase_keeps : (s : _) (word : ℕ) (p : Input A) (qs : List (Outgoing A)) (phase : Phase (List A)) (x : A) (r : Input A × List (Outgoing A)) → turn_by_phase kind s word p qs phase x ≡ Some r → KeepsSides p qs r.0 r.1
-  by_phase_keeps s word p qs Fresh x r is = by_random (s.randomize && not (is_end (kind.plain x))) is
-    where
-      by_random : (random : Bool) → (if random then Some (random_turn kind s word p, qs) else Some (header_turn kind s p [] x, qs)) ≡ Some r → KeepsSides p qs r.0 r.1
-      by_random true gives = keeps_made p qs (random_turn kind s word p) qs r gives refl (λ k. refl)
-      by_random false gives = keeps_made p qs (header_turn kind s p [] x) qs r gives (on_header_keeps s p [] x) (λ k. refl)
-  by_phase_keeps s word p qs (Head b) x r is = keeps_made p qs (header_turn kind s p b x) qs r is (on_header_keeps s p b x) (λ k. refl)
-  by_phase_keeps s word p qs (Want b g) x r is = cc
-  by_phase_keeps s word p qs (Stream o) x r is = given (step_at qs o (outgoing_put x)) _ r is (λ rs made last.
-      keeps_made p qs (input_after_token p (phase_after_token kind x (Stream o)) false false) rs r last refl (outputs_keep qs o (outgoing_put x) rs made (put_keeps x)))
-  by_phase_keeps s word p qs Sinking x r is = keeps_made p qs (input_after_token p (phase_after_token kind x Sinking) false false) qs r is refl (λ k. refl)
+  by_phase_keeps s word p qs phase x r is = search (arith, keeps_made, on_header_keeps, given, outputs_keep, put_keeps)
 
   -- a turn
   pub turn_keeps : (s : _) (word : ℕ) (p : Input A) (qs : List (Outgoing A)) (r : Input A × List (Outgoing A)) → input_turn kind s word p qs ≡ Some r → KeepsSides p qs r.0 r.1

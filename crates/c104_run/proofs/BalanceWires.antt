@@ -1,16 +1,13 @@
 -- The wires of a plan: each has two ends, and no two ports that have a wire stand at one end.
 use Rattle.{c104_node.specs.declared.ends.End.End, c104_plan.proofs.{PortLemmas.{cases_port, is_port-refl}, Wires.wiring}}
-use Rattle.c104_plan.specs.{Plans.{IsPlan, Plan}, Ports.{IsSwitchPort, is_port}, Wiring.{IsPlanPort, peer}, declared.ports.Port.Port}
-use Rattle.{c104_run.specs.{Ends.end_of, FarEnds.far_end}, std.proofs.Common.{None, Option, Some, ap, arith, false, inl, inr, length, refl}}
-use Rattle.std.{proofs.{Common.{subst, sym, ℕ, ◌+◌, ◌<◌, ◌∙◌, ◌≡◌, ◌≢◌, ◌⊎◌}, lemmas.Bool.cases_eq}, specs.Option.option_map}
+use Rattle.c104_plan.specs.{Plans.{IsPlan, Plan}, Ports.IsSwitchPort, Wiring.{IsPlanPort, peer}, declared.ports.Port.Port}
+use Rattle.{c104_run.specs.{Ends.end_of, FarEnds.far_end}, std.proofs.Common.{Some, arith, length, sym, ℕ, ◌+◌, ◌<◌, ◌∙◌, ◌≡◌, ◌≢◌, ◌⊎◌}}
+use Rattle.std.proofs.lemmas.Bool.{cases_eq}
 use Rattle.c104_plan.specs.Ports as ports
 
 -- two ports are one, or they differ
 pub port_cases : (p q : Port) → (p ≡ q) ⊎ (p ≢ q)
-port_cases p q = elim (cases_port p q) [
-  | inl same ↦ inl same
-  | inr differ ↦ inr (λ same. let both : is_port p p ≡ false = subst (λ r. is_port p r ≡ false) (sym same) differ in cc (is_port-refl p))
-]
+port_cases p q = search (arith, cases_port, is_port-refl)
 
 -- two ends of wires that are two: at two nodes, or at two links of one of the first nodes, the switches
 abbrev pub AreApart : ℕ → End → End → Type 0
@@ -39,19 +36,7 @@ module _ (plan : Plan) (is_plan : IsPlan plan) where
 
   -- the ends of two ports that have wires are two
   pub ends_apart : (p q p' q' : Port) → peer plan p ≡ Some q → peer plan p' ≡ Some q' → p ≢ p' → AreApart (length plan.switches) (end_of plan p) (end_of plan p')
-  ends_apart (Port.Switch s l) q (Port.Switch s' l') q' is is' differ =
-      elim (cases_eq s s') [
-        | inl same ↦ inr ((switch_inside s' l' q' is').0, λ links. differ (cc))
-        | inr other ↦ inl other
-      ]
-  ends_apart (Port.Switch s l) q (Port.Terminal t') q' is is' differ =
-      let inside : s < length plan.switches = (switch_inside s l q is).0 in
-      inl (λ same. let e : s ≡ length plan.switches + t' = same in omega arith)
-  ends_apart (Port.Terminal t) q (Port.Switch s' l') q' is is' differ =
-      let inside : s' < length plan.switches = (switch_inside s' l' q' is').0 in
-      inl (λ same. let e : length plan.switches + t ≡ s' = same in omega arith)
-  ends_apart (Port.Terminal t) q (Port.Terminal t') q' is is' differ =
-      inl (λ same. let e : length plan.switches + t ≡ length plan.switches + t' = same in let number : t ≡ t' = omega arith in differ (ap Port.Terminal number))
+  ends_apart p q p' q' is is' differ = search (arith, cases_eq, switch_inside)
 
   -- the two ends of a wire are at two nodes
   pub nodes_apart : (p q : Port) → peer plan p ≡ Some q → (end_of plan p).node ≢ (end_of plan q).node
@@ -65,8 +50,4 @@ module _ (plan : Plan) (is_plan : IsPlan plan) where
 
   -- the same of the far end as the table has it
   pub far_apart : (p : Port) (near far : End) → near ≡ end_of plan p → far_end plan p ≡ Some far → near.node ≢ far.node
-  far_apart p near far at_near at_far = by_peer (peer plan p) refl at_far
-    where
-      by_peer : (o : Option Port) → peer plan p ≡ o → option_map (end_of plan) o ≡ Some far → near.node ≢ far.node
-      by_peer None wired ends = cc
-      by_peer (Some q) wired ends = λ same. let one : end_of plan q ≡ far = cc in nodes_apart p q wired (ap (λ (e : End). e.node) (sym at_near) ∙ same ∙ ap (λ (e : End). e.node) (sym one))
+  far_apart p near far at_near at_far = search (arith, nodes_apart)

@@ -11,10 +11,7 @@ use Rattle.std.specs.List.{range_with_len}
 module _ {A M P : Type 0} {kind : Kind A} {keeps : Bool} {sees : Sees M A} {shown : P → Shown A} where
   -- a part of which the events are named otherwise
   pub does_so : {old new : EngineView P} {m n : M} {es fs : Plan → List Event} {result : Result Bool EventFault} → es old.plan ≡ fs old.plan → DoesPart kind keeps sees shown old m es result new n → DoesPart kind keeps sees shown old m fs result new n
-  does_so {old} {new} {m} {n} {es} {fs} {result} same does = record {
-    plan = does.plan;
-    ends = subst (λ events. PartEnds (metered_apply kind keeps sees) (engine_at shown old m) events result (engine_at shown new n)) same does.ends;
-  }
+  does_so {old} {new} {m} {n} {es} {fs} {result} same does = search arith
 
   -- events that do nothing
   pub does_nothing : {e : EngineView P} {m : M} {es : Plan → List Event} → AreIdle kind (engine_network shown e) (es e.plan) → DoesPart kind keeps sees shown e m es (Ok false) e m
@@ -22,10 +19,7 @@ module _ {A M P : Type 0} {kind : Kind A} {keeps : Bool} {sees : Sees M A} {show
 
   -- a part that a fault stops, and what would have followed
   pub does_before : {old new : EngineView P} {m n : M} {es : Plan → List Event} {f : EventFault} → DoesPart kind keeps sees shown old m es (Err f) new n → (fs : Plan → List Event) → DoesPart kind keeps sees shown old m (λ p. es p ++ fs p) (Err f) new n
-  does_before {old} {new} {m} {n} {es} {f} does fs = record {
-    plan = does.plan;
-    ends = stops_before (metered_apply kind keeps sees) (engine_at shown old m) (engine_at shown new n) (es old.plan) (fs old.plan) f does.ends;
-  }
+  does_before {old} {new} {m} {n} {es} {f} does fs = search (arith, stops_before)
 
   -- one part after another
   pub does_after : {old mid new : EngineView P} {m k n : M} {es fs : Plan → List Event} {a b : Bool} → DoesPart kind keeps sees shown old m es (Ok a) mid k → DoesPart kind keeps sees shown mid k fs (Ok b) new n → DoesPart kind keeps sees shown old m (λ p. es p ++ fs p) (Ok (a || b)) new n

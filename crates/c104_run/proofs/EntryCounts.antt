@@ -35,10 +35,7 @@ room_there nodes traces k n same there free =
 
 total_set : (traces : List (List Entry)) (k : ℕ) (trace : List Entry) (e : Entry) → slice_get traces k ≡ Some trace → total_entries (slice_set traces k (trace ++ e ∷ [])) ≡ suc (total_entries traces)
 total_set [] k trace e there = cc
-total_set (t ∷ traces) zero trace e there =
-    let same : t ≡ trace = cc in
-    let one : length (trace ++ e ∷ []) ≡ length trace + 1 = length-append trace (e ∷ []) in
-    omega (arith, one, ap (length {A = Entry}) same)
+total_set (t ∷ traces) zero trace e there = search (arith, length-append)
 total_set (t ∷ traces) (suc k) trace e there = let rest = total_set traces k trace e there in omega (arith, rest)
 
 -- an entry that joins a trace with room is one more, and the traces stay within their limit
@@ -57,17 +54,10 @@ module _ (traces : List (List Entry)) (k : ℕ) (e : Entry) (room : HasRoom trac
 
 -- the same of the entries of one event
 pub all_more : (traces : List (List Entry)) (deeds : List Deed) → HaveRoom traces deeds → total_entries traces + 1 ≤ total_entries (noted_all true traces deeds)
-all_more traces (d ∷ []) room = let one = noted_more traces d.0 d.1 room in omega (arith, one)
-all_more traces (d ∷ e ∷ []) room =
-    let first = noted_more traces d.0 d.1 room.0 in
-    let second = noted_more (noted_at true traces d.0 d.1) e.0 e.1 (room_elsewhere traces d.0 d.1 room.0 e.0 room.1 room.2) in
-    omega (arith, first, second)
-all_more traces deeds room = absurd room
+all_more traces deeds room = search (arith, noted_more, room_elsewhere)
 
 pub all_within : (traces : List (List Entry)) (deeds : List Deed) → HaveRoom traces deeds → All IsWithinLimit traces → All IsWithinLimit (noted_all true traces deeds)
-all_within traces (d ∷ []) room all = noted_within traces d.0 d.1 room all
-all_within traces (d ∷ e ∷ []) room all = noted_within (noted_at true traces d.0 d.1) e.0 e.1 (room_elsewhere traces d.0 d.1 room.0 e.0 room.1 room.2) (noted_within traces d.0 d.1 room.0 all)
-all_within traces deeds room all = absurd room
+all_within traces deeds room all = search (arith, noted_within, room_elsewhere)
 
 -- how many entries there can be
 pub total_below : (traces : List (List Entry)) → All IsWithinLimit traces → total_entries traces ≤ length traces * trace_limit

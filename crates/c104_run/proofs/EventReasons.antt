@@ -3,25 +3,23 @@ use Rattle.{c104_event.specs.declared.{events.Event.Event, faults.EventFault.Eve
 use Rattle.c104_node.specs.{NodeReasons.{node_claim_why, node_drain_why, node_input_why}, Nodes.Node, PortActs.Acts}
 use Rattle.c104_node.specs.declared.{acts.ActOf.ActOf, crossings.Crossing.{Crossing, TheVariants.{Grant, Token}}}
 use Rattle.{c104_node.specs.declared.node.NodeOf.TheVariants.{Switch, Terminal}, c104_plan.specs.{Wiring.peer, declared.ports.Port.Port}}
-use Rattle.c104_run.specs.{Ends.end_of, EventActs.{Ask, ask_acts, crossing_acts, event_ask}, Network.{Network, event_fault, terminal_place}}
+use Rattle.c104_run.specs.{Ends.end_of, EventActs.{Ask, ask_acts, event_ask}, Network.{Network, event_fault, terminal_place}}
 use Rattle.c104_run.specs.ReasonMeanings.{IsAloneReason, IsAskReason, IsDrainReason, IsEventReason, IsFarReason, IsInputReason}
 use Rattle.c104_run.specs.{ReasonMeanings.{IsNearReason, IsNodeClaimReason, IsSaid, IsSaidAt}, Reasons.{acts_why, alone_why, claim_reason}}
 use Rattle.c104_run.specs.Reasons.{end_why, event_why, far_why, near_why, network_why, unless_refused}
 use Rattle.c104_switch.proofs.ReasonsHold.{accept_says, credited_says, emit_says, grant_says, reason_holds, take_says}
-use Rattle.c104_switch.specs.ReasonMeanings.{IsAcceptReason, IsCreditedReason, IsEmitReason, IsGrantReason, IsReason, IsTakeReason}
-use Rattle.c104_switch.specs.{Reasons.{enter_why, why_at}, declared.{actions.ActionOf.ActionOf, unready.Unready.Unready}}
-use Rattle.std.{proofs.Common.{IfSome, List, None, Option, Some, inl, inr, length, refl, slice_get, ℕ, ◌-◌, ◌≡◌}, specs.Option.option_map}
+use Rattle.c104_switch.specs.{ReasonMeanings.{IsAcceptReason, IsCreditedReason, IsEmitReason, IsGrantReason, IsReason}, Reasons.enter_why}
+use Rattle.{c104_switch.specs.{Reasons.why_at, declared.{actions.ActionOf.ActionOf, unready.Unready.Unready}}, std.proofs.Common.IfSome}
+use Rattle.std.{proofs.Common.{List, None, Option, Some, arith, inl, inr, length, refl, slice_get, ℕ, ◌-◌, ◌≡◌}, specs.Option.option_map}
 use Rattle.std.specs.Option.{option_or}
 
 -- what is said of a reason is said of it at its port
 carried : {X : Type 0} (f : Unready → X) (P : Unready → Type 0) (Q : X → Type 0) → ((u : Unready) → P u → Q (f u)) → (why : Option Unready) → IfSome why P → IfSome (option_map f why) Q
-carried f P Q gives None said = tt
-carried f P Q gives (Some u) said = gives u said
+carried f P Q gives why said = search arith
 
 -- for all that is said of a token that comes in
 for_all : {A : Type 0} (P : A → Unready → Type 0) (why : Option Unready) → ((x : A) → IfSome why (P x)) → IfSome why (λ u. (x : A) → P x u)
-for_all P None said = tt
-for_all P (Some u) said = said
+for_all P why said = search arith
 
 module _ {A : Type 0} where
   near_says : (crossing : Crossing) (l : ℕ) (n : Node A) → IfSome (near_why crossing l n) (IsNearReason crossing l n)
@@ -45,16 +43,11 @@ module _ {A : Type 0} where
   claim_says i o (Terminal t) = refl
 
   drain_says : (n : Node A) → IfSome (node_drain_why n) (IsDrainReason n)
-  drain_says (Switch s) = refl
-  drain_says (Terminal t) = take_says (IsTakeReason t.input) t.input (λ none. none)
+  drain_says n = search (arith, take_says)
 
   -- the same of the node at a place
   said_at : (nodes : List (Node A)) (place : ℕ) (why : Node A → Option Unready) (Says : Node A → Unready → Type 0) → ((n : Node A) → IfSome (why n) (Says n)) → IfSome (why_at nodes place why) (IsSaid Says (slice_get nodes place))
-  said_at nodes place why Says said = by_found (slice_get nodes place) refl
-    where
-      by_found : (found : Option (Node A)) → slice_get nodes place ≡ found → IfSome (why_at nodes place why) (IsSaid Says (slice_get nodes place))
-      by_found None is = rw is refl
-      by_found (Some n) is = rw is (said n)
+  said_at nodes place why Says said = search arith
 
   module _ (net : Network A) where
     end_says : (p : Port) (why : ℕ → Node A → Option Unready) (Says : ℕ → Node A → Unready → Type 0) → ((l : ℕ) (n : Node A) → IfSome (why l n) (Says l n)) → IfSome (end_why net.nodes (end_of net.plan p) why) (IsSaidAt net Says p)
@@ -80,11 +73,7 @@ module _ {A : Type 0} where
     says : (ask : Ask A) → IfSome (ask_acts net.plan ask >>= acts_why net) (IsAskReason net ask)
     says (Ask.Switch s a) = alone_says s (ActOf.Step a)
     says (Ask.Terminal t a) = alone_says (terminal_place net.plan t) a
-    says (Ask.Over p crossing) = by_peer (peer net.plan p) refl
-      where
-        by_peer : (other : Option Port) → peer net.plan p ≡ other → IfSome (crossing_acts crossing p other >>= acts_why net) (IsAskReason net (Ask.Over p crossing))
-        by_peer None wired = tt
-        by_peer (Some q) wired = joint_says p q wired crossing
+    says (Ask.Over p crossing) = search (arith, joint_says)
 
     pub event_reason_holds : (e : Event) → IfSome (network_why net e) (IsEventReason net e)
     event_reason_holds e = by_fault (event_fault net.plan e)

@@ -8,12 +8,11 @@ use Rattle.c104_node.specs.{Nodes.{node_leave, node_send}, PortActs.{Acts, act_l
 use Rattle.c104_node.specs.{PortActs.port_leave, Traces.part, declared.{acts.ActOf.ActOf, crossings.Crossing.TheVariants.{Grant, Token}}}
 use Rattle.{c104_node.specs.declared.node.NodeOf.NodeOf, c104_plan.specs.{Plans.{IsPlan, Plan}, Wiring.peer, declared.ports.Port.Port}}
 use Rattle.c104_run.proofs.{BalanceWires.{nodes_apart, peer_back, switch_inside}, RunRecords.{in_place, is_switch_place}}
-use Rattle.c104_run.specs.{Balance.AreInPlace, Ends.end_of, EventActs.{acts_step, crossing_acts, port_place}, Network.Network}
-use Rattle.c104_run.specs.Network.{event_fault, event_limit, network_apply, network_step, outcome_if_possible, outcome_if_ready}
-use Rattle.{c104_run.specs.Network.{outcome_within_limit, terminal_place, told_step, with_nodes}, c104_switch.specs.Actions.Reply}
+use Rattle.c104_run.specs.{Balance.AreInPlace, Ends.end_of, EventActs.{acts_step, port_place}, Network.{Network, event_fault, event_limit}}
+use Rattle.{c104_run.specs.Network.{network_apply, network_step, terminal_place, told_step, with_nodes}, c104_switch.specs.Actions.Reply}
 use Rattle.c104_switch.specs.{Control.switch_control, Switch.Switch, declared.actions.{ActionOf.ActionOf, ReplyOf.ReplyOf}}
 use Rattle.{c104_token.specs.{Kinds.Kind, declared.packets.Packet.Packet}, std.proofs.Common.{Bool, List, None, Ok, Option, Some, ap}}
-use Rattle.std.proofs.Common.{arith, false, length, nat_lt, refl, slice_get, slice_set, sym, true, ℕ, ◌+◌, ◌-◌, ◌<◌, ◌∙◌, ◌≡◌}
+use Rattle.std.proofs.Common.{arith, false, length, nat_lt, refl, slice_get, slice_set, sym, true, ℕ, ◌-◌, ◌<◌, ◌∙◌, ◌≡◌}
 use Rattle.std.proofs.lemmas.Bool.Decides.{nat_tests}
 
 module _ {A : Type 0} (kind : Kind A) where
@@ -40,15 +39,7 @@ module _ {A : Type 0} (nodes : List (Node A)) (k : ℕ) (act_of : Node A → Opt
   put_reply y = Some (y.0, slice_set nodes k y.1)
 
   done_at : (f : Node A → Option (Node A)) → ((n : Node A) → slice_get nodes k ≡ Some n → act_of n ≡ done_by (f n)) → yield_step_at nodes k act_of ≡ done_by (step_at nodes k f)
-  done_at f same = by_node (slice_get nodes k) refl
-    where
-      by_made : (made : Option (Node A)) → (done_by {A = A} made >>= put_reply) ≡ done_by {A = A} (made >>= (λ y. Some (slice_set nodes k y)))
-      by_made None = refl
-      by_made (Some m) = refl
-
-      by_node : (o : Option (Node A)) → slice_get nodes k ≡ o → (o >>= (λ x. act_of x >>= put_reply)) ≡ done_by {A = A} (o >>= (λ x. f x >>= (λ y. Some (slice_set nodes k y))))
-      by_node None at = refl
-      by_node (Some n) at = ap (λ (made : Option (ReplyOf A × Node A)). made >>= put_reply) (same n at) ∙ by_made (f n)
+  done_at f same = search arith
 
   -- the same, where a token or a reply to a command comes of it
   module _ {Y : Type 0} (answer : Y → ReplyOf A) where
@@ -59,29 +50,18 @@ module _ {A : Type 0} (nodes : List (Node A)) (k : ℕ) (act_of : Node A → Opt
     put_yield y = Some (y.0, slice_set nodes k y.1)
 
     yield_at : (f : Node A → Option (Y × Node A)) → ((n : Node A) → slice_get nodes k ≡ Some n → act_of n ≡ answered (f n)) → yield_step_at nodes k act_of ≡ answered (yield_step_at nodes k f)
-    yield_at f same = by_node (slice_get nodes k) refl
-      where
-        by_made : (made : Option (Y × Node A)) → (answered made >>= put_reply) ≡ answered (made >>= put_yield)
-        by_made None = refl
-        by_made (Some m) = refl
-
-        by_node : (o : Option (Node A)) → slice_get nodes k ≡ o → (o >>= (λ x. act_of x >>= put_reply)) ≡ answered (o >>= (λ x. f x >>= put_yield))
-        by_node None at = refl
-        by_node (Some n) at = ap (λ (made : Option (ReplyOf A × Node A)). made >>= put_reply) (same n at) ∙ by_made (f n)
+    yield_at f same = search arith
 
 module _ {A : Type 0} (kind : Kind A) where
   -- what comes of a step, as it is told
   token_told : (net : Network A) (made : Option (A × List (Node A))) → token_step kind net made ≡ told_step kind net (token_by made)
-  token_told net None = refl
-  token_told net (Some r) = refl
+  token_told net made = search arith
 
   done_told : (net : Network A) (made : Option (List (Node A))) → done_step kind net made ≡ told_step kind net (done_by {A = A} made)
-  done_told net None = refl
-  done_told net (Some r) = refl
+  done_told net made = search arith
 
   control_told : (net : Network A) (made : Option (List ℕ × List (Node A))) → control_step kind net made ≡ told_step kind net (control_by {A = A} made)
-  control_told net None = refl
-  control_told net (Some r) = refl
+  control_told net made = search arith
 
   module _ (net : Network A) (k number : ℕ) (a : ActOf A) where
     done_alone : (f : Node A → Option (Node A)) → ((n : Node A) → node_act kind number a n ≡ done_by (f n)) → done_step kind net (step_at net.nodes k f) ≡ told_step kind net (nodes_act kind net.nodes k number a)
@@ -94,38 +74,27 @@ module _ {A : Type 0} (kind : Kind A) where
     control_alone f same = control_told net (yield_step_at net.nodes k f) ∙ ap (told_step kind net) (sym (yield_at net.nodes k (node_act kind number a) ReplyOf.Control f (λ n at. same n)))
 
   input_act : (l word number : ℕ) (n : Node A) → node_act kind number (ActOf.Step (ActionOf.Input l word)) n ≡ done_by (node_input kind l word n)
-  input_act l word number (NodeOf.Switch s) = refl
-  input_act l word number (NodeOf.Terminal t) = refl
+  input_act l word number n = search arith
 
   claim_act : (i o number : ℕ) (n : Node A) → node_act kind number (ActOf.Step (ActionOf.Claim i o)) n ≡ done_by (node_claim i o n)
-  claim_act i o number (NodeOf.Switch s) = refl
-  claim_act i o number (NodeOf.Terminal t) = refl
+  claim_act i o number n = search arith
 
   control_act : (bytes : List ℕ) (number : ℕ) (n : Node A) → node_act kind number (ActOf.Step (ActionOf.Control bytes)) n ≡ control_by (node_control bytes n)
-  control_act bytes number (NodeOf.Switch s) = refl
-  control_act bytes number (NodeOf.Terminal t) = refl
+  control_act bytes number n = search arith
 
   -- the acts at a port, of a node of its kind
   module _ (plan : Plan) where
     leave_is : (p : Port) (n : Node A) → is_switch n ≡ is_switch_port p → node_act kind 0 (port_leave p) n ≡ token_by (node_leave (end_of plan p).link n)
-    leave_is (Port.Switch s l) (NodeOf.Switch x) fits = refl
-    leave_is (Port.Terminal t) (NodeOf.Terminal x) fits = refl
-    leave_is p n fits = absurd (cc fits)
+    leave_is p n fits = search arith
 
     enter_is : (p : Port) (x : A) (n : Node A) → is_switch n ≡ is_switch_port p → node_act kind 0 (port_enter x p) n ≡ done_by (node_enter x (end_of plan p).link n)
-    enter_is (Port.Switch s l) x (NodeOf.Switch y) fits = refl
-    enter_is (Port.Terminal t) x (NodeOf.Terminal y) fits = refl
-    enter_is p x n fits = absurd (cc fits)
+    enter_is p x n fits = search arith
 
     credit_out_is : (p : Port) (n : Node A) → is_switch n ≡ is_switch_port p → node_act kind 0 (port_credit_out p) n ≡ done_by (node_credit_out (end_of plan p).link n)
-    credit_out_is (Port.Switch s l) (NodeOf.Switch y) fits = refl
-    credit_out_is (Port.Terminal t) (NodeOf.Terminal y) fits = refl
-    credit_out_is p n fits = absurd (cc fits)
+    credit_out_is p n fits = search arith
 
     credit_in_is : (p : Port) (n : Node A) → is_switch n ≡ is_switch_port p → node_act kind 0 (port_credit_in p) n ≡ done_by (node_credit_in (end_of plan p).link n)
-    credit_in_is (Port.Switch s l) (NodeOf.Switch y) fits = refl
-    credit_in_is (Port.Terminal t) (NodeOf.Terminal y) fits = refl
-    credit_in_is p n fits = absurd (cc fits)
+    credit_in_is p n fits = search arith
 
   module _ (plan : Plan) (is_plan : IsPlan plan) (nodes : List (Node A)) (placed : AreInPlace plan nodes) where
     -- the node at a wired port is of the port's kind
@@ -197,9 +166,7 @@ module _ {A : Type 0} (kind : Kind A) where
   control_named net s bytes = control_alone net s (s - length net.plan.switches) (ActOf.Step (ActionOf.Control bytes)) (node_control bytes) (control_act bytes (s - length net.plan.switches))
 
   pub send_named : (net : Network A) (t : ℕ) (packet : Packet) → done_step kind net (step_at net.nodes (terminal_place net.plan t) (node_send kind t packet)) ≡ network_step kind net (Event.Send t packet)
-  send_named net t packet =
-      let number : (length net.plan.switches + t) - length net.plan.switches ≡ t = omega arith in
-      done_alone net (terminal_place net.plan t) (terminal_place net.plan t - length net.plan.switches) (ActOf.Send packet) (node_send kind t packet) (λ n. ap (λ k. node_act kind k (ActOf.Send packet) n) number)
+  send_named net t packet = search (arith, done_alone)
 
   pub drain_named : (net : Network A) (t : ℕ) → token_step kind net (yield_step_at net.nodes (terminal_place net.plan t) node_drain) ≡ network_step kind net (Event.Drain t)
   drain_named net t = token_alone net (terminal_place net.plan t) (terminal_place net.plan t - length net.plan.switches) ActOf.Drain node_drain (λ n. refl)
@@ -207,18 +174,10 @@ module _ {A : Type 0} (kind : Kind A) where
   -- what crosses a wire, in a network of a plan whose nodes stand in their places
   module _ (net : Network A) (is_plan : IsPlan net.plan) (placed : AreInPlace net.plan net.nodes) (p : Port) where
     pub cross_named : (peer net.plan p >>= (λ q. token_step kind net (nodes_cross net.nodes (end_of net.plan p) (end_of net.plan q)))) ≡ network_step kind net (Event.Cross p)
-    cross_named = by_peer (peer net.plan p) refl
-      where
-        by_peer : (o : Option Port) → peer net.plan p ≡ o → (o >>= (λ q. token_step kind net (nodes_cross net.nodes (end_of net.plan p) (end_of net.plan q)))) ≡ (crossing_acts Token p o >>= (λ acts. told_step kind net (acts_step kind net.plan net.nodes acts)))
-        by_peer None wired = refl
-        by_peer (Some q) wired = token_told net (nodes_cross net.nodes (end_of net.plan p) (end_of net.plan q)) ∙ ap (told_step kind net) (sym (cross_is net.plan is_plan net.nodes placed p q wired))
+    cross_named = search (arith, nodes_cross, token_told, cross_is)
 
     pub credit_named : (peer net.plan p >>= (λ q. done_step kind net (nodes_credit net.nodes (end_of net.plan p) (end_of net.plan q)))) ≡ network_step kind net (Event.Credit p)
-    credit_named = by_peer (peer net.plan p) refl
-      where
-        by_peer : (o : Option Port) → peer net.plan p ≡ o → (o >>= (λ q. done_step kind net (nodes_credit net.nodes (end_of net.plan p) (end_of net.plan q)))) ≡ (crossing_acts Grant p o >>= (λ acts. told_step kind net (acts_step kind net.plan net.nodes acts)))
-        by_peer None wired = refl
-        by_peer (Some q) wired = done_told net (nodes_credit net.nodes (end_of net.plan p) (end_of net.plan q)) ∙ ap (told_step kind net) (sym (credit_is net.plan is_plan net.nodes placed p q wired))
+    credit_named = search (arith, nodes_credit, done_told, credit_is)
 
   -- a command of a switch that stands there is replied to
   module _ (net : Network A) (k : ℕ) (bytes : List ℕ) (s : Switch A) (here : nat_lt k (length net.plan.switches) ≡ true) (there : slice_get net.nodes k ≡ Some (NodeOf.Switch s)) where
@@ -238,6 +197,4 @@ module _ {A : Type 0} (kind : Kind A) where
     unlimited = ap (λ (o : Option (Node A)). act_limit o (ActOf.Step (ActionOf.Control bytes))) there
 
     pub control_applied : network_apply kind net (Event.Control k bytes) ≡ (Ok (ReplyOf.Control (switch_control s bytes).0), after)
-    control_applied =
-        ap (outcome_if_possible kind net (Event.Control k bytes)) possible ∙ ap (outcome_if_ready kind net (Event.Control k bytes)) made
-        ∙ ap (λ f. outcome_within_limit kind net f (ReplyOf.Control (switch_control s bytes).0, after)) unlimited
+    control_applied = search (arith, possible, made, unlimited)

@@ -20,14 +20,7 @@ module _ (plan : Plan) (ends : List (Option End)) where
 
   -- the far end at a link
   pub link_at : ends ≡ link_ends plan → (s l : ℕ) (d : Option End) → s < length plan.switches → l < 32 → get_or ends (s * 32 + l) d ≡ far_end plan (Port.Switch s l)
-  link_at is s l d inside below =
-      let place : ℕ = s * 32 + l in
-      let same_switch : place / 32 ≡ s = omega arith in
-      let same_link : place % 32 ≡ l = omega arith in
-      ap (λ xs. get_or xs place d) is
-      ∙ get_or-map-range_with_len at_place 0 (length plan.switches * 32) place place d (omega arith) (omega arith)
-      ∙ ap (λ n. far_end plan (Port.Switch n (place % 32))) same_switch
-      ∙ ap (λ n. far_end plan (Port.Switch s n)) same_link
+  link_at is s l d inside below = search (arith, get_or-map-range_with_len)
 
   -- the far end at a terminal
   pub terminal_at : ends ≡ terminal_ends plan → (t : ℕ) (d : Option End) → t < length plan.terminals → get_or ends t d ≡ far_end plan (Port.Terminal t)

@@ -2,9 +2,8 @@
 use Rattle.{c104_link.specs.Steps.◌>>=◌, c104_node.specs.Nodes.{Node, is_switch, node_arrived, terminals_of}}
 use Rattle.{c104_node.specs.declared.node.NodeOf.TheVariants.{Switch, Terminal}, c104_plan.specs.Plans.Plan}
 use Rattle.c104_run.specs.{Balance.AreInPlace, Finished.{network_finish, run_arrived}, Network.{Network, network_arrived}}
-use Rattle.std.proofs.Common.{Bool, List, None, Option, Some, [], ap, arith, false, if◌then◌else◌, length, map, nat_lt, refl, replicate}
-use Rattle.std.proofs.{Common.{slice_get, suc, sym, true, zero, ℕ, ◌++◌, ◌+◌, ◌∙◌, ◌∷◌, ◌≡◌}, lemmas.Bool.Decides.nat_tests}
-use Rattle.std.proofs.lemmas.Option.{slice_get_past}
+use Rattle.std.proofs.Common.{Bool, List, Option, Some, [], ap, arith, false, length, map, refl, replicate, slice_get, suc, sym, true, zero}
+use Rattle.std.proofs.{Common.{ℕ, ◌++◌, ◌+◌, ◌∙◌, ◌∷◌, ◌≡◌}, lemmas.{Bool.Decides.nat_tests, Option.slice_get_past}}
 use Rattle.c104_node.specs.Terminals as terminal
 
 module _ {A : Type 0} where
@@ -47,11 +46,4 @@ module _ {A : Type 0} where
 
   -- what a run says of a terminal is what its network said
   pub arrived_same : (net : Network A) → AreInPlace net.plan net.nodes → (t : ℕ) → run_arrived (network_finish net) t ≡ network_arrived net t
-  arrived_same net are t = by_place (nat_lt t (length net.plan.terminals)) refl
-    where
-      by_place : (inside : Bool) → nat_lt t (length net.plan.terminals) ≡ inside → run_arrived (network_finish net) t ≡ (if inside then (slice_get net.nodes (length net.plan.switches + t) >>= node_arrived) else None)
-      by_place true inside = among_nodes (length net.plan.switches) (length net.plan.terminals) net.nodes are t
-      by_place false past =
-          let counted = terminals_counted net.plan net.nodes are in
-          let none : slice_get (terminals_of net.nodes) t ≡ None = slice_get_past (terminals_of net.nodes) t (grind (arith, nat_tests)) in
-          ap arrived_from none
+  arrived_same net are t = search (arith, among_nodes, terminals_counted, slice_get_past, nat_tests)

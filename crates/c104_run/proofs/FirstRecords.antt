@@ -7,10 +7,10 @@ use Rattle.c104_run.specs.{NetRecords.{IsNetRecord, IsWithinLimit, first_record,
 use Rattle.c104_run.specs.{Network.{new_network, placed_network}, RecordedNets.{IsRecordedNet, Reading, places_record, read_trace}}
 use Rattle.{c104_run.specs.RecordedPlaces.node_reading, c104_switch.specs.{Starts.{SwitchStart, new_link, new_start}, Switch.new_switch}}
 use Rattle.c104_switch.specs.{Switch.new_switch_with, declared.link_start.LinkStart.LinkStart}
-use Rattle.{c104_token.specs.declared.tokens.Token.Token, std.proofs.Common.{All, Bool, Err, List, Ok, OnOk, Result, [], ap, arith, length}}
-use Rattle.std.proofs.Common.{map, refl, slice_get, subst, sym, take, true, ℕ, ◌++◌, ◌+◌, ◌∙◌, ◌∷◌, ◌≡◌, ◌≤◌}
-use Rattle.std.proofs.lemmas.List.{Elements.{All-map, All-replicate}, length-append, length-map, length-take-le, map-append}
-use Rattle.std.{proofs.lemmas.Option.slice_get-map, specs.Option.option_map}
+use Rattle.{c104_token.specs.declared.tokens.Token.Token, std.proofs.Common.{All, Bool, List, OnOk, Result, [], ap, arith, length, map}}
+use Rattle.std.proofs.{Common.{refl, slice_get, subst, sym, take, true, ℕ, ◌++◌, ◌+◌, ◌∙◌, ◌∷◌, ◌≡◌, ◌≤◌}, lemmas.List.Elements.All-map}
+use Rattle.std.proofs.lemmas.{List.{Elements.All-replicate, length-append, length-map, length-take-le, map-append}, Option.slice_get-map}
+use Rattle.std.specs.Option.{option_map}
 
 abbrev Shown : Type 0
 Shown = Node Token × Node Token × List Entry
@@ -35,11 +35,7 @@ made_new cap name = NodeOf.Switch (new_switch cap)
 -- switches and then terminals, as they are made
 all_made : {E X : Type 0} (r : Result (Unit {0}) E) (made : X → Node Token) (xs : List X) (cap : ℕ) (terminals : List Terminal) (mid new : List Shown) → mid ≡ map (λ x. first_record (made x)) xs →
     OnOk r (new ≡ mid ++ map (λ t. first_record (made_terminal cap t)) terminals) → OnOk r (new ≡ map first_record (map made xs ++ map (made_terminal cap) terminals))
-all_made (Ok u) made xs cap terminals mid new first grown =
-    grown ∙ ap (λ ys. ys ++ map (λ t. first_record (made_terminal cap t)) terminals) (first ∙ sym (map_twice first_record made xs))
-    ∙ ap (λ ys. map first_record (map made xs) ++ ys) (sym (map_twice first_record (made_terminal cap) terminals))
-    ∙ sym (map-append first_record (map made xs) (map (made_terminal cap) terminals))
-all_made (Err e) made xs cap terminals mid new first grown = tt
+all_made r made xs cap terminals mid new first grown = search (arith, map_twice, map-append)
 
 -- as they are placed
 pub placed_all : {E : Type 0} (r : Result (Unit {0}) E) (plan : Plan) (image : Image) (mid new : List Shown) → mid ≡ map (λ settings. first_record (made_switch plan.cap settings)) image.settings →
@@ -53,8 +49,7 @@ new_all r plan mid new first grown = all_made r (made_new plan.cap) plan.switche
 
 -- what a switch with its start shows
 pub shown_switch : (v : NodeRecord × NodeRoom) (r : NodeRecord) (n : Node Token) → v.0 ≡ r → r.state ≡ n → start_node r.start ≡ n → r.trace ≡ [] → shown_record v ≡ first_record n
-shown_switch v r n is state begun trace =
-    ap (λ (r : NodeRecord). (r.state, start_node r.start, r.trace)) is ∙ ap (λ (m : Node Token). (m, start_node r.start, r.trace)) state ∙ ap (λ (m : Node Token). (n, m, r.trace)) begun ∙ ap (λ (t : List Entry). (n, n, t)) trace
+shown_switch v r n is state begun trace = search arith
 
 -- what places show at their start, over plain tokens
 abbrev shown_by : {A P : Type 0} → Reading A P → P → Shown
@@ -112,9 +107,7 @@ net_first plan wires nodes list same shown steady =
 
 -- how many nodes there are, by what they show
 pub made_count : {X : Type 0} (made : X → Shown) (before : List Shown) (xs : List X) (i : ℕ) (list : List (NodeRecord × NodeRoom)) → map shown_record list ≡ before ++ map made (take i xs) → i ≤ length xs → length list ≡ length before + i
-made_count made before xs i list is inside =
-    sym (length-map list shown_record) ∙ ap (length {A = Shown}) is ∙ length-append before (map made (take i xs))
-    ∙ ap (λ n. length before + n) (length-map (take i xs) made ∙ length-take-le i xs inside)
+made_count made before xs i list is inside = search (arith, length-map, length-append, length-take-le)
 
 -- the buffers of a new switch are of its size
 pub new_sized : (cap : ℕ) (settings : List Settings) (started : Bool) (s : SwitchStart) → s ≡ new_start cap settings started → HasCap cap (NodeStart.Switch s)

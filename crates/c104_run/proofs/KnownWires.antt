@@ -1,14 +1,13 @@
 -- What is known of the wires of places: no act changes it, and an act that crosses a wire goes over it.
-use Rattle.c104_node.{proofs.PlaceSteps.shown_at, specs.{ActLinks.port_link, Places.{PlaceBase, Shown, base_wired, bases}, Traces.part}}
-use Rattle.{c104_node.specs.WiredPlaces.{links_at, links_of}, c104_plan.specs.Plans.Plan, c104_run.specs.EventActs.port_place}
-use Rattle.{c104_run.specs.KnownWires.{KnowWires, is_linked_end}, std.proofs.Common.{Bool, IfSome, List, None, Option, Some, ap, map}}
-use Rattle.std.proofs.{Common.{option_map, refl, slice_get, subst, sym, true, ℕ, ◌∙◌, ◌≡◌}, lemmas.Option.slice_get-map}
+use Rattle.c104_node.{proofs.PlaceSteps.shown_at, specs.{Places.{PlaceBase, Shown, base_wired, bases}, Traces.part, WiredPlaces.links_at}}
+use Rattle.{c104_node.specs.WiredPlaces.links_of, c104_plan.specs.Plans.Plan, c104_run.specs.KnownWires.{KnowWires, is_linked_end}}
+use Rattle.std.proofs.Common.{Bool, IfSome, List, None, Option, Some, ap, arith, map, option_map, refl, slice_get, subst, sym, true, ℕ, ◌∙◌}
+use Rattle.std.proofs.{Common.◌≡◌, lemmas.Option.slice_get-map}
 
 -- what is known of wires depends on nothing else
 module _ (bs cs : List PlaceBase) (same : map base_wired bs ≡ map base_wired cs) where
   by_wired : (l : ℕ) (o : Option PlaceBase) → part true (λ (b : PlaceBase). links_of b l) o ≡ part true (λ (w : Option (ℕ → Bool)). part true (λ (wired : ℕ → Bool). wired l) w) (option_map base_wired o)
-  by_wired l None = refl
-  by_wired l (Some b) = refl
+  by_wired l o = search arith
 
   links_same : (k l : ℕ) → links_at bs k l ≡ links_at cs k l
   links_same k l =
@@ -34,18 +33,4 @@ module _ (bs cs : List PlaceBase) (same : map base_wired bs ≡ map base_wired c
 module _ {A : Type 0} where
   -- nothing is asked where nothing is known
   pub unknown : {P : Type 0} (shown : P → Shown A) → ((p : P) → (shown p).base.wired ≡ None) → (plan : Plan) (xs : List P) → KnowWires plan (bases (map shown xs))
-  unknown {P} shown none plan xs = record {
-    ends = λ p q wired. (by_place (port_place plan p) (port_link p) (slice_get xs (port_place plan p)) refl, by_place (port_place plan q) (port_link q) (slice_get xs (port_place plan q)) refl);
-    exact = λ k b here. exact_by k b here (slice_get xs k) refl;
-  }
-    where
-      by_place : (k l : ℕ) (o : Option P) → slice_get xs k ≡ o → links_at (bases (map shown xs)) k l ≡ true
-      by_place k l None is = rw (shown_at (λ (s : Shown A). s.base) shown xs k None is) refl
-      by_place k l (Some x) is = rw (shown_at (λ (s : Shown A). s.base) shown xs k (Some x) is, none x) refl
-
-      exact_by : (k : ℕ) (b : PlaceBase) → slice_get (bases (map shown xs)) k ≡ Some b → (o : Option P) → slice_get xs k ≡ o → IfSome b.wired (λ (wired : ℕ → Bool). (l : ℕ) → wired l ≡ is_linked_end plan k l)
-      exact_by k b here None is = let both : None ≡ Some b = sym (shown_at (λ (s : Shown A). s.base) shown xs k None is) ∙ here in absurd (let no : ⊥ = cc in no)
-      exact_by k b here (Some x) is =
-          let both : Some (shown x).base ≡ Some b = sym (shown_at (λ (s : Shown A). s.base) shown xs k (Some x) is) ∙ here in
-          let one : (shown x).base ≡ b = cc in
-          subst (λ o. IfSome o (λ (wired : ℕ → Bool). (l : ℕ) → wired l ≡ is_linked_end plan k l)) (sym (none x) ∙ ap base_wired one) tt
+  unknown {P} shown none plan xs = search (arith, shown_at)

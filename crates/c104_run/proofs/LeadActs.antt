@@ -1,9 +1,7 @@
 -- The table of events and its inverse: an act leads in an event exactly where it leads in what this event asks.
 use Rattle.{c104_event.specs.declared.events.Event.Event, c104_node.specs.declared.acts.ActOf.ActOf, c104_plan.specs.Plans.Plan}
-use Rattle.{c104_plan.specs.declared.ports.Port.Port, c104_run.specs.{EventActs.{act_event, event_ask}, EventPlaces.event_place}}
-use Rattle.{c104_run.specs.LeadActs.{LeadsIn, act_number, ask_act, ask_number}, c104_switch.specs.declared.actions.ActionOf.ActionOf}
-use Rattle.{c104_token.specs.declared.tokens.Token.Token, std.proofs.Common.{IfSome, Some, ap, arith, length, refl, subst, sym, ℕ, ◌∙◌}}
-use Rattle.std.proofs.Common.{◌≡◌}
+use Rattle.c104_run.specs.{EventActs.{act_event, event_ask}, EventPlaces.event_place, LeadActs.{LeadsIn, act_number, ask_act, ask_number}}
+use Rattle.{c104_token.specs.declared.tokens.Token.Token, std.proofs.Common.{IfSome, Some, ap, arith, length, subst, sym, ℕ, ◌∙◌, ◌≡◌}}
 
 -- the act that leads in an event, and the number of its node
 abbrev lead : Event → ActOf Token
@@ -14,17 +12,10 @@ number e = ask_number {A = Token} (event_ask e)
 
 module _ (switches k : ℕ) where
   leads : (a : ActOf Token) → IfSome (act_event switches k a) (λ e. LeadsIn switches k a (event_ask e))
-  leads (ActOf.Step (ActionOf.Enter l x)) = tt
-  leads (ActOf.Step (ActionOf.CreditIn l)) = tt
-  leads (ActOf.Enter x) = tt
-  leads ActOf.CreditIn = tt
-  leads (ActOf.Step (ActionOf.Leave l)) = (refl, refl)
-  leads a = (refl, refl)
+  leads a = search arith
 
   told : (e : Event) → act_number switches k (lead e) ≡ number e → act_event switches k (lead e) ≡ Some e
-  told (Event.Cross (Port.Switch s l)) is = rw is refl
-  told (Event.Credit (Port.Switch s l)) is = rw is refl
-  told e is = rw is refl
+  told e is = search arith
 
   pub event_leads : (a : ActOf Token) (e : Event) → act_event switches k a ≡ Some e → LeadsIn switches k a (event_ask e)
   event_leads a e is = subst (λ o. IfSome o (λ e. LeadsIn switches k a (event_ask e))) is (leads a)
@@ -34,9 +25,7 @@ module _ (switches k : ℕ) where
 
 -- the act that leads in an event does so at its place
 at_place : (plan : Plan) (e : Event) → act_number (length plan.switches) (event_place plan e) (lead e) ≡ number e
-at_place plan (Event.Cross (Port.Switch s l)) = refl
-at_place plan (Event.Credit (Port.Switch s l)) = refl
-at_place plan e = omega arith
+at_place plan e = search arith
 
 pub place_leads : (plan : Plan) (e : Event) → act_event (length plan.switches) (event_place plan e) (lead e) ≡ Some e
 place_leads plan e = told (length plan.switches) (event_place plan e) e (at_place plan e)

@@ -4,8 +4,8 @@ use Rattle.c104_node.specs.{Places.{Shown, base_wired, bases}, Records.{NodeReco
 use Rattle.c104_plan.{proofs.Wires.wiring, specs.{Plans.{IsPlan, Plan}, Wiring.{IsPlanPort, peer}, declared.ports.Port.Port}}
 use Rattle.c104_run.specs.{EventActs.port_place, KnownWires.{AreLinkedNodes, KnowWires, is_linked_end}, Rounds.is_wired}
 use Rattle.{c104_token.specs.declared.tokens.Token.Token, std.proofs.Common.{Bool, IfSome, List, None, Option, Some, [], ap, arith, false}}
-use Rattle.std.proofs.Common.{inl, inr, is_some, length, map, nat_eq, nat_lt, refl, slice_get, subst, suc, sym, true, zero, ℕ, ◌&&◌, ◌++◌}
-use Rattle.std.proofs.{Common.{◌+◌, ◌-◌, ◌<◌, ◌∙◌, ◌∷◌, ◌≡◌, ◌≤◌, ◌⊎◌}, lemmas.Bool.{Decides.nat_tests, cases_eq}}
+use Rattle.std.proofs.Common.{is_some, length, map, nat_lt, refl, slice_get, subst, suc, sym, true, zero, ℕ, ◌&&◌, ◌++◌, ◌-◌, ◌<◌, ◌∙◌, ◌∷◌}
+use Rattle.std.proofs.{Common.{◌≡◌, ◌≤◌}, lemmas.Bool.{Decides.nat_tests, cases_eq}}
 
 -- what is so of each element by its place is so of one more
 each_more : {X : Type 0} (P : ℕ → X → Type 0) (xs : List X) (x : X) → ((k : ℕ) (y : X) → slice_get xs k ≡ Some y → P k y) → P (length xs) x → (k : ℕ) (y : X) → slice_get (xs ++ x ∷ []) k ≡ Some y → P k y
@@ -31,19 +31,7 @@ module _ (plan : Plan) where
 
   -- and of a terminal: link 0, where it has a wire
   pub linked_terminal : (t first set : ℕ) (wired : Bool) → wired ≡ is_wired plan (Port.Terminal t) → ((l : ℕ) → has_bit first l ≡ false) → has_bit set 0 ≡ wired → ((l : ℕ) → l < 32 → (l ≡ 0 → ⊥) → has_bit set l ≡ has_bit first l) → (k : ℕ) → length plan.switches ≤ k → k - length plan.switches ≡ t → (l : ℕ) → has_link set l ≡ is_linked_end plan k l
-  linked_terminal t first set wired is none here others k past place l =
-      let no_switch : nat_lt k (length plan.switches) ≡ false = grind (arith, nat_tests, past) in
-      rw (no_switch, place, sym is) (by_link (cases_eq l 0))
-    where
-      past_last : (b : Bool) → nat_lt l 32 ≡ b → (l ≡ 0 → ⊥) → (b && has_bit set l) ≡ false
-      past_last true inside other = others l (grind (arith, nat_tests, inside)) other ∙ none l
-      past_last false inside other = refl
-
-      by_link : (l ≡ 0) ⊎ (l ≡ 0 → ⊥) → (nat_lt l 32 && has_bit set l) ≡ (nat_eq l 0 && wired)
-      by_link (inl first_link) = rw first_link here
-      by_link (inr other) =
-          let not_zero : nat_eq l 0 ≡ false = grind (arith, nat_tests, other) in
-          past_last (nat_lt l 32) refl other ∙ sym (ap (λ b. b && wired) not_zero)
+  linked_terminal t first set wired is none here others k past place l = search (arith, nat_tests, cases_eq)
 
   -- one node more
   pub linked_more : (nodes more : List (NodeRecord × NodeRoom)) (n : NodeRecord × NodeRoom) → AreLinkedNodes plan nodes → ((l : ℕ) → has_link n.0.wired l ≡ is_linked_end plan (length nodes) l) → more ≡ nodes ++ n ∷ [] → AreLinkedNodes plan more
@@ -51,11 +39,7 @@ module _ (plan : Plan) where
 
 module _ (plan : Plan) (is_plan : IsPlan plan) (nodes : List (NodeRecord × NodeRoom)) (linked : AreLinkedNodes plan nodes) where
   linked_port : (p : Port) → IsPlanPort plan p → is_linked_end plan (port_place plan p) (port_link p) ≡ is_wired plan p
-  linked_port (Port.Switch s l) inside = let here : nat_lt s (length plan.switches) ≡ true = grind (arith, nat_tests, inside.0) in rw here refl
-  linked_port (Port.Terminal t) inside =
-      let past : nat_lt (length plan.switches + t) (length plan.switches) ≡ false = grind (arith, nat_tests) in
-      let back : length plan.switches + t - length plan.switches ≡ t = omega arith in
-      rw (past, back) refl
+  linked_port p inside = search (arith, nat_tests)
 
   known_end : (p q : Port) → peer plan p ≡ Some q → links_at (bases (map node_shown nodes)) (port_place plan p) (port_link p) ≡ true
   known_end p q wired = by_place (slice_get nodes (port_place plan p)) refl

@@ -1,8 +1,7 @@
 -- Sets of places: what a change of one place changes, and what is passed over; and what they say of nodes.
-use Rattle.{c104_crossbar.specs.Groups.has_bit, c104_run.specs.LivePlaces.is_live, std.proofs.Common.{Bool, List, [], ap, arith, false}}
-use Rattle.std.proofs.Common.{get_or, inl, inr, length, nat_le, refl, replicate, slice_set, suc, true, zero, ℕ, ◌%◌, ◌/◌, ◌<◌, ◌||◌, ◌∙◌}
-use Rattle.std.proofs.{Common.{◌∷◌, ◌≡◌, ◌≢◌, ◌≤◌}, lemmas.{Bool.{Decides.nat_tests, cases_eq, cases_lt}, List.get_or-set_other}}
-use Rattle.std.proofs.lemmas.List.{get_or-set_same}
+use Rattle.{c104_crossbar.specs.Groups.has_bit, c104_run.specs.LivePlaces.is_live, std.proofs.Common.{Bool, List, [], arith, false, get_or}}
+use Rattle.std.proofs.Common.{length, nat_le, refl, replicate, slice_set, suc, true, zero, ℕ, ◌%◌, ◌/◌, ◌<◌, ◌∷◌, ◌≡◌, ◌≢◌, ◌≤◌}
+use Rattle.std.proofs.lemmas.{Bool.{Decides.nat_tests, cases_eq, cases_lt}, List.{get_or-set_other, get_or-set_same}}
 
 pub get_or-replicated : {X : Type 0} (n i : ℕ) (x d : X) → i < n → get_or (replicate n x) i d ≡ x
 get_or-replicated zero i x d inside = absurd (omega arith)
@@ -25,26 +24,13 @@ module _ (blocks : List ℕ) where
 
   -- all places are of a set that has all bits
   pub all_told : ((b l : ℕ) → b < 10 → l < 32 → has_bit (get_or blocks b 0) l ≡ true) → (k : ℕ) → is_live blocks k ≡ true
-  all_told all k = elim (cases_lt k 320) [
-    | inl below ↦ told_by k below ∙ all (k / 32) (k % 32) (omega arith) (omega arith)
-    | inr past ↦ told_past k past
-  ]
+  all_told all k = search (arith, cases_lt, told_by, told_past)
 
   -- a place is put into the set or taken out, and no other changes
   module _ (counted : length blocks ≡ 10) (place block : ℕ) (inside : place < 320) (b : Bool) (here : has_bit block (place % 32) ≡ b)
       (others : (l : ℕ) → l < 32 → l ≢ place % 32 → has_bit block l ≡ has_bit (get_or blocks (place / 32) 0) l) where
     pub changed_here : is_live (slice_set blocks (place / 32) block) place ≡ b
-    changed_here =
-        let past : nat_le 320 place ≡ false = grind (arith, nat_tests) in
-        let at : get_or (slice_set blocks (place / 32) block) (place / 32) 0 ≡ block = get_or-set_same blocks (place / 32) block 0 (omega (arith, counted)) in
-        rw (past, at) here
+    changed_here = search (arith, nat_tests, get_or-set_same)
 
     pub changed_other : (k : ℕ) → k ≢ place → is_live (slice_set blocks (place / 32) block) k ≡ is_live blocks k
-    changed_other k other = elim (cases_eq (k / 32) (place / 32)) [
-      | inl same ↦
-          let at : get_or (slice_set blocks (place / 32) block) (place / 32) 0 ≡ block = get_or-set_same blocks (place / 32) block 0 (omega (arith, counted)) in
-          let bit : k % 32 ≢ place % 32 = (λ is. other (omega (arith, same, is))) in
-          let low : k % 32 < 32 = omega arith in
-          rw same (rw at (ap (λ c. nat_le 320 k || c) (others (k % 32) low bit)))
-      | inr differs ↦ ap (λ w. nat_le 320 k || has_bit w (k % 32)) (get_or-set_other blocks (place / 32) (k / 32) block 0 differs)
-    ]
+    changed_other k other = search (arith, cases_eq, get_or-set_same, get_or-set_other)

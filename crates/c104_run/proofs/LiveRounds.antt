@@ -8,10 +8,10 @@ use Rattle.{c104_plan.specs.{Wiring.IsPlanPort, declared.ports.Port.Port}, c104_
 use Rattle.c104_run.proofs.{IdleEvents.{idle_links, idle_outputs, port_inside}, PortWalks.{idle_link, idle_wired}, WiredPorts.has_wire}
 use Rattle.c104_run.{proofs.WiredPorts.wire_there, specs.{EventActs.port_place, KnownWires.is_linked_end, LivePlaces.AreLive}}
 use Rattle.c104_run.specs.{LivePlaces.{IsIdlePlace, IsOfRound, is_live}, Network.{Network, terminal_place, wired_fault}, RoundParts.AreIdle}
-use Rattle.c104_run.specs.{RoundParts.{input_walk, link_walk, output_walk, port_events, port_walk}, Rounds.is_wired}
+use Rattle.c104_run.specs.{RoundParts.{input_walk, link_walk, port_walk}, Rounds.is_wired}
 use Rattle.{c104_switch.specs.declared.actions.{ActionOf.ActionOf, ReplyOf.ReplyOf}, c104_token.specs.Kinds.Kind, std.proofs.Common.Bool}
-use Rattle.std.proofs.Common.{Err, List, None, Ok, Option, Result, Some, [], ap, arith, false, inl, inr, is_some, length, nat_lt, refl}
-use Rattle.std.proofs.{Common.{slice_get, subst, sym, true, ℕ, ◌-◌, ◌<◌, ◌∙◌, ◌∷◌, ◌≡◌, ◌≢◌}, lemmas.Bool.{Decides.nat_tests, cases_eq}}
+use Rattle.std.proofs.Common.{List, None, Option, Result, Some, [], ap, arith, false, inl, inr, is_some, length, nat_lt, refl, slice_get}
+use Rattle.std.proofs.{Common.{subst, sym, true, ℕ, ◌-◌, ◌<◌, ◌∙◌, ◌∷◌, ◌≡◌, ◌≢◌}, lemmas.Bool.{Decides.nat_tests, cases_eq}}
 
 module _ {A : Type 0} (kind : Kind A) (plan : Plan) where
   -- where all places are in the set, nothing is said of any node
@@ -27,9 +27,7 @@ module _ {A : Type 0} (kind : Kind A) (plan : Plan) where
 
   -- where a place was put into the set, what isn't in it is another, which wasn't
   added : (blocks more : List ℕ) (place : ℕ) → is_live more place ≡ true → ((k : ℕ) → k ≢ place → is_live more k ≡ is_live blocks k) → (j : ℕ) → is_live more j ≡ false → (j ≢ place) × (is_live blocks j ≡ false)
-  added blocks more place here others j none =
-      let other : j ≢ place = (λ same. absurd (let both : true ≡ false = sym here ∙ ap (is_live more) (sym same) ∙ none in cc)) in
-      (other, sym (others j other) ∙ none)
+  added blocks more place here others j none = search arith
 
   -- an act at a place, where nothing changes unless the place is in the set
   pub live_alone : (blocks : List ℕ) (olds news : List (Node A)) (k : ℕ) → ((j : ℕ) → j ≢ k → slice_get news j ≡ slice_get olds j) → (is_live blocks k ≡ false → news ≡ olds) → AreLive kind plan blocks olds → AreLive kind plan blocks news
@@ -70,15 +68,10 @@ module _ {A : Type 0} (kind : Kind A) (net : Network A) where
   -- at a switch that is ready for no act of a part, and none of whose inputs claims an output
   module _ (k : ℕ) (inside : k < length net.plan.switches) where
     pub unready_ports : IsPlan net.plan → (part : PortPart) → ((n : Node A) → slice_get net.nodes k ≡ Some n → (l : ℕ) → l < 32 → is_wired net.plan (Port.Switch k l) ≡ true → is_node_ready kind part l n ≡ false) → AreIdle kind net (link_walk net.plan part k)
-    unready_ports planned part none =
-        idle_links kind net (port_walk net.plan part (Port.Switch k))
-        (λ l below. idle_wired kind net part (Port.Switch k l)
-        (λ is. idle_link kind net part k l (has_wire net.plan planned (Port.Switch k l) is) (unready_there kind net.nodes k 0 (part_act part l) (λ n here. none n here l below is))))
+    unready_ports planned part none = search (arith, idle_links, idle_wired, idle_link, has_wire, unready_there)
 
     pub unclaimed_inputs : ((n : Node A) → slice_get net.nodes k ≡ Some n → (i o : ℕ) → i < 32 → node_claim i o n ≡ None) → AreIdle kind net (input_walk k)
-    unclaimed_inputs none =
-        idle_links kind net (output_walk k)
-        (λ i input. idle_outputs kind net k i inside input (λ o output. unclaimed_there kind net.nodes k i o (λ n here. none n here i o input)))
+    unclaimed_inputs none = search (arith, idle_links, idle_outputs, unclaimed_there)
 
   -- at one where nothing can begin
   module _ (k : ℕ) (inside : k < length net.plan.switches) (passed : IsIdlePlace kind net.plan net.nodes k) where
@@ -94,12 +87,7 @@ module _ {A : Type 0} (kind : Kind A) (net : Network A) where
   -- at a terminal
   module _ (t : ℕ) (inside : t < length net.plan.terminals) (passed : IsIdlePlace kind net.plan net.nodes (terminal_place net.plan t)) where
     pub idle_terminal : (part : PortPart) → AreIdle kind net (port_walk net.plan part Port.Terminal t)
-    idle_terminal part = idle_wired kind net part (Port.Terminal t) (by_part part)
-      where
-        by_part : (part : PortPart) → is_wired net.plan (Port.Terminal t) ≡ true → AreIdle kind net (port_events part (Port.Terminal t))
-        by_part Credit is = idle_credit kind net (Port.Terminal t) (has_wire net.plan passed.planned (Port.Terminal t) is) (unready_there kind net.nodes (terminal_place net.plan t) 0 ActOf.CreditOut (λ n here. (passed.idle n here).grants))
-        by_part Cross is = idle_cross kind net (Port.Terminal t) (has_wire net.plan passed.planned (Port.Terminal t) is) (unready_there kind net.nodes (terminal_place net.plan t) 0 ActOf.Leave (λ n here. (passed.idle n here).leaves))
-        by_part Turn is = record { each = tt }
+    idle_terminal part = search (arith, idle_wired, idle_credit, has_wire, unready_there, idle_cross)
 
     pub idle_arrival : AreIdle kind net (Event.Drain t ∷ [])
     idle_arrival = idle_drain kind net t inside
@@ -122,23 +110,12 @@ module _ {A : Type 0} (kind : Kind A) (plan : Plan) (blocks : List ℕ) (nodes :
 
   -- so where it is ready its place is in the set
   pub ready_live : (p : Port) (crossing : Crossing) → wired_fault plan p ≡ None → is_some (nodes_act kind nodes (port_place plan p) 0 (near_act crossing p)) ≡ true → is_live blocks (port_place plan p) ≡ true
-  ready_live p crossing possible ready = by_set (is_live blocks (port_place plan p)) refl
-    where
-      by_set : (b : Bool) → is_live blocks (port_place plan p) ≡ b → is_live blocks (port_place plan p) ≡ true
-      by_set true is = is
-      by_set false is =
-          absurd (let both : true ≡ false = sym ready ∙ unready_near p crossing (port_inside plan p possible) (wire_there plan p possible) (live.idle (port_place plan p) is) in cc)
+  ready_live p crossing possible ready = search (arith, unready_near, port_inside, wire_there)
 
   -- an act of a round; then nothing changes
   pub idle_stays : (k : ℕ) (a : ActOf A) → IsOfRound kind plan k a → (limit : Option EventFault) (full : Bool) (answer : Result (ReplyOf A) EventFault) (after : List (Node A)) → ActsEnd limit (nodes_act kind nodes k (k - length plan.switches) a) full nodes answer after →
       is_live blocks k ≡ false → after ≡ nodes
-  idle_stays k a begins limit full answer after ends none =
-      by_made (nodes_act kind nodes k (k - length plan.switches) a) answer (unready_there kind nodes k (k - length plan.switches) a (λ n here. begins n ((live.idle k none).idle n here))) ends
-    where
-      by_made : (made : Option (ReplyOf A × List (Node A))) (answer : Result (ReplyOf A) EventFault) → is_some made ≡ false → ActsEnd limit made full nodes answer after → after ≡ nodes
-      by_made None (Ok told) unready ends = ap (λ (z : ReplyOf A × List (Node A)). z.1) ends.0
-      by_made None (Err f) unready ends = ends.2
-      by_made (Some r) answer unready ends = absurd (cc unready)
+  idle_stays k a begins limit full answer after ends none = search (arith, unready_there)
 
 -- the turns, claims and arrivals of a round
 module _ {A : Type 0} (kind : Kind A) (plan : Plan) where

@@ -1,42 +1,34 @@
 -- An event of a metered stage: what it answers, and what a meter is told of it.
-use Rattle.{c104_event.specs.declared.{events.Event.Event, faults.EventFault.EventFault}, c104_node.specs.{Acts.plain_reply, Nodes.Node}}
-use Rattle.c104_node.specs.{Places.{Shown, fulls, is_kept_full, states, traces}, PortActs.Acts, Traces.seatless}
-use Rattle.{c104_node.specs.declared.stamps.Stamp.Stamp, c104_plan.specs.Plans.Plan, c104_run.proofs.PartRuns.{part_after, part_empty}}
-use Rattle.c104_run.proofs.{PartRuns.part_of_reply, RoundRuns.{Applied, ends_keep, ends_seen, fault_ends}, StageSteps.stage_done}
-use Rattle.c104_run.{proofs.StageSteps.{stage_undone, unready_stage}, specs.{EventActs.event_acts, EventRuns.{Answers, EventsEnd}}}
-use Rattle.c104_run.specs.{EventsAtPlaces.{ActsDone, EventDone, told_answer}, Meters.{Metered, Sees, meter_after, meter_if, meter_told}}
-use Rattle.c104_run.specs.{Meters.{metered_apply, metered_of, own_answer, own_reply, with_meter}, NetRecords.{is_done, ticket_after}}
-use Rattle.c104_run.specs.{Network.{Network, network_of}, RoundParts.{AreIdle, EachIdle, PartEnds, done_answer}, Stages.Stage}
-use Rattle.{c104_run.specs.Stages.stage_apply, c104_switch.specs.{Actions.{Reply, is_ready}, declared.actions.ReplyOf.ReplyOf}}
-use Rattle.{c104_token.specs.Kinds.Kind, std.proofs.Common.{Bool, Err, List, Ok, Result, Some, [], ap, false, inl, inr, map, refl, sym, ℕ}}
-use Rattle.std.proofs.Common.{◌∙◌, ◌∷◌, ◌≡◌}
+use Rattle.{c104_event.specs.declared.{events.Event.Event, faults.EventFault.EventFault}, c104_node.specs.{Acts.plain_reply, Places.Shown}}
+use Rattle.c104_node.specs.{Places.{fulls, is_kept_full, states, traces}, PortActs.Acts, Traces.seatless, declared.stamps.Stamp.Stamp}
+use Rattle.{c104_plan.specs.Plans.Plan, c104_run.proofs.{PartRuns.{part_after, part_empty, part_of_reply}, RoundRuns.ends_keep}}
+use Rattle.c104_run.proofs.{RoundRuns.{ends_seen, fault_ends}, StageSteps.{stage_done, stage_undone, unready_stage}}
+use Rattle.c104_run.specs.{EventActs.event_acts, EventRuns.{Answers, EventsEnd}, EventsAtPlaces.{ActsDone, EventDone, told_answer}}
+use Rattle.c104_run.specs.Meters.{Metered, Sees, meter_after, meter_if, meter_told, metered_apply, metered_of, own_reply}
+use Rattle.c104_run.specs.{NetRecords.{is_done, ticket_after}, Network.{Network, network_of}, RoundParts.{AreIdle, EachIdle, PartEnds}}
+use Rattle.{c104_run.specs.{RoundParts.done_answer, Stages.stage_apply}, c104_switch.specs.Actions.{Reply, is_ready}}
+use Rattle.{c104_switch.specs.declared.actions.ReplyOf.ReplyOf, c104_token.specs.Kinds.Kind, std.proofs.Common.{Bool, Err, List, Ok}}
+use Rattle.std.proofs.Common.{Result, Some, [], arith, false, inl, map, refl, sym, ℕ, ◌∷◌, ◌≡◌}
 
 -- what a meter is told of acts is what it is told of their event
 module _ {A M : Type 0} (kind : Kind A) (sees : Sees M A) where
   -- of what isn't ready it is told nothing
   unready_meter : (m : M) (e : Event) → meter_after sees m e ReplyOf.NotReady ≡ m
-  unready_meter m (Event.Cross p) = refl
-  unready_meter m (Event.Drain t) = refl
-  unready_meter m e = refl
+  unready_meter m e = search arith
 
   ready_meter : (m : M) (e : Event) (r : ReplyOf A) → meter_after sees m e r ≡ meter_if sees (is_ready (plain_reply kind r)) m e r
-  ready_meter m e ReplyOf.NotReady = unready_meter m e
-  ready_meter m e r = refl
+  ready_meter m e r = search (arith, unready_meter)
 
   -- where it is told nothing of the event, whatever is answered
   pub silent_meter : (m : M) (e : Event) → ((r : ReplyOf A) → meter_after sees m e r ≡ m) → (told : Result (ReplyOf A) EventFault) → m ≡ meter_told sees m e told
-  silent_meter m e none (Ok r) = sym (none r)
-  silent_meter m e none (Err f) = sym (none ReplyOf.NotReady)
+  silent_meter m e none told = search arith
 
   module _ (keeps : Bool) (plan : Plan) (e : Event) (acts : Acts A) (known : event_acts plan e ≡ Some acts) (stamp : Stamp) (olds news : List (Shown A)) where
     abbrev net : Network A
     net = network_of plan (states olds)
 
     pub told_meter : (m : M) (told : Result (ReplyOf A) EventFault) → ActsDone kind keeps plan stamp acts olds told news → meter_told sees m e told ≡ meter_if sees (is_done (told_answer kind told)) m e (own_reply kind net e)
-    told_meter m (Ok r) done =
-        let own : own_reply kind net e ≡ r = ap (own_answer kind net) known ∙ sym (ap (λ (d : ReplyOf A × List (Node A)). d.0) done.ends.0) in
-        ready_meter m e r ∙ ap (meter_if sees (is_ready (plain_reply kind r)) m e) (sym own)
-    told_meter m (Err f) done = unready_meter m e
+    told_meter m told done = search (arith, ready_meter, unready_meter)
 
 module _ {A M : Type 0} (kind : Kind A) (keeps : Bool) (sees : Sees M A) where
   module _ (x y : Metered A M) (e : Event) where
@@ -46,18 +38,13 @@ module _ {A M : Type 0} (kind : Kind A) (keeps : Bool) (sees : Sees M A) where
 
     -- of one that wasn't done it is told nothing
     undone_metered : (answer : Result Reply EventFault) → IsTold answer → is_done answer ≡ false → y.stage ≡ x.stage → y ≡ x
-    undone_metered answer told undone same =
-        ap (λ (n : M). with_meter y.stage n) (told ∙ ap (λ b. meter_if sees b x.meter e (own_reply kind x.stage.network e)) undone) ∙ ap (λ (s : Stage A). with_meter s x.meter) same
+    undone_metered answer told undone same = search arith
 
     metered_answers : (answer : Result Reply EventFault) → IsTold answer → Answers (stage_apply kind keeps) x.stage e answer y.stage → Answers (metered_apply kind keeps sees) x e answer y
-    metered_answers answer told (inl due) =
-        inl (ap (λ (n : M). (answer, with_meter y.stage n)) told
-        ∙ ap (λ (d : Applied (Stage A)). (d.0, with_meter d.1 (meter_if sees (is_done d.0) x.meter e (own_reply kind x.stage.network e)))) due)
-    metered_answers answer told (inr refused) = inr (refused.0, refused.1, undone_metered answer told (ap is_done refused.0) refused.2)
+    metered_answers answer told h2 = search (arith, undone_metered)
 
     metered_part : (answer : Result Reply EventFault) → IsTold answer → (is_done answer ≡ false → y.stage ≡ x.stage) → Answers (stage_apply kind keeps) x.stage e answer y.stage → PartEnds (metered_apply kind keeps sees) x (e ∷ []) (done_answer answer) y
-    metered_part (Ok r) told undone answers = part_of_reply (metered_apply kind keeps sees) x y e r (λ none. undone_metered (Ok r) told none (undone none)) (metered_answers (Ok r) told answers)
-    metered_part (Err f) told undone answers = record { ends = fault_ends (metered_apply kind keeps sees) x y e f (metered_answers (Err f) told answers) }
+    metered_part answer told undone answers = search (arith, part_of_reply, undone_metered, metered_answers, fault_ends)
 
   -- an event at places, as a step of the metered stage that they show
   module _ (plan : Plan) (olds news : List (Shown A)) (count counted : ℕ) (m n : M) (limited : fulls olds ≡ map (is_kept_full keeps) (traces olds)) (e : Event) (answer : Result Reply EventFault)

@@ -1,17 +1,14 @@
 -- What it says that there is no fault: a node is there, and a link.
 use Rattle.{c104_event.specs.declared.faults.EventFault.EventFault, c104_run.specs.Network.{link_fault, node_fault}, std.proofs.Common.Bool}
-use Rattle.std.proofs.Common.{None, Option, Some, arith, false, if◌then◌else◌, nat_lt, refl, true, ℕ, ◌<◌, ◌≡◌}
-use Rattle.std.proofs.lemmas.Bool.Decides.{nat_tests}
+use Rattle.std.proofs.{Common.{None, Option, Some, arith, if◌then◌else◌, nat_lt, refl, ℕ, ◌<◌, ◌≡◌}, lemmas.Bool.Decides.nat_tests}
 
 module _ (other : Option EventFault) where
   -- where a number isn't below another, there is a fault
   below : (count n : ℕ) (f : EventFault) (inside : Bool) → nat_lt n count ≡ inside → (if inside then other else Some f) ≡ None → n < count
-  below count n f true inside is = grind (arith, nat_tests)
-  below count n f false inside is = absurd (cc is)
+  below count n f inside h1 is = search (arith, nat_tests)
 
   past : (f : EventFault) (inside : Bool) → (if inside then other else Some f) ≡ None → other ≡ None
-  past f true is = is
-  past f false is = absurd (cc is)
+  past f inside is = search arith
 
   pub node_there : (count n : ℕ) → node_fault count n other ≡ None → n < count
   node_there count n is = below count n EventFault.NoNode (nat_lt n count) refl is

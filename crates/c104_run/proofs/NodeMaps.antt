@@ -3,8 +3,8 @@ use Rattle.{c104_link.specs.Buffers.Outgoing, c104_node.specs.{MappedNodes.{map_
 use Rattle.c104_node.specs.{Quiet.{IsQuietInput, IsQuietNode, IsQuietOutput}, Starts.start_node, declared.node.NodeOf.NodeOf}
 use Rattle.{c104_node.specs.declared.starts.NodeStart.NodeStart, c104_switch.specs.{Phases.with_header, Starts.{start_input, start_output}}}
 use Rattle.c104_switch.specs.{Switch.Input, declared.{link_start.LinkStart.LinkStart, phase.Phase.{Phase, TheVariants.Fresh}}}
-use Rattle.std.proofs.{Common.{All, List, [], ap, false, get_or, map, refl, true, ◌∷◌, ◌≡◌}, lemmas.List.Elements.{All-cons, All-head}}
-use Rattle.std.proofs.lemmas.List.Elements.{All-map, All-nil, All-tail}
+use Rattle.std.proofs.{Common.{All, List, [], ap, arith, false, get_or, map, refl, true, ◌∷◌, ◌≡◌}, lemmas.List.Elements.All-cons}
+use Rattle.std.proofs.lemmas.List.Elements.{All-head, All-map, All-nil, All-tail}
 
 -- quiet without where tokens came from is quiet
 map_none : {X Y : Type 0} (f : X → Y) (xs : List X) → map f xs ≡ [] → xs ≡ []
@@ -17,8 +17,7 @@ all_back f P Q back (x ∷ xs) all = All-cons P x xs (back x (All-head Q (f x) (
 
 module _ {A B : Type 0} (f : A → B) where
   fresh_back : (p : Phase (List A)) → with_header (map f) p ≡ Fresh → p ≡ Fresh
-  fresh_back Fresh is = refl
-  fresh_back p is = absurd (cc)
+  fresh_back p is = search arith
 
   input_back : (p : Input A) → IsQuietInput (map_input f p) → IsQuietInput p
   input_back p (none, fresh) = (map_none f p.buffer.items none, fresh_back p.phase fresh)
@@ -27,10 +26,7 @@ module _ {A B : Type 0} (f : A → B) where
   output_back q none = map_none f q.items none
 
   pub node_back : (n : Node A) → IsQuietNode (map_node f n) → IsQuietNode n
-  node_back (NodeOf.Switch s) (inputs, outputs) = (
-    all_back (map_input f) (λ (p : Input A). IsQuietInput p) (λ (p : Input B). IsQuietInput p) input_back s.inputs inputs,
-    all_back (map_outgoing f) (λ (q : Outgoing A). IsQuietOutput q) (λ (q : Outgoing B). IsQuietOutput q) output_back s.outputs outputs,
-  )
+  node_back (NodeOf.Switch s) (inputs, outputs) = search (arith, all_back, input_back, output_back)
   node_back (NodeOf.Terminal t) (input, output) = (map_none f t.input.items input, map_none f t.output.items output)
 
 -- where the nodes stand in place, so do those of the traced run
@@ -60,8 +56,7 @@ module _ {A B : Type 0} (f : A → B) where
   outputs_same (l ∷ links) = ap (λ z. start_output l ∷ z) (outputs_same links)
 
   pub node_same : (s : NodeStart) → map_node f (start_node s) ≡ start_node s
-  node_same (NodeStart.Switch s) = rw (inputs_same s.links, outputs_same s.links) refl
-  node_same (NodeStart.Terminal t) = refl
+  node_same s = search (arith, inputs_same, outputs_same)
 
   -- tokens that are mapped make no other start
   pub starts_same : (starts : List NodeStart) → map (map_node f) (map start_node starts) ≡ map start_node starts

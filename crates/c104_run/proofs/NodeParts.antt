@@ -1,45 +1,27 @@
 -- The part of a node in a round is what its ports and the node itself have in each part of the round.
-use Rattle.{c104_event.specs.declared.events.Event.Event, c104_node.specs.declared.port_part.PortPart.{PortPart, TheVariants.Credit}}
-use Rattle.{c104_node.specs.declared.port_part.PortPart.TheVariants.{Cross, Turn}, c104_plan.specs.{Plans.Plan, declared.ports.Port.Port}}
-use Rattle.c104_run.{proofs.PartRuns.singles, specs.{EventActs.port_place, EventPlaces.event_place, NodeParts.{events_of, node_ports}}}
-use Rattle.c104_run.specs.{NodeParts.{own_events, round_part}, RoundParts.port_events, Rounds.{all_claims, all_drains, claims_of, is_wired}}
-use Rattle.{c104_run.specs.Rounds.{link_numbers, switch_claims, turn_at, wired_links, wired_ports, wired_terminals}, std.proofs.Common.Bool}
-use Rattle.std.proofs.Common.{List, [], ap, append-nil, append_assoc, arith, false, filter, if◌then◌else◌, length, map, nat_eq, nat_lt}
-use Rattle.std.proofs.{Common.{refl, suc, sym, true, zero, ℕ, ◌++◌, ◌+◌, ◌-◌, ◌<◌, ◌∙◌, ◌∷◌, ◌≡◌, ◌≤◌}, lemmas.Bool.Decides.nat_tests}
-use Rattle.std.{proofs.lemmas.List.Elements.{filter-append, filter_agree}, specs.List.{flat_map, range_with_len}}
+use Rattle.{c104_event.specs.declared.events.Event.Event, c104_node.specs.declared.port_part.PortPart.PortPart, c104_plan.specs.Plans.Plan}
+use Rattle.{c104_plan.specs.declared.ports.Port.Port, c104_run.{proofs.PartRuns.singles, specs.EventActs.port_place}}
+use Rattle.c104_run.specs.{EventPlaces.event_place, NodeParts.{events_of, node_ports, own_events, round_part}, RoundParts.port_events}
+use Rattle.c104_run.specs.Rounds.{all_claims, all_drains, claims_of, is_wired, link_numbers, switch_claims, turn_at, wired_links}
+use Rattle.{c104_run.specs.Rounds.{wired_ports, wired_terminals}, std.proofs.Common.{Bool, List, [], ap, append-nil, append_assoc, arith}}
+use Rattle.std.proofs.Common.{false, filter, if◌then◌else◌, length, map, nat_eq, nat_lt, refl, suc, true, zero, ℕ, ◌++◌, ◌+◌, ◌-◌, ◌<◌, ◌∙◌}
+use Rattle.std.proofs.{Common.{◌∷◌, ◌≡◌, ◌≤◌}, lemmas.{Bool.Decides.nat_tests, List.Elements.{filter-append, filter_agree}}}
+use Rattle.std.specs.List.{flat_map, range_with_len}
 
 -- of lists that are joined, and of which a test passes all or none
 filter_flat : {X Y : Type 0} (q : Y → Bool) (f : X → List Y) (r : X → Bool) → ((x : X) → filter q (f x) ≡ (if r x then f x else [])) → (xs : List X) → filter q (flat_map f xs) ≡ flat_map f (filter r xs)
 filter_flat q f r each [] = refl
-filter_flat {X} {Y} q f r each (x ∷ xs) =
-    filter-append q (f x) (flat_map f xs)
-    ∙ ap (λ (ys : List Y). ys ++ filter q (flat_map f xs)) (each x)
-    ∙ ap (λ (ys : List Y). (if r x then f x else []) ++ ys) (filter_flat q f r each xs)
-    ∙ by_test (r x)
-  where
-    by_test : (b : Bool) → (if b then f x else []) ++ flat_map f (filter r xs) ≡ flat_map f (if b then x ∷ filter r xs else filter r xs)
-    by_test true = refl
-    by_test false = refl
+filter_flat {X} {Y} q f r each (x ∷ xs) = search (arith, filter-append, filter_flat q f r each xs)
 
 -- what passes a test of what is made
 filter_map_of : {X Y : Type 0} (q : Y → Bool) (f : X → Y) (xs : List X) → filter q (map f xs) ≡ map f (filter (λ x. q (f x)) xs)
 filter_map_of q f [] = refl
-filter_map_of {X} {Y} q f (x ∷ xs) = by_test (q (f x)) (filter_map_of q f xs)
-  where
-    by_test : (b : Bool) → filter q (map f xs) ≡ map f (filter (λ x. q (f x)) xs) → (if b then f x ∷ filter q (map f xs) else filter q (map f xs)) ≡ map f (if b then x ∷ filter (λ x. q (f x)) xs else filter (λ x. q (f x)) xs)
-    by_test true rest = ap (λ (ys : List Y). f x ∷ ys) rest
-    by_test false rest = rest
+filter_map_of {X} {Y} q f (x ∷ xs) = search (arith, filter_map_of q f xs)
 
 -- two tests may change places
 filter_swap : {X : Type 0} (q w : X → Bool) (xs : List X) → filter q (filter w xs) ≡ filter w (filter q xs)
 filter_swap q w [] = refl
-filter_swap {X} q w (x ∷ xs) = by_tests (filter_swap q w xs) (q x) refl (w x) refl
-  where
-    by_tests : filter q (filter w xs) ≡ filter w (filter q xs) → (b : Bool) → q x ≡ b → (c : Bool) → w x ≡ c → filter q (if c then x ∷ filter w xs else filter w xs) ≡ filter w (if b then x ∷ filter q xs else filter q xs)
-    by_tests rest true has true takes = rw (has, takes) (ap (λ (ys : List X). x ∷ ys) rest)
-    by_tests rest true has false takes = rw takes rest
-    by_tests rest false has true takes = rw has rest
-    by_tests rest false has false takes = rest
+filter_swap {X} q w (x ∷ xs) = search (arith, filter_swap q w xs)
 
 -- a test that is the same of all
 filter_all : {X : Type 0} (b : Bool) (xs : List X) → filter (λ x. b) xs ≡ (if b then xs else [])
@@ -69,12 +51,7 @@ one_number k a (suc n) low = by_test (one_number k (a + 1) n) (nat_eq a k) refl
 
 -- parts that are joined
 joined : {X : Type 0} (a b c d e own_a own_b own_c own : List X) → a ≡ own_a → b ≡ own_b → c ≡ own_c → d ++ e ≡ own → a ++ b ++ c ++ d ++ e ≡ own_a ++ own_b ++ own_c ++ own
-joined {X} a b c d e own_a own_b own_c own first second third last =
-    append_assoc (a ++ b ++ c) d e
-    ∙ ap (λ (xs : List X). xs ++ b ++ c ++ (d ++ e)) first
-    ∙ ap (λ (xs : List X). own_a ++ xs ++ c ++ (d ++ e)) second
-    ∙ ap (λ (xs : List X). own_a ++ own_b ++ xs ++ (d ++ e)) third
-    ∙ ap (λ (xs : List X). own_a ++ own_b ++ own_c ++ xs) last
+joined {X} a b c d e own_a own_b own_c own first second third last = search (arith, append_assoc)
 
 module _ (plan : Plan) (k : ℕ) where
   abbrev switches : ℕ
@@ -91,26 +68,14 @@ module _ (plan : Plan) (k : ℕ) where
 
   -- of what is made of switches, what is made of one
   number_flat : {Y : Type 0} (f : ℕ → List Y) (n : ℕ) → flat_map f (filter (λ j. nat_eq j k) (range_with_len 0 n)) ≡ (if nat_lt k n then f k else [])
-  number_flat {Y} f n =
-      let sum : 0 + n ≡ n = omega arith in
-      ap (flat_map f) (one_number k 0 n (omega arith) ∙ ap (λ (m : ℕ). if nat_lt k m then k ∷ [] else []) sum) ∙ by_test (nat_lt k n)
-    where
-      by_test : (b : Bool) → flat_map f (if b then k ∷ [] else []) ≡ (if b then f k else [])
-      by_test true = append-nil (f k)
-      by_test false = refl
+  number_flat {Y} f n = search (arith, one_number, append-nil)
 
   -- of the terminals, one
   abbrev here_of : {Y : Type 0} → (ℕ → List Y) → List Y
   here_of f = if nat_lt k switches then [] else if nat_lt (k - switches) terminals then f (k - switches) else []
 
   number_is : (t : ℕ) → nat_lt k switches ≡ false → nat_eq (switches + t) k ≡ nat_eq t (k - switches)
-  number_is t past = by_tests (nat_eq (switches + t) k) refl (nat_eq t (k - switches)) refl
-    where
-      by_tests : (b : Bool) → nat_eq (switches + t) k ≡ b → (c : Bool) → nat_eq t (k - switches) ≡ c → b ≡ c
-      by_tests true is true also = refl
-      by_tests false is false also = refl
-      by_tests true is false also = absurd (grind (arith, nat_tests, is, also, past))
-      by_tests false is true also = absurd (grind (arith, nat_tests, is, also, past))
+  number_is t past = search (arith, nat_tests)
 
   terminal_here : filter (λ t. nat_eq (switches + t) k) (range_with_len 0 terminals) ≡ here_of (λ t. t ∷ [])
   terminal_here = by_test (nat_lt k switches) refl
@@ -124,12 +89,7 @@ module _ (plan : Plan) (k : ℕ) where
           ∙ ap (λ (m : ℕ). if nat_lt (k - switches) m then (k - switches) ∷ [] else []) sum
 
   here_made : {Y Z : Type 0} (g : List Y → List Z) (f : ℕ → List Y) → g [] ≡ [] → g (here_of f) ≡ here_of (λ t. g (f t))
-  here_made {Y} {Z} g f none = by_tests (nat_lt k switches) (nat_lt (k - switches) terminals)
-    where
-      by_tests : (b c : Bool) → g (if b then [] else if c then f (k - switches) else []) ≡ (if b then [] else if c then g (f (k - switches)) else [])
-      by_tests true c = none
-      by_tests false true = refl
-      by_tests false false = none
+  here_made {Y} {Z} g f none = search arith
 
   -- the wired ports of the node
   links_here : (s : ℕ) → filter is_here (wired_links plan s) ≡ (if nat_eq s k then wired_links plan s else [])
@@ -146,42 +106,21 @@ module _ (plan : Plan) (k : ℕ) where
   switch_ports = filter_flat is_here (wired_links plan) (λ s. nat_eq s k) links_here (range_with_len 0 switches) ∙ number_flat (wired_links plan) switches
 
   terminal_ports : filter is_here (wired_terminals plan) ≡ here_of (λ t. filter (is_wired plan) (Port.Terminal t ∷ []))
-  terminal_ports =
-      filter_swap is_here (is_wired plan) (map Port.Terminal (range_with_len 0 terminals))
-      ∙ ap (filter (is_wired plan)) (filter_map_of is_here Port.Terminal (range_with_len 0 terminals) ∙ ap (map Port.Terminal) terminal_here)
-      ∙ here_made (λ ts. filter (is_wired plan) (map Port.Terminal ts)) (λ t. t ∷ []) refl
+  terminal_ports = search (arith, filter_swap, filter_map_of, terminal_here, here_made)
 
   -- what is of a switch, or else of a terminal
   either : {Y : Type 0} (of_switch : List Y) (of_terminal : ℕ → List Y) → (if nat_lt k switches then of_switch else []) ++ here_of of_terminal ≡ (if nat_lt k switches then of_switch else here_of of_terminal)
-  either {Y} of_switch of_terminal = by_test (nat_lt k switches) refl
-    where
-      by_test : (b : Bool) → nat_lt k switches ≡ b → (if b then of_switch else []) ++ (if b then [] else if nat_lt (k - switches) terminals then of_terminal (k - switches) else []) ≡ (if b then of_switch else if b then [] else if nat_lt (k - switches) terminals then of_terminal (k - switches) else [])
-      by_test true is = append-nil of_switch
-      by_test false is = refl
+  either {Y} of_switch of_terminal = search (arith, append-nil)
 
   either_of : {Y : Type 0} (of_switch : List Y) (of_terminal : ℕ → List Y) → (if nat_lt k switches then of_switch else here_of of_terminal) ≡ (if nat_lt k switches then of_switch else if nat_lt (k - switches) terminals then of_terminal (k - switches) else [])
-  either_of {Y} of_switch of_terminal = by_test (nat_lt k switches)
-    where
-      by_test : (b : Bool) → (if b then of_switch else if b then [] else if nat_lt (k - switches) terminals then of_terminal (k - switches) else []) ≡ (if b then of_switch else if nat_lt (k - switches) terminals then of_terminal (k - switches) else [])
-      by_test true = refl
-      by_test false = refl
+  either_of {Y} of_switch of_terminal = search arith
 
   ports_are : filter is_here (wired_ports plan) ≡ node_ports plan k
-  ports_are =
-      filter-append is_here (flat_map (wired_links plan) (range_with_len 0 switches)) (wired_terminals plan)
-      ∙ ap (λ (ps : List Port). ps ++ filter is_here (wired_terminals plan)) switch_ports
-      ∙ ap (λ (ps : List Port). (if nat_lt k switches then wired_links plan k else []) ++ ps) terminal_ports
-      ∙ either (wired_links plan k) (λ t. filter (is_wired plan) (Port.Terminal t ∷ []))
-      ∙ either_of (wired_links plan k) (λ t. filter (is_wired plan) (Port.Terminal t ∷ []))
+  ports_are = search (arith, filter-append, switch_ports, terminal_ports, either, either_of)
 
   -- what a part of a round has at them
   part_here : (part : PortPart) (p : Port) → filter leads (port_events part p) ≡ (if is_here p then port_events part p else [])
-  part_here Turn (Port.Terminal t) = by_test (nat_eq (switches + t) k)
-    where
-      by_test : (b : Bool) → ◌≡◌ {A = List Event} [] (if b then [] else [])
-      by_test true = refl
-      by_test false = refl
-  part_here part p = refl
+  part_here part p = search arith
 
   part_events : (part : PortPart) → filter leads (flat_map (port_events part) (wired_ports plan)) ≡ flat_map (port_events part) (node_ports plan k)
   part_events part = filter_flat leads (port_events part) is_here (part_here part) (wired_ports plan) ∙ ap (flat_map (port_events part)) ports_are
@@ -227,17 +166,7 @@ module _ (plan : Plan) (k : ℕ) where
   drains = all_drains terminals
 
   parted : round_part plan k ≡ filter leads credits ++ filter leads crosses ++ filter leads turns ++ filter leads claims ++ filter leads drains
-  parted =
-      filter-append leads (credits ++ crosses ++ turns ++ claims) drains
-      ∙ ap (λ (es : List Event). es ++ filter leads drains) (filter-append leads (credits ++ crosses ++ turns) claims
-      ∙ ap (λ (es : List Event). es ++ filter leads claims) (filter-append leads (credits ++ crosses) turns
-      ∙ ap (λ (es : List Event). es ++ filter leads turns) (filter-append leads credits crosses)))
+  parted = search (arith, filter-append)
 
   pub round_part_is : round_part plan k ≡ events_of plan k (node_ports plan k)
-  round_part_is =
-      parted
-      ∙ joined (filter leads credits) (filter leads crosses) (filter leads turns) (filter leads claims) (filter leads drains) _ _ _ _
-      (ap (filter leads) (sym (singles Event.Credit (wired_ports plan))) ∙ part_events Credit)
-      (ap (filter leads) (sym (singles Event.Cross (wired_ports plan))) ∙ part_events Cross)
-      (part_events Turn)
-      own_are
+  round_part_is = search (arith, parted, joined, singles, part_events, own_are)

@@ -1,23 +1,20 @@
 -- Parts of a round: one goes on from the one before, and an event that isn't ready may be left out.
 use Rattle.{c104_event.specs.declared.{events.Event.Event, faults.EventFault.EventFault}, c104_node.proofs.Ranges.range_more}
-use Rattle.c104_run.{proofs.RoundRuns.{Applied, run_append, run_from, run_reply}, specs.EventRuns.{Answers, Outcome, run_events}}
-use Rattle.{c104_run.specs.{EventRuns.unless_fault, RoundParts.PartEnds}, c104_switch.specs.Actions.{Reply, is_ready}}
-use Rattle.std.proofs.Common.{Bool, Err, List, Ok, [], ap, append-nil, append_assoc, arith, false, inl, inr, map, refl, subst, suc, sym}
-use Rattle.std.proofs.{Common.{true, zero, ℕ, ◌++◌, ◌+◌, ◌-◌, ◌<◌, ◌||◌, ◌∙◌, ◌∷◌, ◌≡◌, ◌≤◌}, lemmas.Grind.flat_map-append}
-use Rattle.std.specs.List.{flat_map, range_with_len}
+use Rattle.c104_run.{proofs.RoundRuns.{Applied, run_append, run_from, run_reply}, specs.{EventRuns.Answers, RoundParts.PartEnds}}
+use Rattle.{c104_switch.specs.Actions.{Reply, is_ready}, std.proofs.Common.{Bool, Err, List, Ok, [], ap, append-nil, append_assoc, arith}}
+use Rattle.std.proofs.Common.{false, inl, inr, map, refl, subst, suc, sym, true, zero, ℕ, ◌++◌, ◌+◌, ◌-◌, ◌<◌, ◌||◌, ◌∙◌, ◌∷◌, ◌≡◌, ◌≤◌}
+use Rattle.std.{proofs.lemmas.Grind.flat_map-append, specs.List.{flat_map, range_with_len}}
 
 -- where one of two is so, and it isn't, neither is
 pub neither : (a b : Bool) → (a || b) ≡ false → (a ≡ false) × (b ≡ false)
-neither true b none = absurd (cc none)
-neither false b none = (refl, none)
+neither a b none = search arith
 
 -- a list of single events is a list of parts
 abbrev pub single : {X : Type 0} → (X → Event) → X → List Event
 single f x = f x ∷ []
 
 pub singles : {X : Type 0} (f : X → Event) (xs : List X) → flat_map (single f) xs ≡ map f xs
-singles f [] = refl
-singles f (x ∷ xs) = ap (λ es. f x ∷ es) (singles f xs)
+singles f xs = search arith
 
 module _ {S : Type 0} (apply : S → Event → Applied S) where
   -- no event
@@ -26,26 +23,11 @@ module _ {S : Type 0} (apply : S → Event → Applied S) where
 
   -- one part after another
   pub part_after : (net mid after : S) (front part : List Event) (a b : Bool) → PartEnds apply net front (Ok a) mid → PartEnds apply mid part (Ok b) after → PartEnds apply net (front ++ part) (Ok (a || b)) after
-  part_after net mid after front part a b first next =
-      record { ends = (run_from apply net mid front part first.ends.0 ∙ next.ends.0, λ none. next.ends.1 (neither a b none).1 ∙ first.ends.1 (neither a b none).0) }
+  part_after net mid after front part a b first next = search (arith, run_from, neither)
 
   -- a part that a fault stops, and what would have followed
   pub stops_before : (net after : S) (part more : List Event) (f : EventFault) → PartEnds apply net part (Err f) after → PartEnds apply net (part ++ more) (Err f) after
-  stops_before net after part more f part_ends =
-      record {
-        ends = elim part_ends.ends [
-          | inl due ↦ inl (sym (run_append apply part more net ∙ ap (λ (r : Outcome S). unless_fault r.0 r.1 (λ next. run_events apply next more)) (sym due)))
-          | inr short ↦ inr (record {
-            refused = short.refused;
-            front = short.front;
-            event = short.event;
-            rest = short.rest ++ more;
-            parts = ap (λ es. es ++ more) short.parts ∙ append_assoc short.front (short.event ∷ short.rest) more;
-            stands = short.stands;
-            wanted = short.wanted;
-          })
-        ];
-      }
+  stops_before net after part more f part_ends = search (arith, run_append, append_assoc)
 
   -- a part that a fault stops, after another
   pub stops_after : (net mid after : S) (front part : List Event) (a : Bool) (f : EventFault) → PartEnds apply net front (Ok a) mid → PartEnds apply mid part (Err f) after → PartEnds apply net (front ++ part) (Err f) after
@@ -67,8 +49,7 @@ module _ {S : Type 0} (apply : S → Event → Applied S) where
 
   -- one event that was answered, which changes nothing where it isn't done
   pub part_of_reply : (net after : S) (e : Event) (r : Reply) → (is_ready r ≡ false → after ≡ net) → Answers apply net e (Ok r) after → PartEnds apply net (e ∷ []) (Ok (is_ready r)) after
-  part_of_reply net after e r undone answer =
-      record { ends = (elim answer [ inl due ↦ run_reply apply net after e r due | inr refused ↦ absurd (cc refused.0) ], undone) }
+  part_of_reply net after e r undone answer = search (arith, run_reply)
 
   -- the parts of the numbers below one
   module _ (part : ℕ → List Event) where

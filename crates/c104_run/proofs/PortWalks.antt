@@ -1,25 +1,23 @@
 -- A round as it is walked: part after part, number by number, with what has no wire or isn't ready left out.
 use Rattle.{c104_crossbar.specs.Groups.has_bit, c104_event.specs.declared.events.Event.Event, c104_node.specs.{Acts.nodes_act, Nodes.Node}}
 use Rattle.c104_node.specs.{PortActs.near_act, PortParts.{IsFoundReady, IsNearReady, is_ready_at}, declared.crossings.Crossing.Crossing}
-use Rattle.{c104_node.specs.declared.port_part.PortPart.{PortPart, TheVariants.{Credit, Cross, Turn}}, c104_plan.specs.Plans.Plan}
+use Rattle.{c104_node.specs.declared.port_part.PortPart.{PortPart, TheVariants.Turn}, c104_plan.specs.Plans.Plan}
 use Rattle.{c104_plan.specs.declared.ports.Port.Port, c104_run.proofs.{IdleEvents.{idle_credit, idle_cross, idle_turn}, PartRuns.singles}}
 use Rattle.c104_run.specs.{EventActs.{crossing_event, port_place}, Network.{Network, wired_fault}, RoundParts.{AreIdle, IsNext}}
 use Rattle.c104_run.specs.RoundParts.{crossing_part, input_walk, link_walk, output_walk, port_events, port_walk, switch_walk, terminal_walk}
 use Rattle.c104_run.specs.{RoundParts.{walked_round, wired_events}, Rounds.{all_claims, claims_of, is_wired, link_numbers, round}}
-use Rattle.{c104_run.specs.Rounds.{switch_claims, turn_at, wired_links, wired_ports, wired_terminals}, c104_token.specs.Kinds.Kind}
-use Rattle.std.proofs.Common.{Bool, IfSome, List, None, Option, Some, [], ap, append-nil, arith, false, filter, length, map, refl, subst}
-use Rattle.std.proofs.{Common.{sym, true, unwrap_or, ℕ, ◌++◌, ◌<◌, ◌∙◌, ◌∷◌, ◌≡◌, ◌≤◌}, lemmas.Grind.flat_map-append}
-use Rattle.std.{proofs.lemmas.List.Elements.filter-append, specs.{List.{flat_map, range_with_len}, Prelude.is_some}}
+use Rattle.{c104_run.specs.Rounds.{switch_claims, turn_at, wired_links, wired_ports}, c104_token.specs.Kinds.Kind, std.proofs.Common.IfSome}
+use Rattle.std.proofs.Common.{List, None, Option, [], ap, append-nil, arith, false, filter, length, map, refl, sym, true, unwrap_or, ℕ}
+use Rattle.std.proofs.{Common.{◌++◌, ◌<◌, ◌∙◌, ◌∷◌, ◌≡◌, ◌≤◌}, lemmas.{Grind.flat_map-append, List.Elements.filter-append}}
+use Rattle.std.specs.{List.{flat_map, range_with_len}, Prelude.is_some}
 
 -- what is so of an element is so by what follows from it
 pub if_some : {X : Type 0} (P Q : X → Type 0) (o : Option X) → ((x : X) → P x → Q x) → IfSome o P → IfSome o Q
-if_some P Q None each is = tt
-if_some P Q (Some x) each is = each x is
+if_some P Q o each is = search arith
 
 -- lists that are joined, each of which is another
 flat_same : {X Y : Type 0} (f h : X → List Y) → ((x : X) → f x ≡ h x) → (xs : List X) → flat_map f xs ≡ flat_map h xs
-flat_same f h same [] = refl
-flat_same f h same (x ∷ xs) = let first = same x in let rest = flat_same f h same xs in cc
+flat_same f h same xs = search arith
 
 module _ (plan : Plan) (part : PortPart) where
   pub wired_one : (p : Port) → is_wired plan p ≡ true → wired_events plan part p ≡ port_events part p
@@ -31,10 +29,7 @@ module _ (plan : Plan) (part : PortPart) where
   -- one by one they are what it has for the wired ones
   pub wired_each : (f : ℕ → Port) (ns : List ℕ) → flat_map (port_walk plan part f) ns ≡ flat_map (port_events part) (filter (is_wired plan) (map f ns))
   wired_each f [] = refl
-  wired_each f (n ∷ ns) =
-      ap (λ es. wired_events plan part (f n) ++ es) (wired_each f ns)
-      ∙ sym (flat_map-append (port_events part) (filter (is_wired plan) (f n ∷ [])) (filter (is_wired plan) (map f ns)))
-      ∙ ap (flat_map (port_events part)) (sym (filter-append (is_wired plan) (f n ∷ []) (map f ns)))
+  wired_each f (n ∷ ns) = search (arith, flat_map-append, filter-append, wired_each f ns)
 
   -- switch by switch they are those of all switches
   abbrev pub of_switch : ℕ → List Event
@@ -51,61 +46,39 @@ module _ (plan : Plan) (part : PortPart) where
   switches_walked = sym (flat_same (link_walk plan part) of_switch (λ s. wired_each (Port.Switch s) link_numbers) (range_with_len 0 (length plan.switches)) ∙ switches_each (range_with_len 0 (length plan.switches)))
 
   ports_walked : flat_map (port_events part) (wired_ports plan) ≡ switch_walk plan part ++ terminal_walk plan part
-  ports_walked =
-      let first = switches_walked in
-      let next = sym (wired_each Port.Terminal (range_with_len 0 (length plan.terminals))) in
-      let parts = flat_map-append (port_events part) links (wired_terminals plan) in cc
+  ports_walked = search (arith, switches_walked, wired_each, flat_map-append)
 
 -- what crosses from a wired port in a part of a round
 pub wired_crossing : (plan : Plan) (crossing : Crossing) (p : Port) → is_wired plan p ≡ true → wired_events plan (crossing_part crossing) p ≡ crossing_event crossing p ∷ []
-wired_crossing plan Crossing.Token p is = wired_one plan Cross p is
-wired_crossing plan Crossing.Grant p is = wired_one plan Credit p is
+wired_crossing plan crossing p is = search (arith, wired_one)
 
 pub crossing_ready : {A : Type 0} (kind : Kind A) (net : Network A) (crossing : Crossing) (p : Port) → IsNearReady kind (crossing_part crossing) net.nodes (port_place net.plan p) p → is_some (nodes_act kind net.nodes (port_place net.plan p) 0 (near_act crossing p)) ≡ true
-crossing_ready kind net Crossing.Token p is = is
-crossing_ready kind net Crossing.Grant p is = is
+crossing_ready kind net crossing p is = search arith
 
 -- a terminal takes no turn
 no_turns : (plan : Plan) (ns : List ℕ) → flat_map turn_at (filter (is_wired plan) (map Port.Terminal ns)) ≡ []
 no_turns plan [] = refl
-no_turns plan (n ∷ ns) = by_wire (is_wired plan (Port.Terminal n)) refl (no_turns plan ns)
-  where
-    by_wire : (b : Bool) → is_wired plan (Port.Terminal n) ≡ b → flat_map turn_at (filter (is_wired plan) (map Port.Terminal ns)) ≡ [] → flat_map turn_at (filter (is_wired plan) (map Port.Terminal (n ∷ ns))) ≡ []
-    by_wire true is rest = rw is rest
-    by_wire false is rest = rw is rest
+no_turns plan (n ∷ ns) = search (arith, no_turns plan ns)
 
 -- so the turns of the switches' ports are all turns
 turns_walked : (plan : Plan) → flat_map turn_at (wired_ports plan) ≡ switch_walk plan Turn
-turns_walked plan =
-    flat_map-append turn_at (links plan Turn) (wired_terminals plan) ∙ ap (λ es. flat_map turn_at (links plan Turn) ++ es) (no_turns plan (range_with_len 0 (length plan.terminals)))
-    ∙ append-nil (flat_map turn_at (links plan Turn)) ∙ switches_walked plan Turn
+turns_walked plan = search (arith, flat_map-append, no_turns, append-nil, switches_walked)
 
 claims_walked : (n : ℕ) → all_claims n ≡ flat_map input_walk (range_with_len 0 n)
 claims_walked n = flat_same switch_claims input_walk (λ s. flat_same (claims_of s) (output_walk s) (λ i. sym (singles (Event.Claim s i) link_numbers)) link_numbers) (range_with_len 0 n)
 
 -- a round is all that is walked
 pub round_walked : (plan : Plan) → round plan ≡ walked_round plan
-round_walked plan =
-    let credits : map Event.Credit (wired_ports plan) ≡ switch_walk plan Credit ++ terminal_walk plan Credit = sym (singles Event.Credit (wired_ports plan)) ∙ ports_walked plan Credit in
-    let crosses : map Event.Cross (wired_ports plan) ≡ switch_walk plan Cross ++ terminal_walk plan Cross = sym (singles Event.Cross (wired_ports plan)) ∙ ports_walked plan Cross in
-    let turns = turns_walked plan in
-    let claims = claims_walked (length plan.switches) in
-    let drains = sym (singles Event.Drain (range_with_len 0 (length plan.terminals))) in cc
+round_walked plan = search (arith, singles, ports_walked, turns_walked, claims_walked)
 
 module _ {A : Type 0} (kind : Kind A) (net : Network A) (part : PortPart) where
   -- what a part has for a port that has no wire, or where nothing is ready
   pub idle_wired : (p : Port) → (is_wired net.plan p ≡ true → AreIdle kind net (port_events part p)) → AreIdle kind net (wired_events net.plan part p)
-  idle_wired p idle = by_wire (is_wired net.plan p) refl
-    where
-      by_wire : (b : Bool) → is_wired net.plan p ≡ b → AreIdle kind net (wired_events net.plan part p)
-      by_wire true is = subst (AreIdle kind net) (sym (wired_one net.plan part p is)) (idle is)
-      by_wire false is = subst (AreIdle kind net) (sym (wired_none net.plan part p is)) (record { each = tt })
+  idle_wired p idle = search (arith, wired_one, wired_none)
 
 -- a link that isn't ready for its own act
 pub idle_link : {A : Type 0} (kind : Kind A) (net : Network A) (part : PortPart) (k l : ℕ) → wired_fault net.plan (Port.Switch k l) ≡ None → is_ready_at kind part net.nodes k l ≡ false → AreIdle kind net (port_events part (Port.Switch k l))
-idle_link kind net Credit k l wired unready = idle_credit kind net (Port.Switch k l) wired unready
-idle_link kind net Cross k l wired unready = idle_cross kind net (Port.Switch k l) wired unready
-idle_link kind net Turn k l wired unready = idle_turn kind net k l wired unready
+idle_link kind net part k l wired unready = search (arith, idle_credit, idle_cross, idle_turn)
 
 -- a link that is passed over: it has no wire, or isn't ready
 pub passed_link : {A : Type 0} (kind : Kind A) (net : Network A) (part : PortPart) (k l among : ℕ) → has_bit among l ≡ is_wired net.plan (Port.Switch k l) → (has_bit among l ≡ true → wired_fault net.plan (Port.Switch k l) ≡ None) → (has_bit among l ≡ true → is_ready_at kind part net.nodes k l ≡ false) → AreIdle kind net (wired_events net.plan part (Port.Switch k l))
@@ -113,14 +86,12 @@ passed_link kind net part k l among linked wired unready = idle_wired kind net p
 
 -- what was found is ready, as the near end of its wire
 pub near_ready : {A : Type 0} (kind : Kind A) (plan : Plan) (part : PortPart) (nodes : List (Node A)) (s l : ℕ) → IsFoundReady part (is_ready_at kind part nodes s l) → IsNearReady kind part nodes (port_place plan (Port.Switch s l)) (Port.Switch s l)
-near_ready kind plan Turn nodes s l is = tt
-near_ready kind plan part nodes s l is = is
+near_ready kind plan part nodes s l is = search arith
 
 -- where a walk goes on, by what was passed over
 module _ {A : Type 0} (kind : Kind A) (net : Network A) (part : ℕ → List Event) (numbers : List ℕ) (n from : ℕ) (found : Option ℕ) where
   below_found : (k : ℕ) → (o : Option ℕ) → IfSome o (λ i. (from ≤ i) × (i < n)) → k < unwrap_or o n → k < n
-  below_found k None is below = below
-  below_found k (Some i) is below = omega arith
+  below_found k o is below = search arith
 
   pub next_found : numbers ≡ range_with_len 0 n → IfSome found (λ k. (from ≤ k) × (k < n)) → ((k : ℕ) → k < n → from ≤ k → k < unwrap_or found n → AreIdle kind net (part k)) → IsNext kind net part numbers n from found
   next_found turn is idle = record { turn = turn; passed = λ k above below. idle k (below_found k found is below) above below; found = is }

@@ -6,14 +6,14 @@ use Rattle.{c104_plan.specs.{Plans.{IsPlan, Plan}, Wiring.peer, declared.ports.P
 use Rattle.c104_run.proofs.{BalanceEvents.applied_with, BalanceWires.nodes_apart, EntryCounts.{HasRoom, HaveRoom, all_more, all_within}}
 use Rattle.c104_run.proofs.{EntryCounts.{lengths_same, room_there, total_below}, PartRuns.neither, RoundRuns.undone_stays}
 use Rattle.c104_run.{proofs.{RunRecords.{counted, record_on, seatless_order}, UndoneEvents.undone_deeds}, specs.Balance.AreInPlace}
-use Rattle.c104_run.specs.{Balance.{IsSteady, credit_of, granted_of}, Ends.end_of, EventActs.{acts_step, event_acts, port_place}}
-use Rattle.c104_run.specs.{EventDeeds.{acts_deeds, acts_full, event_deeds, event_full}, NetRecords.{IsNetRecord, IsWithinLimit, NetRecord}}
-use Rattle.c104_run.specs.{NetRecords.{RecordsEvent, is_done, ticket_after, total_entries}, Network.{AnswersWith, Network, event_fault}}
-use Rattle.c104_run.specs.Network.{event_limit, network_apply, network_of, network_step, outcome_if_possible, outcome_if_ready}
-use Rattle.c104_run.specs.{Network.{outcome_within_limit, told_step}, Runs.{IsRunRecord, at_node, run_deeds}}
-use Rattle.{c104_switch.specs.{Actions.{Reply, is_ready}, declared.actions.ReplyOf.ReplyOf}, c104_token.specs.Kinds.{Kind, plain_kind}}
-use Rattle.{c104_token.specs.declared.tokens.Token.Token, std.proofs.Common.{All, Bool, Err, List, None, Ok, Option, Result, Some, [], ap}}
-use Rattle.std.proofs.Common.{arith, false, inl, inr, length, map, refl, slice_get, subst, sym, true, ℕ, ◌++◌, ◌+◌, ◌-◌, ◌∙◌, ◌∷◌, ◌≡◌, ◌≤◌}
+use Rattle.c104_run.specs.{Balance.IsSteady, Ends.end_of, EventActs.{acts_step, event_acts, port_place}, EventDeeds.{acts_deeds, acts_full}}
+use Rattle.c104_run.specs.{EventDeeds.{event_deeds, event_full}, NetRecords.{IsNetRecord, IsWithinLimit, NetRecord, RecordsEvent, is_done}}
+use Rattle.c104_run.specs.{NetRecords.{ticket_after, total_entries}, Network.{AnswersWith, Network, event_fault, network_apply, network_of}}
+use Rattle.c104_run.specs.{Network.{network_step, outcome_if_possible, outcome_if_ready, outcome_within_limit, told_step}, Runs.IsRunRecord}
+use Rattle.{c104_run.specs.Runs.{at_node, run_deeds}, c104_switch.specs.Actions.{Reply, is_ready}, c104_token.specs.Kinds.Kind}
+use Rattle.{c104_token.specs.{Kinds.plain_kind, declared.tokens.Token.Token}, std.proofs.Common.{All, Bool, Err, List, Ok, Option, Result}}
+use Rattle.std.proofs.Common.{Some, [], ap, arith, false, inl, inr, length, map, refl, slice_get, subst, sym, true, ℕ, ◌++◌, ◌+◌, ◌-◌, ◌∙◌}
+use Rattle.std.proofs.Common.{◌∷◌, ◌≡◌, ◌≤◌}
 
 -- how many nodes there are
 pub nodes_counted : {A : Type 0} (plan : Plan) (nodes : List (Node A)) → AreInPlace plan nodes → length nodes ≡ length plan.switches + length plan.terminals
@@ -24,19 +24,13 @@ module _ {A : Type 0} (kind : Kind A) (net after : Network A) (r : Reply) where
   Answered = Result Reply EventFault × Network A
 
   limit_made : (limit : Option EventFault) (s : Reply × Network A) → ◌≡◌ {A = Answered} (Ok r, after) (outcome_within_limit kind net limit s) → ◌≡◌ {A = Reply × Network A} s (r, after)
-  limit_made None s was =
-      let told : Ok r ≡ Ok s.0 = ap (λ (t : Answered). t.0) was in
-      let same : r ≡ s.0 = cc in
-      sym (ap (λ x. (x, after)) same ∙ ap (λ n. (s.0, n)) (ap (λ (t : Answered). t.1) was))
-  limit_made (Some f) s was = let told : ◌≡◌ {A = Result Reply EventFault} (Ok r) (Err f) = ap (λ (t : Answered). t.0) was in cc
+  limit_made limit s was = search arith
 
   ready_made : (e : Event) (made : Option (Reply × Network A)) → ◌≡◌ {A = Answered} (Ok r, after) (outcome_if_ready kind net e made) → is_ready r ≡ true → made ≡ Some (r, after)
-  ready_made e None was ready = let told : ◌≡◌ {A = Result Reply EventFault} (Ok r) (Ok ReplyOf.NotReady) = ap (λ (t : Answered). t.0) was in let same : r ≡ ReplyOf.NotReady = cc in let no : is_ready {A = Token} ReplyOf.NotReady ≡ true = ap is_ready (sym same) ∙ ready in cc
-  ready_made e (Some s) was ready = ap Some (limit_made (event_limit net e) s was)
+  ready_made e made was ready = search (arith, limit_made)
 
   there_made : (e : Event) (fault : Option EventFault) → ◌≡◌ {A = Answered} (Ok r, after) (outcome_if_possible kind net e fault) → is_ready r ≡ true → network_step kind net e ≡ Some (r, after)
-  there_made e None was ready = ready_made e (network_step kind net e) was ready
-  there_made e (Some f) was ready = let told : ◌≡◌ {A = Result Reply EventFault} (Ok r) (Err f) = ap (λ (t : Answered). t.0) was in cc
+  there_made e fault was ready = search (arith, ready_made)
 
   -- an event that was done was made as a step
   pub done_made : (e : Event) → ◌≡◌ {A = Answered} (Ok r, after) (network_apply kind net e) → is_ready r ≡ true → network_step kind net e ≡ Some (r, after)
@@ -51,14 +45,10 @@ module _ (plan : Plan) (is_plan : IsPlan plan) (nodes : List (Node Token)) (stea
   deeds e = event_deeds plan stamp e r
 
   near_room : (p q : Port) → peer plan p ≡ Some q → full_at (map is_trace_full traces) (end_of plan p).node ≡ false → HasRoom traces (end_of plan p).node
-  near_room p q wired free =
-      let level = steady.balanced p q wired in
-      given (slice_get nodes (end_of plan p).node) (credit_of (end_of plan p).link) level.0 level.1 (λ n there at. room_there nodes traces (end_of plan p).node n same there free)
+  near_room p q wired free = search (arith, given, room_there)
 
   far_room : (p q : Port) → peer plan p ≡ Some q → full_at (map is_trace_full traces) (end_of plan q).node ≡ false → HasRoom traces (end_of plan q).node
-  far_room p q wired free =
-      let level = steady.balanced p q wired in
-      given (slice_get nodes (end_of plan q).node) (granted_of (end_of plan q).link) level.0 level.2 (λ n there at. room_there nodes traces (end_of plan q).node n same there free)
+  far_room p q wired free = search (arith, given, room_there)
 
   lone_room : (k : ℕ) (n : Node Token) → slice_get nodes k ≡ Some n → full_at (map is_trace_full traces) k ≡ false → HasRoom traces k
   lone_room k n there free = room_there nodes traces k n same there free
@@ -97,10 +87,7 @@ module _ (old new : NetRecord) (is_plan : IsPlan old.network.plan) (same_plan : 
 
   -- so there is always a ticket left
   pub ticket_left : old.count + 1 ≡ ticket_after old.count true
-  ticket_left =
-      let total = total_below old.traces before.within in
-      let count = nodes_counted plan old.network.nodes before.steady.in_place in
-      omega (arith, total, traces_counted, count, before.counted, is_plan.few_switches, is_plan.terminals.few)
+  ticket_left = search (arith, total_below, nodes_counted, traces_counted)
 
   module _ (r : Reply) (ready : is_ready r ≡ true) (is : RecordsEvent old e (Ok r) new) where
     abbrev added : List Deed

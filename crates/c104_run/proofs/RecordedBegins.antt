@@ -2,14 +2,14 @@
 use Rattle.{c104_link.{proofs.MadeSteps.All-place, specs.Buffers.Outgoing}, c104_node.proofs.{PlaceSteps.shown_at, WireEnds.get_set_other}}
 use Rattle.c104_node.specs.{MappedNodes.{map_input, map_node, map_outgoing}, Nodes.Node, Places.{Shown, base_wired, bases, states}}
 use Rattle.c104_node.specs.{Quiet.{IsQuietNode, node_begin}, Starts.{start_node, start_of}, Traces.seatless, declared.acts.Entry.Entry}
-use Rattle.{c104_node.specs.declared.{node.NodeOf.NodeOf, starts.NodeStart.NodeStart}, c104_plan.specs.Plans.Plan}
-use Rattle.c104_run.proofs.{FirstRecords.map_twice, FreshRecords.fresh_kept, NodeMaps.{all_back, node_back, quiet_map, starts_same}}
-use Rattle.c104_run.proofs.{QuietBegins.begun_steady, RecordSteps.same_record, RecordedNets.{map_same, states_plain, states_shown}}
-use Rattle.c104_run.specs.{Balance.IsSteady, NetRecords.{IsNetRecord, fresh_record}, Network.{Network, network_of}, QuietNets.network_begin}
+use Rattle.{c104_node.specs.declared.starts.NodeStart.NodeStart, c104_plan.specs.Plans.Plan, c104_run.proofs.FirstRecords.map_twice}
+use Rattle.c104_run.proofs.{FreshRecords.fresh_kept, NodeMaps.{all_back, node_back, quiet_map, starts_same}, QuietBegins.begun_steady}
+use Rattle.c104_run.{proofs.{RecordSteps.same_record, RecordedNets.{map_same, states_plain, states_shown}}, specs.Balance.IsSteady}
+use Rattle.c104_run.specs.{NetRecords.{IsNetRecord, fresh_record}, Network.{Network, network_of}, QuietNets.network_begin}
 use Rattle.c104_run.specs.RecordedNets.{IsReading, IsRecordedNet, Reading, Told, begun_told, place_told, places_record, read_state}
 use Rattle.{c104_run.specs.{RecordedNets.read_trace, Runs.IsRunRecord}, c104_switch.specs.{Starts.link_starts, Switch.Input}}
-use Rattle.{c104_token.specs.declared.tokens.Token.Token, std.proofs.Common.{All, List, Some, [], ap, arith, inl, inr, map, option_map}}
-use Rattle.std.proofs.{Common.{refl, slice_get, slice_set, subst, suc, sym, zero, ℕ, ◌+◌, ◌<◌, ◌∙◌, ◌∷◌, ◌≡◌, ◌≤◌}, lemmas.Bool.cases_eq}
+use Rattle.{c104_token.specs.declared.tokens.Token.Token, std.proofs.Common.{All, List, Some, [], ap, arith, map, refl, slice_get}}
+use Rattle.std.proofs.{Common.{slice_set, subst, suc, sym, zero, ℕ, ◌+◌, ◌<◌, ◌∙◌, ◌∷◌, ◌≡◌, ◌≤◌}, lemmas.Bool.cases_eq}
 use Rattle.std.proofs.lemmas.{List.Elements.{All-cons, All-head, All-nil, All-tail}, Option.slice_get-map}
 
 -- what holds of each of a list holds of each that it is mapped to
@@ -25,12 +25,10 @@ module _ {A : Type 0} (f : A → Token) where
 
   -- nor does what a run forgets
   start_begun : (n : Node A) → start_of n ≡ start_of (node_begin (map_node f n))
-  start_begun (NodeOf.Switch s) = rw (links_plain s.inputs s.outputs) refl
-  start_begun (NodeOf.Terminal t) = refl
+  start_begun n = search (arith, links_plain)
 
   begin_plain : (n : Node A) → map_node f (node_begin n) ≡ node_begin (map_node f n)
-  begin_plain (NodeOf.Switch s) = refl
-  begin_plain (NodeOf.Terminal t) = refl
+  begin_plain n = search arith
 
 abbrev pub no_entries : {A : Type 0} → Node A → List Entry
 no_entries n = []
@@ -41,12 +39,7 @@ module _ {A P : Type 0} (v : Reading A P) where
 
   -- nodes at their starts, of which nothing is kept
   pub told_first : (plan : Plan) (places : List P) → map start_node (map v.start places) ≡ map (read_state v) places → map (read_trace v) places ≡ map no_entries (map (read_state v) places) → IsRunRecord v.kind plan seatless (map start_node (map v.start places)) (map (read_state v) places) (map (read_trace v) places) 0 []
-  told_first plan places stand none = record {
-    run = ap (network_of plan) (sym stand);
-    told = λ k. ap (λ ts. slice_get ts k) none ∙ slice_get-map (no_entries {A = A}) (map (read_state v) places) k ∙ ap (λ ns. option_map (no_entries {A = A}) (slice_get ns k)) (sym stand);
-    counted = refl;
-    ordered = tt;
-  }
+  told_first plan places stand none = search (arith, slice_get-map)
 
   wires_shown : (places : List P) → map (λ p. (v.shown p).base.wired) places ≡ map base_wired (bases (map v.shown places))
   wires_shown places = sym (ap (map base_wired) (map_twice (λ (s : Shown A). s.base) v.shown places) ∙ map_twice base_wired (λ p. (v.shown p).base) places)
@@ -147,11 +140,7 @@ module _ {A P : Type 0} (shown : P → Shown A) (start : P → NodeStart) where
   set_there (x ∷ places) (suc i) (suc k) y p same at = set_there places i k y p (omega (arith, same)) at
 
   pub stand_on : (places : List P) (i : ℕ) (y : P) → (shown y).state ≡ start_node (start y) → Stand places i → Stand (slice_set places i y) (i + 1)
-  stand_on places i y here before = λ k p below at.
-      elim (cases_eq i k) [
-        | inl same ↦ subst (λ (m : P). (shown m).state ≡ start_node (start m)) (set_there places i k y p same at) here
-        | inr other ↦ before k p (omega (arith, below, other)) (sym (get_set_other places i k y other) ∙ at)
-      ]
+  stand_on places i y here before = search (arith, cases_eq, set_there, get_set_other)
 
   pub all_stand : (places : List P) → ((k : ℕ) (p : P) → slice_get places k ≡ Some p → (shown p).state ≡ start_node (start p)) → map start_node (map start places) ≡ states (map shown places)
   all_stand [] stand = refl

@@ -9,12 +9,11 @@ use Rattle.c104_run.specs.{NetRecords.{NetRecord, is_done}, Network.{AnswersWith
 use Rattle.c104_run.specs.RecordedNets.{IsReading, IsRecordedNet, KeepsTokens, Reading, places_record, read_state, read_trace}
 use Rattle.c104_run.specs.{RecordedRuns.{AnswersRecord, record_apply, record_at}, Stages.{Stage, stage_apply}}
 use Rattle.{c104_switch.specs.Actions.Reply, c104_token.specs.{Kinds.{Kind, plain_kind}, declared.tokens.Token.{TheVariants.Byte, Token}}}
-use Rattle.std.proofs.Common.{Bool, List, Result, Some, [], ap, inl, inr, is_some, map, refl, subst, sym, true, ℕ, ◌∙◌, ◌∷◌, ◌≡◌}
+use Rattle.std.proofs.Common.{Bool, List, Result, Some, [], ap, arith, inl, inr, is_some, map, refl, subst, sym, true, ℕ, ◌∙◌, ◌∷◌, ◌≡◌}
 
 -- a list that is mapped by two functions that agree
 pub map_same : {X Y : Type 0} (f g : X → Y) → ((x : X) → f x ≡ g x) → (xs : List X) → map f xs ≡ map g xs
-map_same f g same [] = refl
-map_same f g same (x ∷ xs) = ap (λ y. y ∷ map f xs) (same x) ∙ ap (λ ys. g x ∷ ys) (map_same f g same xs)
+map_same f g same xs = search arith
 
 somes_same : (xs ys : List NodeStart) → map Some xs ≡ map Some ys → xs ≡ ys
 somes_same [] [] is = refl
@@ -65,16 +64,10 @@ module _ {A P : Type 0} (v : Reading A P) (reads : IsReading v) where
 
   -- what is seen of an engine's network is what is seen of the network with its record
   pub seen_plain : {X : Type 0} (of : Network A → X) (told : Network Token → X) → ((net : Network A) → told (plain_network v.kind net) ≡ of net) → (e : EngineView P) (r : NetRecord) → engine_record v e ≡ r → of (engine_network v.shown e) ≡ told r.network
-  seen_plain of told same e r is =
-      sym (same (engine_network v.shown e)) ∙ ap (λ ns. told (network_of e.plan ns)) (states_plain e.places) ∙ ap (λ (x : NetRecord). told x.network) is
+  seen_plain of told same e r is = search (arith, states_plain)
 
   stage_kept : (plan : Plan) (places : List P) (count : ℕ) → IsRecordedNet v plan places count → IsRecordedStage v.kind (map v.start places) (places_stage v plan places count)
-  stage_kept plan places count is = record {
-    begun = starts_shown places;
-    kept = subst IsNetRecord (sym (places_plain plan places count)) is.kept;
-    events = is.events;
-    told = is.told;
-  }
+  stage_kept plan places count is = search (arith, starts_shown, places_plain)
 
   net_kept : (plan : Plan) (places : List P) (count : ℕ) → IsRecordedStage v.kind (map v.start places) (places_stage v plan places count) → IsRecordedNet v plan places count
   net_kept plan places count is = record {
@@ -151,5 +144,4 @@ module _ {A : Type 0} (kind : Kind A) (tokens : KeepsTokens kind) (net after : N
   )
 
   pub answers_plain : (full : Bool) (answer : Result Reply EventFault) → AnswersWith kind full net e answer after → AnswersWith plain_kind full (plain_network kind net) e answer (plain_network kind after)
-  answers_plain full answer (inl due) = inl (ap (λ (d : Applied (Network A)). (d.0, plain_network kind d.1)) due ∙ sym (apply_plain kind tokens net e))
-  answers_plain full answer (inr refused) = inr (refused.0, would_plain refused.1, ap (plain_network kind) refused.2)
+  answers_plain full answer h1 = search (arith, plain_network, apply_plain, would_plain)

@@ -9,8 +9,8 @@ use Rattle.c104_run.specs.{EventDeeds.{event_deeds, event_full}, EventRuns.{Answ
 use Rattle.c104_run.specs.{NetRecords.{RecordsEvent, is_done, ticket_after}, Network.{AnswersWith, network_of}, RecordedNets.IsRecordedNet}
 use Rattle.c104_run.specs.{RecordedNets.{KeepsRecord, Reading, places_record, read_trace}, RecordedRuns.{AnswersRecord, record_apply}}
 use Rattle.{c104_run.specs.Stages.{Stage, stage_apply, stage_of}, c104_switch.specs.Actions.{Reply, is_ready}}
-use Rattle.{c104_token.specs.Kinds.plain_kind, std.proofs.Common.{Bool, IfOk, List, Result, ap, false, map, refl, subst, sym, true, ℕ, ◌∙◌}}
-use Rattle.std.proofs.Common.{◌≡◌}
+use Rattle.{c104_token.specs.Kinds.plain_kind, std.proofs.Common.{Bool, IfOk, List, Result, ap, arith, false, map, subst, sym, true, ℕ}}
+use Rattle.std.proofs.Common.{◌∙◌, ◌≡◌}
 
 -- how a network goes on by an event, whose plan stays
 pub record GoesOn {A P : Type 0} (v : Reading A P) (plan planned : Plan) (old new : EngineView P) (e : Event) (answer : Result Reply EventFault) : Type 0 where
@@ -33,9 +33,7 @@ module _ {A P : Type 0} (v : Reading A P) (keeps : Bool) (is : KeepsRecord v kee
       ∙ ap (map is_trace_full) (traces_are places)
 
   pub stage_is : (plan : Plan) (places : List P) (count : ℕ) → stage_of plan (map v.shown places) count ≡ places_stage v plan places count
-  stage_is plan places count =
-      same_stage (stage_of plan (map v.shown places) count) (places_stage v plan places count)
-      (ap (network_of plan) (map_twice (λ (s : Shown A). s.state) v.shown places)) refl (traces_are places) refl
+  stage_is plan places count = search (arith, same_stage, map_twice)
 
   -- what is so of the stages that places show is so of those of the network
   pub stages_are : (plan : Plan) (old new : List P) (count counted : ℕ) (Ends : Bool → Stage A → Stage A → Type 0) → Ends keeps (stage_of plan (map v.shown old) count) (stage_of plan (map v.shown new) counted) →
@@ -71,9 +69,7 @@ module _ {A P : Type 0} (v : Reading A P) (keeps : Bool) (is : KeepsRecord v kee
           (answers_plain v.kind is.reads.tokens (network_of plan (states (map v.shown old))) (network_of plan (states (map v.shown new))) e (event_full plan (fulls (map v.shown old)) e) answer done.answers)))
 
       noted : map (read_trace v) new ≡ noted_all true (map (read_trace v) old) (kept_of (event_deeds plan (seatless count) e) answer)
-      noted =
-          sym (traces_are new) ∙ done.trace ∙ ap (λ b. noted_all b (traces (map v.shown old)) (kept_of (event_deeds plan (seatless count) e) answer)) is.keeping
-          ∙ ap (λ ts. noted_all true ts (kept_of (event_deeds plan (seatless count) e) answer)) (traces_are old)
+      noted = search (arith, traces_are)
 
       begun : map v.start new ≡ map v.start old
       begun = starts_same v is.reads new old done.base

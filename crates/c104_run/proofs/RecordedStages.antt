@@ -1,15 +1,15 @@
 -- Events over any kind of token, as they are seen over plain tokens; and what they keep of a run.
 use Rattle.{c104_event.specs.declared.{events.Event.Event, faults.EventFault.EventFault}, c104_node.specs.{Nodes.Node, Places.base_start}}
-use Rattle.c104_node.specs.{Starts.start_node, Traces.{kept_of, noted_all, seatless}, declared.starts.NodeStart.NodeStart}
+use Rattle.c104_node.specs.{Starts.start_node, Traces.{noted_all, seatless}, declared.starts.NodeStart.NodeStart}
 use Rattle.{c104_plan.specs.Plans.IsPlan, c104_run.proofs.{NodeMaps.kinds_plain, RecordSteps.ticket_left, RecordedRuns.record_kept}}
 use Rattle.c104_run.proofs.{RecordedRuns.record_plan, RoundJoins.apply_plan, RoundRuns.{Applied, undone_left}, RunRecords.record_on}
 use Rattle.c104_run.{proofs.{RunRecords.seatless_order, StepMaps.apply_map, UndoneEvents.undone_deeds}, specs.Balance.AreInPlace}
 use Rattle.c104_run.specs.{EventDeeds.event_deeds, NetRecords.{IsNetRecord, NetRecord, is_done, ticket_after}, Network.Network}
 use Rattle.c104_run.specs.{Network.{network_apply, network_of}, RecordedNets.KeepsTokens, RecordedRuns.{record_apply, record_at}}
-use Rattle.c104_run.specs.{Runs.IsRunRecord, Stages.{Stage, stage_after, stage_apply, stage_full, unless_full}, TracedRuns.map_network}
+use Rattle.c104_run.specs.{Runs.IsRunRecord, Stages.{Stage, stage_after, stage_apply, stage_full}, TracedRuns.map_network}
 use Rattle.{c104_switch.specs.Actions.{Reply, is_ready}, c104_token.specs.Kinds.{Kind, plain_kind}}
 use Rattle.{c104_token.specs.declared.tokens.Token.{TheVariants.Byte, Token}, std.proofs.Common.{Bool, Err, List, Ok, Result, Some, [], ap}}
-use Rattle.std.proofs.Common.{false, if◌then◌else◌, inl, map, refl, subst, sym, true, ◌&&◌, ◌++◌, ◌+◌, ◌∙◌, ◌∷◌, ◌≡◌}
+use Rattle.std.proofs.Common.{arith, false, if◌then◌else◌, inl, map, refl, subst, sym, true, ◌&&◌, ◌++◌, ◌+◌, ◌∙◌, ◌∷◌, ◌≡◌}
 
 module _ {A : Type 0} (kind : Kind A) where
   -- the network over plain tokens
@@ -44,16 +44,7 @@ module _ {A : Type 0} (kind : Kind A) (tokens : KeepsTokens kind) where
 
     -- the same events are answered alike, with their entries
     pub stage_plain : ◌≡◌ {A = Applied (Stage Token)} ((stage_apply kind true s e).0, plain_stage kind (stage_apply kind true s e).1) (stage_apply plain_kind true (plain_stage kind s) e)
-    stage_plain =
-        by_full (full && is_done due.0)
-        ∙ ap (λ (d : Applied (Network Token)). stage_after true (plain_stage kind s) e (unless_full full (plain_network kind s.network) d))
-        (sym (apply_plain s.network e))
-      where
-        by_full : (refused : Bool) → ◌≡◌ {A = Applied (Stage Token)}
-            ((stage_after true s e (if refused then (Err EventFault.TraceFull, s.network) else due)).0, plain_stage kind (stage_after true s e (if refused then (Err EventFault.TraceFull, s.network) else due)).1)
-            (stage_after true (plain_stage kind s) e (if refused then (Err EventFault.TraceFull, plain_network kind s.network) else seen due))
-        by_full true = refl
-        by_full false = refl
+    stage_plain = search (arith, apply_plain)
 
   -- over plain tokens it is the record after the event
   pub record_plain : (starts : List NodeStart) (s : Stage A) (e : Event) → ◌≡◌ {A = Applied NetRecord} ((stage_apply kind true s e).0, record_at starts (plain_stage kind (stage_apply kind true s e).1)) (record_apply (record_at starts (plain_stage kind s)) e)
@@ -85,14 +76,7 @@ module _ {A : Type 0} (kind : Kind A) (tokens : KeepsTokens kind) where
     left d = (stage_after true s e d).1
 
     told_on : (d : Applied (Network A)) → d ≡ network_apply kind s.network e → (done : Bool) → is_done d.0 ≡ done → Told (left d)
-    told_on d is_due false undone =
-        let net : d.1 ≡ s.network = ap (λ (x : Applied (Network A)). x.1) is_due ∙ undone_left kind s.network e (ap (λ (x : Applied (Network A)). is_done x.0) (sym is_due) ∙ undone) in
-        let none = undone_deeds s.network.plan (seatless s.count) e d.0 undone in
-        let same : left d ≡ s =
-        ap (λ (n : Network A). record { network = n; bases = s.bases; traces = noted_all true s.traces (kept_of (event_deeds s.network.plan (seatless s.count) e) d.0); count = ticket_after s.count (is_done d.0) }) net
-        ∙ ap (λ ds. record { network = s.network; bases = s.bases; traces = noted_all true s.traces ds; count = ticket_after s.count (is_done d.0) }) none
-        ∙ ap (λ b. record { network = s.network; bases = s.bases; traces = s.traces; count = ticket_after s.count b }) undone in
-        subst Told (sym same) (is.events, is.told)
+    told_on d is_due false undone = search (arith, undone_left, undone_deeds)
     told_on d is_due true done = by_answer d.0 d.1 is_due done
       where
         by_answer : (answer : Result Reply EventFault) (net : Network A) → ◌≡◌ {A = Applied (Network A)} (answer, net) (network_apply kind s.network e) → is_done answer ≡ true → Told (left (answer, net))

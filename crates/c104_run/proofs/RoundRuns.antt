@@ -1,17 +1,16 @@
 -- A run that stops at the first fault, by a prefix of its events, and what it keeps; and what leaves a
 -- network as it was.
 use Rattle.{c104_event.specs.declared.{events.Event.Event, faults.EventFault.EventFault}, c104_link.proofs.MadeSteps.given}
-use Rattle.{c104_node.specs.Acts.plain_reply, c104_run.{proofs.ActSteps.step_ready, specs.EventActs.{acts_step, event_acts}}}
-use Rattle.c104_run.specs.{EventRuns.{Answers, EventsEnd, Outcome, run_events, unless_fault}, NetRecords.is_done, Network.AnswersEvent}
-use Rattle.c104_run.specs.Network.{AnswersWith, Network, event_fault, event_limit, network_apply, network_step, outcome_if_possible}
-use Rattle.{c104_run.specs.Network.{outcome_if_ready, outcome_within_limit, with_nodes}, c104_switch.specs.Actions.{Reply, is_ready}}
-use Rattle.{c104_switch.specs.declared.actions.ReplyOf.ReplyOf, c104_token.specs.Kinds.Kind, std.proofs.Common.{Bool, Err, List, None, Ok}}
-use Rattle.std.proofs.Common.{Option, Result, Some, [], ap, false, inl, inr, refl, subst, sym, true, ◌++◌, ◌∙◌, ◌∷◌, ◌≡◌}
+use Rattle.{c104_node.specs.Acts.plain_reply, c104_run.{proofs.ActSteps.step_ready, specs.EventRuns.{Answers, EventsEnd, Outcome}}}
+use Rattle.c104_run.specs.{EventRuns.{run_events, unless_fault}, NetRecords.is_done, Network.{AnswersEvent, AnswersWith, Network}}
+use Rattle.c104_run.specs.Network.{event_fault, network_apply, network_step, outcome_if_possible, outcome_if_ready, outcome_within_limit}
+use Rattle.{c104_switch.specs.{Actions.{Reply, is_ready}, declared.actions.ReplyOf.ReplyOf}, c104_token.specs.Kinds.Kind}
+use Rattle.std.proofs.Common.{Bool, Err, List, Ok, Option, Result, Some, [], ap, arith, false, inl, inr, refl, subst, sym, true, ◌++◌, ◌∙◌}
+use Rattle.std.proofs.Common.{◌∷◌, ◌≡◌}
 
 -- what isn't NotReady is done
 pub is_told : (r : Reply) → (r ≡ ReplyOf.NotReady → ⊥) → is_ready r ≡ true
-is_told ReplyOf.NotReady other = absurd (other refl)
-is_told r other = refl
+is_told r other = search arith
 
 -- what one event comes to
 abbrev pub Applied : Type 0 → Type 0
@@ -22,8 +21,7 @@ module _ {S : Type 0} (apply : S → Event → Applied S) where
   unless_later : (events more : List Event) → ((s : S) → run_events apply s (events ++ more) ≡ unless_fault (run_events apply s events).0 (run_events apply s events).1 (λ next. run_events apply next more)) →
       (answer : Result Reply EventFault) (s : S) →
       unless_fault answer s (λ next. run_events apply next (events ++ more)) ≡ unless_fault (unless_fault answer s (λ next. run_events apply next events)).0 (unless_fault answer s (λ next. run_events apply next events)).1 (λ next. run_events apply next more)
-  unless_later events more later (Ok r) s = later s
-  unless_later events more later (Err f) s = refl
+  unless_later events more later answer s = search arith
 
   pub run_append : (events more : List Event) (s : S) → run_events apply s (events ++ more) ≡ unless_fault (run_events apply s events).0 (run_events apply s events).1 (λ next. run_events apply next more)
   run_append [] more s = refl
@@ -92,19 +90,7 @@ module _ {S R : Type 0} (apply : S → Event → Applied S) (apply_seen : R → 
       by_answer more (Err f) next = refl
 
   pub ends_seen : (s after : S) (events : List Event) (result : Result (Unit {0}) EventFault) → EventsEnd apply s events result after → EventsEnd apply_seen (seen s) events result (seen after)
-  ends_seen s after events result ends =
-      elim ends [
-        | inl due ↦ inl (ap (λ (r : Outcome S). (r.0, seen r.1)) due ∙ run_seen events s)
-        | inr short ↦ inr (record {
-          refused = short.refused;
-          front = short.front;
-          event = short.event;
-          rest = short.rest;
-          parts = short.parts;
-          stands = sym (run_seen short.front s) ∙ ap (λ (r : Outcome S). (r.0, seen r.1)) short.stands;
-          wanted = ap (λ (r : Applied R). is_done r.0) (sym (follows after short.event)) ∙ short.wanted;
-        })
-      ]
+  ends_seen s after events result ends = search (arith, run_seen)
 
 module _ {A : Type 0} (kind : Kind A) where
   -- a step that is ready replies something else than that it isn't
@@ -113,34 +99,27 @@ module _ {A : Type 0} (kind : Kind A) where
 
   -- what is told of a reply that is one
   plain_replies : (r : ReplyOf A) → is_ready r ≡ true → plain_reply kind r ≡ ReplyOf.NotReady → ⊥
-  plain_replies ReplyOf.Done ready unready = cc
-  plain_replies r ready unready = cc
+  plain_replies r ready unready = search arith
 
   pub step_replies : (net : Network A) (e : Event) → Replies (network_step kind net e)
-  step_replies net e r is unready = given (event_acts net.plan e) _ r is (λ acts known more. given (acts_step kind net.plan net.nodes acts) _ r more (λ made stepped last.
-      (let told : plain_reply kind made.0 ≡ r.0 = (let both : ◌≡◌ {A = Reply × Network A} (plain_reply kind made.0, with_nodes net made.1) r = cc in ap (λ (s : Reply × Network A). s.0) both) in
-      plain_replies made.0 (step_ready kind net.plan net.nodes acts made stepped) (told ∙ unready))))
+  step_replies net e r is unready = search (arith, given, plain_replies, step_ready)
 
   -- an event that isn't done leaves the network as it was
   module _ (net : Network A) (e : Event) where
     limit_leaves : (limit : Option EventFault) (r : Reply × Network A) → network_step kind net e ≡ Some r → is_done (outcome_within_limit kind net limit r).0 ≡ false → (outcome_within_limit kind net limit r).1 ≡ net
-    limit_leaves None r made undone = let told : is_ready r.0 ≡ true = is_told r.0 (step_replies net e r made) in let no : true ≡ false = sym told ∙ undone in cc
-    limit_leaves (Some f) r made undone = refl
+    limit_leaves limit r made undone = search (arith, is_told, step_replies)
 
     ready_leaves : (made : Option (Reply × Network A)) → network_step kind net e ≡ made → is_done (outcome_if_ready kind net e made).0 ≡ false → (outcome_if_ready kind net e made).1 ≡ net
-    ready_leaves None at undone = refl
-    ready_leaves (Some r) at undone = limit_leaves (event_limit net e) r at undone
+    ready_leaves made at undone = search (arith, limit_leaves)
 
     there_leaves : (fault : Option EventFault) → is_done (outcome_if_possible kind net e fault).0 ≡ false → (outcome_if_possible kind net e fault).1 ≡ net
-    there_leaves None undone = ready_leaves (network_step kind net e) refl undone
-    there_leaves (Some f) undone = refl
+    there_leaves fault undone = search (arith, ready_leaves)
 
     pub undone_left : is_done (network_apply kind net e).0 ≡ false → (network_apply kind net e).1 ≡ net
     undone_left undone = there_leaves (event_fault net.plan e) undone
 
     pub undone_stays : (after : Network A) (full : Bool) (answer : Result Reply EventFault) → is_done answer ≡ false → AnswersWith kind full net e answer after → after ≡ net
-    undone_stays after full answer undone (inl due) = ap (λ (t : Applied (Network A)). t.1) due ∙ undone_left (ap (λ (t : Applied (Network A)). is_done t.0) (sym due) ∙ undone)
-    undone_stays after full answer undone (inr refused) = refused.2
+    undone_stays after full answer undone h2 = search (arith, undone_left)
 
   pub undone_leaves : (mid after : Network A) (e : Event) (r : Reply) → is_ready r ≡ false → AnswersEvent kind mid e (Ok r) after → after ≡ mid
   undone_leaves mid after e r undone answer = undone_stays mid e after false (Ok r) undone answer

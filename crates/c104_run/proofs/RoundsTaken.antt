@@ -20,12 +20,7 @@ module _ {S : Type 0} (apply : S → Event → Applied S) where
 
   -- one more round
   pub round_taken : (net mid after : S) (plan : Plan) (events : List Event) (i : ℕ) → events ≡ round plan → run_events apply net (rounds plan i) ≡ (Ok tt, mid) → EventsEnd apply mid events (Ok tt) after → run_events apply net (rounds plan (i + 1)) ≡ (Ok tt, after)
-  round_taken net mid after plan events i are front ends =
-      let one_more : rounds plan (i + 1) ≡ rounds plan i ++ round plan = rounds_parts plan i 1 ∙ ap (λ es. rounds plan i ++ es) (append-nil (round plan)) in
-      elim (of_round mid after plan events (Ok tt) are ends) [
-        | inl due ↦ ap (run_events apply net) one_more ∙ run_from apply net mid (rounds plan i) (round plan) front ∙ sym due
-        | inr short ↦ absurd (cc short.refused)
-      ]
+  round_taken net mid after plan events i are front ends = search (arith, rounds_parts, append-nil, of_round, run_from)
 
   -- a round that ends with a fault, or short
   pub round_refused : (net mid after : S) (plan : Plan) (events : List Event) (i n : ℕ) (f : EventFault) → events ≡ round plan → i < n → run_events apply net (rounds plan i) ≡ (Ok tt, mid) → EventsEnd apply mid events (Err f) after → EventsEnd apply net (rounds plan n) (Err f) after

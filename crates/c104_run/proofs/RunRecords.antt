@@ -5,10 +5,9 @@ use Rattle.c104_node.specs.declared.{acts.Entry.Entry, node.NodeOf.TheVariants.{
 use Rattle.{c104_plan.specs.Plans.Plan, c104_run.specs.{Balance.AreInPlace, EventDeeds.event_deeds, EventPlaces.event_place}}
 use Rattle.c104_run.specs.{Network.{AnswersWith, Network, network_apply, network_of}, Runs.{AreBehind, AreInOrder, IsDoneRun, IsRunRecord}}
 use Rattle.{c104_run.specs.Runs.{at_node, run_deeds}, c104_switch.specs.Actions.{Reply, is_ready}, c104_token.specs.Kinds.Kind}
-use Rattle.std.proofs.Common.{Bool, List, None, Ok, Option, Result, Some, [], ap, append-nil, append_assoc, arith, false, if◌then◌else◌}
-use Rattle.std.proofs.Common.{inl, inr, length, length-append, map, nat_eq, nat_lt, refl, replicate, slice_get, subst, suc, sym, true, zero}
-use Rattle.std.proofs.{Common.{ℕ, ◌++◌, ◌+◌, ◌<◌, ◌∙◌, ◌∷◌, ◌≡◌}, lemmas.{Bool.Decides.nat_tests, List.{length-map, length-replicate}}}
-use Rattle.std.specs.Option.{option_map}
+use Rattle.std.proofs.Common.{Bool, List, None, Ok, Option, Result, Some, [], ap, append-nil, append_assoc, arith, false, inl, length}
+use Rattle.std.proofs.Common.{length-append, map, nat_lt, refl, replicate, slice_get, subst, suc, sym, true, zero, ℕ, ◌++◌, ◌+◌, ◌<◌, ◌∙◌}
+use Rattle.std.{proofs.{Common.{◌∷◌, ◌≡◌}, lemmas.{Bool.Decides.nat_tests, List.{length-map, length-replicate}}}, specs.Option.option_map}
 
 -- whether there is a switch at a place
 abbrev is_switch_at : {A : Type 0} → List (Node A) → ℕ → Bool
@@ -29,44 +28,22 @@ by_counts a b nodes are k = cc
 
 -- and how many nodes there are
 pub counted : {A : Type 0} (a b : ℕ) (nodes : List (Node A)) → map is_switch nodes ≡ replicate a true ++ replicate b false → length nodes ≡ a + b
-counted a b nodes are =
-    sym (length-map nodes is_switch) ∙ ap (length {A = Bool}) are ∙ length-append (replicate a true) (replicate b false)
-    ∙ (let one = length-replicate a true in let two = length-replicate b false in omega (arith, one, two))
+counted a b nodes are = search (arith, length-map, length-append, replicate, length-replicate)
 
 pub in_place : {A : Type 0} (plan : Plan) (nodes : List (Node A)) → AreInPlace plan nodes → (k : ℕ) → is_switch_at nodes k ≡ is_switch_place plan k
 in_place plan nodes are k = by_counts (length plan.switches) (length plan.terminals) nodes are k
 
 -- an entry that joins a trace is seen at its place alone
 noted_one : (traces : List (List Entry)) (j k : ℕ) (e : Entry) → slice_get (noted_at true traces j e) k ≡ option_map (λ t. t ++ at_node k ((j, e) ∷ [])) (slice_get traces k)
-noted_one traces j k e = by_trace (slice_get traces j) refl (nat_eq j k) refl
-  where
-    kept : (o : Option (List Entry)) → option_map (λ t. t ++ []) o ≡ o
-    kept None = refl
-    kept (Some t) = ap Some (append-nil t)
-
-    by_trace : (o : Option (List Entry)) → slice_get traces j ≡ o → (b : Bool) → nat_eq j k ≡ b → slice_get (noted_at true traces j e) k ≡ option_map (λ t. t ++ (if b then e ∷ [] else [])) (slice_get traces k)
-    by_trace None there true at = let same : j ≡ k = grind (arith, nat_tests) in rw (sym same) (rw there (rw there refl))
-    by_trace None there false at = rw there (sym (kept (slice_get traces k)))
-    by_trace (Some t) there true at = let same : j ≡ k = grind (arith, nat_tests) in rw (sym same) (rw there (get_set_same traces j t (t ++ e ∷ []) there))
-    by_trace (Some t) there false at =
-        let differs : (j ≡ k → ⊥) = λ same. (let no : ⊥ = grind (arith, nat_tests) in no) in
-        rw there (get_set_other traces j k (t ++ e ∷ []) differs ∙ sym (kept (slice_get traces k)))
+noted_one traces j k e = search (arith, append-nil, nat_tests, get_set_same, get_set_other)
 
 at_append : (k : ℕ) (ds es : List Deed) → at_node k (ds ++ es) ≡ at_node k ds ++ at_node k es
 at_append k [] es = refl
-at_append k (d ∷ ds) es = by_place (at_append k ds es) (nat_eq d.0 k)
-  where
-    by_place : at_node k (ds ++ es) ≡ at_node k ds ++ at_node k es → (b : Bool) → (if b then d.1 ∷ at_node k (ds ++ es) else at_node k (ds ++ es)) ≡ (if b then d.1 ∷ at_node k ds else at_node k ds) ++ at_node k es
-    by_place rest true = ap (λ ts. d.1 ∷ ts) rest
-    by_place rest false = rest
+at_append k (d ∷ ds) es = search (arith, at_append k ds es)
 
 -- entries that join traces are seen as the part of each place
 noted_parts : (ds : List Deed) (traces : List (List Entry)) (k : ℕ) → slice_get (noted_all true traces ds) k ≡ option_map (λ t. t ++ at_node k ds) (slice_get traces k)
-noted_parts [] traces k = by_trace (slice_get traces k)
-  where
-    by_trace : (o : Option (List Entry)) → o ≡ option_map (λ t. t ++ []) o
-    by_trace None = refl
-    by_trace (Some t) = ap Some (sym (append-nil t))
+noted_parts [] traces k = search (arith, append-nil)
 noted_parts (d ∷ ds) traces k = noted_parts ds (noted_at true traces d.0 d.1) k ∙ ap (option_map (λ t. t ++ at_node k ds)) (noted_one traces d.0 k d.1) ∙ joined (slice_get traces k)
   where
     joined : (o : Option (List Entry)) → option_map (λ t. t ++ at_node k ds) (option_map (λ t. t ++ at_node k (d ∷ [])) o) ≡ option_map (λ t. t ++ at_node k (d ∷ ds)) o
@@ -102,18 +79,4 @@ module _ {A : Type 0} (kind : Kind A) where
       AreInOrder plan stamps 0 (events ++ (e, r) ∷ []) →
       IsRunRecord kind plan stamps start after more (count + 1) (events ++ (e, r) ∷ [])
   record_on plan stamps start nodes after traces more count events full e r are before answer ready noted ordered =
-      let due : ◌≡◌ {A = Result Reply EventFault × Network A} (Ok r, network_of plan after) (network_apply kind (network_of plan nodes) e) = elim answer [ inl is ↦ is | inr refused ↦ absurd (cc refused.0) ] in
-      let new : List Deed = event_deeds plan (stamps count) e r in
-      let all : run_deeds plan stamps 0 (events ++ (e, r) ∷ []) ≡ run_deeds plan stamps 0 events ++ new = deeds_append plan stamps 0 events e r ∙ ap (λ t. run_deeds plan stamps 0 events ++ event_deeds plan (stamps t) e r) (let same : 0 + length events ≡ count = omega (arith, before.counted) in same) in
-      record {
-        run = done_append (network_of plan start) (network_of plan nodes) (network_of plan after) events e r before.run due ready;
-        told = λ k.
-            ap (λ ts. slice_get ts k) noted ∙ noted_parts new traces k ∙ ap (option_map (λ t. t ++ at_node k new)) (before.told k)
-            ∙ grown k (run_deeds plan stamps 0 events) new (run_deeds plan stamps 0 (events ++ (e, r) ∷ [])) all (slice_get start k);
-        counted = let one : length (events ++ (e, r) ∷ []) ≡ length events + 1 = length-append events ((e, r) ∷ []) in omega (arith, one, before.counted);
-        ordered = ordered;
-      }
-    where
-      grown : (k : ℕ) (ds new all : List Deed) → all ≡ ds ++ new → (o : Option (Node A)) → option_map (λ t. t ++ at_node k new) (option_map (λ n. at_node k ds) o) ≡ option_map (λ n. at_node k all) o
-      grown k ds new all is None = refl
-      grown k ds new all is (Some n) = ap Some (sym (ap (at_node k) is ∙ at_append k ds new))
+      search (arith, deeds_append, done_append, noted_parts, counted, length-append, at_append)

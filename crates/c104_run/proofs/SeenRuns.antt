@@ -1,7 +1,7 @@
 -- A run as it is seen, where each event is seen so in every state of which something is kept.
 use Rattle.{c104_event.specs.declared.{events.Event.Event, faults.EventFault.EventFault}, c104_run.proofs.RoundRuns.{Applied, ends_keep}}
 use Rattle.c104_run.{proofs.RoundRuns.run_seen, specs.{EventRuns.{Answers, EventsEnd, Outcome, run_events}, NetRecords.is_done}}
-use Rattle.{c104_run.specs.RoundParts.PartEnds, c104_switch.specs.Actions.Reply, std.proofs.Common.{Bool, Err, List, Ok, Result, ap, inl}}
+use Rattle.{c104_run.specs.RoundParts.PartEnds, c104_switch.specs.Actions.Reply, std.proofs.Common.{Bool, List, Result, ap, arith, inl}}
 use Rattle.std.proofs.Common.{inr, refl, sym, ◌∙◌, ◌≡◌}
 
 module _ {S R : Type 0} (apply : S → Event → Applied S) (apply_seen : R → Event → Applied R) (seen : S → R) (Kept : S → Type 0) (keeps : (s : S) (e : Event) → Kept s → Kept (apply s e).1)
@@ -20,8 +20,7 @@ module _ {S R : Type 0} (apply : S → Event → Applied S) (apply_seen : R → 
 
   module _ (s after : S) (holds : Kept s) where
     pub answers_while : (e : Event) (answer : Result Reply EventFault) → Answers apply s e answer after → Answers apply_seen (seen s) e answer (seen after)
-    answers_while e answer (inl due) = inl (ap (λ (d : Applied S). (d.0, seen d.1)) due ∙ follows s e holds)
-    answers_while e answer (inr refused) = inr (refused.0, ap (λ (d : Applied R). is_done d.0) (sym (follows s e holds)) ∙ refused.1, ap seen refused.2)
+    answers_while e answer h1 = search arith
 
     module _ (events : List Event) where
       ends_while : (result : Result (Unit {0}) EventFault) → EventsEnd apply s events result after → EventsEnd apply_seen (seen s) events result (seen after)
@@ -37,7 +36,4 @@ module _ {S R : Type 0} (apply : S → Event → Applied S) (apply_seen : R → 
       })
 
       pub part_while : (result : Result Bool EventFault) → PartEnds apply s events result after → PartEnds apply_seen (seen s) events result (seen after)
-      part_while (Ok changed) part = record {
-        ends = (sym (run_while events s holds) ∙ ap (λ (r : Outcome S). (r.0, seen r.1)) part.ends.0, λ none. ap seen (part.ends.1 none));
-      }
-      part_while (Err f) part = record { ends = ends_while (Err f) part.ends }
+      part_while result part = search (arith, run_while, ends_while)

@@ -5,26 +5,19 @@ use Rattle.{c104_node.specs.declared.acts.Entry.Entry, c104_plan.specs.Plans.Pla
 use Rattle.c104_run.{proofs.{RoundRuns.{step_replies, undone_stays}, UndoneEvents.undone_deeds}, specs.EventDeeds.{event_deeds, event_full}}
 use Rattle.c104_run.specs.{EventRuns.Answers, EventsAtPlaces.EventDone, NetRecords.{is_done, ticket_after}, Network.{AnswersWith, Network}}
 use Rattle.c104_run.specs.Network.{WouldBeDone, network_apply, network_step, outcome_if_possible, outcome_if_ready, outcome_within_limit}
-use Rattle.{c104_run.specs.Stages.{Stage, stage_after, stage_apply, stage_full, stage_of, unless_full}, c104_switch.specs.Actions.Reply}
-use Rattle.{c104_switch.specs.{Actions.is_ready, declared.actions.ReplyOf.ReplyOf}, c104_token.specs.Kinds.Kind, std.proofs.Common.Bool}
-use Rattle.std.proofs.Common.{Err, IfOk, List, None, Ok, Option, Result, Some, [], ap, false, if◌then◌else◌, inl, inr, is_some, map, refl}
-use Rattle.std.proofs.Common.{sym, true, ℕ, ◌&&◌, ◌∙◌, ◌∷◌, ◌≡◌}
+use Rattle.{c104_run.specs.Stages.{Stage, stage_apply, stage_full, stage_of, unless_full}, c104_switch.specs.Actions.{Reply, is_ready}}
+use Rattle.{c104_switch.specs.declared.actions.ReplyOf.ReplyOf, c104_token.specs.Kinds.Kind, std.proofs.Common.{Bool, Err, IfOk, List}}
+use Rattle.std.proofs.Common.{None, Ok, Option, Result, Some, [], ap, arith, false, if◌then◌else◌, inl, inr, is_some, map, refl, sym, true}
+use Rattle.std.proofs.Common.{ℕ, ◌&&◌, ◌∙◌, ◌∷◌, ◌≡◌}
 
 -- where each place is full where its trace is, that of all is told by their traces
 pub fulls_kept : {A P : Type 0} (keeps : Bool) (shown : P → Shown A) → ((p : P) → IsFullByTrace keeps (shown p)) → (places : List P) → fulls (map shown places) ≡ map (is_kept_full keeps) (traces (map shown places))
 fulls_kept keeps shown limited [] = refl
-fulls_kept keeps shown limited (p ∷ places) =
-    ap (λ b. b ∷ fulls (map shown places)) (limited p) ∙ ap (λ bs. is_kept_full keeps (shown p).trace ∷ bs) (fulls_kept keeps shown limited places)
+fulls_kept keeps shown limited (p ∷ places) = search (arith, fulls_kept keeps shown limited places)
 
 -- an event that is done adds to no full trace
 not_full : (full : Bool) (answer : Result Reply EventFault) → IfOk answer (λ r. is_ready r ≡ true → full ≡ false) → (full && is_done answer) ≡ false
-not_full false answer free = refl
-not_full true (Ok r) free = by_ready (is_ready r) free
-  where
-    by_ready : (ready : Bool) → (ready ≡ true → true ≡ false) → ready ≡ false
-    by_ready true free = free refl
-    by_ready false free = refl
-not_full true (Err f) free = refl
+not_full full answer free = search arith
 
 -- an event that would be done is done
 pub would : {A : Type 0} (kind : Kind A) (net : Network A) (e : Event) → WouldBeDone kind net e → is_done (network_apply kind net e).0 ≡ true
@@ -42,9 +35,7 @@ module _ {A : Type 0} where
 
   -- stages that show the same are the same
   pub same_stage : (s t : Stage A) → s.network ≡ t.network → s.bases ≡ t.bases → s.traces ≡ t.traces → s.count ≡ t.count → s ≡ t
-  same_stage s t network bases traces count =
-      ap (λ x. stage_with x s.bases s.traces s.count) network ∙ ap (λ x. stage_with t.network x s.traces s.count) bases
-      ∙ ap (λ x. stage_with t.network t.bases x s.count) traces ∙ ap (λ x. stage_with t.network t.bases t.traces x) count
+  same_stage s t network bases traces count = search arith
 
 module _ {A : Type 0} (kind : Kind A) (keeps : Bool) (s after : Stage A) (full : Bool) (e : Event) where
   -- what is kept of an event of this answer
@@ -56,14 +47,11 @@ module _ {A : Type 0} (kind : Kind A) (keeps : Bool) (s after : Stage A) (full :
 
   -- what is due in the network is due in the stage
   due_stage : (answer : Result Reply EventFault) → Keeps answer → ◌≡◌ {A = Applied (Network A)} (answer, after.network) (unless_full (stage_full keeps s e) s.network (network_apply kind s.network e)) → ◌≡◌ {A = Applied (Stage A)} (answer, after) (stage_apply kind keeps s e)
-  due_stage answer kept due =
-      ap (λ (t : Stage A). (answer, t)) (same_stage after (stage_after keeps s e (answer, after.network)).1 refl kept.0 kept.1 kept.2)
-      ∙ ap (stage_after keeps s e) due
+  due_stage answer kept due = search (arith, same_stage)
 
   -- of an event that isn't done nothing is kept
   undone_same : (answer : Result Reply EventFault) → Keeps answer → is_done answer ≡ false → after.network ≡ s.network → after ≡ s
-  undone_same answer kept undone network =
-      same_stage after s network kept.0 (kept.1 ∙ ap (noted_all keeps s.traces) (undone_deeds s.network.plan (seatless s.count) e answer undone)) (kept.2 ∙ ap (ticket_after s.count) undone)
+  undone_same answer kept undone network = search (arith, same_stage, undone_deeds)
 
   module _ (told : full ≡ stage_full keeps s e) where
     abbrev due : Applied (Network A)
@@ -77,14 +65,7 @@ module _ {A : Type 0} (kind : Kind A) (keeps : Bool) (s after : Stage A) (full :
     is_refused is done = ap (λ b. unless_full b s.network due) (sym told ∙ is) ∙ ap (λ b. if b then (Err EventFault.TraceFull, s.network) else due) done
 
     refused_stage : (f : Bool) → full ≡ f → (answer : Result Reply EventFault) → Keeps answer → answer ≡ Err (room_fault f) → WouldBeDone kind s.network e → after.network ≡ s.network → Answers (stage_apply kind keeps) s e answer after
-    refused_stage true is answer kept refused wanted same =
-        inl (due_stage answer kept (ap (λ (a : Result Reply EventFault). (a, after.network)) refused ∙ ap (λ (n : Network A). (Err EventFault.TraceFull, n)) same ∙ sym (is_refused is (would kind s.network e wanted))))
-    refused_stage false is answer kept refused wanted same =
-        inr (
-          refused,
-          ap (λ (d : Applied (Network A)). is_done d.0) (is_open (ap (λ b. b && is_done due.0) is)) ∙ would kind s.network e wanted,
-          undone_same answer kept (ap is_done refused) same,
-        )
+    refused_stage f is answer kept refused wanted same = search (arith, due_stage, is_refused, would, is_open, undone_same)
 
     stage_answers : (answer : Result Reply EventFault) → Keeps answer → AnswersWith kind full s.network e answer after.network → IfOk answer (λ r. is_ready r ≡ true → full ≡ false) → Answers (stage_apply kind keeps) s e answer after
     stage_answers answer kept (inl is) free = inl (due_stage answer kept (is ∙ sym (is_open (ap (λ (d : Applied (Network A)). full && is_done d.0) (sym is) ∙ not_full full answer free))))
@@ -112,6 +93,4 @@ module _ {A : Type 0} (kind : Kind A) (keeps : Bool) (plan : Plan) (olds news : 
 module _ {A : Type 0} (kind : Kind A) where
   -- an event that isn't ready
   pub unready_stage : (keeps : Bool) (s : Stage A) (e : Event) → network_apply kind s.network e ≡ (Ok ReplyOf.NotReady, s.network) → Answers (stage_apply kind keeps) s e (Ok ReplyOf.NotReady) s
-  unready_stage keeps s e unready =
-      stage_answers kind keeps s s (stage_full keeps s e) e refl (Ok ReplyOf.NotReady)
-      (refl, sym (ap (noted_all keeps s.traces) (undone_deeds s.network.plan (seatless s.count) e (Ok ReplyOf.NotReady) refl)), refl) (inl (sym unready)) (λ ready. absurd (cc ready))
+  unready_stage keeps s e unready = search (arith, stage_answers, undone_deeds)

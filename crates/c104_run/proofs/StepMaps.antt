@@ -1,16 +1,15 @@
 -- Events over one kind of token and over another: what is told of tokens beside themselves can be taken away.
 use Rattle.{c104_event.specs.declared.{events.Event.Event, faults.EventFault.EventFault}, c104_link.specs.Steps.◌>>=◌}
 use Rattle.c104_node.specs.{Acts.{control_by, done_by, node_act, nodes_act, plain_reply, token_by}, MappedNodes.map_node, Nodes.Node}
-use Rattle.c104_node.specs.{Nodes.{arrived_tokens, node_control, node_send, waiting_tokens}, PortActs.{Acts, act_limit, acts_limit}}
-use Rattle.c104_node.specs.{PortActs.{far_act, near_act}, Terminals.{Terminal, sent_from, sent_tokens}, declared.acts.ActOf.ActOf}
-use Rattle.c104_node.specs.declared.{crossings.Crossing.{Crossing, TheVariants.{Grant, Token}}, node.NodeOf.NodeOf}
-use Rattle.{c104_plan.specs.{Plans.Plan, Wiring.peer, declared.ports.Port.Port}, c104_run.proofs.SwitchMaps.control_node_map}
-use Rattle.c104_run.proofs.TokenMaps.{bind_both, credit_in_node_map, credit_out_node_map, drain_node_map, enter_node_map, leave_node_map}
+use Rattle.c104_node.specs.{Nodes.{arrived_tokens, node_control, node_send, waiting_tokens}, PortActs.{Acts, act_limit, far_act, near_act}}
+use Rattle.c104_node.specs.{Terminals.{Terminal, sent_from}, declared.{acts.ActOf.ActOf, crossings.Crossing.Crossing, node.NodeOf.NodeOf}}
+use Rattle.{c104_plan.specs.{Plans.Plan, declared.ports.Port.Port}, c104_run.proofs.{SwitchMaps.control_node_map, TokenMaps.bind_both}}
+use Rattle.c104_run.proofs.TokenMaps.{credit_in_node_map, credit_out_node_map, drain_node_map, enter_node_map, leave_node_map}
 use Rattle.c104_run.{proofs.TurnMaps.{claim_node_map, input_node_map}, specs.EventActs.{acts_step, crossing_acts, event_acts, port_place}}
 use Rattle.c104_run.specs.Network.{Network, event_fault, event_limit, network_apply, network_step, outcome_if_possible, outcome_if_ready}
 use Rattle.c104_run.specs.{Network.{outcome_within_limit, terminal_place, told_step, with_nodes}, Runs.IsDoneRun, TracedRuns.map_network}
 use Rattle.{c104_switch.specs.{Actions.Reply, declared.actions.{ActionOf.ActionOf, ReplyOf.ReplyOf}}, c104_token.specs.Kinds.Kind}
-use Rattle.c104_token.specs.{Packets.packet_tokens, declared.{packets.Packet.Packet, tokens.Token.{TheVariants.Byte, Token as PlainToken}}}
+use Rattle.c104_token.specs.declared.{packets.Packet.Packet, tokens.Token.{TheVariants.Byte, Token as PlainToken}}
 use Rattle.std.proofs.Common.{IfSome, List, None, Ok, Option, Result, Some, [], ap, arith, length, map, option_map, refl, slice_get}
 use Rattle.std.proofs.{Common.{slice_set, subst, suc, sym, ℕ, ◌-◌, ◌∙◌, ◌∷◌, ◌≡◌}, lemmas.List.{length-map, map-append, map-set}}
 use Rattle.std.proofs.lemmas.Option.{slice_get-map}
@@ -26,8 +25,7 @@ module _ {A B : Type 0} (f : A → B) (from : Kind A) (to : Kind B) (plain_is : 
   IsSentHere t o = (T : Terminal A) → o ≡ Some (NodeOf.Terminal T) → (j : ℕ) (x : PlainToken) → to.sent t (length T.sent) j x ≡ f (from.sent t (length T.sent) j x)
 
   send_map : (t : ℕ) (p : Packet) (n : Node A) → IsSentHere t (Some n) → node_send to t p (map_node f n) ≡ option_map (map_node f) (node_send from t p n)
-  send_map t p (NodeOf.Switch S) alike = refl
-  send_map t p (NodeOf.Terminal T) alike = ap (λ z. Some (NodeOf.Terminal z)) (rw (sent_map t (length T.sent) (alike T refl) 0 (packet_tokens p), ← map-append f T.output.items (sent_tokens from t (length T.sent) p)) refl)
+  send_map t p n alike = search (arith, sent_map, map-append)
 
   abbrev pub map_done : Reply × Network A → Reply × Network B
   map_done r = (r.0, map_network f r.1)
@@ -99,24 +97,16 @@ module _ {A B : Type 0} (f : A → B) (from : Kind A) (to : Kind B) (plain_is : 
   act_map number a n alike = refl
 
   near_map : (crossing : Crossing) (p : Port) → near_act crossing p ≡ map_act (near_act crossing p)
-  near_map Token (Port.Switch s l) = refl
-  near_map Grant (Port.Switch s l) = refl
-  near_map crossing p = refl
+  near_map crossing p = search arith
 
   far_map : (q : Port) (r : ReplyOf A) → far_act q (map_reply r) ≡ map_act (far_act q r)
-  far_map (Port.Switch s l) (ReplyOf.Token x) = refl
-  far_map (Port.Terminal t) (ReplyOf.Token x) = refl
-  far_map q r = refl
+  far_map q r = search arith
 
   near_alike : (crossing : Crossing) (p : Port) (o : Option (Node A)) → IsSentBy 0 o (near_act crossing p)
-  near_alike Token (Port.Switch s l) o = tt
-  near_alike Grant (Port.Switch s l) o = tt
-  near_alike crossing p o = tt
+  near_alike crossing p o = search arith
 
   far_alike : (q : Port) (r : ReplyOf A) (o : Option (Node A)) → IsSentBy 0 o (far_act q r)
-  far_alike (Port.Switch s l) (ReplyOf.Token x) o = tt
-  far_alike (Port.Terminal t) (ReplyOf.Token x) o = tt
-  far_alike q r o = tt
+  far_alike q r o = search arith
 
   abbrev set_at : {C : Type 0} → List (Node C) → ℕ → ReplyOf C × Node C → Option (ReplyOf C × List (Node C))
   set_at nodes k y = Some (y.0, slice_set nodes k y.1)
@@ -125,15 +115,7 @@ module _ {A B : Type 0} (f : A → B) (from : Kind A) (to : Kind B) (plain_is : 
   told_with r nodes = Some (r, nodes)
 
   nodes_map : (nodes : List (Node A)) (k number : ℕ) (a : ActOf A) (b : ActOf B) → b ≡ map_act a → IsSentBy number (slice_get nodes k) a → nodes_act to (map (map_node f) nodes) k number b ≡ option_map map_all (nodes_act from nodes k number a)
-  nodes_map nodes k number a b same alike =
-      ap (λ c. nodes_act to (map (map_node f) nodes) k number c) same
-      ∙ ap (λ (o : Option (Node B)). o >>= (λ x. node_act to number (map_act a) x >>= set_at (map (map_node f) nodes) k)) (slice_get-map (map_node f) nodes k)
-      ∙ by_node (slice_get nodes k) alike
-    where
-      by_node : (o : Option (Node A)) → IsSentBy number o a →
-          (option_map (map_node f) o >>= (λ x. node_act to number (map_act a) x >>= set_at (map (map_node f) nodes) k)) ≡ option_map map_all (o >>= (λ x. node_act from number a x >>= set_at nodes k))
-      by_node None alike = refl
-      by_node (Some n) alike = bind_both map_made map_all (node_act from number a n) _ _ _ (act_map number a n alike) (λ y. ap (told_with (map_reply y.0)) (sym (map-set (map_node f) nodes k y.1)))
+  nodes_map nodes k number a b same alike = search (arith, slice_get-map, bind_both, act_map, map-set)
 
   -- what acts send is the same, mapped
   abbrev AreSentAlike : Plan → List (Node A) → Acts A → Type 0
@@ -149,58 +131,43 @@ module _ {A B : Type 0} (f : A → B) (from : Kind A) (to : Kind B) (plain_is : 
 
   -- the acts of an event
   crossing_map : (crossing : Crossing) (p : Port) (o : Option Port) → crossing_acts crossing p o ≡ option_map map_acts (crossing_acts crossing p o)
-  crossing_map crossing p None = refl
-  crossing_map crossing p (Some q) = refl
+  crossing_map crossing p o = search arith
 
   events_map : (plan : Plan) (e : Event) → event_acts plan e ≡ option_map map_acts (event_acts plan e)
-  events_map plan (event.Cross p) = crossing_map Token p (peer plan p)
-  events_map plan (event.Credit p) = crossing_map Grant p (peer plan p)
-  events_map plan e = refl
+  events_map plan e = search (arith, crossing_map)
 
   plain_map : (r : ReplyOf A) → plain_reply to (map_reply r) ≡ plain_reply from r
-  plain_map (ReplyOf.Token x) = ap ReplyOf.Token (plain_is x)
-  plain_map r = refl
+  plain_map r = search arith
 
   abbrev told_so : Network A → List (Node A) → Reply → Reply × Network B
   told_so net nodes r = (r, map_network f (with_nodes net nodes))
 
   told_map : (net : Network A) (made : Option (ReplyOf A × List (Node A))) → told_step to (map_network f net) (option_map map_all made) ≡ option_map map_done (told_step from net made)
-  told_map net None = refl
-  told_map net (Some r) = ap (λ z. Some (told_so net r.1 z)) (plain_map r.0)
+  told_map net made = search (arith, plain_map)
 
   abbrev step_from : {C : Type 0} → Kind C → Network C → Acts C → Option (Reply × Network C)
   step_from kind net acts = told_step kind net (acts_step kind net.plan net.nodes acts)
 
   waiting_map : (n : Node A) → length (waiting_tokens (map_node f n)) ≡ length (waiting_tokens n)
-  waiting_map (NodeOf.Switch S) = refl
-  waiting_map (NodeOf.Terminal T) = length-map T.output.items f
+  waiting_map n = search (arith, length-map)
 
   arrived_map : (n : Node A) → arrived_tokens (map_node f n) ≡ map f (arrived_tokens n)
-  arrived_map (NodeOf.Switch S) = refl
-  arrived_map (NodeOf.Terminal T) = refl
+  arrived_map n = search arith
 
   act_limit_map : (o : Option (Node A)) (a : ActOf A) → act_limit (option_map (map_node f) o) (map_act a) ≡ act_limit o a
-  act_limit_map (Some n) (ActOf.Send packet) = rw (waiting_map n) refl
-  act_limit_map (Some n) ActOf.Drain = rw (arrived_map n, length-map (arrived_tokens n) f) refl
-  act_limit_map o a = refl
+  act_limit_map o a = search (arith, waiting_map, arrived_map, length-map)
 
   pub limit_map : (net : Network A) (e : Event) → event_limit (map_network f net) e ≡ event_limit net e
-  limit_map net e = ap (λ o. o >>= acts_limit (map (map_node f) net.nodes)) (events_map net.plan e) ∙ by_acts (event_acts net.plan e)
-    where
-      by_acts : (o : Option (Acts A)) → (option_map map_acts o >>= acts_limit (map (map_node f) net.nodes)) ≡ (o >>= acts_limit net.nodes)
-      by_acts (Some (Acts.Alone k a)) = ap (λ m. act_limit m (map_act a)) (slice_get-map (map_node f) net.nodes k) ∙ act_limit_map (slice_get net.nodes k) a
-      by_acts o = refl
+  limit_map net e = search (arith, events_map, slice_get-map, act_limit_map)
 
   abbrev pub map_answer : Result Reply EventFault × Network A → Result Reply EventFault × Network B
   map_answer r = (r.0, map_network f r.1)
 
   within_map : (net : Network A) (o : Option EventFault) (r : Reply × Network A) → ◌≡◌ {A = Result Reply EventFault × Network B} (outcome_within_limit to (map_network f net) o (map_done r)) (map_answer (outcome_within_limit from net o r))
-  within_map net None r = refl
-  within_map net (Some k) r = refl
+  within_map net o r = search arith
 
   ready_map : (net : Network A) (e : Event) (o : Option (Reply × Network A)) → ◌≡◌ {A = Result Reply EventFault × Network B} (outcome_if_ready to (map_network f net) e (option_map map_done o)) (map_answer (outcome_if_ready from net e o))
-  ready_map net e None = refl
-  ready_map net e (Some r) = ap (λ o. outcome_within_limit to (map_network f net) o (map_done r)) (limit_map net e) ∙ within_map net (event_limit net e) r
+  ready_map net e o = search (arith, limit_map, within_map)
 
   -- what an event sends is the same, mapped, from where the terminal stands
   abbrev pub IsSentAlike : Network A → Event → Type 0
@@ -212,16 +179,10 @@ module _ {A B : Type 0} (f : A → B) (from : Kind A) (to : Kind B) (plain_is : 
   IsAlike net o = IfSome o (AreSentAlike net.plan net.nodes)
 
   crossing_alike : (net : Network A) (crossing : Crossing) (p : Port) (o : Option Port) → IsAlike net (crossing_acts crossing p o)
-  crossing_alike net crossing p None = tt
-  crossing_alike net crossing p (Some q) = tt
+  crossing_alike net crossing p o = search arith
 
   acts_alike : (net : Network A) (e : Event) → IsSentAlike net e → IsAlike net (event_acts net.plan e)
-  acts_alike net (event.Cross p) alike = crossing_alike net Token p (peer net.plan p)
-  acts_alike net (event.Credit p) alike = crossing_alike net Grant p (peer net.plan p)
-  acts_alike net (event.Send t p) alike =
-      let number : t ≡ terminal_place net.plan t - length net.plan.switches = omega arith in
-      subst (λ k. IsSentHere k (slice_get net.nodes (terminal_place net.plan t))) number alike
-  acts_alike net e alike = tt
+  acts_alike net e alike = search (arith, crossing_alike)
 
   -- a step of the one is a step of the other, with the same reply, where what it sends is the same
   step_alike : (net : Network A) (e : Event) → IsSentAlike net e → network_step to (map_network f net) e ≡ option_map map_done (network_step from net e)
@@ -232,8 +193,7 @@ module _ {A B : Type 0} (f : A → B) (from : Kind A) (to : Kind B) (plain_is : 
       by_acts (Some acts) alike = ap (told_step to (map_network f net)) (acts_map net.plan net.nodes acts alike) ∙ told_map net (acts_step from net.plan net.nodes acts)
 
   there_alike : (net : Network A) (e : Event) → IsSentAlike net e → (o : Option EventFault) → ◌≡◌ {A = Result Reply EventFault × Network B} (outcome_if_possible to (map_network f net) e o) (map_answer (outcome_if_possible from net e o))
-  there_alike net e alike None = ap (outcome_if_ready to (map_network f net) e) (step_alike net e alike) ∙ ready_map net e (network_step from net e)
-  there_alike net e alike (Some k) = refl
+  there_alike net e alike o = search (arith, step_alike, ready_map)
 
   -- an event is answered alike, and leaves what it leaves, mapped, where what it sends is the same
   pub apply_alike : (net : Network A) (e : Event) → IsSentAlike net e → ◌≡◌ {A = Result Reply EventFault × Network B} (network_apply to (map_network f net) e) (map_answer (network_apply from net e))
@@ -242,8 +202,7 @@ module _ {A B : Type 0} (f : A → B) (from : Kind A) (to : Kind B) (plain_is : 
   -- what is told of all that may be sent
   module _ (sent_is : (t n j : ℕ) (x : PlainToken) → to.sent t n j x ≡ f (from.sent t n j x)) where
     all_alike : (net : Network A) (e : Event) → IsSentAlike net e
-    all_alike net (event.Send t p) = λ T at j x. sent_is t (length T.sent) j x
-    all_alike net e = tt
+    all_alike net e = search arith
 
     -- a step of the one is a step of the other, with the same reply
     pub step_map : (net : Network A) (e : Event) → network_step to (map_network f net) e ≡ option_map map_done (network_step from net e)

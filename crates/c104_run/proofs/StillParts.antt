@@ -13,11 +13,7 @@ use Rattle.std.{proofs.lemmas.List.Folds.list_all-append, specs.List.{AllByRecur
 -- a test of all events of the numbers below n: those that are left tell it, so far as none has failed
 module _ (p : Event → Bool) where
   pub one_event : (e : Event) → list_all p (e ∷ []) ≡ p e
-  one_event e = by_test (p e)
-    where
-      by_test : (b : Bool) → (b && true) ≡ b
-      by_test true = refl
-      by_test false = refl
+  one_event e = search arith
 
   module _ (part : ℕ → List Event) (n : ℕ) where
     abbrev pub tested : Bool
@@ -30,9 +26,7 @@ module _ (p : Event → Bool) where
     left_first = let same : n - 0 ≡ n = omega arith in ap (λ m. list_all p (flat_map part (range_with_len 0 m))) same
 
     one_left : (i : ℕ) → i < n → left i ≡ (list_all p (part i) && left (i + 1))
-    one_left i inside =
-        let count : n - i ≡ suc (n - (i + 1)) = omega (arith, inside) in
-        ap (λ m. list_all p (flat_map part (range_with_len i m))) count ∙ list_all-append p (part i) (flat_map part (range_with_len (i + 1) (n - (i + 1))))
+    one_left i inside = search (arith, list_all-append)
 
     pub left_next : (i : ℕ) → i < n → left i ≡ tested → list_all p (part i) ≡ true → left (i + 1) ≡ tested
     left_next i inside so_far this = ap (λ b. b && left (i + 1)) (sym this) ∙ sym (one_left i inside) ∙ so_far
@@ -59,8 +53,7 @@ module _ (p : Event → Bool) where
 -- a network stands still exactly where each event of a round has a reason
 module _ {A : Type 0} (kind : Kind A) (net : Network A) (is_plan : IsPlan net.plan) (steady : IsSteady net) where
   unready_is : (answer : Result Reply EventFault) → is_unready answer ≡ true → answer ≡ Ok ReplyOf.NotReady
-  unready_is (Ok ReplyOf.NotReady) is = refl
-  unready_is answer is = absurd (cc is)
+  unready_is answer is = search arith
 
   reason_unready : (e : Event) → has_reason net e ≡ true → IsUnready kind net e
   reason_unready e is = unready_is (network_apply kind net e).0 (sym (unready_answered kind net is_plan steady e) ∙ is)

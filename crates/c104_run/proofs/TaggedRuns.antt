@@ -1,15 +1,14 @@
 -- A run over tagged tokens is that over tokens that all tell where they came from.
 use Rattle.{c104_event.specs.declared.{events.Event.Event, faults.EventFault.EventFault}, c104_node.specs.Origins.{AreSure, IsSure}}
-use Rattle.c104_node.specs.{Origins.{origin_by, origin_of, origins_in}, Tagged.{tag, tagged_by, tagged_kind, tagged_origin, tagged_origins}}
+use Rattle.c104_node.specs.{Origins.{origin_of, origins_in}, Tagged.{tag, tagged_by, tagged_kind, tagged_origin, tagged_origins}}
 use Rattle.c104_node.specs.{Traced.traced_kind, declared.{tagged.TaggedToken.TaggedToken, traced.{Source.Source, Traced.Traced}}}
 use Rattle.c104_run.{proofs.StepMaps.apply_map, specs.{Network.{Network, network_apply}, RecordedPlaces.plain_by, TracedRuns.map_network}}
 use Rattle.{c104_switch.specs.Actions.Reply, c104_token.specs.{Tokens.is_end, declared.tokens.Token.Token}, std.proofs.Common.{Bool, List}}
-use Rattle.std.proofs.Common.{None, Option, Result, Some, [], ap, arith, false, map, refl, slice_get, suc, sym, true, ℕ, ◌%◌, ◌++◌, ◌<◌}
-use Rattle.std.{proofs.Common.{◌∙◌, ◌∷◌, ◌≡◌}, specs.Option.option_to_list}
+use Rattle.std.proofs.Common.{Option, Result, Some, [], ap, arith, map, refl, slice_get, suc, sym, ℕ, ◌++◌, ◌<◌, ◌∙◌, ◌∷◌, ◌≡◌}
+use Rattle.std.specs.Option.{option_to_list}
 
 plain_tagged : (x : Token) (o : Option Source) → (tag (record { token = x; source = o })).token ≡ x
-plain_tagged x None = refl
-plain_tagged x (Some s) = plain_by (is_end x) x s.terminal s.number
+plain_tagged x o = search arith
 
 -- the token alone
 abbrev pub token_of : TaggedToken → Token
@@ -35,20 +34,7 @@ abbrev of_parts : Token → Option Source → Traced
 of_parts x o = record { token = x; source = o }
 
 one_origin : (x : Token) (o : Option Source) → IsSure (of_parts x o) → IsSmall (of_parts x o) → (e : Bool) → is_end x ≡ e → tagged_origin (is_end (tag (of_parts x o)).token) (tag (of_parts x o)) ≡ origin_of (of_parts x o)
-one_origin x None sure small true is = let s = sure is in absurd (cc s.1)
-one_origin x None sure small false is = ap (λ b. tagged_origin b (record { token = x; terminal = 0; number = 0 })) is ∙ sym (ap (λ b. origin_by b None) is)
-one_origin x (Some s) sure small true is =
-    let terminal = small.terminal s refl in
-    let number = small.number s refl in
-    let t : s.terminal % 65536 ≡ s.terminal = grind (arith, terminal) in
-    let n : s.number % 4294967296 ≡ s.number = grind (arith, number) in
-    let made : tag (of_parts x (Some s)) ≡ record { token = x; terminal = s.terminal % 65536; number = s.number % 4294967296 } = rw is refl in
-    ap (λ (m : TaggedToken). tagged_origin (is_end m.token) m) made ∙ ap (λ b. tagged_origin b (record { token = x; terminal = s.terminal % 65536; number = s.number % 4294967296 })) is
-    ∙ ap (λ (k : ℕ). Some (record { terminal = k; number = s.number % 4294967296 })) t ∙ ap (λ (k : ℕ). Some (record { terminal = s.terminal; number = k })) n
-    ∙ sym (ap (λ b. origin_by b (Some s)) is)
-one_origin x (Some s) sure small false is =
-    let made : tag (of_parts x (Some s)) ≡ record { token = x; terminal = 0; number = 0 } = rw is refl in
-    ap (λ (m : TaggedToken). tagged_origin (is_end m.token) m) made ∙ ap (λ b. tagged_origin b (record { token = x; terminal = 0; number = 0 })) is ∙ sym (ap (λ b. origin_by b (Some s)) is)
+one_origin x o sure small e is = search arith
 
 pub origins_same : (tokens : List Traced) → AreSure tokens → ((k : ℕ) (x : Traced) → slice_get tokens k ≡ Some x → IsSmall x) → tagged_origins (map tag tokens) ≡ origins_in tokens
 origins_same [] sure small = refl

@@ -4,20 +4,16 @@ use Rattle.c104_link.specs.{Buffers.outgoing_put_all, Steps.{joint_step_at, requ
 use Rattle.c104_link.specs.declared.{TheConstants.TOKENS_OF_A_GRANT, outgoing.TheConstants.{CREDIT_LIMIT, OUTPUT_CAP}}
 use Rattle.c104_node.specs.{MappedNodes.{map_incoming, map_input, map_node, map_outgoing, map_switch, map_terminal}, Nodes.Node}
 use Rattle.c104_node.specs.{Nodes.{node_credit_in, node_credit_out, node_drain, node_enter, node_leave}, Terminals.Terminal}
-use Rattle.c104_node.specs.Terminals.{terminal_credit_in, terminal_credit_out, terminal_drain, terminal_enter, terminal_leave}
-use Rattle.{c104_node.specs.declared.node.NodeOf.NodeOf, c104_switch.specs.{Phases.with_header, Switch.{Switch, input_accept, input_grant}}}
+use Rattle.{c104_node.specs.Terminals.terminal_drain, c104_switch.specs.{Phases.with_header, Switch.{Switch, input_accept, input_grant}}}
 use Rattle.c104_switch.specs.{Switch.{switch_credit_in, switch_credit_out, switch_enter, switch_leave}, declared.phase.Phase.Phase}
-use Rattle.std.proofs.Common.{Bool, List, None, Option, Some, [], ap, drop, false, if◌then◌else◌, length, map, nat_le, nat_lt, option_map}
-use Rattle.std.proofs.{Common.{refl, slice_get, true, ℕ, ◌+◌, ◌∙◌, ◌∷◌, ◌≡◌}, lemmas.List.{length-map, map-append, map-set}}
-use Rattle.std.proofs.lemmas.Option.{slice_get-map}
+use Rattle.std.proofs.Common.{Bool, List, Option, Some, [], ap, arith, drop, if◌then◌else◌, length, map, nat_le, nat_lt, option_map, refl}
+use Rattle.std.proofs.{Common.{slice_get, ℕ, ◌+◌, ◌∙◌, ◌∷◌, ◌≡◌}, lemmas.{List.{length-map, map-append, map-set}, Option.slice_get-map}}
 
 pub bind_map : {X X' Y Y' : Type 0} (u : X → X') (v : Y → Y') (m : Option X) (h : X → Option Y) (h' : X' → Option Y') → ((x : X) → h' (u x) ≡ option_map v (h x)) → ◌>>=◌ (option_map u m) h' ≡ option_map v (◌>>=◌ m h)
-bind_map u v None h h' e = refl
-bind_map u v (Some x) h h' e = e x
+bind_map u v m h h' e = search arith
 
 pub bind_same : {X Y Y' : Type 0} (v : Y → Y') (m : Option X) (h : X → Option Y) (h' : X → Option Y') → ((x : X) → h' x ≡ option_map v (h x)) → ◌>>=◌ m h' ≡ option_map v (◌>>=◌ m h)
-bind_same v None h h' e = refl
-bind_same v (Some x) h h' e = e x
+bind_same v m h h' e = search arith
 
 pub bind_both : {X X' Y Y' : Type 0} (u : X → X') (v : Y → Y') (m : Option X) (m' : Option X') (h : X → Option Y) (h' : X' → Option Y') → m' ≡ option_map u m → ((x : X) → h' (u x) ≡ option_map v (h x)) → ◌>>=◌ m' h' ≡ option_map v (◌>>=◌ m h)
 bind_both u v m m' h h' em eh = ap (λ z. ◌>>=◌ z h') em ∙ bind_map u v m h h' eh
@@ -33,12 +29,10 @@ pub with_map : {X X' Y Y' : Type 0} (u : X → X') (v : Y → Y') (xs : List X) 
 with_map u v xs i f f' h = bind_both u _ (slice_get xs i) _ _ _ (slice_get-map u xs i) (λ x. bind_both _ _ (f x) _ _ _ (h x) (λ y. ap Some (rw (map-set u xs i y.0) refl)))
 
 pub require_map : {Y Y' : Type 0} (v : Y → Y') (b : Bool) (o : Option Y) (o' : Option Y') → o' ≡ option_map v o → ◌>>◌ (require b) o' ≡ option_map v (◌>>◌ (require b) o)
-require_map v true o o' e = e
-require_map v false o o' e = refl
+require_map v b o o' e = search arith
 
 pub if_map : {X Y : Type 0} (g : X → Y) (b b' : Bool) (x y : X) (x' y' : Y) → b' ≡ b → x' ≡ g x → y' ≡ g y → (if b' then x' else y') ≡ g (if b then x else y)
-if_map g true b' x y x' y' e h k = rw e h
-if_map g false b' x y x' y' e h k = rw e k
+if_map g b b' x y x' y' e h k = search arith
 
 module _ {A B : Type 0} (f : A → B) where
   abbrev pub map_phase : Phase (List A) → Phase (List B)
@@ -49,8 +43,7 @@ module _ {A B : Type 0} (f : A → B) where
   first_map (x ∷ l) = refl
 
   pub drop_map : (l : List A) → drop 1 (map f l) ≡ map f (drop 1 l)
-  drop_map [] = refl
-  drop_map (x ∷ l) = refl
+  drop_map l = search arith
 
   pub leave_map : (q : Outgoing A) → outgoing_emit (map_outgoing f q) ≡ option_map (λ (z : A × Outgoing A). (f z.0, map_outgoing f z.1)) (outgoing_emit q)
   leave_map q = bind_both f _ (slice_get q.items 0) _ _ _ (first_map q.items) (λ x. require_map _ (nat_lt 0 q.credit) _ _ (rw (drop_map q.items) refl))
@@ -85,24 +78,19 @@ module _ {A B : Type 0} (f : A → B) where
 
   -- the four actions of nodes
   pub enter_node_map : (x : A) (l : ℕ) (n : Node A) → node_enter (f x) l (map_node f n) ≡ option_map (map_node f) (node_enter x l n)
-  enter_node_map x l (NodeOf.Switch S) = bind_both (map_switch f) (map_node f) (switch_enter S l x) _ _ _ (s_enter_map x l S) (λ s. refl)
-  enter_node_map x l (NodeOf.Terminal T) = bind_both (map_terminal f) (map_node f) (terminal_enter x T) _ _ _ (bind_both (map_incoming f) (map_terminal f) (incoming_accept x T.input) _ _ _ (enter_map x T.input) (λ b. refl)) (λ t. refl)
+  enter_node_map x l n = search (arith, bind_both, s_enter_map, enter_map)
 
   pub leave_node_map : (l : ℕ) (n : Node A) → node_leave l (map_node f n) ≡ option_map (λ (z : A × Node A). (f z.0, map_node f z.1)) (node_leave l n)
-  leave_node_map l (NodeOf.Switch S) = bind_both _ _ (switch_leave S l) _ _ _ (s_leave_map l S) (λ r. refl)
-  leave_node_map l (NodeOf.Terminal T) = bind_both (λ (z : A × Terminal A). (f z.0, map_terminal f z.1)) _ (terminal_leave T) _ _ _ (bind_both (λ (z : A × Outgoing A). (f z.0, map_outgoing f z.1)) _ (outgoing_emit T.output) _ _ _ (leave_map T.output) (λ q. refl)) (λ r. refl)
+  leave_node_map l n = search (arith, bind_both, s_leave_map, leave_map)
 
   pub credit_out_node_map : (l : ℕ) (n : Node A) → node_credit_out l (map_node f n) ≡ option_map (map_node f) (node_credit_out l n)
-  credit_out_node_map l (NodeOf.Switch S) = bind_both (map_switch f) (map_node f) (switch_credit_out S l) _ _ _ (s_credit_out_map l S) (λ s. refl)
-  credit_out_node_map l (NodeOf.Terminal T) = bind_both (map_terminal f) (map_node f) (terminal_credit_out T) _ _ _ (bind_both (map_incoming f) (map_terminal f) (incoming_grant T.input) _ _ _ (grant_map T.input) (λ b. refl)) (λ t. refl)
+  credit_out_node_map l n = search (arith, bind_both, s_credit_out_map, grant_map)
 
   pub credit_in_node_map : (l : ℕ) (n : Node A) → node_credit_in l (map_node f n) ≡ option_map (map_node f) (node_credit_in l n)
-  credit_in_node_map l (NodeOf.Switch S) = bind_both (map_switch f) (map_node f) (switch_credit_in S l) _ _ _ (s_credit_in_map l S) (λ s. refl)
-  credit_in_node_map l (NodeOf.Terminal T) = bind_both (map_terminal f) (map_node f) (terminal_credit_in T) _ _ _ (bind_both (map_outgoing f) (map_terminal f) (outgoing_credited T.output) _ _ _ (credited_map T.output) (λ q. refl)) (λ t. refl)
+  credit_in_node_map l n = search (arith, bind_both, s_credit_in_map, credited_map)
 
   pub drained_map : (T : Terminal A) → terminal_drain (map_terminal f T) ≡ option_map (λ (z : A × Terminal A). (f z.0, map_terminal f z.1)) (terminal_drain T)
   drained_map T = bind_both f _ (slice_get T.input.items 0) _ _ _ (first_map T.input.items) (λ x. ap Some (rw (drop_map T.input.items, map-append f T.arrived (x ∷ [])) refl))
 
   pub drain_node_map : (n : Node A) → node_drain (map_node f n) ≡ option_map (λ (z : A × Node A). (f z.0, map_node f z.1)) (node_drain n)
-  drain_node_map (NodeOf.Switch S) = refl
-  drain_node_map (NodeOf.Terminal T) = bind_both (λ (z : A × Terminal A). (f z.0, map_terminal f z.1)) _ (terminal_drain T) _ _ _ (drained_map T) (λ r. refl)
+  drain_node_map n = search (arith, bind_both, drained_map)

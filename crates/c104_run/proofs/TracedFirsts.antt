@@ -7,8 +7,8 @@ use Rattle.{c104_regs.specs.declared.registers.TheConstants.LINKS, c104_run.proo
 use Rattle.c104_run.{proofs.{NodeMaps.node_same, RecordedBegins.{no_entries, told_first}, StartsBack.start_back}, specs.Balance.IsSteady}
 use Rattle.c104_run.specs.{NetRecords.{first_record, fresh_record}, Network.{network_of, new_network}, RecordedNets.IsRecordedNet}
 use Rattle.{c104_run.specs.{RecordedNets.places_record, RecordedPlaces.counted_reading}, c104_switch.specs.Starts.new_start}
-use Rattle.{c104_token.specs.declared.tokens.Token.Token, std.proofs.Common.{List, [], ap, false, map, refl, replicate, sym, ℕ, ◌++◌, ◌∙◌}}
-use Rattle.std.proofs.{Common.{◌∷◌, ◌≡◌}, lemmas.List.map-append}
+use Rattle.{c104_token.specs.declared.tokens.Token.Token, std.proofs.Common.{List, [], ap, arith, false, map, refl, replicate, sym, ℕ}}
+use Rattle.std.proofs.{Common.{◌++◌, ◌∙◌, ◌∷◌, ◌≡◌}, lemmas.List.map-append}
 
 map_const : {X Y Z : Type 0} (g : Y → Z) (f : X → Y) (h : X → Z) → ((x : X) → g (f x) ≡ h x) → (xs : List X) → map g (map f xs) ≡ map h xs
 map_const g f h same [] = refl
@@ -57,8 +57,4 @@ module _ (plan : Plan) where
   terminal_first t = NodeStart.Terminal (new_terminal_start plan.cap)
 
   pub new_nodes : (starts : List NodeStart) → starts ≡ map switch_first plan.switches ++ map terminal_first plan.terminals → map start_node starts ≡ (new_network {A = Token} plan).nodes
-  new_nodes starts are =
-      ap (map start_node) are
-      ∙ map-append start_node (map switch_first plan.switches) (map terminal_first plan.terminals)
-      ∙ ap (λ xs. xs ++ map start_node (map terminal_first plan.terminals)) (map_twice start_node switch_first plan.switches)
-      ∙ ap (λ ys. map (λ name. start_node (switch_first name)) plan.switches ++ ys) (map_twice start_node terminal_first plan.terminals)
+  new_nodes starts are = search (arith, map-append, map_twice)

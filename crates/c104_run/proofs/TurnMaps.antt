@@ -1,17 +1,15 @@
 -- Turns and claims over one kind of token and over another.
-use Rattle.{c104_link.specs.{Buffers.{Outgoing, outgoing_put}, Steps.{joint_step_at, step_at}}, c104_node.specs.MappedNodes.map_input}
-use Rattle.c104_node.specs.{MappedNodes.{map_node, map_outgoing, map_switch}, Nodes.{Node, node_claim, node_input}}
-use Rattle.{c104_node.specs.declared.node.NodeOf.NodeOf, c104_regs.specs.{Settings.header_length, declared.settings.Settings.Settings}}
-use Rattle.c104_run.proofs.{SwitchMaps.{decided_map, owned_map}, TokenMaps.{bind_both, bind_same, drop_map, first_map, if_map, map_phase}}
-use Rattle.{c104_run.proofs.TokenMaps.{place_map, put_all_map, put_map, require_map, with_map}, c104_switch.specs.Claims.input_claim}
-use Rattle.c104_switch.specs.{Claims.{inputs_claim, put_header, switch_claim}, Group.is_in_group, Headers.header_value}
+use Rattle.{c104_link.specs.{Buffers.Outgoing, Steps.joint_step_at}, c104_node.specs.MappedNodes.{map_input, map_node, map_outgoing}}
+use Rattle.c104_node.specs.{MappedNodes.map_switch, Nodes.{Node, node_claim, node_input}, declared.node.NodeOf.NodeOf}
+use Rattle.{c104_regs.specs.declared.settings.Settings.Settings, c104_run.proofs.{SwitchMaps.{decided_map, owned_map}, TokenMaps.bind_both}}
+use Rattle.c104_run.proofs.TokenMaps.{bind_same, drop_map, first_map, if_map, map_phase, place_map, put_all_map, put_map, require_map}
+use Rattle.{c104_run.proofs.TokenMaps.with_map, c104_switch.specs.Claims.{input_claim, inputs_claim, put_header, switch_claim}}
 use Rattle.c104_switch.specs.{Headers.{phase_after_header, random_bytes, random_from, random_header}, Switch.{Input, Switch, is_owned}}
 use Rattle.c104_switch.specs.Turns.{header_turn, input_after_token, input_turn, phase_after_token, switch_input, turn_by_phase}
 use Rattle.{c104_switch.specs.declared.phase.Phase.{Phase, TheVariants.{Fresh, Head, Sinking, Stream, Want}}, c104_token.specs.Kinds.Kind}
 use Rattle.{c104_token.specs.{Tokens.{byte_of, is_end}, declared.tokens.Token.TheVariants.Byte}, std.proofs.Common.{Bool, List, Some, []}}
-use Rattle.std.proofs.Common.{ap, false, length, map, nat_le, not, option_map, refl, slice_get, suc, true, ℕ, ⊎_elim, ◌&&◌, ◌++◌, ◌∷◌, ◌≡◌}
+use Rattle.std.proofs.Common.{ap, arith, false, map, not, option_map, refl, slice_get, suc, true, ℕ, ⊎_elim, ◌&&◌, ◌++◌, ◌∷◌, ◌≡◌}
 use Rattle.std.proofs.lemmas.{Bool.cases_Bool, List.{length-map, map-append}}
-use Rattle.c104_interval.specs.Selection as table
 
 module _ {A B : Type 0} (f : A → B) (from : Kind A) (to : Kind B) (plain_is : (x : A) → to.plain (f x) ≡ from.plain x) (random_is : (j b : ℕ) → to.random j (Byte b) ≡ f (from.random j (Byte b))) where
   bytes_map : (b : List A) → map (λ x. byte_of (to.plain x)) (map f b) ≡ map (λ x. byte_of (from.plain x)) b
@@ -22,10 +20,7 @@ module _ {A B : Type 0} (f : A → B) (from : Kind A) (to : Kind B) (plain_is : 
   used_map p ph a b = rw (drop_map f p.buffer.items) refl
 
   read_map : (s : Settings) (b : List A) → ◌≡◌ {A = Phase (List B) × Bool} (phase_after_header to s (map f b)) (map_phase f (phase_after_header from s b).0, (phase_after_header from s b).1)
-  read_map s b = rw (length-map b f, bytes_map b) (⊎_elim
-      (λ (h : nat_le (header_length s) (length b) ≡ true). rw (h, decided_map f b (table.select s.table (header_value from b))) refl)
-      (λ (h : nat_le (header_length s) (length b) ≡ false). rw h refl)
-      (cases_Bool (nat_le (header_length s) (length b))))
+  read_map s b = search (arith, length-map, bytes_map, decided_map, cases_Bool)
 
   header_map : (s : Settings) (p : Input A) (b : List A) (x : A) → header_turn to s (map_input f p) (map f b) (f x) ≡ map_input f (header_turn from s p b x)
   header_map s p b x = rw (plain_is x) (⊎_elim
@@ -41,10 +36,7 @@ module _ {A B : Type 0} (f : A → B) (from : Kind A) (to : Kind B) (plain_is : 
   random_map s w = random_from_map 0 (random_bytes s w)
 
   after_map : (x : A) (ph : Phase (List A)) → phase_after_token to (f x) (map_phase f ph) ≡ map_phase f (phase_after_token from x ph)
-  after_map x ph = rw (plain_is x) (⊎_elim
-      (λ (h : is_end (from.plain x) ≡ true). rw h refl)
-      (λ (h : is_end (from.plain x) ≡ false). rw h refl)
-      (cases_Bool (is_end (from.plain x))))
+  after_map x ph = search (arith, cases_Bool)
 
   abbrev map_sides : Input A × List (Outgoing A) → Input B × List (Outgoing B)
   map_sides r = (map_input f r.0, map (map_outgoing f) r.1)
@@ -55,8 +47,7 @@ module _ {A B : Type 0} (f : A → B) (from : Kind A) (to : Kind B) (plain_is : 
       (ap (λ z. Some (z, map (map_outgoing f) qs)) (header_map s p [] x))
   by_phase_map s word p qs (Head b) x = ap (λ z. Some (z, map (map_outgoing f) qs)) (header_map s p b x)
   by_phase_map s word p qs (Want b g) x = refl
-  by_phase_map s word p qs (Stream o) x = bind_both (map (map_outgoing f)) map_sides (step_at qs o (outgoing_put x)) _ _ _ (place_map (map_outgoing f) qs o (outgoing_put x) (outgoing_put (f x)) (put_map f x)) (λ rs.
-      ap (λ z. Some (z, map (map_outgoing f) rs)) (rw (after_map x (Stream o)) (used_map p (phase_after_token from x (Stream o)) false false)))
+  by_phase_map s word p qs (Stream o) x = search (arith, bind_both, place_map, put_map, after_map, used_map)
   by_phase_map s word p qs Sinking x = ap (λ z. Some (z, map (map_outgoing f) qs)) (rw (after_map x Sinking) (used_map p (phase_after_token from x Sinking) false false))
 
   turn_map : (s : Settings) (word : ℕ) (qs : List (Outgoing A)) (p : Input A) → input_turn to s word (map_input f p) (map (map_outgoing f) qs) ≡ option_map map_sides (input_turn from s word p qs)
@@ -70,9 +61,7 @@ module _ {A B : Type 0} (f : A → B) (from : Kind A) (to : Kind B) (plain_is : 
   put_header_map s b q = if_map (option_map (map_outgoing f)) s.delete_header s.delete_header _ _ _ _ refl refl (put_all_map f b q)
 
   claimed_map : (settings : List Settings) (p : Input A) (qs : List (Outgoing A)) (o : ℕ) (ph : Phase (List A)) → input_claim settings (map_input f p) (map (map_outgoing f) qs) o (map_phase f ph) ≡ option_map map_sides (input_claim settings p qs o ph)
-  claimed_map settings p qs o (Want b g) = require_map map_sides (is_in_group settings g o) _ _ (bind_same map_sides (slice_get settings o) _ _ (λ t.
-      bind_both (map (map_outgoing f)) map_sides (step_at qs o (put_header t b)) _ _ _ (place_map (map_outgoing f) qs o (put_header t b) (put_header t (map f b)) (put_header_map t b)) (λ rs. refl)))
-  claimed_map settings p qs o ph = refl
+  claimed_map settings p qs o ph = search (arith, require_map, bind_same, bind_both, place_map, put_header_map)
 
   claim_map : (i o : ℕ) (S : Switch A) → switch_claim (map_switch f S) i o ≡ option_map (map_switch f) (switch_claim S i o)
   claim_map i o S = require_map (map_switch f) S.started _ _ (bind_both (λ (z : List (Input A) × List (Outgoing A)). (map (map_input f) z.0, map (map_outgoing f) z.1)) (map_switch f) (inputs_claim S.settings S.inputs S.outputs i o) _ _ _ (claimed_at_map S.settings S.inputs S.outputs i o) (λ r. refl))
@@ -81,8 +70,7 @@ module _ {A B : Type 0} (f : A → B) (from : Kind A) (to : Kind B) (plain_is : 
       claimed_at_map settings ps qs i o = rw (owned_map f ps o) (require_map _ (not (is_owned ps o)) _ _ (with_map (map_input f) (map (map_outgoing f)) ps i (λ p. input_claim settings p qs o p.phase) (λ p. input_claim settings p (map (map_outgoing f) qs) o p.phase) (λ p. claimed_map settings p qs o p.phase)))
 
   pub input_node_map : (i word : ℕ) (n : Node A) → node_input to i word (map_node f n) ≡ option_map (map_node f) (node_input from i word n)
-  input_node_map i word (NodeOf.Switch S) = bind_both (map_switch f) (map_node f) (switch_input from S i word) _ _ _ (input_map i word S) (λ s. refl)
-  input_node_map i word (NodeOf.Terminal T) = refl
+  input_node_map i word n = search (arith, bind_both, input_map)
 
   pub claim_node_map : (i o : ℕ) (n : Node A) → node_claim i o (map_node f n) ≡ option_map (map_node f) (node_claim i o n)
   claim_node_map i o (NodeOf.Switch S) = bind_both (map_switch f) (map_node f) (switch_claim S i o) _ _ _ (claim_map i o S) (λ s. refl)

@@ -6,15 +6,14 @@ use Rattle.{c104_node.specs.declared.node.NodeOf.TheVariants.Terminal, c104_plan
 use Rattle.{c104_plan.specs.declared.ports.Port.Port, c104_run.proofs.{ActSteps.step_ready as acts_ready, AskCases.{AreCases, of_event}}}
 use Rattle.c104_run.proofs.{NoFaults.{node_there, past_link, past_node}, RunRecords.{by_counts, counted}, UnreadyNodes.claim_here}
 use Rattle.c104_run.{proofs.UnreadyNodes.{drain_here, input_here, joint_told, step_ready}, specs.{Balance.IsSteady, EventActs.Ask}}
-use Rattle.c104_run.specs.{EventActs.{acts_step, ask_acts, crossing_acts, event_ask}, Network.{Network, event_fault, event_limit}}
-use Rattle.c104_run.specs.Network.{link_fault, network_apply, network_step, outcome_if_possible, outcome_if_ready, outcome_within_limit}
-use Rattle.c104_run.specs.{Network.{terminal_place, told_step, wire_fault, wired_fault, with_nodes}, Reasons.{acts_why, alone_why}}
-use Rattle.c104_run.specs.{Reasons.{claim_reason, event_why, is_unready, network_why, unless_refused}, declared.reason.Reason.Reason}
+use Rattle.c104_run.specs.{EventActs.{acts_step, ask_acts, crossing_acts, event_ask}, Network.{Network, event_fault, network_apply}}
+use Rattle.c104_run.specs.Network.{network_step, outcome_if_ready, outcome_within_limit, terminal_place, told_step, wire_fault, wired_fault}
+use Rattle.c104_run.specs.{Reasons.{acts_why, alone_why, claim_reason, event_why, is_unready, network_why}, declared.reason.Reason.Reason}
 use Rattle.c104_switch.specs.{Actions.{Reply, is_ready}, Reasons.why_at, declared.actions.{ActionOf.ActionOf, ReplyOf.ReplyOf}}
 use Rattle.{c104_switch.specs.declared.unready.Unready.Unready, c104_token.specs.{Kinds.Kind, declared.packets.Packet.Packet}}
-use Rattle.std.proofs.Common.{Bool, List, None, Option, Some, ap, arith, false, inl, inr, is_none, is_some, length, map, nat_lt, not, refl}
-use Rattle.std.proofs.{Common.{replicate, slice_get, sym, true, ℕ, ◌++◌, ◌+◌, ◌-◌, ◌<◌, ◌∙◌, ◌≡◌}, lemmas.Bool.Decides.nat_tests}
-use Rattle.std.{proofs.lemmas.Option.slice_get_cases, specs.Option.option_map}
+use Rattle.std.proofs.Common.{Bool, List, None, Option, Some, ap, arith, false, is_none, is_some, length, map, nat_lt, not, refl, replicate}
+use Rattle.std.proofs.{Common.{slice_get, true, ℕ, ◌++◌, ◌+◌, ◌-◌, ◌<◌, ◌∙◌, ◌≡◌}, lemmas.{Bool.Decides.nat_tests, Option.slice_get_cases}}
+use Rattle.std.specs.Option.{option_map}
 
 -- a switch stands at the first places, and a terminal at those behind them
 module _ {A : Type 0} where
@@ -22,10 +21,7 @@ module _ {A : Type 0} where
   StandsAt nodes place switches = (n : Node A) × (slice_get nodes place ≡ Some n) × (is_switch n ≡ switches)
 
   stands : (nodes : List (Node A)) (place : ℕ) (switches : Bool) → place < length nodes → part false is_switch (slice_get nodes place) ≡ switches → StandsAt nodes place switches
-  stands nodes place switches inside is = elim (slice_get_cases nodes place).1 [
-    | inl found ↦ (found.0, found.2, sym (ap (part false is_switch) found.2) ∙ is)
-    | inr past ↦ absurd (omega (arith, inside, past.0))
-  ]
+  stands nodes place switches inside is = search (arith, slice_get_cases)
 
   pub switch_there : (a b : ℕ) (nodes : List (Node A)) → map is_switch nodes ≡ replicate a true ++ replicate b false → (place : ℕ) → place < a → StandsAt nodes place true
   switch_there a b nodes are place inside =
@@ -41,28 +37,21 @@ module _ {A : Type 0} where
 
 -- what a fault that there isn't says
 wired : (plan : Plan) (p : Port) (other : Option Port) → peer plan p ≡ other → wired_fault plan p ≡ None → wire_fault other ≡ None
-wired plan (Port.Switch s l) other is none = ap wire_fault (sym is) ∙ past_link (wire_fault (peer plan (Port.Switch s l))) l (past_node (link_fault l (wire_fault (peer plan (Port.Switch s l)))) (length plan.switches) s none)
-wired plan (Port.Terminal t) other is none = ap wire_fault (sym is) ∙ past_node (wire_fault (peer plan (Port.Terminal t))) (length plan.terminals) t none
+wired plan p other is none = search (arith, past_link, past_node)
 
 mapped : {X Y : Type 0} (f : X → Y) (o : Option X) → is_some (option_map f o) ≡ not (is_none o)
-mapped f None = refl
-mapped f (Some x) = refl
+mapped f o = search arith
 
 module _ {A : Type 0} (kind : Kind A) (net : Network A) where
   abbrev told : Event → Option (Reply × Network A) → Bool
   told e made = is_unready (outcome_if_ready kind net e made).0
 
   within : (r : ReplyOf A) (after : Network A) → is_ready r ≡ true → (limit : Option EventFault) → is_unready (outcome_within_limit kind net limit (plain_reply kind r, after)).0 ≡ false
-  within ReplyOf.NotReady after ready limit = absurd (cc ready)
-  within ReplyOf.Done after ready None = refl
-  within (ReplyOf.Token x) after ready None = refl
-  within (ReplyOf.Control bytes) after ready None = refl
-  within r after ready (Some f) = refl
+  within r after ready limit = search arith
 
   -- an event is told to be unready where the step of its acts can't be made
   step_told : (e : Event) (acts : Acts A) (made : Option (ReplyOf A × List (Node A))) → acts_step kind net.plan net.nodes acts ≡ made → is_none made ≡ told e (told_step kind net made)
-  step_told e acts None is = refl
-  step_told e acts (Some r) is = sym (within r.0 (with_nodes net r.1) (acts_ready kind net.plan net.nodes acts r is) (event_limit net e))
+  step_told e acts made is = search (arith, within, acts_ready)
 
   -- acts that are asked: there is a reason exactly where their step can't be made
   record IsHindered (ask : Ask A) : Type 0 where
@@ -82,11 +71,7 @@ module _ {A : Type 0} (kind : Kind A) (net : Network A) where
         by_peer (Some q) is = record { acts = Acts.Joint p q crossing; known = ap (crossing_acts crossing p) is; why = joint_told kind net.plan is_plan net.nodes steady.in_place crossing p q is }
 
     alone_hindered : (ask : Ask A) (k : ℕ) (a : ActOf A) → ask_acts net.plan ask ≡ Some (Acts.Alone k a) → (why : Node A → Option Unready) (f : Unready → Reason) → alone_why net k a ≡ option_map f (why_at net.nodes k why) → ((n : Node A) → is_none (why n) ≡ is_some (node_act kind (k - length net.plan.switches) a n)) → IsHindered ask
-    alone_hindered ask k a known why f is here = record {
-      acts = Acts.Alone k a;
-      known = known;
-      why = ap is_some is ∙ mapped f (why_at net.nodes k why) ∙ ap not (step_ready net.nodes k why (node_act kind (k - length net.plan.switches) a) (λ n at. here n));
-    }
+    alone_hindered ask k a known why f is here = search (arith, mapped, step_ready)
 
     -- a command and a packet that is sent always are ready
     control_ready : (s : ℕ) (bytes : List ℕ) → StandsAt net.nodes s true → IsHindered (Ask.Switch s (ActionOf.Control bytes))
@@ -113,8 +98,4 @@ module _ {A : Type 0} (kind : Kind A) (net : Network A) where
         rw found.known (found.why ∙ step_told e found.acts (acts_step kind net.plan net.nodes found.acts) refl)
 
     pub unready_answered : (e : Event) → is_some (network_why net e) ≡ is_unready (network_apply kind net e).0
-    unready_answered e = by_fault (event_fault net.plan e) refl
-      where
-        by_fault : (f : Option EventFault) → event_fault net.plan e ≡ f → is_some (unless_refused f (event_why net e)) ≡ is_unready (outcome_if_possible kind net e f).0
-        by_fault None is = possible e is
-        by_fault (Some f) is = refl
+    unready_answered e = search (arith, possible)

@@ -1,10 +1,8 @@
 -- A node, and a wire, has no reason exactly where it can act.
-use Rattle.c104_link.specs.{Buffers.{incoming_accept, incoming_grant, outgoing_credited, outgoing_emit, without_first}, Steps.yield_step_at}
-use Rattle.{c104_link.specs.Steps.◌>>=◌, c104_node.{proofs.JointEnds.{joint_closed, joint_ready}, specs.Acts.{node_act, nodes_act}}}
-use Rattle.c104_node.specs.{NodeReasons.{node_claim_why, node_drain_why, node_input_why}, Nodes.{Node, is_switch, node_claim}}
-use Rattle.c104_node.specs.{Nodes.{node_credit_in, node_credit_out, node_drain, node_enter, node_input, node_leave}, PortActs.IsAnswerOf}
-use Rattle.c104_node.specs.{PortActs.{far_act, joint_step, near_act}, declared.{acts.ActOf.ActOf, crossings.Crossing.Crossing}}
-use Rattle.c104_node.specs.declared.{crossings.Crossing.TheVariants.{Grant, Token}, node.NodeOf.TheVariants.{Switch, Terminal}}
+use Rattle.{c104_link.specs.{Buffers.without_first, Steps.{yield_step_at, ◌>>=◌}}, c104_node.proofs.JointEnds.{joint_closed, joint_ready}}
+use Rattle.c104_node.specs.{Acts.{node_act, nodes_act}, NodeReasons.{node_claim_why, node_drain_why, node_input_why}, Nodes.Node}
+use Rattle.c104_node.specs.{Nodes.{is_switch, node_claim, node_input}, PortActs.{IsAnswerOf, far_act, joint_step, near_act}}
+use Rattle.c104_node.specs.declared.{acts.ActOf.ActOf, crossings.Crossing.Crossing, node.NodeOf.TheVariants.{Switch, Terminal}}
 use Rattle.{c104_plan.specs.{Plans.{IsPlan, Plan}, Wiring.peer, declared.ports.Port.Port}, c104_run.proofs.BalanceWires.nodes_apart}
 use Rattle.c104_run.{proofs.{BalanceWires.peer_back, EventSteps.{fits_there, is_switch_port}}, specs.{Balance.AreInPlace, Ends.end_of}}
 use Rattle.c104_run.specs.{EventActs.port_place, Reasons.{end_why, far_why, near_why, port_reason}}
@@ -12,41 +10,21 @@ use Rattle.c104_switch.proofs.UnreadyActions.{credit_in_ready, credit_out_ready,
 use Rattle.c104_switch.proofs.{UnreadyClaims.claim_ready, UnreadySteps.{accept_ready, credited_ready, emit_ready, grant_ready, take_ready}}
 use Rattle.c104_switch.specs.{Claims.switch_claim, Reasons.{take_why, why_at}, Turns.switch_input, declared.actions.ActionOf.ActionOf}
 use Rattle.{c104_switch.specs.declared.{actions.ReplyOf.ReplyOf, unready.Unready.Unready}, c104_token.specs.Kinds.Kind}
-use Rattle.std.proofs.Common.{List, None, Option, Some, [], ap, false, is_none, is_some, not, refl, slice_get, sym, ℕ, ◌++◌, ◌∙◌, ◌∷◌, ◌≡◌}
-use Rattle.std.specs.Option.{option_or}
+use Rattle.std.proofs.Common.{List, None, Option, Some, [], ap, arith, false, is_none, is_some, not, refl, slice_get, sym, ℕ, ◌++◌, ◌∙◌}
+use Rattle.std.{proofs.Common.{◌∷◌, ◌≡◌}, specs.Option.option_or}
 use Rattle.c104_node.specs.Terminals as terminal
-use Rattle.c104_switch.specs.Switch as switch
 
 -- one more step that can always be made
 then_made : {X Y : Type 0} (made : Option X) (f : X → Y) → is_some made ≡ is_some (made >>= (λ x. Some (f x)))
-then_made None f = refl
-then_made (Some x) f = refl
+then_made made f = search arith
 
 module _ {A : Type 0} (kind : Kind A) where
   -- the acts at the two ends of a wire, of nodes of the ports' kinds
   near_here : (plan : Plan) (crossing : Crossing) (p : Port) (n : Node A) → is_switch n ≡ is_switch_port p → is_none (near_why crossing (end_of plan p).link n) ≡ is_some (node_act kind 0 (near_act crossing p) n)
-  near_here plan Token (Port.Switch k l) (Switch s) fits = leave_ready kind s l ∙ then_made (switch.switch_leave s l) (λ r. (r.0, Switch r.1)) ∙ then_made (node_leave l (Switch s)) (λ r. (ReplyOf.Token r.0, r.1))
-  near_here plan Token (Port.Terminal k) (Terminal t) fits =
-      emit_ready t.output ∙ then_made (outgoing_emit t.output) (λ r. (r.0, terminal.with_output t r.1)) ∙ then_made (terminal.terminal_leave t) (λ r. (r.0, Terminal r.1)) ∙ then_made (node_leave 0 (Terminal t)) (λ r. (ReplyOf.Token r.0, r.1))
-  near_here plan Grant (Port.Switch k l) (Switch s) fits = credit_out_ready kind s l ∙ then_made (switch.switch_credit_out s l) Switch ∙ then_made (node_credit_out l (Switch s)) (λ m. (ReplyOf.Done, m))
-  near_here plan Grant (Port.Terminal k) (Terminal t) fits =
-      grant_ready t.input ∙ then_made (incoming_grant t.input) (terminal.with_input t) ∙ then_made (terminal.terminal_credit_out t) Terminal ∙ then_made (node_credit_out 0 (Terminal t)) (λ m. (ReplyOf.Done, m))
-  near_here plan crossing p n fits = absurd (cc fits)
+  near_here plan crossing p n fits = search (arith, leave_ready, then_made, emit_ready, credit_out_ready, grant_ready)
 
   far_here : (plan : Plan) (crossing : Crossing) (a : ReplyOf A) → IsAnswerOf crossing a → (q : Port) (n : Node A) → is_switch n ≡ is_switch_port q → is_none (far_why crossing (end_of plan q).link n) ≡ is_some (node_act kind 0 (far_act q a) n)
-  far_here plan Token ReplyOf.Done answers q n fits = absurd answers
-  far_here plan Token ReplyOf.NotReady answers q n fits = absurd answers
-  far_here plan Token (ReplyOf.Control bytes) answers q n fits = absurd answers
-  far_here plan Grant ReplyOf.NotReady answers q n fits = absurd answers
-  far_here plan Grant (ReplyOf.Token x) answers q n fits = absurd answers
-  far_here plan Grant (ReplyOf.Control bytes) answers q n fits = absurd answers
-  far_here plan Token (ReplyOf.Token x) answers (Port.Switch k l) (Switch s) fits = enter_ready kind s l x ∙ then_made (switch.switch_enter s l x) Switch ∙ then_made (node_enter x l (Switch s)) (λ m. (ReplyOf.Done, m))
-  far_here plan Token (ReplyOf.Token x) answers (Port.Terminal k) (Terminal t) fits =
-      accept_ready t.input x ∙ then_made (incoming_accept x t.input) (terminal.with_input t) ∙ then_made (terminal.terminal_enter x t) Terminal ∙ then_made (node_enter x 0 (Terminal t)) (λ m. (ReplyOf.Done, m))
-  far_here plan Grant ReplyOf.Done answers (Port.Switch k l) (Switch s) fits = credit_in_ready kind s l ∙ then_made (switch.switch_credit_in s l) Switch ∙ then_made (node_credit_in l (Switch s)) (λ m. (ReplyOf.Done, m))
-  far_here plan Grant ReplyOf.Done answers (Port.Terminal k) (Terminal t) fits =
-      credited_ready t.output ∙ then_made (outgoing_credited t.output) (terminal.with_output t) ∙ then_made (terminal.terminal_credit_in t) Terminal ∙ then_made (node_credit_in 0 (Terminal t)) (λ m. (ReplyOf.Done, m))
-  far_here plan crossing a answers q n fits = absurd (cc fits)
+  far_here plan crossing a answers q n fits = search (arith, enter_ready, then_made, accept_ready, credit_in_ready, credited_ready)
 
   -- those that a node does alone
   pub input_here : (l word number : ℕ) (n : Node A) → is_none (node_input_why l n) ≡ is_some (node_act kind number (ActOf.Step (ActionOf.Input l word)) n)
@@ -61,21 +39,12 @@ module _ {A : Type 0} (kind : Kind A) where
   drained t = take_ready t.input ∙ then_made (slice_get t.input.items 0) (λ x. (x, record t { input = without_first t.input; arrived = t.arrived ++ x ∷ [] }))
 
   pub drain_here : (number : ℕ) (n : Node A) → is_none (node_drain_why n) ≡ is_some (node_act kind number ActOf.Drain n)
-  drain_here number (Switch s) = refl
-  drain_here number (Terminal t) = drained t ∙ then_made (terminal.terminal_drain t) (λ r. (r.0, Terminal r.1)) ∙ then_made (node_drain (Terminal t)) (λ r. (ReplyOf.Token r.0, r.1))
+  drain_here number n = search (arith, drained, then_made)
 
 -- among all nodes
 module _ {X Y : Type 0} (xs : List X) (k : ℕ) (why : X → Option Unready) (f : X → Option (Y × X)) where
   pub step_ready : ((x : X) → slice_get xs k ≡ Some x → is_none (why x) ≡ is_some (f x)) → is_none (why_at xs k why) ≡ is_some (yield_step_at xs k f)
-  step_ready here = by_found (slice_get xs k) refl
-    where
-      by_made : (x : X) → slice_get xs k ≡ Some x → (made : Option (Y × X)) → f x ≡ made → is_some made ≡ is_some (yield_step_at xs k f)
-      by_made x is None made = rw (is, made) refl
-      by_made x is (Some y) made = rw (is, made) refl
-
-      by_found : (found : Option X) → slice_get xs k ≡ found → is_none (why_at xs k why) ≡ is_some (yield_step_at xs k f)
-      by_found None is = rw is refl
-      by_found (Some x) is = let told : is_none (why_at xs k why) ≡ is_none (why x) = rw is refl in told ∙ here x is ∙ by_made x is (f x) refl
+  step_ready here = search arith
 
 -- the two ends of a wire
 module _ {A : Type 0} (kind : Kind A) (plan : Plan) (is_plan : IsPlan plan) (nodes : List (Node A)) (placed : AreInPlace plan nodes) (crossing : Crossing) (p q : Port) (wired : peer plan p ≡ Some q) where
@@ -86,8 +55,7 @@ module _ {A : Type 0} (kind : Kind A) (plan : Plan) (is_plan : IsPlan plan) (nod
   far_ready a answers = step_ready nodes (port_place plan q) (far_why crossing (end_of plan q).link) (node_act kind 0 (far_act q a)) (λ n at. far_here kind plan crossing a answers q n (fits_there kind plan is_plan nodes placed q p n (peer_back plan is_plan p q wired) at))
 
   none_of : {X : Type 0} (o : Option X) → false ≡ is_some o → o ≡ None
-  none_of None is = refl
-  none_of (Some x) is = absurd (cc is)
+  none_of o is = search arith
 
   abbrev crossed : Option (ReplyOf A × List (Node A))
   crossed = joint_step kind (port_place plan p) (port_place plan q) p q crossing nodes

@@ -2,29 +2,23 @@
 use Rattle.{c104_event.specs.declared.events.Event.Event, c104_link.proofs.MadeSteps.All-place, c104_node.specs.ActLinks.act_link}
 use Rattle.c104_node.specs.{Nodes.Node, PortActs.{far_act, near_act}, Records.{IsRecorded, NodeRecord, NodeRoom, node_start, node_state}}
 use Rattle.c104_node.specs.{Records.node_trace, Starts.start_node, Traces.{Deed, entry_of, lone_deed, part, seatless}}
-use Rattle.c104_node.specs.declared.{acts.{ActOf.ActOf, Entry.Entry}, crossings.Crossing.{Crossing, TheVariants.{Grant, Token}}}
-use Rattle.{c104_node.specs.declared.stamps.Stamp.Stamp, c104_plan.specs.{Plans.{IsPlan, Plan}, Wiring.peer, declared.ports.Port.Port}}
-use Rattle.c104_run.{proofs.BalanceWires.peer_back, specs.{Ends.end_of, EventActs.{crossing_acts, port_place}, EventDeeds.acts_deeds}}
-use Rattle.c104_run.specs.{EventDeeds.event_deeds, NetRecords.{IsNetRecord, NetRecord, net_record}, Runs.{at_node, run_deeds}}
-use Rattle.{c104_run.specs.WiredActs.{AreWiredLinks, IsRecordedAt, IsRecordedNode, IsWiredAct}, c104_switch.specs.Actions.{Reply, is_ready}}
+use Rattle.c104_node.specs.declared.{acts.{ActOf.ActOf, Entry.Entry}, crossings.Crossing.Crossing, stamps.Stamp.Stamp}
+use Rattle.{c104_plan.specs.{Plans.{IsPlan, Plan}, Wiring.peer, declared.ports.Port.Port}, c104_run.proofs.BalanceWires.peer_back}
+use Rattle.c104_run.specs.{Ends.end_of, EventActs.{crossing_acts, port_place}, EventDeeds.{acts_deeds, event_deeds}, NetRecords.IsNetRecord}
+use Rattle.c104_run.specs.{NetRecords.{NetRecord, net_record}, Runs.{at_node, run_deeds}, WiredActs.{AreWiredLinks, IsRecordedAt}}
+use Rattle.{c104_run.specs.WiredActs.{IsRecordedNode, IsWiredAct}, c104_switch.specs.Actions.{Reply, is_ready}}
 use Rattle.{c104_switch.specs.declared.actions.ReplyOf.ReplyOf, c104_token.specs.declared.tokens.Token.Token as PlainToken}
-use Rattle.std.proofs.Common.{All, Bool, List, None, Option, Some, [], ap, arith, false, if◌then◌else◌, length, map, nat_eq, refl}
-use Rattle.std.proofs.{Common.{slice_get, subst, suc, sym, true, ℕ, ◌++◌, ◌+◌, ◌∙◌, ◌∷◌, ◌≡◌}, lemmas.Bool.Decides.nat_tests}
-use Rattle.std.{proofs.lemmas.{List.Elements.{All-cons, All-nil}, Option.slice_get-map}, specs.Option.option_map}
+use Rattle.std.proofs.Common.{All, Bool, List, None, Option, Some, [], ap, arith, false, if◌then◌else◌, map, refl, slice_get, subst, suc}
+use Rattle.std.proofs.{Common.{sym, true, ℕ, ◌++◌, ◌∙◌, ◌∷◌, ◌≡◌}, lemmas.{Bool.Decides.nat_tests, List.Elements.All-nil}}
+use Rattle.std.{proofs.lemmas.Option.slice_get-map, specs.Option.option_map}
 
 module _ (plan : Plan) (is_plan : IsPlan plan) where
   -- the act at a port that is wired goes over a wired link
   near_wired : (crossing : Crossing) (p q : Port) → peer plan p ≡ Some q → (stamp : Stamp) (r : Reply) → IsWiredAct plan (port_place plan p) (entry_of stamp (near_act crossing p) r)
-  near_wired Token (Port.Switch s i) q wired stamp r = λ l is. (let link : i ≡ l = cc in (Port.Switch s i, q, ap (λ (x : ℕ). record { node = s; link = x }) link, wired))
-  near_wired Token (Port.Terminal t) q wired stamp r = λ l is. (let link : 0 ≡ l = cc in (Port.Terminal t, q, ap (λ (x : ℕ). record { node = length plan.switches + t; link = x }) link, wired))
-  near_wired Grant (Port.Switch s i) q wired stamp r = λ l is. (let link : i ≡ l = cc in (Port.Switch s i, q, ap (λ (x : ℕ). record { node = s; link = x }) link, wired))
-  near_wired Grant (Port.Terminal t) q wired stamp r = λ l is. (let link : 0 ≡ l = cc in (Port.Terminal t, q, ap (λ (x : ℕ). record { node = length plan.switches + t; link = x }) link, wired))
+  near_wired crossing p q wired stamp r = search arith
 
   far_link : (told : Reply) (q : Port) → act_link (far_act q told) ≡ Some (end_of plan q).link
-  far_link (ReplyOf.Token x) (Port.Switch s l) = refl
-  far_link (ReplyOf.Token x) (Port.Terminal t) = refl
-  far_link r (Port.Switch s l) = refl
-  far_link r (Port.Terminal t) = refl
+  far_link told q = search arith
 
   far_wired : (told : Reply) (q p : Port) → peer plan q ≡ Some p → (stamp : Stamp) (r : Reply) → IsWiredAct plan (port_place plan q) (entry_of stamp (far_act q told) r)
   far_wired told q p wired stamp r = λ l is. (let both : Some (end_of plan q).link ≡ Some l = sym (far_link told q) ∙ is in let link : (end_of plan q).link ≡ l = cc in (q, p, ap (λ (x : ℕ). record { node = (end_of plan q).node; link = x }) link, wired))
@@ -40,11 +34,7 @@ module _ (plan : Plan) (is_plan : IsPlan plan) where
 
   -- the entries of an event
   lone_wired : (stamp : Stamp) (k : ℕ) (a : ActOf PlainToken) (r : Reply) → act_link a ≡ None → AreWired (lone_deed stamp k a r)
-  lone_wired stamp k a r none = by_reply (is_ready r)
-    where
-      by_reply : (done : Bool) → AreWired (if done then (k, entry_of stamp a r) ∷ [] else [])
-      by_reply false = tt
-      by_reply true = (λ l is. (let both : None ≡ Some l = sym none ∙ is in absurd (let no : ⊥ = cc in no)), tt)
+  lone_wired stamp k a r none = search arith
 
   joint_wired_deeds : (stamp : Stamp) (crossing : Crossing) (p : Port) (r : Reply) (o : Option Port) → peer plan p ≡ o → AreWired (part [] (λ acts. acts_deeds plan stamp acts r) (crossing_acts crossing p o))
   joint_wired_deeds stamp crossing p r None wired = tt
@@ -55,9 +45,7 @@ module _ (plan : Plan) (is_plan : IsPlan plan) where
       by_reply true = (near_wired crossing p q wired stamp r, (far_wired r q p (peer_back plan is_plan p q wired) stamp ReplyOf.Done, tt))
 
   event_wired : (stamp : Stamp) (e : Event) (r : Reply) → AreWired (event_deeds plan stamp e r)
-  event_wired stamp (Event.Cross p) r = joint_wired_deeds stamp Token p r (peer plan p) refl
-  event_wired stamp (Event.Credit p) r = joint_wired_deeds stamp Grant p r (peer plan p) refl
-  event_wired stamp e r = lone_wired stamp _ _ r refl
+  event_wired stamp e r = search (arith, joint_wired_deeds, lone_wired)
 
   -- those of a run, and the part of a node of them
   run_wired : (stamps : ℕ → Stamp) (n : ℕ) (events : List (Event × Reply)) → AreWired (run_deeds plan stamps n events)
@@ -66,13 +54,7 @@ module _ (plan : Plan) (is_plan : IsPlan plan) where
 
   node_wired : (k : ℕ) (deeds : List Deed) → AreWired deeds → AreWiredLinks plan k (at_node k deeds)
   node_wired k [] wired = All-nil (IsWiredAct plan k)
-  node_wired k (d ∷ deeds) wired = by_place (node_wired k deeds wired.1) (nat_eq d.0 k) refl
-    where
-      by_place : AreWiredLinks plan k (at_node k deeds) → (b : Bool) → nat_eq d.0 k ≡ b → AreWiredLinks plan k (if b then d.1 ∷ at_node k deeds else at_node k deeds)
-      by_place rest true at =
-          let same : d.0 ≡ k = grind (arith, nat_tests, at) in
-          All-cons (IsWiredAct plan k) d.1 (at_node k deeds) (subst (λ j. IsWiredAct plan j d.1) same wired.0) rest
-      by_place rest false at = rest
+  node_wired k (d ∷ deeds) wired = search (arith, nat_tests, node_wired k deeds wired.1)
 
 -- so traces that tell a run
 pub told_wired : (plan : Plan) → IsPlan plan → (stamps : ℕ → Stamp) (events : List (Event × Reply)) (start : List (Node PlainToken)) (traces : List (List Entry)) → ((k : ℕ) → slice_get traces k ≡ option_map (λ n. at_node k (run_deeds plan stamps 0 events)) (slice_get start k)) →
