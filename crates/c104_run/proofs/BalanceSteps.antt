@@ -3,10 +3,11 @@ use Rattle.c104_link.{proofs.MadeSteps.{at_place_made, from_place_made, given}, 
 use Rattle.c104_node.{proofs.NamedWires.{nodes_credit, nodes_cross}, specs.Nodes.{Node, node_credit_in, node_credit_out, node_enter}}
 use Rattle.{c104_node.specs.{Nodes.node_leave, declared.ends.End.End}, c104_plan.specs.{Plans.{IsPlan, Plan}, Wiring.peer}}
 use Rattle.{c104_plan.specs.declared.ports.Port.Port, c104_run.proofs.BalanceNodes.{credit_in_acts, credit_out_acts, enter_acts}}
-use Rattle.c104_run.proofs.{BalanceNodes.leave_acts, BalancePlaces.{ActsAt, Rests, acts_at, changed, lower, raise, seen_kept}}
-use Rattle.c104_run.proofs.{BalancePlaces.{still_in_place, switches_first}, BalanceWires.{ends_apart, peer_back, peer_one, port_cases}}
-use Rattle.{c104_run.specs.{Balance.{AreLevel, IsSteady, credit_of, granted_of}, Ends.end_of, Network.network_of}, std.proofs.Common.List}
-use Rattle.std.proofs.Common.{Option, Some, ap, arith, inl, inr, length, slice_get, slice_set, subst, sym, ℕ, ◌∙◌, ◌≡◌, ◌≢◌}
+use Rattle.c104_run.proofs.{BalanceNodes.leave_acts, BalancePlaces.{ActsAt, Reading, Rests, acts_at, changed, lower, raise, read_at}}
+use Rattle.c104_run.proofs.{BalancePlaces.{seen_kept, still_in_place, switches_first}, BalanceWires.{ends_apart, peer_back, peer_one}}
+use Rattle.c104_run.{proofs.BalanceWires.port_cases, specs.{Balance.{AreInPlace, IsSteady, credit_of, granted_of}, Ends.end_of}}
+use Rattle.{c104_run.specs.Network.network_of, std.proofs.Common.{List, Option, Some, ap, arith, inl, inr, length, slice_get, slice_set}}
+use Rattle.std.proofs.{Common.{subst, sym, ℕ, ◌∙◌, ◌≡◌, ◌≢◌}, lemmas.Option.same_Some}
 
 module _ {A : Type 0} (plan : Plan) where
   -- a step of one node that keeps both numbers
@@ -21,6 +22,16 @@ module _ {A : Type 0} (plan : Plan) where
   pub steady_from : {Y : Type 0} (nodes : List (Node A)) (i : ℕ) (f : Node A → Option (Y × Node A)) (r : Y × List (Node A)) → yield_step_at nodes i f ≡ Some r → ((n : Node A) (v : Y × Node A) → f n ≡ Some v → Rests n v.1) → IsSteady (network_of plan nodes) → IsSteady (network_of plan r.1)
   steady_from {Y} nodes i f r is rests steady = from_place_made nodes i f r is (λ n v here made set. subst (λ (r : Y × List (Node A)). IsSteady (network_of plan r.1)) set (rest_steady nodes i n v.1 here (rests n v made) steady))
 
+  -- two numbers that are read at the ends of a wire are one, and so they are at every wire, seen from either end
+  abbrev IsEven : Reading A → Reading A → List (Node A) → End → End → Type 0
+  IsEven f g nodes from to = (n : ℕ) × (read_at f nodes from ≡ Some n) × (read_at g nodes to ≡ Some n)
+
+  abbrev AreEven : Reading A → Reading A → List (Node A) → Type 0
+  AreEven f g nodes = (p q : Port) → peer plan p ≡ Some q → IsEven f g nodes (end_of plan p) (end_of plan q)
+
+  turned : IsPlan plan → (f g : Reading A) (nodes : List (Node A)) → AreEven f g nodes → AreEven g f nodes
+  turned is_plan f g nodes even p q wired = let was = even q p (peer_back plan is_plan p q wired) in (was.0, was.2, was.1)
+
   module _ (is_plan : IsPlan plan) (p q : Port) (wired : peer plan p ≡ Some q) (change : ℕ → ℕ) (nodes mid after : List (Node A)) where
     abbrev count : ℕ
     count = length plan.switches
@@ -31,60 +42,38 @@ module _ {A : Type 0} (plan : Plan) where
     abbrev far : End
     far = end_of plan q
 
+    -- one number changes at one end, and then the other one at the other end
+    both_changed : (moved kept : Reading A) → ActsAt kept moved change count near nodes mid → ActsAt moved kept change count far mid after → AreInPlace plan nodes → AreEven moved kept nodes → AreEven moved kept after
+    both_changed moved kept first second placed even p' q' wired' =
+        elim (port_cases p p') [
+          | inl same ↦
+              let one : q ≡ q' = same_Some _ _ (sym wired ∙ ap (peer plan) same ∙ wired') in
+              let was : IsEven moved kept nodes near far = even p q wired in
+              let both : IsEven moved kept after near far = (
+                change was.0,
+                second.keeps near ∙ first.here ∙ ap (changed change) was.1,
+                second.here ∙ ap (changed change) (first.keeps far ∙ was.2),
+              ) in
+              subst (λ r. IsEven moved kept after (end_of plan r) (end_of plan q')) same (subst (λ r. IsEven moved kept after near (end_of plan r)) one both)
+          | inr differs ↦
+              let differs_far : q ≢ q' = λ one. differs (peer_one plan is_plan p p' q wired (wired' ∙ ap Some (sym one))) in
+              let was : IsEven moved kept nodes (end_of plan p') (end_of plan q') = even p' q' wired' in (
+                was.0,
+                second.keeps (end_of plan p') ∙ first.elsewhere (switches_first plan nodes placed) (end_of plan p') (ends_apart plan is_plan p q p' q' wired wired' differs) ∙ was.1,
+                second.elsewhere (switches_first plan mid (first.in_place ∙ placed)) (end_of plan q') (ends_apart plan is_plan q p q' p' (peer_back plan is_plan p q wired) (peer_back plan is_plan p' q' wired') differs_far) ∙ first.keeps (end_of plan q') ∙ was.2,
+              )
+        ]
+
     -- the credit changes at one end, and then what is granted at the other
     credit_then_granted : ActsAt granted_of credit_of change count near nodes mid → ActsAt credit_of granted_of change count far mid after → IsSteady (network_of plan nodes) → IsSteady (network_of plan after)
-    credit_then_granted first second steady = record { in_place = second.in_place ∙ first.in_place ∙ steady.in_place; balanced = by_port }
-      where
-        by_port : (p' q' : Port) → peer plan p' ≡ Some q' → AreLevel after (end_of plan p') (end_of plan q')
-        by_port p' q' wired' =
-            elim (port_cases p p') [
-              | inl same ↦
-                  let other : Some q ≡ Some q' = sym wired ∙ ap (peer plan) same ∙ wired' in
-                  let one : q ≡ q' = cc in
-                  let was : AreLevel nodes near far = steady.balanced p q wired in
-                  let both : AreLevel after near far = (
-                    change was.0,
-                    second.keeps near ∙ first.here ∙ ap (changed change) was.1,
-                    second.here ∙ ap (changed change) (first.keeps far ∙ was.2),
-                  ) in
-                  subst (λ r. AreLevel after (end_of plan r) (end_of plan q')) same (subst (λ r. AreLevel after near (end_of plan r)) one both)
-              | inr differs ↦
-                  let differs_far : q ≢ q' = λ one. differs (peer_one plan is_plan p p' q wired (wired' ∙ ap Some (sym one))) in
-                  let was : AreLevel nodes (end_of plan p') (end_of plan q') = steady.balanced p' q' wired' in (
-                    was.0,
-                    second.keeps (end_of plan p') ∙ first.elsewhere (switches_first plan nodes steady.in_place) (end_of plan p') (ends_apart plan is_plan p q p' q' wired wired' differs) ∙ was.1,
-                    second.elsewhere (switches_first plan mid (first.in_place ∙ steady.in_place)) (end_of plan q') (ends_apart plan is_plan q p q' p' (peer_back plan is_plan p q wired) (peer_back plan is_plan p' q' wired') differs_far) ∙ first.keeps (end_of plan q') ∙ was.2,
-                  )
-            ]
+    credit_then_granted first second steady = record { in_place = second.in_place ∙ first.in_place ∙ steady.in_place; balanced = both_changed credit_of granted_of first second steady.in_place steady.balanced }
 
     -- what is granted changes at one end, and then the credit at the other
     granted_then_credit : ActsAt credit_of granted_of change count near nodes mid → ActsAt granted_of credit_of change count far mid after → IsSteady (network_of plan nodes) → IsSteady (network_of plan after)
-    granted_then_credit first second steady = record { in_place = second.in_place ∙ first.in_place ∙ steady.in_place; balanced = by_port }
-      where
-        back : peer plan q ≡ Some p
-        back = peer_back plan is_plan p q wired
-
-        by_port : (q' p' : Port) → peer plan q' ≡ Some p' → AreLevel after (end_of plan q') (end_of plan p')
-        by_port q' p' wired' =
-            elim (port_cases q q') [
-              | inl same ↦
-                  let other : Some p ≡ Some p' = sym back ∙ ap (peer plan) same ∙ wired' in
-                  let one : p ≡ p' = cc in
-                  let was : AreLevel nodes far near = steady.balanced q p back in
-                  let both : AreLevel after far near = (
-                    change was.0,
-                    second.here ∙ ap (changed change) (first.keeps far ∙ was.1),
-                    second.keeps near ∙ first.here ∙ ap (changed change) was.2,
-                  ) in
-                  subst (λ r. AreLevel after (end_of plan r) (end_of plan p')) same (subst (λ r. AreLevel after far (end_of plan r)) one both)
-              | inr differs ↦
-                  let differs_near : p ≢ p' = λ one. differs (peer_one plan is_plan q q' p back (wired' ∙ ap Some (sym one))) in
-                  let was : AreLevel nodes (end_of plan q') (end_of plan p') = steady.balanced q' p' wired' in (
-                    was.0,
-                    second.elsewhere (switches_first plan mid (first.in_place ∙ steady.in_place)) (end_of plan q') (ends_apart plan is_plan q p q' p' back wired' differs) ∙ first.keeps (end_of plan q') ∙ was.1,
-                    second.keeps (end_of plan p') ∙ first.elsewhere (switches_first plan nodes steady.in_place) (end_of plan p') (ends_apart plan is_plan p q p' q' wired (peer_back plan is_plan q' p' wired') differs_near) ∙ was.2,
-                  )
-            ]
+    granted_then_credit first second steady = record {
+      in_place = second.in_place ∙ first.in_place ∙ steady.in_place;
+      balanced = turned is_plan granted_of credit_of after (both_changed granted_of credit_of first second steady.in_place (turned is_plan credit_of granted_of nodes steady.balanced));
+    }
 
   module _ (is_plan : IsPlan plan) (p q : Port) (wired : peer plan p ≡ Some q) (nodes : List (Node A)) where
     -- a token crosses a wire
