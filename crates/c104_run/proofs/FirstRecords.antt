@@ -1,16 +1,17 @@
 -- A network with its record, where nothing was done yet.
-use Rattle.c104_node.specs.{Nodes.Node, Records.{HasCap, NodeRecord, NodeRoom}, Starts.{start_node, start_of}, Terminals.new_terminal}
-use Rattle.{c104_node.specs.declared.{acts.Entry.Entry, node.NodeOf.NodeOf, starts.NodeStart.NodeStart}, c104_plan.specs.PlanImage.Image}
-use Rattle.{c104_plan.specs.{Plans.Plan, declared.plans.Terminal.Terminal}, c104_regs.specs.declared.settings.Settings.Settings}
-use Rattle.c104_run.{proofs.{BalancePlaced.steady_copy, RecordSteps.same_record, StartsBack.starts_back}, specs.Balance.IsSteady}
-use Rattle.c104_run.specs.{NetRecords.{IsNetRecord, IsWithinLimit, first_record, fresh_record, shown_record}, Network.network_of}
-use Rattle.c104_run.specs.{Network.{new_network, placed_network}, RecordedNets.{IsRecordedNet, Reading, places_record, read_trace}}
-use Rattle.{c104_run.specs.RecordedPlaces.node_reading, c104_switch.specs.{Starts.{SwitchStart, new_link, new_start}, Switch.new_switch}}
-use Rattle.c104_switch.specs.{Switch.new_switch_with, declared.link_start.LinkStart.LinkStart}
-use Rattle.{c104_token.specs.declared.tokens.Token.Token, std.proofs.Common.{All, Bool, List, OnOk, Result, [], ap, arith, length, map}}
-use Rattle.std.proofs.{Common.{refl, slice_get, subst, sym, take, true, ℕ, ◌++◌, ◌+◌, ◌∙◌, ◌∷◌, ◌≡◌, ◌≤◌}, lemmas.List.Elements.All-map}
-use Rattle.std.proofs.lemmas.{List.{Elements.All-replicate, length-append, length-map, length-take-le, map-append}, Option.slice_get-map}
-use Rattle.std.specs.Option.{option_map}
+use Rattle.c104_node.specs.{Nodes.Node, Records.{HasCap, NodeRecord, NodeRoom, has_link}, Starts.{start_node, start_of}}
+use Rattle.c104_node.specs.{Terminals.new_terminal, declared.{acts.Entry.Entry, node.NodeOf.NodeOf, starts.NodeStart.NodeStart}}
+use Rattle.c104_plan.specs.{PlanImage.Image, Plans.Plan, declared.plans.Terminal.Terminal}
+use Rattle.{c104_regs.specs.declared.settings.Settings.Settings, c104_run.proofs.{BalancePlaced.steady_copy, LinkedNodes.linked_more}}
+use Rattle.c104_run.{proofs.{RecordSteps.same_record, RoundLists.map_one_more, StartsBack.starts_back}, specs.Balance.IsSteady}
+use Rattle.c104_run.specs.{KnownWires.{AreLinkedNodes, is_linked_end}, NetRecords.{IsNetRecord, IsWithinLimit, first_record, fresh_record}}
+use Rattle.c104_run.specs.{NetRecords.shown_record, Network.{network_of, new_network, placed_network}, RecordedNets.IsRecordedNet}
+use Rattle.c104_run.specs.{RecordedNets.{Reading, places_record, read_trace}, RecordedPlaces.node_reading}
+use Rattle.c104_switch.specs.{Starts.{SwitchStart, new_link, new_start}, Switch.{new_switch, new_switch_with}}
+use Rattle.{c104_switch.specs.declared.link_start.LinkStart.LinkStart, c104_token.specs.declared.tokens.Token.Token, std.proofs.Common.All}
+use Rattle.std.proofs.Common.{Bool, List, OnOk, Result, [], ap, append_assoc, arith, get_or, length, map, refl, slice_get, subst, sym, take}
+use Rattle.std.proofs.{Common.{true, ℕ, ◌++◌, ◌+◌, ◌<◌, ◌∙◌, ◌∷◌, ◌≡◌, ◌≤◌}, lemmas.List.{Elements.{All-map, All-replicate}, length-append}}
+use Rattle.std.{proofs.lemmas.{List.{length-map, length-take-le, map-append}, Option.slice_get-map}, specs.Option.option_map}
 
 abbrev Shown : Type 0
 Shown = Node Token × Node Token × List Entry
@@ -108,6 +109,19 @@ net_first plan wires nodes list same shown steady =
 -- how many nodes there are, by what they show
 pub made_count : {X : Type 0} (made : X → Shown) (before : List Shown) (xs : List X) (i : ℕ) (list : List (NodeRecord × NodeRoom)) → map shown_record list ≡ before ++ map made (take i xs) → i ≤ length xs → length list ≡ length before + i
 made_count made before xs i list is inside = search (arith, length-map, length-append, length-take-le)
+
+-- one node more, as it is made, with the wired links of its place
+pub node_more : {X : Type 0} (wires : Plan) (made : X → Node Token) (before : List Shown) (xs : List X) (i : ℕ) (x : X) (list mid next : List (NodeRecord × NodeRoom)) (v : NodeRecord × NodeRoom) (r : NodeRecord) (place : ℕ) →
+    i < length xs → x ≡ get_or xs i x → v.0 ≡ r → r.state ≡ made x → start_node r.start ≡ made x → r.trace ≡ [] → ((l : ℕ) → has_link r.wired l ≡ is_linked_end wires place l) → place ≡ length list → mid ≡ list → next ≡ mid ++ v ∷ [] →
+    map shown_record list ≡ before ++ map (λ x. first_record (made x)) (take i xs) → AreLinkedNodes wires list → (map shown_record next ≡ before ++ map (λ x. first_record (made x)) (take (i + 1) xs)) × AreLinkedNodes wires next
+node_more {X} wires made before xs i x list mid next v r place inside here is state begun trace links at same pushed so linked =
+    let first = λ (x : X). first_record (made x) in
+    let so_far = map first (take i xs) in
+    let grown : next ≡ list ++ v ∷ [] = pushed ∙ ap (λ ns. ns ++ v ∷ []) same in (
+      ap (map shown_record) grown ∙ map-append shown_record list (v ∷ []) ∙ ap (λ ys. ys ++ shown_record v ∷ []) so ∙ append_assoc before so_far (shown_record v ∷ [])
+          ∙ ap (λ ys. before ++ ys) (map_one_more first xs i x (shown_record v) so_far (so_far ++ shown_record v ∷ []) inside here (shown_switch v r (made x) is state begun trace) refl refl),
+      linked_more wires list next v linked (λ l. ap (λ (r : NodeRecord). has_link r.wired l) is ∙ links l ∙ ap (λ n. is_linked_end wires n l) at) grown,
+    )
 
 -- the buffers of a new switch are of its size
 pub new_sized : (cap : ℕ) (settings : List Settings) (started : Bool) (s : SwitchStart) → s ≡ new_start cap settings started → HasCap cap (NodeStart.Switch s)
