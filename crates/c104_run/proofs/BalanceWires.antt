@@ -2,7 +2,7 @@
 use Rattle.{c104_node.specs.declared.ends.End.End, c104_plan.proofs.{PortLemmas.{cases_port, is_port-refl}, Wires.wiring}}
 use Rattle.c104_plan.specs.{Plans.{IsPlan, Plan}, Ports.IsSwitchPort, Wiring.{IsPlanPort, peer}, declared.ports.Port.Port}
 use Rattle.{c104_run.specs.{Ends.end_of, FarEnds.far_end}, std.proofs.Common.{Some, arith, length, sym, ℕ, ◌+◌, ◌<◌, ◌∙◌, ◌≡◌, ◌≢◌, ◌⊎◌}}
-use Rattle.std.proofs.lemmas.Bool.{cases_eq}
+use Rattle.std.proofs.lemmas.{Bool.cases_eq, Option.same_Some}
 use Rattle.c104_plan.specs.Ports as ports
 
 -- two ports are one, or they differ
@@ -20,11 +20,7 @@ module _ (plan : Plan) (is_plan : IsPlan plan) where
 
   -- ports with one other end are one port
   pub peer_one : (p p' q : Port) → peer plan p ≡ Some q → peer plan p' ≡ Some q → p ≡ p'
-  peer_one p p' q is is' =
-      let back : peer plan q ≡ Some p = peer_back p q is in
-      let back' : peer plan q ≡ Some p' = peer_back p' q is' in
-      let same : Some p ≡ Some p' = sym back ∙ back' in
-      cc
+  peer_one p p' q is is' = same_Some _ _ (sym (peer_back p q is) ∙ peer_back p' q is')
 
   -- a switch's port that has a wire is one of the plan's ports
   pub switch_inside : (s l : ℕ) (q : Port) → peer plan (Port.Switch s l) ≡ Some q → IsSwitchPort (length plan.switches) (Port.Switch s l)

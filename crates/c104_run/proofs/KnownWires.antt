@@ -2,7 +2,7 @@
 use Rattle.c104_node.{proofs.PlaceSteps.shown_at, specs.{Places.{PlaceBase, Shown, base_wired, bases}, Traces.part, WiredPlaces.links_at}}
 use Rattle.{c104_node.specs.WiredPlaces.links_of, c104_plan.specs.Plans.Plan, c104_run.specs.KnownWires.{KnowWires, is_linked_end}}
 use Rattle.std.proofs.Common.{Bool, IfSome, List, None, Option, Some, ap, arith, map, option_map, refl, slice_get, subst, sym, true, ℕ, ◌∙◌}
-use Rattle.std.proofs.{Common.◌≡◌, lemmas.Option.slice_get-map}
+use Rattle.std.proofs.{Common.◌≡◌, lemmas.Option.{same_Some, slice_get-map}}
 
 -- what is known of wires depends on nothing else
 module _ (bs cs : List PlaceBase) (same : map base_wired bs ≡ map base_wired cs) where
@@ -26,8 +26,7 @@ module _ (bs cs : List PlaceBase) (same : map base_wired bs ≡ map base_wired c
           let both : Some b.wired ≡ None = sym (ap (option_map base_wired) here) ∙ sym (slice_get-map base_wired bs k) ∙ ap (λ ws. slice_get ws k) same ∙ slice_get-map base_wired cs k ∙ ap (option_map base_wired) there in
           absurd (let no : ⊥ = cc in no)
       exact_by k b here (Some c) there =
-          let both : Some b.wired ≡ Some c.wired = sym (ap (option_map base_wired) here) ∙ sym (slice_get-map base_wired bs k) ∙ ap (λ ws. slice_get ws k) same ∙ slice_get-map base_wired cs k ∙ ap (option_map base_wired) there in
-          let one : b.wired ≡ c.wired = cc in
+          let one : b.wired ≡ c.wired = same_Some _ _ (sym (ap (option_map base_wired) here) ∙ sym (slice_get-map base_wired bs k) ∙ ap (λ ws. slice_get ws k) same ∙ slice_get-map base_wired cs k ∙ ap (option_map base_wired) there) in
           subst (λ o. IfSome o (λ (wired : ℕ → Bool). (l : ℕ) → wired l ≡ is_linked_end plan k l)) (sym one) (known.exact k c there)
 
 module _ {A : Type 0} where

@@ -5,7 +5,7 @@ use Rattle.c104_plan.{proofs.Wires.wiring, specs.{Plans.{IsPlan, Plan}, Wiring.{
 use Rattle.c104_run.specs.{EventActs.port_place, KnownWires.{AreLinkedNodes, KnowWires, is_linked_end}, Rounds.is_wired}
 use Rattle.{c104_token.specs.declared.tokens.Token.Token, std.proofs.Common.{Bool, IfSome, List, None, Option, Some, [], ap, arith, false}}
 use Rattle.std.proofs.Common.{is_some, length, map, nat_lt, refl, slice_get, subst, suc, sym, true, zero, ℕ, ◌&&◌, ◌++◌, ◌-◌, ◌<◌, ◌∙◌, ◌∷◌}
-use Rattle.std.proofs.{Common.{◌≡◌, ◌≤◌}, lemmas.Bool.{Decides.nat_tests, cases_eq}}
+use Rattle.std.proofs.{Common.{◌≡◌, ◌≤◌}, lemmas.{Bool.{Decides.nat_tests, cases_eq}, Option.same_Some}}
 
 -- what is so of each element by its place is so of one more
 each_more : {X : Type 0} (P : ℕ → X → Type 0) (xs : List X) (x : X) → ((k : ℕ) (y : X) → slice_get xs k ≡ Some y → P k y) → P (length xs) x → (k : ℕ) (y : X) → slice_get (xs ++ x ∷ []) k ≡ Some y → P k y
@@ -59,8 +59,7 @@ module _ (plan : Plan) (is_plan : IsPlan plan) (nodes : List (NodeRecord × Node
       exact_by : (k : ℕ) (b : PlaceBase) → slice_get (bases (map node_shown nodes)) k ≡ Some b → (o : Option (NodeRecord × NodeRoom)) → slice_get nodes k ≡ o → IfSome b.wired (λ (wired : ℕ → Bool). (l : ℕ) → wired l ≡ is_linked_end plan k l)
       exact_by k b here None is = let both : None ≡ Some b = sym (shown_at (λ (s : Shown Token). s.base) node_shown nodes k None is) ∙ here in absurd (let no : ⊥ = cc in no)
       exact_by k b here (Some n) is =
-          let both : Some (node_shown n).base ≡ Some b = sym (shown_at (λ (s : Shown Token). s.base) node_shown nodes k (Some n) is) ∙ here in
-          let one : (node_shown n).base ≡ b = cc in
+          let one : (node_shown n).base ≡ b = same_Some _ _ (sym (shown_at (λ (s : Shown Token). s.base) node_shown nodes k (Some n) is) ∙ here) in
           subst (λ o. IfSome o (λ (wired : ℕ → Bool). (l : ℕ) → wired l ≡ is_linked_end plan k l)) (ap base_wired one) (linked k n is)
 
 -- and what is known tells the links of each node
