@@ -3,19 +3,14 @@ use Rattle.{c104_event.specs.declared.{events.Event.Event, faults.EventFault.Eve
 use Rattle.{c104_node.specs.Places.Shown, c104_plan.specs.Plans.Plan, c104_run.proofs.{MeteredSteps.idle_part, PartRuns.number_next}}
 use Rattle.c104_run.proofs.PartRuns.{number_passes, number_stops, part_after, part_empty, stops_after, stops_before}
 use Rattle.c104_run.{proofs.PortWalks.round_walked, specs.{Engines.{DoesPart, EngineView, engine_at, engine_network}, Meters.Sees}}
-use Rattle.c104_run.specs.{Meters.metered_apply, RoundParts.{AreIdle, IsNext, PartEnds, walked_round}, Rounds.round}
-use Rattle.{c104_token.specs.Kinds.Kind, std.proofs.Common.{Bool, Err, IsErr, IsErrAnd, List, None, Ok, Option, Result, Some, ap, arith}}
-use Rattle.std.{proofs.Common.{false, length, refl, subst, sym, unwrap_or, ℕ, ◌++◌, ◌+◌, ◌<◌, ◌||◌, ◌∙◌, ◌≡◌, ◌≤◌}, specs.List.flat_map}
-use Rattle.std.specs.List.{range_with_len}
+use Rattle.{c104_run.specs.{Meters.metered_apply, RoundParts.{IsNext, PartEnds, walked_round}, Rounds.round}, c104_token.specs.Kinds.Kind}
+use Rattle.std.proofs.Common.{Bool, Err, IsErr, IsErrAnd, List, None, Ok, Option, Result, Some, ap, arith, false, length, refl, subst, sym}
+use Rattle.std.{proofs.Common.{unwrap_or, ℕ, ◌++◌, ◌+◌, ◌<◌, ◌||◌, ◌∙◌, ◌≡◌, ◌≤◌}, specs.List.{flat_map, range_with_len}}
 
 module _ {A M P : Type 0} {kind : Kind A} {keeps : Bool} {sees : Sees M A} {shown : P → Shown A} where
   -- a part of which the events are named otherwise
   pub does_so : {old new : EngineView P} {m n : M} {es fs : Plan → List Event} {result : Result Bool EventFault} → es old.plan ≡ fs old.plan → DoesPart kind keeps sees shown old m es result new n → DoesPart kind keeps sees shown old m fs result new n
   does_so {old} {new} {m} {n} {es} {fs} {result} same does = search arith
-
-  -- events that do nothing
-  pub does_nothing : {e : EngineView P} {m : M} {es : Plan → List Event} → AreIdle kind (engine_network shown e) (es e.plan) → DoesPart kind keeps sees shown e m es (Ok false) e m
-  does_nothing {e} {m} {es} idle = record { plan = refl; ends = idle_part kind keeps sees (engine_at shown e m) (es e.plan) idle }
 
   -- a part that a fault stops, and what would have followed
   pub does_before : {old new : EngineView P} {m n : M} {es : Plan → List Event} {f : EventFault} → DoesPart kind keeps sees shown old m es (Err f) new n → (fs : Plan → List Event) → DoesPart kind keeps sees shown old m (λ p. es p ++ fs p) (Err f) new n

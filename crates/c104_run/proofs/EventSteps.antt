@@ -35,9 +35,6 @@ is_switch_port (Port.Terminal t) = false
 
 -- an act at a place, as the step that its name says
 module _ {A : Type 0} (nodes : List (Node A)) (k : ℕ) (act_of : Node A → Option (ReplyOf A × Node A)) where
-  abbrev put_reply : ReplyOf A × Node A → Option (ReplyOf A × List (Node A))
-  put_reply y = Some (y.0, slice_set nodes k y.1)
-
   done_at : (f : Node A → Option (Node A)) → ((n : Node A) → slice_get nodes k ≡ Some n → act_of n ≡ done_by (f n)) → yield_step_at nodes k act_of ≡ done_by (step_at nodes k f)
   done_at f same = search arith
 
@@ -45,9 +42,6 @@ module _ {A : Type 0} (nodes : List (Node A)) (k : ℕ) (act_of : Node A → Opt
   module _ {Y : Type 0} (answer : Y → ReplyOf A) where
     abbrev answered : {S : Type 0} → Option (Y × S) → Option (ReplyOf A × S)
     answered made = made >>= (λ r. Some (answer r.0, r.1))
-
-    abbrev put_yield : Y × Node A → Option (Y × List (Node A))
-    put_yield y = Some (y.0, slice_set nodes k y.1)
 
     yield_at : (f : Node A → Option (Y × Node A)) → ((n : Node A) → slice_get nodes k ≡ Some n → act_of n ≡ answered (f n)) → yield_step_at nodes k act_of ≡ answered (yield_step_at nodes k f)
     yield_at f same = search arith

@@ -26,6 +26,3 @@ module _ (switches k : ℕ) where
 -- the act that leads in an event does so at its place
 at_place : (plan : Plan) (e : Event) → act_number (length plan.switches) (event_place plan e) (lead e) ≡ number e
 at_place plan e = search arith
-
-pub place_leads : (plan : Plan) (e : Event) → act_event (length plan.switches) (event_place plan e) (lead e) ≡ Some e
-place_leads plan e = told (length plan.switches) (event_place plan e) e (at_place plan e)

@@ -1,12 +1,11 @@
 -- The part of a node in a round is what its ports and the node itself have in each part of the round.
 use Rattle.{c104_event.specs.declared.events.Event.Event, c104_node.specs.declared.port_part.PortPart.PortPart, c104_plan.specs.Plans.Plan}
-use Rattle.{c104_plan.specs.declared.ports.Port.Port, c104_run.{proofs.PartRuns.singles, specs.EventActs.port_place}}
-use Rattle.c104_run.specs.{EventPlaces.event_place, NodeParts.{events_of, node_ports, own_events, round_part}, RoundParts.port_events}
-use Rattle.c104_run.specs.Rounds.{all_claims, all_drains, claims_of, is_wired, link_numbers, switch_claims, turn_at, wired_links}
-use Rattle.{c104_run.specs.Rounds.{wired_ports, wired_terminals}, std.proofs.Common.{Bool, List, [], ap, append-nil, append_assoc, arith}}
-use Rattle.std.proofs.Common.{false, filter, if◌then◌else◌, length, map, nat_eq, nat_lt, refl, suc, true, zero, ℕ, ◌++◌, ◌+◌, ◌-◌, ◌<◌, ◌∙◌}
-use Rattle.std.proofs.{Common.{◌∷◌, ◌≡◌, ◌≤◌}, lemmas.{Bool.Decides.nat_tests, List.Elements.{filter-append, filter_agree}}}
-use Rattle.std.specs.List.{flat_map, range_with_len}
+use Rattle.{c104_plan.specs.declared.ports.Port.Port, c104_run.specs.{EventActs.port_place, EventPlaces.event_place, NodeParts.events_of}}
+use Rattle.c104_run.specs.{NodeParts.{node_ports, own_events, round_part}, RoundParts.port_events, Rounds.{all_claims, all_drains}}
+use Rattle.c104_run.specs.Rounds.{claims_of, is_wired, link_numbers, switch_claims, turn_at, wired_links, wired_ports, wired_terminals}
+use Rattle.std.proofs.Common.{Bool, List, [], ap, append-nil, append_assoc, arith, false, filter, if◌then◌else◌, length, map, nat_eq}
+use Rattle.std.proofs.{Common.{nat_lt, refl, suc, true, zero, ℕ, ◌++◌, ◌+◌, ◌-◌, ◌<◌, ◌∙◌, ◌∷◌, ◌≡◌, ◌≤◌}, lemmas.Bool.Decides.nat_tests}
+use Rattle.std.{proofs.lemmas.List.Elements.{filter-append, filter_agree}, specs.List.{flat_map, range_with_len}}
 
 -- of lists that are joined, and of which a test passes all or none
 filter_flat : {X Y : Type 0} (q : Y → Bool) (f : X → List Y) (r : X → Bool) → ((x : X) → filter q (f x) ≡ (if r x then f x else [])) → (xs : List X) → filter q (flat_map f xs) ≡ flat_map f (filter r xs)
@@ -169,4 +168,4 @@ module _ (plan : Plan) (k : ℕ) where
   parted = search (arith, filter-append)
 
   pub round_part_is : round_part plan k ≡ events_of plan k (node_ports plan k)
-  round_part_is = search (arith, parted, joined, singles, part_events, own_are)
+  round_part_is = search (arith, parted, joined, part_events, own_are)

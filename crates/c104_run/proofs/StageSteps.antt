@@ -1,11 +1,11 @@
 -- An event of a stage: what it answers, and what is kept of it.
-use Rattle.{c104_event.specs.declared.{events.Event.Event, faults.EventFault.EventFault}, c104_node.specs.Places.{IsFullByTrace, PlaceBase}}
-use Rattle.c104_node.specs.{Places.{Shown, fulls, is_kept_full, room_fault, traces}, Traces.{kept_of, noted_all, seatless}}
-use Rattle.{c104_node.specs.declared.acts.Entry.Entry, c104_plan.specs.Plans.Plan, c104_run.proofs.RoundRuns.{Applied, is_told}}
-use Rattle.c104_run.{proofs.{RoundRuns.{step_replies, undone_stays}, UndoneEvents.undone_deeds}, specs.EventDeeds.{event_deeds, event_full}}
-use Rattle.c104_run.specs.{EventRuns.Answers, EventsAtPlaces.EventDone, NetRecords.{is_done, ticket_after}, Network.{AnswersWith, Network}}
-use Rattle.c104_run.specs.Network.{WouldBeDone, network_apply, network_step, outcome_if_possible, outcome_if_ready, outcome_within_limit}
-use Rattle.{c104_run.specs.Stages.{Stage, stage_apply, stage_full, stage_of, unless_full}, c104_switch.specs.Actions.{Reply, is_ready}}
+use Rattle.{c104_event.specs.declared.{events.Event.Event, faults.EventFault.EventFault}, c104_node.specs.Places.{IsFullByTrace, Shown}}
+use Rattle.c104_node.specs.{Places.{fulls, is_kept_full, room_fault, traces}, Traces.{kept_of, noted_all, seatless}}
+use Rattle.{c104_plan.specs.Plans.Plan, c104_run.proofs.RoundRuns.{Applied, is_told, step_replies, undone_stays}}
+use Rattle.c104_run.{proofs.UndoneEvents.undone_deeds, specs.{EventDeeds.{event_deeds, event_full}, EventRuns.Answers}}
+use Rattle.c104_run.specs.{EventsAtPlaces.EventDone, NetRecords.{is_done, ticket_after}, Network.{AnswersWith, Network, WouldBeDone}}
+use Rattle.c104_run.specs.{Network.{network_apply, network_step, outcome_if_possible, outcome_if_ready, outcome_within_limit}, Stages.Stage}
+use Rattle.{c104_run.specs.Stages.{stage_apply, stage_full, stage_of, unless_full}, c104_switch.specs.Actions.{Reply, is_ready}}
 use Rattle.{c104_switch.specs.declared.actions.ReplyOf.ReplyOf, c104_token.specs.Kinds.Kind, std.proofs.Common.{Bool, Err, IfOk, List}}
 use Rattle.std.proofs.Common.{None, Ok, Option, Result, Some, [], ap, arith, false, if◌then◌else◌, inl, inr, is_some, map, refl, sym, true}
 use Rattle.std.proofs.Common.{ℕ, ◌&&◌, ◌∙◌, ◌∷◌, ◌≡◌}
@@ -30,9 +30,6 @@ would {A} kind net e (possible, ready, within) = by_step (network_step kind net 
         ap (λ (d : Applied (Network A)). is_done d.0) due ∙ is_told r.0 (step_replies kind net e r made)
 
 module _ {A : Type 0} where
-  abbrev stage_with : Network A → List PlaceBase → List (List Entry) → ℕ → Stage A
-  stage_with network bases traces count = record { network = network; bases = bases; traces = traces; count = count }
-
   -- stages that show the same are the same
   pub same_stage : (s t : Stage A) → s.network ≡ t.network → s.bases ≡ t.bases → s.traces ≡ t.traces → s.count ≡ t.count → s ≡ t
   same_stage s t network bases traces count = search arith

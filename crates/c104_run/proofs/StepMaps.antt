@@ -7,12 +7,11 @@ use Rattle.{c104_plan.specs.{Plans.Plan, declared.ports.Port.Port}, c104_run.pro
 use Rattle.c104_run.proofs.TokenMaps.{credit_in_node_map, credit_out_node_map, drain_node_map, enter_node_map, leave_node_map}
 use Rattle.c104_run.{proofs.TurnMaps.{claim_node_map, input_node_map}, specs.EventActs.{acts_step, crossing_acts, event_acts, port_place}}
 use Rattle.c104_run.specs.Network.{Network, event_fault, event_limit, network_apply, network_step, outcome_if_possible, outcome_if_ready}
-use Rattle.c104_run.specs.{Network.{outcome_within_limit, terminal_place, told_step, with_nodes}, Runs.IsDoneRun, TracedRuns.map_network}
+use Rattle.c104_run.specs.{Network.{outcome_within_limit, terminal_place, told_step}, Runs.IsDoneRun, TracedRuns.map_network}
 use Rattle.{c104_switch.specs.{Actions.Reply, declared.actions.{ActionOf.ActionOf, ReplyOf.ReplyOf}}, c104_token.specs.Kinds.Kind}
 use Rattle.c104_token.specs.declared.{packets.Packet.Packet, tokens.Token.{TheVariants.Byte, Token as PlainToken}}
-use Rattle.std.proofs.Common.{IfSome, List, None, Ok, Option, Result, Some, [], ap, arith, length, map, option_map, refl, slice_get}
-use Rattle.std.proofs.{Common.{slice_set, subst, suc, sym, ℕ, ◌-◌, ◌∙◌, ◌∷◌, ◌≡◌}, lemmas.List.{length-map, map-append, map-set}}
-use Rattle.std.proofs.lemmas.Option.{slice_get-map}
+use Rattle.std.proofs.Common.{IfSome, List, None, Ok, Option, Result, Some, [], ap, arith, length, map, option_map, refl, slice_get, subst}
+use Rattle.std.proofs.{Common.{suc, sym, ℕ, ◌-◌, ◌∙◌, ◌∷◌, ◌≡◌}, lemmas.{List.{length-map, map-append, map-set}, Option.slice_get-map}}
 use Rattle.c104_event.specs.declared.events.Event.TheVariants as event
 
 module _ {A B : Type 0} (f : A → B) (from : Kind A) (to : Kind B) (plain_is : (x : A) → to.plain (f x) ≡ from.plain x) (random_is : (j b : ℕ) → to.random j (Byte b) ≡ f (from.random j (Byte b))) where
@@ -108,12 +107,6 @@ module _ {A B : Type 0} (f : A → B) (from : Kind A) (to : Kind B) (plain_is : 
   far_alike : (q : Port) (r : ReplyOf A) (o : Option (Node A)) → IsSentBy 0 o (far_act q r)
   far_alike q r o = search arith
 
-  abbrev set_at : {C : Type 0} → List (Node C) → ℕ → ReplyOf C × Node C → Option (ReplyOf C × List (Node C))
-  set_at nodes k y = Some (y.0, slice_set nodes k y.1)
-
-  abbrev told_with : ReplyOf B → List (Node B) → Option (ReplyOf B × List (Node B))
-  told_with r nodes = Some (r, nodes)
-
   nodes_map : (nodes : List (Node A)) (k number : ℕ) (a : ActOf A) (b : ActOf B) → b ≡ map_act a → IsSentBy number (slice_get nodes k) a → nodes_act to (map (map_node f) nodes) k number b ≡ option_map map_all (nodes_act from nodes k number a)
   nodes_map nodes k number a b same alike = search (arith, slice_get-map, bind_both, act_map, map-set)
 
@@ -138,9 +131,6 @@ module _ {A B : Type 0} (f : A → B) (from : Kind A) (to : Kind B) (plain_is : 
 
   plain_map : (r : ReplyOf A) → plain_reply to (map_reply r) ≡ plain_reply from r
   plain_map r = search arith
-
-  abbrev told_so : Network A → List (Node A) → Reply → Reply × Network B
-  told_so net nodes r = (r, map_network f (with_nodes net nodes))
 
   told_map : (net : Network A) (made : Option (ReplyOf A × List (Node A))) → told_step to (map_network f net) (option_map map_all made) ≡ option_map map_done (told_step from net made)
   told_map net made = search (arith, plain_map)
