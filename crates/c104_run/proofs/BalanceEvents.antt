@@ -60,7 +60,7 @@ module _ {A : Type 0} (kind : Kind A) (plan : Plan) (is_plan : IsPlan plan) (nod
 
   -- what an event leaves, whatever it answers
   pub applied_with : (full : Bool) (e : Event) (answer : Result Reply EventFault) (after : Network A) → AnswersWith kind full net e answer after → IsSteady after
-  applied_with full e answer after h1 = search (arith, by_fault)
+  applied_with full e answer after answers = search (arith, by_fault)
 
   pub applied_steady : (e : Event) (answer : Result Reply EventFault) (after : Network A) → AnswersEvent kind net e answer after → IsSteady after
   applied_steady e answer after is = applied_with false e answer after is

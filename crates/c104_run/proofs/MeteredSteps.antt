@@ -41,7 +41,7 @@ module _ {A M : Type 0} (kind : Kind A) (keeps : Bool) (sees : Sees M A) where
     undone_metered answer told undone same = search arith
 
     metered_answers : (answer : Result Reply EventFault) → IsTold answer → Answers (stage_apply kind keeps) x.stage e answer y.stage → Answers (metered_apply kind keeps sees) x e answer y
-    metered_answers answer told h2 = search (arith, undone_metered)
+    metered_answers answer told answers = search (arith, undone_metered)
 
     metered_part : (answer : Result Reply EventFault) → IsTold answer → (is_done answer ≡ false → y.stage ≡ x.stage) → Answers (stage_apply kind keeps) x.stage e answer y.stage → PartEnds (metered_apply kind keeps sees) x (e ∷ []) (done_answer answer) y
     metered_part answer told undone answers = search (arith, part_of_reply, undone_metered, metered_answers, fault_ends)

@@ -5,7 +5,7 @@ use Rattle.std.proofs.{Common.{None, Option, Some, arith, if◌then◌else◌, n
 module _ (other : Option EventFault) where
   -- where a number isn't below another, there is a fault
   below : (count n : ℕ) (f : EventFault) (inside : Bool) → nat_lt n count ≡ inside → (if inside then other else Some f) ≡ None → n < count
-  below count n f inside h1 is = search (arith, nat_tests)
+  below count n f inside is none = search (arith, nat_tests)
 
   past : (f : EventFault) (inside : Bool) → (if inside then other else Some f) ≡ None → other ≡ None
   past f inside is = search arith

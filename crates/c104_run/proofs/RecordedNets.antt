@@ -144,4 +144,4 @@ module _ {A : Type 0} (kind : Kind A) (tokens : KeepsTokens kind) (net after : N
   )
 
   pub answers_plain : (full : Bool) (answer : Result Reply EventFault) → AnswersWith kind full net e answer after → AnswersWith plain_kind full (plain_network kind net) e answer (plain_network kind after)
-  answers_plain full answer h1 = search (arith, plain_network, apply_plain, would_plain)
+  answers_plain full answer answers = search (arith, plain_network, apply_plain, would_plain)

@@ -119,7 +119,7 @@ module _ {A : Type 0} (kind : Kind A) where
     undone_left undone = there_leaves (event_fault net.plan e) undone
 
     pub undone_stays : (after : Network A) (full : Bool) (answer : Result Reply EventFault) → is_done answer ≡ false → AnswersWith kind full net e answer after → after ≡ net
-    undone_stays after full answer undone h2 = search (arith, undone_left)
+    undone_stays after full answer undone answers = search (arith, undone_left)
 
   pub undone_leaves : (mid after : Network A) (e : Event) (r : Reply) → is_ready r ≡ false → AnswersEvent kind mid e (Ok r) after → after ≡ mid
   undone_leaves mid after e r undone answer = undone_stays mid e after false (Ok r) undone answer

@@ -20,7 +20,7 @@ module _ {S R : Type 0} (apply : S → Event → Applied S) (apply_seen : R → 
 
   module _ (s after : S) (holds : Kept s) where
     pub answers_while : (e : Event) (answer : Result Reply EventFault) → Answers apply s e answer after → Answers apply_seen (seen s) e answer (seen after)
-    answers_while e answer h1 = search arith
+    answers_while e answer answers = search arith
 
     module _ (events : List Event) where
       ends_while : (result : Result (Unit {0}) EventFault) → EventsEnd apply s events result after → EventsEnd apply_seen (seen s) events result (seen after)
