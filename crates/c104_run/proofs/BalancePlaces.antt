@@ -2,8 +2,8 @@
 use Rattle.{c104_link.specs.Steps.◌>>=◌, c104_node.{proofs.WireEnds.{get_set_other, get_set_same}, specs.Nodes.{Node, is_switch}}}
 use Rattle.{c104_node.specs.{Traces.part, declared.ends.End.End}, c104_plan.specs.Plans.Plan, c104_run.proofs.BalanceWires.AreApart}
 use Rattle.{c104_run.{proofs.RunRecords.in_place, specs.Balance.{AreInPlace, credit_of, granted_of}}, std.proofs.Common.{List, Option}}
-use Rattle.std.proofs.Common.{Some, [], ap, arith, false, inl, inr, length, map, nat_lt, refl, slice_get, slice_set, subst, suc, sym, true}
-use Rattle.std.proofs.{Common.{zero, ℕ, ◌+◌, ◌-◌, ◌<◌, ◌∙◌, ◌∷◌, ◌≡◌, ◌≢◌}, lemmas.Bool.{Decides.nat_tests, cases_eq}}
+use Rattle.std.proofs.Common.{Some, [], ap, arith, false, length, map, nat_lt, refl, slice_get, slice_set, suc, sym, true, zero, ℕ, ◌+◌}
+use Rattle.std.proofs.{Common.{◌-◌, ◌<◌, ◌∙◌, ◌∷◌, ◌≡◌, ◌≢◌}, lemmas.Bool.{Decides.nat_tests, cases_eq}}
 
 -- a number that changes, where there is one
 abbrev pub changed : (ℕ → ℕ) → Option ℕ → Option ℕ
@@ -87,9 +87,4 @@ acts_at {A} kept moved change count end nodes n m is acts = record {
 }
   where
     by_apart : AreSwitches count nodes → (other : End) → AreApart count end other → read_at moved (slice_set nodes end.node m) other ≡ read_at moved nodes other
-    by_apart placed other (inl differs) = seen_other nodes end.node other.node m (moved other.link) differs
-    by_apart placed other (inr h) =
-        elim (cases_eq end.node other.node) [
-          | inl same ↦ seen_kept nodes end.node n m is (moved other.link) (acts.elsewhere (placed end.node n (subst (λ k. k < count) (sym same) h.0) is) other.link h.1) other.node
-          | inr differs ↦ seen_other nodes end.node other.node m (moved other.link) differs
-        ]
+    by_apart placed other apart = search (arith, seen_other, cases_eq, seen_kept)

@@ -1,7 +1,7 @@
 -- The wires of a plan: each has two ends, and no two ports that have a wire stand at one end.
 use Rattle.{c104_node.specs.declared.ends.End.End, c104_plan.proofs.{PortLemmas.{cases_port, is_port-refl}, Wires.wiring}}
 use Rattle.c104_plan.specs.{Plans.{IsPlan, Plan}, Ports.IsSwitchPort, Wiring.{IsPlanPort, peer}, declared.ports.Port.Port}
-use Rattle.{c104_run.specs.{Ends.end_of, FarEnds.far_end}, std.proofs.Common.{Some, arith, length, sym, ℕ, ◌+◌, ◌<◌, ◌∙◌, ◌≡◌, ◌≢◌, ◌⊎◌}}
+use Rattle.{c104_run.specs.{Ends.end_of, FarEnds.far_end}, std.proofs.Common.{Some, arith, length, sym, ℕ, ◌<◌, ◌∙◌, ◌≡◌, ◌≢◌, ◌⊎◌}}
 use Rattle.std.proofs.lemmas.{Bool.cases_eq, Option.same_Some}
 use Rattle.c104_plan.specs.Ports as ports
 
@@ -39,10 +39,7 @@ module _ (plan : Plan) (is_plan : IsPlan plan) where
   nodes_apart p q is = by_ports p q ((wiring plan is_plan).apart p q is) ((wiring plan is_plan).inside p q is) ((wiring plan is_plan).inside q p (peer_back p q is))
     where
       by_ports : (p q : Port) → ports.AreApart p q → IsPlanPort plan p → IsPlanPort plan q → (end_of plan p).node ≢ (end_of plan q).node
-      by_ports (Port.Switch s l) (Port.Switch s' l') apart near far = apart
-      by_ports (Port.Switch s l) (Port.Terminal t) apart near far = λ same. let e : s ≡ length plan.switches + t = same in omega (arith, near.0)
-      by_ports (Port.Terminal t) (Port.Switch s l) apart near far = λ same. let e : length plan.switches + t ≡ s = same in omega (arith, far.0)
-      by_ports (Port.Terminal t) (Port.Terminal u) apart near far = absurd apart
+      by_ports p q apart near far = search arith
 
   -- the same of the far end as the table has it
   pub far_apart : (p : Port) (near far : End) → near ≡ end_of plan p → far_end plan p ≡ Some far → near.node ≢ far.node

@@ -115,13 +115,7 @@ pub node_more : {X : Type 0} (wires : Plan) (made : X → Node Token) (before : 
     i < length xs → x ≡ get_or xs i x → v.0 ≡ r → r.state ≡ made x → start_node r.start ≡ made x → r.trace ≡ [] → ((l : ℕ) → has_link r.wired l ≡ is_linked_end wires place l) → place ≡ length list → mid ≡ list → next ≡ mid ++ v ∷ [] →
     map shown_record list ≡ before ++ map (λ x. first_record (made x)) (take i xs) → AreLinkedNodes wires list → (map shown_record next ≡ before ++ map (λ x. first_record (made x)) (take (i + 1) xs)) × AreLinkedNodes wires next
 node_more {X} wires made before xs i x list mid next v r place inside here is state begun trace links at same pushed so linked =
-    let first = λ (x : X). first_record (made x) in
-    let so_far = map first (take i xs) in
-    let grown : next ≡ list ++ v ∷ [] = pushed ∙ ap (λ ns. ns ++ v ∷ []) same in (
-      ap (map shown_record) grown ∙ map-append shown_record list (v ∷ []) ∙ ap (λ ys. ys ++ shown_record v ∷ []) so ∙ append_assoc before so_far (shown_record v ∷ [])
-          ∙ ap (λ ys. before ++ ys) (map_one_more first xs i x (shown_record v) so_far (so_far ++ shown_record v ∷ []) inside here (shown_switch v r (made x) is state begun trace) refl refl),
-      linked_more wires list next v linked (λ l. ap (λ (r : NodeRecord). has_link r.wired l) is ∙ links l ∙ ap (λ n. is_linked_end wires n l) at) grown,
-    )
+    grind (arith, map-append, append_assoc, map_one_more, shown_switch, linked_more)
 
 -- the buffers of a new switch are of its size
 pub new_sized : (cap : ℕ) (settings : List Settings) (started : Bool) (s : SwitchStart) → s ≡ new_start cap settings started → HasCap cap (NodeStart.Switch s)

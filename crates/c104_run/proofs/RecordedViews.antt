@@ -9,8 +9,8 @@ use Rattle.c104_run.specs.{NetViews.{network_sent_packet, network_terminal_view}
 use Rattle.c104_run.specs.{Network.terminal_place, Reasons.{acts_why, event_why, far_why, near_why, network_why, unless_refused}}
 use Rattle.{c104_run.specs.Standstill.have_reasons, c104_switch.specs.Reasons.{emit_why, grant_why, has_room, turn_why, wanted_why, why_at}}
 use Rattle.c104_switch.specs.{Switch.Input, Views.{phase_view, sides_view}, declared.{phase.Phase.Phase, unready.Unready.Unready}}
-use Rattle.{c104_token.specs.{Kinds.{Kind, plain_kind}, declared.tokens.Token.Token}, std.proofs.Common.{List, None, Option, Some, ap}}
-use Rattle.std.proofs.{Common.{arith, if◌then◌else◌, length, map, nat_lt, option_map, refl, slice_get, ℕ, ◌∙◌, ◌≡◌}, lemmas.List.length-map}
+use Rattle.{c104_token.specs.{Kinds.{Kind, plain_kind}, declared.tokens.Token.Token}, std.proofs.Common.{List, None, Option, ap, arith}}
+use Rattle.std.proofs.{Common.{if◌then◌else◌, length, map, nat_lt, option_map, refl, slice_get, ℕ, ◌∙◌, ◌≡◌}, lemmas.List.length-map}
 use Rattle.std.proofs.lemmas.Option.{slice_get-map}
 
 bind_plain : {X Y Z : Type 0} (f : X → Y) (g : X → Option Z) (h : Y → Option Z) → ((x : X) → h (f x) ≡ g x) → (o : Option X) → (option_map f o >>= h) ≡ (o >>= g)
@@ -99,8 +99,7 @@ module _ {A : Type 0} (kind : Kind A) where
     event_plain e = ap (λ (o : Option (Acts Token)). o >>= acts_why (plain_network kind net)) (acts_plain kind net.plan e) ∙ by_acts (event_acts net.plan e)
       where
         by_acts : (o : Option (Acts A)) → (option_map (plain_acts kind) o >>= acts_why (plain_network kind net)) ≡ (o >>= acts_why net)
-        by_acts None = refl
-        by_acts (Some acts) = acts_why_plain acts
+        by_acts o = search (arith, acts_why_plain)
 
     pub network_why_plain : (e : Event) → network_why (plain_network kind net) e ≡ network_why net e
     network_why_plain e = ap (unless_refused (event_fault net.plan e)) (event_plain e)

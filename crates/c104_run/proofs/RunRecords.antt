@@ -5,9 +5,9 @@ use Rattle.c104_node.specs.declared.{acts.Entry.Entry, node.NodeOf.TheVariants.{
 use Rattle.{c104_plan.specs.Plans.Plan, c104_run.specs.{Balance.AreInPlace, EventDeeds.event_deeds, EventPlaces.event_place}}
 use Rattle.c104_run.specs.{Network.{AnswersWith, Network, network_apply, network_of}, Runs.{AreBehind, AreInOrder, IsDoneRun, IsRunRecord}}
 use Rattle.{c104_run.specs.Runs.{at_node, run_deeds}, c104_switch.specs.Actions.{Reply, is_ready}, c104_token.specs.Kinds.Kind}
-use Rattle.std.proofs.Common.{Bool, List, None, Ok, Option, Result, Some, [], ap, append-nil, append_assoc, arith, false, inl, length}
-use Rattle.std.proofs.Common.{length-append, map, nat_lt, refl, replicate, slice_get, subst, suc, sym, true, zero, ℕ, ◌++◌, ◌+◌, ◌<◌, ◌∙◌}
-use Rattle.std.{proofs.{Common.{◌∷◌, ◌≡◌}, lemmas.{Bool.Decides.nat_tests, List.{length-map, length-replicate}}}, specs.Option.option_map}
+use Rattle.std.proofs.Common.{Bool, List, Ok, Option, Result, [], ap, append-nil, append_assoc, arith, false, inl, length, length-append}
+use Rattle.std.proofs.Common.{map, nat_lt, refl, replicate, slice_get, subst, suc, sym, true, zero, ℕ, ◌++◌, ◌+◌, ◌<◌, ◌∙◌, ◌∷◌, ◌≡◌}
+use Rattle.std.{proofs.lemmas.{Bool.Decides.nat_tests, List.{length-map, length-replicate}}, specs.Option.option_map}
 
 -- whether there is a switch at a place
 abbrev is_switch_at : {A : Type 0} → List (Node A) → ℕ → Bool
@@ -47,8 +47,7 @@ noted_parts [] traces k = search (arith, append-nil)
 noted_parts (d ∷ ds) traces k = noted_parts ds (noted_at true traces d.0 d.1) k ∙ ap (option_map (λ t. t ++ at_node k ds)) (noted_one traces d.0 k d.1) ∙ joined (slice_get traces k)
   where
     joined : (o : Option (List Entry)) → option_map (λ t. t ++ at_node k ds) (option_map (λ t. t ++ at_node k (d ∷ [])) o) ≡ option_map (λ t. t ++ at_node k (d ∷ ds)) o
-    joined None = refl
-    joined (Some t) = ap Some (append_assoc t (at_node k (d ∷ [])) (at_node k ds) ∙ ap (λ ts. t ++ ts) (sym (at_append k (d ∷ []) ds)))
+    joined o = search (arith, append_assoc, at_append)
 
 deeds_append : (plan : Plan) (stamps : ℕ → Stamp) (n : ℕ) (events : List (Event × Reply)) (e : Event) (r : Reply) → run_deeds plan stamps n (events ++ (e, r) ∷ []) ≡ run_deeds plan stamps n events ++ event_deeds plan (stamps (n + length events)) e r
 deeds_append plan stamps n [] e r = append-nil _ ∙ ap (λ t. event_deeds plan (stamps t) e r) (let same : n ≡ n + 0 = omega arith in same)
