@@ -1,14 +1,12 @@
 -- Headers that leave each switch by one link: over which wires they come to their terminal.
 use Rattle.c104_check.specs.Routes.{Arrives, Leads, Routes, is_in_group, select}
 use Rattle.{c104_interval.specs.declared.intervals.Select.TheVariants.Link, c104_label.specs.Crossings.{Crosses, IsOver}}
-use Rattle.c104_plan.{proofs.LayoutJoins.{AreJoined, IsJoin, IsJoined}, specs.{Layouts.Layout, declared.ports.Port.Port}}
-use Rattle.std.proofs.Common.{None, Option, Some, ap, is_some, refl, subst, suc, sym, true, zero, ℕ, ◌%◌, ◌+◌, ◌/◌, ◌<◌, ◌==◌, ◌∙◌, ◌≡◌}
+use Rattle.{c104_plan.{proofs.LayoutJoins.AreJoined, specs.{Layouts.Layout, declared.ports.Port.Port}}, std.proofs.Common.{Option, Some}}
+use Rattle.std.proofs.Common.{ap, arith, is_some, refl, subst, suc, sym, true, zero, ℕ, ◌%◌, ◌+◌, ◌/◌, ◌<◌, ◌==◌, ◌∙◌, ◌≡◌}
 use Rattle.std.proofs.lemmas.Bool.{eqb-true}
 
 over_arrives : (routes : Routes) (h t n : ℕ) → ((s i : ℕ) → Crosses routes h t n s i → Leads routes h t (suc n) s i) → (o : Option Port) → IsOver (Crosses routes h t n) o → Arrives (Leads routes h t (suc n)) t o
-over_arrives routes h t n step None is = is
-over_arrives routes h t n step (Some (Port.Terminal u)) is = absurd is
-over_arrives routes h t n step (Some (Port.Switch s i)) is = step s i is
+over_arrives routes h t n step o is = search arith
 
 -- what crosses n wires leads there over one more switch
 pub crosses_leads : (routes : Routes) (h t n s i : ℕ) → Crosses routes h t n s i → Leads routes h t (suc n) s i
@@ -36,15 +34,8 @@ module _ (layout : Layout) (p : ℕ) (pick : ℕ → ℕ → ℕ → ℕ) (route
 
   -- where the link that is picked leads to a switch, from which the header crosses n wires, it crosses one more
   pub cross : (n s l o u k : ℕ) → IsWired routes s l → s < layout.switches → o < layout.links → layout.beyond s o ≡ Some (Port.Switch u k) → pick s (h / p) (layout.links + h % p) ≡ o → (u < layout.switches → IsWired routes u k → Crosses routes h h n u k) → Crosses routes h h (suc n) s l
-  cross n s l o u k wired lt few leads picks rest =
-      let join : IsJoin layout s o u k = subst (IsJoined layout s o) leads (net.joined s o lt few) in
-      let there : routes.peer (Port.Switch s o) ≡ Some (Port.Switch u k) = net.beyond s o u k lt few leads in
-      let here : routes.peer (Port.Switch u k) ≡ Some (Port.Switch s o) = net.back (Port.Switch s o) (Port.Switch u k) there in
-      let goes_on : Crosses routes h h n u k = rest join.inside (ap is_some here) in
-      (o, net.selects s l lt wired ∙ ap (λ x. Some (Link x)) picks, λ x member. subst (IsOver (Crosses routes h h n)) (sym (the_link s o x lt member ∙ there)) goes_on)
+  cross n s l o u k wired lt few leads picks rest = search (arith, the_link)
 
   -- and where it leads to the header's own terminal, the header is there
   pub arrive : (s l : ℕ) → IsWired routes s l → s < layout.switches → h / p ≡ s → pick s (h / p) (layout.links + h % p) ≡ layout.links + h % p → Crosses routes h h 0 s l
-  arrive s l wired lt owner picks =
-      let there : routes.peer (Port.Switch s (layout.links + h % p)) ≡ Some (Port.Terminal h) = subst (λ u. routes.peer (Port.Switch u (layout.links + h % p)) ≡ Some (Port.Terminal h)) owner net.own in
-      (layout.links + h % p, net.selects s l lt wired ∙ ap (λ x. Some (Link x)) picks, λ x member. the_link s (layout.links + h % p) x lt member ∙ there)
+  arrive s l wired lt owner picks = search (arith, the_link)

@@ -20,8 +20,7 @@ shifted f n zero = refl
 shifted f n (suc count) = let e : n + 1 ≡ suc n = omega arith in ap (λ i. f i ∷ map f (range_with_len (n + 1 + 1) count)) e ∙ ap (λ rows. f (suc n) ∷ rows) (shifted f (n + 1) count)
 
 same_map : (f g : ℕ → Row) (n count : ℕ) → ((i : ℕ) → f i ≡ g i) → map f (range_with_len n count) ≡ map g (range_with_len n count)
-same_map f g n zero same = refl
-same_map f g n (suc count) same = ap (λ r. r ∷ map f (range_with_len (n + 1) count)) (same n) ∙ ap (λ rows. g n ∷ rows) (same_map f g (n + 1) count same)
+same_map f g n count same = search arith
 
 rows_below_next : (p x k : ℕ) → rows_below p x (suc k) ≡ below_row p x k ∷ rows_below p x k
 rows_below_next p x k =

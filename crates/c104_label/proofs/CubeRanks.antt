@@ -75,11 +75,7 @@ module _ (plan : Plan) (d p : ℕ) (image : Image) (kept : IsPlan plan) (shape :
 
   module _ (l : ℕ) (z q : SwitchPort) (g : Goes l z q) where
     flipped : (k : ℕ) → bit z.switch k ≢ bit (l / p) k → (y : ℕ) → IsFlipped z.switch y k → ((j : ℕ) → k < j → j < d → bit z.switch j ≡ bit (l / p) j) → Agree d y (l / p) k
-    flipped k differs y f above j le lt = ⊎_elim
-        (λ (e : k < j). sym (f.others j (λ same. omega (arith, e, same))) ∙ above j e lt)
-        (λ past. (let same : j ≡ k = omega (arith, le, past) in
-        ap (bit y) same ∙ bits_agree (bit z.switch k) (bit y k) (bit (l / p) k) (mod_below _ 2 (omega arith)) (mod_below _ 2 (omega arith)) (mod_below _ 2 (omega arith)) differs f.differs ∙ ap (bit (l / p)) (sym same)))
-        (cases_lt k j)
+    flipped k differs y f above j le lt = search (arith, bits_agree, mod_below, cases_lt)
 
     led : (k y : ℕ) → IsHighest d z.switch (l / p) (d + l % p) k → (cube d).beyond z.switch k ≡ Some (Port.Switch y k) → IsFlipped z.switch y k → Way z.switch (l / p) q
     led k y top beyond f =

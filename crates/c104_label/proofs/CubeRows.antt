@@ -64,6 +64,4 @@ upper d x k lt le =
     omega (arith, all, times (x / 2 ^ k + 1) (2 ^ (d - k)) (2 ^ k) (omega (arith, below)))
 
 pub up_small : (d p x b : ℕ) → b < d → d ≤ 6 → x < 2 ^ d → 2 ^ d * p ≤ 256 → (x / ((2 * 2 ^ b) % 18446744073709551616) + 1) * ((2 * 2 ^ b) % 18446744073709551616) * p ≤ 256
-up_small d p x b lt low inside few =
-    let is : (x / ((2 * 2 ^ b) % 18446744073709551616) + 1) * ((2 * 2 ^ b) % 18446744073709551616) * p ≡ (x / 2 ^ suc b + 1) * 2 ^ suc b * p = ap (λ s. (x / s + 1) * s * p) (double_is b (omega (arith, lt, low))) in
-    omega (arith, is, few, times ((x / 2 ^ suc b + 1) * 2 ^ suc b) (2 ^ d) p (upper d x (suc b) inside (omega (arith, lt))))
+up_small d p x b lt low inside few = search (arith, double_is, times, upper)

@@ -2,7 +2,7 @@
 use Rattle.{c104_interval.specs.{Selection.select, declared.intervals.Select.{Select, TheVariants.Link}}, c104_label.proofs.Pieces.IsPiece}
 use Rattle.c104_label.proofs.{Pieces.{none_of, one_of, own_piece, picked, piece_around, piece_same, table_selects}, Quotients.cube_ends}
 use Rattle.c104_label.{proofs.Quotients.{cube_one, cube_whole, lower_end, place_at, upper_end}, specs.CubeLabels.IsHighestDifference}
-use Rattle.c104_label.specs.{CubeLabels.{SelectsInCube, all_cube_rows, bit, cube_rows, cube_table}, LabelRows.{own_rows, owner}}
+use Rattle.c104_label.specs.{CubeLabels.{SelectsInCube, all_cube_rows, bit, cube_rows, cube_table}, LabelRows.own_rows}
 use Rattle.std.proofs.Common.{ap, arith, false, if◌then◌else◌, refl, subst, suc, sym, true, zero, ℕ, ⊎_elim, ◌%◌, ◌*◌, ◌+◌, ◌-◌, ◌/◌, ◌<◌}
 use Rattle.std.proofs.{Common.{◌==◌, ◌^◌, ◌∙◌, ◌≡◌, ◌≢◌, ◌≤◌}, lemmas.{Bool.{Decides.nat_tests, cases_Bool, eq-eqb, ne_eqb}, Nat.div_below}}
 use Rattle.std.proofs.lemmas.Nat.{le-div, pow_pos}
@@ -90,11 +90,4 @@ link_other (suc d) x u own k highest = ⊎_elim
     (cases_Bool (k == d))
 
 pub selects_in_cube : (d p x : ℕ) → 0 < p → x < 2 ^ d → SelectsInCube d p x (cube_table d p x)
-selects_in_cube d p x some inside =
-    let says = λ (l : ℕ). cube_selects d p x l some inside in
-    let one = λ (l : ℕ). one_of (2 ^ d * p) d p x l (cube_link d) in
-    record {
-      others = λ l k lt highest. says l ∙ one l lt ∙ ap Link (link_other d x (owner p l) (d + l % p) k highest);
-      own = λ l lt is. says l ∙ one l lt ∙ ap (λ u. Link (cube_link d x u (d + l % p))) is ∙ ap Link (link_own d x (d + l % p));
-      none = λ l le. says l ∙ none_of (2 ^ d * p) d p x l (cube_link d) le;
-    }
+selects_in_cube d p x some inside = search (arith, cube_selects, one_of, link_other, link_own, none_of)

@@ -1,8 +1,7 @@
 -- Tables that are filled row by row, and made switch by switch.
 use Rattle.{c104_interval.specs.{Selection.reset_row, declared.intervals.{Row.Row, Table.Table}}, c104_label.specs.LabelRows.label_table}
-use Rattle.std.proofs.Common.{List, [], add-one, ap, arith, length, map, refl, replicate, slice_index_or, slice_set, suc, sym, take, zero}
-use Rattle.std.proofs.{Common.{ℕ, ◌++◌, ◌+◌, ◌-◌, ◌<◌, ◌∙◌, ◌∷◌, ◌≡◌, ◌≤◌}, lemmas.List.FromFn.map-range_with_len_more}
-use Rattle.std.specs.List.{range_with_len}
+use Rattle.std.proofs.Common.{List, [], add-one, ap, arith, length, map, refl, replicate, slice_index_or, slice_set, suc, take, zero, ℕ}
+use Rattle.std.{proofs.{Common.{◌++◌, ◌+◌, ◌-◌, ◌<◌, ◌∷◌, ◌≡◌, ◌≤◌}, lemmas.List.FromFn.map-range_with_len_more}, specs.List.range_with_len}
 
 abbrev filled : ℕ → List Row → List Row
 filled m rows = rows ++ replicate (m - length rows) reset_row
@@ -24,5 +23,4 @@ table_next table rows k d is inside room = rw is (rw add-one (ap (λ (rs : List 
 
 -- one more value of a function
 pub made_next : {X : Type 0} (f : ℕ → X) (n : ℕ) (before after : List X) (x : X) → before ≡ map f (range_with_len 0 n) → after ≡ before ++ x ∷ [] → x ≡ f n → after ≡ map f (range_with_len 0 (n + 1))
-made_next f n before after x made pushed is =
-    pushed ∙ ap (λ xs. xs ++ x ∷ []) made ∙ ap (λ y. map f (range_with_len 0 n) ++ y ∷ []) is ∙ sym (map-range_with_len_more f 0 n n (omega arith))
+made_next f n before after x made pushed is = search (arith, map-range_with_len_more)

@@ -3,8 +3,8 @@ use Rattle.c104_label.specs.Forests.{AreInside, AreSwitches, Ends, Forest, Grown
 use Rattle.{c104_label.specs.Forests.{links, switches}, c104_plan.specs.declared.ports.Port.Port, std.proofs.Common.{Bool, List, Some, []}}
 use Rattle.std.proofs.Common.{ap, append-nil, append_assoc, arith, false, inl, inr, length, refl, subst, suc, sym, true, zero, ℕ, ◌++◌, ◌+◌}
 use Rattle.std.proofs.{Common.{◌-◌, ◌<◌, ◌==◌, ◌||◌, ◌∙◌, ◌∷◌, ◌≡◌, ◌≤◌, ◌⊎◌}, Math.Dec.eqb, lemmas.Bool.{Decides.nat_tests, eq-eqb}}
-use Rattle.std.{proofs.lemmas.{Bool.eqb-true, Map.Steps.length-le_from_distinct_below}, specs.List.{AllByRecursion, IsDistinct}}
-use Rattle.std.specs.List.{range_with_len}
+use Rattle.std.proofs.lemmas.{Bool.{eqb-true, or_cases, or_parts, or_right}, Map.Steps.length-le_from_distinct_below}
+use Rattle.std.specs.List.{AllByRecursion, IsDistinct, range_with_len}
 
 -- this holds of each switch of a forest
 abbrev pub AllSwitches : (ℕ → Type 0) → Forest → Type 0
@@ -13,13 +13,8 @@ AllSwitches holds (child l r b below rest) = holds r × AllSwitches holds below 
 
 -- lists of what was met
 
-or_right : (a b : Bool) → b ≡ true → (a || b) ≡ true
-or_right true b is = refl
-or_right false b is = is
-
 or_step : (a b c : Bool) → (b ≡ true → c ≡ true) → (a || b) ≡ true → (a || c) ≡ true
-or_step true b c next is = refl
-or_step false b c next is = next is
+or_step a b c next is = search arith
 
 pub met_left : (xs ys : List ℕ) (s : ℕ) → is_met xs s ≡ true → is_met (xs ++ ys) s ≡ true
 met_left [] ys s is = absurd cc
@@ -29,14 +24,10 @@ pub met_right : (xs ys : List ℕ) (s : ℕ) → is_met ys s ≡ true → is_met
 met_right [] ys s is = is
 met_right (x ∷ xs) ys s is = or_right (s == x) (is_met (xs ++ ys) s) (met_right xs ys s is)
 
-pub or_parts : (a b : Bool) → (a || b) ≡ true → (a ≡ true) ⊎ (b ≡ true)
-or_parts true b is = inl refl
-or_parts false b is = inr is
-
 pub met_parts : (xs ys : List ℕ) (s : ℕ) → is_met (xs ++ ys) s ≡ true → (is_met xs s ≡ true) ⊎ (is_met ys s ≡ true)
 met_parts [] ys s is = inr is
 met_parts (x ∷ xs) ys s is =
-    elim (or_parts (s == x) (is_met (xs ++ ys) s) is) [
+    elim (or_cases (s == x) (is_met (xs ++ ys) s) is) [
       | inl here ↦ inl (rw here refl)
       | inr later ↦ elim (met_parts xs ys s later) [ inl a ↦ inl (or_right (s == x) (is_met xs s) a) | inr b ↦ inr b ]
     ]
@@ -46,8 +37,7 @@ met_first s xs = rw (eq-eqb s s refl) refl
 
 -- a forest's switches after some, as they are visited
 pub in_turn : (seen : List ℕ) (c : ℕ) (below rest : List ℕ) → ((seen ++ (c ∷ [])) ++ below) ++ rest ≡ seen ++ ((c ∷ below) ++ rest)
-in_turn seen c below rest =
-    append_assoc (seen ++ (c ∷ [])) below rest ∙ append_assoc seen (c ∷ []) (below ++ rest)
+in_turn seen c below rest = search (arith, append_assoc)
 
 -- what wires of visited switches lead to was visited
 
@@ -67,9 +57,7 @@ abbrev IsClosed : Ends → List ℕ → ℕ → Type 0
 IsClosed ends seen s = AllByRecursion (IsPassed ends seen s) links
 
 pub wire_here : (ends : Ends) (s l r b : ℕ) (seen : List ℕ) → ends s l ≡ Some (Port.Switch r b) → is_met seen r ≡ true → IsPassed ends seen s l
-wire_here ends s l r b seen at met r' b' is =
-    let same : r' ≡ r = let e : Some (Port.Switch r' b') ≡ Some (Port.Switch r b) = sym is ∙ at in cc in
-    rw same met
+wire_here ends s l r b seen at met r' b' is = search arith
 
 pub grown_closed : (ends : Ends) (f : Forest) (seen ls : List ℕ) (s : ℕ) → Grown ends seen s ls f → AllByRecursion (IsPassed ends (seen ++ switches f) s) ls × AllSwitches (IsClosed ends (seen ++ switches f)) f
 grown_closed ends empty seen ls s grown = (IsPassed-more ends seen [] s ls grown, tt)
@@ -93,7 +81,7 @@ grown_closed ends (child l r b below rest) seen ls s (before, after, is, passed,
 pub AllSwitches-at : (P : ℕ → Type 0) (f : Forest) (s : ℕ) → AllSwitches P f → is_met (switches f) s ≡ true → P s
 AllSwitches-at P empty s all is = absurd cc
 AllSwitches-at P (child l r b below rest) s all is =
-    elim (or_parts (s == r) (is_met (switches below ++ switches rest) s) is) [
+    elim (or_cases (s == r) (is_met (switches below ++ switches rest) s) is) [
       | inl here ↦ subst P (sym (eqb-true s r here)) all.0
       | inr later ↦ elim (met_parts (switches below) (switches rest) s later) [
         | inl a ↦ AllSwitches-at P below s all.1 a
@@ -104,18 +92,13 @@ AllSwitches-at P (child l r b below rest) s all is =
 passed_at : (ends : Ends) (seen : List ℕ) (s : ℕ) (ls : List ℕ) (l r b : ℕ) → AllByRecursion (IsPassed ends seen s) ls → is_met ls l ≡ true → ends s l ≡ Some (Port.Switch r b) → is_met seen r ≡ true
 passed_at ends seen s [] l r b all one at = absurd cc
 passed_at ends seen s (k ∷ ls) l r b all one at =
-    elim (or_parts (l == k) (is_met ls l) one) [
+    elim (or_cases (l == k) (is_met ls l) one) [
       | inl here ↦ all.0 r b (ap (ends s) (sym (eqb-true l k here)) ∙ at)
       | inr later ↦ passed_at ends seen s ls l r b all.1 later at
     ]
 
 closed_at : (ends : Ends) (root : ℕ) (f : Forest) (s : ℕ) → IsDepthFirst ends root f → is_met (root ∷ switches f) s ≡ true → IsClosed ends (root ∷ switches f) s
-closed_at ends root f s grown is =
-    let closed = grown_closed ends f (root ∷ []) links root grown in
-    elim (or_parts (s == root) (is_met (switches f) s) is) [
-      | inl here ↦ subst (IsClosed ends (root ∷ switches f)) (sym (eqb-true s root here)) closed.0
-      | inr later ↦ AllSwitches-at (IsClosed ends (root ∷ switches f)) f s closed.1 later
-    ]
+closed_at ends root f s grown is = search (arith, grown_closed, or_cases, eqb-true, AllSwitches-at)
 
 -- visited is what wires lead to from the root, and nothing else
 pub wired_met : (ends : Ends) (root : ℕ) (f : Forest) → IsDepthFirst ends root f → (m s : ℕ) → Wired ends root m s → is_met (root ∷ switches f) s ≡ true
@@ -143,7 +126,7 @@ forest_wired ends root (child l r b below rest) seen ls s m (before, after, is, 
 
 pub met_wired : (ends : Ends) (root : ℕ) (f : Forest) → IsDepthFirst ends root f → (s : ℕ) → is_met (root ∷ switches f) s ≡ true → (m : ℕ) × Wired ends root m s
 met_wired ends root f grown s is =
-    elim (or_parts (s == root) (is_met (switches f) s) is) [
+    elim (or_cases (s == root) (is_met (switches f) s) is) [
       | inl here ↦ (zero, eqb-true s root here)
       | inr later ↦ AllSwitches-at (λ c. (j : ℕ) × Wired ends root j c) f s (forest_wired ends root f (root ∷ []) links root zero grown (λ k one. one) refl) later
     ]
@@ -157,28 +140,18 @@ All-snoc P (y ∷ xs) x all one = (all.0, All-snoc P xs x all.1 one)
 eqb_other : (a b : ℕ) → eqb a b ≡ false → eqb b a ≡ false
 eqb_other a b is = grind (arith, nat_tests)
 
-or_false : (a b : Bool) → (a || b) ≡ false → (a ≡ false) × (b ≡ false)
-or_false true b is = absurd cc
-or_false false b is = (refl, is)
-
 IsDistinct-snoc : (xs : List ℕ) (s : ℕ) → IsDistinct eqb xs → is_met xs s ≡ false → IsDistinct eqb (xs ++ (s ∷ []))
 unfolding IsDistinct
 IsDistinct-snoc [] s differ new = (tt, tt)
 IsDistinct-snoc (x ∷ xs) s differ new =
-    let both = or_false (s == x) (is_met xs s) new in
+    let both = or_parts (s == x) (is_met xs s) new in
     (All-snoc (λ y. eqb x y ≡ false) xs s differ.0 (eqb_other s x both.0), IsDistinct-snoc xs s differ.1 both.1)
 
 pub switches_room : (n : ℕ) (seen : List ℕ) → AreSwitches n seen → length seen ≤ n
 switches_room n seen are = length-le_from_distinct_below seen n are.differ are.below
 
 pub switches_more : (n : ℕ) (seen : List ℕ) (s : ℕ) → AreSwitches n seen → is_met seen s ≡ false → s < n → AreSwitches n (seen ++ (s ∷ []))
-switches_more n seen s are new small = record {
-  differ = IsDistinct-snoc seen s are.differ new;
-  below = λ c is. elim (met_parts seen (s ∷ []) c is) [
-    | inl old ↦ are.below c old
-    | inr one ↦ elim (or_parts (c == s) false one) [ inl same ↦ rw (eqb-true c s same) small | inr never ↦ absurd cc ]
-  ];
-}
+switches_more n seen s are new small = search (arith, IsDistinct-snoc, met_parts, or_cases, eqb-true)
 
 pub grown_switches : (ends : Ends) (n : ℕ) → AreInside ends n → (f : Forest) (seen ls : List ℕ) (s : ℕ) → Grown ends seen s ls f → AreSwitches n seen → AreSwitches n (seen ++ switches f)
 grown_switches ends n inputs empty seen ls s grown are = subst (AreSwitches n) (sym (append-nil seen)) are
@@ -198,10 +171,7 @@ grown_take ends seen s l r b ls below rest at new down on = ([], ls, refl, tt, a
 
 pub switches_root : (n root : ℕ) → root < n → AreSwitches n (root ∷ [])
 unfolding IsDistinct
-switches_root n root small = record {
-  differ = (tt, tt);
-  below = λ c is. elim (or_parts (c == root) false is) [ inl same ↦ rw (eqb-true c root same) small | inr never ↦ absurd cc ];
-}
+switches_root n root small = search (arith, or_cases, eqb-true)
 
 -- a switch's links from one on
 

@@ -4,35 +4,30 @@ use Rattle.c104_check.specs.{Routes.{link_peers, link_settings, place, port_at, 
 use Rattle.{c104_check.specs.declared.ports.SwitchPort.SwitchPort, c104_interval.specs.declared.intervals.Table.Table}
 use Rattle.c104_label.proofs.{LabelledRoutes.{link_was, routes, settings_are, settings_count}, MappedRanges.map_at}
 use Rattle.{c104_label.specs.TreeImages.most_labels, c104_plan.proofs.{LabelledSettings.labelled_at, Wires.wiring}}
-use Rattle.c104_plan.specs.{LabelledImages.{labelled_settings, labelled_switch, table_in}, PlanImage.{is_random_of, plain_settings_of}}
-use Rattle.c104_plan.specs.{PlanImage.{settings_of, with_random}, Plans.{IsPlan, Plan, host_port}, Wiring.peer}
-use Rattle.c104_plan.specs.declared.{plans.{PlanRandom.PlanRandom, Terminal.Terminal}, ports.Port.Port}
-use Rattle.{c104_regs.specs.{Settings.header_length, declared.settings.Settings.Settings}, std.proofs.Common.{Bool, List, None, Option}}
-use Rattle.std.proofs.Common.{Some, ap, arith, false, get_or, if◌then◌else◌, inl, inr, is_some, length, nat_lt, position, refl, slice_get}
-use Rattle.std.proofs.{Common.{subst, sym, true, ℕ, ◌&&◌, ◌*◌, ◌<◌, ◌==◌, ◌∙◌, ◌≡◌, ◌≤◌}, lemmas.Bool.{Decides.nat_tests, cases_lt}}
-use Rattle.std.proofs.lemmas.List.{FromFn.length-map-range_with_len, Quantifiers.position-Some, Sums.fails_before_first}
-use Rattle.std.{proofs.lemmas.Option.{get_or_from_slice_get, slice_get_within}, specs.List.{find, position_or_len}}
+use Rattle.c104_plan.specs.{LabelledImages.{labelled_settings, labelled_switch, table_in}, PlanImage.{settings_of, with_random}}
+use Rattle.c104_plan.specs.{Plans.{IsPlan, Plan, host_port}, Wiring.peer, declared.plans.{PlanRandom.PlanRandom, Terminal.Terminal}}
+use Rattle.{c104_plan.specs.declared.ports.Port.Port, c104_regs.specs.{Settings.header_length, declared.settings.Settings.Settings}}
+use Rattle.std.proofs.Common.{Bool, List, None, Option, Some, ap, arith, false, get_or, if◌then◌else◌, inl, inr, is_some, length, nat_lt}
+use Rattle.std.proofs.{Common.{position, refl, slice_get, sym, true, ℕ, ◌&&◌, ◌*◌, ◌<◌, ◌==◌, ◌∙◌, ◌≡◌, ◌≤◌}, lemmas.Bool.Decides.nat_tests}
+use Rattle.std.proofs.lemmas.{Bool.cases_lt, List.{FromFn.length-map-range_with_len, Quantifiers.position-Some, Sums.fails_before_first}}
+use Rattle.std.{proofs.lemmas.Option.{get_or_from_slice_get, slice_get_within}, specs.List.position_or_len}
 
 -- how many bytes a plan's headers have
 abbrev pub plan_bytes : Plan → ℕ
 plan_bytes plan = if plan.header == 2 then 2 else 1
 
 with_table_bytes : (b : Bool) (s : Settings) (t : Table) → (if b then record s { table = t } else s).two_byte ≡ s.two_byte
-with_table_bytes true s t = refl
-with_table_bytes false s t = refl
+with_table_bytes b s t = search arith
 
 with_random_bytes : (o : Option PlanRandom) (s : Settings) → (with_random o s).two_byte ≡ s.two_byte
-with_random_bytes None s = refl
-with_random_bytes (Some random) s = refl
+with_random_bytes o s = search arith
 
 both_true : (b c : Bool) → c ≡ true → (b && c) ≡ b
-both_true true c is = is
-both_true false c is = refl
+both_true b c is = search arith
 
 two_byte_own : (plan : Plan) (t : Table) (p : Port) → is_some (peer plan p) ≡ true → (labelled_settings plan t p).two_byte ≡ (plan.header == 2)
 unfolding labelled_settings settings_of
-two_byte_own plan t p wired =
-    with_table_bytes (is_some (peer plan p)) _ t ∙ with_random_bytes (find (is_random_of p) plan.randoms) (plain_settings_of plan p) ∙ both_true (plan.header == 2) (is_some (peer plan p)) wired
+two_byte_own plan t p wired = search (arith, with_table_bytes, with_random_bytes, both_true)
 
 -- where no member of a list passes a test, this one doesn't
 pub none_passes : {X : Type 0} (test : X → Bool) (xs : List X) (k : ℕ) (x : X) → position test xs ≡ None → slice_get xs k ≡ Some x → test x ≡ true → ⊥
@@ -49,16 +44,11 @@ none_passes test xs k x none at passes = elim (cases_lt (position_or_len test xs
 
 -- so where one does, there is a first
 first_passes : {X : Type 0} (test : X → Bool) (xs : List X) (k : ℕ) (x : X) → slice_get xs k ≡ Some x → test x ≡ true → (o : Option ℕ) → position test xs ≡ o → (j : ℕ) × (position test xs ≡ Some j)
-first_passes test xs k x at passes None is = absurd (none_passes test xs k x is at passes)
-first_passes test xs k x at passes (Some j) is = (j, is)
+first_passes test xs k x at passes o is = search (arith, none_passes)
 
 -- there are as many headers as labels may be
 many_by : (plan : Plan) (n : ℕ) → n ≡ plan_bytes plan → most_labels plan ≤ (if nat_lt 1 n then 65536 else 256)
-many_by plan n is = subst (λ m. most_labels plan ≤ (if nat_lt 1 m then 65536 else 256)) (sym is) (by (plan.header == 2))
-  where
-    by : (b : Bool) → (if b then 65536 else 256) ≤ (if nat_lt 1 (if b then 2 else 1) then 65536 else 256)
-    by true = omega arith
-    by false = omega arith
+many_by plan n is = search arith
 
 module _ (plan : Plan) (ranges : List (ℕ × ℕ)) (tables : List Table) (kept : IsPlan plan) where
   abbrev net : Routes

@@ -9,8 +9,8 @@ use Rattle.c104_plan.specs.{PlanImage.{AreSettings, is_random_of, plain_settings
 use Rattle.c104_plan.specs.{Plans.{deletes_at, host_port, is_continued, is_on}, Ports.is_any_at, Wiring.peer}
 use Rattle.{c104_plan.specs.declared.{plans.{PlanRandom.PlanRandom, Terminal.Terminal}, ports.Port.Port}, c104_regs.specs.Groups.continues}
 use Rattle.{c104_regs.specs.{Groups.continues_at, Ranges.IsTableInRange, declared.settings.Settings.Settings}, std.proofs.Common.All}
-use Rattle.std.proofs.Common.{Bool, List, None, Option, Some, [], ap, arith, false, if◌then◌else◌, inl, inr, is_some, length, map, nat_le}
-use Rattle.std.proofs.Common.{nat_lt, option_map, refl, slice_get, suc, sym, true, zero, ℕ, ◌+◌, ◌-◌, ◌<◌, ◌==◌, ◌∙◌, ◌∷◌, ◌≡◌, ◌≤◌}
+use Rattle.std.proofs.Common.{Bool, List, None, Option, Some, [], ap, arith, false, if◌then◌else◌, inl, inr, is_some, length, map}
+use Rattle.std.proofs.Common.{option_map, refl, slice_get, suc, sym, true, zero, ℕ, ◌+◌, ◌<◌, ◌==◌, ◌∙◌, ◌∷◌, ◌≡◌, ◌≤◌}
 use Rattle.std.proofs.lemmas.{Bool.{Decides.nat_tests, cases_Bool, cases_lt}, List.FromFn.length-map-range_with_len, Option.slice_get_past}
 use Rattle.std.specs.List.{find, list_any, range_with_len}
 use Rattle.c104_interval.specs.Selection as table
@@ -22,38 +22,27 @@ joined_none continue low zero none = refl
 joined_none continue low (suc n) none = let t : (suc n == 0) ≡ false = grind (arith, nat_tests) in rw (none (low + suc n), t) refl
 
 pub group_alone : (continue : ℕ → Bool) (g o : ℕ) → ((l : ℕ) → continue l ≡ false) → group_contains continue g o ≡ (o == g)
-group_alone continue g o none = elim (cases_Bool (nat_le g o)) [
-  | inl t ↦ rw t (joined_none continue g (o - g) none ∙ (let e : (o - g == 0) ≡ (o == g) = grind (arith, nat_tests) in e))
-  | inr t ↦ rw t (joined_none continue o (g - o) none ∙ (let e : (g - o == 0) ≡ (o == g) = grind (arith, nat_tests) in e))
-]
+group_alone continue g o none = search (arith, cases_Bool, joined_none, nat_tests)
 
 -- Headers
 
 -- there are at least 256, whatever their length
 pub headers_many : (routes : Routes) → 256 ≤ header_count routes
-headers_many routes = many (nat_lt 1 routes.header)
-  where
-    many : (b : Bool) → 256 ≤ (if b then 65536 else 256)
-    many true = omega arith
-    many false = omega arith
+headers_many routes = search arith
 
 -- Settings that a plan's own lines say
 
 with_table_deletes : (b : Bool) (s : Settings) (t : Table) → (if b then record s { table = t } else s).delete_header ≡ s.delete_header
-with_table_deletes true s t = refl
-with_table_deletes false s t = refl
+with_table_deletes b s t = search arith
 
 with_table_continues : (b : Bool) (s : Settings) (t : Table) → (if b then record s { table = t } else s).continue_group ≡ s.continue_group
-with_table_continues true s t = refl
-with_table_continues false s t = refl
+with_table_continues b s t = search arith
 
 with_random_deletes : (o : Option PlanRandom) (s : Settings) → (with_random o s).delete_header ≡ s.delete_header
-with_random_deletes None s = refl
-with_random_deletes (Some random) s = refl
+with_random_deletes o s = search arith
 
 with_random_continues : (o : Option PlanRandom) (s : Settings) → (with_random o s).continue_group ≡ s.continue_group
-with_random_continues None s = refl
-with_random_continues (Some random) s = refl
+with_random_continues o s = search arith
 
 deletes_own : (plan : Plan) (t : Table) (p : Port) → (labelled_settings plan t p).delete_header ≡ deletes_at plan p
 unfolding labelled_settings settings_of
@@ -64,8 +53,7 @@ unfolding labelled_settings settings_of
 continues_own plan t p = with_table_continues (is_some (peer plan p)) _ t ∙ with_random_continues (find (is_random_of p) plan.randoms) (plain_settings_of plan p)
 
 with_table_randomizes : (b : Bool) (s : Settings) (t : Table) → (if b then record s { table = t } else s).randomize ≡ s.randomize
-with_table_randomizes true s t = refl
-with_table_randomizes false s t = refl
+with_table_randomizes b s t = search arith
 
 -- where no line of a plan says so, an input has no random headers
 pub settings_plain : (plan : Plan) (p : Port) → plan.randoms ≡ [] → (settings_of plan p).randomize ≡ false
@@ -89,8 +77,7 @@ any_on plan p (d ∷ ds) is = elim (cases_Bool (is_on p (slice_get plan.terminal
 ]
 
 on_terminal : (p : Port) (o : Option Terminal) → is_on p o ≡ true → (t : Terminal) × (o ≡ Some t) × (host_port t ≡ p)
-on_terminal p None is = absurd cc
-on_terminal p (Some t) is = (t, refl, is_port-true (host_port t) p is)
+on_terminal p o is = search (arith, is_port-true)
 
 -- so none are deleted where a wire leads to a switch
 pub none_deleted : (plan : Plan) (p : Port) (s l : ℕ) → IsPlan plan → peer plan p ≡ Some (Port.Switch s l) → deletes_at plan p ≡ false
@@ -163,11 +150,8 @@ module _ (plan : Plan) (ranges : List (ℕ × ℕ)) (tables : List Table) where
 
   -- headers aren't deleted at a port that is wired to a switch
   pub keeps : (q other : SwitchPort) (x : Settings) → IsPlan plan → routes.peer (to_port q) ≡ Some (to_port other) → link_settings routes.settings q ≡ Some x → x.delete_header ≡ false
-  keeps q other x kept wired is =
-      ap (λ (y : Settings). y.delete_header) (link_was q x is) ∙ deletes_own plan (table_in tables q.switch) (to_port q) ∙ none_deleted plan (to_port q) other.switch other.link kept wired
+  keeps q other x kept wired is = search (arith, link_was, deletes_own, none_deleted)
 
   -- no link puts random headers before packets where no line of the plan says so
   pub not_randomized : (q : SwitchPort) → plan.randoms ≡ [] → IsRandomized routes q → ⊥
-  not_randomized q unset random =
-      let plain = ap (λ (y : Settings). y.randomize) (link_was q random.0 random.1) ∙ plain_own plan (table_in tables q.switch) (to_port q) unset in
-      let clash : true ≡ false = sym random.2 ∙ plain in absurd cc
+  not_randomized q unset random = search (arith, link_was, plain_own)

@@ -39,32 +39,10 @@ data Way (w s u r l : ℕ) : Type 0 where
   Down : s / w < u / w → r / w ≡ s / w + 1 → l ≡ 0 → Way w s u r l
 
 may_be : (w s u r l : ℕ) → Way w s u r l → MayBe w u r l
-may_be w s u r l (Up a b e) = rw e (omega (arith, a, b))
-may_be w s u r l (Left a b c d e) = rw e (omega (arith, a, c), omega (arith, b, d))
-may_be w s u r l (Right a b c d e) = rw e (omega (arith, a, c), omega (arith, b, d))
-may_be w s u r l (Down a b e) = rw e (omega (arith, a, b))
+may_be w s u r l h1 = search arith
 
 falls_at : (w h s u r l k : ℕ) → s / w < h → s % w < w → MayBe w u s k → Way w s u r l → mesh_rank_at w h r l < mesh_rank_at w h s k
-falls_at w h s u r l zero row column may (Up a b e) = absurd (omega (arith, may, a))
-falls_at w h s u r l zero row column may (Left a b c d e) = rw e (omega (arith, row, column, d))
-falls_at w h s u r l zero row column may (Right a b c d e) = rw e (omega (arith, row, column, d))
-falls_at w h s u r l zero row column may (Down a b e) = rw e (omega (arith, row, b))
-falls_at w h s u r l (suc zero) row column may (Up a b e) = absurd (omega (arith, may.0, a))
-falls_at w h s u r l (suc zero) row column may (Left a b c d e) = absurd (omega (arith, may.1, b))
-falls_at w h s u r l (suc zero) row column may (Right a b c d e) = rw e (omega (arith, column, d))
-falls_at w h s u r l (suc zero) row column may (Down a b e) = absurd (omega (arith, may.0, a))
-falls_at w h s u r l (suc (suc zero)) row column may (Up a b e) = absurd (omega (arith, may.0, a))
-falls_at w h s u r l (suc (suc zero)) row column may (Left a b c d e) = rw e (omega (arith, d))
-falls_at w h s u r l (suc (suc zero)) row column may (Right a b c d e) = absurd (omega (arith, may.1, b))
-falls_at w h s u r l (suc (suc zero)) row column may (Down a b e) = absurd (omega (arith, may.0, a))
-falls_at w h s u r l (suc (suc (suc zero))) row column may (Up a b e) = rw e (omega (arith, b))
-falls_at w h s u r l (suc (suc (suc zero))) row column may (Left a b c d e) = rw e (omega (arith, column, d))
-falls_at w h s u r l (suc (suc (suc zero))) row column may (Right a b c d e) = rw e (omega (arith, column, d))
-falls_at w h s u r l (suc (suc (suc zero))) row column may (Down a b e) = absurd (omega (arith, may, a))
-falls_at w h s u r l (suc (suc (suc (suc k)))) row column may (Up a b e) = rw e (omega (arith, row, b))
-falls_at w h s u r l (suc (suc (suc (suc k)))) row column may (Left a b c d e) = rw e (omega (arith, column, d))
-falls_at w h s u r l (suc (suc (suc (suc k)))) row column may (Right a b c d e) = rw e (omega (arith, column, d))
-falls_at w h s u r l (suc (suc (suc (suc k)))) row column may (Down a b e) = rw e (omega (arith, row, b))
+falls_at w h s u r l k row column may h4 = search arith
 
 -- a mesh has at least about as many switches as columns and rows
 sum_low : (w h : ℕ) → 0 < w → 0 < h → w + h ≤ w * h + 1
@@ -76,18 +54,10 @@ sum_low (suc (suc w)) h wide high =
     omega (arith, rest, more, high)
 
 rank_low : (w h s l : ℕ) → 0 < w → 0 < h → s < w * h → mesh_rank_at w h s l ≤ 32 * (w * h)
-rank_low w h s zero wide high inside = let sum = sum_low w h wide high in omega (arith, sum, inside)
-rank_low w h s (suc zero) wide high inside = let sum = sum_low w h wide high in omega (arith, sum, high)
-rank_low w h s (suc (suc zero)) wide high inside = let sum = sum_low w h wide high in let column = mod_below s w wide in omega (arith, sum, high, column)
-rank_low w h s (suc (suc (suc zero))) wide high inside = let sum = sum_low w h wide high in let row = div_below s w h wide (omega (arith, inside)) in omega (arith, sum, inside, row)
-rank_low w h s (suc (suc (suc (suc l)))) wide high inside = let sum = sum_low w h wide high in omega (arith, sum, inside)
+rank_low w h s l wide high inside = search (arith, sum_low, mod_below, div_below)
 
 past_links : (w u s k : ℕ) → 4 ≤ k → MayBe w u s k
-past_links w u s zero le = absurd (omega (arith, le))
-past_links w u s (suc zero) le = absurd (omega (arith, le))
-past_links w u s (suc (suc zero)) le = absurd (omega (arith, le))
-past_links w u s (suc (suc (suc zero))) le = absurd (omega (arith, le))
-past_links w u s (suc (suc (suc (suc k)))) le = tt
+past_links w u s k le = search arith
 
 one_port : (a b : ℕ) (q : SwitchPort) → Some (Port.Switch a b) ≡ Some (to_port q) → (a ≡ q.switch) × (b ≡ q.link)
 one_port a b q e = let x : a ≡ q.switch = cc in let y : b ≡ q.link = cc in (x, y)

@@ -1,9 +1,9 @@
 -- What a mesh's tables select is what labels are to select.
 use Rattle.{c104_interval.specs.{Selection.select, declared.intervals.Select.{Select, TheVariants.Link}}, c104_label.proofs.Pieces.IsPiece}
 use Rattle.c104_label.proofs.{Pieces.{none_of, one_of, own_is, picked, piece_around, table_selects}, Quotients.{mesh_ends, next_above}}
-use Rattle.c104_label.{proofs.Quotients.{parts, place_at, times, whole_below}, specs.LabelRows.{around, label_row, own_rows, owner}}
+use Rattle.c104_label.{proofs.Quotients.{parts, place_at, times, whole_below}, specs.LabelRows.{around, label_row, own_rows}}
 use Rattle.{c104_label.specs.MeshLabels.{SelectsInMesh, all_mesh_rows, mesh_rows, mesh_table}, std.proofs.Common.{ap, arith, false}}
-use Rattle.std.proofs.Common.{if◌then◌else◌, nat_lt, refl, sym, true, ℕ, ◌%◌, ◌*◌, ◌+◌, ◌-◌, ◌/◌, ◌<◌, ◌==◌, ◌∙◌, ◌≡◌, ◌≤◌}
+use Rattle.std.proofs.Common.{if◌then◌else◌, nat_lt, refl, true, ℕ, ◌%◌, ◌*◌, ◌+◌, ◌-◌, ◌/◌, ◌<◌, ◌==◌, ◌∙◌, ◌≡◌, ◌≤◌}
 use Rattle.std.proofs.lemmas.{Bool.Decides.nat_tests, Nat.{div_below, le-div}}
 
 -- the link for a label whose owner is switch u and whose terminal's link is own
@@ -25,28 +25,13 @@ pub mesh_left : (w s u own : ℕ) → 0 < w → s / w * w ≤ u → u < s → me
 mesh_left w s u own pos le lt = let t : nat_lt u s ≡ true = grind (arith, nat_tests) in rw (not_above w s u pos le, t) refl
 
 pub mesh_own : (w s u own : ℕ) → 0 < w → u ≡ s → mesh_link w s u own ≡ own
-mesh_own w s u own pos is =
-    let a : nat_lt (u / w) (s / w) ≡ false = not_above w s u pos (omega (arith, is, whole_below s w)) in
-    let b : nat_lt u s ≡ false = grind (arith, nat_tests) in
-    let c : (u == s) ≡ true = grind (arith, nat_tests) in
-    rw (a, b, c) refl
+mesh_own w s u own pos is = search (arith, not_above, whole_below, nat_tests)
 
 pub mesh_right : (w s u own : ℕ) → 0 < w → s + 1 ≤ u → u < (s / w + 1) * w → mesh_link w s u own ≡ 2
-mesh_right w s u own pos gt lt =
-    let a : nat_lt (u / w) (s / w) ≡ false = not_above w s u pos (omega (arith, gt, whole_below s w)) in
-    let b : nat_lt u s ≡ false = grind (arith, nat_tests) in
-    let c : (u == s) ≡ false = grind (arith, nat_tests) in
-    let d : nat_lt (u / w) (s / w + 1) ≡ true = grind (arith, nat_tests, div_below u w (s / w + 1) pos lt) in
-    rw (a, b, c, d) refl
+mesh_right w s u own pos gt lt = search (arith, not_above, whole_below, nat_tests, div_below)
 
 pub mesh_below : (w s u own : ℕ) → 0 < w → (s / w + 1) * w ≤ u → mesh_link w s u own ≡ 3
-mesh_below w s u own pos le =
-    let gt : s < u = omega (arith, le, next_above s w pos) in
-    let a : nat_lt (u / w) (s / w) ≡ false = not_above w s u pos (omega (arith, gt, whole_below s w)) in
-    let b : nat_lt u s ≡ false = grind (arith, nat_tests) in
-    let c : (u == s) ≡ false = grind (arith, nat_tests) in
-    let d : nat_lt (u / w) (s / w + 1) ≡ false = grind (arith, nat_tests, le-div (s / w + 1) u w pos le) in
-    rw (a, b, c, d) refl
+mesh_below w s u own pos le = search (arith, next_above, not_above, whole_below, nat_tests, le-div)
 
 mesh_piece : (w h p s : ℕ) → 0 < w → 0 < p → s < w * h → IsPiece 0 (w * h * p) (all_mesh_rows w h p s) (λ l. Link (mesh_link w s (l / p) (4 + l % p)))
 mesh_piece w h p s wide some lt =
@@ -86,13 +71,4 @@ in_below w s u row = omega (arith, whole_below u w, times (s / w + 1) (u / w) w 
 
 pub selects_in_mesh : (w h p s : ℕ) → 0 < w → 0 < p → s < w * h → SelectsInMesh w h p s (mesh_table w h p s)
 selects_in_mesh w h p s wide some inside =
-    let says = λ (l : ℕ). mesh_selects w h p s l wide some inside in
-    let one = λ (l : ℕ). one_of (w * h * p) 4 p s l (mesh_link w) in
-    record {
-      above = λ l lt row. says l ∙ one l lt ∙ ap Link (mesh_above w s (owner p l) (4 + l % p) wide (in_above w s (owner p l) wide row));
-      before = λ l lt row column. says l ∙ one l lt ∙ ap Link (mesh_left w s (owner p l) (4 + l % p) wide (same_row w s (owner p l) wide row).0 (before_in_row w (owner p l) s row column));
-      own = λ l lt is. says l ∙ one l lt ∙ ap Link (mesh_own w s (owner p l) (4 + l % p) wide is);
-      after = λ l lt row column. says l ∙ one l lt ∙ ap Link (mesh_right w s (owner p l) (4 + l % p) wide (omega (arith, before_in_row w s (owner p l) (sym row) column)) (same_row w s (owner p l) wide row).1);
-      below = λ l lt row. says l ∙ one l lt ∙ ap Link (mesh_below w s (owner p l) (4 + l % p) wide (in_below w s (owner p l) row));
-      none = λ l le. says l ∙ none_of (w * h * p) 4 p s l (mesh_link w) le;
-    }
+    search (arith, mesh_selects, one_of, mesh_above, in_above, mesh_left, same_row, before_in_row, mesh_own, mesh_right, mesh_below, in_below, none_of)

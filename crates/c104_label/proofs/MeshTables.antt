@@ -2,7 +2,7 @@
 use Rattle.c104_label.proofs.{MeshSelections.selects_in_mesh, Quotients.mesh_ends, Runs.{IsRun, around_links, kept_fewer, kept_links}}
 use Rattle.c104_label.proofs.Runs.{kept_rising, length_around, own_length, own_links, run_around, run_of_own}
 use Rattle.c104_label.specs.{LabelRows.{AreLabelRows, IsLinkRow, around, label_row, own_rows}, MeshLabels.{AreMeshTables, IsMesh}}
-use Rattle.{c104_label.specs.MeshLabels.{all_mesh_rows, mesh_rows}, std.proofs.Common.{arith, length, ℕ, ◌*◌, ◌+◌, ◌/◌, ◌<◌, ◌∙◌, ◌≡◌, ◌≤◌}}
+use Rattle.{c104_label.specs.MeshLabels.{all_mesh_rows, mesh_rows}, std.proofs.Common.{arith, length, ℕ, ◌*◌, ◌+◌, ◌/◌, ◌<◌, ◌≡◌, ◌≤◌}}
 use Rattle.std.specs.List.{AllByRecursion}
 
 mesh_run : (w h p s : ℕ) → 0 < w → s < w * h → IsRun 0 (w * h * p) (all_mesh_rows w h p s)
@@ -13,9 +13,7 @@ mesh_run w h p s wide inside =
     (run_around (s / w * w * p) (s * p) (s * p + p) ((s / w + 1) * w * p) 1 2 (own_rows 4 p s) ends.0 ends.1 (run_of_own 4 p s))
 
 mesh_length : (w h p s : ℕ) → length (all_mesh_rows w h p s) ≡ p + 4
-mesh_length w h p s =
-    length_around (label_row (s / w * w * p) 0) (label_row (w * h * p) 3) (around (label_row (s * p) 1) (own_rows 4 p s) (label_row ((s / w + 1) * w * p) 2))
-    ∙ omega (arith, length_around (label_row (s * p) 1) (label_row ((s / w + 1) * w * p) 2) (own_rows 4 p s), own_length 4 p s)
+mesh_length w h p s = search (arith, length_around, own_length)
 
 mesh_links : (w h p s : ℕ) → p ≤ 28 → AllByRecursion IsLinkRow (all_mesh_rows w h p s)
 mesh_links w h p s few =

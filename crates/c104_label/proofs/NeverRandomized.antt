@@ -13,11 +13,7 @@ use Rattle.std.{proofs.lemmas.{Bool.cases_lt, List.FromFn.length-map-range_with_
 
 -- where labels are made by a plan's shape, its own lines set nothing at links
 unset_by : (plan : Plan) (shape : Shape) → is_labelled_shape shape ≡ true → IsOfShape shape plan → IsUnset plan
-unset_by plan Hand is of = absurd cc
-unset_by plan (Tree root) is of = of.unset
-unset_by plan (UpDown root) is of = of.unset
-unset_by plan (Mesh w h p) is of = of.1.unset
-unset_by plan (Cube d p) is of = of.1.unset
+unset_by plan shape is of = search arith
 
 -- so they say nothing of random headers
 none_random : (plan : Plan) (shape : Shape) → IsPlan plan → shape ≡ plan.shape → is_labelled_shape shape ≡ true → plan.randoms ≡ []

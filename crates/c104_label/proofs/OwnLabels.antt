@@ -1,10 +1,9 @@
 -- Who owns a header where terminal k has label k alone.
 use Rattle.c104_check.{proofs.RangeLemmas.{has_is, is_has}, specs.Routes.{Owns, Routes, has_label, owner}}
 use Rattle.{c104_label.proofs.MappedRanges.map_was, c104_plan.specs.{Layouts.filled_terminal, PlanImage.range_of}, std.proofs.Common.None}
-use Rattle.std.proofs.Common.{Some, ap, arith, cond, false, get_or, length, map, nat_lt, refl, slice_get, subst, suc, sym, true, zero, ℕ}
-use Rattle.std.proofs.{Common.{◌+◌, ◌<◌, ◌∙◌, ◌∷◌, ◌≡◌, ◌≤◌}, lemmas.{Bool.Decides.nat_tests, List.FromFn.get_or-map-range_with_len}}
-use Rattle.std.{proofs.lemmas.List.{FromFn.length-map-range_with_len, Sums.position_or_len_is}, specs.List.position_or_len}
-use Rattle.std.specs.List.{range_with_len}
+use Rattle.std.proofs.Common.{Some, ap, arith, cond, false, get_or, length, map, nat_lt, refl, suc, true, zero, ℕ, ◌+◌, ◌<◌, ◌∙◌, ◌∷◌, ◌≡◌}
+use Rattle.std.proofs.{Common.◌≤◌, lemmas.{Bool.Decides.nat_tests, List.FromFn.{get_or-map-range_with_len, length-map-range_with_len}}}
+use Rattle.std.{proofs.lemmas.List.Sums.position_or_len_is, specs.List.{position_or_len, range_with_len}}
 
 -- the range of one label
 abbrev pub one_label : ℕ → ℕ × ℕ
@@ -17,10 +16,7 @@ ranges_are links p n (suc count) = ap (λ xs. one_label n ∷ xs) (ranges_are li
 module _ (routes : Routes) (n : ℕ) (are : routes.ranges ≡ map one_label (range_with_len 0 n)) where
   -- a terminal owns its number alone
   pub owns_is : (t h : ℕ) → Owns routes t h → (h ≡ t) × (t < n)
-  owns_is t h (range, at, has) =
-      let found = map_was one_label n t range (ap (λ xs. slice_get xs t) (sym are) ∙ at) in
-      let both = has_is (one_label t) h (subst (λ r. has_label r h ≡ true) found.1 has) in
-      (omega (arith, both.0, both.1), found.0)
+  owns_is t h h1 = search (arith, map_was, has_is)
 
   range_at : (k : ℕ) → k < n → get_or routes.ranges k (0, 0) ≡ one_label k
   range_at k lt = ap (λ xs. get_or xs k (0, 0)) are ∙ get_or-map-range_with_len one_label 0 n k k (0, 0) lt (omega arith)

@@ -11,10 +11,7 @@ abbrev pub IsPiece : ℕ → ℕ → List Row → (ℕ → Select) → Type 0
 IsPiece from to rows f = (rest : List Row) (h : ℕ) → from ≤ h → select_from from (rows ++ rest) h ≡ (if nat_lt h to then f h else select_from to rest h)
 
 pub piece_none : (at : ℕ) (f : ℕ → Select) → IsPiece at at [] f
-piece_none at f rest h from = rw (nat_lt_false at h from) refl
-  where
-    nat_lt_false : (at h : ℕ) → at ≤ h → nat_lt h at ≡ false
-    nat_lt_false at h from = grind (arith, nat_tests)
+piece_none at f rest h from = search (arith, nat_tests)
 
 -- one row
 pub piece_row : (from to link : ℕ) → IsPiece from to (label_row to link ∷ []) (λ h. Link link)
@@ -22,21 +19,11 @@ piece_row from to link rest h le = let t : nat_le from h ≡ true = grind (arith
 
 -- a piece, and one that goes on where it ends
 pub piece_append : (from mid to : ℕ) (rows more : List Row) (f g k : ℕ → Select) → from ≤ mid → mid ≤ to → IsPiece from mid rows f → IsPiece mid to more g → ((h : ℕ) → from ≤ h → h < mid → k h ≡ f h) → ((h : ℕ) → mid ≤ h → h < to → k h ≡ g h) → IsPiece from to (rows ++ more) k
-piece_append from mid to rows more f g k a b first second low high rest h le =
-    rw (append_assoc rows more rest) (first (more ++ rest) h le ∙ ⊎_elim
-    (λ (t : nat_lt h mid ≡ true). let u : nat_lt h to ≡ true = grind (arith, nat_tests) in rw (t, u) (sym (low h le (grind (arith, nat_tests)))))
-    (λ (t : nat_lt h mid ≡ false). let from_mid : mid ≤ h = grind (arith, nat_tests) in rw t (second rest h from_mid ∙ ⊎_elim
-    (λ (u : nat_lt h to ≡ true). rw u (sym (high h from_mid (grind (arith, nat_tests)))))
-    (λ (u : nat_lt h to ≡ false). rw u refl)
-    (cases_Bool (nat_lt h to))))
-    (cases_Bool (nat_lt h mid)))
+piece_append from mid to rows more f g k a b first second low high rest h le = search (arith, append_assoc, nat_tests, cases_Bool)
 
 -- a piece that is said in other words
 pub piece_same : (from to : ℕ) (rows : List Row) (f k : ℕ → Select) → IsPiece from to rows f → ((h : ℕ) → from ≤ h → h < to → f h ≡ k h) → IsPiece from to rows k
-piece_same from to rows f k is same rest h le = is rest h le ∙ ⊎_elim
-    (λ (t : nat_lt h to ≡ true). rw t (same h le (grind (arith, nat_tests))))
-    (λ (t : nat_lt h to ≡ false). rw t refl)
-    (cases_Bool (nat_lt h to))
+piece_same from to rows f k is same rest h le = search (arith, nat_tests, cases_Bool)
 
 -- labels below, between and above
 pub piece_around : (from low high to below above : ℕ) (rows : List Row) (f k : ℕ → Select) → from ≤ low → low ≤ high → high ≤ to → IsPiece low high rows f → ((h : ℕ) → from ≤ h → h < low → k h ≡ Link below) → ((h : ℕ) → low ≤ h → h < high → k h ≡ f h) → ((h : ℕ) → high ≤ h → h < to → k h ≡ Link above) → IsPiece from to (around (label_row low below) rows (label_row to above)) k
@@ -68,8 +55,7 @@ append_none (r ∷ rows) = ap (λ xs. r ∷ xs) (append_none rows)
 -- what a table of a piece selects
 pub table_selects : (to : ℕ) (rows : List Row) (f : ℕ → Select) → IsPiece 0 to rows f → (h : ℕ) → select (label_table (kept_rows rows)) h ≡ (if nat_lt h to then f h else Sink)
 unfolding kept_rows
-table_selects to rows f piece h =
-    select_full 0 (without_empty 0 rows) _ h ∙ select_filled 0 rows h ∙ ap (λ rs. select_from 0 rs h) (sym (append_none rows)) ∙ piece [] h (omega arith)
+table_selects to rows f piece h = search (arith, select_full, select_filled, append_none)
 
 -- labels that each have a link, one after the other
 pub own_piece : (base links i n from to : ℕ) → from ≡ base + i → to ≡ from + n → IsPiece from to (map (λ j. label_row (base + j + 1) (links + j)) (range_with_len i n)) (λ h. Link (links + (h - base)))

@@ -2,13 +2,11 @@
 pub use Rattle.c104_plan.proofs.LayoutNumbers.{next_above, parts, rows_fit, times, whole_below}
 use Rattle.std.proofs.{Common.{ap, arith, suc, sym, ℕ, ◌%◌, ◌*◌, ◌+◌, ◌-◌, ◌/◌, ◌<◌, ◌^◌, ◌∙◌, ◌≡◌, ◌≤◌}, lemmas.Nat.div-mul-add}
 use Rattle.std.proofs.lemmas.Nat.{mod-mul-add}
-use native.Mathlib.Nat.{div-div-eq-div-mul, div-eq_of_lt, div-one, pow-suc}
+use native.Mathlib.Nat.{div-div-eq-div-mul, pow-suc}
 
 -- where a number stands among the multiples
 pub place_at : (h s p : ℕ) → s * p ≤ h → h < s * p + p → (h / p ≡ s) × (h % p ≡ h - s * p)
-place_at h s p le lt =
-    let is : h ≡ s * p + (h - s * p) = omega (arith, le) in
-    (ap (λ n. n / p) is ∙ div-mul-add s p (h - s * p) (omega (arith, le, lt)), ap (λ n. n % p) is ∙ mod-mul-add s p (h - s * p) (omega (arith, le, lt)))
+place_at h s p le lt = search (arith, div-mul-add, mod-mul-add)
 
 -- where the labels begin and end of the rows of a mesh above a switch, of its own row, and of the mesh
 pub mesh_ends : (w h p s : ℕ) → 0 < w → s < w * h →
@@ -37,24 +35,12 @@ pub cube_ends : (p x k : ℕ) →
     (x / 2 ^ suc k * 2 ^ suc k * p ≤ x / 2 ^ k * 2 ^ k * p)
     × (x / 2 ^ k * 2 ^ k * p ≤ (x / 2 ^ k + 1) * 2 ^ k * p)
     × ((x / 2 ^ k + 1) * 2 ^ k * p ≤ (x / 2 ^ suc k + 1) * 2 ^ suc k * p)
-cube_ends p x k =
-    let a : ℕ = x / 2 ^ k in (
-      times _ _ p (omega (arith, lower_end x k, times (a / 2 * 2) a (2 ^ k) (omega arith))),
-      times _ _ p (times a (a + 1) (2 ^ k) (omega arith)),
-      times _ _ p (omega (arith, upper_end x k, times (a + 1) ((a / 2 + 1) * 2) (2 ^ k) (omega arith))),
-    )
+cube_ends p x k = search (arith, times, lower_end, upper_end)
 
 -- from bit 0 on x alone agrees with itself
 pub cube_one : (p x : ℕ) → (x / 2 ^ 0 * 2 ^ 0 * p ≡ x * p) × ((x / 2 ^ 0 + 1) * 2 ^ 0 * p ≡ x * p + p)
-cube_one p x = (
-  ap (λ n. n * 2 ^ 0 * p) (div-one x) ∙ ap (λ n. n * p) (omega arith),
-  ap (λ n. (n + 1) * 2 ^ 0 * p) (div-one x) ∙ omega arith,
-)
+cube_one p x = search arith
 
 -- and from the number of bits on all do
 pub cube_whole : (d p x : ℕ) → x < 2 ^ d → (x / 2 ^ d * 2 ^ d * p ≡ 0) × ((x / 2 ^ d + 1) * 2 ^ d * p ≡ 2 ^ d * p)
-cube_whole d p x lt =
-    let none : x / 2 ^ d ≡ 0 = div-eq_of_lt lt in (
-      ap (λ n. n * 2 ^ d * p) none ∙ omega arith,
-      ap (λ n. (n + 1) * 2 ^ d * p) none ∙ ap (λ n. n * p) (omega arith),
-    )
+cube_whole d p x lt = search arith

@@ -1,9 +1,9 @@
 -- A table of label rows is within the ranges of its registers.
-use Rattle.c104_interval.specs.{Selection.reset_row, declared.intervals.{Row.Row, Select.{Select, TheVariants.{Discard, Link, Sink}}}}
-use Rattle.c104_label.specs.LabelRows.{AreLabelRows, AreRising, IsLinkRow, label_table, last_limit}
-use Rattle.{c104_regs.{proofs.RangeNumbers.{IsSelectable, IsTableInRange-from}, specs.Ranges.IsTableInRange}, std.proofs.Common.{List, []}}
-use Rattle.std.proofs.Common.{ap, arith, get_or, length, lit<, replicate, suc, zero, ℕ, ◌++◌, ◌+◌, ◌-◌, ◌∙◌, ◌∷◌, ◌≡◌, ◌≤◌}
-use Rattle.std.{proofs.lemmas.List.{length-append, length-replicate}, specs.List.AllByRecursion}
+use Rattle.{c104_interval.specs.{Selection.reset_row, declared.intervals.Row.Row}, c104_label.specs.LabelRows.{AreLabelRows, AreRising}}
+use Rattle.{c104_label.specs.LabelRows.{IsLinkRow, label_table, last_limit}, c104_regs.proofs.RangeNumbers.IsSelectable}
+use Rattle.{c104_regs.{proofs.RangeNumbers.IsTableInRange-from, specs.Ranges.IsTableInRange}, std.proofs.Common.{List, [], arith, get_or}}
+use Rattle.std.proofs.{Common.{replicate, suc, zero, ℕ, ◌++◌, ◌∷◌, ◌≤◌}, lemmas.List.{length-append, length-replicate}}
+use Rattle.std.specs.List.{AllByRecursion}
 
 abbrev pub IsRowInRange : Row → Type 0
 IsRowInRange row = (row.limit ≤ 65536) × IsSelectable row.select
@@ -13,12 +13,7 @@ below_last low [] rising = omega arith
 below_last low (r ∷ rows) rising = let e = below_last r.limit rows rising.1 in let f = rising.0 in omega (arith, e, f)
 
 selectable : (row : Row) → IsLinkRow row → IsSelectable row.select
-selectable row is = by row.select is
-  where
-    by : (x : Select) → IsLinkRow (record { limit = 0; select = x }) → IsSelectable x
-    by (Link l) is = is
-    by Discard is = absurd is
-    by Sink is = absurd is
+selectable row is = search arith
 
 rows_within : (low : ℕ) (rows : List Row) → AreRising low rows → AllByRecursion IsLinkRow rows → last_limit low rows ≤ 65536 → AllByRecursion IsRowInRange rows
 rows_within low [] rising are small = tt
@@ -37,14 +32,4 @@ at_any (r ∷ rows) n zero all = all.0
 at_any (r ∷ rows) n (suc k) all = at_any rows n k all.1
 
 pub rows_in_range : (labels : ℕ) (rows : List Row) → AreLabelRows labels rows → labels ≤ 65536 → IsTableInRange (label_table rows)
-rows_in_range labels rows are few =
-    let end = are.all in
-    let short = are.few in
-    let within = rows_within 0 rows are.rising are.links (omega (arith, end, few)) in
-    let size : length (rows ++ replicate (36 - length rows) reset_row) ≡ length rows + (36 - length rows) = length-append rows (replicate (36 - length rows) reset_row) ∙ ap (λ n. length rows + n) (length-replicate (36 - length rows) reset_row) in
-    IsTableInRange-from (label_table rows) (record {
-      base = lit< tt;
-      rows = omega (arith, size, short);
-      limits = λ k. (at_any rows (36 - length rows) k within).0;
-      selects = λ k. (at_any rows (36 - length rows) k within).1;
-    })
+rows_in_range labels rows are few = search (arith, rows_within, replicate, length-append, length-replicate, IsTableInRange-from, at_any)

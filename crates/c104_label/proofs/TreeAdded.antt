@@ -4,7 +4,7 @@ use Rattle.c104_label.proofs.{TreeCounts.labels_next, TreeRows.{rows_append, tot
 use Rattle.c104_label.specs.{Forests.{Forest, links}, LabelRows.{kept_rows, label_row, with_row, with_rows}, TreeLabels.{Net, Pieces}}
 use Rattle.c104_label.specs.TreeLabels.{child_pieces, labels_behind, labels_on, own_labels, own_pieces, piece, place, place_end, rows_from}
 use Rattle.{c104_label.specs.TreeLabels.tree_rows, std.proofs.Common.{List, [], ap, append-nil, append_assoc, arith, map, refl, subst, suc}}
-use Rattle.std.{proofs.Common.{sym, zero, ℕ, ◌++◌, ◌+◌, ◌-◌, ◌∙◌, ◌∷◌, ◌≡◌, ◌≤◌}, specs.List.range_with_len}
+use Rattle.std.{proofs.Common.{sym, zero, ℕ, ◌++◌, ◌+◌, ◌∙◌, ◌∷◌, ◌≡◌, ◌≤◌}, specs.List.range_with_len}
 
 -- the row of the labels of a link's terminal
 abbrev pub own_row : Net → ℕ → ℕ → ℕ → Row
@@ -84,10 +84,4 @@ pub rows_last : (net : Net) (total s up first n end : ℕ) (below : Forest) (fro
     → rows ≡ tree_rows net total s (place up first below)
 unfolding tree_rows
 rows_last net total s up first n end below front with_children rows all is_front is_end room is_children is =
-    let qs : Pieces = child_pieces (own_labels net) below in
-    let past : ℕ = total - place_end (own_labels net) s (place up first below) in
-    let own_is = own_all net s n all in
-    let b = total_children (own_labels net) below in
-    let last : (end + total_of qs) + past ≡ total = omega (arith, b, is_end, own_is, room) in
-    rows_so net total s up first n end past qs front with_children rows is_front is_end last is_children is
-    ∙ ap (λ ls. kept_rows (rows_from 0 (piece up first ∷ (own_pieces net s ls ++ (qs ++ (piece up past ∷ [])))))) (links_to n all)
+    search (arith, own_all, total_children, rows_so, links_to)

@@ -1,9 +1,9 @@
 -- The labels of a depth-first tree are numbered in the order in which its switches are visited.
-use Rattle.c104_label.proofs.{ForestLemmas.{met_first, or_parts}, TreePlaces.{either-none, either-some, not_both, place_none, place_some}}
-use Rattle.c104_label.{proofs.TreePlaces.{place_step, unmet_left, unmet_one, unmet_right}, specs.Forests.{Forest, child, empty, is_met}}
-use Rattle.c104_label.specs.{Forests.switches, TreeLabels.{AreInOrder, Place, either, forest_labels, labels_together, place, place_in}}
-use Rattle.{c104_label.specs.TreeLabels.place_of, std.proofs.Common.{Bool, List, Option, Some, [], ap, arith, false, if◌then◌else◌, inl}}
-use Rattle.std.proofs.{Common.{inr, refl, subst, sym, true, ℕ, ◌++◌, ◌+◌, ◌==◌, ◌∙◌, ◌∷◌, ◌≡◌}, lemmas.Bool.{cases_Bool, eq-eqb}}
+use Rattle.c104_label.proofs.{ForestLemmas.met_first, TreePlaces.{either-none, either-some, not_both, place_none, place_some, place_step}}
+use Rattle.c104_label.{proofs.TreePlaces.{unmet_left, unmet_one, unmet_right}, specs.Forests.{Forest, child, empty, is_met, switches}}
+use Rattle.c104_label.specs.TreeLabels.{AreInOrder, Place, either, forest_labels, labels_together, place, place_in, place_of}
+use Rattle.std.proofs.Common.{Bool, List, Option, Some, [], ap, arith, false, if◌then◌else◌, inl, inr, refl, subst, sym, true, ℕ, ◌++◌, ◌+◌}
+use Rattle.std.proofs.{Common.{◌==◌, ◌∙◌, ◌∷◌, ◌≡◌}, lemmas.{Bool.{cases_Bool, eq-eqb, or_cases}, Option.same_Some}}
 
 -- how many labels lists of switches have together
 together_on : (own : ℕ → ℕ) (xs ys : List ℕ) → labels_together own (xs ++ ys) ≡ labels_together own xs + labels_together own ys
@@ -31,7 +31,7 @@ split_left (x ∷ xs) ys (z ∷ before) after s is met none =
     let same : x ≡ z = cc in
     let on : xs ++ ys ≡ before ++ s ∷ after = cc in
     let other : (s == x) ≡ false = subst (λ n. (s == n) ≡ false) (sym same) (unmet_one s z (unmet_left (z ∷ []) before s none)) in
-    let later : is_met xs s ≡ true = elim (or_parts (s == x) (is_met xs s) met) [
+    let later : is_met xs s ≡ true = elim (or_cases (s == x) (is_met xs s) met) [
       | inl here ↦ absurd (not_both (s == x) here other)
       | inr there ↦ there
     ] in
@@ -51,12 +51,8 @@ split_right (x ∷ xs) ys (z ∷ before) after s is none =
     let rest = split_right xs ys before after s on (unmet_right (x ∷ []) xs s none) in
     (rest.0, ap (λ n. n ∷ before) (sym same) ∙ ap (λ ws. x ∷ ws) rest.1, rest.2)
 
-same_place : (p q : Place) → Some p ≡ Some q → p ≡ q
-same_place p q is = cc
-
 place_first : (b : Bool) (here there : Option Place) → b ≡ true → (if b then here else there) ≡ here
-place_first true here there is = refl
-place_first false here there is = absurd cc
+place_first b here there is = search arith
 
 -- in subtrees whose labels begin at first
 in_forest : (own : ℕ → ℕ) (f : Forest) (first : ℕ) (before after : List ℕ) (s : ℕ) (p : Place) → switches f ≡ before ++ s ∷ after → is_met before s ≡ false → place_in own s first f ≡ Some p → p.first ≡ first + labels_together own before
@@ -64,7 +60,7 @@ in_forest own empty first before after s p is none at = absurd cc
 in_forest own (child l r b below rest) first [] after s p is none at =
     let list : r ∷ (switches below ++ switches rest) ≡ s ∷ after = is in
     let same : r ≡ s = cc in
-    let here : place b first below ≡ p = same_place (place b first below) p (sym (place_first (s == r) (Some (place b first below)) _ (eq-eqb s r (sym same))) ∙ at) in
+    let here : place b first below ≡ p = same_Some (place b first below) p (sym (place_first (s == r) (Some (place b first below)) _ (eq-eqb s r (sym same))) ∙ at) in
     let begins : first ≡ p.first = ap (λ (q : Place). q.first) here in
     omega (arith, begins)
 in_forest own (child l r b below rest) first (z ∷ before) after s p is none at =
@@ -94,7 +90,7 @@ in_forest own (child l r b below rest) first (z ∷ before) after s p is none at
 in_tree : (own : ℕ → ℕ) (root : ℕ) (forest : Forest) (before after : List ℕ) (s : ℕ) (p : Place) → root ∷ switches forest ≡ before ++ s ∷ after → is_met before s ≡ false → place_of own root forest s ≡ Some p → p.first ≡ labels_together own before
 in_tree own root forest [] after s p is none at =
     let same : root ≡ s = cc in
-    let here : place 0 0 forest ≡ p = same_place (place 0 0 forest) p (sym (place_first (s == root) (Some (place 0 0 forest)) _ (eq-eqb s root (sym same))) ∙ at) in
+    let here : place 0 0 forest ≡ p = same_Some (place 0 0 forest) p (sym (place_first (s == root) (Some (place 0 0 forest)) _ (eq-eqb s root (sym same))) ∙ at) in
     sym (ap (λ (q : Place). q.first) here)
 in_tree own root forest (z ∷ before) after s p is none at =
     let same : root ≡ z = cc in

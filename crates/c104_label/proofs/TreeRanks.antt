@@ -3,8 +3,8 @@ use Rattle.c104_check.{proofs.AcyclicLemmas.{FallsByLabels, acyclic_by, plain_ra
 use Rattle.c104_check.specs.{Reach.IsReached, Routes.{IsEntryOf, Routes, has_label, owner, routes_of, to_port}, Shown.Follows}
 use Rattle.c104_check.specs.{Trails.IsInput, declared.ports.SwitchPort.SwitchPort}
 use Rattle.{c104_interval.specs.declared.intervals.Select.TheVariants.Link, c104_label.proofs.ForestLemmas.{AllSwitches, AllSwitches-at}}
-use Rattle.c104_label.proofs.ForestLemmas.{grown_switches, met_first, met_right, or_parts, switches_room, switches_root}
-use Rattle.c104_label.proofs.{LabelledRoutes.{alone, not_randomized, settings_count}, TreeAccepted.{is_network, owned, small_of, tree_plan}}
+use Rattle.c104_label.proofs.{ForestLemmas.{grown_switches, met_first, met_right, switches_room, switches_root}, LabelledRoutes.alone}
+use Rattle.c104_label.proofs.{LabelledRoutes.{not_randomized, settings_count}, TreeAccepted.{is_network, owned, small_of, tree_plan}}
 use Rattle.c104_label.proofs.{TreePlaces.{Stands, either_case, if_case}, TreeTables.{place_known, standing}, TreeWalks.{Down, FoundIn}}
 use Rattle.c104_label.proofs.TreeWalks.{all_ranges, all_tables, behind_terminal, counted, down, far_stands, host_parts, later_found}
 use Rattle.c104_label.proofs.{TreeWalks.{link_with, range_count, range_first, selects_at, selects_of, tree_routes}, VisitLemmas.ends_inside}
@@ -13,10 +13,10 @@ use Rattle.c104_label.specs.{TreeImages.{IsBehind, IsTreeImage, SelectsInTree, m
 use Rattle.c104_label.specs.TreeLabels.{forest_labels, labels_behind, net_of, own_labels, place, place_end, place_in, place_of}
 use Rattle.{c104_label.specs.TreeLabels.{switch_table, tree_labels, tree_range}, c104_plan.{proofs.Wires.wiring, specs.PlanImage.Image}}
 use Rattle.c104_plan.specs.{Plans.{IsPlan, IsTreePlan, Plan}, Wiring.peer, declared.{plans.Shape.TheVariants.Tree, ports.Port.Port}}
-use Rattle.std.proofs.Common.{Bool, List, None, Option, Some, [], ap, arith, false, get_or, if◌then◌else◌, inl, inr, length, nat_lt, refl}
+use Rattle.std.proofs.Common.{List, None, Option, Some, [], ap, arith, false, get_or, if◌then◌else◌, inl, inr, length, nat_lt, refl}
 use Rattle.std.proofs.Common.{slice_get, subst, suc, sym, true, zero, ℕ, ⊎_elim, ◌++◌, ◌+◌, ◌-◌, ◌<◌, ◌==◌, ◌∙◌, ◌∷◌, ◌≡◌, ◌≤◌, ◌⊎◌}
-use Rattle.std.proofs.lemmas.{Bool.{Decides.nat_tests, cases_lt, eq-eqb, eqb-true}, List.{Quantifiers.position-Some, length-append}}
-use Rattle.std.proofs.lemmas.Option.{slice_get-get_or}
+use Rattle.std.proofs.lemmas.{Bool.{Decides.nat_tests, cases_lt, eq-eqb, eqb-true, or_cases}, List.Quantifiers.position-Some}
+use Rattle.std.proofs.lemmas.{List.length-append, Option.slice_get-get_or}
 use Rattle.c104_interval.specs.Selection as table
 
 -- how many switches subtrees have
@@ -40,11 +40,7 @@ place_smaller own (child l r b below rest) first s p is =
     is
 
 place_of_small : (own : ℕ → ℕ) (root : ℕ) (forest : Forest) (s : ℕ) (p : Place) → place_of own root forest s ≡ Some p → size p.below ≤ size forest
-place_of_small own root forest s p is =
-    if_case (λ q. size q.below ≤ size forest) (s == root) (place 0 0 forest) _ p
-    (λ same. omega arith)
-    (λ at. let e = place_smaller own forest (own root) s p at in omega (arith, e))
-    is
+place_of_small own root forest s p is = search (arith, if_case, place_smaller)
 
 behind_met : (f : Forest) (l r : ℕ) → IsBehind f l r → is_met (switches f) r ≡ true
 behind_met empty l r is = absurd is
@@ -89,12 +85,7 @@ module _ (plan : Plan) (kept : IsPlan plan) (root : ℕ) (is_tree : IsTreePlan r
 
   -- a subtree is smaller
   child_smaller : (s l r : ℕ) (p q : Place) → At s p → IsBehind p.below l r → At r q → below_switch plan root forest r < below_switch plan root forest s
-  child_smaller s l r p q at behind there =
-      let found : place_in (own_labels (net_of plan)) r (p.first + own_labels (net_of plan) s) p.below ≡ Some q = sym (at.inside r (behind_met p.below l r behind)) ∙ there.found in
-      let less = place_smaller (own_labels (net_of plan)) p.below (p.first + own_labels (net_of plan) s) r q found in
-      let a = bs_is s p at in
-      let b = bs_is r q there in
-      omega (arith, less, a, b)
+  child_smaller s l r p q at behind there = search (arith, behind_met, place_smaller, bs_is)
 
   -- each switch but the root is behind a link of another
   record HasParent (r : ℕ) : Type 0 where
@@ -117,7 +108,7 @@ module _ (plan : Plan) (kept : IsPlan plan) (root : ℕ) (is_tree : IsTreePlan r
   root_at = place_known plan (wiring plan kept) root forest spans root (place 0 0 forest) is_tree.inside (rw (eq-eqb root root refl) refl)
 
   parent_of : (s : ℕ) → s < length plan.switches → (s ≡ root) ⊎ HasParent s
-  parent_of s inside = elim (or_parts (s == root) (is_met (switches forest) s) (spans.all s inside)) [
+  parent_of s inside = elim (or_cases (s == root) (is_met (switches forest) s) (spans.all s inside)) [
     | inl same ↦ inl (eqb-true s root same)
     | inr later ↦ inr (AllSwitches-at HasParent forest s (parents root (place 0 0 forest) forest (0 + own_labels (net_of plan) root) root_at.grown.0 links root_at (λ l r is. is) root_at.grown.1 root_at.inside) later)
   ]
@@ -130,12 +121,7 @@ module _ (plan : Plan) (kept : IsPlan plan) (root : ℕ) (is_tree : IsTreePlan r
   Out h s = (p : Place) × At s p × ((h < p.first) ⊎ (place_end (own_labels (net_of plan)) s p ≤ h))
 
   not_both : (h s : ℕ) → In h s → Out h s → ⊥
-  not_both h s (p, at, from, under) (q, there, out) =
-      let same = one_place s p q at there in
-      ⊎_elim
-      (λ (e : h < q.first). let d : p.first ≡ q.first = ap (λ (x : Place). x.first) same in omega (arith, from, e, d))
-      (λ (e : place_end (own_labels (net_of plan)) s q ≤ h). let d : place_end (own_labels (net_of plan)) s p ≡ place_end (own_labels (net_of plan)) s q = ap (place_end (own_labels (net_of plan)) s) same in omega (arith, under, e, d))
-      out
+  not_both h s h1 h2 = search (arith, one_place)
 
   -- one wire on the way of a label: down to a subtree that has it, or up from one that hasn't
   data Step (h s : ℕ) (b : SwitchPort) : Type 0 where
@@ -260,13 +246,7 @@ module _ (plan : Plan) (kept : IsPlan plan) (root : ℕ) (is_tree : IsTreePlan r
       by_step (Upper less out at) = let r = rank_upper h a b g.link g.back less in omega (arith, r)
 
   from_input : (h : ℕ) (z a b : SwitchPort) → Goes h z a → Goes h a b → tree_rank plan root forest b < tree_rank plan root forest a
-  from_input h z a b f g = by_steps f.goes g.goes
-    where
-      by_steps : Step h z.switch a → Step h a.switch b → tree_rank plan root forest b < tree_rank plan root forest a
-      by_steps (Lower less has) (Lower less' has') = let r = rank_lower h z a f.link f.back less in let r' = rank_lower h a b g.link g.back less' in omega (arith, r, r', less')
-      by_steps (Lower less has) (Upper less' out at) = absurd (not_both h a.switch has out)
-      by_steps (Upper less out at) (Lower less' has') = let r = rank_upper h z a f.link f.back less in let r' = rank_lower h a b g.link g.back less' in let most = place_at h b.switch has' in omega (arith, r, r', most)
-      by_steps (Upper less out at) (Upper less' out' at') = let r = rank_upper h z a f.link f.back less in let r' = rank_upper h a b g.link g.back less' in let most = bs_small b.switch at'.0 at'.1 in omega (arith, r, r', less', most)
+  from_input h z a b f g = search (arith, rank_lower, not_both, rank_upper, place_at, bs_small)
 
   -- the ranks fall wherever a label goes on
   spanning_ranked : FallsByLabels (tree_routes plan root forest) (tree_rank plan root forest)
@@ -296,20 +276,7 @@ size_small plan root forest kept is_tree spans =
 
 -- no rank is above that of what comes from a terminal
 rank_by_low : (plan : Plan) (root : ℕ) (forest : Forest) (s : ℕ) (o : Option Port) → rank_by plan root forest s o ≤ size forest + size forest + 3
-rank_by_low plan root forest s None = omega arith
-rank_by_low plan root forest s (Some (Port.Terminal t)) = omega arith
-rank_by_low plan root forest s (Some (Port.Switch r b)) = by_test (nat_lt (below_switch plan root forest r) (below_switch plan root forest s))
-  where
-    small : below_switch plan root forest s ≤ size forest
-    small = by_place (place_of (own_labels (net_of plan)) root forest s) refl
-      where
-        by_place : (o : Option Place) → place_of (own_labels (net_of plan)) root forest s ≡ o → size_at o ≤ size forest
-        by_place None is = omega arith
-        by_place (Some p) is = place_of_small (own_labels (net_of plan)) root forest s p is
-
-    by_test : (b : Bool) → (if b then size forest + 1 + (size forest - below_switch plan root forest s) else below_switch plan root forest s) ≤ size forest + size forest + 3
-    by_test true = omega arith
-    by_test false = omega (arith, small)
+rank_by_low plan root forest s o = search (arith, place_of_small)
 
 pub spanning_acyclic : (plan : Plan) (kept : IsPlan plan) (root : ℕ) (is_tree : IsTreePlan root plan) (forest : Forest) (spans : IsSpanning plan root forest) → plan_labels plan root forest ≤ most_labels plan → IsAcyclic (tree_routes plan root forest)
 spanning_acyclic plan kept root is_tree forest spans few =

@@ -34,8 +34,7 @@ table_picks ps h = select_full 0 (without_empty 0 (rows_from 0 ps)) _ h ∙ sele
 -- what the first pieces have is theirs, and what they don't have is the others'
 
 pick_first_step : (l : ℕ) (b : Bool) (x y : Select) → (b ≡ false → x ≡ y) → (if b then Link l else x) ≡ (if b then Link l else y)
-pick_first_step l true x y same = refl
-pick_first_step l false x y same = same refl
+pick_first_step l b x y same = search arith
 
 pub pick_first : (low : ℕ) (ps qs : Pieces) (h : ℕ) → low ≤ h → h < low + total_of ps → pick low (ps ++ qs) h ≡ pick low ps h
 pick_first low [] qs h up below = absurd (omega (arith, up, below))

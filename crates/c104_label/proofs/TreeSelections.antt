@@ -3,7 +3,7 @@ use Rattle.c104_interval.specs.{Selection.select, declared.intervals.Select.{Sel
 use Rattle.c104_label.proofs.{ForestLemmas.{met_first, met_right}, TreePlaces.{Stands, place_here, place_on}, TreeRows.{pick, pick_after}}
 use Rattle.c104_label.{proofs.TreeRows.{pick_first, pick_here, pick_next, pick_past, table_picks, total_of}, specs.Forests.{Ends, Forest}}
 use Rattle.c104_label.specs.{Forests.{Grown, child, empty, ends_of, is_met, links, switches}, TreeImages.{HasLabel, IsBehind}}
-use Rattle.c104_label.specs.{TreeImages.SelectsInTree, TreeLabels.{Net, Pieces, Place, all_pieces, child_pieces, count_or_zero, first_at}}
+use Rattle.c104_label.specs.{TreeImages.SelectsInTree, TreeLabels.{Net, Pieces, Place, all_pieces, child_pieces, count_or_zero}}
 use Rattle.c104_label.specs.TreeLabels.{forest_labels, labels_behind, labels_on, net_of, own_labels, own_pieces, piece, place, place_end}
 use Rattle.c104_label.specs.TreeLabels.{place_in, place_of, switch_table, table_at, tree_labels, tree_range, tree_rows, tree_table}
 use Rattle.c104_plan.specs.{Plans.{Plan, host_port}, Wiring.{IsWiring, peer}, declared.{plans.Terminal.Terminal, ports.Port.Port}}
@@ -31,18 +31,7 @@ pub pick_parts : (up first a b past : ℕ) (ps qs : Pieces) (h : ℕ) → total_
     × (first ≤ h → h < first + a → pick 0 (around up first past ps qs) h ≡ pick first ps h)
     × (first + a ≤ h → h < first + (a + b) → pick 0 (around up first past ps qs) h ≡ pick (first + a) qs h)
     × (first + (a + b) ≤ h → pick 0 (around up first past ps qs) h ≡ pick (first + (a + b)) (piece up past ∷ []) h)
-pick_parts up first a b past ps qs h own_is kids_is =
-    let begin : 0 + first ≡ first = omega arith in
-    let whole = ps ++ (qs ++ (piece up past ∷ [])) in
-    let next : first ≤ h → pick 0 (piece up first ∷ whole) h ≡ pick first whole h = λ from. pick_next 0 up first whole h (omega (arith, from)) ∙ ap (λ k. pick k whole h) begin in
-    let mid : first + a ≤ h → pick 0 (piece up first ∷ whole) h ≡ pick (first + a) (qs ++ (piece up past ∷ [])) h =
-    λ from. next (omega (arith, from)) ∙ pick_after first ps (qs ++ (piece up past ∷ [])) h (omega (arith, from, own_is)) ∙ ap (λ k. pick (first + k) (qs ++ (piece up past ∷ [])) h) own_is in
-    let sum : (first + a) + b ≡ first + (a + b) = omega arith in (
-      (λ below. pick_here 0 up first whole h (omega (arith, below))),
-      (λ from below. next from ∙ pick_first first ps (qs ++ (piece up past ∷ [])) h from (omega (arith, below, own_is))),
-      (λ from below. mid from ∙ pick_first (first + a) qs (piece up past ∷ []) h from (omega (arith, below, kids_is))),
-      (λ from. mid (omega (arith, from)) ∙ pick_after (first + a) qs (piece up past ∷ []) h (omega (arith, from, kids_is)) ∙ ap (λ k. pick ((first + a) + k) (piece up past ∷ []) h) kids_is ∙ ap (λ k. pick k (piece up past ∷ []) h) sum),
-    )
+pick_parts up first a b past ps qs h own_is kids_is = search (arith, pick_next, pick_after, pick_here, pick_first)
 
 -- own labels select the link of their terminal
 
@@ -151,18 +140,7 @@ module _ (plan : Plan) (root : ℕ) (forest : Forest) (s : ℕ) (p : Place) (wir
 
   own_selects : (k l : ℕ) (t : Terminal) → slice_get plan.terminals k ≡ Some t → t.switch ≡ s → HasLabel (tree_range plan root forest t) l → select (switch_table plan root forest s) l ≡ Link t.link
   unfolding tree_range
-  own_selects k l t is here has =
-      let end = terminal_at plan k t wiring is in
-      let small = end.0 in
-      let at : place_of own root forest t.switch ≡ Some p = ap (place_of own root forest) here ∙ stands.found in
-      let first_is : first_at (net_of plan) t.switch t.link (place_of own root forest t.switch) ≡ p.first + labels_on (net_of plan) s (range_with_len 0 t.link) =
-      ap (first_at (net_of plan) t.switch t.link) at ∙ ap (λ c. p.first + labels_on (net_of plan) c (range_with_len 0 t.link)) here in
-      let count_is : labels_behind (net_of plan).counts (ends_of plan s t.link) ≡ t.count = ap (λ c. labels_behind (net_of plan).counts (ends_of plan c t.link)) (sym here) ∙ end.1 in
-      let from = has.0 in
-      let under = has.1 in
-      let room = own_small t.link small in
-      picks l ∙ (parts_at l).1 (omega (arith, from, first_is)) (omega (arith, under, first_is, count_is, room))
-      ∙ own_link t.link l small (omega (arith, from, first_is)) (omega (arith, under, first_is, count_is))
+  own_selects k l t is here has = search (arith, terminal_at, own_small, picks, parts_at, own_link)
 
   child_is : (link r : ℕ) (q : Place) → IsBehind p.below link r → place_of own root forest r ≡ Some q → ChildAt (ends_of plan) own p.below (p.first + own s) s link r q
   child_is link r q behind found =
@@ -176,14 +154,10 @@ module _ (plan : Plan) (root : ℕ) (forest : Forest) (s : ℕ) (p : Place) (wir
       picks l ∙ (parts_at l).2 (omega (arith, first_is, from)) (omega (arith, end_is, under)) ∙ known.3 l from under
 
   above_selects : (l : ℕ) → l < total → (l < p.first) ⊎ (place_end own s p ≤ l) → select (switch_table plan root forest s) l ≡ Link p.up
-  above_selects l small (inl before) = picks l ∙ (parts_at l).0 before
-  above_selects l small (inr past) =
-      picks l ∙ (parts_at l).3 past ∙ pick_here (place_end own s p) p.up (total - place_end own s p) [] l (omega (arith, small, past))
+  above_selects l small h2 = search (arith, picks, parts_at, pick_here)
 
   none_selects : (l : ℕ) → total ≤ l → select (switch_table plan root forest s) l ≡ Sink
-  none_selects l past =
-      let room = stands.room in
-      picks l ∙ (parts_at l).3 (omega (arith, room, past)) ∙ pick_past (place_end own s p) (piece p.up (total - place_end own s p) ∷ []) l (omega (arith, room, past))
+  none_selects l past = search (arith, picks, parts_at, pick_past)
 
   pub selects_in_tree : SelectsInTree plan root forest s p (switch_table plan root forest s)
   selects_in_tree = record {

@@ -4,27 +4,19 @@ use Rattle.c104_label.proofs.{TreeOrder.in_order, TreePlaces.place_of_within, Tr
 use Rattle.c104_label.{proofs.TreeTables.{rows_are, standing, tree_tables}, specs.{Forests.{Forest, IsSpanning}, LabelRows.label_row}}
 use Rattle.c104_label.specs.{LabelRows.{label_table, with_row, with_rows}, TreeImages.{IsTreeImage, most_labels, plan_labels, switch_place}}
 use Rattle.c104_label.specs.{TreeImages.total_count, TreeLabels.{AreLinks, Net, Place, child_pieces, count_at, first_at, forest_labels}}
-use Rattle.c104_label.specs.TreeLabels.{labels_on, net_of, own_labels, place, place_end, place_of, rows_from, switch_table, table_at}
-use Rattle.{c104_label.specs.TreeLabels.{tree_labels, tree_range, tree_rows}, c104_plan.proofs.Wires.wiring}
-use Rattle.c104_plan.specs.{LabelledImages.labelled_image, PlanImage.Image, Plans.{IsPlan, Plan}, declared.plans.Terminal.Terminal}
-use Rattle.std.proofs.Common.{Bool, Err, IfOk, List, MatchOption, None, Ok, Option, Result, Some, [], ap, arith, false, get_or}
-use Rattle.std.proofs.Common.{if◌then◌else◌, length, map, refl, subst, sym, take, true, ℕ, ◌++◌, ◌+◌, ◌<◌, ◌==◌, ◌∙◌, ◌∷◌, ◌≡◌, ◌≤◌}
-use Rattle.std.{proofs.lemmas.List.map_more, specs.List.range_with_len}
+use Rattle.c104_label.specs.TreeLabels.{labels_on, net_of, own_labels, place, place_end, place_of, rows_from, switch_table, tree_labels}
+use Rattle.{c104_label.specs.TreeLabels.{tree_range, tree_rows}, c104_plan.{proofs.Wires.wiring, specs.LabelledImages.labelled_image}}
+use Rattle.{c104_plan.specs.{PlanImage.Image, Plans.{IsPlan, Plan}, declared.plans.Terminal.Terminal}, std.proofs.Common.{IfOk, List}}
+use Rattle.std.proofs.Common.{MatchOption, None, Option, Result, Some, [], ap, arith, get_or, length, map, subst, sym, take, ℕ, ◌++◌, ◌+◌}
+use Rattle.std.{proofs.{Common.{◌<◌, ◌∙◌, ◌∷◌, ◌≡◌, ◌≤◌}, lemmas.List.map_more}, specs.List.range_with_len}
 
 pub most_small : (plan : Plan) → most_labels plan ≤ 65536
-most_small plan = by (plan.header == 2)
-  where
-    by : (b : Bool) → (if b then 65536 else 256) ≤ 65536
-    by true = omega arith
-    by false = omega arith
+most_small plan = search arith
 
 -- room for the rows of the subtrees
 pub children_room : (net : Net) (counts : List ℕ) (total s up first n end : ℕ) (below : Forest) → count_at counts ≡ own_labels net → n ≡ 32 → end ≡ first + labels_on net s (range_with_len 0 n)
     → place_end (count_at counts) s (place up first below) ≤ total → total ≤ 65536 → end + forest_labels (count_at counts) below ≤ 65536
-children_room net counts total s up first n end below same all is_end room few =
-    let own_is : count_at counts s ≡ own_labels net s = ap (λ (f : ℕ → ℕ). f s) same in
-    let links_is = own_all net s n all in
-    omega (arith, own_is, links_is, is_end, room, few)
+children_room net counts total s up first n end below same all is_end room few = search (arith, own_all)
 
 -- the rows that were added, in the words of the counts
 pub rows_done : (net : Net) (own : ℕ → ℕ) (total s up first n end : ℕ) (below : Forest) (front with_children rows : List Row) → own ≡ own_labels net → n ≡ 32 → front ≡ rows_front net s up first n → end ≡ first + labels_on net s (range_with_len 0 n)
@@ -32,9 +24,7 @@ pub rows_done : (net : Net) (own : ℕ → ℕ) (total s up first n end : ℕ) (
     → with_children ≡ with_rows front (rows_from end (child_pieces own below)) → rows ≡ with_row with_children (label_row total up)
     → rows ≡ tree_rows net total s (place up first below)
 rows_done net own total s up first n end below front with_children rows same all is_front is_end room is_children is =
-    rows_last net total s up first n end below front with_children rows all is_front is_end
-    (subst (λ (f : ℕ → ℕ). place_end f s (place up first below) ≤ total) same room)
-    (subst (λ (f : ℕ → ℕ). with_children ≡ with_rows front (rows_from end (child_pieces f below))) same is_children) is
+    search (arith, rows_last)
 
 -- the first label at a link of a switch that stands in the tree so, and of one that doesn't
 pub first_found : (plan : Plan) (own : ℕ → ℕ) (root : ℕ) (forest : Forest) (s l : ℕ) (p : Place) → own ≡ own_labels (net_of plan) → place_of own root forest s ≡ Some p → p.first + labels_on (net_of plan) s (range_with_len 0 l) ≡ first_at (net_of plan) s l (switch_place plan root forest s)
@@ -75,35 +65,23 @@ rows_due plan own root forest total s p kept spans same inside is all =
 
 pub table_done : (plan : Plan) (own : ℕ → ℕ) (root : ℕ) (forest : Forest) (total s : ℕ) (p : Place) (rows : List Row) (table : Table) → own ≡ own_labels (net_of plan) → place_of own root forest s ≡ Some p → total ≡ tree_labels own root forest → rows ≡ tree_rows (net_of plan) total s p → table ≡ label_table rows → table ≡ switch_table plan root forest s
 unfolding switch_table
-table_done plan own root forest total s p rows table same is all is_rows is_table =
-    let whole : total ≡ plan_labels plan root forest = subst (λ (f : ℕ → ℕ). total ≡ tree_labels f root forest) same all in
-    is_table ∙ ap label_table (is_rows ∙ ap (λ m. tree_rows (net_of plan) m s p) whole)
-    ∙ sym (ap (table_at (net_of plan) (plan_labels plan root forest) s) (subst (λ (f : ℕ → ℕ). place_of f root forest s ≡ Some p) same is))
+table_done plan own root forest total s p rows table same is all is_rows is_table = search arith
 
 -- the tree has as few labels as the terminals together
 pub labels_few : (plan : Plan) (own : ℕ → ℕ) (root : ℕ) (forest : Forest) → IsPlan plan → IsSpanning plan root forest → own ≡ own_labels (net_of plan) → total_count plan.terminals ≤ 65536 → tree_labels own root forest ≤ 65536
-labels_few plan own root forest kept spans same few =
-    let sum = labels_sum plan (wiring plan kept) root forest spans in
-    subst (λ (f : ℕ → ℕ). tree_labels f root forest ≤ 65536) (sym same) (omega (arith, sum, few))
+labels_few plan own root forest kept spans same few = search (arith, labels_sum, wiring)
 
 pub plan_few : (plan : Plan) (root : ℕ) (forest : Forest) → IsPlan plan → IsSpanning plan root forest → total_count plan.terminals ≤ 65536 → plan_labels plan root forest ≤ 65536
 plan_few plan root forest kept spans few = let sum = labels_sum plan (wiring plan kept) root forest spans in omega (arith, sum, few)
 
 -- the image that was made of the ranges and the tables
 pub image_done : (E : Type 0) (plan : Plan) (root : ℕ) (forest : Forest) (ranges : List (ℕ × ℕ)) (tables given : List Table) (r : Result Image E) → IsPlan plan → IsSpanning plan root forest → ranges ≡ map (tree_range plan root forest) plan.terminals → tables ≡ map (switch_table plan root forest) (range_with_len 0 (length plan.switches)) → given ≡ tables → IfOk r (λ image. image ≡ labelled_image plan ranges given) → IfOk r (IsTreeImage plan root forest)
-image_done E plan root forest ranges tables given (Ok image) kept spans is_ranges is_tables same is = record {
-  tree = spans;
-  is = is ∙ ap (λ rs. labelled_image plan rs given) is_ranges ∙ ap (labelled_image plan (map (tree_range plan root forest) plan.terminals)) (same ∙ is_tables);
-  labels = labels_sum plan (wiring plan kept) root forest spans;
-  order = in_order (own_labels (net_of plan)) root forest;
-  tables = tree_tables plan (wiring plan kept) root forest spans;
-}
-image_done E plan root forest ranges tables given (Err e) kept spans is_ranges is_tables same is = tt
+image_done E plan root forest ranges tables given r kept spans is_ranges is_tables same is =
+    search (arith, labels_sum, wiring, in_order, tree_tables)
 
 -- what isn't some is none
 pub not_some : (P : Type 0) (o : Option P) (is_none : Type 0) (holds : P → Type 0) → MatchOption o is_none holds → ((x : P) → o ≡ Some x → ⊥) → is_none
-not_some P None is_none holds m never = m
-not_some P (Some x) is_none holds m never = absurd (never x refl)
+not_some P o is_none holds m never = search arith
 
 -- the range of one more terminal
 range_is : (plan : Plan) (root : ℕ) (forest : Forest) (t : Terminal) (first : ℕ) → first ≡ first_at (net_of plan) t.switch t.link (switch_place plan root forest t.switch) → (first, t.count) ≡ tree_range plan root forest t

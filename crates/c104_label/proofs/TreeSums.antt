@@ -1,13 +1,13 @@
 -- A tree with all switches of a plan has as many labels as the plan's terminals have together: each terminal is on one
 -- link of one switch, and each switch stands in the tree once.
-use Rattle.c104_label.proofs.{ForestLemmas.{met_first, met_right}, TreePlaces.{false_by, grown_new, unmet_left, unmet_one, unmet_right}}
+use Rattle.c104_label.proofs.{ForestLemmas.{met_first, met_right}, TreePlaces.{grown_new, unmet_left, unmet_one, unmet_right}}
 use Rattle.c104_label.{proofs.TreeSelections.terminal_at, specs.Forests.{Forest, Grown, IsSpanning, child, empty, ends_of, is_met, links}}
 use Rattle.c104_label.specs.{Forests.switches, TreeImages.{plan_labels, total_count}, TreeLabels.{count_or_zero, forest_labels}}
 use Rattle.{c104_label.specs.TreeLabels.{labels_behind, labels_on, net_of, own_labels}, c104_plan.specs.Plans.{Plan, host_port}}
-use Rattle.{c104_plan.specs.{Wiring.{IsWiring, peer}, declared.{plans.Terminal.Terminal, ports.Port.Port}}, std.proofs.Common.{Bool, List}}
-use Rattle.std.proofs.Common.{None, Option, Some, [], ap, arith, false, inl, inr, length, refl, slice_get, subst, suc, sym, true, zero, ℕ}
-use Rattle.std.proofs.{Common.{◌&&◌, ◌++◌, ◌+◌, ◌<◌, ◌==◌, ◌||◌, ◌∙◌, ◌∷◌, ◌≡◌, ◌≤◌}, lemmas.Bool.{Decides.nat_tests, cases_Bool, eq-eqb}}
-use Rattle.std.{proofs.lemmas.{Bool.eqb-true, List.Folds.list_any-append}, specs.List.range_with_len}
+use Rattle.{c104_plan.specs.{Wiring.IsWiring, declared.{plans.Terminal.Terminal, ports.Port.Port}}, std.proofs.Common.{Bool, List, None}}
+use Rattle.std.proofs.Common.{Option, Some, [], ap, arith, false, inl, inr, length, refl, slice_get, subst, suc, sym, true, zero, ℕ, ◌&&◌}
+use Rattle.std.proofs.{Common.{◌++◌, ◌+◌, ◌<◌, ◌==◌, ◌||◌, ◌∙◌, ◌∷◌, ◌≡◌, ◌≤◌}, lemmas.Bool.{Decides.nat_tests, and_parts, cases_Bool}}
+use Rattle.std.{proofs.lemmas.{Bool.{eq-eqb, eqb-true, false_from_ne_true}, List.Folds.list_any-append}, specs.List.range_with_len}
 
 -- sums of a function of the first n numbers
 
@@ -16,11 +16,7 @@ total f zero = 0
 total f (suc n) = f 0 + total (λ k. f (suc k)) n
 
 total_same : (f g : ℕ → ℕ) (n : ℕ) → ((k : ℕ) → f k ≡ g k) → total f n ≡ total g n
-total_same f g zero same = refl
-total_same f g (suc n) same =
-    let first = same 0 in
-    let rest = total_same (λ k. f (suc k)) (λ k. g (suc k)) n (λ k. same (suc k)) in
-    omega (arith, first, rest)
+total_same f g n same = search arith
 
 total_add : (f g h : ℕ → ℕ) (n : ℕ) → ((k : ℕ) → f k ≡ g k + h k) → total f n ≡ total g n + total h n
 total_add f g h zero same = omega arith
@@ -109,44 +105,22 @@ module _ (plan : Plan) (wiring : IsWiring plan) where
   such_same a b same = total_same (part plan a) (part plan b) (length plan.terminals) (λ k. same_at a b same k (slice_get plan.terminals k) refl)
 
   such_none : (a : Test) → ((s l : ℕ) → a s l ≡ false) → sum_such plan a ≡ 0
-  such_none a none = total_none (part plan a) (length plan.terminals) (λ k. none_at k (slice_get plan.terminals k))
-    where
-      none_at : (k : ℕ) (o : Option Terminal) → pick_if (passes a o) (count_or_zero o) ≡ 0
-      none_at k None = refl
-      none_at k (Some t) = ap (λ (x : Bool). pick_if x t.count) (none t.switch t.link)
+  such_none a none = search (arith, total_none)
 
   -- one link
 
   abbrev here : ℕ → ℕ → Test
   here s l a b = a == s && b == l
 
-  both : (a b : Bool) → (a && b) ≡ true → (a ≡ true) × (b ≡ true)
-  both true b is = (refl, is)
-  both false b is = absurd cc
-
   there : (s l k : ℕ) (t : Terminal) → slice_get plan.terminals k ≡ Some t → here s l t.switch t.link ≡ true → ends_of plan s l ≡ Some (Port.Terminal k)
-  there s l k t is at =
-      let tests = both (t.switch == s) (t.link == l) at in
-      let host = wiring.host k t is in
-      let back : peer plan (Port.Switch t.switch t.link) ≡ Some (Port.Terminal k) = wiring.back (Port.Terminal k) (host_port t) host in
-      let switch_is : t.switch ≡ s = eqb-true t.switch s tests.0 in
-      let link_is : t.link ≡ l = eqb-true t.link l tests.1 in
-      subst (λ (x : ℕ). ends_of plan s x ≡ Some (Port.Terminal k)) link_is (subst (λ (x : ℕ). ends_of plan x t.link ≡ Some (Port.Terminal k)) switch_is back)
+  there s l k t is at = search (arith, and_parts, eqb-true)
 
   -- a terminal that isn't there counts nothing
   not_here : (s l k : ℕ) (o : Option Terminal) → slice_get plan.terminals k ≡ o → (ends_of plan s l ≡ Some (Port.Terminal k) → ⊥) → pick_if (passes (here s l) o) (count_or_zero o) ≡ 0
-  not_here s l k None is never = refl
-  not_here s l k (Some t) is never = ap (λ (x : Bool). pick_if x t.count) (false_by (here s l t.switch t.link) (λ at. never (there s l k t is at)))
+  not_here s l k o is never = search (arith, false_from_ne_true)
 
   is_here : (s l k : ℕ) (o : Option Terminal) → slice_get plan.terminals k ≡ o → ends_of plan s l ≡ Some (Port.Terminal k) → pick_if (passes (here s l) o) (count_or_zero o) ≡ count_or_zero o
-  is_here s l k None is at = refl
-  is_here s l k (Some t) is at =
-      let host = wiring.host k t is in
-      let back : peer plan (Port.Terminal k) ≡ Some (Port.Switch s l) = wiring.back (Port.Switch s l) (Port.Terminal k) at in
-      let one : Some (Port.Switch t.switch t.link) ≡ Some (Port.Switch s l) = sym host ∙ back in
-      let switch_is : t.switch ≡ s = cc in
-      let link_is : t.link ≡ l = cc in
-      rw (switch_is, link_is, eq-eqb s s refl, eq-eqb l l refl) refl
+  is_here s l k o is at = search (arith, eq-eqb)
 
   behind_by : (s l : ℕ) (o : Option Port) → ends_of plan s l ≡ o → labels_behind (net_of plan).counts o ≡ sum_such plan (here s l)
   behind_by s l None is =
@@ -180,9 +154,9 @@ module _ (plan : Plan) (wiring : IsWiring plan) where
       covers false first later = refl
 
       apart : (s from n a b : ℕ) → here s from a b ≡ true → on_links s (from + 1) n a b ≡ false
-      apart s from n a b is = false_by (on_links s (from + 1) n a b) (λ later.
-          let low : b ≡ from = eqb-true b from (both (a == s) (b == from) is).1 in
-          let e = sym (both (a == s) (is_met (range_with_len (from + 1) n) b) later).1 ∙ range_above (from + 1) n b (omega (arith, low)) in
+      apart s from n a b is = false_from_ne_true (on_links s (from + 1) n a b) (λ later.
+          let low : b ≡ from = eqb-true b from (and_parts (a == s) (b == from) is).1 in
+          let e = sym (and_parts (a == s) (is_met (range_with_len (from + 1) n) b) later).1 ∙ range_above (from + 1) n b (omega (arith, low)) in
           absurd cc)
 
   abbrev on_switch : ℕ → Test
@@ -215,9 +189,9 @@ module _ (plan : Plan) (wiring : IsWiring plan) where
       let inner = forest_such below (seen ++ (r ∷ [])) links r down in
       let outer = forest_such rest ((seen ++ (r ∷ [])) ++ switches below) after s on in
       let new_rest : (c : ℕ) → is_met (switches rest) c ≡ true → is_met ((seen ++ (r ∷ [])) ++ switches below) c ≡ false = λ c is. grown_new (ends_of plan) rest ((seen ++ (r ∷ [])) ++ switches below) after s on c is in
-      let r_below : is_met (switches below) r ≡ false = false_by (is_met (switches below) r) (λ is. let e = sym (met_right seen (r ∷ []) r (met_first r [])) ∙ grown_new (ends_of plan) below (seen ++ (r ∷ [])) links r down r is in absurd cc) in
+      let r_below : is_met (switches below) r ≡ false = false_from_ne_true (is_met (switches below) r) (λ is. let e = sym (met_right seen (r ∷ []) r (met_first r [])) ∙ grown_new (ends_of plan) below (seen ++ (r ∷ [])) links r down r is in absurd cc) in
       let apart : (c : ℕ) → is_met (r ∷ switches below) c ≡ true → is_met (switches rest) c ≡ false =
-      λ c is. false_by (is_met (switches rest) c) (λ later. met_apart r (switches below) c is (unmet_one c r (unmet_right seen (r ∷ []) c (unmet_left (seen ++ (r ∷ [])) (switches below) c (new_rest c later)))) (unmet_right (seen ++ (r ∷ [])) (switches below) c (new_rest c later))) in
+      λ c is. false_from_ne_true (is_met (switches rest) c) (λ later. met_apart r (switches below) c is (unmet_one c r (unmet_right seen (r ∷ []) c (unmet_left (seen ++ (r ∷ [])) (switches below) c (new_rest c later)))) (unmet_right (seen ++ (r ∷ [])) (switches below) c (new_rest c later))) in
       let front = any_first r (switches below) r_below in
       let whole = any_append (r ∷ switches below) (switches rest) apart in
       omega (arith, inner, outer, front, whole)
@@ -231,7 +205,7 @@ module _ (plan : Plan) (wiring : IsWiring plan) where
 
   tree_such : (root : ℕ) (forest : Forest) → IsSpanning plan root forest → plan_labels plan root forest ≡ sum_such plan (on_any (root ∷ switches forest))
   tree_such root forest spans =
-      let root_new : is_met (switches forest) root ≡ false = false_by (is_met (switches forest) root) (λ is. let e = sym (met_first root []) ∙ grown_new (ends_of plan) forest (root ∷ []) links root spans.depth_first root is in absurd cc) in
+      let root_new : is_met (switches forest) root ≡ false = false_from_ne_true (is_met (switches forest) root) (λ is. let e = sym (met_first root []) ∙ grown_new (ends_of plan) forest (root ∷ []) links root spans.depth_first root is in absurd cc) in
       let inner = forest_such forest (root ∷ []) links root spans.depth_first in
       let whole = any_first root (switches forest) root_new in
       omega (arith, inner, whole)

@@ -4,25 +4,18 @@ use Rattle.c104_label.proofs.{TreePlaces.stands, TreeRows.{ArePieceLinks, label_
 use Rattle.c104_label.proofs.{TreeRows.{total-append, total_of}, TreeSelections.{own_small, selects_in_tree, table_is, terminal_at}}
 use Rattle.c104_label.{proofs.TreeSelections.{total_children, total_own}, specs.Forests.{Ends, Forest, Grown, IsSpanning, child, empty}}
 use Rattle.c104_label.specs.{Forests.{ends_of, links, switches}, LabelRows.AreLabelRows, TreeImages.{AreTreeTables, plan_labels}}
-use Rattle.c104_label.specs.TreeLabels.{AreLinks, Net, Pieces, Place, all_pieces, child_pieces, first_at, forest_labels, labels_behind}
-use Rattle.c104_label.specs.TreeLabels.{labels_on, net_of, own_labels, own_pieces, piece, place_end, place_of, switch_table, tree_range}
-use Rattle.{c104_label.specs.TreeLabels.tree_rows, c104_plan.specs.{Plans.{IsPlan, IsRange, Plan, host_port}, Wiring.IsWiring}}
-use Rattle.{c104_plan.specs.declared.{plans.Terminal.Terminal, ports.Port.Port}, c104_regs.specs.Ranges.IsTableInRange}
-use Rattle.std.proofs.Common.{All, Bool, List, None, Option, Some, [], ap, arith, false, get_or, if◌then◌else◌, inl, inr, length, map}
-use Rattle.std.proofs.Common.{slice_get, subst, suc, sym, true, zero, ℕ, ◌++◌, ◌+◌, ◌-◌, ◌<◌, ◌==◌, ◌∙◌, ◌∷◌, ◌≡◌, ◌≤◌}
-use Rattle.std.proofs.lemmas.List.{Elements.All-map, FromFn.{get_or-range_with_len, length-range_with_len}, length-append}
-use Rattle.std.{proofs.lemmas.Option.slice_get-get_or, specs.List.range_with_len}
+use Rattle.c104_label.specs.TreeLabels.{AreLinks, Net, Place, all_pieces, child_pieces, first_at, forest_labels, labels_behind, labels_on}
+use Rattle.c104_label.specs.TreeLabels.{net_of, own_labels, own_pieces, place_end, place_of, switch_table, tree_range, tree_rows}
+use Rattle.c104_plan.specs.{Plans.{IsPlan, IsRange, Plan, host_port}, Wiring.IsWiring, declared.{plans.Terminal.Terminal, ports.Port.Port}}
+use Rattle.{c104_regs.specs.Ranges.IsTableInRange, std.proofs.Common.{All, Bool, List, None, Option, Some, [], ap, arith, get_or}}
+use Rattle.std.proofs.Common.{if◌then◌else◌, inl, inr, length, map, slice_get, subst, suc, sym, zero, ℕ, ◌++◌, ◌+◌, ◌<◌, ◌==◌, ◌∙◌, ◌∷◌}
+use Rattle.std.proofs.{Common.{◌≡◌, ◌≤◌}, lemmas.List.{Elements.All-map, FromFn.{get_or-range_with_len, length-range_with_len}}}
+use Rattle.std.{proofs.lemmas.{List.length-append, Option.slice_get-get_or}, specs.List.range_with_len}
 
 -- all labels lie somewhere
 pieces_total : (net : Net) (total s : ℕ) (p : Place) → place_end (own_labels net) s p ≤ total → total_of (all_pieces net total s p) ≡ total
 unfolding own_labels
-pieces_total net total s p room =
-    let past = total - place_end (own_labels net) s p in
-    let a = total-append (own_pieces net s links) (child_pieces (own_labels net) p.below ++ (piece p.up past ∷ [])) in
-    let b = total-append (child_pieces (own_labels net) p.below) (piece p.up past ∷ []) in
-    let c = total_own net s links in
-    let d = total_children (own_labels net) p.below in
-    omega (arith, a, b, c, d, room)
+pieces_total net total s p room = search (arith, total-append, total_own, total_children)
 
 -- their links are links
 
@@ -39,11 +32,7 @@ children_are_links own empty are = tt
 children_are_links own (child l r b below rest) are = (are.0, children_are_links own rest are.3)
 
 pieces_links : (net : Net) (total s : ℕ) (p : Place) → p.up < 32 → AreLinks p.below → ArePieceLinks (all_pieces net total s p)
-pieces_links net total s p up are = (
-  up,
-  links-append (own_pieces net s links) (child_pieces (own_labels net) p.below ++ (piece p.up (total - place_end (own_labels net) s p) ∷ [])) (own_are_links net s)
-      (links-append (child_pieces (own_labels net) p.below) (piece p.up (total - place_end (own_labels net) s p) ∷ []) (children_are_links (own_labels net) p.below are) (up, tt)),
-)
+pieces_links net total s p up are = search (arith, links-append, own_are_links, children_are_links)
 
 -- the links of a tree are links of switches
 pub grown_links : (plan : Plan) → IsWiring plan → (f : Forest) (seen ls : List ℕ) (s : ℕ) → Grown (ends_of plan) seen s ls f → AreLinks f
@@ -69,13 +58,10 @@ terminals_on ends s [] = 0
 terminals_on ends s (l ∷ ls) = is_terminal (ends s l) + terminals_on ends s ls
 
 at_most_one : (b : Bool) → (if b then 0 else 1) ≤ 1
-at_most_one true = omega arith
-at_most_one false = omega arith
+at_most_one b = search arith
 
 own_end : (counts : ℕ → ℕ) (o : Option Port) → (if labels_behind counts o == 0 then 0 else 1) ≤ is_terminal o
-own_end counts None = omega arith
-own_end counts (Some (Port.Terminal t)) = at_most_one (counts t == 0)
-own_end counts (Some (Port.Switch r b)) = omega arith
+own_end counts o = search (arith, at_most_one)
 
 own_few : (net : Net) (s : ℕ) (ls : List ℕ) → nonempty (own_pieces net s ls) ≤ terminals_on net.ends s ls
 own_few net s [] = omega arith
@@ -90,9 +76,7 @@ children_few own empty = omega arith
 children_few own (child l r b below rest) = let a = at_most_one (own r + forest_labels own below == 0) in let c = children_few own rest in omega (arith, a, c)
 
 end_few : (o : Option Port) → is_terminal o ≤ 1
-end_few None = omega arith
-end_few (Some (Port.Terminal t)) = omega arith
-end_few (Some (Port.Switch r b)) = omega arith
+end_few o = search arith
 
 terminals_few : (ends : Ends) (s : ℕ) (ls : List ℕ) → terminals_on ends s ls ≤ length ls
 terminals_few ends s [] = omega arith
@@ -119,18 +103,7 @@ unfolding links
 links_long = length-range_with_len 0 32
 
 rows_few : (net : Net) (total s : ℕ) (p : Place) (seen : List ℕ) → Grown net.ends seen s links p.below → nonempty (all_pieces net total s p) ≤ 36
-rows_few net total s p seen grown =
-    let past = total - place_end (own_labels net) s p in
-    let last : Pieces = piece p.up past ∷ [] in
-    let b = nonempty-append (own_pieces net s links) (child_pieces (own_labels net) p.below ++ last) in
-    let c = nonempty-append (child_pieces (own_labels net) p.below) last in
-    let d = own_few net s links in
-    let e = children_few (own_labels net) p.below in
-    let f = at_most_one (p.first == 0) in
-    let g = at_most_one (past == 0) in
-    let h = links_shared net.ends p.below seen links s grown in
-    let long = links_long in
-    omega (arith, b, c, d, e, f, g, h, long)
+rows_few net total s p seen grown = search (arith, nonempty-append, own_few, children_few, at_most_one, links_shared, links_long)
 
 -- a plan's tree, switch by switch
 

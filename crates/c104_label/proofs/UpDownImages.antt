@@ -4,8 +4,8 @@ use Rattle.{c104_check.specs.declared.cycles.{Ranks.Ranks, RanksOrCycle.RanksOrC
 use Rattle.c104_label.{proofs.TreeRanks.spanning_acyclic, specs.{Forests.Forest, Images.IsUpDownImage, TreeImages.IsTreeImage}}
 use Rattle.c104_label.specs.{TreeImages.{most_labels, total_count}, TreeLabels.{switch_table, tree_range}}
 use Rattle.{c104_label.specs.declared.faults.LabelFault.LabelFault, c104_plan.proofs.LabelledSettings.labelled_by_port}
-use Rattle.{c104_plan.specs.{LabelledImages.table_in, PlanImage.Image, Plans.{IsPlan, IsTreePlan, Plan}}, std.proofs.Common.{Err, IfOk, Ok}}
-use Rattle.std.{proofs.Common.{Result, arith, length, map, subst, sym, ℕ, ◌∙◌, ◌≡◌, ◌≤◌}, specs.List.range_with_len}
+use Rattle.{c104_plan.specs.{LabelledImages.table_in, PlanImage.Image, Plans.{IsPlan, IsTreePlan, Plan}}, std.proofs.Common.{IfOk, Result}}
+use Rattle.std.{proofs.Common.{arith, length, map, subst, sym, ℕ, ◌∙◌, ◌≡◌, ◌≤◌}, specs.List.range_with_len}
 
 pub tree_up_down : (plan : Plan) (root : ℕ) (forest : Forest) (image : Image) → IsPlan plan → IsTreePlan root plan → total_count plan.terminals ≤ most_labels plan → IsTreeImage plan root forest image → IsUpDownImage plan root forest image
 tree_up_down plan root forest image kept is_tree few is =
@@ -27,9 +27,7 @@ ranked_acyclic routes x ranks are is = let both = subst (λ y. AreRanksOrCycle r
 -- and so what is answered
 
 pub up_down_accepted : (plan : Plan) (root : ℕ) (r : Result Image LabelFault) → IfOk r (λ image. (forest : Forest) × IsUpDownImage plan root forest image) → IfOk r (λ image. IsAccepted (routes_of plan image))
-up_down_accepted plan root (Ok image) (forest, is) = is.accepted
-up_down_accepted plan root (Err why) is = tt
+up_down_accepted plan root r is = search arith
 
 pub up_down_acyclic : (plan : Plan) (root : ℕ) (r : Result Image LabelFault) → IfOk r (λ image. (forest : Forest) × IsUpDownImage plan root forest image) → IfOk r (λ image. IsAcyclic (routes_of plan image))
-up_down_acyclic plan root (Ok image) (forest, is) = is.acyclic
-up_down_acyclic plan root (Err why) is = tt
+up_down_acyclic plan root r is = search arith

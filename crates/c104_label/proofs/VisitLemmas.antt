@@ -4,8 +4,8 @@ use Rattle.c104_label.{proofs.ForestLemmas.{switches_room, switches_root, wire_h
 use Rattle.c104_label.specs.Forests.{Ends, Forest, Grown, IsConnected, IsCutOff, IsDepthFirst, IsPassed, IsSpanning, child, ends_of, is_met}
 use Rattle.c104_label.specs.{Forests.{links, switches}, Trees.{forest_of, unvisited}, declared.forests.FarEnd.FarEnd}
 use Rattle.{c104_plan.specs.{Plans.Plan, Wiring.IsWiring, declared.ports.Port.Port}, std.proofs.Common.{Bool, Err, IfOk, List, MatchOption}}
-use Rattle.std.proofs.Common.{None, Ok, Option, Result, Some, [], ap, arith, false, if◌then◌else◌, is_some, length, refl, subst, sym, true}
-use Rattle.std.{proofs.{Common.{ℕ, ◌++◌, ◌+◌, ◌-◌, ◌<◌, ◌∙◌, ◌∷◌, ◌≡◌, ◌≤◌}, lemmas.List.length-append}, specs.List.range_with_len}
+use Rattle.std.proofs.Common.{None, Ok, Option, Result, Some, [], ap, arith, false, if◌then◌else◌, is_some, length, subst, sym, true, ℕ}
+use Rattle.std.{proofs.{Common.{◌++◌, ◌+◌, ◌-◌, ◌<◌, ◌∙◌, ◌∷◌, ◌≡◌, ◌≤◌}, lemmas.List.length-append}, specs.List.range_with_len}
 use Rattle.c104_label.specs.declared.forests.Forest as kept
 
 abbrev rest_of : ℕ → List ℕ
@@ -34,24 +34,16 @@ visit_more ends n inputs one more s below are down is =
 
 -- a link that leads to no switch which wasn't visited, and one that does
 none_by : (met : Bool) (x : FarEnd) → (if met then None else Some x) ≡ None → met ≡ true
-none_by true x is = refl
-none_by false x is = absurd cc
+none_by met x is = search arith
 
 some_by : (met : Bool) (x y : FarEnd) → (if met then None else Some x) ≡ Some y → (met ≡ false) × (x ≡ y)
-some_by true x y is = absurd cc
-some_by false x y is = (refl, cc)
+some_by met x y is = search arith
 
 passed_by : (ends : Ends) (seen : List ℕ) (s l : ℕ) (far : Option Port) → ends s l ≡ far → unvisited far seen ≡ None → IsPassed ends seen s l
-passed_by ends seen s l None is none = λ r b at. let e : None ≡ Some (Port.Switch r b) = sym is ∙ at in absurd cc
-passed_by ends seen s l (Some (Port.Terminal t)) is none = λ r b at. let e : Some (Port.Terminal t) ≡ Some (Port.Switch r b) = sym is ∙ at in absurd cc
-passed_by ends seen s l (Some (Port.Switch r' b')) is none = wire_here ends s l r' b' seen is (none_by (is_met seen r') (record { switch = r'; back = b' }) none)
+passed_by ends seen s l far is none = search (arith, wire_here, none_by)
 
 found_by : (far : Option Port) (seen : List ℕ) (x : FarEnd) → unvisited far seen ≡ Some x → (far ≡ Some (Port.Switch x.switch x.back)) × (is_met seen x.switch ≡ false)
-found_by None seen x is = absurd cc
-found_by (Some (Port.Terminal t)) seen x is = absurd cc
-found_by (Some (Port.Switch r b)) seen x is =
-    let found = some_by (is_met seen r) (record { switch = r; back = b }) x is in
-    (ap (λ (y : FarEnd). Some (Port.Switch y.switch y.back)) found.1, subst (λ (y : FarEnd). is_met seen y.switch ≡ false) found.1 found.0)
+found_by far seen x is = search (arith, some_by)
 
 pub passed : (plan : Plan) (seen : List ℕ) (s l : ℕ) (far : Option Port) (x : Option FarEnd) → far ≡ ends_of plan s l → x ≡ unvisited far seen → x ≡ None → IsPassed (ends_of plan) seen s l
 passed plan seen s l far x is by none = passed_by (ends_of plan) seen s l far (sym is) (sym by ∙ none)
@@ -65,9 +57,7 @@ pub visit_root : (n root : ℕ) (empty one : List ℕ) → root < n → empty �
 visit_root n root empty one small none is = subst (AreSwitches n) (sym (is ∙ ap (λ x. x ++ (root ∷ [])) none)) (switches_root n root small)
 
 pub tree_root : (E : Type 0) (ends : Ends) (root : ℕ) (empty one : List ℕ) (r : Result kept.Forest E) → empty ≡ [] → one ≡ empty ++ (root ∷ []) → IfOk r (λ f. Grown ends one root (rest_of 0) (forest_of f)) → IfOk r (λ f. IsDepthFirst ends root (forest_of f))
-tree_root E ends root empty one (Ok f) none is grown =
-    subst (λ (x : List ℕ). Grown ends x root links (forest_of f)) (is ∙ ap (λ x. x ++ (root ∷ [])) none) (subst (λ (x : List ℕ). Grown ends one root x (forest_of f)) (sym links_are) grown)
-tree_root E ends root empty one (Err e) none is grown = tt
+tree_root E ends root empty one r none is grown = search (arith, links_are)
 
 -- wires of a plan lead to its switches
 pub ends_inside : (plan : Plan) → IsWiring plan → AreInside (ends_of plan) (length plan.switches)
