@@ -59,9 +59,7 @@ double_is (suc (suc (suc (suc (suc (suc b)))))) le = absurd (omega (arith, le))
 upper : (d x k : ℕ) → x < 2 ^ d → k ≤ d → (x / 2 ^ k + 1) * 2 ^ k ≤ 2 ^ d
 upper d x k lt le =
     let size : d - k + k ≡ d = omega (arith, le) in
-    let all : 2 ^ d ≡ 2 ^ (d - k) * 2 ^ k = ap (λ n. 2 ^ n) (sym size) ∙ pow-add 2 (d - k) k in
-    let below : x / 2 ^ k < 2 ^ (d - k) = div_below x (2 ^ k) (2 ^ (d - k)) (pow_pos k) (omega (arith, lt, all)) in
-    omega (arith, all, times (x / 2 ^ k + 1) (2 ^ (d - k)) (2 ^ k) (omega (arith, below)))
+    search (arith, pow-add, div_below, pow_pos, times)
 
 pub up_small : (d p x b : ℕ) → b < d → d ≤ 6 → x < 2 ^ d → 2 ^ d * p ≤ 256 → (x / ((2 * 2 ^ b) % 18446744073709551616) + 1) * ((2 * 2 ^ b) % 18446744073709551616) * p ≤ 256
 up_small d p x b lt low inside few = search (arith, double_is, times, upper)

@@ -1,11 +1,11 @@
 -- What the links of a plan of a layout are wired to.
 use Rattle.{c104_label.proofs.MappedRanges.map_at, c104_plan.proofs.{LayoutJoins.{AreJoined, IsJoin, IsJoined}, PortLemmas.is_port-refl}}
 use Rattle.c104_plan.{proofs.Wires.wiring, specs.{Distinctness.AreDistinct, Layouts.{Layout, filled_terminal, filled_wires, wire_at}}}
-use Rattle.c104_plan.specs.{Layouts.wires_from, Plans.{IsFilled, IsPlan, Plan, host_port, linked_ports}, Ports.{both_ends, is_port}}
-use Rattle.c104_plan.specs.{Ports.other_end, Wiring.{peer, terminal_wires}, declared.{plans.Terminal.Terminal, ports.Port.Port}}
-use Rattle.{c104_plan.specs.declared.ports.Wire.Wire, std.proofs.Common.{List, Some, [], ap, arith, false, inl, inr, map, not, refl}}
-use Rattle.std.proofs.Common.{slice_get, subst, suc, sym, true, zero, ℕ, ◌%◌, ◌*◌, ◌++◌, ◌+◌, ◌/◌, ◌<◌, ◌∙◌, ◌∷◌, ◌≡◌, ◌≤◌, ◌⊎◌}
-use Rattle.std.{proofs.lemmas.Bool.{cases_Bool, cases_eq}, specs.List.{AllByRecursion, flat_map, range_with_len}}
+use Rattle.c104_plan.specs.{Layouts.wires_from, Plans.{IsFilled, IsPlan, Plan, linked_ports}, Ports.{both_ends, is_port, other_end}}
+use Rattle.c104_plan.specs.{Wiring.{peer, terminal_wires}, declared.{plans.Terminal.Terminal, ports.{Port.Port, Wire.Wire}}}
+use Rattle.std.proofs.Common.{List, Some, [], ap, arith, false, inl, inr, not, refl, slice_get, subst, suc, sym, true, zero, ℕ, ◌%◌, ◌*◌}
+use Rattle.std.proofs.{Common.{◌++◌, ◌+◌, ◌/◌, ◌<◌, ◌∙◌, ◌∷◌, ◌≡◌, ◌≤◌, ◌⊎◌}, lemmas.Bool.{cases_Bool, cases_eq}}
+use Rattle.std.specs.List.{AllByRecursion, flat_map, range_with_len}
 
 -- x is one of these
 abbrev IsIn : {X : Type 0} → X → List X → Type 0
@@ -52,9 +52,7 @@ end_of_wire w (v ∷ ws) once (inr is) =
 end_of_linked : (n : ℕ) (ts : List Terminal) (ws : List Wire) (w : Wire) (s l : ℕ) → w.here ≡ Port.Switch s l → AreDistinct is_port (linked_ports ts ws) → IsIn w ws → other_end (terminal_wires n ts ++ ws) (Port.Switch s l) ≡ Some w.there
 end_of_linked n [] ws w s l here once is = subst (λ q. other_end ws q ≡ Some w.there) here (end_of_wire w ws once is)
 end_of_linked n (t ∷ ts) ws w s l here once is =
-    let among : IsIn (Port.Switch s l) (both_ends ws) = subst (λ q. IsIn q (both_ends ws)) here (begin_in w ws is) in
-    rw (each_in (λ q. is_port (host_port t) q ≡ false) (Port.Switch s l) (linked_ports ts ws) once.0 (in_second (Port.Switch s l) (map host_port ts) (both_ends ws) among))
-    (end_of_linked (suc n) ts ws w s l here once.1 is)
+    search (arith, begin_in, each_in, in_second, end_of_linked (suc n) ts ws w s l here once.1 is)
 
 module _ (plan : Plan) (layout : Layout) (p : ℕ) (kept : IsPlan plan) (filled : IsFilled layout p plan) (joined : AreJoined layout) where
   begin_peer : (s l t k : ℕ) → s < layout.switches → l < layout.links → layout.beyond s l ≡ Some (Port.Switch t k) → layout.begins s l ≡ true → peer plan (Port.Switch s l) ≡ Some (Port.Switch t k)

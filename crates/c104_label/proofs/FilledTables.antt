@@ -13,10 +13,7 @@ fill (x ∷ rows) zero (suc m) d inside room =
     let whole : suc m - 0 ≡ suc m = omega arith in
     let rest : suc m - 1 ≡ m = omega arith in
     rw whole (rw rest refl)
-fill (x ∷ rows) (suc k) (suc m) d inside room =
-    let before : suc m - suc (length (take k rows)) ≡ m - length (take k rows) = omega arith in
-    let after : suc m - suc (length (take (suc k) rows)) ≡ m - length (take (suc k) rows) = omega arith in
-    rw before (rw after (ap (λ (rs : List Row). x ∷ rs) (fill rows k m d (omega (arith, inside)) (omega (arith, room)))))
+fill (x ∷ rows) (suc k) (suc m) d inside room = search (arith, fill rows k m d (omega (arith, inside)) (omega (arith, room)))
 
 pub table_next : (table : Table) (rows : List Row) (k : ℕ) (d : Row) → table ≡ label_table (take k rows) → k < length rows → length rows ≤ 36 → record { base = table.base; rows = slice_set table.rows k (slice_index_or rows k d) } ≡ label_table (take (k + 1) rows)
 table_next table rows k d is inside room = rw is (rw add-one (ap (λ (rs : List Row). record { base = 0; rows = rs }) (fill rows k 36 d inside room)))

@@ -66,17 +66,7 @@ grown_closed ends (child l r b below rest) seen ls s (before, after, is, passed,
     let inner = grown_closed ends below first links r down in
     let outer = grown_closed ends rest (first ++ switches below) after s on in
     let turn = in_turn seen r (switches below) (switches rest) in
-    let lift = λ (c : ℕ) (closed : IsClosed ends (first ++ switches below) c). subst (λ all. IsClosed ends all c) turn (IsPassed-more ends (first ++ switches below) (switches rest) c links closed) in
-    let met : is_met (seen ++ ((r ∷ switches below) ++ switches rest)) r ≡ true = met_right seen ((r ∷ switches below) ++ switches rest) r (met_first r (switches below ++ switches rest)) in (
-      rw is (All-append (IsPassed ends (seen ++ ((r ∷ switches below) ++ switches rest)) s) before (l ∷ after)
-          (IsPassed-more ends seen ((r ∷ switches below) ++ switches rest) s before passed)
-          (wire_here ends s l r b (seen ++ ((r ∷ switches below) ++ switches rest)) at met, subst (λ all. AllByRecursion (IsPassed ends all s) after) turn outer.0)),
-      (
-        lift r inner.0,
-        AllSwitches-map (IsClosed ends (first ++ switches below)) (IsClosed ends (seen ++ ((r ∷ switches below) ++ switches rest))) lift below inner.1,
-        subst (λ all. AllSwitches (IsClosed ends all) rest) turn outer.1,
-      ),
-    )
+    search (arith, IsPassed-more, met_right, met_first, All-append, wire_here, AllSwitches-map)
 
 pub AllSwitches-at : (P : ℕ → Type 0) (f : Forest) (s : ℕ) → AllSwitches P f → is_met (switches f) s ≡ true → P s
 AllSwitches-at P empty s all is = absurd cc

@@ -32,10 +32,7 @@ two_byte_own plan t p wired = search (arith, with_table_bytes, with_random_bytes
 -- where no member of a list passes a test, this one doesn't
 pub none_passes : {X : Type 0} (test : X → Bool) (xs : List X) (k : ℕ) (x : X) → position test xs ≡ None → slice_get xs k ≡ Some x → test x ≡ true → ⊥
 none_passes test xs k x none at passes = elim (cases_lt (position_or_len test xs) (length xs)) [
-  | inl found ↦
-      let there : nat_lt (position_or_len test xs) (length xs) ≡ true = grind (arith, nat_tests, found) in
-      let is : position test xs ≡ Some (position_or_len test xs) = rw there refl in
-      let clash : None ≡ Some (position_or_len test xs) = sym none ∙ is in absurd cc
+  | inl found ↦ search (arith, nat_tests, position)
   | inr past ↦
       let within = slice_get_within xs k x at in
       let fails : test (get_or xs k x) ≡ false = fails_before_first test xs k x (omega (arith, past, within)) in
@@ -88,9 +85,7 @@ module _ (plan : Plan) (ranges : List (ℕ × ℕ)) (tables : List Table) (kept 
   is_input : (q : SwitchPort) (other : Port) → peer plan (to_port q) ≡ Some other → IsInput (length net.settings) q
   is_input q other wired =
       let there = (wiring plan kept).inside (to_port q) other wired in
-      let low = there.0 in
-      let count = settings_count plan ranges tables in
-      (omega (arith, low, count), there.1)
+      search (arith, settings_count)
 
   pub same_length : (q : SwitchPort) (other : Port) (x : Settings) → net.peer (to_port q) ≡ Some other → link_settings net.settings q ≡ Some x → header_length x ≡ net.header
   same_length q other x wired is =

@@ -9,10 +9,10 @@ use Rattle.c104_plan.specs.{PlanImage.{AreSettings, is_random_of, plain_settings
 use Rattle.c104_plan.specs.{Plans.{deletes_at, host_port, is_continued, is_on}, Ports.is_any_at, Wiring.peer}
 use Rattle.{c104_plan.specs.declared.{plans.{PlanRandom.PlanRandom, Terminal.Terminal}, ports.Port.Port}, c104_regs.specs.Groups.continues}
 use Rattle.{c104_regs.specs.{Groups.continues_at, Ranges.IsTableInRange, declared.settings.Settings.Settings}, std.proofs.Common.All}
-use Rattle.std.proofs.Common.{Bool, List, None, Option, Some, [], ap, arith, false, if◌then◌else◌, inl, inr, is_some, length, map}
-use Rattle.std.proofs.Common.{option_map, refl, slice_get, suc, sym, true, zero, ℕ, ◌+◌, ◌<◌, ◌==◌, ◌∙◌, ◌∷◌, ◌≡◌, ◌≤◌}
-use Rattle.std.proofs.lemmas.{Bool.{Decides.nat_tests, cases_Bool, cases_lt}, List.FromFn.length-map-range_with_len, Option.slice_get_past}
-use Rattle.std.specs.List.{find, list_any, range_with_len}
+use Rattle.std.proofs.Common.{Bool, List, Option, Some, [], ap, arith, false, if◌then◌else◌, inl, inr, is_some, length, map, option_map}
+use Rattle.std.proofs.{Common.{refl, slice_get, suc, sym, true, zero, ℕ, ◌+◌, ◌<◌, ◌==◌, ◌∙◌, ◌∷◌, ◌≡◌, ◌≤◌}, lemmas.Bool.Decides.nat_tests}
+use Rattle.std.{proofs.lemmas.{Bool.{cases_Bool, cases_lt}, List.FromFn.length-map-range_with_len, Option.slice_get_past}, specs.List.find}
+use Rattle.std.specs.List.{list_any, range_with_len}
 use Rattle.c104_interval.specs.Selection as table
 
 -- Where no link continues a group, each link is a group by itself
@@ -88,9 +88,7 @@ none_deleted plan p s l kept wired = elim (cases_Bool (deletes_at plan p)) [
       let found = any_on plan p plan.deletes is in
       let terminal = on_terminal p (slice_get plan.terminals found.0) found.1 in
       let w = wiring plan kept in
-      let here : peer plan (Port.Terminal found.0) ≡ Some p = w.host found.0 terminal.0 terminal.1 ∙ ap Some terminal.2 in
-      let there : peer plan p ≡ Some (Port.Terminal found.0) = w.back (Port.Terminal found.0) p here in
-      let clash : Some (Port.Switch s l) ≡ Some (Port.Terminal found.0) = sym wired ∙ there in absurd cc
+      search arith
 ]
 
 -- A plan and its image with tables make a network
@@ -124,10 +122,7 @@ module _ (plan : Plan) (ranges : List (ℕ × ℕ)) (tables : List Table) where
   unfolding labelled_switch
   link_was q x is = elim (cases_lt q.switch (length plan.switches)) [
     | inl lt ↦ (map_was (at q.switch) 32 q.link x (ap (λ xs. slice_get xs q.link) (sym (settings_are q.switch lt)) ∙ is)).1
-    | inr ge ↦
-        let past : slice_get [] q.link ≡ None = slice_get_past {X = Settings} [] q.link (omega arith) in
-        let here : slice_get [] q.link ≡ Some x = ap (λ xs. slice_get xs q.link) (sym (none_set q.switch (omega (arith, ge)))) ∙ is in
-        let clash : None ≡ Some x = sym past ∙ here in absurd cc
+    | inr ge ↦ search (arith, slice_get_past, none_set)
   ]
 
   -- what a header selects at a port that has a wire

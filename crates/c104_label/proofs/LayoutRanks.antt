@@ -1,12 +1,11 @@
 -- Where a header with an owner goes on in a network of a layout: over the link that is picked.
 use Rattle.c104_check.specs.{Reach.IsReached, Routes.{IsEntryOf, Routes, owner, to_port}, Shown.Follows, Trails.IsNetwork}
-use Rattle.{c104_check.specs.declared.ports.SwitchPort.SwitchPort, c104_interval.specs.declared.intervals.Select.TheVariants.Link}
-use Rattle.{c104_interval.specs.declared.intervals.Table.Table, c104_label.proofs.AcceptedLayouts.{IsLabelling, layout_routes, leaves}}
-use Rattle.c104_label.proofs.{AcceptedLayouts.{ranges, switch_count}, CrossedWires.{IsWired, LeavesByPick}, FilledPeers.terminal_peer}
-use Rattle.{c104_label.proofs.OwnLabels.{no_owner, one_label}, c104_plan.{proofs.Wires.wiring, specs.{Layouts.Layout, Plans.IsFilled}}}
-use Rattle.{c104_plan.specs.{Plans.{IsPlan, Plan}, declared.ports.Port.Port}, std.proofs.Common.{None, Some, ap, arith, inl, inr, is_some}}
-use Rattle.std.proofs.{Common.{length, subst, suc, sym, zero, ℕ, ◌%◌, ◌*◌, ◌+◌, ◌/◌, ◌<◌, ◌∙◌, ◌≡◌, ◌≤◌, ◌⊎◌}, lemmas.Bool.cases_lt}
-use Rattle.std.proofs.lemmas.{Bool.eqb-true, List.FromFn.length-map-range_with_len}
+use Rattle.{c104_check.specs.declared.ports.SwitchPort.SwitchPort, c104_interval.specs.declared.intervals.Table.Table}
+use Rattle.c104_label.proofs.{AcceptedLayouts.{IsLabelling, layout_routes, leaves, ranges, switch_count}, CrossedWires.IsWired}
+use Rattle.c104_label.proofs.{CrossedWires.LeavesByPick, FilledPeers.terminal_peer, OwnLabels.{no_owner, one_label}}
+use Rattle.c104_plan.{proofs.Wires.wiring, specs.{Layouts.Layout, Plans.{IsFilled, IsPlan, Plan}, declared.ports.Port.Port}}
+use Rattle.std.proofs.Common.{None, Some, ap, arith, inl, inr, is_some, length, subst, suc, sym, zero, ℕ, ◌%◌, ◌*◌, ◌+◌, ◌/◌, ◌<◌, ◌∙◌, ◌≡◌}
+use Rattle.std.proofs.{Common.{◌≤◌, ◌⊎◌}, lemmas.{Bool.{cases_lt, eqb-true}, List.FromFn.length-map-range_with_len}}
 
 module _ (plan : Plan) (layout : Layout) (p : ℕ) (tables : ℕ → Table) (pick : ℕ → ℕ → ℕ → ℕ) (distance : ℕ → ℕ → ℕ) (kept : IsPlan plan) (filled : IsFilled layout p plan) (labelling : IsLabelling layout p tables pick distance) (is_network : IsNetwork (layout_routes plan layout tables)) where
   abbrev net : Routes
@@ -40,11 +39,7 @@ module _ (plan : Plan) (layout : Layout) (p : ℕ) (tables : ℕ → Table) (pic
       let lt : q.switch < layout.switches = omega (arith, inside.0, switch_count plan layout p tables pick distance kept filled labelling is_network) in
       let lv = leaves plan layout p tables pick distance kept filled labelling is_network h below in
       let wired : IsWired net q.switch q.link = ap is_some at.1 in
-      let picks = lv.selects q.switch q.link lt wired in
-      let same : Some (Link g) ≡ Some (Link (pick q.switch (h / p) (layout.links + h % p))) = sym sel ∙ picks in
-      let g_is : g ≡ pick q.switch (h / p) (layout.links + h % p) = cc in
-      let o_is : o ≡ g = eqb-true o g (sym (lv.alone q.switch g o lt) ∙ group) in
-      record { below = below; inside = lt; leaves = lv; leads = ap (λ n. net.peer (Port.Switch q.switch n)) (sym (o_is ∙ g_is)) ∙ wire }
+      search (arith, eqb-true, leaves)
 
   -- the input of a terminal is none of a link between switches
   pub entry_link : (t : ℕ) (q : SwitchPort) → IsEntryOf net t q → layout.links ≤ q.link

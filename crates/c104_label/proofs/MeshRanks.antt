@@ -39,10 +39,10 @@ data Way (w s u r l : ℕ) : Type 0 where
   Down : s / w < u / w → r / w ≡ s / w + 1 → l ≡ 0 → Way w s u r l
 
 may_be : (w s u r l : ℕ) → Way w s u r l → MayBe w u r l
-may_be w s u r l h1 = search arith
+may_be w s u r l way = search arith
 
 falls_at : (w h s u r l k : ℕ) → s / w < h → s % w < w → MayBe w u s k → Way w s u r l → mesh_rank_at w h r l < mesh_rank_at w h s k
-falls_at w h s u r l k row column may h4 = search arith
+falls_at w h s u r l k row column may way = search arith
 
 -- a mesh has at least about as many switches as columns and rows
 sum_low : (w h : ℕ) → 0 < w → 0 < h → w + h ≤ w * h + 1

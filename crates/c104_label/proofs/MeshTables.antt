@@ -28,12 +28,7 @@ mesh_in_order : (w h p s : ℕ) → 0 < w → s < w * h → p ≤ 28 → AreLabe
 unfolding mesh_rows
 mesh_in_order w h p s wide inside few =
     let order = kept_rising (w * h * p) (all_mesh_rows w h p s) (mesh_run w h p s wide inside) in
-    record {
-      rising = order.0;
-      all = order.1;
-      links = kept_links (all_mesh_rows w h p s) (mesh_links w h p s few);
-      few = mesh_few w h p s few;
-    }
+    search (arith, kept_links, mesh_links, mesh_few)
 
 pub are_mesh_tables : (w h p : ℕ) → IsMesh w h p → AreMeshTables w h p
 unfolding AreMeshTables

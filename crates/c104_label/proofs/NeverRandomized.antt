@@ -7,9 +7,9 @@ use Rattle.c104_label.specs.{Images.{IsUpDownImage, is_labelled_shape}, MeshLabe
 use Rattle.c104_label.specs.{TreeLabels.{switch_table, tree_range}, declared.faults.LabelFault.LabelFault}
 use Rattle.c104_plan.specs.{PlanImage.{Image, hand_image, range_of, settings_of, switch_settings}, Plans.{IsOfShape, IsPlan, IsUnset, Plan}}
 use Rattle.c104_plan.specs.declared.{plans.Shape.{Shape, TheVariants.{Cube, Hand, Mesh, Tree, UpDown}}, ports.Port.Port}
-use Rattle.{c104_regs.specs.declared.settings.Settings.Settings, std.proofs.Common.{Err, IfOk, None, Ok, Result, Some, [], ap, arith}}
-use Rattle.std.proofs.Common.{false, inl, inr, length, map, refl, slice_get, subst, sym, true, ℕ, ◌*◌, ◌^◌, ◌∙◌, ◌≡◌}
-use Rattle.std.{proofs.lemmas.{Bool.cases_lt, List.FromFn.length-map-range_with_len, Option.slice_get_past}, specs.List.range_with_len}
+use Rattle.{c104_regs.specs.declared.settings.Settings.Settings, std.proofs.Common.{Err, IfOk, Ok, Result, [], ap, arith, false, inl, inr}}
+use Rattle.std.proofs.{Common.{length, map, refl, slice_get, subst, sym, true, ℕ, ◌*◌, ◌^◌, ◌∙◌, ◌≡◌}, lemmas.Bool.cases_lt}
+use Rattle.std.{proofs.lemmas.{List.FromFn.length-map-range_with_len, Option.slice_get_past}, specs.List.range_with_len}
 
 -- where labels are made by a plan's shape, its own lines set nothing at links
 unset_by : (plan : Plan) (shape : Shape) → is_labelled_shape shape ≡ true → IsOfShape shape plan → IsUnset plan
@@ -28,11 +28,7 @@ hand_plain plan none q random = elim (cases_lt q.switch (length plan.switches)) 
       let is = (map_was (λ link. settings_of plan (Port.Switch q.switch link)) 32 q.link random.0 (ap (λ xs. slice_get xs q.link) (sym here) ∙ random.1)).1 in
       let plain : random.0.randomize ≡ false = ap (λ (x : Settings). x.randomize) is ∙ settings_plain plan (Port.Switch q.switch q.link) none in
       let clash : true ≡ false = sym random.2 ∙ plain in absurd cc
-  | inr ge ↦
-      let many : length (hand_image plan).settings ≡ length plan.switches = length-map-range_with_len (switch_settings plan) 0 (length plan.switches) in
-      let empty : settings_in (hand_image plan).settings q.switch ≡ [] = ap or_no_settings (slice_get_past (hand_image plan).settings q.switch (omega (arith, many, ge))) in
-      let past : slice_get [] q.link ≡ None = slice_get_past {X = Settings} [] q.link (omega arith) in
-      let clash : None ≡ Some random.0 = sym past ∙ ap (λ xs. slice_get xs q.link) (sym empty) ∙ random.1 in absurd cc
+  | inr ge ↦ search (arith, length-map-range_with_len, slice_get_past)
 ]
 
 pub never_by : (plan : Plan) (image : Image) (shape : Shape) → plan.randoms ≡ [] → IsImageBy shape plan image → IsNeverRandomized (routes_of plan image)

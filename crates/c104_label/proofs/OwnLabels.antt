@@ -16,7 +16,7 @@ ranges_are links p n (suc count) = ap (λ xs. one_label n ∷ xs) (ranges_are li
 module _ (routes : Routes) (n : ℕ) (are : routes.ranges ≡ map one_label (range_with_len 0 n)) where
   -- a terminal owns its number alone
   pub owns_is : (t h : ℕ) → Owns routes t h → (h ≡ t) × (t < n)
-  owns_is t h h1 = search (arith, map_was, has_is)
+  owns_is t h owns = search (arith, map_was, has_is)
 
   range_at : (k : ℕ) → k < n → get_or routes.ranges k (0, 0) ≡ one_label k
   range_at k lt = ap (λ xs. get_or xs k (0, 0)) are ∙ get_or-map-range_with_len one_label 0 n k k (0, 0) lt (omega arith)

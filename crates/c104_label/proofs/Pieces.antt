@@ -61,10 +61,7 @@ table_selects to rows f piece h = search (arith, select_full, select_filled, app
 pub own_piece : (base links i n from to : ℕ) → from ≡ base + i → to ≡ from + n → IsPiece from to (map (λ j. label_row (base + j + 1) (links + j)) (range_with_len i n)) (λ h. Link (links + (h - base)))
 own_piece base links i zero from to a b = let e : from ≡ to = omega (arith, b) in subst (λ t. IsPiece from t [] (λ h. Link (links + (h - base)))) e (piece_none from (λ h. Link (links + (h - base))))
 own_piece base links i (suc n) from to a b =
-    let first : IsPiece from (base + i + 1) (label_row (base + i + 1) (links + i) ∷ []) (λ h. Link (links + i)) = piece_row from (base + i + 1) (links + i) in
-    piece_append from (base + i + 1) to (label_row (base + i + 1) (links + i) ∷ []) (map (λ j. label_row (base + j + 1) (links + j)) (range_with_len (i + 1) n)) (λ h. Link (links + i)) (λ h. Link (links + (h - base))) (λ h. Link (links + (h - base)))
-    (omega (arith, a)) (omega (arith, a, b)) first (own_piece base links (i + 1) n (base + i + 1) to (omega arith) (omega (arith, a, b)))
-    (λ h le lt. ap (λ l. Link (links + l)) (let is : h - base ≡ i = omega (arith, a, le, lt) in is)) (λ h le lt. refl)
+    search (arith, piece_row, piece_append, own_piece base links (i + 1) n (base + i + 1) to (omega arith) (omega (arith, a, b)))
 
 -- a switch's own labels
 pub own_is : (first_link p s : ℕ) → IsPiece (s * p) (s * p + p) (own_rows first_link p s) (λ h. Link (first_link + (h - s * p)))

@@ -17,9 +17,7 @@ selectable row is = search arith
 
 rows_within : (low : ℕ) (rows : List Row) → AreRising low rows → AllByRecursion IsLinkRow rows → last_limit low rows ≤ 65536 → AllByRecursion IsRowInRange rows
 rows_within low [] rising are small = tt
-rows_within low (r ∷ rows) rising are small =
-    let e = below_last r.limit rows rising.1 in
-    ((omega (arith, e, small), selectable r are.0), rows_within r.limit rows rising.1 are.1 small)
+rows_within low (r ∷ rows) rising are small = search (arith, below_last, selectable, rows_within r.limit rows rising.1 are.1 small)
 
 pub at_any : (rows : List Row) (n k : ℕ) → AllByRecursion IsRowInRange rows → IsRowInRange (get_or (rows ++ replicate n reset_row) k reset_row)
 at_any [] n k all = reset_at n k

@@ -15,9 +15,7 @@ IsRun low high rows = AreAscending low rows × (last_limit low rows ≡ high)
 
 run_append : (low mid high : ℕ) (rows more : List Row) → IsRun low mid rows → IsRun mid high more → IsRun low high (rows ++ more)
 run_append low mid high [] more a b = subst (λ n. IsRun n high more) (sym a.1) b
-run_append low mid high (r ∷ rows) more a b =
-    let rest = run_append r.limit mid high rows more (a.0.1, a.1) b in
-    ((a.0.0, rest.0), rest.1)
+run_append low mid high (r ∷ rows) more a b = search (arith, run_append r.limit mid high rows more (a.0.1, a.1) b)
 
 pub run_around : (from low high to below above : ℕ) (rows : List Row) → from ≤ low → high ≤ to → IsRun low high rows → IsRun from to (around (label_row low below) rows (label_row to above))
 run_around from low high to below above rows a b run =
@@ -27,8 +25,7 @@ run_around from low high to below above rows a b run =
 own_run : (base first_link i n from to : ℕ) → from ≡ base + i → to ≡ from + n → IsRun from to (map (λ j. label_row (base + j + 1) (first_link + j)) (range_with_len i n))
 own_run base first_link i zero from to a b = (tt, let e : from ≡ to = omega (arith, b) in e)
 own_run base first_link i (suc n) from to a b =
-    let rest = own_run base first_link (i + 1) n (base + i + 1) to (omega arith) (omega (arith, a, b)) in
-    ((omega (arith, a), rest.0), rest.1)
+    search (arith, own_run base first_link (i + 1) n (base + i + 1) to (omega arith) (omega (arith, a, b)))
 
 pub run_of_own : (first_link p s : ℕ) → IsRun (s * p) (s * p + p) (own_rows first_link p s)
 run_of_own first_link p s = own_run (s * p) first_link 0 p (s * p) (s * p + p) (omega arith) (omega arith)

@@ -1,7 +1,7 @@
 -- The labels of a depth-first tree are numbered in the order in which its switches are visited.
 use Rattle.c104_label.proofs.{ForestLemmas.met_first, TreePlaces.{either-none, either-some, not_both, place_none, place_some, place_step}}
 use Rattle.c104_label.{proofs.TreePlaces.{unmet_left, unmet_one, unmet_right}, specs.Forests.{Forest, child, empty, is_met, switches}}
-use Rattle.c104_label.specs.TreeLabels.{AreInOrder, Place, either, forest_labels, labels_together, place, place_in, place_of}
+use Rattle.c104_label.specs.TreeLabels.{AreInOrder, Place, either, forest_labels, labels_together, place_in, place_of}
 use Rattle.std.proofs.Common.{Bool, List, Option, Some, [], ap, arith, false, if◌then◌else◌, inl, inr, refl, subst, sym, true, ℕ, ◌++◌, ◌+◌}
 use Rattle.std.proofs.{Common.{◌==◌, ◌∙◌, ◌∷◌, ◌≡◌}, lemmas.{Bool.{cases_Bool, eq-eqb, or_cases}, Option.same_Some}}
 
@@ -12,12 +12,7 @@ together_on own (x ∷ xs) ys = let rest = together_on own xs ys in omega (arith
 
 together_all : (own : ℕ → ℕ) (f : Forest) → labels_together own (switches f) ≡ forest_labels own f
 together_all own empty = refl
-together_all own (child l r b below rest) =
-    let e = together_on own (switches below) (switches rest) in
-    let here = together_all own below in
-    let on = together_all own rest in
-    let is : own r + labels_together own (switches below ++ switches rest) ≡ (own r + forest_labels own below) + forest_labels own rest = omega (arith, e, here, on) in
-    is
+together_all own (child l r b below rest) = search (arith, together_on, together_all own below, together_all own rest)
 
 -- where a switch is first met in the first of two lists, and where it isn't met there
 split_left : (xs ys before after : List ℕ) (s : ℕ) → xs ++ ys ≡ before ++ s ∷ after → is_met xs s ≡ true → is_met before s ≡ false → (rest : List ℕ) × (xs ≡ before ++ s ∷ rest)
@@ -40,10 +35,7 @@ split_left (x ∷ xs) ys (z ∷ before) after s is met none =
 
 split_right : (xs ys before after : List ℕ) (s : ℕ) → xs ++ ys ≡ before ++ s ∷ after → is_met xs s ≡ false → (mid : List ℕ) × (before ≡ xs ++ mid) × (ys ≡ mid ++ s ∷ after)
 split_right [] ys before after s is none = (before, refl, is)
-split_right (x ∷ xs) ys [] after s is none =
-    let list : x ∷ (xs ++ ys) ≡ s ∷ after = is in
-    let same : x ≡ s = cc in
-    absurd (not_both (is_met (x ∷ xs) s) (subst (λ n. is_met (n ∷ xs) s ≡ true) (sym same) (met_first s xs)) none)
+split_right (x ∷ xs) ys [] after s is none = search (arith, not_both, met_first)
 split_right (x ∷ xs) ys (z ∷ before) after s is none =
     let list : x ∷ (xs ++ ys) ≡ z ∷ (before ++ s ∷ after) = is in
     let same : x ≡ z = cc in
@@ -57,12 +49,7 @@ place_first b here there is = search arith
 -- in subtrees whose labels begin at first
 in_forest : (own : ℕ → ℕ) (f : Forest) (first : ℕ) (before after : List ℕ) (s : ℕ) (p : Place) → switches f ≡ before ++ s ∷ after → is_met before s ≡ false → place_in own s first f ≡ Some p → p.first ≡ first + labels_together own before
 in_forest own empty first before after s p is none at = absurd cc
-in_forest own (child l r b below rest) first [] after s p is none at =
-    let list : r ∷ (switches below ++ switches rest) ≡ s ∷ after = is in
-    let same : r ≡ s = cc in
-    let here : place b first below ≡ p = same_Some (place b first below) p (sym (place_first (s == r) (Some (place b first below)) _ (eq-eqb s r (sym same))) ∙ at) in
-    let begins : first ≡ p.first = ap (λ (q : Place). q.first) here in
-    omega (arith, begins)
+in_forest own (child l r b below rest) first [] after s p is none at = search (arith, same_Some, place_first, eq-eqb)
 in_forest own (child l r b below rest) first (z ∷ before) after s p is none at =
     let list : r ∷ (switches below ++ switches rest) ≡ z ∷ (before ++ s ∷ after) = is in
     let same : r ≡ z = cc in
@@ -81,23 +68,13 @@ in_forest own (child l r b below rest) first (z ∷ before) after s p is none at
           let cut = split_right (switches below) (switches rest) before after s on unmet in
           let new_mid : is_met cut.0 s ≡ false = unmet_right (switches below) cut.0 s (subst (λ ws. is_met ws s ≡ false) cut.1 new) in
           let e = in_forest own rest (first + (own r + forest_labels own below)) cut.0 after s p cut.2 new_mid (sym (either-none _ _ (place_none own below (first + own r) s unmet)) ∙ there) in
-          let sum : labels_together own before ≡ labels_together own (switches below) + labels_together own cut.0 = ap (labels_together own) cut.1 ∙ together_on own (switches below) cut.0 in
-          let all = together_all own below in
-          omega (arith, e, own_same, sum, all)
+          search (arith, together_on, together_all)
     ] in
     is_first
 
 in_tree : (own : ℕ → ℕ) (root : ℕ) (forest : Forest) (before after : List ℕ) (s : ℕ) (p : Place) → root ∷ switches forest ≡ before ++ s ∷ after → is_met before s ≡ false → place_of own root forest s ≡ Some p → p.first ≡ labels_together own before
-in_tree own root forest [] after s p is none at =
-    let same : root ≡ s = cc in
-    let here : place 0 0 forest ≡ p = same_Some (place 0 0 forest) p (sym (place_first (s == root) (Some (place 0 0 forest)) _ (eq-eqb s root (sym same))) ∙ at) in
-    sym (ap (λ (q : Place). q.first) here)
-in_tree own root forest (z ∷ before) after s p is none at =
-    let same : root ≡ z = cc in
-    let on : switches forest ≡ before ++ s ∷ after = cc in
-    let other : (s == root) ≡ false = subst (λ n. (s == n) ≡ false) (sym same) (unmet_one s z (unmet_left (z ∷ []) before s none)) in
-    let e = in_forest own forest (own root) before after s p on (unmet_right (z ∷ []) before s none) (sym (place_step (s == root) _ _ other) ∙ at) in
-    e ∙ ap (λ n. n + labels_together own before) (ap own same)
+in_tree own root forest [] after s p is none at = search (arith, same_Some, place_first, eq-eqb)
+in_tree own root forest (z ∷ before) after s p is none at = search (arith, unmet_one, unmet_left, in_forest, unmet_right, place_step)
 
 pub in_order : (own : ℕ → ℕ) (root : ℕ) (forest : Forest) → AreInOrder own root forest
 unfolding AreInOrder

@@ -121,7 +121,7 @@ module _ (plan : Plan) (kept : IsPlan plan) (root : ℕ) (is_tree : IsTreePlan r
   Out h s = (p : Place) × At s p × ((h < p.first) ⊎ (place_end (own_labels (net_of plan)) s p ≤ h))
 
   not_both : (h s : ℕ) → In h s → Out h s → ⊥
-  not_both h s h1 h2 = search (arith, one_place)
+  not_both h s inside outside = search (arith, one_place)
 
   -- one wire on the way of a label: down to a subtree that has it, or up from one that hasn't
   data Step (h s : ℕ) (b : SwitchPort) : Type 0 where

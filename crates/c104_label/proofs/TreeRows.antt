@@ -1,10 +1,9 @@
 -- Pieces, their rows, and what these select.
 use Rattle.c104_interval.specs.{Selection.{select, select_from}, declared.intervals.Select.{Select, TheVariants.{Link, Sink}}}
 use Rattle.c104_label.{proofs.{Pieces.{select_filled, select_full}, Runs.{IsRun, kept_links, kept_rising}}, specs.LabelRows.AreLabelRows}
-use Rattle.c104_label.specs.{LabelRows.{IsLinkRow, kept_rows, label_row, label_table, without_empty}, TreeLabels.{Pieces, piece, rows_from}}
-use Rattle.std.proofs.Common.{Bool, [], ap, arith, false, if◌then◌else◌, inl, inr, length, nat_le, nat_lt, refl, subst, true, ℕ, ◌++◌, ◌+◌}
-use Rattle.std.proofs.{Common.{◌<◌, ◌==◌, ◌∙◌, ◌∷◌, ◌≡◌, ◌≤◌}, lemmas.Bool.{Decides.nat_tests, cases_Bool, lt-ltb}}
-use Rattle.std.specs.List.{AllByRecursion}
+use Rattle.c104_label.specs.{LabelRows.{IsLinkRow, kept_rows, label_table, without_empty}, TreeLabels.{Pieces, piece, rows_from}}
+use Rattle.std.proofs.Common.{Bool, [], ap, arith, false, if◌then◌else◌, inl, inr, length, nat_le, nat_lt, refl, true, ℕ, ◌++◌, ◌+◌, ◌<◌}
+use Rattle.std.{proofs.{Common.{◌==◌, ◌∙◌, ◌∷◌, ◌≡◌, ◌≤◌}, lemmas.Bool.{Decides.nat_tests, cases_Bool, lt-ltb}}, specs.List.AllByRecursion}
 
 -- which link has label h, where the first piece begins at low
 abbrev pub pick : ℕ → Pieces → ℕ → Select
@@ -43,11 +42,7 @@ pick_first low (p ∷ ps) qs h up below =
 
 pub pick_after : (low : ℕ) (ps qs : Pieces) (h : ℕ) → low + total_of ps ≤ h → pick low (ps ++ qs) h ≡ pick (low + total_of ps) qs h
 pick_after low [] qs h up = let e : low + 0 ≡ low = omega arith in rw e refl
-pick_after low (p ∷ ps) qs h up =
-    let no : nat_lt h (low + p.1) ≡ false = grind (arith, nat_tests) in
-    let e : (low + p.1) + total_of ps ≡ low + (p.1 + total_of ps) = omega arith in
-    let next = pick_after (low + p.1) ps qs h (omega (arith, up)) in
-    rw no (subst (λ k. pick (low + p.1) (ps ++ qs) h ≡ pick k qs h) e next)
+pick_after low (p ∷ ps) qs h up = search (arith, nat_tests, pick_after (low + p.1) ps qs h (omega (arith, up)))
 
 -- the first piece alone, and what lies past it
 pub pick_here : (low l n : ℕ) (ps : Pieces) (h : ℕ) → h < low + n → pick low (piece l n ∷ ps) h ≡ Link l
@@ -64,9 +59,7 @@ pick_past low (p ∷ ps) h up = pick_next low p.0 p.1 ps h (omega (arith, up)) �
 
 pub rows_append : (low : ℕ) (ps qs : Pieces) → rows_from low (ps ++ qs) ≡ rows_from low ps ++ rows_from (low + total_of ps) qs
 rows_append low [] qs = let e : low ≡ low + 0 = omega arith in ap (λ n. rows_from n qs) e
-rows_append low (p ∷ ps) qs =
-    let e : (low + p.1) + total_of ps ≡ low + (p.1 + total_of ps) = omega arith in
-    ap (λ rows. label_row (low + p.1) p.0 ∷ rows) (rows_append (low + p.1) ps qs ∙ ap (λ n. rows_from (low + p.1) ps ++ rows_from n qs) e)
+rows_append low (p ∷ ps) qs = search (arith, rows_append (low + p.1) ps qs)
 
 pub total-append : (ps qs : Pieces) → total_of (ps ++ qs) ≡ total_of ps + total_of qs
 total-append [] qs = omega arith
@@ -75,10 +68,7 @@ total-append (p ∷ ps) qs = let e = total-append ps qs in omega (arith, e)
 -- their limits never fall, and end where the pieces do
 rows_run : (low : ℕ) (ps : Pieces) → IsRun low (low + total_of ps) (rows_from low ps)
 rows_run low [] = (tt, let e : low ≡ low + 0 = omega arith in e)
-rows_run low (p ∷ ps) =
-    let e : (low + p.1) + total_of ps ≡ low + (p.1 + total_of ps) = omega arith in
-    let rest = rows_run (low + p.1) ps in
-    ((omega arith, rest.0), rest.1 ∙ e)
+rows_run low (p ∷ ps) = search (arith, rows_run (low + p.1) ps)
 
 -- the rows that are kept are those of pieces that aren't empty
 abbrev pub nonempty : Pieces → ℕ
@@ -87,16 +77,7 @@ nonempty (p ∷ ps) = (if p.1 == 0 then 0 else 1) + nonempty ps
 
 kept_few : (low : ℕ) (ps : Pieces) → length (without_empty low (rows_from low ps)) ≤ nonempty ps
 kept_few low [] = omega arith
-kept_few low (p ∷ ps) = elim (cases_Bool (p.1 == 0)) [
-  | inl none ↦
-      let same : low + p.1 ≡ low = grind (arith, nat_tests) in
-      let test : ((low + p.1) == low) ≡ true = grind (arith, nat_tests) in
-      let rest : length (without_empty low (rows_from (low + p.1) ps)) ≤ nonempty ps = subst (λ n. length (without_empty n (rows_from (low + p.1) ps)) ≤ nonempty ps) same (kept_few (low + p.1) ps) in
-      rw (test, none) (omega (arith, rest))
-  | inr some ↦
-      let test : ((low + p.1) == low) ≡ false = grind (arith, nat_tests) in
-      rw (test, some) (omega (arith, kept_few (low + p.1) ps))
-]
+kept_few low (p ∷ ps) = search (arith, cases_Bool, nat_tests, kept_few (low + p.1) ps)
 
 pub nonempty-append : (ps qs : Pieces) → nonempty (ps ++ qs) ≡ nonempty ps + nonempty qs
 nonempty-append [] qs = omega arith
@@ -123,10 +104,4 @@ pieces_few ps few = omega (arith, kept_few 0 ps, few)
 pub label_rows : (total : ℕ) (ps : Pieces) → total_of ps ≡ total → ArePieceLinks ps → nonempty ps ≤ 36 → AreLabelRows total (kept_rows (rows_from 0 ps))
 label_rows total ps all are few =
     let order = kept_rising (0 + total_of ps) (rows_from 0 ps) (rows_run 0 ps) in
-    let end : 0 + total_of ps ≡ total = omega (arith, all) in
-    record {
-      rising = order.0;
-      all = order.1 ∙ end;
-      links = kept_links (rows_from 0 ps) (rows_links 0 ps are);
-      few = pieces_few ps few;
-    }
+    search (arith, kept_links, rows_links, pieces_few)

@@ -4,8 +4,8 @@ use Rattle.c104_label.proofs.{ForestLemmas.{met_first, met_right}, TreePlaces.{S
 use Rattle.c104_label.{proofs.TreeRows.{pick_first, pick_here, pick_next, pick_past, table_picks, total_of}, specs.Forests.{Ends, Forest}}
 use Rattle.c104_label.specs.{Forests.{Grown, child, empty, ends_of, is_met, links, switches}, TreeImages.{HasLabel, IsBehind}}
 use Rattle.c104_label.specs.{TreeImages.SelectsInTree, TreeLabels.{Net, Pieces, Place, all_pieces, child_pieces, count_or_zero}}
-use Rattle.c104_label.specs.TreeLabels.{forest_labels, labels_behind, labels_on, net_of, own_labels, own_pieces, piece, place, place_end}
-use Rattle.c104_label.specs.TreeLabels.{place_in, place_of, switch_table, table_at, tree_labels, tree_range, tree_rows, tree_table}
+use Rattle.c104_label.specs.TreeLabels.{forest_labels, labels_behind, labels_on, net_of, own_labels, own_pieces, piece, place_end, place_in}
+use Rattle.c104_label.specs.TreeLabels.{place_of, switch_table, table_at, tree_labels, tree_range, tree_rows, tree_table}
 use Rattle.c104_plan.specs.{Plans.{Plan, host_port}, Wiring.{IsWiring, peer}, declared.{plans.Terminal.Terminal, ports.Port.Port}}
 use Rattle.std.proofs.Common.{List, Some, [], ap, arith, inl, inr, refl, slice_get, subst, suc, sym, true, zero, ℕ, ◌++◌, ◌+◌, ◌-◌, ◌<◌}
 use Rattle.std.{proofs.Common.{◌∙◌, ◌∷◌, ◌≡◌, ◌≤◌, ◌⊎◌}, specs.List.range_with_len}
@@ -38,23 +38,14 @@ pick_parts up first a b past ps qs h own_is kids_is = search (arith, pick_next, 
 own_at : (net : Net) (s a k n low h l : ℕ) → a + k ≡ l → k < n → low + labels_on net s (range_with_len a k) ≤ h
     → h < (low + labels_on net s (range_with_len a k)) + labels_behind net.counts (net.ends s l) → pick low (own_pieces net s (range_with_len a n)) h ≡ Link l
 own_at net s a k zero low h l is inside from below = absurd (omega (arith, inside))
-own_at net s a zero (suc n) low h l is inside from below =
-    let same : a ≡ l = omega (arith, is) in
-    let behind = ap (λ (x : ℕ). labels_behind net.counts (net.ends s x)) same in
-    pick_here low a (labels_behind net.counts (net.ends s a)) (own_pieces net s (range_with_len (a + 1) n)) h (omega (arith, behind, below)) ∙ ap Link same
+own_at net s a zero (suc n) low h l is inside from below = search (arith, pick_here)
 own_at net s a (suc k) (suc n) low h l is inside from below =
-    pick_next low a (labels_behind net.counts (net.ends s a)) (own_pieces net s (range_with_len (a + 1) n)) h (omega (arith, from))
-    ∙ own_at net s (a + 1) k n (low + labels_behind net.counts (net.ends s a)) h l (omega (arith, is)) (omega (arith, inside)) (omega (arith, from)) (omega (arith, below))
+    search (arith, pick_next, own_at net s (a + 1) k n (low + labels_behind net.counts (net.ends s a)) h l (omega (arith, is)) (omega (arith, inside)) (omega (arith, from)) (omega (arith, below)))
 
 own_within : (net : Net) (s a k n l : ℕ) → a + k ≡ l → k < n → labels_on net s (range_with_len a k) + labels_behind net.counts (net.ends s l) ≤ labels_on net s (range_with_len a n)
 own_within net s a k zero l is inside = absurd (omega (arith, inside))
-own_within net s a zero (suc n) l is inside =
-    let same : a ≡ l = omega (arith, is) in
-    let behind = ap (λ (x : ℕ). labels_behind net.counts (net.ends s x)) same in
-    omega (arith, behind)
-own_within net s a (suc k) (suc n) l is inside =
-    let rest = own_within net s (a + 1) k n l (omega (arith, is)) (omega (arith, inside)) in
-    omega (arith, rest)
+own_within net s a zero (suc n) l is inside = search arith
+own_within net s a (suc k) (suc n) l is inside = search (arith, own_within net s (a + 1) k n l (omega (arith, is)) (omega (arith, inside)))
 
 -- the labels of a subtree select the link to it, which is wired to its switch
 
@@ -71,24 +62,10 @@ ChildAt ends own f first s l r q =
 child_at : (ends : Ends) (own : ℕ → ℕ) (f : Forest) (first : ℕ) (seen ls : List ℕ) (s l r : ℕ) (q : Place) → Grown ends seen s ls f → IsBehind f l r → place_in own r first f ≡ Some q → ChildAt ends own f first s l r q
 child_at ends own empty first seen ls s l r q grown behind found = absurd behind
 child_at ends own (child k t b below rest) first seen ls s l r q (before, after, split, passed, at, new, down, on) (inl (link_is, switch_is)) found =
-    let here : Some (place b first below) ≡ Some q = sym (place_here own t b below rest first r switch_is) ∙ found in
-    let same : place b first below ≡ q = cc in
-    subst (λ (p : Place). ChildAt ends own (child k t b below rest) first s l r p) same (
-      ap (ends s) (sym link_is) ∙ at ∙ ap (λ (c : ℕ). Some (Port.Switch c b)) switch_is,
-      omega arith,
-      (let e = ap own switch_is in omega (arith, e)),
-      (λ h from under. let e = ap own switch_is in pick_here first k (own t + forest_labels own below) (child_pieces own rest) h (omega (arith, e, under)) ∙ ap Link link_is),
-    )
+    search (arith, place_here, pick_here)
 child_at ends own (child k t b below rest) first seen ls s l r q (before, after, split, passed, at, new, down, on) (inr later) found =
     let step = place_on ends own k t b below rest first seen s after r on (behind_met rest l r later) in
-    let deep = child_at ends own rest (first + (own t + forest_labels own below)) ((seen ++ (t ∷ [])) ++ switches below) after s l r q on later (sym step ∙ found) in
-    let from_first = deep.1 in
-    let to_end = deep.2 in (
-      deep.0,
-      omega (arith, from_first),
-      omega (arith, to_end),
-      (λ h from under. pick_next first k (own t + forest_labels own below) (child_pieces own rest) h (omega (arith, from_first, from)) ∙ deep.3 h from under),
-    )
+    search (arith, pick_next, child_at ends own rest (first + (own t + forest_labels own below)) ((seen ++ (t ∷ [])) ++ switches below) after s l r q on later (sym step ∙ found))
 
 -- a terminal's link, and how many labels lie there
 pub terminal_at : (plan : Plan) (k : ℕ) (t : Terminal) → IsWiring plan → slice_get plan.terminals k ≡ Some t
@@ -149,12 +126,10 @@ module _ (plan : Plan) (root : ℕ) (forest : Forest) (s : ℕ) (p : Place) (wir
   child_selects : (link r l : ℕ) (q : Place) → IsBehind p.below link r → place_of own root forest r ≡ Some q → q.first ≤ l → l < place_end own r q → select (switch_table plan root forest s) l ≡ Link link
   child_selects link r l q behind found from under =
       let known = child_is link r q behind found in
-      let first_is = known.1 in
-      let end_is = known.2 in
-      picks l ∙ (parts_at l).2 (omega (arith, first_is, from)) (omega (arith, end_is, under)) ∙ known.3 l from under
+      search (arith, picks, parts_at)
 
   above_selects : (l : ℕ) → l < total → (l < p.first) ⊎ (place_end own s p ≤ l) → select (switch_table plan root forest s) l ≡ Link p.up
-  above_selects l small h2 = search (arith, picks, parts_at, pick_here)
+  above_selects l small either = search (arith, picks, parts_at, pick_here)
 
   none_selects : (l : ℕ) → total ≤ l → select (switch_table plan root forest s) l ≡ Sink
   none_selects l past = search (arith, picks, parts_at, pick_past)

@@ -34,9 +34,7 @@ total_none f (suc n) none =
 
 total_one : (f : ℕ → ℕ) (t n : ℕ) → t < n → ((k : ℕ) → (k ≡ t → ⊥) → f k ≡ 0) → total f n ≡ f t
 total_one f t zero inside none = absurd (omega (arith, inside))
-total_one f zero (suc n) inside none =
-    let rest = total_none (λ k. f (suc k)) n (λ k. none (suc k) (λ same. omega (arith, same))) in
-    omega (arith, rest)
+total_one f zero (suc n) inside none = search (arith, total_none)
 total_one f (suc t) (suc n) inside none =
     let first = none 0 (λ same. omega (arith, same)) in
     let rest = total_one (λ k. f (suc k)) t n (omega (arith, inside)) (λ k differs. none (suc k) (λ same. differs (omega (arith, same)))) in
@@ -50,9 +48,7 @@ sum_total (t ∷ ts) = ap (λ n. t.count + n) (sum_total ts)
 
 range_above : (a n c : ℕ) → c < a → is_met (range_with_len a n) c ≡ false
 range_above a zero c low = refl
-range_above a (suc n) c low =
-    let other : (c == a) ≡ false = grind (arith, nat_tests) in
-    rw other (range_above (a + 1) n c (omega (arith, low)))
+range_above a (suc n) c low = search (arith, nat_tests, range_above (a + 1) n c (omega (arith, low)))
 
 range_in : (a n c : ℕ) → a ≤ c → c < a + n → is_met (range_with_len a n) c ≡ true
 range_in a zero c from below = absurd (omega (arith, from, below))
@@ -123,10 +119,8 @@ module _ (plan : Plan) (wiring : IsWiring plan) where
   is_here s l k o is at = search (arith, eq-eqb)
 
   behind_by : (s l : ℕ) (o : Option Port) → ends_of plan s l ≡ o → labels_behind (net_of plan).counts o ≡ sum_such plan (here s l)
-  behind_by s l None is =
-      sym (total_none (part plan (here s l)) (length plan.terminals) (λ k. not_here s l k (slice_get plan.terminals k) refl (λ at. let e : None ≡ Some (Port.Terminal k) = sym is ∙ at in absurd cc)))
-  behind_by s l (Some (Port.Switch r b)) is =
-      sym (total_none (part plan (here s l)) (length plan.terminals) (λ k. not_here s l k (slice_get plan.terminals k) refl (λ at. let e : Some (Port.Switch r b) ≡ Some (Port.Terminal k) = sym is ∙ at in absurd cc)))
+  behind_by s l None is = search (arith, total_none, not_here)
+  behind_by s l (Some (Port.Switch r b)) is = search (arith, total_none, not_here)
   behind_by s l (Some (Port.Terminal t)) is =
       let inside = wiring.inside (Port.Terminal t) (Port.Switch s l) (wiring.back (Port.Switch s l) (Port.Terminal t) is) in
       let one = total_one (part plan (here s l)) t (length plan.terminals) inside (λ k differs. not_here s l k (slice_get plan.terminals k) refl (λ at. let e : Some (Port.Terminal t) ≡ Some (Port.Terminal k) = sym is ∙ at in differs cc)) in
@@ -141,8 +135,7 @@ module _ (plan : Plan) (wiring : IsWiring plan) where
   links_such s from zero = sym (such_none (on_links s from zero) (λ a b. no (a == s)))
     where
       no : (same : Bool) → (same && false) ≡ false
-      no true = refl
-      no false = refl
+      no same = search arith
   links_such s from (suc n) =
       let first = behind_by s from (ends_of plan s from) refl in
       let rest = links_such s (from + 1) n in
@@ -150,14 +143,10 @@ module _ (plan : Plan) (wiring : IsWiring plan) where
       omega (arith, first, rest, all)
     where
       covers : (same first later : Bool) → (same && (first || later)) ≡ ((same && first) || (same && later))
-      covers true first later = refl
-      covers false first later = refl
+      covers same first later = search arith
 
       apart : (s from n a b : ℕ) → here s from a b ≡ true → on_links s (from + 1) n a b ≡ false
-      apart s from n a b is = false_from_ne_true (on_links s (from + 1) n a b) (λ later.
-          let low : b ≡ from = eqb-true b from (and_parts (a == s) (b == from) is).1 in
-          let e = sym (and_parts (a == s) (is_met (range_with_len (from + 1) n) b) later).1 ∙ range_above (from + 1) n b (omega (arith, low)) in
-          absurd cc)
+      apart s from n a b is = search (arith, false_from_ne_true, eqb-true, and_parts, range_above)
 
   abbrev on_switch : ℕ → Test
   on_switch s a b = a == s
@@ -167,8 +156,7 @@ module _ (plan : Plan) (wiring : IsWiring plan) where
   own_such s = links_such s 0 32 ∙ such_same (on_links s 0 32) (on_switch s) (λ a b small. all_links (a == s) (is_met (range_with_len 0 32) b) (range_in 0 32 b (omega arith) (omega (arith, small))))
     where
       all_links : (same met : Bool) → met ≡ true → (same && met) ≡ same
-      all_links true met is = is
-      all_links false met is = refl
+      all_links same met is = search arith
 
   -- the switches of a forest, and of a tree
 
@@ -192,23 +180,15 @@ module _ (plan : Plan) (wiring : IsWiring plan) where
       let r_below : is_met (switches below) r ≡ false = false_from_ne_true (is_met (switches below) r) (λ is. let e = sym (met_right seen (r ∷ []) r (met_first r [])) ∙ grown_new (ends_of plan) below (seen ++ (r ∷ [])) links r down r is in absurd cc) in
       let apart : (c : ℕ) → is_met (r ∷ switches below) c ≡ true → is_met (switches rest) c ≡ false =
       λ c is. false_from_ne_true (is_met (switches rest) c) (λ later. met_apart r (switches below) c is (unmet_one c r (unmet_right seen (r ∷ []) c (unmet_left (seen ++ (r ∷ [])) (switches below) c (new_rest c later)))) (unmet_right (seen ++ (r ∷ [])) (switches below) c (new_rest c later))) in
-      let front = any_first r (switches below) r_below in
-      let whole = any_append (r ∷ switches below) (switches rest) apart in
-      omega (arith, inner, outer, front, whole)
+      search (arith, any_first, any_append, apart)
     where
       met_apart : (r : ℕ) (xs : List ℕ) (c : ℕ) → is_met (r ∷ xs) c ≡ true → (c == r) ≡ false → is_met xs c ≡ false → ⊥
-      met_apart r xs c is not_first not_later = or_neither (c == r) (is_met xs c) is not_first not_later
-        where
-          or_neither : (a b : Bool) → (a || b) ≡ true → a ≡ false → b ≡ false → ⊥
-          or_neither true b is no_a no_b = absurd cc
-          or_neither false b is no_a no_b = let e = sym is ∙ no_b in absurd cc
+      met_apart r xs c is not_first not_later = search arith
 
   tree_such : (root : ℕ) (forest : Forest) → IsSpanning plan root forest → plan_labels plan root forest ≡ sum_such plan (on_any (root ∷ switches forest))
   tree_such root forest spans =
       let root_new : is_met (switches forest) root ≡ false = false_from_ne_true (is_met (switches forest) root) (λ is. let e = sym (met_first root []) ∙ grown_new (ends_of plan) forest (root ∷ []) links root spans.depth_first root is in absurd cc) in
-      let inner = forest_such forest (root ∷ []) links root spans.depth_first in
-      let whole = any_first root (switches forest) root_new in
-      omega (arith, inner, whole)
+      search (arith, forest_such, any_first)
 
   -- all terminals are on switches of the tree
   all_at : (root : ℕ) (forest : Forest) → IsSpanning plan root forest → (k : ℕ) (o : Option Terminal) → slice_get plan.terminals k ≡ o → pick_if (passes (on_any (root ∷ switches forest)) o) (count_or_zero o) ≡ count_or_zero o

@@ -4,13 +4,13 @@ use Rattle.c104_label.proofs.{TreePlaces.stands, TreeRows.{ArePieceLinks, label_
 use Rattle.c104_label.proofs.{TreeRows.{total-append, total_of}, TreeSelections.{own_small, selects_in_tree, table_is, terminal_at}}
 use Rattle.c104_label.{proofs.TreeSelections.{total_children, total_own}, specs.Forests.{Ends, Forest, Grown, IsSpanning, child, empty}}
 use Rattle.c104_label.specs.{Forests.{ends_of, links, switches}, LabelRows.AreLabelRows, TreeImages.{AreTreeTables, plan_labels}}
-use Rattle.c104_label.specs.TreeLabels.{AreLinks, Net, Place, all_pieces, child_pieces, first_at, forest_labels, labels_behind, labels_on}
-use Rattle.c104_label.specs.TreeLabels.{net_of, own_labels, own_pieces, place_end, place_of, switch_table, tree_range, tree_rows}
+use Rattle.c104_label.specs.TreeLabels.{AreLinks, Net, Place, all_pieces, child_pieces, forest_labels, labels_behind, net_of, own_labels}
+use Rattle.c104_label.specs.TreeLabels.{own_pieces, place_end, place_of, switch_table, tree_range, tree_rows}
 use Rattle.c104_plan.specs.{Plans.{IsPlan, IsRange, Plan, host_port}, Wiring.IsWiring, declared.{plans.Terminal.Terminal, ports.Port.Port}}
-use Rattle.{c104_regs.specs.Ranges.IsTableInRange, std.proofs.Common.{All, Bool, List, None, Option, Some, [], ap, arith, get_or}}
-use Rattle.std.proofs.Common.{if◌then◌else◌, inl, inr, length, map, slice_get, subst, suc, sym, zero, ℕ, ◌++◌, ◌+◌, ◌<◌, ◌==◌, ◌∙◌, ◌∷◌}
-use Rattle.std.proofs.{Common.{◌≡◌, ◌≤◌}, lemmas.List.{Elements.All-map, FromFn.{get_or-range_with_len, length-range_with_len}}}
-use Rattle.std.{proofs.lemmas.{List.length-append, Option.slice_get-get_or}, specs.List.range_with_len}
+use Rattle.{c104_regs.specs.Ranges.IsTableInRange, std.proofs.Common.{All, Bool, List, None, Option, Some, [], arith, get_or}}
+use Rattle.std.proofs.Common.{if◌then◌else◌, inl, inr, length, map, slice_get, suc, zero, ℕ, ◌++◌, ◌+◌, ◌<◌, ◌==◌, ◌∙◌, ◌∷◌, ◌≡◌, ◌≤◌}
+use Rattle.std.proofs.lemmas.List.{Elements.All-map, FromFn.{get_or-range_with_len, length-range_with_len}, length-append}
+use Rattle.std.{proofs.lemmas.Option.slice_get-get_or, specs.List.range_with_len}
 
 -- all labels lie somewhere
 pieces_total : (net : Net) (total s : ℕ) (p : Place) → place_end (own_labels net) s p ≤ total → total_of (all_pieces net total s p) ≡ total
@@ -89,14 +89,7 @@ terminals-append ends s (l ∷ before) after = let e = terminals-append ends s b
 links_shared : (ends : Ends) (f : Forest) (seen ls : List ℕ) (s : ℕ) → Grown ends seen s ls f → terminals_on ends s ls + subtrees f ≤ length ls
 links_shared ends empty seen ls s grown = let e = terminals_few ends s ls in omega (arith, e)
 links_shared ends (child l r b below rest) seen ls s (before, after, is, passed, at, new, down, on) =
-    let more = links_shared ends rest ((seen ++ (r ∷ [])) ++ switches below) after s on in
-    let front = terminals_few ends s before in
-    let none : is_terminal (ends s l) ≡ 0 = ap is_terminal at in
-    let sum = terminals-append ends s before (l ∷ after) in
-    let long = length-append before (l ∷ after) in
-    let whole = ap length is in
-    let same = ap (terminals_on ends s) is in
-    omega (arith, more, front, none, sum, long, whole, same)
+    search (arith, terminals_few, terminals-append, length-append, links_shared ends rest ((seen ++ (r ∷ [])) ++ switches below) after s on)
 
 links_long : length links ≡ 32
 unfolding links
@@ -167,11 +160,7 @@ module _ (plan : Plan) (wiring : IsWiring plan) (root : ℕ) (forest : Forest) (
       let inside = wiring.inside (Port.Switch t.switch t.link) (Port.Terminal k) (wiring.back (Port.Terminal k) (host_port t) host) in
       let known = standing t.switch inside.0 in
       let p : Place = known.0 in
-      let first_is : first_at (net_of plan) t.switch t.link (place_of own root forest t.switch) ≡ p.first + labels_on (net_of plan) t.switch (range_with_len 0 t.link) = ap (first_at (net_of plan) t.switch t.link) known.1.found in
-      let room = own_small plan root forest t.switch p wiring known.1 t.link end.0 in
-      let count_is = end.1 in
-      let whole = known.1.room in
-      (has.0, omega (arith, first_is, room, count_is, whole, few))
+      search (arith, own_small)
 
   pub ranges_are : (ranges : List (ℕ × ℕ)) → IsPlan plan → ranges ≡ map (tree_range plan root forest) plan.terminals → total ≤ 65536 → All (λ (range : ℕ × ℕ). IsRange range.0 range.1) ranges
   ranges_are ranges kept is few = rw is (All-map (λ (range : ℕ × ℕ). IsRange range.0 range.1) (tree_range plan root forest) plan.terminals (λ k d inside.
@@ -181,6 +170,4 @@ module _ (plan : Plan) (wiring : IsWiring plan) (root : ℕ) (forest : Forest) (
   pub place_known : (s : ℕ) (p : Place) → s < length plan.switches → place_of own root forest s ≡ Some p → Stands (ends_of plan) own root forest s p
   place_known s p inside is =
       let known = standing s inside in
-      let one : Some known.0 ≡ Some p = sym known.1.found ∙ is in
-      let same : known.0 ≡ p = cc in
-      subst (Stands (ends_of plan) own root forest s) same known.1
+      search arith
