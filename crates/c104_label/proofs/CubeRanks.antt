@@ -82,11 +82,7 @@ module _ (plan : Plan) (d p : ℕ) (image : Image) (kept : IsPlan plan) (shape :
         let there : R.peer (Port.Switch z.switch k) ≡ Some (Port.Switch y k) = g.leaves.beyond z.switch k y k g.inside top.below beyond in
         let to = one_port y k q (sym there ∙ ap (λ n. R.peer (Port.Switch z.switch n)) (sym top.link) ∙ g.leads) in
         let agree : Agree d y (l / p) k = flipped k top.differs y f top.above in
-        record {
-          below = subst (λ n. n < d) to.1 top.below;
-          differs = subst (λ n. bit z.switch n ≢ bit (l / p) n) to.1 top.differs;
-          agree = subst (λ n. Agree d n (l / p) q.link) to.0 (subst (λ n. Agree d y (l / p) n) to.1 agree);
-        }
+        search arith
 
     way : Way z.switch (l / p) q
     way = ⊎_elim

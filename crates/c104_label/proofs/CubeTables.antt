@@ -1,9 +1,8 @@
 -- The rows of a cube's tables are in order, few and of links.
 use Rattle.c104_label.proofs.{CubeSelections.selects_in_cube, Quotients.{cube_ends, cube_one, cube_whole}, Runs.{IsRun, around_links}}
 use Rattle.c104_label.proofs.Runs.{kept_fewer, kept_links, kept_rising, length_around, own_length, own_links, run_around, run_of_own}
-use Rattle.c104_label.specs.{CubeLabels.{AreCubeTables, IsCube, all_cube_rows, cube_rows}, LabelRows.{AreLabelRows, IsLinkRow, label_row}}
-use Rattle.{c104_label.specs.LabelRows.own_rows, std.proofs.Common.{arith, length, subst, suc, sym, zero, ℕ, ◌*◌, ◌+◌, ◌/◌, ◌<◌, ◌^◌, ◌∙◌}}
-use Rattle.std.{proofs.Common.{◌≡◌, ◌≤◌}, specs.List.AllByRecursion}
+use Rattle.c104_label.specs.{CubeLabels.{AreCubeTables, IsCube, all_cube_rows, cube_rows}, LabelRows.{AreLabelRows, IsLinkRow, own_rows}}
+use Rattle.std.{proofs.Common.{arith, length, subst, suc, sym, zero, ℕ, ◌*◌, ◌+◌, ◌/◌, ◌<◌, ◌^◌, ◌∙◌, ◌≡◌, ◌≤◌}, specs.List.AllByRecursion}
 
 cube_run : (d p x k : ℕ) → IsRun (x / 2 ^ k * 2 ^ k * p) ((x / 2 ^ k + 1) * 2 ^ k * p) (all_cube_rows d p x k)
 cube_run d p x zero =
@@ -17,9 +16,7 @@ cube_run d p x (suc k) =
 
 cube_length : (d p x k : ℕ) → length (all_cube_rows d p x k) ≡ p + 2 * k
 cube_length d p x zero = own_length d p x ∙ omega arith
-cube_length d p x (suc k) =
-    length_around (label_row (x / 2 ^ k * 2 ^ k * p) k) (label_row ((x / 2 ^ suc k + 1) * 2 ^ suc k * p) k) (all_cube_rows d p x k)
-    ∙ omega (arith, cube_length d p x k)
+cube_length d p x (suc k) = search (arith, length_around, cube_length d p x k)
 
 -- 256 terminals at most leave no switch of six dimensions with more rows than a table has
 cube_few : (d p : ℕ) → d ≤ 6 → d + p ≤ 32 → 2 ^ d * p ≤ 256 → p + 2 * d ≤ 36
@@ -50,12 +47,7 @@ cube_in_order d p x low links some few inside =
     subst (λ n. IsRun n (2 ^ d * p) (all_cube_rows d p x d)) ends.0
     (subst (λ n. IsRun (x / 2 ^ d * 2 ^ d * p) n (all_cube_rows d p x d)) ends.1 (cube_run d p x d)) in
     let order = kept_rising (2 ^ d * p) (all_cube_rows d p x d) run in
-    record {
-      rising = order.0;
-      all = order.1;
-      links = kept_links (all_cube_rows d p x d) (cube_links d p x d (omega arith) links some);
-      few = cube_rows_few d p x low links few;
-    }
+    search (arith, kept_links, cube_links, cube_rows_few)
 
 pub are_cube_tables : (d p : ℕ) → IsCube d p → AreCubeTables d p
 unfolding AreCubeTables

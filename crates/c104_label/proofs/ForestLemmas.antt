@@ -63,10 +63,7 @@ pub grown_closed : (ends : Ends) (f : Forest) (seen ls : List ℕ) (s : ℕ) →
 grown_closed ends empty seen ls s grown = (IsPassed-more ends seen [] s ls grown, tt)
 grown_closed ends (child l r b below rest) seen ls s (before, after, is, passed, at, new, down, on) =
     let first = seen ++ (r ∷ []) in
-    let inner = grown_closed ends below first links r down in
-    let outer = grown_closed ends rest (first ++ switches below) after s on in
-    let turn = in_turn seen r (switches below) (switches rest) in
-    search (arith, IsPassed-more, met_right, met_first, All-append, wire_here, AllSwitches-map)
+    search (arith, in_turn, IsPassed-more, met_right, met_first, All-append, wire_here, AllSwitches-map, grown_closed ends below first links r down, grown_closed ends rest (first ++ switches below) after s on)
 
 pub AllSwitches-at : (P : ℕ → Type 0) (f : Forest) (s : ℕ) → AllSwitches P f → is_met (switches f) s ≡ true → P s
 AllSwitches-at P empty s all is = absurd cc

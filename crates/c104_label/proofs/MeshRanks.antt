@@ -48,10 +48,7 @@ falls_at w h s u r l k row column may way = search arith
 sum_low : (w h : ℕ) → 0 < w → 0 < h → w + h ≤ w * h + 1
 sum_low zero h wide high = absurd (omega (arith, wide))
 sum_low (suc zero) h wide high = omega arith
-sum_low (suc (suc w)) h wide high =
-    let rest = sum_low (suc w) h (omega arith) high in
-    let more : suc (suc w) * h ≡ h + suc w * h = omega arith in
-    omega (arith, rest, more, high)
+sum_low (suc (suc w)) h wide high = search (arith, sum_low (suc w) h (omega arith) high)
 
 rank_low : (w h s l : ℕ) → 0 < w → 0 < h → s < w * h → mesh_rank_at w h s l ≤ 32 * (w * h)
 rank_low w h s l wide high inside = search (arith, sum_low, mod_below, div_below)
@@ -97,11 +94,7 @@ module _ (plan : Plan) (w h p : ℕ) (image : Image) (kept : IsPlan plan) (shape
                 let same : l / p / w * w ≡ z.switch / w * w = ap (λ n. n * w) row in
                 let to = led 1 (z.switch - 1) 2 (omega arith) (mesh_left w z.switch (l / p) (4 + l % p) wide (omega (arith, same, parts (l / p) w)) (omega (arith, same, parts (l / p) w, parts z.switch w, column))) (rw t refl) in
                 Left row column (ap (λ n. n / w) (sym to.0) ∙ step.0) (sym step.1 ∙ ap (λ n. n % w + 1) to.0) (sym to.1)
-            | inl column ↦
-                let at : l / p ≡ z.switch = same_place w (l / p) z.switch row column in
-                let picks : mesh_link w z.switch (l / p) (4 + l % p) ≡ 4 + l % p = mesh_own w z.switch (l / p) (4 + l % p) wide at in
-                let clash : Some (Port.Terminal l) ≡ Some (to_port q) = sym g.leaves.own ∙ ap (λ n. R.peer (Port.Switch n (4 + l % p))) at ∙ ap (λ n. R.peer (Port.Switch z.switch n)) (sym picks) ∙ g.leads in
-                absurd (cc)
+            | inl column ↦ search (arith, same_place, mesh_own)
             | inr (inr column) ↦
                 let few : z.switch % w + 1 < w = omega (arith, column, mod_below (l / p) w wide) in
                 let t : nat_lt (z.switch % w + 1) w ≡ true = grind (arith, nat_tests) in

@@ -61,13 +61,7 @@ rows_so net total s up first n end past qs front with_children rows is_front is_
     let rows_is : rows ≡ kept_rows (((label_row first up ∷ own_rows) ++ rows_from end qs) ++ label_row total up ∷ []) =
     is ∙ ap (λ rs. with_row rs (label_row total up)) children_is ∙ added ((label_row first up ∷ own_rows) ++ rows_from end qs) (label_row total up) in
     let a = total_own net s (range_with_len 0 n) in
-    let low : first + total_of ps ≡ end = omega (arith, a, is_end) in
-    let inner : rows_from end (qs ++ (piece up past ∷ [])) ≡ rows_from end qs ++ label_row total up ∷ [] = rows_append end qs (piece up past ∷ []) ∙ ap (λ m. rows_from end qs ++ label_row m up ∷ []) last in
-    let outer : rows_from first (ps ++ (qs ++ (piece up past ∷ []))) ≡ own_rows ++ (rows_from end qs ++ label_row total up ∷ []) =
-    rows_append first ps (qs ++ (piece up past ∷ [])) ∙ ap (λ m. own_rows ++ rows_from m (qs ++ (piece up past ∷ []))) low ∙ ap (λ rs. own_rows ++ rs) inner in
-    let whole : rows_from 0 (piece up first ∷ (ps ++ (qs ++ (piece up past ∷ [])))) ≡ label_row first up ∷ (own_rows ++ (rows_from end qs ++ label_row total up ∷ [])) =
-    ap (λ m. label_row m up ∷ rows_from m (ps ++ (qs ++ (piece up past ∷ [])))) begin ∙ ap (λ rs. label_row first up ∷ rs) outer in
-    rows_is ∙ ap kept_rows (append_assoc (label_row first up ∷ own_rows) (rows_from end qs) (label_row total up ∷ [])) ∙ sym (ap kept_rows whole)
+    search (arith, rows_append, append_assoc)
 
 pub links_to : (n : ℕ) → n ≡ 32 → range_with_len 0 n ≡ links
 unfolding links

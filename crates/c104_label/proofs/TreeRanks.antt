@@ -149,37 +149,22 @@ module _ (plan : Plan) (kept : IsPlan plan) (root : ℕ) (is_tree : IsTreePlan r
         let number = range_count plan kept is_tree.unset.continues root forest spans terminal in
         let has : HasLabel (tree_range plan root forest terminal) h = (omega (arith, first, first_is), omega (arith, end, same, many, count_is, first_is, number)) in
         let pick : table.select (switch_table plan root forest s) h ≡ Link terminal.link = (selects_of plan kept is_tree.unset.continues root forest spans s p at).own t h terminal is switch_is has in
-        let link_o : terminal.link ≡ o = selected_is terminal.link pick in
-        let clash : Some (Port.Terminal t) ≡ Some (to_port b) = sym wired ∙ ap (λ n. peer plan (Port.Switch s n)) (sym link_is ∙ link_o) ∙ to in
-        absurd cc
+        search (arith, selected_is)
 
     go_up : (p : Place) → At s p → (h < p.first) ⊎ (place_end (own_labels (net_of plan)) s p ≤ h) → Step h s b
     go_up p at out = elim (parent_of s inside) [
-      | inl top ↦
-          let here : At s (place 0 0 forest) = subst (λ n. At n (place 0 0 forest)) (sym top) root_at in
-          let same = one_place s p (place 0 0 forest) at here in
-          absurd (⊎_elim
-          (λ (e : h < p.first). let d : p.first ≡ 0 = ap (λ (x : Place). x.first) same in omega (arith, e, d))
-          (λ (e : place_end (own_labels (net_of plan)) s p ≤ h). let d : place_end (own_labels (net_of plan)) s p ≡ place_end (own_labels (net_of plan)) s (place 0 0 forest) = ap (place_end (own_labels (net_of plan)) s) same in
-          let own_is : own_labels (net_of plan) s ≡ own_labels (net_of plan) root = ap (own_labels (net_of plan)) top in omega (arith, e, d, own_is, small))
-          out)
+      | inl top ↦ search (arith, root_at, one_place)
       | inr on ↦
           let up : p.up ≡ o = selected_is p.up ((selects_of plan kept is_tree.unset.continues root forest spans s p at).above h small out) in
           let wire : peer plan (Port.Switch on.parent on.link) ≡ Some (Port.Switch s p.up) = (selects_of plan kept is_tree.unset.continues root forest spans on.parent on.above on.stands).wired on.link s p on.behind at.found in
           let back : peer plan (Port.Switch s p.up) ≡ Some (Port.Switch on.parent on.link) = (wiring plan kept).back (Port.Switch on.parent on.link) (Port.Switch s p.up) wire in
-          let is = one_port on.parent on.link b (sym back ∙ ap (λ n. peer plan (Port.Switch s n)) up ∙ to) in
-          let less = child_smaller on.parent on.link s on.above p on.stands on.behind at in
-          Upper (subst (λ n. below_switch plan root forest s < below_switch plan root forest n) is.0 less) (p, at, out) (on.above, subst (λ n. At n on.above) is.0 on.stands)
+          search (arith, one_port, child_smaller)
     ]
 
     go_down : (p : Place) → At s p → Down plan kept is_tree.unset.continues root forest spans h p.below → Step h s b
     go_down p at (l, r, q, behind, there, from, under, on) =
         let selects : SelectsInTree plan root forest s p (switch_table plan root forest s) = selects_of plan kept is_tree.unset.continues root forest spans s p at in
-        let link : l ≡ o = selected_is l (selects.below l r h q behind there.found from under) in
-        let wire : peer plan (Port.Switch s l) ≡ Some (Port.Switch r q.up) = selects.wired l r q behind there.found in
-        let is = one_port r q.up b (sym wire ∙ ap (λ n. peer plan (Port.Switch s n)) link ∙ to) in
-        let less = child_smaller s l r p q at behind there in
-        Lower (subst (λ n. below_switch plan root forest n < below_switch plan root forest s) is.0 less) (subst (In h) is.0 (q, there, from, under))
+        search (arith, selected_is, one_port, child_smaller)
 
     step : Step h s b
     step =
@@ -260,19 +245,12 @@ module _ (plan : Plan) (kept : IsPlan plan) (root : ℕ) (is_tree : IsTreePlan r
 -- there are as many switches as are visited, and the root
 switches_size : (f : Forest) → length (switches f) ≡ size f
 switches_size empty = refl
-switches_size (child l r b below rest) =
-    let both = length-append (switches below) (switches rest) in
-    let one = switches_size below in
-    let more = switches_size rest in
-    let goal : suc (length (switches below ++ switches rest)) ≡ suc (size below) + size rest = omega (arith, both, one, more) in
-    goal
+switches_size (child l r b below rest) = search (arith, length-append, switches_size below, switches_size rest)
 
 size_small : (plan : Plan) (root : ℕ) (forest : Forest) → IsPlan plan → IsTreePlan root plan → IsSpanning plan root forest → suc (size forest) ≤ length plan.switches
 size_small plan root forest kept is_tree spans =
     let are = grown_switches (ends_of plan) (length plan.switches) (ends_inside plan (wiring plan kept)) forest (root ∷ []) links root spans.depth_first (switches_root (length plan.switches) root is_tree.inside) in
-    let room = switches_room (length plan.switches) (root ∷ switches forest) are in
-    let count = switches_size forest in
-    omega (arith, room, count)
+    search (arith, switches_room, switches_size)
 
 -- no rank is above that of what comes from a terminal
 rank_by_low : (plan : Plan) (root : ℕ) (forest : Forest) (s : ℕ) (o : Option Port) → rank_by plan root forest s o ≤ size forest + size forest + 3

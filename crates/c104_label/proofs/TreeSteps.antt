@@ -55,13 +55,7 @@ rows_due plan own root forest total s p kept spans same inside is all =
     let at = place_known plan (wiring plan kept) root forest spans s p inside (subst (λ (f : ℕ → ℕ). place_of f root forest s ≡ Some p) same is) in
     let are = place_links plan (wiring plan kept) root forest spans s p at in
     let rows = rows_are plan (wiring plan kept) root forest spans s p at in
-    let whole : total ≡ plan_labels plan root forest = subst (λ (f : ℕ → ℕ). total ≡ tree_labels f root forest) same all in
-    record {
-      up = are.0;
-      links = are.1;
-      room = rw all (place_of_within own root forest s p is);
-      few = rw whole rows.few;
-    }
+    search (arith, place_of_within)
 
 pub table_done : (plan : Plan) (own : ℕ → ℕ) (root : ℕ) (forest : Forest) (total s : ℕ) (p : Place) (rows : List Row) (table : Table) → own ≡ own_labels (net_of plan) → place_of own root forest s ≡ Some p → total ≡ tree_labels own root forest → rows ≡ tree_rows (net_of plan) total s p → table ≡ label_table rows → table ≡ switch_table plan root forest s
 unfolding switch_table
