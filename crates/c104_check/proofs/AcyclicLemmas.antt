@@ -4,7 +4,7 @@ use Rattle.c104_check.specs.ChannelDependencies.{AreByLabels, AreChained, AreNev
 use Rattle.c104_check.specs.ChannelDependencies.{IsAcyclic, IsBeginningBy, IsCycle, IsNeverRandomized, IsRanking, MayComeBy, input_count}
 use Rattle.c104_check.specs.{Parts.{Begins, IsBeginning}, Reach.IsReached, Routes.{Routes, SwitchPort, owner}, Trails.{IsInput, IsNetwork}}
 use Rattle.{c104_check.specs.Trails.Reaches, c104_plan.specs.declared.ports.Port.Port, std.proofs.Common.{Bool, List, Some, [], arith}}
-use Rattle.std.proofs.Common.{false, inl, inr, length, min, refl, subst, suc, sym, true, zero, ℕ, ◌<◌, ◌∷◌, ◌≡◌, ◌≤◌}
+use Rattle.std.proofs.Common.{false, inl, inr, length, min, refl, subst, sym, true, ℕ, ◌<◌, ◌∷◌, ◌≡◌, ◌≤◌}
 
 falls_along : (routes : Routes) (rank : SwitchPort → ℕ) → IsRanking routes rank → (a : ChannelDependency) (more : List ChannelDependency) (end : SwitchPort) → AreChained routes a more end → rank end < rank a.input
 falls_along routes rank falls a [] end is = falls a.input end (a.header, is)
@@ -22,8 +22,7 @@ never_both routes cycle is acyclic = no_ranks routes acyclic.0 cycle is acyclic.
 
 -- a header comes from inputs of the network to such alone
 reached_input : (routes : Routes) (h m : ℕ) (start p : SwitchPort) → IsNetwork routes → IsInput (length routes.settings) start → Reaches routes h m start p → IsInput (length routes.settings) p
-reached_input routes h zero start p net here same = subst (IsInput (length routes.settings)) same here
-reached_input routes h (suc m) start p net here (z, reaches, follows) = net.inputs (Port.Switch z.switch follows.1) p follows.4
+reached_input routes h m start p net here same = search arith
 
 own_input : (routes : Routes) (behind : Bool) (entry p : SwitchPort) → IsNetwork routes → IsInput (length routes.settings) entry → Begins routes entry behind p → IsInput (length routes.settings) p
 own_input routes false entry p net inside begins = subst (IsInput (length routes.settings)) (sym begins.0) inside

@@ -2,12 +2,11 @@
 use Rattle.c104_check.{proofs.RandomLemmas.{IsCount, before_large, before_small, counts, on_large, on_small}, specs.Breaks.AreBreaks}
 use Rattle.c104_check.specs.{Breaks.{BoundsRange, ChangesSelect, IsBreak, IsWired, is_marked}, Refusals.{AreInputs, LandSoFar, LandsAt}}
 use Rattle.c104_check.specs.{Refusals.{LandsBefore, Start}, Routes.{Arrives, Homes, IsRandomAt, Lands, Leads, Roams, Routes, SwitchPort}}
-use Rattle.c104_check.specs.{Routes.{has_label, header_count, link_settings, most_hops, owner, random_count, select}, Trails.IsNetwork}
-use Rattle.{c104_check.specs.Walks.port_of, c104_interval.specs.{Segments.IsSegmentStart, declared.intervals.{Row.Row, Select.Select}}}
-use Rattle.c104_interval.specs.declared.intervals.{Select.TheVariants.{Discard, Link, Sink}, Table.Table}
+use Rattle.c104_check.specs.{Routes.{has_label, header_count, link_settings, owner, random_count, select}, Trails.IsNetwork, Walks.port_of}
+use Rattle.c104_interval.specs.{Segments.IsSegmentStart, declared.intervals.{Row.Row, Select.{Select, TheVariants.Link}, Table.Table}}
 use Rattle.{c104_plan.specs.declared.ports.Port.Port, c104_regs.specs.declared.settings.Settings.Settings, std.proofs.Common.{Bool, List}}
-use Rattle.std.proofs.Common.{None, Option, Some, [], ap, arith, cond, false, inl, inr, map, nat_le, nat_lt, not, option_map, position}
-use Rattle.std.proofs.Common.{refl, slice_get, subst, suc, sym, true, zero, ℕ, ◌%◌, ◌&&◌, ◌+◌, ◌-◌, ◌<◌, ◌∙◌, ◌∷◌, ◌≡◌, ◌≢◌, ◌⊎◌}
+use Rattle.std.proofs.Common.{Option, Some, [], ap, arith, cond, false, inl, inr, map, nat_le, nat_lt, not, option_map, position, refl}
+use Rattle.std.proofs.Common.{slice_get, suc, sym, true, zero, ℕ, ◌%◌, ◌&&◌, ◌+◌, ◌-◌, ◌<◌, ◌∙◌, ◌∷◌, ◌≡◌, ◌≢◌, ◌⊎◌}
 use Rattle.std.{proofs.lemmas.Bool.{Decides.nat_tests, cases_eq}, specs.List.{Contains, prefix_len}}
 use Rattle.c104_interval.specs.Selection as table
 
@@ -46,28 +45,14 @@ Link-same : (a b : ℕ) → Link a ≡ Link b → a ≡ b
 Link-same a b is = cc
 
 not_other : (a b : Select) → (a ≢ b → ⊥) → a ≡ b
-not_other (Link a) (Link b) not =
-    elim (cases_eq a b) [
-      | inl same ↦ ap Link same
-      | inr differ ↦ absurd (not (λ is. differ (Link-same a b is)))
-    ]
-not_other (Link a) Discard not = absurd (not (λ is. cc))
-not_other (Link a) Sink not = absurd (not (λ is. cc))
-not_other Discard (Link b) not = absurd (not (λ is. cc))
-not_other Discard Discard not = refl
-not_other Discard Sink not = absurd (not (λ is. cc))
-not_other Sink (Link b) not = absurd (not (λ is. cc))
-not_other Sink Discard not = absurd (not (λ is. cc))
-not_other Sink Sink not = refl
+not_other a b not = search (arith, cases_eq, Link-same)
 
 -- and where it doesn't, a header selects what the one before it does
 table_alike : (t : Table) (g : ℕ) → (ChangesSelect t (suc g) → ⊥) → table.select t (suc g) ≡ table.select t g
-table_alike t g none =
-    not_other (table.select t (suc g)) (table.select t g) (λ differ. none (subst (λ n. table.select t (suc g) ≢ table.select t n) (sym (before_next g)) differ))
+table_alike t g none = search (arith, not_other, before_next)
 
 set_alike : (g : ℕ) (o : Option Settings) → ((x : Settings) → o ≡ Some x → table.select x.table (suc g) ≡ table.select x.table g) → option_map (λ (x : Settings). table.select x.table (suc g)) o ≡ option_map (λ (x : Settings). table.select x.table g) o
-set_alike g None each = refl
-set_alike g (Some x) each = ap Some (each x refl)
+set_alike g o each = search arith
 
 pub select_alike : (routes : Routes) (g : ℕ) (p : SwitchPort) → (IsBreak routes (suc g) → ⊥) → IsWired routes p → select routes p.switch p.link (suc g) ≡ select routes p.switch p.link g
 select_alike routes g p quiet wired =
@@ -79,26 +64,17 @@ prefix_alike f g (x ∷ xs) each =
     rw (each zero x refl) (ap (λ n. cond (g x) (1 + n) 0) (prefix_alike f g xs (λ k y at. each (suc k) y at)))
 
 position_alike : (f g : ℕ × ℕ → Bool) (xs : List (ℕ × ℕ)) → ((k : ℕ) (x : ℕ × ℕ) → slice_get xs k ≡ Some x → f x ≡ g x) → position f xs ≡ position g xs
-position_alike f g xs each =
-    let same = prefix_alike (λ x. not (f x)) (λ x. not (g x)) xs (λ k x at. ap not (each k x at)) in
-    rw same refl
+position_alike f g xs each = search (arith, prefix_alike)
 
 label_alike : (g : ℕ) (r : ℕ × ℕ) → (BoundsRange r (suc g) → ⊥) → has_label r (suc g) ≡ has_label r g
-label_alike g r none =
-    let first : suc g ≡ r.0 → ⊥ = λ is. none (inl is) in
-    let end : suc g ≡ r.0 + r.1 → ⊥ = λ is. none (inr is) in
-    same_step g r.0 (r.0 + r.1) first end
+label_alike g r none = search (arith, same_step)
 
 pub owner_alike : (routes : Routes) (g : ℕ) → (IsBreak routes (suc g) → ⊥) → owner routes (suc g) ≡ owner routes g
-owner_alike routes g quiet =
-    position_alike (λ range. has_label range (suc g)) (λ range. has_label range g) routes.ranges
-    (λ t range there. label_alike g range (λ bounds. quiet (inr (inr (t, range, there, bounds)))))
+owner_alike routes g quiet = search (arith, position_alike, label_alike)
 
 -- what leads on leads on for the next
 arrives_alike : (P Q : ℕ → ℕ → Type 0) (t : ℕ) (e : Option Port) → ((s i : ℕ) → e ≡ Some (Port.Switch s i) → P s i → Q s i) → Arrives P t e → Arrives Q t e
-arrives_alike P Q t None each arrives = absurd arrives
-arrives_alike P Q t (Some (Port.Terminal u)) each arrives = arrives
-arrives_alike P Q t (Some (Port.Switch s i)) each arrives = each s i refl arrives
+arrives_alike P Q t e each arrives = search arith
 
 pub leads_alike : (routes : Routes) (g t : ℕ) → IsNetwork routes → (IsBreak routes (suc g) → ⊥) → (k : ℕ) (p : SwitchPort) → IsWired routes p → Leads routes g t k p.switch p.link → Leads routes (suc g) t k p.switch p.link
 leads_alike routes g t net quiet zero p wired leads = absurd leads
@@ -111,25 +87,18 @@ leads_alike routes g t net quiet (suc k) p wired (link, at, all) = (
 )
 
 pub lands_alike : (routes : Routes) (g : ℕ) (p : SwitchPort) (o : Option ℕ) → IsNetwork routes → (IsBreak routes (suc g) → ⊥) → IsWired routes p → Lands routes g p o → Lands routes (suc g) p o
-lands_alike routes g p None net quiet wired lands = select_alike routes g p quiet wired ∙ lands
-lands_alike routes g p (Some t) net quiet wired lands = leads_alike routes g t net quiet (most_hops routes) p wired lands
+lands_alike routes g p o net quiet wired lands = search (arith, select_alike, leads_alike)
 
 -- Random headers
 
 random_on : (count : ℕ) (x : Settings) (g k : ℕ) → k < random_count x → suc g ≡ (x.random_base + (k + 1)) % count → (suc g ≡ (x.random_base + random_count x) % count → ⊥) → (j : ℕ) × (j < random_count x) × (suc g ≡ (x.random_base + j) % count)
-random_on count x g k low is no_end =
-    elim (cases_eq (k + 1) (random_count x)) [
-      | inl last ↦ absurd (no_end (subst (λ n. suc g ≡ (x.random_base + n) % count) last is))
-      | inr not ↦ (k + 1, omega (arith, low, not), is)
-    ]
+random_on count x g k low is no_end = search (arith, cases_eq)
 
 step_on : (count base k g : ℕ) → IsCount count → suc g < count → g ≡ (base + k) % count → suc g ≡ (base + (k + 1)) % count
-step_on count base k g (inl small) below is = subst (λ n. suc g ≡ (base + (k + 1)) % n) (sym small) (on_small base k g (omega (arith, below, small)) (subst (λ n. g ≡ (base + k) % n) small is))
-step_on count base k g (inr large) below is = subst (λ n. suc g ≡ (base + (k + 1)) % n) (sym large) (on_large base k g (omega (arith, below, large)) (subst (λ n. g ≡ (base + k) % n) large is))
+step_on count base k g h1 below is = search (arith, on_small, on_large)
 
 step_back : (count base k g : ℕ) → IsCount count → suc g ≡ (base + (k + 1)) % count → g ≡ (base + k) % count
-step_back count base k g (inl small) is = subst (λ n. g ≡ (base + k) % n) (sym small) (before_small base k g (subst (λ n. suc g ≡ (base + (k + 1)) % n) small is))
-step_back count base k g (inr large) is = subst (λ n. g ≡ (base + k) % n) (sym large) (before_large base k g (subst (λ n. suc g ≡ (base + (k + 1)) % n) large is))
+step_back count base k g h1 is = search (arith, before_small, before_large)
 
 -- where random headers don't end before it, it is one as the one before it
 pub random_alike : (routes : Routes) (g : ℕ) (p : SwitchPort) → (IsBreak routes (suc g) → ⊥) → suc g < header_count routes → IsRandomAt routes p g → IsRandomAt routes p (suc g)
@@ -154,9 +123,7 @@ random_before routes g p quiet (x, set, (random, (k, low, is))) = random_back ro
 
 -- what homes does so for the next
 roams_alike : (P Q : ℕ → ℕ → Type 0) (e : Option Port) → ((s i : ℕ) → e ≡ Some (Port.Switch s i) → P s i → Q s i) → Roams P e → Roams Q e
-roams_alike P Q None each roams = absurd roams
-roams_alike P Q (Some (Port.Terminal u)) each roams = absurd roams
-roams_alike P Q (Some (Port.Switch s i)) each roams = each s i refl roams
+roams_alike P Q e each roams = search arith
 
 pub homes_alike : (routes : Routes) (g : ℕ) → IsNetwork routes → (IsBreak routes (suc g) → ⊥) → (k : ℕ) (p : SwitchPort) → IsWired routes p → Homes routes g k p.switch p.link → Homes routes (suc g) k p.switch p.link
 homes_alike routes g net quiet zero p wired homes = absurd homes
@@ -172,10 +139,7 @@ homes_alike routes g net quiet (suc k) p wired (inr (link, at, all)) = inr (
 -- At starts
 
 at_alike : (routes : Routes) (g : ℕ) (start : Start) → IsNetwork routes → (IsBreak routes (suc g) → ⊥) → suc g < header_count routes → IsWired routes start.at → LandsAt routes g start → LandsAt routes (suc g) start
-at_alike routes g start net quiet below wired (inl lands) =
-    inl (subst (Lands routes (suc g) start.at) (sym (owner_alike routes g quiet)) (lands_alike routes g start.at (owner routes g) net quiet wired lands))
-at_alike routes g start net quiet below wired (inr (own, behind, (t, p, entry, random))) =
-    inr (owner_alike routes g quiet ∙ own, behind, (t, p, entry, random_alike routes g p quiet below random))
+at_alike routes g start net quiet below wired h5 = search (arith, owner_alike, lands_alike, random_alike)
 
 pub before_alike : (routes : Routes) (starts : List Start) (g n : ℕ) → IsNetwork routes → AreInputs routes starts → (IsBreak routes (suc g) → ⊥) → suc g < header_count routes → LandsBefore routes starts g n → LandsBefore routes starts (suc g) n
 before_alike routes starts g n net are quiet below before k start less at =

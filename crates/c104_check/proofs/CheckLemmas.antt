@@ -3,9 +3,9 @@ use Rattle.c104_check.specs.Checks.{DeletesInside, HasLarge, IsCause, IsFirstRef
 use Rattle.c104_check.specs.{Checks.{NoneMeet, Shown}, Routes.{IsAccepted, IsRandomIn, IsRandomized, Lands, LandsBehind, Owns, Routes}}
 use Rattle.c104_check.specs.{Routes.{SwitchPort, TerminalLands, header_count, most_hops, owner, to_port}, Trails.IsNetwork, Walks.WalkFault}
 use Rattle.c104_check.specs.declared.{acceptance.Accepted.Accepted, faults.CheckFault.CheckFault}
-use Rattle.{c104_plan.specs.declared.ports.Port.Port, c104_regs.specs.Settings.header_length, std.proofs.Common.{Bool, Err, IfErr, IfOk}}
-use Rattle.std.proofs.Common.{MatchResult, None, Ok, Option, Result, Some, arith, false, inl, inr, refl, subst, sym, true, ℕ, ◌<◌, ◌∙◌, ◌≡◌}
-use Rattle.std.proofs.{Common.◌≢◌, lemmas.Bool.{cases_Bool, cases_eq, cases_lt, cases_order}}
+use Rattle.{c104_plan.specs.declared.ports.Port.Port, c104_regs.specs.Settings.header_length, std.proofs.Common.{Bool, IfErr, IfOk}}
+use Rattle.std.proofs.Common.{MatchResult, None, Option, Result, Some, arith, false, inl, inr, refl, sym, true, ℕ, ◌<◌, ◌∙◌, ◌≡◌, ◌≢◌}
+use Rattle.std.proofs.lemmas.Bool.{cases_Bool, cases_eq, cases_lt, cases_order}
 
 module _ (routes : Routes) (net : IsNetwork routes) where
   apart_of : NoneMeet routes → (t u h : ℕ) → Owns routes t h → Owns routes u h → t ≡ u
@@ -25,9 +25,7 @@ module _ (routes : Routes) (net : IsNetwork routes) where
   false_of b not = elim (cases_Bool b) [ inl is ↦ absurd (not is) | inr is ↦ is ]
 
   outside_of : (p : SwitchPort) → IsRandomized routes p → (IsRandomInside routes p → ⊥) → (o : Option Port) → routes.peer (to_port p) ≡ o → (t : ℕ) × (routes.peer (to_port p) ≡ Some (Port.Terminal t))
-  outside_of p random none None at = absurd (none (random, λ t is. let clash : None ≡ Some (Port.Terminal t) = sym at ∙ is in cc))
-  outside_of p random none (Some (Port.Switch s l)) at = absurd (none (random, λ t is. let clash : Some (Port.Switch s l) ≡ Some (Port.Terminal t) = sym at ∙ is in cc))
-  outside_of p random none (Some (Port.Terminal t)) at = (t, at)
+  outside_of p random none o at = search arith
 
   pub accepted_of : IsPlain routes → ((t : ℕ) → TerminalLands routes t) → IsAccepted routes
   accepted_of plain land = record {
@@ -56,8 +54,7 @@ module _ (routes : Routes) (net : IsNetwork routes) where
 
   -- what lands behind a portal comes where it should, but for random headers
   behind_lands : (q : SwitchPort) (h : ℕ) (o : Option ℕ) → (o ≡ None → IsRandomIn routes h → ⊥) → LandsBehind routes h q o → Lands routes h q o
-  behind_lands q h None not lands = lands (not refl)
-  behind_lands q h (Some t) not lands = lands
+  behind_lands q h o not lands = search arith
 
   no_refused : IsAccepted routes → (why : WalkFault) (shown : Shown) → IsFirstRefused routes why shown → ⊥
   no_refused are why shown refused =
@@ -86,13 +83,10 @@ module _ (routes : Routes) (net : IsNetwork routes) where
 -- What is judged of the routes of a plan and an image
 module _ (a b : Routes) (same : a ≡ b) where
   pub judged_accepted : (r : Result Accepted CheckFault) → MatchResult r (λ _. IsAccepted a) (IsCause a) → IfOk r (λ _. IsAccepted b)
-  judged_accepted (Ok x) is = subst IsAccepted same is
-  judged_accepted (Err why) is = tt
+  judged_accepted r is = search arith
 
   pub judged_refused : (r : Result Accepted CheckFault) → MatchResult r (λ _. IsAccepted a) (IsCause a) → IfErr r (IsCause b)
-  judged_refused (Ok x) is = tt
-  judged_refused (Err why) is = subst (λ routes. IsCause routes why) same is
+  judged_refused r is = search arith
 
   pub judged_exact : IsNetwork b → (r : Result Accepted CheckFault) → MatchResult r (λ _. IsAccepted a) (IsCause a) → IsAccepted b → IfErr r (λ why. why ≡ CheckFault.NoMemory)
-  judged_exact net (Ok x) is are = tt
-  judged_exact net (Err why) is are = accepted_cause b net are why (subst (λ routes. IsCause routes why) same is)
+  judged_exact net r is are = search (arith, accepted_cause)

@@ -26,12 +26,10 @@ chained_more routes h at next depends a [] is = (is, depends)
 chained_more routes h at next depends a (b ∷ steps) is = (is.0, chained_more routes h at next depends b steps is.1)
 
 pub chain_more : (routes : Routes) (h : ℕ) (at next : SwitchPort) (steps : List ChannelDependency) → IsChain routes steps at → DependsBy routes h at next → IsChain routes (steps ++ dependency_of at h ∷ []) next
-chain_more routes h at next [] is depends = depends
-chain_more routes h at next (a ∷ steps) is depends = chained_more routes h at next depends a steps is
+chain_more routes h at next steps is depends = search (arith, chained_more)
 
 pub chain_rest : (routes : Routes) (a : ChannelDependency) (steps : List ChannelDependency) (at : SwitchPort) → AreChained routes a steps at → IsChain routes steps at
-chain_rest routes a [] at is = tt
-chain_rest routes a (b ∷ steps) at is = is.1
+chain_rest routes a steps at is = search arith
 
 -- the dependencies from an input on, where it is met again
 pub chain_cut : (routes : Routes) (at : SwitchPort) (steps : List ChannelDependency) (k : ℕ) (d : ChannelDependency) → IsChain routes steps at → k < length steps → (slice_index_or steps k d).input ≡ at → IsCycle routes (drop k steps)

@@ -19,8 +19,7 @@ not_met at (a ∷ steps) over = by_first (is_port at a.input) refl over (not_met
     by_first false other more later = later (omega (arith, more))
 
 none_far : (n m : ℕ) (b : Bool) → nat_lt n m ≡ b → cond b (Some n) None ≡ None → m ≤ n
-none_far n m true less is = absurd cc
-none_far n m false less is = grind (arith, nat_tests)
+none_far n m b less is = search (arith, nat_tests)
 
 -- an input that isn't among these
 pub met_none : (at : SwitchPort) (steps : List ChannelDependency) → position (is_of_input at) steps ≡ None → is_met at (inputs_of steps) ≡ false
@@ -81,20 +80,7 @@ follow_next routes table ranks steps seen new start at k d net dependencies rank
 -- cut where it meets an input again it is the cycle
 pub first_cut : (routes : Routes) (start at : SwitchPort) (steps seen all back cycle : List ChannelDependency) (k : ℕ) → IsFirstLink (LeadsToCycle routes) start → IsChain routes steps at → IsWay routes start steps at → IsDistinct is_port (inputs_of steps) → seen ≡ steps → all ≡ steps → position (is_of_input at) seen ≡ Some k → back ≡ drop k all → cycle ≡ back → IsFirstCycle routes cycle
 first_cut routes start at steps seen all back cycle k first chain way once read again found cut copied =
-    let rest : cycle ≡ drop k steps = copied ∙ cut ∙ ap (drop k) again in
-    record {
-      is_cycle = is_cycle_cut routes at steps seen all back cycle k chain read again found cut copied;
-      differ = subst (λ xs. IsDistinct is_port (inputs_of xs)) (sym rest) (distinct_rest k steps once);
-      start = start;
-      first = first;
-      steps = steps;
-      again = at;
-      way = way;
-      once = once;
-      before = k;
-      met = ap (position (is_of_input at)) (sym read) ∙ found;
-      rest = rest;
-    }
+    search (arith, is_cycle_cut, inputs_of, distinct_rest, position)
 
 pub none_chained : IsDistinct is_port (inputs_of [])
 unfolding IsDistinct

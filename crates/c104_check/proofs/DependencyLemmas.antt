@@ -7,19 +7,14 @@ use Rattle.c104_check.specs.Dependencies.{AreListedFrom, Dependency, IsDependenc
 use Rattle.c104_check.specs.{Dependencies.{dependency_place, is_by_from}, Parts.{AreJust, IsReachedAsOwn, IsReachedAsRandom}}
 use Rattle.c104_check.specs.{Reach.IsSelected, Routes.{Routes, SwitchPort, is_in_group, owner, to_port}, Trails.{IsInput, Reaches}}
 use Rattle.{c104_check.specs.Walks.port_of, c104_crossbar.specs.declared.group.Group.Group, c104_regs.proofs.RegisterLemmas.get_or-same}
-use Rattle.std.proofs.Common.{Bool, List, MatchOption, None, Option, Some, ap, arith, drop, false, inl, inr, is_some, length, nat_le, refl}
+use Rattle.std.proofs.Common.{Bool, List, MatchOption, None, Option, Some, ap, arith, drop, false, inl, inr, is_some, length, nat_le}
 use Rattle.std.proofs.Common.{replicate, slice_index_or, slice_set, subst, sym, take, true, ℕ, ◌&&◌, ◌*◌, ◌++◌, ◌+◌, ◌<◌, ◌∙◌, ◌≡◌, ◌≢◌}
 use Rattle.std.proofs.{Common.◌≤◌, Math.Seq.take-append_seam, lemmas.Bool.{Decides.{eqb_tells, nat_tests}, cases_lt}}
-use Rattle.std.{proofs.lemmas.List.{get_or-set_other, get_or-set_same, length-set}, specs.List.AllByRecursion}
+use Rattle.std.{proofs.lemmas.{List.{get_or-set_other, get_or-set_same, length-set}, Option.same_Some}, specs.List.AllByRecursion}
 
 -- one after another
 pub extended_more : (routes : Routes) (first limit : ℕ) (old now new : List (Option Dependency)) → IsExtended routes first old now → IsExtended routes limit now new → IsExtended routes limit old new
-extended_more routes first limit old now new before here = record {
-  room = here.room ∙ before.room;
-  dependencies = λ is. here.dependencies (before.dependencies is);
-  kept = λ h k is. here.kept h k (before.kept h k is);
-  below = here.below;
-}
+extended_more routes first limit old now new before here = search arith
 
 -- with a higher limit
 pub below_more : (limit : ℕ) (table : List (Option Dependency)) → AreByBelow limit table → AreByBelow (limit + 1) table
@@ -27,11 +22,7 @@ below_more limit table low k d there = (let less = low k d there in omega (arith
 
 -- no header is higher than the one of the dependency that takes the place
 by_higher : (h : ℕ) (d : Dependency) (o : Option Dependency) → ((e : Dependency) → o ≡ Some e → e.header < d.header + 1) → is_by_from h o ≡ true → nat_le h d.header ≡ true
-by_higher h d None low is = absurd cc
-by_higher h d (Some e) low is =
-    let less = low e refl in
-    let high : nat_le h e.header ≡ true = is in
-    grind (arith, nat_tests)
+by_higher h d o low is = search (arith, nat_tests)
 
 -- one dependency
 module _ (routes : Routes) (old : List (Option Dependency)) (at : SwitchPort) (o : ℕ) (d : Dependency) (input : IsInput (length routes.settings) at) (link : o < 32) (room : length old ≡ length routes.settings * 32 * 32) (leads : routes.peer (to_port (port_of at.switch o)) ≡ Some (to_port d.next)) (depends : DependsBy routes d.header at d.next) (low : AreByBelow (d.header + 1) old) where
@@ -47,16 +38,13 @@ module _ (routes : Routes) (old : List (Option Dependency)) (at : SwitchPort) (o
   same_elsewhere : (k : ℕ) → k ≢ dependency_place at o → dependency_at filled k ≡ dependency_at old k
   same_elsewhere k other = get_or-set_other old (dependency_place at o) k (Some d) None other
 
-  same_entry : (x y : Dependency) → Some x ≡ Some y → x ≡ y
-  same_entry x y is = cc
-
   pub extended_one : IsExtended routes (d.header + 1) old filled
   extended_one = record {
     room = length-set old (dependency_place at o) (Some d);
     dependencies = λ is k e there. elim (eqb_tells k (dependency_place at o)) [
       | inl same ↦
           let one : Some d ≡ Some e = sym here ∙ ap (dependency_at filled) (sym same.1) ∙ there in
-          subst (IsDependencyAt routes k) (same_entry d e one) (at, o, input, link, same.1, leads, depends)
+          subst (IsDependencyAt routes k) (same_Some d e one) (at, o, input, link, same.1, leads, depends)
       | inr other ↦ is k e (sym (same_elsewhere k other.1) ∙ there)
     ];
     kept = λ h k is. elim (eqb_tells k (dependency_place at o)) [
@@ -66,7 +54,7 @@ module _ (routes : Routes) (old : List (Option Dependency)) (at : SwitchPort) (o
     below = λ k e there. elim (eqb_tells k (dependency_place at o)) [
       | inl same ↦
           let one : Some d ≡ Some e = sym here ∙ ap (dependency_at filled) (sym same.1) ∙ there in
-          subst (λ (x : Dependency). x.header < d.header + 1) (same_entry d e one) (omega arith)
+          subst (λ (x : Dependency). x.header < d.header + 1) (same_Some d e one) (omega arith)
       | inr other ↦ low k e (sym (same_elsewhere k other.1) ∙ there)
     ];
   }
@@ -86,18 +74,11 @@ within_run first last o low high = grind (arith, nat_tests)
 
 -- over a link of the group
 pub link_depends : (routes : Routes) (h link : ℕ) (group : Group) (p q : SwitchPort) → MayComeBy routes h p → IsSelected routes h p group → group.first ≤ link → link ≤ group.last → routes.peer (to_port (port_of p.switch link)) ≡ Some (to_port q) → DependsBy routes h p q
-link_depends routes h link group p q arrives selected low high wired =
-    (arrives, (selected.link, link, selected.selects, selected.members link ∙ within_run group.first group.last link low high, wired))
+link_depends routes h link group p q arrives selected low high wired = search (arith, within_run)
 
 -- over one link more
 pub from_next : (routes : Routes) (limit h : ℕ) (at : SwitchPort) (first link : ℕ) (now new : List (Option Dependency)) → IsExtended routes limit now new → AreListedFrom routes now h at first link → IsListedOver routes new h at (port_of at.switch link) → AreListedFrom routes new h at first (link + 1)
-from_next routes limit h at first link now new kept before here o from below =
-    elim (cases_lt o link) [
-      | inl lower ↦ over_kept routes limit now new h at (port_of at.switch o) kept (before o from lower)
-      | inr not ↦
-          let same : link ≡ o = omega (arith, below, not) in
-          subst (λ k. IsListedOver routes new h at (port_of at.switch k)) same here
-    ]
+from_next routes limit h at first link now new kept before here o from below = search (arith, cases_lt, over_kept)
 
 run_within : (first last o : ℕ) → (nat_le first o && nat_le o last) ≡ true → (first ≤ o) × (o ≤ last)
 run_within first last o is = (grind (arith, nat_tests), grind (arith, nat_tests))
@@ -112,8 +93,7 @@ from_all routes table h group p end last selected all q (g, o, selects, inside, 
 
 -- at one input more
 pub at_next : (routes : Routes) (limit h : ℕ) (xs : List SwitchPort) (k : ℕ) (d : SwitchPort) (now new : List (Option Dependency)) → k < length xs → IsExtended routes limit now new → AllByRecursion (AreListedAt routes now h) (take k xs) → AreListedAt routes new h (slice_index_or xs k d) → AllByRecursion (AreListedAt routes new h) (take (k + 1) xs)
-at_next routes limit h xs k d now new below kept before here =
-    all_taken_next (AreListedAt routes new h) xs k d below here (All-map (AreListedAt routes now h) (AreListedAt routes new h) (at_kept routes limit now new h kept) (take k xs) before)
+at_next routes limit h xs k d now new below kept before here = search (arith, all_taken_next, All-map, at_kept)
 
 -- Where a header may come as the own one of packets, and where as a random one, packets may that go by it
 
@@ -146,8 +126,7 @@ pub never_listed : (routes : Routes) (h : ℕ) (table : List (Option Dependency)
 never_listed routes h table never p (x, m, (t, wired, random), reaches) = absurd (never x (random_is_randomized routes x h random))
 
 pub never_by : (A : Type 0) (P : SwitchPort → Type 0) (o : Option SwitchPort) (b : Bool) → b ≡ is_some o → MatchOption o A P → b ≡ false → A
-never_by A P None b is never none = never
-never_by A P (Some p) b is never none = absurd (let clash : true ≡ false = sym is ∙ none in cc)
+never_by A P o b is never none = search arith
 
 -- in both phases
 by_part : (routes : Routes) (h m : ℕ) (x p : SwitchPort) (table : List (Option Dependency)) → AreListedAsOwn routes table h → AreListedAsRandom routes table h → IsBeginningBy routes h x → Reaches routes h m x p → AreListedAt routes table h p
@@ -171,19 +150,14 @@ below_all routes n end table over all h below = all h (omega (arith, below, over
 
 -- a table of none
 pub dependencies_none : (routes : Routes) (n : ℕ) → AreDependencies routes (replicate n None)
-dependencies_none routes n k d there =
-    let none : dependency_at (replicate n None) k ≡ None = get_or-same n k None in
-    absurd (let clash : None ≡ Some d = sym none ∙ there in cc)
+dependencies_none routes n k d there = search (arith, replicate, get_or-same)
 
 pub by_none : (n : ℕ) → AreByBelow 0 (replicate n None)
-by_none n k d there =
-    let none : dependency_at (replicate n None) k ≡ None = get_or-same n k None in
-    absurd (let clash : None ≡ Some d = sym none ∙ there in cc)
+by_none n k d there = search (arith, replicate, get_or-same)
 
 -- what a slice of all of a list leaves in it
 pub written : {X : Type 0} (items new : List X) (n : ℕ) → n ≡ length new → take n (new ++ drop (length new) items) ≡ new
 written items new n same = ap (λ k. take k (new ++ drop (length new) items)) same ∙ take-append_seam new (drop (length new) items)
 
 pub none_only : {X : Type 0} (P : Option X → Type 0) → ((x : X) → P (Some x) → ⊥) → (y : Option X) → P y → y ≡ None
-none_only P refused None is = refl
-none_only P refused (Some x) is = absurd (refused x is)
+none_only P refused y is = search arith

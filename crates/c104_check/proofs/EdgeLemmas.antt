@@ -1,11 +1,11 @@
 -- The edges of a table of dependencies, one by one; and that they are those of the network, each once and in order.
-use Rattle.c104_check.proofs.{LinkLemmas.{at_place, place_below}, TableRanks.{entry_is, find_listed, most_listed, one_link}}
+use Rattle.c104_check.proofs.{LinkLemmas.place_below, TableRanks.{entry_is, find_listed, most_listed, one_link}}
 use Rattle.c104_check.specs.{ChannelDependencies.{Depends, DependsBy}, Checks.ComesBefore, Dependencies.{AreDependencies, AreListedBelow}}
 use Rattle.c104_check.specs.{Dependencies.{Dependency, dependency_at, dependency_place}, Edges.{AreAllEdges, AreEdgesBefore, AreInOrder}}
 use Rattle.c104_check.specs.{Edges.{DependencyEdge, HasEdge, IsBefore, IsEachOnce, IsEdgeOf, edge_of}, FirstCycles.{DependsMostBy, IsOver}}
 use Rattle.c104_check.specs.{Routes.{IsAccepted, Routes, SwitchPort, header_count, place, port_at}, Trails.{IsInput, IsNetwork}}
 use Rattle.std.proofs.Common.{List, None, Option, Some, [], ap, arith, inl, inr, length, refl, slice_get, subst, suc, sym, zero, ℕ, ◌*◌}
-use Rattle.std.proofs.{Common.{◌++◌, ◌+◌, ◌/◌, ◌<◌, ◌∙◌, ◌∷◌, ◌≡◌, ◌≤◌, ◌⊎◌}, lemmas.{Bool.cases_lt, Option.slice_get_within}}
+use Rattle.std.proofs.{Common.{◌++◌, ◌+◌, ◌/◌, ◌<◌, ◌∙◌, ◌∷◌, ◌≡◌, ◌≤◌, ◌⊎◌}, lemmas.{Bool.cases_lt, Option.{same_Some, slice_get_within}}}
 
 -- Lists that grow
 
@@ -28,9 +28,6 @@ either (z ∷ xs) y (suc k) x at = elim (either xs y k x at) [
 ]
 
 -- The edges of one place more
-
-same_entry : (d e : Dependency) → Some d ≡ Some e → d ≡ e
-same_entry d e is = cc
 
 pub edges_past : (table : List (Option Dependency)) (end : ℕ) (edges : List DependencyEdge) → AreEdgesBefore table end edges → dependency_at table end ≡ None → AreEdgesBefore table (end + 1) edges
 edges_past table end edges before none = record {
@@ -66,7 +63,7 @@ edges_more table end edges d before there = record {
       | inl lower ↦ (let is = before.all j e lower at in (is.0, front edges (edge_of end d) is.0 (edge_of j e) is.1))
       | inr not ↦
           let same : end ≡ j = omega (arith, below, not) in
-          let one : d ≡ e = same_entry d e (sym there ∙ ap (dependency_at table) same ∙ at) in
+          let one : d ≡ e = same_Some d e (sym there ∙ ap (dependency_at table) same ∙ at) in
           (length edges, last edges (edge_of end d) ∙ ap (λ k. Some (edge_of k d)) same ∙ ap (λ x. Some (edge_of j x)) one)
     ]
 
@@ -84,23 +81,11 @@ edges_more table end edges d before there = record {
 
 -- the input of what stands at a place
 edge_input : (n : ℕ) (p : SwitchPort) (o : ℕ) → IsInput n p → o < 32 → port_at ((place p * 32 + o) / 32) ≡ p
-edge_input n p o input low =
-    let same : (place p * 32 + o) / 32 ≡ place p = omega (arith, low) in
-    ap port_at same ∙ at_place n p input
+edge_input n p o input low = search arith
 
 -- by place is by switch and then by link
 by_place : (n : ℕ) (p q : SwitchPort) (o u : ℕ) → IsInput n p → IsInput n q → o < 32 → u < 32 → dependency_place p o < dependency_place q u → ComesBefore p q ⊎ ((p ≡ q) × (o < u))
-by_place n p q o u (ps, pl) (qs, ql) low high less = elim (cases_lt p.switch q.switch) [
-  | inl lower ↦ inl (inl lower)
-  | inr not ↦
-      let switch : p.switch ≡ q.switch = omega (arith, less, not, pl, ql, low, high) in
-      elim (cases_lt p.link q.link) [
-        | inl lower ↦ inl (inr (switch, lower))
-        | inr over ↦
-            let link : p.link ≡ q.link = omega (arith, less, switch, over, low, high) in
-            inr ((λ i. record { switch = switch i; link = link i }), omega (arith, less, switch, link))
-      ]
-]
+by_place n p q o u h1 h2 low high less = search (arith, cases_lt)
 
 -- where an edge stands in a table
 record IsPlaced (routes : Routes) (e : DependencyEdge) (j : ℕ) : Type 0 where
@@ -112,12 +97,7 @@ record IsPlaced (routes : Routes) (e : DependencyEdge) (j : ℕ) : Type 0 where
 
 -- one doesn't come before another between the same inputs
 never_before : (routes : Routes) (e f : DependencyEdge) → IsNetwork routes → e.input ≡ f.input → e.next ≡ f.next → IsBefore routes e f → ⊥
-never_before routes e f net inputs nexts (inl (inl less)) = (let same = ap (λ (p : SwitchPort). p.switch) inputs in omega (arith, less, same))
-never_before routes e f net inputs nexts (inl (inr (switch, less))) = (let same = ap (λ (p : SwitchPort). p.link) inputs in omega (arith, less, same))
-never_before routes e f net inputs nexts (inr (same, (o, u, first, second, less))) =
-    let over : IsOver routes e.input u e.next = subst (λ p. IsOver routes p u e.next) (sym inputs) (subst (λ q. IsOver routes f.input u q) (sym nexts) second) in
-    let links = one_link routes e.input e.next o u net first over in
-    omega (arith, links, less)
+never_before routes e f net inputs nexts h4 = search (arith, one_link)
 
 pub all_edges : (routes : Routes) (table : List (Option Dependency)) (edges : List DependencyEdge) → IsNetwork routes → IsAccepted routes → AreDependencies routes table → AreListedBelow routes table (header_count routes) → length table ≡ length routes.settings * 32 * 32 → AreEdgesBefore table (length table) edges → AreAllEdges routes edges
 all_edges routes table edges net accepted dependencies listed size found = record { each = each; all = all; once = once; in_order = in_order }

@@ -1,11 +1,11 @@
 -- The way into a cycle of dependencies is a single one, and so is the cycle.
 use Rattle.c104_check.proofs.{CycleCuts.{dependency_of, is_of_input}, ReachLemmas.input_same, TrailLemmas.is_port-false}
-use Rattle.c104_check.specs.{ChannelDependencies.{ChannelDependency, DependsBy}, Checks.{ComesBefore, IsFirstLink}, FirstCycles.GoesOn}
-use Rattle.c104_check.specs.{FirstCycles.{HasOneCycle, IsWay, LeadsToCycle, inputs_of}, Routes.{Routes, SwitchPort}, Walks.is_met}
-use Rattle.{c104_check.specs.Walks.is_port, c104_plan.specs.declared.ports.Port.Port, std.proofs.Common.{Bool, List, Some, [], ap}}
-use Rattle.std.proofs.Common.{append-nil, append_assoc, arith, drop, false, inl, inr, length, position, refl, slice_index_or, subst, suc}
-use Rattle.std.proofs.{Common.{sym, true, zero, ℕ, ◌++◌, ◌<◌, ◌||◌, ◌∙◌, ◌∷◌, ◌≡◌, ◌≤◌}, lemmas.Bool.cases_lt}
-use Rattle.std.{proofs.lemmas.List.Quantifiers.position-Some, specs.List.{AllByRecursion, IsDistinct}}
+use Rattle.c104_check.specs.{ChannelDependencies.{ChannelDependency, DependsBy}, Checks.IsFirstLink, FirstCycles.{GoesOn, HasOneCycle}}
+use Rattle.c104_check.specs.{FirstCycles.{IsWay, LeadsToCycle, inputs_of}, Routes.{Routes, SwitchPort}, Walks.{is_met, is_port}}
+use Rattle.{c104_plan.specs.declared.ports.Port.Port, std.proofs.Common.{List, Some, [], ap, append-nil, append_assoc, arith, drop, false}}
+use Rattle.std.proofs.Common.{inl, inr, length, position, refl, slice_index_or, subst, suc, sym, true, zero, ℕ, ◌++◌, ◌<◌, ◌||◌, ◌∙◌, ◌∷◌}
+use Rattle.std.proofs.{Common.{◌≡◌, ◌≤◌}, lemmas.{Bool.{cases_lt, or_right}, List.Quantifiers.position-Some, Option.same_Some}}
+use Rattle.std.specs.List.{AllByRecursion, IsDistinct}
 
 -- a way over one input more
 pub way_more : (routes : Routes) (p at next : SwitchPort) (h : ℕ) (steps : List ChannelDependency) → IsWay routes p steps at → GoesOn routes (dependency_of at h) next → IsWay routes p (steps ++ dependency_of at h ∷ []) next
@@ -31,14 +31,10 @@ apart (s ∷ seen) b ys differ =
     let other : is_port b.input s.input ≡ false = is_port-false s.input b.input (at_one (λ y. is_port s.input y ≡ false) seen b ys differ.0) in
     ap (λ t. t || is_met b.input (inputs_of seen)) other ∙ apart seen b ys differ.1
 
-or_second : (a b : Bool) → b ≡ true → (a || b) ≡ true
-or_second true b is = refl
-or_second false b is = is
-
 there : (at : SwitchPort) (steps : List ChannelDependency) (k : ℕ) (d : ChannelDependency) → k < length steps → is_port at (slice_index_or steps k d).input ≡ true → is_met at (inputs_of steps) ≡ true
 there at [] k d below is = absurd (omega (arith, below))
 there at (a ∷ steps) zero d below is = ap (λ t. t || is_met at (inputs_of steps)) is
-there at (a ∷ steps) (suc k) d below is = or_second (is_port at a.input) (is_met at (inputs_of steps)) (there at steps k d (omega (arith, below)) is)
+there at (a ∷ steps) (suc k) d below is = or_right (is_port at a.input) (is_met at (inputs_of steps)) (there at steps k d (omega (arith, below)) is)
 
 met_again : (at : SwitchPort) (steps : List ChannelDependency) (k : ℕ) → position (is_of_input at) steps ≡ Some k → is_met at (inputs_of steps) ≡ true
 met_again at steps k is = let first = position-Some (is_of_input at) steps k (dependency_of at 0) is in there at steps k (dependency_of at 0) first.0 first.1
@@ -66,10 +62,7 @@ step_same routes a b q r same x y =
     (ap (λ z. dependency_of z a.header) same ∙ ap (dependency_of b.input) is.0, is.1)
 
 never : (e : SwitchPort) (seen : List ChannelDependency) (b : ChannelDependency) (ys : List ChannelDependency) → b.input ≡ e → is_met e (inputs_of (seen ++ [])) ≡ true → IsDistinct is_port (inputs_of (seen ++ b ∷ ys)) → ⊥
-never e seen b ys same met differ =
-    let in_seen : is_met b.input (inputs_of seen) ≡ true = ap (λ z. is_met z (inputs_of seen)) same ∙ ap (λ xs. is_met e (inputs_of xs)) (sym (append-nil seen)) ∙ met in
-    let clash : true ≡ false = sym in_seen ∙ apart seen b ys differ in
-    cc
+never e seen b ys same met differ = search (arith, append-nil, apart)
 
 -- two ways that begin alike, and end where each meets an input again for the first time, are one
 same_ways : (routes : Routes) (p e f : SwitchPort) (seen xs ys : List ChannelDependency) → IsWay routes p xs e → IsWay routes p ys f → IsDistinct is_port (inputs_of (seen ++ xs)) → IsDistinct is_port (inputs_of (seen ++ ys)) → is_met e (inputs_of (seen ++ xs)) ≡ true → is_met f (inputs_of (seen ++ ys)) ≡ true → (xs ≡ ys) × (e ≡ f)
@@ -87,32 +80,12 @@ same_ways routes p e f seen (a ∷ xs) (b ∷ ys) (q, ax, gx, wx) (r, ay, gy, wy
 
 -- there is one first link
 same_first : (P : SwitchPort → Type 0) (p q : SwitchPort) → IsFirstLink P p → IsFirstLink P q → p ≡ q
-same_first P p q x y =
-    let before : ComesBefore p q → ⊥ = λ is. y.1 p is x.0 in
-    let after : ComesBefore q p → ⊥ = λ is. x.1 q is y.0 in
-    let switch : p.switch ≡ q.switch = elim (cases_lt p.switch q.switch) [
-      | inl less ↦ absurd (before (inl less))
-      | inr more ↦ elim (cases_lt q.switch p.switch) [
-        | inl less ↦ absurd (after (inl less))
-        | inr not ↦ omega (arith, more, not)
-      ]
-    ] in
-    let link : p.link ≡ q.link = elim (cases_lt p.link q.link) [
-      | inl less ↦ absurd (before (inr (switch, less)))
-      | inr more ↦ elim (cases_lt q.link p.link) [
-        | inl less ↦ absurd (after (inr (sym switch, less)))
-        | inr not ↦ omega (arith, more, not)
-      ]
-    ] in
-    λ i. record { switch = switch i; link = link i }
-
-same_place : (k l : ℕ) → Some k ≡ Some l → k ≡ l
-same_place k l is = cc
+same_first P p q x y = search (arith, cases_lt)
 
 pub one_cycle : (routes : Routes) → HasOneCycle routes
 one_cycle routes a b x y =
     let start : x.start ≡ y.start = same_first (LeadsToCycle routes) x.start y.start x.first y.first in
     let ways = same_ways routes y.start x.again y.again [] x.steps y.steps (subst (λ z. IsWay routes z x.steps x.again) start x.way) y.way x.once y.once (met_again x.again x.steps x.before x.met) (met_again y.again y.steps y.before y.met) in
     let places : Some x.before ≡ Some y.before = sym x.met ∙ ap (λ zs. position (is_of_input x.again) zs) ways.0 ∙ ap (λ z. position (is_of_input z) y.steps) ways.1 ∙ y.met in
-    let at : x.before ≡ y.before = same_place x.before y.before places in
+    let at : x.before ≡ y.before = same_Some x.before y.before places in
     x.rest ∙ ap (λ zs. drop x.before zs) ways.0 ∙ ap (λ k. drop k y.steps) at ∙ sym y.rest

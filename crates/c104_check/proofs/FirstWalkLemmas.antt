@@ -1,7 +1,7 @@
 -- The fault that is found depth first is that of the first walk that goes wrong, and where none is found none does.
 use Rattle.c104_check.proofs.{GoalLemmas.{comes_home, foreign_comes, foreign_of, no_portal}, RouteLemmas.{IsAmong, Some-Link-same}}
 use Rattle.c104_check.proofs.{RouteLemmas.{group_among, group_peers, peers_step, within}, ShownLemmas.{fault_lands, fault_with, no_fault}}
-use Rattle.c104_check.proofs.{ShownLemmas.{nothing, random_homes, stray_lands, stray_shown, walk_or, why_or}, TrailLemmas.trail_first}
+use Rattle.c104_check.proofs.{ShownLemmas.{random_homes, stray_lands, stray_shown, walk_or, why_or}, TrailLemmas.trail_first}
 use Rattle.c104_check.{proofs.{TrailLemmas.{trail_longer, trail_room}, WalkLemmas.entry_clear}, specs.FirstWalks.{GoesWrong, GoesWrongFrom}}
 use Rattle.c104_check.specs.FirstWalks.{GoesWrongOver, IsFirstWalk, IsStuck, IsToldByWalks, MayLeaveBy, NoneGoesWrong, TakesLower}
 use Rattle.c104_check.specs.{Routes.{Homes, Lands, Routes, SwitchPort, is_in_group, most_hops, owner, select}, Shown.{Follows, IsForeign}}
@@ -17,8 +17,7 @@ use Rattle.std.proofs.lemmas.{Bool.cases_order, List.length-append}
 -- Where nothing is found, no walk goes wrong
 
 none_first : (x y : Found) → first_of x y ≡ None → (x ≡ None) × (y ≡ None)
-none_first None y is = (refl, is)
-none_first (Some z) y is = absurd cc
+none_first x y is = search arith
 
 none_among : (further : List SwitchPort → SwitchPort → Found) (t : Goal) (met : List SwitchPort) (e : Option Port) (es : List (Option Port)) → at_peers further t met es ≡ None → IsAmong e es → at_peer further t met e ≡ None
 none_among further t met e [] is among = absurd among
@@ -31,8 +30,7 @@ foreign_home : (t : Goal) (u : ℕ) → IsForeign t u → is_home t u ≡ true �
 foreign_home t u foreign home = foreign_comes (λ s i. ⊥) t u foreign (comes_home (λ s i. ⊥) t u home)
 
 none_discards : (routes : Routes) (h : ℕ) (t : Goal) (further : List SwitchPort → SwitchPort → Found) (met : List SwitchPort) (p : SwitchPort) → select routes p.switch p.link h ≡ Some Discard → at_ways further t met (discarded t) ≡ None → IsPortalFor routes h t p
-none_discards routes h (Owner t) further met p at is = absurd cc
-none_discards routes h Portal further met p at is = at
+none_discards routes h t further met p at is = search arith
 
 module _ (routes : Routes) (h : ℕ) (t : Goal) where
   -- what is found from the last of these inputs, with k more
@@ -40,10 +38,7 @@ module _ (routes : Routes) (h : ℕ) (t : Goal) where
   found_by k = first_fault routes h t k
 
   none_stuck : (k : ℕ) (met : List SwitchPort) (p : SwitchPort) (o : Option Select) → select routes p.switch p.link h ≡ o → at_ways (found_by k) t met (ways_of routes t p.switch o) ≡ None → IsStuck routes h t p → ⊥
-  none_stuck k met p None at is stuck = absurd cc
-  none_stuck k met p (Some Discard) at is stuck = stuck.1 (none_discards routes h t (found_by k) met p at is)
-  none_stuck k met p (Some Sink) at is stuck = absurd cc
-  none_stuck k met p (Some (Link g)) at is stuck = stuck.0 g at
+  none_stuck k met p o at is stuck = search (arith, none_discards)
 
   -- over what a link is wired to, if it is so behind it
   abbrev NoneBehind : ℕ → Type 0
@@ -51,23 +46,10 @@ module _ (routes : Routes) (h : ℕ) (t : Goal) where
       (links : List ℕ) (why : WalkFault) (walk met : List SwitchPort) (p : SwitchPort) → first_fault routes h t k met p ≡ None → GoesWrong routes h t why walk links met p → ⊥
 
   none_over : (k : ℕ) → NoneBehind k → (links : List ℕ) (why : WalkFault) (walk met : List SwitchPort) (e : Option Port) → at_peer (first_fault routes h t k) t met e ≡ None → GoesWrongOver (GoesWrong routes h t why walk links) t why walk links met e → ⊥
-  none_over k none links why walk met None is goes = absurd cc
-  none_over k none links why walk met (Some (Port.Terminal u)) is goes =
-      elim (cases_Bool (is_home t u)) [
-        | inl home ↦ foreign_home t u goes.3 home
-        | inr other ↦ let clash : fault_with WrongEnd met ≡ nothing = rw other at is in absurd cc
-      ]
-  none_over k none links why walk met (Some (Port.Switch s i)) is (inl loop) =
-      let again = loop.3 in
-      let clash : fault_with Loop (met ++ (port_of s i ∷ [])) ≡ nothing = rw again at is in absurd cc
-  none_over k none links why walk met (Some (Port.Switch s i)) is (inr (new, goes)) =
-      none links why walk (met ++ (port_of s i ∷ [])) (port_of s i) (rw new at is) goes
+  none_over k none links why walk met e is goes = search (arith, cases_Bool, foreign_home)
 
   none_peer : IsNetwork routes → (k : ℕ) (met : List SwitchPort) (p : SwitchPort) (o : ℕ) → MayLeaveBy routes h p o → at_ways (first_fault routes h t k) t met (ways_of routes t p.switch (select routes p.switch p.link h)) ≡ None → at_peer (first_fault routes h t k) t met (routes.peer (Port.Switch p.switch o)) ≡ None
-  none_peer net k met p o (g, at, joined) is =
-      none_among (first_fault routes h t k) t met (routes.peer (Port.Switch p.switch o)) (group_peers routes p.switch g)
-      (subst (λ (s : Option Select). at_ways (first_fault routes h t k) t met (ways_of routes t p.switch s) ≡ None) at is)
-      (group_among routes p.switch p.link h g o net at joined)
+  none_peer net k met p o h2 is = search (arith, none_among, group_among)
 
 pub none_wrong : (routes : Routes) (h : ℕ) (t : Goal) → IsNetwork routes → (k : ℕ) (links : List ℕ) (why : WalkFault) (walk met : List SwitchPort) (p : SwitchPort) → first_fault routes h t k met p ≡ None → GoesWrong routes h t why walk links met p → ⊥
 none_wrong routes h t net zero links why walk met p is goes = absurd cc
@@ -92,24 +74,13 @@ module _ (routes : Routes) (further : List SwitchPort → SwitchPort → Found) 
 
   -- it is not at the first of these
   found_later : (from : ℕ) → (test from ≡ true → by_link from ≡ None) → IsFoundFrom (from + 1) → IsFoundFrom from
-  found_later from none (o, low, passes, found, before) = (
-    o,
-    omega (arith, low),
-    passes,
-    found,
-    λ l least below joined. elim (cases_eq l from) [
-      | inl same ↦ subst (λ n. by_link n ≡ None) (sym same) (none (subst (λ n. test n ≡ true) same joined))
-      | inr differ ↦ before l (omega (arith, least, differ)) below joined
-    ],
-  )
+  found_later from none h2 = search (arith, cases_eq)
 
   found_here : (from n : ℕ) (y : Found) → test from ≡ true → by_link from ≡ y → (by_links (from + 1) n ≡ Some x → IsFoundFrom (from + 1)) → first_of y (by_links (from + 1) n) ≡ Some x → IsFoundFrom from
-  found_here from n None passes at later is = found_later from (λ _. at) (later is)
-  found_here from n (Some z) passes at later is = (from, omega arith, passes, at ∙ is, λ l least below joined. absurd (omega (arith, least, below)))
+  found_here from n y passes at later is = search (arith, found_later)
 
   found_step : (from n : ℕ) (b : Bool) → test from ≡ b → (by_links (from + 1) n ≡ Some x → IsFoundFrom (from + 1)) → at_peers further t met (cond b (routes.peer (Port.Switch s from) ∷ peers_that routes s test (from + 1) n) (peers_that routes s test (from + 1) n)) ≡ Some x → IsFoundFrom from
-  found_step from n true passes later is = found_here from n (by_link from) passes refl later is
-  found_step from n false stays later is = found_later from (λ passes. let clash : true ≡ false = sym passes ∙ stays in absurd cc) (later is)
+  found_step from n b passes later is = search (arith, found_here, found_later)
 
   pub first_found : (n from : ℕ) → by_links from n ≡ Some x → IsFoundFrom from
   first_found zero from is = absurd cc
@@ -134,13 +105,10 @@ module _ (routes : Routes) (h : ℕ) (t : Goal) (why : WalkFault) (walk : List S
 
   module _ (met : List SwitchPort) (p : SwitchPort) where
     first_stuck : IsStuck routes h t p → fault_with DeadEnd met ≡ fault_with why walk → HasFirst met p
-    first_stuck stuck is =
-        ([], ((sym (ap (why_or Loop) is), sym (ap (walk_or []) is), stuck), λ others fault other lower goes. never_lower others lower))
+    first_stuck stuck is = search (arith, never_lower)
 
     first_discard : (k : ℕ) → select routes p.switch p.link h ≡ Some Discard → (goal : Goal) → t ≡ goal → at_ways (first_fault routes h t k) t met (discarded goal) ≡ Some (why, walk) → HasFirst met p
-    first_discard k at (Owner u) same is =
-        first_stuck ((λ g link. let clash : Some Discard ≡ Some (Link g) = sym at ∙ link in cc), λ there. subst (λ (x : Goal). IsPortalFor routes h x p) same there) is
-    first_discard k at Portal same is = absurd cc
+    first_discard k at goal same is = search (arith, first_stuck)
 
     module _ (o : ℕ) where
       -- it goes wrong by a fault over link o and others
@@ -168,11 +136,7 @@ module _ (routes : Routes) (h : ℕ) (t : Goal) (why : WalkFault) (walk : List S
 
       -- over an input that wasn't met
       after_new : (s i : ℕ) (links : List ℕ) → is_met (port_of s i) met ≡ false → ((others : List ℕ) (fault : WalkFault) (other : List SwitchPort) → TakesLower others links → GoesWrong routes h t fault other others (met ++ (port_of s i ∷ [])) (port_of s i) → ⊥) → NoneBy links (Some (Port.Switch s i))
-      after_new s i links new none others fault other lower (inl loop) =
-          let again = loop.3 in
-          let clash : true ≡ false = sym again ∙ new in
-          absurd cc
-      after_new s i links new none others fault other lower (inr goes) = none others fault other lower goes.1
+      after_new s i links new none = search arith
 
       first_end : (k : ℕ) (e : Option Port) → MayLeaveBy routes h p o → NoneLower → routes.peer (Port.Switch p.switch o) ≡ e → ((q : SwitchPort) → Follows routes h p q → is_met q met ≡ false → first_fault routes h t k (met ++ (q ∷ [])) q ≡ Some (why, walk) → HasFirst (met ++ (q ∷ [])) q) → at_peer (first_fault routes h t k) t met e ≡ Some (why, walk) → HasFirst met p
       first_end k None leaves below at each is =
@@ -201,9 +165,7 @@ module _ (routes : Routes) (h : ℕ) (t : Goal) (why : WalkFault) (walk : List S
     -- below a link where the first fault is found, no link of the group leads wrong
     none_below : IsNetwork routes → (k g o : ℕ) → select routes p.switch p.link h ≡ Some (Link g) → ((l : ℕ) → 0 ≤ l → l < o → is_in_group routes p.switch g l ≡ true → at_peer (first_fault routes h t k) t met (routes.peer (Port.Switch p.switch l)) ≡ None) → NoneLower o
     none_below net k g o at before l others fault other lower (g', also, joined) goes =
-        let same : g' ≡ g = Some-Link-same g' g (sym also ∙ at) in
-        let none = before l (omega arith) lower (subst (λ n. is_in_group routes p.switch n l ≡ true) same joined) in
-        none_over routes h t k (none_wrong routes h t net k) others fault other met (routes.peer (Port.Switch p.switch l)) none goes
+        search (arith, Some-Link-same, none_over, none_wrong)
 
     first_group : IsNetwork routes → (k g : ℕ) → select routes p.switch p.link h ≡ Some (Link g) → EachFirst k → at_peers (first_fault routes h t k) t met (group_peers routes p.switch g) ≡ Some (why, walk) → HasFirst met p
     first_group net k g at each is =
@@ -233,14 +195,7 @@ goal_first routes h t p why walk net here is =
     record { links = found.0; goes_wrong = found.1.0; none_before = found.1.1 }
 
 pub fault_first : (routes : Routes) (h : ℕ) (p : SwitchPort) (why : WalkFault) (walk : List SwitchPort) (o : Option ℕ) → IsNetwork routes → IsInput (length routes.settings) p → fault_at routes h p o ≡ Some (why, walk) → IsFirstWalk routes h (option_map Owner o) p why walk
-fault_first routes h p why walk None net here is =
-    let stray = stray_shown p why walk (select routes p.switch p.link h) is in
-    record {
-      links = [];
-      goes_wrong = (refl, stray.1, stray.2, stray.0);
-      none_before = λ others fault other lower goes. never_lower others lower;
-    }
-fault_first routes h p why walk (Some t) net here is = goal_first routes h (Owner t) p why walk net here is
+fault_first routes h p why walk o net here is = search (arith, stray_shown, never_lower, goal_first)
 
 pub random_first : (routes : Routes) (r : ℕ) (p : SwitchPort) (why : WalkFault) (walk : List SwitchPort) → IsNetwork routes → IsInput (length routes.settings) p → random_fault routes r p ≡ Some (why, walk) → IsFirstWalk routes r (Some Portal) p why walk
 random_first routes r p why walk net here is = goal_first routes r Portal p why walk net here is
@@ -248,8 +203,7 @@ random_first routes r p why walk net here is = goal_first routes r Portal p why 
 -- Where none is found, no walk goes wrong, and the header comes where it should
 
 fault_none : (routes : Routes) (h : ℕ) (p : SwitchPort) (o : Option ℕ) → IsNetwork routes → fault_at routes h p o ≡ None → NoneGoesWrong routes h (option_map Owner o) p
-fault_none routes h p None net is why walk links goes = goes.3 (stray_lands p (select routes p.switch p.link h) is)
-fault_none routes h p (Some t) net is why walk links goes = none_wrong routes h (Owner t) net (32 * length routes.settings) links why walk (p ∷ []) p is goes
+fault_none routes h p o net is = search (arith, stray_lands, none_wrong)
 
 random_none : (routes : Routes) (r : ℕ) (p : SwitchPort) → IsNetwork routes → random_fault routes r p ≡ None → NoneGoesWrong routes r (Some Portal) p
 random_none routes r p net is why walk links goes = none_wrong routes r Portal net (32 * length routes.settings) links why walk (p ∷ []) p is goes
@@ -278,17 +232,10 @@ PartOrSame links others why fault walk other =
     TakesLower links others ⊎ (TakesLower others links ⊎ ((fault ≡ why) × (other ≡ walk)))
 
 part_on : (o : ℕ) (links others : List ℕ) (why fault : WalkFault) (walk other : List SwitchPort) → PartOrSame links others why fault walk other → PartOrSame (o ∷ links) (o ∷ others) why fault walk other
-part_on o links others why fault walk other (inl lower) = inl (inr (refl, lower))
-part_on o links others why fault walk other (inr (inl lower)) = inr (inl (inr (refl, lower)))
-part_on o links others why fault walk other (inr (inr same)) = inr (inr same)
+part_on o links others why fault walk other h1 = search arith
 
 part_over : (routes : Routes) (h : ℕ) (t : Goal) (links others : List ℕ) (why fault : WalkFault) (walk other met : List SwitchPort) → ((w : List SwitchPort) (q : SwitchPort) → GoesWrong routes h t why walk links w q → GoesWrong routes h t fault other others w q → PartOrSame links others why fault walk other) → (e : Option Port) → GoesWrongOver (GoesWrong routes h t why walk links) t why walk links met e → GoesWrongOver (GoesWrong routes h t fault other others) t fault other others met e → PartOrSame links others why fault walk other
-part_over routes h t links others why fault walk other met further None (a, b, c) (x, y, z) = inr (inr (y ∙ sym b, z ∙ sym c))
-part_over routes h t links others why fault walk other met further (Some (Port.Terminal u)) (a, b, c, d) (x, y, z, w) = inr (inr (y ∙ sym b, z ∙ sym c))
-part_over routes h t links others why fault walk other met further (Some (Port.Switch s i)) (inl (a, b, c, d)) (inl (x, y, z, w)) = inr (inr (y ∙ sym b, z ∙ sym c))
-part_over routes h t links others why fault walk other met further (Some (Port.Switch s i)) (inl (a, b, c, d)) (inr (new, goes)) = let clash : true ≡ false = sym d ∙ new in absurd cc
-part_over routes h t links others why fault walk other met further (Some (Port.Switch s i)) (inr (new, goes)) (inl (x, y, z, w)) = let clash : true ≡ false = sym w ∙ new in absurd cc
-part_over routes h t links others why fault walk other met further (Some (Port.Switch s i)) (inr (new, goes)) (inr (also, goes')) = further (met ++ (port_of s i ∷ [])) (port_of s i) goes goes'
+part_over routes h t links others why fault walk other met further e h2 h3 = search arith
 
 part_or_same : (routes : Routes) (h : ℕ) (t : Goal) (links others : List ℕ) (why fault : WalkFault) (walk other met : List SwitchPort) (p : SwitchPort) → GoesWrong routes h t why walk links met p → GoesWrong routes h t fault other others met p → PartOrSame links others why fault walk other
 part_or_same routes h t [] [] why fault walk other met p (a, b, c) (x, y, z) = inr (inr (x ∙ sym a, y ∙ sym b))
@@ -306,16 +253,10 @@ part_or_same routes h t (o ∷ links) (l ∷ others) why fault walk other met p 
     ]
 
 part_from : (routes : Routes) (h : ℕ) (goal : Option Goal) (p : SwitchPort) (links others : List ℕ) (why fault : WalkFault) (walk other : List SwitchPort) → GoesWrongFrom routes h goal p why walk links → GoesWrongFrom routes h goal p fault other others → PartOrSame links others why fault walk other
-part_from routes h None p links others why fault walk other a x = inr (inr (x.1 ∙ sym a.1, x.2 ∙ sym a.2))
-part_from routes h (Some t) p links others why fault walk other a x = part_or_same routes h t links others why fault walk other (p ∷ []) p a x
+part_from routes h goal p links others why fault walk other a x = search (arith, part_or_same)
 
 one_first : (routes : Routes) (h : ℕ) (goal : Option Goal) (p : SwitchPort) (why fault : WalkFault) (walk other : List SwitchPort) → IsFirstWalk routes h goal p why walk → IsFirstWalk routes h goal p fault other → (fault ≡ why) × (other ≡ walk)
-one_first routes h goal p why fault walk other a b =
-    elim (part_from routes h goal p a.links b.links why fault walk other a.goes_wrong b.goes_wrong) [
-      | inl lower ↦ absurd (b.none_before a.links why walk lower a.goes_wrong)
-      | inr (inl lower) ↦ absurd (a.none_before b.links fault other lower b.goes_wrong)
-      | inr (inr same) ↦ same
-    ]
+one_first routes h goal p why fault walk other a b = search (arith, part_from)
 
 pub told_by_walks : (routes : Routes) → IsNetwork routes → IsToldByWalks routes
 told_by_walks routes net = record {

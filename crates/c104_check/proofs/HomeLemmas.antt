@@ -1,20 +1,17 @@
 -- Random headers that come to portals, one after another.
 use Rattle.c104_check.proofs.{BreakLemmas.{homes_alike, random_before}, FirstWalkLemmas.random_first, PortalLemmas.{add_append, add_in}}
 use Rattle.c104_check.proofs.{PortalLemmas.{add_known, met_alike}, RandomLemmas.{random_at_tells, random_at_told}, ShownLemmas.random_shown}
-use Rattle.c104_check.{proofs.ShownLemmas.shown_homes, specs.{Breaks.{AreBreaks, IsBreak, IsWired, is_marked}, FirstWalks.IsFirstWalk}}
-use Rattle.c104_check.specs.{Portals.{is_random_at, met_below, met_from, met_here, met_if}, Refusals.Refusal, Routes.{Homes, IsEntryOf}}
-use Rattle.c104_check.specs.{Routes.{IsRandomAt, Routes, SwitchPort, header_count, most_hops, to_port}, Shown.IsShownRandom, Starts.AllHome}
-use Rattle.c104_check.specs.{Starts.{AreKnown, HomeBelow, IsFirstRandomAt, IsRefusedRandom, add_all}, Trails.{IsInput, IsNetwork}}
-use Rattle.c104_check.specs.{Walking.fault_on, Walks.{first_fault, is_met, random_fault}, declared.walks.Goal.TheVariants.Portal}
-use Rattle.{c104_plan.specs.declared.ports.Port.Port, c104_token.specs.declared.faults.NoMemory.NoMemory, std.proofs.Common.{Bool, Err}}
-use Rattle.std.proofs.Common.{IfOk, List, MatchOption, None, Ok, Option, Result, Some, [], ap, arith, false, inl, inr, is_some, length}
-use Rattle.std.proofs.{Common.{refl, subst, suc, sym, true, zero, ℕ, ◌*◌, ◌++◌, ◌+◌, ◌-◌, ◌<◌, ◌∙◌, ◌∷◌, ◌≡◌}, lemmas.Bool.cases_lt}
-use Rattle.std.specs.List.{AllByRecursion}
+use Rattle.c104_check.{proofs.ShownLemmas.shown_homes, specs.{Breaks.{AreBreaks, IsBreak, IsWired, is_marked}, Portals.is_random_at}}
+use Rattle.c104_check.specs.{Portals.{met_below, met_from, met_here, met_if}, Refusals.Refusal, Routes.{Homes, IsEntryOf, IsRandomAt}}
+use Rattle.c104_check.specs.{Routes.{Routes, SwitchPort, header_count, most_hops, to_port}, Starts.{AllHome, AreKnown, HomeBelow}}
+use Rattle.c104_check.specs.{Starts.{IsFirstRandomAt, IsRefusedRandom, add_all}, Trails.{IsInput, IsNetwork}, Walking.fault_on}
+use Rattle.c104_check.specs.{Walks.{is_met, random_fault}, declared.walks.Goal.TheVariants.Portal}
+use Rattle.{c104_plan.specs.declared.ports.Port.Port, c104_token.specs.declared.faults.NoMemory.NoMemory, std.proofs.Common.{Bool, IfOk}}
+use Rattle.std.proofs.Common.{List, MatchOption, None, Option, Result, Some, [], ap, arith, false, inl, is_some, length, refl, subst, suc}
+use Rattle.std.{proofs.{Common.{sym, true, zero, ℕ, ◌++◌, ◌+◌, ◌<◌, ◌∙◌, ◌∷◌, ◌≡◌}, lemmas.Bool.cases_lt}, specs.List.AllByRecursion}
 
 pub random_is : (routes : Routes) (r : ℕ) (p : SwitchPort) → fault_on routes r Portal [] p ≡ random_fault routes r p
-random_is routes r p =
-    let k : 32 * length routes.settings + 1 - 1 ≡ 32 * length routes.settings = omega arith in
-    ap (λ n. first_fault routes r Portal n (p ∷ []) p) k
+random_is routes r p = search arith
 
 pub refused_random : (routes : Routes) (t : ℕ) (p : SwitchPort) (r : ℕ) (refusal : Refusal) → IsNetwork routes → IsInput (length routes.settings) p → refusal.shown.entry ≡ t → refusal.shown.header ≡ r → random_fault routes r p ≡ Some (refusal.why, refusal.shown.walk) → IsRefusedRandom routes t p r refusal
 refused_random routes t p r refusal net here terminal header is =
@@ -25,13 +22,7 @@ pub wired_entry : (routes : Routes) (t : ℕ) (p : SwitchPort) → IsNetwork rou
 wired_entry routes t p net entry = (Port.Terminal t, net.back (Port.Terminal t) (to_port p) entry)
 
 home_next : (routes : Routes) (p : SwitchPort) (h : ℕ) → HomeBelow routes p h → (IsRandomAt routes p h → Homes routes h (most_hops routes) p.switch p.link) → HomeBelow routes p (h + 1)
-home_next routes p h before here r below random =
-    elim (cases_lt r h) [
-      | inl lower ↦ before r lower random
-      | inr past ↦
-          let same : r ≡ h = omega (arith, below, past) in
-          subst (λ n. Homes routes n (most_hops routes) p.switch p.link) (sym same) (here (subst (IsRandomAt routes p) same random))
-    ]
+home_next routes p h before here r below random = search (arith, cases_lt)
 
 -- one that is no break
 All-right : {X : Type 0} (P : X → Type 0) (xs ys : List X) → AllByRecursion P (xs ++ ys) → AllByRecursion P ys
@@ -63,45 +54,27 @@ quiet_met routes marks p (suc g) old net are below not random wired known =
 
 -- and one that is walked with
 pub walked_next : (routes : Routes) (t : ℕ) (p : SwitchPort) (h : ℕ) (found : Option Refusal) → h < header_count routes → is_random_at routes p h ≡ true → HomeBelow routes p h → MatchOption found (Homes routes h (most_hops routes) p.switch p.link) (IsRefusedRandom routes t p h) → MatchOption found (HomeBelow routes p (h + 1)) (IsFirstRandomAt routes t p)
-walked_next routes t p h None below random before is = home_next routes p h before (λ there. is)
-walked_next routes t p h (Some refusal) below random before is = record {
-  terminal = is.terminal;
-  below = subst (λ n. n < header_count routes) (sym is.header) below;
-  refused = record {
-    random = subst (IsRandomAt routes p) (sym is.header) (random_at_tells routes p h below random);
-    before = λ r low. before r (subst (λ n. r < n) is.header low);
-    shows = subst (λ n. IsShownRandom routes n p refusal.why refusal.shown.walk) (sym is.header) is.shows;
-    first = subst (λ n. IsFirstWalk routes n (Some Portal) p refusal.why refusal.shown.walk) (sym is.header) is.first;
-    fails = subst (λ n. (k : ℕ) → Homes routes n k p.switch p.link → ⊥) (sym is.header) is.fails;
-  };
-}
+walked_next routes t p h found below random before is = search (arith, home_next, random_at_tells)
 
 pub walked_result : (routes : Routes) (t : ℕ) (p : SwitchPort) (h : ℕ) (result : Result (Option Refusal) NoMemory) → h < header_count routes → is_random_at routes p h ≡ true → HomeBelow routes p h → IfOk result (λ found. MatchOption found (Homes routes h (most_hops routes) p.switch p.link) (IsRefusedRandom routes t p h)) → IfOk result (λ found. MatchOption found (HomeBelow routes p (h + 1)) (IsFirstRandomAt routes t p))
-walked_result routes t p h (Ok found) below random before is = walked_next routes t p h found below random before is
-walked_result routes t p h (Err x) below random before is = tt
+walked_result routes t p h result below random before is = search (arith, walked_next)
 
 -- Header by header
 
 pub met_next : (routes : Routes) (p : SwitchPort) (h : ℕ) (init old new : List SwitchPort) → old ≡ add_all init (met_below routes p h) → new ≡ add_all old (met_here routes p h) → new ≡ add_all init (met_below routes p (h + 1))
-met_next routes p h init old new before is =
-    let up : suc h ≡ h + 1 = omega arith in
-    is ∙ ap (λ (xs : List SwitchPort). add_all xs (met_here routes p h)) before ∙ sym (add_append (met_below routes p h) (met_here routes p h) init) ∙ ap (λ n. add_all init (met_below routes p n)) up
+met_next routes p h init old new before is = search (arith, add_append)
 
 pub known_all : (init now xs : List SwitchPort) → now ≡ add_all init xs → AreKnown now xs
 known_all init now xs is = subst (λ (ys : List SwitchPort). AreKnown ys xs) (sym is) (add_in xs init)
 
 pub home_none : (routes : Routes) (t : ℕ) (p : SwitchPort) (h : ℕ) (found : Option Refusal) → is_some found ≡ false → MatchOption found (HomeBelow routes p h) (IsFirstRandomAt routes t p) → HomeBelow routes p h
-home_none routes t p h None none is = is
-home_none routes t p h (Some refusal) none is = absurd cc
+home_none routes t p h found none is = search arith
 
 pub is_none_of : (found : Option Refusal) → is_some found ≡ false → found ≡ None
-is_none_of None is = refl
-is_none_of (Some refusal) is = absurd cc
+is_none_of found is = search arith
 
 pub all_home : (routes : Routes) (t : ℕ) (p : SwitchPort) (found : Option Refusal) → is_some found ≡ false → MatchOption found (AllHome routes p) (IsFirstRandomAt routes t p) → AllHome routes p
-all_home routes t p None none is = is
-all_home routes t p (Some refusal) none is = absurd cc
+all_home routes t p found none is = search arith
 
 pub homes_of : (routes : Routes) (t r : ℕ) (p : SwitchPort) (found : Option Refusal) → is_some found ≡ false → MatchOption found (Homes routes r (most_hops routes) p.switch p.link) (IsRefusedRandom routes t p r) → Homes routes r (most_hops routes) p.switch p.link
-homes_of routes t r p None none is = is
-homes_of routes t r p (Some refusal) none is = absurd cc
+homes_of routes t r p found none is = search arith

@@ -4,55 +4,36 @@ use Rattle.c104_check.specs.Parts.{BeginsAt, HomesFirst, IsFirstRefusal, IsNever
 use Rattle.c104_check.specs.{Portals.is_random_at, Refusals.{IsFirstOf, LandsBefore, Refusal, Start}, Routes.{Homes, IsEntryOf, IsRandomAt}}
 use Rattle.c104_check.specs.{Routes.{Routes, SwitchPort, header_count, most_hops}, Starts.{AreOwnStarts, HomesAt, IsFirstHomeless}}
 use Rattle.c104_check.specs.{Starts.{IsHomelessAt, IsRefusedRandom, earlier}, Trails.IsNetwork}
-use Rattle.{c104_token.specs.declared.faults.NoMemory.NoMemory, std.proofs.Common.{Bool, Err, IfOk, List, MatchOption, None, Ok, Option}}
-use Rattle.std.proofs.Common.{Result, Some, arith, false, if◌then◌else◌, inl, inr, is_some, length, nat_le, refl, subst, sym, true, ℕ, ◌+◌}
-use Rattle.std.proofs.{Common.{◌<◌, ◌∙◌, ◌≡◌, ◌≤◌}, lemmas.Bool.{Decides.nat_tests, cases_lt}}
+use Rattle.{c104_token.specs.declared.faults.NoMemory.NoMemory, std.proofs.Common.{Bool, IfOk, List, MatchOption, None, Option, Result}}
+use Rattle.std.proofs.Common.{Some, arith, false, if◌then◌else◌, inr, is_some, length, nat_le, refl, subst, sym, true, ℕ, ◌+◌, ◌<◌, ◌≡◌}
+use Rattle.std.proofs.{Common.◌≤◌, lemmas.Bool.{Decides.nat_tests, cases_lt}}
 
 -- At one terminal
 
 pub never_there : (routes : Routes) (h t : ℕ) (p : SwitchPort) → IsEntryOf routes t p → is_random_at routes p h ≡ false → HomesAt routes h t
-never_there routes h t p wired not q there random =
-    let told = random_at_told routes p h (subst (λ x. IsRandomAt routes x h) (sym (entry_same routes t p q wired there)) random) in
-    let clash : true ≡ false = sym told ∙ not in absurd cc
+never_there routes h t p wired not q there random = search (arith, random_at_told, entry_same)
 
 homeless_found : (routes : Routes) (h t : ℕ) (p : SwitchPort) (found : Option Refusal) → IsEntryOf routes t p → IsRandomAt routes p h → MatchOption found (Homes routes h (most_hops routes) p.switch p.link) (IsRefusedRandom routes t p h) → MatchOption found (HomesAt routes h t) (IsHomelessAt routes h t)
-homeless_found routes h t p None wired random homes = λ q there other. subst (λ (x : SwitchPort). Homes routes h (most_hops routes) x.switch x.link) (entry_same routes t p q wired there) homes
-homeless_found routes h t p (Some refusal) wired random refused = record { entry = p; wired = wired; random = random; refused = refused }
+homeless_found routes h t p found wired random homes = search (arith, entry_same)
 
 pub homeless_result : (routes : Routes) (h t : ℕ) (p : SwitchPort) (result : Result (Option Refusal) NoMemory) → IsEntryOf routes t p → IsRandomAt routes p h → IfOk result (λ found. MatchOption found (Homes routes h (most_hops routes) p.switch p.link) (IsRefusedRandom routes t p h)) → IfOk result (λ found. MatchOption found (HomesAt routes h t) (IsHomelessAt routes h t))
-homeless_result routes h t p (Ok found) wired random is = homeless_found routes h t p found wired random is
-homeless_result routes h t p (Err x) wired random is = tt
+homeless_result routes h t p result wired random is = search (arith, homeless_found)
 
 -- At all of them
 
 pub homes_next : (routes : Routes) (h n : ℕ) → HomesFirst routes h n → HomesAt routes h n → HomesFirst routes h (n + 1)
-homes_next routes h n before here t p below wired random =
-    elim (cases_lt t n) [
-      | inl lower ↦ before t p lower wired random
-      | inr not ↦ let same : t ≡ n = omega (arith, below, not) in here p (subst (λ k. IsEntryOf routes k p) same wired) random
-    ]
+homes_next routes h n before here t p below wired random = search (arith, cases_lt)
 
 pub homes_none : (routes : Routes) (h t : ℕ) (found : Option Refusal) → is_some found ≡ false → MatchOption found (HomesAt routes h t) (IsHomelessAt routes h t) → HomesAt routes h t
-homes_none routes h t None none is = is
-homes_none routes h t (Some refusal) none is = absurd cc
+homes_none routes h t found none is = search arith
 
 pub first_homeless : (routes : Routes) (h t : ℕ) (found : Option Refusal) (P : Type 0) → is_some found ≡ true → HomesFirst routes h t → MatchOption found (HomesAt routes h t) (IsHomelessAt routes h t) → MatchOption found P (IsFirstHomeless routes h)
-first_homeless routes h t None P some before is = absurd cc
-first_homeless routes h t (Some refusal) P some before is =
-    let same = sym is.refused.terminal in
-    record { before = subst (HomesFirst routes h) same before; here = subst (λ n. IsHomelessAt routes h n refusal) same is }
+first_homeless routes h t found P some before is = search arith
 
 -- What is told of a header that was tried so and at all starts
 
 random_refusal : (routes : Routes) (h : ℕ) (refusal : Refusal) → IsHomelessAt routes h refusal.shown.entry refusal → IsRandomRefusal routes h refusal.why refusal.shown
-random_refusal routes h refusal is = record {
-  entry = is.entry;
-  wired = is.wired;
-  random = is.random;
-  shows = is.refused.shows;
-  first = is.refused.first;
-  fails = is.refused.fails;
-}
+random_refusal routes h refusal is = search arith
 
 first_before : (routes : Routes) (starts : List Start) (h n : ℕ) (refusal : Refusal) → AreOwnStarts routes starts (length routes.ranges) → IsFirstOf routes starts h n refusal → LandsFirst routes h refusal.shown.entry
 first_before routes starts h n refusal are first =
@@ -97,13 +78,7 @@ module _ (routes : Routes) (starts : List Start) (h n : ℕ) (net : IsNetwork ro
   IsFirst refusal = IsFirstRefusal routes h refusal.why refusal.shown
 
   first_random : (random : Refusal) → IsFirstHomeless routes h random → LandsFirst routes h random.shown.entry → IsFirst random
-  first_random random is lands = record {
-    below = low;
-    header = is.here.refused.header;
-    own_before = lands;
-    random_before = is.before;
-    here = inl (random_refusal routes h random is.here);
-  }
+  first_random random is lands = search (arith, random_refusal)
 
   first_own : (own : Refusal) → IsFirstOf routes starts h n own → HomesFirst routes h (own.shown.entry + 1) → IsFirst own
   first_own own is homes = record {

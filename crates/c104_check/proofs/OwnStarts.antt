@@ -5,14 +5,14 @@ use Rattle.c104_check.proofs.{RefusalLemmas.entry_same, RouteLemmas.portal_input
 use Rattle.c104_check.proofs.StartLemmas.{lands_behind_at, lands_own, portal_wired, random_is_randomized, reached_wired, take_get}
 use Rattle.c104_check.{proofs.TrailLemmas.{All-found, All-map, is_port-true}, specs.Breaks.{AreBreaks, IsBreak, IsWired, is_marked}}
 use Rattle.c104_check.specs.{Parts.{AreJust, BeginsAt, IsReachedFrom, LandsFirst, LandsOwn}, Portals.is_random_at, Refusals.AreInputs}
-use Rattle.c104_check.specs.{Refusals.{LandsAt, LandsBefore, Start}, Routes.{IsEntryOf, IsPortal, IsRandomAt, IsRandomized, Lands}}
-use Rattle.c104_check.specs.{Routes.{LandsBehind, Reaches, Routes, SwitchPort, header_count, owner, select}, Starts.{AreKept, AreOwnStarts}}
-use Rattle.c104_check.specs.Starts.{HasStart, HaveDiscarding, HaveOwn, HavePortals, IsOwnStart, has_portal, start_at, start_behind}
-use Rattle.c104_check.specs.{Starts.with_portal, Trails.{IsInput, IsNetwork}, Walks.is_port}
-use Rattle.{c104_interval.specs.declared.intervals.Select.TheVariants.Discard, c104_token.specs.declared.faults.NoMemory.NoMemory}
-use Rattle.std.proofs.Common.{Bool, Err, List, Ok, OnOk, Result, Some, [], arith, false, if◌then◌else◌, inl, inr, length, refl}
-use Rattle.std.proofs.Common.{slice_index_or, subst, suc, sym, take, true, zero, ℕ, ◌&&◌, ◌++◌, ◌+◌, ◌<◌, ◌||◌, ◌∙◌, ◌∷◌, ◌≡◌, ◌≤◌, ◌⊎◌}
-use Rattle.std.{proofs.lemmas.{Bool.cases_lt, Option.slice_get_within}, specs.List.AllByRecursion}
+use Rattle.c104_check.specs.{Refusals.{LandsAt, LandsBefore, Start}, Routes.{IsEntryOf, IsPortal, IsRandomAt, IsRandomized, Reaches}}
+use Rattle.c104_check.specs.{Routes.{Routes, SwitchPort, header_count, select}, Starts.{AreKept, AreOwnStarts, HasStart, HaveDiscarding}}
+use Rattle.c104_check.specs.{Starts.{HaveOwn, HavePortals, IsOwnStart, has_portal, start_at, start_behind, with_portal}, Trails.IsInput}
+use Rattle.{c104_check.specs.{Trails.IsNetwork, Walks.is_port}, c104_interval.specs.declared.intervals.Select.TheVariants.Discard}
+use Rattle.{c104_token.specs.declared.faults.NoMemory.NoMemory, std.proofs.Common.{Bool, List, OnOk, Result, Some, [], arith, false}}
+use Rattle.std.proofs.Common.{if◌then◌else◌, inl, inr, length, refl, slice_index_or, subst, suc, sym, take, true, zero, ℕ, ◌&&◌, ◌++◌, ◌+◌}
+use Rattle.std.proofs.{Common.{◌<◌, ◌∙◌, ◌∷◌, ◌≡◌, ◌≤◌}, lemmas.{Bool.{and_parts, cases_lt, or_cases}, Option.slice_get_within}}
+use Rattle.std.specs.List.{AllByRecursion}
 
 -- One start more
 
@@ -29,10 +29,7 @@ own_more routes starts n y are own = record {
 }
 
 pub own_first : (routes : Routes) → AreOwnStarts routes [] 0
-own_first routes = record {
-  each = λ k start at. absurd (let inside = slice_get_within [] k start at in omega (arith, inside));
-  have = λ t behind p below begins. absurd (omega (arith, below));
-}
+own_first routes = search (arith, slice_get_within)
 
 pub own_all : (routes : Routes) (starts : List Start) (n : ℕ) → length routes.ranges ≤ n → AreOwnStarts routes starts n → AreOwnStarts routes starts (length routes.ranges)
 own_all routes starts n past are = record {
@@ -46,9 +43,7 @@ own_inputs routes starts n are k start at = (are.each k start at).input
 -- A terminal before whose packets no random headers are put
 
 begins_plain : (routes : Routes) (t : ℕ) (p q : SwitchPort) (behind : Bool) → IsEntryOf routes t p → (IsRandomized routes p → ⊥) → BeginsAt routes t behind q → (behind ≡ false) × (p ≡ q)
-begins_plain routes t p q false wired plain (entry, there, kind) = (refl, entry_same routes t p entry wired there ∙ sym kind.0)
-begins_plain routes t p q true wired plain (entry, there, portal) =
-    absurd (plain (subst (IsRandomized routes) (sym (entry_same routes t p entry wired there)) (random_is_randomized routes entry portal.0 portal.2)))
+begins_plain routes t p q behind wired plain h3 = search (arith, entry_same, random_is_randomized)
 
 pub own_plain : (routes : Routes) (starts : List Start) (t : ℕ) (p : SwitchPort) → IsNetwork routes → IsEntryOf routes t p → IsInput (length routes.settings) p → (IsRandomized routes p → ⊥) → AreOwnStarts routes starts t → AreOwnStarts routes (starts ++ start_at t p ∷ []) (t + 1)
 own_plain routes starts t p net wired here plain are =
@@ -105,8 +100,7 @@ have_next routes p starts h before here r m q below random reaches discards =
 
 -- a header that isn't random there
 pub have_passed : (routes : Routes) (p : SwitchPort) (starts : List Start) (h : ℕ) → is_random_at routes p h ≡ false → HavePortals routes p starts h → HavePortals routes p starts (h + 1)
-have_passed routes p starts h not before =
-    have_next routes p starts h before (λ m q random reaches discards. let clash : true ≡ false = sym (random_at_told routes p h random) ∙ not in absurd cc)
+have_passed routes p starts h not before = search (arith, have_next, random_at_told)
 
 -- one that is no break goes where the one before it does
 reaches_alike : (routes : Routes) (g : ℕ) → IsNetwork routes → (IsBreak routes (suc g) → ⊥) → (m : ℕ) (p q : SwitchPort) → IsWired routes p → Reaches routes (suc g) m p q → Reaches routes g m p q
@@ -132,18 +126,9 @@ pub have_kept : (routes : Routes) (p : SwitchPort) (old new : List Start) (h : �
 have_kept routes p old new h kept have r m q below random reaches discards = kept true q (have r m q below random reaches discards)
 
 pub discarding_next : (routes : Routes) (h k : ℕ) (xs : List SwitchPort) (d : SwitchPort) (old new : List Start) → k < length xs → AreKept old new → HaveDiscarding routes h new (slice_index_or xs k d) → AllByRecursion (HaveDiscarding routes h old) (take k xs) → AllByRecursion (HaveDiscarding routes h new) (take (k + 1) xs)
-discarding_next routes h k xs d old new below kept here before =
-    all_taken_next (HaveDiscarding routes h new) xs k d below here (All-map (HaveDiscarding routes h old) (HaveDiscarding routes h new) (λ q had discards. kept true q (had discards)) (take k xs) before)
+discarding_next routes h k xs d old new below kept here before = search (arith, all_taken_next, All-map)
 
 -- A portal joins
-
-and_both : (a b : Bool) → (a && b) ≡ true → (a ≡ true) × (b ≡ true)
-and_both true b is = (refl, is)
-and_both false b is = absurd cc
-
-or_cases : (a b : Bool) → (a || b) ≡ true → (a ≡ true) ⊎ (b ≡ true)
-or_cases true b is = inl refl
-or_cases false b is = inr is
 
 has_later : (starts : List Start) (y : Start) (behind : Bool) (p : SwitchPort) → HasStart starts behind p → HasStart (y ∷ starts) behind p
 has_later starts y behind p (k, start, at, here, kind) = (suc k, start, at, here, kind)
@@ -152,7 +137,7 @@ has_told : (starts : List Start) (q : SwitchPort) → has_portal q starts ≡ tr
 has_told [] q is = absurd cc
 has_told (y ∷ starts) q is =
     elim (or_cases (y.behind && is_port q y.at) (has_portal q starts) is) [
-      | inl here ↦ let both = and_both y.behind (is_port q y.at) here in (zero, y, refl, sym (is_port-true q y.at both.1), both.0)
+      | inl here ↦ let both = and_parts y.behind (is_port q y.at) here in (zero, y, refl, sym (is_port-true q y.at both.1), both.0)
       | inr later ↦ has_later starts y true q (has_told starts q later)
     ]
 
@@ -185,12 +170,10 @@ portal_own routes starts new t h p q net wired random (x, m, same, reaches) disc
     (own_by routes starts t p q (has_portal q starts) net wired (h, m, random, subst (λ y. Reaches routes h m y q) (sym same) reaches, discards) are)
 
 on_ok : (A B : Type 0) (result : Result (Unit {0}) NoMemory) → (A → B) → OnOk result A → OnOk result B
-on_ok A B (Ok x) f is = f is
-on_ok A B (Err x) f is = tt
+on_ok A B result f is = search arith
 
 pub own_result : (routes : Routes) (starts new : List Start) (t h : ℕ) (p q : SwitchPort) (result : Result (Unit {0}) NoMemory) → IsNetwork routes → IsEntryOf routes t p → IsRandomAt routes p h → IsReachedFrom routes h (λ x. p ≡ x) q → select routes q.switch q.link h ≡ Some Discard → AreOwnStarts routes starts t → OnOk result (new ≡ with_portal starts t q) → OnOk result (AreOwnStarts routes new t)
-own_result routes starts new t h p q result net wired random reached discards are =
-    on_ok (new ≡ with_portal starts t q) (AreOwnStarts routes new t) result (portal_own routes starts new t h p q net wired random reached discards are)
+own_result routes starts new t h p q result h1 h2 h3 h4 h5 h6 h7 = search (arith, on_ok, portal_own)
 
 pub kept_result : (starts new : List Start) (t : ℕ) (q : SwitchPort) (result : Result (Unit {0}) NoMemory) → OnOk result (new ≡ with_portal starts t q) → OnOk result (AreKept starts new)
 kept_result starts new t q result = on_ok (new ≡ with_portal starts t q) (AreKept starts new) result (portal_kept starts new t q)
@@ -201,8 +184,7 @@ have_result routes starts new t h q result = on_ok (new ≡ with_portal starts t
 -- What is told of a header that was tried at all starts
 
 lands_begun : (routes : Routes) (h : ℕ) (start : Start) (behind : Bool) (p : SwitchPort) → start.at ≡ p → start.behind ≡ behind → LandsAt routes h start → LandsOwn routes h behind p
-lands_begun routes h start false p here front lands = subst (λ (x : SwitchPort). Lands routes h x (owner routes h)) here (lands_own routes h start front lands)
-lands_begun routes h start true p here behind lands = subst (λ (x : SwitchPort). LandsBehind routes h x (owner routes h)) here (lands_behind_at routes h start (owner routes h) refl lands)
+lands_begun routes h start behind p here front lands = search (arith, lands_own, lands_behind_at)
 
 pub all_landed : (routes : Routes) (starts : List Start) (h n : ℕ) → AreOwnStarts routes starts (length routes.ranges) → length starts ≤ n → LandsBefore routes starts h n → LandsFirst routes h (length routes.ranges)
 all_landed routes starts h n are past lands t behind p below begins =

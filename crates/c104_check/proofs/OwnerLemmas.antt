@@ -1,10 +1,9 @@
 -- Headers that have owners, and those that have none.
-use Rattle.{c104_check.specs.Routes.{Owns, Routes, has_label, owner}, std.proofs.Common.{None, Option, Some, ap, false, get_or, is_some}}
+use Rattle.{c104_check.specs.Routes.{Owns, Routes, has_label, owner}, std.proofs.Common.{Option, Some, ap, arith, false, get_or, is_some}}
 use Rattle.std.proofs.{Common.{sym, true, ℕ, ◌∙◌, ◌≡◌}, lemmas.{List.Quantifiers.position-Some, Option.slice_get-get_or}}
 
 pub some_owner : (o p : Option ℕ) → o ≡ p → is_some o ≡ true → (t : ℕ) × (p ≡ Some t)
-some_owner None p same is = absurd cc
-some_owner (Some t) p same is = (t, sym same)
+some_owner o p same is = search arith
 
 pub no_owner : (o p : Option ℕ) → o ≡ p → is_some o ≡ false → (t : ℕ) → p ≡ Some t → ⊥
 no_owner o p same none t some = let clash : true ≡ false = sym (ap is_some (same ∙ some)) ∙ none in absurd cc

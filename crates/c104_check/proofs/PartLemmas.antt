@@ -7,7 +7,7 @@ use Rattle.c104_check.specs.{Reach.with_input, Refusals.Start, Routes.{IsEntryOf
 use Rattle.c104_check.specs.{Starts.AreOwnStarts, Trails.{IsInput, IsNetwork}}
 use Rattle.{c104_interval.specs.declared.intervals.Select.TheVariants.Discard, std.proofs.Common.{Bool, IsTrue, List, Some, [], ap, arith}}
 use Rattle.std.proofs.Common.{false, inl, inr, length, refl, slice_get, subst, sym, true, ℕ, ◌+◌, ◌<◌, ◌↔◌, ◌∙◌, ◌≡◌, ◌≤◌}
-use Rattle.std.proofs.lemmas.{Bool.cases_lt, Option.slice_get_within}
+use Rattle.std.proofs.lemmas.{Bool.cases_lt, Option.{same_Some, slice_get_within}}
 
 -- The links that are taken from just the inputs that are reached
 
@@ -18,12 +18,10 @@ pub iff_on : (A B C : Type 0) → A ↔ B → B ↔ C → A ↔ C
 iff_on A B C one two = (λ a. two.0 (one.0 a), λ c. one.1 (two.1 c))
 
 pub own_taken : (routes : Routes) (h : ℕ) (own xs : List SwitchPort) (q : SwitchPort) (b : Bool) → xs ≡ own → AreJust (IsReachedAsOwn routes h) own → IsTrue b ↔ ((p : SwitchPort) × Has xs p × MayTake routes h p q) → IsTrue b ↔ IsTakenAsOwn routes h q
-own_taken routes h own xs q b is just tells =
-    iff_on (IsTrue b) ((p : SwitchPort) × Has xs p × MayTake routes h p q) (IsTakenAsOwn routes h q) tells (taken_by routes h (IsBeginning routes) xs q (subst (AreJust (IsReachedAsOwn routes h)) (sym is) just))
+own_taken routes h own xs q b is just tells = search (arith, iff_on, taken_by)
 
 pub random_taken : (routes : Routes) (h : ℕ) (random xs : List SwitchPort) (q : SwitchPort) (b : Bool) → xs ≡ random → AreJust (IsReachedAsRandom routes h) random → IsTrue b ↔ ((p : SwitchPort) × Has xs p × MayTake routes h p q) → IsTrue b ↔ IsTakenAsRandom routes h q
-random_taken routes h random xs q b is just tells =
-    iff_on (IsTrue b) ((p : SwitchPort) × Has xs p × MayTake routes h p q) (IsTakenAsRandom routes h q) tells (taken_by routes h (IsRandomBeginning routes h) xs q (subst (AreJust (IsReachedAsRandom routes h)) (sym is) just))
+random_taken routes h random xs q b is just tells = search (arith, iff_on, taken_by)
 
 -- where no random headers are put before packets
 pub reached_plain : (routes : Routes) (h m : ℕ) (x p : SwitchPort) → IsNeverRandomized routes → (t : ℕ) (behind : Bool) (entry : SwitchPort) → IsEntryOf routes t entry → Begins routes entry behind x → Reaches routes h m x p → IsReached routes h p
@@ -43,8 +41,7 @@ none_random : (routes : Routes) (h : ℕ) (p : SwitchPort) → IsNeverRandomized
 none_random routes h p never (x, m, (t, wired, random), reaches) = never x (random_is_randomized routes x h random)
 
 is_false : (b : Bool) → (IsTrue b → ⊥) → b ≡ false
-is_false true not = absurd (not refl)
-is_false false not = refl
+is_false b not = search arith
 
 pub none_taken : (routes : Routes) (h : ℕ) (q : SwitchPort) (b : Bool) → IsTrue b ↔ IsTakenAsRandom routes h q → IsNeverRandomized routes → b ≡ false
 none_taken routes h q b tells never = is_false b (λ holds. let taken = tells.0 holds in none_random routes h taken.0 never taken.1)
@@ -54,10 +51,7 @@ none_discarded routes h q b tells never = is_false b (λ holds. none_random rout
 
 -- A portal among just the inputs that are reached
 pub portal_told : (routes : Routes) (h : ℕ) (random xs : List SwitchPort) (q : SwitchPort) (b : Bool) → xs ≡ random → AreJust (IsReachedAsRandom routes h) random → IsTrue b ↔ (Has xs q × (select routes q.switch q.link h ≡ Some Discard)) → IsTrue b ↔ IsDiscardedAt routes h q
-portal_told routes h random xs q b is just tells =
-    let all = subst (AreJust (IsReachedAsRandom routes h)) (sym is) just in
-    iff_on (IsTrue b) (Has xs q × (select routes q.switch q.link h ≡ Some Discard)) (IsDiscardedAt routes h q) tells
-    (λ (has, discards). ((all q).0 has, discards), λ (reached, discards). ((all q).1 reached, discards))
+portal_told routes h random xs q b is just tells = search (arith, iff_on)
 
 -- The inputs at which own headers begin
 
@@ -71,9 +65,6 @@ starts_none routes starts xs is = (
   subst (AreJust (IsStartBefore starts 0)) (sym is) (just_none (IsStartBefore starts 0) (λ p (j, start, below, at, here). omega (arith, below))),
 )
 
-Some-start : (x y : Start) → Some x ≡ Some y → x ≡ y
-Some-start x y is = cc
-
 pub start_joined : (routes : Routes) (starts : List Start) (k : ℕ) (start : Start) (xs new : List SwitchPort) → slice_get starts k ≡ Some start → AreOwnStarts routes starts (length routes.ranges) → AreDistinctInputs routes xs → AreJust (IsStartBefore starts k) xs → new ≡ with_input xs start.at → AreDistinctInputs routes new × AreJust (IsStartBefore starts (k + 1)) new
 start_joined routes starts k start xs new here are distinct just is =
     just_joined routes (IsStartBefore starts k) (IsStartBefore starts (k + 1)) xs new start.at (are.each k start here).input.0
@@ -81,7 +72,7 @@ start_joined routes starts k start xs new here are distinct just is =
       | inl lower ↦ inl (j, other, lower, at, there)
       | inr not ↦
           let same : j ≡ k = omega (arith, below, not) in
-          let one = Some-start start other (sym here ∙ ap (slice_get starts) (sym same) ∙ at) in
+          let one = same_Some start other (sym here ∙ ap (slice_get starts) (sym same) ∙ at) in
           inr (ap (λ (x : Start). x.at) one ∙ there)
     ])
     (λ p (j, other, below, at, there). (j, other, omega (arith, below), at, there))

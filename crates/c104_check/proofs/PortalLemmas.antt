@@ -11,19 +11,13 @@ use Rattle.{c104_crossbar.specs.declared.group.Group.Group, c104_interval.specs.
 use Rattle.{c104_interval.specs.declared.intervals.Select.TheVariants.{Link, Sink}, c104_plan.specs.declared.ports.Port.Port}
 use Rattle.{c104_token.specs.declared.faults.NoMemory.NoMemory, std.proofs.Common.{Bool, Err, List, None, Ok, OnOk, Option, Result, Some}}
 use Rattle.std.proofs.Common.{[], ap, append_assoc, arith, false, if◌then◌else◌, inl, inr, length, refl, slice_get, slice_index_or}
-use Rattle.std.proofs.Common.{slice_set, subst, suc, sym, take, true, zero, ℕ, ◌++◌, ◌+◌, ◌-◌, ◌<◌, ◌||◌, ◌∙◌, ◌∷◌, ◌≡◌, ◌≤◌, ◌⊎◌}
-use Rattle.std.proofs.{Math.Seq.take-append-add, lemmas.{Bool.{cases_Bool, cases_eq, le-leb}, List.{Folds.list_any-append, append-nil}}}
-use Rattle.std.{proofs.lemmas.{List.{get_or-set_other, length-append}, Option.slice_get_within}, specs.List.AllByRecursion}
+use Rattle.std.proofs.Common.{slice_set, subst, suc, sym, take, true, zero, ℕ, ◌++◌, ◌+◌, ◌-◌, ◌<◌, ◌∙◌, ◌∷◌, ◌≡◌, ◌≤◌, ◌⊎◌}
+use Rattle.std.proofs.{Math.Seq.take-append-add, lemmas.Bool.{cases_Bool, cases_eq, le-leb, or_cases, or_left, or_right}}
+use Rattle.std.proofs.lemmas.{List.{Folds.list_any-append, append-nil, get_or-set_other, length-append}, Option.same_Some}
+use Rattle.std.{proofs.lemmas.Option.slice_get_within, specs.List.AllByRecursion}
 
 abbrev pub IsIn : SwitchPort → List SwitchPort → Type 0
 IsIn q xs = is_met q xs ≡ true
-
-or_left : (a b : Bool) → a ≡ true → (a || b) ≡ true
-or_left a b is = rw is refl
-
-or_right : (a b : Bool) → b ≡ true → (a || b) ≡ true
-or_right true b is = refl
-or_right false b is = is
 
 pub in_left : (q : SwitchPort) (xs ys : List SwitchPort) → IsIn q xs → IsIn q (xs ++ ys)
 in_left q xs ys is = list_any-append (is_port q) xs ys ∙ or_left (is_met q xs) (is_met q ys) is
@@ -37,15 +31,13 @@ in_here q xs = or_left (is_port q q) (is_met q xs) (is_port-refl q)
 -- Inputs that join others
 
 with_kept_by : (b : Bool) (inputs : List SwitchPort) (p x : SwitchPort) → IsIn x inputs → IsIn x (if b then inputs else inputs ++ p ∷ [])
-with_kept_by true inputs p x is = is
-with_kept_by false inputs p x is = in_left x inputs (p ∷ []) is
+with_kept_by b inputs p x is = search (arith, in_left)
 
 pub with_kept : (inputs : List SwitchPort) (p x : SwitchPort) → IsIn x inputs → IsIn x (with_input inputs p)
 with_kept inputs p x is = with_kept_by (is_met p inputs) inputs p x is
 
 with_in_by : (b : Bool) (inputs : List SwitchPort) (p : SwitchPort) → is_met p inputs ≡ b → IsIn p (if b then inputs else inputs ++ p ∷ [])
-with_in_by true inputs p is = is
-with_in_by false inputs p is = in_right p inputs (p ∷ []) (in_here p [])
+with_in_by b inputs p is = search (arith, in_right, in_here)
 
 pub with_in : (inputs : List SwitchPort) (p : SwitchPort) → IsIn p (with_input inputs p)
 with_in inputs p = with_in_by (is_met p inputs) inputs p refl
@@ -97,9 +89,6 @@ at_seam : (inputs more : List SwitchPort) (x : SwitchPort) → slice_get (inputs
 at_seam [] more x = refl
 at_seam (y ∷ inputs) more x = at_seam inputs more x
 
-Some-port : (x y : SwitchPort) → Some x ≡ Some y → x ≡ y
-Some-port x y is = cc
-
 split_more : (x q : SwitchPort) (xs whole : List SwitchPort) (i : ℕ) → IsIn x (take i whole) → IsSplit xs whole i q → IsSplit (x ∷ xs) whole i q
 split_more x q xs whole i here rest = record { before = x ∷ rest.before; after = rest.after; is = ap (λ ys. x ∷ ys) rest.is; known = (here, rest.known) }
 
@@ -121,7 +110,7 @@ add_split (x ∷ xs) inputs i q low at =
             | inl first ↦
                 let rest = add_longer xs (inputs ++ x ∷ []) in
                 let here : slice_get (add_all (inputs ++ x ∷ []) xs) i ≡ Some x = ap (slice_get (add_all (inputs ++ x ∷ []) xs)) first ∙ ap (λ (ys : List SwitchPort). slice_get ys (length inputs)) (rest.1 ∙ append_assoc inputs (x ∷ []) rest.0) ∙ at_seam inputs rest.0 x in
-                record { before = []; after = xs; is = ap (λ y. y ∷ xs) (Some-port x q (sym here ∙ there)); known = tt }
+                record { before = []; after = xs; is = ap (λ y. y ∷ xs) (same_Some x q (sym here ∙ there)); known = tt }
             | inr later ↦
                 let far : length (inputs ++ x ∷ []) ≤ i = omega (arith, low, later, grown) in
                 split_more x q xs (add_all (inputs ++ x ∷ []) xs) i (prefix_in x (inputs ++ x ∷ []) (add_all (inputs ++ x ∷ []) xs) i far (add_longer xs (inputs ++ x ∷ [])) (in_right x inputs (x ∷ []) (in_here x [])))
@@ -138,10 +127,7 @@ behind_same f g (Some (Port.Terminal u) ∷ es) each = behind_same f g es (λ s 
 behind_same f g (Some (Port.Switch s i) ∷ es) each = rw (each s i (inl refl)) (ap (λ ys. g (port_of s i) ++ ys) (behind_same f g es (λ t j is. each t j (inr is))))
 
 at_same : (routes : Routes) (f g : SwitchPort → List SwitchPort) (p : SwitchPort) (o : Option Select) → ((link s i : ℕ) → o ≡ Some (Link link) → IsAmong (Some (Port.Switch s i)) (group_peers routes p.switch link) → f (port_of s i) ≡ g (port_of s i)) → met_at routes f p o ≡ met_at routes g p o
-at_same routes f g p None each = refl
-at_same routes f g p (Some Discard) each = refl
-at_same routes f g p (Some Sink) each = refl
-at_same routes f g p (Some (Link link)) each = behind_same f g (group_peers routes p.switch link) (λ s i is. each link s i refl is)
+at_same routes f g p o each = search (arith, behind_same)
 
 homes_on : (routes : Routes) (r k s i link : ℕ) (p : SwitchPort) → select routes p.switch p.link r ≡ Some (Link link) → IsAmong (Some (Port.Switch s i)) (group_peers routes p.switch link) → Homes routes r (suc k) p.switch p.link → Homes routes r k s i
 homes_on routes r k s i link p at among homes =
@@ -172,10 +158,6 @@ reaches_first routes r (suc m) p z q follows (y, reaches, last) = (y, reaches_fi
 
 abbrev pub IsReachedPortal : Routes → ℕ → SwitchPort → SwitchPort → Type 0
 IsReachedPortal routes r p q = (m : ℕ) × Reaches routes r m p q × (select routes q.switch q.link r ≡ Some Discard)
-
-or_cases : (a b : Bool) → (a || b) ≡ true → (a ≡ true) ⊎ (b ≡ true)
-or_cases true b is = inl refl
-or_cases false b is = inr is
 
 behind_portal : (routes : Routes) (r : ℕ) (p q : SwitchPort) (f : SwitchPort → List SwitchPort) (es : List (Option Port)) → ((s i : ℕ) → IsAmong (Some (Port.Switch s i)) es → IsIn q (f (port_of s i)) → IsReachedPortal routes r p q) → IsIn q (met_behind f es) → IsReachedPortal routes r p q
 behind_portal routes r p q f [] each is = absurd cc
@@ -225,8 +207,7 @@ on_met routes r k p z q net (g, o, at, joined, there) is =
 
 -- what homes is over at least one switch
 homes_more : (routes : Routes) (r k : ℕ) (p : SwitchPort) → Homes routes r k p.switch p.link → (j : ℕ) × (k ≡ suc j)
-homes_more routes r zero p homes = absurd homes
-homes_more routes r (suc k) p homes = (k, refl)
+homes_more routes r k p homes = search arith
 
 pub met_reached : (routes : Routes) (r k m : ℕ) (p z q : SwitchPort) → IsNetwork routes → Homes routes r k p.switch p.link → Reaches routes r m p z → (j : ℕ) × Homes routes r j z.switch z.link × (IsIn q (met_from routes r j z) → IsIn q (met_from routes r k p))
 met_reached routes r k zero p z q net homes same = (k, subst (λ (x : SwitchPort). Homes routes r k x.switch x.link) same homes, λ is. subst (λ (x : SwitchPort). IsIn q (met_from routes r k x)) (sym same) is)
@@ -253,8 +234,7 @@ below_met routes p q r (suc h) low random is =
     ]
 
 if_met : (q : SwitchPort) (b : Bool) (xs : List SwitchPort) → IsIn q (met_if b xs) → (b ≡ true) × IsIn q xs
-if_met q true xs is = (refl, is)
-if_met q false xs is = absurd cc
+if_met q b xs is = search arith
 
 met_random : (routes : Routes) (p q : SwitchPort) (h : ℕ) → IsIn q (met_below routes p h) → (r : ℕ) × (r < h) × (is_random_at routes p r ≡ true) × IsIn q (met_from routes r (most_hops routes) p)
 met_random routes p q zero is = absurd cc
@@ -265,10 +245,7 @@ met_random routes p q (suc h) is =
     ]
 
 pub met_is_portal : (routes : Routes) (p q : SwitchPort) → IsIn q (portals_met routes p) → IsPortal routes p q
-met_is_portal routes p q is =
-    let found = met_random routes p q (header_count routes) is in
-    let there = met_portal routes found.0 (most_hops routes) p q found.3 in
-    (found.0, there.0, random_at_tells routes p found.0 found.1 found.2, there.1, there.2)
+met_is_portal routes p q is = search (arith, met_random, met_portal, random_at_tells)
 
 pub portal_is_met : (routes : Routes) (p q : SwitchPort) → IsNetwork routes → ((r : ℕ) → IsRandomAt routes p r → Homes routes r (most_hops routes) p.switch p.link) → IsPortal routes p q → IsIn q (portals_met routes p)
 portal_is_met routes p q net homes (r, m, random, reaches, discards) =
@@ -285,11 +262,7 @@ joined_walked routes r walked old new p (Ok x) is are = walked_kept routes r wal
 joined_walked routes r walked old new p (Err x) is are = tt
 
 walked_at : (n : ℕ) (walked : List Bool) (p q : SwitchPort) → IsInput n p → IsInput n q → (q ≡ p) ⊎ (slice_index_or (slice_set walked (place p) true) (place q) false ≡ slice_index_or walked (place q) false)
-walked_at n walked p q a b =
-    elim (cases_eq (place q) (place p)) [
-      | inl same ↦ inl (place-same n q p b a same)
-      | inr differ ↦ inr (get_or-set_other walked (place p) (place q) true false differ)
-    ]
+walked_at n walked p q a b = search (arith, cases_eq, place-same, get_or-set_other)
 
 -- and an input behind which all that is met joined
 pub walked_more : (routes : Routes) (r hops k : ℕ) (walked : List Bool) (old new : List SwitchPort) (p : SwitchPort) → k ≡ place p → IsInput (length routes.settings) p → Homes routes r hops p.switch p.link → new ≡ add_all old (met_from routes r hops p) → AreWalked routes r walked new → AreWalked routes r (slice_set walked k true) new
@@ -319,14 +292,10 @@ link_leaves : (routes : Routes) (r link : ℕ) (p : SwitchPort) (group : Group) 
 link_leaves routes r link p group is low high = (is.link, link, is.selects, is.members link ∙ rw (le-leb group.first link low, le-leb link group.last high) refl, refl)
 
 roams_input : (next : ℕ → ℕ → Type 0) (e : Option Port) → Roams next e → LeadsToInput e
-roams_input next None roams = roams
-roams_input next (Some (Port.Terminal u)) roams = roams
-roams_input next (Some (Port.Switch s i)) roams = tt
+roams_input next e roams = search arith
 
 pub link_input : (routes : Routes) (r hops link : ℕ) (p : SwitchPort) (group : Group) → IsSelected routes r p group → group.first ≤ link → link < group.last + 1 → Homes routes r hops p.switch p.link → LeadsToInput (routes.peer (Port.Switch p.switch link))
-link_input routes r zero link p group is low high homes = absurd homes
-link_input routes r (suc k) link p group is low high homes =
-    roams_input (Homes routes r k) (routes.peer (Port.Switch p.switch link)) (leaves_comes routes r Portal k p (routes.peer (Port.Switch p.switch link)) (link_leaves routes r link p group is low (omega (arith, high))) homes)
+link_input routes r hops link p group is low high homes = search (arith, roams_input, leaves_comes, link_leaves)
 
 pub link_homes : (routes : Routes) (r hops link : ℕ) (p next : SwitchPort) (group : Group) → IsSelected routes r p group → group.first ≤ link → link < group.last + 1 → routes.peer (Port.Switch p.switch link) ≡ Some (to_port next) → Homes routes r hops p.switch p.link → (hops - 1 < hops) × Homes routes r (hops - 1) next.switch next.link
 link_homes routes r zero link p next group is low high there homes = absurd homes
@@ -344,6 +313,4 @@ link_next routes f s link end old new whole next below there is rest =
     ap (λ (ys : List SwitchPort). add_all ys later) is ∙ sym (add_append (f next) later old) ∙ ap (add_all old) (sym here) ∙ rest
 
 pub links_end : (routes : Routes) (f : SwitchPort → List SwitchPort) (s link end : ℕ) (now whole : List SwitchPort) → end ≤ link → add_all now (met_behind f (run_peers routes s link (end - link))) ≡ whole → now ≡ whole
-links_end routes f s link end now whole past rest =
-    let none : end - link ≡ 0 = omega (arith, past) in
-    sym (ap (λ n. add_all now (met_behind f (run_peers routes s link n))) none) ∙ rest
+links_end routes f s link end now whole past rest = search arith

@@ -1,17 +1,16 @@
 -- Random headers.
 use Rattle.c104_check.{proofs.RefusalLemmas.entry_same, specs.{Portals.{is_random, is_random_at, is_random_set}, Routes.IsEntryOf}}
 use Rattle.c104_check.specs.Routes.{IsRandom, IsRandomAt, IsRandomIn, Routes, SwitchPort, header_count, link_settings, random_count}
-use Rattle.{c104_check.specs.Trails.IsNetwork, c104_regs.specs.declared.settings.Settings.Settings, std.proofs.Common.{Bool, None, Option}}
-use Rattle.std.proofs.Common.{Some, ap, arith, cond, false, inl, inr, length, nat_lt, refl, subst, suc, sym, true, ℕ, ◌%◌, ◌&&◌, ◌+◌, ◌-◌}
-use Rattle.std.proofs.{Common.{◌<◌, ◌∙◌, ◌≡◌, ◌≤◌, ◌⊎◌}, lemmas.Bool.{cases_lt, lt-ltb, ltb-true}}
+use Rattle.{c104_check.specs.Trails.IsNetwork, c104_regs.specs.declared.settings.Settings.Settings, std.proofs.Common.{Bool, Option, Some}}
+use Rattle.std.proofs.Common.{ap, arith, cond, false, length, nat_lt, subst, suc, sym, true, ℕ, ◌%◌, ◌+◌, ◌-◌, ◌<◌, ◌∙◌, ◌≡◌, ◌≤◌, ◌⊎◌}
+use Rattle.std.proofs.lemmas.Bool.{and_parts, cases_lt, lt-ltb, ltb-true}
 
 -- how many headers there are
 abbrev pub IsCount : ℕ → Type 0
 IsCount count = (count ≡ 256) ⊎ (count ≡ 65536)
 
 count_of : (b : Bool) → IsCount (cond b 65536 256)
-count_of true = inr refl
-count_of false = inl refl
+count_of b = search arith
 
 pub counts : (routes : Routes) → IsCount (header_count routes)
 counts routes = count_of (nat_lt 1 routes.header)
@@ -44,32 +43,23 @@ before_large base k g is = omega (arith, is)
 
 -- The test
 
-and_both : (a b : Bool) → (a && b) ≡ true → (a ≡ true) × (b ≡ true)
-and_both true b is = (refl, is)
-and_both false b is = absurd cc
-
 round_by : (count base n r : ℕ) → IsCount count → r < count → (r + count - base % count) % count < n → r ≡ (base + (r + count - base % count) % count) % count
-round_by count base n r (inl small) low is = subst (λ c. r ≡ (base + (r + c - base % c) % c) % c) (sym small) (round_small base n r (omega (arith, low, small)) (subst (λ c. (r + c - base % c) % c < n) small is))
-round_by count base n r (inr large) low is = subst (λ c. r ≡ (base + (r + c - base % c) % c) % c) (sym large) (round_large base n r (omega (arith, low, large)) (subst (λ c. (r + c - base % c) % c < n) large is))
+round_by count base n r h1 low is = search (arith, round_small, round_large)
 
 back_by : (count base n k r : ℕ) → IsCount count → k < n → r ≡ (base + k) % count → (r + count - base % count) % count < n
-back_by count base n k r (inl small) low is = subst (λ c. (r + c - base % c) % c < n) (sym small) (back_small base n k r low (subst (λ c. r ≡ (base + k) % c) small is))
-back_by count base n k r (inr large) low is = subst (λ c. (r + c - base % c) % c < n) (sym large) (back_large base n k r low (subst (λ c. r ≡ (base + k) % c) large is))
+back_by count base n k r h1 low is = search (arith, back_small, back_large)
 
 random_tells : (count : ℕ) (x : Settings) (r : ℕ) → IsCount count → r < count → is_random count x r ≡ true → IsRandom count x r
 random_tells count x r size below is =
-    let both = and_both x.randomize (nat_lt ((r + count - x.random_base % count) % count) (random_count x)) is in
+    let both = and_parts x.randomize (nat_lt ((r + count - x.random_base % count) % count) (random_count x)) is in
     let low = ltb-true ((r + count - x.random_base % count) % count) (random_count x) both.1 in
     (both.0, ((r + count - x.random_base % count) % count, low, round_by count x.random_base (random_count x) r size below low))
 
 random_told : (count : ℕ) (x : Settings) (r : ℕ) → IsCount count → IsRandom count x r → is_random count x r ≡ true
-random_told count x r size (random, (k, low, is)) =
-    let near = lt-ltb ((r + count - x.random_base % count) % count) (random_count x) (back_by count x.random_base (random_count x) k r size low is) in
-    rw random near
+random_told count x r size h2 = search (arith, lt-ltb, back_by)
 
 set_tells : (count r : ℕ) (o : Option Settings) → IsCount count → r < count → is_random_set count o r ≡ true → (x : Settings) × (o ≡ Some x) × IsRandom count x r
-set_tells count r None size below is = absurd cc
-set_tells count r (Some x) size below is = (x, refl, random_tells count x r size below is)
+set_tells count r o size below is = search (arith, random_tells)
 
 set_told : (count r : ℕ) (o : Option Settings) (x : Settings) → IsCount count → o ≡ Some x → IsRandom count x r → is_random_set count o r ≡ true
 set_told count r o x size at random = ap (λ (y : Option Settings). is_random_set count y r) at ∙ random_told count x r size random
@@ -81,8 +71,7 @@ pub random_at_told : (routes : Routes) (p : SwitchPort) (r : ℕ) → IsRandomAt
 random_at_told routes p r (x, set, random) = set_told (header_count routes) r (link_settings routes.settings p) x (counts routes) set random
 
 mod_below : (count n : ℕ) → IsCount count → n % count < count
-mod_below count n (inl small) = subst (λ c. n % c < c) (sym small) (omega arith)
-mod_below count n (inr large) = subst (λ c. n % c < c) (sym large) (omega arith)
+mod_below count n h1 = search arith
 
 -- each is a header
 pub random_header : (routes : Routes) (p : SwitchPort) (r : ℕ) → IsRandomAt routes p r → r < header_count routes
@@ -98,15 +87,7 @@ abbrev pub NoneRandomBefore : Routes → ℕ → ℕ → Type 0
 NoneRandomBefore routes h n = (t : ℕ) (p : SwitchPort) → t < n → IsEntryOf routes t p → IsRandomAt routes p h → ⊥
 
 pub none_random_next : (routes : Routes) (h n : ℕ) (p : SwitchPort) → IsEntryOf routes n p → is_random_at routes p h ≡ false → NoneRandomBefore routes h n → NoneRandomBefore routes h (n + 1)
-none_random_next routes h n p entry not none t q below wired random =
-    elim (cases_lt t n) [
-      | inl lower ↦ none t q lower wired random
-      | inr past ↦
-          let same : t ≡ n = omega (arith, below, past) in
-          let here : q ≡ p = entry_same routes n q p (subst (λ x. IsEntryOf routes x q) same wired) entry in
-          let told = random_at_told routes p h (subst (λ (x : SwitchPort). IsRandomAt routes x h) here random) in
-          let clash : true ≡ false = sym told ∙ not in absurd cc
-    ]
+none_random_next routes h n p entry not none t q below wired random = search (arith, cases_lt, entry_same, random_at_told)
 
 pub none_random : (routes : Routes) (h n : ℕ) → IsNetwork routes → length routes.ranges ≤ n → NoneRandomBefore routes h n → IsRandomIn routes h → ⊥
 none_random routes h n net past none (t, p, entry, random) = let low = net.terminals t p entry in none t p (omega (arith, low, past)) entry random

@@ -4,20 +4,14 @@ use Rattle.c104_check.specs.{Dependencies.{Dependency, dependency_at}, Ranks.{ra
 use Rattle.{c104_regs.proofs.RegisterLemmas.get_or-same, std.proofs.Common.{List, None, Option, Some, [], ap, arith, false, inl, inr}}
 use Rattle.std.proofs.Common.{length, refl, replicate, slice_set, subst, suc, sym, true, zero, ℕ, ◌*◌, ◌+◌, ◌-◌, ◌<◌, ◌∙◌, ◌∷◌, ◌≡◌, ◌≢◌}
 use Rattle.std.proofs.{Common.◌≤◌, lemmas.{Bool.{Decides.eqb_tells, cases_lt}, List.{get_or-set_other, get_or-set_same, length-set}}}
-
-same_entry : {X : Type 0} (x y : X) → Some x ≡ Some y → x ≡ y
-same_entry x y is = cc
+use Rattle.std.proofs.lemmas.Option.{same_Some}
 
 -- over one link more
 pub above_next : (table : List (Option Dependency)) (ranks : List ℕ) (p link most top : ℕ) → ((o : ℕ) (d : Dependency) → o < link → dependency_at table (p * 32 + o) ≡ Some d → rank_in ranks d.next ≤ most) → most ≤ top → ((d : Dependency) → dependency_at table (p * 32 + link) ≡ Some d → rank_in ranks d.next ≤ top) → (o : ℕ) (d : Dependency) → o < link + 1 → dependency_at table (p * 32 + o) ≡ Some d → rank_in ranks d.next ≤ top
-above_next table ranks p link most top before up here o d below is =
-    elim (cases_lt o link) [
-      | inl lower ↦ let b = before o d lower is in omega (arith, b, up)
-      | inr not ↦ let same : o ≡ link = omega (arith, below, not) in here d (sym (ap (λ k. dependency_at table (p * 32 + k)) same) ∙ is)
-    ]
+above_next table ranks p link most top before up here o d below is = search (arith, cases_lt)
 
 pub above_one : (table : List (Option Dependency)) (ranks : List ℕ) (k top : ℕ) (e : Dependency) → dependency_at table k ≡ Some e → rank_in ranks e.next ≤ top → (d : Dependency) → dependency_at table k ≡ Some d → rank_in ranks d.next ≤ top
-above_one table ranks k top e there low d is = subst (λ (x : Dependency). rank_in ranks x.next ≤ top) (same_entry e d (sym there ∙ is)) low
+above_one table ranks k top e there low d is = subst (λ (x : Dependency). rank_in ranks x.next ≤ top) (same_Some e d (sym there ∙ is)) low
 
 pub above_none : (table : List (Option Dependency)) (ranks : List ℕ) (k top : ℕ) → dependency_at table k ≡ None → (d : Dependency) → dependency_at table k ≡ Some d → rank_in ranks d.next ≤ top
 above_none table ranks k top none d is = absurd (let clash : None ≡ Some d = sym none ∙ is in cc)
@@ -95,7 +89,4 @@ unranked_low (suc x ∷ xs) = (let rest = unranked_low xs in let goal : unranked
 
 -- no ranks yet
 pub part_none : (table : List (Option Dependency)) (n : ℕ) → ArePartialRanks table (replicate n 0)
-part_none table n = record {
-  falls = λ p d some of. absurd (let none : rank_at (replicate n 0) p ≡ 0 = get_or-same n p 0 in omega (arith, some, none));
-  low = λ p. (let none : rank_at (replicate n 0) p ≡ 0 = get_or-same n p 0 in let few = unranked_low (replicate n 0) in omega (arith, none, few));
-}
+part_none table n = search (arith, falls, replicate, get_or-same, low, unranked_low)

@@ -1,18 +1,15 @@
 -- Headers that are refused, and those that come where they should.
 use Rattle.c104_check.proofs.{FirstWalkLemmas.fault_first, ShownLemmas.{fault_lands, fault_shown, shown_fails, shown_never}}
 use Rattle.c104_check.specs.{Checks.{IsRefusedAt, Shown}, Refusals.{AllLand, IsFirstIn, IsFirstOf, IsRefusal, IsSpared, LandSoFar}}
-use Rattle.c104_check.specs.{Refusals.{LandsBefore, LandsFrom, Refusal, Start}, Routes.{IsEntryOf, IsRandomIn, Lands, Routes, SwitchPort}}
+use Rattle.c104_check.specs.{Refusals.{LandsBefore, LandsFrom, Refusal, Start}, Routes.{IsEntryOf, IsRandomIn, Routes, SwitchPort}}
 use Rattle.c104_check.specs.{Routes.{header_count, owner}, Trails.{IsInput, IsNetwork}, Walking.fault_on, Walks.{WalkFault, fault_at}}
-use Rattle.c104_check.specs.{Walks.{first_fault, port_of}, declared.walks.Goal.TheVariants.Owner}
-use Rattle.{c104_plan.specs.declared.ports.Port.Port, std.proofs.Common.{List, MatchOption, None, Option, Some, [], ap, arith, false, inl}}
-use Rattle.std.proofs.Common.{inr, is_some, length, refl, slice_get, subst, sym, true, ℕ, ◌*◌, ◌+◌, ◌-◌, ◌<◌, ◌∙◌, ◌∷◌, ◌≡◌}
-use Rattle.std.proofs.lemmas.Bool.{cases_lt}
+use Rattle.{c104_check.specs.{Walks.port_of, declared.walks.Goal.TheVariants.Owner}, c104_plan.specs.declared.ports.Port.Port}
+use Rattle.std.proofs.Common.{List, MatchOption, None, Option, Some, [], ap, arith, false, is_some, length, refl, slice_get, subst, sym}
+use Rattle.std.proofs.{Common.{true, ℕ, ◌+◌, ◌<◌, ◌∙◌, ◌≡◌}, lemmas.{Bool.cases_lt, Option.same_Some}}
 
 -- a walk that goes on to an entry is the whole walk
 pub entry_is : (routes : Routes) (h t : ℕ) (p : SwitchPort) → fault_on routes h (Owner t) [] p ≡ fault_at routes h p (Some t)
-entry_is routes h t p =
-    let k : 32 * length routes.settings + 1 - 1 ≡ 32 * length routes.settings = omega arith in
-    ap (λ n. first_fault routes h (Owner t) n (p ∷ []) p) k
+entry_is routes h t p = search arith
 
 switch_of : Option Port → ℕ
 switch_of (Some (Port.Switch s l)) = s
@@ -27,26 +24,17 @@ link_of None = 0
 -- a terminal has one entry
 pub entry_same : (routes : Routes) (t : ℕ) (p q : SwitchPort) → IsEntryOf routes t p → IsEntryOf routes t q → p ≡ q
 unfolding switch_of link_of
-entry_same routes t p q a b =
-    let both = sym a ∙ b in
-    let s : p.switch ≡ q.switch = ap switch_of both in
-    let l : p.link ≡ q.link = ap link_of both in
-    ap (λ x. port_of x p.link) s ∙ ap (λ x. port_of q.switch x) l
+entry_same routes t p q a b = search (arith, link_of)
 
 -- some start, for a place past the last
 abbrev pub no_start : Start
 no_start = record { terminal = 0; at = port_of 0 0; behind = false }
 
-Some-start : (x y : Start) → Some x ≡ Some y → x ≡ y
-Some-start x y is = cc
-
 pub lands_from : (routes : Routes) (starts : List Start) (h k : ℕ) (start : Start) (o : Option ℕ) → IsNetwork routes → slice_get starts k ≡ Some start → owner routes h ≡ o → fault_at routes h start.at o ≡ None → LandsFrom routes starts h k
-lands_from routes starts h k start o net at own is other there =
-    inl (subst (λ (x : Start). Lands routes h x.at (owner routes h)) (Some-start start other (sym at ∙ there)) (subst (Lands routes h start.at) (sym own) (fault_lands routes h start.at o net is)))
+lands_from routes starts h k start o net at own is other there = search (arith, same_Some, fault_lands)
 
 pub spared_from : (routes : Routes) (starts : List Start) (h k : ℕ) (start : Start) → slice_get starts k ≡ Some start → owner routes h ≡ None → start.behind ≡ true → IsRandomIn routes h → LandsFrom routes starts h k
-spared_from routes starts h k start at own behind random other there =
-    inr (own, subst (λ (x : Start). x.behind ≡ true) (Some-start start other (sym at ∙ there)) behind, random)
+spared_from routes starts h k start at own behind random other there = search (arith, same_Some)
 
 pub refused_at : (routes : Routes) (h : ℕ) (q : SwitchPort) (o : Option ℕ) (why : WalkFault) (shown : Shown) → IsNetwork routes → IsInput (length routes.settings) q → owner routes h ≡ o → shown.header ≡ h → fault_at routes h q o ≡ Some (why, shown.walk) → IsRefusedAt routes q why shown
 refused_at routes h q o why shown net here own is found =
@@ -62,15 +50,7 @@ refused_at routes h q o why shown net here own is found =
     }
 
 pub refusal_from : (routes : Routes) (starts : List Start) (h k : ℕ) (start : Start) (o : Option ℕ) (refusal : Refusal) → IsNetwork routes → IsInput (length routes.settings) start.at → slice_get starts k ≡ Some start → owner routes h ≡ o → refusal.start ≡ k → refusal.shown.entry ≡ start.terminal → refusal.shown.header ≡ h → fault_at routes h start.at o ≡ Some (refusal.why, refusal.shown.walk) → (IsSpared routes h start → ⊥) → IsRefusal routes starts h k refusal
-refusal_from routes starts h k start o refusal net here at own number terminal header is not_spared = record {
-  number = number;
-  start = start;
-  at = at;
-  terminal = terminal;
-  header = header;
-  refused = refused_at routes h start.at o refusal.why refusal.shown net here own header is;
-  not_spared = not_spared;
-}
+refusal_from routes starts h k start o refusal net here at own number terminal header is not_spared = search (arith, refused_at)
 
 -- one with an owner is not spared
 pub owned_spared : (routes : Routes) (h t : ℕ) (start : Start) → owner routes h ≡ Some t → IsSpared routes h start → ⊥
@@ -79,13 +59,7 @@ owned_spared routes h t start own spared = let clash : Some t ≡ None = sym own
 -- Start by start
 
 pub first_of_starts : (routes : Routes) (starts : List Start) (h k n : ℕ) (refusal : Refusal) → k < n → LandsBefore routes starts h k → IsRefusal routes starts h k refusal → IsFirstOf routes starts h n refusal
-first_of_starts routes starts h k n refusal below before refused =
-    let at = refused.number in
-    record {
-      inside = omega (arith, at, below);
-      before = subst (LandsBefore routes starts h) (sym at) before;
-      refused = subst (λ x. IsRefusal routes starts h x refusal) (sym at) refused;
-    }
+first_of_starts routes starts h k n refusal below before refused = search arith
 
 -- what was found at the next start
 pub first_found : (routes : Routes) (starts : List Start) (h k n : ℕ) (found : Option Refusal) → is_some found ≡ true → k < n → LandsBefore routes starts h k → MatchOption found (LandsFrom routes starts h k) (IsRefusal routes starts h k) → MatchOption found (LandsBefore routes starts h n) (IsFirstOf routes starts h n)
@@ -101,15 +75,10 @@ IsFirstSoFar routes starts h n (Some refusal) =
     (n ≡ refusal.start) × (refusal.shown.header < h) × IsRefusal routes starts refusal.shown.header refusal.start refusal × ((g : ℕ) → g < refusal.shown.header → LandsFrom routes starts g refusal.start)
 
 pub so_far_kept : (routes : Routes) (starts : List Start) (h n : ℕ) (first : Option Refusal) → IsFirstSoFar routes starts h n first → IsFirstSoFar routes starts (h + 1) n first
-so_far_kept routes starts h n None is = is
-so_far_kept routes starts h n (Some refusal) (at, below, refused, lower) = (at, omega (arith, below), refused, lower)
+so_far_kept routes starts h n first is = search arith
 
 pub land_kept : (routes : Routes) (starts : List Start) (h n : ℕ) → LandSoFar routes starts h n → LandsBefore routes starts h n → LandSoFar routes starts (h + 1) n
-land_kept routes starts h n before here g below =
-    elim (cases_lt g h) [
-      | inl lower ↦ before g lower
-      | inr not ↦ let same : g ≡ h = omega (arith, below, not) in subst (λ x. LandsBefore routes starts x n) (sym same) here
-    ]
+land_kept routes starts h n before here g below = search (arith, cases_lt)
 
 pub so_far_next : (routes : Routes) (starts : List Start) (h n : ℕ) (refusal : Refusal) → LandSoFar routes starts h n → IsFirstOf routes starts h n refusal → IsFirstSoFar routes starts (h + 1) refusal.start (Some refusal)
 so_far_next routes starts h n refusal before is =

@@ -35,9 +35,7 @@ get_back (z ∷ xs) y (suc k) x at =
     ]
 
 land_front : (routes : Routes) (starts : List Start) (start : Start) → AllLand routes (starts ++ start ∷ []) → AllLand routes starts
-land_front routes starts start all h below k x inside at =
-    let grown = length-append starts (start ∷ []) in
-    all h below k x (omega (arith, inside, grown)) (get_front starts start k x at)
+land_front routes starts start all h below k x inside at = search (arith, length-append, get_front)
 
 land_last : (routes : Routes) (starts : List Start) (start : Start) → AllLand routes (starts ++ start ∷ []) → (h : ℕ) → h < header_count routes → LandsAt routes h start
 land_last routes starts start all h below =
@@ -46,13 +44,7 @@ land_last routes starts start all h below =
 
 -- what holds of each member and of those before it
 pub each_more : {X : Type 0} (P : List X → X → Type 0) (xs : List X) (y : X) → ((k : ℕ) (x : X) → slice_get xs k ≡ Some x → P (take k xs) x) → P xs y → (k : ℕ) (x : X) → slice_get (xs ++ y ∷ []) k ≡ Some x → P (take k (xs ++ y ∷ [])) x
-each_more P xs y each last k x at =
-    elim (get_back xs y k x at) [
-      | inl there ↦ let low = there.0 in subst (λ ys. P ys x) (sym (take-append-le k xs (y ∷ []) (omega (arith, low)))) (each k x there.1)
-      | inr end ↦
-          let whole : take k (xs ++ y ∷ []) ≡ xs = ap (λ n. take n (xs ++ y ∷ [])) end.0 ∙ take-append-le (length xs) xs (y ∷ []) (omega arith) ∙ take_all (length xs) xs (omega arith) in
-          subst (λ ys. P ys x) (sym whole) (subst (P xs) end.1 last)
-    ]
+each_more P xs y each last k x at = search (arith, get_back, take-append-le, take_all)
 
 pub starts_more : (routes : Routes) (starts : List Start) (start : Start) → AreStarts routes starts → IsNext routes starts start → AreStarts routes (starts ++ start ∷ [])
 starts_more routes starts start are next = each_more (IsNext routes) starts start are next
@@ -63,8 +55,7 @@ pub no_behind : (routes : Routes) (h : ℕ) (start : Start) → start.behind ≡
 no_behind routes h start front spared = let clash : true ≡ false = sym spared.1 ∙ front in cc
 
 pub lands_own : (routes : Routes) (h : ℕ) (start : Start) → start.behind ≡ false → LandsAt routes h start → Lands routes h start.at (owner routes h)
-lands_own routes h start front (inl lands) = lands
-lands_own routes h start front (inr spared) = absurd (no_behind routes h start front spared)
+lands_own routes h start front h2 = search (arith, no_behind)
 
 pub random_is_randomized : (routes : Routes) (p : SwitchPort) (r : ℕ) → IsRandomAt routes p r → IsRandomized routes p
 random_is_randomized routes p r (x, set, (random, is)) = (x, set, random)
@@ -74,13 +65,7 @@ module _ (routes : Routes) (net : IsNetwork routes) (starts : List Start) (t : �
   own_start = record { terminal = t; at = p; behind = false }
 
   pub plain_starts : AreStarts routes (starts ++ own_start ∷ [])
-  plain_starts = starts_more routes starts own_start are (record {
-    entry = p;
-    wired = wired;
-    input = (here, wired_entry routes t p net wired);
-    terminals = covers;
-    kind = inl (refl, refl, plain);
-  })
+  plain_starts = search (arith, starts_more, wired_entry)
 
   plain_entry : AllLand routes (starts ++ own_start ∷ []) → EntryLands routes p
   plain_entry all = record {
@@ -104,10 +89,7 @@ portals_front routes starts start portals covers all = covers (land_front routes
 -- At one where they are
 
 lands_behind : (routes : Routes) (h t : ℕ) (q : SwitchPort) (o : Option ℕ) → owner routes h ≡ o → LandsAt routes h (start_behind t q) → LandsBehind routes h q o
-lands_behind routes h t q None own (inl lands) = λ not. subst (Lands routes h q) own lands
-lands_behind routes h t q None own (inr spared) = λ not. absurd (not spared.2)
-lands_behind routes h t q (Some u) own (inl lands) = subst (Lands routes h q) own lands
-lands_behind routes h t q (Some u) own (inr spared) = absurd (let clash : Some u ≡ None = sym own ∙ spared.0 in cc)
+lands_behind routes h t q o own h2 = search arith
 
 -- a portal is wired, since some wire leads to it
 pub reached_wired : (routes : Routes) (r m : ℕ) (p q : SwitchPort) → IsNetwork routes → IsWired routes p → Reaches routes r m p q → IsWired routes q
@@ -161,11 +143,7 @@ behind_next routes starts t p q old portals n net wired homes is low at behind =
     wired_at = wired_entry routes t p net wired
 
 pub behind_first : (routes : Routes) (starts : List Start) (t : ℕ) (p : SwitchPort) (old portals : List SwitchPort) → portals ≡ add_all old (portals_met routes p) → AreStarts routes starts → CoverTerminals routes starts t → CoverPortals routes starts old → AreBehind routes t starts portals (length old)
-behind_first routes starts t p old portals is are covers known = record {
-  are = are;
-  covers = covers;
-  cover_portals = λ all. subst (AllByRecursion (PortalLands routes)) (sym (add_front old portals (portals_met routes p) is)) (known all);
-}
+behind_first routes starts t p old portals is are covers known = search (arith, add_front)
 
 -- once all have joined
 pub behind_all : (routes : Routes) (starts : List Start) (t : ℕ) (p : SwitchPort) (old portals : List SwitchPort) (n : ℕ) → IsNetwork routes → IsEntryOf routes t p → IsRandomized routes p → AllHome routes p → portals ≡ add_all old (portals_met routes p) → length portals ≤ n → AreBehind routes t starts portals n → CoverTerminals routes starts (t + 1) × CoverPortals routes starts portals
@@ -193,15 +171,10 @@ take_get (y ∷ xs) (suc k) zero x at = (omega arith, at)
 take_get (y ∷ xs) (suc k) (suc j) x at = let rest = take_get xs k j x at in let low = rest.0 in (omega (arith, low), rest.1)
 
 pub lands_behind_at : (routes : Routes) (h : ℕ) (start : Start) (o : Option ℕ) → owner routes h ≡ o → LandsAt routes h start → LandsBehind routes h start.at o
-lands_behind_at routes h start None own (inl lands) = λ not. subst (Lands routes h start.at) own lands
-lands_behind_at routes h start None own (inr spared) = λ not. absurd (not spared.2)
-lands_behind_at routes h start (Some u) own (inl lands) = subst (Lands routes h start.at) own lands
-lands_behind_at routes h start (Some u) own (inr spared) = absurd (let clash : Some u ≡ None = sym own ∙ spared.0 in cc)
+lands_behind_at routes h start o own h2 = search arith
 
 lands_front : (routes : Routes) (starts : List Start) (k : ℕ) (start : Start) → slice_get starts k ≡ Some start → ((h : ℕ) → h < header_count routes → (j : ℕ) (x : Start) → j < k → slice_get starts j ≡ Some x → LandsAt routes h x) → AllLand routes (take k starts)
-lands_front routes starts k start at before h below j x inside there =
-    let found = take_get starts k j x there in
-    before h below j x found.0 found.1
+lands_front routes starts k start at before h below j x inside there = search (arith, take_get)
 
 pub told_first : (routes : Routes) (starts : List Start) (refusal : Refusal) → IsNetwork routes → AreStarts routes starts → IsFirstIn routes starts refusal → IsFirstRefused routes refusal.why refusal.shown
 told_first routes starts refusal net are first =
@@ -250,37 +223,23 @@ pub none_told : (routes : Routes) (starts : List Start) → IsNetwork routes →
 none_told routes starts net all covers t p wired = covers all t (net.terminals t p wired) p wired
 
 pub told_last : (routes : Routes) (starts : List Start) (found : Option Refusal) → IsNetwork routes → AllLand routes starts → MatchOption found (CoverTerminals routes starts (length routes.ranges)) (IsFirstRandom routes starts) → MatchOption found ((t : ℕ) → TerminalLands routes t) (λ refusal. IsFirstRefused routes refusal.why refusal.shown)
-told_last routes starts None net all is = none_told routes starts net all is
-told_last routes starts (Some refusal) net all is = told_random routes starts refusal net all is
+told_last routes starts found net all is = search (arith, none_told, told_random)
 
 pub starts_inputs : (routes : Routes) (starts : List Start) → AreStarts routes starts → AreInputs routes starts
 starts_inputs routes starts are k start at = (are k start at).input
 
 pub first_random_of : (routes : Routes) (starts : List Start) (t : ℕ) (p : SwitchPort) (found : Option Refusal) → is_some found ≡ true → IsEntryOf routes t p → CoverTerminals routes starts t → MatchOption found (AllHome routes p) (IsFirstRandomAt routes t p) → (P : Type 0) → MatchOption found P (IsFirstRandom routes starts)
-first_random_of routes starts t p None some wired covers is P = absurd cc
-first_random_of routes starts t p (Some refusal) some wired covers is P = record {
-  entry = p;
-  wired = subst (λ n. IsEntryOf routes n p) (sym is.terminal) wired;
-  below = is.below;
-  covers = subst (CoverTerminals routes starts) (sym is.terminal) covers;
-  refused = is.refused;
-}
+first_random_of routes starts t p found some wired covers is P = search arith
 
 some_same : (x y : Settings) → Some x ≡ Some y → x ≡ y
 some_same x y is = cc
 
 pub plain_of : (routes : Routes) (p : SwitchPort) (x : Settings) → link_settings routes.settings p ≡ Some x → x.randomize ≡ false → IsRandomized routes p → ⊥
-plain_of routes p x set plain (y, there, random) =
-    let same : x ≡ y = some_same x y (sym set ∙ there) in
-    let clash : true ≡ false = sym random ∙ sym (ap (λ (z : Settings). z.randomize) same) ∙ plain in cc
+plain_of routes p x set plain h3 = search (arith, some_same)
 
 pub covers_all : (routes : Routes) (starts : List Start) (n : ℕ) → length routes.ranges ≤ n → CoverTerminals routes starts n → CoverTerminals routes starts (length routes.ranges)
 covers_all routes starts n past covers all t below = covers all t (omega (arith, below, past))
 
 -- at an entry where no random headers are put before packets, it is enough that own ones come where they should
 pub plain_lands : (routes : Routes) (p : SwitchPort) → (IsRandomized routes p → ⊥) → ((h : ℕ) → h < header_count routes → Lands routes h p (owner routes h)) → EntryLands routes p
-plain_lands routes p plain lands = record {
-  own = λ not. lands;
-  random = λ r random. absurd (plain (random_is_randomized routes p r random));
-  portals = λ q portal. absurd (plain (random_is_randomized routes p portal.0 portal.2));
-}
+plain_lands routes p plain lands = search (arith, random_is_randomized)

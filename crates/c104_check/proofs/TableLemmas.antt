@@ -1,28 +1,23 @@
 -- What the tables of a network's routes hold.
-use Rattle.c104_check.proofs.{LinkLemmas.{at_place, place_below}, RangeLemmas.{is_large, large_is, owns_has}, RouteLemmas.is_input}
-use Rattle.c104_check.{proofs.RunLemmas.{between, run_is}, specs.Checks.{DeletesInside, HasLarge, IsMixed, IsRandomInside, Meet}}
+use Rattle.c104_check.proofs.{LinkLemmas.place_below, RangeLemmas.{is_large, large_is, owns_has}, RouteLemmas.is_input, RunLemmas.between}
+use Rattle.c104_check.{proofs.RunLemmas.run_is, specs.Checks.{DeletesInside, HasLarge, IsMixed, IsRandomInside, Meet}}
 use Rattle.c104_check.specs.Routes.{IsRandomized, Routes, SwitchPort, has_label, header_count, is_in_group, length_at, length_or_one}
 use Rattle.c104_check.specs.Routes.{link_peers, link_settings, or_no_settings, place, port_at, select, settings_at, settings_in, to_port}
 use Rattle.c104_check.specs.{Trails.{AreWays, IsInput, IsNetwork}, Walks.{Goal, peers_that, ways_of}}
-use Rattle.c104_crossbar.specs.Groups.{AreMembers, group_contains, has_bit}
-use Rattle.{c104_interval.specs.declared.intervals.Select.TheVariants.Link, c104_plan.specs.declared.ports.Port.Port}
-use Rattle.c104_regs.{proofs.ContinueLemmas.{bit-continues_at, bit_at-continue_bits}, specs.Groups.{continue_bits, continues_at}}
-use Rattle.{c104_regs.specs.{Settings.header_length, declared.settings.Settings.Settings}, std.proofs.Common.{Bool, IsTrue, List, None}}
-use Rattle.std.proofs.Common.{Option, Some, [], ap, arith, false, length, map, nat_lt, option_map, refl, slice_get, slice_index_or, subst}
-use Rattle.std.proofs.Common.{sym, take, true, ℕ, ◌&&◌, ◌*◌, ◌++◌, ◌+◌, ◌<◌, ◌↔◌, ◌∙◌, ◌∷◌, ◌≡◌, ◌≤◌}
+use Rattle.{c104_crossbar.specs.Groups.{AreMembers, has_bit}, c104_interval.specs.declared.intervals.Select.TheVariants.Link}
+use Rattle.{c104_plan.specs.declared.ports.Port.Port, c104_regs.proofs.ContinueLemmas.{bit-continues_at, bit_at-continue_bits}}
+use Rattle.{c104_regs.specs.{Groups.continue_bits, Settings.header_length, declared.settings.Settings.Settings}, std.proofs.Common.Bool}
+use Rattle.std.proofs.Common.{IsTrue, List, None, Option, Some, [], ap, arith, false, length, map, nat_lt, option_map, refl, slice_get}
+use Rattle.std.proofs.Common.{slice_index_or, sym, take, true, ℕ, ◌&&◌, ◌*◌, ◌++◌, ◌+◌, ◌<◌, ◌↔◌, ◌∙◌, ◌∷◌, ◌≡◌, ◌≤◌}
 use Rattle.std.proofs.lemmas.List.{FromFn.{get_or-map-range_with_len, length-map-range_with_len}, length-map, take_more}
-use Rattle.std.proofs.lemmas.Option.{get_or_from_slice_get, slice_get-get_or, slice_get-map, slice_get_read, slice_get_within}
-use Rattle.std.specs.Int.{bit_at}
+use Rattle.std.proofs.lemmas.Option.{get_or_from_slice_get, same_Some, slice_get-get_or, slice_get-map, slice_get_read, slice_get_within}
 
 pub peers_length : (far : Port → Option Port) (n : ℕ) → length (link_peers far n) ≡ n * 32
 peers_length far n = length-map-range_with_len (λ k. far (to_port (port_at k))) 0 (n * 32)
 
 -- what is read at a link's place
 pub peer_read : (far : Port → Option Port) (n k : ℕ) (items : List (Option Port)) (p : SwitchPort) (r : Option Port) → items ≡ link_peers far n → IsInput n p → k ≡ place p → r ≡ slice_index_or items k r → r ≡ far (to_port p)
-peer_read far n k items p r are here at is =
-    let below = place_below n p here in
-    let read : slice_index_or (link_peers far n) k r ≡ far (to_port (port_at k)) = get_or-map-range_with_len (λ j. far (to_port (port_at j))) 0 (n * 32) k k r (omega (arith, at, below)) (omega arith) in
-    is ∙ ap (λ xs. slice_index_or xs k r) are ∙ read ∙ ap (λ j. far (to_port (port_at j))) at ∙ ap (λ q. far (to_port q)) (at_place n p here)
+peer_read far n k items p r are here at is = search (arith, place_below, slice_index_or, get_or-map-range_with_len)
 
 -- settings that are read where there are none
 abbrev pub no_settings : Settings
@@ -37,9 +32,7 @@ no_settings = record {
 }
 
 pub settings_read : (all : List (List Settings)) (p : SwitchPort) (inner : List Settings) → p.switch < length all → inner ≡ slice_index_or all p.switch inner → p.link < length inner → link_settings all p ≡ Some (slice_index_or inner p.link no_settings)
-settings_read all p inner below is inside =
-    let first : slice_get all p.switch ≡ Some inner = slice_get_read all (length all) p.switch inner refl below is in
-    ap (λ o. slice_get (or_no_settings o) p.link) first ∙ slice_get-get_or inner p.link no_settings inside
+settings_read all p inner below is inside = search (arith, slice_get_read, slice_get-get_or)
 
 pub length_read : (all : List (List Settings)) (o : Option ℕ) (k n : ℕ) (p : SwitchPort) (x : Settings) → o ≡ Some k → p ≡ port_at k → link_settings all p ≡ Some x → n ≡ header_length x → n ≡ length_at all o
 length_read all o k n p x found at there is = is ∙ sym (ap length_or_one there) ∙ ap (λ q. length_or_one (link_settings all q)) at ∙ ap (length_at all) (sym found)
@@ -49,22 +42,14 @@ settings_links routes s inner net below is = (net.settings s inner (slice_get_re
 
 -- the word of a switch
 word_given : (w : ℕ) (o : Option (List Settings)) → option_map continue_bits o ≡ Some w → w ≡ continue_bits (or_no_settings o)
-word_given w None is = absurd cc
-word_given w (Some inner) is = cc
+word_given w o is = search arith
 
 pub word_read : (all : List (List Settings)) (words : List ℕ) (s w : ℕ) → words ≡ map continue_bits all → s < length all → w ≡ slice_index_or words s w → w ≡ continue_bits (settings_in all s)
-word_read all words s w are below is =
-    let count : length words ≡ length all = ap length are ∙ length-map all continue_bits in
-    let at : slice_get words s ≡ Some w = slice_get_read words (length words) s w refl (omega (arith, below, count)) is in
-    word_given w (slice_get all s) (sym (slice_get-map continue_bits all s) ∙ ap (λ xs. slice_get xs s) (sym are) ∙ at)
+word_read all words s w are below is = search (arith, length-map, slice_get_read, word_given, slice_get-map)
 
 -- the links of a group, by the word
 pub group_members : (routes : Routes) (s g word first last : ℕ) → word ≡ continue_bits (settings_at routes s) → AreMembers (has_bit word) g first last → (o : ℕ) → is_in_group routes s g o ≡ between first last o
-group_members routes s g word first last is members o =
-    let xs = settings_at routes s in
-    let bit : (l : ℕ) → has_bit word l ≡ continues_at xs l = λ l. bit-continues_at xs word (λ k. ap (λ w. bit_at w k) is ∙ bit_at-continue_bits xs k) l in
-    let tests : has_bit word ≡ continues_at xs = λ i l. bit l i in
-    ap (λ f. group_contains f g o) (sym tests) ∙ members o
+group_members routes s g word first last is members o = search (arith, bit-continues_at, bit_at-continue_bits)
 
 pub ways_link : (routes : Routes) (h : ℕ) (t : Goal) (g first last : ℕ) (p : SwitchPort) → select routes p.switch p.link h ≡ Some (Link g) → ((o : ℕ) → is_in_group routes p.switch g o ≡ between first last o) → first ≤ last → last < 32 → AreWays routes h t p first (last + 1)
 ways_link routes h t g first last p at members order below =
@@ -93,18 +78,12 @@ large_of routes xs t count d b are at many is = (
 
 -- Links
 
-Some-same : (x y : Settings) → Some x ≡ Some y → x ≡ y
-Some-same x y is = cc
-
 -- what an index gives stands there, whatever is read past the end
 pub settings_at_index : (inner : List Settings) (l : ℕ) (x : Settings) → l < length inner → x ≡ slice_index_or inner l x → slice_index_or inner l no_settings ≡ x
-settings_at_index inner l x inside is = Some-same (slice_index_or inner l no_settings) x (sym (slice_get-get_or inner l no_settings inside) ∙ slice_get_read inner (length inner) l x refl inside is)
+settings_at_index inner l x inside is = same_Some (slice_index_or inner l no_settings) x (sym (slice_get-get_or inner l no_settings inside) ∙ slice_get_read inner (length inner) l x refl inside is)
 
 pub deletes_is : (routes : Routes) (p q : SwitchPort) (x : Settings) → routes.peer (to_port p) ≡ Some (to_port q) → link_settings routes.settings p ≡ Some x → IsTrue x.delete_header ↔ DeletesInside routes p
-deletes_is routes p q x wired set = (
-  (λ holds. (q, x, wired, set, holds)),
-  (λ deletes. subst (λ (z : Settings). z.delete_header ≡ true) (Some-same deletes.1 x (sym deletes.3 ∙ set)) deletes.4),
-)
+deletes_is routes p q x wired set = search (arith, same_Some)
 
 pub mixed_input : (routes : Routes) → IsNetwork routes → (p : SwitchPort) → IsMixed routes p → IsInput (length routes.settings) p
 mixed_input routes net p (other, x, wired, set, differ) = is_input routes p x net set

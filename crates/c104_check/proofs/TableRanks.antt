@@ -1,23 +1,16 @@
 -- What the table of dependencies, and ranks that fall along those in it, tell of a network.
-use Rattle.c104_check.proofs.{AcyclicLemmas.arrived_input, LinkLemmas.{at_place, first_link, input_at, place_below}, OwnerLemmas.owner_owns}
+use Rattle.c104_check.proofs.{AcyclicLemmas.arrived_input, LinkLemmas.{first_link, input_at, place_below}, OwnerLemmas.owner_owns}
 use Rattle.c104_check.{proofs.{RandomLemmas.random_header, ReachLemmas.input_same}, specs.ChannelDependencies.{AreRanksWithin, Depends}}
 use Rattle.c104_check.specs.{ChannelDependencies.{DependsBy, IsBeginningBy, IsRanking, input_count}, Checks.IsFirstLink}
 use Rattle.c104_check.specs.{Cycles.{AreAllRanked, ArePartialRanks, LeadsToUnranked}, Dependencies.{AreDependencies, AreListedBelow}}
 use Rattle.c104_check.specs.{Dependencies.{Dependency, dependency_at, dependency_place, is_by_from}, FirstCycles.{IsOver, LeadsOver}}
 use Rattle.c104_check.specs.{FirstCycles.LeadsToCycle, Ranks.{rank_at, rank_in}, Routes.{IsAccepted, Routes, SwitchPort, header_count}}
-use Rattle.c104_check.specs.{Routes.{place, port_at, to_port}, Trails.{IsInput, IsNetwork}, Walks.port_of}
-use Rattle.{c104_plan.specs.declared.ports.Port.Port, std.proofs.Common.{List, None, Option, Some, ap, arith, inl, inr, length, nat_le}}
-use Rattle.std.proofs.{Common.{refl, subst, suc, sym, true, zero, ℕ, ◌*◌, ◌+◌, ◌<◌, ◌∙◌, ◌≡◌, ◌≤◌}, lemmas.Bool.Decides.nat_tests}
-use Rattle.std.proofs.lemmas.Bool.{cases_lt}
+use Rattle.{c104_check.specs.{Routes.{place, port_at, to_port}, Trails.{IsInput, IsNetwork}}, c104_plan.specs.declared.ports.Port.Port}
+use Rattle.std.proofs.Common.{List, Option, Some, ap, arith, inl, inr, length, refl, subst, suc, sym, true, zero, ℕ, ◌*◌, ◌<◌, ◌∙◌, ◌≡◌}
+use Rattle.std.proofs.{Common.◌≤◌, lemmas.{Bool.{Decides.nat_tests, cases_lt}, Option.same_Some}}
 
 by_some : (h : ℕ) (o : Option Dependency) → is_by_from h o ≡ true → (d : Dependency) × (o ≡ Some d) × (h ≤ d.header)
-by_some h None is = absurd cc
-by_some h (Some d) is =
-    let high : nat_le h d.header ≡ true = is in
-    (d, refl, grind (arith, nat_tests))
-
-same_dependency : (d e : Dependency) → Some d ≡ Some e → d ≡ e
-same_dependency d e is = cc
+by_some h o is = search (arith, nat_tests)
 
 -- packets begin to go by headers of the network alone
 begun_header : (routes : Routes) (h : ℕ) (x : SwitchPort) → IsAccepted routes → IsBeginningBy routes h x → h < header_count routes
@@ -34,19 +27,7 @@ one_link routes p q o u net first second =
 
 -- what stands for an input and a link is a dependency of it, over that link
 pub entry_is : (routes : Routes) (table : List (Option Dependency)) (at : SwitchPort) (o : ℕ) (d : Dependency) → AreDependencies routes table → IsInput (length routes.settings) at → o < 32 → dependency_at table (dependency_place at o) ≡ Some d → DependsBy routes d.header at d.next × IsOver routes at o d.next
-entry_is routes table at o d dependencies here low there =
-    let entry = dependencies (dependency_place at o) d there in
-    let p : SwitchPort = entry.0 in
-    let e : ℕ = entry.1 in
-    let input = entry.2 in
-    let below : e < 32 = entry.3 in
-    let index : place at * 32 + o ≡ place p * 32 + e = entry.4 in
-    let leads : routes.peer (to_port (port_of p.switch e)) ≡ Some (to_port d.next) = entry.5 in
-    let same : place p ≡ place at = omega (arith, index, low, below) in
-    let links : e ≡ o = omega (arith, index, low, below) in
-    let one : p ≡ at = sym (at_place (length routes.settings) p input) ∙ ap port_at same ∙ at_place (length routes.settings) at here in
-    let over : routes.peer (Port.Switch at.switch o) ≡ Some (to_port d.next) = ap (λ x. routes.peer (to_port x)) (ap (λ (x : SwitchPort). port_of x.switch o) (sym one) ∙ ap (port_of p.switch) (sym links)) ∙ leads in
-    (subst (λ x. DependsBy routes d.header x d.next) one entry.6, over)
+entry_is routes table at o d dependencies here low there = search arith
 
 -- what the table has for a dependency
 pub record IsFound (routes : Routes) (table : List (Option Dependency)) (p q : SwitchPort) : Type 0 where
@@ -91,7 +72,7 @@ module _ (routes : Routes) (table : List (Option Dependency)) (net : IsNetwork r
       let u : ℕ = found.0 in
       let e : Dependency = found.1 in
       let links : u ≡ o = one_link routes p d.next u o net found.3 (entry_is routes table p o d dependencies here low there).1 in
-      let same : e ≡ d = same_dependency e d (sym found.4 ∙ ap (λ k. dependency_at table (dependency_place p k)) links ∙ there) in
+      let same : e ≡ d = same_Some e d (sym found.4 ∙ ap (λ k. dependency_at table (dependency_place p k)) links ∙ there) in
       subst (λ (x : Dependency). h ≤ x.header) same found.5
 
   all_listed : (p q : SwitchPort) (o : ℕ) → Depends routes p q → IsOver routes p o q → (d : Dependency) × (dependency_at table (dependency_place p o) ≡ Some d) × (d.next ≡ q)
@@ -129,11 +110,7 @@ module _ (routes : Routes) (table : List (Option Dependency)) (net : IsNetwork r
         (d.next, (d.header, is.0), leads_over k d.next (net.inputs (Port.Switch p.switch o) d.next is.1) step.1.1)
 
     pub all_ranked : AreAllRanked routes table ranks
-    all_ranked = record {
-      most = most_listed;
-      listed = all_listed;
-      told = λ p here. ((λ none k. leads_over k p here none), unranked p);
-    }
+    all_ranked = search (arith, most_listed, all_listed, leads_over, unranked)
 
     leading_input : (p : SwitchPort) → LeadsToCycle routes p → IsInput (length routes.settings) p
     leading_input p leads = let one = leads 1 in arrived_input routes one.1.0 p net one.1.1.0
@@ -149,8 +126,7 @@ module _ (routes : Routes) (table : List (Option Dependency)) (net : IsNetwork r
 
 -- the same of what was read of lists
 pub stuck_in : (table : List (Option Dependency)) (ranks : List ℕ) (places : ℕ) (seen : List (Option Dependency)) → seen ≡ table → length ranks ≡ places → ((k : ℕ) → k < places → rank_at ranks k ≡ 0 → (d : Dependency) × LeadsToUnranked seen ranks k d) → (k : ℕ) → k < length ranks → rank_at ranks k ≡ 0 → (d : Dependency) × LeadsToUnranked table ranks k d
-stuck_in table ranks places seen read size stuck k below none =
-    subst (λ (xs : List (Option Dependency)). (d : Dependency) × LeadsToUnranked xs ranks k d) read (stuck k (omega (arith, below, size)) none)
+stuck_in table ranks places seen read size stuck k below none = search arith
 
 pub first_in : (ranks seen : List ℕ) (k : ℕ) → seen ≡ ranks → (k < length seen) × (rank_at seen k ≡ 0) × ((j : ℕ) → j < k → 0 < rank_at seen j) → (k < length ranks) × (rank_at ranks k ≡ 0) × ((j : ℕ) → j < k → 0 < rank_at ranks j)
 first_in ranks seen k read is = subst (λ (xs : List ℕ). (k < length xs) × (rank_at xs k ≡ 0) × ((j : ℕ) → j < k → 0 < rank_at xs j)) read is

@@ -3,14 +3,13 @@ use Rattle.c104_check.proofs.{RouteLemmas.{IsAmong, ways_leave}, RunLemmas.run_a
 use Rattle.c104_check.{proofs.WalkLemmas.{Leads-from, clear}, specs.{Routes.{Routes, SwitchPort, place, select, to_port}, Shown.Comes}}
 use Rattle.c104_check.specs.{Shown.Follows, Trails.{AreWays, IsInput, IsNetwork, IsTrail, run_peers}, Walking.{AreGood, IsHalt, TellMet}}
 use Rattle.c104_check.specs.{Walking.{fault_from, fault_on, mark_at, tells_met, way_of}, Walks.{Found, Goal, WalkFault, at_peer, at_peers}}
-use Rattle.c104_check.specs.Walks.{at_ways, first_fault, first_of, is_home, is_met, is_port, port_of, ways}
-use Rattle.c104_check.specs.declared.{faults.WalkFault.TheVariants.{DeadEnd, Loop, WrongEnd}, walks.Halt.{Halt, TheVariants.Fault}}
-use Rattle.c104_check.specs.declared.walks.{Halt.TheVariants.NoMemory, Mark.{Mark, TheVariants.{Good, Met, New}}, Way.TheVariants.Astray}
-use Rattle.{c104_check.specs.declared.walks.Way.TheVariants.{Home, On}, c104_plan.specs.declared.ports.Port.Port, std.proofs.Common.Bool}
-use Rattle.std.proofs.Common.{List, None, Option, Some, [], ap, arith, false, if◌then◌else◌, inl, inr, length, refl, slice_index_or}
-use Rattle.std.proofs.Common.{slice_set, subst, suc, sym, true, ℕ, ◌*◌, ◌++◌, ◌+◌, ◌-◌, ◌<◌, ◌||◌, ◌∙◌, ◌∷◌, ◌≡◌, ◌≤◌, ◌⊎◌}
-use Rattle.std.proofs.lemmas.{Bool.{cases_Bool, cases_eq, eq-eqb}, Grind.get_or-set_at, List.{Folds.list_any_at, get_or-set_other}}
-use Rattle.std.proofs.lemmas.List.{length-append, length-set}
+use Rattle.c104_check.specs.Walks.{at_ways, first_fault, first_of, is_met, is_port, port_of, ways}
+use Rattle.c104_check.specs.declared.{faults.WalkFault.TheVariants.{Loop, WrongEnd}, walks.{Halt.Halt, Mark.{Mark, TheVariants.Good}}}
+use Rattle.c104_check.specs.declared.walks.{Mark.TheVariants.{Met, New}, Way.TheVariants.{Astray, Home, On}}
+use Rattle.{c104_plan.specs.declared.ports.Port.Port, std.proofs.Common.{Bool, List, None, Option, Some, [], ap, arith, false}}
+use Rattle.std.proofs.Common.{if◌then◌else◌, inl, inr, length, refl, slice_index_or, slice_set, subst, suc, sym, true, ℕ, ◌*◌, ◌++◌, ◌+◌}
+use Rattle.std.proofs.{Common.{◌-◌, ◌<◌, ◌||◌, ◌∙◌, ◌∷◌, ◌≡◌, ◌≤◌, ◌⊎◌}, lemmas.{Bool.{cases_Bool, cases_eq, eq-eqb}, Grind.get_or-set_at}}
+use Rattle.std.proofs.lemmas.List.{Folds.list_any_at, get_or-set_other, length-append, length-set}
 
 -- what is found from an input that lengthens a walk
 abbrev pub further : Routes → ℕ → Goal → List SwitchPort → List SwitchPort → SwitchPort → Found
@@ -23,10 +22,7 @@ fault_unfolds routes h t walk p trail =
     ap (λ k. first_fault routes h t k walk p) more
 
 pub further_is : (routes : Routes) (h : ℕ) (t : Goal) (walk : List SwitchPort) (q : SwitchPort) → further routes h t walk (walk ++ (q ∷ [])) q ≡ fault_from routes h t (walk ++ (q ∷ [])) q
-further_is routes h t walk q =
-    let e = length-append walk (q ∷ []) in
-    let same : 32 * length routes.settings - length walk ≡ 32 * length routes.settings + 1 - length (walk ++ (q ∷ [])) = omega (arith, e) in
-    ap (λ k. first_fault routes h t k (walk ++ (q ∷ [])) q) same
+further_is routes h t walk q = search (arith, length-append)
 
 -- what is found where a link leads to an input is what is found on the walk that goes on to it
 pub on_is : (routes : Routes) (h : ℕ) (t : Goal) (walk : List SwitchPort) (q : SwitchPort) → at_peer (further routes h t walk) t walk (Some (Port.Switch q.switch q.link)) ≡ fault_on routes h t walk q
@@ -37,9 +33,7 @@ on_new routes h t walk q new = rw new refl
 
 -- from an input that leads to t there is no fault
 pub good_clear : (routes : Routes) (h : ℕ) (t : Goal) (walk : List SwitchPort) (p : SwitchPort) → IsNetwork routes → IsInput (length routes.settings) p → IsTrail routes h walk p → (j : ℕ) × Comes routes h t j p.switch p.link → fault_from routes h t walk p ≡ None
-good_clear routes h t walk p net here trail leads =
-    let short = trail_room routes h walk p trail in
-    clear routes h t net (32 * length routes.settings + 1 - length walk) walk p trail here (omega (arith, short)) leads.0 leads.1
+good_clear routes h t walk p net here trail leads = search (arith, trail_room, clear)
 
 pub clear_good : (routes : Routes) (h : ℕ) (t : Goal) (walk : List SwitchPort) (p : SwitchPort) → IsNetwork routes → fault_from routes h t walk p ≡ None → (k : ℕ) × Comes routes h t k p.switch p.link
 clear_good routes h t walk p net is = (32 * length routes.settings + 1 - length walk, Leads-from routes h t net (32 * length routes.settings + 1 - length walk) walk p is)
@@ -50,25 +44,17 @@ pending routes h t s walk end link = at_peers (further routes h t walk) t walk (
 
 module _ (routes : Routes) (h : ℕ) (t : Goal) (s : ℕ) (walk : List SwitchPort) (end link : ℕ) (below : link < end) where
   pending_next : pending routes h t s walk end link ≡ first_of (at_peer (further routes h t walk) t walk (routes.peer (Port.Switch s link))) (pending routes h t s walk end (link + 1))
-  pending_next =
-      let count : end - link ≡ suc (end - (link + 1)) = omega (arith, below) in
-      ap (λ n. at_peers (further routes h t walk) t walk (run_peers routes s link n)) count
+  pending_next = search arith
 
   -- a link that shows a fault, and one that shows none
   pub stops : (p : SwitchPort) (e : Option Port) (f : WalkFault × List SwitchPort) → routes.peer (Port.Switch s link) ≡ e → pending routes h t s walk end link ≡ fault_from routes h t walk p → at_peer (further routes h t walk) t walk e ≡ Some f → fault_from routes h t walk p ≡ Some f
-  stops p e f here rest is =
-      let found : at_peer (further routes h t walk) t walk (routes.peer (Port.Switch s link)) ≡ Some f = ap (at_peer (further routes h t walk) t walk) here ∙ is in
-      sym rest ∙ pending_next ∙ ap (λ x. first_of x (pending routes h t s walk end (link + 1))) found
+  stops p e f here rest is = search (arith, pending_next)
 
   pub goes_on : (p : SwitchPort) (e : Option Port) → routes.peer (Port.Switch s link) ≡ e → pending routes h t s walk end link ≡ fault_from routes h t walk p → at_peer (further routes h t walk) t walk e ≡ None → pending routes h t s walk end (link + 1) ≡ fault_from routes h t walk p
-  goes_on p e here rest is =
-      let found : at_peer (further routes h t walk) t walk (routes.peer (Port.Switch s link)) ≡ None = ap (at_peer (further routes h t walk) t walk) here ∙ is in
-      sym (pending_next ∙ ap (λ x. first_of x (pending routes h t s walk end (link + 1))) found) ∙ rest
+  goes_on p e here rest is = search (arith, pending_next)
 
 pub pending_end : (routes : Routes) (h : ℕ) (t : Goal) (s : ℕ) (walk : List SwitchPort) (end link : ℕ) (p : SwitchPort) → end ≤ link → pending routes h t s walk end link ≡ fault_from routes h t walk p → fault_from routes h t walk p ≡ None
-pending_end routes h t s walk end link p past rest =
-    let none : end - link ≡ 0 = omega (arith, past) in
-    sym rest ∙ ap (λ n. at_peers (further routes h t walk) t walk (run_peers routes s link n)) none
+pending_end routes h t s walk end link p past rest = search arith
 
 -- Where a link leads
 
@@ -76,56 +62,38 @@ abbrev found_at : WalkFault → List SwitchPort → Found
 found_at why walk = Some (why, walk)
 
 terminal_stops : (walk : List SwitchPort) (why : WalkFault) (b : Bool) → (if b then Home else Astray WrongEnd) ≡ Astray why → (if b then None else found_at WrongEnd walk) ≡ found_at why walk
-terminal_stops walk why true is = absurd cc
-terminal_stops walk why false is = let same : WrongEnd ≡ why = cc in ap (λ f. found_at f walk) same
+terminal_stops walk why b is = search arith
 
 pub way_stops : (further : List SwitchPort → SwitchPort → Found) (t : Goal) (walk : List SwitchPort) (e : Option Port) (why : WalkFault) → way_of t e ≡ Astray why → at_peer further t walk e ≡ Some (why, walk)
-way_stops further t walk None why is = let same : DeadEnd ≡ why = cc in ap (λ f. found_at f walk) same
-way_stops further t walk (Some (Port.Terminal u)) why is = terminal_stops walk why (is_home t u) is
-way_stops further t walk (Some (Port.Switch s i)) why is = absurd cc
+way_stops further t walk e why is = search (arith, terminal_stops)
 
 terminal_home : (walk : List SwitchPort) (b : Bool) → (if b then Home else Astray WrongEnd) ≡ Home → (if b then None else found_at WrongEnd walk) ≡ None
-terminal_home walk true is = refl
-terminal_home walk false is = absurd cc
+terminal_home walk b is = search arith
 
 pub way_home : (further : List SwitchPort → SwitchPort → Found) (t : Goal) (walk : List SwitchPort) (e : Option Port) → way_of t e ≡ Home → at_peer further t walk e ≡ None
-way_home further t walk None is = absurd cc
-way_home further t walk (Some (Port.Terminal u)) is = terminal_home walk (is_home t u) is
-way_home further t walk (Some (Port.Switch s i)) is = absurd cc
+way_home further t walk e is = search (arith, terminal_home)
 
 terminal_on : (q : SwitchPort) (b : Bool) → (if b then Home else Astray WrongEnd) ≡ On q → ⊥
-terminal_on q true is = cc
-terminal_on q false is = cc
+terminal_on q b is = search arith
 
 port_same : (s i : ℕ) (q : SwitchPort) → On (port_of s i) ≡ On q → port_of s i ≡ q
 port_same s i q is = cc
 
 pub way_on : (t : Goal) (e : Option Port) (q : SwitchPort) → way_of t e ≡ On q → e ≡ Some (to_port q)
-way_on t None q is = absurd cc
-way_on t (Some (Port.Terminal u)) q is = absurd (terminal_on q (is_home t u) is)
-way_on t (Some (Port.Switch s i)) q is = ap (λ x. Some (to_port x)) (port_same s i q is)
+way_on t e q is = search (arith, terminal_on, port_same)
 
 -- a walk that went on, and stopped later
 pub later_halts : (routes : Routes) (h : ℕ) (t : Goal) (walk new : List SwitchPort) (q : SwitchPort) (halt : Halt) → IsHalt halt (fault_on routes h t walk q) new → (found : Found) → ((f : WalkFault × List SwitchPort) → at_peer (further routes h t walk) t walk (Some (Port.Switch q.switch q.link)) ≡ Some f → found ≡ Some f) → IsHalt halt found new
-later_halts routes h t walk new q (Fault why) is found stop = stop (why, new) (on_is routes h t walk q ∙ is)
-later_halts routes h t walk new q NoMemory is found stop = tt
+later_halts routes h t walk new q halt is found stop = search (arith, on_is)
 
 -- Marks
 
 pub place-same : (n : ℕ) (p q : SwitchPort) → IsInput n p → IsInput n q → place p ≡ place q → p ≡ q
-place-same n p q (ps, pl) (qs, ql) same =
-    let e : p.switch * 32 + p.link ≡ q.switch * 32 + q.link = same in
-    let s : p.switch ≡ q.switch = omega (arith, pl, ql, e) in
-    let l : p.link ≡ q.link = omega (arith, s, e) in
-    ap (λ x. port_of x p.link) s ∙ ap (λ x. port_of q.switch x) l
+place-same n p q h1 h2 same = search arith
 
 -- each mark is the new one at its own place, and else as it was
 pub mark_set : (n : ℕ) (marks : List Mark) (p q : SwitchPort) (m : Mark) → IsInput n p → IsInput n q → place p < length marks → ((q ≡ p) × (mark_at (slice_set marks (place p) m) q ≡ m)) ⊎ ((q ≡ p → ⊥) × (mark_at (slice_set marks (place p) m) q ≡ mark_at marks q))
-mark_set n marks p q m here there inside =
-    elim (cases_eq (place q) (place p)) [
-      | inl same ↦ inl (place-same n q p there here same, get_or-set_at marks (place p) (place q) m New same inside)
-      | inr differ ↦ inr ((λ e. differ (ap place e)), get_or-set_other marks (place p) (place q) m New differ)
-    ]
+mark_set n marks p q m here there inside = search (arith, cases_eq, place-same, get_or-set_at, get_or-set_other)
 
 pub is_port-refl : (p : SwitchPort) → is_port p p ≡ true
 is_port-refl p = rw (eq-eqb p.switch p.switch refl, eq-eqb p.link p.link refl) refl
@@ -182,9 +150,7 @@ pub fresh_of : (routes : Routes) (marks : List Mark) (walk : List SwitchPort) (p
 fresh_of routes marks walk p k tells here at is = sym (tells p here) ∙ ap (λ n. tells_met (slice_index_or marks n New)) (sym at) ∙ is
 
 pub good_on : (routes : Routes) (h : ℕ) (t : Goal) (marks : List Mark) (walk : List SwitchPort) (p : SwitchPort) → IsNetwork routes → IsInput (length routes.settings) p → (is_met p walk ≡ false → IsTrail routes h (walk ++ (p ∷ [])) p) → AreGood routes h t marks → TellMet routes marks walk → mark_at marks p ≡ Good → fault_on routes h t walk p ≡ None
-good_on routes h t marks walk p net here trail good tells is =
-    let new : is_met p walk ≡ false = sym (tells p here) ∙ ap tells_met is in
-    on_new routes h t walk p new ∙ good_clear routes h t (walk ++ (p ∷ [])) p net here (trail new) (good p here is)
+good_on routes h t marks walk p net here trail good tells is = search (arith, on_new, good_clear)
 
 -- what is found on the walk that went on, once it is known of the walk as it is then
 pub stops_on : (routes : Routes) (h : ℕ) (t : Goal) (walk w l : List SwitchPort) (p : SwitchPort) (found : Found) → is_met p walk ≡ false → w ≡ walk ++ (p ∷ []) → l ≡ w → fault_from routes h t l p ≡ found → fault_on routes h t walk p ≡ found
