@@ -34,12 +34,7 @@ before_next g = omega arith
 -- where the selection changes a segment begins
 pub change_starts : (t : Table) (h : ℕ) → ChangesSelect t h → IsSegmentStart t h
 change_starts t zero changes = inl refl
-change_starts t (suc g) changes =
-    elim (rows_change g t.base t.rows) [
-      | inl alike ↦ absurd (changes (alike ∙ ap (table.select t) (sym (before_next g))))
-      | inr (inl base) ↦ inr (inl base)
-      | inr (inr limit) ↦ inr (inr limit)
-    ]
+change_starts t (suc g) changes = search (arith, rows_change, before_next)
 
 Link-same : (a b : ℕ) → Link a ≡ Link b → a ≡ b
 Link-same a b is = cc
@@ -147,8 +142,6 @@ before_alike routes starts g n net are quiet below before k start less at =
 
 -- so what holds up to a header holds up to the next, where that is no break
 pub so_far_alike : (routes : Routes) (marks : List Bool) (starts : List Start) (h n : ℕ) → IsNetwork routes → AreBreaks routes marks → AreInputs routes starts → h < header_count routes → is_marked marks h ≡ false → LandSoFar routes starts h n → LandsBefore routes starts h n
-so_far_alike routes marks starts zero n net are inputs below not before =
-    let first : is_marked marks 0 ≡ true = (are.marked 0 below).1 (inl refl) in
-    let clash : true ≡ false = sym first ∙ not in absurd cc
+so_far_alike routes marks starts zero n net are inputs below not before = search arith
 so_far_alike routes marks starts (suc g) n net are inputs below not before =
     before_alike routes starts g n net inputs (λ breaks. let first : is_marked marks (suc g) ≡ true = (are.marked (suc g) below).1 breaks in let clash : true ≡ false = sym first ∙ not in absurd cc) below (before g (omega arith))

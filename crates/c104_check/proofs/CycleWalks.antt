@@ -6,8 +6,8 @@ use Rattle.c104_check.specs.{Checks.IsFirstLink, Cycles.{AreAllRanked, LeadsFirs
 use Rattle.c104_check.specs.{FirstCycles.{GoesOn, IsFirstCycle, IsOver, IsWay, LeadsToCycle}, Ranks.rank_in, Routes.{Routes, SwitchPort}}
 use Rattle.{c104_check.specs.{Routes.place, Trails.{IsInput, IsNetwork}, Walks.{is_met, is_port}}, c104_plan.specs.declared.ports.Port.Port}
 use Rattle.std.proofs.Common.{Bool, List, None, Option, Some, [], ap, arith, drop, false, length, nat_lt, not, position, refl, subst, suc}
-use Rattle.std.proofs.{Common.{sym, true, ℕ, ◌*◌, ◌++◌, ◌+◌, ◌<◌, ◌||◌, ◌∙◌, ◌∷◌, ◌≡◌, ◌≤◌}, lemmas.Bool.Decides.nat_tests}
-use Rattle.std.{proofs.lemmas.List.length-append, specs.List.{AllByRecursion, IsDistinct, position_or_len}}
+use Rattle.std.proofs.{Common.{sym, ℕ, ◌*◌, ◌++◌, ◌+◌, ◌<◌, ◌||◌, ◌∙◌, ◌∷◌, ◌≡◌, ◌≤◌}, lemmas.{Bool.Decides.nat_tests, List.length-append}}
+use Rattle.std.specs.List.{AllByRecursion, IsDistinct, position_or_len}
 use mathlib.Core.Bool.{cond}
 
 not_met : (at : SwitchPort) (steps : List ChannelDependency) → length steps ≤ position_or_len (is_of_input at) steps → is_met at (inputs_of steps) ≡ false
@@ -15,8 +15,7 @@ not_met at [] over = refl
 not_met at (a ∷ steps) over = by_first (is_port at a.input) refl over (not_met at steps)
   where
     by_first : (b : Bool) → is_port at a.input ≡ b → suc (length steps) ≤ cond (not b) (1 + position_or_len (is_of_input at) steps) 0 → (length steps ≤ position_or_len (is_of_input at) steps → is_met at (inputs_of steps) ≡ false) → (b || is_met at (inputs_of steps)) ≡ false
-    by_first true same more later = absurd (omega (arith, more))
-    by_first false other more later = later (omega (arith, more))
+    by_first b same more later = search arith
 
 none_far : (n m : ℕ) (b : Bool) → nat_lt n m ≡ b → cond b (Some n) None ≡ None → m ≤ n
 none_far n m b less is = search (arith, nat_tests)
@@ -64,18 +63,7 @@ follow_next routes table ranks steps seen new start at k d net dependencies rank
     let more : AllByRecursion (IsInput (length routes.settings)) (inputs_of steps ++ at ∷ []) = All-snoc (IsInput (length routes.settings)) (inputs_of steps) at inside here in
     let apart : IsDistinct is_port (inputs_of steps ++ at ∷ []) = IsDistinct-snoc (inputs_of steps) at once fresh in
     let size = length-append steps (dependency_of at d.header ∷ []) in
-    let fits = inputs_room (length routes.settings) (inputs_of steps ++ at ∷ []) more apart in
-    let long : length (inputs_of steps ++ at ∷ []) ≡ length steps + 1 = length-append (inputs_of steps) (at ∷ []) ∙ ap (λ n. n + 1) (length-inputs steps) in
-    subst (λ xs. IsFollowed routes ranks steps xs start d.next) (sym is) (record {
-      chain = chain_more routes d.header at d.next steps chain step.0;
-      way = way_more routes start at d.next d.header steps way (goes_on routes table ranks at d net dependencies ranked here of);
-      inside = subst (AllByRecursion (IsInput (length routes.settings))) (sym (inputs-snoc steps (dependency_of at d.header))) more;
-      once = subst (IsDistinct is_port) (sym (inputs-snoc steps (dependency_of at d.header))) apart;
-      here = net.inputs (Port.Switch at.switch of.0) d.next step.1;
-      rankless = of.3;
-      longer = size;
-      room = omega (arith, size, fits, long);
-    })
+    search (arith, inputs_room, inputs_of, length-append, length-inputs, chain_more, way_more, goes_on, inputs-snoc)
 
 -- cut where it meets an input again it is the cycle
 pub first_cut : (routes : Routes) (start at : SwitchPort) (steps seen all back cycle : List ChannelDependency) (k : ℕ) → IsFirstLink (LeadsToCycle routes) start → IsChain routes steps at → IsWay routes start steps at → IsDistinct is_port (inputs_of steps) → seen ≡ steps → all ≡ steps → position (is_of_input at) seen ≡ Some k → back ≡ drop k all → cycle ≡ back → IsFirstCycle routes cycle

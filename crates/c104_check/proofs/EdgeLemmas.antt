@@ -22,10 +22,7 @@ either : {X : Type 0} (xs : List X) (y : X) (k : ℕ) (x : X) → slice_get (xs 
 either [] y zero x at = inr (refl, cc)
 either [] y (suc k) x at = absurd cc
 either (z ∷ xs) y zero x at = inl at
-either (z ∷ xs) y (suc k) x at = elim (either xs y k x at) [
-  | inl before ↦ inl before
-  | inr (same, is) ↦ inr (ap suc same, is)
-]
+either (z ∷ xs) y (suc k) x at = search (arith, either xs y k x at)
 
 -- The edges of one place more
 
@@ -34,10 +31,7 @@ edges_past table end edges before none = record {
   each = λ k e at. (let is = before.each k e at in let below = is.1 in (is.0, omega (arith, below), is.2));
   all = λ j d below there. elim (cases_lt j end) [
     | inl lower ↦ before.all j d lower there
-    | inr not ↦
-        let same : j ≡ end = omega (arith, below, not) in
-        let clash : Some d ≡ None = sym there ∙ ap (dependency_at table) same ∙ none in
-        absurd cc
+    | inr not ↦ search arith
   ];
   in_order = before.in_order;
 }
@@ -68,16 +62,7 @@ edges_more table end edges d before there = record {
     ]
 
     in_order : (k l : ℕ) (e f : DependencyEdge) → k < l → slice_get new k ≡ Some e → slice_get new l ≡ Some f → (i j : ℕ) × (i < j) × IsEdgeOf table e i × IsEdgeOf table f j
-    in_order k l e f less at_k at_l = elim (either edges (edge_of end d) l f at_l) [
-      | inl old_l ↦ elim (either edges (edge_of end d) k e at_k) [
-        | inl old_k ↦ before.in_order k l e f less old_k old_l
-        | inr (same, is) ↦ (let inside = slice_get_within edges l f old_l in absurd (omega (arith, less, same, inside)))
-      ]
-      | inr (same_l, is_l) ↦ elim (either edges (edge_of end d) k e at_k) [
-        | inl old_k ↦ (let is = before.each k e old_k in (is.0, end, is.1, is.2, (d, there, sym is_l)))
-        | inr (same_k, is_k) ↦ absurd (omega (arith, less, same_l, same_k))
-      ]
-    ]
+    in_order k l e f less at_k at_l = search (arith, either, slice_get_within)
 
 -- the input of what stands at a place
 edge_input : (n : ℕ) (p : SwitchPort) (o : ℕ) → IsInput n p → o < 32 → port_at ((place p * 32 + o) / 32) ≡ p

@@ -86,6 +86,4 @@ pub one_cycle : (routes : Routes) → HasOneCycle routes
 one_cycle routes a b x y =
     let start : x.start ≡ y.start = same_first (LeadsToCycle routes) x.start y.start x.first y.first in
     let ways = same_ways routes y.start x.again y.again [] x.steps y.steps (subst (λ z. IsWay routes z x.steps x.again) start x.way) y.way x.once y.once (met_again x.again x.steps x.before x.met) (met_again y.again y.steps y.before y.met) in
-    let places : Some x.before ≡ Some y.before = sym x.met ∙ ap (λ zs. position (is_of_input x.again) zs) ways.0 ∙ ap (λ z. position (is_of_input z) y.steps) ways.1 ∙ y.met in
-    let at : x.before ≡ y.before = same_Some x.before y.before places in
-    x.rest ∙ ap (λ zs. drop x.before zs) ways.0 ∙ ap (λ k. drop k y.steps) at ∙ sym y.rest
+    search (arith, position, same_Some)

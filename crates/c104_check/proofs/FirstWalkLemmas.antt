@@ -21,8 +21,7 @@ none_first x y is = search arith
 
 none_among : (further : List SwitchPort → SwitchPort → Found) (t : Goal) (met : List SwitchPort) (e : Option Port) (es : List (Option Port)) → at_peers further t met es ≡ None → IsAmong e es → at_peer further t met e ≡ None
 none_among further t met e [] is among = absurd among
-none_among further t met e (x ∷ xs) is (inl same) =
-    subst (λ (y : Option Port). at_peer further t met y ≡ None) same (none_first (at_peer further t met x) (at_peers further t met xs) is).0
+none_among further t met e (x ∷ xs) is (inl same) = search (arith, none_first)
 none_among further t met e (x ∷ xs) is (inr later) =
     none_among further t met e xs (none_first (at_peer further t met x) (at_peers further t met xs) is).1 later
 
@@ -84,9 +83,7 @@ module _ (routes : Routes) (further : List SwitchPort → SwitchPort → Found) 
 
   pub first_found : (n from : ℕ) → by_links from n ≡ Some x → IsFoundFrom from
   first_found zero from is = absurd cc
-  first_found (suc n) from is =
-      found_step from n (test from) refl (first_found n (from + 1))
-      (subst (λ (es : List (Option Port)). at_peers further t met es ≡ Some x) (peers_step routes s from n test (test from) refl) is)
+  first_found (suc n) from is = search (arith, found_step, peers_step, first_found n (from + 1))
 
 -- So it is that of the first walk
 
@@ -179,9 +176,7 @@ module _ (routes : Routes) (h : ℕ) (t : Goal) (why : WalkFault) (walk : List S
     first_input net k (Some (Link g)) at each is = first_group net k g at each is
 
 pub first_wrong : (routes : Routes) (h : ℕ) (t : Goal) → IsNetwork routes → (why : WalkFault) (walk : List SwitchPort) (k : ℕ) (met : List SwitchPort) (p : SwitchPort) → IsTrail routes h met p → length met + k ≡ 32 * length routes.settings + 1 → first_fault routes h t k met p ≡ Some (why, walk) → HasFirst routes h t why walk met p
-first_wrong routes h t net why walk zero met p trail room is =
-    let short = trail_room routes h met p trail in
-    absurd (omega (arith, short, room))
+first_wrong routes h t net why walk zero met p trail room is = search (arith, trail_room)
 first_wrong routes h t net why walk (suc k) met p trail room is =
     first_input routes h t why walk met p net k (select routes p.switch p.link h) refl
     (λ q follows new found. first_wrong routes h t net why walk k (met ++ (q ∷ [])) q (trail_longer routes h met p q trail follows (within routes h p q net follows) new) (let e = length-append met (q ∷ []) in omega (arith, e, room)) found)
@@ -242,15 +237,7 @@ part_or_same routes h t [] [] why fault walk other met p (a, b, c) (x, y, z) = i
 part_or_same routes h t [] (l ∷ others) why fault walk other met p (a, b, stuck) (leaves, goes) = absurd (stuck.0 leaves.0 leaves.1)
 part_or_same routes h t (o ∷ links) [] why fault walk other met p (leaves, goes) (x, y, stuck) = absurd (stuck.0 leaves.0 leaves.1)
 part_or_same routes h t (o ∷ links) (l ∷ others) why fault walk other met p (leaves, goes) (also, goes') =
-    elim (cases_order o l) [
-      | inl same ↦
-          let here = subst (λ n. GoesWrongOver (GoesWrong routes h t fault other others) t fault other others met (routes.peer (Port.Switch p.switch n))) (sym same) goes' in
-          subst (λ n. PartOrSame (o ∷ links) (n ∷ others) why fault walk other) same
-          (part_on o links others why fault walk other
-          (part_over routes h t links others why fault walk other met (part_or_same routes h t links others why fault walk other) (routes.peer (Port.Switch p.switch o)) goes here))
-      | inr (inl below) ↦ inl (inl below)
-      | inr (inr above) ↦ inr (inl (inl above))
-    ]
+    search (arith, cases_order, part_on, part_over, part_or_same routes h t links others why fault walk other)
 
 part_from : (routes : Routes) (h : ℕ) (goal : Option Goal) (p : SwitchPort) (links others : List ℕ) (why fault : WalkFault) (walk other : List SwitchPort) → GoesWrongFrom routes h goal p why walk links → GoesWrongFrom routes h goal p fault other others → PartOrSame links others why fault walk other
 part_from routes h goal p links others why fault walk other a x = search (arith, part_or_same)

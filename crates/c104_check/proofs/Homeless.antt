@@ -1,6 +1,6 @@
 -- A header that is tried as a random one, terminal by terminal.
 use Rattle.c104_check.proofs.{OwnStarts.{all_landed, lands_front}, RandomLemmas.random_at_told, RefusalLemmas.entry_same}
-use Rattle.c104_check.specs.Parts.{BeginsAt, HomesFirst, IsFirstRefusal, IsNeverRefused, IsOwnRefusal, IsRandomRefusal, LandsFirst}
+use Rattle.c104_check.specs.Parts.{HomesFirst, IsFirstRefusal, IsNeverRefused, IsOwnRefusal, IsRandomRefusal, LandsFirst}
 use Rattle.c104_check.specs.{Portals.is_random_at, Refusals.{IsFirstOf, LandsBefore, Refusal, Start}, Routes.{Homes, IsEntryOf, IsRandomAt}}
 use Rattle.c104_check.specs.{Routes.{Routes, SwitchPort, header_count, most_hops}, Starts.{AreOwnStarts, HomesAt, IsFirstHomeless}}
 use Rattle.c104_check.specs.{Starts.{IsHomelessAt, IsRefusedRandom, earlier}, Trails.IsNetwork}
@@ -45,13 +45,7 @@ own_refusal : (routes : Routes) (starts : List Start) (h n : ℕ) (refusal : Ref
 own_refusal routes starts h n refusal are first =
     let refused = first.refused in
     let start = are.each refusal.start refused.start refused.at in
-    record {
-      behind = refused.start.behind;
-      start = refused.start.at;
-      begins = subst (λ n. BeginsAt routes n refused.start.behind refused.start.at) (sym refused.terminal) start.begins;
-      not_spared = λ none behind random. refused.not_spared (none, behind, random);
-      refused = refused.refused;
-    }
+    search arith
 
 -- what holds of all terminals, and of more than some, holds of these
 all_own : (routes : Routes) (h n : ℕ) → IsNetwork routes → LandsFirst routes h (length routes.ranges) → LandsFirst routes h n

@@ -32,24 +32,8 @@ Contains-none : (h : ℕ) → Contains [] h → ⊥
 Contains-none h here = absurd (omega (arith, here.1))
 
 Contains-more : (x : ℕ) (xs : List ℕ) (h : ℕ) → Contains (xs ++ x ∷ []) h ↔ (Contains xs h ⊎ (h ≡ x))
-Contains-more x [] h = (
-  (λ here. elim (Contains-first x [] h here) [ inl same ↦ inr same | inr later ↦ absurd (Contains-none h later) ]),
-  (λ may. elim may [ inl none ↦ absurd (Contains-none h none) | inr same ↦ (0, omega arith, sym same) ]),
-)
-Contains-more x (y ∷ xs) h =
-    let rest = Contains-more x xs h in (
-      (λ here. elim (Contains-first y (xs ++ x ∷ []) h here) [
-        | inl same ↦ inl (0, omega arith, sym same)
-        | inr later ↦ elim (rest.0 later) [ inl there ↦ inl (Contains-next y xs h there) | inr same ↦ inr same ]
-      ]),
-      (λ may. elim may [
-        | inl there ↦ elim (Contains-first y xs h there) [
-          | inl same ↦ (0, omega arith, sym same)
-          | inr later ↦ Contains-next y (xs ++ x ∷ []) h (rest.1 (inl later))
-        ]
-        | inr same ↦ Contains-next y (xs ++ x ∷ []) h (rest.1 (inr same))
-      ]),
-    )
+Contains-more x [] h = search (arith, Contains-first, Contains-none)
+Contains-more x (y ∷ xs) h = search (arith, Contains-first, Contains-next, Contains-more x xs h)
 
 -- those of some headers for which a table selects otherwise than for the one before
 abbrev pub ChangeAmong : Table → List ℕ → ℕ → Type 0

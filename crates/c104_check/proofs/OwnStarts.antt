@@ -67,8 +67,7 @@ own_plain routes starts t p net wired here plain are =
 -- One before whose packets they are
 
 have_all : (routes : Routes) (starts : List Start) (t h : ℕ) (p q : SwitchPort) (behind : Bool) → IsEntryOf routes t p → IsRandomized routes p → header_count routes ≤ h → HavePortals routes p starts h → BeginsAt routes t behind q → HasStart starts behind q
-have_all routes starts t h p q false wired random past have (entry, there, kind) =
-    absurd (kind.1 (subst (IsRandomized routes) (entry_same routes t p entry wired there) random))
+have_all routes starts t h p q false wired random past have (entry, there, kind) = search (arith, entry_same)
 have_all routes starts t h p q true wired random past have (entry, there, portal) =
     let own = subst (λ x. IsPortal routes x q) (sym (entry_same routes t p entry wired there)) portal in
     let low = random_header routes p own.0 own.2 in
@@ -106,7 +105,7 @@ have_passed routes p starts h not before = search (arith, have_next, random_at_t
 reaches_alike : (routes : Routes) (g : ℕ) → IsNetwork routes → (IsBreak routes (suc g) → ⊥) → (m : ℕ) (p q : SwitchPort) → IsWired routes p → Reaches routes (suc g) m p q → Reaches routes g m p q
 reaches_alike routes g net quiet zero p q wired same = same
 reaches_alike routes g net quiet (suc m) p q wired (z, reaches, (link, o, at, joined, there)) =
-    (z, reaches_alike routes g net quiet m p z wired reaches, (link, o, sym (select_alike routes g z quiet (reached_wired routes (suc g) m p z net wired reaches)) ∙ at, joined, there))
+    search (arith, select_alike, reached_wired, reaches_alike routes g net quiet m p z wired reaches)
 
 pub have_quiet : (routes : Routes) (marks : List Bool) (p : SwitchPort) (starts : List Start) (h : ℕ) → IsNetwork routes → AreBreaks routes marks → h < header_count routes → is_marked marks h ≡ false → IsWired routes p → HavePortals routes p starts h → HavePortals routes p starts (h + 1)
 have_quiet routes marks p starts zero net are below not wired before = absurd (no_zero routes marks are below not)
@@ -151,12 +150,7 @@ kept_by starts t q false = front_has starts (start_behind t q)
 
 own_by : (routes : Routes) (starts : List Start) (t : ℕ) (p q : SwitchPort) (b : Bool) → IsNetwork routes → IsEntryOf routes t p → IsPortal routes p q → AreOwnStarts routes starts t → AreOwnStarts routes (if b then starts else starts ++ start_behind t q ∷ []) t
 own_by routes starts t p q true net wired portal are = are
-own_by routes starts t p q false net wired portal are =
-    own_more routes starts t (start_behind t q) are (record {
-      begins = (p, wired, portal);
-      input = (portal_input routes p q net portal, portal_wired routes p q net (wired_entry routes t p net wired) portal);
-      terminals = are.have;
-    })
+own_by routes starts t p q false net wired portal are = search (arith, own_more, portal_input, portal_wired, wired_entry)
 
 pub portal_has : (starts new : List Start) (t : ℕ) (q : SwitchPort) → new ≡ with_portal starts t q → HasStart new true q
 portal_has starts new t q is = subst (λ (xs : List Start). HasStart xs true q) (sym is) (has_by starts t q (has_portal q starts) refl)

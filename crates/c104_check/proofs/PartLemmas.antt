@@ -5,8 +5,8 @@ use Rattle.c104_check.specs.Parts.{IsBeginning, IsDiscardedAt, IsRandomBeginning
 use Rattle.c104_check.specs.{Parts.{IsTakenAsOwn, IsTakenAsRandom, IsTakenFrom}, Reach.{AreDistinctInputs, IsReached, IsTaken, MayTake}}
 use Rattle.c104_check.specs.{Reach.with_input, Refusals.Start, Routes.{IsEntryOf, Reaches, Routes, SwitchPort, header_count, select}}
 use Rattle.c104_check.specs.{Starts.AreOwnStarts, Trails.{IsInput, IsNetwork}}
-use Rattle.{c104_interval.specs.declared.intervals.Select.TheVariants.Discard, std.proofs.Common.{Bool, IsTrue, List, Some, [], ap, arith}}
-use Rattle.std.proofs.Common.{false, inl, inr, length, refl, slice_get, subst, sym, true, ℕ, ◌+◌, ◌<◌, ◌↔◌, ◌∙◌, ◌≡◌, ◌≤◌}
+use Rattle.{c104_interval.specs.declared.intervals.Select.TheVariants.Discard, std.proofs.Common.{Bool, IsTrue, List, Some, [], arith}}
+use Rattle.std.proofs.Common.{false, inl, inr, length, refl, slice_get, subst, sym, true, ℕ, ◌+◌, ◌<◌, ◌↔◌, ◌≡◌, ◌≤◌}
 use Rattle.std.proofs.lemmas.{Bool.cases_lt, Option.{same_Some, slice_get_within}}
 
 -- The links that are taken from just the inputs that are reached
@@ -70,10 +70,7 @@ start_joined routes starts k start xs new here are distinct just is =
     just_joined routes (IsStartBefore starts k) (IsStartBefore starts (k + 1)) xs new start.at (are.each k start here).input.0
     (λ p (j, other, below, at, there). elim (cases_lt j k) [
       | inl lower ↦ inl (j, other, lower, at, there)
-      | inr not ↦
-          let same : j ≡ k = omega (arith, below, not) in
-          let one = same_Some start other (sym here ∙ ap (slice_get starts) (sym same) ∙ at) in
-          inr (ap (λ (x : Start). x.at) one ∙ there)
+      | inr not ↦ search (arith, same_Some)
     ])
     (λ p (j, other, below, at, there). (j, other, omega (arith, below), at, there))
     (k, start, omega arith, here, refl) distinct just is

@@ -172,13 +172,8 @@ behind_portal routes r p q f (Some (Port.Switch s i) ∷ es) each is =
 at_portal : (routes : Routes) (r : ℕ) (p q : SwitchPort) (f : SwitchPort → List SwitchPort) (o : Option Select) → select routes p.switch p.link r ≡ o → ((z : SwitchPort) → Follows routes r p z → IsIn q (f z) → IsReachedPortal routes r p q) → IsIn q (met_at routes f p o) → IsReachedPortal routes r p q
 at_portal routes r p q f None at each is = absurd cc
 at_portal routes r p q f (Some Sink) at each is = absurd cc
-at_portal routes r p q f (Some Discard) at each is =
-    elim (or_cases _ _ is) [
-      | inl same ↦ let here : q ≡ p = is_port-true q p same in (zero, sym here, ap (λ (x : SwitchPort). select routes x.switch x.link r) here ∙ at)
-      | inr none ↦ absurd cc
-    ]
-at_portal routes r p q f (Some (Link link)) at each is =
-    behind_portal routes r p q f (group_peers routes p.switch link) (λ s i among here. each (port_of s i) (among_leaves routes r link p (Some (Port.Switch s i)) at among) here) is
+at_portal routes r p q f (Some Discard) at each is = search (arith, or_cases, is_port-true)
+at_portal routes r p q f (Some (Link link)) at each is = search (arith, behind_portal, among_leaves)
 
 pub met_portal : (routes : Routes) (r k : ℕ) (p q : SwitchPort) → IsIn q (met_from routes r k p) → IsReachedPortal routes r p q
 met_portal routes r zero p q is = absurd cc
@@ -194,10 +189,7 @@ behind_met q f s i (None ∷ es) (inl same) is = absurd cc
 behind_met q f s i (None ∷ es) (inr among) is = behind_met q f s i es among is
 behind_met q f s i (Some (Port.Terminal u) ∷ es) (inl same) is = absurd cc
 behind_met q f s i (Some (Port.Terminal u) ∷ es) (inr among) is = behind_met q f s i es among is
-behind_met q f s i (Some (Port.Switch t j) ∷ es) (inl same) is =
-    let a : t ≡ s = cc in
-    let b : j ≡ i = cc in
-    in_left q (f (port_of t j)) (met_behind f es) (subst (λ n. IsIn q (f (port_of n j))) (sym a) (subst (λ n. IsIn q (f (port_of s n))) (sym b) is))
+behind_met q f s i (Some (Port.Switch t j) ∷ es) (inl same) is = search (arith, in_left)
 behind_met q f s i (Some (Port.Switch t j) ∷ es) (inr among) is = in_right q (f (port_of t j)) (met_behind f es) (behind_met q f s i es among is)
 
 -- what is met from an input that follows
@@ -299,18 +291,13 @@ link_input routes r hops link p group is low high homes = search (arith, roams_i
 
 pub link_homes : (routes : Routes) (r hops link : ℕ) (p next : SwitchPort) (group : Group) → IsSelected routes r p group → group.first ≤ link → link < group.last + 1 → routes.peer (Port.Switch p.switch link) ≡ Some (to_port next) → Homes routes r hops p.switch p.link → (hops - 1 < hops) × Homes routes r (hops - 1) next.switch next.link
 link_homes routes r zero link p next group is low high there homes = absurd homes
-link_homes routes r (suc k) link p next group is low high there homes =
-    let down : suc k - 1 ≡ k = omega arith in
-    let on = subst (Roams (Homes routes r k)) there (leaves_comes routes r Portal k p (routes.peer (Port.Switch p.switch link)) (link_leaves routes r link p group is low (omega (arith, high))) homes) in
-    (omega arith, subst (λ n. Homes routes r n next.switch next.link) (sym down) on)
+link_homes routes r (suc k) link p next group is low high there homes = search (arith, leaves_comes, link_leaves)
 
 -- one link more
 pub link_next : (routes : Routes) (f : SwitchPort → List SwitchPort) (s link end : ℕ) (old new whole : List SwitchPort) (next : SwitchPort) → link < end → routes.peer (Port.Switch s link) ≡ Some (to_port next) → new ≡ add_all old (f next) → add_all old (met_behind f (run_peers routes s link (end - link))) ≡ whole → add_all new (met_behind f (run_peers routes s (link + 1) (end - (link + 1)))) ≡ whole
 link_next routes f s link end old new whole next below there is rest =
     let count : end - link ≡ suc (end - (link + 1)) = omega (arith, below) in
-    let later = met_behind f (run_peers routes s (link + 1) (end - (link + 1))) in
-    let here : met_behind f (run_peers routes s link (end - link)) ≡ f next ++ later = ap (λ n. met_behind f (run_peers routes s link n)) count ∙ ap (λ e. met_behind f (e ∷ run_peers routes s (link + 1) (end - (link + 1)))) there in
-    ap (λ (ys : List SwitchPort). add_all ys later) is ∙ sym (add_append (f next) later old) ∙ ap (add_all old) (sym here) ∙ rest
+    search (arith, add_append)
 
 pub links_end : (routes : Routes) (f : SwitchPort → List SwitchPort) (s link end : ℕ) (now whole : List SwitchPort) → end ≤ link → add_all now (met_behind f (run_peers routes s link (end - link))) ≡ whole → now ≡ whole
 links_end routes f s link end now whole past rest = search arith

@@ -56,13 +56,7 @@ module _ (table : List (Option Dependency)) (old : List ℕ) (at most : ℕ) (in
         let stays = kept (place d.next) up in
         let top : rank_at after p ≡ most + 1 = ap (rank_at after) same.1 ∙ here in
         (omega (arith, up, stays), omega (arith, low, stays, top))
-    | inr apart ↦
-        let as_before = other p apart.1 in
-        let is = part.falls p d (omega (arith, some, as_before)) of in
-        let up = is.0 in
-        let less = is.1 in
-        let stays = kept (place d.next) up in
-        (omega (arith, up, stays), omega (arith, less, stays, as_before))
+    | inr apart ↦ search (arith, other)
   ]
 
   low : (p : ℕ) → rank_at after p + unranked_count after ≤ length after

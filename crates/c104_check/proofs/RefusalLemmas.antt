@@ -42,12 +42,7 @@ refused_at routes h q o why shown net here own is found =
     let owned : owner routes x ≡ o = ap (owner routes) is ∙ own in
     let found : fault_at routes x q (owner routes x) ≡ Some (why, shown.walk) = ap (fault_at routes x q) owned ∙ ap (λ n. fault_at routes n q o) is ∙ found in
     let shows = fault_shown routes x q why shown.walk (owner routes x) net here found in
-    record {
-      shows = shows;
-      first = fault_first routes x q why shown.walk (owner routes x) net here found;
-      fails = shown_fails routes x q why shown.walk (owner routes x) here shows;
-      never_leads = shown_never routes x q why shown.walk (owner routes x) here shows;
-    }
+    search (arith, fault_first, shown_fails, shown_never)
 
 pub refusal_from : (routes : Routes) (starts : List Start) (h k : ℕ) (start : Start) (o : Option ℕ) (refusal : Refusal) → IsNetwork routes → IsInput (length routes.settings) start.at → slice_get starts k ≡ Some start → owner routes h ≡ o → refusal.start ≡ k → refusal.shown.entry ≡ start.terminal → refusal.shown.header ≡ h → fault_at routes h start.at o ≡ Some (refusal.why, refusal.shown.walk) → (IsSpared routes h start → ⊥) → IsRefusal routes starts h k refusal
 refusal_from routes starts h k start o refusal net here at own number terminal header is not_spared = search (arith, refused_at)

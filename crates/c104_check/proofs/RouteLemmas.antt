@@ -104,8 +104,7 @@ passed_on routes s from n test e b is rest among = search arith
 
 pub among_range : (routes : Routes) (s : ℕ) (test : ℕ → Bool) (e : Option Port) (n from : ℕ) → IsAmong e (peers_that routes s test from n) → IsPassed routes s test e
 among_range routes s test e zero from among = absurd among
-among_range routes s test e (suc n) from among =
-    passed_on routes s from n test e (test from) refl (among_range routes s test e n (from + 1)) (subst (IsAmong e) (peers_step routes s from n test (test from) refl) among)
+among_range routes s test e (suc n) from among = search (arith, passed_on, peers_step, among_range routes s test e n (from + 1))
 
 -- the links of the group that is selected
 abbrev pub group_peers : Routes → ℕ → ℕ → List (Option Port)

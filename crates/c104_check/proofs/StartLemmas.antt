@@ -28,11 +28,7 @@ pub get_back : {X : Type 0} (xs : List X) (y : X) (k : ℕ) (x : X) → slice_ge
 get_back [] y zero x at = inr (refl, (cc))
 get_back [] y (suc k) x at = absurd (let past = slice_get_past [] k (omega arith) in let clash : None ≡ Some x = sym past ∙ at in cc)
 get_back (z ∷ xs) y zero x at = inl (omega arith, at)
-get_back (z ∷ xs) y (suc k) x at =
-    elim (get_back xs y k x at) [
-      | inl there ↦ let low = there.0 in inl (omega (arith, low), there.1)
-      | inr last ↦ let same = last.0 in inr (omega (arith, same), last.1)
-    ]
+get_back (z ∷ xs) y (suc k) x at = search (arith, get_back xs y k x at)
 
 land_front : (routes : Routes) (starts : List Start) (start : Start) → AllLand routes (starts ++ start ∷ []) → AllLand routes starts
 land_front routes starts start all h below k x inside at = search (arith, length-append, get_front)
@@ -78,9 +74,7 @@ module _ (routes : Routes) (net : IsNetwork routes) (starts : List Start) (t : �
   plain_covers all u below q there =
       elim (cases_lt u t) [
         | inl lower ↦ covers (land_front routes starts own_start all) u lower q there
-        | inr past ↦
-            let same : u ≡ t = omega (arith, below, past) in
-            subst (EntryLands routes) (entry_same routes t p q wired (subst (λ n. IsEntryOf routes n q) same there)) (plain_entry all)
+        | inr past ↦ search (arith, entry_same, plain_entry)
       ]
 
 pub portals_front : (routes : Routes) (starts : List Start) (start : Start) (portals : List SwitchPort) → CoverPortals routes starts portals → CoverPortals routes (starts ++ start ∷ []) portals

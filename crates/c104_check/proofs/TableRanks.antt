@@ -6,8 +6,8 @@ use Rattle.c104_check.specs.{Cycles.{AreAllRanked, ArePartialRanks, LeadsToUnran
 use Rattle.c104_check.specs.{Dependencies.{Dependency, dependency_at, dependency_place, is_by_from}, FirstCycles.{IsOver, LeadsOver}}
 use Rattle.c104_check.specs.{FirstCycles.LeadsToCycle, Ranks.{rank_at, rank_in}, Routes.{IsAccepted, Routes, SwitchPort, header_count}}
 use Rattle.{c104_check.specs.{Routes.{place, port_at, to_port}, Trails.{IsInput, IsNetwork}}, c104_plan.specs.declared.ports.Port.Port}
-use Rattle.std.proofs.Common.{List, Option, Some, ap, arith, inl, inr, length, refl, subst, suc, sym, true, zero, ℕ, ◌*◌, ◌<◌, ◌∙◌, ◌≡◌}
-use Rattle.std.proofs.{Common.◌≤◌, lemmas.{Bool.{Decides.nat_tests, cases_lt}, Option.same_Some}}
+use Rattle.std.proofs.Common.{List, Option, Some, ap, arith, inl, inr, length, subst, suc, sym, true, zero, ℕ, ◌*◌, ◌<◌, ◌∙◌, ◌≡◌, ◌≤◌}
+use Rattle.std.proofs.lemmas.{Bool.{Decides.nat_tests, cases_lt}, Option.same_Some}
 
 by_some : (h : ℕ) (o : Option Dependency) → is_by_from h o ≡ true → (d : Dependency) × (o ≡ Some d) × (h ≤ d.header)
 by_some h o is = search (arith, nat_tests)
@@ -54,26 +54,13 @@ module _ (routes : Routes) (table : List (Option Dependency)) (net : IsNetwork r
       let o : ℕ = found.0 in
       let d : Dependency = found.1 in
       let here = arrived_input routes h p net by.0 in
-      let leads = (entry_is routes table p o d dependencies here found.2 found.4).1 in
-      record {
-        link = o;
-        dependency = d;
-        low = found.2;
-        there = found.4;
-        next = input_same d.next q (routes.peer (Port.Switch p.switch o)) (routes.peer (Port.Switch p.switch o)) leads found.3 refl;
-        input = here;
-        over = found.3;
-      }
+      search (arith, entry_is, input_same)
 
   -- none depends so by a higher header than the one that stands there
   pub most_listed : (p : SwitchPort) (o h : ℕ) (d : Dependency) → IsInput (length routes.settings) p → o < 32 → dependency_at table (dependency_place p o) ≡ Some d → DependsBy routes h p d.next → h ≤ d.header
   most_listed p o h d here low there by =
       let found = listed_over p d.next h by in
-      let u : ℕ = found.0 in
-      let e : Dependency = found.1 in
-      let links : u ≡ o = one_link routes p d.next u o net found.3 (entry_is routes table p o d dependencies here low there).1 in
-      let same : e ≡ d = same_Some e d (sym found.4 ∙ ap (λ k. dependency_at table (dependency_place p k)) links ∙ there) in
-      subst (λ (x : Dependency). h ≤ x.header) same found.5
+      search (arith, one_link, entry_is, same_Some)
 
   all_listed : (p q : SwitchPort) (o : ℕ) → Depends routes p q → IsOver routes p o q → (d : Dependency) × (dependency_at table (dependency_place p o) ≡ Some d) × (d.next ≡ q)
   all_listed p q o depends over =

@@ -103,8 +103,7 @@ met_last [] p = rw (is_port-refl p) refl
 met_last (x ∷ walk) p = or_true (is_port p x) (met_last walk p)
   where
     or_true : (a : Bool) {b : Bool} → b ≡ true → (a || b) ≡ true
-    or_true true is = refl
-    or_true false is = is
+    or_true a is = search arith
 
 pub other_port : (p q : SwitchPort) → (q ≡ p → ⊥) → is_port q p ≡ false
 other_port p q other = elim (cases_Bool (is_port q p)) [ inl same ↦ absurd (other (is_port-true q p same)) | inr differ ↦ differ ]
