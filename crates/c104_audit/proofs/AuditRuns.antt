@@ -4,14 +4,13 @@ use Rattle.c104_audit.proofs.{EntryEvents.{LeadsAlone, LeadsJoint, lead_cases, p
 use Rattle.{c104_audit.{proofs.Matching.lead_deeds, specs.Leads.Lead}, c104_event.specs.declared.events.Event.Event}
 use Rattle.{c104_link.specs.Steps.◌>>=◌, c104_node.proofs.{BegunRecords.run_kind, JointEnds.near_answers, ReadyActs.act_ready}}
 use Rattle.c104_node.specs.{Acts.{IsWithinLimits, node_act}, Nodes.{Node, is_switch}, PortActs.{Acts, IsAnswerOf, far_act}, Records.MayAct}
-use Rattle.c104_node.specs.{Traces.{entry_of, part}, declared.{acts.{ActOf.ActOf, Entry.Entry}, crossings.Crossing.Crossing}}
-use Rattle.c104_node.specs.declared.{crossings.Crossing.TheVariants.{Grant, Token as TokenCrossing}, stamps.Stamp.Stamp}
+use Rattle.c104_node.specs.{Traces.entry_of, declared.{acts.{ActOf.ActOf, Entry.Entry}, crossings.Crossing.Crossing, stamps.Stamp.Stamp}}
 use Rattle.{c104_plan.specs.{Plans.Plan, Wiring.peer, declared.ports.Port.Port}, c104_run.specs.EventActs.{crossing_event, event_acts}}
-use Rattle.c104_run.specs.{EventActs.port_place, EventDeeds.{acts_deeds, event_deeds}, EventPlaces.event_place, Runs.AreBehind}
-use Rattle.{c104_run.specs.Runs.{AreInOrder, IsBefore, run_deeds}, c104_switch.specs.Actions.{Reply, is_ready}}
-use Rattle.{c104_switch.specs.declared.actions.ReplyOf.ReplyOf, c104_token.specs.{Kinds.plain_kind, declared.tokens.Token.Token}}
-use Rattle.std.proofs.Common.{List, None, Option, Some, [], ap, arith, inl, inr, is_some, map, refl, slice_get, subst, suc, sym, true}
-use Rattle.std.{proofs.Common.{unwrap_or, ℕ, ◌++◌, ◌+◌, ◌∙◌, ◌∷◌, ◌≡◌, ◌⊎◌}, specs.List.AllByRecursion}
+use Rattle.c104_run.specs.{EventActs.port_place, EventDeeds.event_deeds, EventPlaces.event_place, Runs.{AreBehind, AreInOrder, IsBefore}}
+use Rattle.{c104_run.specs.Runs.run_deeds, c104_switch.specs.{Actions.Reply, declared.actions.ReplyOf.ReplyOf}}
+use Rattle.{c104_token.specs.{Kinds.plain_kind, declared.tokens.Token.Token}, std.proofs.Common.{List, None, Option, Some, [], ap, arith}}
+use Rattle.std.proofs.Common.{is_some, map, refl, slice_get, subst, suc, sym, true, unwrap_or, ℕ, ◌++◌, ◌+◌, ◌∙◌, ◌∷◌, ◌≡◌}
+use Rattle.std.specs.List.{AllByRecursion}
 
 -- the stamp of an entry
 abbrev pub stamp_of : Entry → Stamp
@@ -47,12 +46,10 @@ module _ (plan : Plan) where
   lead_stamps ms n = stamp_or (slice_get ms n)
 
   joint_acts : (crossing : Crossing) (p q : Port) → peer plan p ≡ Some q → ◌≡◌ {A = Option (Acts Token)} (event_acts plan (crossing_event crossing p)) (Some (Acts.Joint p q crossing))
-  joint_acts TokenCrossing p q wired = rw wired refl
-  joint_acts Grant p q wired = rw wired refl
+  joint_acts crossing p q wired = search arith
 
   joint_place : (crossing : Crossing) (p : Port) → event_place plan (crossing_event crossing p) ≡ port_place plan p
-  joint_place TokenCrossing p = refl
-  joint_place Grant p = refl
+  joint_place crossing p = search arith
 
   pub far_alone : (k : ℕ) (x : Entry) → LeadsAlone plan k x.act → far_of k x ≡ None
   far_alone k x alone = rw (alone.told, alone.acts) refl
@@ -82,31 +79,11 @@ module _ (plan : Plan) where
   answered x k j was = near_answers plain_kind j.crossing j.near was.node (x.reply, was.after) (subst (λ a. node_act plain_kind 0 a was.node ≡ Some (x.reply, was.after)) j.is was.made)
 
   pub place_sure : (m : ℕ × Lead Entry) → IsSure m → event_place plan (lead_event m) ≡ m.1.place
-  place_sure m sure = by_cases (lead_cases plan m.1.place m.1.entry.act sure.leads)
-    where
-      by_cases : LeadsAlone plan m.1.place m.1.entry.act ⊎ LeadsJoint plan m.1.place m.1.entry.act → event_place plan (lead_event m) ≡ m.1.place
-      by_cases (inl alone) = ap (event_place plan) (event_alone m alone) ∙ alone.place
-      by_cases (inr j) = ap (event_place plan) (event_joint m j) ∙ joint_place j.crossing j.near ∙ j.place
+  place_sure m sure = search (arith, lead_cases, event_joint, joint_place)
 
   -- the entries of the event are what the entry and its other half are
   pub deeds_sure : (m : ℕ × Lead Entry) → IsSure m → event_deeds plan (stamp_of m.1.entry) (lead_event m) m.1.entry.reply ≡ lead_deeds far_of m
-  deeds_sure m sure = by_cases (lead_cases plan m.1.place m.1.entry.act sure.leads)
-    where
-      x : Entry
-      x = m.1.entry
-
-      ready : is_ready x.reply ≡ true
-      ready = act_ready plain_kind 0 x.act sure.was.node (x.reply, sure.was.after) sure.was.made
-
-      by_cases : LeadsAlone plan m.1.place x.act ⊎ LeadsJoint plan m.1.place x.act → event_deeds plan (stamp_of x) (lead_event m) x.reply ≡ lead_deeds far_of m
-      by_cases (inl alone) =
-          ap (λ e. event_deeds plan (stamp_of x) e x.reply) (event_alone m alone)
-          ∙ ap (part [] (λ acts. acts_deeds plan (stamp_of x) acts x.reply)) alone.acts
-          ∙ rw (ready, far_alone m.1.place x alone) refl
-      by_cases (inr j) =
-          ap (λ e. event_deeds plan (stamp_of x) e x.reply) (event_joint m j)
-          ∙ ap (part [] (λ acts. acts_deeds plan (stamp_of x) acts x.reply)) (joint_acts j.crossing j.near j.far j.wired)
-          ∙ rw (ready, j.place, sym j.is, far_joint m.1.place x j) refl
+  deeds_sure m sure = search (arith, lead_cases, act_ready, far_alone, event_joint, joint_acts, far_joint)
 
   -- the entries of numbered events, each with the stamp of its number
   pub run_sure : (n : ℕ) (stamps : ℕ → Stamp) (ms : List (ℕ × Lead Entry)) → ((i : ℕ) → stamps (n + i) ≡ lead_stamps ms i) → AllByRecursion IsSure ms → run_deeds plan stamps n (map lead_pair ms) ≡ all_deeds far_of ms

@@ -1,6 +1,6 @@
 -- Nodes whose lists audit well tell one run of their network. It begins with what was handed over, and then the seats'
 -- calls stand and nothing else.
-use Rattle.c104_audit.proofs.AuditRuns.{IsSure, far_of, lead_event, lead_pair, lead_stamps, order_sure, run_sure, stamp_or}
+use Rattle.c104_audit.proofs.AuditRuns.{IsSure, far_of, lead_event, lead_pair, lead_stamps, order_sure, run_sure}
 use Rattle.c104_audit.proofs.GatheredNodes.{entries_legal, entries_rise, first_state, gathered_match, node_of, starting_is, starts_ready}
 use Rattle.c104_audit.proofs.{GatheredNodes.whole_at, KeptLeads.{IsEarly, kept, leading_kept, same_leading, split_kept}, Matches.IsLegal}
 use Rattle.c104_audit.proofs.{Matches.legal_event, Matching.{AreLeading, all_deeds, at_place}, MergedLists.{IsLeader, in_merge, leaders}}
@@ -8,29 +8,23 @@ use Rattle.c104_audit.proofs.{MergedLists.merged_lists, Merging.{each_in, from_f
 use Rattle.c104_audit.proofs.{NetworkRuns.network_runs, TracedLeads.{AreNamed, AreNumbered, called_append, called_in, calls_are}}
 use Rattle.c104_audit.proofs.TracedLeads.{from_unseated, in_unseated, is_unseated, leads_told, led_is, no_seat, node_below, run_front}
 use Rattle.c104_audit.{proofs.TracedLeads.{runs_same, seated_is, unseated_is, unseated_rise}, specs.AuditedRuns.{AreGathered, AreUnseated}}
-use Rattle.c104_audit.specs.{AuditedRuns.{IsAuditedRun, WereBefore, event_alone, node_shape}, Audits.{IsAudited, called_by, carries}}
-use Rattle.c104_audit.specs.{Audits.{is_leading, is_number, leading_entries, lists_events, unseated}, Leads.{AreRising, Lead, list_at}}
-use Rattle.c104_audit.specs.{Leads.merged_leads, declared.{calls.Call.Call, lists.{Lists.Lists, NodeShape.NodeShape}}}
-use Rattle.{c104_event.specs.declared.events.Event.Event, c104_net.proofs.{Members.{IsIn, in_filter}, SureOrigins.mapped}}
-use Rattle.{c104_net.{proofs.ToldEvents.events_told, specs.ToldEvents.told_events}, c104_node.{proofs.Waiting.get_before, specs.Nodes.Node}}
-use Rattle.c104_node.specs.{Records.{IsNodeRun, NodeRecord, NodeRoom, node_start, node_state, node_trace}, Starts.start_node, Traces.Deed}
-use Rattle.c104_node.specs.{Traces.{part, seatless}, declared.{acts.Entry.Entry, stamps.Stamp.Stamp, starts.NodeStart.NodeStart}}
+use Rattle.c104_audit.specs.{AuditedRuns.{IsAuditedRun, WereBefore, event_alone}, Audits.{IsAudited, called_by, carries, is_leading}}
+use Rattle.c104_audit.specs.{Audits.{is_number, leading_entries, lists_events, unseated}, Leads.{AreRising, Lead, list_at, merged_leads}}
+use Rattle.{c104_audit.specs.declared.{calls.Call.Call, lists.Lists.Lists}, c104_event.specs.declared.events.Event.Event}
+use Rattle.c104_net.{proofs.{Members.{IsIn, in_filter}, SureOrigins.mapped, ToldEvents.events_told}, specs.ToldEvents.told_events}
+use Rattle.c104_node.{proofs.Waiting.get_before, specs.{Nodes.Node, Records.{NodeRecord, NodeRoom, node_start, node_state, node_trace}}}
+use Rattle.c104_node.specs.{Starts.start_node, Traces.{Deed, part, seatless}, declared.{acts.Entry.Entry, stamps.Stamp.Stamp}}
 use Rattle.{c104_plan.specs.{Plans.{IsPlan, Plan}, Wiring.wires}, c104_run.specs.Balance.{AreInPlace, IsSteady}}
 use Rattle.c104_run.specs.{FinishedRecords.FinishedRecord, Network.network_of, NodeRuns.{TellRun, nodes_run, starting_nodes}}
 use Rattle.{c104_run.specs.Runs.{IsDoneRun, IsRunRecord, at_node, run_deeds}, c104_switch.specs.Actions.Reply}
-use Rattle.{c104_token.specs.{Kinds.plain_kind, declared.tokens.Token.Token}, std.proofs.Common.{Bool, List, None, Option, Some, [], ap}}
-use Rattle.std.proofs.Common.{arith, false, if◌then◌else◌, is_some, length, length-append, map, nat_eq, not, option_map, refl, slice_get}
-use Rattle.std.proofs.{Common.{subst, suc, sym, true, unwrap_or, ℕ, ◌++◌, ◌+◌, ◌<◌, ◌∙◌, ◌∷◌, ◌≡◌, ◌≤◌}, lemmas.Bool.Decides.nat_tests}
-use Rattle.std.{proofs.lemmas.{List.{length-map, map-append}, Option.{slice_get-map, slice_get_within}}, specs.List.AllByRecursion}
+use Rattle.{c104_token.specs.{Kinds.plain_kind, declared.tokens.Token.Token}, std.proofs.Common.{List, None, Option, Some, [], ap, arith}}
+use Rattle.std.proofs.Common.{false, is_some, length, length-append, map, not, option_map, refl, slice_get, subst, suc, sym, true}
+use Rattle.std.proofs.{Common.{unwrap_or, ℕ, ◌++◌, ◌+◌, ◌<◌, ◌∙◌, ◌∷◌, ◌≡◌, ◌≤◌}, lemmas.{Bool.Decides.nat_tests, List.length-map}}
+use Rattle.std.{proofs.lemmas.{List.map-append, Option.{slice_get-map, slice_get_within}}, specs.List.AllByRecursion}
 
 -- the entries at a place, by either word
 node_parts : (k : ℕ) (ds : List Deed) → at_node k ds ≡ at_place k ds
-node_parts k [] = refl
-node_parts k (d ∷ ds) = by_test (node_parts k ds) (nat_eq d.0 k)
-  where
-    by_test : at_node k ds ≡ at_place k ds → (b : Bool) → (if b then d.1 ∷ at_node k ds else at_node k ds) ≡ (if b then d.1 ∷ at_place k ds else at_place k ds)
-    by_test rest true = ap (λ xs. d.1 ∷ xs) rest
-    by_test rest false = rest
+node_parts k ds = search arith
 
 -- lists with the same at each place are the same
 same_gets : {X : Type 0} (xs ys : List X) → ((k : ℕ) → slice_get xs k ≡ slice_get ys k) → xs ≡ ys
@@ -46,15 +40,13 @@ get_back [] ys i = ap (slice_get ys) (let same : 0 + i ≡ i = omega arith in sa
 get_back (x ∷ xs) ys i = let next : suc (length xs) + i ≡ suc (length xs + i) = omega arith in ap (slice_get (x ∷ xs ++ ys)) next ∙ get_back xs ys i
 
 some_seat : (o : Option ℕ) → not (is_some o) ≡ false → (s : ℕ) × (o ≡ Some s)
-some_seat None is = absurd (cc)
-some_seat (Some s) is = (s, refl)
+some_seat o is = search arith
 
 seat_itself : (s : ℕ) → is_number s (Some s) ≡ true
 seat_itself s = grind (arith, nat_tests)
 
 has_seat : (o : Option ℕ) → not (not (is_some o)) ≡ true → is_some o ≡ true
-has_seat None is = cc
-has_seat (Some s) is = refl
+has_seat o is = search arith
 
 module _ (plan : Plan) (is_plan : IsPlan plan) (nodes : List (NodeRecord × NodeRoom)) (lists : Lists) (gathered : AreGathered plan nodes lists) (audited : IsAudited lists) where
   abbrev Starts : List (Node Token)
@@ -103,18 +95,7 @@ module _ (plan : Plan) (is_plan : IsPlan plan) (nodes : List (NodeRecord × Node
   Wired k = part 0 (λ (n : NodeRecord × NodeRoom). n.0.wired) (slice_get nodes k)
 
   parts : RunParts plan is_plan Wired Starts Ends Leads
-  parts k n m at end_at =
-      let start = mapped first_state nodes k n at in
-      let end = mapped node_state nodes k m end_at in
-      let same : end.0 ≡ start.0 = (let both : Some end.0 ≡ Some start.0 = sym end.1 ∙ start.1 in cc) in
-      let is : m ≡ start.0.0.state = sym end.2 ∙ ap node_state same in
-      let trace : list_at Traces k ≡ start.0.0.trace = ap (λ o. unwrap_or o []) (slice_get-map node_trace nodes k ∙ ap (option_map node_trace) start.1) in
-      let mask : Wired k ≡ start.0.0.wired = ap (part 0 (λ (n : NodeRecord × NodeRoom). n.0.wired)) start.1 in
-      let run : IsNodeRun start.0.0.wired (first_state start.0) start.0.0.trace start.0.0.state = (whole_at plan is_plan nodes lists gathered audited k start.0 start.1).recorded.run in
-      subst (λ w. IsNodeRun w n (at_place k (all_deeds (far_of plan) Leads)) m) (sym mask)
-      (subst (λ xs. IsNodeRun start.0.0.wired n xs m) (sym trace ∙ sym (deeds_are k))
-      (subst (λ f. IsNodeRun start.0.0.wired f start.0.0.trace m) start.2
-      (subst (λ e. IsNodeRun start.0.0.wired (first_state start.0) start.0.0.trace e) (sym is) run)))
+  parts k n m at end_at = search (arith, mapped, slice_get-map, whole_at, deeds_are)
 
   abbrev Stamps : ℕ → Stamp
   Stamps = lead_stamps plan Leads
@@ -142,14 +123,7 @@ module _ (plan : Plan) (is_plan : IsPlan plan) (nodes : List (NodeRecord × Node
 
   -- what had been done before started where the nodes did
   starts_are : lists.starts ≡ map node_start nodes
-  starts_are = same_gets lists.starts (map node_start nodes) (λ k. sym (audited.before k).start ∙ ap (λ ns. option_map shape_start (slice_get ns k)) gathered.shapes ∙ ap (option_map shape_start) (slice_get-map node_shape nodes k) ∙ by_node (slice_get nodes k) ∙ sym (slice_get-map node_start nodes k))
-    where
-      shape_start : NodeShape → NodeStart
-      shape_start n = n.start
-
-      by_node : (o : Option (NodeRecord × NodeRoom)) → option_map shape_start (option_map node_shape o) ≡ option_map node_start o
-      by_node None = refl
-      by_node (Some n) = refl
+  starts_are = search (arith, same_gets, slice_get-map)
 
   starts_same : map start_node lists.starts ≡ Starts
   starts_same = ap (map start_node) starts_are ∙ starting_is nodes
@@ -159,13 +133,7 @@ module _ (plan : Plan) (is_plan : IsPlan plan) (nodes : List (NodeRecord × Node
     before_is k = sym (audited.before k).entries ∙ ap (λ ts. unseated (list_at ts k)) gathered.traces
 
     before_below : (k : ℕ) (x : Entry) → IsIn x (list_at lists.before k) → x.ticket < lists.first
-    before_below k x has = by_start (slice_get (map start_node lists.starts) k) refl
-      where
-        by_start : (o : Option (Node Token)) → slice_get (map start_node lists.starts) k ≡ o → x.ticket < lists.first
-        by_start None at = absurd (subst (IsIn x) (ap (λ o. unwrap_or o []) (handed.told.told k ∙ ap (option_map (λ n. at_node k (run_deeds plan seatless 0 events))) at)) has)
-        by_start (Some n) at =
-            let there : IsIn x (at_node k (run_deeds plan seatless 0 events)) = subst (IsIn x) (ap (λ o. unwrap_or o []) (handed.told.told k ∙ ap (option_map (λ n. at_node k (run_deeds plan seatless 0 events))) at)) has in
-            subst (λ c. x.ticket < c) (sym handed.told.counted) (each_in (λ (e : Entry). e.ticket < length events) x (at_node k (run_deeds plan seatless 0 events)) (node_below plan k events) there)
+    before_below k x has = search (arith, each_in, node_below)
 
     -- what leads and no seat has was done before, and all else is a seat's call
     early : (m : ℕ × Lead Entry) → IsIn m Leads → IsEarly is_unseated lists.first m
@@ -199,10 +167,7 @@ module _ (plan : Plan) (is_plan : IsPlan plan) (nodes : List (NodeRecord × Node
     Old = merged_leads (λ (e : Entry). e.ticket) (is_leading (length plan.switches) (wires plan)) lists.before
 
     lead_is : (m : ℕ × Lead Entry) (t : ℕ) → m.0 ≡ t → (t, record { place = m.1.place; entry = m.1.entry }) ≡ m
-    lead_is m t same = ap (λ u. pair u) (sym same)
-      where
-        pair : ℕ → ℕ × Lead Entry
-        pair u = (u, m.1)
+    lead_is m t same = search arith
 
     old_rising : (k : ℕ) → AreRising (λ (e : Entry). e.ticket) (list_at lists.before k)
     old_rising k = subst (AreRising (λ (e : Entry). e.ticket)) (sym (before_is k)) (unseated_rise (list_at Traces k) (rising k))
@@ -258,13 +223,10 @@ module _ (plan : Plan) (is_plan : IsPlan plan) (nodes : List (NodeRecord × Node
     long = ap length (sym front_is) ∙ length-map Before (lead_pair plan)
 
     first_numbered : AreNumbered plan Stamps 0 Before
-    first_numbered i m at =
-        let same : 0 + i ≡ i = omega arith in
-        ap Stamps same ∙ ap (λ ms. stamp_or plan (slice_get ms i)) split ∙ ap (stamp_or plan) (get_before Before After i m at)
+    first_numbered i m at = search (arith, split, get_before)
 
     last_numbered : AreNumbered plan Stamps (length events) After
-    last_numbered i m at =
-        ap (λ n. Stamps (n + i)) long ∙ ap (λ ms. stamp_or plan (slice_get ms (length Before + i))) split ∙ ap (stamp_or plan) (get_back Before After i ∙ at)
+    last_numbered i m at = search (arith, long, split, get_back)
 
     old_unseated : AllByRecursion (λ (m : ℕ × Lead Entry). m.1.entry.seat ≡ None) Before
     old_unseated = in_each _ Before (λ m has. no_seat m.1.entry.seat (from_filter (λ (o : ℕ × Lead Entry). is_unseated o.1.entry) m Leads has).1)
@@ -301,9 +263,4 @@ module _ (plan : Plan) (is_plan : IsPlan plan) (nodes : List (NodeRecord × Node
 
     -- and the nodes tell it, where the network stood steady at the start
     pub tell_run : IsSteady {A = Token} (network_of plan (map start_node lists.starts)) → TellRun plan nodes (length (lists_events lists))
-    tell_run steady = record {
-      stamps = Stamps;
-      events = events ++ Called;
-      told = subst (λ n. IsRunRecord plain_kind plan Stamps (starting_nodes nodes) Ends Traces n (events ++ Called)) (sym listed_count) told_run;
-      started = subst (λ ss. IsSteady {A = Token} (network_of plan (map start_node ss))) starts_are steady;
-    }
+    tell_run steady = search (arith, listed_count, told_run, starts_are)

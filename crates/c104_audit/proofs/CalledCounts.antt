@@ -4,17 +4,12 @@ use Rattle.c104_audit.proofs.{EqualWalks.{equal_fails, equal_next, equal_over}, 
 use Rattle.c104_audit.specs.{Audits.{carries, is_number, lists_leads}, Leads.list_at, Tests.{AreCounts, AreLeads, AreTold, IsTold}}
 use Rattle.c104_audit.specs.{Tests.{TellsNext, calls_told, lead_in, lead_seat}, declared.{calls.Call.Call, lists.Lists.Lists}}
 use Rattle.{c104_net.specs.declared.leading.Lead.Lead as Leading, c104_node.proofs.WireEnds.{get_set_other, get_set_same}}
-use Rattle.{c104_node.specs.declared.acts.Entry.Entry, std.proofs.Common.{Bool, IsTrue, List, None, Option, Some, ap, arith, false, get_or}}
-use Rattle.std.proofs.Common.{length, map, nat_eq, nat_le, refl, slice_get, slice_set, subst, sym, true, ℕ, ◌+◌, ◌<◌, ◌↔◌, ◌∙◌, ◌≡◌, ◌≢◌}
-use Rattle.std.proofs.{Common.◌≤◌, lemmas.{Bool.Decides.nat_tests, Option.{slice_get-get_or, slice_get_within}}}
+use Rattle.{c104_node.specs.declared.acts.Entry.Entry, std.proofs.Common.{IsTrue, List, None, Option, Some, ap, arith, false, get_or}}
+use Rattle.std.proofs.Common.{length, map, nat_eq, nat_le, slice_get, slice_set, subst, sym, true, ℕ, ◌+◌, ◌<◌, ◌↔◌, ◌∙◌, ◌≡◌, ◌≤◌}
+use Rattle.std.proofs.lemmas.{Bool.Decides.nat_tests, Option.{slice_get-get_or, slice_get_within}}
 
 other_number : (s : ℕ) (o : Option ℕ) → (o ≡ Some s → ⊥) → is_number s o ≡ false
-other_number s None other = refl
-other_number s (Some t) other = by_test (nat_eq s t) refl
-  where
-    by_test : (b : Bool) → nat_eq s t ≡ b → nat_eq s t ≡ false
-    by_test true is = absurd (other (let same : t ≡ s = grind (arith, nat_tests) in ap Some same))
-    by_test false is = is
+other_number s o other = search (arith, nat_tests)
 
 own_number : (s : ℕ) (o : Option ℕ) → o ≡ Some s → is_number s o ≡ true
 own_number s o is = ap (is_number s) is ∙ (let own : nat_eq s s ≡ true = grind (arith, nat_tests) in own)
@@ -50,22 +45,13 @@ module _ (lists : Lists) (leads : List Leading) where
   -- the next that leads is a seat's that is counted
   counts_next : AreLeads lists leads → (i t : ℕ) (l : Leading) (x : Entry) (counts : List (Option ℕ)) (o p : Option ℕ) → slice_get leads i ≡ Some l → lead_seat lists l ≡ Some t → (lead_in lists.traces l).1.entry ≡ x →
       slice_get counts t ≡ Some o → TellsNext lists.switches l.place x (list_at lists.calls t) o p → AreTold lists leads i counts → AreTold lists leads (i + 1) (slice_set counts t p)
-  counts_next all i t l x counts o p at own entry has next told s q there = by_test (nat_eq s t) refl
-    where
-      by_test : (b : Bool) → nat_eq s t ≡ b → IsTold lists leads (i + 1) s q
-      by_test true is =
-          let same : t ≡ s = grind (arith, nat_tests) in
-          let new : p ≡ q = (let both : Some p ≡ Some q = sym (get_set_same counts t o p has) ∙ ap (slice_get (slice_set counts t p)) same ∙ there in cc) in
-          subst (λ r. IsTold lists leads (i + 1) s r) new (subst (λ r. IsTold lists leads (i + 1) r p) same (told_next all i t l x o p at own entry next (told t o has)))
-      by_test false is =
-          let apart : t ≢ s = grind (arith, nat_tests) in
-          told_over i s l q at (λ other. apart (let both : Some t ≡ Some s = sym own ∙ other in cc)) (told s q (sym (get_set_other counts t s p apart) ∙ there))
+  counts_next all i t l x counts o p at own entry has next told s q there =
+      search (arith, nat_tests, get_set_same, told_next, told_over, get_set_other)
 
   -- the same, of the count and the list that are there
   pub count_there : AreLeads lists leads → (i t : ℕ) (l : Leading) (x : Entry) (counts : List (Option ℕ)) (calls : List Call) (d p : Option ℕ) → slice_get leads i ≡ Some l → lead_seat lists l ≡ Some t → (lead_in lists.traces l).1.entry ≡ x →
       t < length counts → list_at lists.calls t ≡ calls → TellsNext lists.switches l.place x calls (get_or counts t d) p → AreTold lists leads i counts → AreTold lists leads (i + 1) (slice_set counts t p)
-  count_there all i t l x counts calls d p at own entry below same next =
-      counts_next all i t l x counts (get_or counts t d) p at own entry (slice_get-get_or counts t d below) (subst (λ cs. TellsNext lists.switches l.place x cs (get_or counts t d) p) (sym same) next)
+  count_there h1 i t l x counts calls d p h2 h3 h4 h5 h6 h7 h8 = search (arith, counts_next, slice_get-get_or)
 
   -- or it is no seat's that is counted
   pub counts_over : (i : ℕ) (l : Leading) (counts : List (Option ℕ)) → slice_get leads i ≡ Some l → ((s : ℕ) → s < length counts → lead_seat lists l ≡ Some s → ⊥) → AreTold lists leads i counts → AreTold lists leads (i + 1) counts

@@ -1,14 +1,13 @@
 -- What entries tell that lead: the calls of a seat, and all events, as loops go through them.
-use Rattle.c104_audit.{proofs.{KeptElements.given_here, MergedLists.leaders}, specs.Audits.{carries, entry_event, is_leading}}
-use Rattle.c104_audit.specs.{Audits.{is_link_wired, is_of_kind, led_by, led_call, led_event, lists_leads, told_reply}, Calls.call_of}
-use Rattle.c104_audit.specs.{Leads.{Lead, list_at}, Tests.{AreLeads, IsNextCall, calls_told, entry_or, lead_in}, declared.calls.Call.Call}
-use Rattle.{c104_audit.specs.declared.lists.Lists.Lists, c104_event.specs.declared.events.Event.Event, c104_net.proofs.Members.IsIn}
-use Rattle.c104_net.specs.{Replays.{entry_event as told_entry, event_or, lead_event}, ToldEvents.told_event}
-use Rattle.{c104_net.specs.declared.leading.Lead.Lead as Leading, c104_node.specs.{ActLinks.on_links, declared.acts.ActOf.ActOf}}
-use Rattle.{c104_node.specs.declared.acts.Entry.Entry, c104_plan.specs.declared.ports.Wire.Wire, c104_run.specs.EventActs.act_event}
-use Rattle.{c104_switch.specs.Actions.Reply, c104_token.specs.declared.tokens.Token.Token, std.proofs.Common.{Bool, List, None, Option}}
-use Rattle.std.proofs.Common.{Some, [], ap, append_assoc, drop, false, if◌then◌else◌, inl, inr, is_some, map, nat_lt, refl, slice_get}
-use Rattle.std.{proofs.Common.{subst, suc, sym, true, zero, ℕ, ◌&&◌, ◌++◌, ◌+◌, ◌∙◌, ◌∷◌, ◌≡◌}, specs.Option.{option_map, option_to_list}}
+use Rattle.c104_audit.{proofs.{KeptElements.given_here, MergedLists.leaders}, specs.Audits.{carries, entry_event, is_leading, led_by}}
+use Rattle.c104_audit.specs.{Audits.{led_call, led_event, lists_leads, told_reply}, Calls.call_of, Leads.{Lead, list_at}, Tests.AreLeads}
+use Rattle.c104_audit.specs.{Tests.{IsNextCall, calls_told, entry_or, lead_in}, declared.{calls.Call.Call, lists.Lists.Lists}}
+use Rattle.{c104_event.specs.declared.events.Event.Event, c104_net.{proofs.Members.IsIn, specs.Replays.entry_event as told_entry}}
+use Rattle.c104_net.specs.{Replays.{event_or, lead_event}, ToldEvents.told_event, declared.leading.Lead.Lead as Leading}
+use Rattle.{c104_node.specs.declared.acts.{ActOf.ActOf, Entry.Entry}, c104_plan.specs.declared.ports.Wire.Wire}
+use Rattle.{c104_run.specs.EventActs.act_event, c104_token.specs.declared.tokens.Token.Token, std.proofs.Common.{List, None, Option, Some}}
+use Rattle.std.proofs.Common.{[], ap, append_assoc, arith, drop, false, if◌then◌else◌, inl, inr, is_some, map, refl, slice_get, subst, suc}
+use Rattle.std.{proofs.Common.{sym, true, zero, ℕ, ◌++◌, ◌+◌, ◌∙◌, ◌∷◌, ◌≡◌}, specs.Option.{option_map, option_to_list}}
 
 -- the event of an entry that leads is that of its act
 record IsNamed (S : ℕ) (ws : List Wire) (k : ℕ) (a : ActOf Token) : Type 0 where
@@ -17,12 +16,7 @@ record IsNamed (S : ℕ) (ws : List Wire) (k : ℕ) (a : ActOf Token) : Type 0 w
   pub names : act_event S k a ≡ Some event
 
 entry_named : (S : ℕ) (ws : List Wire) (k : ℕ) (a : ActOf Token) → is_some (entry_event S ws k a) ≡ true → IsNamed S ws k a
-entry_named S ws k a leads = by_event (is_of_kind (nat_lt k S) a && on_links (is_link_wired S ws k) a) refl (act_event S k a) refl leads
-  where
-    by_event : (b : Bool) → (is_of_kind (nat_lt k S) a && on_links (is_link_wired S ws k) a) ≡ b → (o : Option Event) → act_event S k a ≡ o → is_some (if b then o else None) ≡ true → IsNamed S ws k a
-    by_event true test (Some e) is leads = record { event = e; led = ap (λ b. if b then act_event S k a else None) test ∙ is; names = is }
-    by_event true test None is leads = absurd (cc)
-    by_event false test o is leads = absurd (cc)
+entry_named S ws k a leads = search arith
 
 module _ (lists : Lists) where
   abbrev At : Leading → ℕ × Lead Entry
@@ -78,16 +72,7 @@ module _ (lists : Lists) where
 
     -- the call at a place of a list is the one that is told, or it isn't
     pub call_there : (i k : ℕ) (x : Entry) (met : IsMet i x k) (calls : List Call) (at : ℕ) → IsNextCall lists.switches k x calls at → slice_get calls at ≡ Some (told_call met.event x)
-    call_there i k x met calls at (c, there, is) = there ∙ ap Some same
-      where
-        events : c.event ≡ met.event
-        events = let both : Some c.event ≡ Some met.event = sym is.event ∙ met.names in cc
-
-        call : ℕ → Event → Reply → Call
-        call t d r = record { ticket = t; event = d; reply = r }
-
-        same : c ≡ told_call met.event x
-        same = ap (λ t. call t c.event c.reply) is.ticket ∙ ap (λ d. call x.ticket d c.reply) events ∙ ap (call x.ticket met.event) is.reply
+    call_there i k x met calls at h1 = search arith
 
     pub call_found : (i k : ℕ) (x : Entry) (met : IsMet i x k) (calls : List Call) (at : ℕ) → slice_get calls at ≡ Some (told_call met.event x) → IsNextCall lists.switches k x calls at
     call_found i k x met calls at there = (told_call met.event x, there, record { ticket = refl; event = met.names; reply = refl })
@@ -118,6 +103,4 @@ module _ (lists : Lists) where
     -- one more event was told
     pub told_on : AreLeads lists leads → (i : ℕ) (l : Leading) (e : Event) (events new all : List Event) → slice_get leads i ≡ Some l → e ≡ told_event (lead_event lists.switches lists.traces l) → new ≡ events ++ e ∷ [] →
         events ++ EventsLeft i ≡ all → new ++ EventsLeft (i + 1) ≡ all
-    told_on leading i l e events new all at is added before =
-        ap (λ xs. xs ++ EventsLeft (i + 1)) added ∙ append_assoc events (e ∷ []) (EventsLeft (i + 1))
-        ∙ ap (λ x. events ++ x ∷ EventsLeft (i + 1)) is ∙ ap (λ xs. events ++ xs) (sym (told_here leading i l at)) ∙ before
+    told_on leading i l e events new all at is added before = search (arith, append_assoc, told_here)

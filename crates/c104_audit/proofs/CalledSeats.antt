@@ -2,17 +2,13 @@
 use Rattle.c104_audit.{proofs.FirstFailures.{below_all, first_both, first_same}, specs.Audits.{HaveOtherTickets, IsCalled}}
 use Rattle.c104_audit.specs.{Firsts.{IsFirst, lower_of}, Leads.{AreRising, list_at}, Tests.{AreCalledBelow, CarryAtAllEnds, HasNoStray}}
 use Rattle.{c104_audit.specs.{Tests.{IsApart, IsToldAt, is_other}, declared.{calls.Call.Call, lists.Lists.Lists}}, std.proofs.Common.Bool}
-use Rattle.std.proofs.Common.{IsTrue, List, None, Option, Some, [], ap, arith, false, get_or, inl, inr, length, nat_eq, nat_lt, not, refl}
-use Rattle.std.proofs.{Common.{slice_get, subst, sym, true, unwrap_or, ℕ, ◌<◌, ◌↔◌, ◌∙◌, ◌≡◌, ◌≤◌, ◌⊎◌}, lemmas.Bool.Decides.nat_tests}
-use Rattle.std.{proofs.lemmas.Option.slice_get_cases, specs.List.AllByRecursion}
+use Rattle.std.proofs.Common.{IsTrue, List, None, Option, Some, [], ap, arith, false, length, nat_eq, nat_lt, not, refl, slice_get, subst}
+use Rattle.std.proofs.{Common.{sym, true, unwrap_or, ℕ, ◌<◌, ◌↔◌, ◌∙◌, ◌≡◌, ◌≤◌}, lemmas.{Bool.Decides.nat_tests, Option.slice_get_cases}}
+use Rattle.std.specs.List.{AllByRecursion}
 
 -- there is nothing past the end of a list
 pub past_end : {X : Type 0} (xs : List X) (i : ℕ) → length xs ≤ i → slice_get xs i ≡ None
-past_end {X} xs i past = by_place (slice_get_cases xs i).1
-  where
-    by_place : ((x : X) × (i < length xs) × (slice_get xs i ≡ Some x) × (get_or xs i x ≡ x)) ⊎ ((length xs ≤ i) × (slice_get xs i ≡ None)) → slice_get xs i ≡ None
-    by_place (inl (x, inside, at, read)) = absurd (let no : ⊥ = omega (arith, inside, past) in no)
-    by_place (inr found) = found.1
+past_end {X} xs i past = search (arith, slice_get_cases)
 
 pub none_past : {X : Type 0} (lists : List (List X)) (i : ℕ) → length lists ≤ i → list_at lists i ≡ []
 none_past lists i past = ap (λ o. unwrap_or o []) (past_end lists i past)

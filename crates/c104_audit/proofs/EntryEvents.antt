@@ -7,8 +7,8 @@ use Rattle.{c104_plan.specs.{Wiring.{peer, wires}, declared.ports.Port.Port}, c1
 use Rattle.c104_run.specs.{EventActs.{act_event, crossing_event, event_acts, port_place}, EventPlaces.event_place, Network.event_fault}
 use Rattle.{c104_run.specs.Network.terminal_place, c104_switch.specs.{Actions.Reply, declared.actions.ActionOf.ActionOf}}
 use Rattle.{c104_token.specs.{Kinds.plain_kind, declared.{text.TheConstants.MAX_PACKET_BYTES, tokens.Token.Token}}, std.proofs.Common.Bool}
-use Rattle.std.proofs.Common.{None, Option, Some, ap, arith, false, inl, inr, is_some, length, nat_le, nat_lt, not, refl, sym, true, ℕ, ◌+◌}
-use Rattle.std.proofs.{Common.{◌-◌, ◌<◌, ◌∙◌, ◌≡◌, ◌≤◌, ◌⊎◌}, lemmas.Bool.Decides.nat_tests}
+use Rattle.std.proofs.Common.{None, Option, Some, ap, arith, false, inl, is_some, length, nat_le, nat_lt, not, refl, sym, true, ℕ, ◌+◌, ◌-◌}
+use Rattle.std.proofs.{Common.{◌<◌, ◌∙◌, ◌≡◌, ◌≤◌, ◌⊎◌}, lemmas.Bool.Decides.nat_tests}
 use Rattle.c104_node.specs.declared.acts.ActOf.TheVariants as act
 
 module _ (plan : Plan) where
@@ -46,12 +46,7 @@ module _ (plan : Plan) where
     pub told : plan_event k a ≡ act_event (length plan.switches) k a
 
   pub stands_for : (k : ℕ) (a : ActOf Token) → is_some (plan_event k a) ≡ true → StandsFor k a
-  stands_for k a leads = by_tests (is_of_kind (nat_lt k (length plan.switches)) a) refl (on_links (is_wired_link k) a) refl
-    where
-      by_tests : (b : Bool) → is_of_kind (nat_lt k (length plan.switches)) a ≡ b → (c : Bool) → on_links (is_wired_link k) a ≡ c → StandsFor k a
-      by_tests true kind true linked = record { kind = kind; linked = linked; told = rw (kind, linked) refl }
-      by_tests true kind false linked = absurd (let none : plan_event k a ≡ None = rw (kind, linked) refl in let no : false ≡ true = sym (ap is_some none) ∙ leads in cc)
-      by_tests false kind c linked = absurd (let none : plan_event k a ≡ None = rw kind refl in let no : false ≡ true = sym (ap is_some none) ∙ leads in cc)
+  stands_for k a leads = search arith
 
   pub terminal_there : (k : ℕ) → not (nat_lt k (length plan.switches)) ≡ true → (nat_lt k (length plan.switches) ≡ false) × (terminal_place plan (k - length plan.switches) ≡ k)
   terminal_there k is = let past : nat_lt k (length plan.switches) ≡ false = opposite (nat_lt k (length plan.switches)) is in (past, grind (arith, nat_tests))
@@ -67,11 +62,7 @@ module _ (plan : Plan) where
 
   -- where a port has a wire, it has another end
   joint : (k : ℕ) (a : ActOf Token) (crossing : Crossing) (p : Port) → a ≡ near_act crossing p → port_place plan p ≡ k → plan_event k a ≡ Some (crossing_event crossing p) → is_some (peer plan p) ≡ true → LeadsAlone k a ⊎ LeadsJoint k a
-  joint k a crossing p is place told wired = by_peer (peer plan p) refl wired
-    where
-      by_peer : (o : Option Port) → peer plan p ≡ o → is_some o ≡ true → LeadsAlone k a ⊎ LeadsJoint k a
-      by_peer None at some = absurd (cc)
-      by_peer (Some q) at some = inr (record { near = p; far = q; crossing = crossing; wired = at; place = place; is = is; told = told })
+  joint k a crossing p is place told wired = search arith
 
   pub switch_wired : (k l : ℕ) → nat_lt k (length plan.switches) ≡ true → is_wired_link k l ≡ true → is_some (peer plan (Port.Switch k l)) ≡ true
   switch_wired k l here is = sym (rw here refl) ∙ is

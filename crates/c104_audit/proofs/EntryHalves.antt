@@ -2,13 +2,11 @@
 use Rattle.c104_audit.specs.Audits.{AgreeOneByOne, AreHalves, carried_in, carried_out, carries, is_number, is_of_kind}
 use Rattle.{c104_audit.specs.declared.carried.Carried.Carried, c104_net.proofs.Members.IsIn, c104_node.specs.ActLinks.{act_link, port_link}}
 use Rattle.c104_node.specs.{PortActs.{IsAnswerOf, far_act, near_act, port_credit_in, port_enter}, declared.acts.{ActOf.ActOf, Entry.Entry}}
-use Rattle.c104_node.specs.declared.crossings.Crossing.{Crossing, TheVariants.{Grant, Token as TokenCrossing}}
-use Rattle.c104_plan.{proofs.PortLemmas.is_port-true, specs.{Ports.{is_port, other_end}, declared.ports.{Port.Port, Wire.Wire}}}
-use Rattle.c104_switch.specs.{Actions.Reply, declared.actions.{ActionOf.ActionOf, ReplyOf.ReplyOf}}
+use Rattle.{c104_node.specs.declared.crossings.Crossing.Crossing, c104_plan.{proofs.PortLemmas.is_port-true, specs.Ports.is_port}}
+use Rattle.{c104_plan.specs.{Ports.other_end, declared.ports.{Port.Port, Wire.Wire}}, c104_switch.specs.Actions.Reply}
 use Rattle.{c104_token.specs.declared.tokens.Token.Token, std.proofs.Common.{Bool, List, None, Option, Some, [], ap, arith, false}}
 use Rattle.std.proofs.Common.{if◌then◌else◌, inl, inr, map, nat_eq, refl, slice_get, subst, suc, sym, true, ℕ, ◌&&◌, ◌∙◌, ◌∷◌, ◌≡◌, ◌⊎◌}
 use Rattle.std.proofs.lemmas.Bool.Decides.{nat_tests}
-use Rattle.c104_node.specs.declared.acts.ActOf.TheVariants as act
 
 -- whether a port is a switch's
 abbrev pub of_switch : Port → Bool
@@ -21,64 +19,34 @@ pub record IsAtPort (p : Port) (a : ActOf Token) : Type 0 where
   pub link : act_link a ≡ Some (port_link p)
 
 pub both_true : (a b : Bool) → (a && b) ≡ true → (a ≡ true) × (b ≡ true)
-both_true true true is = (refl, refl)
-both_true true false is = absurd (cc)
-both_true false b is = absurd (cc)
+both_true a b is = search arith
 
 pub link_is : (l : ℕ) (o : Option ℕ) → is_number l o ≡ true → o ≡ Some l
-link_is l None is = absurd (cc)
-link_is l (Some m) is = let same : m ≡ l = grind (arith, nat_tests) in ap Some same
+link_is l o is = search (arith, nat_tests)
 
 -- what goes out at a port, and what comes in there
 pub out_is : (p : Port) (a : ActOf Token) (r : Reply) (c : Carried) → IsAtPort p a → carried_out a r ≡ Some c → (crossing : Crossing) × (a ≡ near_act crossing p)
-out_is (Port.Switch s l) (act.Step (ActionOf.Leave m)) r c at is = let links = at.link in let same : m ≡ l = cc in (TokenCrossing, ap (λ k. act.Step (ActionOf.Leave k)) same)
-out_is (Port.Switch s l) (act.Step (ActionOf.CreditOut m)) r c at is = let links = at.link in let same : m ≡ l = cc in (Grant, ap (λ k. act.Step (ActionOf.CreditOut k)) same)
-out_is (Port.Terminal t) act.Leave r c at is = (TokenCrossing, refl)
-out_is (Port.Terminal t) act.CreditOut r c at is = (Grant, refl)
-out_is p a r c at is = absurd (let kinds = at.kind in cc)
+out_is p a r c at is = search arith
 
 enter_is : (q : Port) (a : ActOf Token) (v : Token) → IsAtPort q a → carried_in a ≡ Some (Carried.Token v) → a ≡ port_enter v q
-enter_is (Port.Switch s l) (act.Step (ActionOf.Enter m x)) v at is = let links = at.link in let same : m ≡ l = cc in let token : x ≡ v = cc in ap (λ k. act.Step (ActionOf.Enter k x)) same ∙ ap (λ y. act.Step (ActionOf.Enter l y)) token
-enter_is (Port.Terminal t) (act.Enter x) v at is = let token : x ≡ v = cc in ap act.Enter token
-enter_is q a v at is = absurd (let kinds = at.kind in cc)
+enter_is q a v at is = search arith
 
 credit_is : (q : Port) (a : ActOf Token) → IsAtPort q a → carried_in a ≡ Some Carried.Grant → a ≡ port_credit_in q
-credit_is (Port.Switch s l) (act.Step (ActionOf.CreditIn m)) at is = let links = at.link in let same : m ≡ l = cc in ap (λ k. act.Step (ActionOf.CreditIn k)) same
-credit_is (Port.Terminal t) act.CreditIn at is = refl
-credit_is q a at is = absurd (let kinds = at.kind in cc)
+credit_is q a at is = search arith
 
 -- what comes in at a port is the far act of what went out
 pub in_is : (crossing : Crossing) (p q : Port) (a : ActOf Token) (r : Reply) (c : Carried) → IsAnswerOf crossing r → carried_out (near_act crossing p) r ≡ Some c → IsAtPort q a → carried_in a ≡ Some c → a ≡ far_act q r
-in_is TokenCrossing p q a (ReplyOf.Token x) c answer out at is = by_port p out
-  where
-    by_port : (p : Port) → carried_out (near_act TokenCrossing p) (ReplyOf.Token x) ≡ Some c → a ≡ port_enter x q
-    by_port (Port.Switch s l) out = let same : Carried.Token x ≡ c = cc in enter_is q a x at (is ∙ ap Some (sym same))
-    by_port (Port.Terminal t) out = let same : Carried.Token x ≡ c = cc in enter_is q a x at (is ∙ ap Some (sym same))
-in_is Grant p q a ReplyOf.Done c answer out at is = by_port p out
-  where
-    by_port : (p : Port) → carried_out (near_act Grant p) ReplyOf.Done ≡ Some c → a ≡ port_credit_in q
-    by_port (Port.Switch s l) out = let same : Carried.Grant ≡ c = cc in credit_is q a at (is ∙ ap Some (sym same))
-    by_port (Port.Terminal t) out = let same : Carried.Grant ≡ c = cc in credit_is q a at (is ∙ ap Some (sym same))
-in_is crossing p q a r c answer out at is = absurd answer
+in_is crossing p q a r c answer out at is = search (arith, enter_is, credit_is)
 
 -- what goes out takes nothing in, and the other way round
 pub near_takes : (crossing : Crossing) (p : Port) (c : Carried) → carried_in (near_act crossing p) ≡ Some c → ⊥
-near_takes TokenCrossing (Port.Switch s l) c is = cc
-near_takes Grant (Port.Switch s l) c is = cc
-near_takes crossing p c is = cc
+near_takes crossing p c is = search arith
 
 pub near_at : (crossing : Crossing) (p : Port) → IsAtPort p (near_act crossing p)
-near_at TokenCrossing (Port.Switch s l) = record { kind = refl; link = refl }
-near_at TokenCrossing (Port.Terminal t) = record { kind = refl; link = refl }
-near_at Grant (Port.Switch s l) = record { kind = refl; link = refl }
-near_at Grant (Port.Terminal t) = record { kind = refl; link = refl }
+near_at crossing p = search arith
 
 pub entry_is : (x y : Entry) → x.ticket ≡ y.ticket → x.act ≡ y.act → x.reply ≡ y.reply → x.seat ≡ y.seat → x ≡ y
-entry_is x y tickets acts replies seats =
-    ap (λ t. entry t x.act x.reply x.seat) tickets ∙ ap (λ a. entry y.ticket a x.reply x.seat) acts ∙ ap (λ r. entry y.ticket y.act r x.seat) replies ∙ ap (λ s. entry y.ticket y.act y.reply s) seats
-  where
-    entry : ℕ → ActOf Token → Reply → Option ℕ → Entry
-    entry t a r s = record { ticket = t; act = a; reply = r; seat = s }
+entry_is x y tickets acts replies seats = search arith
 
 -- seats that are the same as far as each number are the same
 pub seats_same : (o o' : Option ℕ) → ((s : ℕ) → is_number s o ≡ is_number s o') → o ≡ o'

@@ -16,10 +16,7 @@ module _ {X : Type 0} where
 
   -- the next is the same
   pub equal_next : (All : Type 0) (ps rest xs : List X) (i : ℕ) (x : X) → ps ≡ x ∷ rest → slice_get xs i ≡ Some x → ((ps ≡ drop i xs) ↔ All) → ((rest ≡ drop (i + 1) xs) ↔ All)
-  equal_next All ps rest xs i x first there same =
-      let second : drop i xs ≡ x ∷ drop (i + 1) xs = drop_next xs i x there in
-      let both : (x ∷ rest ≡ x ∷ drop (i + 1) xs) ↔ All = subst (λ zs. (x ∷ rest ≡ zs) ↔ All) second (subst (λ zs. (zs ≡ drop i xs) ↔ All) first same) in
-      (λ is. both.0 (ap (λ zs. x ∷ zs) is), λ all. (let is : x ∷ rest ≡ x ∷ drop (i + 1) xs = both.1 all in cc))
+  equal_next All ps rest xs i x first there same = search (arith, drop_next)
 
   -- nothing is met
   pub equal_over : (All : Type 0) (ps rest xs : List X) (i : ℕ) → ps ≡ rest → ((ps ≡ drop i xs) ↔ All) → ((rest ≡ drop i xs) ↔ All)

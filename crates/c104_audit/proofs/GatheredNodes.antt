@@ -8,19 +8,16 @@ use Rattle.c104_node.{proofs.BegunRecords.run_kind, specs.{ActLinks.act_link, Ac
 use Rattle.c104_node.specs.{Records.{MayAct, NodeRecord, NodeRoom, has_link, node_trace}, Starts.start_node, Traces.part}
 use Rattle.{c104_node.specs.declared.{acts.{ActOf.ActOf, Entry.Entry}, starts.NodeStart.NodeStart}, c104_plan.specs.Plans.{IsPlan, Plan}}
 use Rattle.{c104_plan.specs.Wiring.wires, c104_regs.specs.declared.registers.TheConstants.LINKS, c104_run.specs.NodeRuns.starting_nodes}
-use Rattle.{c104_run.specs.Rounds.link_numbers, c104_switch.specs.{Actions.Reply, Starts.{start_input, start_output}}}
-use Rattle.{c104_token.specs.{Kinds.plain_kind, declared.tokens.Token.Token}, std.proofs.Common.{Bool, List, None, Option, Some, [], ap}}
-use Rattle.std.proofs.Common.{arith, false, get_or, inl, inr, length, map, nat_lt, option_map, refl, replicate, slice_get, subst, suc, sym}
-use Rattle.std.proofs.{Common.{true, unwrap_or, zero, ℕ, ◌++◌, ◌+◌, ◌<◌, ◌∙◌, ◌∷◌, ◌≡◌}, lemmas.Bool.Decides.nat_tests}
-use Rattle.std.proofs.lemmas.{List.{FromFn.get_or-map-range_with_len, length-map}, Option.slice_get-map}
+use Rattle.{c104_run.specs.Rounds.link_numbers, c104_switch.specs.Actions.Reply, c104_token.specs.Kinds.plain_kind}
+use Rattle.{c104_token.specs.declared.tokens.Token.Token, std.proofs.Common.{Bool, List, None, Option, Some, [], ap, arith, false, inl}}
+use Rattle.std.proofs.Common.{inr, length, map, nat_lt, option_map, refl, replicate, slice_get, subst, suc, sym, true, unwrap_or, zero, ℕ}
+use Rattle.std.proofs.{Common.{◌++◌, ◌+◌, ◌<◌, ◌∙◌, ◌∷◌, ◌≡◌}, lemmas.{Bool.Decides.nat_tests, List.FromFn.get_or-map-range_with_len}}
+use Rattle.std.proofs.lemmas.{List.length-map, Option.slice_get-map}
 use Rattle.c104_node.specs.declared.node.NodeOf.TheVariants as node
 
 -- an act that a node did is one of its kind
 pub act_of_kind : (a : ActOf Token) (n : Node Token) (r : Reply × Node Token) → node_act plain_kind 0 a n ≡ Some r → is_of_kind (is_switch n) a ≡ true
-act_of_kind (ActOf.Step a) (node.Switch s) r is = refl
-act_of_kind (ActOf.Step a) (node.Terminal t) r is = absurd (cc)
-act_of_kind a (node.Switch s) r is = absurd (cc)
-act_of_kind a (node.Terminal t) r is = refl
+act_of_kind a n r is = search arith
 
 -- an entry of a run was done by a node of the kind
 pub record IsNodeEntry (wired : ℕ) (b : Bool) (x : Entry) : Type 0 where
@@ -36,8 +33,7 @@ node_entry wired from to (e ∷ entries) x run (inl same) = subst (IsNodeEntry w
 node_entry wired from to (e ∷ entries) x run (inr has) = subst (λ b. IsNodeEntry wired b x) (same_kind wired e.act from run.0 e.reply run.1 run.2) (node_entry wired run.0 to entries x run.3 has)
 
 wide_start : (s : NodeStart) → IsKeptStart s → IsWide (start_node s)
-wide_start (NodeStart.Switch s) kept = (length-map s.links start_input ∙ kept.count, length-map s.links start_output ∙ kept.count)
-wide_start (NodeStart.Terminal t) kept = tt
+wide_start s kept = search (arith, length-map)
 
 -- nodes of which those before a place are switches stand at their places
 pub in_place_by : (nodes : List (Node Token)) (a b : ℕ) → length nodes ≡ a + b → ((k : ℕ) (n : Node Token) → slice_get nodes k ≡ Some n → is_switch n ≡ nat_lt k a) → map is_switch nodes ≡ replicate a true ++ replicate b false
@@ -57,8 +53,7 @@ in_place_by (n ∷ nodes) (suc a) b long kinds =
 -- tests that say the same of all links say the same of each
 same_link : (p q : ℕ → Bool) → map p link_numbers ≡ map q link_numbers → (l : ℕ) → l < LINKS → p l ≡ q l
 unfolding link_numbers
-same_link p q same l inside =
-    sym (get_or-map-range_with_len p 0 32 l l false inside (omega arith)) ∙ ap (λ bs. get_or bs l false) same ∙ get_or-map-range_with_len q 0 32 l l false inside (omega arith)
+same_link p q same l inside = search (arith, get_or-map-range_with_len)
 
 -- where a node started, as a node
 abbrev pub first_state : NodeRecord × NodeRoom → Node Token

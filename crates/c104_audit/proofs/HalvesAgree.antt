@@ -1,12 +1,10 @@
 -- Whether what passes at two ends agrees, as a loop goes through it.
 use Rattle.{c104_audit.specs.{Audits.AgreeOneByOne, Tests.{HasHalf, HasNoHalf}}, c104_node.specs.declared.acts.Entry.Entry}
-use Rattle.std.proofs.Common.{IsTrue, List, [], false, refl, subst, true, ◌↔◌, ◌∷◌, ◌≡◌}
+use Rattle.std.proofs.Common.{IsTrue, List, arith, false, subst, true, ◌↔◌, ◌∷◌, ◌≡◌}
 
 -- lists agree where they agree behind two halves
 pub agree_next : (All : Type 0) (ps qs rest others : List Entry) (x : Entry) → ps ≡ x ∷ rest → HasHalf x qs others → (AgreeOneByOne ps qs ↔ All) → (AgreeOneByOne rest others ↔ All)
-agree_next All ps qs rest others x first half same =
-    let both : AgreeOneByOne (x ∷ rest) (half.0 ∷ others) ↔ All = subst (λ zs. AgreeOneByOne (x ∷ rest) zs ↔ All) half.1 (subst (λ zs. AgreeOneByOne zs qs ↔ All) first same) in
-    (λ agree. both.0 (half.2, agree), λ all. (both.1 all).1)
+agree_next All ps qs rest others x first half same = search arith
 
 pub agree_over : (All : Type 0) (ps qs rest : List Entry) → ps ≡ rest → (AgreeOneByOne ps qs ↔ All) → (AgreeOneByOne rest qs ↔ All)
 agree_over All ps qs rest first same = subst (λ zs. AgreeOneByOne zs qs ↔ All) first same
@@ -16,8 +14,4 @@ never is = absurd (let not_so : false ≡ true = is in cc)
 
 -- and they don't where the next has no half
 pub no_half : (All : Type 0) (ps qs rest : List Entry) (x : Entry) → ps ≡ x ∷ rest → HasNoHalf x qs → (AgreeOneByOne ps qs ↔ All) → IsTrue false ↔ All
-no_half All ps qs rest x first none same = (λ is. never is, λ all. absurd (by_others qs none (subst (λ zs. AgreeOneByOne zs qs) first (same.1 all))))
-  where
-    by_others : (zs : List Entry) → HasNoHalf x zs → AgreeOneByOne (x ∷ rest) zs → ⊥
-    by_others [] none agree = agree
-    by_others (y ∷ ys) none agree = none y ys refl agree.0
+no_half All ps qs rest x first none same = search (arith, never)

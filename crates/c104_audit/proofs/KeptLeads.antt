@@ -1,22 +1,15 @@
 -- Lists of things that lead, in order: two with the same things are one list; and those before a ticket stand first.
 use Rattle.c104_audit.{proofs.{Matching.{AreLeading, StandsBefore}, Merging.{each_in, from_filter, in_each}}, specs.Leads.Lead}
 use Rattle.{c104_net.{proofs.Members.IsIn, specs.Merges.{by_ticket, join_by_ticket}}, std.proofs.Common.{Bool, List, [], ap, arith, false}}
-use Rattle.std.proofs.Common.{filter, if◌then◌else◌, inl, inr, map, nat_le, not, refl, subst, sym, true, ℕ, ◌++◌, ◌<◌, ◌∙◌, ◌∷◌, ◌≡◌, ◌≤◌}
-use Rattle.std.{proofs.Common.◌⊎◌, specs.List.AllByRecursion}
+use Rattle.std.proofs.Common.{filter, if◌then◌else◌, inl, inr, map, nat_le, not, refl, sym, true, ℕ, ◌++◌, ◌<◌, ◌∙◌, ◌∷◌, ◌≡◌, ◌≤◌, ◌⊎◌}
+use Rattle.std.specs.List.{AllByRecursion}
 
 module _ {X : Type 0} where
   before_both : (m n : ℕ × Lead X) → StandsBefore m n → StandsBefore n m → ⊥
-  before_both m n (inl a) (inl b) = omega (arith, a, b)
-  before_both m n (inl a) (inr b) = let same = b.0 in omega (arith, a, same)
-  before_both m n (inr a) (inl b) = let same = a.0 in omega (arith, b, same)
-  before_both m n (inr a) (inr b) = let first = a.1 in let second = b.1 in omega (arith, first, second)
+  before_both m n h1 h2 = search arith
 
   before_itself : (m n : ℕ × Lead X) → n ≡ m → StandsBefore m n → ⊥
-  before_itself m n same before = irreflexive (subst (StandsBefore m) same before)
-    where
-      irreflexive : StandsBefore m m → ⊥
-      irreflexive (inl a) = omega (arith, a)
-      irreflexive (inr a) = let below = a.1 in omega (arith, below)
+  before_itself m n same before = search arith
 
   -- lists in order that have the same things are one list
   pub same_leading : (ms ns : List (ℕ × Lead X)) → AreLeading ms → AreLeading ns → ((z : ℕ × Lead X) → IsIn z ms → IsIn z ns) → ((z : ℕ × Lead X) → IsIn z ns → IsIn z ms) → ms ≡ ns

@@ -7,15 +7,14 @@ use Rattle.c104_audit.proofs.{EntryHalves.{partner_back, wire_of}, Matching.AreM
 use Rattle.c104_audit.specs.Audits.{AgreeOneByOne, AreHalves, IsPassed, carried_in, carried_out, carries, end_among, is_leading, is_of_kind}
 use Rattle.c104_audit.specs.{Audits.{passes_at, passing_at}, Leads.{AreRising, list_at}, declared.carried.Carried.Carried}
 use Rattle.{c104_event.specs.declared.events.Event.Event, c104_net.proofs.Members.{IsIn, in_filter}, c104_node.proofs.JointEnds.far_done}
-use Rattle.c104_node.{proofs.JointEnds.near_answers, specs.{ActLinks.{act_link, on_links, port_link}, Acts.node_act, PortActs.Acts}}
-use Rattle.c104_node.specs.{PortActs.{IsAnswerOf, far_act, near_act}, Traces.entry_of, declared.acts.{ActOf.ActOf, Entry.Entry}}
-use Rattle.c104_node.specs.declared.{crossings.Crossing.{Crossing, TheVariants.{Grant, Token as TokenCrossing}}, ends.End.End}
-use Rattle.c104_plan.specs.{Plans.{IsPlan, Plan}, Wiring.{peer, wires}, declared.ports.{Port.Port, Wire.Wire}}
-use Rattle.c104_run.{proofs.BalanceWires.{nodes_apart, peer_back, peer_one, switch_inside}, specs.EventActs.{act_event, crossing_event}}
-use Rattle.{c104_run.specs.EventActs.{event_acts, port_place}, c104_switch.specs.{Actions.Reply, declared.actions.ActionOf.ActionOf}}
-use Rattle.{c104_switch.specs.declared.actions.ReplyOf.ReplyOf, c104_token.specs.{Kinds.plain_kind, declared.tokens.Token.Token}}
-use Rattle.std.proofs.Common.{Bool, List, None, Option, Some, ap, arith, false, if◌then◌else◌, inl, inr, is_some, length, map, nat_eq}
-use Rattle.std.proofs.Common.{nat_lt, not, refl, slice_get, subst, sym, true, ℕ, ◌+◌, ◌-◌, ◌∙◌, ◌≡◌, ◌≢◌, ◌⊎◌}
+use Rattle.c104_node.{proofs.JointEnds.near_answers, specs.{ActLinks.{act_link, on_links, port_link}, Acts.node_act, PortActs.IsAnswerOf}}
+use Rattle.c104_node.specs.{PortActs.{far_act, near_act}, Traces.entry_of, declared.acts.{ActOf.ActOf, Entry.Entry}}
+use Rattle.{c104_node.specs.declared.{crossings.Crossing.Crossing, ends.End.End}, c104_plan.specs.{Plans.{IsPlan, Plan}, Wiring.peer}}
+use Rattle.{c104_plan.specs.{Wiring.wires, declared.ports.{Port.Port, Wire.Wire}}, c104_run.proofs.BalanceWires.{nodes_apart, peer_back}}
+use Rattle.c104_run.{proofs.BalanceWires.{peer_one, switch_inside}, specs.EventActs.{act_event, crossing_event, port_place}}
+use Rattle.{c104_switch.specs.{Actions.Reply, declared.actions.{ActionOf.ActionOf, ReplyOf.ReplyOf}}, c104_token.specs.Kinds.plain_kind}
+use Rattle.{c104_token.specs.declared.tokens.Token.Token, std.proofs.Common.{List, None, Option, Some, ap, arith, false, inl, inr, is_some}}
+use Rattle.std.proofs.Common.{length, map, nat_eq, nat_lt, not, refl, slice_get, subst, sym, true, ℕ, ◌-◌, ◌∙◌, ◌≡◌, ◌⊎◌}
 use Rattle.std.proofs.lemmas.Bool.Decides.{nat_tests}
 
 module _ (plan : Plan) (is_plan : IsPlan plan) where
@@ -23,26 +22,15 @@ module _ (plan : Plan) (is_plan : IsPlan plan) where
   PlanEnd p = end_among (length plan.switches) p
 
   pub end_place : (p : Port) → (end_among (length plan.switches) p).node ≡ port_place plan p
-  end_place (Port.Switch s l) = refl
-  end_place (Port.Terminal t) = refl
+  end_place p = search arith
 
   -- the kind of a port's node
   port_kind : (p q : Port) → peer plan p ≡ Some q → nat_lt (port_place plan p) (length plan.switches) ≡ of_switch p
-  port_kind (Port.Switch s l) q wired = let inside = (switch_inside plan is_plan s l q wired).0 in grind (arith, nat_tests)
-  port_kind (Port.Terminal t) q wired = grind (arith, nat_tests)
+  port_kind p q wired = search (arith, switch_inside, nat_tests)
 
   -- an entry passes at a port where its act is one at the port
   pub passes_is : (p q : Port) (x : Entry) → peer plan p ≡ Some q → passes_at (length plan.switches) (PlanEnd p) x ≡ true → IsAtPort p x.act
-  passes_is p q x wired is =
-      let both = both_true _ _ is in
-      record {
-        kind = subst (λ b. is_of_kind b x.act ≡ true) (ap (λ k. nat_lt k (length plan.switches)) (end_place p) ∙ port_kind p q wired) both.0;
-        link = link_is (PlanEnd p).link (act_link x.act) both.1 ∙ ap Some (end_link p);
-      }
-    where
-      end_link : (p : Port) → (PlanEnd p).link ≡ port_link p
-      end_link (Port.Switch s l) = refl
-      end_link (Port.Terminal t) = refl
+  passes_is p q x wired is = search (arith, both_true, end_place, port_kind, link_is)
 
   pub is_passing : (p q : Port) (x : Entry) → peer plan p ≡ Some q → IsAtPort p x.act → passes_at (length plan.switches) (PlanEnd p) x ≡ true
   is_passing p q x wired at = by_port p (port_kind p q wired) at.kind at.link
@@ -62,17 +50,10 @@ module _ (plan : Plan) (is_plan : IsPlan plan) where
   legal_event k x legal = rw (legal.kind, legal.linked) refl
 
   some_peer : (p : Port) → is_some (peer plan p) ≡ true → (q : Port) × (peer plan p ≡ Some q)
-  some_peer p is = by_peer (peer plan p) is
-    where
-      by_peer : (o : Option Port) → is_some o ≡ true → (q : Port) × (o ≡ Some q)
-      by_peer None is = absurd (cc)
-      by_peer (Some q) is = (q, refl)
+  some_peer p is = search arith
 
   near_told : (crossing : Crossing) (p q : Port) → peer plan p ≡ Some q → plan_event plan (port_place plan p) (near_act crossing p) ≡ Some (crossing_event crossing p)
-  near_told TokenCrossing (Port.Switch s l) q wired = rw (port_kind (Port.Switch s l) q wired, wired) refl
-  near_told TokenCrossing (Port.Terminal t) q wired = let number : (length plan.switches + t) - length plan.switches ≡ t = omega arith in rw (port_kind (Port.Terminal t) q wired, number, wired) refl
-  near_told Grant (Port.Switch s l) q wired = rw (port_kind (Port.Switch s l) q wired, wired) refl
-  near_told Grant (Port.Terminal t) q wired = let number : (length plan.switches + t) - length plan.switches ≡ t = omega arith in rw (port_kind (Port.Terminal t) q wired, number, wired) refl
+  near_told crossing p q wired = search (arith, port_kind)
 
   -- what goes out at a wired port leads
   near_leads : (crossing : Crossing) (p q : Port) → peer plan p ≡ Some q → is_some (plan_event plan (port_place plan p) (near_act crossing p)) ≡ true
@@ -80,28 +61,14 @@ module _ (plan : Plan) (is_plan : IsPlan plan) where
 
   -- and what comes in doesn't
   far_follows : (k : ℕ) (q : Port) (r : Reply) → is_some (plan_event plan k (far_act q r)) ≡ false
-  far_follows k q r = by_reply q r
-    where
-      none : (b : Bool) → is_some (if◌then◌else◌ {A = Option Event} b None None) ≡ false
-      none true = refl
-      none false = refl
-
-      by_reply : (q : Port) (r : Reply) → is_some (plan_event plan k (far_act q r)) ≡ false
-      by_reply (Port.Switch s l) ReplyOf.Done = none _
-      by_reply (Port.Terminal t) ReplyOf.Done = none _
-      by_reply q r = none _
+  far_follows k q r = search arith
 
   far_link : (q : Port) (r : Reply) → act_link (far_act {A = Token} q r) ≡ Some (port_link q)
-  far_link (Port.Switch s l) ReplyOf.Done = refl
-  far_link (Port.Terminal t) ReplyOf.Done = refl
-  far_link q r = refl
+  far_link q r = search arith
 
   -- a wired port is known by its place and its link
   port_is : (p q p' q' : Port) → peer plan p ≡ Some q → peer plan p' ≡ Some q' → port_place plan p ≡ port_place plan p' → port_link p ≡ port_link p' → p ≡ p'
-  port_is (Port.Switch s l) q (Port.Switch s' l') q' is is' places links = ap (λ k. Port.Switch k l) places ∙ ap (Port.Switch s') links
-  port_is (Port.Switch s l) q (Port.Terminal t') q' is is' places links = absurd (let inside = (switch_inside plan is_plan s l q is).0 in let same : s ≡ length plan.switches + t' = places in let no : ⊥ = omega (arith, inside, same) in no)
-  port_is (Port.Terminal t) q (Port.Switch s' l') q' is is' places links = absurd (let inside = (switch_inside plan is_plan s' l' q' is').0 in let same : length plan.switches + t ≡ s' = places in let no : ⊥ = omega (arith, inside, same) in no)
-  port_is (Port.Terminal t) q (Port.Terminal t') q' is is' places links = let same : length plan.switches + t ≡ length plan.switches + t' = places in let number : t ≡ t' = omega (arith, same) in ap Port.Terminal number
+  port_is p q p' q' is is' places links = search (arith, switch_inside)
 
   -- an entry that is legal and doesn't lead is at a wired port, lets nothing out, and takes something in
   pub record Follows (k : ℕ) (y : Entry) : Type 0 where
@@ -138,23 +105,11 @@ module _ (plan : Plan) (is_plan : IsPlan plan) where
 
   -- what goes out at a wired port is no event by itself
   alone_not : (crossing : Crossing) (p q : Port) → peer plan p ≡ Some q → LeadsAlone plan (port_place plan p) (near_act crossing p) → ⊥
-  alone_not crossing p q wired one = by_told (plan_event plan (port_place plan p) (near_act crossing p)) (near_told crossing p q wired) one.told
-    where
-      by_told : (o : Option Event) → o ≡ Some (crossing_event crossing p) → o ≡ Some one.event → ⊥
-      by_told o is told =
-          let same : crossing_event crossing p ≡ one.event = (let both : Some (crossing_event crossing p) ≡ Some one.event = sym is ∙ told in cc) in
-          let acts : ◌≡◌ {A = Option (Acts Token)} (Some (Acts.Joint p q crossing)) (Some (Acts.Alone (port_place plan p) (near_act crossing p))) = sym (crossing_acts_are plan is_plan crossing p q wired) ∙ ap (event_acts plan) same ∙ one.acts in
-          cc
+  alone_not crossing p q wired one = search (arith, near_told, crossing_acts_are)
 
   -- the other half of what goes out is what comes in at the other end with its ticket and its seat
   half_is : (p q : Port) (x y : Entry) (j : ℕ) → peer plan p ≡ Some q → IsAtPort q y.act → WasDone plan x → WasDone plan y → (crossing : Crossing) → x.act ≡ near_act crossing p → IsAnswerOf crossing x.reply → x.ticket ≡ y.ticket → IsPassed x y → x.seat ≡ y.seat → y ≡ entry_of (stamp_of x) (far_act q x.reply) ReplyOf.Done
-  half_is p q x y j wired at was_x was_y crossing is answer tickets passed seats = entry_is y (entry_of (stamp_of x) (far_act q x.reply) ReplyOf.Done) (sym tickets) acts done (sym seats)
-    where
-      acts : y.act ≡ far_act q x.reply
-      acts = in_is crossing p q y.act x.reply passed.0 answer (ap (λ a. carried_out a x.reply) (sym is) ∙ passed.1) at passed.2
-
-      done : y.reply ≡ ReplyOf.Done
-      done = far_done plain_kind crossing x.reply q was_y.node (y.reply, was_y.after) answer (subst (λ a. node_act plain_kind 0 a was_y.node ≡ Some (y.reply, was_y.after)) acts was_y.made)
+  half_is p q x y j wired at was_x was_y crossing is answer tickets passed seats = search (arith, passed, entry_is, in_is, far_done)
 
   module _ (traces : List (List Entry)) (rising : (k : ℕ) → AreRising (λ (e : Entry). e.ticket) (list_at traces k)) (legal : (k : ℕ) (x : Entry) → IsIn x (list_at traces k) → IsLegal k x)
       (agree : (i : ℕ) (w : Wire) → slice_get (wires plan) i ≡ Some w → AgreeOneByOne (passing_at (length plan.switches) traces w.here) (passing_at (length plan.switches) traces w.there))
@@ -278,22 +233,7 @@ module _ (plan : Plan) (is_plan : IsPlan plan) where
         far = by_cases (lead_cases plan (port_place plan f.other) x.act leads)
 
     same_half : (k : ℕ) (x : Entry) (d : ℕ × Entry) → is_leading (length plan.switches) (wires plan) k x ≡ true → Far k x ≡ Some d → (d.1.ticket ≡ x.ticket) × (is_leading (length plan.switches) (wires plan) d.0 d.1 ≡ false) × (nat_eq k d.0 ≡ false)
-    same_half k x d leads far = by_cases (lead_cases plan k x.act leads)
-      where
-        by_cases : LeadsAlone plan k x.act ⊎ LeadsJoint plan k x.act → (d.1.ticket ≡ x.ticket) × (is_leading (length plan.switches) (wires plan) d.0 d.1 ≡ false) × (nat_eq k d.0 ≡ false)
-        by_cases (inl alone) = absurd (let no : ◌≡◌ {A = Option (ℕ × Entry)} None (Some d) = sym (far_alone plan k x alone) ∙ far in cc)
-        by_cases (inr j) =
-            let same : ◌≡◌ {A = ℕ × Entry} (port_place plan j.far, entry_of (stamp_of x) (far_act j.far x.reply) ReplyOf.Done) d = (let both : ◌≡◌ {A = Option (ℕ × Entry)} (Some (port_place plan j.far, entry_of (stamp_of x) (far_act j.far x.reply) ReplyOf.Done)) (Some d) = sym (far_joint plan k x j) ∙ far in cc) in
-            let apart : port_place plan j.near ≢ port_place plan j.far = nodes_apart plan is_plan j.near j.far j.wired in
-            subst (λ (e : ℕ × Entry). (e.1.ticket ≡ x.ticket) × (is_leading (length plan.switches) (wires plan) e.0 e.1 ≡ false) × (nat_eq k e.0 ≡ false)) same
-            (refl, far_follows (port_place plan j.far) j.far x.reply, differs apart j.place)
-          where
-            differs : port_place plan j.near ≢ port_place plan j.far → port_place plan j.near ≡ k → nat_eq k (port_place plan j.far) ≡ false
-            differs apart place = by_test (nat_eq k (port_place plan j.far)) refl
-              where
-                by_test : (b : Bool) → nat_eq k (port_place plan j.far) ≡ b → b ≡ false
-                by_test true is = absurd (apart (place ∙ (let same : k ≡ port_place plan j.far = grind (arith, nat_tests) in same)))
-                by_test false is = refl
+    same_half k x d leads far = search (arith, lead_cases, far_alone, far_joint, nodes_apart, far_follows, nat_tests)
 
     one_half : (k i : ℕ) (x y : Entry) (d : ℕ × Entry) → is_leading (length plan.switches) (wires plan) k x ≡ true → is_leading (length plan.switches) (wires plan) i y ≡ true → Far k x ≡ Some d → Far i y ≡ Some d → k ≡ i
     one_half k i x y d leads leads' far far' = by_cases (lead_cases plan k x.act leads) (lead_cases plan i y.act leads')
@@ -315,10 +255,4 @@ module _ (plan : Plan) (is_plan : IsPlan plan) where
 
     -- the traces match
     pub traces_match : AreMatched (λ (e : Entry). e.ticket) (is_leading (length plan.switches) (wires plan)) (far_of plan) traces
-    traces_match = record {
-      rising = rising;
-      near = near_half;
-      away = away_half;
-      same = same_half;
-      once = one_half;
-    }
+    traces_match = search (arith, near_half, away_half, same_half, one_half)

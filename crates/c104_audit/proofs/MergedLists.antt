@@ -1,6 +1,6 @@
 -- What things that lead do, in the order of the merge, is at each place the list of that place.
-use Rattle.c104_audit.proofs.{Matching.{AreLeading, AreMatched, StandsBefore, all_deeds, at_place, far_deed, lead_deeds}, Merging.IsLeadOf}
-use Rattle.c104_audit.proofs.Merging.{each_in, each_sorted, in_sorted, leads_are, leads_there, merged_leading, one_ticket, same_lists}
+use Rattle.c104_audit.proofs.{Matching.{AreLeading, AreMatched, StandsBefore, all_deeds, at_place, far_deed, lead_deeds}, Merging.each_in}
+use Rattle.c104_audit.proofs.Merging.{each_sorted, in_sorted, leads_are, leads_there, merged_leading, one_ticket, same_lists}
 use Rattle.{c104_audit.specs.Leads.{AreRising, Lead, leads_from, list_at, merged_leads}, c104_net.proofs.Members.{IsIn, in_left, in_right}}
 use Rattle.{c104_run.specs.Runs.IsBefore, std.proofs.Common.{Bool, List, None, Option, Some, [], ap, arith, false, if◌then◌else◌, inl, inr}}
 use Rattle.std.proofs.{Common.{nat_eq, refl, subst, sym, true, ℕ, ◌++◌, ◌+◌, ◌<◌, ◌∙◌, ◌∷◌, ◌≡◌, ◌⊎◌}, lemmas.Bool.Decides.nat_tests}
@@ -14,11 +14,7 @@ pub record IsLeader {X : Type 0} (ticket : X → ℕ) (leads : ℕ → X → Boo
 
 module _ {X : Type 0} (ticket : X → ℕ) (leads : ℕ → X → Bool) (lists : List (List X)) where
   pub leaders : (m : ℕ × Lead X) → IsIn m (merged_leads ticket leads lists) → IsLeader ticket leads lists m
-  leaders m has =
-      let one = each_in (IsLeadOf ticket leads 0 lists) m (merged_leads ticket leads lists) (each_sorted (IsLeadOf ticket leads 0 lists) (leads_from ticket leads 0 lists) (leads_are ticket leads 0 lists)) has in
-      let at = one.place in
-      let same : one.offset ≡ m.1.place = omega (arith, at) in
-      record { there = subst (λ j. IsIn m.1.entry (list_at lists j)) same one.there; leading = one.leading; told = one.told }
+  leaders m has = search (arith, each_in, each_sorted, leads_are)
 
   pub in_merge : (k : ℕ) (x : X) → IsIn x (list_at lists k) → leads k x ≡ true → IsIn (ticket x, record { place = k; entry = x }) (merged_leads ticket leads lists)
   in_merge k x has is =

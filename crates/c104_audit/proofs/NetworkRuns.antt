@@ -6,17 +6,16 @@ use Rattle.{c104_event.specs.declared.faults.EventFault.EventFault, c104_link.{p
 use Rattle.{c104_net.proofs.Members.element_at, c104_node.proofs.{ReadyActs.act_ready, RecordedNodes.number_plain, WireEnds.get_set_other}}
 use Rattle.c104_node.{proofs.WireEnds.get_set_same, specs.{Acts.{node_act, plain_reply}, Nodes.{Node, is_switch}, PortActs.Acts}}
 use Rattle.c104_node.specs.{PortActs.{acts_limit, far_act, near_act}, Records.{IsNodeRun, MayAct}, Traces.entry_of}
-use Rattle.c104_node.specs.declared.{acts.{ActOf.ActOf, Entry.Entry}, crossings.Crossing.{Crossing, TheVariants.Grant}}
-use Rattle.{c104_node.specs.declared.crossings.Crossing.TheVariants.Token as TokenCrossing, c104_plan.specs.Plans.{IsPlan, Plan}}
-use Rattle.{c104_plan.specs.{Wiring.peer, declared.ports.Port.Port}, c104_regs.specs.declared.registers.TheConstants.LINKS}
-use Rattle.c104_run.proofs.{BalancePlaces.still_in_place, BalanceWires.{nodes_apart, peer_back, switch_inside, terminal_inside}}
-use Rattle.c104_run.{proofs.RecordSteps.nodes_counted, specs.{Balance.AreInPlace, EventActs.{acts_step, crossing_event, event_acts}}}
-use Rattle.c104_run.specs.{EventActs.port_place, Network.{Network, event_fault, event_limit, network_apply, network_of, network_step}}
-use Rattle.{c104_run.specs.{Network.{told_step, wired_fault}, Runs.IsDoneRun}, c104_switch.specs.Actions.{Reply, is_ready}}
-use Rattle.{c104_switch.specs.declared.actions.ReplyOf.ReplyOf, c104_token.specs.{Kinds.plain_kind, declared.tokens.Token.Token}}
-use Rattle.std.proofs.Common.{Bool, List, None, Ok, Option, Result, Some, [], ap, arith, false, if◌then◌else◌, inl, inr, length, map}
-use Rattle.std.proofs.Common.{nat_eq, nat_lt, refl, slice_get, slice_set, subst, suc, sym, true, ℕ, ◌++◌, ◌+◌, ◌-◌, ◌<◌, ◌∙◌, ◌∷◌, ◌≡◌, ◌≢◌}
-use Rattle.std.{proofs.{Common.◌⊎◌, lemmas.{Bool.{Decides.nat_tests, cases_eq}, List.length-set}}, specs.List.AllByRecursion}
+use Rattle.{c104_node.specs.declared.{acts.{ActOf.ActOf, Entry.Entry}, crossings.Crossing.Crossing}, c104_plan.specs.Plans.{IsPlan, Plan}}
+use Rattle.{c104_plan.specs.{Wiring.peer, declared.ports.Port.Port}, c104_run.proofs.BalancePlaces.still_in_place}
+use Rattle.c104_run.proofs.{BalanceWires.{nodes_apart, peer_back, switch_inside, terminal_inside}, RecordSteps.nodes_counted}
+use Rattle.c104_run.specs.{Balance.AreInPlace, EventActs.{crossing_event, event_acts, port_place}, Network.{Network, event_fault}}
+use Rattle.c104_run.specs.{Network.{event_limit, network_apply, network_of, network_step, wired_fault}, Runs.IsDoneRun}
+use Rattle.{c104_switch.specs.{Actions.{Reply, is_ready}, declared.actions.ReplyOf.ReplyOf}, c104_token.specs.Kinds.plain_kind}
+use Rattle.{c104_token.specs.declared.tokens.Token.Token, std.proofs.Common.{Bool, List, None, Ok, Option, Result, Some, [], ap, arith}}
+use Rattle.std.proofs.Common.{false, if◌then◌else◌, inl, inr, length, map, nat_eq, refl, slice_get, slice_set, subst, suc, sym, true, ℕ}
+use Rattle.std.proofs.{Common.{◌++◌, ◌+◌, ◌<◌, ◌∙◌, ◌∷◌, ◌≡◌, ◌≢◌, ◌⊎◌}, lemmas.{Bool.{Decides.nat_tests, cases_eq}, List.length-set}}
+use Rattle.std.specs.List.{AllByRecursion}
 
 -- lists of one length with the same things at each place are the same
 pub same_places : {X : Type 0} (xs ys : List X) → length ys ≡ length xs → ((k : ℕ) (x y : X) → slice_get xs k ≡ Some x → slice_get ys k ≡ Some y → y ≡ x) → ys ≡ xs
@@ -37,8 +36,7 @@ at_other k j x ds differs = by_test (nat_eq j k) refl
     by_test false is = refl
 
 plain_same : (r : Reply) → plain_reply plain_kind r ≡ r
-plain_same ReplyOf.Done = refl
-plain_same r = refl
+plain_same r = search arith
 
 module _ (plan : Plan) (is_plan : IsPlan plan) where
   -- nodes that stand at their places, with all their links
@@ -47,35 +45,20 @@ module _ (plan : Plan) (is_plan : IsPlan plan) where
     pub wide : (k : ℕ) (n : Node Token) → slice_get nodes k ≡ Some n → IsWide n
 
   still_ready : (nodes : List (Node Token)) (k : ℕ) (n m : Node Token) → AreReady nodes → slice_get nodes k ≡ Some n → is_switch m ≡ is_switch n → IsWide m → AreReady (slice_set nodes k m)
-  still_ready nodes k n m ready at same wide = record {
-    placed = still_in_place nodes k n m at same ∙ ready.placed;
-    wide = λ j o here. elim (place_after_set nodes k j m o here) [ inl new ↦ subst IsWide new.1 wide | inr was ↦ ready.wide j o was ];
-  }
+  still_ready nodes k n m ready at same wide = search (arith, still_in_place, place_after_set)
 
   applied : (nodes next : List (Node Token)) (e : Event) (r : Reply) → event_fault plan e ≡ None → network_step plain_kind (network_of plan nodes) e ≡ Some (r, network_of plan next) → event_limit (network_of plan nodes) e ≡ None →
       ◌≡◌ {A = Result Reply EventFault × Network Token} (Ok r, network_of plan next) (network_apply plain_kind (network_of plan nodes) e)
   applied nodes next e r possible made below = rw (possible, made, below) refl
 
   wired_possible : (p q : Port) → peer plan p ≡ Some q → wired_fault plan p ≡ None
-  wired_possible (Port.Switch s l) q wired =
-      let inside = switch_inside plan is_plan s l q wired in
-      let s_there = inside.0 in
-      let l_there = inside.1 in
-      let first : nat_lt s (length plan.switches) ≡ true = grind (arith, nat_tests) in
-      let second : nat_lt l LINKS ≡ true = grind (arith, nat_tests) in
-      rw (first, second, wired) refl
-  wired_possible (Port.Terminal t) q wired =
-      let inside = terminal_inside plan is_plan t q wired in
-      let first : nat_lt t (length plan.terminals) ≡ true = grind (arith, nat_tests) in
-      rw (first, wired) refl
+  wired_possible p q wired = search (arith, switch_inside, nat_tests, terminal_inside)
 
   crossing_possible : (crossing : Crossing) (p q : Port) → peer plan p ≡ Some q → event_fault plan (crossing_event crossing p) ≡ None
-  crossing_possible TokenCrossing p q wired = wired_possible p q wired
-  crossing_possible Grant p q wired = wired_possible p q wired
+  crossing_possible crossing p q wired = search (arith, wired_possible)
 
   pub crossing_acts_are : (crossing : Crossing) (p q : Port) → peer plan p ≡ Some q → ◌≡◌ {A = Option (Acts Token)} (event_acts plan (crossing_event crossing p)) (Some (Acts.Joint p q crossing))
-  crossing_acts_are TokenCrossing p q wired = rw wired refl
-  crossing_acts_are Grant p q wired = rw wired refl
+  crossing_acts_are crossing p q wired = search arith
 
   crossing_below : (nodes : List (Node Token)) (crossing : Crossing) (p q : Port) → peer plan p ≡ Some q → event_limit (network_of plan nodes) (crossing_event crossing p) ≡ None
   crossing_below nodes crossing p q wired = ap (λ o. o >>= acts_limit nodes) (crossing_acts_are crossing p q wired)
@@ -86,22 +69,17 @@ module _ (plan : Plan) (is_plan : IsPlan plan) where
 
     -- an act of one node is the step of its event
     alone_step : (k : ℕ) (a : ActOf Token) (n m : Node Token) (r : Reply) → slice_get nodes k ≡ Some n → (alone : LeadsAlone plan k a) → node_act plain_kind 0 a n ≡ Some (r, m) → network_step plain_kind Net alone.event ≡ Some (r, network_of plan (slice_set nodes k m))
-    alone_step k a n m r at alone made =
-        ap (λ o. o >>= (λ acts. told_step plain_kind Net (acts_step plain_kind plan nodes acts))) alone.acts
-        ∙ rw (at, number_plain (k - length plan.switches) 0 a n, made, plain_same r) refl
+    alone_step k a n m r at alone made = search (arith, number_plain, plain_same)
 
     alone_below : (k : ℕ) (a : ActOf Token) (n : Node Token) (wired : ℕ) → slice_get nodes k ≡ Some n → (alone : LeadsAlone plan k a) → MayAct wired n a → event_limit Net alone.event ≡ None
-    alone_below k a n wired at alone may =
-        ap (λ o. o >>= acts_limit nodes) alone.acts ∙ rw at may.below
+    alone_below k a n wired at alone may = search arith
 
     -- and so are the acts at both ends of a wire
     joint_step_is : (crossing : Crossing) (p q : Port) (n m n' m' : Node Token) (r d : Reply) → peer plan p ≡ Some q → slice_get nodes (port_place plan p) ≡ Some n → slice_get nodes (port_place plan q) ≡ Some n' →
         node_act plain_kind 0 (near_act crossing p) n ≡ Some (r, m) → node_act plain_kind 0 (far_act q r) n' ≡ Some (d, m') →
         network_step plain_kind Net (crossing_event crossing p) ≡ Some (r, network_of plan (slice_set (slice_set nodes (port_place plan p) m) (port_place plan q) m'))
     joint_step_is crossing p q n m n' m' r d wired near far left entered =
-        let far_on : slice_get (slice_set nodes (port_place plan p) m) (port_place plan q) ≡ Some n' = get_set_other nodes (port_place plan p) (port_place plan q) m (nodes_apart plan is_plan p q wired) ∙ far in
-        ap (λ o. o >>= (λ acts. told_step plain_kind Net (acts_step plain_kind plan nodes acts))) (crossing_acts_are crossing p q wired)
-        ∙ rw (near, left, far_on, entered, plain_same r) refl
+        search (arith, get_set_other, nodes_apart, crossing_acts_are, plain_same)
 
   -- each node runs its part of some entries that lead, from these nodes to others
   abbrev pub RunParts : (ℕ → ℕ) → List (Node Token) → List (Node Token) → List (ℕ × Lead Entry) → Type 0

@@ -1,8 +1,7 @@
 -- Whether tickets rise, as a loop tells it.
 use Rattle.c104_audit.{proofs.Merging.{each_in, in_each}, specs.{Leads.AreRising, Tests.{is_later, rises_after}}}
-use Rattle.{c104_node.specs.declared.acts.Entry.Entry, std.proofs.Common.{Bool, IsTrue, List, None, Option, Some, [], arith, false, nat_lt}}
-use Rattle.std.proofs.{Common.{refl, sym, true, ℕ, ◌<◌, ◌↔◌, ◌∙◌, ◌∷◌, ◌≡◌}, lemmas.Bool.{Decides.nat_tests, and_parts}}
-use Rattle.std.specs.List.{AllByRecursion}
+use Rattle.{c104_node.specs.declared.acts.Entry.Entry, std.proofs.Common.{Bool, IsTrue, List, None, Option, Some, [], arith, nat_lt, refl}}
+use Rattle.std.{proofs.{Common.{true, ℕ, ◌<◌, ◌↔◌, ◌∷◌, ◌≡◌}, lemmas.Bool.{Decides.nat_tests, and_parts}}, specs.List.AllByRecursion}
 
 later_all : (t : ℕ) (es : List Entry) → rises_after (Some t) es ≡ true → AllByRecursion (λ (e : Entry). t < e.ticket) es
 later_all t [] is = tt
@@ -30,5 +29,4 @@ rises_all (e ∷ es) rising = from_rising e.ticket es rising.0 rising.1
 
 -- the loop answers whether the tickets rise
 pub rises_is : (es : List Entry) (b : Bool) → b ≡ rises_after None es → IsTrue b ↔ AreRising (λ (e : Entry). e.ticket) es
-rises_is es true is = (λ yes. rising_from None es (sym is), λ rising. refl)
-rises_is es false is = (λ no. absurd (let never : false ≡ true = no in cc), λ rising. is ∙ rises_all es rising)
+rises_is es b is = search (arith, rising_from, rises_all)

@@ -1,22 +1,13 @@
 -- The first seat past all lists that entries carry which lead.
 use Rattle.c104_audit.proofs.{CalledLeads.leads_named, FirstFailures.{first_both, first_same}, KeptElements.drop_all, Merging.in_each}
 use Rattle.c104_audit.specs.{Audits.{carries, is_number, led_call, led_event, lists_leads}, Firsts.{IsFirst, lower_of}, Leads.Lead}
-use Rattle.c104_audit.specs.{Tests.{HasNoStray, calls_told, lead_in, past_seat, strays}, declared.{calls.Call.Call, lists.Lists.Lists}}
-use Rattle.{c104_event.specs.declared.events.Event.Event, c104_net.specs.declared.leading.Lead.Lead as Leading}
-use Rattle.{c104_node.specs.declared.acts.Entry.Entry, std.proofs.Common.{Bool, List, None, Option, Some, [], ap, arith, drop, false}}
-use Rattle.std.proofs.Common.{if◌then◌else◌, is_some, length, map, nat_eq, nat_le, refl, subst, sym, true, ℕ, ◌++◌, ◌∙◌, ◌∷◌, ◌≡◌, ◌≤◌}
-use Rattle.std.{proofs.lemmas.Bool.Decides.nat_tests, specs.{List.AllByRecursion, Option.option_to_list}}
+use Rattle.c104_audit.specs.{Tests.{HasNoStray, calls_told, lead_in, past_seat, strays}, declared.lists.Lists.Lists}
+use Rattle.{c104_net.specs.declared.leading.Lead.Lead as Leading, c104_node.specs.declared.acts.Entry.Entry, std.proofs.Common.List}
+use Rattle.std.proofs.Common.{Option, [], ap, arith, drop, false, if◌then◌else◌, is_some, length, map, refl, subst, sym, true, ℕ, ◌++◌, ◌∙◌}
+use Rattle.std.{proofs.{Common.{◌∷◌, ◌≡◌, ◌≤◌}, lemmas.Bool.Decides.nat_tests}, specs.{List.AllByRecursion, Option.option_to_list}}
 
 past_first : (count : ℕ) (o : Option ℕ) → IsFirst (λ s. count ≤ s → is_number s o ≡ false) (past_seat count o)
-past_first count None = λ s past. refl
-past_first count (Some t) = by_test (nat_le count t) refl
-  where
-    by_test : (b : Bool) → nat_le count t ≡ b → IsFirst (λ s. count ≤ s → nat_eq s t ≡ false) (if b then Some t else None)
-    by_test true is = record {
-      lower = λ j below past. grind (arith, nat_tests);
-      fails = λ none. (let inside : count ≤ t = grind (arith, nat_tests) in let own : nat_eq t t ≡ true = grind (arith, nat_tests) in let never : true ≡ false = sym own ∙ none inside in cc);
-    }
-    by_test false is = λ s past. grind (arith, nat_tests)
+past_first count o = search (arith, nat_tests)
 
 module _ (lists : Lists) (count : ℕ) where
   abbrev Named : ℕ × Lead Entry → Type 0
@@ -26,19 +17,7 @@ module _ (lists : Lists) (count : ℕ) where
   none_of s m ms other = ap (λ b. (if b then option_to_list (led_call lists.switches lists.wires m) else []) ++ calls_told lists s ms) other
 
   some_of : (s : ℕ) (m : ℕ × Lead Entry) (ms : List (ℕ × Lead Entry)) → Named m → calls_told lists s (m ∷ ms) ≡ [] → carries s m.1.entry ≡ false
-  some_of s m ms named none = by_seat (carries s m.1.entry) refl
-    where
-      by_call : (o : Option Call) → is_some o ≡ true → option_to_list o ++ calls_told lists s ms ≡ [] → ⊥
-      by_call None named is = cc
-      by_call (Some c) named is = cc
-
-      has_call : (o : Option Event) → led_event lists.switches lists.wires m ≡ o → is_some o ≡ true → is_some (led_call lists.switches lists.wires m) ≡ true
-      has_call None is named = absurd (cc)
-      has_call (Some e) is named = rw is refl
-
-      by_seat : (b : Bool) → carries s m.1.entry ≡ b → carries s m.1.entry ≡ false
-      by_seat false is = is
-      by_seat true is = absurd (by_call (led_call lists.switches lists.wires m) (has_call (led_event lists.switches lists.wires m) refl named) (sym (ap (λ b. (if b then option_to_list (led_call lists.switches lists.wires m) else []) ++ calls_told lists s ms) is) ∙ none))
+  some_of s m ms named none = search arith
 
   strays_of : (ms : List (ℕ × Lead Entry)) → AllByRecursion Named ms → IsFirst (λ s. count ≤ s → calls_told lists s ms ≡ []) (strays count ms)
   strays_of [] named = λ s past. refl
@@ -53,8 +32,4 @@ strays_first lists count o is = subst (IsFirst (HasNoStray lists count)) (sym is
 
 -- none is left
 pub strays_end : (lists : Lists) (count : ℕ) (leads : List Leading) (i : ℕ) (first : Option ℕ) → length leads ≤ i → lower_of first (strays count (map (lead_in lists.traces) (drop i leads))) ≡ strays count (lists_leads lists) → IsFirst (HasNoStray lists count) first
-strays_end lists count leads i first past found = strays_first lists count first (sym (with_none first) ∙ ap (λ ls. lower_of first (strays count (map (lead_in lists.traces) ls))) (sym (drop_all leads i past)) ∙ found)
-  where
-    with_none : (o : Option ℕ) → lower_of o None ≡ o
-    with_none None = refl
-    with_none (Some s) = refl
+strays_end lists count leads i first past found = search (arith, strays_first, drop_all)

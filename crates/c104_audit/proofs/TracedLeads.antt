@@ -5,17 +5,14 @@ use Rattle.c104_audit.specs.{Audits.{called_by, carries, is_leading, is_number, 
 use Rattle.c104_audit.specs.{Leads.{AreRising, Lead, leads_at, leads_from, list_at, merged_leads}, declared.calls.Call.Call}
 use Rattle.{c104_event.specs.declared.{events.Event.Event, faults.EventFault.EventFault}, c104_net.proofs.Members.{IsIn, in_filter}}
 use Rattle.c104_net.{proofs.Members.in_right, specs.{Leading.{led_events, told_first}, Merges.by_ticket, ToldEvents.{told_by, told_event}}}
-use Rattle.{c104_net.specs.ToldEvents.told_events, c104_node.specs.{Acts.{done_by, node_act}, Nodes.{Node, node_credit_out}, PortActs.Acts}}
-use Rattle.c104_node.specs.{PortActs.{far_act, near_act}, Traces.{Deed, entry_of, part, seatless}, declared.acts.{ActOf.ActOf, Entry.Entry}}
-use Rattle.c104_node.specs.declared.{crossings.Crossing.Crossing, node.NodeOf.NodeOf, stamps.Stamp.Stamp}
-use Rattle.c104_plan.{proofs.RangeLists.each_append, specs.{Plans.Plan, Wiring.wires, declared.ports.Port.Port}}
-use Rattle.c104_run.specs.{EventActs.{act_event, event_acts, port_place}, EventDeeds.{acts_deeds, event_deeds}, Network.Network}
-use Rattle.{c104_run.specs.{Network.network_apply, Runs.{IsDoneRun, at_node, run_deeds}}, c104_switch.specs.Actions.{Reply, is_ready}}
-use Rattle.{c104_switch.specs.declared.actions.{ActionOf.ActionOf, ReplyOf.ReplyOf}, c104_token.specs.Kinds.{Kind, plain_kind}}
-use Rattle.{c104_token.specs.declared.tokens.Token.Token, std.proofs.Common.{Bool, List, None, Ok, Option, Result, Some, [], ap, arith}}
-use Rattle.std.proofs.Common.{false, if◌then◌else◌, inl, inr, is_some, length, map, nat_eq, not, option_map, refl, slice_get, subst, suc}
-use Rattle.std.{proofs.{Common.{sym, true, unwrap_or, ℕ, ◌++◌, ◌+◌, ◌<◌, ◌∙◌, ◌∷◌, ◌≡◌}, lemmas.List.map-append}, specs.List.AllByRecursion}
-use Rattle.std.specs.Option.{option_to_list}
+use Rattle.{c104_net.specs.ToldEvents.told_events, c104_node.specs.{Acts.{done_by, node_act}, Nodes.Node, Traces.{Deed, seatless}}}
+use Rattle.{c104_node.specs.declared.{acts.{ActOf.ActOf, Entry.Entry}, stamps.Stamp.Stamp}, c104_plan.proofs.RangeLists.each_append}
+use Rattle.{c104_plan.specs.{Plans.Plan, Wiring.wires}, c104_run.specs.{EventActs.act_event, EventDeeds.event_deeds, Network.Network}}
+use Rattle.{c104_run.specs.{Network.network_apply, Runs.{IsDoneRun, at_node, run_deeds}}, c104_switch.specs.Actions.Reply}
+use Rattle.{c104_switch.specs.declared.actions.ReplyOf.ReplyOf, c104_token.specs.{Kinds.{Kind, plain_kind}, declared.tokens.Token.Token}}
+use Rattle.std.proofs.Common.{Bool, List, None, Ok, Option, Result, Some, [], ap, arith, false, if◌then◌else◌, inl, inr, is_some, length}
+use Rattle.std.proofs.Common.{map, nat_eq, not, option_map, refl, slice_get, subst, suc, sym, true, unwrap_or, ℕ, ◌++◌, ◌+◌, ◌<◌, ◌∙◌, ◌∷◌}
+use Rattle.std.{proofs.{Common.◌≡◌, lemmas.List.map-append}, specs.{List.AllByRecursion, Option.option_to_list}}
 
 module _ (plan : Plan) where
   -- an entry that leads, as the event that it tells
@@ -70,15 +67,10 @@ module _ (plan : Plan) where
 
   -- the reply of an event is that of the entry that leads in it
   granted : (o : Option (Node Token)) (r : Reply) (m : Node Token) → done_by o ≡ Some (r, m) → ReplyOf.Done ≡ r
-  granted None r m is = absurd (cc)
-  granted (Some n) r m is = let both : ◌≡◌ {A = Reply × Node Token} (ReplyOf.Done, n) (r, m) = cc in ap (λ (v : Reply × Node Token). v.0) both
+  granted o r m is = search arith
 
   pub reply_is : (a : ActOf Token) (n m : Node Token) (r : Reply) → node_act plain_kind 0 a n ≡ Some (r, m) → told_reply a r ≡ r
-  reply_is (ActOf.Step (ActionOf.CreditOut l)) (NodeOf.Switch s) m r is = granted (node_credit_out l (NodeOf.Switch s)) r m is
-  reply_is (ActOf.Step (ActionOf.CreditOut l)) (NodeOf.Terminal t) m r is = absurd (cc)
-  reply_is ActOf.CreditOut (NodeOf.Switch s) m r is = absurd (cc)
-  reply_is ActOf.CreditOut (NodeOf.Terminal t) m r is = granted (node_credit_out 0 (NodeOf.Terminal t)) r m is
-  reply_is a n m r is = refl
+  reply_is a n m r is = search (arith, granted)
 
   -- numbered events have the stamps of these entries that lead
   abbrev pub AreNumbered : (ℕ → Stamp) → ℕ → List (ℕ × Lead Entry) → Type 0
@@ -146,8 +138,7 @@ abbrev pub is_unseated : Entry → Bool
 is_unseated e = not (is_some e.seat)
 
 pub no_seat : (o : Option ℕ) → not (is_some o) ≡ true → o ≡ None
-no_seat None is = refl
-no_seat (Some s) is = absurd (cc)
+no_seat o is = search arith
 
 pub in_unseated : (x : Entry) (xs : List Entry) → IsIn x xs → x.seat ≡ None → IsIn x (unseated xs)
 in_unseated x xs has is = in_filter is_unseated x xs has (ap (λ o. not (is_some o)) is)
@@ -192,20 +183,7 @@ abbrev IsStamped : Stamp → Deed → Type 0
 IsStamped stamp d = (d.1.ticket ≡ stamp.ticket) × (d.1.seat ≡ stamp.seat)
 
 deeds_stamped : (plan : Plan) (stamp : Stamp) (e : Event) (r : Reply) → AllByRecursion (IsStamped stamp) (event_deeds plan stamp e r)
-deeds_stamped plan stamp e r = by_acts (event_acts plan e)
-  where
-    lone : (k : ℕ) (a : ActOf Token) (b : Bool) → AllByRecursion (IsStamped stamp) (if b then (k, entry_of stamp a r) ∷ [] else [])
-    lone k a true = ((refl, refl), tt)
-    lone k a false = tt
-
-    joint : (p q : Port) (crossing : Crossing) (b : Bool) → AllByRecursion (IsStamped stamp) (if b then (port_place plan p, entry_of stamp (near_act crossing p) r) ∷ (port_place plan q, entry_of stamp (far_act q r) ReplyOf.Done) ∷ [] else [])
-    joint p q crossing true = ((refl, refl), ((refl, refl), tt))
-    joint p q crossing false = tt
-
-    by_acts : (o : Option (Acts Token)) → AllByRecursion (IsStamped stamp) (part [] (λ acts. acts_deeds plan stamp acts r) o)
-    by_acts None = tt
-    by_acts (Some (Acts.Alone k a)) = lone k a (is_ready r)
-    by_acts (Some (Acts.Joint p q crossing)) = joint p q crossing (is_ready r)
+deeds_stamped plan stamp e r = search arith
 
 numbers_below : (plan : Plan) (n : ℕ) (events : List (Event × Reply)) → AllByRecursion (λ (d : Deed). d.1.ticket < n + length events) (run_deeds plan seatless n events)
 numbers_below plan n [] = tt

@@ -1,20 +1,16 @@
 -- A switch keeps its 32 links whatever it does, so that what it does over a link is over one of them.
-use Rattle.c104_control.specs.{Reading.read_command, declared.commands.Command.{Command, TheVariants.{CPeek, CPoke, Identify, Reset}}}
-use Rattle.c104_control.specs.declared.{commands.Command.TheVariants.Start, faults.CommandFault.CommandFault, replies.Answer.Answer}
-use Rattle.c104_control.specs.declared.replies.{Answer.TheVariants.{Refused, Started}, TheConstants.ALREADY_STARTED}
+use Rattle.c104_control.specs.{Reading.read_command, declared.{commands.Command.Command, faults.CommandFault.CommandFault}}
 use Rattle.c104_link.proofs.MadeSteps.{at_place_made, from_place_made, given, length-at_place, required, with_place_made}
-use Rattle.c104_link.specs.{Buffers.{Outgoing, outgoing_clear}, Steps.{joint_step_at, step_at, yield_step_at, ◌>>=◌}}
-use Rattle.c104_node.specs.{Acts.{done_by, node_act, token_by}, Nodes.{Node, as_switch, as_terminal}, declared.acts.ActOf.ActOf}
-use Rattle.{c104_node.specs.declared.node.NodeOf.NodeOf, c104_regs.specs.declared.registers.TheConstants.LINKS}
-use Rattle.{c104_regs.specs.declared.settings.Settings.Settings, c104_switch.specs.{Actions.Reply, Claims.{input_claim, inputs_claim}}}
-use Rattle.c104_switch.specs.{Claims.{put_header, switch_claim}, Commands.{input_reset, switch_start}, Control.switch_control}
-use Rattle.c104_switch.specs.{Control.{switch_obey, switch_obey_if_read}, Switch.{Input, Switch, input_accept, input_grant, is_owned}}
-use Rattle.c104_switch.specs.Switch.{switch_credit_in, switch_credit_out, switch_enter, switch_leave, with_inputs, with_outputs, with_sides}
-use Rattle.c104_switch.specs.{Turns.{header_turn, input_turn, random_turn, switch_input, turn_by_phase}, declared.actions.ActionOf.ActionOf}
-use Rattle.c104_switch.specs.declared.{actions.ReplyOf.ReplyOf, phase.Phase.{Phase, TheVariants.{Fresh, Head, Sinking, Stream, Want}}}
-use Rattle.{c104_token.specs.{Kinds.plain_kind, Tokens.is_end, declared.tokens.Token.Token}, std.proofs.Common.{Bool, Err, List, None, Ok}}
-use Rattle.std.proofs.Common.{Option, Result, Some, [], ap, false, if◌then◌else◌, length, not, refl, slice_get, subst, sym, true, ℕ, ◌&&◌}
-use Rattle.std.proofs.{Common.{◌<◌, ◌∙◌, ◌≡◌}, lemmas.{List.{length-map, length-set}, Option.slice_get_within}}
+use Rattle.{c104_link.specs.{Buffers.Outgoing, Steps.{step_at, ◌>>=◌}}, c104_node.specs.{Acts.{done_by, node_act, token_by}, Nodes.Node}}
+use Rattle.c104_node.specs.{Nodes.{as_switch, as_terminal}, declared.{acts.ActOf.ActOf, node.NodeOf.NodeOf}}
+use Rattle.{c104_regs.specs.declared.{registers.TheConstants.LINKS, settings.Settings.Settings}, c104_switch.specs.Actions.Reply}
+use Rattle.c104_switch.specs.{Claims.{input_claim, switch_claim}, Control.{switch_control, switch_obey, switch_obey_if_read}, Switch.Input}
+use Rattle.c104_switch.specs.Switch.{Switch, input_accept, input_grant, switch_credit_in, switch_credit_out, switch_enter, switch_leave}
+use Rattle.c104_switch.specs.{Switch.{with_inputs, with_outputs, with_sides}, Turns.{input_turn, switch_input}}
+use Rattle.{c104_switch.specs.declared.{actions.{ActionOf.ActionOf, ReplyOf.ReplyOf}, phase.Phase.Phase}, c104_token.specs.Kinds.plain_kind}
+use Rattle.{c104_token.specs.declared.tokens.Token.Token, std.proofs.Common.{Bool, Err, List, None, Ok, Option, Result, Some, ap, arith}}
+use Rattle.std.proofs.{Common.{if◌then◌else◌, length, refl, subst, sym, ℕ, ◌<◌, ◌∙◌, ◌≡◌}, lemmas.List.{length-map, length-set}}
+use Rattle.std.proofs.lemmas.Option.{slice_get_within}
 use Rattle.c104_link.specs.Buffers as buffer
 use Rattle.c104_node.specs.Terminals as terminal
 
@@ -37,23 +33,13 @@ side_same : (u r : Side) (qs : List (Outgoing Token)) → u.1 ≡ qs → ◌≡�
 side_same u r qs same is = let one : u ≡ r = cc in ap (λ (v : Side). length v.1) (sym one) ∙ ap length same
 
 either_same : (b : Bool) (u v r : Side) (qs : List (Outgoing Token)) → u.1 ≡ qs → v.1 ≡ qs → (if◌then◌else◌ {A = Option Side} b (Some u) (Some v)) ≡ Some r → length r.1 ≡ length qs
-either_same true u v r qs first second is = side_same u r qs first is
-either_same false u v r qs first second is = side_same v r qs second is
+either_same b u v r qs first second is = search (arith, side_same)
 
 turn_length : (t : Settings) (word : ℕ) (p : Input Token) (qs : List (Outgoing Token)) (r : Side) → input_turn plain_kind t word p qs ≡ Some r → length r.1 ≡ length qs
-turn_length t word p qs r is = given (slice_get p.buffer.items 0) _ r is (λ x here more. by_phase p.phase x more)
-  where
-    by_phase : (phase : Phase (List Token)) (x : Token) → turn_by_phase plain_kind t word p qs phase x ≡ Some r → length r.1 ≡ length qs
-    by_phase Fresh x is = either_same (t.randomize && not (is_end x)) (random_turn plain_kind t word p, qs) (header_turn plain_kind t p [] x, qs) r qs refl refl is
-    by_phase (Head b) x is = side_same _ r qs refl is
-    by_phase (Want b g) x is = absurd (cc)
-    by_phase (Stream o) x is = given (step_at qs o (buffer.outgoing_put x)) _ r is (λ rs made last. side_same _ r rs refl last ∙ length-at_place qs o (buffer.outgoing_put x) rs made)
-    by_phase Sinking x is = side_same _ r qs refl is
+turn_length t word p qs r is = search (arith, given, either_same, side_same, length-at_place)
 
 claim_length : (settings : List Settings) (p : Input Token) (qs : List (Outgoing Token)) (o : ℕ) (phase : Phase (List Token)) (r : Side) → input_claim settings p qs o phase ≡ Some r → (length r.1 ≡ length qs) × (o < length qs)
-claim_length settings p qs o (Want b g) r is = required _ _ r is (λ in_group more. given (slice_get settings o) _ r more (λ t own most. given (step_at qs o (put_header t b)) _ r most (λ rs made last.
-    (side_same _ r rs refl last ∙ length-at_place qs o (put_header t b) rs made, at_place_made qs o (put_header t b) rs made (λ x y here done set. slice_get_within qs o x here)))))
-claim_length settings p qs o phase r is = absurd (cc)
+claim_length settings p qs o phase r is = search (arith, required, given, side_same, length-at_place, at_place_made, slice_get_within)
 
 module _ (s : Switch Token) (wide : IsWideSwitch s) where
   enter_wide : (l : ℕ) (x : Token) (s' : Switch Token) → switch_enter s l x ≡ Some s' → IsWideSwitch s'
@@ -66,39 +52,19 @@ module _ (s : Switch Token) (wide : IsWideSwitch s) where
   credit_in_wide l s' is = given (step_at s.outputs l buffer.outgoing_credited) _ s' is (λ qs made last. let same : with_outputs s qs ≡ s' = cc in subst IsWideSwitch same (wide.0, length-at_place s.outputs l buffer.outgoing_credited qs made ∙ wide.1))
 
   leave_wide : (l : ℕ) (r : Token × Switch Token) → switch_leave s l ≡ Some r → IsWideSwitch r.1
-  leave_wide l r is = given (yield_step_at s.outputs l buffer.outgoing_emit) _ r is (λ q made last.
-      let same : ◌≡◌ {A = Token × Switch Token} (q.0, with_outputs s q.1) r = cc in
-      let long : length q.1 ≡ length s.outputs = from_place_made s.outputs l buffer.outgoing_emit q made (λ x y here done set. subst (λ (v : Token × List (Outgoing Token)). length v.1 ≡ length s.outputs) set (length-set s.outputs l y.1)) in
-      subst (λ (v : Token × Switch Token). IsWideSwitch v.1) same (wide.0, long ∙ wide.1))
+  leave_wide l r is = search (arith, given, from_place_made, length-set)
 
   sides_wide : (r : Sides) (s' : Switch Token) → length r.0 ≡ length s.inputs → length r.1 ≡ length s.outputs → ◌≡◌ {A = Option (Switch Token)} (Some (with_sides s r)) (Some s') → IsWideSwitch s'
   sides_wide r s' ins outs is = let same : with_sides s r ≡ s' = cc in subst IsWideSwitch same (ins ∙ wide.0, outs ∙ wide.1)
 
   pub input_wide : (l word : ℕ) (s' : Switch Token) → switch_input plain_kind s l word ≡ Some s' → IsWideSwitch s' × (l < LINKS)
-  input_wide l word s' is = required s.started _ s' is (λ started more. given (slice_get s.settings l) _ s' more (λ t own most. given (joint_step_at s.inputs l (λ p. input_turn plain_kind t word p s.outputs)) _ s' most (λ r made last.
-      with_place_made s.inputs l (λ p. input_turn plain_kind t word p s.outputs) r made (λ p u here turned set.
-      let ins : length r.0 ≡ length s.inputs = ap (λ (v : Sides). length v.0) (sym set) ∙ length-set s.inputs l u.0 in
-      let outs : length r.1 ≡ length s.outputs = ap (λ (v : Sides). length v.1) (sym set) ∙ turn_length t word p s.outputs u turned in
-      (sides_wide r s' ins outs last, subst (λ n. l < n) wide.0 (slice_get_within s.inputs l p here))))))
+  input_wide l word s' is = search (arith, required, given, with_place_made, length-set, turn_length, sides_wide, slice_get_within)
 
   pub claim_wide : (i o : ℕ) (s' : Switch Token) → switch_claim s i o ≡ Some s' → IsWideSwitch s' × (i < LINKS) × (o < LINKS)
-  claim_wide i o s' is = required s.started _ s' is (λ started more. given (inputs_claim s.settings s.inputs s.outputs i o) _ s' more (λ r made last.
-      required (not (is_owned s.inputs o)) _ r made (λ free step. with_place_made s.inputs i (λ p. input_claim s.settings p s.outputs o p.phase) r step (λ p u here claimed set.
-      let known = claim_length s.settings p s.outputs o p.phase u claimed in
-      let ins : length r.0 ≡ length s.inputs = ap (λ (v : Sides). length v.0) (sym set) ∙ length-set s.inputs i u.0 in
-      let outs : length r.1 ≡ length s.outputs = ap (λ (v : Sides). length v.1) (sym set) ∙ known.0 in
-      (sides_wide r s' ins outs last, subst (λ n. i < n) wide.0 (slice_get_within s.inputs i p here), subst (λ n. o < n) wide.1 known.1)))))
+  claim_wide i o s' is = search (arith, required, given, with_place_made, claim_length, length-set, sides_wide, slice_get_within)
 
   obey_wide : (c : Command) → IsWideSwitch (switch_obey s c).1
-  obey_wide Start = by_started s.started
-    where
-      by_started : (b : Bool) → IsWideSwitch (if◌then◌else◌ {A = Answer × Switch Token} b (Refused ALREADY_STARTED, s) (Started, switch_start s)).1
-      by_started true = wide
-      by_started false = wide
-  obey_wide Reset = (length-map s.inputs input_reset ∙ wide.0, length-map s.outputs outgoing_clear ∙ wide.1)
-  obey_wide Identify = wide
-  obey_wide (CPeek a) = wide
-  obey_wide (CPoke a v) = wide
+  obey_wide c = search (arith, length-map)
 
   control_wide : (bytes : List ℕ) → IsWideSwitch (switch_control s bytes).1
   control_wide bytes = by_read (read_command bytes)
@@ -108,20 +74,16 @@ module _ (s : Switch Token) (wide : IsWideSwitch s) where
       by_read (Err e) = wide
 
 wide_done : (made : Option (Switch Token)) (r : Reply × Node Token) → done_by (made >>= as_switch) ≡ Some r → ((s : Switch Token) → made ≡ Some s → IsWideSwitch s) → IsWide r.1
-wide_done None r is holds = absurd (cc)
-wide_done (Some s) r is holds = let both : ◌≡◌ {A = Reply × Node Token} (ReplyOf.Done, NodeOf.Switch s) r = cc in subst (λ (v : Reply × Node Token). IsWide v.1) both (holds s refl)
+wide_done made r is holds = search arith
 
 wide_token : (made : Option (Token × Switch Token)) (r : Reply × Node Token) → token_by (made >>= (λ v. Some (v.0, NodeOf.Switch v.1))) ≡ Some r → ((v : Token × Switch Token) → made ≡ Some v → IsWideSwitch v.1) → IsWide r.1
-wide_token None r is holds = absurd (cc)
-wide_token (Some v) r is holds = let both : ◌≡◌ {A = Reply × Node Token} (ReplyOf.Token v.0, NodeOf.Switch v.1) r = cc in subst (λ (v : Reply × Node Token). IsWide v.1) both (holds v refl)
+wide_token made r is holds = search arith
 
 wide_terminal : (made : Option (terminal.Terminal Token)) (r : Reply × Node Token) → done_by (made >>= as_terminal) ≡ Some r → IsWide r.1
-wide_terminal None r is = absurd (cc)
-wide_terminal (Some t) r is = let both : ◌≡◌ {A = Reply × Node Token} (ReplyOf.Done, NodeOf.Terminal t) r = cc in subst (λ (v : Reply × Node Token). IsWide v.1) both tt
+wide_terminal made r is = search arith
 
 wide_arrived : (made : Option (Token × terminal.Terminal Token)) (r : Reply × Node Token) → token_by (made >>= (λ v. Some (v.0, NodeOf.Terminal v.1))) ≡ Some r → IsWide r.1
-wide_arrived None r is = absurd (cc)
-wide_arrived (Some v) r is = let both : ◌≡◌ {A = Reply × Node Token} (ReplyOf.Token v.0, NodeOf.Terminal v.1) r = cc in subst (λ (v : Reply × Node Token). IsWide v.1) both tt
+wide_arrived made r is = search arith
 
 -- a node keeps them in each of its acts
 pub wide_act : (number : ℕ) (a : ActOf Token) (n : Node Token) (r : Reply × Node Token) → IsWide n → node_act plain_kind number a n ≡ Some r → IsWide r.1

@@ -1,9 +1,9 @@
 -- Which links have wires: none past the last one, and of the others those that a node keeps.
-use Rattle.c104_audit.{proofs.CalledSeats.past_end, specs.{Audits.{AreLists, IsEndAmong, IsShaped, is_link_wired}, Tests.HasLinksTo}}
+use Rattle.c104_audit.{proofs.CalledSeats.past_end, specs.{Audits.{AreLists, IsShaped, is_link_wired}, Tests.HasLinksTo}}
 use Rattle.{c104_audit.specs.declared.lists.{Lists.Lists, NodeShape.NodeShape}, c104_plan.specs.Ports.{is_port, other_end}}
 use Rattle.{c104_plan.specs.declared.ports.{Port.Port, Wire.Wire}, c104_run.specs.Rounds.link_numbers, std.proofs.Common.{Bool, IsTrue}}
-use Rattle.std.proofs.Common.{List, Some, [], ap, arith, false, if◌then◌else◌, is_some, length, map, nat_eq, nat_lt, refl, slice_get, suc}
-use Rattle.std.proofs.{Common.{sym, true, unwrap_or, zero, ℕ, ◌&&◌, ◌+◌, ◌-◌, ◌<◌, ◌↔◌, ◌∙◌, ◌∷◌, ◌≡◌, ◌≤◌}, lemmas.Bool.Decides.nat_tests}
+use Rattle.std.proofs.Common.{List, Some, [], ap, arith, false, is_some, length, map, nat_eq, refl, slice_get, suc, sym, true, unwrap_or}
+use Rattle.std.proofs.{Common.{zero, ℕ, ◌&&◌, ◌+◌, ◌<◌, ◌↔◌, ◌∙◌, ◌∷◌, ◌≡◌, ◌≤◌}, lemmas.Bool.Decides.nat_tests}
 use Rattle.std.specs.List.{range_with_len}
 
 -- a port has one of the 32 links, or is a terminal's
@@ -26,15 +26,7 @@ no_wire (w ∷ ws) k l past inside =
     not_port (Port.Terminal t) below = refl
 
 pub past_links : (lists : Lists) → AreLists lists → (k l : ℕ) → 32 ≤ l → is_link_wired lists.switches lists.wires k l ≡ false
-past_links lists are k l past = by_kind (nat_lt k lists.switches)
-  where
-    link_port : (p : Port) → IsEndAmong lists.switches (length lists.nodes) p → IsLinkPort p
-    link_port (Port.Switch s m) inside = inside.1
-    link_port (Port.Terminal t) inside = tt
-
-    by_kind : (b : Bool) → (if b then is_some (other_end lists.wires (Port.Switch k l)) else (nat_eq l 0 && is_some (other_end lists.wires (Port.Terminal (k - lists.switches))))) ≡ false
-    by_kind true = no_wire lists.wires k l past (λ i w at. let ends = are.inside i w at in (link_port w.here ends.0, link_port w.there ends.1))
-    by_kind false = let not_first : nat_eq l 0 ≡ false = grind (arith, nat_tests) in rw not_first refl
+past_links lists are k l past = search (arith, no_wire, nat_tests)
 
 -- a list of what each link is told has at each place what its link is told, and a list that has that is the one
 told_there : (f : ℕ → Bool) (a n l : ℕ) → l < n → slice_get (map f (range_with_len a n)) l ≡ Some (f (a + l))
@@ -73,22 +65,9 @@ links_there f wired is l below = ap (λ xs. slice_get xs l) (is ∙ ap (map f) n
 
 pub links_are : (lists : Lists) (k : ℕ) (wired : List Bool) (b : Bool) → IsTrue b ↔ ((length wired ≡ 32) × HasLinksTo lists k wired 32) →
     IsTrue b ↔ (wired ≡ map (is_link_wired lists.switches lists.wires k) link_numbers)
-links_are lists k wired b tells = (
-  λ yes. (let both = tells.0 yes in links_same (is_link_wired lists.switches lists.wires k) wired both.0 both.1),
-  λ is. tells.1 (links_long (is_link_wired lists.switches lists.wires k) wired is, links_there (is_link_wired lists.switches lists.wires k) wired is),
-)
+links_are lists k wired b tells = search (arith, links_same, links_long, links_there)
 
 -- what a node keeps of a link tells whether it has a wire
 pub kept_wired : (lists : Lists) → AreLists lists → (k : ℕ) (n : NodeShape) (wired : List Bool) (l : ℕ) → IsShaped lists k → slice_get lists.nodes k ≡ Some n → wired ≡ n.wired →
     unwrap_or (slice_get wired l) false ≡ is_link_wired lists.switches lists.wires k l
-kept_wired lists are k n wired l shaped there lent = by_test (nat_lt l 32) refl
-  where
-    is : wired ≡ map (is_link_wired lists.switches lists.wires k) link_numbers
-    is = lent ∙ (shaped n there).links
-
-    by_test : (b : Bool) → nat_lt l 32 ≡ b → unwrap_or (slice_get wired l) false ≡ is_link_wired lists.switches lists.wires k l
-    by_test true inside = ap (λ o. unwrap_or o false) (links_there (is_link_wired lists.switches lists.wires k) wired is l (grind (arith, nat_tests)))
-    by_test false past =
-        let out : 32 ≤ l = grind (arith, nat_tests) in
-        let long : length wired ≡ 32 = links_long (is_link_wired lists.switches lists.wires k) wired is in
-        ap (λ o. unwrap_or o false) (past_end wired l (omega (arith, out, long))) ∙ sym (past_links lists are k l out)
+kept_wired lists are k n wired l shaped there lent = search (arith, links_there, nat_tests, links_long, past_end, past_links)
