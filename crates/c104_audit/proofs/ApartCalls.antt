@@ -1,9 +1,9 @@
 -- Lists of calls whose tickets rise, and whether a ticket stands in both.
 use Rattle.c104_audit.{proofs.{KeptElements.drop_next, Merging.{each_in, in_each}}, specs.{Audits.HaveOtherTickets, Leads.AreRising}}
 use Rattle.{c104_audit.specs.{Leads.list_at, Tests.{IsNotBelow, StandsFirst}, declared.calls.Call.Call}, c104_net.proofs.Members.IsIn}
-use Rattle.{c104_net.proofs.Members.in_right, c104_plan.proofs.RangeLists.each_append, std.proofs.Common.{Bool, List, Some, [], ap}}
-use Rattle.std.proofs.Common.{append_assoc, arith, drop, false, inl, inr, nat_eq, refl, slice_get, subst, sym, true, unwrap_or, ℕ, ◌++◌}
-use Rattle.std.{proofs.{Common.{◌+◌, ◌<◌, ◌↔◌, ◌∙◌, ◌∷◌, ◌≡◌, ◌≢◌, ◌⊎◌}, lemmas.Bool.Decides.nat_tests}, specs.List.AllByRecursion}
+use Rattle.{c104_net.proofs.Members.in_right, c104_plan.proofs.RangeLists.each_append, std.proofs.Common.{List, Some, [], ap, append_assoc}}
+use Rattle.std.proofs.Common.{arith, drop, inl, inr, slice_get, subst, sym, unwrap_or, ℕ, ◌++◌, ◌+◌, ◌<◌, ◌↔◌, ◌∙◌, ◌∷◌, ◌≡◌, ◌≢◌, ◌⊎◌}
+use Rattle.std.{proofs.lemmas.Bool.Decides.nat_tests, specs.List.AllByRecursion}
 
 in_either : (x : Call) (xs ys : List Call) → IsIn x (xs ++ ys) → IsIn x xs ⊎ IsIn x ys
 in_either x [] ys has = inr has
@@ -42,19 +42,7 @@ left_next all every ps qs rest more gone c first second below next other left = 
     gone_below y has = each_in (λ (d : Call). d.ticket < c.ticket) y gone below has
 
     more_above : (zs : List Call) → IsNotBelow c.ticket zs → (StandsFirst c.ticket zs → ⊥) → AreRising (λ (c : Call). c.ticket) zs → (y : Call) → IsIn y zs → c.ticket < y.ticket
-    more_above [] at none rising y has = absurd has
-    more_above (d ∷ zs) at none rising y has = by_place has
-      where
-        head : c.ticket < d.ticket
-        head = by_test (nat_eq d.ticket c.ticket) refl
-          where
-            by_test : (b : Bool) → nat_eq d.ticket c.ticket ≡ b → c.ticket < d.ticket
-            by_test true is = absurd (none (grind (arith, nat_tests)))
-            by_test false is = grind (arith, nat_tests)
-
-        by_place : (y ≡ d) ⊎ IsIn y zs → c.ticket < y.ticket
-        by_place (inl same) = subst (λ (x : Call). c.ticket < x.ticket) (sym same) head
-        by_place (inr has) = let later = each_in (λ (x : Call). d.ticket < x.ticket) y zs rising.0 has in omega (arith, head, later)
+    more_above zs at none rising y has = search (arith, nat_tests, each_in)
 
     rest_above : (x : Call) → IsIn x rest → c.ticket < x.ticket
     rest_above x has = each_in (λ (d : Call). c.ticket < d.ticket) x rest both.calls.0 has

@@ -18,9 +18,9 @@ use Rattle.{c104_plan.specs.{Plans.{IsPlan, Plan}, Wiring.wires}, c104_run.specs
 use Rattle.c104_run.specs.{FinishedRecords.FinishedRecord, Network.network_of, NodeRuns.{TellRun, nodes_run, starting_nodes}}
 use Rattle.{c104_run.specs.Runs.{IsDoneRun, IsRunRecord, at_node, run_deeds}, c104_switch.specs.Actions.Reply}
 use Rattle.{c104_token.specs.{Kinds.plain_kind, declared.tokens.Token.Token}, std.proofs.Common.{List, None, Option, Some, [], ap, arith}}
-use Rattle.std.proofs.Common.{false, is_some, length, length-append, map, not, option_map, refl, slice_get, subst, suc, sym, true}
-use Rattle.std.proofs.{Common.{unwrap_or, ℕ, ◌++◌, ◌+◌, ◌<◌, ◌∙◌, ◌∷◌, ◌≡◌, ◌≤◌}, lemmas.{Bool.Decides.nat_tests, List.length-map}}
-use Rattle.std.{proofs.lemmas.{List.map-append, Option.{slice_get-map, slice_get_within}}, specs.List.AllByRecursion}
+use Rattle.std.proofs.Common.{false, is_some, length, length-append, map, not, option_map, refl, slice_get, subst, suc, sym, true, ℕ, ◌++◌}
+use Rattle.std.proofs.{Common.{◌+◌, ◌<◌, ◌∙◌, ◌∷◌, ◌≡◌, ◌≤◌}, lemmas.{Bool.Decides.nat_tests, List.{length-map, map-append}}}
+use Rattle.std.{proofs.lemmas.Option.{slice_get-map, slice_get_within}, specs.List.AllByRecursion}
 
 -- the entries at a place, by either word
 node_parts : (k : ℕ) (ds : List Deed) → at_node k ds ≡ at_place k ds
@@ -113,10 +113,7 @@ module _ (plan : Plan) (is_plan : IsPlan plan) (nodes : List (NodeRecord × Node
   }
     where
       by_node : (k : ℕ) (o : Option (NodeRecord × NodeRoom)) → slice_get nodes k ≡ o → option_map node_trace o ≡ option_map (λ n. at_node k (run_deeds plan Stamps 0 Events)) (option_map first_state o)
-      by_node k None at = refl
-      by_node k (Some n) at = ap Some (
-          sym (ap (λ o. unwrap_or o []) (slice_get-map node_trace nodes k ∙ ap (option_map node_trace) at)) ∙ sym (deeds_are k)
-          ∙ ap (at_place k) (sym all_deeds_are) ∙ sym (node_parts k (run_deeds plan Stamps 0 Events)))
+      by_node k o at = search (arith, slice_get-map, deeds_are, all_deeds_are, node_parts)
 
   placed : AreInPlace plan Starts
   placed = (starts_ready plan is_plan nodes lists gathered audited).placed

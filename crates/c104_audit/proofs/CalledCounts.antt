@@ -22,8 +22,7 @@ module _ (lists : Lists) (leads : List Leading) where
   -- the next that leads isn't the seat's
   told_over : (i s : ℕ) (l : Leading) (o : Option ℕ) → slice_get leads i ≡ Some l → (lead_seat lists l ≡ Some s → ⊥) → IsTold lists leads i s o → IsTold lists leads (i + 1) s o
   told_over i s l None at other told = told
-  told_over i s l (Some n) at other told =
-      (equal_over (Whole s) (Left lists s leads i) (Left lists s leads (i + 1)) (list_at lists.calls s) n (met_over lists s leads i l at (other_number s (lead_seat lists l) other)) told.0, told.1)
+  told_over i s l (Some n) at other told = search (arith, equal_over, met_over, other_number)
 
   -- or it is, and tells its next call or another
   told_next : AreLeads lists leads → (i s : ℕ) (l : Leading) (x : Entry) (o p : Option ℕ) → slice_get leads i ≡ Some l → lead_seat lists l ≡ Some s → (lead_in lists.traces l).1.entry ≡ x →

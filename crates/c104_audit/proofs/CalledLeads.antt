@@ -5,9 +5,9 @@ use Rattle.c104_audit.specs.{Tests.{IsNextCall, calls_told, entry_or, lead_in}, 
 use Rattle.{c104_event.specs.declared.events.Event.Event, c104_net.{proofs.Members.IsIn, specs.Replays.entry_event as told_entry}}
 use Rattle.c104_net.specs.{Replays.{event_or, lead_event}, ToldEvents.told_event, declared.leading.Lead.Lead as Leading}
 use Rattle.{c104_node.specs.declared.acts.{ActOf.ActOf, Entry.Entry}, c104_plan.specs.declared.ports.Wire.Wire}
-use Rattle.{c104_run.specs.EventActs.act_event, c104_token.specs.declared.tokens.Token.Token, std.proofs.Common.{List, None, Option, Some}}
-use Rattle.std.proofs.Common.{[], ap, append_assoc, arith, drop, false, if◌then◌else◌, inl, inr, is_some, map, refl, slice_get, subst, suc}
-use Rattle.std.{proofs.Common.{sym, true, zero, ℕ, ◌++◌, ◌+◌, ◌∙◌, ◌∷◌, ◌≡◌}, specs.Option.{option_map, option_to_list}}
+use Rattle.{c104_run.specs.EventActs.act_event, c104_token.specs.declared.tokens.Token.Token, std.proofs.Common.{List, Option, Some, []}}
+use Rattle.std.proofs.Common.{ap, append_assoc, arith, drop, false, if◌then◌else◌, inl, inr, is_some, map, refl, slice_get, subst, suc, sym}
+use Rattle.std.{proofs.Common.{true, zero, ℕ, ◌++◌, ◌+◌, ◌∙◌, ◌∷◌, ◌≡◌}, specs.Option.{option_map, option_to_list}}
 
 -- the event of an entry that leads is that of its act
 record IsNamed (S : ℕ) (ws : List Wire) (k : ℕ) (a : ActOf Token) : Type 0 where
@@ -87,12 +87,10 @@ module _ (lists : Lists) where
     event_there all i l at = by_entry (slice_get (list_at lists.traces l.place) l.at) refl (named_at leads all i l at)
       where
         by_event : (o : Option Event) (e : Event) → o ≡ Some e → o ≡ Some (event_or o)
-        by_event None e is = absurd (cc)
-        by_event (Some x) e is = refl
+        by_event o e is = search arith
 
         by_entry : (o : Option Entry) → slice_get (list_at lists.traces l.place) l.at ≡ o → IsNamed lists.switches lists.wires l.place (entry_or o).act → act_event lists.switches l.place (entry_or o).act ≡ Some (told_event (l.ticket, told_entry lists.switches l.place o))
-        by_entry None there named = absurd (let never : None ≡ Some named.event = named.names in cc)
-        by_entry (Some e) there named = by_event (act_event lists.switches l.place e.act) named.event named.names
+        by_entry o there named = search (arith, by_event)
 
     told_here : AreLeads lists leads → (i : ℕ) (l : Leading) → slice_get leads i ≡ Some l → EventsLeft i ≡ told_event (lead_event lists.switches lists.traces l) ∷ EventsLeft (i + 1)
     told_here all i l at =

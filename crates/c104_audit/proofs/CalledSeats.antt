@@ -1,10 +1,9 @@
 -- What is found of each seat is that it is called so.
-use Rattle.c104_audit.{proofs.FirstFailures.{below_all, first_both, first_same}, specs.Audits.{HaveOtherTickets, IsCalled}}
-use Rattle.c104_audit.specs.{Firsts.{IsFirst, lower_of}, Leads.{AreRising, list_at}, Tests.{AreCalledBelow, CarryAtAllEnds, HasNoStray}}
-use Rattle.{c104_audit.specs.{Tests.{IsApart, IsToldAt, is_other}, declared.{calls.Call.Call, lists.Lists.Lists}}, std.proofs.Common.Bool}
-use Rattle.std.proofs.Common.{IsTrue, List, None, Option, Some, [], ap, arith, false, length, nat_eq, nat_lt, not, refl, slice_get, subst}
-use Rattle.std.proofs.{Common.{sym, true, unwrap_or, ℕ, ◌<◌, ◌↔◌, ◌∙◌, ◌≡◌, ◌≤◌}, lemmas.{Bool.Decides.nat_tests, Option.slice_get_cases}}
-use Rattle.std.specs.List.{AllByRecursion}
+use Rattle.c104_audit.{proofs.FirstFailures.{below_all, first_both, first_same}, specs.{Audits.IsCalled, Firsts.{IsFirst, lower_of}}}
+use Rattle.c104_audit.specs.{Leads.list_at, Tests.{AreCalledBelow, CarryAtAllEnds, HasNoStray, IsApart, IsToldAt, is_other}}
+use Rattle.{c104_audit.specs.declared.{calls.Call.Call, lists.Lists.Lists}, std.proofs.Common.{Bool, IsTrue, List, None, Option, Some, []}}
+use Rattle.std.proofs.Common.{ap, arith, false, length, nat_eq, nat_lt, not, refl, slice_get, subst, sym, true, unwrap_or, ℕ, ◌<◌, ◌↔◌, ◌∙◌}
+use Rattle.std.proofs.{Common.{◌≡◌, ◌≤◌}, lemmas.{Bool.Decides.nat_tests, Option.slice_get_cases}}
 
 -- there is nothing past the end of a list
 pub past_end : {X : Type 0} (xs : List X) (i : ℕ) → length xs ≤ i → slice_get xs i ≡ None
@@ -47,10 +46,4 @@ called_past lists lent odd stray same below first second =
     empty k past = none_past lists.calls k (subst (λ xs. length xs ≤ k) same past)
 
     late : (k : ℕ) → length lent ≤ k → CarryAtAllEnds lists k → HasNoStray lists (length lent) k → IsCalled lists k
-    late k past ends none = record {
-      told = empty k past ∙ sym (none past);
-      rising = subst (AreRising (λ (c : Call). c.ticket)) (sym (empty k past)) tt;
-      ends = ends;
-      late = subst (AllByRecursion (λ (c : Call). lists.first ≤ c.ticket)) (sym (empty k past)) tt;
-      apart = λ lower under. subst (λ calls. HaveOtherTickets calls (list_at lists.calls lower)) (sym (empty k past)) tt;
-    }
+    late k past ends none = search (arith, empty)

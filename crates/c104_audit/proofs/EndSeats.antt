@@ -3,7 +3,7 @@ use Rattle.c104_audit.{proofs.FirstFailures.{below_all, below_next, first_both, 
 use Rattle.c104_audit.specs.{Audits.{CarryAtEnds, carries, is_number, passing_at}, Firsts.{IsFirst, lower_of}, Tests.CarryAtAllEnds}
 use Rattle.c104_audit.specs.{Tests.{CarryAtEndsTo, odd_of, odd_seat}, declared.lists.Lists.Lists}
 use Rattle.{c104_node.specs.declared.acts.Entry.Entry, c104_plan.specs.declared.ports.Wire.Wire, std.proofs.Common.{List, Option, Some, []}}
-use Rattle.std.proofs.Common.{ap, arith, false, length, map, nat_eq, refl, slice_get, true, ℕ, ◌+◌, ◌<◌, ◌∙◌, ◌∷◌, ◌≡◌, ◌≤◌}
+use Rattle.std.proofs.Common.{arith, false, length, map, nat_eq, refl, slice_get, true, ℕ, ◌+◌, ◌<◌, ◌∷◌, ◌≡◌, ◌≤◌}
 use Rattle.std.proofs.lemmas.Bool.Decides.{nat_tests}
 
 itself : (s : ℕ) → nat_eq s s ≡ true
@@ -21,11 +21,7 @@ pub odds_first : (es others : List Entry) → AgreeOneByOne es others → IsFirs
 odds_first [] [] agree = λ s. refl
 odds_first [] (d ∷ others) agree = absurd agree
 odds_first (e ∷ es) [] agree = absurd agree
-odds_first (e ∷ es) (d ∷ others) agree =
-    first_same (λ s. (is_number s e.seat ≡ is_number s d.seat) × (map (carries s) es ≡ map (carries s) others)) (λ s. map (carries s) (e ∷ es) ≡ map (carries s) (d ∷ others)) (odd_of (e ∷ es) (d ∷ others))
-    (λ s both. ap (λ b. b ∷ map (carries s) es) both.0 ∙ ap (λ bs. is_number s d.seat ∷ bs) both.1)
-    (λ s is. (cc, cc))
-    (first_both _ _ (odd_seat e.seat d.seat) (odd_of es others) (odd_first e.seat d.seat) (odds_first es others agree.1))
+odds_first (e ∷ es) (d ∷ others) agree = search (arith, first_same, first_both, odd_first, odds_first es others agree.1)
 
 -- what a loop has found so far, and what is left to it
 pub record AreOddsLeft (all others ps qs : List Entry) (first : Option ℕ) : Type 0 where

@@ -96,41 +96,9 @@ module _ (plan : Plan) where
         place = refl;
         possible = λ inside n r wide short made. let there = claim_there 0 n i o r wide made in rw (s.kind, below i LINKS there.0, below o LINKS there.1) refl;
       })
-  lead_cases k (act.Step (ActionOf.Control bytes)) leads =
-      let s = stands_for k (act.Step (ActionOf.Control bytes)) leads in
-      inl (record {
-        event = Event.Control k bytes;
-        told = s.told;
-        acts = refl;
-        place = refl;
-        possible = λ inside n r wide short made. rw s.kind refl;
-      })
-  lead_cases k (act.Send packet) leads =
-      let s = stands_for k (act.Send packet) leads in
-      let at = (terminal_there k s.kind).1 in
-      inl (record {
-        event = Event.Send (k - length plan.switches) packet;
-        told = s.told;
-        acts = ap (λ j. Some (Acts.Alone j (act.Send packet))) at;
-        place = at;
-        possible = λ inside n r wide short made. rw (terminal_inside k at inside, short_enough (length packet.bytes) short.0) refl;
-      })
-  lead_cases k act.Drain leads =
-      let s = stands_for k act.Drain leads in
-      let at = (terminal_there k s.kind).1 in
-      inl (record {
-        event = Event.Drain (k - length plan.switches);
-        told = s.told;
-        acts = ap (λ j. Some (Acts.Alone j act.Drain)) at;
-        place = at;
-        possible = λ inside n r wide short made. rw (terminal_inside k at inside) refl;
-      })
-  lead_cases k act.Leave leads =
-      let s = stands_for k act.Leave leads in
-      let there = terminal_there k s.kind in
-      joint k act.Leave TokenCrossing (Port.Terminal (k - length plan.switches)) refl there.1 s.told (terminal_wired k there.0 s.linked)
-  lead_cases k act.CreditOut leads =
-      let s = stands_for k act.CreditOut leads in
-      let there = terminal_there k s.kind in
-      joint k act.CreditOut Grant (Port.Terminal (k - length plan.switches)) refl there.1 s.told (terminal_wired k there.0 s.linked)
+  lead_cases k (act.Step (ActionOf.Control bytes)) leads = search (arith, stands_for)
+  lead_cases k (act.Send packet) leads = search (arith, stands_for, terminal_there, terminal_inside, short_enough)
+  lead_cases k act.Drain leads = search (arith, stands_for, terminal_there, terminal_inside)
+  lead_cases k act.Leave leads = search (arith, stands_for, terminal_there, joint, terminal_wired)
+  lead_cases k act.CreditOut leads = search (arith, stands_for, terminal_there, joint, terminal_wired)
   lead_cases k a leads = absurd (leads_none k a refl leads)

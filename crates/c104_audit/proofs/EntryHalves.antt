@@ -5,7 +5,7 @@ use Rattle.c104_node.specs.{PortActs.{IsAnswerOf, far_act, near_act, port_credit
 use Rattle.{c104_node.specs.declared.crossings.Crossing.Crossing, c104_plan.{proofs.PortLemmas.is_port-true, specs.Ports.is_port}}
 use Rattle.{c104_plan.specs.{Ports.other_end, declared.ports.{Port.Port, Wire.Wire}}, c104_switch.specs.Actions.Reply}
 use Rattle.{c104_token.specs.declared.tokens.Token.Token, std.proofs.Common.{Bool, List, None, Option, Some, [], ap, arith, false}}
-use Rattle.std.proofs.Common.{if◌then◌else◌, inl, inr, map, nat_eq, refl, slice_get, subst, suc, sym, true, ℕ, ◌&&◌, ◌∙◌, ◌∷◌, ◌≡◌, ◌⊎◌}
+use Rattle.std.proofs.Common.{if◌then◌else◌, inl, inr, map, nat_eq, refl, slice_get, suc, sym, true, ℕ, ◌&&◌, ◌∙◌, ◌∷◌, ◌≡◌, ◌⊎◌}
 use Rattle.std.proofs.lemmas.Bool.Decides.{nat_tests}
 
 -- whether a port is a switch's
@@ -59,9 +59,7 @@ seats_same (Some t) (Some u) same = let is : nat_eq t t ≡ nat_eq t u = same t 
 pub partner : (ones others : List Entry) → AgreeOneByOne ones others → ((s : ℕ) → map (carries s) ones ≡ map (carries s) others) → (a : Entry) → IsIn a ones → (b : Entry) × IsIn b others × AreHalves a b × (a.seat ≡ b.seat)
 partner [] others agree seats a has = absurd has
 partner (c ∷ ones) [] agree seats a has = absurd agree
-partner (c ∷ ones) (d ∷ others) agree seats a (inl same) =
-    let seat : c.seat ≡ d.seat = seats_same c.seat d.seat (λ s. let both = seats s in cc) in
-    (d, inl refl, subst (λ e. AreHalves e d) (sym same) agree.0, ap (λ (e : Entry). e.seat) same ∙ seat)
+partner (c ∷ ones) (d ∷ others) agree seats a (inl same) = search (arith, seats_same)
 partner (c ∷ ones) (d ∷ others) agree seats a (inr has) =
     let rest = partner ones others agree.1 (λ s. let both = seats s in cc) a has in
     (rest.0, inr rest.1, rest.2, rest.3)
@@ -70,9 +68,7 @@ pub partner_back : (ones others : List Entry) → AgreeOneByOne ones others → 
 partner_back [] [] agree seats b has = absurd has
 partner_back [] (d ∷ others) agree seats b has = absurd agree
 partner_back (c ∷ ones) [] agree seats b has = absurd has
-partner_back (c ∷ ones) (d ∷ others) agree seats b (inl same) =
-    let seat : c.seat ≡ d.seat = seats_same c.seat d.seat (λ s. let both = seats s in cc) in
-    (c, inl refl, subst (λ e. AreHalves c e) (sym same) agree.0, seat ∙ ap (λ (e : Entry). e.seat) (sym same))
+partner_back (c ∷ ones) (d ∷ others) agree seats b (inl same) = search (arith, seats_same)
 partner_back (c ∷ ones) (d ∷ others) agree seats b (inr has) =
     let rest = partner_back ones others agree.1 (λ s. let both = seats s in cc) b has in
     (rest.0, inr rest.1, rest.2, rest.3)

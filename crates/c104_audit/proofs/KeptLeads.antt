@@ -1,7 +1,7 @@
 -- Lists of things that lead, in order: two with the same things are one list; and those before a ticket stand first.
 use Rattle.c104_audit.{proofs.{Matching.{AreLeading, StandsBefore}, Merging.{each_in, from_filter, in_each}}, specs.Leads.Lead}
 use Rattle.{c104_net.{proofs.Members.IsIn, specs.Merges.{by_ticket, join_by_ticket}}, std.proofs.Common.{Bool, List, [], ap, arith, false}}
-use Rattle.std.proofs.Common.{filter, if◌then◌else◌, inl, inr, map, nat_le, not, refl, sym, true, ℕ, ◌++◌, ◌<◌, ◌∙◌, ◌∷◌, ◌≡◌, ◌≤◌, ◌⊎◌}
+use Rattle.std.proofs.Common.{filter, if◌then◌else◌, inl, map, nat_le, not, refl, true, ℕ, ◌++◌, ◌<◌, ◌∙◌, ◌∷◌, ◌≡◌, ◌≤◌, ◌⊎◌}
 use Rattle.std.specs.List.{AllByRecursion}
 
 module _ {X : Type 0} where
@@ -21,23 +21,13 @@ module _ {X : Type 0} where
       ap (λ z. z ∷ ms) heads ∙ ap (λ zs. n ∷ zs) (same_leading ms ns first.1 second.1 (rest_there heads) (rest_back heads))
     where
       by_first : (m ≡ n) ⊎ IsIn m ns → (n ≡ m) ⊎ IsIn n ms → m ≡ n
-      by_first (inl same) other = same
-      by_first (inr has) (inl same) = sym same
-      by_first (inr has) (inr other) = absurd (before_both m n (each_in (StandsBefore m) n ms first.0 other) (each_in (StandsBefore n) m ns second.0 has))
+      by_first h1 other = search (arith, before_both, each_in)
 
       rest_there : m ≡ n → (z : ℕ × Lead X) → IsIn z ms → IsIn z ns
-      rest_there heads z has = by_place (there z (inr has))
-        where
-          by_place : (z ≡ n) ⊎ IsIn z ns → IsIn z ns
-          by_place (inl same) = absurd (before_itself m z (same ∙ sym heads) (each_in (StandsBefore m) z ms first.0 has))
-          by_place (inr there) = there
+      rest_there heads z has = search (arith, before_itself, each_in)
 
       rest_back : m ≡ n → (z : ℕ × Lead X) → IsIn z ns → IsIn z ms
-      rest_back heads z has = by_place (back z (inr has))
-        where
-          by_place : (z ≡ m) ⊎ IsIn z ms → IsIn z ms
-          by_place (inl same) = absurd (before_itself n z (same ∙ heads) (each_in (StandsBefore n) z ns second.0 has))
-          by_place (inr there) = there
+      rest_back heads z has = search (arith, before_itself, each_in)
 
   -- those of which a test is so
   abbrev pub kept : (X → Bool) → List (ℕ × Lead X) → List (ℕ × Lead X)
@@ -48,8 +38,7 @@ module _ {X : Type 0} where
   leading_kept p (m ∷ ms) leading = by_test (leading_kept p ms leading.1) (p m.1.entry)
     where
       by_test : AreLeading (kept p ms) → (b : Bool) → AreLeading (if b then m ∷ kept p ms else kept p ms)
-      by_test rest true = (in_each (StandsBefore m) (kept p ms) (λ n has. each_in (StandsBefore m) n ms leading.0 (from_filter (λ (o : ℕ × Lead X). p o.1.entry) n ms has).0), rest)
-      by_test rest false = rest
+      by_test rest b = search (arith, in_each, each_in, from_filter)
 
   -- those of which a test is so have tickets before this one, and the others have not
   abbrev pub IsEarly : (X → Bool) → ℕ → ℕ × Lead X → Type 0
@@ -69,18 +58,10 @@ module _ {X : Type 0} where
   split_kept p first (m ∷ ms) leading early = by_test (split_kept p first ms leading.1 early.1) (p m.1.entry) refl
     where
       late : first ≤ m.0 → (n : ℕ × Lead X) → IsIn n ms → p n.1.entry ≡ false
-      late from n has = by_p (p n.1.entry) refl (each_in (StandsBefore m) n ms leading.0 has)
-        where
-          by_p : (b : Bool) → p n.1.entry ≡ b → StandsBefore m n → b ≡ false
-          by_p false is before = refl
-          by_p true is (inl a) = absurd (let below = (each_in (IsEarly p first) n ms early.1 has).0 is in let no : ⊥ = omega (arith, below, a, from) in no)
-          by_p true is (inr a) = absurd (let below = (each_in (IsEarly p first) n ms early.1 has).0 is in let same = a.0 in let no : ⊥ = omega (arith, below, same, from) in no)
+      late from n has = search (arith, each_in)
 
       by_test : ms ≡ kept p ms ++ kept (λ x. not (p x)) ms → (b : Bool) → p m.1.entry ≡ b → m ∷ ms ≡ (if b then m ∷ kept p ms else kept p ms) ++ (if not b then m ∷ kept (λ x. not (p x)) ms else kept (λ x. not (p x)) ms)
-      by_test rest true is = ap (λ ns. m ∷ ns) rest
-      by_test rest false is =
-          let none : AllByRecursion (λ (n : ℕ × Lead X). p n.1.entry ≡ false) ms = in_each _ ms (late (early.0.1 is)) in
-          rw (none_kept p ms none, all_kept p ms none) refl
+      by_test rest b is = search (arith, in_each, late, none_kept, all_kept)
 
 module _ {X Y : Type 0} (f : X → Y) where
   -- the same with another value of each
@@ -92,8 +73,7 @@ module _ {X Y : Type 0} (f : X → Y) where
   join_map x (y ∷ ys) = by_test (join_map x ys) (nat_le x.0 y.0)
     where
       by_test : join_by_ticket (revalued x) (map revalued ys) ≡ map revalued (join_by_ticket x ys) → (b : Bool) → (if b then revalued x ∷ revalued y ∷ map revalued ys else revalued y ∷ join_by_ticket (revalued x) (map revalued ys)) ≡ map revalued (if b then x ∷ y ∷ ys else y ∷ join_by_ticket x ys)
-      by_test rest true = refl
-      by_test rest false = ap (λ zs. revalued y ∷ zs) rest
+      by_test rest b = search arith
 
   pub sort_map : (xs : List (ℕ × X)) → by_ticket (map revalued xs) ≡ map revalued (by_ticket xs)
   sort_map [] = refl

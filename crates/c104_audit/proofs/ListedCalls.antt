@@ -7,18 +7,13 @@ later_calls : (first t : ℕ) (cs : List Call) → listed_after first (Some t) c
 later_calls first t [] is = tt
 later_calls first t (c ∷ cs) is =
     let two = and_parts (nat_lt t c.ticket && nat_le first c.ticket) (listed_after first (Some c.ticket) cs) is in
-    let test = (and_parts (nat_lt t c.ticket) (nat_le first c.ticket) two.0).0 in
-    let head : t < c.ticket = grind (arith, nat_tests) in
-    let rest = later_calls first c.ticket cs two.1 in
-    (head, in_each (λ (d : Call). t < d.ticket) cs (λ d has. let further = each_in (λ (d : Call). c.ticket < d.ticket) d cs rest has in omega (arith, head, further)))
+    search (arith, and_parts, nat_tests, in_each, each_in, later_calls first c.ticket cs two.1)
 
 listed_from : (first : ℕ) (last : Option ℕ) (cs : List Call) → listed_after first last cs ≡ true → IsListed first cs
 listed_from first last [] is = record { rising = tt; late = tt }
 listed_from first last (c ∷ cs) is =
     let two = and_parts (is_later last c.ticket && nat_le first c.ticket) (listed_after first (Some c.ticket) cs) is in
-    let test = (and_parts (is_later last c.ticket) (nat_le first c.ticket) two.0).1 in
-    let rest = listed_from first (Some c.ticket) cs two.1 in
-    record { rising = (later_calls first c.ticket cs two.1, rest.rising); late = (grind (arith, nat_tests), rest.late) }
+    search (arith, and_parts, later_calls, nat_tests, listed_from first (Some c.ticket) cs two.1)
 
 from_listed : (first : ℕ) (last : Option ℕ) (cs : List Call) → AllByRecursion (λ (c : Call). is_later last c.ticket ≡ true) cs → IsListed first cs → listed_after first last cs ≡ true
 from_listed first last [] above is = refl

@@ -14,7 +14,7 @@ use Rattle.{c104_plan.specs.{Wiring.wires, declared.ports.{Port.Port, Wire.Wire}
 use Rattle.c104_run.{proofs.BalanceWires.{peer_one, switch_inside}, specs.EventActs.{act_event, crossing_event, port_place}}
 use Rattle.{c104_switch.specs.{Actions.Reply, declared.actions.{ActionOf.ActionOf, ReplyOf.ReplyOf}}, c104_token.specs.Kinds.plain_kind}
 use Rattle.{c104_token.specs.declared.tokens.Token.Token, std.proofs.Common.{List, None, Option, Some, ap, arith, false, inl, inr, is_some}}
-use Rattle.std.proofs.Common.{length, map, nat_eq, nat_lt, not, refl, slice_get, subst, sym, true, ℕ, ◌-◌, ◌∙◌, ◌≡◌, ◌⊎◌}
+use Rattle.std.proofs.Common.{length, map, nat_eq, nat_lt, not, refl, slice_get, subst, sym, true, ℕ, ◌∙◌, ◌≡◌, ◌⊎◌}
 use Rattle.std.proofs.lemmas.Bool.Decides.{nat_tests}
 
 module _ (plan : Plan) (is_plan : IsPlan plan) where
@@ -36,8 +36,7 @@ module _ (plan : Plan) (is_plan : IsPlan plan) where
   is_passing p q x wired at = by_port p (port_kind p q wired) at.kind at.link
     where
       by_port : (p : Port) → nat_lt (port_place plan p) (length plan.switches) ≡ of_switch p → is_of_kind (of_switch p) x.act ≡ true → act_link x.act ≡ Some (port_link p) → passes_at (length plan.switches) (PlanEnd p) x ≡ true
-      by_port (Port.Switch s l) kind acts over = let itself : nat_eq l l ≡ true = grind (arith, nat_tests) in rw (kind, acts, over, itself) refl
-      by_port (Port.Terminal t) kind acts over = rw (kind, acts, over) refl
+      by_port p kind acts over = search (arith, nat_tests)
 
   -- an entry of a trace was done by a node of the place's kind, over no link without a wire
   pub record IsLegal (k : ℕ) (x : Entry) : Type 0 where
@@ -86,15 +85,10 @@ module _ (plan : Plan) (is_plan : IsPlan plan) where
       leads_not e is = let no : true ≡ false = sym (ap is_some (legal_event k y legal ∙ is)) ∙ none in cc
 
       at_switch : (l : ℕ) → nat_lt k (length plan.switches) ≡ true → is_wired_link plan k l ≡ true → is_of_kind true y.act ≡ true → act_link y.act ≡ Some l → ((r : Reply) (c : Carried) → carried_out y.act r ≡ Some c → ⊥) → Follows k y
-      at_switch l here wire kind over still =
-          let other = some_peer (Port.Switch k l) (switch_wired plan k l here wire) in
-          record { at = Port.Switch k l; other = other.0; wired = other.1; place = refl; here = record { kind = kind; link = over }; still = still }
+      at_switch l here wire kind over still = search (arith, some_peer, switch_wired)
 
       at_terminal : not (nat_lt k (length plan.switches)) ≡ true → is_wired_link plan k 0 ≡ true → is_of_kind false y.act ≡ true → act_link y.act ≡ Some 0 → ((r : Reply) (c : Carried) → carried_out y.act r ≡ Some c → ⊥) → Follows k y
-      at_terminal past wire kind over still =
-          let there = terminal_there plan k past in
-          let other = some_peer (Port.Terminal (k - length plan.switches)) (terminal_wired plan k there.0 wire) in
-          record { at = Port.Terminal (k - length plan.switches); other = other.0; wired = other.1; place = there.1; here = record { kind = kind; link = over }; still = still }
+      at_terminal past wire kind over still = search (arith, terminal_there, some_peer, terminal_wired)
 
       by_act : (a : ActOf Token) → y.act ≡ a → is_of_kind (nat_lt k (length plan.switches)) a ≡ true → on_links (is_wired_link plan k) a ≡ true → Follows k y
       by_act (ActOf.Step (ActionOf.Enter l x)) is kind wire = at_switch l kind wire (ap (is_of_kind true) is) (ap act_link is) (λ r c out. let no : carried_out (ActOf.Step (ActionOf.Enter l x)) r ≡ Some c = ap (λ a. carried_out a r) (sym is) ∙ out in cc)

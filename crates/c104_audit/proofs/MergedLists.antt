@@ -49,10 +49,7 @@ module _ {X : Type 0} (ticket : X → ℕ) (leads : ℕ → X → Bool) (far : �
   in_place k z (d ∷ ds) has = by_place (in_place k z ds) (nat_eq d.0 k) refl has
     where
       by_place : (IsIn (k, z) ds → IsIn z (at_place k ds)) → (b : Bool) → nat_eq d.0 k ≡ b → IsIn (k, z) (d ∷ ds) → IsIn z (if b then d.1 ∷ at_place k ds else at_place k ds)
-      by_place rest true at (inl same) = inl (ap (λ (e : ℕ × X). e.1) same)
-      by_place rest true at (inr has) = inr (rest has)
-      by_place rest false at (inl same) = let here : k ≡ d.0 = ap (λ (e : ℕ × X). e.0) same in absurd (let no : ⊥ = grind (arith, nat_tests) in no)
-      by_place rest false at (inr has) = rest has
+      by_place rest b at h3 = search (arith, nat_tests)
 
   -- each deed of one that is there is among all
   in_deeds : (k : ℕ) (z : X) (m : ℕ × Lead X) (ms : List (ℕ × Lead X)) → IsIn m ms → IsDeedOf m k z → IsIn (k, z) (all_deeds far ms)
@@ -60,11 +57,7 @@ module _ {X : Type 0} (ticket : X → ℕ) (leads : ℕ → X → Bool) (far : �
   in_deeds k z m (n ∷ ms) (inl same) deed = in_left (k, z) (lead_deeds far n) (all_deeds far ms) (subst (λ (o : ℕ × Lead X). IsIn (k, z) (lead_deeds far o)) same (here deed))
     where
       here : IsDeedOf m k z → IsIn (k, z) (lead_deeds far m)
-      here (inl is) = inl (ap (λ j. pair j z) (sym is.0) ∙ ap (pair m.1.place) is.1)
-        where
-          pair : ℕ → X → ℕ × X
-          pair j y = (j, y)
-      here (inr is) = inr (rw is (inl refl))
+      here h1 = search arith
   in_deeds k z m (n ∷ ms) (inr has) deed = in_right (k, z) (lead_deeds far n) (all_deeds far ms) (in_deeds k z m ms has deed)
 
   module _ (lists : List (List X)) (matched : AreMatched ticket leads far lists) where
@@ -80,10 +73,7 @@ module _ {X : Type 0} (ticket : X → ℕ) (leads : ℕ → X → Bool) (far : �
       pub told : m.0 ≡ ticket z
 
     done : (m : ℕ × Lead X) (k : ℕ) (z : X) → IsLed m → IsDeedOf m k z → IsDone m k z
-    done m k z leader (inl is) = record {
-      there = subst (λ y. IsIn y (list_at lists k)) (sym is.1) (subst (λ j. IsIn m.1.entry (list_at lists j)) is.0 leader.there);
-      told = leader.told ∙ ap ticket (sym is.1);
-    }
+    done m k z leader (inl is) = search arith
     done m k z leader (inr is) = record {
       there = matched.near m.1.place m.1.entry (k, z) leader.there leader.leading is;
       told = leader.told ∙ sym (matched.same m.1.place m.1.entry (k, z) leader.leading is).0;
@@ -117,8 +107,7 @@ module _ {X : Type 0} (ticket : X → ℕ) (leads : ℕ → X → Bool) (far : �
             omega (arith, less, both)
 
         by_order : IsBefore m.0 m.1.place n.0 n.1.place → ticket z < ticket y
-        by_order (inl less) = omega (arith, less, told_one, told_two)
-        by_order (inr is) = absurd (by_deeds is.1 (same_thing is.0) first second)
+        by_order h1 = search (arith, told_one, told_two, by_deeds, same_thing)
 
     -- what leaders in order do at a place rises
     deeds_rise : (k : ℕ) (ms : List (ℕ × Lead X)) → ((m : ℕ × Lead X) → IsIn m ms → IsLed m) → AreLeading ms → AreRising ticket (at_place k (all_deeds far ms))
@@ -133,8 +122,7 @@ module _ {X : Type 0} (ticket : X → ℕ) (leads : ℕ → X → Bool) (far : �
         by_place rest d is false at = rest
 
         by_far : AreRising ticket (at_place k (all_deeds far ms)) → (o : Option (ℕ × X)) → far m.1.place m.1.entry ≡ o → AreRising ticket (at_place k (far_deed far o ++ all_deeds far ms))
-        by_far rest None is = rest
-        by_far rest (Some d) is = by_place rest d is (nat_eq d.0 k) refl
+        by_far rest o is = search (arith, by_place)
 
         by_near : AreRising ticket (at_place k (all_deeds far ms)) → (b : Bool) → nat_eq m.1.place k ≡ b → (o : Option (ℕ × X)) → far m.1.place m.1.entry ≡ o → AreRising ticket (if b then m.1.entry ∷ at_place k (far_deed far o ++ all_deeds far ms) else at_place k (far_deed far o ++ all_deeds far ms))
         by_near rest false at o is = by_far rest o is

@@ -2,8 +2,8 @@
 use Rattle.c104_audit.{proofs.Matching.{AreLeading, StandsBefore}, specs.Leads.{AreRising, Lead, leads_at, leads_from, list_at}}
 use Rattle.{c104_audit.specs.Leads.merged_leads, c104_net.{proofs.Members.{IsIn, in_left, in_right}, specs.Merges.by_ticket}}
 use Rattle.{c104_net.specs.Merges.join_by_ticket, c104_plan.proofs.RangeLists.each_append, std.proofs.Common.{Bool, List, [], ap, arith}}
-use Rattle.std.proofs.Common.{false, filter, if◌then◌else◌, inl, inr, nat_eq, nat_le, refl, subst, suc, sym, true, zero, ℕ, ◌++◌, ◌+◌, ◌<◌}
-use Rattle.std.{proofs.{Common.{◌∙◌, ◌∷◌, ◌≡◌, ◌≤◌, ◌⊎◌}, lemmas.Bool.Decides.nat_tests}, specs.List.AllByRecursion}
+use Rattle.std.proofs.Common.{false, filter, if◌then◌else◌, inl, inr, nat_le, refl, subst, suc, sym, true, zero, ℕ, ◌++◌, ◌+◌, ◌<◌, ◌∙◌}
+use Rattle.std.{proofs.{Common.{◌∷◌, ◌≡◌, ◌⊎◌}, lemmas.Bool.Decides.nat_tests}, specs.List.AllByRecursion}
 
 module _ {X : Type 0} where
   -- what is so of each thing is so of one that is there
@@ -23,23 +23,15 @@ module _ {X : Type 0} where
   from_filter p x (y ∷ ys) has = by_test (from_filter p x ys) (p y) refl has
     where
       by_test : (IsIn x (filter p ys) → IsIn x ys × (p x ≡ true)) → (b : Bool) → p y ≡ b → IsIn x (if b then y ∷ filter p ys else filter p ys) → IsIn x (y ∷ ys) × (p x ≡ true)
-      by_test rest true at (inl same) = (inl same, ap p same ∙ at)
-      by_test rest true at (inr has) = let found = rest has in (inr found.0, found.1)
-      by_test rest false at has = let found = rest has in (inr found.0, found.1)
+      by_test rest b at has = search arith
 
   module _ (ticket : X → ℕ) where
     -- in a list that rises there is one thing of each ticket
     pub one_ticket : (x y : X) (xs : List X) → AreRising ticket xs → IsIn x xs → IsIn y xs → ticket x ≡ ticket y → x ≡ y
     one_ticket x y [] rising first second same = absurd first
     one_ticket x y (z ∷ zs) rising (inl a) (inl b) same = a ∙ sym b
-    one_ticket x y (z ∷ zs) rising (inl a) (inr b) same =
-        let later : ticket z < ticket y = each_in (λ w. ticket z < ticket w) y zs rising.0 b in
-        let at : ticket x ≡ ticket z = ap ticket a in
-        absurd (let no : ⊥ = omega (arith, later, at, same) in no)
-    one_ticket x y (z ∷ zs) rising (inr a) (inl b) same =
-        let later : ticket z < ticket x = each_in (λ w. ticket z < ticket w) x zs rising.0 a in
-        let at : ticket y ≡ ticket z = ap ticket b in
-        absurd (let no : ⊥ = omega (arith, later, at, same) in no)
+    one_ticket x y (z ∷ zs) rising (inl a) (inr b) same = search (arith, each_in)
+    one_ticket x y (z ∷ zs) rising (inr a) (inl b) same = search (arith, each_in)
     one_ticket x y (z ∷ zs) rising (inr a) (inr b) same = one_ticket x y zs rising.1 a b same
 
     -- lists that rise and have the same things are the same
@@ -52,32 +44,13 @@ module _ {X : Type 0} where
         ap (λ z. z ∷ xs) heads ∙ ap (λ zs. y ∷ zs) (same_lists xs ys first.1 second.1 (rest_there heads) (rest_back heads))
       where
         by_first : (x ≡ y) ⊎ IsIn x ys → (y ≡ x) ⊎ IsIn y xs → x ≡ y
-        by_first (inl same) other = same
-        by_first (inr has) (inl same) = sym same
-        by_first (inr has) (inr other) =
-            let up : ticket y < ticket x = each_in (λ w. ticket y < ticket w) x ys second.0 has in
-            let down : ticket x < ticket y = each_in (λ w. ticket x < ticket w) y xs first.0 other in
-            absurd (let no : ⊥ = omega (arith, up, down) in no)
+        by_first h1 other = search (arith, each_in)
 
         rest_there : x ≡ y → (z : X) → IsIn z xs → IsIn z ys
-        rest_there heads z has = by_place (there z (inr has))
-          where
-            by_place : (z ≡ y) ⊎ IsIn z ys → IsIn z ys
-            by_place (inl same) =
-                let later : ticket x < ticket z = each_in (λ w. ticket x < ticket w) z xs first.0 has in
-                let at : ticket z ≡ ticket x = ap ticket (same ∙ sym heads) in
-                absurd (let no : ⊥ = omega (arith, later, at) in no)
-            by_place (inr there) = there
+        rest_there heads z has = search (arith, each_in)
 
         rest_back : x ≡ y → (z : X) → IsIn z ys → IsIn z xs
-        rest_back heads z has = by_place (back z (inr has))
-          where
-            by_place : (z ≡ x) ⊎ IsIn z xs → IsIn z xs
-            by_place (inl same) =
-                let later : ticket y < ticket z = each_in (λ w. ticket y < ticket w) z ys second.0 has in
-                let at : ticket z ≡ ticket y = ap ticket (same ∙ heads) in
-                absurd (let no : ⊥ = omega (arith, later, at) in no)
-            by_place (inr there) = there
+        rest_back heads z has = search (arith, each_in)
 
 module _ {X : Type 0} where
   -- what is so of each thing is so after one more has joined, and after all have joined
@@ -86,8 +59,7 @@ module _ {X : Type 0} where
   each_join P x (y ∷ ys) first each = by_test (each_join P x ys first each.1) (nat_le x.0 y.0)
     where
       by_test : AllByRecursion P (join_by_ticket x ys) → (b : Bool) → AllByRecursion P (if b then x ∷ y ∷ ys else y ∷ join_by_ticket x ys)
-      by_test rest true = (first, each)
-      by_test rest false = (each.0, rest)
+      by_test rest b = search arith
 
   pub each_sorted : (P : ℕ × X → Type 0) (xs : List (ℕ × X)) → AllByRecursion P xs → AllByRecursion P (by_ticket xs)
   each_sorted P [] each = tt
@@ -99,10 +71,7 @@ module _ {X : Type 0} where
   joins z x (y ∷ ys) has = by_test (joins z x ys) (nat_le x.0 y.0) has
     where
       by_test : ((z ≡ x) ⊎ IsIn z ys → IsIn z (join_by_ticket x ys)) → (b : Bool) → (z ≡ x) ⊎ IsIn z (y ∷ ys) → IsIn z (if b then x ∷ y ∷ ys else y ∷ join_by_ticket x ys)
-      by_test rest true has = has
-      by_test rest false (inl same) = inr (rest (inl same))
-      by_test rest false (inr (inl same)) = inl same
-      by_test rest false (inr (inr has)) = inr (rest (inr has))
+      by_test rest b has = search arith
 
   pub in_sorted : (z : ℕ × X) (xs : List (ℕ × X)) → IsIn z xs → IsIn z (by_ticket xs)
   in_sorted z [] has = absurd has
@@ -123,32 +92,14 @@ module _ {X : Type 0} where
   before_all m n (o ∷ ms) before each = (further before each.0, before_all m n ms before each.1)
     where
       further : StandsBefore m n → StandsBefore n o → StandsBefore m o
-      further (inl a) (inl b) = inl (omega (arith, a, b))
-      further (inl a) (inr b) = inl (let same = b.0 in omega (arith, a, same))
-      further (inr a) (inl b) = inl (let same = a.0 in omega (arith, b, same))
-      further (inr a) (inr b) = inr (let first = a.0 in let second = b.0 in let below = a.1 in let above = b.1 in (omega (arith, first, second), omega (arith, below, above)))
+      further h1 h2 = search arith
 
   join_leading : (m : ℕ × Lead X) (ms : List (ℕ × Lead X)) → AreLeading ms → AllByRecursion (IsFurther m) ms → AreLeading (join_by_ticket m ms)
   join_leading m [] leading further = (tt, tt)
   join_leading m (n ∷ ms) leading further = by_test (join_leading m ms leading.1 further.1) (nat_le m.0 n.0) refl
     where
       by_test : AreLeading (join_by_ticket m ms) → (b : Bool) → nat_le m.0 n.0 ≡ b → AreLeading (if b then m ∷ n ∷ ms else n ∷ join_by_ticket m ms)
-      by_test rest true is = let here : StandsBefore m n = before further.0 in ((here, before_all m n ms here leading.0), leading)
-        where
-          before : IsFurther m n → StandsBefore m n
-          before (inl less) = by_ticket_first
-            where
-              not_later : m.0 ≤ n.0
-              not_later = grind (arith, nat_tests)
-
-              by_equal : (b : Bool) → nat_eq m.0 n.0 ≡ b → StandsBefore m n
-              by_equal true at = inr (grind (arith, nat_tests), less)
-              by_equal false at = inl (grind (arith, nat_tests))
-
-              by_ticket_first : StandsBefore m n
-              by_ticket_first = by_equal (nat_eq m.0 n.0) refl
-          before (inr later) = inl later.1
-      by_test rest false is = (each_join (StandsBefore n) m ms (inl (grind (arith, nat_tests))) leading.0, rest)
+      by_test rest b is = search (arith, before_all, nat_tests, each_join)
 
   -- what is spread leads in order, once it is joined by ticket
   pub sorted_leading : (ms : List (ℕ × Lead X)) → AreSpread ms → AreLeading (by_ticket ms)
@@ -206,10 +157,7 @@ module _ {X : Type 0} where
         lead z = (ticket z, record { place = k; entry = z })
 
         by_test : (IsIn x ys → leads k x ≡ true → IsIn (lead x) (leads_at ticket leads k ys)) → (b : Bool) → leads k y ≡ b → IsIn x (y ∷ ys) → IsIn (lead x) (if b then lead y ∷ leads_at ticket leads k ys else leads_at ticket leads k ys)
-        by_test rest true at (inl same) = inl (ap lead same)
-        by_test rest true at (inr has) = inr (rest has is)
-        by_test rest false at (inl same) = absurd (let no : true ≡ false = sym is ∙ ap (leads k) same ∙ at in cc)
-        by_test rest false at (inr has) = rest has is
+        by_test rest b at h3 = search arith
 
     -- each thing that leads is among them
     pub leads_there : (k j : ℕ) (x : X) (lists : List (List X)) → IsIn x (list_at lists j) → leads (k + j) x ≡ true → IsIn (ticket x, record { place = k + j; entry = x }) (leads_from ticket leads k lists)
@@ -226,12 +174,7 @@ module _ {X : Type 0} where
         lead = (ticket x, record { place = k; entry = x })
 
         further : (m : ℕ × Lead X) → IsIn m (leads_at ticket leads k xs) → IsFurther lead m
-        further m has =
-            let one = each_in (IsLeadAt k xs) m (leads_at ticket leads k xs) (leads_list k xs) has in
-            let at = one.place in
-            let told = one.told in
-            let later : ticket x < ticket m.1.entry = each_in (λ y. ticket x < ticket y) m.1.entry xs rising.0 one.there in
-            inr (sym at, subst (λ t. ticket x < t) (sym told) later)
+        further m has = search (arith, each_in, leads_list)
 
         by_test : AreSpread (leads_at ticket leads k xs) → (b : Bool) → AreSpread (if b then lead ∷ leads_at ticket leads k xs else leads_at ticket leads k xs)
         by_test rest true = (in_each (IsFurther lead) (leads_at ticket leads k xs) further, rest)
@@ -243,10 +186,7 @@ module _ {X : Type 0} where
         (in_each _ (leads_at ticket leads k list) (λ m here. in_each (IsFurther m) (leads_from ticket leads (suc k) lists) (λ n there. across m n here there)))
       where
         across : (m n : ℕ × Lead X) → IsIn m (leads_at ticket leads k list) → IsIn n (leads_from ticket leads (suc k) lists) → IsFurther m n
-        across m n here there =
-            let one = (each_in (IsLeadAt k list) m (leads_at ticket leads k list) (leads_list k list) here).place in
-            let two = (each_in (IsLeadOf (suc k) lists) n (leads_from ticket leads (suc k) lists) (leads_are (suc k) lists) there).place in
-            inl (omega (arith, one, two))
+        across m n here there = search (arith, each_in, leads_list, leads_are)
 
     -- the merge leads in order
     pub merged_leading : (lists : List (List X)) → ((j : ℕ) → AreRising ticket (list_at lists j)) → AreLeading (merged_leads ticket leads lists)

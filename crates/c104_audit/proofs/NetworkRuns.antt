@@ -13,8 +13,8 @@ use Rattle.c104_run.specs.{Balance.AreInPlace, EventActs.{crossing_event, event_
 use Rattle.c104_run.specs.{Network.{event_limit, network_apply, network_of, network_step, wired_fault}, Runs.IsDoneRun}
 use Rattle.{c104_switch.specs.{Actions.{Reply, is_ready}, declared.actions.ReplyOf.ReplyOf}, c104_token.specs.Kinds.plain_kind}
 use Rattle.{c104_token.specs.declared.tokens.Token.Token, std.proofs.Common.{Bool, List, None, Ok, Option, Result, Some, [], ap, arith}}
-use Rattle.std.proofs.Common.{false, if◌then◌else◌, inl, inr, length, map, nat_eq, refl, slice_get, slice_set, subst, suc, sym, true, ℕ}
-use Rattle.std.proofs.{Common.{◌++◌, ◌+◌, ◌<◌, ◌∙◌, ◌∷◌, ◌≡◌, ◌≢◌, ◌⊎◌}, lemmas.{Bool.{Decides.nat_tests, cases_eq}, List.length-set}}
+use Rattle.std.proofs.Common.{if◌then◌else◌, inl, inr, length, map, nat_eq, refl, slice_get, slice_set, subst, suc, sym, true, ℕ, ◌++◌, ◌+◌}
+use Rattle.std.proofs.{Common.{◌<◌, ◌∙◌, ◌∷◌, ◌≡◌, ◌≢◌, ◌⊎◌}, lemmas.{Bool.{Decides.nat_tests, cases_eq}, List.length-set}}
 use Rattle.std.specs.List.{AllByRecursion}
 
 -- lists of one length with the same things at each place are the same
@@ -32,8 +32,7 @@ at_other : {X : Type 0} (k j : ℕ) (x : X) (ds : List (ℕ × X)) → j ≢ k �
 at_other k j x ds differs = by_test (nat_eq j k) refl
   where
     by_test : (b : Bool) → nat_eq j k ≡ b → (if b then x ∷ at_place k ds else at_place k ds) ≡ at_place k ds
-    by_test true is = absurd (differs (grind (arith, nat_tests)))
-    by_test false is = refl
+    by_test b is = search (arith, is, nat_tests)
 
 plain_same : (r : Reply) → plain_reply plain_kind r ≡ r
 plain_same r = search arith

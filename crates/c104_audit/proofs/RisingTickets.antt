@@ -7,10 +7,7 @@ later_all : (t : ℕ) (es : List Entry) → rises_after (Some t) es ≡ true →
 later_all t [] is = tt
 later_all t (e ∷ es) is =
     let two = and_parts (nat_lt t e.ticket) (rises_after (Some e.ticket) es) is in
-    let test = two.0 in
-    let first : t < e.ticket = grind (arith, nat_tests) in
-    let rest = later_all e.ticket es two.1 in
-    (first, in_each (λ (d : Entry). t < d.ticket) es (λ d has. let further = each_in (λ (d : Entry). e.ticket < d.ticket) d es rest has in omega (arith, first, further)))
+    search (arith, nat_tests, in_each, each_in, later_all e.ticket es two.1)
 
 rising_from : (last : Option ℕ) (es : List Entry) → rises_after last es ≡ true → AreRising (λ (e : Entry). e.ticket) es
 rising_from last [] is = tt
@@ -18,10 +15,7 @@ rising_from last (e ∷ es) is = let two = and_parts (is_later last e.ticket) (r
 
 from_rising : (t : ℕ) (es : List Entry) → AllByRecursion (λ (e : Entry). t < e.ticket) es → AreRising (λ (e : Entry). e.ticket) es → rises_after (Some t) es ≡ true
 from_rising t [] above rising = refl
-from_rising t (e ∷ es) above rising =
-    let first = above.0 in
-    let test : nat_lt t e.ticket ≡ true = grind (arith, nat_tests) in
-    rw (test, from_rising e.ticket es rising.0 rising.1) refl
+from_rising t (e ∷ es) above rising = search (arith, nat_tests, from_rising e.ticket es rising.0 rising.1)
 
 rises_all : (es : List Entry) → AreRising (λ (e : Entry). e.ticket) es → rises_after None es ≡ true
 rises_all [] rising = refl

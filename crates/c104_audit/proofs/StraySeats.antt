@@ -3,8 +3,8 @@ use Rattle.c104_audit.proofs.{CalledLeads.leads_named, FirstFailures.{first_both
 use Rattle.c104_audit.specs.{Audits.{carries, is_number, led_call, led_event, lists_leads}, Firsts.{IsFirst, lower_of}, Leads.Lead}
 use Rattle.c104_audit.specs.{Tests.{HasNoStray, calls_told, lead_in, past_seat, strays}, declared.lists.Lists.Lists}
 use Rattle.{c104_net.specs.declared.leading.Lead.Lead as Leading, c104_node.specs.declared.acts.Entry.Entry, std.proofs.Common.List}
-use Rattle.std.proofs.Common.{Option, [], ap, arith, drop, false, if◌then◌else◌, is_some, length, map, refl, subst, sym, true, ℕ, ◌++◌, ◌∙◌}
-use Rattle.std.{proofs.{Common.{◌∷◌, ◌≡◌, ◌≤◌}, lemmas.Bool.Decides.nat_tests}, specs.{List.AllByRecursion, Option.option_to_list}}
+use Rattle.std.proofs.Common.{Option, [], ap, arith, drop, false, if◌then◌else◌, is_some, length, map, refl, subst, sym, true, ℕ, ◌++◌, ◌∷◌}
+use Rattle.std.{proofs.{Common.{◌≡◌, ◌≤◌}, lemmas.Bool.Decides.nat_tests}, specs.{List.AllByRecursion, Option.option_to_list}}
 
 past_first : (count : ℕ) (o : Option ℕ) → IsFirst (λ s. count ≤ s → is_number s o ≡ false) (past_seat count o)
 past_first count o = search (arith, nat_tests)
@@ -21,11 +21,7 @@ module _ (lists : Lists) (count : ℕ) where
 
   strays_of : (ms : List (ℕ × Lead Entry)) → AllByRecursion Named ms → IsFirst (λ s. count ≤ s → calls_told lists s ms ≡ []) (strays count ms)
   strays_of [] named = λ s past. refl
-  strays_of (m ∷ ms) named =
-      first_same (λ s. (count ≤ s → carries s m.1.entry ≡ false) × (count ≤ s → calls_told lists s ms ≡ [])) (λ s. count ≤ s → calls_told lists s (m ∷ ms) ≡ []) (strays count (m ∷ ms))
-      (λ s both past. none_of s m ms (both.0 past) ∙ both.1 past)
-      (λ s is. (λ past. some_of s m ms named.0 (is past), λ past. sym (none_of s m ms (some_of s m ms named.0 (is past))) ∙ is past))
-      (first_both _ _ (past_seat count m.1.entry.seat) (strays count ms) (past_first count m.1.entry.seat) (strays_of ms named.1))
+  strays_of (m ∷ ms) named = search (arith, first_same, none_of, some_of, first_both, past_first, strays_of ms named.1)
 
 strays_first : (lists : Lists) (count : ℕ) (o : Option ℕ) → o ≡ strays count (lists_leads lists) → IsFirst (HasNoStray lists count) o
 strays_first lists count o is = subst (IsFirst (HasNoStray lists count)) (sym is) (strays_of lists count (lists_leads lists) (in_each (Named lists count) (lists_leads lists) (leads_named lists)))

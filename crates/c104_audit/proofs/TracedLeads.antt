@@ -1,8 +1,8 @@
 -- What entries that lead tell, as events and as calls.
 use Rattle.c104_audit.proofs.{AuditRuns.{IsSure, lead_event, lead_pair, stamp_of}, EntryEvents.plan_event, KeptLeads.{revalued, sort_map}}
 use Rattle.c104_audit.{proofs.Merging.{each_in, from_filter, in_each}, specs.AuditedRuns.{AreSeated, AreUnseated, seat_calls}}
-use Rattle.c104_audit.specs.{Audits.{called_by, carries, is_leading, is_number, led_by, told_reply, unseated}, Calls.call_of}
-use Rattle.c104_audit.specs.{Leads.{AreRising, Lead, leads_at, leads_from, list_at, merged_leads}, declared.calls.Call.Call}
+use Rattle.c104_audit.specs.{Audits.{called_by, carries, is_leading, led_by, told_reply, unseated}, Calls.call_of, Leads.{AreRising, Lead}}
+use Rattle.c104_audit.specs.{Leads.{leads_at, leads_from, list_at, merged_leads}, declared.calls.Call.Call}
 use Rattle.{c104_event.specs.declared.{events.Event.Event, faults.EventFault.EventFault}, c104_net.proofs.Members.{IsIn, in_filter}}
 use Rattle.c104_net.{proofs.Members.in_right, specs.{Leading.{led_events, told_first}, Merges.by_ticket, ToldEvents.{told_by, told_event}}}
 use Rattle.{c104_net.specs.ToldEvents.told_events, c104_node.specs.{Acts.{done_by, node_act}, Nodes.Node, Traces.{Deed, seatless}}}
@@ -10,9 +10,9 @@ use Rattle.{c104_node.specs.declared.{acts.{ActOf.ActOf, Entry.Entry}, stamps.St
 use Rattle.{c104_plan.specs.{Plans.Plan, Wiring.wires}, c104_run.specs.{EventActs.act_event, EventDeeds.event_deeds, Network.Network}}
 use Rattle.{c104_run.specs.{Network.network_apply, Runs.{IsDoneRun, at_node, run_deeds}}, c104_switch.specs.Actions.Reply}
 use Rattle.{c104_switch.specs.declared.actions.ReplyOf.ReplyOf, c104_token.specs.{Kinds.{Kind, plain_kind}, declared.tokens.Token.Token}}
-use Rattle.std.proofs.Common.{Bool, List, None, Ok, Option, Result, Some, [], ap, arith, false, if◌then◌else◌, inl, inr, is_some, length}
-use Rattle.std.proofs.Common.{map, nat_eq, not, option_map, refl, slice_get, subst, suc, sym, true, unwrap_or, ℕ, ◌++◌, ◌+◌, ◌<◌, ◌∙◌, ◌∷◌}
-use Rattle.std.{proofs.{Common.◌≡◌, lemmas.List.map-append}, specs.{List.AllByRecursion, Option.option_to_list}}
+use Rattle.std.proofs.Common.{Bool, List, None, Ok, Option, Result, Some, [], ap, arith, if◌then◌else◌, inl, inr, is_some, length, map}
+use Rattle.std.proofs.Common.{nat_eq, not, option_map, refl, slice_get, subst, suc, sym, true, unwrap_or, ℕ, ◌++◌, ◌+◌, ◌<◌, ◌∙◌, ◌∷◌, ◌≡◌}
+use Rattle.std.{proofs.lemmas.List.map-append, specs.{List.AllByRecursion, Option.option_to_list}}
 
 module _ (plan : Plan) where
   -- an entry that leads, as the event that it tells
@@ -34,8 +34,7 @@ module _ (plan : Plan) where
   named_list k (x ∷ xs) named = ap (λ o. told_first x.ticket o (led_events (length plan.switches) k xs)) (named x (inl refl)) ∙ by_event (named_list k xs (λ y has. named y (inr has))) (plan_event plan k x.act) refl
     where
       by_event : led_events (length plan.switches) k xs ≡ map (revalued event_of_lead) (leads_at Tickets Leads k xs) → (o : Option Event) → plan_event plan k x.act ≡ o → told_first x.ticket o (led_events (length plan.switches) k xs) ≡ map (revalued event_of_lead) (if is_some o then (x.ticket, record { place = k; entry = x }) ∷ leads_at Tickets Leads k xs else leads_at Tickets Leads k xs)
-      by_event rest None is = rest
-      by_event rest (Some e) is = ap (λ es. (x.ticket, e) ∷ es) rest ∙ ap (λ o. (x.ticket, unwrap_or o (Event.Drain 0)) ∷ map (revalued event_of_lead) (leads_at Tickets Leads k xs)) (sym is)
+      by_event rest o is = search arith
 
   named_from : (k : ℕ) (traces : List (List Entry)) → ((j : ℕ) → AreNamed (k + j) (list_at traces j)) → told_by (length plan.switches) k traces ≡ map (revalued event_of_lead) (leads_from Tickets Leads k traces)
   named_from k [] named = refl
@@ -62,8 +61,7 @@ module _ (plan : Plan) where
   led_is (m ∷ ms) sure = by_event (plan_event plan m.1.place m.1.entry.act) refl (led_is ms sure.1) (sure.0.leads)
     where
       by_event : (o : Option Event) → plan_event plan m.1.place m.1.entry.act ≡ o → led_by (length plan.switches) (wires plan) ms ≡ map (lead_event plan) ms → is_some o ≡ true → option_to_list o ++ led_by (length plan.switches) (wires plan) ms ≡ unwrap_or o (Event.Drain 0) ∷ map (lead_event plan) ms
-      by_event None is rest leads = absurd (cc)
-      by_event (Some e) is rest leads = ap (λ es. e ∷ es) rest
+      by_event o is rest leads = search arith
 
   -- the reply of an event is that of the entry that leads in it
   granted : (o : Option (Node Token)) (r : Reply) (m : Node Token) → done_by o ≡ Some (r, m) → ReplyOf.Done ≡ r
@@ -100,18 +98,15 @@ module _ (plan : Plan) where
   pub calls_are : (stamps : ℕ → Stamp) (s n : ℕ) (ms : List (ℕ × Lead Entry)) → AreNumbered stamps n ms → AllByRecursion (IsSure plan) ms → seat_calls stamps s n (map (lead_pair plan) ms) ≡ Called s ms
   calls_are stamps s n [] numbered sure = refl
   calls_are stamps s n (m ∷ ms) numbered sure =
-      ap (λ (t : Stamp). if is_number s t.seat then call_of (lead_event plan m) t.ticket m.1.entry.reply ∷ seat_calls stamps s (suc n) (map (lead_pair plan) ms) else seat_calls stamps s (suc n) (map (lead_pair plan) ms)) (first_stamp stamps n m ms numbered)
-      ∙ by_seat (calls_are stamps s (suc n) ms (next_stamps stamps n m ms numbered) sure.1) (is_number s m.1.entry.seat)
+      search (arith, first_stamp, by_seat, next_stamps, calls_are stamps s (suc n) ms (next_stamps stamps n m ms numbered) sure.1)
     where
       by_event : (o : Option Event) → is_some o ≡ true → (calls : List Call) → call_of (unwrap_or o (Event.Drain 0)) m.1.entry.ticket m.1.entry.reply ∷ calls ≡ option_to_list (option_map (CallOf m) o) ++ calls
-      by_event None leads calls = absurd (cc)
-      by_event (Some e) leads calls = ap (λ r. call_of e m.1.entry.ticket r ∷ calls) (sym (reply_is m.1.entry.act sure.0.was.node sure.0.was.after m.1.entry.reply sure.0.was.made))
+      by_event o leads calls = search (arith, reply_is)
 
       by_seat : seat_calls stamps s (suc n) (map (lead_pair plan) ms) ≡ Called s ms → (b : Bool) →
           (if b then call_of (lead_event plan m) m.1.entry.ticket m.1.entry.reply ∷ seat_calls stamps s (suc n) (map (lead_pair plan) ms) else seat_calls stamps s (suc n) (map (lead_pair plan) ms))
           ≡ (if b then option_to_list (option_map (CallOf m) (plan_event plan m.1.place m.1.entry.act)) else []) ++ Called s ms
-      by_seat rest true = ap (λ cs. call_of (lead_event plan m) m.1.entry.ticket m.1.entry.reply ∷ cs) rest ∙ by_event (plan_event plan m.1.place m.1.entry.act) sure.0.leads (Called s ms)
-      by_seat rest false = rest
+      by_seat rest b = search (arith, by_event)
 
   -- a seat's entry that leads is among its calls
   pub called_in : (s : ℕ) (m : ℕ × Lead Entry) (ms : List (ℕ × Lead Entry)) → IsIn m ms → carries s m.1.entry ≡ true → is_some (plan_event plan m.1.place m.1.entry.act) ≡ true → (c : Call) × IsIn c (Called s ms) × (c.ticket ≡ m.1.entry.ticket)
@@ -124,9 +119,7 @@ module _ (plan : Plan) where
 
       here : carries s o.1.entry ≡ true → is_some (plan_event plan o.1.place o.1.entry.act) ≡ true → (c : Call) × IsIn c (Called s (o ∷ ms)) × (c.ticket ≡ o.1.entry.ticket)
       here is leads = rw is (by_event (plan_event plan o.1.place o.1.entry.act) leads)
-  called_in s m (o ∷ ms) (inr has) is leads =
-      let found = called_in s m ms has is leads in
-      (found.0, in_right found.0 (if carries s o.1.entry then option_to_list (option_map (CallOf o) (plan_event plan o.1.place o.1.entry.act)) else []) (Called s ms) found.1, found.2)
+  called_in s m (o ∷ ms) (inr has) is leads = search (arith, in_right, called_in s m ms has is leads)
 
   -- calls of some entries and of others, and of entries that no seat has
   pub called_append : (s : ℕ) (ms ns : List (ℕ × Lead Entry)) → AllByRecursion (λ m. m.1.entry.seat ≡ None) ms → called_by (length plan.switches) (wires plan) s (ms ++ ns) ≡ called_by (length plan.switches) (wires plan) s ns
@@ -154,8 +147,7 @@ unseated_rise (x ∷ xs) rising = by_test (unseated_rise xs rising.1) (is_unseat
     above = in_each (λ (y : Entry). x.ticket < y.ticket) (unseated xs) (λ y has. each_in (λ (z : Entry). x.ticket < z.ticket) y xs rising.0 (from_unseated y xs has).0)
 
     by_test : AreRising (λ (e : Entry). e.ticket) (unseated xs) → (b : Bool) → AreRising (λ (e : Entry). e.ticket) (if b then x ∷ unseated xs else unseated xs)
-    by_test rest true = (above, rest)
-    by_test rest false = rest
+    by_test rest b = search (arith, above)
 
 -- a run is known by its start and its events
 pub runs_same : {A : Type 0} (kind : Kind A) (net mid end : Network A) (events others : List (Event × Reply)) → map (λ (e : Event × Reply). e.0) events ≡ map (λ (e : Event × Reply). e.0) others → IsDoneRun kind net events mid → IsDoneRun kind net others end → events ≡ others
@@ -187,17 +179,14 @@ deeds_stamped plan stamp e r = search arith
 
 numbers_below : (plan : Plan) (n : ℕ) (events : List (Event × Reply)) → AllByRecursion (λ (d : Deed). d.1.ticket < n + length events) (run_deeds plan seatless n events)
 numbers_below plan n [] = tt
-numbers_below plan n (e ∷ events) = each_append _ (event_deeds plan (seatless n) e.0 e.1) (run_deeds plan seatless (suc n) events)
-    (in_each (λ (d : Deed). d.1.ticket < n + suc (length events)) (event_deeds plan (seatless n) e.0 e.1) (λ d has. let at = (each_in (IsStamped (seatless n)) d _ (deeds_stamped plan (seatless n) e.0 e.1) has).0 in omega (arith, at)))
-    (in_each (λ (d : Deed). d.1.ticket < n + suc (length events)) (run_deeds plan seatless (suc n) events) (λ d has. let below = each_in (λ (d : Deed). d.1.ticket < suc n + length events) d (run_deeds plan seatless (suc n) events) (numbers_below plan (suc n) events) has in omega (arith, below)))
+numbers_below plan n (e ∷ events) = search (arith, each_append, in_each, each_in, deeds_stamped, numbers_below plan (suc n) events)
 
 pub at_below : (first k : ℕ) (ds : List Deed) → AllByRecursion (λ (d : Deed). d.1.ticket < first) ds → AllByRecursion (λ (x : Entry). x.ticket < first) (at_node k ds)
 at_below first k [] below = tt
 at_below first k (d ∷ ds) below = by_test (at_below first k ds below.1) (nat_eq d.0 k)
   where
     by_test : AllByRecursion (λ (x : Entry). x.ticket < first) (at_node k ds) → (b : Bool) → AllByRecursion (λ (x : Entry). x.ticket < first) (if b then d.1 ∷ at_node k ds else at_node k ds)
-    by_test rest true = (below.0, rest)
-    by_test rest false = rest
+    by_test rest b = search arith
 
 pub node_below : (plan : Plan) (k : ℕ) (events : List (Event × Reply)) → AllByRecursion (λ (x : Entry). x.ticket < length events) (at_node k (run_deeds plan seatless 0 events))
 node_below plan k events = at_below (length events) k (run_deeds plan seatless 0 events) (in_each (λ (d : Deed). d.1.ticket < length events) (run_deeds plan seatless 0 events) (λ d has. let below = each_in (λ (d : Deed). d.1.ticket < 0 + length events) d (run_deeds plan seatless 0 events) (numbers_below plan 0 events) has in omega (arith, below)))

@@ -7,7 +7,7 @@ use Rattle.{c104_regs.specs.declared.{registers.TheConstants.LINKS, settings.Set
 use Rattle.c104_switch.specs.{Claims.{input_claim, switch_claim}, Control.{switch_control, switch_obey, switch_obey_if_read}, Switch.Input}
 use Rattle.c104_switch.specs.Switch.{Switch, input_accept, input_grant, switch_credit_in, switch_credit_out, switch_enter, switch_leave}
 use Rattle.c104_switch.specs.{Switch.{with_inputs, with_outputs, with_sides}, Turns.{input_turn, switch_input}}
-use Rattle.{c104_switch.specs.declared.{actions.{ActionOf.ActionOf, ReplyOf.ReplyOf}, phase.Phase.Phase}, c104_token.specs.Kinds.plain_kind}
+use Rattle.{c104_switch.specs.declared.{actions.ActionOf.ActionOf, phase.Phase.Phase}, c104_token.specs.Kinds.plain_kind}
 use Rattle.{c104_token.specs.declared.tokens.Token.Token, std.proofs.Common.{Bool, Err, List, None, Ok, Option, Result, Some, ap, arith}}
 use Rattle.std.proofs.{Common.{if◌then◌else◌, length, refl, subst, sym, ℕ, ◌<◌, ◌∙◌, ◌≡◌}, lemmas.List.{length-map, length-set}}
 use Rattle.std.proofs.lemmas.Option.{slice_get_within}
@@ -93,9 +93,7 @@ wide_act number (ActOf.Step (ActionOf.CreditOut l)) (NodeOf.Switch s) r wide is 
 wide_act number (ActOf.Step (ActionOf.CreditIn l)) (NodeOf.Switch s) r wide is = wide_done (switch_credit_in s l) r is (credit_in_wide s wide l)
 wide_act number (ActOf.Step (ActionOf.Input l word)) (NodeOf.Switch s) r wide is = wide_done (switch_input plain_kind s l word) r is (λ s' made. (input_wide s wide l word s' made).0)
 wide_act number (ActOf.Step (ActionOf.Claim i o)) (NodeOf.Switch s) r wide is = wide_done (switch_claim s i o) r is (λ s' made. (claim_wide s wide i o s' made).0)
-wide_act number (ActOf.Step (ActionOf.Control bytes)) (NodeOf.Switch s) r wide is =
-    let v = switch_control s bytes in
-    let both : ◌≡◌ {A = Reply × Node Token} (ReplyOf.Control v.0, NodeOf.Switch v.1) r = cc in subst (λ (v : Reply × Node Token). IsWide v.1) both (control_wide s wide bytes)
+wide_act number (ActOf.Step (ActionOf.Control bytes)) (NodeOf.Switch s) r wide is = search (arith, control_wide)
 wide_act number (ActOf.Send packet) (NodeOf.Terminal t) r wide is = wide_terminal (Some (terminal.terminal_send plain_kind number packet t)) r is
 wide_act number ActOf.Drain (NodeOf.Terminal t) r wide is = wide_arrived (terminal.terminal_drain t) r is
 wide_act number ActOf.Leave (NodeOf.Terminal t) r wide is = wide_arrived (terminal.terminal_leave t) r is

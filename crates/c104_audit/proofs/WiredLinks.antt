@@ -2,9 +2,8 @@
 use Rattle.c104_audit.{proofs.CalledSeats.past_end, specs.{Audits.{AreLists, IsShaped, is_link_wired}, Tests.HasLinksTo}}
 use Rattle.{c104_audit.specs.declared.lists.{Lists.Lists, NodeShape.NodeShape}, c104_plan.specs.Ports.{is_port, other_end}}
 use Rattle.{c104_plan.specs.declared.ports.{Port.Port, Wire.Wire}, c104_run.specs.Rounds.link_numbers, std.proofs.Common.{Bool, IsTrue}}
-use Rattle.std.proofs.Common.{List, Some, [], ap, arith, false, is_some, length, map, nat_eq, refl, slice_get, suc, sym, true, unwrap_or}
-use Rattle.std.proofs.{Common.{zero, ℕ, ◌&&◌, ◌+◌, ◌<◌, ◌↔◌, ◌∙◌, ◌∷◌, ◌≡◌, ◌≤◌}, lemmas.Bool.Decides.nat_tests}
-use Rattle.std.specs.List.{range_with_len}
+use Rattle.std.proofs.Common.{List, Some, [], ap, arith, false, is_some, length, map, refl, slice_get, suc, sym, unwrap_or, zero, ℕ, ◌+◌}
+use Rattle.std.{proofs.{Common.{◌<◌, ◌↔◌, ◌∙◌, ◌∷◌, ◌≡◌, ◌≤◌}, lemmas.Bool.Decides.nat_tests}, specs.List.range_with_len}
 
 -- a port has one of the 32 links, or is a terminal's
 abbrev IsLinkPort : Port → Type 0
@@ -18,12 +17,7 @@ no_wire (w ∷ ws) k l past inside =
     rw (not_port w.here ends.0, not_port w.there ends.1) (no_wire ws k l past (λ i v at. inside (suc i) v at))
   where
     not_port : (p : Port) → IsLinkPort p → is_port p (Port.Switch k l) ≡ false
-    not_port (Port.Switch s m) below = let less = below in let differs : nat_eq m l ≡ false = grind (arith, nat_tests) in differs_and (nat_eq s k) differs
-      where
-        differs_and : (b : Bool) → nat_eq m l ≡ false → (b && nat_eq m l) ≡ false
-        differs_and true is = is
-        differs_and false is = refl
-    not_port (Port.Terminal t) below = refl
+    not_port p below = search (arith, nat_tests)
 
 pub past_links : (lists : Lists) → AreLists lists → (k l : ℕ) → 32 ≤ l → is_link_wired lists.switches lists.wires k l ≡ false
 past_links lists are k l past = search (arith, no_wire, nat_tests)
