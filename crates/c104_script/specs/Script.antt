@@ -193,17 +193,7 @@ probe_line ProbeVerb.Table plan (node ∷ []) = table_line plan node
 probe_line ProbeVerb.Verify plan [] = Ok (Probed Probe.Verify)
 probe_line verb plan rest = Err LineFault.BadShape
 
--- the words with which lines of the debugger begin
-abbrev pub probe_verbs : List (List ℕ × ProbeVerb)
-probe_verbs =
-    (codes "peek", ProbeVerb.Peek)
-    ∷ (codes "poke", ProbeVerb.Poke)
-    ∷ (codes "link", ProbeVerb.Link)
-    ∷ (codes "table", ProbeVerb.Table)
-    ∷ (codes "verify", ProbeVerb.Verify)
-    ∷ []
-
--- the words with which other lines begin
+-- the words with which lines begin, those of the debugger last
 abbrev pub verbs : List (List ℕ × Verb)
 verbs =
     (codes "send", Verb.Send)
@@ -214,24 +204,16 @@ verbs =
     ∷ (codes "claim", Verb.Claim)
     ∷ (codes "control", Verb.Control)
     ∷ (codes "rounds", Verb.Rounds)
+    ∷ (codes "peek", Verb.Probe ProbeVerb.Peek)
+    ∷ (codes "poke", Verb.Probe ProbeVerb.Poke)
+    ∷ (codes "link", Verb.Probe ProbeVerb.Link)
+    ∷ (codes "table", Verb.Probe ProbeVerb.Table)
+    ∷ (codes "verify", Verb.Probe ProbeVerb.Verify)
     ∷ []
-
--- what the first word of a line asks of the debugger
-abbrev pub probe_verb_of : List ℕ → Option ProbeVerb
-probe_verb_of word = lookup (λ known. bytes_eq known word) probe_verbs
-
--- what the first word of another line asks for
-abbrev pub other_verb_of : List ℕ → Option Verb
-other_verb_of word = lookup (λ known. bytes_eq known word) verbs
-
--- the debugger's, or else the other
-abbrev pub either_verb : Option ProbeVerb → Option Verb → Option Verb
-either_verb (Some asked) other = Some (Verb.Probe asked)
-either_verb None other = other
 
 -- what the first word of a line asks for
 abbrev pub verb_of : List ℕ → Option Verb
-verb_of word = either_verb (probe_verb_of word) (other_verb_of word)
+verb_of word = lookup (λ known. bytes_eq known word) verbs
 
 -- a line, by what its first word asks for and the words after it
 abbrev pub verb_line : Verb → Plan → List (List ℕ) → Result Request LineFault

@@ -1,6 +1,6 @@
 //! The words of a script's line.
-ghost use Rattle.std.specs.{Map.lookup, Prelude.{Err, MatchResult, Ok, [], bytes_eq, length, map, ◌≡◌, ◌≤◌}};
-ghost use Rattle.c104_script.specs.Script.{bytes_after, number_word, other_verb_of, place_word, probe_verb_of, verb_of};
+ghost use Rattle.std.specs.{Prelude.{Err, MatchResult, Ok, [], length, map, ◌≡◌, ◌≤◌}};
+ghost use Rattle.c104_script.specs.Script.{bytes_after, number_word, place_word, verb_of};
 
 use crate::faults::LineFault;
 use arrayvec::ArrayVec;
@@ -32,8 +32,8 @@ pub(crate) enum ProbeVerb {
     Verify,
 }
 
-/// The words with which other lines begin.
-const VERBS: [(&[u8], Verb); 8] = [
+/// The words with which lines begin. Those of the debugger stand last, since scripts have few of them.
+const VERBS: [(&[u8], Verb); 13] = [
     (b"send", Verb::Send),
     (b"drain", Verb::Drain),
     (b"cross", Verb::Cross),
@@ -42,15 +42,11 @@ const VERBS: [(&[u8], Verb); 8] = [
     (b"claim", Verb::Claim),
     (b"control", Verb::Control),
     (b"rounds", Verb::Rounds),
-];
-
-/// The words with which lines of the debugger begin.
-const PROBE_VERBS: [(&[u8], ProbeVerb); 5] = [
-    (b"peek", ProbeVerb::Peek),
-    (b"poke", ProbeVerb::Poke),
-    (b"link", ProbeVerb::Link),
-    (b"table", ProbeVerb::Table),
-    (b"verify", ProbeVerb::Verify),
+    (b"peek", Verb::Probe(ProbeVerb::Peek)),
+    (b"poke", Verb::Probe(ProbeVerb::Poke)),
+    (b"link", Verb::Probe(ProbeVerb::Link)),
+    (b"table", Verb::Probe(ProbeVerb::Table)),
+    (b"verify", Verb::Probe(ProbeVerb::Verify)),
 ];
 
 /// A node or a port as a line names it.
@@ -66,32 +62,7 @@ pub(crate) struct PlaceWord<'a> {
 pub(crate) fn read_verb(word: &[u8]) -> Option<Verb>
     ensures { result ≡ verb_of word.now }
 {
-    match read_probe_verb(word) {
-        Some(verb) => Some(Verb::Probe(verb)),
-        None => read_other_verb(word),
-    }
-}
-
-/// What a word asks of the debugger. None where no line of the debugger begins with it.
-fn read_probe_verb(word: &[u8]) -> Option<ProbeVerb>
-    ensures { result ≡ probe_verb_of word.now }
-{
-    verb_among(PROBE_VERBS.as_slice(), word)
-}
-
-/// What a word asks for, where it asks the debugger nothing. None where no such line begins with it.
-fn read_other_verb(word: &[u8]) -> Option<Verb>
-    ensures { result ≡ other_verb_of word.now }
-{
-    verb_among(VERBS.as_slice(), word)
-}
-
-/// What stands at a word in a table. None where the word isn't there.
-fn verb_among<V: Copy>(known: &[(&[u8], V)], word: &[u8]) -> Option<V>
-    ensures { result ≡ lookup (λ text. bytes_eq text word.now)
-        (map (λ row. (row.0.now, row.1)) known.now) }
-{
-    for (text, verb) in known {
+    for (text, verb) in VERBS.as_slice() {
         if *text == word {
             return Some(*verb);
         }

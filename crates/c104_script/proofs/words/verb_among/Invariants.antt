@@ -1,5 +1,0 @@
-use Rattle.std.{proofs.Common.{Bor, List, bytes_eq, drop, map, ℕ, ◌≡◌}, specs.Map.lookup}
-
--- none of the words so far is this one
-abbrev pub invariant-loop-text : Rattle.c104_script.proofs.words.verb_among.Given.invariant-loop-text
-invariant-loop-text g l = lookup (λ known. bytes_eq known l.word) (map (λ (k : Bor (List ℕ) × g.row.V.Denot). (k.0.now, k.1)) (drop l.text-index l.known)) ≡ lookup (λ known. bytes_eq known l.word) (map (λ (k : Bor (List ℕ) × g.row.V.Denot). (k.0.now, k.1)) l.known)
