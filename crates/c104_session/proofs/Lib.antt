@@ -1,5 +1,7 @@
+pub mod KeptTexts
 pub mod SummaryTexts
 pub mod PacketLines
+pub mod TerminalLines
 pub mod LinesLaw
 pub mod DrivenLines
 pub mod ToldEvents
@@ -14,7 +16,6 @@ pub mod TimedScripts
 pub mod Leavings
 pub mod PlanRuns
 pub mod Starts
-pub mod TextsWritten
 pub mod SentLists
 pub mod UnchangedNets
 pub mod PeekedNets

@@ -5,7 +5,7 @@ use Rattle.{c104_session.specs.Shown.{packet_line, packets_text, received_text},
 use Rattle.{c104_token.specs.{Tokens.is_end, declared.{packets.Packet.Packet, tokens.Token.Token}}, std.proofs.Common.{Bool, Bor, IfSome}}
 use Rattle.std.proofs.Common.{List, MatchOption, None, Option, Some, [], ap, append-nil, append_assoc, arith, drop, false, flat_map, get_or}
 use Rattle.std.proofs.Common.{if◌then◌else◌, length, map, refl, slice_get, subst, suc, sym, true, zero, ℕ, ◌++◌, ◌+◌, ◌<◌, ◌∙◌, ◌∷◌, ◌≡◌}
-use Rattle.std.proofs.{Common.◌≤◌, Math.Seq.drop-cons, lemmas.{List.map-append, Option.{slice_get_past, slice_get_read}}}
+use Rattle.std.proofs.{Common.◌≤◌, Math.Seq.drop-cons, lemmas.{List.{drop_all, map-append}, Option.{slice_get_past, slice_get_read}}}
 use Rattle.std.specs.{List.HoldsAt, Option.option_copied, Prelude.option_to_list}
 
 -- the token alone
@@ -78,17 +78,11 @@ lines_next plan name packets at packet origins told text before whole inside is 
     ∙ ap (λ ps. before ++ lines_with plan name at (map packet_tokens ps) origins) (sym here)
     ∙ so_far)
 
-none_left : {X : Type 0} (xs : List X) (n : ℕ) → length xs ≤ n → drop n xs ≡ []
-none_left [] zero past = refl
-none_left [] (suc n) past = refl
-none_left (x ∷ xs) zero past = absurd (omega (arith, past))
-none_left (x ∷ xs) (suc n) past = none_left xs n (omega (arith, past))
-
 -- and at the end they are those of what arrived
 pub lines_end : (plan : Plan) (name : List ℕ) (packets : List Packet) (at : ℕ) (arrived : List Token) (origins : List Origin) (tokens : List Traced) (text old : List ℕ) → length packets ≤ at → text ++ lines_with plan name at (map packet_tokens (drop at packets)) origins ≡ old ++ lines_with plan name 0 (map packet_tokens packets) origins → map packet_tokens packets ≡ whole_pieces same [] arrived → arrived ≡ map token_of tokens → origins ≡ origins_in tokens → AreSure tokens → text ≡ old ++ packets_text plan name tokens
 lines_end plan name packets at arrived origins tokens text old past so_far whole plain are sure =
     sym (append-nil text)
-    ∙ ap (λ ps. text ++ lines_with plan name at (map packet_tokens ps) origins) (sym (none_left packets at past))
+    ∙ ap (λ ps. text ++ lines_with plan name at (map packet_tokens ps) origins) (sym (drop_all at packets past))
     ∙ so_far
     ∙ ap (λ ps. old ++ lines_with plan name 0 ps origins) whole
     ∙ ap (λ t. old ++ t) (packets_are plan name arrived origins tokens plain are sure)

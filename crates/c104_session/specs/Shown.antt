@@ -6,11 +6,12 @@ use Rattle.c104_run.specs.{FinishedRecords.{FinishedRecord, record_finish}, NetR
 use Rattle.{c104_run.specs.{Network.placed_network, RecordedRuns.record_apply, Rounds.rounds}, c104_script.specs.Answering.shown_by}
 use Rattle.c104_script.specs.{Script.read_script_line, Texts.token_text, declared.answers.Answer.{Answer, TheVariants.{Faulty, Refused}}}
 use Rattle.c104_script.specs.declared.{answers.Answer.TheVariants.Replied, faults.LineFault.LineFault, places.Request.Request}
-use Rattle.{c104_session.specs.{Probing.probe_answer, declared.session.Session.Session}, c104_stream.specs.ScriptLines.is_long}
-use Rattle.{c104_stream.specs.{ScriptLines.script_too_long, Scripts.script_outcome}, c104_switch.specs.Actions.Reply}
-use Rattle.{c104_switch.specs.declared.actions.ReplyOf.TheVariants.Done, c104_token.specs.{Cut.whole_pieces, declared.tokens.Token.Token}}
-use Rattle.std.specs.{Global.Vec, Prelude.{Bool, Err, List, None, Ok, Option, Result, Some, [], codes, decimal, false, flat_map, map, suc}}
-use Rattle.std.specs.Prelude.{true, ℕ, ◌++◌, ◌∷◌}
+use Rattle.c104_session.specs.{Probing.probe_answer, declared.{session.Session.Session, summary_text.SummaryLine.SummaryLine}}
+use Rattle.{c104_stream.specs.{ScriptLines.{is_long, script_too_long}, Scripts.script_outcome}, c104_switch.specs.Actions.Reply}
+use Rattle.{c104_switch.specs.declared.actions.ReplyOf.TheVariants.Done, c104_token.specs.{Cut.whole_pieces, Packets.packet_tokens}}
+use Rattle.c104_token.specs.{Text.hex_digit, declared.tokens.Token.Token}
+use Rattle.std.specs.Prelude.{Bool, Err, List, None, Ok, Option, Result, Some, [], codes, decimal, false, flat_map, map, option_to_list}
+use Rattle.std.specs.Prelude.{suc, true, ℕ, ◌%◌, ◌++◌, ◌/◌, ◌∷◌}
 
 -- a network of this plan with an image, before the first line
 abbrev pub new_session : Plan → Image → Session
@@ -95,9 +96,18 @@ terminals_text plan net number (terminal ∷ more) =
 unfoldable pub summary : FinishedRecord → List ℕ
 summary run = terminals_text run.finished.plan (traced_end run) 0 run.finished.plan.terminals
 
--- what several texts say, one after the other
-abbrev pub joined_texts : List (Vec ℕ) → List ℕ
-joined_texts texts = flat_map (λ (text : Vec ℕ). text.items) texts
+-- a byte of a packet: its two hexadecimal digits, and the space behind them
+abbrev pub byte_word : ℕ → List ℕ
+byte_word byte = hex_digit (byte / 16) ∷ hex_digit (byte % 16) ∷ 32 ∷ []
+
+-- the text of a line that is kept
+abbrev pub line_text : Plan → SummaryLine → List ℕ
+line_text plan line =
+    packet_line plan (terminal_name plan line.terminal) (packet_tokens line.packet) (option_to_list line.origin)
+
+-- the texts of several, one after the other
+abbrev pub lines_text : Plan → List SummaryLine → List ℕ
+lines_text plan lines = flat_map (line_text plan) lines
 
 -- what follows the answers, and whether a script was refused: for its length, or for one of its lines
 abbrev pub output_with_summary : Bool → List ℕ × Session → List ℕ × Bool

@@ -3,7 +3,7 @@
 //! A `Session` is a network in the midst of a script: it keeps the `TracedNet`, what was loaded there, and whether a
 //! line was faulty so far. It can't be dropped, and neither can what `finish` gives at its end, an `Ended` with the
 //! `EndedNet` that tells what arrived.
-//! `answer_script` answers the lines of a script as they are read, `summary_texts` tells what arrived
+//! `answer_script` answers the lines of a script as they are read, `summary_lines` tells what arrived
 //! at each terminal, and `run_plan` does both on the network of a plan.
 //!
 //! The commands are functions over readers and a writer: `run` takes a description and a script from two readers,
@@ -41,6 +41,7 @@ mod session;
 mod starting;
 mod states;
 mod summary;
+mod summary_text;
 mod tally;
 mod telling;
 mod text_runs;
@@ -59,5 +60,6 @@ pub use run_commands::{debug_command, run, run_text};
 pub use runs::run_plan;
 pub use session::{Ended, Session};
 pub use states::draw_state_command;
-pub use summary::summary_texts;
+pub use summary::summary_lines;
+pub use summary_text::SummaryLine;
 pub use timed_runs::{TimedRun, time_plan};

@@ -1,16 +1,16 @@
 //! A script, run on the network of a plan.
-ghost use Rattle.std.specs.{Io.KnownBytes.{Appends, prepend_known}, Prelude.{OnErr, OnOk}};
-ghost use Rattle.{c104_plan.specs.PlanImage.Fits, c104_session.specs.{Runs.{EndsRun, RunsPlan, WritesText, end_text}, Shown.joined_texts}};
-ghost use Rattle.c104_stream.specs.Writing.{AppendsPrefix};
+ghost use Rattle.std.specs.Io.KnownBytes.{prepend_known};
+ghost use Rattle.{c104_plan.specs.PlanImage.Fits, c104_session.specs.Runs.{EndsRun, RunsPlan, WritesText, end_text}};
 
 use crate::answering::answer_script;
 use crate::ended::EndedNet;
 use crate::session::{Ended, Session};
-use crate::summary::summary_texts;
+use crate::summary::summary_lines;
+use crate::summary_text::write_lines;
 use c104_explain::{leftover_messages, tell_leftovers};
 use c104_mistakes::{Messages, tell_if_long};
 use c104_plan::{Image, Plan};
-use c104_stream::{Ahead, CannotWrite, Halt, too_long_line, write_whole};
+use c104_stream::{Ahead, Halt, too_long_line, write_whole};
 use std::alloc::Global;
 use std::io::{Read, Write};
 
@@ -72,20 +72,8 @@ fn write_end<W: Write>(
         write_whole(writer, too_long_line())?;
         return Ok(());
     }
-    let texts = summary_texts(alloc, run)?;
-    write_texts(writer, texts.as_slice())?;
-    Ok(())
-}
-
-/// Writes texts, one after the other.
-fn write_texts<W: Write>(writer: &mut W, texts: &[Vec<u8>]) -> Result<(), CannotWrite>
-    ensures all { OnOk result (Appends (W.contents writer.old) (W.contents writer.new) (joined_texts texts.now)) }
-    ensures prefix { OnErr result (AppendsPrefix (W.contents writer.old) (W.contents writer.new) (joined_texts texts.now)) }
-{
-    for text in texts {
-        write_whole(writer, text.as_slice())?;
-    }
-    Ok(())
+    let lines = summary_lines(alloc, run)?;
+    write_lines(alloc, run.plan(), lines.as_slice(), writer)
 }
 
 /// What is to be told at the end of what didn't arrive.

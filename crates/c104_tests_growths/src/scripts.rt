@@ -9,7 +9,7 @@ use crate::written::{ANSWERS, Page, SCRIPT, SUMMARY};
 use c104_mistakes::Silent;
 use c104_plan::{Image, Plan};
 use c104_script::{Answer, add_answer, read_line};
-use c104_session::{Ended, EndedNet, Session, answer_script, run_plan, summary_texts};
+use c104_session::{Ended, EndedNet, Session, answer_script, run_plan, summary_lines};
 use c104_stream::{Ahead, Halt};
 use c104_switch::Reply;
 use c104_token::NoMemory;
@@ -222,7 +222,7 @@ impl Growing for Asking<'_> {
         let found = match self.1 {
             Question::Arrived => Outcome::of(self.0.arrived(alloc, 1)),
             Question::Origins => Outcome::of(self.0.origins(alloc)),
-            Question::Summary => Outcome::of(summary_texts(alloc, self.0)),
+            Question::Summary => Outcome::of(summary_lines(alloc, self.0)),
         };
         refusal.end(alloc);
         found
@@ -244,7 +244,7 @@ fn is_end_right(rt: &HostRuntime, plan: &Plan) -> bool {
     let run = &ended.run;
     let is_right = is_right(rt, "EndedNet::arrived", &Asking(run, Question::Arrived))
         && is_right(rt, "EndedNet::origins", &Asking(run, Question::Origins))
-        && is_right(rt, "summary_texts", &Asking(run, Question::Summary));
+        && is_right(rt, "summary_lines", &Asking(run, Question::Summary));
     ended.retire();
     is_right
 }
