@@ -2,19 +2,14 @@
 use Rattle.{c104_plan.specs.{PlanImage.Image, Plans.Plan}, c104_script.specs.Answering.DoesScript, c104_session.specs.Counted.counts_kept}
 use Rattle.c104_session.specs.{CountedRuns.{IsCountedAfter, IsCountedOn, IsCountedPlan, IsRefusedCount}, Driven.driven_outcome}
 use Rattle.{c104_session.specs.declared.{counted_runs.CountedRun.CountedRun, driven.Driven.Driven}, c104_stats.specs.Counts.Counts}
-use Rattle.{c104_stats.specs.declared.stats.What.What, c104_stream.specs.ScriptLines.is_long, std.proofs.Common.{Bool, List, None, Option}}
-use Rattle.std.proofs.Common.{Some, ap, refl, subst, ℕ, ◌||◌, ◌∙◌, ◌≡◌}
+use Rattle.{c104_stats.specs.declared.stats.What.What, std.proofs.Common.{Bool, List, Option, arith, refl, ℕ, ◌||◌, ◌≡◌}}
 
 -- a script that was done
 module _ (driven after : Driven Counts) (long : Bool) (run : CountedRun) where
   pub script_counted : (all : Option (List ℕ)) → DoesScript (driven_outcome counts_kept) driven all after long
       → IsCountedOn after.session.net after.driver run → run.is_refused ≡ (long || after.session.faulty)
       → IsCountedAfter driven all run
-  script_counted None done counted is_refused = tt
-  script_counted (Some script) done counted is_refused = (
-    subst (λ (r : Driven Counts). IsCountedOn r.session.net r.driver run) done.1 counted,
-    is_refused ∙ ap (λ l. l || after.session.faulty) done.0 ∙ ap (λ (r : Driven Counts). is_long script || r.session.faulty) done.1,
-  )
+  script_counted all done counted is_refused = search arith
 
 -- what it tells of whether the script is refused
 pub counted_refused : (what : Option What) (plan : Plan) (image : Image) (script : Option (List ℕ)) (text : List ℕ)

@@ -65,15 +65,7 @@ module _ (plan : Plan) (image : Image) (script : List ℕ) (is_plan : IsPlan pla
   work nodes = random_work plan routes acyclic.0 nodes
 
   acyclic_run : (sends : List (ℕ × Packet)) (net : NetRecord) (was : IsUnchangedNet routes plan starts nothing sends net) → IsAcyclicRun plan image starts was.events net.network.nodes
-  acyclic_run sends net was = record {
-    accepted = is.accepted;
-    acyclic = acyclic;
-    set = set;
-    started = placed_started plan image is_plan fits sized;
-    steady = placed_steady plan image is_plan fits;
-    run = run_so_far routes plan starts nothing sends net was;
-    unchanged = was.unchanged;
-  }
+  acyclic_run sends net was = search (arith, set, placed_started, placed_steady, run_so_far)
 
   -- the work falls, and where it can't the network is quiet
   falling : IsFalling routes plan is_plan starts work

@@ -1,7 +1,7 @@
 -- A line that a driver has done is answered as one without a driver.
 use Rattle.{c104_script.specs.declared.answers.Answer.Answer, c104_session.specs.Driven.{Driving, driven_answer, line_driven}}
 use Rattle.{c104_session.specs.{Shown.line_answer, declared.{driven.Driven.Driven, session.Session.Session}}, std.proofs.Common.List}
-use Rattle.std.proofs.Common.{Option, ap, ℕ, ◌∙◌, ◌≡◌}
+use Rattle.std.proofs.Common.{Option, arith, ℕ, ◌≡◌}
 
 abbrev with_driver : {D : Type 0} → Option Answer × Session → D → Option Answer × Driven D
 with_driver r driver = (r.0, record { session = r.1; driver = driver })
@@ -10,6 +10,4 @@ pub line_driven_too : {D : Type 0} (drives : Driving D) (s after : Driven D) (te
     → ◌≡◌ {A = Option Answer × Session} (answer, after.session) (line_answer s.session text)
     → after.driver ≡ line_driven drives s.driver s.session.net text
     → ◌≡◌ {A = Option Answer × Driven D} (answer, after) (driven_answer drives s text)
-line_driven_too drives s after text answer answered drove =
-    ap (λ (r : Option Answer × Session). with_driver r after.driver) answered
-    ∙ ap (with_driver (line_answer s.session text)) drove
+line_driven_too drives s after text answer answered drove = search arith

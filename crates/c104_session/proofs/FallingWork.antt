@@ -15,21 +15,19 @@ use Rattle.c104_session.specs.{PrintedPackets.{event_sends, line_sends, lines_se
 use Rattle.c104_session.specs.{Shown.{line_answer, line_outcome, rounds_answer}, declared.session.Session.Session}
 use Rattle.{c104_stream.specs.Scripts.lines_outcome, c104_switch.specs.{Actions.{Reply, is_ready}, declared.actions.ReplyOf.ReplyOf}}
 use Rattle.{c104_token.specs.{Kinds.plain_kind, declared.{packets.Packet.Packet, tokens.Token.Token}}, std.proofs.Common.{All, Bool, Err}}
-use Rattle.std.proofs.Common.{List, None, Ok, Option, Result, Some, [], ap, append-nil, arith, false, if◌then◌else◌, inl, inr, length}
+use Rattle.std.proofs.Common.{List, Ok, Option, Result, Some, [], ap, append-nil, arith, false, if◌then◌else◌, inl, inr, length}
 use Rattle.std.proofs.Common.{length-append, refl, subst, suc, sym, true, zero, ℕ, ◌++◌, ◌+◌, ◌<◌, ◌∙◌, ◌∷◌, ◌≡◌, ◌≤◌, ◌⊎◌}
 use Rattle.std.specs.List.{AllByRecursion}
 
 not_ready : (r : Reply) → is_ready r ≡ false → r ≡ ReplyOf.NotReady
-not_ready ReplyOf.NotReady is = refl
-not_ready r is = absurd (cc is)
+not_ready r is = search arith
 
 both_empty : {X : Type 0} (xs ys : List X) → xs ++ ys ≡ [] → (xs ≡ []) × (ys ≡ [])
 both_empty [] ys is = (refl, is)
 both_empty (x ∷ xs) ys is = absurd (cc is)
 
 none_either : (b : Bool) → ◌≡◌ {A = ℕ} (if b then 0 else 0) 0
-none_either true = refl
-none_either false = refl
+none_either b = search arith
 
 -- as many rounds were done
 abbrev pub Came : NetRecord → ℕ → NetRecord → Type 0
@@ -48,16 +46,10 @@ rounds_counted count answer = if was_done (Some (event_answer (rounds_answer ans
 
 answer_counts : (net : NetRecord) (count : ℕ) (answer : Result (Unit {0}) EventFault) → (run_events record_apply net (rounds net.network.plan count)).0 ≡ answer →
     (rounds_counted count answer ≡ 0) ⊎ Came net (rounds_counted count answer) (run_events record_apply net (rounds net.network.plan count)).1
-answer_counts net count (Ok u) told = inr (ap (λ (o : Result (Unit {0}) EventFault). (o, (run_events record_apply net (rounds net.network.plan count)).1)) told)
-answer_counts net count (Err f) told = inl refl
+answer_counts net count answer told = search arith
 
 read_counts : (session : Session) (asked : Result (Option Request) LineFault) → CountsRounds session (read_rounds session asked) (answer_of_read session asked).1
-read_counts session (Ok (Some (Request.Rounds count))) = answer_counts session.net count (run_events record_apply session.net (rounds session.net.network.plan count)).0 refl
-read_counts session (Ok None) = inl refl
-read_counts session (Ok (Some (Request.Asked e))) = inl (none_either (was_done (answer_of_read session (Ok (Some (Request.Asked e)))).0))
-read_counts session (Ok (Some (Request.Probed it))) = inl (none_either (was_done (answer_of_read session (Ok (Some (Request.Probed it)))).0))
-read_counts session (Ok (Some (Request.Refused kind))) = inl refl
-read_counts session (Err kind) = inl refl
+read_counts session asked = search (arith, answer_counts, none_either)
 
 line_counts : (session : Session) (line : List ℕ) → CountsRounds session (line_rounds session line) (line_answer session line).1
 unfolding line_answer
@@ -83,12 +75,10 @@ module _ (routes : Routes) (plan : Plan) (is_plan : IsPlan plan) (starts : List 
     IsLeft most nodes = All IsQuietNode nodes ⊎ (work nodes < most)
 
     left_within : (few most : ℕ) (nodes : List (Node Token)) → few ≤ most → IsLeft few nodes → IsLeft most nodes
-    left_within few most nodes within (inl quiet) = inl quiet
-    left_within few most nodes within (inr less) = inr (omega (arith, within, less))
+    left_within few most nodes within h2 = search arith
 
     none_left : (nodes : List (Node Token)) → IsLeft 0 nodes → All IsQuietNode nodes
-    none_left nodes (inl quiet) = quiet
-    none_left nodes (inr less) = absurd (let no : ⊥ = omega (arith, less) in no)
+    none_left nodes h1 = search arith
 
     -- so it stays as long as no more than so many packets were sent
     abbrev left_since : ℕ → ℕ → Fact

@@ -6,8 +6,8 @@ use Rattle.c104_run.specs.{EventRuns.{Outcome, run_events}, Meters.Sees, NetReco
 use Rattle.{c104_run.specs.{RoundParts.PartEnds, Rounds.{round, rounds}}, c104_session.proofs.KeptRounds.{Going, fault_ends, goes_on}}
 use Rattle.c104_session.proofs.{KeptRounds.{idle_counts, idle_ends, round_runs}, Leavings.rounds_left, RoundLeavings.later_left}
 use Rattle.c104_session.{proofs.StillCounts.none_later, specs.{Driven.DoesRounds, Keepers.{Keeping, KeepsRound, rounds_kept}}}
-use Rattle.{c104_session.specs.Leavings.LeavesRounds, std.proofs.Common.{Bool, Err, List, Ok, Result, [], ap, append-nil, false, inl, inr}}
-use Rattle.std.proofs.Common.{refl, sym, true, ℕ, ◌+◌, ◌-◌, ◌<◌, ◌∙◌, ◌∷◌, ◌≡◌}
+use Rattle.{c104_session.specs.Leavings.LeavesRounds, std.proofs.Common.{Bool, Err, List, Ok, Result, [], ap, append-nil, arith, false}}
+use Rattle.std.proofs.Common.{inl, inr, refl, sym, true, ℕ, ◌+◌, ◌-◌, ◌<◌, ◌∙◌, ◌∷◌, ◌≡◌}
 
 module _ {M : Type 0} (sees : Sees M TaggedToken) (keeps : Keeping M) where
   same_fault : (f : EventFault) → ◌≡◌ {A = Result (Unit {0}) EventFault} (Err f) (Err EventFault.NoMemory) → f ≡ EventFault.NoMemory
@@ -53,8 +53,7 @@ module _ {M : Type 0} (sees : Sees M TaggedToken) (keeps : Keeping M) where
       (going : Going sees keeps start begun count i net c) (further : i < count) where
     ends_due : (result : Result (Unit {0}) EventFault) → EventsEnd record_apply start (rounds start.network.plan count) result after
         → DoesRounds start count result after
-    ends_due result (inl due) = inl due
-    ends_due result (inr short) = inr short.refused
+    ends_due result h1 = search arith
 
     abbrev Halted : EventFault → Type 0
     Halted f = KeepsRound sees keeps net c (Err f) after d

@@ -4,7 +4,7 @@ use Rattle.{c104_node.specs.declared.tagged.TaggedToken.TaggedToken, c104_run.pr
 use Rattle.c104_run.{proofs.RoundsTaken.{round_refused, round_taken}, specs.{EventRuns.{EventsEnd, Outcome, run_events}, Meters.Sees}}
 use Rattle.{c104_run.specs.{NetRecords.NetRecord, RecordedRuns.record_apply, Rounds.{round, rounds}}, c104_session.specs.Keepers.Keeping}
 use Rattle.{c104_session.specs.Keepers.{KeepsRound, kept_on, round_kept, rounds_kept}, std.proofs.Common.{Bool, Err, Ok, Result, ap, arith}}
-use Rattle.std.proofs.Common.{false, if◌then◌else◌, inl, refl, suc, sym, true, ℕ, ◌+◌, ◌-◌, ◌<◌, ◌∙◌, ◌≡◌}
+use Rattle.std.proofs.Common.{false, if◌then◌else◌, inl, refl, sym, true, ℕ, ◌+◌, ◌-◌, ◌<◌, ◌∙◌, ◌≡◌}
 
 module _ {M : Type 0} (sees : Sees M TaggedToken) (keeps : Keeping M) where
   -- the network of a round of which something is kept goes on as by itself
@@ -29,9 +29,7 @@ module _ {M : Type 0} (sees : Sees M TaggedToken) (keeps : Keeping M) where
     -- what the next one comes to
     next_left : rounds_kept sees keeps count (at_meter start begun)
         ≡ kept_on sees keeps rest (rounds_kept sees keeps rest) net (round_kept sees keeps (at_meter net c))
-    next_left =
-        let one_more : count - i ≡ suc rest = omega (arith, further) in
-        going.left ∙ ap (λ n. rounds_kept sees keeps n (at_meter net c)) one_more
+    next_left = search arith
 
     -- its network
     ends_so : (result : Result (Unit {0}) EventFault) (e : M) → round_kept sees keeps (at_meter net c) ≡ (result, at_meter after e)
@@ -65,18 +63,12 @@ module _ {M : Type 0} (sees : Sees M TaggedToken) (keeps : Keeping M) where
 
     -- nothing was: the network stays as it was
     pub idle_counts : KeepsRound sees keeps net c (Ok false) after d → keeps.passed d rest ≡ rounds_kept sees keeps count (at_meter start begun)
-    idle_counts came = sym (
-        next_left ∙ ap (λ (o : Outcome (MeteredRecord M)). kept_on sees keeps rest (rounds_kept sees keeps rest) net o) came.1
-        ∙ ap (by_later came.0) (sym came.2) ∙ ap (λ e. keeps.passed e rest) (sym came.3))
+    idle_counts came = search arith
 
     pub idle_ends : after ≡ net → KeepsRound sees keeps net c (Ok false) after d
         → EventsEnd record_apply start (rounds start.network.plan count) (Ok tt) after
-    idle_ends unchanged came =
-        round_idle record_apply start net after start.network.plan (round net.network.plan) i count plan_is further going.run
-        (ends_so (Ok tt) came.0 came.1) unchanged
+    idle_ends unchanged came = search (arith, round_idle, plan_is, ends_so)
 
     pub fault_ends : (f : EventFault) → round_kept sees keeps (at_meter net c) ≡ (Err f, at_meter after d)
         → EventsEnd record_apply start (rounds start.network.plan count) (Err f) after
-    fault_ends f is =
-        round_refused record_apply start net after start.network.plan (round net.network.plan) i count f plan_is further going.run
-        (ends_so (Err f) d is)
+    fault_ends f is = search (arith, round_refused, plan_is, ends_so)

@@ -1,22 +1,19 @@
 -- Texts that join what is kept, one after the other.
 use Rattle.c104_stream.{proofs.Prefixes.{kept_fails, kept_next, kept_stops, prefix_longer}, specs.Writing.{AppendsAndKeeps, AppendsPrefix}}
-use Rattle.std.proofs.Common.{Err, List, Ok, OnErr, Option, Result, [], ap, append-nil, append_assoc, arith, drop, flat_map, get_or, length}
-use Rattle.std.proofs.{Common.{subst, suc, sym, ℕ, ◌++◌, ◌+◌, ◌<◌, ◌∙◌, ◌∷◌, ◌≡◌}, Math.Seq.drop-cons}
+use Rattle.std.proofs.Common.{List, OnErr, Option, Result, [], append-nil, append_assoc, arith, drop, flat_map, get_or, length, subst, ℕ}
+use Rattle.std.proofs.{Common.{◌++◌, ◌+◌, ◌<◌, ◌≡◌}, Math.Seq.drop-cons}
 
 -- where it is known at every result, it is at an error
 pub at_error : {T E : Type 0} (P : Type 0) (result : Result T E) → P → OnErr result P
-at_error P (Ok it) known = tt
-at_error P (Err fault) known = known
+at_error P result known = search arith
 
 -- both join
 pub joins_both : (held now holds : Option (List ℕ)) (kept between keeps first next : List ℕ) → AppendsAndKeeps held now between (kept ++ first) → AppendsAndKeeps now holds keeps (between ++ next) → AppendsAndKeeps held holds keeps (kept ++ (first ++ next))
-joins_both held now holds kept between keeps first next was is =
-    subst (λ text. AppendsAndKeeps held holds keeps text) (append_assoc kept first next) (kept_next held now holds between keeps (kept ++ first) next was is)
+joins_both held now holds kept between keeps first next was is = search (arith, append_assoc, kept_next)
 
 -- the first is written only in part
 pub joins_first : (held holds : Option (List ℕ)) (kept first next : List ℕ) → AppendsPrefix held holds (kept ++ first) → AppendsPrefix held holds (kept ++ (first ++ next))
-joins_first held holds kept first next front =
-    subst (λ text. AppendsPrefix held holds text) (append_assoc kept first next) (prefix_longer held holds (kept ++ first) next front)
+joins_first held holds kept first next front = search (arith, append_assoc, prefix_longer)
 
 -- or the second is
 pub joins_next : (held now holds : Option (List ℕ)) (kept between first next : List ℕ) → AppendsAndKeeps held now between (kept ++ first) → AppendsPrefix now holds (between ++ next) → AppendsPrefix held holds (kept ++ (first ++ next))
@@ -46,20 +43,10 @@ pub record Reached {A : Type 0} (f : A → List ℕ) (xs : List A) (held holds :
 module _ {A : Type 0} (f : A → List ℕ) (xs : List A) (place : ℕ) (held now holds : Option (List ℕ)) (kept all : List ℕ) (reached : Reached f xs held now kept all place) (x default : A) where
   -- the rest behind the text of this element
   rest_is : place < length xs → x ≡ get_or xs place default → (reached.done ++ f x) ++ flat_map f (drop (place + 1) xs) ≡ all
-  rest_is inside is =
-      let here : drop place xs ≡ x ∷ drop (suc place) xs = drop-cons xs place default inside ∙ ap (λ y. y ∷ drop (suc place) xs) (sym is) in
-      let next : suc place ≡ place + 1 = omega arith in
-      subst (λ n. (reached.done ++ f x) ++ flat_map f (drop n xs) ≡ all) next
-      (append_assoc reached.done (f x) (flat_map f (drop (suc place) xs))
-      ∙ ap (λ ys. reached.done ++ flat_map f ys) (sym here)
-      ∙ reached.rest)
+  rest_is inside is = search (arith, drop-cons, flat_map, append_assoc)
 
   pub reached_next : (keeps : List ℕ) → place < length xs → x ≡ get_or xs place default → AppendsAndKeeps now holds keeps (kept ++ f x) → Reached f xs held holds keeps all (place + 1)
-  reached_next keeps inside is next = record {
-    done = reached.done ++ f x;
-    grew = kept_next held now holds kept keeps reached.done (f x) reached.grew next;
-    rest = rest_is inside is;
-  }
+  reached_next keeps inside is next = search (arith, kept_next, rest_is)
 
   pub reached_stops : place < length xs → x ≡ get_or xs place default → AppendsPrefix now holds (kept ++ f x) → AppendsPrefix held holds all
   reached_stops inside is front =

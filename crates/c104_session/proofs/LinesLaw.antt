@@ -9,13 +9,7 @@ use mathlib.Core.List.{append_assoc}
 
 -- one line before these
 line_before : (line text : List ℕ) (lines : List (List ℕ)) → is_line line ≡ true → AreLinesOf text lines → AreLinesOf (line ++ 10 ∷ text) (line ∷ lines)
-line_before line text lines is of = record {
-  first = line;
-  others = lines;
-  some = refl;
-  are_all = ap (λ ls. joined (line ∷ ls)) of.some ∙ ap (λ ls. line ++ 10 ∷ joined ls) (sym of.some) ∙ ap (λ xs. line ++ 10 ∷ xs) of.are_all;
-  are_lines = ap (λ t. t && list_all is_line lines) is ∙ of.are_lines;
-}
+line_before line text lines is of = search arith
 
 -- a script that may be so long
 short : (bytes : ℕ) (front script : List ℕ) → length script ≤ bytes → is_line front ≡ true → AreLinesOf (front ++ script) (lines_within bytes front script)

@@ -3,9 +3,9 @@ use Rattle.{c104_net.proofs.OriginPieces.{one_origin, piece_origins}, c104_node.
 use Rattle.{c104_node.specs.declared.{origins.Origin.Origin, traced.Traced.Traced}, c104_plan.specs.Plans.Plan}
 use Rattle.{c104_session.specs.Shown.{packet_line, packets_text, received_text}, c104_token.specs.{Cut.whole_pieces, Packets.packet_tokens}}
 use Rattle.{c104_token.specs.{Tokens.is_end, declared.{packets.Packet.Packet, tokens.Token.Token}}, std.proofs.Common.{Bool, Bor, IfSome}}
-use Rattle.std.proofs.Common.{List, MatchOption, None, Option, Some, [], ap, append-nil, append_assoc, arith, drop, false, flat_map, get_or}
-use Rattle.std.proofs.Common.{if◌then◌else◌, length, map, refl, slice_get, subst, suc, sym, true, zero, ℕ, ◌++◌, ◌+◌, ◌<◌, ◌∙◌, ◌∷◌, ◌≡◌}
-use Rattle.std.proofs.{Common.◌≤◌, Math.Seq.drop-cons, lemmas.{List.{drop_all, map-append}, Option.{slice_get_past, slice_get_read}}}
+use Rattle.std.proofs.Common.{List, MatchOption, Option, Some, [], ap, append-nil, append_assoc, arith, drop, false, flat_map, get_or}
+use Rattle.std.proofs.Common.{if◌then◌else◌, length, map, refl, slice_get, suc, sym, true, zero, ℕ, ◌++◌, ◌+◌, ◌<◌, ◌∙◌, ◌∷◌, ◌≡◌, ◌≤◌}
+use Rattle.std.proofs.{Math.Seq.drop-cons, lemmas.{List.{drop_all, map-append}, Option.{slice_get_past, slice_get_read}}}
 use Rattle.std.specs.{List.HoldsAt, Option.option_copied, Prelude.option_to_list}
 
 -- the token alone
@@ -62,27 +62,14 @@ packets_are plan name arrived origins tokens plain are sure =
 
 -- what a look-up in a slice gives, as a value
 pub got : {X : Type 0} (found : Option (Bor X)) (xs : List X) (i : ℕ) → IfSome found (λ x. x.now ≡ get_or xs i x.now) → MatchOption found (length xs ≤ i) (λ x. (i < length xs) × HoldsAt (λ y. x.now ≡ y) xs i) → option_copied found ≡ slice_get xs i
-got None xs i is within = sym (slice_get_past xs i within)
-got (Some x) xs i is within = sym (slice_get_read xs (length xs) i x.now refl within.0 is)
+got found xs i is within = search (arith, slice_get_past, slice_get_read)
 
 -- the line of the next packet joins those so far
 pub lines_next : (plan : Plan) (name : List ℕ) (packets : List Packet) (at : ℕ) (packet : Packet) (origins : List Origin) (told : Option Origin) (text before whole : List ℕ) → at < length packets → packet ≡ get_or packets at packet → told ≡ slice_get origins at → text ≡ before ++ packet_line plan name (packet_tokens packet) (option_to_list told) → before ++ lines_with plan name at (map packet_tokens (drop at packets)) origins ≡ whole → text ++ lines_with plan name (at + 1) (map packet_tokens (drop (at + 1) packets)) origins ≡ whole
 lines_next plan name packets at packet origins told text before whole inside is told_is text_is so_far =
-    let here : drop at packets ≡ packet ∷ drop (suc at) packets = drop-cons packets at packet inside ∙ ap (λ p. p ∷ drop (suc at) packets) (sym is) in
-    let rest : List ℕ = lines_with plan name (suc at) (map packet_tokens (drop (suc at) packets)) origins in
-    let next : suc at ≡ at + 1 = omega arith in
-    subst (λ k. text ++ lines_with plan name k (map packet_tokens (drop k packets)) origins ≡ whole) next
-    (ap (λ t. t ++ rest) text_is
-    ∙ append_assoc before (packet_line plan name (packet_tokens packet) (option_to_list told)) rest
-    ∙ ap (λ o. before ++ (packet_line plan name (packet_tokens packet) (option_to_list o) ++ rest)) told_is
-    ∙ ap (λ ps. before ++ lines_with plan name at (map packet_tokens ps) origins) (sym here)
-    ∙ so_far)
+    search (arith, drop-cons, append_assoc)
 
 -- and at the end they are those of what arrived
 pub lines_end : (plan : Plan) (name : List ℕ) (packets : List Packet) (at : ℕ) (arrived : List Token) (origins : List Origin) (tokens : List Traced) (text old : List ℕ) → length packets ≤ at → text ++ lines_with plan name at (map packet_tokens (drop at packets)) origins ≡ old ++ lines_with plan name 0 (map packet_tokens packets) origins → map packet_tokens packets ≡ whole_pieces same [] arrived → arrived ≡ map token_of tokens → origins ≡ origins_in tokens → AreSure tokens → text ≡ old ++ packets_text plan name tokens
 lines_end plan name packets at arrived origins tokens text old past so_far whole plain are sure =
-    sym (append-nil text)
-    ∙ ap (λ ps. text ++ lines_with plan name at (map packet_tokens ps) origins) (sym (drop_all at packets past))
-    ∙ so_far
-    ∙ ap (λ ps. old ++ lines_with plan name 0 ps origins) whole
-    ∙ ap (λ t. old ++ t) (packets_are plan name arrived origins tokens plain are sure)
+    search (arith, append-nil, drop_all, packets_are)

@@ -9,8 +9,8 @@ use Rattle.c104_run.specs.{Balance.IsSteady, NetRecords.{IsNetRecord, fresh_reco
 use Rattle.c104_run.specs.{Network.{switch_nodes, terminal_nodes, terminal_place}, Standstill.{IsStarted, IsStartedNode, IsStartedSwitch}}
 use Rattle.{c104_session.proofs.UnchangedNets.{Fact, IsUnchangedNet}, c104_switch.specs.Starts.{SwitchStart, link_start, link_starts}}
 use Rattle.c104_switch.specs.{Starts.{start_input, start_output}, Switch.{Input, new_input, new_switch_with}}
-use Rattle.{c104_token.specs.declared.tokens.Token.Token, std.proofs.Common.{All, IsTrue, List, None, Option, Some, [], ap, arith, length}}
-use Rattle.std.proofs.Common.{map, refl, replicate, slice_get, subst, suc, sym, true, zero, ℕ, ◌++◌, ◌∙◌, ◌∷◌, ◌≡◌, ◌≤◌}
+use Rattle.{c104_token.specs.declared.tokens.Token.Token, std.proofs.Common.{All, IsTrue, List, Some, [], ap, arith, length, map, refl}}
+use Rattle.std.proofs.Common.{replicate, slice_get, subst, suc, sym, true, zero, ℕ, ◌++◌, ◌∙◌, ◌∷◌, ◌≡◌, ◌≤◌}
 use Rattle.std.proofs.lemmas.{Bool.Decides.nat_tests, List.{Elements.{All-head, All-replicate, All-tail}, length-replicate, map-append}}
 use Rattle.std.{proofs.lemmas.Option.slice_get-map, specs.Option.option_map}
 
@@ -36,11 +36,7 @@ terminals_back cap (t ∷ terminals) = ap (λ ns. NodeOf.Terminal (new_terminal 
 
 -- no terminal has sent anything
 none_at : (nodes : List (Node Token)) → ((n : Node Token) (k : ℕ) → slice_get nodes k ≡ Some n → sent_packets n ≡ []) → (k : ℕ) → part [] sent_packets (slice_get nodes k) ≡ []
-none_at nodes none k = by_node (slice_get nodes k) refl
-  where
-    by_node : (o : Option (Node Token)) → slice_get nodes k ≡ o → part [] sent_packets o ≡ []
-    by_node None is = refl
-    by_node (Some n) is = none n k is
+none_at nodes none k = search arith
 
 terminals_none : (cap : ℕ) (terminals : List Terminal) (n : Node Token) (k : ℕ) → slice_get (terminal_nodes cap terminals) k ≡ Some n → sent_packets n ≡ []
 terminals_none cap [] n k is = cc
@@ -99,11 +95,7 @@ module _ (plan : Plan) (image : Image) (is_plan : IsPlan plan) (fits : Fits imag
   steady = steady_made {A = Token} plan plan image net.nodes refl refl fits is_plan
 
   stands : map (start_node {A = Token}) (map start_of net.nodes) ≡ net.nodes
-  stands =
-      ap (map (start_node {A = Token})) (map-append (start_of {A = Token}) (switch_nodes plan.cap image.settings) (terminal_nodes plan.cap plan.terminals))
-      ∙ map-append (start_node {A = Token}) (map start_of (switch_nodes {A = Token} plan.cap image.settings)) (map start_of (terminal_nodes {A = Token} plan.cap plan.terminals))
-      ∙ ap (λ ns. ns ++ map (start_node {A = Token}) (map start_of (terminal_nodes {A = Token} plan.cap plan.terminals))) (switches_back plan.cap image.settings)
-      ∙ ap (λ ns. switch_nodes plan.cap image.settings ++ ns) (terminals_back plan.cap plan.terminals)
+  stands = search (arith, map-append, switches_back, terminals_back)
 
   kept : IsNetRecord (fresh_record net)
   kept = fresh_kept net steady stands

@@ -13,7 +13,7 @@ use Rattle.c104_session.specs.PrintedPackets.{PrintsPackets, origin_line, origin
 use Rattle.c104_session.specs.Shown.{line_outcome, new_session, output_with_summary, packet_line, received_text, summary, terminals_text}
 use Rattle.{c104_stream.specs.{ScriptLines.script_lines, Scripts.script_outcome}, c104_token.specs.Packets.packet_tokens}
 use Rattle.{c104_token.specs.declared.{packets.Packet.Packet, tokens.Token.Token}, std.proofs.Common.{List, None, Option, Some, [], ap}}
-use Rattle.std.proofs.Common.{drop, flat_map, map, option_map, refl, slice_get, subst, suc, sym, zero, ℕ, ◌++◌, ◌∙◌, ◌∷◌, ◌≡◌}
+use Rattle.std.proofs.Common.{arith, drop, flat_map, map, option_map, refl, slice_get, subst, suc, sym, zero, ℕ, ◌++◌, ◌∙◌, ◌∷◌, ◌≡◌}
 use Rattle.std.proofs.lemmas.Option.{slice_get-map}
 
 abbrev token_of : Traced → Token
@@ -80,10 +80,7 @@ module _ (routes : Routes) (net : Network Traced) (sends : List (ℕ × Packet))
           (piece, at, d, sym (own_origin t piece d) ∙ same)
 
   each_sent : (t k : ℕ) (o : Origin) → slice_get (shown t) k ≡ Some o → IsSentTo routes sends t o
-  each_sent t k o is =
-      let found = one_of t k o is in
-      let d : IsDelivered routes net t found.0 = found.2 in
-      subst (IsSentTo routes sends t) found.3 (d.packet, was_sent t found.0 d, d.complete, d.owned)
+  each_sent t k o is = search (arith, one_of, was_sent)
 
   none_twice : (t u i j : ℕ) (o : Origin) → slice_get (shown t) i ≡ Some o → slice_get (shown u) j ≡ Some o → (t ≡ u) × (i ≡ j)
   none_twice t u i j o is is' =
@@ -136,9 +133,7 @@ module _ (plan : Plan) (image : Image) (script : List ℕ) (is_plan : IsPlan pla
   end_is = ends_traced (record_finish net) here_plan kept ∙ ap (λ p. network_of p ran) ended.same_plan
 
   run : IsDoneRun traced_kind (network_of plan (map start_node (placed_starts plan image is_plan fits))) ended.events (network_of plan ran)
-  run =
-      subst (λ ss. IsDoneRun traced_kind (network_of plan (map start_node ss)) ended.events (network_of plan ran)) ended.same_starts
-      (subst (λ p. IsDoneRun traced_kind (network_of p (map start_node net.starts)) ended.events (network_of p ran)) ended.same_plan (traced (record_finish net) here_plan kept).1.run)
+  run = search (arith, ended, traced, here_plan)
 
   promised : Promise routes (network_of plan ran)
   promised =
@@ -149,17 +144,11 @@ module _ (plan : Plan) (image : Image) (script : List ℕ) (is_plan : IsPlan pla
   plain = (traced (record_finish net) here_plan kept).1.plain
 
   sent : (a : ℕ) → sent_at (network_of plan ran) a ≡ packets_of a sends
-  sent a =
-      sym (sent_plain plan ran net.network.nodes plain a)
-      ∙ ap (λ p. sent_at (network_of p net.network.nodes) a) (sym ended.same_plan)
-      ∙ ended.sent a
+  sent a = search (arith, sent_plain, ended)
 
   summary_is : summary (record_finish net) ≡ origins_text plan routes sends (shown routes (network_of plan ran) sends promised sent) 0 plan.terminals
   unfolding summary
-  summary_is =
-      ap (λ (n : Network Traced). terminals_text net.network.plan n 0 net.network.plan.terminals) end_is
-      ∙ ap (λ p. terminals_text p (network_of plan ran) 0 p.terminals) ended.same_plan
-      ∙ texts_are routes (network_of plan ran) sends promised sent plan 0 plan.terminals
+  summary_is = search (arith, end_is, ended, texts_are, promised, sent)
 
   pub printed_law : PrintsPackets plan image script
   printed_law = record {

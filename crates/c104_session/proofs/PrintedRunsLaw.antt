@@ -3,27 +3,21 @@ use Rattle.c104_describe.{proofs.DraftsKept.{empty-kept, read_lines-kept}, specs
 use Rattle.c104_describe.specs.{PlanLines.Draft, PlanText.{empty_draft, plan_of_draft, read_description, read_plan_lines}}
 use Rattle.c104_describe.specs.declared.faults.{PlanFault.PlanFault, PlanFaultKind.TheVariants.TooLong}
 use Rattle.{c104_interval.specs.declared.intervals.Table.Table, c104_label.specs.Images.{IsImageBy, IsImageOf}}
-use Rattle.c104_plan.specs.LabelledImages.{labelled_image, labelled_settings, labelled_switch, port_labelled_switch, table_in}
-use Rattle.c104_plan.specs.{PlanImage.{Fits, Image, range_of, settings_of, switch_settings}, Plans.{IsPlan, Plan}, TextCut.lines}
-use Rattle.c104_plan.specs.{TextCut.most_bytes, declared.plans.Shape.{Shape, TheVariants.{Cube, Hand, Mesh, Tree, UpDown}}}
-use Rattle.{c104_plan.specs.declared.ports.Port.Port, c104_regs.specs.declared.{registers.TheConstants.LINKS, settings.Settings.Settings}}
+use Rattle.c104_plan.specs.{LabelledImages.{labelled_image, labelled_settings, labelled_switch, port_labelled_switch}, PlanImage.Fits}
+use Rattle.c104_plan.specs.{PlanImage.{Image, settings_of, switch_settings}, Plans.{IsPlan, Plan}, TextCut.{lines, most_bytes}}
+use Rattle.c104_plan.specs.declared.{plans.Shape.{Shape, TheVariants.{Cube, Hand, Mesh, Tree, UpDown}}, ports.Port.Port}
+use Rattle.c104_regs.specs.declared.{registers.TheConstants.LINKS, settings.Settings.Settings}
 use Rattle.c104_session.{proofs.{DeliveredLaw.delivered_law, PlacedNets.IsOfLinks, PrintedLaw.printed_law}, specs.PrintedRuns.PrintsAllOf}
 use Rattle.{c104_session.specs.PrintedRuns.PrintsPacketsOf, c104_setup.specs.Setups.ComesTo, std.proofs.Common.{All, Bool, Err, List, Ok}}
-use Rattle.std.proofs.Common.{Result, ap, false, get_or, if◌then◌else◌, length, map, nat_le, refl, subst, sym, true, ℕ, ◌≡◌}
+use Rattle.std.proofs.Common.{Result, arith, false, get_or, if◌then◌else◌, length, map, nat_le, subst, sym, true, ℕ, ◌≡◌}
 use Rattle.std.{proofs.lemmas.List.{Elements.All-map, FromFn.length-map-range_with_len, length-map}, specs.List.range_with_len}
 
 -- an image with labels fits its plan
 labelled_fits : (plan : Plan) (ranges : List (ℕ × ℕ)) (tables : List Table) (image : Image) → length ranges ≡ length plan.terminals → image ≡ labelled_image plan ranges tables → Fits image plan
-labelled_fits plan ranges tables image counted is =
-    subst (λ i. Fits i plan) (sym is) (record { ranges = counted; settings = length-map-range_with_len _ 0 (length plan.switches) })
+labelled_fits plan ranges tables image counted is = search (arith, length-map-range_with_len)
 
 by_shape : (plan : Plan) (image : Image) (shape : Shape) → IsImageBy shape plan image → Fits image plan
-by_shape plan image Hand is = subst (λ i. Fits i plan) (sym is) (record { ranges = length-map plan.terminals range_of; settings = length-map-range_with_len _ 0 (length plan.switches) })
-by_shape plan image (Tree root) (forest, is) = labelled_fits plan _ _ image (length-map plan.terminals _) is.is
-by_shape plan image (UpDown root) (forest, is) =
-    subst (λ i. Fits i plan) (sym is.is) (record { ranges = length-map plan.terminals _; settings = length-map-range_with_len _ 0 (length plan.switches) })
-by_shape plan image (Mesh width height terminals) is = labelled_fits plan _ _ image (length-map plan.terminals range_of) is.is
-by_shape plan image (Cube dimensions terminals) is = labelled_fits plan _ _ image (length-map plan.terminals range_of) is.is
+by_shape plan image shape is = search (arith, length-map, length-map-range_with_len, labelled_fits)
 
 pub image_fits : (plan : Plan) (image : Image) → IsImageOf plan image → Fits image plan
 image_fits plan image is = by_shape plan image plan.shape is
@@ -45,8 +39,7 @@ of_each : (f : ℕ → List Settings) → ((s : ℕ) → IsOfLinks (f s)) → (n
 of_each f each ns = All-map IsOfLinks f ns (λ i s inside. each (get_or ns i s))
 
 labelled_sized : (plan : Plan) (ranges : List (ℕ × ℕ)) (tables : List Table) (image : Image) → image ≡ labelled_image plan ranges tables → All IsOfLinks image.settings
-labelled_sized plan ranges tables image is =
-    subst (λ (i : Image). All IsOfLinks i.settings) (sym is) (of_each (λ s. labelled_switch plan (table_in tables s) s) (λ s. by_label plan (table_in tables s) s) (range_with_len 0 (length plan.switches)))
+labelled_sized plan ranges tables image is = search (arith, of_each, by_label)
 
 sized_by : (plan : Plan) (image : Image) (shape : Shape) → IsImageBy shape plan image → All IsOfLinks image.settings
 sized_by plan image Hand is = subst (λ (i : Image). All IsOfLinks i.settings) (sym is) (of_each (switch_settings plan) (by_own plan) (range_with_len 0 (length plan.switches)))
@@ -59,8 +52,7 @@ sized_by plan image (Cube dimensions terminals) is = labelled_sized plan _ _ ima
 
 -- a description that is read gives a plan
 of_draft : (read : Result Draft PlanFault) (plan : Plan) → ((last : Draft) → read ≡ Ok last → IsPlan (finished last)) → plan_of_draft read ≡ Ok plan → IsPlan plan
-of_draft (Ok draft) plan kept is = let same : finished draft ≡ plan = cc in subst IsPlan same (kept draft refl)
-of_draft (Err fault) plan kept is = absurd (cc is)
+of_draft read plan kept is = search arith
 
 pub read_is_plan : (text : List ℕ) (plan : Plan) → read_description text ≡ Ok plan → IsPlan plan
 read_is_plan text plan is = by_length (nat_le (length text) most_bytes) is
@@ -70,17 +62,12 @@ read_is_plan text plan is = by_length (nat_le (length text) most_bytes) is
     by_length false is = absurd (cc is)
 
 comes_to : (due : Result Plan PlanFault) (plan : Plan) (image : Image) → ComesTo due (Ok (plan, image)) → (due ≡ Ok plan) × IsImageOf plan image
-comes_to (Ok p) plan image is = (ap Ok (sym is.0), subst (λ q. IsImageOf q image) (sym is.0) is.1)
-comes_to (Err kind) plan image is = absurd is
+comes_to due plan image is = search arith
 
 pub printed_runs : (description script : List ℕ) → PrintsPacketsOf description script
 unfolding PrintsPacketsOf
-printed_runs description script plan image is =
-    let both = comes_to (read_description description) plan image is in
-    λ unchanged. printed_law plan image script (read_is_plan description plan both.0) (image_fits plan image both.1) unchanged
+printed_runs description script plan image is = search (arith, comes_to, printed_law, read_is_plan, image_fits)
 
 pub delivered_runs : (description script : List ℕ) → PrintsAllOf description script
 unfolding PrintsAllOf
-delivered_runs description script plan image is =
-    let both = comes_to (read_description description) plan image is in
-    λ unchanged acyclic ends. delivered_law plan image script (read_is_plan description plan both.0) (image_fits plan image both.1) (sized_by plan image plan.shape both.1) unchanged acyclic ends
+delivered_runs description script plan image is = search (arith, comes_to, delivered_law, read_is_plan, image_fits, sized_by)

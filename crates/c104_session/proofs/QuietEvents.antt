@@ -6,21 +6,20 @@ use Rattle.c104_link.specs.{Buffers.{Incoming, Outgoing, incoming_grant, outgoin
 use Rattle.{c104_link.specs.Steps.yield_step_at, c104_net.{proofs.CommandEvents.read_sides, specs.Unchanged.{IsHarmless, MayHappen}}}
 use Rattle.c104_node.{proofs.NamedWires.{nodes_credit, nodes_cross}, specs.Nodes.{Node, node_claim, node_control, node_credit_in}}
 use Rattle.c104_node.specs.{Nodes.{node_credit_out, node_drain, node_input, node_leave}, Quiet.{IsQuietInput, IsQuietNode, IsQuietOutput}}
-use Rattle.c104_node.specs.{Quiet.IsQuietSwitch, Terminals.{terminal_credit_in, terminal_credit_out, terminal_drain, terminal_leave}}
+use Rattle.c104_node.specs.{Quiet.IsQuietSwitch, Terminals.{terminal_credit_in, terminal_credit_out, terminal_leave}}
 use Rattle.{c104_node.specs.declared.node.NodeOf.NodeOf, c104_plan.specs.{Plans.{IsPlan, Plan}, Wiring.peer, declared.ports.Port.Port}}
 use Rattle.{c104_regs.specs.declared.settings.Settings.Settings, c104_run.proofs.EventSteps.{claim_named, control_named, credit_named}}
 use Rattle.c104_run.{proofs.EventSteps.{cross_named, drain_named, input_named}, specs.{Balance.AreInPlace, Ends.end_of, Network.Network}}
-use Rattle.{c104_run.specs.Network.{network_of, network_step, terminal_place}, c104_session.specs.PrintedPackets.event_sends}
+use Rattle.{c104_run.specs.Network.{network_of, network_step}, c104_session.specs.PrintedPackets.event_sends}
 use Rattle.c104_switch.specs.{Actions.Reply, Claims.{input_claim, inputs_claim, switch_claim}, Control.switch_control, Switch.Input}
 use Rattle.c104_switch.specs.Switch.{input_grant, is_owned, switch_credit_in, switch_credit_out, switch_leave, with_sides}
 use Rattle.c104_switch.specs.{Turns.{input_turn, switch_input}, declared.{actions.ReplyOf.ReplyOf, phase.Phase.{Phase, TheVariants.Fresh}}}
-use Rattle.{c104_token.specs.Kinds.Kind, std.proofs.Common.{All, List, None, Option, Some, [], ap, length, nat_le, not, slice_get}}
-use Rattle.std.proofs.{Common.{slice_set, subst, sym, ℕ, ◌+◌, ◌∙◌, ◌∷◌, ◌≡◌}, lemmas.{List.Elements.All-set, Option.some_pair_parts}}
+use Rattle.{c104_token.specs.Kinds.Kind, std.proofs.Common.{All, List, None, Option, Some, [], ap, arith, length, nat_le, not, slice_get}}
+use Rattle.std.proofs.{Common.{slice_set, subst, sym, ℕ, ◌+◌, ◌∙◌, ◌≡◌}, lemmas.{List.Elements.All-set, Option.some_pair_parts}}
 
 module _ {A : Type 0} where
   no_first : (items : List A) (x : A) → items ≡ [] → slice_get items 0 ≡ Some x → ⊥
-  no_first [] x none is = cc
-  no_first (y ∷ items) x none is = cc
+  no_first items x none is = search arith
 
   -- a quiet node has no token that goes out, or arrives
   no_leave : (l : ℕ) (n : Node A) (y : A × Node A) → IsQuietNode n → node_leave l n ≡ Some y → ⊥
@@ -35,9 +34,7 @@ module _ {A : Type 0} where
       given (slice_get T.output.items 0) _ z gone (λ x first rest. no_first T.output.items x quiet.1 first)))
 
   no_drain : (n : Node A) (y : A × Node A) → IsQuietNode n → node_drain n ≡ Some y → ⊥
-  no_drain (NodeOf.Switch S) y quiet is = cc
-  no_drain (NodeOf.Terminal T) y quiet is =
-      given (terminal_drain T) _ y is (λ z made more. given (slice_get T.input.items 0) _ z made (λ x first rest. no_first T.input.items x quiet.0 first))
+  no_drain n y quiet is = search (arith, given, no_first)
 
   -- none that an input reads, and no header that waits for a claim
   no_turn : (kind : Kind A) (i word : ℕ) (n m : Node A) → IsQuietNode n → node_input kind i word n ≡ Some m → ⊥
@@ -127,9 +124,7 @@ module _ {A : Type 0} (kind : Kind A) (plan : Plan) (is_plan : IsPlan plan) (nod
       at_place_made nodes s (node_claim i o) ended made (λ n m here claim set. absurd (no_claim i o n m (quiet_at s n here) claim)))
 
   drained : (t : ℕ) → Step (Event.Drain t) → StaysQuiet
-  drained t is =
-      given (yield_step_at nodes (terminal_place plan t) node_drain) _ (r, next) (drain_named kind (network_of plan nodes) t ∙ is) (λ v made last.
-      from_place_made nodes (terminal_place plan t) node_drain v made (λ n y here drain set. absurd (no_drain n y (quiet_at (terminal_place plan t) n here) drain)))
+  drained t is = search (arith, given, drain_named, from_place_made, no_drain, quiet_at)
 
   commanded : (s : ℕ) (bytes : List ℕ) → IsHarmless bytes r → Step (Event.Control s bytes) → StaysQuiet
   commanded s bytes may is =

@@ -13,8 +13,7 @@ rounds_around plan i n further =
 
 -- the events of the next one in two parts
 parted : (before front rest more : List Event) → before ++ ((front ++ rest) ++ more) ≡ (before ++ front) ++ (rest ++ more)
-parted before front rest more =
-    ap (λ es. before ++ es) (append_assoc front rest more) ∙ sym (append_assoc before front (rest ++ more))
+parted before front rest more = search (arith, append_assoc)
 
 pub later_left : (start net after : NetRecord) (i n : ℕ) → i < n
     → run_events record_apply start (rounds start.network.plan i) ≡ (Ok tt, net) → net.network.plan ≡ start.network.plan

@@ -2,15 +2,10 @@
 use Rattle.{c104_describe.specs.declared.faults.PlanFault.PlanFault, c104_plan.specs.Plans.Plan}
 use Rattle.{c104_session.specs.RunCommands.{DescriptionEnds, RunsDescription}, c104_setup.specs.Setups.{ComesTo, IsOutOfMemory}}
 use Rattle.{c104_setup.specs.{Setups.RefusalEnds, declared.{setups.SetupFault.SetupFault, status.Status.Status}}, std.proofs.Common.Err}
-use Rattle.std.proofs.Common.{List, None, Option, Result, Some, inl, refl, ℕ}
+use Rattle.std.proofs.Common.{List, Option, Result, arith, ℕ}
 
 description_refused : (due : Result Plan PlanFault) (why : SetupFault) (script : List ℕ) (left held holds : Option (List ℕ)) (ended : Status) → ((IsOutOfMemory why → ⊥) → ComesTo due (Err why)) → RefusalEnds why held holds ended → DescriptionEnds due script left held holds ended
-description_refused due why script left held holds Status.Done comes ends = absurd ends
-description_refused due why script left held holds Status.Refused comes ends = (Err why, comes ends.0, ends.1, refl)
-description_refused due why script left held holds (Status.CannotRead n) comes ends = absurd ends
-description_refused due why script left held holds Status.CannotWrite comes ends = (Err why, comes ends.0, ends.1)
-description_refused due why script left held holds Status.NoMemory comes ends = inl ends
+description_refused due why script left held holds ended comes ends = search arith
 
 pub run_refused : (due : Result Plan PlanFault) (why : SetupFault) (script left held holds : Option (List ℕ)) (ended : Status) → ((IsOutOfMemory why → ⊥) → ComesTo due (Err why)) → RefusalEnds why held holds ended → RunsDescription due script left held holds ended
-run_refused due why None left held holds ended comes ends = tt
-run_refused due why (Some script) left held holds ended comes ends = description_refused due why script left held holds ended comes ends
+run_refused due why script left held holds ended comes ends = search (arith, description_refused)

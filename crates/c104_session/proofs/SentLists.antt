@@ -3,19 +3,14 @@ use Rattle.{c104_event.specs.declared.events.Event.Event, c104_link.proofs.MadeS
 use Rattle.{c104_link.specs.Steps.{step_at, yield_step_at, ◌>>=◌}, c104_net.proofs.JointKeeps.{IsOfRound, round_keeps}}
 use Rattle.{c104_net.specs.Deliveries.{sent_at, sent_packets}, c104_node.{proofs.WireEnds.{get_set_other, get_set_same}, specs.Nodes.Node}}
 use Rattle.c104_node.specs.Nodes.{as_terminal, node_claim, node_control, node_credit_in, node_credit_out, node_drain, node_enter}
-use Rattle.c104_node.specs.{Nodes.{node_input, node_leave, node_send}, Traces.part, declared.node.NodeOf.TheVariants.{Switch, Terminal}}
+use Rattle.c104_node.specs.{Nodes.{node_input, node_leave, node_send}, Traces.part, declared.node.NodeOf.TheVariants.Terminal}
 use Rattle.{c104_plan.specs.Plans.Plan, c104_run.{proofs.EventSteps.{control_named, send_named}, specs.Network.{Network, network_of}}}
 use Rattle.{c104_run.specs.Network.{network_step, terminal_place}, c104_session.specs.PrintedPackets.{event_sends, packets_of}}
 use Rattle.{c104_switch.specs.{Actions.Reply, declared.actions.ReplyOf.ReplyOf}, c104_token.specs.Kinds.Kind}
-use Rattle.{c104_token.specs.declared.packets.Packet.Packet, std.proofs.Common.{Bool, List, None, Option, Some, [], ap, append-nil, arith}}
-use Rattle.std.proofs.Common.{false, if◌then◌else◌, map, nat_eq, option_map, refl, slice_get, slice_set, subst, suc, sym, true, zero, ℕ}
-use Rattle.std.proofs.{Common.{◌++◌, ◌∙◌, ◌∷◌, ◌≡◌}, lemmas.{Bool.Decides.nat_tests, List.map-set, Option.slice_get-map}}
-use Rattle.c104_link.specs.Buffers as buffer
+use Rattle.{c104_token.specs.declared.packets.Packet.Packet, std.proofs.Common.{Bool, List, Option, Some, [], ap, append-nil, arith, false}}
+use Rattle.std.proofs.Common.{if◌then◌else◌, map, nat_eq, option_map, refl, slice_get, slice_set, suc, sym, true, zero, ℕ, ◌++◌, ◌∙◌, ◌∷◌}
+use Rattle.std.proofs.{Common.◌≡◌, lemmas.{Bool.Decides.nat_tests, List.map-set, Option.slice_get-map}}
 use Rattle.c104_node.specs.Terminals as terminal
-use Rattle.c104_switch.specs.Claims as claims
-use Rattle.c104_switch.specs.Control as controls
-use Rattle.c104_switch.specs.Switch as switch
-use Rattle.c104_switch.specs.Turns as turns
 
 -- a list of a list of lists, or none
 abbrev list_at : List (List Packet) → ℕ → List Packet
@@ -28,8 +23,7 @@ module _ {A : Type 0} where
   -- a terminal that has sent the same, and one of which a token comes
   module _ {X : Type 0} (t : terminal.Terminal A) (f : X → terminal.Terminal A) (same : (x : X) → (f x).sent ≡ t.sent) where
     made_same : (made : Option X) (m : Node A) → ((made >>= (λ x. Some (f x))) >>= as_terminal) ≡ Some m → sent_packets m ≡ t.sent
-    made_same None m is = cc
-    made_same (Some x) m is = let one : ◌≡◌ {A = Node A} (Terminal (f x)) m = cc in ap sent_packets (sym one) ∙ same x
+    made_same made m is = search arith
 
     abbrev taken : (X → A) → X → Option (A × terminal.Terminal A)
     taken g x = Some (g x, f x)
@@ -38,51 +32,35 @@ module _ {A : Type 0} where
     with_terminal v = Some (v.0, Terminal v.1)
 
     yield_same : (g : X → A) (made : Option X) (r : A × Node A) → ((made >>= taken g) >>= with_terminal) ≡ Some r → sent_packets r.1 ≡ t.sent
-    yield_same g None r is = cc
-    yield_same g (Some x) r is = let one : ◌≡◌ {A = A × Node A} (g x, Terminal (f x)) r = cc in ap (λ (r : A × Node A). sent_packets r.1) (sym one) ∙ same x
+    yield_same g made r is = search arith
 
   -- each step of one node but Send keeps what it sent
   leave_keeps : (l : ℕ) (n : Node A) (r : A × Node A) → node_leave l n ≡ Some r → sent_packets r.1 ≡ sent_packets n
-  leave_keeps l (Switch s) r is = given (switch.switch_leave s l) _ r is (λ v out last.
-      let two : ◌≡◌ {A = A × Node A} (v.0, Switch v.1) r = cc in
-      ap (λ (r : A × Node A). sent_packets r.1) (sym two))
-  leave_keeps l (Terminal t) r is = yield_same t (λ (w : A × buffer.Outgoing A). terminal.with_output t w.1) (λ w. refl) (λ w. w.0) (buffer.outgoing_emit t.output) r is
+  leave_keeps l n r is = search (arith, given, yield_same)
 
   enter_keeps : (x : A) (l : ℕ) (n m : Node A) → node_enter x l n ≡ Some m → sent_packets m ≡ sent_packets n
-  enter_keeps x l (Switch s) m is = given (switch.switch_enter s l x) _ m is (λ s' made last. let two : ◌≡◌ {A = Node A} (Switch s') m = cc in ap sent_packets (sym two))
-  enter_keeps x l (Terminal t) m is = made_same t (terminal.with_input t) (λ b. refl) (buffer.incoming_accept x t.input) m is
+  enter_keeps x l n m is = search (arith, given, made_same)
 
   credit_out_keeps : (l : ℕ) (n m : Node A) → node_credit_out l n ≡ Some m → sent_packets m ≡ sent_packets n
-  credit_out_keeps l (Switch s) m is = given (switch.switch_credit_out s l) _ m is (λ s' made last. let two : ◌≡◌ {A = Node A} (Switch s') m = cc in ap sent_packets (sym two))
-  credit_out_keeps l (Terminal t) m is = made_same t (terminal.with_input t) (λ b. refl) (buffer.incoming_grant t.input) m is
+  credit_out_keeps l n m is = search (arith, given, made_same)
 
   credit_in_keeps : (l : ℕ) (n m : Node A) → node_credit_in l n ≡ Some m → sent_packets m ≡ sent_packets n
-  credit_in_keeps l (Switch s) m is = given (switch.switch_credit_in s l) _ m is (λ s' made last. let two : ◌≡◌ {A = Node A} (Switch s') m = cc in ap sent_packets (sym two))
-  credit_in_keeps l (Terminal t) m is = made_same t (terminal.with_output t) (λ b. refl) (buffer.outgoing_credited t.output) m is
+  credit_in_keeps l n m is = search (arith, given, made_same)
 
   input_keeps : (kind : Kind A) (i word : ℕ) (n m : Node A) → node_input kind i word n ≡ Some m → sent_packets m ≡ sent_packets n
-  input_keeps kind i word (Switch s) m is = given (turns.switch_input kind s i word) _ m is (λ s' made last. let two : ◌≡◌ {A = Node A} (Switch s') m = cc in ap sent_packets (sym two))
-  input_keeps kind i word (Terminal t) m is = cc
+  input_keeps kind i word n m is = search (arith, given)
 
   claim_keeps : (i o : ℕ) (n m : Node A) → node_claim i o n ≡ Some m → sent_packets m ≡ sent_packets n
-  claim_keeps i o (Switch s) m is = given (claims.switch_claim s i o) _ m is (λ s' made last. let two : ◌≡◌ {A = Node A} (Switch s') m = cc in ap sent_packets (sym two))
-  claim_keeps i o (Terminal t) m is = cc
+  claim_keeps i o n m is = search (arith, given)
 
   control_keeps : (bytes : List ℕ) (n : Node A) (r : List ℕ × Node A) → node_control bytes n ≡ Some r → sent_packets r.1 ≡ sent_packets n
-  control_keeps bytes (Switch s) r is =
-      let same : ◌≡◌ {A = List ℕ × Node A} ((controls.switch_control s bytes).0, Switch (controls.switch_control s bytes).1) r = cc in
-      ap (λ (r : List ℕ × Node A). sent_packets r.1) (sym same)
-  control_keeps bytes (Terminal t) r is = cc
+  control_keeps bytes n r is = search arith
 
   drain_keeps : (n : Node A) (r : A × Node A) → node_drain n ≡ Some r → sent_packets r.1 ≡ sent_packets n
-  drain_keeps (Switch s) r is = cc
-  drain_keeps (Terminal t) r is = yield_same t (λ (x : A). record t { input = buffer.without_first t.input; arrived = t.arrived ++ x ∷ [] }) (λ x. refl) (λ x. x) (slice_get t.input.items 0) r is
+  drain_keeps n r is = search (arith, yield_same)
 
   send_adds : (kind : Kind A) (number : ℕ) (packet : Packet) (n m : Node A) → node_send kind number packet n ≡ Some m → sent_packets m ≡ sent_packets n ++ packet ∷ []
-  send_adds kind number packet (Switch s) m is = cc
-  send_adds kind number packet (Terminal t) m is =
-      let one : ◌≡◌ {A = Node A} (Terminal (terminal.terminal_send kind number packet t)) m = cc in
-      ap sent_packets (sym one)
+  send_adds kind number packet n m is = search arith
 
   -- so of the nodes
   set_sents : (nodes : List (Node A)) (i : ℕ) (n m : Node A) → slice_get nodes i ≡ Some n → sent_packets m ≡ sent_packets n → sents (slice_set nodes i m) ≡ sents nodes
@@ -102,9 +80,7 @@ AddsSent plan e before after = after ≡ before
 
 module _ {A : Type 0} (kind : Kind A) (plan : Plan) (nodes : List (Node A)) where
   by_last : (told : Reply) (after : List (Node A)) (r : Reply × Network A) (P : List (List Packet) → Type 0) → ◌≡◌ {A = Option (Reply × Network A)} (Some (told, network_of plan after)) (Some r) → P (sents after) → P (sents r.1.nodes)
-  by_last told after r P is holds =
-      let same : ◌≡◌ {A = Reply × Network A} (told, network_of plan after) r = cc in
-      subst (λ (r : Reply × Network A). P (sents r.1.nodes)) same holds
+  by_last told after r P is holds = search arith
 
   round_sents : (e : Event) → IsOfRound e → (r : Reply × Network A) → network_step kind (network_of plan nodes) e ≡ Some r → sents r.1.nodes ≡ sents nodes
   round_sents e of r is =
@@ -127,34 +103,17 @@ module _ {A : Type 0} (kind : Kind A) (plan : Plan) (nodes : List (Node A)) wher
 
 -- the list of each terminal after an event
 adds_at : (plan : Plan) (e : Event) (before after : List (List Packet)) (t : ℕ) → AddsSent plan e before after → list_at after (terminal_place plan t) ≡ list_at before (terminal_place plan t) ++ packets_of t (event_sends e)
-adds_at plan (Event.Send a p) before after t adds = by_test (nat_eq a t) refl
-  where
-    by_test : (b : Bool) → nat_eq a t ≡ b → list_at after (terminal_place plan t) ≡ list_at before (terminal_place plan t) ++ (if b then p ∷ [] else [])
-    by_test true is =
-        let same : a ≡ t = grind (arith, nat_tests) in
-        subst (λ (u : ℕ). list_at after (terminal_place plan u) ≡ list_at before (terminal_place plan u) ++ p ∷ []) same
-        (ap (λ xs. list_at xs (terminal_place plan a)) adds.2
-        ∙ ap (part [] (λ (l : List Packet). l)) (get_set_same before (terminal_place plan a) adds.0 (adds.0 ++ p ∷ []) adds.1)
-        ∙ sym (ap (λ o. part [] (λ (l : List Packet). l) o ++ p ∷ []) adds.1))
-    by_test false is =
-        let differ : (terminal_place plan a ≡ terminal_place plan t → ⊥) = λ same. (let one : a ≡ t = omega (arith, same) in let no : ⊥ = grind (arith, nat_tests) in no) in
-        ap (λ xs. list_at xs (terminal_place plan t)) adds.2
-        ∙ ap (part [] (λ (l : List Packet). l)) (get_set_other before (terminal_place plan a) (terminal_place plan t) (adds.0 ++ p ∷ []) differ)
-        ∙ sym (append-nil (list_at before (terminal_place plan t)))
-adds_at plan e before after t adds = ap (λ xs. list_at xs (terminal_place plan t)) adds ∙ sym (append-nil (list_at before (terminal_place plan t)))
+adds_at plan e before after t adds = search (arith, nat_tests, get_set_same, get_set_other, append-nil)
 
 part_of : {A : Type 0} (o : Option (Node A)) → part [] sent_packets o ≡ part [] (λ (l : List Packet). l) (option_map sent_packets o)
-part_of None = refl
-part_of (Some n) = refl
+part_of o = search arith
 
 sent_list : {A : Type 0} (plan : Plan) (nodes : List (Node A)) (t : ℕ) → sent_at (network_of plan nodes) t ≡ list_at (sents nodes) (terminal_place plan t)
 sent_list plan nodes t = part_of (slice_get nodes (terminal_place plan t)) ∙ ap (part [] (λ (l : List Packet). l)) (sym (slice_get-map sent_packets nodes (terminal_place plan t)))
 
 -- what each terminal has sent after an event that was done
 pub sent_after : {A : Type 0} (kind : Kind A) (plan : Plan) (nodes after : List (Node A)) (e : Event) (r : Reply) → network_step kind (network_of plan nodes) e ≡ Some (r, network_of plan after) → (t : ℕ) → sent_at (network_of plan after) t ≡ sent_at (network_of plan nodes) t ++ packets_of t (event_sends e)
-sent_after kind plan nodes after e r is t =
-    sent_list plan after t ∙ adds_at plan e (sents nodes) (sents after) t (step_sents kind plan nodes e (r, network_of plan after) is)
-    ∙ ap (λ l. l ++ packets_of t (event_sends e)) (sym (sent_list plan nodes t))
+sent_after kind plan nodes after e r is t = search (arith, sent_list, adds_at, step_sents)
 
 pub packets_append : (t : ℕ) (xs ys : List (ℕ × Packet)) → packets_of t (xs ++ ys) ≡ packets_of t xs ++ packets_of t ys
 packets_append t [] ys = refl

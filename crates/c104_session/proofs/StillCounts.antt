@@ -1,11 +1,11 @@
 -- Whether anything was done, by how many events were: where no more were than before, nothing has changed.
-use Rattle.{c104_event.specs.declared.{events.Event.Event, faults.EventFault.EventFault}, c104_node.specs.Traces.{noted_all, seatless}}
-use Rattle.c104_run.{proofs.{RoundRuns.{ends_keep, undone_left}, UndoneEvents.undone_deeds}, specs.EventRuns.{Outcome, run_events}}
-use Rattle.c104_run.specs.{EventRuns.unless_fault, NetRecords.{NetRecord, is_done, largest_ticket, ticket_after}, Network.Network}
-use Rattle.c104_run.specs.{Network.network_apply, RecordedRuns.{record_apply, record_stage}, Stages.stage_full}
-use Rattle.{c104_session.specs.Keepers.is_later, c104_switch.specs.Actions.Reply, c104_token.specs.Kinds.plain_kind}
-use Rattle.{c104_token.specs.declared.tokens.Token.Token, std.proofs.Common.{Bool, Err, List, Ok, Result, [], ap, arith, false}}
-use Rattle.std.proofs.{Common.{if◌then◌else◌, inl, refl, sym, true, ℕ, ◌&&◌, ◌+◌, ◌<◌, ◌∙◌, ◌∷◌, ◌≡◌, ◌≤◌}, lemmas.Bool.Decides.nat_tests}
+use Rattle.{c104_event.specs.declared.{events.Event.Event, faults.EventFault.EventFault}, c104_run.proofs.RoundRuns.ends_keep}
+use Rattle.c104_run.{proofs.{RoundRuns.undone_left, UndoneEvents.undone_deeds}, specs.EventRuns.{Outcome, run_events, unless_fault}}
+use Rattle.c104_run.specs.{NetRecords.{NetRecord, is_done, largest_ticket, ticket_after}, Network.{Network, network_apply}}
+use Rattle.{c104_run.specs.{RecordedRuns.{record_apply, record_stage}, Stages.stage_full}, c104_session.specs.Keepers.is_later}
+use Rattle.{c104_switch.specs.Actions.Reply, c104_token.specs.{Kinds.plain_kind, declared.tokens.Token.Token}, std.proofs.Common.Bool}
+use Rattle.std.proofs.Common.{Err, List, Ok, Result, [], ap, arith, false, if◌then◌else◌, inl, refl, sym, true, ℕ, ◌&&◌, ◌+◌, ◌<◌, ◌∙◌, ◌∷◌}
+use Rattle.std.proofs.{Common.{◌≡◌, ◌≤◌}, lemmas.Bool.Decides.nat_tests}
 
 abbrev Came : Type 0
 Came = Result Reply EventFault × Network Token
@@ -17,8 +17,7 @@ module _ (net : NetRecord) (e : Event) where
 
   stays_if : (full : Bool) (due : Came) → (is_done due.0 ≡ false → due.1 ≡ net.network)
       → is_done (came_if full due).0 ≡ false → (came_if full due).1 ≡ net.network
-  stays_if true due stays undone = refl
-  stays_if false due stays undone = stays undone
+  stays_if full due stays undone = search arith
 
   abbrev due : Came
   due = network_apply plain_kind net.network e
@@ -27,12 +26,7 @@ module _ (net : NetRecord) (e : Event) where
   came = came_if (stage_full true (record_stage net) e && is_done due.0) due
 
   undone_stays : is_done (record_apply net e).0 ≡ false → (record_apply net e).1 ≡ net
-  undone_stays undone =
-      ap (λ (n : Network Token). record (record_apply net e).1 { network = n })
-      (stays_if (stage_full true (record_stage net) e && is_done due.0) due (undone_left plain_kind net.network e) undone)
-      ∙ ap (λ entries. record net { traces = noted_all true net.traces entries; count = ticket_after net.count (is_done came.0) })
-      (undone_deeds net.network.plan (seatless net.count) e came.0 undone)
-      ∙ ap (λ done. record net { count = ticket_after net.count done }) undone
+  undone_stays undone = search (arith, stays_if, undone_left, undone_deeds)
 
 -- the count doesn't fall
 abbrev IsAfter : ℕ → NetRecord → Type 0
@@ -40,8 +34,7 @@ IsAfter n r = (n ≤ r.count) × (r.count ≤ largest_ticket)
 
 one_after : (n m : ℕ) (done : Bool) → (n ≤ m) × (m ≤ largest_ticket)
     → (n ≤ ticket_after m done) × (ticket_after m done ≤ largest_ticket)
-one_after n m true is = let least = is.0 in let most = is.1 in (omega (arith, least, most), omega (arith, most))
-one_after n m false is = is
+one_after n m done is = search arith
 
 event_after : (n : ℕ) (r : NetRecord) (e : Event) → IsAfter n r → IsAfter n (record_apply r e).1
 event_after n r e is = one_after n r.count (is_done (record_apply r e).0) is

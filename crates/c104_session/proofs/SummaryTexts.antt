@@ -3,8 +3,8 @@ use Rattle.{c104_node.specs.declared.origins.Origin.Origin, c104_plan.specs.{Pla
 use Rattle.{c104_script.specs.Texts.token_text, c104_session.specs.Shown.{byte_word, line_text, lines_text, origin_text, packet_line}}
 use Rattle.{c104_session.specs.{Shown.tokens_text, declared.summary_text.SummaryLine.SummaryLine}, c104_token.specs.Packets.packet_tokens}
 use Rattle.c104_token.specs.{Text.mark_word, Tokens.end_token, declared.{packets.Packet.Packet, tokens.{Mark.Mark, Token.TheVariants.Byte}}}
-use Rattle.{c104_token.specs.declared.tokens.Token.Token, std.proofs.Common.{List, Option, Some, [], ap, codes, decimal, flat_map, map}}
-use Rattle.std.{proofs.{Common.{refl, sym, ℕ, ◌++◌, ◌∙◌, ◌∷◌, ◌≡◌}, lemmas.Grind.flat_map-append}, specs.Prelude.option_to_list}
+use Rattle.{c104_token.specs.declared.tokens.Token.Token, std.proofs.Common.{List, Option, Some, [], ap, arith, codes, decimal, flat_map}}
+use Rattle.std.{proofs.{Common.{map, refl, sym, ℕ, ◌++◌, ◌∙◌, ◌∷◌, ◌≡◌}, lemmas.Grind.flat_map-append}, specs.Prelude.option_to_list}
 use mathlib.Core.List.{append-nil}
 
 -- a space stands before whatever follows a token
@@ -13,8 +13,7 @@ after_one x [] end = refl
 after_one x (b ∷ bytes) end = refl
 
 of_end : (m : Mark) → tokens_text (end_token m ∷ []) ≡ mark_word m
-of_end Mark.Eop = refl
-of_end Mark.Eom = refl
+of_end m = search arith
 
 of_bytes : (bytes : List ℕ) (m : Mark) → tokens_text (map Byte bytes ++ end_token m ∷ []) ≡ flat_map byte_word bytes ++ mark_word m
 of_bytes [] m = of_end m
@@ -22,8 +21,7 @@ of_bytes (b ∷ bytes) m = after_one (Byte b) bytes (end_token m) ∙ ap (λ tex
 
 -- the words of the bytes and that of the mark, where these are they, are the text of the tokens
 pub tokens_are : (packet : Packet) (bytes mark : List ℕ) → bytes ≡ packet.bytes → mark ≡ mark_word packet.mark → flat_map byte_word bytes ++ mark ≡ tokens_text (packet_tokens packet)
-tokens_are packet bytes mark same is =
-    ap (λ xs. flat_map byte_word xs ++ mark) same ∙ ap (λ word. flat_map byte_word packet.bytes ++ word) is ∙ sym (of_bytes packet.bytes packet.mark)
+tokens_are packet bytes mark same is = search (arith, flat_map, of_bytes)
 
 -- where a packet came from, by the parts of its text
 pub origin_is : (plan : Plan) (origin : Option Origin) (it : Origin) (name number : List ℕ) → origin ≡ Some it → name ≡ terminal_name plan it.terminal → number ≡ decimal it.number → codes " from " ++ (name ++ (codes " " ++ number)) ≡ flat_map (origin_text plan) (option_to_list origin)

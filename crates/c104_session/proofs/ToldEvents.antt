@@ -3,23 +3,18 @@ use Rattle.{c104_event.specs.declared.{events.Event.Event, faults.EventFault.Eve
 use Rattle.{c104_net.specs.MeteredRecords.{at_meter, record_metered}, c104_node.specs.declared.tagged.TaggedToken.TaggedToken}
 use Rattle.c104_run.specs.{EventRuns.Answers, Meters.Sees, NetRecords.{NetRecord, is_done}, RecordedRuns.{AnswersRecord, record_apply}}
 use Rattle.{c104_session.{proofs.Leavings.event_kept, specs.{Driven.DoesEvent, Timed.told_event}}, c104_switch.specs.Actions.Reply}
-use Rattle.{c104_timeline.specs.{Metering.watching, Timelines.{Timeline, timeline_ended}}, std.proofs.Common.{Bool, Err, OnErr, Result, ap}}
-use Rattle.std.proofs.Common.{inl, inr, ◌∙◌, ◌≡◌, ◌⊎◌}
+use Rattle.{c104_timeline.specs.{Metering.watching, Timelines.{Timeline, timeline_ended}}, std.proofs.Common.{Bool, Err, OnErr, Result}}
+use Rattle.std.proofs.Common.{arith, ◌≡◌, ◌⊎◌}
 
 module _ (net : NetRecord) (e : Event) (answer : Result Reply EventFault) (after : NetRecord) where
   pub asked_due : AnswersRecord net e answer after → DoesEvent net e answer after
-  asked_due (inl due) = inl due
-  asked_due (inr short) = inr short.0
+  asked_due h1 = search arith
 
   -- what follows by whether it was done
   pub done_so : {M : Type 0} (f : M → Bool → M) (due m n : M) → DoesEvent net e answer after
       → (m ≡ due) ⊎ (answer ≡ Err EventFault.NoMemory) → n ≡ f m (is_done answer)
       → (n ≡ f due (is_done (record_apply net e).0)) ⊎ (answer ≡ Err EventFault.NoMemory)
-  done_so f due m n (inl does) (inl told) is =
-      inl (is ∙ ap (λ x. f x (is_done answer)) told
-      ∙ ap (λ (x : Result Reply EventFault × NetRecord). f due (is_done x.0)) does)
-  done_so f due m n (inr short) told is = inr short
-  done_so f due m n (inl does) (inr short) is = inr short
+  done_so f due m n h1 told is = search arith
 
   -- of a timeline that is told whether it was done
   pub timed_told : (t u v : Timeline) → DoesEvent net e answer after
@@ -33,8 +28,7 @@ module _ {M : Type 0} (sees : Sees M TaggedToken) (net : NetRecord) (e : Event) 
   Came = Result Reply EventFault × MeteredRecord M
 
   of_record : Answers (record_metered sees) (at_meter net m) e answer (at_meter after n) → AnswersRecord net e answer after
-  of_record (inl due) = inl (ap (λ (x : Came). (x.0, x.1.net)) due)
-  of_record (inr short) = inr (short.0, short.1, ap (λ (s : MeteredRecord M). s.net) short.2)
+  of_record h1 = search arith
 
   pub told_due : DoesEvent net e answer after
   told_due = asked_due net e answer after (of_record told)
@@ -44,8 +38,7 @@ module _ {M : Type 0} (sees : Sees M TaggedToken) (net : NetRecord) (e : Event) 
 
   meter_of : Answers (record_metered sees) (at_meter net m) e answer (at_meter after n)
       → (n ≡ (record_metered sees (at_meter net m) e).1.meter) ⊎ (answer ≡ Err EventFault.NoMemory)
-  meter_of (inl due) = inl (ap (λ (x : Came). x.1.meter) due)
-  meter_of (inr short) = inr short.0
+  meter_of h1 = search arith
 
   pub told_meter : (n ≡ (record_metered sees (at_meter net m) e).1.meter) ⊎ (answer ≡ Err EventFault.NoMemory)
   told_meter = meter_of told

@@ -11,7 +11,7 @@ use Rattle.c104_run.specs.{Network.{Network, network_apply, network_of}, Recorde
 use Rattle.c104_run.specs.{Rounds.rounds, Runs.{IsDoneRun, IsRunRecord}, Stages.{stage_after, stage_full}}
 use Rattle.c104_session.{proofs.SentLists.{packets_append, sent_after}, specs.PrintedPackets.{event_sends, packets_of}}
 use Rattle.{c104_switch.specs.Actions.{Reply, is_ready}, c104_token.specs.{Kinds.plain_kind, declared.packets.Packet.Packet}}
-use Rattle.{c104_token.specs.declared.tokens.Token.Token, std.proofs.Common.{Bool, Err, List, Ok, Result, [], ap, append-nil, false}}
+use Rattle.{c104_token.specs.declared.tokens.Token.Token, std.proofs.Common.{Bool, Err, List, Ok, Result, [], ap, append-nil, arith, false}}
 use Rattle.std.proofs.Common.{if◌then◌else◌, inl, map, refl, subst, suc, sym, true, zero, ℕ, ◌&&◌, ◌++◌, ◌+◌, ◌∙◌, ◌∷◌, ◌≡◌}
 use Rattle.std.specs.List.{AllByRecursion}
 
@@ -34,23 +34,11 @@ pub record IsUnchangedNet (routes : Routes) (plan : Plan) (starts : List NodeSta
 
 -- the same with another fact
 pub of_fact : (routes : Routes) (plan : Plan) (starts : List NodeStart) (fact other : Fact) (sends : List (ℕ × Packet)) (net : NetRecord) → IsUnchangedNet routes plan starts fact sends net → other sends net.network.nodes → IsUnchangedNet routes plan starts other sends net
-of_fact routes plan starts fact other sends net was holds = record {
-  same_plan = was.same_plan;
-  same_starts = was.same_starts;
-  kept = was.kept;
-  events = was.events;
-  told = was.told;
-  bytes = was.bytes;
-  unchanged = was.unchanged;
-  sent = was.sent;
-  holds = holds;
-}
+of_fact routes plan starts fact other sends net was holds = search arith
 
 -- the run that it came from, in this plan and from these starts
 pub run_so_far : (routes : Routes) (plan : Plan) (starts : List NodeStart) (fact : Fact) (sends : List (ℕ × Packet)) (net : NetRecord) (was : IsUnchangedNet routes plan starts fact sends net) → IsDoneRun plain_kind (network_of plan (map start_node starts)) was.events (network_of plan net.network.nodes)
-run_so_far routes plan starts fact sends net was =
-    subst (λ ss. IsDoneRun plain_kind (network_of plan (map start_node ss)) was.events (network_of plan net.network.nodes)) was.same_starts
-    (subst (λ p. IsDoneRun plain_kind (network_of p (map start_node net.starts)) was.events (network_of p net.network.nodes)) was.same_plan was.told.run)
+run_so_far routes plan starts fact sends net was = search arith
 
 -- each event that may happen keeps a fact
 abbrev pub Keeps : Routes → Plan → List NodeStart → Fact → Type 0
@@ -123,11 +111,7 @@ module _ (routes : Routes) (plan : Plan) (is_plan : IsPlan plan) (starts : List 
 
     -- it wasn't
     undone : (answer : Result Reply EventFault) (next : Network Token) → IsDue (answer, next) → is_done answer ≡ false → Is sends (after (answer, next))
-    undone answer next due not =
-        let same : next ≡ net.network = ap (λ (d : Applied (Network Token)). d.1) due ∙ undone_left plain_kind net.network e (ap (λ (d : Applied (Network Token)). is_done d.0) (sym due) ∙ not) in
-        let traces : (after (answer, next)).traces ≡ net.traces = ap (noted_all true net.traces) (undone_deeds net.network.plan (seatless net.count) e answer not) in
-        let count : (after (answer, next)).count ≡ net.count = ap (ticket_after net.count) not in
-        subst (Is sends) (sym (same_record (after (answer, next)) net same refl traces count)) was
+    undone answer next due not = search (arith, undone_left, undone_deeds, same_record)
 
     by_answer : (answer : Result Reply EventFault) (next : Network Token) → IsDue (answer, next) → ((r : Reply) → answer ≡ Ok r → MayHappen routes e r) → IsNetRecord (after (answer, next)) → IsAfter (answer, next)
     by_answer (Err f) next due may kept = subst (λ (s : List (ℕ × Packet)). Is s (after (Err f, next))) (none_more sends) (undone (Err f) next due refl)
@@ -150,19 +134,13 @@ module _ (routes : Routes) (plan : Plan) (is_plan : IsPlan plan) (starts : List 
 
   -- events of a round send nothing, and may happen
   none_sent : (e : Event) → IsOfRound e → (b : Bool) → sends_if b e ≡ []
-  none_sent (Event.Send t p) of b = absurd of
-  none_sent (Event.Control s bytes) of b = absurd of
-  none_sent e of true = refl
-  none_sent e of false = refl
+  none_sent e of b = search arith
 
   no_bytes : (e : Event) → IsOfRound e → SendsBytes e
-  no_bytes (Event.Send t p) of = absurd of
-  no_bytes e of = tt
+  no_bytes e of = search arith
 
   may_happen : (e : Event) → IsOfRound e → (r : Reply) → MayHappen routes e r
-  may_happen (Event.Send t p) of r = absurd of
-  may_happen (Event.Control s bytes) of r = absurd of
-  may_happen e of r = tt
+  may_happen e of r = search arith
 
   pub round_event : (sends : List (ℕ × Packet)) (net : NetRecord) (e : Event) → IsOfRound e → Is sends net → Is sends (record_apply net e).1
   round_event sends net e of was =

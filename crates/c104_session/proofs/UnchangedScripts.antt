@@ -1,28 +1,24 @@
 -- A script that changes nothing leaves a network that nobody changed, whose terminals sent what its lines sent.
 use Rattle.{c104_check.specs.Routes.Routes, c104_event.specs.declared.{events.Event.Event, faults.EventFault.EventFault}}
 use Rattle.{c104_net.{proofs.SentBytes.SendsBytes, specs.Unchanged.MayHappen}, c104_node.specs.declared.starts.NodeStart.NodeStart}
-use Rattle.{c104_plan.specs.Plans.{IsPlan, Plan}, c104_run.specs.{NetRecords.{NetRecord, is_done}, RecordedRuns.record_apply}}
-use Rattle.{c104_run.specs.Rounds.rounds, c104_script.{proofs.ScriptBytes.{AskedBytes, line_bytes}, specs.Script.read_script_line}}
-use Rattle.c104_script.specs.declared.{faults.LineFault.LineFault, places.Request.Request, probes.Probe.Probe}
-use Rattle.c104_session.proofs.{PeekedNets.{IsNoPoke, probe_leaves}, UnchangedNets.{Fact, IsUnchangedNet, Keeps, event_leaves}}
-use Rattle.c104_session.{proofs.UnchangedNets.{events_leave, of_rounds, sends_if}, specs.PrintedPackets.{LeaveUnchanged, MayAsk}}
-use Rattle.c104_session.specs.{PrintedPackets.{asked_sends, line_sends, lines_sent, was_done}, Shown.{answer_of_read, event_answer}}
-use Rattle.c104_session.specs.{Shown.{line_answer, line_outcome}, declared.session.Session.Session}
+use Rattle.{c104_plan.specs.Plans.{IsPlan, Plan}, c104_run.specs.{NetRecords.{NetRecord, is_done}, Rounds.rounds}}
+use Rattle.c104_script.{proofs.ScriptBytes.{AskedBytes, line_bytes}, specs.{Script.read_script_line, declared.faults.LineFault.LineFault}}
+use Rattle.{c104_script.specs.declared.{places.Request.Request, probes.Probe.Probe}, c104_session.proofs.PeekedNets.IsNoPoke}
+use Rattle.c104_session.proofs.{PeekedNets.probe_leaves, UnchangedNets.{Fact, IsUnchangedNet, Keeps, event_leaves, events_leave, of_rounds}}
+use Rattle.c104_session.specs.{PrintedPackets.{LeaveUnchanged, MayAsk, asked_sends, line_sends, lines_sent, was_done}, Shown.answer_of_read}
+use Rattle.c104_session.specs.{Shown.{event_answer, line_answer, line_outcome}, declared.session.Session.Session}
 use Rattle.{c104_stream.specs.Scripts.lines_outcome, c104_switch.specs.Actions.Reply, c104_token.specs.declared.packets.Packet.Packet}
-use Rattle.std.proofs.Common.{Bool, Err, IfOk, List, None, Ok, Option, Result, Some, [], ap, append-nil, append_assoc, false, if◌then◌else◌}
-use Rattle.std.proofs.Common.{refl, subst, suc, sym, true, ℕ, ◌++◌, ◌∙◌, ◌∷◌, ◌≡◌}
+use Rattle.std.proofs.Common.{Bool, Err, IfOk, List, None, Ok, Option, Result, Some, [], ap, append-nil, append_assoc, arith, false}
+use Rattle.std.proofs.Common.{if◌then◌else◌, subst, suc, sym, ℕ, ◌++◌, ◌∙◌, ◌∷◌, ◌≡◌}
 
 done_same : (a : Result Reply EventFault) → is_done a ≡ was_done (Some (event_answer a))
-done_same (Ok r) = refl
-done_same (Err f) = refl
+done_same a = search arith
 
 may_of : (routes : Routes) (e : Event) (a : Result Reply EventFault) → MayAsk routes (Ok (Some (Request.Asked e))) (Some (event_answer a)) → (r : Reply) → a ≡ Ok r → MayHappen routes e r
-may_of routes e (Ok q) may r is = let same : q ≡ r = cc in subst (MayHappen routes e) same may
-may_of routes e (Err f) may r is = absurd (cc is)
+may_of routes e a may r is = search arith
 
 none_if : {X : Type 0} (b : Bool) → ◌≡◌ {A = List X} (if b then [] else []) []
-none_if true = refl
-none_if false = refl
+none_if b = search arith
 
 module _ (routes : Routes) (plan : Plan) (is_plan : IsPlan plan) (starts : List NodeStart) (fact : Fact) (keeps : Keeps routes plan starts fact) where
   abbrev Is : List (ℕ × Packet) → NetRecord → Type 0
@@ -40,13 +36,10 @@ module _ (routes : Routes) (plan : Plan) (is_plan : IsPlan plan) (starts : List 
     nothing b net left = subst (λ (l : List (ℕ × Packet)). Is l net) (sym (ap (λ (l : List (ℕ × Packet)). sends ++ l) (none_if b) ∙ append-nil sends)) left
 
     event_done : (e : Event) → SendsBytes e → MayAsk routes (Ok (Some (Request.Asked e))) (answer_of_read session (Ok (Some (Request.Asked e)))).0 → IsAfter (Ok (Some (Request.Asked e)))
-    event_done e bytes may =
-        subst (λ b. Is (sends ++ sends_if b e) (record_apply session.net e).1) (done_same (record_apply session.net e).0)
-        (event_leaves routes plan is_plan starts fact keeps sends session.net e bytes was (may_of routes e (record_apply session.net e).0 may))
+    event_done e bytes may = search (arith, done_same, event_leaves, may_of)
 
     poked : (it : Probe) → MayAsk routes (Ok (Some (Request.Probed it))) (answer_of_read session (Ok (Some (Request.Probed it)))).0 → IsNoPoke routes plan is_plan starts fact keeps sends it
-    poked (Probe.Poke switch addr value) may = may
-    poked it may = tt
+    poked it may = search arith
 
     read_leaves : (asked : Result (Option Request) LineFault) → IfOk asked (AskedBytes plan) → MayAsk routes asked (answer_of_read session asked).0 → IsAfter asked
     read_leaves (Ok None) bytes may = nothing false session.net was
@@ -59,10 +52,7 @@ module _ (routes : Routes) (plan : Plan) (is_plan : IsPlan plan) (starts : List 
     -- a line that changes nothing
     pub line_leaves : (line : List ℕ) → MayAsk routes (read_script_line session.net.network.plan line) (line_answer session line).0 → Is (sends ++ line_sends session line) (line_answer session line).1.net
     unfolding line_answer
-    line_leaves line may = read_leaves (read_script_line session.net.network.plan line) (bytes (line_bytes session.net.network.plan line)) may
-      where
-        bytes : IfOk (read_script_line session.net.network.plan line) (AskedBytes session.net.network.plan) → IfOk (read_script_line session.net.network.plan line) (AskedBytes plan)
-        bytes is = subst (λ p. IfOk (read_script_line session.net.network.plan line) (AskedBytes p)) was.same_plan is
+    line_leaves line may = search (arith, read_leaves, line_bytes)
 
   -- lines in turn
   pub lines_leave : (lines : List (List ℕ)) (number : ℕ) (sends : List (ℕ × Packet)) (session : Session) → LeaveUnchanged routes session lines → Is sends session.net → Is (sends ++ lines_sent session lines) (lines_outcome line_outcome number session lines).1.net

@@ -1,44 +1,36 @@
 -- An event that may happen makes the work that is left larger by no more than the weight of the tokens that it sends; and one
 -- of a round leaves less.
-use Rattle.c104_check.specs.{ChannelDependencies.IsRanking, Routes.{IsAccepted, Routes, link_settings, routes_of}, Walks.port_of}
-use Rattle.{c104_check.specs.declared.ports.SwitchPort.SwitchPort, c104_control.specs.Reading.read_command}
+use Rattle.c104_check.specs.{ChannelDependencies.IsRanking, Routes.{IsAccepted, Routes, routes_of}, declared.ports.SwitchPort.SwitchPort}
 use Rattle.c104_deadlock.proofs.{RoundsEnd.work_map, WorkBounds.{weigh_is, weigh_more}, WorkEvents.event_less, WorkRounds.falling}
 use Rattle.c104_deadlock.{proofs.WorkSteps.{sum_set, weigh-append}, specs.HeaderWork.{ahead_at, ahead_by, full_node, random_ahead}}
 use Rattle.{c104_deadlock.specs.{HeaderWork.{random_bound, random_work}, Work.{level, weigh}}, c104_event.specs.declared.events.Event.Event}
 use Rattle.{c104_event.specs.declared.faults.EventFault.EventFault, c104_link.proofs.MadeSteps.{at_place_made, from_place_made, given}}
-use Rattle.{c104_link.specs.Steps.{step_at, yield_step_at}, c104_net.proofs.{CommandEvents.read_sides, PacketInvariant.IsLabelled}}
-use Rattle.c104_net.proofs.{Promises.{each, starts}, RunSteps.header_positive, SentBytes.{AreBytesSent, SendsBytes}, StartMaps.starts_are}
-use Rattle.c104_net.{proofs.TracedRuns.{token_of, traced_from}, specs.{RoundEvents.IsOfRound, Unchanged.{AreStartsOf, IsHarmless}}}
-use Rattle.{c104_net.specs.Unchanged.{IsUnchanged, MayHappen}, c104_node.specs.{Nodes.{Node, node_control, node_send}, Starts.start_node}}
-use Rattle.c104_node.specs.{Terminals.{sent_from, sent_tokens, terminal_send}, Traced.traced_kind, declared.node.NodeOf.NodeOf}
+use Rattle.{c104_link.specs.Steps.step_at, c104_net.proofs.{CommandEvents.read_sides, PacketInvariant.IsLabelled, Promises.{each, starts}}}
+use Rattle.c104_net.proofs.{RunSteps.header_positive, SentBytes.{AreBytesSent, SendsBytes}, StartMaps.starts_are, TracedRuns.token_of}
+use Rattle.c104_net.{proofs.TracedRuns.traced_from, specs.{RoundEvents.IsOfRound, Unchanged.{AreStartsOf, IsHarmless, IsUnchanged}}}
+use Rattle.{c104_net.specs.Unchanged.MayHappen, c104_node.specs.{Nodes.{Node, node_send}, Starts.start_node, Terminals.sent_from}}
+use Rattle.c104_node.specs.{Terminals.{sent_tokens, terminal_send}, Traced.traced_kind, declared.node.NodeOf.NodeOf}
 use Rattle.{c104_node.specs.declared.{starts.NodeStart.NodeStart, traced.Traced.Traced}, c104_plan.specs.{PlanImage.Image, Plans.IsPlan}}
 use Rattle.{c104_plan.specs.{Plans.Plan, Wiring.peer, declared.ports.Port.Port}, c104_regs.specs.declared.settings.Settings.Settings}
 use Rattle.c104_run.proofs.{EventSteps.{control_named, send_named}, RecordSteps.done_made, RoundRuns.Applied, StepMaps.apply_map}
 use Rattle.c104_run.specs.{NetRecords.NetRecord, Network.{Network, network_apply, network_of, network_step, placed_network, terminal_place}}
 use Rattle.{c104_run.specs.{Runs.IsDoneRun, TracedRuns.map_network}, c104_session.proofs.UnchangedNets.{Fact, IsUnchangedNet, Keeps}}
 use Rattle.c104_session.{proofs.UnchangedNets.run_so_far, specs.{DeliveredRuns.{sends_weight, token_weight}, PrintedPackets.event_sends}}
-use Rattle.c104_switch.specs.{Actions.{Reply, is_ready}, Control.switch_control, declared.actions.ReplyOf.ReplyOf}
-use Rattle.c104_token.specs.{Kinds.{Kind, plain_kind}, Packets.packet_tokens, Tokens.end_token, declared.packets.Packet.Packet}
-use Rattle.{c104_token.specs.declared.tokens.Token.{TheVariants.Byte, Token}, std.proofs.Common.{List, None, Ok, Option, Result, Some, []}}
-use Rattle.std.proofs.Common.{ap, arith, false, length, length-append, map, refl, slice_get, slice_set, subst, suc, sym, true, zero, ℕ}
-use Rattle.std.proofs.{Common.{⊎_elim, ◌*◌, ◌++◌, ◌+◌, ◌-◌, ◌<◌, ◌∙◌, ◌∷◌, ◌≡◌, ◌≤◌}, Math.Nat.{suc-mul, zero-mul}, lemmas.Bool.cases_Bool}
-use Rattle.std.proofs.lemmas.{List.length-map, Option.some_pair_parts}
+use Rattle.{c104_switch.specs.{Actions.{Reply, is_ready}, declared.actions.ReplyOf.ReplyOf}, c104_token.specs.Kinds.{Kind, plain_kind}}
+use Rattle.{c104_token.specs.declared.{packets.Packet.Packet, tokens.Token.Token}, std.proofs.Common.{List, Ok, Option, Result, Some, []}}
+use Rattle.std.proofs.Common.{ap, arith, length, length-append, map, refl, slice_get, slice_set, subst, suc, sym, true, ℕ, ◌*◌, ◌++◌, ◌+◌}
+use Rattle.std.proofs.{Common.{◌-◌, ◌<◌, ◌∙◌, ◌∷◌, ◌≡◌, ◌≤◌}, Math.Nat.{suc-mul, zero-mul}, lemmas.{Bool.cases_Bool, List.length-map}}
+use Rattle.std.proofs.lemmas.Option.{some_pair_parts}
 
 times_more : (n a b : ℕ) → a ≤ b → n * a ≤ n * b
-times_more zero a b less = let one = zero-mul a in let other = zero-mul b in omega (arith, one, other)
-times_more (suc n) a b less =
-    let rest = times_more n a b less in
-    let one = suc-mul n a in
-    let other = suc-mul n b in
-    omega (arith, rest, one, other, less)
+times_more n a b less = search (arith, zero-mul, suc-mul)
 
 length_sent : {A : Type 0} (kind : Kind A) (t n j : ℕ) (xs : List Token) → length (sent_from kind t n j xs) ≡ length xs
 length_sent kind t n j [] = refl
 length_sent kind t n j (x ∷ xs) = ap suc (length_sent kind t n (suc j) xs)
 
 length_tokens : (t n : ℕ) (p : Packet) → length (sent_tokens plain_kind t n p) ≡ length p.bytes + 1
-length_tokens t n p =
-    length_sent plain_kind t n 0 (packet_tokens p) ∙ length-append (map Byte p.bytes) (end_token p.mark ∷ []) ∙ ap (λ k. k + 1) (length-map p.bytes Byte)
+length_tokens t n p = search (arith, length_sent, length-append, length-map)
 
 pub weight_parts : (w : ℕ) (xs ys : List (ℕ × Packet)) → sends_weight w (xs ++ ys) ≡ sends_weight w xs + sends_weight w ys
 weight_parts w [] ys = omega arith
@@ -63,19 +55,10 @@ module _ (plan : Plan) (image : Image) (is_plan : IsPlan plan) (accepted : IsAcc
 
   -- no token that waits weighs more
   ahead_low : (p : SwitchPort) (x : Option Settings) → ahead_by routes.header (rank p) x ≤ routes.header * (8 * (32 * length plan.switches + 1)) + 1
-  ahead_low p None = omega arith
-  ahead_low p (Some x) = ⊎_elim
-      (λ (k : x.randomize ≡ true). rw k (let low = within p in let more = times_more routes.header (8 * (rank p + 1)) (8 * (32 * length plan.switches + 1)) (omega (arith, low)) in omega (arith, more)))
-      (λ (k : x.randomize ≡ false). rw k (omega arith))
-      (cases_Bool x.randomize)
+  ahead_low p x = search (arith, times_more, cases_Bool)
 
   port_low : (q : Option Port) → 8 * level plan rank q + 4 + ahead_at plan rank ahead q ≤ weight
-  port_low None = omega arith
-  port_low (Some (Port.Terminal t)) = omega arith
-  port_low (Some (Port.Switch s l)) =
-      let low = within (port_of s l) in
-      let more = ahead_low (port_of s l) (link_settings routes.settings (port_of s l)) in
-      omega (arith, low, more)
+  port_low q = search (arith, ahead_low)
 
   module _ (nodes : List (Node Token)) (next : Network Token) (r : Reply) where
     abbrev work : List (Node Token) → ℕ
@@ -112,23 +95,7 @@ module _ (plan : Plan) (image : Image) (is_plan : IsPlan plan) (accepted : IsAcc
 
     -- a command is harmless
     control_grows : (s : ℕ) (bytes : List ℕ) → IsHarmless bytes r → Step (Event.Control s bytes) → IsGrown (Event.Control s bytes)
-    control_grows s bytes may is =
-        given (yield_step_at nodes s (node_control bytes)) _ (r, next) (control_named plain_kind (network_of plan nodes) s bytes ∙ is) (λ v ev e2.
-        from_place_made nodes s (node_control bytes) v ev (λ n y en ey hv. by_node n y en ey v hv e2))
-      where
-        by_node : (n : Node Token) (y : List ℕ × Node Token) → slice_get nodes s ≡ Some n → node_control bytes n ≡ Some y → (v : List ℕ × List (Node Token)) → ◌≡◌ {A = List ℕ × List (Node Token)} (y.0, slice_set nodes s y.1) v → ◌≡◌ {A = Option (Reply × Network Token)} (Some (ReplyOf.Control v.0, network_of plan v.1)) (Some (r, next)) → IsGrown (Event.Control s bytes)
-        by_node (NodeOf.Terminal T) y en ey v hv e2 = absurd (cc)
-        by_node (NodeOf.Switch S) y en ey v hv e2 =
-            let parts = some_pair_parts (ReplyOf.Control v.0) r (network_of plan v.1) next e2 in
-            let made = switch_control S bytes in
-            let dy : ◌≡◌ {A = List ℕ × Node Token} (made.0, NodeOf.Switch made.1) y = cc in
-            let told : ReplyOf.Control made.0 ≡ r = ap (λ (z : List ℕ × Node Token). ReplyOf.Control z.0) dy ∙ ap (λ (z : List ℕ × List (Node Token)). ReplyOf.Control z.0) hv ∙ parts.0 in
-            let same = read_sides S (read_command bytes) may.0 (λ e. may.1 (sym told ∙ ap ReplyOf.Control e)) in
-            let dv : slice_set nodes s (NodeOf.Switch made.1) ≡ v.1 = ap (λ (w : List ℕ × Node Token). slice_set nodes s w.1) dy ∙ ap (λ (w : List ℕ × List (Node Token)). w.1) hv in
-            let all = sum_set (full_node plan rank ahead) nodes s (NodeOf.Switch S) (NodeOf.Switch made.1) en in
-            let inputs : full_node plan rank ahead s (NodeOf.Switch made.1) ≡ full_node plan rank ahead s (NodeOf.Switch (record S { outputs = made.1.outputs })) = ap (λ ps. full_node plan rank ahead s (NodeOf.Switch (record S { inputs = ps; outputs = made.1.outputs }))) same.inputs in
-            let outputs : full_node plan rank ahead s (NodeOf.Switch (record S { outputs = made.1.outputs })) ≡ full_node plan rank ahead s (NodeOf.Switch S) = ap (λ qs. full_node plan rank ahead s (NodeOf.Switch (record S { outputs = qs }))) same.outputs in
-            subst (λ (net : Network Token). work net.nodes ≤ work nodes + 0) parts.1 (subst (λ ns. work ns ≤ work nodes + 0) dv (omega (arith, all, inputs, outputs)))
+    control_grows s bytes may is = search (arith, given, control_named, from_place_made, some_pair_parts, read_sides, sum_set)
 
   -- an event of a round leaves less
   module _ (nodes : List (Node Token)) (events : List (Event × Reply)) (run : IsDoneRun plain_kind (network_of plan (map start_node first)) events (network_of plan nodes)) (unchanged : IsUnchanged routes events) (bytes : AreBytesSent events) where
