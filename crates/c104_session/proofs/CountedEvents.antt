@@ -9,13 +9,13 @@ module _ (net : NetRecord) (e : Event) (answer : Result Reply EventFault) (after
   -- a packet that was counted stays where it was sent
   pub sent_counts : (t bytes : ℕ) → AnswersRecord net e answer after → d ≡ sent_if (is_done answer) c t bytes
       → (d ≡ sent_if (is_done (record_apply net e).0) c t bytes) ⊎ (answer ≡ Err EventFault.NoMemory)
-  sent_counts t bytes h1 h2 = search (arith, done_so, asked_due)
+  sent_counts t bytes answered is = search (arith, done_so, asked_due)
 
   -- a switch that was reset is cut
   pub reset_counts : (s : ℕ) (reset : Bool) (b : Counts) → DoesEvent net e answer after
       → (d ≡ counts_told c net e) ⊎ (answer ≡ Err EventFault.NoMemory) → b ≡ cut_if (is_done answer && reset) d s
       → (b ≡ cut_if (is_done (record_apply net e).0 && reset) (counts_told c net e) s) ⊎ (answer ≡ Err EventFault.NoMemory)
-  reset_counts s reset b h1 h2 h3 = search (arith, done_so)
+  reset_counts s reset b does counted cut = search (arith, done_so)
 
   -- and whether it was done is noted
   pub noted_counts : (b : Counts) → DoesEvent net e answer after

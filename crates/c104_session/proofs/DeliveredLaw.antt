@@ -9,8 +9,8 @@ use Rattle.c104_session.proofs.{PlacedNets.{placed_steady, placed_unchanged}, Pr
 use Rattle.c104_session.proofs.{UnchangedNets.{nothing, of_fact, run_so_far}, UnchangedScripts.lines_leave, WorkGrowth.IsWorkWithin}
 use Rattle.c104_session.{proofs.WorkGrowth.{keeps_within, weight_parts, work_falls, work_grows}, specs.DeliveredRuns.EndsWithRounds}
 use Rattle.c104_session.specs.{DeliveredRuns.{PrintsAllPackets, sends_weight, session_after, token_weight}, PrintedPackets.IsUnchangedRun}
-use Rattle.c104_session.specs.PrintedPackets.{LeaveUnchanged, PrintsPackets, line_sends, lines_sent, script_end, script_sent}
-use Rattle.c104_session.specs.{Shown.{line_answer, line_outcome, new_session}, declared.session.Session.Session}
+use Rattle.c104_session.specs.{PrintedPackets.{LeaveUnchanged, PrintsPackets, lines_sent, script_end, script_sent}, Shown.line_answer}
+use Rattle.c104_session.specs.{Shown.{line_outcome, new_session}, declared.session.Session.Session}
 use Rattle.{c104_stream.specs.Scripts.lines_outcome, c104_token.specs.{Kinds.plain_kind, declared.packets.Packet.Packet}}
 use Rattle.{c104_token.specs.declared.tokens.Token.Token, std.proofs.Common.{All, List, [], ap, arith, inr, length, refl, subst, suc, sym}}
 use Rattle.std.proofs.Common.{ℕ, ◌*◌, ◌++◌, ◌+◌, ◌∙◌, ◌∷◌, ◌≡◌, ◌≤◌}
@@ -34,10 +34,7 @@ front_less : (w : ℕ) (front back : List (List ℕ)) (session : Session) → se
 front_less w [] back session = omega arith
 front_less w (line ∷ front) back session =
     let next : Session = (line_answer session line).1 in
-    let rest = front_less w front back next in
-    let a = weight_parts w (line_sends session line) (lines_sent next front) in
-    let b = weight_parts w (line_sends session line) (lines_sent next (front ++ back)) in
-    omega (arith, rest, a, b)
+    search (arith, weight_parts, front_less w front back next)
 
 module _ (plan : Plan) (image : Image) (script : List ℕ) (is_plan : IsPlan plan) (fits : Fits image plan) (sized : All IsOfLinks image.settings) (is : IsUnchangedRun plan image script) (acyclic : IsAcyclic (routes_of plan image)) (ends : EndsWithRounds plan image script) where
   abbrev routes : Routes

@@ -75,10 +75,10 @@ module _ (routes : Routes) (plan : Plan) (is_plan : IsPlan plan) (starts : List 
     IsLeft most nodes = All IsQuietNode nodes ⊎ (work nodes < most)
 
     left_within : (few most : ℕ) (nodes : List (Node Token)) → few ≤ most → IsLeft few nodes → IsLeft most nodes
-    left_within few most nodes within h2 = search arith
+    left_within few most nodes within left = search arith
 
     none_left : (nodes : List (Node Token)) → IsLeft 0 nodes → All IsQuietNode nodes
-    none_left nodes h1 = search arith
+    none_left nodes left = search arith
 
     -- so it stays as long as no more than so many packets were sent
     abbrev left_since : ℕ → ℕ → Fact
@@ -161,8 +161,7 @@ module _ (routes : Routes) (plan : Plan) (is_plan : IsPlan plan) (starts : List 
     left_after sends net mid most was is (inr few) = by_round (one_round sends net mid was is)
       where
         by_round : (work mid.network.nodes < work net.network.nodes) ⊎ All IsQuietNode mid.network.nodes → IsLeft most mid.network.nodes
-        by_round (inl less) = inr (omega (arith, less, few))
-        by_round (inr quiet) = inl quiet
+        by_round h1 = search arith
 
     -- and after several: the first, and then the others
     first_left : (n : ℕ) (sends : List (ℕ × Packet)) (most : ℕ) (net after : NetRecord) → Is sends net → IsLeft (suc n + most) net.network.nodes →

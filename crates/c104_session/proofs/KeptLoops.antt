@@ -53,7 +53,7 @@ module _ {M : Type 0} (sees : Sees M TaggedToken) (keeps : Keeping M) where
       (going : Going sees keeps start begun count i net c) (further : i < count) where
     ends_due : (result : Result (Unit {0}) EventFault) → EventsEnd record_apply start (rounds start.network.plan count) result after
         → DoesRounds start count result after
-    ends_due result h1 = search arith
+    ends_due result ends = search arith
 
     abbrev Halted : EventFault → Type 0
     Halted f = KeepsRound sees keeps net c (Err f) after d

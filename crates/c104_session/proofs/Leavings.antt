@@ -37,7 +37,7 @@ event_kept net event answer left came = search (arith, refused_keeps)
 
 -- what rounds leave
 pub rounds_left : (net : NetRecord) (count : ℕ) (result : Result (Unit {0}) EventFault) (left : NetRecord) → RecordsRounds net count result left → LeavesRounds net count left
-rounds_left net count result left h1 = search (arith, append-nil)
+rounds_left net count result left recorded = search (arith, append-nil)
 
 -- nothing was done
 nothing_asked : (net : NetRecord) (request : Request) → LeavesNet net request net

@@ -26,13 +26,7 @@ long : (most bytes : ℕ) (front script : List ℕ) → bytes < length script �
 long most bytes front [] over is size = absurd (omega arith)
 long most zero front (byte ∷ script) over is size =
     let count : length front ≡ most - 0 = omega (arith, size) in
-    record {
-      rest = front ++ byte ∷ script;
-      is_text = refl;
-      are_lines = refl;
-      are_within = omega arith;
-      are_all = ap (λ n. is_line (take n (front ++ byte ∷ script))) (sym count) ∙ ap is_line (take-append_seam front (byte ∷ script)) ∙ is;
-    }
+    search (arith, take-append_seam)
 long most (suc bytes) front (byte ∷ script) over is size =
     let less : bytes < length script = omega (arith, over) in
     by_test (AreFirstLines most (front ++ byte ∷ script)) (byte == 10) _ _
@@ -57,9 +51,7 @@ long most (suc bytes) front (byte ∷ script) over is size =
 
 -- a piece without a line feed is read
 piece_read : (most bytes : ℕ) (part line text : List ℕ) → is_line line ≡ true → most ≡ length line + bytes → lines_within most part (line ++ text) ≡ lines_within bytes (part ++ line) text
-piece_read most bytes part [] text is size =
-    let same : most ≡ bytes = omega (arith, size) in
-    ap (λ n. lines_within n part text) same ∙ ap (λ xs. lines_within bytes xs text) (sym (append-nil part))
+piece_read most bytes part [] text is size = search (arith, append-nil)
 piece_read zero bytes part (byte ∷ line) text is size = absurd (omega (arith, size))
 piece_read (suc most) bytes part (byte ∷ line) text is size =
     let both : ((byte == 10) ≡ false) × (is_line line ≡ true) = first_is (byte == 10) (is_line line) is in
@@ -121,16 +113,10 @@ lines_law script = (
 )
   where
     whole : (lines : List (List ℕ)) → length script ≤ most_script → AreLinesOf script lines → lines ≡ lines_within most_script [] script
-    whole lines room of =
-        let is : joined (of.first ∷ of.others) ≡ script = ap joined (sym of.some) ∙ of.are_all in
-        of.some
-        ∙ sym (all_read most_script of.first of.others (ap (list_all is_line) (sym of.some) ∙ of.are_lines) (omega (arith, room, ap length is)))
-        ∙ ap (λ xs. lines_within most_script [] xs) is
+    whole lines room of = search (arith, all_read)
 
     first : (lines : List (List ℕ)) → most_script < length script → AreFirstLines most_script script lines → lines ≡ lines_within most_script [] script
-    first lines over of =
-        let left : most_script - length (ended lines) < length of.rest = omega (arith, over, ap length of.is_text, length-append (ended lines) of.rest, of.are_within) in
-        sym (first_read most_script lines of.rest of.are_lines of.are_within left of.are_all) ∙ ap (λ xs. lines_within most_script [] xs) (sym of.is_text)
+    first lines over of = search (arith, length-append, first_read)
 
     only : (lines : List (List ℕ)) → AreScriptLines script lines → (most_script < length script) ⊎ (length script ≤ most_script) → lines ≡ lines_within most_script [] script
     only lines are (inl over) = first lines over (are.1 over)

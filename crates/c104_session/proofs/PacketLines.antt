@@ -3,8 +3,8 @@ use Rattle.{c104_net.proofs.OriginPieces.{one_origin, piece_origins}, c104_node.
 use Rattle.{c104_node.specs.declared.{origins.Origin.Origin, traced.Traced.Traced}, c104_plan.specs.Plans.Plan}
 use Rattle.{c104_session.specs.Shown.{packet_line, packets_text, received_text}, c104_token.specs.{Cut.whole_pieces, Packets.packet_tokens}}
 use Rattle.{c104_token.specs.{Tokens.is_end, declared.{packets.Packet.Packet, tokens.Token.Token}}, std.proofs.Common.{Bool, Bor, IfSome}}
-use Rattle.std.proofs.Common.{List, MatchOption, Option, Some, [], ap, append-nil, append_assoc, arith, drop, false, flat_map, get_or}
-use Rattle.std.proofs.Common.{if◌then◌else◌, length, map, refl, slice_get, suc, sym, true, zero, ℕ, ◌++◌, ◌+◌, ◌<◌, ◌∙◌, ◌∷◌, ◌≡◌, ◌≤◌}
+use Rattle.std.proofs.Common.{List, MatchOption, Option, Some, [], ap, append-nil, append_assoc, arith, drop, flat_map, get_or}
+use Rattle.std.proofs.Common.{if◌then◌else◌, length, map, refl, slice_get, suc, zero, ℕ, ◌++◌, ◌+◌, ◌<◌, ◌∙◌, ◌∷◌, ◌≡◌, ◌≤◌}
 use Rattle.std.proofs.{Math.Seq.drop-cons, lemmas.{List.{drop_all, map-append}, Option.{slice_get_past, slice_get_read}}}
 use Rattle.std.specs.{List.HoldsAt, Option.option_copied, Prelude.option_to_list}
 
@@ -32,8 +32,7 @@ cut_alike front (x ∷ xs) = by_end (is_end x.token) (cut_alike [] xs) (cut_alik
 
     by_end : (b : Bool) → whole_pieces same [] (map token_of xs) ≡ map (map token_of) (whole_pieces token_of [] xs) → whole_pieces same (map token_of (front ++ x ∷ [])) (map token_of xs) ≡ map (map token_of) (whole_pieces token_of (front ++ x ∷ []) xs) →
         (if b then (map token_of front ++ x.token ∷ []) ∷ whole_pieces same [] (map token_of xs) else whole_pieces same (map token_of front ++ x.token ∷ []) (map token_of xs)) ≡ map (map token_of) (if b then (front ++ x ∷ []) ∷ whole_pieces token_of [] xs else whole_pieces token_of (front ++ x ∷ []) xs)
-    by_end true next on = ap (λ p. p ∷ whole_pieces same [] (map token_of xs)) (sym longer) ∙ ap (λ ps. map token_of (front ++ x ∷ []) ∷ ps) next
-    by_end false next on = ap (λ p. whole_pieces same p (map token_of xs)) (sym longer) ∙ on
+    by_end b next on = search (arith, longer)
 
 drop_next : {X : Type 0} (n : ℕ) (all rest : List X) (x : X) → drop n all ≡ x ∷ rest → (slice_get all n ≡ Some x) × (drop (suc n) all ≡ rest)
 drop_next zero [] rest x is = absurd (cc)
@@ -49,9 +48,7 @@ own_lines plan name n (piece ∷ pieces) all (o ∷ rest) left are =
     let here = drop_next n all rest o left in
     let first : origins_in piece ≡ o ∷ [] = cc in
     let more : map origins_in pieces ≡ map one_origin rest = cc in
-    let own : option_to_list (slice_get all n) ≡ origins_in piece = ap option_to_list here.0 ∙ sym first in
-    ap (λ os. packet_line plan name (map token_of piece) os ++ lines_with plan name (suc n) (map (map token_of) pieces) all) own
-    ∙ ap (λ text. received_text plan name piece ++ text) (own_lines plan name (suc n) pieces all rest here.1 more)
+    search (arith, own_lines plan name (suc n) pieces all rest here.1 more)
 
 -- the lines of what arrived
 pub packets_are : (plan : Plan) (name : List ℕ) (arrived : List Token) (origins : List Origin) (tokens : List Traced) → arrived ≡ map token_of tokens → origins ≡ origins_in tokens → AreSure tokens → lines_with plan name 0 (whole_pieces same [] arrived) origins ≡ packets_text plan name tokens

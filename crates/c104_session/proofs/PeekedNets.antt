@@ -84,8 +84,7 @@ module _ (routes : Routes) (plan : Plan) (is_plan : IsPlan plan) (starts : List 
       by_result (λ next left. steps_leave judge steps next all.1 left) (step_result judge t (net_command net t.switch (command_bytes t.command)).0) (net_command net t.switch (command_bytes t.command)).1 first
     where
       by_result : ((next : NetRecord) → Is next → Is (run_steps net_command judge next steps).1) → (r : Result ℕ LoadFault) (next : NetRecord) → Is next → Is (unless_failed r next (λ n. run_steps net_command judge n steps)).1
-      by_result more (Ok v) next left = more next left
-      by_result more (Err f) next left = left
+      by_result more r next left = search arith
 
   by_test : {X : Type 0} (b : Bool) (due : Result X LoadFault × NetRecord) (net : NetRecord) → Is due.1 → Is net → Is (if◌then◌else◌ {A = Result X LoadFault × NetRecord} b due (Err LoadFault.NoSwitch, net)).1
   by_test b due net left was = search arith

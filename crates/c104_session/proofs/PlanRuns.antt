@@ -3,9 +3,9 @@ use Rattle.{c104_plan.specs.{PlanImage.Image, Plans.Plan}, c104_run.specs.Finish
 use Rattle.c104_session.specs.{Runs.{EndsRun, PlanEnds, RunsPlan, end_text}, Shown.{line_outcome, new_session, output_with_summary}}
 use Rattle.c104_session.specs.{Shown.run_output, declared.session.{Ended.Ended, Session.Session}}
 use Rattle.c104_stream.{proofs.{Prefixes.{prefix_longer, prefix_next}, ScriptEnds.nothing_answered}, specs.Scripts.{AnswersScript, Known}}
-use Rattle.{c104_stream.specs.{Scripts.script_outcome, Writing.AppendsPrefix, declared.halt.Halt.Halt}, std.proofs.Common.{Bool, Err, List}}
-use Rattle.std.proofs.{Common.{None, Ok, Result, Some, ap, arith, inl, inr, subst, sym, ℕ, ◌++◌, ◌||◌, ◌∙◌, ◌≡◌}, KnownBytes.Appends-trans}
-use Rattle.std.specs.Io.KnownBytes.{Appends, prepend_known}
+use Rattle.{c104_stream.specs.{Scripts.script_outcome, declared.halt.Halt.Halt}, std.proofs.Common.{Bool, Err, List, None, Ok, Result}}
+use Rattle.std.proofs.{Common.{Some, arith, inl, subst, sym, ℕ, ◌++◌, ◌||◌, ◌≡◌}, KnownBytes.Appends-trans}
+use Rattle.std.specs.Io.KnownBytes.{prepend_known}
 
 -- what is shown in all: the answers, and what follows them; and whether any of it was refused
 abbrev in_all : List ℕ → Bool → FinishedRecord → Bool → List ℕ × Bool
@@ -46,18 +46,11 @@ module _ (plan : Plan) (image : Image) where
       subst (λ r. PlanEnds plan image script left held holds r) (sym ends.0)
       (subst (λ h. PlanEnds plan image script left held h (Err kind)) (sym ends.1) (stops script left held now after kind answers))
   run_ends (Some script) left held now holds after ended (Ok long) (Ok refused) answers is_run is_faulty ends =
-      let is : run_output plan image script ≡ in_all (answers_of script).0 long ended.run ended.faulty =
-      shown script left held now after ended long answers is_run is_faulty in (
-        subst (λ (o : List ℕ × Bool). Appends held holds o.0) (sym is)
-            (Appends-trans held now holds (answers_of script).0 (end_text long ended.run) answers.2 ends.1),
-        ends.0 ∙ ap (λ (o : List ℕ × Bool). o.1) (sym is),
-      )
+      search (arith, Appends-trans)
   run_ends (Some script) left held now holds after ended (Ok long) (Err Halt.CannotRead) answers is_run is_faulty ends = absurd ends
   run_ends (Some script) left held now holds after ended (Ok long) (Err Halt.CannotWrite) answers is_run is_faulty ends =
-      subst (λ (o : List ℕ × Bool). AppendsPrefix held holds o.0) (sym (shown script left held now after ended long answers is_run is_faulty))
-      (prefix_next held now holds (answers_of script).0 (end_text long ended.run) answers.2 ends)
-  run_ends (Some script) left held now holds after ended (Ok long) (Err Halt.NoMemory) answers is_run is_faulty ends =
-      subst (λ h. PlanEnds plan image script left held h (Err Halt.NoMemory)) (sym ends) (inr answers.2)
+      search (arith, prefix_next)
+  run_ends (Some script) left held now holds after ended (Ok long) (Err Halt.NoMemory) answers is_run is_faulty ends = search arith
 
   -- by the session of the plan
   pub of_plan : (all left held holds : Known) (session after : Session) (result : Result Bool Halt) → session ≡ new_session plan image

@@ -64,9 +64,7 @@ module _ (routes : Routes) (net : Network Traced) (sends : List (ℕ × Packet))
 
   texts_are : (plan : Plan) (t : ℕ) (terminals : List Terminal) → terminals_text plan net t terminals ≡ origins_text plan routes sends shown t terminals
   texts_are plan t [] = refl
-  texts_are plan t (terminal ∷ more) =
-      ap (λ text. text ++ terminals_text plan net (suc t) more) (lines_of plan terminal.name t (received net t) (promised.delivered t))
-      ∙ ap (λ text. flat_map (origin_line plan routes sends t terminal.name) (shown t) ++ text) (texts_are plan (suc t) more)
+  texts_are plan t (terminal ∷ more) = search (arith, lines_of, promised, flat_map, texts_are plan (suc t) more)
 
   -- each origin is that of one received packet
   one_of : (t k : ℕ) (o : Origin) → slice_get (shown t) k ≡ Some o → (piece : List Traced) × (slice_get (received net t) k ≡ Some piece) × (d : IsDelivered routes net t piece) × (packet_origin d.terminal d.number ≡ o)

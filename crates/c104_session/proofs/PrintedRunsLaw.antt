@@ -44,9 +44,7 @@ labelled_sized plan ranges tables image is = search (arith, of_each, by_label)
 sized_by : (plan : Plan) (image : Image) (shape : Shape) → IsImageBy shape plan image → All IsOfLinks image.settings
 sized_by plan image Hand is = subst (λ (i : Image). All IsOfLinks i.settings) (sym is) (of_each (switch_settings plan) (by_own plan) (range_with_len 0 (length plan.switches)))
 sized_by plan image (Tree root) (forest, is) = labelled_sized plan _ _ image is.is
-sized_by plan image (UpDown root) (forest, is) =
-    subst (λ (i : Image). All IsOfLinks i.settings) (sym is.is)
-    (of_each (λ s. port_labelled_switch plan (is.tables s) s) (λ s. by_ports plan (is.tables s) s) (range_with_len 0 (length plan.switches)))
+sized_by plan image (UpDown root) (forest, is) = search (arith, of_each, by_ports)
 sized_by plan image (Mesh width height terminals) is = labelled_sized plan _ _ image is.is
 sized_by plan image (Cube dimensions terminals) is = labelled_sized plan _ _ image is.is
 

@@ -6,16 +6,16 @@ use Rattle.c104_link.specs.{Buffers.{Incoming, Outgoing, incoming_grant, outgoin
 use Rattle.{c104_link.specs.Steps.yield_step_at, c104_net.{proofs.CommandEvents.read_sides, specs.Unchanged.{IsHarmless, MayHappen}}}
 use Rattle.c104_node.{proofs.NamedWires.{nodes_credit, nodes_cross}, specs.Nodes.{Node, node_claim, node_control, node_credit_in}}
 use Rattle.c104_node.specs.{Nodes.{node_credit_out, node_drain, node_input, node_leave}, Quiet.{IsQuietInput, IsQuietNode, IsQuietOutput}}
-use Rattle.c104_node.specs.{Quiet.IsQuietSwitch, Terminals.{terminal_credit_in, terminal_credit_out, terminal_leave}}
-use Rattle.{c104_node.specs.declared.node.NodeOf.NodeOf, c104_plan.specs.{Plans.{IsPlan, Plan}, Wiring.peer, declared.ports.Port.Port}}
-use Rattle.{c104_regs.specs.declared.settings.Settings.Settings, c104_run.proofs.EventSteps.{claim_named, control_named, credit_named}}
-use Rattle.c104_run.{proofs.EventSteps.{cross_named, drain_named, input_named}, specs.{Balance.AreInPlace, Ends.end_of, Network.Network}}
-use Rattle.{c104_run.specs.Network.{network_of, network_step}, c104_session.specs.PrintedPackets.event_sends}
-use Rattle.c104_switch.specs.{Actions.Reply, Claims.{input_claim, inputs_claim, switch_claim}, Control.switch_control, Switch.Input}
-use Rattle.c104_switch.specs.Switch.{input_grant, is_owned, switch_credit_in, switch_credit_out, switch_leave, with_sides}
-use Rattle.c104_switch.specs.{Turns.{input_turn, switch_input}, declared.{actions.ReplyOf.ReplyOf, phase.Phase.{Phase, TheVariants.Fresh}}}
-use Rattle.{c104_token.specs.Kinds.Kind, std.proofs.Common.{All, List, None, Option, Some, [], ap, arith, length, nat_le, not, slice_get}}
-use Rattle.std.proofs.{Common.{slice_set, subst, sym, ℕ, ◌+◌, ◌∙◌, ◌≡◌}, lemmas.{List.Elements.All-set, Option.some_pair_parts}}
+use Rattle.{c104_node.specs.{Quiet.IsQuietSwitch, declared.node.NodeOf.NodeOf}, c104_plan.specs.{Plans.{IsPlan, Plan}, Wiring.peer}}
+use Rattle.{c104_plan.specs.declared.ports.Port.Port, c104_regs.specs.declared.settings.Settings.Settings}
+use Rattle.c104_run.proofs.EventSteps.{claim_named, control_named, credit_named, cross_named, drain_named, input_named}
+use Rattle.c104_run.specs.{Balance.AreInPlace, Ends.end_of, Network.{Network, network_of, network_step}}
+use Rattle.{c104_session.specs.PrintedPackets.event_sends, c104_switch.specs.{Actions.Reply, Claims.{input_claim, inputs_claim}}}
+use Rattle.c104_switch.specs.{Claims.switch_claim, Control.switch_control, Switch.{Input, input_grant, is_owned, switch_credit_in}}
+use Rattle.c104_switch.specs.{Switch.{switch_credit_out, switch_leave, with_sides}, Turns.{input_turn, switch_input}}
+use Rattle.{c104_switch.specs.declared.{actions.ReplyOf.ReplyOf, phase.Phase.{Phase, TheVariants.Fresh}}, c104_token.specs.Kinds.Kind}
+use Rattle.std.proofs.Common.{All, List, None, Option, Some, [], ap, arith, length, nat_le, not, slice_get, slice_set, subst, sym, ℕ, ◌+◌}
+use Rattle.std.proofs.{Common.{◌∙◌, ◌≡◌}, lemmas.{List.Elements.All-set, Option.some_pair_parts}}
 
 module _ {A : Type 0} where
   no_first : (items : List A) (x : A) → items ≡ [] → slice_get items 0 ≡ Some x → ⊥
@@ -28,10 +28,7 @@ module _ {A : Type 0} where
       given (yield_step_at S.outputs l outgoing_emit) _ v left (λ w made last.
       from_place_made S.outputs l outgoing_emit w made (λ q z here gone set.
       given (slice_get q.items 0) _ z gone (λ x first rest. no_first q.items x (All-place IsQuietOutput S.outputs l q here quiet.1) first))))
-  no_leave l (NodeOf.Terminal T) y quiet is =
-      given (terminal_leave T) _ y is (λ v left more.
-      given (outgoing_emit T.output) _ v left (λ z gone last.
-      given (slice_get T.output.items 0) _ z gone (λ x first rest. no_first T.output.items x quiet.1 first)))
+  no_leave l (NodeOf.Terminal T) y quiet is = search (arith, given, no_first)
 
   no_drain : (n : Node A) (y : A × Node A) → IsQuietNode n → node_drain n ≡ Some y → ⊥
   no_drain n y quiet is = search (arith, given, no_first)
@@ -73,18 +70,14 @@ module _ {A : Type 0} where
       (let d : NodeOf.Switch (with_sides S (slice_set S.inputs l (record p { buffer = b }), S.outputs)) ≡ m = cc in
       let was : IsQuietInput p = All-place IsQuietInput S.inputs l p ep quiet.0 in
       subst IsQuietNode d (All-set IsQuietInput S.inputs l (record p { buffer = b }) (grant_items p.buffer b eb ∙ was.0, was.1) quiet.0, quiet.1)))))))
-  credit_out_quiet l (NodeOf.Terminal T) m is quiet =
-      given (terminal_credit_out T) _ m is (λ T' f1 f2. given (incoming_grant T.input) _ T' f1 (λ b eb g2.
-      (let d : NodeOf.Terminal (record T { input = b }) ≡ m = cc in subst IsQuietNode d (grant_items T.input b eb ∙ quiet.0, quiet.1))))
+  credit_out_quiet l (NodeOf.Terminal T) m is quiet = search (arith, given, grant_items)
 
   credit_in_quiet : (l : ℕ) (n m : Node A) → node_credit_in l n ≡ Some m → IsQuietNode n → IsQuietNode m
   credit_in_quiet l (NodeOf.Switch S) m is quiet =
       given (switch_credit_in S l) _ m is (λ S' f1 f2. given (step_at S.outputs l outgoing_credited) _ S' f1 (λ qs g1 g2. at_place_made S.outputs l outgoing_credited qs g1 (λ q r eq h1 h2.
       (let d : NodeOf.Switch (with_sides S (S.inputs, slice_set S.outputs l r)) ≡ m = cc in
       subst IsQuietNode d (quiet.0, All-set IsQuietOutput S.outputs l r (credited_items q r h1 ∙ All-place IsQuietOutput S.outputs l q eq quiet.1) quiet.1)))))
-  credit_in_quiet l (NodeOf.Terminal T) m is quiet =
-      given (terminal_credit_in T) _ m is (λ T' f1 f2. given (outgoing_credited T.output) _ T' f1 (λ q eq g2.
-      (let d : NodeOf.Terminal (record T { output = q }) ≡ m = cc in subst IsQuietNode d (quiet.0, credited_items T.output q eq ∙ quiet.1))))
+  credit_in_quiet l (NodeOf.Terminal T) m is quiet = search (arith, given, credited_items)
 
 module _ {A : Type 0} (kind : Kind A) (plan : Plan) (is_plan : IsPlan plan) (nodes : List (Node A)) (placed : AreInPlace plan nodes) (quiet : All IsQuietNode nodes) (r : Reply) (next : Network A) where
   abbrev Step : Event → Type 0

@@ -1,15 +1,14 @@
 -- What each terminal has sent: a Send that is done adds its packet there, and nothing else changes it.
 use Rattle.{c104_event.specs.declared.events.Event.Event, c104_link.proofs.MadeSteps.{at_place_made, from_place_made, given}}
-use Rattle.{c104_link.specs.Steps.{step_at, yield_step_at, ◌>>=◌}, c104_net.proofs.JointKeeps.{IsOfRound, round_keeps}}
-use Rattle.{c104_net.specs.Deliveries.{sent_at, sent_packets}, c104_node.{proofs.WireEnds.{get_set_other, get_set_same}, specs.Nodes.Node}}
+use Rattle.{c104_link.specs.Steps.{yield_step_at, ◌>>=◌}, c104_net.{proofs.JointKeeps.{IsOfRound, round_keeps}, specs.Deliveries.sent_at}}
+use Rattle.{c104_net.specs.Deliveries.sent_packets, c104_node.{proofs.WireEnds.{get_set_other, get_set_same}, specs.Nodes.Node}}
 use Rattle.c104_node.specs.Nodes.{as_terminal, node_claim, node_control, node_credit_in, node_credit_out, node_drain, node_enter}
 use Rattle.c104_node.specs.{Nodes.{node_input, node_leave, node_send}, Traces.part, declared.node.NodeOf.TheVariants.Terminal}
 use Rattle.{c104_plan.specs.Plans.Plan, c104_run.{proofs.EventSteps.{control_named, send_named}, specs.Network.{Network, network_of}}}
 use Rattle.{c104_run.specs.Network.{network_step, terminal_place}, c104_session.specs.PrintedPackets.{event_sends, packets_of}}
-use Rattle.{c104_switch.specs.{Actions.Reply, declared.actions.ReplyOf.ReplyOf}, c104_token.specs.Kinds.Kind}
-use Rattle.{c104_token.specs.declared.packets.Packet.Packet, std.proofs.Common.{Bool, List, Option, Some, [], ap, append-nil, arith, false}}
-use Rattle.std.proofs.Common.{if◌then◌else◌, map, nat_eq, option_map, refl, slice_get, slice_set, suc, sym, true, zero, ℕ, ◌++◌, ◌∙◌, ◌∷◌}
-use Rattle.std.proofs.{Common.◌≡◌, lemmas.{Bool.Decides.nat_tests, List.map-set, Option.slice_get-map}}
+use Rattle.{c104_switch.specs.Actions.Reply, c104_token.specs.{Kinds.Kind, declared.packets.Packet.Packet}, std.proofs.Common.{Bool, List}}
+use Rattle.std.proofs.Common.{Option, Some, [], ap, append-nil, arith, if◌then◌else◌, map, nat_eq, option_map, refl, slice_get, slice_set}
+use Rattle.std.proofs.{Common.{suc, sym, zero, ℕ, ◌++◌, ◌∙◌, ◌∷◌, ◌≡◌}, lemmas.{Bool.Decides.nat_tests, List.map-set, Option.slice_get-map}}
 use Rattle.c104_node.specs.Terminals as terminal
 
 -- a list of a list of lists, or none
@@ -65,9 +64,7 @@ module _ {A : Type 0} where
   -- so of the nodes
   set_sents : (nodes : List (Node A)) (i : ℕ) (n m : Node A) → slice_get nodes i ≡ Some n → sent_packets m ≡ sent_packets n → sents (slice_set nodes i m) ≡ sents nodes
   set_sents [] i n m is keeps = refl
-  set_sents (o ∷ nodes) zero n m is keeps =
-      let same : o ≡ n = cc in
-      ap (λ c. c ∷ sents nodes) (keeps ∙ ap sent_packets (sym same))
+  set_sents (o ∷ nodes) zero n m is keeps = search arith
   set_sents (o ∷ nodes) (suc i) n m is keeps = ap (λ cs. sent_packets o ∷ cs) (set_sents nodes i n m is keeps)
 
   yield_kept : {Y : Type 0} (nodes : List (Node A)) (i : ℕ) (f : Node A → Option (Y × Node A)) (r : Y × List (Node A)) → yield_step_at nodes i f ≡ Some r → ((n : Node A) (y : Y × Node A) → f n ≡ Some y → sent_packets y.1 ≡ sent_packets n) → sents r.1 ≡ sents nodes
@@ -88,14 +85,8 @@ module _ {A : Type 0} (kind : Kind A) (plan : Plan) (nodes : List (Node A)) wher
       (λ ns. sents ns ≡ sents nodes) (λ ns k n m here keeps same. set_sents ns k n m here keeps ∙ same) plan nodes e of r is refl
 
   step_sents : (e : Event) (r : Reply × Network A) → network_step kind (network_of plan nodes) e ≡ Some r → AddsSent plan e (sents nodes) (sents r.1.nodes)
-  step_sents (Event.Control s bytes) r is = given (yield_step_at nodes s (node_control bytes)) _ r (control_named kind (network_of plan nodes) s bytes ∙ is) (λ v made last.
-      by_last (ReplyOf.Control v.0) v.1 r (λ cs. cs ≡ sents nodes) last (yield_kept nodes s (node_control bytes) v made (control_keeps bytes)))
-  step_sents (Event.Send t packet) r is = given (step_at nodes (terminal_place plan t) (node_send kind t packet)) _ r (send_named kind (network_of plan nodes) t packet ∙ is) (λ v made last.
-      by_last ReplyOf.Done v r (λ cs. AddsSent plan (Event.Send t packet) (sents nodes) cs) last (at_place_made nodes (terminal_place plan t) (node_send kind t packet) v made (λ n m here step set. (
-        sent_packets n,
-        slice_get-map sent_packets nodes (terminal_place plan t) ∙ ap (option_map sent_packets) here,
-        ap sents (sym set) ∙ set_there (terminal_place plan t) m ∙ ap (slice_set (sents nodes) (terminal_place plan t)) (send_adds kind t packet n m step),
-      ))))
+  step_sents (Event.Control s bytes) r is = search (arith, given, control_named, by_last, yield_kept, control_keeps)
+  step_sents (Event.Send t packet) r is = search (arith, given, send_named, by_last, at_place_made, slice_get-map, set_there, send_adds)
     where
       set_there : (k : ℕ) (m : Node A) → sents (slice_set nodes k m) ≡ slice_set (sents nodes) k (sent_packets m)
       set_there k m = rw (map-set sent_packets nodes k m) refl
@@ -120,5 +111,4 @@ packets_append t [] ys = refl
 packets_append t (x ∷ xs) ys = by_test (nat_eq x.0 t) (packets_append t xs ys)
   where
     by_test : (b : Bool) → packets_of t (xs ++ ys) ≡ packets_of t xs ++ packets_of t ys → (if b then x.1 ∷ packets_of t (xs ++ ys) else packets_of t (xs ++ ys)) ≡ (if b then x.1 ∷ packets_of t xs else packets_of t xs) ++ packets_of t ys
-    by_test true rest = ap (λ ps. x.1 ∷ ps) rest
-    by_test false rest = rest
+    by_test b rest = search arith

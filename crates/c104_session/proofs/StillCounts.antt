@@ -76,8 +76,7 @@ module _ (e : Event) (events : List Event) (r after : NetRecord) (few : r.count 
 
 run_still : (events : List Event) (after : NetRecord) → Keeps events after
 run_still [] after r few run none = ap (λ (o : Outcome NetRecord). o.1) (sym run)
-run_still (e ∷ events) after r few run none =
-    by_answer e events r after few none (run_still events after) (record_apply r e).0 refl run
+run_still (e ∷ events) after r few run none = search (arith, by_answer, run_still events after)
 
 -- a round in which no more were done than before
 pub none_later : (events : List Event) (r after : NetRecord) → run_events record_apply r events ≡ (Ok tt, after)

@@ -8,13 +8,13 @@ use Rattle.std.proofs.Common.{arith, ◌≡◌, ◌⊎◌}
 
 module _ (net : NetRecord) (e : Event) (answer : Result Reply EventFault) (after : NetRecord) where
   pub asked_due : AnswersRecord net e answer after → DoesEvent net e answer after
-  asked_due h1 = search arith
+  asked_due answered = search arith
 
   -- what follows by whether it was done
   pub done_so : {M : Type 0} (f : M → Bool → M) (due m n : M) → DoesEvent net e answer after
       → (m ≡ due) ⊎ (answer ≡ Err EventFault.NoMemory) → n ≡ f m (is_done answer)
       → (n ≡ f due (is_done (record_apply net e).0)) ⊎ (answer ≡ Err EventFault.NoMemory)
-  done_so f due m n h1 told is = search arith
+  done_so f due m n does told is = search arith
 
   -- of a timeline that is told whether it was done
   pub timed_told : (t u v : Timeline) → DoesEvent net e answer after
@@ -28,7 +28,7 @@ module _ {M : Type 0} (sees : Sees M TaggedToken) (net : NetRecord) (e : Event) 
   Came = Result Reply EventFault × MeteredRecord M
 
   of_record : Answers (record_metered sees) (at_meter net m) e answer (at_meter after n) → AnswersRecord net e answer after
-  of_record h1 = search arith
+  of_record answered = search arith
 
   pub told_due : DoesEvent net e answer after
   told_due = asked_due net e answer after (of_record told)
@@ -38,7 +38,7 @@ module _ {M : Type 0} (sees : Sees M TaggedToken) (net : NetRecord) (e : Event) 
 
   meter_of : Answers (record_metered sees) (at_meter net m) e answer (at_meter after n)
       → (n ≡ (record_metered sees (at_meter net m) e).1.meter) ⊎ (answer ≡ Err EventFault.NoMemory)
-  meter_of h1 = search arith
+  meter_of answered = search arith
 
   pub told_meter : (n ≡ (record_metered sees (at_meter net m) e).1.meter) ⊎ (answer ≡ Err EventFault.NoMemory)
   told_meter = meter_of told

@@ -129,8 +129,7 @@ module _ (routes : Routes) (plan : Plan) (is_plan : IsPlan plan) (starts : List 
     event_leaves may = by_full (stage_full true (record_stage net) e && is_done (network_apply plain_kind net.network e).0) may (record_kept net e here_plan was.kept)
       where
         by_full : (full : Bool) → ((r : Reply) → (or_full full).0 ≡ Ok r → MayHappen routes e r) → IsNetRecord (after (or_full full)) → IsAfter (or_full full)
-        by_full true may kept = subst (λ (s : List (ℕ × Packet)). Is s net) (none_more sends) was
-        by_full false may kept = by_answer (network_apply plain_kind net.network e).0 (network_apply plain_kind net.network e).1 refl may kept
+        by_full full may kept = search (arith, none_more, by_answer)
 
   -- events of a round send nothing, and may happen
   none_sent : (e : Event) → IsOfRound e → (b : Bool) → sends_if b e ≡ []
@@ -153,8 +152,7 @@ module _ (routes : Routes) (plan : Plan) (is_plan : IsPlan plan) (starts : List 
   events_leave sends (e ∷ events) net of was = by_fault (λ next left. events_leave sends events next of.1 left) (record_apply net e).0 (record_apply net e).1 (round_event sends net e of.0 was)
     where
       by_fault : ((next : NetRecord) → Is sends next → Is sends (run_events record_apply next events).1) → (answer : Result Reply EventFault) (next : NetRecord) → Is sends next → Is sends (unless_fault answer next (λ n. run_events record_apply n events)).1
-      by_fault more (Ok r) next left = more next left
-      by_fault more (Err f) next left = left
+      by_fault more answer next left = search arith
 
 -- all events of rounds are events of a round
 pub of_round : (plan : Plan) → AllByRecursion IsOfRound (round plan)

@@ -139,6 +139,4 @@ module _ (plan : Plan) (image : Image) (is_plan : IsPlan plan) (accepted : IsAcc
   pub keeps_within : Keeps routes plan first (IsWorkWithin plan image rank)
   keeps_within sends net e r next was due ready may bytes =
       let more = work_grows (IsWorkWithin plan image rank) sends net was r next ready e due may bytes in
-      let all = weight_parts weight sends (event_sends e) in
-      let before : random_work plan routes rank net.network.nodes ≤ random_bound {A = Token} plan routes (placed_network plan image).nodes + sends_weight weight sends = was.holds in
-      omega (arith, more, all, before)
+      search (arith, weight_parts)
