@@ -3,9 +3,6 @@ use Rattle.{c104_script.specs.declared.answers.Answer.Answer, c104_session.specs
 use Rattle.{c104_session.specs.{Shown.line_answer, declared.{driven.Driven.Driven, session.Session.Session}}, std.proofs.Common.List}
 use Rattle.std.proofs.Common.{Option, arith, ℕ, ◌≡◌}
 
-abbrev with_driver : {D : Type 0} → Option Answer × Session → D → Option Answer × Driven D
-with_driver r driver = (r.0, record { session = r.1; driver = driver })
-
 pub line_driven_too : {D : Type 0} (drives : Driving D) (s after : Driven D) (text : List ℕ) (answer : Option Answer)
     → ◌≡◌ {A = Option Answer × Session} (answer, after.session) (line_answer s.session text)
     → after.driver ≡ line_driven drives s.driver s.session.net text

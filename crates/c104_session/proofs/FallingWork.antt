@@ -161,7 +161,7 @@ module _ (routes : Routes) (plan : Plan) (is_plan : IsPlan plan) (starts : List 
     left_after sends net mid most was is (inr few) = by_round (one_round sends net mid was is)
       where
         by_round : (work mid.network.nodes < work net.network.nodes) ⊎ All IsQuietNode mid.network.nodes → IsLeft most mid.network.nodes
-        by_round h1 = search arith
+        by_round left = search arith
 
     -- and after several: the first, and then the others
     first_left : (n : ℕ) (sends : List (ℕ × Packet)) (most : ℕ) (net after : NetRecord) → Is sends net → IsLeft (suc n + most) net.network.nodes →
