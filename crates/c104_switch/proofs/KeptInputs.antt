@@ -70,16 +70,30 @@ module _ {A : Type 0} (x : A) (p q : Input A) (b : Bool) (given : ◌≡◌ {A =
             turns = ap (λ b. b || may_turn p) turns ∙ or_and (is_some (slice_get p.buffer.items 0)) (not (is_want p.phase)) ∙ sym turns;
           }
 
+  -- one that was taken in is held
+  pub entered_holds : b ≡ true → is_some (slice_get q.buffer.items 0) ≡ true
+  entered_holds made = by_granted (nat_lt 0 p.buffer.granted) refl
+    where
+      by_granted : (g : Bool) → nat_lt 0 p.buffer.granted ≡ g → is_some (slice_get q.buffer.items 0) ≡ true
+      by_granted false is =
+          let stays : bool_outcome (input_accept x p) p ≡ (false, p) = rw is refl in
+          let no : b ≡ false = ap (λ (r : Bool × Input A). r.0) (given ∙ stays) in
+          absurd (cc (sym made ∙ no))
+      by_granted true is =
+          let after : Input A = record p { buffer = record { cap = p.buffer.cap; items = p.buffer.items ++ x ∷ []; granted = p.buffer.granted - 1 } } in
+          let goes : bool_outcome (input_accept x p) p ≡ (true, after) = rw is refl in
+          ap (λ (r : Bool × Input A). is_some (slice_get r.1.buffer.items 0)) (given ∙ goes) ∙ first_after p.buffer.items
+
 -- so what is kept of it changes alone in whether it may take a turn
 pub kept_entered : {A : Type 0} (ps : List (Input A)) (i : ℕ) (x : A) (p q : Input A) (b : Bool) (sets others : InputSets) → i < length ps → p ≡ get_or ps i p → ◌≡◌ {A = Bool × Input A} (b, q) (bool_outcome (input_accept x p) p) → AreKept sets ps →
-    (i < 32 → has_bit others.turning i ≡ (may_turn q || has_bit sets.turning i)) → ((l : ℕ) → l < 32 → l ≢ i → has_bit others.turning l ≡ has_bit sets.turning l) → others.granting ≡ sets.granting → others.wanting ≡ sets.wanting → AreKept others (slice_set ps i q)
+    has_bit others.turning i ≡ (may_turn q || has_bit sets.turning i) → ((l : ℕ) → l < 32 → l ≢ i → has_bit others.turning l ≡ has_bit sets.turning l) → others.granting ≡ sets.granting → others.wanting ≡ sets.wanting → AreKept others (slice_set ps i q)
 kept_entered ps i x p q b sets others inside is given kept turns same grants wants =
     let alike = entered x p q b given in
     let there : slice_get ps i ≡ Some p = slice_get-get_or ps i p inside ∙ ap Some (sym is) in
     kept_set ps i q sets others inside kept
     (λ below. let old = subst (IsKept sets i) there (kept i below) in record {
       grants = ap (λ s. has_bit s i) grants ∙ old.grants ∙ sym alike.grants;
-      turns = turns below ∙ ap (λ b. may_turn q || b) old.turns ∙ alike.turns;
+      turns = turns ∙ ap (λ b. may_turn q || b) old.turns ∙ alike.turns;
       wants = ap (λ s. has_bit s i) wants ∙ old.wants ∙ ap is_want (sym alike.phase);
     })
     (λ l below other. record { grants = ap (λ s. has_bit s l) grants; turns = same l below other; wants = ap (λ s. has_bit s l) wants })
@@ -109,12 +123,12 @@ module _ {A : Type 0} (p q : Input A) (gone : q ≡ with_buffer p (without_first
       by_items (x ∷ xs) = refl
 
 pub kept_streamed : {A : Type 0} (ps : List (Input A)) (i : ℕ) (p q : Input A) (sets others : InputSets) → i < length ps → p ≡ get_or ps i p → q ≡ with_buffer p (without_first p.buffer) → AreKept sets ps →
-    (i < 32 → has_bit others.granting i ≡ (is_some (input_grant q) || has_bit sets.granting i)) → (i < 32 → has_bit others.turning i ≡ (is_some (slice_get q.buffer.items 0) && has_bit sets.turning i)) → ((l : ℕ) → l < 32 → l ≢ i → AgreeOn others sets l) → others.wanting ≡ sets.wanting → AreKept others (slice_set ps i q)
+    has_bit others.granting i ≡ (is_some (input_grant q) || has_bit sets.granting i) → has_bit others.turning i ≡ (is_some (slice_get q.buffer.items 0) && has_bit sets.turning i) → ((l : ℕ) → l < 32 → l ≢ i → AgreeOn others sets l) → others.wanting ≡ sets.wanting → AreKept others (slice_set ps i q)
 kept_streamed ps i p q sets others inside is gone kept grants turns agree wants =
     let there : slice_get ps i ≡ Some p = slice_get-get_or ps i p inside ∙ ap Some (sym is) in
     kept_set ps i q sets others inside kept
     (λ below. let old = subst (IsKept sets i) there (kept i below) in record {
-      grants = grants below ∙ ap (λ b. is_some (input_grant q) || b) old.grants ∙ left_grants p q gone;
-      turns = turns below ∙ ap (λ b. is_some (slice_get q.buffer.items 0) && b) old.turns ∙ left_turns p q gone;
+      grants = grants ∙ ap (λ b. is_some (input_grant q) || b) old.grants ∙ left_grants p q gone;
+      turns = turns ∙ ap (λ b. is_some (slice_get q.buffer.items 0) && b) old.turns ∙ left_turns p q gone;
       wants = ap (λ s. has_bit s i) wants ∙ old.wants ∙ ap (λ (r : Input _). is_want r.phase) (sym gone);
     }) agree

@@ -91,8 +91,8 @@ module _ {A : Type 0} where
     here : i < 32 → has_bit set i ≡ sends q
     here below = sending i below ∙ ap (λ o. option_map_or sends o false) (slice_get-get_or qs i q inside ∙ ap Some (sym is))
 
-    pub sending_offered : (x : A) (b : Bool) → ◌≡◌ {A = Bool × Outgoing A} (b, r) (bool_outcome (outgoing_put x q) q) → (i < 32 → has_bit other i ≡ (nat_lt 0 r.credit || has_bit set i)) → AreSending other (slice_set qs i r)
-    sending_offered x b given put = tested_set sends qs i r set other inside sending (λ below. put below ∙ ap (λ b. nat_lt 0 r.credit || b) (here below) ∙ offered_sends x q r b given) others
+    pub sending_offered : (x : A) (b : Bool) → ◌≡◌ {A = Bool × Outgoing A} (b, r) (bool_outcome (outgoing_put x q) q) → has_bit other i ≡ (nat_lt 0 r.credit || has_bit set i) → AreSending other (slice_set qs i r)
+    sending_offered x b given put = tested_set sends qs i r set other inside sending (λ below. put ∙ ap (λ b. nat_lt 0 r.credit || b) (here below) ∙ offered_sends x q r b given) others
 
-    pub sending_asked : (o : Option A) → ◌≡◌ {A = Option A × Outgoing A} (o, r) (option_outcome (outgoing_emit q) q) → (i < 32 → has_bit other i ≡ (sends r && has_bit set i)) → AreSending other (slice_set qs i r)
-    sending_asked o given left = tested_set sends qs i r set other inside sending (λ below. left below ∙ ap (λ b. sends r && b) (here below) ∙ asked_sends o q r given) others
+    pub sending_asked : (o : Option A) → ◌≡◌ {A = Option A × Outgoing A} (o, r) (option_outcome (outgoing_emit q) q) → has_bit other i ≡ (sends r && has_bit set i) → AreSending other (slice_set qs i r)
+    sending_asked o given left = tested_set sends qs i r set other inside sending (λ below. left ∙ ap (λ b. sends r && b) (here below) ∙ asked_sends o q r given) others

@@ -66,10 +66,6 @@ module _ {A : Type 0} where
   pub owners_none : (ps : List (Input A)) → held_claims ps ≡ [] → AreOwners (replicate 32 None) ps
   owners_none ps none = record { count = length-replicate {A = Option ℕ} 32 None; each = λ o. no_owner 32 o ∙ sym (unheld 0 ps o (ap (times o) none)) }
 
-  -- as many inputs as before, where one changes
-  pub few_set : (ps : List (Input A)) (i : ℕ) (q : Input A) → length ps ≤ 32 → length (slice_set ps i q) ≤ 32
-  few_set ps i q few = let same = length-set ps i q in omega arith
-
   pub few_first : (cap n : ℕ) (ps : List (Input A)) → n ≤ 32 → ps ≡ replicate n (new_input cap) → length ps ≤ 32
   few_first cap n ps few is = let count : length ps ≡ n = ap length is ∙ length-replicate n (new_input cap) in omega (arith, count)
 

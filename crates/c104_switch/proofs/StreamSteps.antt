@@ -2,7 +2,8 @@
 use Rattle.c104_link.specs.{Buffers.{Incoming, Outgoing, incoming_take, outgoing_put, without_first}, Steps.{bool_outcome, option_outcome}}
 use Rattle.{c104_link.specs.Steps.{step_at, ◌>>=◌}, c104_regs.specs.declared.settings.Settings.Settings, c104_switch.specs.Switch.Input}
 use Rattle.{c104_switch.specs.{Switch.{Phase, Stream}, Turns.{IsTurn, input_after_token, phase_after_token}}, c104_token.specs.Kinds.Kind}
-use Rattle.std.proofs.Common.{Bool, List, None, Option, Some, ap, false, is_some, refl, slice_get, subst, sym, true, ℕ, ◌∙◌, ◌≡◌}
+use Rattle.std.proofs.Common.{Bool, List, None, Option, Some, ap, false, inl, inr, is_some, length, refl, slice_get, subst, sym, true, ℕ}
+use Rattle.std.proofs.{Common.{◌<◌, ◌∙◌, ◌≡◌}, lemmas.{Bool.cases_lt, Option.slice_get_past}}
 
 -- what was taken is the first token
 pub taken_first : {A : Type 0} (b c : Incoming A) (o : Option A) → ◌≡◌ {A = Option A × Incoming A} (o, c) (option_outcome (incoming_take b) b) → slice_get b.items 0 ≡ o
@@ -16,6 +17,13 @@ taken_first {A} b c o taken = by_first (slice_get b.items 0) (ap (λ (r : Option
 pub tried_made : {S : Type 0} (step : Option S) (old new : S) (made : Bool) → is_some step ≡ true → ◌≡◌ {A = Bool × S} (made, new) (bool_outcome step old) → step ≡ Some new
 tried_made {S} (Some s) old new made can is = ap (λ (r : Bool × S). Some r.1) (sym is)
 tried_made {S} None old new made can is = absurd (cc can)
+
+-- where a step of a list at a place can be made, the place is inside
+pub inside_made : {X : Type 0} (xs : List X) (i : ℕ) (f : X → Option X) → is_some (step_at xs i f) ≡ true → i < length xs
+inside_made xs i f can = elim (cases_lt i (length xs)) [
+  | inl inside ↦ inside
+  | inr past ↦ absurd (let none : is_some (step_at xs i f) ≡ false = rw (slice_get_past xs i past) refl in cc (sym none ∙ can))
+]
 
 module _ {A : Type 0} (kind : Kind A) (s : Settings) (word : ℕ) (p : Input A) (qs : List (Outgoing A)) (o : ℕ) (streams : p.phase ≡ Stream o) where
   -- the first token goes on to the output

@@ -47,33 +47,54 @@ impl LinkSet {
         if link >= LINKS {
             return;
         }
-        let bit = 1u32 << link;
         if is_in {
-            self.word |= bit;
+            self.add(link);
         } else {
-            self.word &= !bit;
+            self.remove(link);
         }
+    }
+
+    /// Puts a link into the set.
+    #[inline(always)]
+    fn add(&mut self, link: usize)
+        requires { link < LINKS }
+        ensures here { has_bit self.new link ≡ true }
+        ensures others { (l : ℕ) → l < LINKS → l ≢ link → has_bit self.new l ≡ has_bit self.old l }
+    {
+        self.word |= 1u32 << link;
+    }
+
+    /// Takes a link out of the set.
+    #[inline(always)]
+    fn remove(&mut self, link: usize)
+        requires { link < LINKS }
+        ensures here { has_bit self.new link ≡ false }
+        ensures others { (l : ℕ) → l < LINKS → l ≢ link → has_bit self.new l ≡ has_bit self.old l }
+    {
+        self.word &= !(1u32 << link);
     }
 
     /// Puts a link into the set, where this is so. Else nothing changes.
     #[inline(always)]
     pub(crate) fn add_if(&mut self, link: usize, is_so: bool)
-        ensures here { link < LINKS → has_bit self.new link ≡ (is_so || has_bit self.old link) }
+        requires { link < LINKS }
+        ensures here { has_bit self.new link ≡ (is_so || has_bit self.old link) }
         ensures others { (l : ℕ) → l < LINKS → l ≢ link → has_bit self.new l ≡ has_bit self.old l }
     {
         if is_so {
-            self.set(link, true);
+            self.add(link);
         }
     }
 
     /// Takes a link out of the set, unless this is so. Else nothing changes.
     #[inline(always)]
     pub(crate) fn remove_unless(&mut self, link: usize, is_so: bool)
-        ensures here { link < LINKS → has_bit self.new link ≡ (is_so && has_bit self.old link) }
+        requires { link < LINKS }
+        ensures here { has_bit self.new link ≡ (is_so && has_bit self.old link) }
         ensures others { (l : ℕ) → l < LINKS → l ≢ link → has_bit self.new l ≡ has_bit self.old l }
     {
         if !is_so {
-            self.set(link, false);
+            self.remove(link);
         }
     }
 

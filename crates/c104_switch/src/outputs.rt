@@ -1,5 +1,5 @@
 //! The output sides of all links.
-ghost use Rattle.std.specs.{Option.option_copied, Prelude.{All, IfOk, is_some, map, replicate, slice_get, ◌&&◌, ◌≡◌}};
+ghost use Rattle.std.specs.{Option.option_copied, Prelude.{All, IfOk, Some, is_some, length, map, replicate, slice_get, true, ◌&&◌, ◌≡◌, ◌≤◌}};
 ghost use Rattle.{c104_crossbar.specs.Groups.has_bit, c104_link.specs.Buffers.{Outgoing, empty_outgoing, outgoing_clear}};
 ghost use Rattle.c104_link.specs.Steps.{bool_outcome, option_outcome, step_at, yield_step_at};
 ghost use Rattle.{c104_regs.specs.declared.registers.TheConstants.LINKS, c104_switch.specs.Claims.{IsNextLink, put_header}};
@@ -24,14 +24,17 @@ pub struct OutputsOf<T: TokenKind> {
 }
 
 impl<T: TokenKind> Model for OutputsOf<T> {
-    ghost use Rattle.std.specs.Prelude.{List};
-    ghost use Rattle.{c104_link.specs.Buffers.Outgoing, c104_switch.specs.Readiness.AreSending};
+    ghost use Rattle.std.specs.Prelude.{List, length, ◌≤◌};
+    ghost use Rattle.{c104_link.specs.Buffers.Outgoing, c104_regs.specs.declared.registers.TheConstants.LINKS};
+    ghost use Rattle.c104_switch.specs.{Readiness.AreSending};
 
     ghost Value = { List (Outgoing T) };
 
     ghost view = { λ outputs. outputs.list.items };
 
-    ghost invariant = { λ outputs. AreSending outputs.sending outputs.list.items };
+    ghost invariant = { λ outputs.
+        AreSending outputs.sending outputs.list.items
+        × (length outputs.list.items ≤ LINKS) };
 }
 
 impl<T: TokenKind> OutputsOf<T> {
@@ -51,7 +54,8 @@ impl<T: TokenKind> OutputsOf<T> {
 
     /// The outputs of links at their starts. It fails only when out of memory.
     pub fn from_start(alloc: Global, links: &[LinkStart]) -> Result<Self, NoMemory>
-        requires { All IsLinkStart links.now }
+        requires starts { All IsLinkStart links.now }
+        requires count { length links.now ≤ LINKS }
         ensures { IfOk result (λ qs. qs ≡ map start_output links.now) }
     {
         let mut list = Vec::with_capacity(alloc, links.len())?;
@@ -106,21 +110,17 @@ impl<T: TokenKind> OutputsOf<T> {
         is_done
     }
 
-    /// A token joins an output, where there is room for it.
+    /// A token joins an output that has room for it.
     #[inline(always)]
-    pub fn put(&mut self, link: usize, token: T) -> bool
-        ensures { (result, self.new) ≡
-            bool_outcome (step_at self.old link (buffer.outgoing_put token)) self.old }
+    pub fn put(&mut self, link: usize, token: T)
+        requires { is_some (step_at self.old link (buffer.outgoing_put token)) ≡ true }
+        ensures { step_at self.old link (buffer.outgoing_put token) ≡ Some self.new }
     {
         let list = &mut self.list;
-        if link >= list.len() {
-            return false;
-        }
         let output = &mut list[link];
-        let is_done = put(output, token);
-        // It holds a token now, this one or others, so it can send where it has credit.
+        let _is_done = put(output, token);
+        // It holds a token now, so it can send where it has credit.
         self.sending.add_if(link, output.credit() > 0);
-        is_done
     }
 
     /// A header joins an output as a whole, where there is room for it, or is deleted there, where

@@ -1,7 +1,7 @@
 use Rattle.{c104_crossbar.specs.Marks.ArePartition, c104_switch.proofs.ClaimSteps.{lift_claimed, marked, unclaimed}}
-use Rattle.c104_switch.proofs.{HeldSteps.partition_offered, KeptSets.kept_set, OwnersKept.{few_set, owners_claimed, owners_kept, rest_same}}
-use Rattle.{c104_switch.specs.Holding.{held_claims, phase_claims}, std.proofs.Common.{[], ap, arith, false, refl, subst, sym, true, ◌∙◌}}
-use Rattle.std.proofs.Common.{◌∷◌, ◌≡◌}
+use Rattle.c104_switch.proofs.{HeldSteps.partition_offered, KeptSets.{few_set, kept_set}, OwnersKept.{owners_claimed, owners_kept}}
+use Rattle.{c104_switch.{proofs.OwnersKept.rest_same, specs.Holding.{held_claims, phase_claims}}, std.proofs.Common.{[], ap, arith, false}}
+use Rattle.std.proofs.Common.{refl, subst, sym, true, ◌∙◌, ◌∷◌, ◌≡◌}
 use Rattle.c104_switch.proofs.inputs.InputsOf.claim.Goals as goal
 
 pub returns-in_default : goal.returns-in_default

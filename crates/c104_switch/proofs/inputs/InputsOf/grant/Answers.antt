@@ -1,5 +1,5 @@
-use Rattle.{c104_link.proofs.Lifts.lift_tried, c104_switch.proofs.{HeldSteps.{partition_kept, phase_granted}, KeptSets.kept_set}}
-use Rattle.{c104_switch.{proofs.OwnersKept.{few_set, owners_kept}, specs.Holding.phase_claims}, std.proofs.Common.{ap, arith, sym}}
+use Rattle.{c104_link.proofs.Lifts.lift_tried, c104_switch.proofs.{HeldSteps.{partition_kept, phase_granted}, KeptSets.{few_set, kept_set}}}
+use Rattle.{c104_switch.{proofs.OwnersKept.owners_kept, specs.Holding.phase_claims}, std.proofs.Common.{ap, arith, sym}}
 use Rattle.c104_switch.proofs.inputs.InputsOf.grant.Goals as goal
 
 pub returns : goal.returns

@@ -1,5 +1,5 @@
 use Rattle.{c104_link.proofs.Lifts.lift_beside, c104_switch.proofs.{HeldClaims.claimed_not_free, HeldSteps.partition_spent}}
-use Rattle.c104_switch.proofs.{KeptInputs.{kept_same, kept_streamed, unmade}, KeptSets.kept_set, OwnersKept.{few_set, owners_freed}}
+use Rattle.c104_switch.proofs.{KeptInputs.{kept_same, kept_streamed, unmade}, KeptSets.{few_set, kept_set}, OwnersKept.owners_freed}
 use Rattle.{c104_switch.{proofs.OwnersKept.owners_kept, specs.Owners.AreOwners}, std.proofs.Common.{None, [], arith, false, slice_set}}
 use Rattle.std.proofs.Common.{subst, sym, true, ◌∷◌}
 use Rattle.c104_switch.proofs.inputs.InputsOf.turn.Goals as goal
