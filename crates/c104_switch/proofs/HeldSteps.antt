@@ -1,10 +1,10 @@
 -- The partition of the outputs into claims and free ones, where one input changes.
 use Rattle.{c104_crossbar.specs.Marks.{ArePartition, times}, c104_link.specs.Buffers.{Incoming, incoming_accept, incoming_grant}}
 use Rattle.{c104_link.specs.Steps.{bool_outcome, ◌>>=◌}, c104_switch.proofs.HeldClaims.{held_append, held_set, partition_same}}
-use Rattle.c104_switch.{proofs.HeldClaims.times_append, specs.{Commands.input_reset, Holding.{held_claims, phase_claims}, Switch.Input}}
-use Rattle.{c104_switch.specs.Switch.{input_accept, input_grant, with_buffer}, std.proofs.Common.{Bool, List, None, Option, Some, [], ap}}
-use Rattle.std.proofs.Common.{arith, get_or, length, refl, slice_get, slice_set, sym, ℕ, ◌++◌, ◌+◌, ◌<◌, ◌∙◌, ◌∷◌, ◌≡◌}
-use Rattle.std.proofs.lemmas.Option.{slice_get_read}
+use Rattle.c104_switch.{proofs.HeldClaims.times_append, specs.{Commands.input_reset, Holding.{claim_of, held_claims, phase_claims}}}
+use Rattle.{c104_switch.specs.{Phases.streamed_output, Switch.{Input, input_accept, input_grant, with_buffer}}, std.proofs.Common.Bool}
+use Rattle.std.proofs.Common.{List, None, Option, Some, [], ap, arith, get_or, length, refl, slice_get, slice_set, sym, ℕ, ◌++◌, ◌+◌, ◌<◌}
+use Rattle.std.proofs.{Common.{◌∙◌, ◌∷◌, ◌≡◌}, lemmas.Option.slice_get_read}
 use mathlib.Core.List.{append-nil}
 
 -- the last input leaves a list, with the claims that it held
@@ -20,6 +20,10 @@ partition_popped ps p claims marks own = partition_same (held_claims (ps ++ p �
 module _ {A : Type 0} (ps : List (Input A)) (i : ℕ) (p q : Input A) (inside : i < length ps) (is : p ≡ get_or ps i p) where
   here : slice_get ps i ≡ Some p
   here = slice_get_read ps (length ps) i p refl inside is
+
+  -- the claim that it holds
+  pub held_there : claim_of ps i ≡ streamed_output p.phase
+  held_there = ap (λ (found : Option (Input A)). found >>= (λ p. streamed_output p.phase)) here
 
   -- claims that it gives back
   pub partition_spent : (claims : List ℕ) (marks : List Bool) → phase_claims p.phase ≡ claims ++ phase_claims q.phase → ArePartition (held_claims ps) marks → ArePartition (claims ++ held_claims (slice_set ps i q)) marks

@@ -12,22 +12,24 @@ abbrev pub held_claims : {A : Type 0} → List (Input A) → List ℕ
 held_claims [] = []
 held_claims (p ∷ inputs) = phase_claims p.phase ++ held_claims inputs
 
--- the claim that input i holds, if it does
+-- the claim that input i of all holds, if it does
+abbrev pub claim_of : {A : Type 0} → List (Input A) → ℕ → Option ℕ
+claim_of ps i = slice_get ps i >>= (λ p. streamed_output p.phase)
+
+-- the same of a switch
 abbrev pub claim_at : {A : Type 0} → Switch A → ℕ → Option ℕ
-claim_at s i = slice_get s.inputs i >>= (λ p. streamed_output p.phase)
+claim_at s i = claim_of s.inputs i
 
 -- whether a turn did something
 abbrev pub is_done_turn : Turn → Bool
 is_done_turn Turn.NotReady = false
 is_done_turn Turn.Streamed = true
-is_done_turn Turn.Done = true
 is_done_turn (Turn.Freed claim) = true
 
 -- the claim that a turn gave back
 abbrev pub freed_claims : Turn → List ℕ
 freed_claims Turn.NotReady = []
 freed_claims Turn.Streamed = []
-freed_claims Turn.Done = []
 freed_claims (Turn.Freed claim) = claim ∷ []
 
 -- a turn by which a token of a packet streams on leaves all of the input but that token

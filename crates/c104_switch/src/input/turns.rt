@@ -1,10 +1,10 @@
 //! What an input does with its first token.
-ghost use Rattle.std.specs.Prelude.{IfSome, false, if◌then◌else◌, is_some, true, ℕ, ◌++◌, ◌≡◌};
+ghost use Rattle.std.specs.Prelude.{IfSome, List, None, false, if◌then◌else◌, is_some, true, ℕ, ◌++◌, ◌≡◌};
 ghost use Rattle.{c104_regs.specs.declared.settings.Settings.Settings as TheSettings, c104_switch.specs.Headers.phase_after_header};
 ghost use Rattle.c104_switch.specs.{Headers.random_header, Holding.{HasStreamed, freed_claims, is_done_turn, phase_claims}, Phases.HasRoom};
-ghost use Rattle.c104_switch.specs.{Phases.{IsReading, Sinking, tokens_read}, Stages.stage_phase, Switch.{Fresh, Stream, count_after}};
+ghost use Rattle.c104_switch.specs.{Phases.{IsReading, Sinking, streamed_output, tokens_read}, Stages.stage_phase, Switch.{Fresh, Stream, count_after}};
 ghost use Rattle.c104_switch.specs.Turns.{IsTurn, header_turn, input_after_token, input_turn, random_turn};
-ghost use Rattle.c104_token.specs.Tokens.{is_end};
+ghost use Rattle.{c104_link.specs.Buffers.Outgoing, c104_token.specs.Tokens.is_end};
 
 use super::InputOf;
 use super::stage::Stage;
@@ -20,46 +20,41 @@ use std::mem;
 pub enum Turn {
     /// Nothing: it wasn't ready.
     NotReady,
-    /// It is done, by no more than that a token of a packet that streams went on.
+    /// A token of a packet that streams went on.
     Streamed,
-    /// It is done otherwise.
-    Done,
-    /// It is done, and the packet's terminator gave its claim back.
+    /// The same of the packet's terminator, which gave its claim back.
     Freed(Claim),
 }
 
 impl<T: TokenKind> InputOf<T> {
-    /// What the input does with its first token. It isn't ready, and nothing changes, where it has
-    /// none, waits for an output, or streams to one that is full.
-    pub fn turn(&mut self, settings: &PackedSettings, word: u32, outputs: &mut OutputsOf<T>) -> Turn
-        ensures turned { IsTurn T.kind settings.now word
-            self.old outputs.old (is_done_turn result) self.new outputs.new }
-        ensures claims { phase_claims self.old.phase ≡
-            freed_claims result ++ phase_claims self.new.phase }
-        ensures streamed { HasStreamed result self.old self.new }
+    /// What an input that streams to no output does with its first token. It isn't ready, and
+    /// nothing changes, where it has none or waits for an output.
+    pub fn turn(&mut self, settings: &PackedSettings, word: u32) -> bool
+        requires { streamed_output self.old.phase ≡ None }
+        ensures turned { (outputs : List (Outgoing T)) → IsTurn T.kind settings.now word
+            self.old outputs result self.new outputs }
+        ensures held { streamed_output self.new.phase ≡ None }
     {
         let Some(token) = self.buffer.first() else {
-            return Turn::NotReady;
+            return false;
         };
         let ends = is_end(token.plain());
         match &self.stage {
             Stage::Fresh if settings.randomize() && !ends => self.read_random(settings, word),
             Stage::Fresh => self.read_token(settings, token),
             Stage::Head => self.read_token(settings, token),
-            Stage::Want(_) => return Turn::NotReady,
-            Stage::Stream(claim) => {
-                let output = claim.output();
-                return self.stream(output, outputs);
-            }
+            Stage::Want(_) => return false,
+            Stage::Stream(_) => unreachable!(),
             Stage::Sinking => self.sink(ends),
         }
-        Turn::Done
+        true
     }
 
     /// The output that the packet streams to, if it does.
     #[inline(always)]
     pub fn streams_to(&self) -> Option<usize>
-        ensures { IfSome result (λ output. self.now.phase ≡ Stream output) }
+        ensures output { IfSome result (λ output. self.now.phase ≡ Stream output) }
+        ensures exactly { result ≡ streamed_output self.now.phase }
     {
         match &self.stage {
             Stage::Stream(claim) => Some(claim.output()),

@@ -1,6 +1,6 @@
 //! A turn of an input.
-ghost use Rattle.std.specs.Prelude.{◌≡◌};
-ghost use Rattle.c104_switch.specs.Turns.{IsTurnAt};
+ghost use Rattle.std.specs.Prelude.{List, None, ◌≡◌};
+ghost use Rattle.{c104_link.specs.Buffers.Outgoing, c104_switch.specs.{Holding.claim_of, Turns.IsTurnAt}};
 
 use super::InputsOf;
 use crate::input::Turn;
@@ -30,16 +30,12 @@ impl<T: TokenKind> InputsOf<T> {
         }
         let input = &mut list[link];
         let Some(output) = input.streams_to() else {
-            return self.turn_called(link, settings, word, outputs);
+            return self.turn_called(link, settings, word);
         };
         match input.stream(output, outputs) {
             Turn::NotReady => false,
             Turn::Streamed => {
                 self.sets.keep_streamed(link, input);
-                true
-            }
-            Turn::Done => {
-                self.sets.keep(link, input);
                 true
             }
             Turn::Freed(claim) => {
@@ -51,40 +47,21 @@ impl<T: TokenKind> InputsOf<T> {
         }
     }
 
-    /// The same of any input.
+    /// The same of an input that streams to no output.
     #[cold]
     #[inline(never)]
-    fn turn_called(
-        &mut self,
-        link: usize,
-        settings: &PackedSettings,
-        word: u32,
-        outputs: &mut OutputsOf<T>,
-    ) -> bool
-        ensures { IsTurnAt T.kind settings.now word link
-            self.old outputs.old result self.new outputs.new }
+    fn turn_called(&mut self, link: usize, settings: &PackedSettings, word: u32) -> bool
+        requires { claim_of self.old link ≡ None }
+        ensures { (outputs : List (Outgoing T)) → IsTurnAt T.kind settings.now word link
+            self.old outputs result self.new outputs }
     {
         let list = &mut self.list;
         if link >= list.len() {
             return false;
         }
         let input = &mut list[link];
-        match input.turn(settings, word, outputs) {
-            Turn::NotReady => false,
-            Turn::Streamed => {
-                self.sets.keep_streamed(link, input);
-                true
-            }
-            Turn::Done => {
-                self.sets.keep(link, input);
-                true
-            }
-            Turn::Freed(claim) => {
-                self.sets.keep(link, input);
-                self.owners[claim.output()] = None;
-                self.crossbar.release(claim);
-                true
-            }
-        }
+        let is_done = input.turn(settings, word);
+        self.sets.keep(link, input);
+        is_done
     }
 }

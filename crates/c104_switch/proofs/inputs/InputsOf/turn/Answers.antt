@@ -1,7 +1,7 @@
 use Rattle.{c104_link.proofs.Lifts.lift_beside, c104_switch.proofs.{HeldClaims.claimed_not_free, HeldSteps.partition_spent}}
 use Rattle.c104_switch.proofs.{KeptInputs.{kept_same, kept_streamed, unmade}, KeptSets.{few_set, kept_set}, OwnersKept.owners_freed}
-use Rattle.{c104_switch.{proofs.OwnersKept.owners_kept, specs.Owners.AreOwners}, std.proofs.Common.{None, [], arith, false, slice_set}}
-use Rattle.std.proofs.Common.{subst, sym, true, ◌∷◌}
+use Rattle.{c104_switch.{proofs.OwnersKept.owners_kept, specs.{Owners.AreOwners, Switch.Input, Turns.IsTurnAt}}, std.proofs.Common.List}
+use Rattle.std.proofs.{Common.{None, [], ap, arith, false, slice_set, subst, sym, true, ◌∙◌, ◌∷◌}, lemmas.List.set-get_or}
 use Rattle.c104_switch.proofs.inputs.InputsOf.turn.Goals as goal
 
 pub invariant_of-self-in-NotReady : goal.invariant_of-self-in-NotReady
@@ -21,21 +21,13 @@ invariant_of-self-in-Streamed g c = (
   few_set c.self.inside.list.items c.args.link c.stream.new.self c.self.invariant.3,
 )
 
-pub invariant_of-self-in-Done : goal.invariant_of-self-in-Done
-invariant_of-self-in-Done g c = (
-  partition_spent c.self.inside.list.items c.args.link c.index_mut-input.result.now c.stream.new.self (omega arith) c.index_mut-input.ensures.value [] c.self.inside.crossbar c.in-Done.ensures.claims c.self.invariant.0,
-  kept_set c.self.inside.list.items c.args.link c.stream.new.self c.self.inside.sets c.keep.new.self (omega arith) c.self.invariant.1 c.keep.ensures.here c.keep.ensures.others,
-  owners_kept c.self.inside.owners c.self.inside.list.items c.args.link c.index_mut-input.result.now c.stream.new.self (omega arith) c.index_mut-input.ensures.value c.self.invariant.2 c.in-Done.ensures.claims,
-  few_set c.self.inside.list.items c.args.link c.stream.new.self c.self.invariant.3,
-)
-
 pub release-requires : goal.release-requires
 release-requires g c = claimed_not_free c.in-Freed.claim _ c.self.inside.crossbar (partition_spent c.self.inside.list.items c.args.link c.index_mut-input.result.now c.stream.new.self (omega arith) c.index_mut-input.ensures.value (c.in-Freed.claim ∷ []) c.self.inside.crossbar c.in-Freed.ensures.claims c.self.invariant.0)
 
 pub invariant_of-self-in-Freed : goal.invariant_of-self-in-Freed
 invariant_of-self-in-Freed g c = (
   c.release.ensures.partition _ (partition_spent c.self.inside.list.items c.args.link c.index_mut-input.result.now c.stream.new.self (omega arith) c.index_mut-input.ensures.value (c.in-Freed.claim ∷ []) c.self.inside.crossbar c.in-Freed.ensures.claims c.self.invariant.0),
-  kept_set c.self.inside.list.items c.args.link c.stream.new.self c.self.inside.sets c.keep-in-Freed.new.self (omega arith) c.self.invariant.1 c.keep-in-Freed.ensures.here c.keep-in-Freed.ensures.others,
+  kept_set c.self.inside.list.items c.args.link c.stream.new.self c.self.inside.sets c.keep.new.self (omega arith) c.self.invariant.1 c.keep.ensures.here c.keep.ensures.others,
   subst (λ k. AreOwners (slice_set c.self.inside.owners k None) (slice_set c.self.inside.list.items c.args.link c.stream.new.self)) (sym c.output.ensures.value)
       (owners_freed c.self.inside.owners c.self.inside.list.items c.args.link c.index_mut-input.result.now c.stream.new.self (omega arith) c.index_mut-input.ensures.value c.self.invariant.2 c.in-Freed.claim c.self.inside.crossbar c.in-Freed.ensures.claims
       (partition_spent c.self.inside.list.items c.args.link c.index_mut-input.result.now c.stream.new.self (omega arith) c.index_mut-input.ensures.value (c.in-Freed.claim ∷ []) c.self.inside.crossbar c.in-Freed.ensures.claims c.self.invariant.0)),
@@ -48,8 +40,10 @@ returns-in-NotReady g c = rw (sym c.self.view_is) (lift_beside c.self.inside.lis
 pub returns-in-Streamed : goal.returns-in-Streamed
 returns-in-Streamed g c = rw (sym c.self.view_is) (lift_beside c.self.inside.list.items c.args.link c.index_mut-input.result.now c.stream.new.self (omega arith) c.index_mut-input.ensures.value true _ _ _ (c.in-Streamed.ensures.turned c.args.settings.now c.args.word))
 
-pub returns-in-Done : goal.returns-in-Done
-returns-in-Done g c = rw (sym c.self.view_is) (lift_beside c.self.inside.list.items c.args.link c.index_mut-input.result.now c.stream.new.self (omega arith) c.index_mut-input.ensures.value true _ _ _ (c.in-Done.ensures.turned c.args.settings.now c.args.word))
-
 pub returns-in-Freed : goal.returns-in-Freed
 returns-in-Freed g c = rw (sym c.self.view_is) (lift_beside c.self.inside.list.items c.args.link c.index_mut-input.result.now c.stream.new.self (omega arith) c.index_mut-input.ensures.value true _ _ _ (c.in-Freed.ensures.turned c.args.settings.now c.args.word))
+
+pub returns-in_default : goal.returns-in_default
+returns-in_default g c =
+    let same = ap (slice_set c.self.inside.list.items c.args.link) c.index_mut-input.ensures.value ∙ set-get_or c.self.inside.list.items c.args.link c.index_mut-input.result.now ∙ c.self.view_is in
+    subst (λ (ps : List (Input g.row.T.Denot)). IsTurnAt g.T.TokenKind.kind c.args.settings.now c.args.word c.args.link ps c.args.outputs.now c.turn_called.result c.turn_called.new.self c.args.outputs.now) same (c.turn_called.ensures c.args.outputs.now)
