@@ -1,14 +1,13 @@
 -- The group by the word that the registers give is the group by the settings.
 use Rattle.{c104_crossbar.specs.Groups.{has_bit, is_joined_run}, c104_regs.proofs.ContinueLemmas.bit-continues_at}
 use Rattle.c104_regs.specs.{Groups.continues_at, Values.bit_value, declared.settings.Settings.Settings}
-use Rattle.{c104_switch.specs.Group.is_in_group, std.proofs.Common.{Bool, List, ap, arith, false, refl, suc, sym, zero, ℕ, ◌+◌, ◌-◌, ◌<◌}}
-use Rattle.std.{proofs.{Common.{◌==◌, ◌^◌, ◌∙◌, ◌≡◌, ◌≤◌}, lemmas.{Bool.lt-leb, Nat.Bits.bit_at_above}}, specs.Int.bit_at}
+use Rattle.{c104_switch.specs.Group.is_in_group, std.proofs.Common.{Bool, List, ap, arith, false, refl, suc, sym, ℕ, ◌+◌, ◌-◌, ◌<◌, ◌==◌}}
+use Rattle.std.{proofs.{Common.{◌^◌, ◌∙◌, ◌≡◌, ◌≤◌}, lemmas.{Bool.lt-leb, Nat.Bits.bit_at_above}}, specs.Int.bit_at}
 use Rattle.c104_crossbar.specs.Groups as groups
 
 -- links that continue by one test as by another are joined by both
 joined_same : (f h : ℕ → Bool) → ((l : ℕ) → f l ≡ h l) → (low n : ℕ) → is_joined_run f low n ≡ is_joined_run h low n
-joined_same f h same low zero = refl
-joined_same f h same low (suc n) = rw (same (low + suc n), joined_same f h same low n) refl
+joined_same f h same low n = search arith
 
 in_group_same : (f h : ℕ → Bool) → ((l : ℕ) → f l ≡ h l) → (g o : ℕ) → groups.group_contains f g o ≡ groups.group_contains h g o
 in_group_same f h same g o = rw (joined_same f h same g (o - g), joined_same f h same o (g - o)) refl

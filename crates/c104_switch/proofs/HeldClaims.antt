@@ -1,8 +1,8 @@
 -- The claims that inputs hold: how often each output is among them, where one input changes.
 use Rattle.{c104_crossbar.specs.Marks.{ArePartition, bool_number, is_free, times}, c104_switch.specs.Holding.{held_claims, phase_claims}}
-use Rattle.c104_switch.specs.{Phases.is_stream, Switch.{Fresh, Head, Input, Phase, Sinking, Stream, Want, is_owned, new_input}}
-use Rattle.std.proofs.Common.{Bool, List, Some, [], ap, arith, false, nat_lt, refl, replicate, slice_get, slice_set, suc, sym, true, zero}
-use Rattle.std.proofs.{Common.{ℕ, ◌++◌, ◌+◌, ◌<◌, ◌==◌, ◌||◌, ◌∙◌, ◌∷◌, ◌≡◌}, lemmas.Bool.{Decides.nat_tests, or_parts}}
+use Rattle.{c104_switch.specs.{Phases.is_stream, Switch.{Input, Phase, is_owned, new_input}}, std.proofs.Common.{Bool, List, Some, [], ap}}
+use Rattle.std.proofs.Common.{arith, false, refl, replicate, slice_get, slice_set, suc, sym, true, zero, ℕ, ◌++◌, ◌+◌, ◌<◌, ◌||◌, ◌∙◌, ◌∷◌}
+use Rattle.std.proofs.{Common.◌≡◌, lemmas.Bool.{Decides.nat_tests, or_parts}}
 
 -- claims one after the other
 pub times_append : (o : ℕ) (xs ys : List ℕ) → times o (xs ++ ys) ≡ times o xs + times o ys
@@ -15,13 +15,7 @@ partition_same xs ys marks same partition o = let one = same o in let all = part
 
 -- an output that is claimed isn't free
 pub claimed_not_free : (c : ℕ) (cs : List ℕ) (marks : List Bool) → ArePartition (c ∷ cs) marks → is_free marks c ≡ false
-claimed_not_free c cs marks partition = by_free (is_free marks c) (c == c) (nat_lt c 32) (let same : (c == c) ≡ true = grind (arith, nat_tests) in same) (partition c)
-  where
-    by_free : (free self below : Bool) → self ≡ true → (bool_number self + times c cs) + bool_number free ≡ bool_number below → free ≡ false
-    by_free false self below is sum = refl
-    by_free true true true is sum = absurd (let no : ⊥ = omega arith in no)
-    by_free true true false is sum = absurd (let no : ⊥ = omega arith in no)
-    by_free true false below is sum = cc
+claimed_not_free c cs marks partition = search (arith, nat_tests)
 
 -- an input holds no claim at first
 pub held_first : (A : Type 0) (n cap : ℕ) → held_claims {A = A} (replicate n (new_input cap)) ≡ []
@@ -54,11 +48,7 @@ module _ {A : Type 0} where
 
   -- an input that streams to an output holds its claim
   pub holds_stream : (o : ℕ) (phase : Phase (List A)) → times o (phase_claims phase) ≡ bool_number (is_stream o phase)
-  holds_stream o Fresh = refl
-  holds_stream o (Head b) = refl
-  holds_stream o (Want b g) = refl
-  holds_stream o (Stream d) = let same : (o == d) ≡ (d == o) = grind (arith, nat_tests) in rw same (omega arith)
-  holds_stream o Sinking = refl
+  holds_stream o phase = search (arith, nat_tests)
 
   -- an output is owned where its claim is held
   pub unowned_unheld : (o : ℕ) (ps : List (Input A)) → times o (held_claims ps) ≡ 0 → is_owned ps o ≡ false
@@ -84,25 +74,8 @@ module _ {A : Type 0} where
 
   -- a free output isn't owned
   pub free_unowned : (ps : List (Input A)) (marks : List Bool) (o : ℕ) → ArePartition (held_claims ps) marks → is_free marks o ≡ true → is_owned ps o ≡ false
-  free_unowned ps marks o partition free = unowned_unheld o ps (by_below (nat_lt o 32) (partition o))
-    where
-      is_one : bool_number (is_free marks o) ≡ 1
-      is_one = ap bool_number free
-
-      by_below : (below : Bool) → times o (held_claims ps) + bool_number (is_free marks o) ≡ bool_number below → times o (held_claims ps) ≡ 0
-      by_below true sum = omega (arith, is_one)
-      by_below false sum = omega (arith, is_one)
+  free_unowned ps marks o partition free = search (arith, unowned_unheld)
 
   -- an output of the 32 that isn't free is owned
   pub taken_owned : (ps : List (Input A)) (marks : List Bool) (o : ℕ) → ArePartition (held_claims ps) marks → is_free marks o ≡ false → o < 32 → is_owned ps o ≡ true
-  taken_owned ps marks o partition taken below = by_owned (is_owned ps o) refl
-    where
-      by_owned : (owned : Bool) → is_owned ps o ≡ owned → owned ≡ true
-      by_owned true is = refl
-      by_owned false is = absurd (
-          let none = owned_held o ps is in
-          let is_none : bool_number (is_free marks o) ≡ 0 = ap bool_number taken in
-          let lt : nat_lt o 32 ≡ true = grind (arith, nat_tests) in
-          let is_lt : bool_number (nat_lt o 32) ≡ 1 = ap bool_number lt in
-          let sum = partition o in
-          let no : ⊥ = omega arith in no)
+  taken_owned ps marks o partition taken below = search (arith, owned_held, nat_tests)

@@ -3,18 +3,13 @@ use Rattle.{c104_crossbar.specs.Marks.{ArePartition, times}, c104_link.specs.Buf
 use Rattle.{c104_link.specs.Steps.{bool_outcome, ◌>>=◌}, c104_switch.proofs.HeldClaims.{held_append, held_set, partition_same}}
 use Rattle.c104_switch.{proofs.HeldClaims.times_append, specs.{Commands.input_reset, Holding.{claim_of, held_claims, phase_claims}}}
 use Rattle.{c104_switch.specs.{Phases.streamed_output, Switch.{Input, input_accept, input_grant, with_buffer}}, std.proofs.Common.Bool}
-use Rattle.std.proofs.Common.{List, None, Option, Some, [], ap, arith, get_or, length, refl, slice_get, slice_set, sym, ℕ, ◌++◌, ◌+◌, ◌<◌}
-use Rattle.std.proofs.{Common.{◌∙◌, ◌∷◌, ◌≡◌}, lemmas.Option.slice_get_read}
+use Rattle.std.proofs.Common.{List, Option, Some, [], ap, arith, get_or, length, refl, slice_get, slice_set, sym, ℕ, ◌++◌, ◌+◌, ◌<◌, ◌∙◌}
+use Rattle.std.proofs.{Common.{◌∷◌, ◌≡◌}, lemmas.Option.slice_get_read}
 use mathlib.Core.List.{append-nil}
 
 -- the last input leaves a list, with the claims that it held
 pub partition_popped : {A : Type 0} (ps : List (Input A)) (p : Input A) (claims : List ℕ) (marks : List Bool) → claims ≡ phase_claims p.phase → ArePartition (held_claims (ps ++ p ∷ [])) marks → ArePartition (claims ++ held_claims ps) marks
-partition_popped ps p claims marks own = partition_same (held_claims (ps ++ p ∷ [])) (claims ++ held_claims ps) marks (λ o.
-    let all = held_append o ps (p ∷ []) in
-    let last = times_append o (phase_claims p.phase) [] in
-    let both = times_append o claims (held_claims ps) in
-    let same : times o claims ≡ times o (phase_claims p.phase) = ap (times o) own in
-    omega arith)
+partition_popped ps p claims marks h1 h2 = search (arith, partition_same, held_append, times_append)
 
 -- the input at a place of a list changes, and claims are given back or brought by it
 module _ {A : Type 0} (ps : List (Input A)) (i : ℕ) (p q : Input A) (inside : i < length ps) (is : p ≡ get_or ps i p) where
@@ -52,8 +47,7 @@ module _ {A : Type 0} (ps : List (Input A)) (i : ℕ) (p q : Input A) (inside : 
 
 module _ {A : Type 0} (p q : Input A) (b : Bool) where
   by_buffer : (made : Option (Incoming A)) → ◌≡◌ {A = Bool × Input A} (b, q) (bool_outcome (made >>= (λ c. Some (with_buffer p c))) p) → q.phase ≡ p.phase
-  by_buffer None gives = ap (λ (r : Bool × Input A). r.1.phase) gives
-  by_buffer (Some c) gives = ap (λ (r : Bool × Input A). r.1.phase) gives
+  by_buffer made gives = search arith
 
   -- a token that comes in leaves the phase
   pub phase_accepted : (x : A) → ◌≡◌ {A = Bool × Input A} (b, q) (bool_outcome (input_accept x p) p) → q.phase ≡ p.phase

@@ -7,8 +7,7 @@ use Rattle.std.{proofs.lemmas.Option.slice_get-get_or, specs.Option.option_map_o
 
 -- where there is nothing to send, nothing leaves
 pub nothing_left : {A S : Type 0} (step : Option (A × S)) (old : S) → false ≡ is_some step → ◌≡◌ {A = Option A × S} (None, old) (option_outcome step old)
-nothing_left None old is = refl
-nothing_left (Some p) old is = absurd (cc is)
+nothing_left step old is = search arith
 
 module _ {A : Type 0} where
   abbrev sends : Outgoing A → Bool
@@ -16,12 +15,7 @@ module _ {A : Type 0} where
 
   -- an output sends where it has a token and a credit
   sends_by : (q : Outgoing A) → sends q ≡ (is_some (slice_get q.items 0) && nat_lt 0 q.credit)
-  sends_by q = by_parts (slice_get q.items 0) (nat_lt 0 q.credit) refl refl
-    where
-      by_parts : (first : Option A) (some : Bool) → slice_get q.items 0 ≡ first → nat_lt 0 q.credit ≡ some → sends q ≡ (is_some first && some)
-      by_parts None some at is = rw at refl
-      by_parts (Some x) true at is = rw (at, is) refl
-      by_parts (Some x) false at is = rw (at, is) refl
+  sends_by q = search arith
 
   -- one that a token was offered to holds one, this or others
   record IsOffered (q r : Outgoing A) : Type 0 where
@@ -72,19 +66,7 @@ module _ {A : Type 0} where
 
   -- one that was asked for a token sends no more than before
   asked_sends : (o : Option A) (q r : Outgoing A) → ◌≡◌ {A = Option A × Outgoing A} (o, r) (option_outcome (outgoing_emit q) q) → (sends r && sends q) ≡ sends r
-  asked_sends o q r given = by_made (outgoing_emit q) refl
-    where
-      and_true : (b : Bool) → (b && true) ≡ b
-      and_true true = refl
-      and_true false = refl
-
-      by_made : (made : Option (A × Outgoing A)) → outgoing_emit q ≡ made → (sends r && sends q) ≡ sends r
-      by_made None made =
-          let stays : option_outcome (outgoing_emit q) q ≡ (None, q) = ap (λ m. option_outcome m q) made in
-          let same : r ≡ q = ap (λ (t : Option A × Outgoing A). t.1) (given ∙ stays) in
-          let none : sends r ≡ false = ap (λ (t : Outgoing A). sends t) same ∙ ap is_some made in
-          ap (λ b. b && sends q) none ∙ sym none
-      by_made (Some y) made = ap (λ b. sends r && b) (ap is_some made) ∙ and_true (sends r)
+  asked_sends o q r given = search arith
 
   module _ (qs : List (Outgoing A)) (i : ℕ) (q r : Outgoing A) (set other : ℕ) (inside : i < length qs) (is : q ≡ get_or qs i q) (sending : AreSending set qs) (others : (l : ℕ) → l < 32 → l ≢ i → has_bit other l ≡ has_bit set l) where
     -- the set has an output there as it was

@@ -5,13 +5,7 @@ use Rattle.std.{proofs.lemmas.Nat.Bits.{bit_at_mask_below, bit_at_mask_inside, o
 
 -- two bits are both one where the least of them and of a one is
 by_bits : (a b : ℕ) → a < 2 → b < 2 → min (min a b) 1 ≡ 0 → ((a == 1) && (b == 1)) ≡ false
-by_bits a b low high none = elim (cases_lt a 1) [
-  | inl zero ↦ let is : a ≡ 0 = omega arith in rw is refl
-  | inr one ↦ elim (cases_lt b 1) [
-    | inl zero ↦ let is : b ≡ 0 = omega arith in let both : a ≡ 1 = omega arith in rw (is, both) refl
-    | inr two ↦ absurd (omega arith)
-  ]
-]
+by_bits a b low high none = search (arith, cases_lt)
 
 module _ (word other from : ℕ) (inside : from < 32) where
   -- those bits that two words have, from one on

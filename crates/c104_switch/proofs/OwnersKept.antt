@@ -1,23 +1,19 @@
 -- What is kept of the owners of outputs where one input changes.
-use Rattle.{c104_crossbar.specs.Marks.{ArePartition, bool_number, is_free, times}, c104_switch.proofs.HeldClaims.holds_stream}
-use Rattle.c104_switch.{proofs.{HeldClaims.unowned_unheld, Owners.owner_found}, specs.{Commands.input_reset, Holding.held_claims}}
-use Rattle.c104_switch.specs.{Holding.phase_claims, Owners.AreOwners, Phases.is_stream, Starts.start_input, Switch.{Input, is_owned}}
-use Rattle.{c104_switch.specs.{Switch.new_input, Views.owner_from, declared.link_start.LinkStart.LinkStart}, std.proofs.Common.{Bool, List}}
-use Rattle.std.proofs.Common.{None, Option, Some, [], ap, arith, false, get_or, if◌then◌else◌, inl, inr, is_some, length, map, nat_lt, refl}
-use Rattle.std.proofs.Common.{replicate, slice_get, slice_index_or, slice_set, suc, sym, take, true, zero, ℕ, ◌+◌, ◌<◌, ◌==◌, ◌||◌, ◌∙◌}
-use Rattle.std.proofs.{Common.{◌∷◌, ◌≡◌, ◌≢◌, ◌≤◌}, lemmas.{Bool.{Decides.nat_tests, cases_eq, cases_lt}, List.get_or-set_other}}
-use Rattle.std.proofs.lemmas.{List.{get_or-set_same, length-map, length-replicate, length-set, length-take}, Option.slice_get_read}
+use Rattle.{c104_crossbar.specs.Marks.{ArePartition, bool_number, times}, c104_switch.proofs.HeldClaims.{holds_stream, unowned_unheld}}
+use Rattle.c104_switch.{proofs.Owners.owner_found, specs.{Commands.input_reset, Holding.{held_claims, phase_claims}, Owners.AreOwners}}
+use Rattle.c104_switch.specs.{Phases.is_stream, Starts.start_input, Switch.{Input, is_owned, new_input}, Views.owner_from}
+use Rattle.{c104_switch.specs.declared.link_start.LinkStart.LinkStart, std.proofs.Common.{Bool, List, None, Option, Some, [], ap, arith}}
+use Rattle.std.proofs.Common.{false, get_or, if◌then◌else◌, inl, inr, is_some, length, map, nat_lt, refl, replicate, slice_get}
+use Rattle.std.proofs.Common.{slice_index_or, slice_set, suc, sym, take, true, zero, ℕ, ◌+◌, ◌<◌, ◌==◌, ◌||◌, ◌∙◌, ◌∷◌, ◌≡◌, ◌≢◌, ◌≤◌}
+use Rattle.std.proofs.lemmas.{Bool.{Decides.nat_tests, cases_eq, cases_lt}, List.{get_or-set_other, get_or-set_same, length-map}}
+use Rattle.std.proofs.lemmas.{List.{length-replicate, length-set, length-take}, Option.slice_get_read}
 
 -- numbers of truth that are the same are of the same
 number_same : (a b : Bool) → bool_number a ≡ bool_number b → a ≡ b
-number_same true true is = refl
-number_same true false is = absurd (let no : 1 ≡ 0 = is in omega arith)
-number_same false true is = absurd (let no : 0 ≡ 1 = is in omega arith)
-number_same false false is = refl
+number_same a b is = search arith
 
 none_found : {X : Type 0} (found : Option X) → is_some found ≡ false → found ≡ None
-none_found None is = refl
-none_found (Some x) is = absurd (cc is)
+none_found found is = search arith
 
 -- no output has an owner at first
 pub no_owner : (n o : ℕ) → ◌≡◌ {A = Option ℕ} (slice_index_or (replicate n None) o None) None
@@ -108,11 +104,7 @@ module _ {A : Type 0} (owners : List (Option ℕ)) (ps : List (Input A)) (i : �
 
   -- at most one input holds the claim of an output
   held_once : (c : ℕ) (cs : List ℕ) (marks : List Bool) → ArePartition (c ∷ cs) marks → times c cs ≡ 0
-  held_once c cs marks partition = by_below (nat_lt c 32) (partition c)
-    where
-      by_below : (below : Bool) → bool_number (c == c) + times c cs + bool_number (is_free marks c) ≡ bool_number below → times c cs ≡ 0
-      by_below true sum = let one = same_one c in omega arith
-      by_below false sum = let one = same_one c in omega arith
+  held_once c cs marks partition = search (arith, same_one)
 
   -- one that gives a claim back owns that output no more
   pub owners_freed : (c : ℕ) (marks : List Bool) → phase_claims p.phase ≡ c ∷ phase_claims q.phase → ArePartition (c ∷ held_claims (slice_set ps i q)) marks → AreOwners (slice_set owners c None) (slice_set ps i q)

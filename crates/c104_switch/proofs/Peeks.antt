@@ -1,8 +1,8 @@
 -- What a switch tells of each of its links, among what it tells of all.
 use Rattle.{c104_regs.specs.{Values.reset_status, declared.status.Status.Status}, c104_switch.specs.Peeks.{link_status, registers}}
-use Rattle.{c104_switch.specs.{Peeks.{sides_status, statuses_from}, Soundness.IsSound, Switch.Switch}, std.proofs.Common.{ap, arith}}
-use Rattle.std.proofs.{Common.{get_or, inl, inr, length, refl, slice_get, suc, sym, zero, ℕ, ◌+◌, ◌<◌, ◌∙◌, ◌≡◌, ◌≤◌}, lemmas.Bool.cases_lt}
-use Rattle.std.proofs.lemmas.{List.get_or_past, Option.slice_get_past}
+use Rattle.{c104_switch.specs.{Peeks.statuses_from, Soundness.IsSound, Switch.Switch}, std.proofs.Common.{ap, arith, get_or, inl, inr}}
+use Rattle.std.proofs.{Common.{length, refl, suc, sym, zero, ℕ, ◌+◌, ◌<◌, ◌∙◌, ◌≡◌, ◌≤◌}, lemmas.{Bool.cases_lt, List.get_or_past}}
+use Rattle.std.proofs.lemmas.Option.{slice_get_past}
 
 module _ {A : Type 0} (s : Switch A) where
   told_length : (l n : ℕ) → length (statuses_from s l n) ≡ n
@@ -17,8 +17,7 @@ module _ {A : Type 0} (s : Switch A) where
   -- what a switch tells of a link past the last is as after a reset
   no_status : IsSound s → (l : ℕ) → 32 ≤ l → link_status s l ≡ reset_status
   unfolding link_status
-  no_status sound l past =
-      ap (λ o. sides_status s.inputs l o (slice_get s.outputs l)) (slice_get_past s.inputs l (omega (arith, sound.inputs)))
+  no_status sound l past = search (arith, slice_get_past)
 
   -- so among the statuses of all links stands what the switch tells of each number
   pub status_told : IsSound s → (l : ℕ) → get_or (registers s).statuses l reset_status ≡ link_status s l

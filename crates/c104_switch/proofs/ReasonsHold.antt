@@ -1,27 +1,21 @@
 -- A reason that is told holds: it says what is so of the switch.
 use Rattle.{c104_link.specs.Buffers.{Incoming, Outgoing}, c104_regs.specs.declared.settings.Settings.Settings}
-use Rattle.c104_switch.specs.{Group.is_in_group, Phases.is_stream, ReasonMeanings.{IsClaimReason, IsReason, IsTurnReason}}
-use Rattle.c104_switch.specs.Reasons.{accept_why, credited_why, emit_why, grant_why, has_room, header_why, owned_why, phase_why, switch_why}
-use Rattle.c104_switch.specs.{Reasons.{take_why, turn_why, unless, wanted_why, why_at}, Switch.{Fresh, Head, Input, Phase, Sinking, Stream}}
-use Rattle.c104_switch.specs.{Switch.{Switch, Want}, Views.owner_from, declared.actions.ActionOf.ActionOf}
-use Rattle.c104_switch.specs.declared.unready.Unready.TheVariants.{CreditFull, NoCredit, NoLink, NoRoom, NoRoomForHeader, NoToken}
-use Rattle.c104_switch.specs.declared.unready.Unready.TheVariants.{NotGranted, NotStarted, OutputFull, OutsideGroup, Owned, WantsNothing}
-use Rattle.{c104_switch.specs.declared.unready.Unready.{TheVariants.WantsOutput, Unready}, std.proofs.Common.{Bool, IfSome, IsSomeAnd}}
-use Rattle.std.proofs.Common.{List, None, Option, Some, [], arith, false, if◌then◌else◌, inl, inr, length, nat_le, nat_lt, refl, slice_get}
-use Rattle.std.proofs.{Common.{subst, suc, true, ℕ, ◌+◌, ◌<◌, ◌||◌, ◌∷◌, ◌≡◌, ◌≤◌}, lemmas.{Bool.Decides.nat_tests, Option.slice_get_cases}}
+use Rattle.c104_switch.specs.{Phases.is_stream, ReasonMeanings.{IsClaimReason, IsReason, IsTurnReason}, Reasons.{accept_why, credited_why}}
+use Rattle.c104_switch.specs.Reasons.{emit_why, grant_why, has_room, header_why, owned_why, phase_why, switch_why, take_why, turn_why}
+use Rattle.c104_switch.specs.{Reasons.{unless, wanted_why, why_at}, Switch.{Input, Phase, Stream, Switch, Want}, Views.owner_from}
+use Rattle.c104_switch.specs.declared.{actions.ActionOf.ActionOf, unready.Unready.TheVariants.{CreditFull, NoCredit, NoLink, NoRoom}}
+use Rattle.c104_switch.specs.declared.unready.Unready.TheVariants.{NoToken, NotGranted, NotStarted, OutputFull, Owned, WantsOutput}
+use Rattle.{c104_switch.specs.declared.unready.Unready.Unready, std.proofs.Common.{Bool, IfSome, IsSomeAnd, List, None, Option, Some, []}}
+use Rattle.std.proofs.Common.{arith, false, if◌then◌else◌, inl, inr, length, nat_le, nat_lt, refl, slice_get, subst, suc, true, ℕ, ◌+◌, ◌<◌}
+use Rattle.std.proofs.{Common.{◌||◌, ◌∷◌, ◌≡◌, ◌≤◌}, lemmas.{Bool.Decides.nat_tests, Option.slice_get_cases}}
 
 module _ (P : Unready → Type 0) where
   -- the condition doesn't hold, or a later one doesn't
   pub unless_says : (holds : Bool) (reason : Unready) (later : Option Unready) → (holds ≡ false → P reason) → (holds ≡ true → IfSome later P) → IfSome (unless holds reason later) P
-  unless_says true reason later fails goes = goes refl
-  unless_says false reason later fails goes = fails refl
+  unless_says holds reason later fails goes = search arith
 
   pub at_says : {X : Type 0} (xs : List X) (l : ℕ) (why : X → Option Unready) → (length xs ≤ l → P NoLink) → ((x : X) → slice_get xs l ≡ Some x → IfSome (why x) P) → IfSome (why_at xs l why) P
-  at_says {X} xs l why past here = by_found (slice_get xs l) refl
-    where
-      by_found : (found : Option X) → slice_get xs l ≡ found → IfSome (why_at xs l why) P
-      by_found (Some x) is = rw is (here x is)
-      by_found None is = rw is (past (grind (arith, slice_get_cases)))
+  at_says {X} xs l why past here = search (arith, slice_get_cases)
 
   module _ {A : Type 0} where
     pub accept_says : (b : Incoming A) → (b.granted ≡ 0 → P NotGranted) → IfSome (accept_why b) P
@@ -38,9 +32,7 @@ module _ (P : Unready → Type 0) where
     take_says b fails = unless_says (nat_lt 0 (length b.items)) NoToken None (λ is. fails (empty b.items is)) (λ is. tt)
 
     pub emit_says : (q : Outgoing A) → (q.items ≡ [] → P NoToken) → (0 < length q.items → q.credit ≡ 0 → P NoCredit) → IfSome (emit_why q) P
-    emit_says q no_token no_credit = unless_says (nat_lt 0 (length q.items)) NoToken (unless (nat_lt 0 q.credit) NoCredit None)
-        (λ is. no_token (empty q.items is))
-        (λ some. unless_says (nat_lt 0 q.credit) NoCredit None (λ is. no_credit (grind (arith, nat_tests)) (grind (arith, nat_tests))) (λ is. tt))
+    emit_says q no_token no_credit = search (arith, unless_says, empty, nat_tests)
 
     pub credited_says : (q : Outgoing A) → (64 < q.credit + 8 → P CreditFull) → IfSome (credited_why q) P
     credited_says q fails = unless_says (nat_le (q.credit + 8) 64) CreditFull None (λ is. fails (grind (arith, nat_tests))) (λ is. tt)
@@ -50,11 +42,7 @@ module _ (P : Unready → Type 0) where
 
     phase_says : (qs : List (Outgoing A)) (phase : Phase (List A)) → ((b : List A) (g : ℕ) → phase ≡ Want b g → P (WantsOutput g))
         → ((o : ℕ) → phase ≡ Stream o → ((q : Outgoing A) → slice_get qs o ≡ Some q → 8 ≤ length q.items) → P (OutputFull o)) → IfSome (phase_why qs phase) P
-    phase_says qs Fresh wants streams = tt
-    phase_says qs (Head b) wants streams = tt
-    phase_says qs (Want b g) wants streams = wants b g refl
-    phase_says qs (Stream o) wants streams = unless_says (has_room qs o) (OutputFull o) None (λ is. streams o refl (full qs o is)) (λ is. tt)
-    phase_says qs Sinking wants streams = tt
+    phase_says qs phase wants streams = search (arith, unless_says)
 
 -- so it is at the place where the element is
 and_here : {X : Type 0} (xs : List X) (l : ℕ) (x : X) (P : X → Type 0) → slice_get xs l ≡ Some x → P x → IsSomeAnd (slice_get xs l) P
@@ -63,11 +51,7 @@ and_here xs l x P is holds = rw is holds
 module _ {A : Type 0} where
   -- the owner that is found streams to the output; it was looked for from n on
   streams_to : (p : Input A) (o : ℕ) (phase : Phase (List A)) → p.phase ≡ phase → is_stream o p.phase ≡ true → p.phase ≡ Stream o
-  streams_to p o (Stream d) is test = let same : d ≡ o = grind (arith, nat_tests, is, test) in cc
-  streams_to p o Fresh is test = absurd (let fails : is_stream o p.phase ≡ false = rw is refl in cc)
-  streams_to p o (Head b) is test = absurd (let fails : is_stream o p.phase ≡ false = rw is refl in cc)
-  streams_to p o (Want b g) is test = absurd (let fails : is_stream o p.phase ≡ false = rw is refl in cc)
-  streams_to p o Sinking is test = absurd (let fails : is_stream o p.phase ≡ false = rw is refl in cc)
+  streams_to p o phase is test = search (arith, nat_tests)
 
   -- the place of the owner, behind those that were passed
   record OwnerAt (n : ℕ) (ps : List (Input A)) (o k : ℕ) : Type 0 where
@@ -91,27 +75,16 @@ module _ {A : Type 0} (s : Switch A) where
   Holds a = IfSome (switch_why s a) (IsReason s a)
 
   enter_holds : (l : ℕ) (x : A) → Holds (ActionOf.Enter l x)
-  enter_holds l x = at_says (IsReason s (ActionOf.Enter l x)) s.inputs l (λ p. accept_why p.buffer)
-      (λ past. past)
-      (λ p is. accept_says (IsReason s (ActionOf.Enter l x)) p.buffer (and_here s.inputs l p (λ (p : Input A). p.buffer.granted ≡ 0) is))
+  enter_holds l x = search (arith, at_says, accept_says, and_here)
 
   leave_holds : (l : ℕ) → Holds (ActionOf.Leave l)
-  leave_holds l = at_says (IsReason s (ActionOf.Leave l)) s.outputs l emit_why
-      (λ past. past)
-      (λ q is. emit_says (IsReason s (ActionOf.Leave l)) q
-      (and_here s.outputs l q (λ (q : Outgoing A). q.items ≡ []) is)
-      (λ some none. and_here s.outputs l q (λ (q : Outgoing A). (0 < length q.items) × (q.credit ≡ 0)) is (some, none)))
+  leave_holds l = search (arith, at_says, emit_says, and_here)
 
   credit_out_holds : (l : ℕ) → Holds (ActionOf.CreditOut l)
-  credit_out_holds l = at_says (IsReason s (ActionOf.CreditOut l)) s.inputs l (λ p. unless s.started NotStarted (grant_why p.buffer))
-      (λ past. past)
-      (λ p is. unless_says (IsReason s (ActionOf.CreditOut l)) s.started NotStarted (grant_why p.buffer) (λ fails. fails)
-      (λ goes. grant_says (IsReason s (ActionOf.CreditOut l)) p.buffer (and_here s.inputs l p (λ (p : Input A). p.buffer.cap < length p.buffer.items + p.buffer.granted + 8) is)))
+  credit_out_holds l = search (arith, at_says, unless_says, grant_says, and_here)
 
   credit_in_holds : (l : ℕ) → Holds (ActionOf.CreditIn l)
-  credit_in_holds l = at_says (IsReason s (ActionOf.CreditIn l)) s.outputs l credited_why
-      (λ past. past)
-      (λ q is. credited_says (IsReason s (ActionOf.CreditIn l)) q (and_here s.outputs l q (λ (q : Outgoing A). 64 < q.credit + 8) is))
+  credit_in_holds l = search (arith, at_says, credited_says, and_here)
 
   input_holds : (l word : ℕ) → Holds (ActionOf.Input l word)
   input_holds l word = at_says (IsReason s (ActionOf.Input l word)) s.settings l (λ t. why_at s.inputs l (λ p. unless s.started NotStarted (turn_why s.outputs p)))
@@ -133,52 +106,23 @@ module _ {A : Type 0} (s : Switch A) where
     claims reason holds = and_here s.inputs i p (λ p. IsClaimReason s o p reason) is holds
 
     kept : (room : Bool) → (t.delete_header || room) ≡ false → t.delete_header ≡ false
-    kept room is = by_delete t.delete_header is
-      where
-        by_delete : (deletes : Bool) → (deletes || room) ≡ false → deletes ≡ false
-        by_delete true is = absurd (cc is)
-        by_delete false is = refl
+    kept room is = search arith
 
     short : (room : Bool) → (t.delete_header || room) ≡ false → room ≡ false
-    short room is = by_delete t.delete_header is
-      where
-        by_delete : (deletes : Bool) → (deletes || room) ≡ false → room ≡ false
-        by_delete true is = absurd (cc is)
-        by_delete false is = is
+    short room is = search arith
 
     header_says : (b : List A) (g : ℕ) → p.phase ≡ Want b g → IfSome (header_why t b q) Says
-    header_says b g wants = unless_says Says (t.delete_header || nat_le (length q.items + length b) 8) NoRoomForHeader None
-        (λ fails. claims NoRoomForHeader (
-          b,
-          g,
-          wants,
-          and_here s.outputs o q (λ (q : Outgoing A). 8 < length q.items + length b) at (let test : nat_le (length q.items + length b) 8 ≡ false = short (nat_le (length q.items + length b) 8) fails in grind (arith, nat_tests)),
-          and_here s.settings o t (λ (t : Settings). t.delete_header ≡ false) set (kept (nat_le (length q.items + length b) 8) fails),
-        ))
-        (λ goes. tt)
+    header_says b g wants = search (arith, unless_says, and_here, short, nat_tests)
 
     owned_says : (b : List A) (g : ℕ) → p.phase ≡ Want b g → (owner : Option ℕ) → owner_from 0 s.inputs o ≡ owner → IfSome (owned_why owner (header_why t b q)) Says
     owned_says b g wants None owner = header_says b g wants
     owned_says b g wants (Some k) owner = claims (Owned k) (owner_says s.inputs o k owner)
 
     wanted_says : (phase : Phase (List A)) → p.phase ≡ phase → IfSome (wanted_why s.settings o (owner_from 0 s.inputs o) t q phase) Says
-    wanted_says (Want b g) wants = unless_says Says (is_in_group s.settings g o) (OutsideGroup g) (owned_why (owner_from 0 s.inputs o) (header_why t b q))
-        (λ fails. claims (OutsideGroup g) (b, wants, fails))
-        (λ goes. owned_says b g wants (owner_from 0 s.inputs o) refl)
-    wanted_says Fresh has = claims WantsNothing (rw has refl)
-    wanted_says (Head b) has = claims WantsNothing (rw has refl)
-    wanted_says (Stream d) has = claims WantsNothing (rw has refl)
-    wanted_says Sinking has = claims WantsNothing (rw has refl)
+    wanted_says phase wants = search (arith, unless_says, owned_says)
 
   claim_holds : (i o : ℕ) → Holds (ActionOf.Claim i o)
-  claim_holds i o = at_says (IsReason s (ActionOf.Claim i o)) s.inputs i (λ p. why_at s.settings o (λ t. why_at s.outputs o (λ q. unless s.started NotStarted (wanted_why s.settings o (owner_from 0 s.inputs o) t q p.phase))))
-      (λ past. inl past)
-      (λ p is. at_says (IsReason s (ActionOf.Claim i o)) s.settings o (λ t. why_at s.outputs o (λ q. unless s.started NotStarted (wanted_why s.settings o (owner_from 0 s.inputs o) t q p.phase)))
-      (λ past. inr (inl past))
-      (λ t set. at_says (IsReason s (ActionOf.Claim i o)) s.outputs o (λ q. unless s.started NotStarted (wanted_why s.settings o (owner_from 0 s.inputs o) t q p.phase))
-      (λ past. inr (inr past))
-      (λ q at. unless_says (IsReason s (ActionOf.Claim i o)) s.started NotStarted (wanted_why s.settings o (owner_from 0 s.inputs o) t q p.phase) (λ fails. fails)
-      (λ goes. wanted_says i o p t q is set at p.phase refl))))
+  claim_holds i o = search (arith, at_says, unless_says, wanted_says)
 
   pub reason_holds : (a : ActionOf A) → IfSome (switch_why s a) (IsReason s a)
   reason_holds (ActionOf.Enter l x) = enter_holds l x

@@ -1,14 +1,14 @@
 -- Each action of a switch keeps what every switch keeps.
 use Rattle.c104_link.{proofs.MadeSteps.{All-place, at_place_made, from_place_made, required, with_place_made}, specs.Buffers.IsValidCap}
-use Rattle.c104_link.specs.{Buffers.{IsWithinCap, IsWithinLimits, Outgoing, empty_outgoing, outgoing_credited}, Steps.joint_step_at}
-use Rattle.{c104_link.specs.Steps.{step_at, yield_step_at}, c104_regs.specs.declared.settings.Settings.Settings}
+use Rattle.c104_link.specs.{Buffers.{IsWithinCap, IsWithinLimits, Outgoing, outgoing_credited}, Steps.{joint_step_at, step_at}}
+use Rattle.{c104_link.specs.Steps.yield_step_at, c104_regs.specs.declared.settings.Settings.Settings}
 use Rattle.c104_switch.proofs.{SoundnessBuffers.{within_credited, within_empty_in, within_empty_out, within_leave}, SoundnessInputs.IsAlone}
 use Rattle.c104_switch.proofs.SoundnessInputs.{KeepsInput, alone_at, exclusive_set, keeps_accepted, keeps_granted, unowned}
 use Rattle.c104_switch.{proofs.SoundnessTurns.{KeepsOutputs, claimed_gives, keeps_at_place, keeps_turn}, specs.Claims.input_claim}
 use Rattle.c104_switch.specs.{Claims.{inputs_claim, streaming_input}, Soundness.{IsExclusive, IsSound}, Switch.{Fresh, Input, Stream}}
 use Rattle.c104_switch.specs.Switch.{Switch, input_accept, input_grant, is_owned, new_input, new_switch_with, with_inputs, with_outputs}
 use Rattle.{c104_switch.specs.{Switch.with_sides, Turns.input_turn}, c104_token.specs.Kinds.Kind, std.proofs.Common.{Bool, List, Option}}
-use Rattle.std.proofs.Common.{Some, false, length, not, refl, replicate, slice_get, slice_set, subst, sym, ℕ, ◌∙◌, ◌≡◌}
+use Rattle.std.proofs.Common.{Some, arith, false, length, not, refl, replicate, slice_get, slice_set, subst, sym, ℕ, ◌∙◌, ◌≡◌}
 use Rattle.std.proofs.lemmas.{Bool.not-true, List.{Elements.{All-replicate, All-set}, length-replicate, length-set}}
 use Rattle.c104_link.specs.Buffers as buffer
 
@@ -24,37 +24,17 @@ exclusive_first {A} n cap i j o p q at_i at_j to_p to_q =
 
 -- a switch at first
 pub sound_first : {A : Type 0} (cap : ℕ) (settings : List Settings) (started : Bool) → IsValidCap cap → length settings ≡ 32 → IsSound {A = A} (new_switch_with cap settings started)
-sound_first {A} cap settings started valid links = record {
-  settings = links;
-  inputs = length-replicate 32 (new_input {A = A} cap);
-  outputs = length-replicate 32 (empty_outgoing {A = A});
-  within_cap = All-replicate (λ (p : Input A). IsWithinCap p.buffer) 32 (new_input cap) (within_empty_in cap valid);
-  within_limits = All-replicate IsWithinLimits 32 empty_outgoing within_empty_out;
-  exclusive = exclusive_first 32 cap;
-}
+sound_first {A} cap settings started valid links =
+    search (arith, length-replicate, All-replicate, within_empty_in, within_empty_out, exclusive_first)
 
 module _ {A : Type 0} (s : Switch A) (sound : IsSound s) where
   -- one input changes, stays within its capacity, and is alone in what it streams to
   sound_set : (i : ℕ) (p : Input A) → IsWithinCap p.buffer → ((o : ℕ) → p.phase ≡ Stream o → IsAlone s.inputs i o) → IsSound (with_inputs s (slice_set s.inputs i p))
-  sound_set i p within alone = record {
-    settings = sound.settings;
-    inputs = length-set s.inputs i p ∙ sound.inputs;
-    outputs = sound.outputs;
-    within_cap = All-set (λ (p : Input A). IsWithinCap p.buffer) s.inputs i p within sound.within_cap;
-    within_limits = sound.within_limits;
-    exclusive = exclusive_set s.inputs i p alone sound.exclusive;
-  }
+  sound_set i p within alone = search (arith, length-set, All-set, exclusive_set)
 
   -- the outputs change, and stay within their limits
   sound_outputs : (qs : List (Outgoing A)) → KeepsOutputs s.outputs qs → IsSound (with_outputs s qs)
-  sound_outputs qs keeps = record {
-    settings = sound.settings;
-    inputs = sound.inputs;
-    outputs = keeps.length ∙ sound.outputs;
-    within_cap = sound.within_cap;
-    within_limits = keeps.within sound.within_limits;
-    exclusive = sound.exclusive;
-  }
+  sound_outputs qs keeps = search arith
 
   -- one input came of the one that was at its place
   sound_kept : (i : ℕ) (p r : Input A) → slice_get s.inputs i ≡ Some p → KeepsInput p r → IsSound (with_inputs s (slice_set s.inputs i r))

@@ -32,11 +32,4 @@ module _ {A : Type 0} where
 
   -- the switch is started or not, with settings of as many links
   pub sound_set_up : {s : Switch A} → IsSound s → (started : Bool) (settings : List Settings) → length settings ≡ 32 → IsSound (record { started = started; settings = settings; inputs = s.inputs; outputs = s.outputs })
-  sound_set_up sound started settings links = record {
-    settings = links;
-    inputs = sound.inputs;
-    outputs = sound.outputs;
-    within_cap = sound.within_cap;
-    within_limits = sound.within_limits;
-    exclusive = sound.exclusive;
-  }
+  sound_set_up sound started settings links = search arith

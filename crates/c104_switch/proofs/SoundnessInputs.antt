@@ -1,9 +1,9 @@
 -- Inputs that stay within their capacity, no two of which stream to one output, where one of them changes.
-use Rattle.c104_link.{proofs.MadeSteps.{given, place_after_set}, specs.Buffers.{IsWithinCap, incoming_accept, incoming_grant}}
+use Rattle.c104_link.{proofs.MadeSteps.{given, place_after_set}, specs.Buffers.IsWithinCap}
 use Rattle.c104_switch.{proofs.SoundnessBuffers.{within_enter, within_grant}, specs.{Phases.is_stream, Soundness.IsExclusive, Switch.Input}}
-use Rattle.{c104_switch.specs.Switch.{Phase, Stream, input_accept, input_grant, is_owned, with_buffer}, std.proofs.Common.{List, Some, []}}
-use Rattle.std.proofs.Common.{ap, arith, false, inl, inr, slice_get, slice_set, subst, suc, sym, true, zero, ℕ, ◌==◌, ◌∙◌, ◌∷◌, ◌≡◌}
-use Rattle.std.proofs.lemmas.Bool.{Decides.nat_tests, or_parts}
+use Rattle.{c104_switch.specs.Switch.{Phase, Stream, input_accept, input_grant, is_owned}, std.proofs.Common.{List, Some, [], ap, arith}}
+use Rattle.std.proofs.{Common.{false, slice_get, slice_set, suc, true, zero, ℕ, ◌==◌, ◌∙◌, ◌∷◌, ◌≡◌}, lemmas.Bool.Decides.nat_tests}
+use Rattle.std.proofs.lemmas.Bool.{or_parts}
 
 module _ {A : Type 0} where
   -- no input but that at place i streams to output o
@@ -17,17 +17,7 @@ module _ {A : Type 0} where
 
   -- inputs stay exclusive where the one that changes is alone in what it streams to
   pub exclusive_set : (inputs : List (Input A)) (i : ℕ) (p : Input A) → ((o : ℕ) → p.phase ≡ Stream o → IsAlone inputs i o) → IsExclusive inputs → IsExclusive (slice_set inputs i p)
-  exclusive_set inputs i p alone exclusive j k o q r at_j at_k to_q to_r =
-      elim (place_after_set inputs i j p q at_j) [
-        | inl h ↦ elim (place_after_set inputs i k p r at_k) [
-          | inl l ↦ sym h.0 ∙ l.0
-          | inr l ↦ sym h.0 ∙ alone o (ap (λ (s : Input A). s.phase) h.1 ∙ to_q) k r l to_r
-        ]
-        | inr h ↦ elim (place_after_set inputs i k p r at_k) [
-          | inl l ↦ sym (sym l.0 ∙ alone o (ap (λ (s : Input A). s.phase) l.1 ∙ to_r) j q h to_q)
-          | inr l ↦ exclusive j k o q r h l to_q to_r
-        ]
-      ]
+  exclusive_set inputs i p alone exclusive j k o q r at_j at_k to_q to_r = search (arith, place_after_set)
 
   -- an input is alone in what it streams to
   pub alone_at : (inputs : List (Input A)) (i : ℕ) (p : Input A) → slice_get inputs i ≡ Some p → IsExclusive inputs → (o : ℕ) → p.phase ≡ Stream o → IsAlone inputs i o
@@ -50,18 +40,8 @@ module _ {A : Type 0} where
 
   -- a token that comes in
   pub keeps_accepted : (x : A) (p r : Input A) → input_accept x p ≡ Some r → KeepsInput p r
-  keeps_accepted x p r is = given (incoming_accept x p.buffer) _ r is (λ b made last.
-      let same : with_buffer p b ≡ r = cc in
-      subst (KeepsInput p) same (record {
-        within = within_enter x p.buffer b made;
-        streams = λ o to. to;
-      }))
+  keeps_accepted x p r is = search (arith, given, within_enter)
 
   -- a grant of eight more tokens
   pub keeps_granted : (p r : Input A) → input_grant p ≡ Some r → KeepsInput p r
-  keeps_granted p r is = given (incoming_grant p.buffer) _ r is (λ b made last.
-      let same : with_buffer p b ≡ r = cc in
-      subst (KeepsInput p) same (record {
-        within = within_grant p.buffer b made;
-        streams = λ o to. to;
-      }))
+  keeps_granted p r is = search (arith, given, within_grant)

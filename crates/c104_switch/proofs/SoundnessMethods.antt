@@ -1,11 +1,11 @@
 -- What a method of the switch leaves that made its parts or tried a step of one side: what every switch keeps.
 use Rattle.c104_link.{proofs.MadeSteps.{holds_taken, holds_tried}, specs.Buffers.{IsValidCap, Outgoing, empty_outgoing, outgoing_credited}}
-use Rattle.c104_link.specs.Steps.{bool_outcome, joint_step_at, option_outcome, require, step_at, yield_step_at, ◌>>=◌, ◌>>◌}
+use Rattle.c104_link.specs.Steps.{bool_outcome, joint_step_at, option_outcome, step_at, yield_step_at, ◌>>=◌}
 use Rattle.{c104_regs.specs.declared.settings.Settings.Settings, c104_switch.proofs.Soundness.{Sides, sound_accepted, sound_claimed}}
 use Rattle.c104_switch.{proofs.Soundness.{sound_credited, sound_first, sound_granted, sound_left, sound_turned}, specs.Claims.inputs_claim}
 use Rattle.c104_switch.specs.{Soundness.IsSound, Switch.{Input, Switch, input_accept, input_grant, new_input, new_switch_with, with_inputs}}
 use Rattle.{c104_switch.specs.{Switch.{with_outputs, with_sides}, Turns.{input_turn, switch_input}}, c104_token.specs.Kinds.Kind}
-use Rattle.std.proofs.Common.{Bool, List, None, Option, Some, ap, length, replicate, slice_get, subst, sym, true, ℕ, ◌≡◌}
+use Rattle.std.proofs.Common.{Bool, List, Option, Some, arith, length, replicate, slice_get, subst, sym, true, ℕ, ◌≡◌}
 use Rattle.c104_link.specs.Buffers as buffer
 
 -- a switch that is made of 32 settings, inputs and outputs at first
@@ -42,12 +42,8 @@ module _ {A : Type 0} {s : Switch A} (sound : IsSound s) where
 
 -- a step of both sides is one of the switch
 by_sides : {A : Type 0} (s : Switch A) (b : Bool) (ps : List (Input A)) (qs : List (Outgoing A)) (made : Option (Sides A)) → ◌≡◌ {A = Bool × Sides A} (b, (ps, qs)) (bool_outcome {S = Sides A} made (s.inputs, s.outputs)) → ◌≡◌ {A = Bool × Switch A} (b, with_sides s (ps, qs)) (bool_outcome (made >>= (λ r. Some (with_sides s r))) s)
-by_sides s b ps qs (Some r) gives = ap (λ (u : Bool × Sides _). (u.0, with_sides s u.1)) gives
-by_sides s b ps qs None gives = ap (λ (u : Bool × Sides _). (u.0, with_sides s u.1)) gives
+by_sides s b ps qs made gives = search arith
 
 -- a turn of one input is a turn of a switch that is started
 pub input_tried : {A : Type 0} (kind : Kind A) (s : Switch A) (b : Bool) (i : ℕ) (t : Settings) (word : ℕ) (ps : List (Input A)) (qs : List (Outgoing A)) → s.started ≡ true → slice_get s.settings i ≡ Some t → ◌≡◌ {A = Bool × Sides A} (b, (ps, qs)) (bool_outcome {S = Sides A} (joint_step_at s.inputs i (λ p. input_turn kind t word p s.outputs)) (s.inputs, s.outputs)) → ◌≡◌ {A = Bool × Switch A} (b, with_sides s (ps, qs)) (bool_outcome (switch_input kind s i word) s)
-input_tried {A} kind s b i t word ps qs started own is = by_parts s.started (slice_get s.settings i) started own
-  where
-    by_parts : (on : Bool) (found : Option Settings) → on ≡ true → found ≡ Some t → ◌≡◌ {A = Bool × Switch A} (b, with_sides s (ps, qs)) (bool_outcome (require on >> (found >>= (λ t. joint_step_at s.inputs i (λ p. input_turn kind t word p s.outputs) >>= (λ r. Some (with_sides s r))))) s)
-    by_parts on found is_on is_found = rw (is_on, is_found) (by_sides s b ps qs (joint_step_at s.inputs i (λ p. input_turn kind t word p s.outputs)) is)
+input_tried {A} kind s b i t word ps qs started own is = search (arith, by_sides)

@@ -1,14 +1,12 @@
 -- What a turn and a claim of an input keep, of the input and of the outputs.
-use Rattle.c104_interval.specs.{Selection.select, declared.intervals.Select.{Select, TheVariants.{Discard, Link, Sink}}}
-use Rattle.c104_link.{proofs.MadeSteps.{All-at_place, given, length-at_place, required}, specs.Buffers.{IsWithinLimits, Outgoing}}
-use Rattle.{c104_link.specs.{Buffers.{outgoing_put, outgoing_put_all}, Steps.step_at}, c104_regs.specs.Settings.header_length}
+use Rattle.{c104_interval.specs.declared.intervals.Select.Select, c104_link.proofs.MadeSteps.{All-at_place, given, length-at_place}}
+use Rattle.c104_link.{proofs.MadeSteps.required, specs.{Buffers.{IsWithinLimits, Outgoing, outgoing_put}, Steps.step_at}}
 use Rattle.{c104_regs.specs.declared.settings.Settings.Settings, c104_switch.proofs.SoundnessBuffers.{within_put, within_put_all}}
 use Rattle.c104_switch.{proofs.{SoundnessBuffers.within_without_first, SoundnessInputs.KeepsInput}, specs.Claims.{input_claim, put_header}}
-use Rattle.c104_switch.specs.{Claims.streaming_input, Group.is_in_group, Headers.{decided_phase, header_value, is_sink, phase_after_header}}
-use Rattle.c104_switch.specs.{Headers.random_header, Switch.{Fresh, Head, Input, Phase, Sinking, Stream, Want}, Turns.header_turn}
-use Rattle.c104_switch.specs.Turns.{input_after_token, input_turn, phase_after_token, random_turn, turn_by_phase}
-use Rattle.{c104_token.specs.{Kinds.Kind, Tokens.is_end}, std.proofs.Common.{All, Bool, List, Option, Some, [], ap, false, if◌then◌else◌}}
-use Rattle.std.proofs.Common.{length, nat_le, not, refl, slice_get, subst, true, ℕ, ◌&&◌, ◌++◌, ◌∙◌, ◌∷◌, ◌≡◌}
+use Rattle.c104_switch.specs.{Claims.streaming_input, Headers.{decided_phase, phase_after_header}, Switch.{Fresh, Head, Input, Phase}}
+use Rattle.c104_switch.specs.{Switch.{Sinking, Stream, Want}, Turns.{header_turn, input_after_token, input_turn, phase_after_token}}
+use Rattle.{c104_switch.specs.Turns.{random_turn, turn_by_phase}, c104_token.specs.{Kinds.Kind, Tokens.is_end}, std.proofs.Common.All}
+use Rattle.std.proofs.Common.{Bool, List, Option, Some, [], arith, false, if◌then◌else◌, length, not, refl, slice_get, true, ℕ, ◌&&◌, ◌≡◌}
 
 module _ {A : Type 0} where
   -- a phase in which an input streams to no output
@@ -26,82 +24,44 @@ module _ {A : Type 0} where
 
   -- outputs where one changes and stays within its limits
   pub keeps_at_place : (qs : List (Outgoing A)) (i : ℕ) (f : Outgoing A → Option (Outgoing A)) (rs : List (Outgoing A)) → step_at qs i f ≡ Some rs → ((q r : Outgoing A) → f q ≡ Some r → IsWithinLimits q → IsWithinLimits r) → KeepsOutputs qs rs
-  keeps_at_place qs i f rs is keeps = record {
-    within = All-at_place IsWithinLimits qs i f rs is keeps;
-    length = length-at_place qs i f rs is;
-  }
+  keeps_at_place qs i f rs is keeps = search (arith, All-at_place, length-at_place)
 
   -- an input that uses its first token, or not, and streams to no output then
   used_no_stream : (p : Input A) (phase : Phase (List A)) (sunk short : Bool) → IsNoStream phase → KeepsInput p (input_after_token p phase sunk short)
-  used_no_stream p phase sunk short none = record {
-    within = within_without_first p.buffer;
-    streams = λ o to. absurd (none o to);
-  }
+  used_no_stream p phase sunk short none = search (arith, within_without_first)
 
   -- what a step that was made leaves keeps what its two parts keep
   keeps_some : {p : Input A} {qs : List (Outgoing A)} (q : Input A) (rs : List (Outgoing A)) (r : Input A × List (Outgoing A)) → Some (q, rs) ≡ Some r → KeepsInput p q → KeepsOutputs qs rs → KeepsInput p r.0 × KeepsOutputs qs r.1
-  keeps_some {p} {qs} q rs r is input outputs =
-      let same : (q, rs) ≡ r = cc in
-      subst (λ (r : Input A × List (Outgoing A)). KeepsInput p r.0 × KeepsOutputs qs r.1) same (input, outputs)
+  keeps_some {p} {qs} q rs r is input outputs = search arith
 
   -- what a header that joins an output keeps
   keeps_put_header : (s : Settings) (b : List A) (q r : Outgoing A) → put_header s b q ≡ Some r → IsWithinLimits q → IsWithinLimits r
-  keeps_put_header s b q r is within = by_delete s.delete_header is
-    where
-      by_delete : (delete : Bool) → (if delete then Some q else outgoing_put_all b q) ≡ Some r → IsWithinLimits r
-      by_delete true made = let same : q ≡ r = cc in subst IsWithinLimits same within
-      by_delete false made = within_put_all b q r made within
+  keeps_put_header s b q r is within = search (arith, within_put_all)
 
   -- what a claim gives: the input streams to the output, and the outputs stay within their limits
   pub claimed_gives : (settings : List Settings) (p : Input A) (qs : List (Outgoing A)) (o : ℕ) (phase : Phase (List A)) (r : Input A × List (Outgoing A)) → input_claim settings p qs o phase ≡ Some r → (streaming_input p o ≡ r.0) × KeepsOutputs qs r.1
-  claimed_gives settings p qs o Fresh r is = cc
-  claimed_gives settings p qs o (Head b) r is = cc
-  claimed_gives settings p qs o (Want b g) r is = required (is_in_group settings g o) _ r is (λ joined more. given (slice_get settings o) _ r more (λ t own most. given (step_at qs o (put_header t b)) _ r most (λ rs made last.
-      let same : (streaming_input p o, rs) ≡ r = cc in
-      (ap (λ (r : Input A × List (Outgoing A)). r.0) same, subst (λ (r : Input A × List (Outgoing A)). KeepsOutputs qs r.1) same (keeps_at_place qs o (put_header t b) rs made (keeps_put_header t b))))))
-  claimed_gives settings p qs o (Stream q) r is = cc
-  claimed_gives settings p qs o Sinking r is = cc
+  claimed_gives settings p qs o phase r is = search (arith, required, given, keeps_at_place, keeps_put_header)
 
   -- what follows a header that is complete
   decided_no_stream : (b : List A) (selected : Select) → IsNoStream (decided_phase b selected)
-  decided_no_stream b (Link g) o is = cc
-  decided_no_stream b Discard o is = cc
-  decided_no_stream b Sink o is = cc
+  decided_no_stream b selected = search arith
 
 module _ {A : Type 0} (kind : Kind A) where
   -- what follows these tokens of a header
   read_no_stream : (s : Settings) (b : List A) → IsNoStream (phase_after_header kind s b).0
-  read_no_stream s b = by_length (nat_le (header_length s) (length b))
-    where
-      by_length : (complete : Bool) → IsNoStream (if◌then◌else◌ {A = Phase (List A) × Bool} complete (let selected = select s.table (header_value kind b) in (decided_phase b selected, is_sink selected)) (Head b, false)).0
-      by_length true = decided_no_stream b (select s.table (header_value kind b))
-      by_length false = λ o is. cc
+  read_no_stream s b = search (arith, decided_no_stream)
 
   -- an input that reads a token of a header
   keeps_on_header : (s : Settings) (p : Input A) (b : List A) (x : A) → KeepsInput p (header_turn kind s p b x)
-  keeps_on_header s p b x = by_end (is_end (kind.plain x))
-    where
-      by_end : (ends : Bool) → KeepsInput p (if ends then input_after_token p Fresh false true else (let r = phase_after_header kind s (b ++ x ∷ []) in input_after_token p r.0 r.1 false))
-      by_end true = used_no_stream p Fresh false true (λ o is. cc)
-      by_end false = used_no_stream p _ _ false (read_no_stream s (b ++ x ∷ []))
+  keeps_on_header s p b x = search (arith, used_no_stream, read_no_stream)
 
   -- an input that puts a random header before its packet
   keeps_on_random : (s : Settings) (word : ℕ) (p : Input A) → KeepsInput p (random_turn kind s word p)
-  keeps_on_random s word p = record {
-    within = λ w. w;
-    streams = λ o to. absurd (read_no_stream s (random_header kind s word) o to);
-  }
+  keeps_on_random s word p = search (arith, read_no_stream)
 
   -- an input that uses a token of a packet whose header was read
   keeps_after : (p : Input A) (x : A) (phase : Phase (List A)) → p.phase ≡ phase → KeepsInput p (input_after_token p (phase_after_token kind x phase) false false)
-  keeps_after p x phase is = by_end (is_end (kind.plain x))
-    where
-      by_end : (ends : Bool) → KeepsInput p (input_after_token p (if ends then Fresh else phase) false false)
-      by_end true = used_no_stream p Fresh false false (λ o is. cc)
-      by_end false = record {
-        within = within_without_first p.buffer;
-        streams = λ o to. is ∙ to;
-      }
+  keeps_after p x phase is = search (arith, used_no_stream, within_without_first)
 
   -- what a turn keeps, by the phase
   keeps_by_phase : (s : Settings) (word : ℕ) (p : Input A) (qs : List (Outgoing A)) (phase : Phase (List A)) (x : A) (r : Input A × List (Outgoing A)) → p.phase ≡ phase → turn_by_phase kind s word p qs phase x ≡ Some r → KeepsInput p r.0 × KeepsOutputs qs r.1

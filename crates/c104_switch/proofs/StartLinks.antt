@@ -4,7 +4,7 @@ use Rattle.{c104_regs.specs.declared.settings.Settings.Settings, c104_switch.spe
 use Rattle.c104_switch.specs.Starts.{IsLinkStart, IsSwitchStart, SwitchStart, link_start, link_starts, new_link, new_start, start_input}
 use Rattle.c104_switch.specs.{Starts.{start_output, start_switch, switch_start}, Switch.{Input, Switch}}
 use Rattle.{c104_switch.specs.declared.{link_start.LinkStart.LinkStart, phase.Phase.TheVariants.Fresh}, std.proofs.Common.{All, Bool, List}}
-use Rattle.std.proofs.Common.{Some, [], ap, arith, length, map, refl, slice_get, subst, suc, sym, take, zero, ℕ, ◌++◌, ◌+◌, ◌∙◌, ◌∷◌, ◌≡◌}
+use Rattle.std.proofs.Common.{Some, [], ap, arith, length, map, refl, slice_get, suc, sym, take, zero, ℕ, ◌++◌, ◌+◌, ◌∙◌, ◌∷◌, ◌≡◌}
 use Rattle.std.proofs.lemmas.List.{Elements.{All-cons, All-head, All-map, All-nil, All-replicate, All-tail}, length-map, length-replicate}
 
 -- a new start
@@ -39,11 +39,7 @@ module _ {A : Type 0} where
 
   -- the same of a switch that was made of its parts
   pub sound_from : (s : SwitchStart) → IsSwitchStart s → (started : Bool) (settings : List Settings) (ps : List (Input A)) (qs : List (Outgoing A)) → settings ≡ s.settings → ps ≡ map start_input s.links → qs ≡ map start_output s.links → IsSound (record { started = started; settings = settings; inputs = ps; outputs = qs })
-  sound_from s kept started settings ps qs is_settings is_inputs is_outputs =
-      subst (λ (xs : List Settings). IsSound (record { started = started; settings = xs; inputs = ps; outputs = qs })) (sym is_settings)
-      (subst (λ (xs : List (Input A)). IsSound (record { started = started; settings = s.settings; inputs = xs; outputs = qs })) (sym is_inputs)
-      (subst (λ (xs : List (Outgoing A)). IsSound (record { started = started; settings = s.settings; inputs = map start_input s.links; outputs = xs })) (sym is_outputs)
-      (sound_start (record s { started = started }) (record { settings = kept.settings; count = kept.count; links = kept.links }))))
+  sound_from s kept started settings ps qs is_settings is_inputs is_outputs = search (arith, sound_start)
 
   -- where the links of a switch stand
   pub length_starts : (ps : List (Input A)) (qs : List (Outgoing A)) → length ps ≡ length qs → length (link_starts ps qs) ≡ length ps
@@ -61,11 +57,7 @@ module _ {A : Type 0} where
       (starts_kept ps qs (All-tail (λ (p : Input A). IsWithinCap p.buffer) p ps caps) (All-tail IsWithinLimits q qs limits))
 
   pub start_kept : (s : Switch A) → IsSound s → IsSwitchStart (switch_start s)
-  start_kept s sound = record {
-    settings = sound.settings;
-    count = length_starts s.inputs s.outputs (sound.inputs ∙ sym sound.outputs) ∙ sound.inputs;
-    links = starts_kept s.inputs s.outputs sound.within_cap sound.within_limits;
-  }
+  start_kept s sound = search (arith, length_starts, starts_kept)
 
   -- so many of them, and one more
   pub starts_next : (ps : List (Input A)) (qs : List (Outgoing A)) (i : ℕ) (p : Input A) (q : Outgoing A) → slice_get ps i ≡ Some p → slice_get qs i ≡ Some q → take (i + 1) (link_starts ps qs) ≡ take i (link_starts ps qs) ++ link_start p q ∷ []

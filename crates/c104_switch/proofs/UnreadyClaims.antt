@@ -1,9 +1,9 @@
 -- A claim has no reason exactly where it can be made.
 use Rattle.{c104_link.specs.{Buffers.Outgoing, Steps.{require, ◌>>=◌, ◌>>◌}}, c104_regs.specs.declared.settings.Settings.Settings}
 use Rattle.c104_switch.{proofs.Owners.owner_found, specs.{Claims.{input_claim, switch_claim}, Group.is_in_group, Reasons.claim_why}}
-use Rattle.c104_switch.specs.{Reasons.wanted_why, Switch.{Fresh, Head, Input, Phase, Sinking, Stream, Switch, Want, is_owned}}
-use Rattle.{c104_switch.specs.Views.owner_from, std.proofs.Common.{Bool, List, None, Option, Some, ap, false, is_none, is_some, length}}
-use Rattle.std.proofs.Common.{nat_le, not, refl, slice_get, sym, true, ℕ, ◌+◌, ◌∙◌, ◌≡◌}
+use Rattle.{c104_switch.specs.{Reasons.wanted_why, Switch.{Input, Phase, Switch, Want, is_owned}, Views.owner_from}, std.proofs.Common.Bool}
+use Rattle.std.proofs.Common.{List, None, Option, Some, ap, arith, false, is_none, is_some, length, nat_le, not, refl, slice_get, sym, true}
+use Rattle.std.proofs.Common.{ℕ, ◌+◌, ◌∙◌, ◌≡◌}
 
 module _ {A : Type 0} where
   -- an input claims what no input owns, in its phase
@@ -15,50 +15,21 @@ module _ {A : Type 0} where
     IsTold owner phase = is_none (wanted_why settings o owner t q phase) ≡ is_some (tried owner phase)
 
     by_room : (b : List A) (g : ℕ) → is_in_group settings g o ≡ true → (deletes room : Bool) → t.delete_header ≡ deletes → nat_le (length q.items + length b) 8 ≡ room → IsTold None (Want b g)
-    by_room b g joined true room deletes is = rw (joined, set, at, deletes) refl
-    by_room b g joined false true keeps is = rw (joined, set, at, keeps, is) refl
-    by_room b g joined false false keeps is = rw (joined, set, at, keeps, is) refl
+    by_room b g joined deletes room keeps is = search arith
 
     by_group : (b : List A) (g : ℕ) (owner : Option ℕ) (joined : Bool) → is_in_group settings g o ≡ joined → IsTold owner (Want b g)
-    by_group b g None true is = by_room b g is t.delete_header (nat_le (length q.items + length b) 8) refl refl
-    by_group b g None false is = rw is refl
-    by_group b g (Some k) true is = rw is refl
-    by_group b g (Some k) false is = rw is refl
+    by_group b g owner joined is = search (arith, by_room)
 
     wanted_ready : (owner : Option ℕ) (phase : Phase (List A)) → IsTold owner phase
-    wanted_ready owner (Want b g) = by_group b g owner (is_in_group settings g o) refl
-    wanted_ready None Fresh = refl
-    wanted_ready (Some k) Fresh = refl
-    wanted_ready None (Head b) = refl
-    wanted_ready (Some k) (Head b) = refl
-    wanted_ready None (Stream d) = refl
-    wanted_ready (Some k) (Stream d) = refl
-    wanted_ready None Sinking = refl
-    wanted_ready (Some k) Sinking = refl
+    wanted_ready owner phase = search (arith, by_group)
 
   -- no input claims an output that isn't there
   module _ (settings : List Settings) (p : Input A) (qs : List (Outgoing A)) (o : ℕ) where
     unset : slice_get settings o ≡ None → (phase : Phase (List A)) → input_claim settings p qs o phase ≡ None
-    unset none Fresh = refl
-    unset none (Head b) = refl
-    unset none (Want b g) = by_group (is_in_group settings g o) refl
-      where
-        by_group : (joined : Bool) → is_in_group settings g o ≡ joined → input_claim settings p qs o (Want b g) ≡ None
-        by_group true is = rw (is, none) refl
-        by_group false is = rw is refl
-    unset none (Stream d) = refl
-    unset none Sinking = refl
+    unset none phase = search arith
 
     absent : (t : Settings) → slice_get settings o ≡ Some t → slice_get qs o ≡ None → (phase : Phase (List A)) → input_claim settings p qs o phase ≡ None
-    absent t set none Fresh = refl
-    absent t set none (Head b) = refl
-    absent t set none (Want b g) = by_group (is_in_group settings g o) refl
-      where
-        by_group : (joined : Bool) → is_in_group settings g o ≡ joined → input_claim settings p qs o (Want b g) ≡ None
-        by_group true is = rw (is, set, none) refl
-        by_group false is = rw is refl
-    absent t set none (Stream d) = refl
-    absent t set none Sinking = refl
+    absent t set none phase = search arith
 
 module _ {A : Type 0} (s : Switch A) (i o : ℕ) where
   abbrev claims : Input A → Option (Input A × List (Outgoing A))
@@ -69,21 +40,13 @@ module _ {A : Type 0} (s : Switch A) (i o : ℕ) where
 
   -- a claim is made where the switch is started and the input, if there is one, claims what isn't owned
   made_none : (started owned : Bool) (found : Option (Input A)) → s.started ≡ started → is_owned s.inputs o ≡ owned → slice_get s.inputs i ≡ found → found >>= claims ≡ None → is_some (switch_claim s i o) ≡ false
-  made_none true true found start own is none = rw (start, own) refl
-  made_none false owned found start own is none = rw start refl
-  made_none true false None start own is none = rw (start, own, is) refl
-  made_none true false (Some p) start own is none = rw (start, own, is, none) refl
+  made_none started owned found start own is none = search arith
 
   made_not : (found : Option (Input A)) → slice_get s.inputs i ≡ found → found >>= claims ≡ None → is_some (switch_claim s i o) ≡ false
   made_not found is none = made_none s.started (is_owned s.inputs o) found refl refl is none
 
   made_some : (p : Input A) → s.started ≡ true → slice_get s.inputs i ≡ Some p → is_some (require (not (is_owned s.inputs o)) >> claims p) ≡ is_some (switch_claim s i o)
-  made_some p start is = by_made (is_owned s.inputs o) (claims p) refl refl
-    where
-      by_made : (owned : Bool) (made : Option (Input A × List (Outgoing A))) → is_owned s.inputs o ≡ owned → claims p ≡ made → is_some (require (not (is_owned s.inputs o)) >> claims p) ≡ is_some (switch_claim s i o)
-      by_made true made own claim = rw (start, own) refl
-      by_made false None own claim = rw (start, own, is, claim) refl
-      by_made false (Some r) own claim = rw (start, own, is, claim) refl
+  made_some p start is = search arith
 
   pub claim_ready : is_none (claim_why s i o) ≡ is_some (switch_claim s i o)
   claim_ready = by_input (slice_get s.inputs i) refl
