@@ -1,6 +1,6 @@
 -- The claims that inputs hold: how often each output is among them, where one input changes.
 use Rattle.{c104_crossbar.specs.Marks.{ArePartition, bool_number, is_free, times}, c104_switch.specs.Holding.{held_claims, phase_claims}}
-use Rattle.{c104_switch.specs.{Phases.is_stream, Switch.{Input, Phase, is_owned, new_input}}, std.proofs.Common.{Bool, List, Some, [], ap}}
+use Rattle.{c104_switch.specs.{Phases.is_stream, Switch.{Input, Phase, is_owned, new_input}}, std.proofs.Common.{Bool, List, Some, []}}
 use Rattle.std.proofs.Common.{arith, false, refl, replicate, slice_get, slice_set, suc, sym, true, zero, ℕ, ◌++◌, ◌+◌, ◌<◌, ◌||◌, ◌∙◌, ◌∷◌}
 use Rattle.std.proofs.{Common.◌≡◌, lemmas.Bool.{Decides.nat_tests, or_parts}}
 
@@ -26,25 +26,13 @@ module _ {A : Type 0} where
   -- the claims of inputs one after the other
   pub held_append : (o : ℕ) (ps qs : List (Input A)) → times o (held_claims (ps ++ qs)) ≡ times o (held_claims ps) + times o (held_claims qs)
   held_append o [] qs = omega arith
-  held_append o (p ∷ ps) qs =
-      let more = held_append o ps qs in
-      let one = times_append o (phase_claims p.phase) (held_claims (ps ++ qs)) in
-      let other = times_append o (phase_claims p.phase) (held_claims ps) in
-      omega arith
+  held_append o (p ∷ ps) qs = search (arith, times_append, held_append o ps qs)
 
   -- where one input changes, its claims do
   pub held_set : (o : ℕ) (ps : List (Input A)) (i : ℕ) (p q : Input A) → slice_get ps i ≡ Some p → times o (held_claims (slice_set ps i q)) + times o (phase_claims p.phase) ≡ times o (held_claims ps) + times o (phase_claims q.phase)
   held_set o [] i p q here = cc
-  held_set o (r ∷ ps) zero p q here =
-      let same : r ≡ p = cc in
-      let one = times_append o (phase_claims q.phase) (held_claims ps) in
-      let other : times o (held_claims (r ∷ ps)) ≡ times o (phase_claims p.phase) + times o (held_claims ps) = rw same (times_append o (phase_claims p.phase) (held_claims ps)) in
-      omega arith
-  held_set o (r ∷ ps) (suc i) p q here =
-      let more = held_set o ps i p q here in
-      let one = times_append o (phase_claims r.phase) (held_claims (slice_set ps i q)) in
-      let other = times_append o (phase_claims r.phase) (held_claims ps) in
-      omega arith
+  held_set o (r ∷ ps) zero p q here = search (arith, times_append)
+  held_set o (r ∷ ps) (suc i) p q here = search (arith, times_append, held_set o ps i p q here)
 
   -- an input that streams to an output holds its claim
   pub holds_stream : (o : ℕ) (phase : Phase (List A)) → times o (phase_claims phase) ≡ bool_number (is_stream o phase)
@@ -59,18 +47,13 @@ module _ {A : Type 0} where
       parts = sym (times_append o (phase_claims p.phase) (held_claims ps)) ∙ none
 
       by_stream : (streams : Bool) → is_stream o p.phase ≡ streams → is_owned ps o ≡ false → (streams || is_owned ps o) ≡ false
-      by_stream false is rest = rest
-      by_stream true is rest = absurd (let one = holds_stream o p.phase in let is_one : bool_number (is_stream o p.phase) ≡ 1 = ap bool_number is in let no : ⊥ = omega (arith, parts) in no)
+      by_stream streams is rest = search (arith, holds_stream)
 
   pub owned_held : (o : ℕ) (ps : List (Input A)) → is_owned ps o ≡ false → times o (held_claims ps) ≡ 0
   owned_held o [] none = refl
   owned_held o (p ∷ ps) none =
       let parts = or_parts (is_stream o p.phase) (is_owned ps o) none in
-      let one = holds_stream o p.phase in
-      let is_none : bool_number (is_stream o p.phase) ≡ 0 = ap bool_number parts.0 in
-      let more = owned_held o ps parts.1 in
-      let sum = times_append o (phase_claims p.phase) (held_claims ps) in
-      omega arith
+      search (arith, holds_stream, times_append, owned_held o ps parts.1)
 
   -- a free output isn't owned
   pub free_unowned : (ps : List (Input A)) (marks : List Bool) (o : ℕ) → ArePartition (held_claims ps) marks → is_free marks o ≡ true → is_owned ps o ≡ false

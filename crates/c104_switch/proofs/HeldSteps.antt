@@ -9,7 +9,7 @@ use mathlib.Core.List.{append-nil}
 
 -- the last input leaves a list, with the claims that it held
 pub partition_popped : {A : Type 0} (ps : List (Input A)) (p : Input A) (claims : List ℕ) (marks : List Bool) → claims ≡ phase_claims p.phase → ArePartition (held_claims (ps ++ p ∷ [])) marks → ArePartition (claims ++ held_claims ps) marks
-partition_popped ps p claims marks h1 h2 = search (arith, partition_same, held_append, times_append)
+partition_popped ps p claims marks own partition = search (arith, partition_same, held_append, times_append)
 
 -- the input at a place of a list changes, and claims are given back or brought by it
 module _ {A : Type 0} (ps : List (Input A)) (i : ℕ) (p q : Input A) (inside : i < length ps) (is : p ≡ get_or ps i p) where

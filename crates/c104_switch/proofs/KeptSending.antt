@@ -34,35 +34,16 @@ module _ {A : Type 0} where
       many_hold (y ∷ ys) many = refl
 
       by_room : (room : Bool) → nat_lt (length q.items) 8 ≡ room → IsOffered q r
-      by_room true is =
-          let after : Outgoing A = record { items = q.items ++ x ∷ []; credit = q.credit } in
-          let joins : bool_outcome (outgoing_put x q) q ≡ (true, after) = rw is refl in
-          let same : r ≡ after = ap (λ (t : Bool × Outgoing A). t.1) (given ∙ joins) in
-          record {
-            holds = ap (λ (t : Outgoing A). is_some (slice_get t.items 0)) same ∙ last_holds q.items;
-            credit = ap (λ (t : Outgoing A). t.credit) same;
-          }
-      by_room false is =
-          let stays : bool_outcome (outgoing_put x q) q ≡ (false, q) = rw is refl in
-          let same : r ≡ q = ap (λ (t : Bool × Outgoing A). t.1) (given ∙ stays) in
-          let many : 8 ≤ length q.items = grind (arith, nat_tests) in
-          record {
-            holds = ap (λ (t : Outgoing A). is_some (slice_get t.items 0)) same ∙ many_hold q.items many;
-            credit = ap (λ (t : Outgoing A). t.credit) same;
-          }
+      by_room room is = search (arith, last_holds, nat_tests, many_hold)
 
   -- so it sends where it has credit, and did before where it did
   offered_sends : (x : A) (q r : Outgoing A) (b : Bool) → ◌≡◌ {A = Bool × Outgoing A} (b, r) (bool_outcome (outgoing_put x q) q) → (nat_lt 0 r.credit || sends q) ≡ sends r
   offered_sends x q r b given =
       let is = offered x q r b given in
-      let before : sends q ≡ (is_some (slice_get q.items 0) && nat_lt 0 r.credit) = sends_by q ∙ ap (λ n. is_some (slice_get q.items 0) && nat_lt 0 n) (sym is.credit) in
-      let after : sends r ≡ nat_lt 0 r.credit = sends_by r ∙ ap (λ b. b && nat_lt 0 r.credit) is.holds in
-      ap (λ b. nat_lt 0 r.credit || b) before ∙ or_and (is_some (slice_get q.items 0)) (nat_lt 0 r.credit) ∙ sym after
+      search (arith, sends_by, or_and)
     where
       or_and : (b c : Bool) → (c || (b && c)) ≡ c
-      or_and b true = refl
-      or_and true false = refl
-      or_and false false = refl
+      or_and b c = search arith
 
   -- one that was asked for a token sends no more than before
   asked_sends : (o : Option A) (q r : Outgoing A) → ◌≡◌ {A = Option A × Outgoing A} (o, r) (option_outcome (outgoing_emit q) q) → (sends r && sends q) ≡ sends r

@@ -1,7 +1,7 @@
 -- The links of a set as the bits of a word.
-use Rattle.{c104_crossbar.specs.Groups.has_bit, std.proofs.Common.{ap, arith, false, inl, inr, min, refl, sym, true, ℕ, ◌%◌, ◌&&◌, ◌*◌}}
-use Rattle.std.proofs.{Common.{◌-◌, ◌<◌, ◌==◌, ◌^◌, ◌∙◌, ◌≡◌, ◌≤◌}, lemmas.{Bool.cases_lt, Nat.Bits.{bit_at-lt, bit_at_and}}}
-use Rattle.std.{proofs.lemmas.Nat.Bits.{bit_at_mask_below, bit_at_mask_inside, ones_shl}, specs.{Int.bit_at, Prelude.bit_and}}
+use Rattle.{c104_crossbar.specs.Groups.has_bit, std.proofs.Common.{ap, arith, false, inl, inr, min, sym, true, ℕ, ◌%◌, ◌&&◌, ◌*◌, ◌-◌, ◌<◌}}
+use Rattle.std.proofs.{Common.{◌==◌, ◌^◌, ◌∙◌, ◌≡◌, ◌≤◌}, lemmas.{Bool.cases_lt, Nat.Bits.{bit_at-lt, bit_at_and, bit_at_mask_below}}}
+use Rattle.std.{proofs.lemmas.Nat.Bits.{bit_at_mask_inside, ones_shl}, specs.{Int.bit_at, Prelude.bit_and}}
 
 -- two bits are both one where the least of them and of a one is
 by_bits : (a b : ℕ) → a < 2 → b < 2 → min (min a b) 1 ≡ 0 → ((a == 1) && (b == 1)) ≡ false
@@ -23,9 +23,5 @@ module _ (word other from : ℕ) (inside : from < 32) where
   pub in_both : (l : ℕ) → bit_at left l ≡ 1 → (from ≤ l) × ((has_bit word l && has_bit other l) ≡ true)
   in_both l is = elim (cases_lt l from) [
     | inl before ↦ absurd (let none = bit_at_mask_below from 32 l before in let same = left_bit l in omega arith)
-    | inr after ↦
-        let same = left_bit l in
-        let first : bit_at word l ≡ 1 = let low = bit_at-lt word l in omega arith in
-        let second : bit_at other l ≡ 1 = let low = bit_at-lt other l in omega arith in
-        (after, rw (first, second) refl)
+    | inr after ↦ search (arith, left_bit, bit_at-lt)
   ]

@@ -33,10 +33,7 @@ module _ {A : Type 0} where
   -- the owner of an output is found where it was, if the input that changes streams to it as before
   owner_same : (n : ℕ) (ps : List (Input A)) (i : ℕ) (p q : Input A) (o : ℕ) → slice_get ps i ≡ Some p → is_stream o q.phase ≡ is_stream o p.phase → owner_from n (slice_set ps i q) o ≡ owner_from n ps o
   owner_same n [] i p q o here same = refl
-  owner_same n (r ∷ ps) zero p q o here same =
-      let is : r ≡ p = cc in
-      let streams : is_stream o q.phase ≡ is_stream o r.phase = same ∙ ap (λ (p : Input A). is_stream o p.phase) (sym is) in
-      rw streams refl
+  owner_same n (r ∷ ps) zero p q o here same = search arith
   owner_same n (r ∷ ps) (suc i) p q o here same = rw (owner_same (suc n) ps i p q o here same) refl
 
   -- an input that streams to an output that no other does is its owner
@@ -46,8 +43,7 @@ module _ {A : Type 0} where
   owner_new n (r ∷ ps) (suc i) q o inside free streams = by_stream (is_stream o r.phase) (owner_new (suc n) ps i q o (omega arith)) free
     where
       by_stream : (first : Bool) → (is_owned ps o ≡ false → is_stream o q.phase ≡ true → owner_from (suc n) (slice_set ps i q) o ≡ Some (suc n + i)) → (first || is_owned ps o) ≡ false → (if first then Some n else owner_from (suc n) (slice_set ps i q) o) ≡ Some (n + suc i)
-      by_stream true new taken = absurd (cc taken)
-      by_stream false new rest = let same : suc n + i ≡ n + suc i = omega arith in new rest streams ∙ ap Some same
+      by_stream first new taken = search arith
 
   -- the owner is one of the inputs
   pub owner_inside : (n : ℕ) (ps : List (Input A)) (o k : ℕ) → owner_from n ps o ≡ Some k → k < n + length ps
@@ -55,8 +51,7 @@ module _ {A : Type 0} where
   owner_inside n (p ∷ ps) o k is = by_stream (is_stream o p.phase) (owner_inside (suc n) ps o k) is
     where
       by_stream : (first : Bool) → (owner_from (suc n) ps o ≡ Some k → k < suc n + length ps) → (if first then Some n else owner_from (suc n) ps o) ≡ Some k → k < n + suc (length ps)
-      by_stream true below found = let same : n ≡ k = cc in omega (arith, same)
-      by_stream false below found = let inside = below found in omega arith
+      by_stream first below found = search arith
 
   -- inputs that hold no claim own nothing
   pub owners_none : (ps : List (Input A)) → held_claims ps ≡ [] → AreOwners (replicate 32 None) ps
@@ -121,18 +116,13 @@ module _ {A : Type 0} (owners : List (Option ℕ)) (ps : List (Input A)) (i : �
   owners_claimed c marks takes partition = record {
     count = length-set owners c (Some i) ∙ kept.count;
     each = λ o. elim (cases_eq o c) [
-      | inl same ↦
-          let none : times c (held_claims ps) ≡ 0 = held_once c (held_claims ps) marks partition in
-          let held : times c (phase_claims q.phase) ≡ bool_number (c == c) + times c (phase_claims p.phase) = ap (times c) takes in
-          let streams : is_stream c q.phase ≡ true = number_one (is_stream c q.phase) (let one = same_one c in let number = holds_stream c q.phase in omega arith) in
-          rw same (get_or-set_same owners c (Some i) None (within c (held_claims ps) marks partition) ∙ sym (owner_new 0 ps i q c inside (unowned_unheld c ps none) streams ∙ (let place : 0 + i ≡ i = omega arith in ap Some place)))
+      | inl same ↦ search (arith, held_once, number_one, same_one, holds_stream, get_or-set_same, within, owner_new, unowned_unheld)
       | inr other ↦ beside c o other (let one : times o (phase_claims q.phase) ≡ bool_number (o == c) + times o (phase_claims p.phase) = ap (times o) takes in let none = apart c o other in omega arith) (Some i)
     ];
   }
     where
       number_one : (b : Bool) → 1 ≤ bool_number b → b ≡ true
-      number_one true some = refl
-      number_one false some = absurd (let no : 1 ≤ 0 = some in omega arith)
+      number_one b some = search arith
 
 -- claims of which each has the same behind its first
 pub rest_same : (c b : ℕ) (cs bs : List ℕ) → b ∷ bs ≡ c ∷ cs → cs ≡ bs

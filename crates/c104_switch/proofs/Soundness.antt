@@ -9,7 +9,7 @@ use Rattle.c104_switch.specs.{Claims.{inputs_claim, streaming_input}, Soundness.
 use Rattle.c104_switch.specs.Switch.{Switch, input_accept, input_grant, is_owned, new_input, new_switch_with, with_inputs, with_outputs}
 use Rattle.{c104_switch.specs.{Switch.with_sides, Turns.input_turn}, c104_token.specs.Kinds.Kind, std.proofs.Common.{Bool, List, Option}}
 use Rattle.std.proofs.Common.{Some, arith, false, length, not, refl, replicate, slice_get, slice_set, subst, sym, ℕ, ◌∙◌, ◌≡◌}
-use Rattle.std.proofs.lemmas.{Bool.not-true, List.{Elements.{All-replicate, All-set}, length-replicate, length-set}}
+use Rattle.std.proofs.lemmas.{Bool.not-true, List.{Elements.{All-replicate, All-set}, length-set}}
 use Rattle.c104_link.specs.Buffers as buffer
 
 -- the inputs and the outputs of a switch
@@ -25,7 +25,7 @@ exclusive_first {A} n cap i j o p q at_i at_j to_p to_q =
 -- a switch at first
 pub sound_first : {A : Type 0} (cap : ℕ) (settings : List Settings) (started : Bool) → IsValidCap cap → length settings ≡ 32 → IsSound {A = A} (new_switch_with cap settings started)
 sound_first {A} cap settings started valid links =
-    search (arith, length-replicate, All-replicate, within_empty_in, within_empty_out, exclusive_first)
+    search (arith, All-replicate, within_empty_in, within_empty_out, exclusive_first)
 
 module _ {A : Type 0} (s : Switch A) (sound : IsSound s) where
   -- one input changes, stays within its capacity, and is alone in what it streams to

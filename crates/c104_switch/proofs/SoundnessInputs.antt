@@ -1,9 +1,8 @@
 -- Inputs that stay within their capacity, no two of which stream to one output, where one of them changes.
 use Rattle.c104_link.{proofs.MadeSteps.{given, place_after_set}, specs.Buffers.IsWithinCap}
 use Rattle.c104_switch.{proofs.SoundnessBuffers.{within_enter, within_grant}, specs.{Phases.is_stream, Soundness.IsExclusive, Switch.Input}}
-use Rattle.{c104_switch.specs.Switch.{Phase, Stream, input_accept, input_grant, is_owned}, std.proofs.Common.{List, Some, [], ap, arith}}
-use Rattle.std.proofs.{Common.{false, slice_get, slice_set, suc, true, zero, ℕ, ◌==◌, ◌∙◌, ◌∷◌, ◌≡◌}, lemmas.Bool.Decides.nat_tests}
-use Rattle.std.proofs.lemmas.Bool.{or_parts}
+use Rattle.{c104_switch.specs.Switch.{Phase, Stream, input_accept, input_grant, is_owned}, std.proofs.Common.{List, Some, [], arith, false}}
+use Rattle.std.proofs.{Common.{slice_get, slice_set, suc, true, zero, ℕ, ◌==◌, ◌∷◌, ◌≡◌}, lemmas.Bool.{Decides.nat_tests, or_parts}}
 
 module _ {A : Type 0} where
   -- no input but that at place i streams to output o
@@ -30,11 +29,7 @@ module _ {A : Type 0} where
   -- no input streams to an output that is not owned
   pub unowned : (inputs : List (Input A)) (o : ℕ) → is_owned inputs o ≡ false → (j : ℕ) (q : Input A) → slice_get inputs j ≡ Some q → q.phase ≡ Stream o → ⊥
   unowned [] o free j q at_j to_q = cc
-  unowned (p ∷ inputs) o free zero q at_j to_q =
-      let parts = or_parts (is_stream o p.phase) (is_owned inputs o) free in
-      let same : p ≡ q = cc in
-      let owns = stream_owns o p.phase (ap (λ (s : Input A). s.phase) same ∙ to_q) in
-      cc (parts.0, owns)
+  unowned (p ∷ inputs) o free zero q at_j to_q = search (arith, or_parts, stream_owns)
   unowned (p ∷ inputs) o free (suc j) q at_j to_q =
       unowned inputs o (or_parts (is_stream o p.phase) (is_owned inputs o) free).1 j q at_j to_q
 

@@ -6,7 +6,7 @@ use Rattle.c104_switch.{proofs.{SoundnessBuffers.within_without_first, Soundness
 use Rattle.c104_switch.specs.{Claims.streaming_input, Headers.{decided_phase, phase_after_header}, Switch.{Fresh, Head, Input, Phase}}
 use Rattle.c104_switch.specs.{Switch.{Sinking, Stream, Want}, Turns.{header_turn, input_after_token, input_turn, phase_after_token}}
 use Rattle.{c104_switch.specs.Turns.{random_turn, turn_by_phase}, c104_token.specs.{Kinds.Kind, Tokens.is_end}, std.proofs.Common.All}
-use Rattle.std.proofs.Common.{Bool, List, Option, Some, [], arith, false, if◌then◌else◌, length, not, refl, slice_get, true, ℕ, ◌&&◌, ◌≡◌}
+use Rattle.std.proofs.Common.{Bool, List, Option, Some, [], arith, false, if◌then◌else◌, length, not, refl, slice_get, ℕ, ◌&&◌, ◌≡◌}
 
 module _ {A : Type 0} where
   -- a phase in which an input streams to no output
@@ -68,8 +68,7 @@ module _ {A : Type 0} (kind : Kind A) where
   keeps_by_phase s word p qs Fresh x r is made = by_random (s.randomize && not (is_end (kind.plain x))) made
     where
       by_random : (random : Bool) → (if random then Some (random_turn kind s word p, qs) else Some (header_turn kind s p [] x, qs)) ≡ Some r → KeepsInput p r.0 × KeepsOutputs qs r.1
-      by_random true gives = keeps_some (random_turn kind s word p) qs r gives (keeps_on_random s word p) (keeps_itself qs)
-      by_random false gives = keeps_some (header_turn kind s p [] x) qs r gives (keeps_on_header s p [] x) (keeps_itself qs)
+      by_random random gives = search (arith, keeps_some, keeps_on_random, keeps_itself, keeps_on_header)
   keeps_by_phase s word p qs (Head b) x r is made = keeps_some (header_turn kind s p b x) qs r made (keeps_on_header s p b x) (keeps_itself qs)
   keeps_by_phase s word p qs (Want b g) x r is made = cc
   keeps_by_phase s word p qs (Stream o) x r is made = given (step_at qs o (outgoing_put x)) _ r made (λ rs put last.

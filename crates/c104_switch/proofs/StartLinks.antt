@@ -63,10 +63,5 @@ module _ {A : Type 0} where
   pub starts_next : (ps : List (Input A)) (qs : List (Outgoing A)) (i : ℕ) (p : Input A) (q : Outgoing A) → slice_get ps i ≡ Some p → slice_get qs i ≡ Some q → take (i + 1) (link_starts ps qs) ≡ take i (link_starts ps qs) ++ link_start p q ∷ []
   starts_next [] qs i p q input output = cc
   starts_next (x ∷ ps) [] i p q input output = cc
-  starts_next (x ∷ ps) (y ∷ qs) zero p q input output =
-      let same_input : x ≡ p = cc in
-      let same_output : y ≡ q = cc in
-      rw (same_input, same_output) refl
-  starts_next (x ∷ ps) (y ∷ qs) (suc i) p q input output =
-      let more : suc i + 1 ≡ suc (i + 1) = omega arith in
-      rw more (ap (λ ls. link_start x y ∷ ls) (starts_next ps qs i p q input output))
+  starts_next (x ∷ ps) (y ∷ qs) zero p q input output = search arith
+  starts_next (x ∷ ps) (y ∷ qs) (suc i) p q input output = search (arith, starts_next ps qs i p q input output)

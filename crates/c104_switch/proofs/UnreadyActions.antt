@@ -24,8 +24,7 @@ module _ {A : Type 0} (kind : Kind A) (s : Switch A) where
   input_ready i word = by_found (slice_get s.settings i) (slice_get s.inputs i) s.started refl refl refl
     where
       by_made : (t : Settings) (p : Input A) → slice_get s.settings i ≡ Some t → slice_get s.inputs i ≡ Some p → s.started ≡ true → (made : Option (Input A × List (Outgoing A))) → input_turn kind t word p s.outputs ≡ made → is_some made ≡ is_some (switch_input kind s i word)
-      by_made t p set is start None made = rw (start, set, is, made) refl
-      by_made t p set is start (Some r) made = rw (start, set, is, made) refl
+      by_made t p set is start made gives = search arith
 
       by_found : (settings : Option Settings) (found : Option (Input A)) (started : Bool) → slice_get s.settings i ≡ settings → slice_get s.inputs i ≡ found → s.started ≡ started → is_none (input_why s i) ≡ is_some (switch_input kind s i word)
       by_found None found true set is start = rw (set, start) refl

@@ -64,9 +64,7 @@ module _ {A : Type 0} (s : Switch A) (i o : ℕ) where
       by_output p t is set None at = let why : is_none (claim_why s i o) ≡ false = rw (is, set, at) refl in why ∙ sym (made_not (Some p) is (absent s.settings p s.outputs o t set at p.phase))
 
       by_settings : (p : Input A) → slice_get s.inputs i ≡ Some p → (found : Option Settings) → slice_get s.settings o ≡ found → is_none (claim_why s i o) ≡ is_some (switch_claim s i o)
-      by_settings p is (Some t) set = by_output p t is set (slice_get s.outputs o) refl
-      by_settings p is None set = let why : is_none (claim_why s i o) ≡ false = rw (is, set) refl in why ∙ sym (made_not (Some p) is (unset s.settings p s.outputs o set p.phase))
+      by_settings p is found set = search (arith, by_output, made_not, unset)
 
       by_input : (found : Option (Input A)) → slice_get s.inputs i ≡ found → is_none (claim_why s i o) ≡ is_some (switch_claim s i o)
-      by_input (Some p) is = by_settings p is (slice_get s.settings o) refl
-      by_input None is = let why : is_none (claim_why s i o) ≡ false = rw is refl in why ∙ sym (made_not None is refl)
+      by_input found is = search (arith, by_settings, made_not)

@@ -3,7 +3,7 @@ use Rattle.c104_link.specs.Buffers.{Incoming, Outgoing, incoming_accept, incomin
 use Rattle.{c104_link.specs.Steps.step_at, c104_regs.specs.declared.settings.Settings.Settings, c104_switch.specs.Reasons.accept_why}
 use Rattle.c104_switch.specs.{Reasons.{credited_why, emit_why, grant_why, phase_why, put_why, take_why, turn_why}, Switch.{Input, Phase}}
 use Rattle.{c104_switch.specs.Turns.{input_turn, turn_by_phase}, c104_token.specs.Kinds.Kind, std.proofs.Common.{Bool, List, Some, [], ap}}
-use Rattle.std.proofs.Common.{arith, false, is_none, is_some, length, nat_lt, refl, slice_get, true, ℕ, ◌∙◌, ◌∷◌, ◌≡◌}
+use Rattle.std.proofs.Common.{arith, is_none, is_some, length, nat_lt, refl, slice_get, true, ℕ, ◌∙◌, ◌∷◌, ◌≡◌}
 use Rattle.std.proofs.lemmas.Bool.Decides.{nat_tests}
 
 -- a list with an element isn't empty
@@ -29,8 +29,7 @@ module _ {A : Type 0} where
   emit_ready q = by_items q.items refl
     where
       by_credit : (x : A) (xs : List A) → q.items ≡ x ∷ xs → (holds : Bool) → nat_lt 0 q.credit ≡ holds → is_none (emit_why q) ≡ is_some (outgoing_emit q)
-      by_credit x xs some true is = rw (there q.items x xs some, first q.items x xs some, is) refl
-      by_credit x xs some false is = rw (there q.items x xs some, first q.items x xs some, is) refl
+      by_credit x xs some holds is = search arith
 
       by_items : (items : List A) → q.items ≡ items → is_none (emit_why q) ≡ is_some (outgoing_emit q)
       by_items [] none = rw none refl
