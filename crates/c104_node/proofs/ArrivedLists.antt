@@ -3,7 +3,7 @@ use Rattle.c104_node.{proofs.{Waiting.drop_there, WireEnds.{get_set_other, get_s
 use Rattle.{c104_node.specs.Arrivals.{arrived_list, counted_other, others_in, overlaid}, c104_token.specs.Kinds.{Kind, byte_token}}
 use Rattle.std.proofs.Common.{List, None, Option, Some, [], ap, arith, drop, inl, inr, length, length-append, map, refl, slice_get}
 use Rattle.std.proofs.{Common.{slice_set, subst, suc, sym, take, ℕ, ◌++◌, ◌+◌, ◌<◌, ◌∙◌, ◌∷◌, ◌≡◌, ◌≤◌}, Math.Seq.set-append_seam}
-use Rattle.std.proofs.{Math.Seq.take-suc, lemmas.{Bool.cases_eq, List.{length-map, length-set, map-append, set-append_left}}}
+use Rattle.std.proofs.{Math.Seq.take-suc, lemmas.{Bool.cases_eq, List.{length-map, length-set, map-append, map-set, set-append_left}}}
 use Rattle.std.proofs.lemmas.Option.{get_or_from_slice_get, slice_get-map, slice_get_within}
 
 take_there : {X : Type 0} (xs : List X) (k : ℕ) (x : X) → slice_get xs k ≡ Some x → take (suc k) xs ≡ take k xs ++ x ∷ []
@@ -56,6 +56,14 @@ module _ {A : Type 0} where
         | inl same ↦ other_there (take k os) o xs i x same before ∙ ap Some (sym (here same))
         | inr differ ↦ other_elsewhere (take k os) o xs i x differ before ∙ ap Some (sym (elsewhere differ))
       ]
+
+  -- one more is laid over a list of what each token is
+  pub next_plain : {Y : Type 0} (f : A → Y) (os : List (OtherOf A)) (k : ℕ) (o : OtherOf A) (xs : List A) (now next : List Y) → slice_get os k ≡ Some o → next ≡ slice_set now o.place (f o.token) → now ≡ map f (overlaid (take k os) xs) →
+      next ≡ map f (overlaid (take (k + 1) os) xs)
+  next_plain f os k o xs now next there set before =
+      let one : k + 1 ≡ suc k = omega arith in
+      let laid : overlaid (take (k + 1) os) xs ≡ slice_set (overlaid (take k os) xs) o.place o.token = ap (λ (j : ℕ). overlaid (take j os) xs) one ∙ ap (λ (ps : List (OtherOf A)). overlaid ps xs) (take_there os k o there) ∙ overlaid_more (take k os) o xs in
+      set ∙ ap (λ (zs : List _). slice_set zs o.place (f o.token)) before ∙ sym (ap (map f) laid ∙ map-set f (overlaid (take k os) xs) o.place o.token)
 
 module _ {A : Type 0} (kind : Kind A) where
   -- the token of a byte at its place, before others are laid over it

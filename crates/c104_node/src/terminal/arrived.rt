@@ -83,6 +83,15 @@ impl<T: TokenKind> ArrivedOf<T> {
         Ok(list)
     }
 
+    /// The same tokens, of each what it is alone. The only error is out of memory.
+    pub fn plain_list(&self, alloc: Global) -> Result<Vec<Token>, NoMemory>
+        ensures { IfOk result (λ list. list.items ≡ map T.kind.plain self.now) }
+    {
+        let mut list = plain_bytes::<T>(alloc, self.bytes.as_slice())?;
+        overlay_plain(&mut list, self.others.as_slice());
+        Ok(list)
+    }
+
     /// A copy. The only error is out of memory.
     pub fn copy(&self, alloc: Global) -> Result<Self, NoMemory>
         ensures { IfOk result (λ copy. copy ≡ self.now) }
@@ -182,6 +191,30 @@ fn lay<T: TokenKind>(list: &mut [T], other: &OtherOf<T>)
 {
     if other.place < list.len() {
         list[other.place] = other.token;
+    }
+}
+
+/// A plain token for each byte. The only error is out of memory.
+fn plain_bytes<T: TokenKind>(alloc: Global, bytes: &[u8]) -> Result<Vec<Token>, NoMemory>
+    ensures { IfOk result (λ list. list.items ≡ map T.kind.plain (map (byte_token T.kind) bytes.now)) }
+{
+    let mut list = Vec::with_capacity(alloc, bytes.len())?;
+    for byte in bytes {
+        list.push(T::random(0, Token::Byte(*byte)).plain())?;
+    }
+    Ok(list)
+}
+
+/// Each of these tokens takes its place in a list of plain ones.
+fn overlay_plain<T: TokenKind>(list: &mut [Token], others: &[OtherOf<T>])
+    ensures { (tokens : List T) → list.old ≡ map T.kind.plain tokens → list.new ≡ map T.kind.plain (overlaid others.now tokens) }
+{
+    for other in others {
+        let laid = OtherOf {
+            place: other.place,
+            token: other.token.plain(),
+        };
+        lay(list, &laid);
     }
 }
 

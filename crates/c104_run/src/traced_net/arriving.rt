@@ -1,12 +1,10 @@
 //! What arrived in a network of tagged tokens.
-ghost use Rattle.std.specs.{Global.Vec as Kept, Prelude.{IfOk, map, option_map, ◌≡◌}};
-ghost use Rattle.{c104_node.specs.declared.tagged.TaggedToken.TaggedToken as TheTagged, c104_run.specs.Finished.run_arrived};
-ghost use Rattle.c104_run.specs.{FinishedRecords.record_finish, Network.network_arrived};
+ghost use Rattle.std.specs.{Global.Vec as Kept, Prelude.{IfOk, option_map, ◌≡◌}};
+ghost use Rattle.c104_run.specs.{Finished.run_arrived, FinishedRecords.record_finish, Network.network_arrived};
 ghost use Rattle.c104_token.specs.declared.tokens.Token.{Token as TheToken};
 
 use super::TracedNet;
-use c104_node::{ArrivedOf, TaggedToken};
-use c104_token::{NoMemory, Token, TokenKind};
+use c104_token::{NoMemory, Token};
 use std::alloc::Global;
 
 impl TracedNet {
@@ -20,29 +18,10 @@ impl TracedNet {
     {
         match self.engine.arrived(terminal) {
             Some(tokens) => {
-                let list = plain_list(alloc, tokens)?;
+                let list = tokens.plain_list(alloc)?;
                 Ok(Some(list))
             }
             None => Ok(None),
         }
     }
-}
-
-/// What arrived, without where it came from. The only error is out of memory.
-fn plain_list(alloc: Global, arrived: &ArrivedOf<TaggedToken>) -> Result<Vec<Token>, NoMemory>
-    ensures { IfOk result (λ list. list.items ≡ map (λ (x : TheTagged). x.token) arrived.now) }
-{
-    let tokens = arrived.to_list(alloc)?;
-    plain_tokens(alloc, tokens.as_slice())
-}
-
-/// These tokens without where they came from. The only error is out of memory.
-fn plain_tokens(alloc: Global, tokens: &[TaggedToken]) -> Result<Vec<Token>, NoMemory>
-    ensures { IfOk result (λ list. list.items ≡ map (λ (x : TheTagged). x.token) tokens.now) }
-{
-    let mut list = Vec::new(alloc);
-    for token in tokens {
-        list.push(token.plain())?;
-    }
-    Ok(list)
 }
