@@ -36,7 +36,7 @@ module _ {A : Type 0} (kind : Kind A) where
     unclaimed_there i o none = grind arith
 
   -- acts change no other node than those that do them
-  act_frame : (nodes : List (Node A)) (k number : ℕ) (a : ActOf A) (r : ReplyOf A × List (Node A)) → nodes_act kind nodes k number a ≡ Some r → (j : ℕ) → j ≢ k → slice_get r.1 j ≡ slice_get nodes j
+  pub act_frame : (nodes : List (Node A)) (k number : ℕ) (a : ActOf A) (r : ReplyOf A × List (Node A)) → nodes_act kind nodes k number a ≡ Some r → (j : ℕ) → j ≢ k → slice_get r.1 j ≡ slice_get nodes j
   act_frame nodes k number a r is j other = search (arith, from_place_made, get_set_other)
 
   joint_frame : (nodes : List (Node A)) (near far : ℕ) (joint : Joint) (r : ReplyOf A × List (Node A)) → joint_step kind near far joint.near joint.far joint.crossing nodes ≡ Some r → (j : ℕ) → j ≢ near → j ≢ far → slice_get r.1 j ≡ slice_get nodes j
@@ -54,19 +54,19 @@ module _ {A : Type 0} (kind : Kind A) where
       by_near None gone is = absurd (cc)
       by_near (Some v) gone is = by_far v (act_frame nodes near 0 (near_act joint.crossing joint.near) v gone j from) (nodes_act kind v.1 far 0 (far_act joint.far v.0)) refl is
 
-  -- and so it is of acts however they end
-  ended_frame : (limit : Option EventFault) (made : Option (ReplyOf A × List (Node A))) (full : Bool) (nodes after : List (Node A)) (answer : Result (ReplyOf A) EventFault) (j : ℕ) → ((r : ReplyOf A × List (Node A)) → made ≡ Some r → slice_get r.1 j ≡ slice_get nodes j) →
-      ActsEnd limit made full nodes answer after → slice_get after j ≡ slice_get nodes j
-  ended_frame limit None full nodes after (Ok told) j frame ends = ap (λ (z : ReplyOf A × List (Node A)). slice_get z.1 j) ends.0
-  ended_frame limit (Some r) full nodes after (Ok told) j frame ends = ap (λ (z : ReplyOf A × List (Node A)). slice_get z.1 j) ends.0 ∙ frame r refl
-  ended_frame limit made full nodes after (Err f) j frame ends = ap (λ ns. slice_get ns j) ends.2
+  -- what acts leave of all nodes they leave however they end
+  pub ended_same : {X : Type 0} (of : List (Node A) → X) (limit : Option EventFault) (made : Option (ReplyOf A × List (Node A))) (full : Bool) (nodes after : List (Node A)) (answer : Result (ReplyOf A) EventFault) →
+      ((r : ReplyOf A × List (Node A)) → made ≡ Some r → of r.1 ≡ of nodes) → ActsEnd limit made full nodes answer after → of after ≡ of nodes
+  ended_same of limit None full nodes after (Ok told) frame ends = ap (λ (z : ReplyOf A × List (Node A)). of z.1) ends.0
+  ended_same of limit (Some r) full nodes after (Ok told) frame ends = ap (λ (z : ReplyOf A × List (Node A)). of z.1) ends.0 ∙ frame r refl
+  ended_same of limit made full nodes after (Err f) frame ends = ap of ends.2
 
   module _ (keeps : Bool) (stamp : Stamp) (olds news : List (Shown A)) (answer : Result (ReplyOf A) EventFault) (j : ℕ) where
     abbrev Stays : Type 0
     Stays = slice_get (states news) j ≡ slice_get (states olds) j
 
     pub alone_stays : (k number : ℕ) (a : ActOf A) → AloneDone kind keeps k number stamp a olds answer news → j ≢ k → Stays
-    alone_stays k number a done other = ended_frame _ _ _ (states olds) (states news) answer j (λ r made. act_frame (states olds) k number a r made j other) done.ends
+    alone_stays k number a done other = ended_same (λ ns. slice_get ns j) _ _ _ (states olds) (states news) answer (λ r made. act_frame (states olds) k number a r made j other) done.ends
 
     pub joint_stays : (near far : ℕ) (joint : Joint) → JointDone kind keeps near far joint stamp olds answer news → j ≢ near → j ≢ far → Stays
-    joint_stays near far joint done from to = ended_frame _ _ _ (states olds) (states news) answer j (λ r made. joint_frame (states olds) near far joint r made j from to) done.ends
+    joint_stays near far joint done from to = ended_same (λ ns. slice_get ns j) _ _ _ (states olds) (states news) answer (λ r made. joint_frame (states olds) near far joint r made j from to) done.ends

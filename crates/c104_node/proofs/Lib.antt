@@ -5,6 +5,7 @@ pub mod NamedWires
 pub mod JointEnds
 pub mod Attempts
 pub mod IdleNodes
+pub mod PartFrames
 pub mod WireEnds
 pub mod Ranges
 pub mod QuietNodes

@@ -37,8 +37,8 @@ pub use node::NodeOf;
 pub use origins::Origin;
 pub use place::Place;
 pub use places::{
-    attempt_at, is_full_at, is_idle_at, next_claim_at, next_ready_at, next_wanting_at, node_at,
-    ready_at,
+    attempt_at, is_full_at, is_idle_at, next_claim_at, next_wanting_at, node_at, ready_at,
+    ready_links_at,
 };
 pub use port_part::PortPart;
 pub use recorded::{Node, act_pair, copy_entries, ready_pair};

@@ -1,10 +1,10 @@
 //! One act of one place among all places.
 ghost use Rattle.std.specs.{Option.option_copied, Prelude.{Err, IfSome, None, Ok, OnOk, Some, false, if◌then◌else◌, is_some, length, map}};
 ghost use Rattle.std.specs.Prelude.{slice_get, true, unwrap_or, ℕ, ◌<◌, ◌≡◌, ◌≢◌, ◌≤◌};
-ghost use Rattle.{c104_link.specs.Steps.step_at, c104_node.specs.{ActLinks.act_link, Acts.{IsWithinLimits, node_act, nodes_act}}};
-ghost use Rattle.c104_node.specs.{Acts.wants_memory, Idle.IsIdleNode, Nodes.{Node as TheNode, node_claim}, PlaceActs.AloneDone};
-ghost use Rattle.c104_node.specs.{PlaceActs.HasActedAt, Places.{HasRoomAt, bases, fulls, states}, PortActs.act_limit};
-ghost use Rattle.c104_node.specs.{PortParts.{PassesUnready, is_ready_at}, Records.has_link, Traces.full_at, WiredPlaces.is_linked_at};
+ghost use Rattle.{c104_crossbar.specs.Groups.has_bit, c104_link.specs.Steps.step_at, c104_node.specs.ActLinks.act_link};
+ghost use Rattle.c104_node.specs.{Acts.{IsWithinLimits, node_act, nodes_act, wants_memory}, Idle.IsIdleNode, Nodes.Node as TheNode};
+ghost use Rattle.c104_node.specs.{Nodes.node_claim, PlaceActs.{AloneDone, HasActedAt}, Places.{HasRoomAt, bases, fulls, states}};
+ghost use Rattle.c104_node.specs.{PortActs.act_limit, PortParts.may_act_at, Records.has_link, Traces.full_at, WiredPlaces.is_linked_at};
 ghost use Rattle.{c104_regs.specs.declared.registers.TheConstants.LINKS, c104_switch.specs.Claims.IsNextLink};
 ghost use Rattle.c104_event.specs.declared.faults.EventFault.TheVariants as fault;
 ghost use Rattle.c104_switch.specs.declared.actions.ReplyOf.TheVariants as reply;
@@ -137,22 +137,19 @@ fn without_room<T: TokenKind, P: Place<T>>(
     }
 }
 
-/// The next link of a set, from this one on, at which the switch at a place is ready for its act of a part; of a turn, at
-/// which it may be.
+/// The links at which the switch at a place may do its act of a part.
 #[inline(always)]
-pub fn next_ready_at<T: TokenKind, P: Place<T>>(
+pub fn ready_links_at<T: TokenKind, P: Place<T>>(
     places: &[P],
     place: usize,
     part: PortPart,
-    from: usize,
-    among: LinkSet,
-) -> Option<usize>
-    ensures { PassesUnready part (is_ready_at T.kind part (states (map P.shown places.now)) place)
-        from among result }
+) -> LinkSet
+    ensures { (l : ℕ) → l < LINKS →
+        has_bit result l ≡ may_act_at T.kind part (states (map P.shown places.now)) place l }
 {
     match node_at(places, place) {
-        Some(node) => node.next_ready(part, from, among),
-        None => None,
+        Some(node) => node.ready_links(part),
+        None => LinkSet::new(),
     }
 }
 

@@ -27,6 +27,7 @@ pub mod RecordedRuns
 pub mod DoneEvents
 pub mod WiredPorts
 pub mod PortWalks
+pub mod LinkFrames
 mod LivePlaces
 mod LiveRounds
 mod NotedSwitches

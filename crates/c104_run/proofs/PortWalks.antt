@@ -1,14 +1,15 @@
 -- A round as it is walked: part after part, number by number, with what has no wire or isn't ready left out.
-use Rattle.{c104_crossbar.specs.Groups.has_bit, c104_event.specs.declared.events.Event.Event, c104_node.specs.{Acts.nodes_act, Nodes.Node}}
-use Rattle.c104_node.specs.{PortActs.near_act, PortParts.{IsFoundReady, IsNearReady, is_ready_at}, declared.crossings.Crossing.Crossing}
-use Rattle.{c104_node.specs.declared.port_part.PortPart.{PortPart, TheVariants.Turn}, c104_plan.specs.Plans.Plan}
-use Rattle.{c104_plan.specs.declared.ports.Port.Port, c104_run.proofs.{IdleEvents.{idle_credit, idle_cross, idle_turn}, PartRuns.singles}}
-use Rattle.c104_run.specs.{EventActs.{crossing_event, port_place}, Network.{Network, wired_fault}, RoundParts.{AreIdle, IsNext}}
-use Rattle.c104_run.specs.RoundParts.{crossing_part, input_walk, link_walk, output_walk, port_events, port_walk, switch_walk, terminal_walk}
-use Rattle.c104_run.specs.{RoundParts.{walked_round, wired_events}, Rounds.{all_claims, claims_of, is_wired, link_numbers, round}}
-use Rattle.{c104_run.specs.Rounds.{switch_claims, turn_at, wired_links, wired_ports}, c104_token.specs.Kinds.Kind, std.proofs.Common.IfSome}
-use Rattle.std.proofs.Common.{List, None, Option, [], ap, append-nil, arith, false, filter, length, map, refl, sym, true, unwrap_or, ℕ}
-use Rattle.std.proofs.{Common.{◌++◌, ◌<◌, ◌∙◌, ◌∷◌, ◌≡◌, ◌≤◌}, lemmas.{Grind.flat_map-append, List.Elements.filter-append}}
+use Rattle.{c104_crossbar.specs.Groups.has_bit, c104_event.specs.declared.events.Event.Event, c104_node.proofs.PartFrames.may_not}
+use Rattle.c104_node.specs.{Acts.nodes_act, Nodes.Node, PortActs.near_act, PortParts.{IsNearReady, is_ready_at, may_act_at}}
+use Rattle.c104_node.specs.declared.{crossings.Crossing.Crossing, port_part.PortPart.{PortPart, TheVariants.Turn}}
+use Rattle.{c104_plan.specs.{Plans.Plan, declared.ports.Port.Port}, c104_run.proofs.IdleEvents.{idle_credit, idle_cross, idle_turn}}
+use Rattle.c104_run.{proofs.PartRuns.singles, specs.{EventActs.{crossing_event, port_place}, LinkedSets.{HasReady, LeavesLinks}}}
+use Rattle.c104_run.specs.{Network.{Network, wired_fault}, RoundParts.{AreIdle, CanTry, IsNext, crossing_part, input_walk, link_walk}}
+use Rattle.c104_run.specs.RoundParts.{output_walk, port_events, port_walk, switch_walk, terminal_walk, walked_round, wired_events}
+use Rattle.c104_run.specs.Rounds.{all_claims, claims_of, is_wired, link_numbers, round, switch_claims, turn_at, wired_links, wired_ports}
+use Rattle.{c104_switch.proofs.Wanting.first_isnt, c104_token.specs.Kinds.Kind, std.proofs.Common.{IfSome, List, None, Option, [], ap}}
+use Rattle.std.proofs.Common.{append-nil, arith, false, filter, length, map, refl, sym, true, unwrap_or, ℕ, ◌&&◌, ◌++◌, ◌+◌, ◌<◌, ◌∙◌, ◌∷◌}
+use Rattle.std.proofs.{Common.{◌≡◌, ◌≤◌}, lemmas.{Bool.and_parts, Grind.flat_map-append, List.Elements.filter-append}}
 use Rattle.std.specs.{List.{flat_map, range_with_len}, Prelude.is_some}
 
 -- what is so of an element is so by what follows from it
@@ -81,12 +82,25 @@ pub idle_link : {A : Type 0} (kind : Kind A) (net : Network A) (part : PortPart)
 idle_link kind net part k l wired unready = search (arith, idle_credit, idle_cross, idle_turn)
 
 -- a link that is passed over: it has no wire, or isn't ready
-pub passed_link : {A : Type 0} (kind : Kind A) (net : Network A) (part : PortPart) (k l among : ℕ) → has_bit among l ≡ is_wired net.plan (Port.Switch k l) → (has_bit among l ≡ true → wired_fault net.plan (Port.Switch k l) ≡ None) → (has_bit among l ≡ true → is_ready_at kind part net.nodes k l ≡ false) → AreIdle kind net (wired_events net.plan part (Port.Switch k l))
-passed_link kind net part k l among linked wired unready = idle_wired kind net part (Port.Switch k l) (λ is. idle_link kind net part k l (wired (linked ∙ is)) (unready (linked ∙ is)))
+pub passed_link : {A : Type 0} (kind : Kind A) (net : Network A) (part : PortPart) (k l from set : ℕ) → HasReady kind part k net from set → from ≤ l → l < 32 → has_bit set l ≡ false → AreIdle kind net (wired_events net.plan part (Port.Switch k l))
+passed_link kind net part k l from set has above inside none = idle_wired kind net part (Port.Switch k l) (λ is. idle_link kind net part k l (has.wired l inside is) (may_not kind l part k net.nodes (first_isnt _ _ (sym (has.ready l above inside) ∙ none) is)))
 
--- what was found is ready, as the near end of its wire
-pub near_ready : {A : Type 0} (kind : Kind A) (plan : Plan) (part : PortPart) (nodes : List (Node A)) (s l : ℕ) → IsFoundReady part (is_ready_at kind part nodes s l) → IsNearReady kind part nodes (port_place plan (Port.Switch s l)) (Port.Switch s l)
+-- what may be done at a link is ready, as the near end of its wire
+near_ready : {A : Type 0} (kind : Kind A) (plan : Plan) (part : PortPart) (nodes : List (Node A)) (s l : ℕ) → may_act_at kind part nodes s l ≡ true → IsNearReady kind part nodes (port_place plan (Port.Switch s l)) (Port.Switch s l)
 near_ready kind plan part nodes s l is = search arith
+
+-- what was found may be tried
+pub found_ready : {A : Type 0} (kind : Kind A) (net : Network A) (part : PortPart) (k l from set : ℕ) → HasReady kind part k net from set → from ≤ l → l < 32 → has_bit set l ≡ true → CanTry kind net part (Port.Switch k l)
+found_ready kind net part k l from set has above inside is =
+    let both : (may_act_at kind part net.nodes k l ≡ true) × (is_wired net.plan (Port.Switch k l) ≡ true) = and_parts _ _ (sym (has.ready l above inside) ∙ is) in
+    record { wired = has.wired l inside both.1; linked = both.1; ready = near_ready kind net.plan part net.nodes k l both.0 }
+
+-- what is done at a link leaves the set of those behind it
+pub ready_on : {A : Type 0} (kind : Kind A) (net next : Network A) (part : PortPart) (k l from set : ℕ) → HasReady kind part k net from set → from ≤ l → next.plan ≡ net.plan → LeavesLinks kind part k l net.nodes next.nodes → HasReady kind part k next (l + 1) set
+ready_on kind net next part k l from set has above same left = record {
+  wired = λ j inside is. rw same (has.wired j inside (rw same at is));
+  ready = λ j after inside. rw same (has.ready j (omega (arith, above, after)) inside ∙ ap (λ b. b && is_wired net.plan (Port.Switch k j)) (sym (left.stay j (λ is. absurd (omega (arith, after, is))))));
+}
 
 -- where a walk goes on, by what was passed over
 module _ {A : Type 0} (kind : Kind A) (net : Network A) (part : ℕ → List Event) (numbers : List ℕ) (n from : ℕ) (found : Option ℕ) where

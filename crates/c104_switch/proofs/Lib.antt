@@ -7,7 +7,7 @@ mod Owners
 mod OwnersKept
 mod GroupBits
 mod Readiness
-mod Wanting
+pub mod Wanting
 mod LinkSets
 mod KeptSets
 mod KeptInputs

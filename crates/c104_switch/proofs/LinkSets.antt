@@ -7,6 +7,13 @@ use Rattle.std.{proofs.lemmas.Nat.Bits.{bit_at_mask_inside, ones_shl}, specs.{In
 by_bits : (a b : ℕ) → a < 2 → b < 2 → min (min a b) 1 ≡ 0 → ((a == 1) && (b == 1)) ≡ false
 by_bits a b low high none = search (arith, cases_lt)
 
+-- the links of two sets that both have
+both_bits : (a b : ℕ) → a < 2 → b < 2 → (min a b == 1) ≡ ((a == 1) && (b == 1))
+both_bits a b low high = search (arith, cases_lt)
+
+pub bits_both : (word other l : ℕ) → has_bit (bit_and word other) l ≡ (has_bit word l && has_bit other l)
+bits_both word other l = ap (λ b. b == 1) (bit_at_and word other l) ∙ both_bits (bit_at word l) (bit_at other l) (bit_at-lt word l) (bit_at-lt other l)
+
 module _ (word other from : ℕ) (inside : from < 32) where
   -- those bits that two words have, from one on
   abbrev pub left : ℕ

@@ -98,6 +98,16 @@ impl LinkSet {
         }
     }
 
+    /// The links that are in this set and in another.
+    #[inline(always)]
+    pub fn both(self, other: LinkSet) -> LinkSet
+        ensures { (l : ℕ) → has_bit result l ≡ (has_bit self l && has_bit other l) }
+    {
+        LinkSet {
+            word: self.word & other.word,
+        }
+    }
+
     /// The next link, from this one on, that is in this set and in another.
     #[inline(always)]
     pub fn next(&self, from: usize, other: LinkSet) -> Option<usize>

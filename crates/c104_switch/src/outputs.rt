@@ -1,8 +1,8 @@
 //! The output sides of all links.
-ghost use Rattle.std.specs.{Option.option_copied, Prelude.{All, IfOk, Some, is_some, length, map, replicate, slice_get, true, ◌&&◌, ◌≡◌, ◌≤◌}};
+ghost use Rattle.std.specs.{Option.option_copied, Prelude.{All, IfOk, Some, is_some, length, map, replicate, slice_get, true, ℕ, ◌<◌, ◌≡◌, ◌≤◌}};
 ghost use Rattle.{c104_crossbar.specs.Groups.has_bit, c104_link.specs.Buffers.{Outgoing, empty_outgoing, outgoing_clear}};
 ghost use Rattle.c104_link.specs.Steps.{bool_outcome, option_outcome, step_at, yield_step_at};
-ghost use Rattle.{c104_regs.specs.declared.registers.TheConstants.LINKS, c104_switch.specs.Claims.{IsNextLink, put_header}};
+ghost use Rattle.{c104_regs.specs.declared.registers.TheConstants.LINKS, c104_switch.specs.Claims.put_header};
 ghost use Rattle.c104_switch.specs.{Readiness.AreSending, Starts.{IsLinkStart, start_output}};
 ghost use Rattle.c104_link.specs.Buffers as buffer;
 
@@ -146,13 +146,12 @@ impl<T: TokenKind> OutputsOf<T> {
         self.list.get(link)
     }
 
-    /// The next output, from that of this link on, that is in a set and can send a token.
-    pub fn next_sending(&self, from: usize, among: LinkSet) -> Option<usize>
-        ensures { IsNextLink
-            (λ l. is_some (yield_step_at self.now l buffer.outgoing_emit) && has_bit among l)
-            from result }
+    /// The outputs that can send a token.
+    #[inline(always)]
+    pub fn sending(&self) -> LinkSet
+        ensures { (l : ℕ) → l < LINKS → has_bit result l ≡ is_some (yield_step_at self.now l buffer.outgoing_emit) }
     {
-        self.sending.next(from, among)
+        self.sending
     }
 
     /// Whether `leave` would give a token.

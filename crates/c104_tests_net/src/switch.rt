@@ -90,35 +90,35 @@ fn links_without(link: usize) -> LinkSet {
 }
 
 /// The links that can grant, of which none can turn.
-fn next_granting(switch: &Switch, links: LinkSet) -> bool {
-    switch.next_granting(1, links) == Some(1)
-        && switch.next_granting(2, links) == Some(3)
-        && switch.next_turning(0, links).is_none()
+fn granting(switch: &Switch, links: LinkSet) -> bool {
+    switch.granting().next(1, links) == Some(1)
+        && switch.granting().next(2, links) == Some(3)
+        && switch.turning().next(0, links).is_none()
 }
 
 /// The link at which a header comes in.
-fn next_turning(switch: &mut Switch, links: LinkSet) -> bool {
+fn turning(switch: &mut Switch, links: LinkSet) -> bool {
     switch.credit_out(0)
         && switch.enter(0, Token::Byte(1))
-        && switch.next_turning(0, links) == Some(0)
+        && switch.turning().next(0, links) == Some(0)
         && switch.next_wanting(0).is_none()
 }
 
 /// The link at which a header was read, and the output that it wants.
 fn next_wanting(switch: &mut Switch, links: LinkSet) -> bool {
     switch.input(0, 0)
-        && switch.next_turning(0, links).is_none()
+        && switch.turning().next(0, links).is_none()
         && switch.next_wanting(0) == Some(0)
         && switch.next_claim(0, 0) == Some(1)
 }
 
 /// The output at which the header waits, once there is credit for it.
-fn next_leaving(switch: &mut Switch, links: LinkSet) -> bool {
+fn leaving(switch: &mut Switch, links: LinkSet) -> bool {
     switch.claim(0, 1)
-        && switch.next_leaving(0, links).is_none()
+        && switch.leaving().next(0, links).is_none()
         && switch.credit_in(1)
-        && switch.next_leaving(0, links) == Some(1)
-        && switch.next_leaving(2, links).is_none()
+        && switch.leaving().next(0, links) == Some(1)
+        && switch.leaving().both(links).next(2, links).is_none()
 }
 
 /// No link that isn't in a set, or is below the first.
@@ -133,12 +133,12 @@ fn sets(rt: HostRuntime) {
 fn next_links(rt: HostRuntime) -> Result<(), Fail> {
     let links = links_without(2);
     let mut switch = Switch::new(rt.alloc(), 16)?;
-    let is_due = switch.next_granting(0, links).is_none()
+    let is_due = switch.granting().next(0, links).is_none()
         && starts(&mut switch)
-        && next_granting(&switch, links)
-        && next_turning(&mut switch, links)
+        && granting(&switch, links)
+        && turning(&mut switch, links)
         && next_wanting(&mut switch, links)
-        && next_leaving(&mut switch, links);
+        && leaving(&mut switch, links);
     switch.retire();
     assert!(rt; is_due);
     Ok(())

@@ -1,7 +1,7 @@
 //! The acts of a node.
 ghost use Rattle.std.specs.Prelude.{IfSome, MatchResult, None, OnErr, Some, false, is_some, true, unwrap_or, ℕ, ◌<◌, ◌≡◌, ◌≤◌};
 ghost use Rattle.c104_node.specs.{Acts.{IsWithinLimits, node_act, reply_outcome, wants_memory}, Nodes.node_claim, PortActs.act_limit};
-ghost use Rattle.c104_node.specs.{PortParts.{PassesUnready, is_node_ready}, SpareRooms.IsEnough};
+ghost use Rattle.{c104_crossbar.specs.Groups.has_bit, c104_node.specs.{PortParts.may_act, SpareRooms.IsEnough}};
 ghost use Rattle.{c104_regs.specs.declared.registers.TheConstants.LINKS, c104_switch.specs.Actions.{done_reply, switch_step, token_reply}};
 ghost use Rattle.c104_switch.specs.Claims.{IsNextLink};
 
@@ -155,18 +155,18 @@ impl<T: TokenKind> NodeOf<T> {
         }
     }
 
-    /// The next link of a set, from this one on, that is ready for a switch's act of a part; of a turn, that may be.
+    /// The links at which the node may do a switch's act of a part.
     #[inline(always)]
-    pub fn next_ready(&self, part: PortPart, from: usize, among: LinkSet) -> Option<usize>
-        ensures { PassesUnready part (λ l. is_node_ready T.kind part l self.now) from among result }
+    pub fn ready_links(&self, part: PortPart) -> LinkSet
+        ensures { (l : ℕ) → l < LINKS → has_bit result l ≡ may_act T.kind part l self.now }
     {
         match self {
             NodeOf::Switch(switch) => match part {
-                PortPart::Credit => switch.next_granting(from, among),
-                PortPart::Cross => switch.next_leaving(from, among),
-                PortPart::Turn => switch.next_turning(from, among),
+                PortPart::Credit => switch.granting(),
+                PortPart::Cross => switch.leaving(),
+                PortPart::Turn => switch.turning(),
             },
-            NodeOf::Terminal(_) => None,
+            NodeOf::Terminal(_) => LinkSet::new(),
         }
     }
 

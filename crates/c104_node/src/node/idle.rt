@@ -24,9 +24,9 @@ impl<T: TokenKind> NodeOf<T> {
 fn is_idle_switch<T: TokenKind>(switch: &SwitchOf<T>, wired: LinkSet) -> bool
     ensures { result ≡ true → IsIdleNode T.kind (has_link wired) (node.Switch switch.now) }
 {
-    let granting = switch.next_granting(0, wired);
-    let leaving = switch.next_leaving(0, wired);
-    let turning = switch.next_turning(0, wired);
+    let granting = switch.granting().next(0, wired);
+    let leaving = switch.leaving().next(0, wired);
+    let turning = switch.turning().next(0, wired);
     let wanting = switch.next_wanting(0);
     match (granting, leaving, turning, wanting) {
         (None, None, None, None) => true,

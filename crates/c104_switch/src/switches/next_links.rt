@@ -1,6 +1,5 @@
-//! The next link of a switch that may be ready. Those that are passed over aren't, and none of them is
-//! asked.
-ghost use Rattle.std.specs.Prelude.{None, is_some, true, unwrap_or, ℕ, ◌&&◌, ◌<◌, ◌≡◌, ◌≤◌};
+//! Which links of a switch may be ready, and the next one. Those that are left out aren't, and none of them is asked.
+ghost use Rattle.std.specs.Prelude.{None, false, is_some, unwrap_or, ℕ, ◌<◌, ◌≡◌, ◌≤◌};
 ghost use Rattle.{c104_crossbar.specs.Groups.has_bit, c104_regs.specs.declared.registers.TheConstants.LINKS};
 ghost use Rattle.c104_switch.specs.{Claims.{IsNextLink, is_wanting, switch_claim}, Readiness.may_turn_at, Switch.switch_credit_out};
 ghost use Rattle.c104_switch.specs.{Switch.switch_leave, Turns.switch_input};
@@ -10,32 +9,33 @@ use crate::link_set::LinkSet;
 use c104_token::TokenKind;
 
 impl<T: TokenKind> SwitchOf<T> {
-    /// The next link of a set, from this one on, that can grant eight more tokens.
-    pub fn next_granting(&self, from: usize, among: LinkSet) -> Option<usize>
-        ensures { IsNextLink (λ l. is_some (switch_credit_out self.now l) && has_bit among l)
-            from result }
+    /// The links that can grant eight more tokens.
+    #[inline(always)]
+    pub fn granting(&self) -> LinkSet
+        ensures { (l : ℕ) → l < LINKS → has_bit result l ≡ is_some (switch_credit_out self.now l) }
     {
         if !self.registers.started() {
-            return None;
+            return LinkSet::new();
         }
-        self.inputs.next_granting(from, among)
+        self.inputs.granting()
     }
 
-    /// The next link of a set, from this one on, over which a token can go out.
-    pub fn next_leaving(&self, from: usize, among: LinkSet) -> Option<usize>
-        ensures { IsNextLink (λ l. is_some (switch_leave self.now l) && has_bit among l) from result }
+    /// The links over which a token can go out.
+    #[inline(always)]
+    pub fn leaving(&self) -> LinkSet
+        ensures { (l : ℕ) → l < LINKS → has_bit result l ≡ is_some (switch_leave self.now l) }
     {
-        self.outputs.next_sending(from, among)
+        self.outputs.sending()
     }
 
-    /// The next link of a set, from this one on, whose input has a token and doesn't want an output.
-    /// An input that is passed over can't take a turn.
-    pub fn next_turning(&self, from: usize, among: LinkSet) -> Option<usize>
-        ensures next { IsNextLink (λ l. may_turn_at self.now.inputs l && has_bit among l) from result }
-        ensures passed { (l word : ℕ) → from ≤ l → l < unwrap_or result LINKS →
-            has_bit among l ≡ true → switch_input T.kind self.now l word ≡ None }
+    /// The links whose input has a token and doesn't want an output. No other can take a turn.
+    #[inline(always)]
+    pub fn turning(&self) -> LinkSet
+        ensures may { (l : ℕ) → l < LINKS → has_bit result l ≡ may_turn_at self.now.inputs l }
+        ensures others { (l word : ℕ) → l < LINKS → has_bit result l ≡ false →
+            switch_input T.kind self.now l word ≡ None }
     {
-        self.inputs.next_turning(from, among)
+        self.inputs.turning()
     }
 
     /// The next input, from that of this link on, that wants an output. None where no further one

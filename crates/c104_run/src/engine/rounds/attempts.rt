@@ -1,13 +1,14 @@
 //! One event of a round, which tells whether it was done, and is counted where it was.
 //!
 //! A round knows of each of its events that it can happen, and what acts it asks: so an event is tried by its acts.
-ghost use Rattle.std.specs.Prelude.{None, Some, [], is_some, length, map, true, ◌-◌, ◌<◌, ◌∷◌, ◌≡◌};
+ghost use Rattle.std.specs.Prelude.{None, Some, [], is_some, length, map, true, ℕ, ◌-◌, ◌<◌, ◌∷◌, ◌≡◌};
 ghost use Rattle.{c104_event.specs.declared.events.Event.Event as TheEvent, c104_node.specs.{ActLinks.act_link, Acts.IsWithinLimits}};
-ghost use Rattle.c104_node.specs.{Acts.nodes_act, PlaceActs.AloneDone, Places.states, PortActs.{Acts, near_act}, Traces.seatless};
+ghost use Rattle.c104_node.specs.{Acts.nodes_act, PlaceActs.AloneDone, Places.states, PortActs.{Acts, near_act}, PortParts.part_act, Traces.seatless};
 ghost use Rattle.{c104_regs.specs.declared.registers.TheConstants.LINKS, c104_run.specs.Engines.{DoesPart, engine_of}};
 ghost use Rattle.c104_run.specs.{EventActs.{crossing_event, event_acts, port_place}, EventsAtPlaces.told_answer, LivePlaces.IsOfRound};
 ghost use Rattle.c104_run.specs.{Meters.meter_after, NetRecords.{is_done, ticket_after}, Network.{event_fault, wired_fault}};
 ghost use Rattle.c104_run.specs.{Engines.engine_network, Network.terminal_place, RoundParts.{CanTry, crossing_part, wired_events}};
+ghost use Rattle.c104_run.specs.LinkedSets.{LeavesCrossed, LeavesLinks};
 ghost use Rattle.c104_run.specs.NotedSwitches.{LeavesEnds, LeavesOthers, LeavesUnnoted};
 ghost use Rattle.c104_node.specs.declared.port_part.PortPart.TheVariants as part;
 ghost use Rattle.{c104_run.specs.RoundParts.done_answer, c104_switch.specs.declared.actions.ReplyOf.ReplyOf as TheReply};
@@ -42,6 +43,8 @@ impl<T: TokenKind, P: Place<T>> Engine<T, P> {
             (λ plan. crossing_event crossing port ∷ []) result self.new meter.new }
         ensures others { LeavesEnds self.old.plan port (states (map P.shown self.old.places))
             (states (map P.shown self.new.places)) }
+        ensures links { LeavesCrossed T.kind crossing port (states (map P.shown self.old.places))
+            (states (map P.shown self.new.places)) }
     {
         let ends = self.wires.wired_ends(port);
         let joint = Joint {
@@ -73,6 +76,8 @@ impl<T: TokenKind, P: Place<T>> Engine<T, P> {
             (λ plan. wired_events plan (crossing_part crossing) port) result self.new meter.new }
         ensures others { LeavesEnds self.old.plan port (states (map P.shown self.old.places))
             (states (map P.shown self.new.places)) }
+        ensures links { LeavesCrossed T.kind crossing port (states (map P.shown self.old.places))
+            (states (map P.shown self.new.places)) }
     {
         self.attempt_joint(meter, port, crossing)
     }
@@ -91,6 +96,8 @@ impl<T: TokenKind, P: Place<T>> Engine<T, P> {
             (λ plan. wired_events plan part.Credit (port.Switch switch link)) result self.new meter.new }
         ensures others { LeavesUnnoted switch granting.old (states (map P.shown self.old.places))
             granting.new (states (map P.shown self.new.places)) }
+        ensures links { LeavesLinks T.kind part.Credit switch link (states (map P.shown self.old.places))
+            (states (map P.shown self.new.places)) }
     {
         let port = Port::Switch(switch, link);
         granting.add(self.wires().wired_ends(port).far.node);
@@ -109,6 +116,8 @@ impl<T: TokenKind, P: Place<T>> Engine<T, P> {
         ensures does { DoesPart T.kind P.keeps M.sees P.shown self.old meter.old
             (λ plan. wired_events plan part.Turn (port.Switch switch link)) result self.new meter.new }
         ensures others { LeavesOthers switch (states (map P.shown self.old.places)) (states (map P.shown self.new.places)) }
+        ensures links { LeavesLinks T.kind part.Turn switch link (states (map P.shown self.old.places))
+            (states (map P.shown self.new.places)) }
     {
         self.attempt_alone(meter, switch, ActOf::Step(ActionOf::Input(link, 0)))
     }
@@ -167,6 +176,8 @@ impl<T: TokenKind, P: Place<T>> Engine<T, P> {
             ((reply : TheReply T) → meter_after M.sees _meter.now e reply ≡ _meter.now) →
             DoesPart T.kind P.keeps M.sees P.shown self.old _meter.now (λ plan. e ∷ []) result self.new _meter.now }
         ensures others { LeavesOthers place (states (map P.shown self.old.places)) (states (map P.shown self.new.places)) }
+        ensures links { (l : ℕ) → act ≡ part_act part.Turn l → LeavesLinks T.kind part.Turn place l
+            (states (map P.shown self.old.places)) (states (map P.shown self.new.places)) }
     {
         let answer = self.do_next(place, act);
         self.counted(answer)

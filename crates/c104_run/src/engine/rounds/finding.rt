@@ -1,9 +1,9 @@
 //! Where a round goes on: the next place, link, input or output at which an event may be done.
 ghost use Rattle.std.specs.{List.range_with_len, Prelude.{IfSome, [], false, length, map, true, unwrap_or, ℕ, ◌<◌, ◌∷◌, ◌≡◌, ◌≢◌, ◌≤◌}};
 ghost use Rattle.{c104_node.specs.Places.states, c104_regs.specs.declared.registers.TheConstants.LINKS};
-ghost use Rattle.c104_run.specs.{Engines.engine_network, LivePlaces.{IsIdlePlace, told_places}, RoundParts.{AreIdle, CanTry, IsNext}};
-ghost use Rattle.c104_run.specs.{RoundParts.{input_walk, link_walk, output_walk, port_walk}, Rounds.link_numbers};
-ghost use Rattle.c104_run.specs.{LivePlaces.is_live, NotedSwitches.{AreSo, ClaimsNone, GrantsNone, IsSoAt}, RoundParts.crossing_part};
+ghost use Rattle.c104_run.specs.{Engines.engine_network, LinkedSets.HasReady, LivePlaces.{IsIdlePlace, is_live, told_places}};
+ghost use Rattle.c104_run.specs.{NotedSwitches.{AreSo, ClaimsNone, GrantsNone, IsSoAt}, RoundParts.{AreIdle, CanTry, IsNext}};
+ghost use Rattle.c104_run.specs.{RoundParts.{crossing_part, input_walk, link_walk, output_walk, port_walk}, Rounds.link_numbers};
 ghost use Rattle.c104_event.specs.declared.events.Event.TheVariants as event;
 ghost use Rattle.c104_node.specs.declared.port_part.PortPart.TheVariants as part;
 ghost use Rattle.c104_plan.specs.declared.ports.Port.TheVariants as port;
@@ -13,8 +13,9 @@ use crate::engine::rounds::noted::Noted;
 use crate::live_places::LivePlaces;
 use c104_event::Port;
 use c104_node::{
-    Crossing, Place, PortPart, can_near_at, next_claim_at, next_ready_at, next_wanting_at,
+    Crossing, Place, PortPart, can_near_at, next_claim_at, next_wanting_at, ready_links_at,
 };
+use c104_switch::LinkSet;
 use c104_token::TokenKind;
 
 impl<T: TokenKind, P: Place<T>> Engine<T, P> {
@@ -87,8 +88,8 @@ impl<T: TokenKind, P: Place<T>> Engine<T, P> {
         let places = self.places();
         let wanting = next_wanting_at(places, switch, 0);
         noted.claiming.add_if(switch, wanting.is_some());
-        let linked = self.wires().linked(switch);
-        let granting = next_ready_at(places, switch, PortPart::Credit, 0, linked);
+        let ready = self.ready_links(PortPart::Credit, switch);
+        let granting = ready.next(0, ready);
         noted.granting.add_if(switch, granting.is_some());
     }
 
@@ -112,17 +113,32 @@ impl<T: TokenKind, P: Place<T>> Engine<T, P> {
         }
     }
 
-    /// The next wired link of a switch, from this one on, that is ready for its event of a part; of a turn, that may be.
+    /// The wired links of a switch at which it may do its act of a part.
     #[inline(always)]
-    pub(crate) fn next_link(&self, part: PortPart, switch: usize, from: usize) -> Option<usize>
+    pub(crate) fn ready_links(&self, part: PortPart, switch: usize) -> LinkSet
         requires { switch < length self.now.plan.switches }
+        ensures { HasReady T.kind part switch (engine_network P.shown self.now) 0 result }
+    {
+        let linked = self.wires().linked(switch);
+        ready_links_at(self.places(), switch, part).both(linked)
+    }
+
+    /// The next of these links, from this one on.
+    #[inline(always)]
+    pub(crate) fn next_link(
+        &self,
+        part: PortPart,
+        switch: usize,
+        ready: LinkSet,
+        from: usize,
+    ) -> Option<usize>
+        requires { HasReady T.kind part switch (engine_network P.shown self.now) from ready }
         ensures next { IsNext T.kind (engine_network P.shown self.now)
             (port_walk self.now.plan part (port.Switch switch)) link_numbers LINKS from result }
         ensures ready { IfSome result
             (λ l. CanTry T.kind (engine_network P.shown self.now) part (port.Switch switch l)) }
     {
-        let among = self.wires().linked(switch);
-        next_ready_at(self.places(), switch, part, from, among)
+        ready.next(from, ready)
     }
 
     /// Whether a terminal has a wire and is ready for what crosses from there.

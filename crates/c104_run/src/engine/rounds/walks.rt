@@ -3,7 +3,8 @@
 //! its near end isn't ready.
 //!
 //! A walk goes on where it finds the next number (`IsNext`), and what it has done so far is a part of a round too. Those
-//! about ports are inlined, since each part is a code of its own.
+//! about ports are inlined, since each part is a code of its own. Which links of a switch are ready is asked once: what is
+//! done at one of them leaves the others as they are.
 #![tactic(auto, using(crate::proofs::EngineParts::engine_parts))]
 
 ghost use Rattle.std.specs.Prelude.{OnOk, length, map, slice_get, ℕ, ◌<◌, ◌≡◌};
@@ -58,9 +59,10 @@ impl<T: TokenKind, P: Place<T>> Engine<T, P> {
         ensures others { LeavesUnnoted switch granting.old (states (map P.shown self.old.places))
             granting.new (states (map P.shown self.new.places)) }
     {
+        let ready = self.ready_links(PortPart::Credit, switch);
         let mut changed = false;
         let mut from = 0;
-        while let Some(link) = self.next_link(PortPart::Credit, switch, from) {
+        while let Some(link) = self.next_link(PortPart::Credit, switch, ready, from) {
             let done = self.attempt_grant(meter, granting, switch, link)?;
             changed |= done;
             from = link + 1;
@@ -90,9 +92,10 @@ impl<T: TokenKind, P: Place<T>> Engine<T, P> {
         ensures { DoesPart T.kind P.keeps M.sees P.shown self.old meter.old
             (λ plan. link_walk plan part.Cross switch) result self.new meter.new }
     {
+        let ready = self.ready_links(PortPart::Cross, switch);
         let mut changed = false;
         let mut from = 0;
-        while let Some(link) = self.next_link(PortPart::Cross, switch, from) {
+        while let Some(link) = self.next_link(PortPart::Cross, switch, ready, from) {
             let done = self.attempt_part(meter, Port::Switch(switch, link), Crossing::Token)?;
             changed |= done;
             from = link + 1;
@@ -169,9 +172,10 @@ impl<T: TokenKind, P: Place<T>> Engine<T, P> {
             (λ plan. link_walk plan part.Turn switch) result self.new meter.new }
         ensures others { LeavesOthers switch (states (map P.shown self.old.places)) (states (map P.shown self.new.places)) }
     {
+        let ready = self.ready_links(PortPart::Turn, switch);
         let mut changed = false;
         let mut from = 0;
-        while let Some(link) = self.next_link(PortPart::Turn, switch, from) {
+        while let Some(link) = self.next_link(PortPart::Turn, switch, ready, from) {
             let done = self.attempt_turn(meter, switch, link)?;
             changed |= done;
             from = link + 1;

@@ -1,5 +1,5 @@
-use Rattle.std.{proofs.Common.{List, bytes_eq, drop, map, ℕ, ◌≡◌}, specs.Map.lookup}
-use Rattle.c104_script.specs.{Script.verb_of, declared.words.{TheConstants.VERBS, Verb.Verb}}
+use Rattle.{c104_script.specs.{Script.verb_of, declared.words.{TheConstants.VERBS, Verb.Verb}}, std.proofs.Common.{List, bytes_eq, drop}}
+use Rattle.std.{proofs.Common.{map, ℕ, ◌≡◌}, specs.Map.lookup}
 
 -- none of the words so far is this one
 abbrev pub invariant-loop-text : Rattle.c104_script.proofs.words.read_verb.Given.invariant-loop-text

@@ -1,10 +1,10 @@
 use Rattle.c104_node.{proofs.IdleNodes.joint_stays, specs.{Acts.nodes_act, Places.states, PortActs.near_act, declared.ends.End.End}}
-use Rattle.c104_run.proofs.{ActAttempts.joint_tried, Engines.{acted_kept, put_back}, LiveRounds.{live_joint, ready_live}}
-use Rattle.c104_run.{proofs.NotedSwitches.one_far, specs.{Engines.{EngineView, engine_of}, EventActs.{crossing_event, port_place}}}
-use Rattle.c104_run.specs.{EventsAtPlaces.told_answer, LivePlaces.is_live, Meters.{metered_apply, metered_of}, NetRecords.is_done}
-use Rattle.{c104_run.specs.{NetRecords.ticket_after, Network.wired_fault, RoundParts.{PartEnds, done_answer}}, std.proofs.Common.List}
-use Rattle.std.proofs.Common.{None, [], ap, is_some, map, refl, slice_get, subst, sym, true, ◌∙◌, ◌∷◌, ◌≡◌, ◌≢◌}
-use Rattle.std.{proofs.lemmas.List.with_items_is, specs.Vec.with_items}
+use Rattle.c104_run.proofs.{ActAttempts.joint_tried, Engines.{acted_kept, put_back}, LinkFrames.crossed_keeps, LiveRounds.live_joint}
+use Rattle.c104_run.{proofs.{LiveRounds.ready_live, NotedSwitches.one_far}, specs.Engines.{EngineView, engine_of}}
+use Rattle.c104_run.specs.{EventActs.{crossing_event, port_place}, EventsAtPlaces.told_answer, LinkedSets.LeavesCrossed, LivePlaces.is_live}
+use Rattle.c104_run.specs.{Meters.{metered_apply, metered_of}, NetRecords.{is_done, ticket_after}, Network.wired_fault, RoundParts.PartEnds}
+use Rattle.{c104_run.specs.RoundParts.done_answer, std.proofs.Common.{List, None, [], ap, is_some, map, refl, slice_get, subst, sym, true}}
+use Rattle.std.{proofs.{Common.{◌∙◌, ◌∷◌, ◌≡◌, ◌≢◌}, lemmas.List.with_items_is}, specs.Vec.with_items}
 use Rattle.c104_run.proofs.engine.Engine.attempt_joint.Goals as goal
 
 pub invariant_of-self : goal.invariant_of-self
@@ -43,3 +43,11 @@ returns-clause-others g c =
     c.self.inside.places.items c.as_mut_slice-places.result.now c.joint_from-answer.new.places (with_items c.self.inside.places c.joint_from-answer.new.places).items c.as_mut_slice-places.ensures.value put_is
     (joint_stays g.T.TokenKind.kind g.P.Place.keeps _ _ _ c.joint_from-answer.result j _ _ _ c.joint_from-answer.ensures
     (λ same. away (same ∙ ap (λ (end : End). end.node) c.wired_ends-ends.ensures.near)) (λ same. to (same ∙ one_far _ _ _ c.wired_ends-ends.ensures.far is))))
+
+pub returns-clause-links : goal.returns-clause-links
+returns-clause-links g c =
+    let put_is = with_items_is c.self.inside.places c.joint_from-answer.new.places (c.joint_from-answer.auto.places ∙ c.as_mut_slice-places.ensures.len) in
+    rw (c.counted.ensures.next, sym c.self.view_is)
+    (put_back (λ (olds news : List g.row.P.Denot). LeavesCrossed g.T.TokenKind.kind c.args.crossing c.args.port (states (map g.P.Place.shown olds)) (states (map g.P.Place.shown news)))
+    c.self.inside.places.items c.as_mut_slice-places.result.now c.joint_from-answer.new.places (with_items c.self.inside.places c.joint_from-answer.new.places).items c.as_mut_slice-places.ensures.value put_is
+    (crossed_keeps g.T.TokenKind.kind g.P.Place.keeps _ _ _ c.joint_from-answer.result c.self.inside.wires c.wired_ends-ends.result.near.node c.wired_ends-ends.result.far.node c.args.port c.far_port.result c.args.crossing c.wired_ends-ends.ensures.apart (ap (λ (end : End). end.node) c.wired_ends-ends.ensures.near) c.joint_from-answer.ensures))

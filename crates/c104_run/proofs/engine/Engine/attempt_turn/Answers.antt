@@ -10,3 +10,6 @@ returns-clause-does g c =
 
 pub attempt_alone-requires-clause-begins : goal.attempt_alone-requires-clause-begins
 attempt_alone-requires-clause-begins g c = turn_begins g.T.TokenKind.kind c.args.self.now.plan c.args.switch c.args.link c.requires.wired
+
+pub returns-clause-links : goal.returns-clause-links
+returns-clause-links g c = c.attempt_alone.ensures.links c.args.link refl

@@ -1,8 +1,8 @@
-use Rattle.c104_run.proofs.{EngineParts.{step_done, step_stops, steps_done}, NotedSwitches.unnoted_on}
+use Rattle.c104_run.proofs.{EngineParts.{step_done, step_stops, steps_done}, NotedSwitches.unnoted_on, PortWalks.ready_on}
 use Rattle.c104_run.proofs.engine.Engine.grant_links.Goals as goal
 
 pub loop-link-preserved : goal.loop-link-preserved
-loop-link-preserved g c = (step_done c.loop-link.invariant.0 c.in-Some.ensures.next c.in_ok-done.ensures.does, unnoted_on c.loop-link.invariant.1 c.in_ok-done.ensures.others)
+loop-link-preserved g c = (step_done c.loop-link.invariant.0 c.in-Some.ensures.next c.in_ok-done.ensures.does, unnoted_on c.loop-link.invariant.1 c.in_ok-done.ensures.others, ready_on _ _ _ _ _ _ _ _ c.loop-link.invariant.2 c.in-Some.ensures.next.found.0 c.in_ok-done.ensures.does.plan c.in_ok-done.ensures.links)
 
 pub returns-clause-does : goal.returns-clause-does
 returns-clause-does g c = steps_done c.loop-link.invariant.0 c.in_default.ensures.next
