@@ -104,6 +104,7 @@ impl<T: TokenKind, P: Place<T>> Engine<T, P> {
     }
 
     /// What crosses from the wired terminals: grants, or tokens.
+    #[inline(always)]
     pub(crate) fn walk_terminals<M: Meter<T>>(
         &mut self,
         meter: &mut M,
