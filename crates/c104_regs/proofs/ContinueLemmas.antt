@@ -1,54 +1,43 @@
 -- The word of the links that continue a group: its bits, and that it fits 32 bits.
 use Rattle.c104_regs.specs.{Addresses.Register, Groups.{continue_bits, continues_at}, Registers.waits, Settings.Settings, Values.bit_value}
-use Rattle.c104_regs.specs.{Values.with_value, declared.addresses.Register.TheVariants.{Base, Credit, Granted, InputLevel, Limit, Mode}}
-use Rattle.c104_regs.specs.declared.addresses.Register.TheVariants.{OutputLevel, Owner, RandomBase, RandomRange, Select, Short, Sunk}
-use Rattle.std.proofs.Common.{Bool, List, [], add-one, ap, arith, drop, drop-cons, false, get_or, length, length-drop, refl, set, suc, sym}
-use Rattle.std.proofs.{Common.{true, zero, ℕ, ◌%◌, ◌*◌, ◌+◌, ◌-◌, ◌/◌, ◌<◌, ◌==◌, ◌^◌, ◌∙◌, ◌∷◌, ◌≡◌, ◌≤◌}, Math.Nat.pow-succ'}
-use Rattle.std.proofs.{Math.Seq.drop-length, lemmas.{Grind.one_shifted, List.length-set, Nat.Bits.{bit_at-suc, bit_at-zero, bit_at_lowest}}}
-use Rattle.std.{proofs.lemmas.Nat.pow_pos, specs.Int.bit_at}
+use Rattle.{c104_regs.specs.Values.with_value, std.proofs.Common.{Bool, List, [], add-one, ap, arith, drop, drop-cons, false, get_or}}
+use Rattle.std.proofs.Common.{length, length-drop, refl, set, suc, zero, ℕ, ◌%◌, ◌*◌, ◌+◌, ◌-◌, ◌/◌, ◌<◌, ◌==◌, ◌^◌, ◌∙◌, ◌∷◌, ◌≡◌, ◌≤◌}
+use Rattle.std.proofs.{Math.{Nat.pow-succ', Seq.drop-length}, lemmas.{Grind.one_shifted, List.length-set, Nat.Bits.bit_at-suc}}
+use Rattle.std.{proofs.lemmas.Nat.{Bits.{bit_at-zero, bit_at_lowest}, pow_pos}, specs.Int.bit_at}
 
 lowest : (b : Bool) (n : ℕ) → (bit_value b 1 + 2 * n) % 2 ≡ bit_value b 1
-lowest true n = omega arith
-lowest false n = omega arith
+lowest b n = search arith
 
 above : (b : Bool) (n : ℕ) → (bit_value b 1 + 2 * n) / 2 ≡ n
-above true n = omega arith
-above false n = omega arith
+above b n = search arith
 
 -- bit l is that of link l
 pub bit_at-continue_bits : (xs : List Settings) (l : ℕ) → bit_at (continue_bits xs) l ≡ bit_value (continues_at xs l) 1
 bit_at-continue_bits [] l = bit_at-zero l
 bit_at-continue_bits (x ∷ xs) zero = bit_at_lowest _ ∙ lowest x.continue_group (continue_bits xs)
-bit_at-continue_bits (x ∷ xs) (suc l) =
-    bit_at-suc _ l ∙ ap (λ n. bit_at n l) (above x.continue_group (continue_bits xs)) ∙ bit_at-continue_bits xs l
+bit_at-continue_bits (x ∷ xs) (suc l) = search (arith, bit_at-suc, above, bit_at-continue_bits xs l)
 
 number_one : (b : Bool) → (bit_value b 1 == 1) ≡ b
-number_one true = refl
-number_one false = refl
+number_one b = search arith
 
 -- so a word with these bits tells of each link whether it continues
 pub bit-continues_at : (xs : List Settings) (word : ℕ) → ((l : ℕ) → bit_at word l ≡ bit_value (continues_at xs l) 1) → (l : ℕ) → (bit_at word l == 1) ≡ continues_at xs l
 bit-continues_at xs word bits l = ap (λ bit. bit == 1) (bits l) ∙ number_one (continues_at xs l)
 
 number-le : (b : Bool) → bit_value b 1 ≤ 1
-number-le true = omega arith
-number-le false = omega arith
+number-le b = search arith
 
 continue_bits-lt : (xs : List Settings) (n : ℕ) → length xs ≤ n → continue_bits xs < 2 ^ n
 continue_bits-lt [] n fits = pow_pos n
 continue_bits-lt (x ∷ xs) zero fits = absurd (omega arith)
-continue_bits-lt (x ∷ xs) (suc n) fits =
-    let rest : continue_bits xs < 2 ^ n = continue_bits-lt xs n (omega arith) in
-    rw (pow-succ' 2 n) (omega (arith, number-le x.continue_group))
+continue_bits-lt (x ∷ xs) (suc n) fits = search (arith, pow-succ', number-le, continue_bits-lt xs n (omega arith))
 
 continue_bits-drop : (xs : List Settings) (k : ℕ) (d : Settings) → k < length xs → continue_bits (drop k xs) ≡ bit_value (get_or xs k d).continue_group 1 + 2 * continue_bits (drop (k + 1) xs)
 continue_bits-drop xs k d below = rw (drop-cons xs k d below) (rw add-one refl)
 
 -- the word with one more link in it, the one before those whose word this is
 pub continue_bits-fits : (xs : List Settings) (k n bits : ℕ) (d : Settings) → length xs ≤ 32 → k < length xs → n ≡ bit_value (get_or xs k d).continue_group 1 → bits ≡ continue_bits (drop (k + 1) xs) → n + 2 * bits < 2 ^ 32
-continue_bits-fits xs k n bits d links below one rest =
-    let all : n + 2 * bits ≡ continue_bits (drop k xs) = rw (one, rest) (sym (continue_bits-drop xs k d below)) in
-    rw all (continue_bits-lt (drop k xs) 32 (rw length-drop (omega arith)))
+continue_bits-fits xs k n bits d links below one rest = search (arith, continue_bits-drop, continue_bits-lt, length-drop)
 
 -- no link is left past the last
 pub continue_bits-end : (xs : List Settings) (n : ℕ) → length xs ≡ n → 0 ≡ continue_bits (drop n xs)
@@ -56,22 +45,17 @@ continue_bits-end xs n links = rw (← links) (rw (drop-length xs) refl)
 
 -- the bit of one link, and the word once another is set there
 doubled : (b : Bool) (n : ℕ) → bit_value b (2 ^ suc n) ≡ 2 * bit_value b (2 ^ n)
-doubled true n = pow-succ' 2 n
-doubled false n = refl
+doubled b n = search (arith, pow-succ')
 
 bit-le : (xs : List Settings) (l : ℕ) (d : Settings) → l < length xs → bit_value (get_or xs l d).continue_group (2 ^ l) ≤ continue_bits xs
 bit-le [] l d inside = absurd (omega arith)
 bit-le (x ∷ xs) zero d inside = omega arith
-bit-le (x ∷ xs) (suc l) d inside =
-    let rest : bit_value (get_or xs l d).continue_group (2 ^ l) ≤ continue_bits xs = bit-le xs l d (omega arith) in
-    rw (doubled (get_or xs l d).continue_group l) (omega arith)
+bit-le (x ∷ xs) (suc l) d inside = search (arith, doubled, bit-le xs l d (omega arith))
 
 continue_bits-set : (xs : List Settings) (l : ℕ) (x d : Settings) → l < length xs → continue_bits xs + bit_value x.continue_group (2 ^ l) ≡ continue_bits (set xs l x) + bit_value (get_or xs l d).continue_group (2 ^ l)
 continue_bits-set [] l x d inside = absurd (omega arith)
 continue_bits-set (y ∷ ys) zero x d inside = omega arith
-continue_bits-set (y ∷ ys) (suc l) x d inside =
-    let rest : continue_bits ys + bit_value x.continue_group (2 ^ l) ≡ continue_bits (set ys l x) + bit_value (get_or ys l d).continue_group (2 ^ l) = continue_bits-set ys l x d (omega arith) in
-    rw (doubled x.continue_group l, doubled (get_or ys l d).continue_group l) (omega arith)
+continue_bits-set (y ∷ ys) (suc l) x d inside = search (arith, set, doubled, continue_bits-set ys l x d (omega arith))
 
 -- a link's bit of 32 taken out of the word, and another put there
 module _ (xs : List Settings) (l : ℕ) (d : Settings) (word before : ℕ) (links : length xs ≡ 32) (link : l < 32) (is_word : word ≡ continue_bits xs) (is_before : before ≡ bit_value (get_or xs l d).continue_group (1 * 2 ^ l % 4294967296)) where
@@ -98,23 +82,10 @@ module _ (xs : List Settings) (l : ℕ) (d : Settings) (word before : ℕ) (link
 
 -- only the mode says whether a link continues a group
 same_group : (s : Settings) (r : Register) (v : ℕ) → waits r ≡ false → (with_value s r v).continue_group ≡ s.continue_group
-same_group s Mode v is = cc
-same_group s RandomBase v is = refl
-same_group s RandomRange v is = refl
-same_group s Sunk v is = refl
-same_group s Short v is = refl
-same_group s InputLevel v is = refl
-same_group s OutputLevel v is = refl
-same_group s Credit v is = refl
-same_group s Granted v is = refl
-same_group s Owner v is = refl
-same_group s Base v is = refl
-same_group s (Limit k) v is = refl
-same_group s (Select k) v is = refl
+same_group s r v is = search arith
 
 -- so the word stays where another register is set
 pub continue_bits-same : (xs : List Settings) (l : ℕ) (x d : Settings) (r : Register) (v : ℕ) → waits r ≡ false → x ≡ with_value (get_or xs l d) r v → continue_bits (set xs l x) ≡ continue_bits xs
 continue_bits-same [] l x d r v is same = refl
-continue_bits-same (y ∷ ys) zero x d r v is same =
-    ap (λ b. bit_value b 1 + 2 * continue_bits ys) (ap (λ (s : Settings). s.continue_group) same ∙ same_group y r v is)
+continue_bits-same (y ∷ ys) zero x d r v is same = search (arith, same_group)
 continue_bits-same (y ∷ ys) (suc l) x d r v is same = ap (λ n. bit_value y.continue_group 1 + 2 * n) (continue_bits-same ys l x d r v is same)

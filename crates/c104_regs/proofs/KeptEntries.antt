@@ -1,9 +1,9 @@
 -- Entries by address: of a function that gives some addresses a value, the values that it gives the
 -- addresses of a range, each with its address.
-use Rattle.std.proofs.Common.{All, List, None, Option, Some, [], ap, arith, get_or, inl, inr, option_map, refl, subst, suc, sym, zero, ℕ}
-use Rattle.std.proofs.{Common.{◌++◌, ◌+◌, ◌<◌, ◌∙◌, ◌∷◌, ◌≡◌, ◌≤◌, ◌⊎◌}, lemmas.{Bool.cases_eq, List.Elements.{All-cons, All-nil}}}
-use Rattle.std.proofs.lemmas.List.Elements.{All-weaker, Contains-append_cases, Contains-append_right, filter_map-append}
-use Rattle.std.{proofs.lemmas.List.Kept.AllPairs-cons, specs.List.{AllPairs, Contains, cons_option, filter_map, range_with_len}}
+use Rattle.std.proofs.Common.{All, List, None, Option, Some, [], ap, arith, inl, inr, option_map, refl, subst, suc, zero, ℕ, ◌++◌, ◌+◌, ◌<◌}
+use Rattle.std.proofs.{Common.{◌∙◌, ◌∷◌, ◌≡◌, ◌≤◌, ◌⊎◌}, lemmas.{Bool.cases_eq, List.Elements.{All-cons, All-nil, All-weaker}}}
+use Rattle.std.proofs.lemmas.List.{Elements.{Contains-append_cases, Contains-append_right, filter_map-append}, Kept.AllPairs-cons}
+use Rattle.std.specs.List.{AllPairs, Contains, cons_option, filter_map, range_with_len}
 
 -- a value with its address
 abbrev pub entry : (ℕ → Option ℕ) → ℕ → Option (ℕ × ℕ)
@@ -19,10 +19,7 @@ IsWithin a n x = (a ≤ x.0) × (x.0 < a + n)
 
 -- the addresses of a range, cut in two
 range_cut : (a n m : ℕ) → range_with_len a (n + m) ≡ range_with_len a n ++ range_with_len (a + n) m
-range_cut a zero m =
-    let none : zero + m ≡ m = omega arith in
-    let same : a ≡ a + zero = omega arith in
-    ap (range_with_len a) none ∙ ap (λ b. range_with_len b m) same
+range_cut a zero m = search arith
 range_cut a (suc n) m =
     let more : suc n + m ≡ suc (n + m) = omega arith in
     let on : a + 1 + n ≡ a + suc n = omega arith in
@@ -50,19 +47,14 @@ module _ (f : ℕ → Option ℕ) where
   later a n rest = All-weaker (IsWithin (a + 1) n) (IsWithin a (suc n)) (λ x is. (omega (arith, is.0), omega (arith, is.1))) (entries f (a + 1) n) rest
 
   within_led : (a n : ℕ) (o : Option ℕ) → All (IsWithin a (suc n)) (entries f (a + 1) n) → All (IsWithin a (suc n)) (led a o (entries f (a + 1) n))
-  within_led a n None rest = rest
-  within_led a n (Some v) rest = All-cons (IsWithin a (suc n)) (a, v) (entries f (a + 1) n) (omega arith, omega arith) rest
+  within_led a n o rest = search (arith, All-cons)
 
   pub within : (a n : ℕ) → All (IsWithin a n) (entries f a n)
   within a zero = All-nil (IsWithin a zero)
   within a (suc n) = within_led a n (f a) (later a n (within (a + 1) n))
 
   ascending_led : (a n : ℕ) (o : Option ℕ) → AllPairs (λ x y. x.0 < y.0) (entries f (a + 1) n) → AllPairs (λ x y. x.0 < y.0) (led a o (entries f (a + 1) n))
-  ascending_led a n None rest = rest
-  ascending_led a n (Some v) rest =
-      AllPairs-cons (λ (x : ℕ × ℕ) (y : ℕ × ℕ). x.0 < y.0) (a, v) (entries f (a + 1) n)
-      (All-weaker (IsWithin (a + 1) n) (λ (y : ℕ × ℕ). a < y.0) (λ y is. omega (arith, is.0)) (entries f (a + 1) n) (within (a + 1) n))
-      rest
+  ascending_led a n o rest = search (arith, AllPairs-cons, All-weaker, within)
 
   pub ascending : (a n : ℕ) → AllPairs (λ x y. x.0 < y.0) (entries f a n)
   ascending a zero = λ i j d before inside. absurd (omega arith)
@@ -70,17 +62,7 @@ module _ (f : ℕ → Option ℕ) where
 
   -- what is among them is what the function gives
   value_led : (a n c v : ℕ) (o : Option ℕ) → o ≡ f a → Contains {X = ℕ × ℕ} (led a o (entries f (a + 1) n)) (c, v) → (f c ≡ Some v) ⊎ Contains {X = ℕ × ℕ} (entries f (a + 1) n) (c, v)
-  value_led a n c v None is has = inr has
-  value_led a n c v (Some w) is has = elim (Contains-append_cases {X = ℕ × ℕ} ((a, w) ∷ []) (entries f (a + 1) n) (c, v) has) [
-    | inl first ↦ inl (first_value first)
-    | inr rest ↦ inr rest
-  ]
-    where
-      first_value : Contains {X = ℕ × ℕ} ((a, w) ∷ []) (c, v) → f c ≡ Some v
-      first_value (k, inside, same) =
-          let here : k ≡ 0 = omega arith in
-          let pair : ◌≡◌ {A = ℕ × ℕ} (a, w) (c, v) = subst (λ i. ◌≡◌ {A = ℕ × ℕ} (get_or ((a, w) ∷ []) i (c, v)) (c, v)) here same in
-          ap f (sym (ap (λ (x : ℕ × ℕ). x.0) pair)) ∙ sym is ∙ ap (λ (x : ℕ × ℕ). Some x.1) pair
+  value_led a n c v o is has = search (arith, Contains-append_cases)
 
   pub entry_value : (a n c v : ℕ) → Contains {X = ℕ × ℕ} (entries f a n) (c, v) → f c ≡ Some v
   entry_value a zero c v has = absurd (omega (arith, has.1))
@@ -91,8 +73,7 @@ module _ (f : ℕ → Option ℕ) where
 
   -- and all of that is among them
   has_first : (a n v : ℕ) (o : Option ℕ) → o ≡ Some v → Contains {X = ℕ × ℕ} (led a o (entries f (a + 1) n)) (a, v)
-  has_first a n v None is = cc
-  has_first a n v (Some w) is = let same : w ≡ v = cc in (zero, omega arith, ap (λ x. (a, x)) same)
+  has_first a n v o is = search arith
 
   has_later : (a n c v : ℕ) (o : Option ℕ) → Contains {X = ℕ × ℕ} (entries f (a + 1) n) (c, v) → Contains {X = ℕ × ℕ} (led a o (entries f (a + 1) n)) (c, v)
   has_later a n c v None rest = rest

@@ -9,35 +9,21 @@ use Rattle.c104_regs.specs.{Values.{register_read, reset_status}, declared.addre
 use Rattle.c104_regs.specs.declared.{addresses.Register.TheVariants.{Base, Limit, Select}, faults.RegFault.TheVariants.NoRegister}
 use Rattle.{c104_regs.specs.declared.faults.RegFault.TheVariants.ReadOnly, std.proofs.Common.{Bool, Err, IsTrue, List, None, Ok, Option}}
 use Rattle.std.proofs.Common.{Result, Some, [], ap, append-nil, arith, false, get_or, if◌then◌else◌, nat_le, nat_lt, not, option_map, refl}
-use Rattle.std.proofs.Common.{replicate, slice_get, subst, suc, sym, true, zero, ℕ, ◌%◌, ◌&&◌, ◌++◌, ◌+◌, ◌-◌, ◌/◌, ◌<◌, ◌==◌, ◌↔◌, ◌∙◌}
-use Rattle.std.{proofs.{Common.{◌∷◌, ◌≡◌}, lemmas.Bool.Decides.nat_tests}, specs.List.{Contains, cons_option}}
+use Rattle.std.proofs.Common.{replicate, slice_get, subst, sym, true, ℕ, ◌%◌, ◌&&◌, ◌++◌, ◌+◌, ◌-◌, ◌/◌, ◌<◌, ◌==◌, ◌↔◌, ◌∙◌, ◌∷◌, ◌≡◌}
+use Rattle.std.{proofs.lemmas.Bool.Decides.nat_tests, specs.List.Contains}
 
 -- what stands at an address is one of the registers that there are
 is_one : (r q : Register) → Some r ≡ Some q → IsRegister r → IsRegister q
 is_one r q is here = let same : r ≡ q = cc in subst IsRegister same here
 
 one_of_first : (offset : ℕ) (r : Register) → slice_get first_registers offset ≡ Some r → IsRegister r
-one_of_first zero r at = is_one _ r at tt
-one_of_first (suc zero) r at = is_one _ r at tt
-one_of_first (suc (suc zero)) r at = is_one _ r at tt
-one_of_first (suc (suc (suc zero))) r at = is_one _ r at tt
-one_of_first (suc (suc (suc (suc zero)))) r at = is_one _ r at tt
-one_of_first (suc (suc (suc (suc (suc zero))))) r at = is_one _ r at tt
-one_of_first (suc (suc (suc (suc (suc (suc zero)))))) r at = is_one _ r at tt
-one_of_first (suc (suc (suc (suc (suc (suc (suc zero))))))) r at = is_one _ r at tt
-one_of_first (suc (suc (suc (suc (suc (suc (suc (suc zero)))))))) r at = is_one _ r at tt
-one_of_first (suc (suc (suc (suc (suc (suc (suc (suc (suc zero))))))))) r at = is_one _ r at tt
-one_of_first (suc (suc (suc (suc (suc (suc (suc (suc (suc (suc offset)))))))))) r at = cc
+one_of_first offset r at = search (arith, is_one)
 
 one_by : (offset : ℕ) (r : Register) (first base limit select : Bool)
     → limit ≡ (nat_le 64 offset && nat_lt offset 100) → select ≡ (nat_le 128 offset && nat_lt offset 164)
     → (if first then slice_get first_registers offset else (if base then Some Base else (if limit then Some (Limit (offset - 64)) else (if select then Some (Select (offset - 128)) else None)))) ≡ Some r
     → IsRegister r
-one_by offset r true base limit select is_limit is_select at = one_of_first offset r at
-one_by offset r false true limit select is_limit is_select at = is_one Base r at tt
-one_by offset r false false true select is_limit is_select at = is_one (Limit (offset - 64)) r at (grind (arith, nat_tests))
-one_by offset r false false false true is_limit is_select at = is_one (Select (offset - 128)) r at (grind (arith, nat_tests))
-one_by offset r false false false false is_limit is_select at = cc
+one_by offset r first base limit select is_limit is_select at = search (arith, one_of_first, is_one, nat_tests)
 
 is_register : (offset : ℕ) (r : Register) → register_at offset ≡ Some r → IsRegister r
 is_register offset r at = one_by offset r (nat_lt offset 10) _ _ _ refl refl at
@@ -48,16 +34,12 @@ record IsPlaced (a : ℕ) (r : Register) : Type 0 where
   pub below : a < 8448
 
 at_link : (a l : ℕ) (r : Register) (q : Option Register) → q ≡ register_at (a % 256) → option_map (λ p. AtLink (a / 256 - 1) p) q ≡ Some (AtLink l r) → IsRegister r
-at_link a l r None is at = cc
-at_link a l r (Some q) is at = let one : Some q ≡ Some r = cc in is_register (a % 256) r (sym is ∙ one)
+at_link a l r q is at = search (arith, is_register)
 
 placed_by : (a l : ℕ) (r : Register) (first second link : Bool) → link ≡ (nat_le 256 a && nat_lt a 8448)
     → (if first then Some DeviceId else (if second then Some Started else (if link then option_map (λ p. AtLink (a / 256 - 1) p) (register_at (a % 256)) else None))) ≡ Some (AtLink l r)
     → IsPlaced a r
-placed_by a l r true second link is at = cc
-placed_by a l r false true link is at = cc
-placed_by a l r false false true is at = record { register = at_link a l r (register_at (a % 256)) refl at; below = grind (arith, nat_tests) }
-placed_by a l r false false false is at = cc
+placed_by a l r first second link is at = search (arith, at_link, nat_tests)
 
 placed : (a l : ℕ) (r : Register) → address_of a ≡ Some (AtLink l r) → IsPlaced a r
 placed a l r at = placed_by a l r _ _ _ refl at
@@ -75,9 +57,7 @@ record IsUnlessReset (r : Register) (w v : ℕ) : Type 0 where
   pub differs : (w == (register_properties r).reset) ≡ false
 
 unless_by : (r : Register) (w v : ℕ) (writable resets : Bool) → (register_properties r).is_writable ≡ writable → (w == (register_properties r).reset) ≡ resets → (if writable && not resets then Some w else None) ≡ Some v → IsUnlessReset r w v
-unless_by r w v true false may differs is = record { writable = may; same = cc; differs = differs }
-unless_by r w v true true may differs is = cc
-unless_by r w v false resets may differs is = cc
+unless_by r w v writable resets may differs is = search arith
 
 module _ (settings : List Settings) (ranges : (l : ℕ) → IsInRange (get_or settings l reset_settings)) (a v : ℕ) where
   module _ (l : ℕ) (r : Register) (at : address_of a ≡ Some (AtLink l r)) where
@@ -97,28 +77,10 @@ module _ (settings : List Settings) (ranges : (l : ℕ) → IsInRange (get_or se
     from_kept : IsUnlessReset r read v → IsKept settings a v
     from_kept u =
         let fits : register_takes r v ≡ true = subst (λ n. IsTrue (register_takes r n)) u.same ((ranges l).takes reset_status r (placed a l r at).register u.writable) in
-        record {
-          settable = rw (at, u.writable, fits) refl;
-          reads = reads_placed ∙ ap Ok u.same;
-          differs = λ is.
-              let back : (register_properties r).reset ≡ v = one_value _ _ (sym reads_reset ∙ is) in
-              let same = u.same in
-              let differs = u.differs in
-              grind (arith, nat_tests);
-        }
+        search (arith, reads_placed, one_value, reads_reset, nat_tests)
 
     to_kept : IsKept settings a v → unless_reset r read ≡ Some v
-    to_kept k = by_tests (register_properties r).is_writable (read == (register_properties r).reset) refl refl
-      where
-        by_tests : (writable resets : Bool) → (register_properties r).is_writable ≡ writable → (read == (register_properties r).reset) ≡ resets → unless_reset r read ≡ Some v
-        by_tests true false may differs = rw (may, differs) (ap Some (one_value _ _ (sym reads_placed ∙ k.reads)))
-        by_tests true true may resets =
-            let same : read ≡ (register_properties r).reset = grind (arith, nat_tests) in
-            absurd (k.differs (reads_reset ∙ ap Ok (sym same) ∙ sym reads_placed ∙ k.reads))
-        by_tests false resets never differs =
-            let fixed : settable a v ≡ Err ReadOnly = rw (at, never) refl in
-            let done = k.settable in
-            cc
+    to_kept k = search (arith, one_value, reads_placed, nat_tests, reads_reset)
 
   no_register : settable a v ≡ Err NoRegister → IsKept settings a v → kept_value settings a ≡ Some v
   no_register none k = let done = k.settable in cc
@@ -136,19 +98,10 @@ module _ (settings : List Settings) (ranges : (l : ℕ) → IsInRange (get_or se
       from (Some (AtLink l r)) at is = from_kept l r at (unless_by r (read l r at) v _ _ refl refl (rw at at is))
 
       to : (x : Option Address) → address_of a ≡ x → IsKept settings a v → kept_value settings a ≡ Some v
-      to None at k = no_register (rw at refl) k
-      to (Some DeviceId) at k = read_only (rw at refl) k
-      to (Some Started) at k = read_only (rw at refl) k
-      to (Some (AtLink l r)) at k = rw at (to_kept l r at k)
+      to x at k = search (arith, no_register, read_only, to_kept)
 
   pub kept_value_below : kept_value settings a ≡ Some v → a < 8448
-  kept_value_below is = by_address (address_of a) refl is
-    where
-      by_address : (x : Option Address) → address_of a ≡ x → kept_value settings a ≡ Some v → a < 8448
-      by_address None at is = let no : ◌≡◌ {A = Option ℕ} None (Some v) = rw at at is in cc
-      by_address (Some DeviceId) at is = let no : ◌≡◌ {A = Option ℕ} None (Some v) = rw at at is in cc
-      by_address (Some Started) at is = let no : ◌≡◌ {A = Option ℕ} None (Some v) = rw at at is in cc
-      by_address (Some (AtLink l r)) at is = (placed a l r at).below
+  kept_value_below is = search (arith, placed)
 
 -- so all of them are the finite map of those that are kept
 module _ (settings : List Settings) (ranges : (l : ℕ) → IsInRange (get_or settings l reset_settings)) where
@@ -171,8 +124,7 @@ map_of_kept settings ranges = subst (IsMapOf settings) (entries_all settings 844
 
 -- after a reset nothing is kept
 reset_by : (n : ℕ) (writable : Bool) → ◌≡◌ {A = Option ℕ} (if writable && not (n == n) then Some n else None) None
-reset_by n true = let same : (n == n) ≡ true = grind (arith, nat_tests) in rw same refl
-reset_by n false = refl
+reset_by n writable = search (arith, nat_tests)
 
 none_kept : (a : ℕ) → kept_value (replicate 32 reset_settings) a ≡ None
 none_kept a = by_address (address_of a) refl
@@ -191,9 +143,7 @@ none_kept_values = sym (entries_none (kept_value (replicate 32 reset_settings)) 
 
 -- one more address: its value goes behind those so far, if it has one
 pub entries_next : (settings : List Settings) (n v : ℕ) (before after : List (ℕ × ℕ)) → before ≡ entries (kept_value settings) 0 n → Some v ≡ kept_value settings n → after ≡ before ++ (n, v) ∷ [] → after ≡ entries (kept_value settings) 0 (n + 1)
-entries_next settings n v before after made is pushed =
-    pushed ∙ ap (λ xs. xs ++ (n, v) ∷ []) made ∙ ap (λ o. entries (kept_value settings) 0 n ++ cons_option (option_map (λ w. (n, w)) o) []) is ∙ sym (entries_more (kept_value settings) n)
+entries_next settings n v before after made is pushed = search (arith, entries_more)
 
 pub entries_skip : (settings : List Settings) (n : ℕ) (before : List (ℕ × ℕ)) → before ≡ entries (kept_value settings) 0 n → None ≡ kept_value settings n → before ≡ entries (kept_value settings) 0 (n + 1)
-entries_skip settings n before made is =
-    made ∙ sym (append-nil (entries (kept_value settings) 0 n)) ∙ ap (λ o. entries (kept_value settings) 0 n ++ cons_option (option_map (λ w. (n, w)) o) []) is ∙ sym (entries_more (kept_value settings) n)
+entries_skip settings n before made is = search (arith, append-nil, entries_more)

@@ -4,31 +4,20 @@ use Rattle.c104_regs.proofs.{PlacedPokes.{idle, poke_placed}, RegisterLemmas.{Is
 use Rattle.c104_regs.{proofs.{RegisterLemmas.{peek_other, value_reset}, ValueLemmas.value_same}, specs.Addresses.{Address, Register}}
 use Rattle.c104_regs.specs.{Addresses.{address_of, register_properties, register_takes}, Faults.RegFault, KeptValues.kept_value}
 use Rattle.c104_regs.specs.{KeptValues.{kept_values, unless_reset}, Ranges.IsInRange, Registers.{IsRegisterBank, IsTarget, RegisterBank}}
-use Rattle.c104_regs.specs.Registers.{bank_peek, bank_poke, placed_bank, reset_bank, settable, status_at, target, with_register}
-use Rattle.c104_regs.specs.{Settings.{Settings, reset_settings}, Values.{Status, register_read, reset_status, with_value}}
-use Rattle.c104_regs.specs.declared.addresses.{Address.TheVariants.{AtLink, DeviceId, Started}, Register.TheVariants.{Base, Credit}}
-use Rattle.c104_regs.specs.declared.addresses.Register.TheVariants.{Granted, InputLevel, Limit, Mode, OutputLevel, Owner, RandomBase}
-use Rattle.c104_regs.specs.declared.addresses.Register.TheVariants.{RandomRange, Select, Short, Sunk}
-use Rattle.{c104_regs.specs.declared.faults.RegFault.TheVariants.{NoRegister, OutOfRange, ReadOnly}, std.proofs.Common.{Bool, Err, List}}
-use Rattle.std.proofs.Common.{None, Ok, Option, Result, Some, [], ap, arith, false, get_or, inl, inr, length, refl, replicate, slice_set}
-use Rattle.std.proofs.{Common.{subst, suc, sym, true, zero, ℕ, ◌-◌, ◌/◌, ◌<◌, ◌==◌, ◌∙◌, ◌∷◌, ◌≡◌, ◌≢◌, ◌⊎◌}, lemmas.Bool.Decides.nat_tests}
-use Rattle.std.{proofs.lemmas.List.get_or-set_same, specs.List.Contains}
+use Rattle.c104_regs.specs.{Registers.{bank_peek, bank_poke, placed_bank, reset_bank, settable, target, with_register}, Settings.Settings}
+use Rattle.c104_regs.specs.{Settings.reset_settings, Values.{Status, register_read, reset_status}}
+use Rattle.c104_regs.specs.declared.{addresses.Address.TheVariants.{AtLink, DeviceId, Started}, faults.RegFault.TheVariants.NoRegister}
+use Rattle.{c104_regs.specs.declared.faults.RegFault.TheVariants.{OutOfRange, ReadOnly}, std.proofs.Common.{Bool, Err, List, None, Ok}}
+use Rattle.std.proofs.Common.{Option, Result, Some, [], ap, arith, false, get_or, inl, inr, refl, replicate, subst, suc, sym, true, zero, ℕ}
+use Rattle.std.{proofs.{Common.{◌==◌, ◌∙◌, ◌∷◌, ◌≡◌, ◌≢◌, ◌⊎◌}, lemmas.{Bool.Decides.nat_tests, List.get_or-set_same}}, specs.List.Contains}
 
 -- what a poke that may be made sets
 module _ (a v : ℕ) where
   target_by : (l : ℕ) (r : Register) (writable fits : Bool) → (register_properties r).is_writable ≡ writable → register_takes r v ≡ fits → address_of a ≡ Some (AtLink l r) → settable a v ≡ Ok tt → target a v ≡ Ok (l, r)
-  target_by l r true true may takes at is = rw (at, may, takes) refl
-  target_by l r true false may takes at is = let no : ◌≡◌ {A = Result (Unit {0}) RegFault} (Err OutOfRange) (Ok tt) = rw (at, may, takes) at is in cc
-  target_by l r false fits may takes at is = let no : ◌≡◌ {A = Result (Unit {0}) RegFault} (Err ReadOnly) (Ok tt) = rw (at, may) at is in cc
+  target_by l r writable fits may takes at is = search arith
 
   fits_by : (l : ℕ) (r : Register) (writable fits : Bool) → (register_properties r).is_writable ≡ writable → register_takes r v ≡ fits → address_of a ≡ Some (AtLink l r) → settable a v ≡ Ok tt → IsTarget a v l r
-  fits_by l r true true may takes at is = record {
-    at = at;
-    link = let link : l ≡ a / 256 - 1 = link_at a l r at in let below = placed_below a l r at in omega arith;
-    register = placed_register a l r at;
-    is_writable = may;
-    in_range = takes;
-  }
+  fits_by l r true true may takes at is = search (arith, link_at, placed_below, placed_register)
   fits_by l r true false may takes at is = let no : ◌≡◌ {A = Result (Unit {0}) RegFault} (Err OutOfRange) (Ok tt) = rw (at, may, takes) at is in cc
   fits_by l r false fits may takes at is = let no : ◌≡◌ {A = Result (Unit {0}) RegFault} (Err ReadOnly) (Ok tt) = rw (at, may) at is in cc
 
@@ -74,18 +63,7 @@ module _ (settings : List Settings) (kept : AreKept settings) (a v : ℕ) (may :
   reads_other c ne = ap (λ (b : RegisterBank). bank_peek b c) placed_with ∙ peek_other (placed_bank settings) a v set.link set.register set.target kept c ne
 
   pub reads_poked : bank_peek (placed_bank poked) a ≡ Ok v
-  reads_poked =
-      let l = set.link in
-      let r = set.register in
-      let inside : l < length settings = omega (arith, set.target.link, kept.links) in
-      let same : get_or (slice_set settings l (with_value (get_or settings l reset_settings) r v)) l reset_settings ≡ with_value (get_or settings l reset_settings) r v = get_or-set_same settings l _ reset_settings inside in
-      ap (λ (b : RegisterBank). bank_peek b a) placed_with
-      ∙ reads_at l r set.target.at
-      ∙ ap (λ (s : Settings). Ok (register_read s (status_at (placed_bank settings) l) r)) same
-      ∙ ap Ok (value_same (get_or settings l reset_settings) (status_at (placed_bank settings) l) r v (kept.in_range l).rows set.target.register set.target.is_writable set.target.in_range)
-    where
-      reads_at : (l : ℕ) (r : Register) → address_of a ≡ Some (AtLink l r) → bank_peek (with_register (placed_bank settings) l r v) a ≡ Ok (register_read (get_or (slice_set settings l (with_value (get_or settings l reset_settings) r v)) l reset_settings) (status_at (placed_bank settings) l) r)
-      reads_at l r at = rw at refl
+  reads_poked = search (arith, set, get_or-set_same, placed_with, value_same)
 
 -- settings after values are poked, each at its address
 abbrev pub with_values : List Settings → List (ℕ × ℕ) → List Settings
@@ -107,12 +85,8 @@ AreSettable [] = Unit {0}
 AreSettable (x ∷ values) = (settable x.0 x.1 ≡ Ok tt) × AreSettable values
 
 reads_one : (settings : List Settings) (kept : AreKept settings) (x : ℕ × ℕ) (may : settable x.0 x.1 ≡ Ok tt) (b : ℕ) (is : Bool) → (b == x.0) ≡ is → bank_peek (placed_bank (bank_poke (placed_bank settings) x.0 x.1).1.settings) b ≡ value_or b x is (bank_peek (placed_bank settings) b)
-reads_one settings kept x may b true is =
-    let same : b ≡ x.0 = grind (arith, nat_tests) in
-    ap (bank_peek (placed_bank (bank_poke (placed_bank settings) x.0 x.1).1.settings)) same ∙ reads_poked settings kept x.0 x.1 may
-reads_one settings kept x may b false is =
-    let ne : b ≢ x.0 = λ same. differ b x.0 same is in
-    reads_other settings kept x.0 x.1 may b ne
+reads_one settings kept x may b true is = search (arith, nat_tests, reads_poked)
+reads_one settings kept x may b false is = search (arith, differ, reads_other)
   where
     differ : (b c : ℕ) → b ≡ c → (b == c) ≡ false → ⊥
     differ b c same is = grind (arith, nat_tests)
@@ -161,26 +135,12 @@ with_kept settings kept (x ∷ values) (may, more) = with_kept (bank_poke (place
 
 -- a register that can't be written reads the status alone
 fixed_read : (s t : Settings) (status : Status) (r : Register) → (register_properties r).is_writable ≡ false → register_read s status r ≡ register_read t status r
-fixed_read s t status Mode fixed = cc
-fixed_read s t status RandomBase fixed = cc
-fixed_read s t status RandomRange fixed = cc
-fixed_read s t status Sunk fixed = refl
-fixed_read s t status Short fixed = refl
-fixed_read s t status InputLevel fixed = refl
-fixed_read s t status OutputLevel fixed = refl
-fixed_read s t status Credit fixed = refl
-fixed_read s t status Granted fixed = refl
-fixed_read s t status Owner fixed = refl
-fixed_read s t status Base fixed = cc
-fixed_read s t status (Limit k) fixed = cc
-fixed_read s t status (Select k) fixed = cc
+fixed_read s t status r fixed = search arith
 
 module _ (settings : List Settings) (kept : AreKept settings) where
   -- where nothing is kept of an address, it reads as after a reset
   unkept_read : (l : ℕ) (r : Register) (writable resets : Bool) → (register_properties r).is_writable ≡ writable → (register_read (get_or settings l reset_settings) reset_status r == (register_properties r).reset) ≡ resets → unless_reset r (register_read (get_or settings l reset_settings) reset_status r) ≡ None → register_read reset_settings reset_status r ≡ register_read (get_or settings l reset_settings) reset_status r
-  unkept_read l r false resets may is none = fixed_read reset_settings (get_or settings l reset_settings) reset_status r may
-  unkept_read l r true true may is none = value_reset r ∙ grind (arith, nat_tests)
-  unkept_read l r true false may is none = let no : ◌≡◌ {A = Option ℕ} (Some (register_read (get_or settings l reset_settings) reset_status r)) None = rw (may, is) at none in cc
+  unkept_read l r writable resets may is none = search (arith, fixed_read, value_reset, nat_tests)
 
   unkept_by : (a : ℕ) (x : Option Address) → address_of a ≡ x → kept_value settings a ≡ None → bank_peek (placed_bank reset_bank.settings) a ≡ bank_peek (placed_bank settings) a
   unkept_by a None at none = rw at refl

@@ -4,52 +4,28 @@ use Rattle.c104_regs.specs.{Addresses.{register_properties, register_takes}, Pac
 use Rattle.c104_regs.specs.{Packed.{unpacked, word_of_row}, Ranges.IsInRange, Settings.Settings, Values.{bit_value, mode_of, reset_status}}
 use Rattle.c104_regs.specs.{Values.{select_code, select_of, with_mode}, declared.addresses.Register.TheVariants.{Base, Limit, Mode}}
 use Rattle.{c104_regs.specs.declared.addresses.Register.TheVariants.{RandomBase, RandomRange, Select}, std.proofs.Common.{All, Bool}}
-use Rattle.std.proofs.Common.{IsTrue, List, [], ap, arith, false, map, refl, sym, true, ℕ, ◌%◌, ◌*◌, ◌+◌, ◌/◌, ◌<◌, ◌∷◌, ◌≡◌, ◌≤◌}
+use Rattle.std.proofs.Common.{IsTrue, List, [], arith, false, map, refl, sym, ℕ, ◌*◌, ◌+◌, ◌<◌, ◌∷◌, ◌≡◌, ◌≤◌}
 use Rattle.std.proofs.lemmas.{Bool.Decides.nat_tests, List.Elements.{All-from_get_or, All-head, All-map, All-tail, All-weaker}}
 use Rattle.c104_interval.specs.declared.intervals.Select as interval
 
 -- one row, with its parts as variables
 row_of_parts : (limit : ℕ) (x : interval.Select) → limit < 131072 → select_of (select_code x) ≡ x → row_of_word (limit + 131072 * select_code x) ≡ record { limit = limit; select = x }
-row_of_parts limit x fits decoded =
-    let low : (limit + 131072 * select_code x) % 131072 ≡ limit = omega arith in
-    let high : (limit + 131072 * select_code x) / 131072 ≡ select_code x = omega arith in
-    rw (low, high, decoded) refl
+row_of_parts limit x fits decoded = search arith
 
 pub rows_back : (rs : List Row) → All IsPackable rs → map row_of_word (map word_of_row rs) ≡ rs
 rows_back [] are = refl
-rows_back (r ∷ rs) are =
-    let is : IsPackable r = All-head IsPackable r rs are in
-    let here : row_of_word (word_of_row r) ≡ r = row_of_parts r.limit r.select is.limit is.decoded in
-    rw (here, rows_back rs (All-tail IsPackable r rs are)) refl
+rows_back (r ∷ rs) are = search (arith, All-head, row_of_parts, All-tail, rows_back rs (All-tail IsPackable r rs are))
 
 -- and each word of a row that a word can hold is one of a row
 pub row_words : (rs : List Row) → All IsPackable rs → All IsRowWord (map word_of_row rs)
 row_words rs are = All-map IsRowWord word_of_row rs (All-weaker IsPackable (λ r. IsRowWord (word_of_row r)) is_word rs are)
   where
     is_word : (r : Row) → IsPackable r → IsRowWord (word_of_row r)
-    is_word r is =
-        let fits = is.limit in
-        let high : (r.limit + 131072 * select_code r.select) / 131072 ≡ select_code r.select = omega arith in
-        rw high (ap select_code is.decoded)
+    is_word r is = search arith
 
 -- the mode of four bits
 bits_back : (a b c d : Bool) (x y : ℕ) (t : Table) → with_mode (record { two_byte = false; delete_header = false; randomize = false; continue_group = false; random_base = x; random_range = y; table = t }) (bit_value a 1 + bit_value b 2 + bit_value c 4 + bit_value d 8) ≡ record { two_byte = a; delete_header = b; randomize = c; continue_group = d; random_base = x; random_range = y; table = t }
-bits_back false false false false x y t = refl
-bits_back false false false true x y t = refl
-bits_back false false true false x y t = refl
-bits_back false false true true x y t = refl
-bits_back false true false false x y t = refl
-bits_back false true false true x y t = refl
-bits_back false true true false x y t = refl
-bits_back false true true true x y t = refl
-bits_back true false false false x y t = refl
-bits_back true false false true x y t = refl
-bits_back true false true false x y t = refl
-bits_back true false true true x y t = refl
-bits_back true true false false x y t = refl
-bits_back true true false true x y t = refl
-bits_back true true true false x y t = refl
-bits_back true true true true x y t = refl
+bits_back a b c d x y t = search arith
 
 -- what settings within the ranges of their registers are, in the numbers of words
 pub record IsSmall (s : Settings) : Type 0 where
@@ -77,12 +53,7 @@ small_from s is = record {
 
 -- the settings that the words of such settings stand for are these settings, and such words are packed
 unpacked_by : (s : Settings) (bases modes : ℕ) → s.table.base + 65536 * s.random_base ≡ bases → s.random_range + 131072 * mode_of s ≡ modes → IsSmall s → unpacked (record { bases = bases; modes = modes; rows = map word_of_row s.table.rows }) ≡ s
-unpacked_by s bases modes is_bases is_modes is =
-    let base : bases % 65536 ≡ s.table.base = let a = is.base in omega arith in
-    let random : bases / 65536 ≡ s.random_base = let a = is.base in omega arith in
-    let range : modes % 131072 ≡ s.random_range = let a = is.random_range in omega arith in
-    let mode : modes / 131072 ≡ mode_of s = let a = is.random_range in omega arith in
-    rw (base, random, range, mode, rows_back s.table.rows is.rows) (bits_back s.two_byte s.delete_header s.randomize s.continue_group s.random_base s.random_range s.table)
+unpacked_by s bases modes is_bases is_modes is = search (arith, rows_back, bits_back)
 
 pub unpacked-packed : (s : Settings) → IsInRange s → unpacked (packed s) ≡ s
 unpacked-packed s is = unpacked_by s _ _ refl refl (small_from s is)
@@ -90,7 +61,4 @@ unpacked-packed s is = unpacked_by s _ _ refl refl (small_from s is)
 pub ArePacked-packed : (s : Settings) → IsInRange s → ArePacked (packed s)
 ArePacked-packed s range =
     let is = small_from s range in
-    record {
-      mode = let a = is.random_range in let b = is.mode in omega arith;
-      rows = row_words s.table.rows is.rows;
-    }
+    search (arith, row_words)

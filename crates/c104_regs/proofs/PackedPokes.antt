@@ -4,27 +4,20 @@ use Rattle.c104_interval.specs.{Selection.{reset_row, select_from}, declared.int
 use Rattle.c104_regs.specs.{Addresses.{Register, register_takes}, Packed.{first_above, row_of_word, unpacked}, Values.select_of}
 use Rattle.c104_regs.specs.{Values.with_value, declared.addresses.Register.TheVariants.{Limit, Select}}
 use Rattle.{c104_regs.specs.declared.packed.PackedSettings.TheInside.Inside, std.proofs.Common.{Bool, IsTrue, List, [], arith, false}}
-use Rattle.std.proofs.Common.{get_or, if◌then◌else◌, length, map, nat_le, nat_lt, refl, set, true, ℕ, ◌%◌, ◌*◌, ◌+◌, ◌/◌, ◌<◌, ◌∙◌, ◌∷◌}
-use Rattle.std.proofs.{Common.{◌≡◌, ◌≤◌}, lemmas.{Bool.Decides.nat_tests, List.{get_or-map, map-set}}}
+use Rattle.std.proofs.Common.{get_or, if◌then◌else◌, length, map, nat_le, nat_lt, refl, set, true, ℕ, ◌%◌, ◌*◌, ◌+◌, ◌/◌, ◌<◌, ◌∷◌, ◌≡◌}
+use Rattle.std.proofs.{Common.◌≤◌, lemmas.{Bool.Decides.nat_tests, List.{get_or-map, map-set}}}
 use Rattle.c104_interval.specs.declared.intervals.Select as interval
 
 -- the word of a row of which one part was set
 limit_put : (w v : ℕ) → v < 131072 → row_of_word (w / 131072 * 131072 + v) ≡ record { limit = v; select = select_of (w / 131072) }
-limit_put w v fits =
-    let low : (w / 131072 * 131072 + v) % 131072 ≡ v = omega arith in
-    let high : (w / 131072 * 131072 + v) / 131072 ≡ w / 131072 = omega arith in
-    rw (low, high) refl
+limit_put w v fits = search arith
 
 code_put : (w v : ℕ) → row_of_word (w % 131072 + 131072 * v) ≡ record { limit = w % 131072; select = select_of v }
-code_put w v =
-    let low : (w % 131072 + 131072 * v) % 131072 ≡ w % 131072 = omega arith in
-    let high : (w % 131072 + 131072 * v) / 131072 ≡ v = omega arith in
-    rw (low, high) refl
+code_put w v = search arith
 
 -- a limit that a register takes has 17 bits
 pub limit_fits : (r : Register) (k v : ℕ) → r ≡ Limit k → IsTrue (register_takes r v) → v < 131072
-limit_fits (Limit k) j v is takes = grind (arith, nat_tests)
-limit_fits r j v is takes = cc
+limit_fits r k v is takes = search (arith, nat_tests)
 
 module _ (p : Inside) (k v : ℕ) (inside : k < length p.rows) where
   -- these words with another at a row
@@ -53,9 +46,7 @@ select_by low [] h false is = refl
 select_by low (r ∷ rs) h from is = row_by from (nat_lt h r.limit) is refl (select_by r.limit rs h (nat_le r.limit h) refl)
   where
     row_by : (from below : Bool) → nat_le low h ≡ from → nat_lt h r.limit ≡ below → select_from r.limit rs h ≡ (if nat_le r.limit h then first_above rs h else select_past rs h) → select_from low (r ∷ rs) h ≡ (if from then first_above (r ∷ rs) h else select_past (r ∷ rs) h)
-    row_by true true is_from is_below rest = rw (is_from, is_below) refl
-    row_by true false is_from is_below rest = let past : nat_le r.limit h ≡ true = grind (arith, nat_tests) in rw (is_from, is_below) (rest ∙ rw past refl)
-    row_by false below is_from is_below rest = rw is_from rest
+    row_by from below is_from is_below rest = search (arith, nat_tests)
 
 pub select_first : (low : ℕ) (rs : List Row) (h : ℕ) → low ≤ h → select_from low rs h ≡ first_above rs h
 select_first low rs h from = select_by low rs h true (grind (arith, nat_tests))

@@ -4,44 +4,24 @@ use Rattle.c104_interval.specs.{Selection.{reset_row, row_at}, declared.interval
 use Rattle.c104_regs.{proofs.ValueLemmas.{by_writable, select_kept, value_other, value_same}, specs.Addresses.{IsRegister, Register}}
 use Rattle.c104_regs.specs.{Addresses.{register_at, register_properties, register_takes}, Ranges.{IsInRange, IsTableInRange}}
 use Rattle.c104_regs.specs.{Settings.{Settings, plain_settings}, Values.{Status, register_read, select_code, select_of, with_value}}
-use Rattle.c104_regs.specs.declared.addresses.Register.TheVariants.{Base, Credit, Granted, InputLevel, Limit, Mode, OutputLevel, Owner}
-use Rattle.{c104_regs.specs.declared.addresses.Register.TheVariants.{RandomBase, RandomRange, Select, Short, Sunk}, std.proofs.Common.Bool}
-use Rattle.std.proofs.Common.{IsTrue, Some, ap, arith, false, if◌then◌else◌, inl, inr, length, nat_eq, nat_lt, refl, sym, true, ℕ, ◌∙◌, ◌≡◌}
-use Rattle.std.proofs.lemmas.{Bool.{Decides.nat_tests, cases_eq}, List.{get_or-set_other, get_or-set_same, length-set}}
+use Rattle.{c104_regs.specs.declared.addresses.Register.TheVariants.{Base, Limit, Select}, std.proofs.Common.{Bool, IsTrue, Some, arith}}
+use Rattle.std.proofs.{Common.{if◌then◌else◌, inl, inr, length, nat_eq, nat_lt, refl, ℕ, ◌≡◌}, lemmas.Bool.{Decides.nat_tests, cases_eq}}
+use Rattle.std.proofs.lemmas.List.{get_or-set_other, get_or-set_same, length-set}
 
 -- a register stands at its offset, so registers of one offset are one
 pub at_offset : (r : Register) → IsRegister r → register_at (register_properties r).offset ≡ Some r
-at_offset Mode is = refl
-at_offset RandomBase is = refl
-at_offset RandomRange is = refl
-at_offset Sunk is = refl
-at_offset Short is = refl
-at_offset InputLevel is = refl
-at_offset OutputLevel is = refl
-at_offset Credit is = refl
-at_offset Granted is = refl
-at_offset Owner is = refl
-at_offset Base is = refl
-at_offset (Limit k) is = grind (arith, nat_tests)
-at_offset (Select k) is = grind (arith, nat_tests)
+at_offset r is = search (arith, nat_tests)
 
 same_register : (q r : Register) → IsRegister q → IsRegister r → (register_properties q).offset ≡ (register_properties r).offset → q ≡ r
-same_register q r is_q is_r same =
-    let one : Some q ≡ Some r = sym (at_offset q is_q) ∙ ap register_at same ∙ at_offset r is_r in
-    cc
+same_register q r is_q is_r same = search (arith, at_offset)
 
 -- what a number selects has a number that selects the same
 decoded_by : (v : ℕ) (small discards : Bool) → small ≡ nat_lt v 32 → select_of (select_code (if small then Link v else (if discards then Discard else Sink))) ≡ (if small then Link v else (if discards then Discard else Sink))
-decoded_by v true discards is = rw (sym is) refl
-decoded_by v false true is = refl
-decoded_by v false false is = refl
+decoded_by v small discards is = search arith
 
 module _ (s : Settings) (r : Register) (v : ℕ) (is : IsRegister r) (writable : IsTrue (register_properties r).is_writable) (fits : IsTrue (register_takes r v)) (kept : IsInRange s) where
   takes_after : (t : Status) (q : Register) → IsRegister q → IsTrue (register_properties q).is_writable → IsTrue (register_takes q (register_read (with_value s r v) t q))
-  takes_after t q is_q may = elim (cases_eq (register_properties q).offset (register_properties r).offset) [
-    | inl same ↦ rw (same_register q r is_q is same) (rw (value_same s t r v kept.rows is writable fits) fits)
-    | inr differs ↦ rw (value_other s t r q v kept.rows is writable (λ one. differs (ap (λ (p : Register). (register_properties p).offset) one))) (kept.takes t q is_q may)
-  ]
+  takes_after t q is_q may = search (arith, cases_eq, same_register, value_same, value_other)
 
   selects_after : (j : ℕ) → select_of (select_code (row_at (with_value s r v).table j).select) ≡ (row_at (with_value s r v).table j).select
   selects_after j =
@@ -55,9 +35,7 @@ module _ (s : Settings) (r : Register) (v : ℕ) (is : IsRegister r) (writable :
       r writable is
 
   rows_after : length (with_value s r v).table.rows ≡ 36
-  rows_after =
-      by_writable (λ r. length (with_value s r v).table.rows ≡ 36)
-      kept.rows kept.rows kept.rows kept.rows (λ k. rw length-set kept.rows) (λ k. rw length-set kept.rows) r writable
+  rows_after = search (arith, by_writable, length-set)
 
   -- settings of which a register was set stay within the ranges
   pub IsInRange-with_value : IsInRange (with_value s r v)

@@ -3,16 +3,16 @@
 use Rattle.c104_interval.specs.{Selection.{reset_row, reset_table}, declared.intervals.Row.Row}
 use Rattle.c104_regs.proofs.{AddressLemmas.address_number_is, RangeLemmas.IsInRange-with_value, RangeNumbers.IsSelectable}
 use Rattle.c104_regs.{proofs.{RangeNumbers.IsTableInRange-from, ValueLemmas.value_other}, specs.Addresses.{Address, IsRegister, Register}}
-use Rattle.c104_regs.specs.{Addresses.{address_number, address_of, register_properties, register_takes}, Ranges.IsInRange}
-use Rattle.c104_regs.specs.Registers.{IsRegisterBank, IsTarget, RegisterBank, address_value, bank_peek, reset_bank, settable, settings_at}
-use Rattle.c104_regs.specs.{Registers.{status_at, with_register}, Settings.{Settings, reset_settings}, Values.{Status, register_read}}
-use Rattle.c104_regs.specs.{Values.{reset_status, select_code, with_value}, declared.addresses.Address.TheVariants.{AtLink, DeviceId}}
-use Rattle.c104_regs.specs.declared.addresses.{Address.TheVariants.Started, Register.TheVariants.{Base, Credit, Granted, InputLevel, Limit}}
-use Rattle.c104_regs.specs.declared.addresses.Register.TheVariants.{Mode, OutputLevel, Owner, RandomBase, RandomRange, Select, Short, Sunk}
-use Rattle.{c104_regs.specs.declared.faults.RegFault.TheVariants.{OutOfRange, ReadOnly}, std.proofs.Common.{Bool, Err, IsTrue, List, None}}
-use Rattle.std.proofs.Common.{Ok, Option, Some, [], ap, arith, false, get_or, inl, inr, length, refl, replicate, set, subst, suc, sym, true}
-use Rattle.std.proofs.{Common.{zero, ℕ, ◌<◌, ◌∙◌, ◌≡◌, ◌≢◌, ◌≤◌}, lemmas.{Bool.cases_eq, List.{get_or-set_other, get_or-set_same}}}
-use Rattle.std.proofs.lemmas.List.{get_or_default, get_or_past, length-set}
+use Rattle.c104_regs.specs.{Addresses.{address_number, address_of, register_properties}, Ranges.IsInRange, Registers.IsRegisterBank}
+use Rattle.c104_regs.specs.Registers.{IsTarget, RegisterBank, address_value, bank_peek, reset_bank, settable, settings_at, status_at}
+use Rattle.c104_regs.specs.{Registers.with_register, Settings.{Settings, reset_settings}, Values.{Status, register_read, reset_status}}
+use Rattle.c104_regs.specs.{Values.{select_code, with_value}, declared.addresses.Address.TheVariants.{AtLink, DeviceId, Started}}
+use Rattle.c104_regs.specs.declared.addresses.Register.TheVariants.{Base, Credit, Granted, InputLevel, Limit, Mode, OutputLevel, Owner}
+use Rattle.c104_regs.specs.declared.addresses.Register.TheVariants.{RandomBase, RandomRange, Select, Short, Sunk}
+use Rattle.{c104_regs.specs.declared.faults.RegFault.TheVariants.OutOfRange, std.proofs.Common.{Err, List, None, Ok, Option, Some, [], ap}}
+use Rattle.std.proofs.Common.{arith, false, get_or, inl, inr, length, refl, replicate, set, subst, suc, sym, zero, ℕ, ◌<◌, ◌∙◌, ◌≡◌, ◌≢◌}
+use Rattle.std.proofs.{Common.◌≤◌, lemmas.{Bool.cases_eq, List.{get_or-set_other, get_or-set_same, get_or_default, get_or_past}}}
+use Rattle.std.proofs.lemmas.List.{length-set}
 
 -- what is set at the link that was poked, and at each other one
 settings_at-same : (b : RegisterBank) (l : ℕ) (r : Register) (v : ℕ) → l < length b.settings → settings_at (with_register b l r v) l ≡ with_value (settings_at b l) r v
@@ -59,19 +59,11 @@ peek_other b a v l r target kept c ne = by_address (address_of c) refl
 
 -- what a register within its range reads isn't refused there for its value
 held_is_taken : (s : Settings) (t : Status) (r : Register) (a v l : ℕ) → v ≡ register_read s t r → IsInRange s → address_of a ≡ Some (AtLink l r) → IsRegister r → settable a v ≢ Err OutOfRange
-held_is_taken s t r a v l read kept at is = by_access (register_properties r).is_writable refl
-  where
-    by_access : (writable : Bool) → (register_properties r).is_writable ≡ writable → settable a v ≢ Err OutOfRange
-    by_access false never refused = let read_only : settable a v ≡ Err ReadOnly = rw (at, never) refl in cc
-    by_access true may refused =
-        let fits : register_takes r v ≡ true = subst (λ n. IsTrue (register_takes r n)) (sym read) (kept.takes t r is may) in
-        let done : settable a v ≡ Ok tt = rw (at, may, fits) refl in
-        cc
+held_is_taken s t r a v l read kept at is = search arith
 
 -- the same of a link of all, read with any default
 pub held_at_is_taken : (settings : List Settings) (d : Settings) (t : Status) (r : Register) (a v l : ℕ) → v ≡ register_read (get_or settings l d) t r → l < length settings → IsInRange (get_or settings l reset_settings) → address_of a ≡ Some (AtLink l r) → IsRegister r → settable a v ≢ Err OutOfRange
-held_at_is_taken settings d t r a v l read inside kept at is =
-    held_is_taken (get_or settings l d) t r a v l read (subst IsInRange (get_or_default settings l reset_settings d inside) kept) at is
+held_at_is_taken settings d t r a v l read inside kept at is = search (arith, held_is_taken, get_or_default)
 
 -- a list of one value reads it everywhere
 pub get_or-same : {X : Type 0} (n i : ℕ) (x : X) → get_or (replicate n x) i x ≡ x
@@ -101,10 +93,7 @@ value_reset (Select k) = ap (λ (row : Row). select_code row.select) (get_or-sam
 
 -- after a reset each register of a link reads what the table says
 pub reset_values : (l : ℕ) (r : Register) → register_read (settings_at reset_bank l) (status_at reset_bank l) r ≡ (register_properties r).reset
-reset_values l r =
-    ap (λ (s : Settings). register_read s (status_at reset_bank l) r) (get_or-same 32 l reset_settings)
-    ∙ ap (λ (t : Status). register_read reset_settings t r) (get_or-same 32 l reset_status)
-    ∙ value_reset r
+reset_values l r = search (arith, get_or-same, value_reset)
 
 -- the registers of a switch that isn't started, all of whose links have these settings and this status
 abbrev bank_of : Settings → Status → RegisterBank
@@ -124,8 +113,4 @@ IsInRange-reset = IsTableInRange-from reset_table (record {
 })
 
 pub IsKept-reset : IsRegisterBank reset_bank
-IsKept-reset = record {
-  links = refl;
-  statuses = refl;
-  in_range = λ l. subst IsInRange (sym (get_or-same 32 l reset_settings)) IsInRange-reset;
-}
+IsKept-reset = search (arith, get_or-same, IsInRange-reset)

@@ -5,39 +5,17 @@ use Rattle.c104_regs.{proofs.RegisterLemmas.get_or-same, specs.Addresses.{IsRegi
 use Rattle.c104_regs.specs.{Addresses.register_properties, Faults.RegFault, KeptValues.kept_values, Ranges.IsInRange, Registers.bank_peek}
 use Rattle.c104_regs.specs.{Registers.{placed_bank, reset_bank}, Settings.{Settings, reset_settings}, Values.{Status, bit_value}}
 use Rattle.c104_regs.specs.{Values.{register_read, reset_status, select_of}, declared.addresses.Address.TheVariants.AtLink}
-use Rattle.c104_regs.specs.declared.addresses.Register.TheVariants.{Base, Credit, Granted, InputLevel, Limit, Mode, OutputLevel, Owner}
-use Rattle.{c104_regs.specs.declared.addresses.Register.TheVariants.{RandomBase, RandomRange, Select, Short, Sunk}, std.proofs.Common.Bool}
-use Rattle.std.proofs.Common.{List, Ok, Result, Some, ap, arith, false, get_or, nat_le, nat_lt, option_map, refl, sym, true, ℕ, ◌%◌, ◌&&◌}
-use Rattle.std.proofs.{Common.{◌*◌, ◌+◌, ◌-◌, ◌/◌, ◌<◌, ◌==◌, ◌∙◌, ◌≡◌}, lemmas.{Bool.Decides.nat_tests, List.ext_get_or}}
+use Rattle.c104_regs.specs.declared.addresses.Register.TheVariants.{Base, Limit, Mode, RandomBase, RandomRange, Select}
+use Rattle.std.proofs.Common.{Bool, List, Ok, Result, Some, ap, arith, get_or, refl, sym, ℕ, ◌%◌, ◌*◌, ◌+◌, ◌/◌, ◌<◌, ◌==◌, ◌∙◌, ◌≡◌}
+use Rattle.std.proofs.lemmas.{Bool.Decides.nat_tests, List.ext_get_or}
 use Rattle.c104_interval.specs.declared.intervals.Select as interval
 
 -- a register stands at its address
 offset_small : (r : Register) → IsRegister r → (register_properties r).offset < 256
-offset_small Mode is = omega arith
-offset_small RandomBase is = omega arith
-offset_small RandomRange is = omega arith
-offset_small Sunk is = omega arith
-offset_small Short is = omega arith
-offset_small InputLevel is = omega arith
-offset_small OutputLevel is = omega arith
-offset_small Credit is = omega arith
-offset_small Granted is = omega arith
-offset_small Owner is = omega arith
-offset_small Base is = omega arith
-offset_small (Limit k) is = omega arith
-offset_small (Select k) is = omega arith
+offset_small r is = search arith
 
 address_by : (a l off : ℕ) (r : Register) → a ≡ 256 * (l + 1) + off → off < 256 → l < 32 → register_at off ≡ Some r → address_of a ≡ Some (AtLink l r)
-address_by a l off r is small inside at =
-    let first : (a == 0) ≡ false = grind (arith, nat_tests) in
-    let second : (a == 1) ≡ false = grind (arith, nat_tests) in
-    let link : (nat_le 256 a && nat_lt a 8448) ≡ true = grind (arith, nat_tests) in
-    let low : a % 256 ≡ off = omega arith in
-    let high : a / 256 - 1 ≡ l = omega arith in
-    rw (first, second, link)
-    (ap (λ o. option_map (λ p. AtLink (a / 256 - 1) p) (register_at o)) low
-    ∙ ap (option_map (λ p. AtLink (a / 256 - 1) p)) at
-    ∙ ap (λ n. Some (AtLink n r)) high)
+address_by a l off r is small inside at = search (arith, nat_tests)
 
 address_is : (l : ℕ) (r : Register) → l < 32 → IsRegister r → address_of (256 * (l + 1) + (register_properties r).offset) ≡ Some (AtLink l r)
 address_is l r inside is = address_by _ l (register_properties r).offset r refl (offset_small r is) inside (at_offset r is)
@@ -50,22 +28,7 @@ abbrev decode : ℕ → Bits
 decode v = (v % 2 == 1, (v / 2) % 2 == 1, (v / 4) % 2 == 1, (v / 8) % 2 == 1)
 
 decoded : (a b c d : Bool) → decode (bit_value a 1 + bit_value b 2 + bit_value c 4 + bit_value d 8) ≡ (a, b, c, d)
-decoded false false false false = refl
-decoded false false false true = refl
-decoded false false true false = refl
-decoded false false true true = refl
-decoded false true false false = refl
-decoded false true false true = refl
-decoded false true true false = refl
-decoded false true true true = refl
-decoded true false false false = refl
-decoded true false false true = refl
-decoded true false true false = refl
-decoded true false true true = refl
-decoded true true false false = refl
-decoded true true false true = refl
-decoded true true true false = refl
-decoded true true true true = refl
+decoded a b c d = search arith
 
 abbrev bits_of : Settings → Bits
 bits_of s = (s.two_byte, s.delete_header, s.randomize, s.continue_group)
