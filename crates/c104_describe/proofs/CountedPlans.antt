@@ -116,16 +116,13 @@ module _ (plan : Plan) where
   same_terminal k = name_at 0 plan.terminals k
 
   same_port : (p : Port) → port_text counted p ≡ port_text plan p
-  same_port (Port.Switch s l) = refl
-  same_port (Port.Terminal t) = same_terminal t
+  same_port p = search (arith, same_terminal)
 
   pub same_wires : (wires : List Wire) → map (wire_words counted) wires ≡ map (wire_words plan) wires
-  same_wires [] = refl
-  same_wires (w ∷ wires) = λ i. (codes "wire" ∷ same_port w.here i ∷ same_port w.there i ∷ []) ∷ same_wires wires i
+  same_wires wires = search (arith, codes, same_port)
 
   pub same_deletes : (deletes : List ℕ) → map (delete_words counted) deletes ≡ map (delete_words plan) deletes
-  same_deletes [] = refl
-  same_deletes (t ∷ deletes) = λ i. (codes "delete" ∷ same_terminal t i ∷ []) ∷ same_deletes deletes i
+  same_deletes deletes = search (arith, codes, same_terminal)
 
   pub same_terminals : (n : ℕ) (terminals : List Terminal) → map (counted_words counted) (counted_from n terminals) ≡ map (counted_words plan) terminals
   same_terminals n [] = refl

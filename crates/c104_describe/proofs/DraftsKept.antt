@@ -8,10 +8,10 @@ use Rattle.c104_describe.specs.{PlanFaults.PlanFaultKind, PlanLines.{first_word_
 use Rattle.c104_describe.specs.{PlanLines.{switch_said, terminal_parts}, PlanText.{draft_after_line, empty_draft, read_plan_lines}}
 use Rattle.{c104_describe.specs.PlanWords.{Keyword, keyword_of, range_words}, c104_plan.specs.PlanParts.{has_settings, has_some}}
 use Rattle.c104_plan.specs.{Plans.{IsPlan, IsUnset, Plan, next_first, rows_of, total_count}, TextCut.{is_plain_line, line_words}}
-use Rattle.c104_plan.specs.{TextCut.uncommented_line, declared.plans.Shape.{Shape, TheVariants.{Hand, Tree, UpDown}}}
-use Rattle.std.proofs.Common.{Bool, Bor, Err, List, None, Ok, Option, Result, Some, [], ap, arith, bytes_eq, codes, false, get_or}
-use Rattle.std.proofs.Common.{if◌then◌else◌, is_some, length, lit<, lit≤, not, refl, subst, sym, true, ℕ, ◌&&◌, ◌+◌, ◌<◌, ◌||◌, ◌∙◌, ◌∷◌}
-use Rattle.std.proofs.{Common.◌≡◌, lemmas.{Bool.{Decides.nat_tests, or_from, or_parts}, List.Elements.All-nil}}
+use Rattle.{c104_plan.specs.{TextCut.uncommented_line, declared.plans.Shape.{Shape, TheVariants.Hand}}, std.proofs.Common.{Bool, Bor, Err}}
+use Rattle.std.proofs.Common.{List, None, Ok, Option, Result, Some, [], arith, bytes_eq, codes, false, get_or, is_some, length, not, refl}
+use Rattle.std.proofs.{Common.{subst, sym, true, ℕ, ◌&&◌, ◌+◌, ◌<◌, ◌||◌, ◌∙◌, ◌∷◌, ◌≡◌}, lemmas.Bool.{Decides.nat_tests, or_from}}
+use Rattle.std.proofs.lemmas.{Bool.or_parts, List.Elements.All-nil}
 
 -- with a root a plan is one that is made line by line, without `from` and without what labellers set
 abbrev pub IsRooted : Option Shape → Plan → Bool → Type 0
@@ -31,20 +31,14 @@ has_none [] is = refl
 has_none (x ∷ xs) is = absurd (grind (arith, nat_tests))
 
 no_root : (o : Option Shape) → is_some o ≡ false → o ≡ None
-no_root None is = refl
-no_root (Some shape) is = cc
+no_root o is = search arith
 
 -- as which shape a plan is labelled that one of these words asks for
 root_asked : (style : List ℕ) (root n : ℕ) → root < n → IsRootIn n (labelled_shape style root)
-root_asked style root n inside = by (bytes_eq style (codes "tree"))
-  where
-    by : (is_tree : Bool) → IsRootIn n (if is_tree then Tree root else UpDown root)
-    by true = inside
-    by false = inside
+root_asked style root n inside = search (arith, bytes_eq, codes)
 
 rooted_beside : (o : Option Shape) (plan next : Plan) (b : Bool) → IsBeside plan next → IsRooted o plan b → IsRooted o next b
-rooted_beside None plan next b beside is = tt
-rooted_beside (Some shape) plan next b beside is = (root_in_more (length plan.switches) (length next.switches) shape beside.0.more is.0, beside.0.shape ∙ is.1, is.2, beside.1 is.3)
+rooted_beside o plan next b beside is = search (arith, root_in_more)
 
 counted_next : (draft next : Draft) → IsDraft draft → next.from_said ≡ draft.from_said → IsNext draft.plan next.plan
     → next.from_said ≡ false → next.plan.shape ≡ Hand → next_first next.plan.terminals ≡ total_count next.plan.terminals
@@ -52,47 +46,26 @@ counted_next draft next all from is none hand = subst (λ terminals. next_first 
 
 -- a line that sets nothing at a link
 beside : (draft next : Draft) → IsDraft draft → next.labels ≡ draft.labels → next.from_said ≡ draft.from_said → IsBeside draft.plan next.plan → IsDraft next
-beside draft next all root from is = record {
-  kept = is.0.kept;
-  counted = counted_next draft next all from is.0;
-  rooted = subst (λ o. IsRooted o next.plan next.from_said) (sym root) (subst (λ b. IsRooted draft.labels next.plan b) (sym from) (rooted_beside draft.labels draft.plan next.plan draft.from_said is all.rooted));
-}
+beside draft next all root from is = search (arith, counted_next, rooted_beside)
 
 -- a line that does, where no root was said
 settings : (draft next : Draft) → IsDraft draft → next.labels ≡ None → next.from_said ≡ draft.from_said → IsNext draft.plan next.plan → IsDraft next
-settings draft next all none from is = record {
-  kept = is.kept;
-  counted = counted_next draft next all from is;
-  rooted = subst (λ o. IsRooted o next.plan next.from_said) (sym none) tt;
-}
+settings draft next all none from is = search (arith, counted_next)
 
 not_said : (from : Option (List ℕ)) → is_some from ≡ false → from ≡ None
-not_said None is = refl
-not_said (Some word) is = cc
+not_said from is = search arith
 
 rooted_hosting : (o : Option Shape) (plan next : Plan) (b : Bool) (from : Option (List ℕ)) → (is_some o && is_some from) ≡ false → IsHosting from plan next → IsRooted o plan b → IsRooted o next (b || is_some from)
-rooted_hosting None plan next b from apart hosting is = tt
-rooted_hosting (Some shape) plan next b from apart hosting is = (subst (λ names. IsRootIn (length names) shape) (sym hosting.switches) is.0, hosting.shape ∙ is.1, or_from b (is_some from) is.2 apart, hosting.unset is.3)
+rooted_hosting o plan next b from apart hosting is = search (arith, hosting, or_from)
 
 hosting : (draft : Draft) (plan : Plan) (from : Option (List ℕ)) → IsDraft draft → (is_some draft.labels && is_some from) ≡ false → IsHosting from draft.plan plan → IsDraft (record draft { plan = plan; from_said = draft.from_said || is_some from })
-hosting draft plan from all apart is = record {
-  kept = is.kept;
-  counted = λ none hand.
-      let parts = or_parts draft.from_said (is_some from) none in
-      is.counted (not_said from parts.1) (all.counted parts.0 (sym is.shape ∙ hand));
-  rooted = rooted_hosting draft.labels draft.plan plan draft.from_said from apart is all.rooted;
-}
+hosting draft plan from all apart is = search (arith, or_parts, not_said, rooted_hosting)
 
 rooted_nowhere : (o : Option Shape) (plan next : Plan) (b : Bool) → plan.switches ≡ [] → IsRooted o plan b → IsRooted o next b
-rooted_nowhere None plan next b none is = tt
-rooted_nowhere (Some shape) plan next b none is = absurd (root_in_none (length plan.switches) shape (ap length none) is.0)
+rooted_nowhere o plan next b none is = search (arith, root_in_none)
 
 filled : (draft : Draft) (plan : Plan) → IsDraft draft → draft.plan.switches ≡ [] → IsPlan plan × is_by_hand plan.shape ≡ false → IsDraft (record draft { plan = plan })
-filled draft plan all none is = record {
-  kept = is.0;
-  counted = λ from hand. let same : is_by_hand plan.shape ≡ true = ap is_by_hand hand in let other : is_by_hand plan.shape ≡ false = is.1 in cc;
-  rooted = rooted_nowhere draft.labels draft.plan plan draft.from_said none all.rooted;
-}
+filled draft plan all none is = search (arith, rooted_nowhere)
 
 -- Lines
 
@@ -102,9 +75,7 @@ module _ (draft : Draft) (is_plain : Bool) (all : IsDraft draft) where
 
   -- a line that sets something at a link
   setting : (next : Draft) → (not (is_by_hand draft.plan.shape) || is_some draft.labels) ≡ false → next.labels ≡ draft.labels → next.from_said ≡ draft.from_said → (draft.plan.shape ≡ Hand → IsNext draft.plan next.plan) → IsDraft next
-  setting next mixed labels from keeps =
-      let parts = or_parts (not (is_by_hand draft.plan.shape)) (is_some draft.labels) mixed in
-      settings draft next all (labels ∙ no_root draft.labels parts.1) from (keeps (hand_kept draft is_plain all.kept parts.0))
+  setting next mixed labels from keeps = search (arith, or_parts, settings, no_root, hand_kept)
 
   terminal-kept : (name at : List ℕ) (words : List (List ℕ)) → Keeps Keyword.Terminal (name ∷ at ∷ words)
   terminal-kept name at words sound =
@@ -175,8 +146,7 @@ line_kept list i d draft next kept is = read_line-kept draft next kept (get_or l
 
 -- after one line, where the same holds of the rest
 after-kept : (n : ℕ) (said : Result Draft PlanFaultKind) (rest : Draft → Result Draft PlanFault) (last : Draft) → draft_after_line n said rest ≡ Ok last → ((next : Draft) → said ≡ Ok next → rest next ≡ Ok last → IsDraft last) → IsDraft last
-after-kept n (Ok next) rest last is go = go next refl is
-after-kept n (Err kind) rest last is go = cc
+after-kept n said rest last is go = search arith
 
 read_lines-draft : (n : ℕ) (list : List (List ℕ)) (draft last : Draft) → IsDraft draft → read_plan_lines n list draft ≡ Ok last → IsDraft last
 read_lines-draft n [] draft last kept is = let made : draft ≡ last = cc in subst IsDraft made kept
@@ -186,8 +156,7 @@ read_lines-draft n (line ∷ more) draft last kept is =
 -- The plan that they give
 
 finished_by : (o : Option Shape) (plan : Plan) (from_said : Bool) → IsPlan plan → (from_said ≡ false → plan.shape ≡ Hand → next_first plan.terminals ≡ total_count plan.terminals) → IsRooted o plan from_said → IsPlan (rooted o plan)
-finished_by None plan from_said kept counted is = kept
-finished_by (Some shape) plan from_said kept counted is = rooted_kept plan kept shape is.0 (counted is.2 is.1) is.3
+finished_by o plan from_said kept counted is = search (arith, rooted_kept)
 
 pub finished_kept : (draft : Draft) → IsDraft draft → IsPlan (finished draft)
 finished_kept draft all = finished_by draft.labels draft.plan draft.from_said all.kept all.counted all.rooted
@@ -197,22 +166,4 @@ read_lines-kept n list draft last kept is = finished_kept last (read_lines-draft
 
 pub empty-kept : IsDraft empty_draft
 unfolding rows_of
-empty-kept = record {
-  kept = record {
-    header = (lit< tt, lit≤ tt);
-    cap = refl;
-    shape = tt;
-    few_switches = lit≤ tt;
-    names = record { named = All-nil _; differ = tt };
-    terminals = record { few = lit≤ tt; on_switches = All-nil _; ranges = All-nil _ };
-    wires = All-nil _;
-    links = tt;
-    continues = record { later = All-nil _; once = tt };
-    deletes = record { known = All-nil _; once = tt };
-    bases = record { of_inputs = All-nil _; ranges = All-nil _; once = tt };
-    rows = record { of_inputs = All-nil _; ranges = All-nil _; few = λ p. lit≤ tt };
-    randoms = record { of_inputs = All-nil _; ranges = All-nil _; once = tt };
-  };
-  counted = λ none hand. refl;
-  rooted = tt;
-}
+empty-kept = search (arith, All-nil)

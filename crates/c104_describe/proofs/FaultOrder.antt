@@ -2,8 +2,8 @@
 use Rattle.c104_describe.specs.LineFaults.{IsFaultless, IsLeastFault, all_faults, has_fault, is_fault_of, read_parts, read_plan_line}
 use Rattle.c104_describe.specs.{LineFaults.unless, PlanFaults.{PlanFaultKind, plan_fault_number}, PlanLines.{Draft, LineParts}}
 use Rattle.{c104_plan.specs.Plans.Plan, std.proofs.Common.{Bool, Err, List, None, Ok, Option, Some, [], ap, arith, false, if◌then◌else◌}}
-use Rattle.std.proofs.Common.{inl, inr, lit<, lit≤, refl, slice_index_or, suc, sym, true, ℕ, ◌-◌, ◌<◌, ◌∙◌, ◌∷◌, ◌≡◌, ◌≤◌}
-use Rattle.std.{proofs.lemmas.Bool.cases_eq, specs.List.find}
+use Rattle.std.proofs.{Common.{refl, slice_index_or, suc, sym, true, ℕ, ◌-◌, ◌<◌, ◌∙◌, ◌∷◌, ◌≡◌, ◌≤◌}, lemmas.Bool.cases_eq}
+use Rattle.std.specs.List.{find}
 
 -- the fault of a number
 fault_numbered : ℕ → PlanFaultKind
@@ -11,37 +11,13 @@ fault_numbered number = slice_index_or all_faults (number - 1) PlanFaultKind.Too
 
 is_numbered : (fault : PlanFaultKind) → fault_numbered (plan_fault_number fault) ≡ fault
 unfolding fault_numbered
-is_numbered PlanFaultKind.TooLong = refl
-is_numbered PlanFaultKind.UnknownWord = refl
-is_numbered PlanFaultKind.BadShape = refl
-is_numbered PlanFaultKind.BadNumber = refl
-is_numbered PlanFaultKind.BadName = refl
-is_numbered PlanFaultKind.NameTaken = refl
-is_numbered PlanFaultKind.UnknownName = refl
-is_numbered PlanFaultKind.SelfWire = refl
-is_numbered PlanFaultKind.LinkTaken = refl
-is_numbered PlanFaultKind.TooMany = refl
-is_numbered PlanFaultKind.Twice = refl
-is_numbered PlanFaultKind.MixedStyle = refl
-is_numbered PlanFaultKind.NoMemory = refl
+is_numbered fault = search (arith, fault_numbered)
 
 same_number : (fault other : PlanFaultKind) → plan_fault_number fault ≡ plan_fault_number other → fault ≡ other
 same_number fault other same = sym (is_numbered fault) ∙ ap fault_numbered same ∙ is_numbered other
 
 number-range : (fault : PlanFaultKind) → (1 ≤ plan_fault_number fault) × (plan_fault_number fault < 14)
-number-range PlanFaultKind.TooLong = (lit≤ tt, lit< tt)
-number-range PlanFaultKind.UnknownWord = (lit≤ tt, lit< tt)
-number-range PlanFaultKind.BadShape = (lit≤ tt, lit< tt)
-number-range PlanFaultKind.BadNumber = (lit≤ tt, lit< tt)
-number-range PlanFaultKind.BadName = (lit≤ tt, lit< tt)
-number-range PlanFaultKind.NameTaken = (lit≤ tt, lit< tt)
-number-range PlanFaultKind.UnknownName = (lit≤ tt, lit< tt)
-number-range PlanFaultKind.SelfWire = (lit≤ tt, lit< tt)
-number-range PlanFaultKind.LinkTaken = (lit≤ tt, lit< tt)
-number-range PlanFaultKind.TooMany = (lit≤ tt, lit< tt)
-number-range PlanFaultKind.Twice = (lit≤ tt, lit< tt)
-number-range PlanFaultKind.MixedStyle = (lit≤ tt, lit< tt)
-number-range PlanFaultKind.NoMemory = (lit≤ tt, lit< tt)
+number-range fault = search arith
 
 -- the numbers of these go up from the first one's, to the last of all
 abbrev AreNumbered : ℕ → List PlanFaultKind → Type 0
@@ -55,12 +31,7 @@ until (Some fault) = plan_fault_number fault
 
 lesser-first : (has : PlanFaultKind → Bool) (n : ℕ) (fault : PlanFaultKind) (rest : Option PlanFaultKind) (other : PlanFaultKind) (b : Bool) → has fault ≡ b → plan_fault_number fault ≡ n → n ≤ plan_fault_number other
     → plan_fault_number other < until (if b then Some fault else rest) → (suc n ≤ plan_fault_number other → plan_fault_number other < until rest → has other ≡ false) → has other ≡ false
-lesser-first has n fault rest other true is here above under go = absurd (omega (arith, here, above, under))
-lesser-first has n fault rest other false is here above under go =
-    elim (cases_eq (plan_fault_number other) n) [
-      | inl same ↦ ap has (same_number other fault (same ∙ sym here)) ∙ is
-      | inr further ↦ go (omega (arith, above, further)) under
-    ]
+lesser-first has n fault rest other b is here above under go = search (arith, cases_eq, same_number)
 
 lesser : (has : PlanFaultKind → Bool) (n : ℕ) (faults : List PlanFaultKind) → AreNumbered n faults → (other : PlanFaultKind) → n ≤ plan_fault_number other → plan_fault_number other < until (find has faults) → has other ≡ false
 lesser has n [] end other above under = absurd (omega (arith, end, above, (number-range other).1))
@@ -79,8 +50,7 @@ none_at_all : (has : PlanFaultKind → Bool) → find has all_faults ≡ None �
 none_at_all has is other = lesser has 1 all_faults all_numbered other (number-range other).0 (rw is ((number-range other).1))
 
 applies-first : (has : PlanFaultKind → Bool) (fault found : PlanFaultKind) (rest : Option PlanFaultKind) (b : Bool) → has fault ≡ b → (if b then Some fault else rest) ≡ Some found → (rest ≡ Some found → has found ≡ true) → has found ≡ true
-applies-first has fault found rest true is here go = let same : fault ≡ found = cc in ap has (sym same) ∙ is
-applies-first has fault found rest false is here go = go here
+applies-first has fault found rest b is here go = search arith
 
 -- the first one that applies does
 applies : (has : PlanFaultKind → Bool) (faults : List PlanFaultKind) (found : PlanFaultKind) → find has faults ≡ Some found → has found ≡ true
@@ -91,13 +61,11 @@ applies has (fault ∷ faults) found is = applies-first has fault found (find ha
 
 -- there was no fault
 pub made : (o : Option PlanFaultKind) (after next : Draft) → unless o after ≡ Ok next → (o ≡ None) × (after ≡ next)
-made None after next is = let same : after ≡ next = cc in (refl, same)
-made (Some fault) after next is = cc
+made o after next is = search arith
 
 -- there was this one
 pub told : (o : Option PlanFaultKind) (after : Draft) (fault : PlanFaultKind) → unless o after ≡ Err fault → o ≡ Some fault
-told None after fault is = cc
-told (Some other) after fault is = let same : other ≡ fault = cc in ap Some same
+told o after fault is = search arith
 
 -- parts that were read have no fault
 pub sound : (plan : Plan) (parts : LineParts) (next : Draft) → read_parts plan parts ≡ Ok next → (fault : PlanFaultKind) → is_fault_of plan parts fault ≡ false

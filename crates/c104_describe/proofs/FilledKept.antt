@@ -6,23 +6,21 @@ use Rattle.c104_plan.specs.{Layouts.{filled_wires, mesh, wire_at, wire_to, wires
 use Rattle.c104_plan.specs.Plans.{AreRandoms, AreRows, AreTerminals, IsLaterPort, IsOfShape, IsPlan, IsPlanWire, IsRange, IsUnset, Plan}
 use Rattle.c104_plan.specs.{Plans.{host_port, rows_of}, Ports.IsSwitchPort, declared.plans.{PlanBase.PlanBase, PlanRandom.PlanRandom}}
 use Rattle.c104_plan.specs.declared.{plans.{PlanRow.PlanRow, Shape.{Shape, TheVariants.{Cube, Mesh}}, Terminal.Terminal}, ports.Port.Port}
-use Rattle.std.proofs.Common.{All, List, None, Option, Some, [], ap, arith, false, length, lit≤, refl, subst, sym, true, ℕ, ⊎_elim, ◌*◌}
-use Rattle.std.proofs.{Common.{◌+◌, ◌<◌, ◌^◌, ◌∷◌, ◌≡◌, ◌≤◌}, lemmas.{Bool.cases_Bool, List.Elements.{All-head, All-nil, All-weaker}}}
+use Rattle.std.proofs.Common.{All, List, Option, [], ap, arith, false, length, lit≤, refl, subst, true, ℕ, ⊎_elim, ◌*◌, ◌+◌, ◌<◌, ◌^◌, ◌∷◌}
+use Rattle.std.proofs.{Common.{◌≡◌, ◌≤◌}, lemmas.{Bool.cases_Bool, List.Elements.{All-head, All-nil, All-weaker}}}
 use Rattle.std.{proofs.lemmas.{List.FromFn.length-map-range_with_len, Nat.{div_below, mod_below}}, specs.List.AllByRecursion}
 
 -- Without switches there is nothing at a link
 
 no_switch : (p : Port) → IsSwitchPort 0 p → ⊥
-no_switch (Port.Switch s l) is = omega (arith, is.0)
-no_switch (Port.Terminal t) is = is
+no_switch p is = search arith
 
 none_at : {X : Type 0} (port_of : X → Port) (xs : List X) → All (λ x. IsSwitchPort 0 (port_of x)) xs → xs ≡ []
 none_at port_of [] all = refl
 none_at port_of (x ∷ xs) all = absurd (no_switch (port_of x) (All-head (λ y. IsSwitchPort 0 (port_of y)) x xs all))
 
 later_one : (p : Port) → IsLaterPort 0 p → IsSwitchPort 0 p
-later_one (Port.Switch s l) is = (is.0, is.2)
-later_one (Port.Terminal t) is = is
+later_one p is = search arith
 
 none_below : (ns : List ℕ) → All (λ n. n < 0) ns → ns ≡ []
 none_below [] all = refl
@@ -79,9 +77,7 @@ module _ (layout : Layout) (p : ℕ) (joined : AreJoined layout) (some : 0 < p) 
       }
 
   wire_is : (s l : ℕ) (q : Option Port) → s < layout.switches → l < layout.links → IsJoined layout s l q → AllByRecursion (IsPlanWire layout.switches) (wire_to (Port.Switch s l) q)
-  wire_is s l None a b j = tt
-  wire_is s l (Some (Port.Switch t k)) a b j = (((a, omega (arith, b, links)), (j.inside, omega (arith, j.link, links)), j.other), tt)
-  wire_is s l (Some (Port.Terminal t)) a b j = absurd j
+  wire_is s l q a b j = search arith
 
   wires_are : All (IsPlanWire layout.switches) (filled_wires layout)
   wires_are = all_of_each (IsPlanWire layout.switches) (filled_wires layout) (each_flat (IsPlanWire layout.switches) (wires_from layout) 0 layout.switches (λ s a.
@@ -92,24 +88,7 @@ module _ (layout : Layout) (p : ℕ) (joined : AreJoined layout) (some : 0 < p) 
 
   filled_kept : (plan : Plan) → IsPlan plan → plan.switches ≡ [] → (shape : Shape) → IsOfShape shape (filled_plan shape layout p plan) → IsPlan (filled_plan shape layout p plan)
   filled_kept plan kept none shape is_shape =
-      let n : ℕ = length (filled_switches layout) in
-      let count : layout.switches ≡ n = sym switch_count in
-      let unset = nothing_set plan kept none in
-      record {
-        header = kept.header;
-        cap = kept.cap;
-        shape = is_shape;
-        few_switches = omega (arith, few, switch_count);
-        names = filled_names layout p few labels;
-        terminals = subst (λ m. AreTerminals m (filled_terminals layout p)) count terminals_are;
-        wires = subst (λ m. All (IsPlanWire m) (filled_wires layout)) count wires_are;
-        links = filled_links layout p joined;
-        continues = subst (AreContinues n) (sym unset.continues) (no_continues n);
-        deletes = subst (AreDeletes (length (filled_terminals layout p))) (sym (no_deletes plan kept none)) (none_deleted (length (filled_terminals layout p)));
-        bases = subst (AreBases n) (sym unset.bases) (no_bases n);
-        rows = subst (AreRows n) (sym unset.rows) (no_rows n);
-        randoms = subst (AreRandoms n) (sym unset.randoms) (no_randoms n);
-      }
+      search (arith, switch_count, nothing_set, filled_names, terminals_are, wires_are, filled_links, no_continues, no_deletes, none_deleted, no_bases, no_rows, no_randoms)
 
 module _ (plan : Plan) (kept : IsPlan plan) (none : plan.switches ≡ []) where
   -- a record rebuilt for the filled plan, of which these lists are as they were

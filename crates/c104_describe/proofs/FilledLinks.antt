@@ -1,9 +1,9 @@
 -- No link has two terminals or wires in a filled plan.
-use Rattle.c104_plan.proofs.{LayoutJoins.{AreJoined, IsJoined}, LayoutNumbers.parts, PortLemmas.is_port-ne, RangeLists.each_flat}
+use Rattle.c104_plan.proofs.{LayoutJoins.{AreJoined, IsJoined}, PortLemmas.is_port-ne, RangeLists.each_flat}
 use Rattle.c104_plan.specs.{Distinctness.AreDistinct, Layouts.{Layout, filled_terminal, filled_terminals, filled_wires, wire_at, wire_to}}
 use Rattle.c104_plan.specs.{Layouts.wires_from, Plans.{host_port, linked_ports}, Ports.{both_ends, is_port}, declared.ports.Port.Port}
-use Rattle.{c104_plan.specs.declared.ports.Wire.Wire, std.proofs.Common.{List, None, Option, Some, [], ap, arith, false, map, not, refl}}
-use Rattle.std.proofs.Common.{subst, suc, sym, true, zero, ℕ, ⊎_elim, ◌%◌, ◌*◌, ◌++◌, ◌+◌, ◌/◌, ◌<◌, ◌∙◌, ◌∷◌, ◌≡◌, ◌≢◌, ◌≤◌}
+use Rattle.{c104_plan.specs.declared.ports.Wire.Wire, std.proofs.Common.{List, None, Option, Some, [], ap, arith, false, map, refl, subst}}
+use Rattle.std.proofs.Common.{suc, sym, true, zero, ℕ, ⊎_elim, ◌%◌, ◌*◌, ◌++◌, ◌+◌, ◌/◌, ◌<◌, ◌∙◌, ◌∷◌, ◌≡◌, ◌≢◌, ◌≤◌}
 use Rattle.std.{proofs.lemmas.Bool.cases_Bool, specs.List.{AllByRecursion, flat_map, range_with_len}}
 
 -- where a link for a switch leads
@@ -26,8 +26,7 @@ record IsGood (layout : Layout) (w : Wire) : Type 0 where
   back : leads layout w.there ≡ Some w.here
 
 clash : (layout : Layout) (q : Port) → IsBegin layout q → IsEnd layout q → ⊥
-clash layout (Port.Switch s l) a b = let x : layout.begins s l ≡ true = a.1 in let y : layout.begins s l ≡ false = b.1 in absurd cc
-clash layout (Port.Terminal t) a b = a
+clash layout q a b = search arith
 
 -- links in order
 rank : Layout → Port → ℕ
@@ -56,14 +55,10 @@ run_range layout base step n (suc count) lo hi f a b each =
 
 wire_run : (layout : Layout) (s l : ℕ) (q : Option Port) → IsRun layout (s * layout.links + l) (s * layout.links + l + 1) (wire_to (Port.Switch s l) q)
 unfolding rank
-wire_run layout s l None = omega arith
-wire_run layout s l (Some q) = (omega arith, omega arith)
+wire_run layout s l q = search (arith, rank)
 
 wire_at_run : (layout : Layout) (s l : ℕ) → IsRun layout (s * layout.links + l) (s * layout.links + l + 1) (wire_at layout s l)
-wire_at_run layout s l = ⊎_elim
-    (λ (t : layout.begins s l ≡ true). rw t (wire_run layout s l (layout.beyond s l)))
-    (λ (t : layout.begins s l ≡ false). rw t (let le : s * layout.links + l ≤ s * layout.links + l + 1 = omega arith in le))
-    (cases_Bool (layout.begins s l))
+wire_at_run layout s l = search (arith, wire_run, cases_Bool)
 
 wires_run : (layout : Layout) → IsRun layout 0 (layout.switches * layout.links) (filled_wires layout)
 wires_run layout = run_range layout 0 layout.links 0 layout.switches 0 (layout.switches * layout.links) (wires_from layout) (omega arith) (omega arith)
@@ -74,9 +69,7 @@ wires_run layout = run_range layout 0 layout.links 0 layout.switches 0 (layout.s
 
 wire_good : (layout : Layout) (s l : ℕ) (q : Option Port) → s < layout.switches → l < layout.links → layout.begins s l ≡ true → IsJoined layout s l q → AllByRecursion (IsGood layout) (wire_to (Port.Switch s l) q)
 unfolding leads
-wire_good layout s l None a b c j = tt
-wire_good layout s l (Some (Port.Switch t k)) a b c j = (record { begin = (b, c); end = (j.link, j.one_end ∙ ap not c); back = j.back }, tt)
-wire_good layout s l (Some (Port.Terminal t)) a b c j = absurd j
+wire_good layout s l q a b c j = search arith
 
 wires_good : (layout : Layout) → AreJoined layout → AllByRecursion (IsGood layout) (filled_wires layout)
 wires_good layout joined = each_flat (IsGood layout) (wires_from layout) 0 layout.switches (λ s a. each_flat (IsGood layout) (wire_at layout s) 0 layout.links (λ l b. ⊎_elim
@@ -95,33 +88,20 @@ module _ (layout : Layout) where
   none_later : (w : Wire) (n hi : ℕ) (ws : List Wire) → rank layout w.here < n → IsRun layout n hi ws → AllByRecursion (IsGood layout) ws → IsGood layout w → IsNone w.here (both_ends ws) × IsNone w.there (both_ends ws)
   none_later w n hi [] lt run good is = (tt, tt)
   none_later w n hi (v ∷ ws) lt run good is =
-      let rest = none_later w (suc (rank layout v.here)) hi ws (omega (arith, lt, run.0)) run.1 good.1 is in
-      let ranks : rank layout w.here ≡ rank layout v.here → ⊥ = λ e. omega (arith, lt, run.0, e) in (
-        (
-          is_port-ne w.here v.here (λ same. ranks (ap (rank layout) same)),
-          (is_port-ne w.here v.there (λ same. clash layout v.there (subst (IsBegin layout) same is.begin) good.0.end), rest.0),
-        ),
-        (
-          is_port-ne w.there v.here (λ same. clash layout v.here good.0.begin (subst (IsEnd layout) same is.end)),
-          (is_port-ne w.there v.there (λ same. ranks (same_end layout w v is good.0 same)), rest.1),
-        ),
-      )
+      search (arith, rank, is_port-ne, clash, same_end, none_later w (suc (rank layout v.here)) hi ws (omega (arith, lt, run.0)) run.1 good.1 is)
 
   wires_differ : (n hi : ℕ) (ws : List Wire) → IsRun layout n hi ws → AllByRecursion (IsGood layout) ws → AreDistinct is_port (both_ends ws)
   wires_differ n hi [] run good = tt
   wires_differ n hi (w ∷ ws) run good =
-      let rest = none_later w (suc (rank layout w.here)) hi ws (omega arith) run.1 good.1 good.0 in
-      ((is_port-ne w.here w.there (λ same. clash layout w.there (subst (IsBegin layout) same good.0.begin) good.0.end), rest.0), (rest.1, wires_differ (suc (rank layout w.here)) hi ws run.1 good.1))
+      search (arith, none_later, rank, is_port-ne, clash, wires_differ (suc (rank layout w.here)) hi ws run.1 good.1)
 
   -- terminals are on other links
 
   no_begin : (s l : ℕ) (p : Port) → layout.links ≤ l → IsBegin layout p → Port.Switch s l ≢ p
-  no_begin s l (Port.Switch t k) le a same = let e : l ≡ k = cc in omega (arith, le, e, a.0)
-  no_begin s l (Port.Terminal t) le a same = a
+  no_begin s l p le a = search arith
 
   no_end : (s l : ℕ) (p : Port) → layout.links ≤ l → IsEnd layout p → Port.Switch s l ≢ p
-  no_end s l (Port.Switch t k) le a same = let e : l ≡ k = cc in omega (arith, le, e, a.0)
-  no_end s l (Port.Terminal t) le a same = a
+  no_end s l p le a = search arith
 
   own_none : (s l : ℕ) (ws : List Wire) → layout.links ≤ l → AllByRecursion (IsGood layout) ws → IsNone (Port.Switch s l) (both_ends ws)
   own_none s l [] le good = tt
@@ -133,10 +113,7 @@ module _ (layout : Layout) where
 
     own_same : (t u : ℕ) → own_port t ≡ own_port u → t ≡ u
     unfolding own_port
-    own_same t u is =
-        let a : t / p ≡ u / p = cc in
-        let b : layout.links + t % p ≡ layout.links + u % p = cc in
-        sym (parts t p) ∙ ap (λ n. n * p + t % p) a ∙ ap (λ n. u / p * p + n) (omega (arith, b)) ∙ parts u p
+    own_same t u is = search (arith, own_port)
 
     terminal_none : (t n count : ℕ) (ws : List Wire) → t < n → AllByRecursion (IsGood layout) ws → IsNone (own_port t) (linked_ports (map (filled_terminal layout.links p) (range_with_len n count)) ws)
     unfolding own_port

@@ -31,8 +31,7 @@ head_same : (a b : ℕ) (xs ys : List ℕ) → a ∷ xs ≡ b ∷ ys → a ≡ b
 head_same a b xs ys e = cc
 
 pub numbers_differ : (letter i j : ℕ) → i < j → j < 10 ^ 7 → bytes_eq (letter ∷ decimal i) (letter ∷ decimal j) ≡ false
-numbers_differ letter i j before small =
-    differ_eq (letter ∷ decimal i) (letter ∷ decimal j) (λ same. let one : i ≡ j = decimal_injective i j (omega (arith, before, small)) (omega (arith, small)) (tail_same letter letter (decimal i) (decimal j) same) in omega (arith, before, one))
+numbers_differ letter i j before small = search (arith, differ_eq, decimal_injective, tail_same)
 
 letters_differ : (i j : ℕ) → bytes_eq (0x73 ∷ decimal i) (0x74 ∷ decimal j) ≡ false
 letters_differ i j = differ_eq (0x73 ∷ decimal i) (0x74 ∷ decimal j) (λ same. let one : 0x73 ≡ 0x74 = head_same 0x73 0x74 (decimal i) (decimal j) same in omega (arith, one))

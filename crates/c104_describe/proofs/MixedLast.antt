@@ -1,8 +1,8 @@
 -- A line's own faults come before that it doesn't go with the lines before it.
 use Rattle.c104_describe.specs.{LineFaults.{is_fault_of, keyword_line, read_parts, unless}, PlanDrafts.is_mixed, PlanFaults.PlanFaultKind}
 use Rattle.c104_describe.specs.{PlanLines.{Draft, LineParts, first_word_parts, keyword_parts}, PlanWords.Keyword}
-use Rattle.{c104_plan.specs.Plans.Plan, std.proofs.Common.{Bool, Err, List, None, Ok, Option, Result, Some, [], ap, false, if◌then◌else◌}}
-use Rattle.std.{proofs.Common.{inl, inr, refl, sym, true, ℕ, ◌++◌, ◌∙◌, ◌∷◌, ◌≡◌, ◌⊎◌}, specs.List.find}
+use Rattle.{c104_plan.specs.Plans.Plan, std.proofs.Common.{Bool, Err, List, None, Ok, Option, Result, Some, [], ap, arith, false}}
+use Rattle.std.{proofs.Common.{if◌then◌else◌, refl, sym, true, ℕ, ◌++◌, ◌∙◌, ◌∷◌, ◌≡◌, ◌⊎◌}, specs.List.find}
 
 -- those of a line by itself
 own_faults : List PlanFaultKind
@@ -21,8 +21,7 @@ found_in has [] ys = refl
 found_in has (x ∷ xs) ys = by_test (has x) (found_in has xs ys)
   where
     by_test : (b : Bool) → find has (xs ++ ys) ≡ first_of (find has xs) (find has ys) → (if b then Some x else find has (xs ++ ys)) ≡ first_of (if b then Some x else find has xs) (find has ys)
-    by_test true rest = refl
-    by_test false rest = rest
+    by_test b rest = search arith
 
 -- what the line gave by itself, and then whether it goes with the others
 then_mixed : Bool → Result Draft PlanFaultKind → Result Draft PlanFaultKind
@@ -31,9 +30,7 @@ then_mixed mixed (Err fault) = Err fault
 
 by_own : (own : Option PlanFaultKind) (mixed : Bool) (next : Draft) → unless (first_of own (if mixed then Some PlanFaultKind.MixedStyle else None)) next ≡ then_mixed mixed (unless (first_of own None) next)
 unfolding first_of then_mixed
-by_own None true next = refl
-by_own None false next = refl
-by_own (Some fault) mixed next = refl
+by_own own mixed next = search (arith, first_of, then_mixed)
 
 last : (plan : Plan) (parts : LineParts) (mixed : Bool) → read_parts plan (record parts { is_mixed = mixed }) ≡ then_mixed mixed (read_parts plan (record parts { is_mixed = false }))
 unfolding own_faults
@@ -66,8 +63,7 @@ module _ (draft : Draft) (k : Keyword) (rest : List (List ℕ)) where
   known_fault fault is = own_fault draft.plan parts (is_mixed draft k rest) fault is
 
   pub known_or_memory : (fault : PlanFaultKind) → (keyword_line draft k rest ≡ Err fault) ⊎ (fault ≡ PlanFaultKind.NoMemory) → (known_line ≡ Err fault) ⊎ (fault ≡ PlanFaultKind.NoMemory)
-  known_or_memory fault (inl is) = inl (known_fault fault is)
-  known_or_memory fault (inr none) = inr none
+  known_or_memory fault known = search (arith, known_fault)
 
   pub known_mixed : (next : Draft) → is_mixed draft k rest ≡ true → keyword_line draft k rest ≡ Ok next → known_line ≡ Err PlanFaultKind.MixedStyle
   known_mixed next mixed is = is_last draft.plan parts (is_mixed draft k rest) next is ∙ (λ i. if mixed i then Err PlanFaultKind.MixedStyle else Ok next)

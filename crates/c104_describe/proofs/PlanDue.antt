@@ -1,11 +1,11 @@
 -- A refusal is of the first faulty line, and a plan is of lines without a fault.
 use Rattle.c104_describe.{proofs.FaultOrder.{faultless, least_fault}, specs.LineFaults.{IsFaultless, read_plan_line}}
-use Rattle.c104_describe.specs.{PlanFaults.{PlanFault, PlanFaultKind, fault_at, no_memory}, PlanLines.Draft, PlanText.AreFaultless}
+use Rattle.c104_describe.specs.{PlanFaults.{PlanFault, PlanFaultKind, fault_at}, PlanLines.Draft, PlanText.AreFaultless}
 use Rattle.c104_describe.specs.PlanText.{GivesPlanOrNoMemory, IsDue, IsFirstFault, draft_after_line, empty_draft, plan_of_draft}
 use Rattle.c104_describe.specs.{PlanText.{read_description, read_plan_lines}, declared.faults.PlanFaultKind.TheVariants.TooLong}
 use Rattle.{c104_plan.specs.{Plans.Plan, TextCut.{lines, most_bytes}}, std.proofs.Common.{Bool, Err, List, Ok, Result, Some, [], ap, arith}}
-use Rattle.std.proofs.Common.{false, if◌then◌else◌, inl, inr, length, nat_le, refl, slice_get, subst, suc, sym, take, true, zero, ℕ, ◌+◌}
-use Rattle.std.{proofs.{Common.{◌∙◌, ◌∷◌, ◌≡◌, ◌≤◌}, lemmas.Bool.Decides.nat_tests}, specs.Result.IfErr}
+use Rattle.std.proofs.Common.{if◌then◌else◌, length, nat_le, refl, slice_get, subst, suc, sym, take, zero, ℕ, ◌+◌, ◌∙◌, ◌∷◌, ◌≡◌, ◌≤◌}
+use Rattle.std.{proofs.lemmas.Bool.Decides.nat_tests, specs.Result.IfErr}
 
 -- the first faulty line among some, of which the first has this number
 record Found (n : ℕ) (list : List (List ℕ)) (draft : Draft) (fault : PlanFault) : Type 0 where
@@ -57,14 +57,7 @@ record FaultlessAt (n : ℕ) (list : List (List ℕ)) (draft : Draft) (place : �
 after_first : (n : ℕ) (first : List ℕ) (more : List (List ℕ)) (draft last : Draft) (said : Result Draft PlanFaultKind) → read_plan_line draft first ≡ said
     → draft_after_line n said (λ next. read_plan_lines (n + 1) more next) ≡ Ok last → (place : ℕ) (line : List ℕ)
     → ((next : Draft) → read_plan_lines (n + 1) more next ≡ Ok last → FaultlessAt (n + 1) more next place line) → FaultlessAt n (first ∷ more) draft (suc place) line
-after_first n first more draft last (Ok next) is here place line go =
-    let rest : FaultlessAt (n + 1) more next place line = go next here in
-    record {
-      before = rest.before;
-      before_it = ap (λ said. draft_after_line n said (λ p. read_plan_lines (n + 1) (take place more) p)) is ∙ rest.before_it;
-      is_faultless = rest.is_faultless;
-    }
-after_first n first more draft last (Err kind) is here place line go = cc
+after_first n first more draft last said is here place line go = search arith
 
 at_first : (n : ℕ) (first : List ℕ) (more : List (List ℕ)) (draft last : Draft) (said : Result Draft PlanFaultKind) → read_plan_line draft first ≡ said
     → draft_after_line n said (λ next. read_plan_lines (n + 1) more next) ≡ Ok last → IsFaultless draft first
@@ -105,14 +98,10 @@ first_fault text fault short is =
     }
 
 fault_of_draft : (made : Result Draft PlanFault) (fault : PlanFault) → plan_of_draft made ≡ Err fault → made ≡ Err fault
-fault_of_draft (Ok draft) fault is = cc
-fault_of_draft (Err other) fault is = let same : other ≡ fault = cc in ap Err same
+fault_of_draft made fault is = search arith
 
 due_by : (text : List ℕ) (fault : PlanFault) (short : Bool) → nat_le (length text) most_bytes ≡ short → (if short then plan_of_draft (read_plan_lines 1 (lines text) empty_draft) else Err (fault_at 0 TooLong)) ≡ Err fault → IsDue text fault
-due_by text fault true is here = inr (inr (first_fault text fault (grind (arith, nat_tests)) (fault_of_draft (read_plan_lines 1 (lines text) empty_draft) fault here)))
-due_by text fault false is here = inr (inl (record { is_long = grind (arith, nat_tests); is_told = let told : fault_at 0 TooLong ≡ fault = cc in sym told }))
+due_by text fault short is here = search (arith, first_fault, nat_tests, fault_of_draft)
 
 pub due : (text : List ℕ) (result : Result Plan PlanFault) → GivesPlanOrNoMemory result (read_description text) → IfErr result (IsDue text)
-due text (Ok plan) gives = tt
-due text (Err fault) (inl is) = due_by text fault (nat_le (length text) most_bytes) refl (sym is)
-due text (Err fault) (inr none) = inl (let same : fault ≡ no_memory = cc in same)
+due text result gives = search (arith, due_by)

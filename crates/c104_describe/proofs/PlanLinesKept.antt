@@ -3,32 +3,29 @@ use Rattle.c104_describe.{proofs.FilledKept.{cube_kept as filled_cube, mesh_kept
 use Rattle.c104_describe.specs.{PlanDrafts.{is_by_hand, is_mixed}, PlanFaults.PlanFaultKind, PlanLines.{Draft, LineParts, is_bad_number}}
 use Rattle.c104_describe.specs.PlanLines.{is_from_to, keyword_parts, names_port, number_said, port_link, port_name, port_said, select_said}
 use Rattle.c104_describe.specs.{PlanLines.{selected_link, switch_said, terminal_parts, value_said}, PlanWords.Keyword}
-use Rattle.c104_interval.specs.declared.intervals.{Select.TheVariants.{Discard, Link, Sink}, TheConstants.ROWS}
-use Rattle.c104_plan.proofs.{LayoutNumbers.power_small, PlanKept.{with_base, with_buffer, with_continue, with_delete, with_header}}
-use Rattle.c104_plan.{proofs.PlanKept.{with_random, with_row, with_switch, with_terminal, with_wire}, specs.Plans.{IsPlan, IsPlanSelect}}
-use Rattle.c104_plan.specs.Plans.{IsPlanWire, IsUnset, Plan, is_buffer_size, is_continued, is_deleted, is_linked, label_count, last_link}
-use Rattle.c104_plan.specs.Plans.{most_header_bytes, most_terminals, next_first, rows_of, switch_number, terminal_number, total_count}
-use Rattle.c104_plan.specs.{Ports.{IsSwitchPort, is_any_at}, TextWords.read_number, declared.plans.PlanBase.PlanBase}
-use Rattle.c104_plan.specs.declared.plans.{PlanRandom.PlanRandom, PlanRow.PlanRow, Shape.{Shape, TheVariants.{Cube, Hand, Mesh, Tree}}}
-use Rattle.c104_plan.specs.declared.{plans.{Shape.TheVariants.UpDown, Terminal.Terminal}, ports.{Port.Port, Wire.Wire}}
-use Rattle.std.proofs.Common.{Bool, List, None, Ok, Option, Some, [], ap, arith, bytes_eq, codes, false, get_or, if◌then◌else◌, is_none}
-use Rattle.std.proofs.Common.{length, length-append, nat_le, nat_lt, not, refl, sym, true, ℕ, ◌++◌, ◌+◌, ◌<◌, ◌==◌, ◌||◌, ◌∙◌, ◌∷◌, ◌≡◌}
-use Rattle.std.proofs.{Common.◌≤◌, lemmas.Bool.{and_parts, eqb-false, eqb-true, leb-true, ltb-false, or_parts}}
+use Rattle.{c104_interval.specs.declared.intervals.TheConstants.ROWS, c104_plan.proofs.{LayoutNumbers.power_small, PlanKept.with_base}}
+use Rattle.c104_plan.proofs.PlanKept.{with_buffer, with_continue, with_delete, with_header, with_random, with_row, with_switch}
+use Rattle.c104_plan.{proofs.PlanKept.{with_terminal, with_wire}, specs.Plans.{IsPlan, IsPlanSelect, IsPlanWire, IsUnset, Plan}}
+use Rattle.c104_plan.specs.Plans.{is_buffer_size, is_continued, is_deleted, is_linked, label_count, last_link, most_header_bytes}
+use Rattle.c104_plan.specs.{Plans.{most_terminals, next_first, rows_of, switch_number, terminal_number, total_count}, Ports.IsSwitchPort}
+use Rattle.c104_plan.specs.{Ports.is_any_at, TextWords.read_number, declared.plans.{PlanBase.PlanBase, PlanRandom.PlanRandom}}
+use Rattle.c104_plan.specs.declared.{plans.{PlanRow.PlanRow, Shape.{Shape, TheVariants.Hand}, Terminal.Terminal}, ports.Port.Port}
+use Rattle.{c104_plan.specs.declared.ports.Wire.Wire, std.proofs.Common.{Bool, List, None, Ok, Option, Some, [], ap, arith, bytes_eq}}
+use Rattle.std.proofs.Common.{codes, false, get_or, is_none, length, length-append, nat_lt, not, refl, sym, true, ℕ, ◌++◌, ◌+◌, ◌<◌, ◌==◌}
+use Rattle.std.proofs.{Common.{◌||◌, ◌∙◌, ◌∷◌, ◌≡◌, ◌≤◌}, lemmas.Bool.{and_parts, eqb-false, eqb-true, leb-true, ltb-false, or_parts}}
 use Rattle.std.{proofs.lemmas.{List.Quantifiers.position-Some, Slice.Eq.bytes_eq-Decides}, specs.Option.{option_map_or, unwrap_or}}
 
 -- Conditions that hold
 
 is_so : (b : Bool) → not b ≡ false → b ≡ true
-is_so true is = refl
-is_so false is = cc
+is_so b is = search arith
 
 holds : (b rest : Bool) → (not b || rest) ≡ false → b ≡ true
 holds b rest is = is_so b (or_parts (not b) rest is).0
 
 -- a number passes its test
 tested : (o : Option ℕ) (test : ℕ → Bool) → not (option_map_or test o false) ≡ false → test (unwrap_or o 0) ≡ true
-tested None test is = cc
-tested (Some v) test is = is_so (test v) is
+tested o test is = search (arith, is_so)
 
 -- there is room for one more
 one_more : (there most : ℕ) → nat_lt most (there + 1) ≡ false → there < most
@@ -36,18 +33,14 @@ one_more there most is = let end = ltb-false most (there + 1) is in omega (arith
 
 -- a number lies within its range
 pub number_kept : (least most : ℕ) (word : List ℕ) → is_bad_number (Some word) (is_from_to least most) ≡ false → (least ≤ value_said word) × (value_said word ≤ most)
-number_kept least most word good =
-    let parts = and_parts (nat_le least (value_said word)) (nat_le (value_said word) most) (tested (read_number word) (is_from_to least most) good) in
-    (leb-true _ _ parts.0, leb-true _ _ parts.1)
+number_kept least most word good = search (arith, and_parts, leb-true)
 
 count_kept : (word : Option (List ℕ)) → is_bad_number word (is_from_to 1 label_count) ≡ false → 1 ≤ number_said 1 word
-count_kept None good = omega arith
-count_kept (Some word) good = (number_kept 1 label_count word good).0
+count_kept word good = search (arith, number_kept)
 
 -- a name that is used is that of a switch, or of a terminal
 there_is : (o : Option ℕ) → is_none o ≡ false → o ≡ Some (unwrap_or o 0)
-there_is None is = cc
-there_is (Some n) is = refl
+there_is o is = search arith
 
 pub switch_inside : (plan : Plan) (name : List ℕ) → is_none (switch_number plan name) ≡ false → switch_said plan name < length plan.switches
 unfolding switch_number
@@ -55,19 +48,14 @@ switch_inside plan name known = (position-Some (λ other. bytes_eq other name) p
 
 terminal_inside : (plan : Plan) (name : List ℕ) → is_none (terminal_number plan name) ≡ false → unwrap_or (terminal_number plan name) 0 < length plan.terminals
 unfolding terminal_number
-terminal_inside plan name known = (position-Some (λ (t : Terminal). bytes_eq t.name name) plan.terminals _ no_terminal (there_is (terminal_number plan name) known)).0
-  where
-    no_terminal : Terminal
-    no_terminal = record { name = []; switch = 0; link = 0; first = 0; count = 0 }
+terminal_inside plan name known = search (arith, position-Some, bytes_eq, there_is)
 
 free_of : (o : Option ℕ) (test : ℕ → Bool) → is_none o ≡ false → option_map_or test o false ≡ false → test (unwrap_or o 0) ≡ false
-free_of None test known is = cc
-free_of (Some n) test known is = is
+free_of o test known is = search arith
 
 -- rows of an input that has room for one more
 one_row : (o : Option ℕ) (count : ℕ → ℕ) → is_none o ≡ false → nat_lt ROWS (option_map_or count o 0 + 1) ≡ false → count (unwrap_or o 0) < ROWS
-one_row None count known is = cc
-one_row (Some n) count known is = one_more (count n) ROWS is
+one_row o count known is = search (arith, one_more)
 
 -- a port is one of a switch, and hasn't what no line named of it
 module _ (plan : Plan) (at : List ℕ) (known : is_none (switch_number plan (port_name at)) ≡ false) where
@@ -98,12 +86,7 @@ same_switch plan a b s t is_a is_b = by_tests (bytes_eq a b) (s == t) refl refl
 
 -- what a row selects
 select_kept : (word : List ℕ) → is_bad_number (selected_link word) (is_from_to 0 last_link) ≡ false → IsPlanSelect (select_said word)
-select_kept word good = by_test (bytes_eq word (codes "sink")) (bytes_eq word (codes "discard")) good
-  where
-    by_test : (sinks discards : Bool) → is_bad_number (if sinks || discards then None else Some word) (is_from_to 0 last_link) ≡ false → IsPlanSelect (if sinks then Sink else (if discards then Discard else Link (value_said word)))
-    by_test true discards is = tt
-    by_test false true is = tt
-    by_test false false is = let low = (number_kept 0 last_link word is).1 in omega (arith, low)
+select_kept word good = search (arith, bytes_eq, codes, number_kept)
 
 -- What a line leaves as it was
 
@@ -127,12 +110,7 @@ pub record IsHosting (from : Option (List ℕ)) (plan next : Plan) : Type 0 wher
   pub counted : from ≡ None → next_first plan.terminals ≡ total_count plan.terminals → next_first next.terminals ≡ total_count next.terminals
 
 same_unset : (plan next : Plan) → next.continues ≡ plan.continues → next.bases ≡ plan.bases → next.rows ≡ plan.rows → next.randoms ≡ plan.randoms → IsUnset plan → IsUnset next
-same_unset plan next continues bases rows randoms unset = record {
-  continues = continues ∙ unset.continues;
-  bases = bases ∙ unset.bases;
-  rows = rows ∙ unset.rows;
-  randoms = randoms ∙ unset.randoms;
-}
+same_unset plan next continues bases rows randoms unset = search arith
 
 next_first-pushed : (terminals : List Terminal) (t : Terminal) → next_first (terminals ++ t ∷ []) ≡ t.first + t.count
 next_first-pushed [] t = refl
@@ -145,17 +123,12 @@ total-pushed (u ∷ terminals) t = omega (arith, total-pushed terminals t)
 
 -- without `from` a terminal's range begins where that of the terminal before ended
 begins_there : (next : ℕ) (from : Option (List ℕ)) → from ≡ None → number_said next from ≡ next
-begins_there next None none = refl
-begins_there next (Some word) none = cc
+begins_there next from none = search arith
 
 -- Lines
 
 by_hand : (shape : Shape) → not (is_by_hand shape) ≡ false → shape ≡ Hand
-by_hand Hand is = refl
-by_hand (Tree root) is = cc
-by_hand (UpDown root) is = cc
-by_hand (Mesh w h p) is = cc
-by_hand (Cube d p) is = cc
+by_hand shape is = search arith
 
 -- a line of these parts has no fault
 abbrev pub IsSound : Plan → LineParts → Type 0

@@ -1,10 +1,9 @@
 -- A plan to be labelled from a root keeps what every plan does.
-use Rattle.c104_plan.{proofs.{NamesKept.same_names, PlanRanges.next_first-le}, specs.{Distinctness.AreDistinct, PlanParts.without_first}}
-use Rattle.c104_plan.specs.Plans.{AreNames, AreTerminals, IsOfShape, IsPlan, IsRange, IsTreePlan, IsUnset, Plan, host_port, next_first}
-use Rattle.c104_plan.specs.{Plans.total_count, Ports.{IsSwitchPort, both_ends, is_port}, declared.plans.Shape.{Shape, TheVariants.Cube}}
-use Rattle.{c104_plan.specs.declared.plans.{Shape.TheVariants.{Hand, Mesh, Tree, UpDown}, Terminal.Terminal}, std.proofs.Common.{All, List}}
-use Rattle.std.proofs.Common.{[], ap, arith, length, map, refl, subst, sym, ℕ, ◌++◌, ◌+◌, ◌<◌, ◌∷◌, ◌≡◌, ◌≤◌}
-use Rattle.std.proofs.lemmas.{List.{Elements.{All-map, All-weaker}, length-map}, Simd.map-map}
+use Rattle.c104_plan.{proofs.{NamesKept.same_names, PlanRanges.next_first-le}, specs.{PlanParts.without_first, Plans.AreTerminals}}
+use Rattle.c104_plan.specs.Plans.{IsOfShape, IsPlan, IsRange, IsTreePlan, IsUnset, Plan, host_port, next_first, total_count}
+use Rattle.c104_plan.specs.{Ports.IsSwitchPort, declared.plans.Shape.{Shape, TheVariants.{Cube, Hand, Mesh, Tree, UpDown}}}
+use Rattle.{c104_plan.specs.declared.plans.Terminal.Terminal, std.proofs.Common.{List, [], ap, arith, length, map, refl, ℕ, ◌+◌, ◌<◌, ◌∷◌}}
+use Rattle.std.proofs.{Common.{◌≡◌, ◌≤◌}, lemmas.{List.{Elements.{All-map, All-weaker}, length-map}, Simd.map-map}}
 
 -- a plan of so many switches is labelled as this shape from one of them
 abbrev pub IsRootIn : ℕ → Shape → Type 0
@@ -16,19 +15,11 @@ IsRootIn n (Cube d p) = ⊥
 
 -- and so is one of more
 pub root_in_more : (n m : ℕ) (shape : Shape) → n ≤ m → IsRootIn n shape → IsRootIn m shape
-root_in_more n m Hand le is = absurd is
-root_in_more n m (Tree root) le is = omega (arith, le, is)
-root_in_more n m (UpDown root) le is = omega (arith, le, is)
-root_in_more n m (Mesh w h p) le is = absurd is
-root_in_more n m (Cube d p) le is = absurd is
+root_in_more n m shape le is = search arith
 
 -- but none of no switches
 pub root_in_none : (n : ℕ) (shape : Shape) → n ≡ 0 → IsRootIn n shape → ⊥
-root_in_none n Hand none is = is
-root_in_none n (Tree root) none is = absurd (omega (arith, none, is))
-root_in_none n (UpDown root) none is = absurd (omega (arith, none, is))
-root_in_none n (Mesh w h p) none is = is
-root_in_none n (Cube d p) none is = is
+root_in_none n shape none is = search arith
 
 total_same : (terminals : List Terminal) → total_count (map without_first terminals) ≡ total_count terminals
 total_same [] = refl
@@ -56,12 +47,7 @@ module _ (plan : Plan) (kept : IsPlan plan) where
 
   tree_plan : (shape : Shape) (root : ℕ) → root < length plan.switches → next_first plan.terminals ≡ total_count plan.terminals → IsUnset plan → IsTreePlan root (asked shape)
   unfolding counts asked
-  tree_plan shape root inside counted unset = record {
-    inside = inside;
-    firsts = All-map (λ (t : Terminal). t.first ≡ 0) without_first plan.terminals (λ k d within. refl);
-    counts = omega (arith, total_same plan.terminals, counted, next_first-le plan.terminals kept.terminals.ranges);
-    unset = record { continues = unset.continues; bases = unset.bases; rows = unset.rows; randoms = unset.randoms };
-  }
+  tree_plan shape root inside counted unset = search (arith, asked, All-map, total_same, next_first-le)
 
   of_root : (shape : Shape) → IsRootIn (length plan.switches) shape → next_first plan.terminals ≡ total_count plan.terminals → IsUnset plan → IsOfShape shape (asked shape)
   unfolding counts asked
@@ -73,21 +59,4 @@ module _ (plan : Plan) (kept : IsPlan plan) where
 
   pub rooted_kept : (shape : Shape) → IsRootIn (length plan.switches) shape → next_first plan.terminals ≡ total_count plan.terminals → IsUnset plan → IsPlan (record plan { shape = shape; terminals = map without_first plan.terminals })
   unfolding counts asked
-  rooted_kept shape inside counted unset = record {
-    header = kept.header;
-    cap = kept.cap;
-    shape = of_root shape inside counted unset;
-    few_switches = kept.few_switches;
-    names = subst AreNames (ap (λ names. plan.switches ++ names) (sym (same_names plan.terminals))) kept.names;
-    terminals = counts_are;
-    wires = kept.wires;
-    links = subst (AreDistinct is_port) (ap (λ ports. ports ++ both_ends plan.wires) (sym (map-map host_port without_first plan.terminals))) kept.links;
-    continues = kept.continues;
-    deletes = record {
-      known = subst (λ n. All (λ t. t < n) plan.deletes) (sym how_many) kept.deletes.known;
-      once = kept.deletes.once;
-    };
-    bases = kept.bases;
-    rows = kept.rows;
-    randoms = kept.randoms;
-  }
+  rooted_kept shape inside counted unset = search (arith, asked, of_root, same_names, counts_are, map-map, how_many)

@@ -7,7 +7,7 @@ use Rattle.c104_describe.{proofs.{PrintedSteps.with_wires, PrintedText.{read_kin
 use Rattle.c104_describe.specs.PlanPrint.{base_words, continue_words, delete_words, network_lines, random_words, row_words, switch_words}
 use Rattle.{c104_describe.specs.{PlanPrint.{terminal_words, wire_words}, PlanText.plan_of_draft}, c104_plan.specs.PlanParts.empty_plan}
 use Rattle.{c104_plan.specs.{PlanParts.has_some, Plans.{IsPlan, Plan}, declared.plans.Shape.TheVariants.Hand}, std.proofs.Common.{None, Ok}}
-use Rattle.std.proofs.Common.{[], ap, append-nil, append_assoc, false, length, map, refl, sym, true, ℕ, ◌++◌, ◌+◌, ◌∙◌, ◌≡◌}
+use Rattle.std.proofs.Common.{[], ap, append-nil, append_assoc, arith, false, length, map, refl, sym, true, ℕ, ◌++◌, ◌+◌, ◌∙◌, ◌≡◌}
 
 module _ (plan : Plan) (kept : IsPlan plan) (shape : plan.shape ≡ Hand) where
   hand : is_by_hand plan.shape ≡ true
@@ -38,12 +38,4 @@ module _ (plan : Plan) (kept : IsPlan plan) (shape : plan.shape ≡ Hand) where
       ∙ read_kind (random_words plan) (λ done. draft_with said None (with_randoms plan kept done)) plan.randoms (random_step plan kept said hand) at_randoms [] plan.randoms [] refl)
 
   pub read_by_hand : (n : ℕ) → plan_of_draft (read_lines_of_words n (network_lines plan Hand ++ lines_after_network plan) (draft_with false None (record empty_plan { header = plan.header; cap = plan.cap }))) ≡ Ok plan
-  read_by_hand n =
-      let switches = map switch_words plan.switches in
-      let terminals = map (terminal_words plan) plan.terminals in
-      let wires = map (wire_words plan) plan.wires in
-      let begun : draft_with false None (record empty_plan { header = plan.header; cap = plan.cap }) ≡ draft_with false None (with_switches plan kept []) =
-      λ i. draft_with false None (record empty_plan { header = plan.header; cap = plan.cap; shape = sym shape i }) in
-      (λ i. plan_of_draft (read_lines_of_words n (append_assoc (switches ++ terminals) wires (lines_after_network plan) i) (begun i)))
-      ∙ ap (λ lines. plan_of_draft (read_lines_of_words n lines (draft_with false None (with_switches plan kept [])))) (append_assoc switches terminals (wires ++ lines_after_network plan))
-      ∙ lists_read n
+  read_by_hand n = search (arith, append_assoc, lists_read)

@@ -4,7 +4,7 @@ use Rattle.c104_describe.proofs.{PrintedParts.lines_after_network, PrintedSteps.
 use Rattle.c104_describe.specs.{LineFaults.read_plan_words, PlanLines.filled_plan, PlanPrint.{cube_words, mesh_words}}
 use Rattle.{c104_describe.specs.PlanText.{draft_after_line, plan_of_draft}, c104_plan.specs.Layouts.{IsCube, IsMesh, Layout, cube, mesh}}
 use Rattle.c104_plan.specs.{PlanParts.empty_plan, Plans.{IsFilled, IsPlan, Plan}, declared.plans.Shape.{Shape, TheVariants.{Cube, Mesh}}}
-use Rattle.std.proofs.Common.{List, None, Ok, [], ap, arith, false, nat_lt, refl, sym, true, ℕ, ◌*◌, ◌+◌, ◌^◌, ◌∙◌, ◌∷◌, ◌≡◌}
+use Rattle.std.proofs.Common.{List, None, Ok, [], ap, arith, false, nat_lt, refl, true, ℕ, ◌*◌, ◌+◌, ◌^◌, ◌∙◌, ◌∷◌, ◌≡◌}
 use Rattle.std.proofs.lemmas.Bool.Decides.{nat_tests}
 
 module _ (plan : Plan) (kept : IsPlan plan) where
@@ -15,13 +15,7 @@ module _ (plan : Plan) (kept : IsPlan plan) where
   -- the filled plan is this one, but for its deletes
   module _ (shape : Shape) (layout : Layout) (p : ℕ) (is_shape : plan.shape ≡ shape) (is : IsFilled layout p plan) where
     made : filled_plan shape layout p begun ≡ with_deletes plan kept []
-    made = λ i. record begun {
-      shape = sym is_shape i;
-      switches = sym is.switches i;
-      terminals = sym is.terminals i;
-      wires = sym is.wires i;
-      continues = sym is.unset.continues i;
-    }
+    made = search arith
 
     pub read_filled : (n : ℕ) (words : List (List ℕ)) → read_plan_words (draft_with false None begun) true words ≡ Ok (draft_with false None (filled_plan shape layout p begun))
         → plan_of_draft (read_lines_of_words n (words ∷ lines_after_network plan) (draft_with false None begun)) ≡ Ok plan
