@@ -4,7 +4,7 @@ use Rattle.c104_describe.specs.PlanLines.{is_one_dot, port_link, port_name, valu
 use Rattle.c104_describe.specs.declared.{faults.PlanFaultKind.TheVariants.{SelfWire, Twice}, words.Keyword.Keyword}
 use Rattle.c104_plan.specs.{Plans.{label_count, last_link, switch_number}, Ports.is_any_at, TextWords.{dots, is_name}}
 use Rattle.{c104_plan.specs.declared.{plans.{PlanBase.PlanBase, PlanRandom.PlanRandom}, ports.Port.Port}, std.proofs.Common.{Err, List}}
-use Rattle.std.proofs.Common.{Some, [], bytes_eq, false, refl, true, ℕ, ◌==◌, ◌∙◌, ◌∷◌, ◌≡◌}
+use Rattle.std.proofs.Common.{Some, [], arith, bytes_eq, false, refl, true, ℕ, ◌==◌, ◌∷◌, ◌≡◌}
 
 -- a port of which all was read
 module _ (draft : Draft) (at : List ℕ) (s l : ℕ) (dot : is_one_dot (dots at) ≡ true) (good : is_bad_number (Some (port_link at)) (is_from_to 0 last_link) ≡ false) (is : value_said (port_link at) ≡ l) (named : is_name (port_name at) ≡ true) (known : switch_number draft.plan (port_name at) ≡ Some s) where
@@ -19,6 +19,4 @@ module _ (draft : Draft) (at : List ℕ) (s l : ℕ) (dot : is_one_dot (dots at)
 pub wire_self : (draft : Draft) (here there : List ℕ) (s t : ℕ) → is_one_dot (dots here) ≡ true → is_one_dot (dots there) ≡ true
     → is_bad_number (Some (port_link here)) (is_from_to 0 last_link) ≡ false → is_bad_number (Some (port_link there)) (is_from_to 0 last_link) ≡ false → is_name (port_name here) ≡ true → is_name (port_name there) ≡ true
     → switch_number draft.plan (port_name here) ≡ Some s → switch_number draft.plan (port_name there) ≡ Some t → (s == t) ≡ true → keyword_line draft Keyword.Wire (here ∷ there ∷ []) ≡ Err SelfWire
-wire_self draft here there s t dot far_dot good far_good named far_named known far_known equal =
-    let same : bytes_eq (port_name here) (port_name there) ≡ true = same_switch draft.plan (port_name here) (port_name there) s t known far_known ∙ equal in
-    rw (dot, far_dot, good, far_good, named, far_named, known, far_known, same) refl
+wire_self draft here there s t dot far_dot good far_good named far_named known far_known equal = search (arith, bytes_eq, same_switch)

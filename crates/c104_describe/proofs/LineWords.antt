@@ -4,8 +4,7 @@ use Rattle.{c104_describe.specs.declared.faults.PlanFaultKind.TheVariants.BadSha
 use Rattle.std.proofs.Common.{refl, ℕ, ◌<◌, ◌∷◌, ◌≡◌, ◌≤◌}
 
 more_words : (k : Keyword) (draft : Draft) (a b c d : List ℕ) (more : List (List ℕ)) → (k ≡ Keyword.Terminal → ⊥) → keyword_line draft k (a ∷ b ∷ c ∷ d ∷ more) ≡ Err BadShape
-more_words Keyword.Terminal draft a b c d more other = absurd (other refl)
-more_words k draft a b c d more other = refl
+more_words k draft a b c d more other = search arith
 
 -- four words or more
 pub many_words : (k : Keyword) (draft : Draft) (words : List (Bor (List ℕ))) → (k ≡ Keyword.Terminal → ⊥) → 4 ≤ length words → keyword_line draft k (texts words) ≡ Err BadShape

@@ -1,7 +1,7 @@
 -- A plan's text is the header length and the buffer size, and then one kind after the other.
 use Rattle.c104_describe.specs.PlanPrint.{base_words, buffer_words, continue_words, delete_words, header_words, network_lines, plan_lines}
-use Rattle.{c104_describe.specs.PlanPrint.{plan_text, random_words, row_words, sentence, text_of}, c104_plan.specs.Plans.Plan}
-use Rattle.std.proofs.Common.{List, [], ap, append_assoc, map, refl, sym, ℕ, ◌++◌, ◌∙◌, ◌∷◌, ◌≡◌}
+use Rattle.{c104_describe.specs.PlanPrint.{plan_text, random_words, row_words, text_of}, c104_plan.specs.Plans.Plan, std.proofs.Common.List}
+use Rattle.std.proofs.Common.{[], ap, append_assoc, arith, map, refl, sym, ℕ, ◌++◌, ◌∙◌, ◌∷◌, ◌≡◌}
 
 -- The lines of a plan behind those of one kind, told from the last kind on
 
@@ -34,29 +34,15 @@ abbrev pub lines_by_kinds : Plan → List (List (List ℕ))
 lines_by_kinds plan = header_words plan.header ∷ buffer_words plan.cap ∷ lines_after_buffer plan
 
 pub plan_lines-by_kinds : (plan : Plan) → plan_lines plan ≡ lines_by_kinds plan
-plan_lines-by_kinds plan =
-    let begun : List (List (List ℕ)) = header_words plan.header ∷ buffer_words plan.cap ∷ network_lines plan plan.shape in
-    let continues : List (List (List ℕ)) = map (continue_words plan) plan.continues in
-    let deletes : List (List (List ℕ)) = map (delete_words plan) plan.deletes in
-    let bases : List (List (List ℕ)) = map (base_words plan) plan.bases in
-    let rows : List (List (List ℕ)) = map (row_words plan) plan.rows in
-    append_assoc (begun ++ continues ++ deletes ++ bases) rows (lines_after_rows plan)
-    ∙ append_assoc (begun ++ continues ++ deletes) bases (lines_after_bases plan)
-    ∙ append_assoc (begun ++ continues) deletes (lines_after_deletes plan)
-    ∙ append_assoc begun continues (lines_after_continues plan)
+plan_lines-by_kinds plan = search (arith, append_assoc)
 
 text_of-append : (xs ys : List (List (List ℕ))) → text_of (xs ++ ys) ≡ text_of xs ++ text_of ys
 text_of-append [] ys = refl
-text_of-append (ws ∷ xs) ys =
-    ap (λ rest. sentence ws ++ 0x0a ∷ rest) (text_of-append xs ys)
-    ∙ sym (append_assoc (sentence ws) (0x0a ∷ text_of xs) (text_of ys))
+text_of-append (ws ∷ xs) ys = search (arith, append_assoc, text_of-append xs ys)
 
 -- a text with these lines behind it, and with more lines behind these
 joined : (text next : List ℕ) (lines rest : List (List (List ℕ))) → next ≡ text ++ text_of lines → next ++ text_of rest ≡ text ++ text_of (lines ++ rest)
-joined text next lines rest is =
-    ap (λ so_far. so_far ++ text_of rest) is
-    ∙ append_assoc text (text_of lines) (text_of rest)
-    ∙ ap (λ more. text ++ more) (sym (text_of-append lines rest))
+joined text next lines rest is = search (arith, append_assoc, text_of-append)
 
 -- two kinds of lines, one after the other
 pub both_kinds : (text next last : List ℕ) (xs ys : List (List (List ℕ))) → next ≡ text ++ text_of xs → last ≡ next ++ text_of ys → last ≡ text ++ text_of (xs ++ ys)

@@ -1,27 +1,21 @@
 -- What is printed of a plan is read back as that plan.
 use Rattle.c104_describe.proofs.{PrintedByHand.read_by_hand, PrintedFills.{read_cube, read_mesh}, PrintedNumbers.number-decimal}
-use Rattle.c104_describe.proofs.{PrintedNumbers.{read_number-decimal, value-decimal}, PrintedParts.lines_after_buffer}
-use Rattle.c104_describe.proofs.{PrintedParts.{lines_after_network, lines_by_kinds, plan_lines-by_kinds}, PrintedSteps.draft_with}
-use Rattle.c104_describe.proofs.{PrintedText.{lines_of, read_lines_of_words, read_sentences}, PrintedTrees.read_tree}
-use Rattle.c104_describe.{proofs.PrintedWords.{small_buffer, words_plan}, specs.{LineFaults.read_plan_words, PlanFaults.fault_at}}
-use Rattle.c104_describe.specs.{PlanPrint.{buffer_words, header_words, network_lines, plan_text, text_of}, PlanText.draft_after_line}
-use Rattle.c104_describe.specs.PlanText.{empty_draft, plan_of_draft, read_description, read_plan_lines}
+use Rattle.c104_describe.proofs.{PrintedNumbers.{read_number-decimal, value-decimal}, PrintedParts.{lines_after_network, lines_by_kinds}}
+use Rattle.c104_describe.proofs.{PrintedParts.plan_lines-by_kinds, PrintedSteps.draft_with, PrintedText.{lines_of, read_lines_of_words}}
+use Rattle.c104_describe.proofs.{PrintedText.read_sentences, PrintedTrees.read_tree, PrintedWords.{small_buffer, words_plan}}
+use Rattle.c104_describe.specs.{LineFaults.read_plan_words, PlanFaults.fault_at, PlanPrint.{buffer_words, header_words, network_lines}}
+use Rattle.c104_describe.specs.{PlanPrint.{plan_text, text_of}, PlanText.{empty_draft, plan_of_draft, read_description, read_plan_lines}}
 use Rattle.{c104_describe.specs.declared.faults.PlanFaultKind.TheVariants.TooLong, c104_plan.specs.{PlanParts.empty_plan, Plans.IsOfShape}}
-use Rattle.c104_plan.specs.{Plans.{IsPlan, Plan, most_header_bytes}, TextCut.{lines, most_bytes}, TextWords.read_number}
-use Rattle.{c104_plan.specs.declared.plans.Shape.{Shape, TheVariants.{Cube, Hand, Mesh, Tree, UpDown}}, std.proofs.Common.{Err, List, None}}
-use Rattle.std.proofs.Common.{Ok, Some, ap, arith, false, if◌then◌else◌, length, nat_le, refl, subst, true, ℕ, ◌++◌, ◌∙◌, ◌∷◌, ◌≡◌, ◌≤◌}
-use Rattle.std.{proofs.lemmas.Bool.Decides.nat_tests, specs.Fmt.decimal}
+use Rattle.c104_plan.specs.{Plans.{IsPlan, Plan}, TextCut.{lines, most_bytes}, declared.plans.Shape.{Shape, TheVariants.{Cube, Hand, Mesh}}}
+use Rattle.{c104_plan.specs.declared.plans.Shape.TheVariants.{Tree, UpDown}, std.proofs.Common.{Err, List, None, Ok, ap, arith, false}}
+use Rattle.std.proofs.{Common.{if◌then◌else◌, length, nat_le, subst, true, ℕ, ◌++◌, ◌∙◌, ◌≡◌, ◌≤◌}, lemmas.Bool.Decides.nat_tests}
 
 module _ (plan : Plan) (kept : IsPlan plan) where
   header_read : read_plan_words empty_draft true (header_words plan.header) ≡ Ok (record { plan = record empty_plan { header = plan.header }; header_said = true; buffer_said = false; from_said = false; labels = None })
-  header_read =
-      let bytes = number-decimal 1 most_header_bytes plan.header kept.header.0 kept.header.1 (omega (arith, kept.header.1)) in
-      rw (bytes, value-decimal plan.header (omega (arith, kept.header.1))) refl
+  header_read = search (arith, number-decimal, value-decimal)
 
   buffer_read : read_plan_words (record { plan = record empty_plan { header = plan.header }; header_said = true; buffer_said = false; from_said = false; labels = None }) true (buffer_words plan.cap) ≡ Ok (draft_with false None (record empty_plan { header = plan.header; cap = plan.cap }))
-  buffer_read =
-      let size : read_number (decimal plan.cap) ≡ Some plan.cap = read_number-decimal plan.cap (omega (arith, small_buffer plan.cap kept.cap)) in
-      rw (size, kept.cap) refl
+  buffer_read = search (arith, read_number-decimal, small_buffer)
 
   -- the network, by the plan's shape, and what is behind it
   network_read : (shape : Shape) → plan.shape ≡ shape → IsOfShape shape plan → plan_of_draft (read_lines_of_words 3 (network_lines plan shape ++ lines_after_network plan) (draft_with false None (record empty_plan { header = plan.header; cap = plan.cap }))) ≡ Ok plan
@@ -32,10 +26,7 @@ module _ (plan : Plan) (kept : IsPlan plan) where
   network_read (Cube d p) is_shape is = read_cube plan kept d p is_shape is.0 is.1 3
 
   lines_read : plan_of_draft (read_lines_of_words 1 (lines_by_kinds plan) empty_draft) ≡ Ok plan
-  lines_read =
-      ap (λ said. plan_of_draft (draft_after_line 1 said (λ next. read_lines_of_words 2 (buffer_words plan.cap ∷ lines_after_buffer plan) next))) header_read
-      ∙ ap (λ said. plan_of_draft (draft_after_line 2 said (λ next. read_lines_of_words 3 (lines_after_buffer plan) next))) buffer_read
-      ∙ network_read plan.shape refl kept.shape
+  lines_read = search (arith, header_read, buffer_read, network_read)
 
   pub read_back : length (plan_text plan) ≤ most_bytes → read_description (plan_text plan) ≡ Ok plan
   read_back short =

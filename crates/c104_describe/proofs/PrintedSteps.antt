@@ -33,8 +33,7 @@ has_more [] x = refl
 has_more (y ∷ xs) x = grind (arith, nat_tests)
 
 or_true : (b : Bool) → (b || true) ≡ true
-or_true true = refl
-or_true false = refl
+or_true b = search arith
 
 module _ (plan : Plan) (kept : IsPlan plan) where
   -- The plan as it is while each kind is read
@@ -72,22 +71,14 @@ module _ (plan : Plan) (kept : IsPlan plan) where
   switches_differ = distinct_front bytes_eq plan.switches of_terminals kept.names.differ
 
   pub switch_named : All (λ name. is_name name ≡ true) plan.switches
-  switch_named = λ s d inside.
-      let first : get_or (names plan.switches plan.terminals) s d ≡ get_or plan.switches s d = get_or_append_left plan.switches of_terminals d s inside in
-      subst (λ name. is_name name ≡ true) first (kept.names.named s d (omega (arith, length-append plan.switches of_terminals)))
+  switch_named = search (arith, get_or_append_left, length-append)
 
   pub switch_step : is_by_hand plan.shape ≡ true → (done : List (List ℕ)) (name : List ℕ) (more : List (List ℕ)) → done ++ name ∷ more ≡ plan.switches
       → read_plan_words (draft_with false None (with_switches done)) true (switch_words name) ≡ Ok (draft_with false None (with_switches (done ++ name ∷ [])))
   unfolding is_taken
   switch_step hand done name more is =
       let named : is_name name ≡ true = All-here (λ n. is_name n ≡ true) plan.switches done name more is switch_named in
-      let free : list_any (λ other. bytes_eq other name) (done ++ []) ≡ false =
-      ap (list_any (λ other. bytes_eq other name)) (append-nil done)
-      ∙ fresh bytes_eq done name more (subst (AreDistinct bytes_eq) (sym is) switches_differ) in
-      let long = length-append done (name ∷ more) in
-      let whole : length (done ++ name ∷ more) ≡ length plan.switches = ap length is in
-      let room : nat_lt 64 (length done + 1) ≡ false = grind (arith, nat_tests, kept.few_switches) in
-      rw (named, free, room, hand) refl
+      search (arith, bytes_eq, append-nil, fresh, switches_differ, length-append, nat_tests)
 
   -- Ports of switches
 
@@ -135,22 +126,10 @@ module _ (plan : Plan) (kept : IsPlan plan) where
 
   module _ (done : List Terminal) (t : Terminal) (more : List Terminal) (is : done ++ t ∷ more ≡ plan.terminals) where
     pub name_free : list_any (λ other. bytes_eq other t.name) (names plan.switches done) ≡ false
-    name_free =
-        let name : Terminal → List ℕ = λ (u : Terminal). u.name in
-        let cut : names plan.switches plan.terminals ≡ names plan.switches done ++ t.name ∷ map name more =
-        ap (names plan.switches) (sym is)
-        ∙ ap (λ rest. plan.switches ++ rest) (map-append name done (t ∷ more))
-        ∙ sym (append_assoc plan.switches (map name done) (t.name ∷ map name more)) in
-        fresh bytes_eq (names plan.switches done) t.name (map name more) (subst (AreDistinct bytes_eq) cut kept.names.differ)
+    name_free = search (arith, map-append, append_assoc, fresh, bytes_eq)
 
     pub host_free : list_any (λ q. is_port q (host_port t)) (map host_port done ++ []) ≡ false
-    host_free =
-        let cut : linked_ports plan.terminals plan.wires ≡ map host_port done ++ host_port t ∷ (map host_port more ++ both_ends plan.wires) =
-        ap (λ terminals. linked_ports terminals plan.wires) (sym is)
-        ∙ ap (λ rest. rest ++ both_ends plan.wires) (map-append host_port done (t ∷ more))
-        ∙ append_assoc (map host_port done) (host_port t ∷ map host_port more) (both_ends plan.wires) in
-        ap (list_any (λ q. is_port q (host_port t))) (append-nil (map host_port done))
-        ∙ fresh is_port (map host_port done) (host_port t) (map host_port more ++ both_ends plan.wires) (subst (AreDistinct is_port) cut kept.links)
+    host_free = search (arith, map-append, append_assoc, append-nil, fresh)
 
     pub terminal_step : is_by_hand plan.shape ≡ true → read_plan_words (draft_by_hand done (with_terminals done)) true (terminal_words plan t) ≡ Ok (draft_by_hand (done ++ t ∷ []) (with_terminals (done ++ t ∷ [])))
     unfolding is_taken is_linked switch_number
@@ -175,10 +154,7 @@ module _ (plan : Plan) (kept : IsPlan plan) where
 
   module _ (done : List Wire) (w : Wire) (more : List Wire) (is : done ++ w ∷ more ≡ plan.wires) where
     ends_cut : linked_ports plan.terminals plan.wires ≡ linked_ports plan.terminals done ++ w.here ∷ w.there ∷ both_ends more
-    ends_cut =
-        ap (linked_ports plan.terminals) (sym is)
-        ∙ ap (λ ends. map host_port plan.terminals ++ ends) (both_ends-append done (w ∷ more))
-        ∙ sym (append_assoc (map host_port plan.terminals) (both_ends done) (w.here ∷ w.there ∷ both_ends more))
+    ends_cut = search (arith, both_ends-append, append_assoc)
 
     ends_differ : AreDistinct is_port (linked_ports plan.terminals done ++ w.here ∷ w.there ∷ both_ends more)
     ends_differ = subst (AreDistinct is_port) ends_cut kept.links
@@ -281,9 +257,7 @@ module _ (plan : Plan) (kept : IsPlan plan) where
       let own : of_it r ≡ true = is_port-refl r.port in
       let parts : filter of_it plan.rows ≡ filter of_it done ++ (r ∷ filter of_it more) =
       ap (filter of_it) (sym is) ∙ filter-append of_it done (r ∷ more) ∙ (λ i. filter of_it done ++ cond (own i) (r ∷ filter of_it more) (filter of_it more)) in
-      let long = length-append (filter of_it done) (r ∷ filter of_it more) in
-      let whole : length (filter of_it plan.rows) ≡ length (filter of_it done ++ (r ∷ filter of_it more)) = ap length parts in
-      omega (arith, long, whole, kept.rows.few r.port)
+      search (arith, length-append)
 
   pub row_step : (said : Bool) → is_by_hand plan.shape ≡ true → (done : List PlanRow) (r : PlanRow) (more : List PlanRow) → done ++ r ∷ more ≡ plan.rows
       → read_plan_words (draft_with said None (with_rows done)) true (row_words plan r) ≡ Ok (draft_with said None (with_rows (done ++ r ∷ [])))

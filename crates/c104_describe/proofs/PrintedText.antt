@@ -1,11 +1,11 @@
 -- A text of lines of words is cut into just these lines and words.
 use Rattle.c104_describe.specs.{LineFaults.{read_plan_line, read_plan_words}, PlanFaults.PlanFault, PlanLines.Draft, PlanPrint.sentence}
 use Rattle.c104_describe.specs.{PlanPrint.text_of, PlanText.{draft_after_line, read_plan_lines}}
-use Rattle.c104_plan.{proofs.TextBytes.list_all-weaker, specs.TextCut.{is_plain_line, line_words, lines, parts_words, uncommented_line}}
+use Rattle.c104_plan.{proofs.TextBytes.list_all-weaker, specs.TextCut.{line_words, lines, parts_words, uncommented_line}}
 use Rattle.std.proofs.Common.{All, Bool, List, Ok, Result, [], ap, append-nil, append_assoc, arith, cond, false, filter, length, map}
-use Rattle.std.proofs.Common.{nat_le, nat_lt, not, refl, sym, true, ℕ, ◌&&◌, ◌++◌, ◌+◌, ◌==◌, ◌||◌, ◌∙◌, ◌∷◌, ◌≡◌}
+use Rattle.std.proofs.Common.{nat_le, nat_lt, not, refl, true, ℕ, ◌&&◌, ◌++◌, ◌+◌, ◌==◌, ◌||◌, ◌∙◌, ◌∷◌, ◌≡◌}
 use Rattle.std.proofs.lemmas.{Bool.{Decides.nat_tests, and_parts}, List.{Elements.{All-cons, All-nil}, Folds.list_all-append}}
-use Rattle.std.{proofs.lemmas.List.{Splits.{slice_split_at, slice_split_none}, take_all}, specs.List.{list_all, prefix_len, slice_split}}
+use Rattle.std.{proofs.lemmas.List.{Splits.{slice_split_at, slice_split_none}, take_all}, specs.List.{list_all, prefix_len}}
 
 -- a byte that a word may have in any line: printable, and neither space nor `#`
 abbrev pub is_word_byte : ℕ → Bool
@@ -42,9 +42,7 @@ is_plain b is = grind (arith, nat_tests)
 
 sentence_bytes : (ws : List (List ℕ)) → list_all is_word ws ≡ true → list_all is_line_byte (sentence ws) ≡ true
 sentence_bytes [] all = refl
-sentence_bytes (w ∷ []) all =
-    let here = and_parts (is_word w) true all in
-    list_all-weaker is_word_byte is_line_byte in_line w (and_parts (nat_lt 0 (length w)) (list_all is_word_byte w) here.0).1
+sentence_bytes (w ∷ []) all = search (arith, and_parts, list_all-weaker, in_line)
 sentence_bytes (w ∷ next ∷ more) all =
     let parts = and_parts (is_word w) (list_all is_word (next ∷ more)) all in
     let first = list_all-weaker is_word_byte is_line_byte in_line w (and_parts (nat_lt 0 (length w)) (list_all is_word_byte w) parts.0).1 in
@@ -75,31 +73,20 @@ abbrev some_bytes : List ℕ → Bool
 some_bytes piece = not (length piece == 0)
 
 keeps : (w : List ℕ) (rest : List (List ℕ)) → is_word w ≡ true → filter some_bytes (w ∷ rest) ≡ w ∷ filter some_bytes rest
-keeps w rest is =
-    let long = (and_parts (nat_lt 0 (length w)) (list_all is_word_byte w) is).0 in
-    let some : some_bytes w ≡ true = grind (arith, nat_tests) in
-    ap (λ b. cond b (w ∷ filter some_bytes rest) (filter some_bytes rest)) some
+keeps w rest is = search (arith, and_parts, nat_tests)
 
 word_fails : (w : List ℕ) → is_word w ≡ true → All (λ b. parts_words b ≡ false) w
 word_fails w is = each_fails is_word_byte parts_words no_part w (and_parts (nat_lt 0 (length w)) (list_all is_word_byte w) is).1
 
 words_of : (ws : List (List ℕ)) → list_all is_word ws ≡ true → line_words (sentence ws) ≡ ws
 words_of [] all = refl
-words_of (w ∷ []) all =
-    let here = (and_parts (is_word w) true all).0 in
-    ap (filter some_bytes) (slice_split_none parts_words w (word_fails w here)) ∙ keeps w [] here
+words_of (w ∷ []) all = search (arith, and_parts, slice_split_none, word_fails, keeps)
 words_of (w ∷ next ∷ more) all =
     let parts = and_parts (is_word w) (list_all is_word (next ∷ more)) all in
-    ap (filter some_bytes) (slice_split_at parts_words w 0x20 (sentence (next ∷ more)) (word_fails w parts.0) refl)
-    ∙ keeps w (slice_split parts_words (sentence (next ∷ more))) parts.0
-    ∙ ap (λ rest. w ∷ rest) (words_of (next ∷ more) parts.1)
+    search (arith, slice_split_at, word_fails, keeps, words_of (next ∷ more) parts.1)
 
 line_of : (draft : Draft) (ws : List (List ℕ)) → list_all is_word ws ≡ true → read_plan_line draft (sentence ws) ≡ read_plan_words draft true ws
-line_of draft ws all =
-    let bytes = sentence_bytes ws all in
-    let as_plain : is_plain_line (sentence ws) ≡ true = list_all-weaker is_line_byte (λ b. (nat_le 0x20 b && nat_le b 0x7e) || parts_words b) is_plain (sentence ws) bytes in
-    ap (λ line. read_plan_words draft (is_plain_line line) (line_words line)) (uncommented_whole (sentence ws) bytes)
-    ∙ (λ i. read_plan_words draft (as_plain i) (words_of ws all i))
+line_of draft ws all = search (arith, sentence_bytes, list_all-weaker, is_plain, uncommented_whole, words_of)
 
 -- lines of words, read in order
 abbrev pub read_lines_of_words : ℕ → List (List (List ℕ)) → Draft → Result Draft PlanFault
@@ -118,11 +105,6 @@ read_sentences n (ws ∷ more) draft ok =
 module _ {X : Type 0} (line : X → List (List ℕ)) (with : List X → Draft) (all : List X)
     (step : (done : List X) (x : X) (more : List X) → done ++ x ∷ more ≡ all → read_plan_words (with done) true (line x) ≡ Ok (with (done ++ x ∷ []))) where
   pub read_kind : (n : ℕ) (done more : List X) (rest : List (List (List ℕ))) → done ++ more ≡ all → read_lines_of_words n (map line more ++ rest) (with done) ≡ read_lines_of_words (length more + n) rest (with all)
-  read_kind n done [] rest is =
-      let here : n ≡ length {A = X} [] + n = omega arith in
-      let same : done ≡ all = sym (append-nil done) ∙ is in
-      λ i. read_lines_of_words (here i) rest (with (same i))
+  read_kind n done [] rest is = search (arith, append-nil)
   read_kind n done (x ∷ more) rest is =
-      ap (λ said. draft_after_line n said (λ next. read_lines_of_words (n + 1) (map line more ++ rest) next)) (step done x more is)
-      ∙ read_kind (n + 1) (done ++ x ∷ []) more rest (append_assoc done (x ∷ []) more ∙ is)
-      ∙ ap (λ m. read_lines_of_words m rest (with all)) (omega arith)
+      search (arith, append_assoc, read_kind (n + 1) (done ++ x ∷ []) more rest (append_assoc done (x ∷ []) more ∙ is))

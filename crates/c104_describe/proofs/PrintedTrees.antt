@@ -31,8 +31,7 @@ module _ (plan : Plan) (kept : IsPlan plan) (done : List Terminal) (t : Terminal
 
 -- each such word is one by which labels may be asked for
 labels_asked : (up_down : Bool) → is_labeller (labeller up_down) ≡ true
-labels_asked false = refl
-labels_asked true = refl
+labels_asked up_down = search arith
 
 module _ (plan : Plan) (kept : IsPlan plan) (up_down : Bool) (root : ℕ) (shape : plan.shape ≡ labelled_shape (labeller up_down) root) (tree : IsTreePlan root plan) where
   abbrev read : Plan
@@ -80,16 +79,7 @@ module _ (plan : Plan) (kept : IsPlan plan) (up_down : Bool) (root : ℕ) (shape
 
   -- the lines of the plan, in the order in which they are read
   lines_are : labelled_lines plan up_down root ++ lines_after_network plan ≡ map switch_words read.switches ++ (map (counted_words read) read.terminals ++ (map (wire_words read) read.wires ++ (label_words plan up_down root ∷ (map (delete_words read) plan.deletes ++ []))))
-  lines_are =
-      let switches = map switch_words plan.switches in
-      let terminals = map (counted_words plan) plan.terminals in
-      let wires = map (wire_words plan) plan.wires in
-      let label = label_words plan up_down root ∷ [] in
-      append_assoc (switches ++ terminals ++ wires) label (lines_after_network plan)
-      ∙ append_assoc (switches ++ terminals) wires (label ++ lines_after_network plan)
-      ∙ append_assoc switches terminals (wires ++ (label ++ lines_after_network plan))
-      ∙ (λ i. switches ++ (sym (same_terminals plan 0 plan.terminals) i ++ (sym (same_wires plan plan.wires) i ++ (label_words plan up_down root ∷ deletes_alone plan kept tree.unset i))))
-      ∙ (λ i. switches ++ (map (counted_words read) read.terminals ++ (map (wire_words read) read.wires ++ (label_words plan up_down root ∷ (sym (same_deletes plan plan.deletes) i ++ [])))))
+  lines_are = search (arith, append_assoc, same_terminals, same_wires, deletes_alone, same_deletes)
 
   pub read_tree : (n : ℕ) → plan_of_draft (read_lines_of_words n (labelled_lines plan up_down root ++ lines_after_network plan) (draft_with false None (record empty_plan { header = plan.header; cap = plan.cap }))) ≡ Ok plan
   read_tree n = ap (λ lines. plan_of_draft (read_lines_of_words n lines (draft_with false None (with_switches read read_kept [])))) lines_are ∙ lists_read n

@@ -1,14 +1,13 @@
 -- Every printed line is one of words.
-use Rattle.c104_describe.proofs.{PrintedNumbers.word-decimal, PrintedParts.{lines_after_bases, lines_after_continues, lines_after_deletes}}
-use Rattle.c104_describe.proofs.{PrintedParts.{lines_after_network, lines_after_rows, lines_by_kinds}, PrintedPorts.{word-name, word-port}}
-use Rattle.c104_describe.proofs.{PrintedPorts.word-select, PrintedSteps.{delete_printed, name_of, port_named, port_printed, switch_named}}
-use Rattle.c104_describe.{proofs.{PrintedSteps.terminal_named, PrintedText.{are_words, is_word}}, specs.PlanPrint.base_words}
-use Rattle.c104_describe.specs.PlanPrint.{continue_words, counted_words, delete_words, label_words, labelled_lines, labeller, network_lines}
-use Rattle.c104_describe.specs.PlanPrint.{random_words, row_words, switch_words, terminal_words, wire_words}
-use Rattle.c104_plan.specs.Plans.{IsLaterPort, IsOfShape, IsPlan, IsPlanSelect, IsPlanWire, IsRange, IsTreePlan, Plan, host_port}
-use Rattle.c104_plan.specs.{Plans.{is_buffer_size, label_count}, PortTexts.{port_text, switch_name}, Ports.IsSwitchPort, TextWords.is_name}
-use Rattle.c104_plan.specs.declared.plans.{PlanBase.PlanBase, PlanRandom.PlanRandom, PlanRow.PlanRow, Shape.{Shape, TheVariants.Cube}}
-use Rattle.c104_plan.specs.declared.{plans.{Shape.TheVariants.{Hand, Mesh, Tree, UpDown}, Terminal.Terminal}, ports.{Port.Port, Wire.Wire}}
+use Rattle.c104_describe.proofs.{PrintedNumbers.word-decimal, PrintedParts.lines_by_kinds, PrintedPorts.{word-name, word-port, word-select}}
+use Rattle.c104_describe.proofs.PrintedSteps.{delete_printed, name_of, port_named, port_printed, switch_named, terminal_named}
+use Rattle.c104_describe.{proofs.PrintedText.{are_words, is_word}, specs.PlanPrint.{base_words, continue_words, counted_words}}
+use Rattle.c104_describe.specs.PlanPrint.{delete_words, label_words, labelled_lines, labeller, network_lines, random_words, row_words}
+use Rattle.{c104_describe.specs.PlanPrint.{switch_words, terminal_words, wire_words}, c104_plan.specs.Plans.{IsLaterPort, IsOfShape}}
+use Rattle.c104_plan.specs.Plans.{IsPlan, IsPlanSelect, IsPlanWire, IsRange, IsTreePlan, Plan, host_port, is_buffer_size, label_count}
+use Rattle.c104_plan.specs.{PortTexts.{port_text, switch_name}, Ports.IsSwitchPort, TextWords.is_name, declared.plans.PlanBase.PlanBase}
+use Rattle.c104_plan.specs.declared.plans.{PlanRandom.PlanRandom, PlanRow.PlanRow, Shape.{Shape, TheVariants.{Cube, Hand, Mesh, Tree}}}
+use Rattle.c104_plan.specs.declared.{plans.{Shape.TheVariants.UpDown, Terminal.Terminal}, ports.{Port.Port, Wire.Wire}}
 use Rattle.std.proofs.Common.{All, Bool, List, [], ap, arith, false, get_or, length, map, nat_le, refl, true, ℕ, ◌&&◌, ◌++◌, ◌<◌, ◌∙◌, ◌∷◌}
 use Rattle.std.proofs.{Common.{◌≡◌, ◌≤◌}, lemmas.{Bool.{and_parts, leb-true}, List.{Elements.{All-head, All-tail}, Folds.list_all-append}}}
 use Rattle.std.{proofs.lemmas.Option.slice_get-get_or, specs.{List.list_all, Option.unwrap_or}}
@@ -48,8 +47,7 @@ module _ (plan : Plan) (kept : IsPlan plan) where
   words_wire w is = λ i. word_at w.here is.0 i && (word_at w.there is.1 i && true)
 
   words_continue : (p : Port) → IsLaterPort (length plan.switches) p → list_all is_word (continue_words plan p) ≡ true
-  words_continue (Port.Terminal t) is = absurd is
-  words_continue (Port.Switch s l) is = λ i. word_at (Port.Switch s l) (is.0, is.2) i && true
+  words_continue p is = search (arith, word_at)
 
   words_delete : (terminal : ℕ) → terminal < length plan.terminals → list_all is_word (delete_words plan terminal) ≡ true
   words_delete terminal is =
@@ -71,13 +69,10 @@ module _ (plan : Plan) (kept : IsPlan plan) where
   root_printed root inside = ap (λ name. unwrap_or name []) (slice_get-get_or plan.switches root [] inside)
 
   word-labeller : (up_down : Bool) → is_word (labeller up_down) ≡ true
-  word-labeller false = refl
-  word-labeller true = refl
+  word-labeller up_down = search arith
 
   words_label : (up_down : Bool) (root : ℕ) → root < length plan.switches → list_all is_word (label_words plan up_down root) ≡ true
-  words_label up_down root inside =
-      let word = ap is_word (root_printed root inside) ∙ word-name (name_of plan kept root) (switch_named plan kept root [] inside) in
-      rw (word-labeller up_down) (λ i. word i && true)
+  words_label up_down root inside = search (arith, root_printed, word-name, switch_named, word-labeller)
 
   all_printed : All IsPrinted plan.terminals
   all_printed = λ k d inside. (terminal_named plan kept k d inside, kept.terminals.on_switches k d inside, kept.terminals.ranges k d inside)
@@ -101,17 +96,8 @@ module _ (plan : Plan) (kept : IsPlan plan) where
       (words_kind (wire_words plan) (IsPlanWire (length plan.switches)) words_wire plan.wires kept.wires)
   words_network (Tree root) is = words_labelled false root is
   words_network (UpDown root) is = words_labelled true root is
-  words_network (Mesh w h p) is =
-      let sizes = is.0 in
-      let wide = word-decimal w (omega (arith, sizes.wide.1)) in
-      let high = word-decimal h (omega (arith, sizes.high.1)) in
-      let some = word-decimal p (omega (arith, sizes.links)) in
-      λ i. (wide i && (high i && (some i && true))) && true
-  words_network (Cube d p) is =
-      let sizes = is.0 in
-      let low = word-decimal d (omega (arith, sizes.low)) in
-      let some = word-decimal p (omega (arith, sizes.links)) in
-      λ i. (low i && (some i && true)) && true
+  words_network (Mesh w h p) is = search (arith, word-decimal)
+  words_network (Cube d p) is = search (arith, word-decimal)
 
   pub words_plan : are_words (lines_by_kinds plan) ≡ true
   words_plan =
@@ -123,9 +109,4 @@ module _ (plan : Plan) (kept : IsPlan plan) where
       let bases = words_kind (base_words plan) (λ (b : PlanBase). IsSwitchPort n b.port × (b.base < label_count)) words_base plan.bases (λ k d inside. (kept.bases.of_inputs k d inside, kept.bases.ranges k d inside)) in
       let deletes = words_kind (delete_words plan) (λ t. t < length plan.terminals) words_delete plan.deletes kept.deletes.known in
       let continues = words_kind (continue_words plan) (IsLaterPort n) words_continue plan.continues kept.continues.later in
-      let rest = words_both (network_lines plan plan.shape) (lines_after_network plan) (words_network plan.shape kept.shape)
-      (words_both (map (continue_words plan) plan.continues) (lines_after_continues plan) continues
-      (words_both (map (delete_words plan) plan.deletes) (lines_after_deletes plan) deletes
-      (words_both (map (base_words plan) plan.bases) (lines_after_bases plan) bases
-      (words_both (map (row_words plan) plan.rows) (lines_after_rows plan) rows randoms)))) in
-      λ i. (header i && true) && ((cap i && true) && rest i)
+      search (arith, words_both, words_network)
