@@ -1,7 +1,7 @@
 -- Steps that are asked through a port, one after the other: what the steps that are left come to, all come to.
 use Rattle.c104_tools.specs.Outcomes.{ComesTo, GoesOn, IsTold, Judge, Outcome, and_then, nothing_made, step_result, with_value}
 use Rattle.{c104_tools.specs.{Steps.{Given, Step}, declared.faults.LoadFault.LoadFault}, std.proofs.Common.{Err, List, Ok, Result, [], ap}}
-use Rattle.std.{proofs.{Common.{refl, subst, sym, ℕ, ◌++◌, ◌∙◌, ◌∷◌, ◌≡◌}, lemmas.Result.err_from_is_err_and}, specs.Result.IsErr}
+use Rattle.std.{proofs.{Common.{arith, refl, subst, sym, ℕ, ◌++◌, ◌∙◌, ◌∷◌, ◌≡◌}, lemmas.Result.err_from_is_err_and}, specs.Result.IsErr}
 use Rattle.std.specs.Result.{IsErrAnd}
 
 abbrev pub Read : Type 0
@@ -17,22 +17,18 @@ joined (Ok values) more = and_then more (λ others. Ok (values ++ others))
 joined (Err f) more = Err f
 
 pub joined_none : (more : Read) → joined (Ok []) more ≡ more
-joined_none (Ok others) = refl
-joined_none (Err f) = refl
+joined_none more = search arith
 
 joined_value : (v : ℕ) (read more : Read) → joined (with_value v read) more ≡ with_value v (joined read more)
-joined_value v (Ok values) (Ok others) = refl
-joined_value v read more = refl
+joined_value v read more = search arith
 
 joined_made : (values : List ℕ) (more : Read) → and_then more nothing_made ≡ and_then (joined (Ok values) more) nothing_made
-joined_made values (Ok others) = refl
-joined_made values (Err f) = refl
+joined_made values more = search arith
 
 module _ {P : Type 0} (due : P → ℕ → List ℕ → Given → P → Type 0) (judge : Judge) where
   -- a step that was told, and those after it
   pub asked_step : (t : Step) (steps : List Step) (p q after : P) (x : Result ℕ LoadFault) (read : Read) → IsTold due p t.switch t.command x q → GoesOn (and_then x (judge t)) q read after (λ s rest. ComesTo due judge s steps rest after) → ComesTo due judge p (t ∷ steps) read after
-  asked_step t steps p q after x read (given, gave, is) goes =
-      (given, q, gave, subst (λ (y : Result ℕ LoadFault). GoesOn (and_then y (judge t)) q read after (λ s rest. ComesTo due judge s steps rest after)) is goes)
+  asked_step t steps p q after x read told goes = search arith
 
   -- one step alone
   module _ (t : Step) (p q : P) where
@@ -66,15 +62,10 @@ module _ {P : Type 0} (due : P → ℕ → List ℕ → Given → P → Type 0) 
 
   module _ (second : List Step) (mid after : P) (more : Read) where
     then_value : (v : ℕ) (read : Read) → Then (with_value v read) mid second more after → Then read mid second more after
-    then_value v (Ok values) then = then
-    then_value v (Err f) then = then
+    then_value v read then = search arith
 
     goes_then : (first : List Step) (next : P) (read : Read) → ((rest : Read) → ComesTo due judge next first rest mid → Then rest mid second more after → ComesTo due judge next (first ++ second) (joined rest more) after) → Then read mid second more after → (x : Result ℕ LoadFault) → GoesOn x next read mid (λ s rest. ComesTo due judge s first rest mid) → GoesOn x next (joined read more) after (λ s rest. ComesTo due judge s (first ++ second) rest after)
-    goes_then first next read each then (Ok v) (rest, is, came) =
-        (joined rest more, ap (λ r. joined r more) is ∙ joined_value v rest more, each rest came (then_value v rest (subst (λ r. Then r mid second more after) is then)))
-    goes_then first next read each then (Err f) (is, same) =
-        let failed : Then (Err f) mid second more after = subst (λ r. Then r mid second more after) is then in
-        (ap (λ r. joined r more) is, failed ∙ same)
+    goes_then first next read each then x goes = search (arith, joined_value, then_value)
 
     pub came_then : (first : List Step) (p : P) (read : Read) → ComesTo due judge p first read mid → Then read mid second more after → ComesTo due judge p (first ++ second) (joined read more) after
     came_then [] p read (is, same) then =

@@ -1,35 +1,31 @@
 -- A load of a new network of a plan never meets a full trace: all its steps are fewer than a trace holds.
-use Rattle.c104_control.specs.{Reading.read_reply, Table.command_bytes, declared.commands.Command.{Command, TheVariants.{CPoke, Reset}}}
-use Rattle.{c104_control.specs.declared.commands.Command.TheVariants.Start, c104_event.specs.declared.events.Event.Event}
-use Rattle.{c104_event.specs.declared.faults.EventFault.EventFault, c104_node.specs.{Places.is_kept_full, Traces.{full_at, kept_of}}}
-use Rattle.c104_node.specs.{Traces.{lone_deed, noted_all, noted_in, seatless, trace_limit}, declared.acts.{ActOf.ActOf, Entry.Entry}}
-use Rattle.{c104_node.specs.declared.{node.NodeOf.NodeOf, stamps.Stamp.Stamp}, c104_plan.specs.{PlanImage.{Fits, Image}, Plans.IsPlan}}
-use Rattle.{c104_plan.specs.Plans.Plan, c104_regs.specs.{KeptValues.{kept_entry, kept_values}, declared.settings.Settings.Settings}}
-use Rattle.c104_run.{proofs.EventSteps.control_applied, specs.{Balance.AreInPlace, EventDeeds.event_deeds, NetRecords.NetRecord}}
-use Rattle.c104_run.specs.{NetRecords.fresh_record, Network.{Network, network_apply, new_network, with_nodes}, Stages.unless_full}
-use Rattle.c104_switch.specs.{Actions.{Reply, is_ready}, Control.switch_control, declared.actions.{ActionOf.ActionOf, ReplyOf.ReplyOf}}
-use Rattle.{c104_token.specs.{Kinds.plain_kind, declared.tokens.Token.Token}, c104_tools.proofs.LoadSteps.{IsReplied, StepsBelow}}
-use Rattle.c104_tools.proofs.{LoadSteps.{below_load, judged_replied}, NetLoads.{command_keeps, still_placed}, NetSwitches.stands_at}
-use Rattle.c104_tools.specs.{Loaded.IsUnansweredFault, Loads.{for_each, load_list, order, steps_from, switch_pokes}, NetOutcomes.EndsSo}
-use Rattle.c104_tools.specs.{NetOutcomes.{control_given, net_command, net_load}, Outcomes.{and_then, any_value, nothing_made, run_steps}}
-use Rattle.c104_tools.specs.{Outcomes.{step_result, unless_failed, with_value}, Steps.Step, declared.faults.LoadFault.LoadFault}
-use Rattle.std.proofs.Common.{Bool, Err, List, MatchResult, None, Ok, Option, Result, Some, [], ap, arith, false, inl, inr, length, map}
-use Rattle.std.proofs.Common.{nat_eq, nat_le, nat_lt, refl, slice_get, slice_set, subst, suc, sym, true, zero, ℕ, ◌*◌, ◌++◌, ◌+◌, ◌<◌, ◌∷◌}
-use Rattle.std.{proofs.{Common.{◌≡◌, ◌≤◌}, lemmas.{Bool.Decides.nat_tests, List.{length-append, length-map}}}, specs.List.cons_option}
-use Rattle.std.specs.List.{filter_map, range_with_len}
+use Rattle.c104_control.specs.{Table.command_bytes, declared.commands.Command.{Command, TheVariants.CPoke}}
+use Rattle.{c104_event.specs.declared.{events.Event.Event, faults.EventFault.EventFault}, c104_node.specs.Places.is_kept_full}
+use Rattle.c104_node.specs.{Traces.{full_at, kept_of, lone_deed, noted_all, noted_in, seatless, trace_limit}, declared.acts.ActOf.ActOf}
+use Rattle.{c104_node.specs.declared.{acts.Entry.Entry, node.NodeOf.NodeOf, stamps.Stamp.Stamp}, c104_plan.specs.PlanImage.{Fits, Image}}
+use Rattle.{c104_plan.specs.Plans.{IsPlan, Plan}, c104_regs.specs.KeptValues.{kept_entry, kept_values}}
+use Rattle.{c104_regs.specs.declared.settings.Settings.Settings, c104_run.{proofs.EventSteps.control_applied, specs.Balance.AreInPlace}}
+use Rattle.c104_run.specs.{EventDeeds.event_deeds, NetRecords.{NetRecord, fresh_record}, Network.{Network, network_apply, new_network}}
+use Rattle.{c104_run.specs.{Network.with_nodes, Stages.unless_full}, c104_switch.specs.{Actions.{Reply, is_ready}, Control.switch_control}}
+use Rattle.{c104_switch.specs.declared.actions.{ActionOf.ActionOf, ReplyOf.ReplyOf}, c104_token.specs.Kinds.plain_kind}
+use Rattle.{c104_token.specs.declared.tokens.Token.Token, c104_tools.proofs.LoadSteps.{IsReplied, StepsBelow, below_load, judged_replied}}
+use Rattle.c104_tools.{proofs.{NetLoads.{command_keeps, still_placed}, NetSwitches.stands_at}, specs.Loaded.IsUnansweredFault}
+use Rattle.c104_tools.specs.{Loads.{load_list, order, steps_from, switch_pokes}, NetOutcomes.{EndsSo, control_given, net_command, net_load}}
+use Rattle.c104_tools.specs.{Outcomes.{and_then, any_value, nothing_made, run_steps, step_result, unless_failed, with_value}, Steps.Step}
+use Rattle.{c104_tools.specs.declared.faults.LoadFault.LoadFault, std.proofs.Common.{Bool, Err, List, MatchResult, None, Ok, Option}}
+use Rattle.std.proofs.Common.{Result, Some, [], ap, arith, false, length, map, nat_eq, nat_le, nat_lt, refl, slice_get, slice_set, subst}
+use Rattle.std.proofs.{Common.{suc, sym, true, zero, ℕ, ◌*◌, ◌++◌, ◌+◌, ◌<◌, ◌∷◌, ◌≡◌, ◌≤◌}, lemmas.Bool.Decides.nat_tests}
+use Rattle.std.{proofs.lemmas.List.{length-append, length-map}, specs.List.{cons_option, filter_map, range_with_len}}
 
 -- a reply to each command of a run is one to the run
 with_replied : (v : ℕ) (rest : Result (List ℕ) LoadFault) → IsReplied rest → IsReplied (with_value v rest)
-with_replied v (Ok values) is = tt
-with_replied v (Err f) is = is
+with_replied v rest is = search arith
 
 made_replied : (read : Result (List ℕ) LoadFault) → IsReplied read → IsReplied (and_then read nothing_made)
-made_replied (Ok values) is = tt
-made_replied (Err f) is = is
+made_replied read is = search arith
 
 goes_replied : (x : Result ℕ LoadFault) (s : NetRecord) (f : NetRecord → Result (List ℕ) LoadFault × NetRecord) → IsReplied x → IsReplied (f s).0 → IsReplied (unless_failed x s f).0
-goes_replied (Ok v) s f is rest = with_replied v (f s).0 rest
-goes_replied (Err e) s f is rest = is
+goes_replied x s f is rest = search (arith, with_replied)
 
 -- traces have no more than n entries
 abbrev AreShort : ℕ → List (List Entry) → Type 0
@@ -54,12 +50,10 @@ set_short n (t ∷ traces) zero trace e is short =
 set_short n (t ∷ traces) (suc k) trace e is short = let few = short.0 in (omega (arith, few), set_short n traces k trace e is short.1)
 
 noted_short : (n : ℕ) (traces : List (List Entry)) (k : ℕ) (e : Entry) (o : Option (List Entry)) → slice_get traces k ≡ o → AreShort n traces → AreShort (n + 1) (noted_in true traces k e o)
-noted_short n traces k e None is short = still_short n traces short
-noted_short n traces k e (Some trace) is short = set_short n traces k trace e is short
+noted_short n traces k e o is short = search (arith, still_short, set_short)
 
 lone_short : (n : ℕ) (traces : List (List Entry)) (stamp : Stamp) (k : ℕ) (a : ActOf Token) (r : Reply) (ready : Bool) → is_ready r ≡ ready → AreShort n traces → AreShort (n + 1) (noted_all true traces (lone_deed stamp k a r))
-lone_short n traces stamp k a r true is short = rw is (noted_short n traces k _ (slice_get traces k) refl short)
-lone_short n traces stamp k a r false is short = rw is (still_short n traces short)
+lone_short n traces stamp k a r ready is short = search (arith, noted_short, still_short)
 
 kept_short : (n : ℕ) (r : NetRecord) (k : ℕ) (bytes : List ℕ) (answer : Result Reply EventFault) → AreShort n r.traces → AreShort (n + 1) (noted_all true r.traces (kept_of (event_deeds r.network.plan (seatless r.count) (Event.Control k bytes)) answer))
 kept_short n r k bytes (Ok told) short = lone_short n r.traces (seatless r.count) k (ActOf.Step (ActionOf.Control bytes)) told (is_ready told) refl short
@@ -97,8 +91,7 @@ module _ (r : NetRecord) (k : ℕ) (bytes : List ℕ) (are : AreInPlace r.networ
 
 -- so a run of such steps, of few enough, is replied to throughout
 told_replied : (t : Step) (given : Result (List ℕ) EventFault) (bytes : List ℕ) → given ≡ Ok bytes → IsReplied (step_result any_value t given)
-told_replied t given bytes is =
-    subst (λ (g : Result (List ℕ) EventFault). IsReplied (step_result any_value t g)) (sym is) (judged_replied t (read_reply bytes))
+told_replied t given bytes is = search (arith, judged_replied)
 
 run_replied : (steps : List Step) (r : NetRecord) (n : ℕ) → AreInPlace r.network.plan r.network.nodes → AreShort n r.traces → n + length steps ≤ trace_limit → StepsBelow (length r.network.plan.switches) steps → IsReplied (run_steps net_command any_value r steps).0
 run_replied [] r n are short room below = tt
@@ -141,14 +134,7 @@ few_from n (settings ∷ image) =
     omega (arith, here, few, rest, both)
 
 few_steps : (image : List (List Settings)) → length image ≤ 64 → 0 + length (load_list image) ≤ 1048576
-few_steps image few =
-    let c = length image in
-    let one = length_each Reset 0 c in
-    let two = few_from 0 image in
-    let three = length_each Start 0 c in
-    let both = length-append (steps_from switch_pokes 0 image) (for_each c Start) in
-    let all = length-append (for_each c Reset) (steps_from switch_pokes 0 image ++ for_each c Start) in
-    omega (arith, few, one, two, three, both, all)
+few_steps image few = search (arith, length_each, few_from, length-append)
 
 module _ (plan : Plan) (image : Image) (is_plan : IsPlan plan) (fits : Fits image plan) (in_place : AreInPlace plan (new_network {A = Token} plan).nodes) where
   -- a load of a new network is replied to throughout
@@ -165,8 +151,4 @@ module _ (plan : Plan) (image : Image) (is_plan : IsPlan plan) (fits : Fits imag
 
   -- so it is done, or out of memory
   pub fresh_load : (result : Result (Unit {0}) LoadFault) (after : NetRecord) → EndsSo (net_load (fresh_record (new_network plan)) image) result after → MatchResult result (λ _. Unit {0}) IsUnansweredFault → MatchResult result (λ u. ◌≡◌ {A = Result (Unit {0}) LoadFault × NetRecord} (Ok u, after) (net_load (fresh_record (new_network plan)) image)) (λ f. f ≡ LoadFault.Port EventFault.NoMemory)
-  fresh_load (Ok u) after (inl due) answered = due
-  fresh_load (Ok u) after (inr none) answered = absurd (cc none)
-  fresh_load (Err f) after (inr none) answered = let same : f ≡ LoadFault.Port EventFault.NoMemory = cc in same
-  fresh_load (Err (LoadFault.Port e)) after (inl due) answered = absurd (subst IsReplied (sym (ap (λ (x : Result (Unit {0}) LoadFault × NetRecord). x.0) due)) fresh_replied e refl)
-  fresh_load (Err f) after (inl due) answered = absurd answered
+  fresh_load result after due answered = search (arith, fresh_replied)

@@ -5,7 +5,7 @@ use Rattle.c104_tools.{proofs.{Asking.Read, LoadSteps.{IsReplied, StepsBelow, ju
 use Rattle.c104_tools.specs.{Loaded.IsUnansweredFault, Outcomes.{ComesTo, GoesOn, Judge, Outcome, and_then, any_value, nothing_made}}
 use Rattle.c104_tools.specs.{Outcomes.{step_result, with_value}, Ports.{Commanded, Obeyed, Switches, command_asked}, Steps.{Given, Step}}
 use Rattle.{c104_tools.specs.declared.{faults.LoadFault.LoadFault, ports.Asked.Asked}, std.proofs.Common.{Err, List, MatchResult, Ok}}
-use Rattle.std.proofs.Common.{Option, Result, Some, [], ap, refl, slice_get, slice_set, subst, sym, ℕ, ◌++◌, ◌∙◌, ◌∷◌, ◌≡◌}
+use Rattle.std.proofs.Common.{Option, Result, Some, [], ap, arith, slice_get, slice_set, subst, sym, ℕ, ◌++◌, ◌∙◌, ◌∷◌, ◌≡◌}
 
 -- these switches do steps in order, each as it is to be done, and those are the switches after it
 abbrev pub AreDone : Switches → List Step → Switches → Type 0
@@ -25,21 +25,14 @@ one_there before k s t one other = cc
 
 -- a command that was obeyed, by the switch that stands there
 pub obeyed_one : (before : Switches) (first after : Option Switches) (k : ℕ) (command reply : List ℕ) (s : Switch Token) → slice_get before k ≡ Some s → first ≡ Some before → Obeyed first (command_asked k command reply ∷ []) after → (reply ≡ (switch_control s command).0) × (after ≡ Some (slice_set before k (switch_control s command).1))
-obeyed_one before first after k command reply s there is obeyed =
-    let (x, found, replied, left) = subst (λ (o : Option Switches). Obeyed o (command_asked k command reply ∷ []) after) is obeyed in
-    let same : x ≡ s = one_there before k x s found there in (
-      replied ∙ ap (λ (y : Switch Token). (switch_control y command).0) same,
-      left ∙ ap (λ (y : Switch Token). Some (slice_set before k (switch_control y command).1)) same,
-    )
+obeyed_one before first after k command reply s there is obeyed = search (arith, one_there)
 
 -- what is said of values and of faults, however many values were read
 of_more : (A : Type 0) (B : LoadFault → Type 0) (v : ℕ) (rest read : Read) → read ≡ with_value v rest → MatchResult rest (λ values. A) B → MatchResult read (λ values. A) B
-of_more A B v (Ok values) read is known = subst (λ (r : Read). MatchResult r (λ values. A) B) (sym is) known
-of_more A B v (Err f) read is known = subst (λ (r : Read). MatchResult r (λ values. A) B) (sym is) known
+of_more A B v rest read is known = search arith
 
 of_made : (A : Type 0) (B : LoadFault → Type 0) (read : Read) (result : Result (Unit {0}) LoadFault) → result ≡ and_then read nothing_made → MatchResult read (λ values. A) B → MatchResult result (λ u. A) B
-of_made A B (Ok values) result is known = subst (λ (r : Result (Unit {0}) LoadFault). MatchResult r (λ u. A) B) (sym is) known
-of_made A B (Err f) result is known = subst (λ (r : Result (Unit {0}) LoadFault). MatchResult r (λ u. A) B) (sym is) known
+of_made A B read result is known = search arith
 
 module _ {P : Type 0} (commands : P → List Asked) (switch_count : P → ℕ) (shown : P → Option Switches) (unanswered : P → ℕ → List ℕ → EventFault → Type 0) (due : P → ℕ → List ℕ → Given → P → Type 0) where
   abbrev Known : P → ℕ → List ℕ → Given → P → Type 0
@@ -60,8 +53,7 @@ module _ {P : Type 0} (commands : P → List Asked) (switch_count : P → ℕ) (
 
   -- the switch of one that the port leaves unanswered
   left_fault : (n : ℕ) (f : LoadFault) → IsReplied {X = ℕ} (Err f) → IsLeftBySwitch switch_count unanswered n f
-  left_fault n (LoadFault.Port e) replied = absurd (replied e refl)
-  left_fault n f replied = tt
+  left_fault n f replied = search arith
 
   module _ (n : ℕ) where
     abbrev Left : Read → Type 0

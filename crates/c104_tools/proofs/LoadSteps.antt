@@ -1,11 +1,11 @@
 -- The steps of a load name switches of its image. And what is told of a reply is no fault of the port.
 use Rattle.c104_control.specs.declared.{commands.Command.{Command, TheVariants.{Reset, Start}}, replies.Answer.Answer}
-use Rattle.{c104_control.specs.declared.replies.Answer.TheVariants.Refused, c104_event.specs.declared.faults.EventFault.EventFault}
-use Rattle.{c104_regs.specs.{KeptValues.kept_values, declared.settings.Settings.Settings}, c104_tools.specs.Loads.{for_each, load_list}}
-use Rattle.c104_tools.specs.{Loads.{order, pokes, steps_from, switch_pokes}, Outcomes.{and_then, any_value}, Steps.{Step, judged}}
-use Rattle.c104_tools.specs.{Steps.{may_refuse, named_address, told_value, value_or_bad}, declared.faults.LoadFault.LoadFault}
-use Rattle.std.proofs.Common.{Bool, Err, IfErr, List, None, Option, Result, Some, [], ap, arith, false, if◌then◌else◌, length, map, suc}
-use Rattle.std.{proofs.Common.{sym, true, zero, ℕ, ◌++◌, ◌+◌, ◌<◌, ◌∙◌, ◌∷◌, ◌≡◌, ◌≢◌, ◌≤◌}, specs.List.range_with_len}
+use Rattle.{c104_event.specs.declared.faults.EventFault.EventFault, c104_regs.specs.KeptValues.kept_values}
+use Rattle.{c104_regs.specs.declared.settings.Settings.Settings, c104_tools.specs.Loads.{for_each, load_list, order, pokes, steps_from}}
+use Rattle.c104_tools.specs.{Loads.switch_pokes, Outcomes.{and_then, any_value}, Steps.{Step, judged, value_or_bad}}
+use Rattle.{c104_tools.specs.declared.faults.LoadFault.LoadFault, std.proofs.Common.{Bool, Err, IfErr, List, Option, Result, [], ap, arith}}
+use Rattle.std.proofs.Common.{if◌then◌else◌, length, map, suc, sym, zero, ℕ, ◌++◌, ◌+◌, ◌<◌, ◌∙◌, ◌∷◌, ◌≡◌, ◌≢◌, ◌≤◌}
+use Rattle.std.specs.List.{range_with_len}
 
 -- steps name switches below a number
 abbrev pub StepsBelow : ℕ → List Step → Type 0
@@ -32,11 +32,7 @@ below_from m n (settings ∷ image) low =
     (below_pokes m n (omega (arith, low)) (kept_values settings)) (below_from m (n + 1) image (omega (arith, low)))
 
 pub below_load : (image : List (List Settings)) → StepsBelow (length image) (load_list image)
-below_load image =
-    let c = length image in
-    let all : 0 + c ≤ c = omega arith in
-    below_on c (for_each c Reset) (steps_from switch_pokes 0 image ++ for_each c Start) (below_each Reset c 0 c all)
-    (below_on c (steps_from switch_pokes 0 image) (for_each c Start) (below_from c 0 image all) (below_each Start c 0 c all))
+below_load image = search (arith, below_on, below_each, below_from)
 
 -- they are in three parts
 pub load_parts : (count : ℕ) (kept image : List (List Settings)) → count ≡ length image → kept ≡ image → load_list image ≡ for_each count Reset ++ (steps_from switch_pokes 0 kept ++ for_each count Start)
@@ -47,15 +43,11 @@ abbrev pub IsReplied : {X : Type 0} → Result X LoadFault → Type 0
 IsReplied x = IfErr x (λ f. (e : EventFault) → f ≢ LoadFault.Port e)
 
 value_replied : (t : Step) (o : Option ℕ) → IsReplied (and_then (value_or_bad t.switch o) (any_value t))
-value_replied t None = λ e same. cc
-value_replied t (Some v) = tt
+value_replied t o = search arith
 
 refused_replied : (t : Step) (a n : ℕ) (may : Bool) → IsReplied {X = ℕ} (and_then (if may then Err (LoadFault.Refused t.switch a n) else Err (LoadFault.BadReply t.switch)) (any_value t))
-refused_replied t a n true = λ e same. cc
-refused_replied t a n false = λ e same. cc
+refused_replied t a n may = search arith
 
 -- so where a reply is judged
 pub judged_replied : (t : Step) (o : Option Answer) → IsReplied (and_then (judged t.switch t.command o) (any_value t))
-judged_replied t None = λ e same. cc
-judged_replied t (Some (Refused n)) = refused_replied t (named_address t.command) n (may_refuse t.command n)
-judged_replied t (Some a) = value_replied t (told_value t.command a)
+judged_replied t o = search (arith, refused_replied, value_replied)

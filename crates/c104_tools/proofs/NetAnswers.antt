@@ -2,11 +2,11 @@
 use Rattle.{c104_event.specs.declared.events.Event.Event, c104_node.{proofs.WireEnds.get_set_same, specs.{Nodes.Node, Starts.start_node}}}
 use Rattle.{c104_node.specs.{Traces.{entry_of, seatless}, declared.acts.{ActOf.ActOf, Entry.Entry}}, c104_run.specs.NetRecords.IsNetRecord}
 use Rattle.{c104_run.specs.{NetRecords.{NetRecord, RecordsEvent, ticket_after}, Runs.{at_node, run_deeds}}, c104_switch.specs.Actions.Reply}
-use Rattle.c104_switch.specs.{Control.switch_control, declared.actions.{ActionOf.ActionOf, ReplyOf.ReplyOf}}
-use Rattle.{c104_token.specs.declared.tokens.Token.Token, c104_tools.proofs.NetCommands.{commands_on, last_below, traces_below}}
-use Rattle.c104_tools.{proofs.NetSwitches.{IsObeyed, obeyed, stands_at}, specs.NetCommands.{first_commands, net_commands, net_switches}}
-use Rattle.{c104_tools.specs.Ports.{Obeyed, command_asked}, std.proofs.Common.{List, Ok, Some, [], ap, arith, length, map, refl, slice_get}}
-use Rattle.std.{proofs.Common.{slice_set, suc, true, ℕ, ◌++◌, ◌<◌, ◌∙◌, ◌∷◌, ◌≡◌}, specs.Option.option_map}
+use Rattle.{c104_switch.specs.declared.actions.{ActionOf.ActionOf, ReplyOf.ReplyOf}, c104_token.specs.declared.tokens.Token.Token}
+use Rattle.c104_tools.proofs.{NetCommands.{commands_on, last_below, traces_below}, NetSwitches.{IsObeyed, obeyed, stands_at}}
+use Rattle.c104_tools.specs.{NetCommands.{first_commands, net_commands, net_switches}, Ports.{Obeyed, command_asked}}
+use Rattle.std.proofs.Common.{List, Ok, Some, [], ap, arith, length, map, refl, slice_get, slice_set, suc, true, ℕ, ◌++◌, ◌<◌, ◌∙◌, ◌∷◌}
+use Rattle.std.{proofs.Common.◌≡◌, specs.Option.option_map}
 
 module _ (old new : NetRecord) (before : IsNetRecord old) (after : IsNetRecord new) (k : ℕ) (bytes : List ℕ) where
   module _ (r : Reply) (recorded : RecordsEvent old (Event.Control k bytes) (Ok r) new) where
@@ -42,13 +42,4 @@ module _ (old new : NetRecord) (before : IsNetRecord old) (after : IsNetRecord n
         ∙ commands_on old.count old.traces k trace_there.0 newest trace_there.1 refl (traces_below old before)
 
     pub was_obeyed : Obeyed (net_switches old) (command_asked k bytes told ∷ []) (net_switches new)
-    was_obeyed =
-        let same : told ≡ (switch_control it.at.switch bytes).0 = replied_so it.replied in
-        (it.at.switch, it.at.seen, same, ap Some it.shown)
-      where
-        bytes_of : Reply → List ℕ
-        bytes_of (ReplyOf.Control b) = b
-        bytes_of r = []
-
-        replied_so : {b : List ℕ} → ◌≡◌ {A = Reply} (ReplyOf.Control told) (ReplyOf.Control b) → told ≡ b
-        replied_so is = ap bytes_of is
+    was_obeyed = search (arith, it)

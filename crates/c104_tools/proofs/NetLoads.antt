@@ -7,11 +7,11 @@ use Rattle.{c104_plan.specs.declared.plans.Terminal.Terminal as PlanTerminal, c1
 use Rattle.c104_run.{proofs.{BalancePlaces.still_in_place, EventSteps.control_applied, FirstRecords.map_twice}, specs.Balance.AreInPlace}
 use Rattle.c104_run.specs.{NetRecords.{NetRecord, fresh_record, record_begun_if}, Network.{Network, network_apply, network_of, new_network}}
 use Rattle.c104_run.specs.{Network.{new_switch_nodes, placed_network, switch_nodes, terminal_nodes, with_nodes}, QuietNets.IsQuiet}
-use Rattle.{c104_run.specs.QuietNets.network_begin, c104_switch.specs.{Actions.Reply, Control.switch_control, Switch.{Switch, new_input}}}
-use Rattle.{c104_switch.specs.{Switch.{new_switch, new_switch_with}, declared.actions.ReplyOf.ReplyOf}, c104_token.specs.Kinds.plain_kind}
-use Rattle.{c104_token.specs.declared.tokens.Token.Token, c104_tools.{proofs.NetSwitches.stands_at, specs.Loaded.{each_with, loaded}}}
-use Rattle.c104_tools.specs.{Loads.load_list, NetCommands.{net_switches, switches_of}, NetOutcomes.{net_command, net_load, net_outcome}}
-use Rattle.c104_tools.specs.{Outcomes.{Judge, any_value, nothing_made, run_steps, step_result, unless_failed}, Ports.Switches, Steps.Step}
+use Rattle.c104_switch.specs.{Actions.Reply, Control.switch_control, Switch.{Switch, new_input, new_switch, new_switch_with}}
+use Rattle.{c104_switch.specs.declared.actions.ReplyOf.ReplyOf, c104_token.specs.{Kinds.plain_kind, declared.tokens.Token.Token}}
+use Rattle.c104_tools.{proofs.NetSwitches.stands_at, specs.{Loaded.{each_with, loaded}, Loads.load_list, NetCommands.net_switches}}
+use Rattle.c104_tools.specs.{NetCommands.switches_of, NetOutcomes.{net_command, net_load, net_outcome}, Outcomes.{Judge, any_value}}
+use Rattle.c104_tools.specs.{Outcomes.{nothing_made, run_steps, step_result, unless_failed}, Ports.Switches, Steps.Step}
 use Rattle.{c104_tools.specs.declared.faults.LoadFault.LoadFault, std.proofs.Common.{All, Bool, Err, IsTrue, List, Ok, Option, Result}}
 use Rattle.std.proofs.Common.{Some, [], ap, arith, false, if◌then◌else◌, length, map, nat_eq, nat_lt, refl, replicate, slice_get, slice_set}
 use Rattle.std.proofs.{Common.{subst, suc, sym, true, zero, ℕ, ◌++◌, ◌<◌, ◌↔◌, ◌∙◌, ◌∷◌, ◌≡◌}, lemmas.Bool.Decides.nat_tests}
@@ -81,16 +81,14 @@ apply_keeps net k bytes are = by_inside (nat_lt k (length net.plan.switches)) re
         (record { plan = refl; kinds = still_in_place net.nodes k (NodeOf.Switch at.switch) (NodeOf.Switch done.1) at.there refl; terminals = terminals_set net.nodes k at.switch done.1 at.there })
 
 full_keeps : (net : Network Token) (b : Bool) (due : Answered) → Keeps net due.1 → Keeps net (if b then (Err EventFault.TraceFull, net) else due).1
-full_keeps net true due kept = keeps_all net
-full_keeps net false due kept = kept
+full_keeps net b due kept = search (arith, keeps_all)
 
 pub command_keeps : (r : NetRecord) (k : ℕ) (bytes : List ℕ) → AreInPlace r.network.plan r.network.nodes → Keeps r.network (net_command r k bytes).1.network
 command_keeps r k bytes are = full_keeps r.network _ (network_apply plain_kind r.network (Event.Control k bytes)) (apply_keeps r.network k bytes are)
 
 module _ (judge : Judge) where
   failed_or_on : (x : Result ℕ LoadFault) (net : Network Token) (s : NetRecord) (f : NetRecord → Result (List ℕ) LoadFault × NetRecord) → Keeps net s.network → Keeps s.network (f s).1.network → Keeps net (unless_failed x s f).1.network
-  failed_or_on (Ok v) net s f one other = keeps_on net s.network (f s).1.network one other
-  failed_or_on (Err e) net s f one other = one
+  failed_or_on x net s f one other = search (arith, keeps_on)
 
   run_keeps : (steps : List Step) (r : NetRecord) → AreInPlace r.network.plan r.network.nodes → Keeps r.network (run_steps net_command judge r steps).1.network
   run_keeps [] r are = keeps_all r.network
@@ -156,9 +154,7 @@ module _ (plan : Plan) (image : Image) (fits : Fits image plan) (in_place : AreI
   asked = rw counted refl
 
   kept : Keeps (new_network plan) after.network
-  kept =
-      subst (λ (x : Ended). Keeps (new_network plan) x.1.network) (sym (came ∙ asked))
-      (run_keeps any_value (load_list image.settings) (fresh_record (new_network plan)) in_place)
+  kept = search (arith, asked, run_keeps)
 
   nodes_loaded : after.network.nodes ≡ switch_nodes plan.cap image.settings ++ terminal_nodes plan.cap plan.terminals
   nodes_loaded =
@@ -184,10 +180,7 @@ module _ (plan : Plan) (image : Image) (fits : Fits image plan) (in_place : AreI
 
   -- so a run begins there as it does in that network
   pub begun_loaded : record_begun_if true after ≡ fresh_record (placed_network plan image)
-  begun_loaded =
-      ap (λ (n : Network Token). fresh_record (network_begin n)) loaded_network
-      ∙ ap (λ (ns : List (Node Token)). fresh_record (network_of plan ns)) (nodes_begin plan.cap image.settings plan.terminals)
+  begun_loaded = search (arith, loaded_network, nodes_begin)
 
   pub begun_so : (began : Bool) → IsTrue began ↔ IsQuiet after.network → (began ≡ true) × (record_begun_if began after ≡ fresh_record (placed_network plan image))
-  begun_so true quiet = (refl, begun_loaded)
-  begun_so false quiet = absurd (cc (quiet.1 loaded_quiet))
+  begun_so began quiet = search (arith, begun_loaded, loaded_quiet)

@@ -7,13 +7,12 @@ use Rattle.c104_tools.specs.{NetOutcomes.{net_link, net_load, net_outcome, net_p
 use Rattle.c104_tools.specs.Outcomes.{GoesOn, Judge, Outcome, and_then, any_value, due_value_only, link_made, link_peeks, nothing_made}
 use Rattle.c104_tools.specs.{Outcomes.{run_steps, step_result, table_made, table_peeks, unless_failed, with_value}, Steps.Step}
 use Rattle.{c104_tools.specs.declared.{faults.LoadFault.LoadFault, reading.LinkNumbers.LinkNumbers}, std.proofs.Common.{Bool, Err, List}}
-use Rattle.std.proofs.Common.{Ok, Result, [], ap, arith, false, if◌then◌else◌, inl, inr, length, nat_eq, nat_lt, refl, subst, sym, true, ℕ}
-use Rattle.std.proofs.{Common.{◌<◌, ◌↔◌, ◌∙◌, ◌∷◌, ◌≡◌, ◌≢◌, ◌≤◌}, lemmas.Bool.Decides.nat_tests}
+use Rattle.std.proofs.Common.{Ok, Result, [], ap, arith, false, if◌then◌else◌, inl, inr, length, nat_eq, nat_lt, subst, true, ℕ, ◌<◌, ◌↔◌}
+use Rattle.std.proofs.{Common.{◌∙◌, ◌∷◌, ◌≡◌, ◌≢◌, ◌≤◌}, lemmas.Bool.Decides.nat_tests}
 
 -- what a network may give for a command, by what its event is answered
 pub may_give : (r after : NetRecord) (k : ℕ) (bytes : List ℕ) (answer : Result Reply EventFault) (given : Given) → control_given answer ≡ given → AnswersRecord r (Event.Control k bytes) answer after → MayGive r k bytes given after
-may_give r after k bytes answer given is (inl due) = inl (ap (λ (g : Given). (g, after)) (sym is) ∙ ap (λ (x : Result Reply EventFault × NetRecord). (control_given x.0, x.1)) due)
-may_give r after k bytes answer given is (inr (none, wanted, same)) = inr (sym is ∙ ap control_given none, wanted, same)
+may_give r after k bytes answer given is due = search arith
 
 abbrev Read : Type 0
 Read = Result (List ℕ) LoadFault
@@ -22,12 +21,10 @@ module _ (judge : Judge) where
   -- one step, and those after it
   module _ (next after : NetRecord) (more : NetRecord → Read → Type 0) (f : NetRecord → Read × NetRecord) (each : (rest : Read) → more next rest → EndsSo (f next) rest after) where
     value_follows : (v : ℕ) (rest result : Read) → result ≡ with_value v rest → EndsSo (f next) rest after → EndsSo (with_value v (f next).0, (f next).1) result after
-    value_follows v rest result is (inl due) = inl (ap (λ (x : Read). (x, after)) is ∙ ap (λ (x : Read × NetRecord). (with_value v x.0, x.1)) due)
-    value_follows v rest result is (inr none) = inr (is ∙ ap (with_value v) none)
+    value_follows v rest result is ends = search arith
 
     goes_so : (x : Result ℕ LoadFault) (result : Read) → GoesOn x next result after more → EndsSo (unless_failed x next f) result after
-    goes_so (Ok v) result (rest, is, came) = value_follows v rest result is (each rest came)
-    goes_so (Err e) result (is, same) = inl (ap (λ (x : Read). (x, after)) is ∙ ap (λ (x : NetRecord). (Err e, x)) same)
+    goes_so x result goes = search (arith, value_follows)
 
   pub net_follows : (steps : List Step) (r : NetRecord) (result : Read) (after : NetRecord) → ComesTo MayGive judge r steps result after → EndsSo (run_steps net_command judge r steps) result after
   net_follows [] r result after (is, same) = inl (ap (λ (x : Read). (x, after)) is ∙ ap (λ (x : NetRecord). (Ok [], x)) same)
@@ -43,8 +40,7 @@ module _ (judge : Judge) where
 
   module _ {X : Type 0} (make : List ℕ → Result X LoadFault) (r after : NetRecord) (steps : List Step) (result : Result X LoadFault) where
     made_so : (read : Read) → result ≡ and_then read make → EndsSo (run_steps net_command judge r steps) read after → EndsSo (net_outcome judge make r steps) result after
-    made_so read is (inl due) = inl (ap (λ (x : Result X LoadFault). (x, after)) is ∙ ap (λ (x : Read × NetRecord). (and_then x.0 make, x.1)) due)
-    made_so read is (inr none) = inr (is ∙ ap (λ (x : Read). and_then x make) none)
+    made_so read is ends = search arith
 
     pub outcome_ends : Outcome MayGive judge make r steps result after → EndsSo (net_outcome judge make r steps) result after
     outcome_ends out = made_so out.read out.made (net_follows steps r out.read after out.came)
@@ -52,8 +48,7 @@ module _ (judge : Judge) where
 -- a call that is told there is no such switch, or else asks its steps
 module _ {X : Type 0} (r after : NetRecord) (result : Result X LoadFault) (due : Result X LoadFault × NetRecord) where
   by_test : (fits : Bool) → (fits ≡ false → (result ≡ Err LoadFault.NoSwitch) × (after ≡ r)) → (fits ≡ true → EndsSo due result after) → EndsSo (if fits then due else (Err LoadFault.NoSwitch, r)) result after
-  by_test true refused asked = asked refl
-  by_test false refused asked = inl (ap (λ (x : Result X LoadFault). (x, after)) (refused refl).0 ∙ ap (λ (x : NetRecord). (Err LoadFault.NoSwitch, x)) (refused refl).1)
+  by_test fits refused asked = search (arith, refused)
 
 -- the numbers of switches are tested
 differ : (a b : ℕ) → nat_eq a b ≡ false → a ≢ b
@@ -76,22 +71,15 @@ module _ (r after : NetRecord) where
 
     pub load_ends : (net_switch_count r ≡ length image.settings → Outcome MayGive any_value nothing_made r (load_list image.settings) result after) → EndsSo (net_load r image) result after
     unfolding net_load
-    load_ends due =
-        by_test r after result (net_outcome any_value nothing_made r (load_list image.settings)) (nat_eq (net_switch_count r) (length image.settings)) refused
-        (λ is. outcome_ends any_value nothing_made r after (load_list image.settings) result (due (equal (net_switch_count r) (length image.settings) is)))
+    load_ends due = search (arith, by_test, refused, outcome_ends, equal)
 
     pub verify_ends : (net_switch_count r ≡ length image.settings → Outcome MayGive due_value_only nothing_made r (verify_list image.settings) result after) → EndsSo (net_verify r image) result after
     unfolding net_verify
-    verify_ends due =
-        by_test r after result (net_outcome due_value_only nothing_made r (verify_list image.settings)) (nat_eq (net_switch_count r) (length image.settings)) refused
-        (λ is. outcome_ends due_value_only nothing_made r after (verify_list image.settings) result (due (equal (net_switch_count r) (length image.settings) is)))
+    verify_ends due = search (arith, by_test, refused, outcome_ends, equal)
 
   module _ {X : Type 0} (switch : ℕ) (result : Result X LoadFault) (unknown : (result ≡ Err LoadFault.NoSwitch) ↔ (net_switch_count r ≤ switch)) (not_asked : net_switch_count r ≤ switch → after ≡ r) where
     called : (judge : Judge) (make : List ℕ → Result X LoadFault) (steps : List Step) → (switch < net_switch_count r → Outcome MayGive judge make r steps result after) → EndsSo (if nat_lt switch (net_switch_count r) then net_outcome judge make r steps else (Err LoadFault.NoSwitch, r)) result after
-    called judge make steps due =
-        by_test r after result (net_outcome judge make r steps) (nat_lt switch (net_switch_count r))
-        (λ is. let no = past switch (net_switch_count r) is in (unknown.1 no, not_asked no))
-        (λ is. outcome_ends judge make r after steps result (due (below switch (net_switch_count r) is)))
+    called judge make steps due = search (arith, by_test, past, outcome_ends)
 
   module _ (switch : ℕ) where
     pub poke_ends : (addr value : ℕ) (result : Result (Unit {0}) LoadFault) → (result ≡ Err LoadFault.NoSwitch) ↔ (net_switch_count r ≤ switch) → (net_switch_count r ≤ switch → after ≡ r) → (switch < net_switch_count r → Outcome MayGive any_value nothing_made r (pokes switch ((addr, value) ∷ [])) result after) → EndsSo (net_poke r switch addr value) result after

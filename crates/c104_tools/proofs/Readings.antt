@@ -10,10 +10,7 @@ use Rattle.std.proofs.{Common.{true, ℕ, ◌++◌, ◌+◌, ◌<◌, ◌∙◌,
 use Rattle.std.{proofs.{Math.Seq.take-suc-set, lemmas.List.map-append}, specs.List.{list_any, range_with_len}}
 
 one_more : (values : List ℕ) (i v : ℕ) (rest : Read) → i < length values → joined (Ok (take i values)) (with_value v rest) ≡ joined (Ok (take (i + 1) (set values i v))) rest
-one_more values i v (Err f) inside = refl
-one_more values i v (Ok more) inside =
-    let next : suc i ≡ i + 1 = omega arith in
-    ap Ok (sym (append_assoc (take i values) (v ∷ []) more) ∙ ap (λ xs. xs ++ more) (sym (take-suc-set values i v inside) ∙ ap (λ n. take n (set values i v)) next))
+one_more values i v rest inside = search (arith, append_assoc, take-suc-set, set)
 
 module _ {P : Type 0} (due : P → ℕ → List ℕ → Given → P → Type 0) where
   -- all peeks come to the values that were read, and then to what the peeks come to that are left
@@ -57,10 +54,7 @@ module _ {P : Type 0} (due : P → ℕ → List ℕ → Given → P → Type 0) 
   -- the two parts of a table
   module _ (n second m : ℕ) (many : n ≡ 37) (rows : m ≡ 36) (first_is : first ≡ address_number (AtLink link Register.Base)) (second_is : second ≡ address_number (AtLink link (Register.Select 0))) where
     parts : table_peeks switch link ≡ Part first n ++ Part second m
-    parts =
-        map-append (λ a. order switch (CPeek a)) (range_with_len (address_number (AtLink link Register.Base)) 37) (range_with_len (address_number (AtLink link (Register.Select 0))) 36)
-        ∙ sym (ap (λ a. Part a n ++ Part second m) first_is ∙ ap (λ k. Part (address_number (AtLink link Register.Base)) k ++ Part second m) many
-        ∙ ap (λ a. Part (address_number (AtLink link Register.Base)) 37 ++ Part a m) second_is ∙ ap (λ k. Part (address_number (AtLink link Register.Base)) 37 ++ Part (address_number (AtLink link (Register.Select 0))) k) rows)
+    parts = search (arith, map-append)
 
     pub table_first_fault : (old new : P) (f : LoadFault) → Comes due old (Part first n) new (Err f) → Comes due old (table_peeks switch link) new (Err f)
     table_first_fault old new f came =

@@ -1,24 +1,17 @@
 -- What a reply tells is what the table of commands has it say.
 use Rattle.c104_control.specs.{Table.{IsAnswer, IsAnswerTo, command_format, device_id, reply_bytes}, declared.commands.Command.Command}
 use Rattle.c104_control.specs.declared.{commands.Command.TheVariants.{CPeek, CPoke, Identify, Reset, Start}, replies.Answer.Answer}
-use Rattle.c104_control.specs.declared.replies.Answer.TheVariants.{Identity, Poked, Refused, Started, Value, WasReset}
-use Rattle.c104_tools.specs.Steps.{IsMeant, judged, may_refuse, named_address, told_value, value_or_bad}
-use Rattle.{c104_tools.specs.declared.faults.LoadFault.LoadFault, std.proofs.Common.{Bool, Err, IsTrue, List, None, Option, Result, Some}}
-use Rattle.std.proofs.Common.{ap, arith, false, if◌then◌else◌, inl, inr, refl, subst, sym, true, ℕ, ◌==◌, ◌↔◌, ◌∙◌, ◌≡◌, ◌≢◌}
-use Rattle.std.proofs.lemmas.Bool.Decides.{nat_tests}
+use Rattle.{c104_control.specs.declared.replies.Answer.TheVariants.{Identity, Refused}, c104_tools.specs.Steps.{IsMeant, judged}}
+use Rattle.c104_tools.specs.{Steps.{may_refuse, named_address, told_value, value_or_bad}, declared.faults.LoadFault.LoadFault}
+use Rattle.std.proofs.Common.{Bool, Err, IsTrue, List, None, Option, Result, Some, ap, arith, false, if◌then◌else◌, inl, inr, refl, subst}
+use Rattle.std.proofs.{Common.{sym, true, ℕ, ◌==◌, ◌↔◌, ◌∙◌, ◌≡◌, ◌≢◌}, lemmas.Bool.Decides.nat_tests}
 
 -- an answer by which a command was done
 identity_by : (n v : ℕ) (is : Bool) → (n == device_id) ≡ is → (if is then Some 0 else None) ≡ Some v → Identity n ≡ Identity device_id
-identity_by n v true same told = ap Identity (grind (arith, nat_tests))
-identity_by n v false same told = cc
+identity_by n v is same told = search (arith, nat_tests)
 
 done_by : (c : Command) (a : Answer) (v : ℕ) → told_value c a ≡ Some v → a ≡ (command_format c).answer v
-done_by Start Started v told = refl
-done_by Reset WasReset v told = refl
-done_by Identify (Identity n) v told = identity_by n v (n == device_id) refl told
-done_by (CPeek a) (Value n) v told = let same : n ≡ v = cc in ap Value same
-done_by (CPoke a w) Poked v told = refl
-done_by c a v told = cc
+done_by c a v told = search (arith, identity_by)
 
 -- what a command that was done is answered tells something, and is no refusal
 told_done : (c : Command) (v : ℕ) → told_value c ((command_format c).answer v) ≢ None

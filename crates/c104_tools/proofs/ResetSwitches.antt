@@ -5,13 +5,13 @@ use Rattle.{c104_control.specs.declared.replies.Answer.TheVariants.Poked, c104_l
 use Rattle.c104_regs.{proofs.RegisterLemmas.get_or-same, specs.Addresses.{address_of, register_properties, register_takes}}
 use Rattle.c104_regs.specs.{Registers.{bank_poke, placed_bank, settable, status_at, target, waits}, Values.reset_status}
 use Rattle.c104_regs.specs.declared.addresses.{Address.{Address, TheVariants.{AtLink, DeviceId, Started}}, Register.Register}
-use Rattle.c104_regs.specs.declared.{addresses.Register.TheVariants.Mode, faults.RegFault.{RegFault, TheVariants.{NoRegister, OutOfRange}}}
-use Rattle.c104_regs.specs.declared.{faults.RegFault.TheVariants.ReadOnly, settings.Settings.Settings, status.Status.Status}
-use Rattle.c104_switch.specs.{Commands.{input_reset, switch_poke, switch_reset}, Control.{poke_answer, switch_control, switch_obey_if_read}}
-use Rattle.c104_switch.specs.{Peeks.{link_status, registers, sides_status, statuses_from}, Switch.{Input, Switch, is_owned}}
-use Rattle.{c104_token.specs.declared.tokens.Token.Token, c104_tools.specs.Loaded.reset_with, std.proofs.Common.{Bool, Err, IsTrue, List}}
-use Rattle.std.proofs.Common.{None, Ok, Option, Result, Some, [], ap, arith, false, get_or, map, option_map, refl, slice_get, suc, true}
-use Rattle.std.proofs.{Common.{zero, ℕ, ◌&&◌, ◌<◌, ◌^◌, ◌∙◌, ◌∷◌, ◌≡◌}, lemmas.{Bool.Decides.nat_tests, Option.slice_get-map}}
+use Rattle.c104_regs.specs.declared.{faults.RegFault.{RegFault, TheVariants.{NoRegister, ReadOnly}}, settings.Settings.Settings}
+use Rattle.{c104_regs.specs.declared.status.Status.Status, c104_switch.specs.{Commands.{input_reset, switch_poke}, Control.poke_answer}}
+use Rattle.c104_switch.specs.{Control.{switch_control, switch_obey_if_read}, Peeks.{link_status, registers, sides_status, statuses_from}}
+use Rattle.{c104_switch.specs.Switch.{Input, Switch, is_owned}, c104_token.specs.declared.tokens.Token.Token}
+use Rattle.{c104_tools.specs.Loaded.reset_with, std.proofs.Common.{Bool, Err, IsTrue, List, None, Ok, Option, Result, Some, [], ap, arith}}
+use Rattle.std.proofs.Common.{false, get_or, map, option_map, refl, suc, zero, ℕ, ◌&&◌, ◌<◌, ◌^◌, ◌∙◌, ◌∷◌, ◌≡◌}
+use Rattle.std.proofs.lemmas.{Bool.Decides.nat_tests, Option.slice_get-map}
 
 -- no input of a switch that was reset streams
 none_owned : (inputs : List (Input Token)) (o : ℕ) → is_owned (map input_reset inputs) o ≡ false
@@ -21,15 +21,11 @@ none_owned (p ∷ inputs) o = none_owned inputs o
 module _ (s : Switch Token) (settings : List Settings) where
   -- so none of its links is busy
   idle_sides : (l : ℕ) (p : Option (Input Token)) (q : Option (Outgoing Token)) → (sides_status (map input_reset s.inputs) l (option_map input_reset p) q).busy ≡ false
-  idle_sides l None q = refl
-  idle_sides l (Some p) None = refl
-  idle_sides l (Some p) (Some q) = none_owned s.inputs l
+  idle_sides l p q = search (arith, none_owned)
 
   idle_link : (l : ℕ) → (link_status (reset_with s settings) l).busy ≡ false
   unfolding link_status
-  idle_link l =
-      ap (λ (o : Option (Input Token)). (sides_status (map input_reset s.inputs) l o (slice_get (switch_reset s).outputs l)).busy) (slice_get-map input_reset s.inputs l)
-      ∙ idle_sides l (slice_get s.inputs l) (slice_get (switch_reset s).outputs l)
+  idle_link l = search (arith, slice_get-map, idle_sides)
 
   idle_from : (n k l : ℕ) → (get_or (statuses_from (reset_with s settings) n k) l reset_status).busy ≡ false
   idle_from n zero zero = refl
@@ -41,8 +37,7 @@ module _ (s : Switch Token) (settings : List Settings) where
   idle l = idle_from 0 32 l
 
   never : (b : Bool) → (b && false) ≡ false
-  never true = refl
-  never false = refl
+  never b = search arith
 
   not_kept : (l : ℕ) (r : Register) → (waits r && (status_at (registers (reset_with s settings)) l).busy) ≡ false
   not_kept l r = ap (λ b. waits r && b) (idle l) ∙ never (waits r)
@@ -64,9 +59,7 @@ module _ (s : Switch Token) (settings : List Settings) where
     left_of (Ok (l, r)) at may = rw (at, not_kept l r, not_kept_placed l r) refl
 
     poked : settable a v ≡ Ok tt → switch_poke (reset_with s settings) a v ≡ (Ok tt, reset_with s (bank_poke (placed_bank settings) a v).1.settings)
-    poked may =
-        ap (λ (x : Result (Unit {0}) RegFault). (x, reset_with s (bank_poke (registers (reset_with s settings)) a v).1.settings)) (answer_of (target a v) refl may)
-        ∙ ap (λ (xs : List Settings). (Ok tt, reset_with s xs)) (left_of (target a v) refl may)
+    poked may = search (arith, answer_of, left_of)
 
     -- so is the command
     pub poke_obeyed : settable a v ≡ Ok tt → a < 2 ^ 16 → v < 2 ^ 32 → switch_control (reset_with s settings) (command_bytes (CPoke a v)) ≡ (reply_bytes Poked, reset_with s (bank_poke (placed_bank settings) a v).1.settings)
@@ -76,14 +69,11 @@ module _ (s : Switch Token) (settings : List Settings) where
 
 -- a value that may be set is a small one
 small_by : (r : Register) (v : ℕ) → IsTrue (register_takes r v) → v < 4294967296
-small_by Mode v takes = grind (arith, nat_tests)
-small_by r v takes = grind (arith, nat_tests)
+small_by r v takes = search (arith, nat_tests)
 
 module _ (a v : ℕ) where
   taken_by : (l : ℕ) (r : Register) (writable fits : Bool) → register_takes r v ≡ fits → (register_properties r).is_writable ≡ writable → address_of a ≡ Some (AtLink l r) → settable a v ≡ Ok tt → v < 4294967296
-  taken_by l r true true takes may at is = small_by r v takes
-  taken_by l r true false takes may at is = let no : ◌≡◌ {A = Result (Unit {0}) RegFault} (Err OutOfRange) (Ok tt) = rw (at, may, takes) at is in cc
-  taken_by l r false fits takes may at is = let no : ◌≡◌ {A = Result (Unit {0}) RegFault} (Err ReadOnly) (Ok tt) = rw (at, may) at is in cc
+  taken_by l r writable fits takes may at is = search (arith, small_by)
 
   pub settable_small : settable a v ≡ Ok tt → v < 4294967296
   settable_small is = by_address (address_of a) refl is

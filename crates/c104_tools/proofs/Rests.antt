@@ -19,16 +19,10 @@ numbers_none a n past = let none : n - a ≡ 0 = omega arith in ap (range_with_l
 
 -- those from i on of n numbers
 pub numbers_from : (a n : ℕ) → range_with_len a n ≡ numbers_left (a + 0) (a + n)
-numbers_from a n =
-    let first : a ≡ a + 0 = omega arith in
-    let count : n ≡ a + n - (a + 0) = omega arith in
-    ap (λ k. range_with_len k n) first ∙ ap (range_with_len (a + 0)) count
+numbers_from a n = search arith
 
 pub numbers_on : (a n i : ℕ) → i < n → numbers_left (a + i) (a + n) ≡ (a + i) ∷ numbers_left (a + (i + 1)) (a + n)
-numbers_on a n i inside =
-    let below : a + i < a + n = omega arith in
-    let next : a + i + 1 ≡ a + (i + 1) = omega arith in
-    numbers_next (a + i) (a + n) below ∙ ap (λ b. (a + i) ∷ numbers_left b (a + n)) next
+numbers_on a n i inside = search (arith, numbers_next)
 
 -- what is left of a list
 left_next : {X : Type 0} (xs : List X) (i : ℕ) (d : X) → i < length xs → drop i xs ≡ get_or xs i d ∷ drop (i + 1) xs
@@ -51,10 +45,7 @@ abbrev pub peeks_left : ℕ → List Settings → ℕ → ℕ → List Step
 peeks_left switch settings a n = peeks switch (flat_map (λ b. due_entry b (due_value settings b)) (numbers_left a n))
 
 pub peeks_next : (switch : ℕ) (settings : List Settings) (a n : ℕ) → a < n → (due : Option ℕ) → due ≡ due_value settings a → peeks_left switch settings a n ≡ peeks switch (due_entry a due) ++ peeks_left switch settings (a + 1) n
-peeks_next switch settings a n below due is =
-    ap (λ xs. peeks switch (flat_map (λ b. due_entry b (due_value settings b)) xs)) (numbers_next a n below)
-    ∙ map-append _ (due_entry a (due_value settings a)) (flat_map (λ b. due_entry b (due_value settings b)) (numbers_left (a + 1) n))
-    ∙ ap (λ o. peeks switch (due_entry a o) ++ peeks_left switch settings (a + 1) n) (sym is)
+peeks_next switch settings a n below due is = search (arith, numbers_next, map-append)
 
 -- steps of the switches of an image
 pub switches_next : (f : ℕ → List Settings → List Step) (image : List (List Settings)) (i : ℕ) (x : List Settings) → i < length image → x ≡ get_or image i x → steps_from f i (drop i image) ≡ f i x ++ steps_from f (i + 1) (drop (i + 1) image)

@@ -2,16 +2,15 @@
 use Rattle.c104_control.{proofs.ReadCommands.read_back, specs.{Table.{command_bytes, reply_bytes}, declared.commands.Command.Command}}
 use Rattle.c104_control.specs.declared.{commands.Command.TheVariants.CPeek, faults.CommandFault.CommandFault}
 use Rattle.{c104_control.specs.declared.replies.Answer.TheVariants.Value, c104_event.specs.declared.faults.EventFault.EventFault}
-use Rattle.{c104_node.proofs.WireEnds.get_set_same, c104_regs.specs.Addresses.address_number}
-use Rattle.c104_regs.specs.declared.{addresses.{Address.TheVariants.AtLink, Register.Register}, faults.RegFault.RegFault}
-use Rattle.c104_regs.specs.declared.{faults.RegFault.TheVariants.NoRegister, registers.TheConstants.LINKS}
-use Rattle.c104_switch.specs.{Control.{peek_answer, switch_control, switch_obey_if_read}, Peeks.switch_peek, Switch.Switch}
-use Rattle.{c104_token.specs.declared.tokens.Token.Token, c104_tools.{proofs.KnownCommands.obeyed_one, specs.Loads.order}}
-use Rattle.c104_tools.specs.{Outcomes.{ComesTo, GoesOn, any_value, peeks_at, step_result}, Ports.{Commanded, Switches}, Reads.AreSeen}
-use Rattle.c104_tools.specs.{Reads.{HasValue, link_addresses}, Steps.Given, Tables.table_addresses, declared.faults.LoadFault.LoadFault}
-use Rattle.{c104_tools.specs.declared.ports.Asked.Asked, std.proofs.Common.{Err, List, None, Ok, Option, Result, Some, [], ap, arith}}
-use Rattle.std.proofs.Common.{get_or, refl, slice_get, slice_set, subst, suc, sym, zero, ℕ, ◌*◌, ◌++◌, ◌+◌, ◌<◌, ◌^◌, ◌∙◌, ◌∷◌, ◌≡◌, ◌≤◌}
-use Rattle.std.{proofs.lemmas.Nat.le_bytes_4, specs.{Int.{from_le_bytes, to_le_bytes, w32}, List.{AllByRecursion, range_with_len, zip}}}
+use Rattle.{c104_node.proofs.WireEnds.get_set_same, c104_regs.specs.declared.faults.RegFault.{RegFault, TheVariants.NoRegister}}
+use Rattle.{c104_regs.specs.declared.registers.TheConstants.LINKS, c104_switch.specs.Control.{peek_answer, switch_control}}
+use Rattle.{c104_switch.specs.{Control.switch_obey_if_read, Peeks.switch_peek, Switch.Switch}, c104_token.specs.declared.tokens.Token.Token}
+use Rattle.c104_tools.{proofs.KnownCommands.obeyed_one, specs.{Loads.order, Outcomes.{ComesTo, GoesOn, any_value, peeks_at, step_result}}}
+use Rattle.c104_tools.specs.{Ports.{Commanded, Switches}, Reads.{AreSeen, HasValue, link_addresses}, Steps.Given, Tables.table_addresses}
+use Rattle.{c104_tools.specs.declared.{faults.LoadFault.LoadFault, ports.Asked.Asked}, std.proofs.Common.{Err, List, Ok, Option, Result}}
+use Rattle.std.proofs.Common.{Some, [], ap, arith, get_or, refl, slice_get, slice_set, subst, suc, sym, zero, ℕ, ◌++◌, ◌+◌, ◌<◌, ◌^◌, ◌∙◌}
+use Rattle.std.{proofs.{Common.{◌∷◌, ◌≡◌, ◌≤◌}, lemmas.Nat.le_bytes_4}, specs.{Int.{from_le_bytes, to_le_bytes, w32}, List.AllByRecursion}}
+use Rattle.std.specs.List.{range_with_len, zip}
 
 -- an address that a command can name
 abbrev pub IsNamed : ℕ → Type 0
@@ -19,8 +18,7 @@ IsNamed a = a < 2 ^ 16
 
 -- a value is read back in the 32 bits of a reply
 value_bytes : (w i : ℕ) → get_or (to_le_bytes w32 w) i 0 < 256
-value_bytes w (suc (suc (suc (suc i)))) = omega arith
-value_bytes w i = omega arith
+value_bytes w i = search arith
 
 same_bytes : (w : ℕ) → reply_bytes (Value w) ≡ reply_bytes (Value (from_le_bytes w32 (to_le_bytes w32 w)))
 same_bytes w = ap (λ (bytes : List ℕ). 132 ∷ bytes) (sym (le_bytes_4 (to_le_bytes w32 w) (from_le_bytes w32 (to_le_bytes w32 w)) refl (value_bytes w) refl))
@@ -79,23 +77,10 @@ named_on [] second one other = other
 named_on (a ∷ first) second (low, one) other = (low, named_on first second one other)
 
 pub link_named : (link : ℕ) → link < LINKS → AllByRecursion IsNamed (link_addresses link)
-link_named link inside =
-    let low : link < 32 = inside in
-    let is : address_number (AtLink link Register.Sunk) ≡ 256 * (link + 1) + 3 = refl in
-    range_named (address_number (AtLink link Register.Sunk)) 7 (omega (arith, low, is))
+link_named link inside = search (arith, range_named)
 
 pub table_named : (link : ℕ) → link < LINKS → AllByRecursion IsNamed (table_addresses link)
-table_named link inside =
-    let low : link < 32 = inside in
-    let first : address_number (AtLink link Register.Base) ≡ 256 * (link + 1) + 63 = refl in
-    let second : address_number (AtLink link (Register.Select 0)) ≡ 256 * (link + 1) + 128 = refl in
-    named_on (range_with_len (address_number (AtLink link Register.Base)) 37) (range_with_len (address_number (AtLink link (Register.Select 0))) 36)
-    (range_named (address_number (AtLink link Register.Base)) 37 (omega (arith, low, first)))
-    (range_named (address_number (AtLink link (Register.Select 0))) 36 (omega (arith, low, second)))
+table_named link inside = search (arith, named_on, range_named)
 
 pub are_seen : {P : Type 0} (commands : P → List Asked) (switch_count : P → ℕ) (shown : P → Option Switches) (unanswered : P → ℕ → List ℕ → EventFault → Type 0) (due : P → ℕ → List ℕ → Given → P → Type 0) (switch : ℕ) (addresses values told : List ℕ) (p q : P) → AllByRecursion IsNamed addresses → ComesTo (Commanded commands switch_count shown unanswered due) any_value p (peeks_at switch addresses) (Ok values) q → values ≡ told → AreSeen (shown p) switch addresses told
-are_seen commands switch_count shown unanswered due switch addresses values told p q named came same = by_shown (shown p) refl
-  where
-    by_shown : (o : Option Switches) → shown p ≡ o → AreSeen o switch addresses told
-    by_shown None is = tt
-    by_shown (Some before) is = λ s at. subst (λ xs. AllByRecursion (HasValue s) (zip addresses xs)) same (values_seen commands switch_count shown unanswered due switch s addresses p q values before named is at came)
+are_seen commands switch_count shown unanswered due switch addresses values told p q named came same = search (arith, values_seen)

@@ -3,7 +3,7 @@ use Rattle.{c104_plan.specs.PlanImage.AreSettings, c104_regs.proofs.{KeptPokes.A
 use Rattle.c104_regs.specs.{Ranges.IsInRange, Settings.reset_settings, declared.settings.Settings.Settings}
 use Rattle.c104_tools.{proofs.{KnownCommands.AreDone, LoadedSwitches.{AreLoadable, load_done}}, specs.Loaded.{each_with, loaded}}
 use Rattle.{c104_tools.specs.{Loads.load_list, Ports.Switches}, std.proofs.Common.{All, List, MatchOption, Option, Some, [], arith, get_or}}
-use Rattle.std.proofs.{Common.{inl, inr, length, refl, subst, suc, sym, zero, ℕ, ◌∙◌, ◌∷◌, ◌≡◌}, lemmas.{Bool.cases_lt, List.get_or_past}}
+use Rattle.std.proofs.{Common.{inl, inr, length, refl, subst, suc, sym, zero, ℕ, ◌∷◌, ◌≡◌}, lemmas.{Bool.cases_lt, List.get_or_past}}
 
 -- the settings of an image are those that a switch may have
 module _ (settings : List Settings) (all : AreSettings settings) where
@@ -22,6 +22,4 @@ loadable_by (settings ∷ image) all = (in_range settings (all zero settings (om
 
 -- the switches that a port shows are as many as those of an image, and do all steps of its load
 pub load_shown : (before : Switches) (image : List (List Settings)) (first : Option Switches) (count : ℕ) → first ≡ Some before → MatchOption first (Unit {0}) (λ switches. length switches ≡ count) → count ≡ length image → All AreSettings image → AreDone before (load_list image) (each_with loaded before image)
-load_shown before image first count is told fits all =
-    let as_many : length before ≡ count = subst (λ (o : Option Switches). MatchOption o (Unit {0}) (λ switches. length switches ≡ count)) is told in
-    load_done before image (sym (as_many ∙ fits)) (loadable_by image all)
+load_shown before image first count is told fits all = search (arith, load_done, loadable_by)
