@@ -3,10 +3,9 @@ use Rattle.c104_plan.specs.{ImageEdits.{AnswersDue, image_peek, image_set, poke_
 use Rattle.{c104_plan.specs.{PlanImage.IsImage, declared.image_faults.ImageFault.ImageFault}, c104_regs.proofs.PlacedPokes.poke_refused}
 use Rattle.c104_regs.{proofs.PlacedPokes.poke_taken, specs.Registers.{RegisterBank, bank_peek, placed_bank, settable}}
 use Rattle.{c104_regs.specs.declared.{faults.RegFault.RegFault, settings.Settings.Settings}, std.proofs.Common.{Err, List, Ok, OnErr, OnOk}}
-use Rattle.std.proofs.Common.{Result, Some, ap, get_or, inl, inr, length, option_map, refl, set, slice_get, subst, sym, ℕ, ◌<◌, ◌∙◌, ◌≡◌}
-use Rattle.std.proofs.{Common.{◌≢◌, ◌⊎◌}, lemmas.{Bool.{cases_eq, cases_lt}, List.{Elements.All-set, get_or-set_other, get_or-set_same}}}
-use Rattle.std.proofs.lemmas.{List.{length-set, set-get_or}, Option.{get_or_from_slice_get, slice_get-get_or, slice_get_past}}
-use Rattle.std.proofs.lemmas.Option.{slice_get_within}
+use Rattle.std.proofs.Common.{Result, Some, ap, arith, get_or, inl, inr, length, set, slice_get, subst, sym, ℕ, ◌<◌, ◌∙◌, ◌≡◌, ◌≢◌, ◌⊎◌}
+use Rattle.std.proofs.lemmas.{Bool.{cases_eq, cases_lt}, List.{Elements.All-set, get_or-set_other, get_or-set_same, length-set, set-get_or}}
+use Rattle.std.proofs.lemmas.Option.{get_or_from_slice_get, slice_get-get_or, slice_get_past, slice_get_within}
 
 abbrev image_of : List (ℕ × ℕ) → List (List Settings) → Image
 image_of ranges settings = record { ranges = ranges; settings = settings }
@@ -38,8 +37,7 @@ module _ (ranges : List (ℕ × ℕ)) (xs : List (List Settings)) (i a v : ℕ) 
   with p = (p.0, image_of ranges (set xs i p.1))
 
   pub answered : AnswersDue x (settings_set x a v) r y → AnswersDue image (image_set image i a v) r after
-  answered (inl same) = inl (rw at (ap with same))
-  answered (inr (refused, due, same)) = inr (refused, rw at due, ap (λ z. image_of ranges (set xs i z)) same ∙ ap (image_of ranges) put_back)
+  answered settled = search (arith, set, put_back)
 
   -- the fault of a register is that of its address and value
   fault_by : (e : RegFault) (s : Result (Unit {0}) RegFault) → settable a v ≡ s → r ≡ (settings_set x a v).0 → r ≡ Err (ImageFault.Register e) → settable a v ≡ Err e
@@ -54,18 +52,11 @@ module _ (ranges : List (ℕ × ℕ)) (xs : List (List Settings)) (i a v : ℕ) 
       is ∙ ap Err one
 
   pub fault_is : AnswersDue x (settings_set x a v) r y → (e : RegFault) → r ≡ Err (ImageFault.Register e) → settable a v ≡ Err e
-  fault_is (inl same) e refused = fault_by e (settable a v) refl (ap (λ (p : Result (Unit {0}) ImageFault × List Settings). p.0) same) refused
-  fault_is (inr (none, due, same)) e refused =
-      let both : ◌≡◌ {A = Result (Unit {0}) ImageFault} (Err ImageFault.NoMemory) (Err (ImageFault.Register e)) = sym none ∙ refused in
-      cc
+  fault_is settled e refused = search (arith, fault_by)
 
   -- what the address reads afterwards, and what every other does
   pub written_at : OnOk r (bank_peek (placed_bank y) a ≡ Ok v) → OnOk r (image_peek after i a ≡ Some (Ok v))
-  written_at reads = on r reads
-    where
-      on : (r : Result (Unit {0}) ImageFault) → OnOk r (bank_peek (placed_bank y) a ≡ Ok v) → OnOk r (image_peek after i a ≡ Some (Ok v))
-      on (Ok u) reads = rw here_after (ap Some reads)
-      on (Err e) reads = tt
+  written_at reads = search (arith, here_after)
 
   abbrev Others : Type 0
   Others = (c : ℕ) → c ≢ a → bank_peek (placed_bank y) c ≡ bank_peek (placed_bank x) c
@@ -77,21 +68,10 @@ module _ (ranges : List (ℕ × ℕ)) (xs : List (List Settings)) (i a v : ℕ) 
   here_as_before c differs others = rw (here_after, at) (ap Some (others c differs))
 
   all_others : Others → AllOthers
-  all_others others s c (inl elsewhere) = ap (λ o. option_map (λ settings. bank_peek (placed_bank settings) c) o) (other_at xs i s y y elsewhere)
-  all_others others s c (inr differs) = elim (cases_eq s i) [
-    | inl same ↦ subst (λ n. image_peek after n c ≡ image_peek image n c) (sym same) (here_as_before c differs others)
-    | inr elsewhere ↦ all_others_at others s c elsewhere
-  ]
-    where
-      all_others_at : Others → (s c : ℕ) → s ≢ i → image_peek after s c ≡ image_peek image s c
-      all_others_at others s c elsewhere = ap (λ o. option_map (λ settings. bank_peek (placed_bank settings) c) o) (other_at xs i s y y elsewhere)
+  all_others others = search (arith, other_at, cases_eq, here_as_before)
 
   pub others_at : OnOk r Others → OnOk r AllOthers
-  others_at others = on r others
-    where
-      on : (r : Result (Unit {0}) ImageFault) → OnOk r Others → OnOk r AllOthers
-      on (Ok u) others = all_others others
-      on (Err e) others = tt
+  others_at others = search (arith, all_others)
 
   -- what the image keeps
   pub kept_image : OnOk r (AreSettings y) → OnErr r (y ≡ x) → IsImage image → IsImage after

@@ -54,8 +54,7 @@ module _ (front back : List (ℕ × ℕ)) (a : ℕ) (above : All (λ x. a < x.0)
   past = All-weaker (λ (x : ℕ × ℕ). a < x.0) (λ (x : ℕ × ℕ). a ≤ x.0) (λ x is. omega arith) back above
 
   pub led_above : (present : Option ℕ) → All (λ x. a ≤ x.0) (led_by a present back)
-  led_above None = past
-  led_above (Some v) = All-cons (λ (x : ℕ × ℕ). a ≤ x.0) (a, v) back (omega arith) past
+  led_above present = search (arith, past, All-cons)
 
   -- where the value at the place is the address's, it is taken out
   pub taken_out : (present : Option ℕ) (values : List (ℕ × ℕ)) (place : ℕ) (d : ℕ × ℕ) → place ≡ length front → values ≡ front ++ led_by a present back → true ≡ (nat_lt place (length values) && (get_or values place d).0 == a) → remove values place ≡ front ++ back
@@ -76,13 +75,7 @@ module _ (front back : List (ℕ × ℕ)) (a : ℕ) (above : All (λ x. a < x.0)
 
   -- and else there is none
   pub none_there : (present : Option ℕ) (values : List (ℕ × ℕ)) (place : ℕ) (d : ℕ × ℕ) → place ≡ length front → values ≡ front ++ led_by a present back → false ≡ (nat_lt place (length values) && (get_or values place d).0 == a) → values ≡ front ++ back
-  none_there None values place d here is other = is
-  none_there (Some v) values place d here is other =
-      let first : get_or values place d ≡ (a, v) =
-      ap (λ (xs : List (ℕ × ℕ)). get_or xs place d) is ∙ ap (λ n. get_or (front ++ (a, v) ∷ back) n d) here ∙ get_or-append_seam front (a, v) back d in
-      let same : (get_or values place d).0 ≡ a = ap (λ (x : ℕ × ℕ). x.0) first in
-      let inside : place < length values = omega (arith, ap length is, length-append front ((a, v) ∷ back)) in
-      absurd (grind (arith, nat_tests))
+  none_there present values place d here is other = search (arith, get_or-append_seam, length-append, nat_tests)
 
   -- a value put in
   pub put_in : (values : List (ℕ × ℕ)) (place v : ℕ) → values ≡ front ++ back → place ≡ length front → insert values place (a, v) ≡ front ++ (a, v) ∷ back

@@ -2,11 +2,11 @@
 use Rattle.{c104_interval.specs.{Selection.reset_table, declared.intervals.Table.Table}, c104_plan.proofs.PlanSettings.random_in_range}
 use Rattle.c104_plan.{proofs.PlanSettings.settings_in_range, specs.LabelledImages.{labelled_image, labelled_settings, labelled_switch}}
 use Rattle.c104_plan.specs.{LabelledImages.{port_labelled_image, port_labelled_switch, port_table, table_in}, PlanImage.{AreSettings, Fits}}
-use Rattle.c104_plan.specs.{PlanImage.{Image, IsImage, settings_of}, Plans.{IsPlan, IsRange, Plan}, Ports.Port, Wiring.peer}
+use Rattle.c104_plan.specs.{PlanImage.{Image, IsImage, settings_of}, Plans.{IsPlan, IsRange, Plan}, Ports.Port}
 use Rattle.c104_regs.{proofs.RangeNumbers.IsInRange-from, specs.{Ranges.{IsInRange, IsTableInRange}, declared.settings.Settings.Settings}}
-use Rattle.std.proofs.Common.{All, Bool, List, ap, arith, false, get_or, if◌then◌else◌, is_some, length, map, refl, true, ℕ, ◌*◌, ◌+◌, ◌<◌}
-use Rattle.std.proofs.{Common.{◌∙◌, ◌≡◌}, lemmas.List.{Elements.{All-map, All-same}, FromFn.get_or-range_with_len}}
-use Rattle.std.{proofs.lemmas.List.{FromFn.{length-map-range_with_len, length-range_with_len}, get_or_default}, specs.List.range_with_len}
+use Rattle.std.proofs.Common.{All, Bool, List, ap, arith, get_or, if◌then◌else◌, length, map, refl, ℕ, ◌*◌, ◌+◌, ◌<◌, ◌∙◌, ◌≡◌}
+use Rattle.std.proofs.lemmas.List.{Elements.{All-map, All-same}, FromFn.{get_or-range_with_len, length-map-range_with_len}}
+use Rattle.std.{proofs.lemmas.List.{FromFn.length-range_with_len, get_or_default}, specs.List.range_with_len}
 
 -- what is set at a link of a switch with a table
 abbrev pub labelled_at : Plan → Table → ℕ → ℕ → Settings
@@ -18,26 +18,19 @@ unfolding labelled_switch
 labelled_last plan table switch links all = ap (λ n. map (labelled_at plan table switch) (range_with_len 0 n)) all
 
 with_table_in_range : (plan : Plan) (p : Port) (table : Table) → IsPlan plan → IsTableInRange table → IsInRange (record (settings_of plan p) { table = table })
-with_table_in_range plan p table kept within =
-    let numbers = random_in_range plan p kept in
-    IsInRange-from (record (settings_of plan p) { table = table }) numbers.0 numbers.1 within
+with_table_in_range plan p table kept within = search (arith, random_in_range, IsInRange-from)
 
 if_in_range : (used : Bool) (a b : Settings) → IsInRange a → IsInRange b → IsInRange (if used then a else b)
-if_in_range true a b here there = here
-if_in_range false a b here there = there
+if_in_range used a b here there = search arith
 
 labelled_in_range : (plan : Plan) (p : Port) (table : Table) → IsPlan plan → IsTableInRange table → IsInRange (labelled_settings plan table p)
 unfolding labelled_settings
-labelled_in_range plan p table kept within =
-    if_in_range (is_some (peer plan p)) _ _ (with_table_in_range plan p table kept within) (settings_in_range plan p kept)
+labelled_in_range plan p table kept within = search (arith, if_in_range, with_table_in_range, settings_in_range)
 
 -- a switch has settings for each of its links
 pub are_labelled : (plan : Plan) (table : Table) (switch : ℕ) → IsPlan plan → IsTableInRange table → AreSettings (labelled_switch plan table switch)
 unfolding labelled_switch
-are_labelled plan table switch kept within = (
-  length-map-range_with_len (labelled_at plan table switch) 0 32,
-  All-map IsInRange (labelled_at plan table switch) (range_with_len 0 32) (λ k d inside. labelled_in_range plan (Port.Switch switch (get_or (range_with_len 0 32) k d)) table kept within),
-)
+are_labelled plan table switch kept within = search (arith, length-map-range_with_len, All-map, labelled_in_range)
 
 -- and so has each switch
 abbrev pub switch_by : Plan → List Table → ℕ → List Settings
@@ -47,24 +40,14 @@ pub switch_here : (plan : Plan) (tables : List Table) (k : ℕ) (d : Table) (set
 switch_here plan tables k d settings inside is = is ∙ ap (λ (t : Table). labelled_switch plan t k) (get_or_default tables k d reset_table inside)
 
 switch_at : (plan : Plan) (tables : List Table) (n k d : ℕ) → IsPlan plan → length tables ≡ n → All IsTableInRange tables → k < length (range_with_len 0 n) → AreSettings (switch_by plan tables (get_or (range_with_len 0 n) k d))
-switch_at plan tables n k d kept many all inside =
-    let below : k < n = omega (arith, inside, length-range_with_len 0 n) in
-    let at : get_or (range_with_len 0 n) k d ≡ k = get_or-range_with_len 0 n k d below ∙ omega arith in
-    rw at (are_labelled plan (table_in tables k) k kept (all k reset_table (omega (arith, below, many))))
+switch_at plan tables n k d kept many all inside = search (arith, length-range_with_len, get_or-range_with_len, are_labelled)
 
 pub labelled_kept : (plan : Plan) (ranges : List (ℕ × ℕ)) (tables : List Table) (settings : List (List Settings)) → IsPlan plan → All (λ (range : ℕ × ℕ). IsRange range.0 range.1) ranges → length tables ≡ length plan.switches → All IsTableInRange tables
     → settings ≡ map (switch_by plan tables) (range_with_len 0 (length plan.switches)) → IsImage (record { ranges = ranges; settings = settings })
-labelled_kept plan ranges tables settings kept are many all same = record {
-  switches = All-same AreSettings settings (map (switch_by plan tables) (range_with_len 0 (length plan.switches))) same
-      (All-map AreSettings (switch_by plan tables) (range_with_len 0 (length plan.switches)) (λ k d inside. switch_at plan tables (length plan.switches) k d kept many all inside));
-  ranges = are;
-}
+labelled_kept plan ranges tables settings kept are many all same = search (arith, All-same, All-map, switch_at)
 
 pub labelled_fits : (plan : Plan) (tables : List Table) (image : Image) → length image.ranges ≡ length plan.terminals → image.settings ≡ map (switch_by plan tables) (range_with_len 0 (length plan.switches)) → Fits image plan
-labelled_fits plan tables image ranges settings = record {
-  ranges = ranges;
-  settings = ap length settings ∙ length-map-range_with_len (switch_by plan tables) 0 (length plan.switches);
-}
+labelled_fits plan tables image ranges settings = search (arith, length-map-range_with_len)
 
 -- Where each link has a table of its own
 
@@ -102,23 +85,14 @@ port_switch_by plan tables switch = port_labelled_switch plan (port_table tables
 
 port_switch_at : (plan : Plan) (tables : List Table) (n k d : ℕ) → IsPlan plan → n ≡ length plan.switches → length tables ≡ n * 32 → All IsTableInRange tables → k < length (range_with_len 0 n) → AreSettings (port_switch_by plan tables (get_or (range_with_len 0 n) k d))
 port_switch_at plan tables n k d kept count many all inside =
-    let below : k < n = omega (arith, inside, length-range_with_len 0 n) in
-    let at : get_or (range_with_len 0 n) k d ≡ k = get_or-range_with_len 0 n k d below ∙ omega arith in
-    rw at (are_port_labelled plan tables k kept (omega (arith, many, count)) all (omega (arith, below, count)))
+    search (arith, length-range_with_len, get_or-range_with_len, are_port_labelled)
 
 pub port_labelled_kept : (plan : Plan) (ranges : List (ℕ × ℕ)) (tables : List Table) (settings : List (List Settings)) → IsPlan plan → All (λ (range : ℕ × ℕ). IsRange range.0 range.1) ranges → length tables ≡ length plan.switches * 32 → All IsTableInRange tables
     → settings ≡ map (port_switch_by plan tables) (range_with_len 0 (length plan.switches)) → IsImage (record { ranges = ranges; settings = settings })
-port_labelled_kept plan ranges tables settings kept are many all same = record {
-  switches = All-same AreSettings settings (map (port_switch_by plan tables) (range_with_len 0 (length plan.switches))) same
-      (All-map AreSettings (port_switch_by plan tables) (range_with_len 0 (length plan.switches)) (λ k d inside. port_switch_at plan tables (length plan.switches) k d kept refl many all inside));
-  ranges = are;
-}
+port_labelled_kept plan ranges tables settings kept are many all same = search (arith, All-same, All-map, port_switch_at)
 
 pub port_labelled_fits : (plan : Plan) (tables : List Table) (image : Image) → length image.ranges ≡ length plan.terminals → image.settings ≡ map (port_switch_by plan tables) (range_with_len 0 (length plan.switches)) → Fits image plan
-port_labelled_fits plan tables image ranges settings = record {
-  ranges = ranges;
-  settings = ap length settings ∙ length-map-range_with_len (port_switch_by plan tables) 0 (length plan.switches);
-}
+port_labelled_fits plan tables image ranges settings = search (arith, length-map-range_with_len)
 
 -- one table for all links of a switch is such a table for each of them
 pub labelled_by_port : (plan : Plan) (ranges : List (ℕ × ℕ)) (tables : List Table) → labelled_image plan ranges tables ≡ port_labelled_image plan ranges (λ switch link. table_in tables switch)

@@ -1,11 +1,9 @@
 -- Meshes and cubes: where a link leads to another switch, that link leads back, and a wire begins at one of
 -- the two.
 use Rattle.c104_plan.{proofs.LayoutNumbers.{next_above, parts, rows_fit, times, whole_below}, specs.Layouts.{Layout, bit, cube, mesh}}
-use Rattle.{c104_plan.specs.{Layouts.mesh_beyond, Ports.Port}, std.proofs.Common.{None, Option, Some, ap, arith, false, nat_le, nat_lt}}
-use Rattle.std.proofs.Common.{not, refl, subst, suc, sym, true, zero, ℕ, ⊎_elim, ◌%◌, ◌*◌, ◌+◌, ◌-◌, ◌/◌, ◌<◌, ◌==◌, ◌^◌, ◌∙◌, ◌≡◌, ◌≢◌}
-use Rattle.std.proofs.{Common.◌≤◌, lemmas.{Bool.{Decides.nat_tests, cases_Bool}, Nat.{div-mul-add, div_below, mod-mul-add, mod_below}}}
-use Rattle.std.proofs.lemmas.Nat.{pow-add, pow_pos}
-use native.Mathlib.Nat.{pow-suc}
+use Rattle.{c104_plan.specs.{Layouts.mesh_beyond, Ports.Port}, std.proofs.Common.{None, Option, Some, ap, arith, false, not, refl, subst}}
+use Rattle.std.proofs.Common.{suc, sym, true, ℕ, ⊎_elim, ◌%◌, ◌*◌, ◌+◌, ◌-◌, ◌/◌, ◌<◌, ◌==◌, ◌^◌, ◌∙◌, ◌≡◌, ◌≢◌, ◌≤◌}
+use Rattle.std.proofs.lemmas.{Bool.{Decides.nat_tests, cases_Bool}, Nat.{div-mul-add, div_below, mod-mul-add, mod_below, pow-add, pow_pos}}
 
 -- link l of switch s and link k of switch t are joined: each leads to the other, and a wire begins at one
 pub record IsJoin (layout : Layout) (s l t k : ℕ) : Type 0 where
@@ -32,30 +30,7 @@ pub mod_after : (s w : ℕ) → s % w + 1 < w → (s + 1) % w ≡ s % w + 1
 mod_after s w few = ap (λ n. n % w) (let is : s + 1 ≡ s / w * w + (s % w + 1) = omega (arith, parts s w) in is) ∙ mod-mul-add (s / w) w (s % w + 1) few
 
 pub mesh_joined : (w h s l : ℕ) → 0 < w → s < w * h → IsJoined (mesh w h) s l (mesh_beyond w h s l)
-mesh_joined w h s zero wide lt = ⊎_elim
-    (λ (t : nat_le w s ≡ true). rw t (let le : w ≤ s = grind (arith, nat_tests) in let is : s - w + w ≡ s = omega (arith, le) in let u : nat_lt s (w * h) ≡ true = grind (arith, nat_tests) in
-    record { inside = omega (arith, lt); link = omega arith; back = rw (is, u) refl; one_end = refl; other = λ e. omega (arith, wide, le, e) }))
-    (λ (t : nat_le w s ≡ false). rw t tt)
-    (cases_Bool (nat_le w s))
-mesh_joined w h s (suc zero) wide lt = ⊎_elim
-    (λ (t : nat_lt 0 (s % w) ≡ true). rw t (let some : 0 < s % w = grind (arith, nat_tests) in let pos : 0 < s = omega (arith, some, parts s w) in let is : s - 1 + 1 ≡ s = omega (arith, pos) in
-    let u : nat_lt ((s - 1) % w + 1) w ≡ true = grind (arith, nat_tests, mod_before s w wide some, mod_below s w wide) in
-    record { inside = omega (arith, lt); link = omega arith; back = rw (u, is) refl; one_end = refl; other = λ e. omega (arith, pos, e) }))
-    (λ (t : nat_lt 0 (s % w) ≡ false). rw t tt)
-    (cases_Bool (nat_lt 0 (s % w)))
-mesh_joined w h s (suc (suc zero)) wide lt = ⊎_elim
-    (λ (t : nat_lt (s % w + 1) w ≡ true). rw t (let few : s % w + 1 < w = grind (arith, nat_tests) in let is : s + 1 - 1 ≡ s = omega arith in
-    let u : nat_lt 0 ((s + 1) % w) ≡ true = grind (arith, nat_tests, mod_after s w few) in
-    record { inside = omega (arith, few, parts s w, rows_fit s w h wide lt); link = omega arith; back = rw (u, is) refl; one_end = refl; other = λ e. omega (arith, e) }))
-    (λ (t : nat_lt (s % w + 1) w ≡ false). rw t tt)
-    (cases_Bool (nat_lt (s % w + 1) w))
-mesh_joined w h s (suc (suc (suc zero))) wide lt = ⊎_elim
-    (λ (t : nat_lt (s + w) (w * h) ≡ true). rw t (let few : s + w < w * h = grind (arith, nat_tests) in let is : s + w - w ≡ s = omega arith in
-    let u : nat_le w (s + w) ≡ true = grind (arith, nat_tests) in
-    record { inside = few; link = omega arith; back = rw (u, is) refl; one_end = refl; other = λ e. omega (arith, wide, e) }))
-    (λ (t : nat_lt (s + w) (w * h) ≡ false). rw t tt)
-    (cases_Bool (nat_lt (s + w) (w * h)))
-mesh_joined w h s (suc (suc (suc (suc l)))) wide lt = tt
+mesh_joined w h s l wide lt = search (arith, nat_tests, cases_Bool, mod_before, mod_below, mod_after, rows_fit)
 
 -- adding and taking away a bit
 pub with_bit : (x n : ℕ) → 0 < n → ((x + n) / n ≡ x / n + 1)
@@ -65,11 +40,7 @@ without_bit : (x n : ℕ) → 0 < n → n ≤ x → ((x - n) / n + 1 ≡ x / n)
 without_bit x n pos le = sym (with_bit (x - n) n pos) ∙ ap (λ m. m / n) (let is : x - n + n ≡ x = omega (arith, le) in is)
 
 stays : (x k e : ℕ) → x / 2 ^ k % 2 ≡ 0 → x < 2 ^ (k + suc e) → x + 2 ^ k < 2 ^ (k + suc e)
-stays x k e clear lt =
-    let all : 2 ^ (k + suc e) ≡ 2 ^ e * 2 * 2 ^ k = pow-add 2 k (suc e) ∙ omega (arith, ap (λ n. 2 ^ k * n) (pow-suc 2 e)) in
-    let below : x / 2 ^ k < 2 ^ e * 2 = div_below x (2 ^ k) (2 ^ e * 2) (pow_pos k) (omega (arith, lt, all)) in
-    let room : x / 2 ^ k + 2 ≤ 2 ^ e * 2 = omega (arith, below, clear) in
-    omega (arith, all, times (x / 2 ^ k + 2) (2 ^ e * 2) (2 ^ k) room, next_above x (2 ^ k) (pow_pos k))
+stays x k e clear lt = search (arith, pow-add, div_below, pow_pos, times, next_above)
 
 pub cube_joined : (d x k : ℕ) → x < 2 ^ d → k < d → IsJoined (cube d) x k ((cube d).beyond x k)
 cube_joined d x k lt few = ⊎_elim

@@ -1,15 +1,10 @@
 -- A name is text.
-use Rattle.{c104_plan.specs.TextWords.{is_digit, is_letter, is_name, is_name_byte}, std.proofs.Common.{List, [], arith, length, nat_lt}}
-use Rattle.std.proofs.{Common.{suc, true, zero, ℕ, ◌&&◌, ◌<◌, ◌==◌, ◌||◌, ◌∷◌, ◌≡◌}, lemmas.Bool.{Decides.nat_tests, and_parts}}
-use Rattle.std.{proofs.lemmas.Str.IsUtf8-from_ascii, specs.{List.list_all, Str.{IsAscii, IsUtf8}}}
+use Rattle.{c104_plan.specs.TextWords.{is_name, is_name_byte}, std.proofs.Common.{List, [], arith, suc, true, zero, ℕ, ◌<◌, ◌∷◌, ◌≡◌}}
+use Rattle.std.{proofs.lemmas.{Bool.{Decides.nat_tests, and_parts}, Str.IsUtf8-from_ascii}, specs.{List.list_all, Str.{IsAscii, IsUtf8}}}
 
 -- each byte of a name may stand in one
 pub name_bytes : (name : List ℕ) → is_name name ≡ true → list_all is_name_byte name ≡ true
-name_bytes [] is = cc
-name_bytes (x ∷ rest) is =
-    let outer = and_parts (is_letter x) (nat_lt (length rest) 32 && list_all is_name_byte rest) is in
-    let inner = and_parts (nat_lt (length rest) 32) (list_all is_name_byte rest) outer.1 in
-    λ i. (((outer.0 i) || is_digit x) || (x == 0x5f || x == 0x2d)) && inner.1 i
+name_bytes name is = search (arith, and_parts)
 
 below_128 : (b : ℕ) → is_name_byte b ≡ true → b < 128
 below_128 b is = grind (arith, nat_tests)

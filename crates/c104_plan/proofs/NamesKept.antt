@@ -1,19 +1,15 @@
 -- A set of vectors of bytes, as the list of its texts.
 use Rattle.c104_plan.{proofs.PortLemmas.list_any-map, specs.{PlanIndex.texts, PlanParts.without_first, Plans.Terminal}}
-use Rattle.{indexmap.specs.IndexSet.insert_key, std.proofs.Common.{Bool, List, None, Some, [], ap, bytes_eq, cond, false, if◌then◌else◌}}
-use Rattle.std.proofs.{Common.{map, nat_lt, not, position, refl, sym, true, ℕ, ◌++◌, ◌+◌, ◌∙◌, ◌∷◌, ◌≡◌}, lemmas.Cmp.nat_list_eq_equiv}
-use Rattle.std.{proofs.lemmas.{List.{length-map, map-append}, Simd.map-map}, specs.{Global.Vec, List.{AllZip, list_any, prefix_len}}}
-use Rattle.std.specs.Vec.{vec_len}
+use Rattle.{indexmap.specs.IndexSet.insert_key, std.proofs.Common.{Bool, List, [], ap, arith, bytes_eq, cond, false, if◌then◌else◌, map}}
+use Rattle.std.proofs.{Common.{position, refl, ℕ, ◌++◌, ◌+◌, ◌∙◌, ◌∷◌, ◌≡◌}, lemmas.{Cmp.nat_list_eq_equiv, List.{length-map, map-append}}}
+use Rattle.std.{proofs.lemmas.Simd.map-map, specs.{Global.Vec, List.{AllZip, list_any, prefix_len}, Vec.vec_len}}
 
 prefix_len-map : {X Y : Type 0} (test : Y → Bool) (f : X → Y) (xs : List X) → prefix_len test (map f xs) ≡ prefix_len (λ x. test (f x)) xs
 prefix_len-map test f [] = refl
 prefix_len-map test f (x ∷ xs) = ap (λ n. cond (test (f x)) (1 + n) 0) (prefix_len-map test f xs)
 
 pub position-map : {X Y : Type 0} (test : Y → Bool) (f : X → Y) (xs : List X) → position test (map f xs) ≡ position (λ x. test (f x)) xs
-position-map test f xs =
-    let place = prefix_len-map (λ y. not (test y)) f xs in
-    let long = length-map xs f in
-    λ i. cond (nat_lt (place i) (long i)) (Some (place i)) None
+position-map test f xs = search (arith, prefix_len-map, length-map)
 
 -- the test of a look-up by a slice
 abbrev pub same : List ℕ → Vec ℕ → Bool
@@ -23,18 +19,13 @@ flipped : (name other : List ℕ) → bytes_eq name other ≡ bytes_eq other nam
 flipped name other = nat_list_eq_equiv.symm name other
 
 pub number_of-kept : (keys : List (Vec ℕ)) (name : List ℕ) → position (same name) keys ≡ position (λ other. bytes_eq other name) (texts keys)
-number_of-kept keys name =
-    (λ i. position (λ (k : Vec ℕ). flipped name k.items i) keys)
-    ∙ sym (position-map (λ other. bytes_eq other name) (λ (k : Vec ℕ). k.items) keys)
+number_of-kept keys name = search (arith, position, flipped, position-map, bytes_eq)
 
 pub is_there-kept : (keys : List (Vec ℕ)) (name : List ℕ) → list_any (same name) keys ≡ list_any (λ other. bytes_eq other name) (texts keys)
-is_there-kept keys name =
-    (λ i. list_any (λ (k : Vec ℕ). flipped name k.items i) keys)
-    ∙ sym (list_any-map (λ other. bytes_eq other name) (λ (k : Vec ℕ). k.items) keys)
+is_there-kept keys name = search (arith, flipped, list_any-map, bytes_eq)
 
 inserted_by : (keys : List (Vec ℕ)) (key : Vec ℕ) (there : Bool) → there ≡ false → texts (if there then keys else keys ++ key ∷ []) ≡ texts keys ++ key.items ∷ []
-inserted_by keys key true is = cc
-inserted_by keys key false is = map-append (λ (k : Vec ℕ). k.items) keys (key ∷ [])
+inserted_by keys key there is = search (arith, map-append)
 
 -- a name that isn't there comes behind the others
 pub inserted-kept : (keys : List (Vec ℕ)) (key : Vec ℕ) → list_any (λ other. bytes_eq other key.items) (texts keys) ≡ false → texts (insert_key (λ (a b : Vec ℕ). bytes_eq a.items b.items) keys key) ≡ texts keys ++ key.items ∷ []

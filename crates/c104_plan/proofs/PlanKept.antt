@@ -5,11 +5,10 @@ use Rattle.c104_plan.specs.Plans.{AreTerminals, IsLaterPort, IsOfShape, IsPlan, 
 use Rattle.c104_plan.specs.Plans.{PlanRandom, PlanRow, Shape, Terminal, host_port, is_buffer_size, is_continued, is_deleted, is_linked}
 use Rattle.c104_plan.specs.Plans.{is_row_of, is_taken, label_count, linked_ports, most_header_bytes, most_switches, most_terminals, names}
 use Rattle.c104_plan.specs.{Plans.rows_of, Ports.{IsSwitchPort, Port, Wire, both_ends, is_any_at, is_port}, TextWords.is_name}
-use Rattle.{c104_plan.specs.declared.plans.Shape.TheVariants.{Cube, Hand, Mesh, Tree, UpDown}, std.proofs.Common.{All, Bool, List, [], ap}}
-use Rattle.std.proofs.Common.{append-nil, append_assoc, arith, bytes_eq, cond, false, length, length-append, map, refl, subst, sym, true, ℕ}
-use Rattle.std.proofs.{Common.{◌++◌, ◌+◌, ◌<◌, ◌==◌, ◌∙◌, ◌∷◌, ◌≡◌, ◌≤◌}, lemmas.{Bool.or_from, Cmp.nat_list_eq_equiv}}
-use Rattle.std.proofs.lemmas.List.{Elements.{All-cons, All-head, All-push, All-tail, All-weaker, filter-append}, Folds.list_any-append}
-use Rattle.std.{proofs.lemmas.List.map-append, specs.List.list_any}
+use Rattle.{c104_plan.specs.declared.plans.Shape.TheVariants.Hand, std.proofs.Common.{All, Bool, List, [], ap, append-nil, append_assoc}}
+use Rattle.std.proofs.Common.{arith, bytes_eq, cond, false, length, length-append, map, refl, subst, sym, true, ℕ, ◌++◌, ◌+◌, ◌<◌, ◌∙◌, ◌∷◌}
+use Rattle.std.proofs.{Common.{◌≡◌, ◌≤◌}, lemmas.{Bool.or_from, Cmp.nat_list_eq_equiv, List.Elements.{All-cons, All-head, All-push}}}
+use Rattle.std.{proofs.lemmas.List.{Elements.{All-tail, All-weaker, filter-append}, Folds.list_any-append, map-append}, specs.List.list_any}
 
 All-inserted : {X : Type 0} (P : X → Type 0) (xs ys : List X) (x : X) → All P (xs ++ ys) → P x → All P ((xs ++ x ∷ []) ++ ys)
 All-inserted P [] ys x all here = All-cons P x ys here all
@@ -22,19 +21,13 @@ names_flip a b = nat_list_eq_equiv.symm a b
 
 module _ (m n : ℕ) (more : m ≤ n) where
   port_of_more : (p : Port) → IsSwitchPort m p → IsSwitchPort n p
-  port_of_more (Port.Switch s l) is = (omega (arith, is.0), is.1)
-  port_of_more (Port.Terminal t) is = is
+  port_of_more p is = search arith
 
   later_of_more : (p : Port) → IsLaterPort m p → IsLaterPort n p
-  later_of_more (Port.Switch s l) is = (omega (arith, is.0), is.1, is.2)
-  later_of_more (Port.Terminal t) is = is
+  later_of_more p is = search arith
 
   terminals_of_more : (terminals : List Terminal) → AreTerminals m terminals → AreTerminals n terminals
-  terminals_of_more terminals are = record {
-    few = are.few;
-    on_switches = All-weaker (λ (t : Terminal). IsSwitchPort m (host_port t)) (λ (t : Terminal). IsSwitchPort n (host_port t)) (λ (t : Terminal) is. port_of_more (host_port t) is) terminals are.on_switches;
-    ranges = are.ranges;
-  }
+  terminals_of_more terminals are = search (arith, All-weaker, port_of_more)
 
   wires_of_more : (wires : List Wire) → All (IsPlanWire m) wires → All (IsPlanWire n) wires
   wires_of_more wires are = All-weaker (IsPlanWire m) (IsPlanWire n) (λ (w : Wire) is. (port_of_more w.here is.0, port_of_more w.there is.1, is.2)) wires are
@@ -43,25 +36,13 @@ module _ (m n : ℕ) (more : m ≤ n) where
   continues_of_more continues are = record { later = All-weaker (IsLaterPort m) (IsLaterPort n) later_of_more continues are.later; once = are.once }
 
   bases_of_more : (bases : List PlanBase) → AreBases m bases → AreBases n bases
-  bases_of_more bases are = record {
-    of_inputs = All-weaker (λ (b : PlanBase). IsSwitchPort m b.port) (λ (b : PlanBase). IsSwitchPort n b.port) (λ (b : PlanBase) is. port_of_more b.port is) bases are.of_inputs;
-    ranges = are.ranges;
-    once = are.once;
-  }
+  bases_of_more bases are = search (arith, All-weaker, port_of_more)
 
   rows_of_more : (rows : List PlanRow) → AreRows m rows → AreRows n rows
-  rows_of_more rows are = record {
-    of_inputs = All-weaker (λ (r : PlanRow). IsSwitchPort m r.port) (λ (r : PlanRow). IsSwitchPort n r.port) (λ (r : PlanRow) is. port_of_more r.port is) rows are.of_inputs;
-    ranges = are.ranges;
-    few = are.few;
-  }
+  rows_of_more rows are = search (arith, All-weaker, port_of_more)
 
   randoms_of_more : (randoms : List PlanRandom) → AreRandoms m randoms → AreRandoms n randoms
-  randoms_of_more randoms are = record {
-    of_inputs = All-weaker (λ (r : PlanRandom). IsSwitchPort m r.port) (λ (r : PlanRandom). IsSwitchPort n r.port) (λ (r : PlanRandom) is. port_of_more r.port is) randoms are.of_inputs;
-    ranges = are.ranges;
-    once = are.once;
-  }
+  randoms_of_more randoms are = search (arith, All-weaker, port_of_more)
 
 -- the shape of a plan that is made line by line says nothing of it
 by_hand : (shape : Shape) (plan : Plan) → shape ≡ Hand → IsOfShape shape plan
@@ -102,10 +83,7 @@ module _ (plan : Plan) (kept : IsPlan plan) where
 
   names_with : (t : Terminal) → is_name t.name ≡ true → is_taken plan t.name ≡ false → AreNames (names plan.switches (plan.terminals ++ t ∷ []))
   unfolding is_taken
-  names_with t named free = subst AreNames (sym (names-terminal t)) (record {
-    named = All-push (λ name. is_name name ≡ true) (names plan.switches plan.terminals) t.name kept.names.named named;
-    differ = distinct_pushed bytes_eq (names plan.switches plan.terminals) t.name free kept.names.differ;
-  })
+  names_with t named free = search (arith, names-terminal, All-push, distinct_pushed, bytes_eq)
 
   links_with : (t : Terminal) → is_linked plan (host_port t) ≡ false → AreDistinct is_port (linked_ports (plan.terminals ++ t ∷ []) plan.wires)
   unfolding is_linked
@@ -151,91 +129,38 @@ module _ (plan : Plan) (kept : IsPlan plan) where
       subst (AreDistinct is_port) same both
 
   pub with_wire : (w : Wire) → plan.shape ≡ Hand → IsPlanWire (length plan.switches) w → is_port w.here w.there ≡ false → is_linked plan w.here ≡ false → is_linked plan w.there ≡ false → IsPlan (record plan { wires = plan.wires ++ w ∷ [] })
-  with_wire w hand is_wire differ here_free there_free = record {
-    header = kept.header;
-    cap = kept.cap;
-    shape = by_hand plan.shape _ hand;
-    few_switches = kept.few_switches;
-    names = kept.names;
-    terminals = kept.terminals;
-    wires = All-push (IsPlanWire (length plan.switches)) plan.wires w kept.wires is_wire;
-    links = links_wired w here_free there_free differ;
-    continues = kept.continues;
-    deletes = kept.deletes;
-    bases = kept.bases;
-    rows = kept.rows;
-    randoms = kept.randoms;
-  }
+  with_wire w hand is_wire differ here_free there_free = search (arith, by_hand, All-push, links_wired)
 
   -- what its shape says doesn't hang on its header length, its buffer size and its deletes
   of_shape : (header cap : ℕ) (deletes : List ℕ) (shape : Shape) → IsOfShape shape plan → IsOfShape shape (record plan { header = header; cap = cap; deletes = deletes })
-  of_shape header cap deletes Hand is = tt
-  of_shape header cap deletes (Tree root) is = record { inside = is.inside; firsts = is.firsts; counts = is.counts; unset = record { continues = is.unset.continues; bases = is.unset.bases; rows = is.unset.rows; randoms = is.unset.randoms } }
-  of_shape header cap deletes (UpDown root) is = record { inside = is.inside; firsts = is.firsts; counts = is.counts; unset = record { continues = is.unset.continues; bases = is.unset.bases; rows = is.unset.rows; randoms = is.unset.randoms } }
-  of_shape header cap deletes (Mesh w h p) is = (is.0, record { switches = is.1.switches; terminals = is.1.terminals; wires = is.1.wires; unset = record { continues = is.1.unset.continues; bases = is.1.unset.bases; rows = is.1.unset.rows; randoms = is.1.unset.randoms } })
-  of_shape header cap deletes (Cube d p) is = (is.0, record { switches = is.1.switches; terminals = is.1.terminals; wires = is.1.wires; unset = record { continues = is.1.unset.continues; bases = is.1.unset.bases; rows = is.1.unset.rows; randoms = is.1.unset.randoms } })
+  of_shape header cap deletes shape is = search arith
 
   -- the same switches, terminals and wires, and what else is said of them
   with_settings : {header cap : ℕ} {continues : List Port} {deletes : List ℕ} {bases : List PlanBase} {rows : List PlanRow} {randoms : List PlanRandom} → IsOfShape plan.shape (record plan { header = header; cap = cap; continues = continues; deletes = deletes; bases = bases; rows = rows; randoms = randoms }) → (0 < header) × (header ≤ most_header_bytes) → is_buffer_size cap ≡ true → AreContinues (length plan.switches) continues → AreDeletes (length plan.terminals) deletes → AreBases (length plan.switches) bases → AreRows (length plan.switches) rows → AreRandoms (length plan.switches) randoms → IsPlan (record plan { header = header; cap = cap; continues = continues; deletes = deletes; bases = bases; rows = rows; randoms = randoms })
-  with_settings shape header cap continues deletes bases rows randoms = record {
-    header = header;
-    cap = cap;
-    shape = shape;
-    few_switches = kept.few_switches;
-    names = kept.names;
-    terminals = kept.terminals;
-    wires = kept.wires;
-    links = kept.links;
-    continues = continues;
-    deletes = deletes;
-    bases = bases;
-    rows = rows;
-    randoms = randoms;
-  }
+  with_settings shape header cap continues deletes bases rows randoms = search arith
 
   pub with_continue : (p : Port) → plan.shape ≡ Hand → IsLaterPort (length plan.switches) p → is_continued plan p ≡ false → IsPlan (record plan { continues = plan.continues ++ p ∷ [] })
-  with_continue p hand later once = with_settings (by_hand plan.shape _ hand) kept.header kept.cap (record {
-    later = All-push (IsLaterPort (length plan.switches)) plan.continues p kept.continues.later later;
-    once = once-pushed (λ q. q) plan.continues p once kept.continues.once;
-  }) kept.deletes kept.bases kept.rows kept.randoms
+  with_continue p hand later once = search (arith, with_settings, by_hand, All-push, once-pushed)
 
   pub with_delete : (terminal : ℕ) → terminal < length plan.terminals → is_deleted plan terminal ≡ false → IsPlan (record plan { deletes = plan.deletes ++ terminal ∷ [] })
   unfolding is_deleted
-  with_delete terminal known once = with_settings (of_shape plan.header plan.cap (plan.deletes ++ terminal ∷ []) plan.shape kept.shape) kept.header kept.cap kept.continues (record {
-    known = All-push (λ t. t < length plan.terminals) plan.deletes terminal kept.deletes.known known;
-    once = distinct_pushed (λ t u. t == u) plan.deletes terminal once kept.deletes.once;
-  }) kept.bases kept.rows kept.randoms
+  with_delete terminal known once = search (arith, with_settings, of_shape, All-push, distinct_pushed)
 
   pub with_base : (b : PlanBase) → plan.shape ≡ Hand → IsSwitchPort (length plan.switches) b.port → b.base < label_count → is_any_at (λ (c : PlanBase). c.port) plan.bases b.port ≡ false → IsPlan (record plan { bases = plan.bases ++ b ∷ [] })
-  with_base b hand of_input range once = with_settings (by_hand plan.shape _ hand) kept.header kept.cap kept.continues kept.deletes (record {
-    of_inputs = All-push (λ (c : PlanBase). IsSwitchPort (length plan.switches) c.port) plan.bases b kept.bases.of_inputs of_input;
-    ranges = All-push (λ (c : PlanBase). c.base < label_count) plan.bases b kept.bases.ranges range;
-    once = once-pushed (λ (c : PlanBase). c.port) plan.bases b once kept.bases.once;
-  }) kept.rows kept.randoms
+  with_base b hand of_input range once = search (arith, with_settings, by_hand, All-push, once-pushed)
 
   few-row_by : (r : PlanRow) (p : Port) (same : Bool) → is_port r.port p ≡ same → length (rows_of r.port plan.rows) < 36 → length (rows_of p plan.rows ++ cond same (r ∷ []) []) ≤ 36
-  few-row_by r p true is room =
-      let fits : length (rows_of p plan.rows) < 36 = subst (λ q. length (rows_of q plan.rows) < 36) (is_port-true r.port p is) room in
-      omega (arith, length-append (rows_of p plan.rows) (r ∷ []))
-  few-row_by r p false is room = rw append-nil (kept.rows.few p)
+  few-row_by r p same is room = search (arith, is_port-true, length-append, append-nil)
 
   few-row : (r : PlanRow) (p : Port) → length (rows_of r.port plan.rows) < 36 → length (rows_of p (plan.rows ++ r ∷ [])) ≤ 36
   unfolding rows_of
   few-row r p room = rw (filter-append (is_row_of p) plan.rows (r ∷ [])) (few-row_by r p (is_port r.port p) refl room)
 
   pub with_row : (r : PlanRow) → plan.shape ≡ Hand → IsSwitchPort (length plan.switches) r.port → r.limit ≤ label_count → IsPlanSelect r.select → length (rows_of r.port plan.rows) < 36 → IsPlan (record plan { rows = plan.rows ++ r ∷ [] })
-  with_row r hand of_input limit selectable room = with_settings (by_hand plan.shape _ hand) kept.header kept.cap kept.continues kept.deletes kept.bases (record {
-    of_inputs = All-push (λ (q : PlanRow). IsSwitchPort (length plan.switches) q.port) plan.rows r kept.rows.of_inputs of_input;
-    ranges = All-push (λ (q : PlanRow). (q.limit ≤ label_count) × IsPlanSelect q.select) plan.rows r kept.rows.ranges (limit, selectable);
-    few = λ p. few-row r p room;
-  }) kept.randoms
+  with_row r hand of_input limit selectable room = search (arith, with_settings, by_hand, All-push, few-row)
 
   pub with_random : (r : PlanRandom) → plan.shape ≡ Hand → IsSwitchPort (length plan.switches) r.port → r.base < label_count → r.range ≤ label_count → is_any_at (λ (q : PlanRandom). q.port) plan.randoms r.port ≡ false → IsPlan (record plan { randoms = plan.randoms ++ r ∷ [] })
-  with_random r hand of_input base range once = with_settings (by_hand plan.shape _ hand) kept.header kept.cap kept.continues kept.deletes kept.bases kept.rows (record {
-    of_inputs = All-push (λ (q : PlanRandom). IsSwitchPort (length plan.switches) q.port) plan.randoms r kept.randoms.of_inputs of_input;
-    ranges = All-push (λ (q : PlanRandom). (q.base < label_count) × (q.range ≤ label_count)) plan.randoms r kept.randoms.ranges (base, range);
-    once = once-pushed (λ (q : PlanRandom). q.port) plan.randoms r once kept.randoms.once;
-  })
+  with_random r hand of_input base range once = search (arith, with_settings, by_hand, All-push, once-pushed)
 
   pub with_header : (bytes : ℕ) → 0 < bytes → bytes ≤ most_header_bytes → IsPlan (record plan { header = bytes })
   with_header bytes some few = with_settings (of_shape bytes plan.cap plan.deletes plan.shape kept.shape) (some, few) kept.cap kept.continues kept.deletes kept.bases kept.rows kept.randoms

@@ -1,13 +1,10 @@
 -- A name is taken where a switch or a terminal has it.
-use Rattle.{c104_plan.{proofs.PortLemmas.list_any-map, specs.Plans.{Plan, Terminal, is_taken}}, std.proofs.Common.{List, ap, bytes_eq}}
-use Rattle.std.proofs.{Common.{false, map, sym, ℕ, ◌||◌, ◌∙◌, ◌≡◌}, lemmas.{Bool.or_parts, List.Folds.list_any-append}}
-use Rattle.std.specs.List.{list_any}
+use Rattle.{c104_plan.{proofs.PortLemmas.list_any-map, specs.Plans.{Plan, Terminal, is_taken}}, std.proofs.Common.{List, arith, bytes_eq}}
+use Rattle.std.{proofs.{Common.{false, sym, ℕ, ◌||◌, ◌∙◌, ◌≡◌}, lemmas.{Bool.or_parts, List.Folds.list_any-append}}, specs.List.list_any}
 
 pub taken_either : (plan : Plan) (name : List ℕ) → is_taken plan name ≡ (list_any (λ other. bytes_eq other name) plan.switches || list_any (λ (t : Terminal). bytes_eq t.name name) plan.terminals)
 unfolding is_taken
-taken_either plan name =
-    list_any-append (λ other. bytes_eq other name) plan.switches (map (λ (t : Terminal). t.name) plan.terminals)
-    ∙ ap (λ rest. list_any (λ other. bytes_eq other name) plan.switches || rest) (list_any-map (λ other. bytes_eq other name) (λ (t : Terminal). t.name) plan.terminals)
+taken_either plan name = search (arith, list_any-append, bytes_eq, list_any-map)
 
 -- a name that isn't taken is no switch's, and no terminal's
 pub free_switch : (plan : Plan) (name : List ℕ) → is_taken plan name ≡ false → list_any (λ other. bytes_eq other name) plan.switches ≡ false

@@ -1,6 +1,6 @@
 -- Where the ranges of a plan's terminals end.
 use Rattle.{c104_plan.specs.Plans.{IsRange, Terminal, next_first}, std.proofs.Common.{All, List, Some, [], ap, arith, length, lit≤}}
-use Rattle.std.proofs.{Common.{slice_get, suc, zero, ℕ, ◌+◌, ◌-◌, ◌<◌, ◌∷◌, ◌≡◌, ◌≤◌}, lemmas.List.Elements.{All-head, All-tail}}
+use Rattle.std.proofs.{Common.{slice_get, suc, zero, ℕ, ◌+◌, ◌-◌, ◌∷◌, ◌≡◌, ◌≤◌}, lemmas.List.Elements.{All-head, All-tail}}
 use Rattle.std.proofs.lemmas.Option.{slice_get_within}
 
 pub next_first-le : (terminals : List Terminal) → All (λ (t : Terminal). IsRange t.first t.count) terminals → next_first terminals ≤ 65536
@@ -17,6 +17,4 @@ next_first-at (u ∷ v ∷ terminals) zero t long is = absurd (omega (arith, lon
 next_first-at (u ∷ v ∷ terminals) (suc n) t long is = next_first-at (v ∷ terminals) n t (omega (arith, long)) is
 
 pub next_first-last : (terminals : List Terminal) (t : Terminal) → slice_get terminals (length terminals - 1) ≡ Some t → next_first terminals ≡ t.first + t.count
-next_first-last terminals t is =
-    let inside : length terminals - 1 < length terminals = slice_get_within terminals (length terminals - 1) t is in
-    next_first-at terminals (length terminals - 1) t (omega (arith, inside)) is
+next_first-last terminals t is = search (arith, slice_get_within, next_first-at)

@@ -2,15 +2,14 @@
 use Rattle.c104_plan.{proofs.PlanTables.table_in_range, specs.PlanImage.{AreSettings, Fits, Image, is_random_of, plain_settings_of}}
 use Rattle.c104_plan.specs.{PlanImage.{range_of, settings_of, switch_settings, with_random}, Plans.{IsPlan, Plan, PlanRandom}, Ports.Port}
 use Rattle.c104_regs.{proofs.RangeNumbers.IsInRange-from, specs.{Ranges.{IsInRange, IsTableInRange}, declared.settings.Settings.Settings}}
-use Rattle.std.proofs.Common.{All, Bool, List, None, Option, Some, [], ap, arith, cond, false, get_or, length, lit<, lit≤, map, refl, subst}
-use Rattle.std.proofs.{Common.{sym, true, ℕ, ◌++◌, ◌+◌, ◌<◌, ◌∙◌, ◌∷◌, ◌≡◌, ◌≤◌}, lemmas.List.Elements.{All-head, All-map, All-same}}
-use Rattle.std.proofs.lemmas.List.{Elements.All-tail, FromFn.{length-map-range_with_len, map-range_with_len_more}, length-map}
-use Rattle.std.specs.List.{find, range_with_len}
+use Rattle.std.proofs.Common.{All, Bool, List, Option, Some, [], ap, arith, cond, false, length, lit<, lit≤, map, subst, sym, true, ℕ, ◌++◌}
+use Rattle.std.proofs.{Common.{◌+◌, ◌<◌, ◌∷◌, ◌≡◌, ◌≤◌}, lemmas.List.Elements.{All-head, All-map, All-same, All-tail}}
+use Rattle.std.{proofs.lemmas.List.{FromFn.{length-map-range_with_len, map-range_with_len_more}, length-map}, specs.List.find}
+use Rattle.std.specs.List.{range_with_len}
 
 -- one more value of a function
 pub made_next : {X : Type 0} (f : ℕ → X) (n : ℕ) (before after : List X) (x : X) → before ≡ map f (range_with_len 0 n) → after ≡ before ++ x ∷ [] → x ≡ f n → after ≡ map f (range_with_len 0 (n + 1))
-made_next f n before after x made pushed is =
-    pushed ∙ ap (λ xs. xs ++ x ∷ []) made ∙ ap (λ y. map f (range_with_len 0 n) ++ y ∷ []) is ∙ sym (map-range_with_len_more f 0 n n (omega arith))
+made_next f n before after x made pushed is = search (arith, map-range_with_len_more)
 
 -- what is set at a link of a switch
 abbrev pub settings_at : Plan → ℕ → ℕ → Settings
@@ -42,8 +41,7 @@ random_in_range plan p kept = with_line plan.randoms p (plain_settings_of plan p
 
 -- they leave the table as it is
 same_table : (line : Option PlanRandom) (s : Settings) → (with_random line s).table ≡ s.table
-same_table None s = refl
-same_table (Some random) s = refl
+same_table line s = search arith
 
 pub settings_in_range : (plan : Plan) (p : Port) → IsPlan plan → IsInRange (settings_of plan p)
 unfolding settings_of
@@ -55,20 +53,12 @@ settings_in_range plan p kept =
 -- a switch has settings for each of its links
 pub are_settings : (plan : Plan) (switch : ℕ) → IsPlan plan → AreSettings (switch_settings plan switch)
 unfolding switch_settings
-are_settings plan switch kept = (
-  length-map-range_with_len (settings_at plan switch) 0 32,
-  All-map IsInRange (settings_at plan switch) (range_with_len 0 32) (λ k d inside. settings_in_range plan (Port.Switch switch (get_or (range_with_len 0 32) k d)) kept),
-)
+are_settings plan switch kept = search (arith, length-map-range_with_len, All-map, settings_in_range)
 
 -- and so has each switch
 pub all_have_settings : (plan : Plan) (settings : List (List Settings)) → IsPlan plan → settings ≡ map (switch_settings plan) (range_with_len 0 (length plan.switches)) → All AreSettings settings
-all_have_settings plan settings kept same =
-    All-same AreSettings settings (map (switch_settings plan) (range_with_len 0 (length plan.switches))) same
-    (All-map AreSettings (switch_settings plan) (range_with_len 0 (length plan.switches)) (λ k d inside. are_settings plan (get_or (range_with_len 0 (length plan.switches)) k d) kept))
+all_have_settings plan settings kept same = search (arith, All-same, All-map, are_settings)
 
 -- such ranges and settings are as many as the plan's terminals and switches
 pub Fits-from : (plan : Plan) (image : Image) → image.ranges ≡ map range_of plan.terminals → image.settings ≡ map (switch_settings plan) (range_with_len 0 (length plan.switches)) → Fits image plan
-Fits-from plan image ranges settings = record {
-  ranges = ap length ranges ∙ length-map plan.terminals range_of;
-  settings = ap length settings ∙ length-map-range_with_len (switch_settings plan) 0 (length plan.switches);
-}
+Fits-from plan image ranges settings = search (arith, length-map, length-map-range_with_len)

@@ -1,11 +1,10 @@
 -- The rows of an input, filled into its table one after another.
-use Rattle.c104_interval.specs.{Selection.reset_row, declared.intervals.{Row.Row, Select.{Select, TheVariants.{Discard, Link, Sink}}}}
-use Rattle.{c104_interval.specs.declared.intervals.Table.Table, c104_plan.specs.PlanImage.{base_of, base_or_zero, padded_rows, table_of}}
-use Rattle.c104_plan.specs.{PlanImage.table_row, Plans.{IsPlan, IsPlanSelect, Plan, PlanBase, PlanRow, is_base_of, is_row_of, rows_of}}
-use Rattle.{c104_plan.specs.Ports.{Port, is_any_at, is_of_switch, is_port}, c104_regs.proofs.RangeNumbers.IsSelectable}
-use Rattle.{c104_regs.{proofs.RangeNumbers.IsTableInRange-from, specs.Ranges.IsTableInRange}, std.proofs.Common.{All, Bool, List, Some, []}}
-use Rattle.std.proofs.Common.{ap, append-nil, append_assoc, arith, cond, false, filter, get_or, inl, inr, length, length-append, lit<, map}
-use Rattle.std.proofs.Common.{refl, replicate, set, subst, suc, sym, take, true, ℕ, ◌++◌, ◌+◌, ◌-◌, ◌<◌, ◌||◌, ◌∙◌, ◌∷◌, ◌≡◌, ◌≤◌}
+use Rattle.c104_interval.specs.{Selection.reset_row, declared.intervals.{Row.Row, Select.Select, Table.Table}}
+use Rattle.c104_plan.specs.{PlanImage.{base_of, base_or_zero, padded_rows, table_of, table_row}, Plans.{IsPlan, IsPlanSelect, Plan}}
+use Rattle.c104_plan.specs.{Plans.{PlanBase, PlanRow, is_base_of, is_row_of, rows_of}, Ports.{Port, is_any_at, is_of_switch, is_port}}
+use Rattle.{c104_regs.{proofs.RangeNumbers.{IsSelectable, IsTableInRange-from}, specs.Ranges.IsTableInRange}, std.proofs.Common.{All, Bool}}
+use Rattle.std.proofs.Common.{List, Some, [], ap, append-nil, append_assoc, arith, cond, false, filter, get_or, length, length-append, lit<}
+use Rattle.std.proofs.Common.{map, refl, replicate, set, sym, take, true, ℕ, ◌++◌, ◌+◌, ◌-◌, ◌<◌, ◌||◌, ◌∙◌, ◌∷◌, ◌≡◌, ◌≤◌}
 use Rattle.std.proofs.{Math.Seq.set-append_seam, lemmas.{Bool.{Decides.nat_tests, cases_lt}, List.Elements.{All-append, All-filter}}}
 use Rattle.std.proofs.lemmas.List.{Elements.{All-head, All-map, All-replicate, All-tail, All-weaker, filter_more}, Sums.length-filter}
 use Rattle.std.{proofs.lemmas.List.{Sums.sum_by-take-le, get_or_past, length-map, length-replicate, map-append, take_all}, specs.List.find}
@@ -34,17 +33,12 @@ module _ (p : Port) (rows : List PlanRow) (i : ℕ) (d : PlanRow) (inside : i < 
 
 -- one more row filled in
 pub filled-next : (rows : List Row) (row : Row) → length rows < 36 → set (padded_rows rows) (length rows) row ≡ padded_rows (rows ++ row ∷ [])
-filled-next rows row fits =
-    let left : 36 - length rows ≡ suc (36 - length (rows ++ row ∷ [])) = omega (arith, length-append rows (row ∷ [])) in
-    ap (λ n. set (rows ++ replicate n reset_row) (length rows) row) left
-    ∙ set-append_seam rows reset_row (replicate (36 - length (rows ++ row ∷ [])) reset_row) row
-    ∙ sym (append_assoc rows (row ∷ []) (replicate (36 - length (rows ++ row ∷ [])) reset_row))
+filled-next rows row fits = search (arith, length-append, set, replicate, set-append_seam, append_assoc)
 
 -- where a row of the input comes, there is room for it in the table
 pub room_in : (plan : Plan) (p : Port) (rows : List PlanRow) (i : ℕ) (d : PlanRow) → IsPlan plan → rows_of p rows ≡ rows_of p plan.rows → i < length rows → true ≡ is_row_of p (get_or rows i d) → length (so_far p rows i) < 36
 unfolding rows_of
-room_in plan p rows i d kept same inside is =
-    room p rows i d inside (sym is) (rw same (kept.rows.few p))
+room_in plan p rows i d kept same inside is = search (arith, room)
 
 -- a table of this base and these rows, and a table with one row changed
 abbrev pub of_rows : ℕ → List Row → Table
@@ -56,12 +50,7 @@ with_row table k row = record { base = table.base; rows = set table.rows k row }
 -- the table after a row of the input
 pub table_next : (base : ℕ) (p : Port) (rows : List PlanRow) (i : ℕ) (d : PlanRow) (table : Table) (count : ℕ) → i < length rows → true ≡ is_row_of p (get_or rows i d) → length (so_far p rows i) < 36 → count ≡ length (so_far p rows i)
     → table ≡ of_rows base (padded_rows (so_far p rows i)) → with_row table count (table_row (get_or rows i d)) ≡ of_rows base (padded_rows (so_far p rows (i + 1)))
-table_next base p rows i d table count inside is below counted filled_is =
-    let row : Row = table_row (get_or rows i d) in
-    let got : List Row = so_far p rows i in
-    ap (λ (t : Table). with_row t count row) filled_is
-    ∙ ap (λ (n : ℕ). of_rows base (set (padded_rows got) n row)) counted
-    ∙ ap (of_rows base) (filled-next got row below ∙ ap padded_rows (sym (so_far-next p rows i d inside (sym is))))
+table_next base p rows i d table count inside is below counted filled_is = search (arith, set, filled-next, so_far-next)
 
 pub count_next : (p : Port) (rows : List PlanRow) (i : ℕ) (d : PlanRow) (count : ℕ) → i < length rows → true ≡ is_row_of p (get_or rows i d) → count ≡ length (so_far p rows i) → count + 1 ≡ length (so_far p rows (i + 1))
 count_next p rows i d count inside is counted =
@@ -70,23 +59,15 @@ count_next p rows i d count inside is counted =
 -- the table after the last row
 pub table_last : (plan : Plan) (p : Port) (rows : List PlanRow) (i : ℕ) → rows_of p rows ≡ rows_of p plan.rows → length rows ≤ i → of_rows (base_of plan p) (padded_rows (so_far p rows i)) ≡ table_of plan p
 unfolding table_of rows_of
-table_last plan p rows i same all =
-    ap (λ (some : List PlanRow). of_rows (base_of plan p) (padded_rows (map table_row (filter (is_row_of p) some)))) (take_all i rows all)
-    ∙ ap (λ (own : List PlanRow). of_rows (base_of plan p) (padded_rows (map table_row own))) same
+table_last plan p rows i same all = search (arith, take_all)
 
 -- the rows of an input are among those of its switch
 row_among : (s l : ℕ) (q : Port) → is_port q (Port.Switch s l) ≡ true → is_of_switch s q ≡ true
-row_among s l (Port.Switch t k) is = grind (arith, nat_tests)
-row_among s l (Port.Terminal t) is = cc
+row_among s l q is = search (arith, nat_tests)
 
 rows_cons : (s l : ℕ) (row : PlanRow) (rows more : List PlanRow) (own of_switch : Bool) → own ≡ is_row_of (Port.Switch s l) row → of_switch ≡ is_of_switch s row.port → filter (is_row_of (Port.Switch s l)) more ≡ filter (is_row_of (Port.Switch s l)) rows
     → filter (is_row_of (Port.Switch s l)) (cond of_switch (row ∷ more) more) ≡ cond own (row ∷ filter (is_row_of (Port.Switch s l)) rows) (filter (is_row_of (Port.Switch s l)) rows)
-rows_cons s l row rows more true true is of same = rw (sym is) (ap (λ xs. row ∷ xs) same)
-rows_cons s l row rows more false true is of same = rw (sym is) same
-rows_cons s l row rows more false false is of same = same
-rows_cons s l row rows more true false is of same =
-    let among : is_of_switch s row.port ≡ true = row_among s l row.port (sym is) in
-    cc
+rows_cons s l row rows more own of_switch is of same = search (arith, row_among)
 
 pub rows_of_input : (s l : ℕ) (rows : List PlanRow) → rows_of (Port.Switch s l) (filter (λ row. is_of_switch s row.port) rows) ≡ rows_of (Port.Switch s l) rows
 unfolding rows_of
@@ -98,16 +79,11 @@ abbrev IsRowInRange : Row → Type 0
 IsRowInRange row = (row.limit ≤ 65536) × IsSelectable row.select
 
 selectable : (select : Select) → IsPlanSelect select → IsSelectable select
-selectable (Link l) is = is
-selectable Discard is = tt
-selectable Sink is = tt
+selectable select is = search arith
 
 -- a row at any place, past the end a reset one
 row_in_range : (rows : List Row) (k : ℕ) → All IsRowInRange rows → IsRowInRange (get_or rows k reset_row)
-row_in_range rows k ranges = elim (cases_lt k (length rows)) [
-  | inl inside ↦ ranges k reset_row inside
-  | inr past ↦ subst IsRowInRange (sym (get_or_past rows k reset_row past)) (omega arith, tt)
-]
+row_in_range rows k ranges = search (arith, cases_lt, get_or_past)
 
 -- the rows of an input, filled up, are within the ranges
 rows_in_range : (plan : Plan) (p : Port) → IsPlan plan → All IsRowInRange (padded_rows (map table_row (rows_of p plan.rows)))
@@ -131,25 +107,12 @@ base_within (b ∷ bases) p all = by_test (is_base_of p b) (All-head (λ (c : Pl
 pub table_in_range : (plan : Plan) (p : Port) → IsPlan plan → IsTableInRange (table_of plan p)
 unfolding table_of rows_of base_of
 table_in_range plan p kept =
-    let rows : List Row = map table_row (rows_of p plan.rows) in
-    let few : length rows ≤ 36 = subst (λ n. n ≤ 36) (sym (length-map (rows_of p plan.rows) table_row)) (kept.rows.few p) in
-    let size : length (padded_rows rows) ≡ length rows + (36 - length rows) = length-append rows (replicate (36 - length rows) reset_row) ∙ ap (λ n. length rows + n) (length-replicate (36 - length rows) reset_row) in
-    IsTableInRange-from (table_of plan p) (record {
-      base = base_within plan.bases p kept.bases.ranges;
-      rows = omega (arith, size, few);
-      limits = λ k. (row_in_range (padded_rows rows) k (rows_in_range plan p kept)).0;
-      selects = λ k. (row_in_range (padded_rows rows) k (rows_in_range plan p kept)).1;
-    })
+    search (arith, length-map, length-append, replicate, length-replicate, IsTableInRange-from, base_within, row_in_range, rows_in_range)
 
 -- and so are its continues
 continues_cons : (s l : ℕ) (q : Port) (ports more : List Port) (own of_switch : Bool) → own ≡ is_port q (Port.Switch s l) → of_switch ≡ is_of_switch s q → list_any (λ p. is_port p (Port.Switch s l)) more ≡ list_any (λ p. is_port p (Port.Switch s l)) ports
     → list_any (λ p. is_port p (Port.Switch s l)) (cond of_switch (q ∷ more) more) ≡ (own || list_any (λ p. is_port p (Port.Switch s l)) ports)
-continues_cons s l q ports more true true is of same = rw (sym is) refl
-continues_cons s l q ports more false true is of same = rw (sym is) same
-continues_cons s l q ports more false false is of same = same
-continues_cons s l q ports more true false is of same =
-    let among : is_of_switch s q ≡ true = row_among s l q (sym is) in
-    cc
+continues_cons s l q ports more own of_switch is of same = search (arith, row_among)
 
 pub continues_of_link : (s l : ℕ) (ports : List Port) → is_any_at (λ q. q) (filter (λ q. is_of_switch s q) ports) (Port.Switch s l) ≡ is_any_at (λ q. q) ports (Port.Switch s l)
 unfolding is_any_at

@@ -1,6 +1,6 @@
 -- Lists made of a range of numbers: what holds of each element, and that no two are the same.
-use Rattle.{c104_plan.specs.Distinctness.AreDistinct, std.proofs.Common.{All, Bool, List, [], ap, arith, false, map, refl, suc, sym, zero}}
-use Rattle.std.proofs.{Common.{ℕ, ◌++◌, ◌+◌, ◌<◌, ◌||◌, ◌∙◌, ◌∷◌, ◌≡◌, ◌≤◌}, lemmas.List.Elements.{All-cons, All-nil}}
+use Rattle.{c104_plan.specs.Distinctness.AreDistinct, std.proofs.Common.{All, Bool, List, [], ap, arith, false, map, refl, suc, zero, ℕ}}
+use Rattle.std.proofs.{Common.{◌++◌, ◌+◌, ◌<◌, ◌||◌, ◌∙◌, ◌∷◌, ◌≡◌, ◌≤◌}, lemmas.List.Elements.{All-cons, All-nil}}
 use Rattle.std.{proofs.lemmas.List.{FromFn.map-range_with_len_more, flat_map_more}, specs.List.{AllByRecursion, flat_map, list_any}}
 use Rattle.std.specs.List.{range_with_len}
 
@@ -42,9 +42,7 @@ none_in_range test f n (suc count) none = λ i. none n (omega arith) i || none_i
 
 -- what a loop adds
 pub map_next : {X : Type 0} (f : ℕ → X) (n : ℕ) (so_far next : List X) (x : X) → so_far ≡ map f (range_with_len 0 n) → x ≡ f n → next ≡ so_far ++ x ∷ [] → next ≡ map f (range_with_len 0 (n + 1))
-map_next f n so_far next x so is grown =
-    let from_0 : 0 + n ≡ n = omega arith in
-    grown ∙ (λ i. so i ++ is i ∷ []) ∙ sym (map-range_with_len_more f 0 n n from_0)
+map_next f n so_far next x so is grown = search (arith, map-range_with_len_more)
 
 -- the numbers up to one more
 range_last : (a n : ℕ) → range_with_len a (suc n) ≡ range_with_len a n ++ (a + n) ∷ []
@@ -58,5 +56,4 @@ range_more n =
     ap (range_with_len 0) next ∙ range_last 0 n ∙ ap (λ m. range_with_len 0 n ++ m ∷ []) same
 
 pub flat_next : {X : Type 0} (f : ℕ → List X) (n : ℕ) (before so_far next : List X) → so_far ≡ before ++ flat_map f (range_with_len 0 n) → next ≡ so_far ++ f n → next ≡ before ++ flat_map f (range_with_len 0 (n + 1))
-flat_next f n before so_far next so grown =
-    grown ∙ ap (λ xs. xs ++ f n) so ∙ flat_map_more f before (range_with_len 0 n) n ∙ ap (λ ns. before ++ flat_map f ns) (sym (range_more n))
+flat_next f n before so_far next so grown = search (arith, flat_map_more, range_more)

@@ -1,6 +1,6 @@
 -- The plan by hand that has an image keeps what every plan does, and is of the same network as the plan that it is made of.
-use Rattle.c104_interval.specs.{Selection.reset_row, declared.intervals.{Row.Row, Select.{Select, TheVariants.{Discard, Link, Sink}}}}
-use Rattle.c104_plan.proofs.{PlanKept.{with_base, with_continue, with_delete, with_random, with_row}, RowPlanSteps.hosts-with_ranges}
+use Rattle.{c104_interval.specs.{Selection.reset_row, declared.intervals.{Row.Row, Select.Select}}, c104_plan.proofs.PlanKept.with_base}
+use Rattle.c104_plan.proofs.{PlanKept.{with_continue, with_delete, with_random, with_row}, RowPlanSteps.hosts-with_ranges}
 use Rattle.c104_plan.{proofs.RowPlanSteps.{length-with_ranges, names-with_ranges}, specs.{Distinctness.AreDistinct, PlanImage.Fits}}
 use Rattle.c104_plan.specs.{PlanImage.{Image, IsImage}, Plans.{AreNames, IsPlan, IsPlanSelect, IsRange, Plan, PlanBase, PlanRandom}}
 use Rattle.c104_plan.specs.{Plans.{Terminal, host_port, is_continued, is_deleted, label_count, rows_of}, Ports.{IsSwitchPort, Port}}
@@ -9,9 +9,9 @@ use Rattle.c104_plan.specs.RowPlans.{deletes_given, is_deleting_at, is_plan_sele
 use Rattle.c104_plan.specs.RowPlans.{row_plan, rows_given, settings_in, switches_given, unset_plan, used_rows, with_ranges}
 use Rattle.{c104_plan.specs.declared.plans.Shape.TheVariants.Hand, c104_regs.specs.Settings.reset_settings}
 use Rattle.{c104_regs.specs.declared.settings.Settings.Settings, std.proofs.Common.{All, Bool, List, [], ap, arith, false, get_or}}
-use Rattle.std.proofs.Common.{if◌then◌else◌, length, map, nat_le, nat_lt, not, refl, slice_get, subst, suc, sym, true, zero, ℕ, ◌&&◌, ◌++◌}
-use Rattle.std.proofs.{Common.{◌<◌, ◌∙◌, ◌∷◌, ◌≡◌, ◌≤◌}, lemmas.{Bool.{and_parts, leb-true, ltb-true, not-true}, List.Elements.All-cons}}
-use Rattle.std.proofs.lemmas.List.Elements.{All-head, All-nil, All-tail}
+use Rattle.std.proofs.Common.{if◌then◌else◌, length, nat_le, nat_lt, not, refl, slice_get, subst, suc, sym, true, zero, ℕ, ◌&&◌, ◌++◌, ◌<◌}
+use Rattle.std.proofs.{Common.{◌∷◌, ◌≡◌, ◌≤◌}, lemmas.{Bool.{and_parts, leb-true, ltb-true, not-true}, List.Elements.{All-cons, All-head}}}
+use Rattle.std.proofs.lemmas.List.Elements.{All-nil, All-tail}
 
 -- a plan line by line with more lines that set something at links
 pub record IsSetFurther (plan next : Plan) : Type 0 where
@@ -27,20 +27,10 @@ pub as_it_was : (plan : Plan) → IsPlan plan → plan.shape ≡ Hand → IsSetF
 as_it_was plan kept hand = record { kept = kept; shape = hand; header = refl; cap = refl; switches = refl; terminals = refl; wires = refl }
 
 pub and_then : (plan next last : Plan) → IsSetFurther plan next → IsSetFurther next last → IsSetFurther plan last
-and_then plan next last one two = record {
-  kept = two.kept;
-  shape = two.shape;
-  header = two.header ∙ one.header;
-  cap = two.cap ∙ one.cap;
-  switches = two.switches ∙ one.switches;
-  terminals = two.terminals ∙ one.terminals;
-  wires = two.wires ∙ one.wires;
-}
+and_then plan next last one two = search arith
 
 selects : (select : Select) → is_plan_select select ≡ true → IsPlanSelect select
-selects (Link l) is = ltb-true _ _ is
-selects Discard is = tt
-selects Sink is = tt
+selects select is = search (arith, ltb-true)
 
 -- one more line
 module _ (plan : Plan) (kept : IsPlan plan) (hand : plan.shape ≡ Hand) where
@@ -203,13 +193,4 @@ pub row_plan_hand : (plan : Plan) (image : Image) → IsPlan plan → IsImage im
 row_plan_hand plan image kept is_image fits = (set_further plan image kept is_image fits).shape
 
 pub row_plan_network : (plan : Plan) (image : Image) → IsPlan plan → IsImage image → Fits image plan → IsOfNetwork plan (row_plan plan image)
-row_plan_network plan image kept is_image fits =
-    let further = set_further plan image kept is_image fits in
-    record {
-      header = further.header;
-      cap = further.cap;
-      switches = further.switches;
-      names = ap (map (λ (t : Terminal). t.name)) further.terminals ∙ names-with_ranges image.ranges plan.terminals;
-      hosts = ap (map host_port) further.terminals ∙ hosts-with_ranges image.ranges plan.terminals;
-      wires = further.wires;
-    }
+row_plan_network plan image kept is_image fits = search (arith, set_further, names-with_ranges, hosts-with_ranges)

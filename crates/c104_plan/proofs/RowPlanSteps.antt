@@ -45,9 +45,7 @@ ranges_more (range ∷ ranges) (u ∷ terminals) zero d t inside is = let same :
 ranges_more (range ∷ ranges) (u ∷ terminals) (suc k) d t inside is = ap (λ ts. with_range range u ∷ ts) (ranges_more ranges terminals k d t (omega (arith, inside)) is)
 
 pub within : (ranges : List (ℕ × ℕ)) (before now : List Terminal) (k : ℕ) → length ranges ≤ length before → k < length ranges → now ≡ with_ranges (take k ranges) before → k < length now
-within ranges before now k enough inside made =
-    let same : length now ≡ length before = ap length made ∙ length-with_ranges (take k ranges) before in
-    omega (arith, same, enough, inside)
+within ranges before now k enough inside made = search (arith, length-with_ranges)
 
 -- and where the terminals before it have theirs
 pub ranges_next : (ranges : List (ℕ × ℕ)) (before now next : List Terminal) (k : ℕ) (d : ℕ × ℕ) → length ranges ≤ length before → k < length ranges → now ≡ with_ranges (take k ranges) before

@@ -4,26 +4,18 @@ use Rattle.c104_regs.proofs.{KeptLemmas.{map_of_kept, none_kept_values}, PlacedP
 use Rattle.c104_regs.{proofs.RegisterLemmas.IsKept-reset, specs.{KeptValues.{IsMapOf, kept_value}, Registers.IsRegisterBank}}
 use Rattle.c104_regs.specs.Registers.{RegisterBank, bank_peek, bank_poke, placed_bank, reset_bank, settable}
 use Rattle.{c104_regs.specs.declared.{faults.RegFault.RegFault, settings.Settings.Settings}, std.proofs.Common.{All, List, Ok, Option}}
-use Rattle.std.proofs.Common.{Result, [], ap, refl, replicate, subst, sym, true, ℕ, ◌++◌, ◌<◌, ◌∙◌, ◌≡◌, ◌≢◌}
+use Rattle.std.proofs.Common.{Result, [], ap, arith, replicate, subst, sym, true, ℕ, ◌++◌, ◌<◌, ◌∙◌, ◌≡◌, ◌≢◌}
 
 -- a bank that is started
 abbrev started : RegisterBank → RegisterBank
 started b = record b { started = true }
 
 pub kept_new : (b t : RegisterBank) (values : List (ℕ × ℕ)) → b ≡ reset_bank → t ≡ started b → values ≡ [] → AreKept t values
-kept_new b t values reset on none =
-    let is : t ≡ placed_bank (replicate 32 _) = on ∙ ap started reset in
-    subst (λ (b : RegisterBank). AreKept b values) (sym is) (record {
-      in_range = record { links = IsKept-reset.links; statuses = IsKept-reset.statuses; in_range = IsKept-reset.in_range };
-      placed = refl;
-      values = none ∙ none_kept_values;
-    })
+kept_new b t values reset on none = search (arith, replicate, IsKept-reset, none_kept_values)
 
 -- a poke of a placed switch leaves a placed switch
 placed_next : (b t : RegisterBank) (a v : ℕ) (r : Result (Unit {0}) RegFault) → b ≡ placed_bank b.settings → ◌≡◌ {A = Result (Unit {0}) RegFault × RegisterBank} (r, t) (bank_poke b a v) → t ≡ placed_bank t.settings
-placed_next b t a v r placed poked =
-    let same : t ≡ (bank_poke (placed_bank b.settings) a v).1 = ap (λ (x : Result (Unit {0}) RegFault × RegisterBank). x.1) poked ∙ ap (λ (b : RegisterBank). (bank_poke b a v).1) placed in
-    subst (λ (t : RegisterBank). t ≡ placed_bank t.settings) (sym same) (poke_placed a v b.settings)
+placed_next b t a v r placed poked = search (arith, poke_placed)
 
 pub kept_next : (b t : RegisterBank) (a v : ℕ) (o : Option ℕ) (r : Result (Unit {0}) RegFault) (before after : List (ℕ × ℕ)) → AreKept b before → IsRegisterBank t → settable a v ≡ Ok tt
     → ◌≡◌ {A = Result (Unit {0}) RegFault × RegisterBank} (r, t) (bank_poke b a v)

@@ -1,7 +1,5 @@
 -- The value of so many digits is small.
-use Rattle.std.proofs.{Common.{arith, lit<, ℕ, ◌<◌, ◌^◌, ◌≤◌}, Math.Nat.pow-le-pow_right}
+use Rattle.std.proofs.{Common.{arith, ℕ, ◌<◌, ◌^◌, ◌≤◌}, Math.Nat.pow-le-pow_right}
 
 pub below_most : (value digits most : ℕ) → value < 10 ^ digits → digits ≤ most → value < 10 ^ most
-below_most value digits most small few =
-    let more : 10 ^ digits ≤ 10 ^ most = pow-le-pow_right (lit< tt) few in
-    omega arith
+below_most value digits most small few = search (arith, pow-le-pow_right)

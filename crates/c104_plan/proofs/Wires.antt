@@ -98,19 +98,13 @@ IsBetween (Port.Switch s l) (Port.Terminal t) = ⊥
 IsBetween (Port.Terminal t) q = ⊥
 
 between : (switches : ℕ) (p q : Port) → IsSwitchPort switches p → IsSwitchPort switches q → AreApart p q → IsBetween p q
-between switches (Port.Switch s l) (Port.Switch s' l') is is' apart = apart
-between switches (Port.Switch s l) (Port.Terminal t) is is' apart = absurd is'
-between switches (Port.Terminal t) q is is' apart = absurd is
+between switches p q is is' apart = search arith
 
 apart_flips : (p q : Port) → AreApart p q → AreApart q p
-apart_flips (Port.Switch s l) (Port.Switch s' l') apart = λ same. apart (sym same)
-apart_flips (Port.Switch s l) (Port.Terminal t) apart = tt
-apart_flips (Port.Terminal t) (Port.Switch s l) apart = tt
-apart_flips (Port.Terminal t) (Port.Terminal u) apart = apart
+apart_flips p q apart = search arith
 
 inside : (plan : Plan) (p : Port) → IsSwitchPort (length plan.switches) p → IsPlanPort plan p
-inside plan (Port.Switch s l) is = is
-inside plan (Port.Terminal t) is = absurd is
+inside plan p is = search arith
 
 wires_apart : (switches : ℕ) (ws : List Wire) → All (IsPlanWire switches) ws → EachWire AreApart ws
 wires_apart switches [] all = tt
