@@ -1,9 +1,9 @@
 -- A value set in one switch of an image, as the whole image has it.
 use Rattle.c104_plan.specs.{ImageEdits.{AnswersDue, image_peek, image_set, poke_answer, settings_set}, PlanImage.{AreSettings, Image}}
 use Rattle.{c104_plan.specs.{PlanImage.IsImage, declared.image_faults.ImageFault.ImageFault}, c104_regs.proofs.PlacedPokes.poke_refused}
-use Rattle.c104_regs.{proofs.PlacedPokes.poke_taken, specs.Registers.{RegisterBank, bank_peek, placed_bank, settable}}
+use Rattle.c104_regs.{proofs.PlacedPokes.poke_taken, specs.Registers.{bank_peek, placed_bank, settable}}
 use Rattle.{c104_regs.specs.declared.{faults.RegFault.RegFault, settings.Settings.Settings}, std.proofs.Common.{Err, List, Ok, OnErr, OnOk}}
-use Rattle.std.proofs.Common.{Result, Some, ap, arith, get_or, inl, inr, length, set, slice_get, subst, sym, ℕ, ◌<◌, ◌∙◌, ◌≡◌, ◌≢◌, ◌⊎◌}
+use Rattle.std.proofs.Common.{Result, Some, ap, arith, get_or, inl, inr, length, set, slice_get, sym, ℕ, ◌<◌, ◌∙◌, ◌≡◌, ◌≢◌, ◌⊎◌}
 use Rattle.std.proofs.lemmas.{Bool.{cases_eq, cases_lt}, List.{Elements.All-set, get_or-set_other, get_or-set_same, length-set, set-get_or}}
 use Rattle.std.proofs.lemmas.Option.{get_or_from_slice_get, slice_get-get_or, slice_get_past, slice_get_within}
 
@@ -45,11 +45,7 @@ module _ (ranges : List (ℕ × ℕ)) (xs : List (List Settings)) (i a v : ℕ) 
       let done : (settings_set x a v).0 ≡ Ok tt = ap poke_answer (poke_taken a v x is) in
       let both : ◌≡◌ {A = Result (Unit {0}) ImageFault} (Ok tt) (Err (ImageFault.Register e)) = sym done ∙ sym same ∙ refused in
       cc
-  fault_by e (Err f) is same refused =
-      let told : (settings_set x a v).0 ≡ Err (ImageFault.Register f) = ap (λ (p : Result (Unit {0}) RegFault × RegisterBank). poke_answer p.0) (poke_refused a v (placed_bank x) f is) in
-      let both : ◌≡◌ {A = Result (Unit {0}) ImageFault} (Err (ImageFault.Register f)) (Err (ImageFault.Register e)) = sym told ∙ sym same ∙ refused in
-      let one : f ≡ e = cc in
-      is ∙ ap Err one
+  fault_by e (Err f) is same refused = search (arith, poke_refused)
 
   pub fault_is : AnswersDue x (settings_set x a v) r y → (e : RegFault) → r ≡ Err (ImageFault.Register e) → settable a v ≡ Err e
   fault_is settled e refused = search (arith, fault_by)
@@ -81,10 +77,7 @@ module _ (ranges : List (ℕ × ℕ)) (xs : List (List Settings)) (i a v : ℕ) 
   }
     where
       on : (r : Result (Unit {0}) ImageFault) → OnOk r (AreSettings y) → OnErr r (y ≡ x) → AreSettings y
-      on (Ok u) made unchanged = made
-      on (Err e) made unchanged =
-          let inside : i < length xs = slice_get_within xs i x at in
-          subst AreSettings (get_or_from_slice_get xs i x x at ∙ sym unchanged) (kept.switches i x inside)
+      on r made unchanged = search (arith, slice_get_within, get_or_from_slice_get)
 
 -- an element that was found at a place is there
 pub found_at : {X : Type 0} (xs : List X) (i : ℕ) (x : X) → i < length xs → x ≡ get_or xs i x → slice_get xs i ≡ Some x

@@ -63,10 +63,7 @@ module _ (front back : List (ℕ × ℕ)) (a : ℕ) (above : All (λ x. a < x.0)
       let same : (get_or values place d).0 ≡ a = grind (arith, nat_tests) in
       let more : a < (get_or back 0 d).0 = above 0 d (omega (arith, ap length is, length-append front back)) in
       let on : place ≡ length front + 0 = omega arith in
-      let first : get_or values place d ≡ get_or back 0 d =
-      ap (λ (xs : List (ℕ × ℕ)). get_or xs place d) is ∙ ap (λ n. get_or (front ++ back) n d) on ∙ get_or-append-add front back 0 d in
-      let less : a < (get_or values place d).0 = subst (λ (x : ℕ × ℕ). a < x.0) (sym first) more in
-      absurd (omega arith)
+      search (arith, get_or-append-add)
   taken_out (Some v) values place d here is there =
       let at : length front - length front ≡ 0 = omega arith in
       ap (λ (xs : List (ℕ × ℕ)). remove xs place) is ∙ ap (remove (front ++ (a, v) ∷ back)) here

@@ -70,10 +70,8 @@ link_in_range tables n s l many all switch link = all (s * 32 + l) reset_table (
 
 pub are_port_labelled : (plan : Plan) (tables : List Table) (switch : ℕ) → IsPlan plan → length tables ≡ length plan.switches * 32 → All IsTableInRange tables → switch < length plan.switches → AreSettings (port_labelled_switch plan (port_table tables switch) switch)
 unfolding port_labelled_switch
-are_port_labelled plan tables switch kept many all inside = (
-  length-map-range_with_len (port_labelled_at plan (port_table tables switch) switch) 0 32,
-  All-map IsInRange (port_labelled_at plan (port_table tables switch) switch) (range_with_len 0 32) (λ k d below. at_link k d (omega (arith, below, length-range_with_len 0 32))),
-)
+are_port_labelled plan tables switch kept many all inside =
+    search (arith, length-map-range_with_len, All-map, at_link, length-range_with_len)
   where
     at_link : (k d : ℕ) → k < 32 → IsInRange (port_labelled_at plan (port_table tables switch) switch (get_or (range_with_len 0 32) k d))
     at_link k d below =

@@ -42,10 +42,7 @@ pub texts_copied : (keys copies : List (Vec ℕ)) → AllZip (λ (v w : Vec ℕ)
 texts_copied [] [] all = refl
 texts_copied [] (w ∷ copies) all = absurd all
 texts_copied (v ∷ keys) [] all = absurd all
-texts_copied (v ∷ keys) (w ∷ copies) all =
-    let first : w.items ≡ v.items = copied v.items w.items all.0.0 in
-    let rest : texts copies ≡ texts keys = texts_copied keys copies all.1 in
-    cc
+texts_copied (v ∷ keys) (w ∷ copies) all = search (arith, copied, texts_copied keys copies all.1)
 
 -- they have the same names
 pub same_names : (terminals : List Terminal) → map (λ (t : Terminal). t.name) (map without_first terminals) ≡ map (λ (t : Terminal). t.name) terminals

@@ -58,25 +58,20 @@ module _ (plan : Plan) (kept : IsPlan plan) where
   with_switch name hand named free room =
       let longer : length (plan.switches ++ name ∷ []) ≡ length plan.switches + 1 = length-append plan.switches (name ∷ []) in
       let more : length plan.switches ≤ length (plan.switches ++ name ∷ []) = omega arith in
-      let of_terminals : List (List ℕ) = map (λ (t : Terminal). t.name) plan.terminals in
-      record {
-        header = kept.header;
-        cap = kept.cap;
-        shape = by_hand plan.shape _ hand;
-        few_switches = omega arith;
-        names = record {
-          named = All-inserted (λ other. is_name other ≡ true) plan.switches of_terminals name kept.names.named named;
-          differ = distinct_inserted bytes_eq names_flip plan.switches of_terminals name free kept.names.differ;
-        };
-        terminals = terminals_of_more _ _ more plan.terminals kept.terminals;
-        wires = wires_of_more _ _ more plan.wires kept.wires;
-        links = kept.links;
-        continues = continues_of_more _ _ more plan.continues kept.continues;
-        deletes = kept.deletes;
-        bases = bases_of_more _ _ more plan.bases kept.bases;
-        rows = rows_of_more _ _ more plan.rows kept.rows;
-        randoms = randoms_of_more _ _ more plan.randoms kept.randoms;
-      }
+      search (
+        arith,
+        by_hand,
+        All-inserted,
+        distinct_inserted,
+        bytes_eq,
+        names_flip,
+        terminals_of_more,
+        wires_of_more,
+        continues_of_more,
+        bases_of_more,
+        rows_of_more,
+        randoms_of_more,
+      )
 
   names-terminal : (t : Terminal) → names plan.switches (plan.terminals ++ t ∷ []) ≡ names plan.switches plan.terminals ++ t.name ∷ []
   names-terminal t = rw (map-append (λ (u : Terminal). u.name) plan.terminals (t ∷ [])) (sym (append_assoc plan.switches (map (λ (u : Terminal). u.name) plan.terminals) (t.name ∷ [])))
@@ -92,28 +87,7 @@ module _ (plan : Plan) (kept : IsPlan plan) where
   pub with_terminal : (t : Terminal) → plan.shape ≡ Hand → is_name t.name ≡ true → is_taken plan t.name ≡ false → IsSwitchPort (length plan.switches) (host_port t) → is_linked plan (host_port t) ≡ false → length plan.terminals < most_terminals → IsRange t.first t.count → IsPlan (record plan { terminals = plan.terminals ++ t ∷ [] })
   with_terminal t hand named free on_switch unlinked room range =
       let longer : length (plan.terminals ++ t ∷ []) ≡ length plan.terminals + 1 = length-append plan.terminals (t ∷ []) in
-      record {
-        header = kept.header;
-        cap = kept.cap;
-        shape = by_hand plan.shape _ hand;
-        few_switches = kept.few_switches;
-        names = names_with t named free;
-        terminals = record {
-          few = omega arith;
-          on_switches = All-push (λ (u : Terminal). IsSwitchPort (length plan.switches) (host_port u)) plan.terminals t kept.terminals.on_switches on_switch;
-          ranges = All-push (λ (u : Terminal). IsRange u.first u.count) plan.terminals t kept.terminals.ranges range;
-        };
-        wires = kept.wires;
-        links = links_with t unlinked;
-        continues = kept.continues;
-        deletes = record {
-          known = All-weaker (λ u. u < length plan.terminals) (λ u. u < length (plan.terminals ++ t ∷ [])) (λ u inside. omega (arith, longer)) plan.deletes kept.deletes.known;
-          once = kept.deletes.once;
-        };
-        bases = kept.bases;
-        rows = kept.rows;
-        randoms = kept.randoms;
-      }
+      search (arith, by_hand, names_with, All-push, links_with, All-weaker)
 
   links_wired : (w : Wire) → is_linked plan w.here ≡ false → is_linked plan w.there ≡ false → is_port w.here w.there ≡ false → AreDistinct is_port (linked_ports plan.terminals (plan.wires ++ w ∷ []))
   unfolding is_linked
@@ -122,11 +96,7 @@ module _ (plan : Plan) (kept : IsPlan plan) where
       let at_here : AreDistinct is_port (ports ++ w.here ∷ []) = distinct_pushed is_port ports w.here here_free kept.links in
       let none : list_any (λ q. is_port q w.there) (ports ++ w.here ∷ []) ≡ false = list_any-append (λ q. is_port q w.there) ports (w.here ∷ []) ∙ or_from _ _ there_free (or_from _ _ differ refl) in
       let both : AreDistinct is_port ((ports ++ w.here ∷ []) ++ w.there ∷ []) = distinct_pushed is_port (ports ++ w.here ∷ []) w.there none at_here in
-      let same : (ports ++ w.here ∷ []) ++ w.there ∷ [] ≡ linked_ports plan.terminals (plan.wires ++ w ∷ []) =
-      append_assoc ports (w.here ∷ []) (w.there ∷ [])
-      ∙ append_assoc (map host_port plan.terminals) (both_ends plan.wires) (w.here ∷ w.there ∷ [])
-      ∙ ap (λ ends. map host_port plan.terminals ++ ends) (sym (both_ends-append plan.wires w)) in
-      subst (AreDistinct is_port) same both
+      search (arith, append_assoc, both_ends-append)
 
   pub with_wire : (w : Wire) → plan.shape ≡ Hand → IsPlanWire (length plan.switches) w → is_port w.here w.there ≡ false → is_linked plan w.here ≡ false → is_linked plan w.there ≡ false → IsPlan (record plan { wires = plan.wires ++ w ∷ [] })
   with_wire w hand is_wire differ here_free there_free = search (arith, by_hand, All-push, links_wired)

@@ -2,8 +2,8 @@
 use Rattle.c104_plan.{proofs.PlanTables.table_in_range, specs.PlanImage.{AreSettings, Fits, Image, is_random_of, plain_settings_of}}
 use Rattle.c104_plan.specs.{PlanImage.{range_of, settings_of, switch_settings, with_random}, Plans.{IsPlan, Plan, PlanRandom}, Ports.Port}
 use Rattle.c104_regs.{proofs.RangeNumbers.IsInRange-from, specs.{Ranges.{IsInRange, IsTableInRange}, declared.settings.Settings.Settings}}
-use Rattle.std.proofs.Common.{All, Bool, List, Option, Some, [], ap, arith, cond, false, length, lit<, lit≤, map, subst, sym, true, ℕ, ◌++◌}
-use Rattle.std.proofs.{Common.{◌+◌, ◌<◌, ◌∷◌, ◌≡◌, ◌≤◌}, lemmas.List.Elements.{All-head, All-map, All-same, All-tail}}
+use Rattle.std.proofs.Common.{All, Bool, List, Option, Some, [], ap, arith, cond, length, lit<, lit≤, map, subst, sym, ℕ, ◌++◌, ◌+◌, ◌<◌}
+use Rattle.std.proofs.{Common.{◌∷◌, ◌≡◌, ◌≤◌}, lemmas.List.Elements.{All-head, All-map, All-same, All-tail}}
 use Rattle.std.{proofs.lemmas.List.{FromFn.{length-map-range_with_len, map-range_with_len_more}, length-map}, specs.List.find}
 use Rattle.std.specs.List.{range_with_len}
 
@@ -32,8 +32,7 @@ with_line [] p s all own = own
 with_line (r ∷ lines) p s all own = by_test (is_random_of p r) (All-head (λ (x : PlanRandom). (x.base < 65536) × (x.range ≤ 65536)) r lines all) (with_line lines p s (All-tail (λ (x : PlanRandom). (x.base < 65536) × (x.range ≤ 65536)) r lines all) own)
   where
     by_test : (here : Bool) → (r.base < 65536) × (r.range ≤ 65536) → IsRandomInRange (with_random (find (is_random_of p) lines) s) → IsRandomInRange (with_random (cond here (Some r) (find (is_random_of p) lines)) s)
-    by_test true first rest = first
-    by_test false first rest = rest
+    by_test here first rest = search arith
 
 pub random_in_range : (plan : Plan) (p : Port) → IsPlan plan → IsRandomInRange (settings_of plan p)
 unfolding settings_of

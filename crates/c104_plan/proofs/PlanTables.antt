@@ -101,8 +101,7 @@ base_within [] p all = lit< tt
 base_within (b ∷ bases) p all = by_test (is_base_of p b) (All-head (λ (c : PlanBase). c.base < 65536) b bases all) (base_within bases p (All-tail (λ (c : PlanBase). c.base < 65536) b bases all))
   where
     by_test : (here : Bool) → b.base < 65536 → base_or_zero (find (is_base_of p) bases) < 65536 → base_or_zero (cond here (Some b) (find (is_base_of p) bases)) < 65536
-    by_test true first rest = first
-    by_test false first rest = rest
+    by_test here first rest = search arith
 
 pub table_in_range : (plan : Plan) (p : Port) → IsPlan plan → IsTableInRange (table_of plan p)
 unfolding table_of rows_of base_of

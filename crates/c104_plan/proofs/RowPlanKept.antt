@@ -1,17 +1,15 @@
 -- The plan by hand that has an image keeps what every plan does, and is of the same network as the plan that it is made of.
-use Rattle.{c104_interval.specs.{Selection.reset_row, declared.intervals.{Row.Row, Select.Select}}, c104_plan.proofs.PlanKept.with_base}
-use Rattle.c104_plan.proofs.{PlanKept.{with_continue, with_delete, with_random, with_row}, RowPlanSteps.hosts-with_ranges}
-use Rattle.c104_plan.{proofs.RowPlanSteps.{length-with_ranges, names-with_ranges}, specs.{Distinctness.AreDistinct, PlanImage.Fits}}
-use Rattle.c104_plan.specs.{PlanImage.{Image, IsImage}, Plans.{AreNames, IsPlan, IsPlanSelect, IsRange, Plan, PlanBase, PlanRandom}}
-use Rattle.c104_plan.specs.{Plans.{Terminal, host_port, is_continued, is_deleted, label_count, rows_of}, Ports.{IsSwitchPort, Port}}
-use Rattle.c104_plan.specs.{Ports.{both_ends, is_any_at, is_port}, RowPlans.{IsOfNetwork, base_given, continue_given, delete_given}}
-use Rattle.c104_plan.specs.RowPlans.{deletes_given, is_deleting_at, is_plan_select, link_given, links_given, random_given, row_given}
-use Rattle.c104_plan.specs.RowPlans.{row_plan, rows_given, settings_in, switches_given, unset_plan, used_rows, with_ranges}
-use Rattle.{c104_plan.specs.declared.plans.Shape.TheVariants.Hand, c104_regs.specs.Settings.reset_settings}
-use Rattle.{c104_regs.specs.declared.settings.Settings.Settings, std.proofs.Common.{All, Bool, List, [], ap, arith, false, get_or}}
-use Rattle.std.proofs.Common.{if◌then◌else◌, length, nat_le, nat_lt, not, refl, slice_get, subst, suc, sym, true, zero, ℕ, ◌&&◌, ◌++◌, ◌<◌}
-use Rattle.std.proofs.{Common.{◌∷◌, ◌≡◌, ◌≤◌}, lemmas.{Bool.{and_parts, leb-true, ltb-true, not-true}, List.Elements.{All-cons, All-head}}}
-use Rattle.std.proofs.lemmas.List.Elements.{All-nil, All-tail}
+use Rattle.{c104_interval.specs.declared.intervals.{Row.Row, Select.Select}, c104_plan.proofs.PlanKept.{with_base, with_continue}}
+use Rattle.c104_plan.proofs.{PlanKept.{with_delete, with_random, with_row}, RowPlanSteps.{hosts-with_ranges, length-with_ranges}}
+use Rattle.c104_plan.{proofs.RowPlanSteps.names-with_ranges, specs.{Distinctness.AreDistinct, PlanImage.{Fits, Image, IsImage}}}
+use Rattle.c104_plan.specs.Plans.{AreNames, IsPlan, IsPlanSelect, IsRange, Plan, PlanBase, PlanRandom, Terminal, host_port, is_continued}
+use Rattle.c104_plan.specs.{Plans.{is_deleted, label_count, rows_of}, Ports.{IsSwitchPort, Port, both_ends, is_any_at, is_port}}
+use Rattle.c104_plan.specs.RowPlans.{IsOfNetwork, base_given, continue_given, delete_given, deletes_given, is_deleting_at, is_plan_select}
+use Rattle.c104_plan.specs.RowPlans.{link_given, links_given, random_given, row_given, row_plan, rows_given, settings_in, switches_given}
+use Rattle.c104_plan.specs.{RowPlans.{unset_plan, used_rows, with_ranges}, declared.plans.Shape.TheVariants.Hand}
+use Rattle.{c104_regs.specs.declared.settings.Settings.Settings, std.proofs.Common.{All, Bool, List, [], ap, arith, false, if◌then◌else◌}}
+use Rattle.std.proofs.Common.{length, nat_le, nat_lt, not, refl, slice_get, subst, suc, sym, true, zero, ℕ, ◌&&◌, ◌++◌, ◌<◌, ◌∷◌, ◌≡◌, ◌≤◌}
+use Rattle.std.proofs.lemmas.{Bool.{and_parts, leb-true, ltb-true, not-true}, List.Elements.{All-cons, All-head, All-nil, All-tail}}
 
 -- a plan line by line with more lines that set something at links
 pub record IsSetFurther (plan next : Plan) : Type 0 where
@@ -95,9 +93,7 @@ of_next plan next s l is of_switch = (omega (arith, ap length is.switches, of_sw
 rows_kept : (plan : Plan) → IsPlan plan → plan.shape ≡ Hand → (s l : ℕ) (rows : List Row) (k : ℕ) → IsSwitchPort (length plan.switches) (Port.Switch s l) → IsSetFurther plan (rows_given (Port.Switch s l) rows k plan)
 rows_kept plan kept hand s l rows zero of_switch = as_it_was plan kept hand
 rows_kept plan kept hand s l rows (suc k) of_switch =
-    let now : Plan = rows_given (Port.Switch s l) rows k plan in
-    let before : IsSetFurther plan now = rows_kept plan kept hand s l rows k of_switch in
-    and_then plan now _ before (row_kept now before.kept before.shape (Port.Switch s l) (get_or rows k reset_row) (of_next plan now s l before of_switch))
+    search (arith, and_then, row_kept, of_next, rows_kept plan kept hand s l rows k of_switch)
 
 -- the lines of a link
 pub link_kept : (plan : Plan) → IsPlan plan → plan.shape ≡ Hand → (s l : ℕ) (settings : Settings) → IsSwitchPort (length plan.switches) (Port.Switch s l) → IsSetFurther plan (link_given s l settings plan)
@@ -116,9 +112,7 @@ link_kept plan kept hand s l settings of_switch =
 pub links_kept : (plan : Plan) → IsPlan plan → plan.shape ≡ Hand → (s : ℕ) (settings : List Settings) (links : ℕ) → s < length plan.switches → links ≤ 32 → IsSetFurther plan (links_given s settings links plan)
 links_kept plan kept hand s settings zero inside few = as_it_was plan kept hand
 links_kept plan kept hand s settings (suc l) inside few =
-    let now : Plan = links_given s settings l plan in
-    let before : IsSetFurther plan now = links_kept plan kept hand s settings l inside (omega (arith, few)) in
-    and_then plan now _ before (link_kept now before.kept before.shape s l (get_or settings l reset_settings) (omega (arith, ap length before.switches, inside), omega (arith, few)))
+    search (arith, and_then, link_kept, links_kept plan kept hand s settings l inside (omega (arith, few)))
 
 -- the lines of switches
 pub switches_kept : (plan : Plan) → IsPlan plan → plan.shape ≡ Hand → (all : List (List Settings)) (count : ℕ) → count ≤ length plan.switches → IsSetFurther plan (switches_given all count plan)
@@ -182,9 +176,7 @@ unfolding row_plan
 set_further plan image kept is_image fits =
     let unset : Plan = unset_plan image.ranges plan in
     let unset_is : IsPlan unset = unset_kept plan image.ranges kept is_image.ranges in
-    let set : Plan = switches_given image.settings (length image.settings) unset in
-    let to_set : IsSetFurther unset set = switches_kept unset unset_is refl image.settings (length image.settings) (omega (arith, fits.settings)) in
-    and_then unset set _ to_set (deletes_kept set to_set.kept to_set.shape image.settings (length plan.terminals) (omega (arith, ap length to_set.terminals, length-with_ranges image.ranges plan.terminals)))
+    search (arith, switches_kept, and_then, deletes_kept, length-with_ranges)
 
 pub row_plan_kept : (plan : Plan) (image : Image) → IsPlan plan → IsImage image → Fits image plan → IsPlan (row_plan plan image)
 row_plan_kept plan image kept is_image fits = (set_further plan image kept is_image fits).kept

@@ -65,13 +65,10 @@ used_reset (first ∷ rows) row is = ap (λ n. if is_reset_row first && n == 0 t
 
 used_not : (rows : List Row) (row : Row) → is_reset_row row ≡ false → used_rows (rows ++ row ∷ []) ≡ suc (length rows)
 used_not [] row is = ap (λ reset. if reset && 0 == 0 then 0 else 1) is
-used_not (first ∷ rows) row is =
-    let some : (suc (length rows) == 0) ≡ false = grind (arith, nat_tests) in
-    ap (λ n. if is_reset_row first && n == 0 then 0 else suc n) (used_not rows row is) ∙ by_test (is_reset_row first) (suc (length rows) == 0) some
+used_not (first ∷ rows) row is = search (arith, nat_tests, by_test, used_not rows row is)
   where
     by_test : (reset none : Bool) → none ≡ false → (if reset && none then 0 else suc (suc (length rows))) ≡ suc (suc (length rows))
-    by_test true none is_none = ap (λ b. if b then 0 else suc (suc (length rows))) is_none
-    by_test false none is_none = refl
+    by_test reset none is_none = search arith
 
 module _ (rows : List Row) (k : ℕ) (d : Row) (inside : k < length rows) where
   pub used_more_reset : is_reset_row (get_or rows k d) ≡ true → used_rows (take k rows) ≡ used_rows (take (k + 1) rows)

@@ -64,10 +64,7 @@ goes_back (w ∷ ws) once p q e = elim (cases_port w.here p) [
     | inl b ↦ let f : (if is_port w.there p then Some w.here else other_end ws p) ≡ Some q = rw a at e in let g : Some w.here ≡ Some q = rw (← b, is_port-refl w.there) at f in let same : w.here ≡ q = cc in rw (← same, is_port-refl w.here) (ap Some b)
     | inr b ↦
         let f : other_end ws p ≡ Some q = rw (a, b) at e in
-        let back = goes_back ws once.3 p q f in
-        let not_here : is_port w.here q ≡ false = is_port-ne w.here q (λ h. let g = ap (other_end ws) h in let n = once.1 in cc) in
-        let not_there : is_port w.there q ≡ false = is_port-ne w.there q (λ h. let g = ap (other_end ws) h in let n = once.2 in cc) in
-        rw (not_here, not_there) back
+        search (arith, is_port-ne, goes_back ws once.3 p q f)
   ]
 ]
 
@@ -81,9 +78,7 @@ terminals_apart n (t ∷ ts) = (tt, tt, terminals_apart (suc n) ts)
 terminal_end : (n : ℕ) (ts : List Terminal) (k : ℕ) (t : Terminal) → slice_get ts k ≡ Some t → other_end (terminal_wires n ts) (Port.Terminal (n + k)) ≡ Some (host_port t)
 terminal_end n [] k t e = absurd (cc)
 terminal_end n (u ∷ ts) zero t e = let same : u ≡ t = cc in rw (eq-eqb n (n + 0) (omega arith)) (ap (λ (v : Terminal). Some (host_port v)) same)
-terminal_end n (u ∷ ts) (suc k) t e =
-    let further : suc n + k ≡ n + suc k = omega arith in
-    rw (ne_eqb n (n + suc k) (λ h. (omega (arith, h)))) (subst (λ j. other_end (terminal_wires (suc n) ts) (Port.Terminal j) ≡ Some (host_port t)) further (terminal_end (suc n) ts k t e))
+terminal_end n (u ∷ ts) (suc k) t e = search (arith, ne_eqb, terminal_end (suc n) ts k t e)
 
 -- terminals' wires join terminals of the plan, and ports of its switches
 terminals_inside : (plan : Plan) (n : ℕ) (ts : List Terminal) → n + length ts ≡ length plan.terminals → All (λ (t : Terminal). IsSwitchPort (length plan.switches) (host_port t)) ts → EachWire (λ p q. IsPlanPort plan p) (terminal_wires n ts)
@@ -109,20 +104,17 @@ inside plan p is = search arith
 wires_apart : (switches : ℕ) (ws : List Wire) → All (IsPlanWire switches) ws → EachWire AreApart ws
 wires_apart switches [] all = tt
 wires_apart switches (w ∷ ws) all =
-    let is = All-head (IsPlanWire switches) w ws all in
-    (is.2, apart_flips w.here w.there is.2, wires_apart switches ws (All-tail (IsPlanWire switches) w ws all))
+    search (arith, All-head, apart_flips, All-tail, wires_apart switches ws (All-tail (IsPlanWire switches) w ws all))
 
 wires_between : (switches : ℕ) (ws : List Wire) → All (IsPlanWire switches) ws → EachWire IsBetween ws
 wires_between switches [] all = tt
 wires_between switches (w ∷ ws) all =
-    let is = All-head (IsPlanWire switches) w ws all in
-    (between switches w.here w.there is.0 is.1 is.2, between switches w.there w.here is.1 is.0 (apart_flips w.here w.there is.2), wires_between switches ws (All-tail (IsPlanWire switches) w ws all))
+    search (arith, All-head, apart_flips, All-tail, wires_between switches ws (All-tail (IsPlanWire switches) w ws all))
 
 wires_inside : (plan : Plan) (ws : List Wire) → All (IsPlanWire (length plan.switches)) ws → EachWire (λ p q. IsPlanPort plan p) ws
 wires_inside plan [] all = tt
 wires_inside plan (w ∷ ws) all =
-    let is = All-head (IsPlanWire (length plan.switches)) w ws all in
-    (inside plan w.here is.0, inside plan w.there is.1, wires_inside plan ws (All-tail (IsPlanWire (length plan.switches)) w ws all))
+    search (arith, All-head, inside, All-tail, wires_inside plan ws (All-tail (IsPlanWire (length plan.switches)) w ws all))
 
 -- where the ports of switches differ, none stands twice
 
@@ -143,8 +135,7 @@ no_end [] t h = refl
 no_end (w ∷ ws) t h = rw (not_here w.here w.there h.0, not_here w.there w.here h.1) (no_end ws t h.2)
   where
     not_here : (p q : Port) → IsBetween p q → is_port p (Port.Terminal t) ≡ false
-    not_here (Port.Switch s l) q h = refl
-    not_here (Port.Terminal u) q h = absurd h
+    not_here p q h = search arith
 
 no_terminal : (n m : ℕ) (ts : List Terminal) (ws : List Wire) → n < m → EachWire IsBetween ws → other_end (terminal_wires m ts ++ ws) (Port.Terminal n) ≡ None
 no_terminal n m [] ws lt h = no_end ws n h
@@ -161,18 +152,8 @@ wires_once n (t ∷ ts) ws h are = (refl, no_terminal n (suc n) ts ws (omega ari
 -- each wire joins its two ends
 wire_end : (ws : List Wire) → IsOnce ws → (k : ℕ) (w : Wire) → slice_get ws k ≡ Some w → other_end ws w.here ≡ Some w.there
 wire_end [] once k w is = absurd (cc)
-wire_end (v ∷ ws) once zero w is =
-    let same : v ≡ w = cc in
-    subst (λ (x : Wire). other_end (v ∷ ws) x.here ≡ Some x.there) same (rw (is_port-refl v.here) refl)
-wire_end (v ∷ ws) once (suc k) w is =
-    let rest = wire_end ws once.3 k w is in
-    elim (cases_port v.here w.here) [
-      | inl a ↦ absurd (let clash : None ≡ Some w.there = sym once.1 ∙ ap (other_end ws) a ∙ rest in cc)
-      | inr a ↦ elim (cases_port v.there w.here) [
-        | inl b ↦ absurd (let clash : None ≡ Some w.there = sym once.2 ∙ ap (other_end ws) b ∙ rest in cc)
-        | inr b ↦ rw (a, b) rest
-      ]
-    ]
+wire_end (v ∷ ws) once zero w is = search (arith, is_port-refl)
+wire_end (v ∷ ws) once (suc k) w is = search (arith, cases_port, wire_end ws once.3 k w is)
 
 -- and each of these does, which stand among all from the n-th on
 each_joined : (all ws : List Wire) (n : ℕ) → ((k : ℕ) (w : Wire) → slice_get ws k ≡ Some w → slice_get all (n + k) ≡ Some w) → EachWire (IsJoined all) ws
