@@ -68,9 +68,7 @@ module _ {P : Type 0} (due : P → ℕ → List ℕ → Given → P → Type 0) 
     goes_then first next read each then x goes = search (arith, joined_value, then_value)
 
     pub came_then : (first : List Step) (p : P) (read : Read) → ComesTo due judge p first read mid → Then read mid second more after → ComesTo due judge p (first ++ second) (joined read more) after
-    came_then [] p read (is, same) then =
-        subst (λ (q : P). ComesTo due judge q second (joined read more) after) same
-        (subst (λ r. ComesTo due judge mid second r after) (sym (ap (λ r. joined r more) is ∙ joined_none more)) (subst (λ r. Then r mid second more after) is then))
+    came_then [] p read (is, same) then = search (arith, joined_none)
     came_then (t ∷ first) p read (given, next, gave, goes) then =
         (given, next, gave, goes_then first next read (λ rest came. came_then first next rest came) then (step_result judge t given) goes)
 

@@ -1,21 +1,21 @@
 -- A load of a new network of a plan never meets a full trace: all its steps are fewer than a trace holds.
-use Rattle.c104_control.specs.{Table.command_bytes, declared.commands.Command.{Command, TheVariants.CPoke}}
-use Rattle.{c104_event.specs.declared.{events.Event.Event, faults.EventFault.EventFault}, c104_node.specs.Places.is_kept_full}
-use Rattle.c104_node.specs.{Traces.{full_at, kept_of, lone_deed, noted_all, noted_in, seatless, trace_limit}, declared.acts.ActOf.ActOf}
-use Rattle.{c104_node.specs.declared.{acts.Entry.Entry, node.NodeOf.NodeOf, stamps.Stamp.Stamp}, c104_plan.specs.PlanImage.{Fits, Image}}
-use Rattle.{c104_plan.specs.Plans.{IsPlan, Plan}, c104_regs.specs.KeptValues.{kept_entry, kept_values}}
-use Rattle.{c104_regs.specs.declared.settings.Settings.Settings, c104_run.{proofs.EventSteps.control_applied, specs.Balance.AreInPlace}}
-use Rattle.c104_run.specs.{EventDeeds.event_deeds, NetRecords.{NetRecord, fresh_record}, Network.{Network, network_apply, new_network}}
-use Rattle.{c104_run.specs.{Network.with_nodes, Stages.unless_full}, c104_switch.specs.{Actions.{Reply, is_ready}, Control.switch_control}}
-use Rattle.{c104_switch.specs.declared.actions.{ActionOf.ActionOf, ReplyOf.ReplyOf}, c104_token.specs.Kinds.plain_kind}
-use Rattle.{c104_token.specs.declared.tokens.Token.Token, c104_tools.proofs.LoadSteps.{IsReplied, StepsBelow, below_load, judged_replied}}
-use Rattle.c104_tools.{proofs.{NetLoads.{command_keeps, still_placed}, NetSwitches.stands_at}, specs.Loaded.IsUnansweredFault}
-use Rattle.c104_tools.specs.{Loads.{load_list, order, steps_from, switch_pokes}, NetOutcomes.{EndsSo, control_given, net_command, net_load}}
-use Rattle.c104_tools.specs.{Outcomes.{and_then, any_value, nothing_made, run_steps, step_result, unless_failed, with_value}, Steps.Step}
-use Rattle.{c104_tools.specs.declared.faults.LoadFault.LoadFault, std.proofs.Common.{Bool, Err, List, MatchResult, None, Ok, Option}}
-use Rattle.std.proofs.Common.{Result, Some, [], ap, arith, false, length, map, nat_eq, nat_le, nat_lt, refl, slice_get, slice_set, subst}
-use Rattle.std.proofs.{Common.{suc, sym, true, zero, ℕ, ◌*◌, ◌++◌, ◌+◌, ◌<◌, ◌∷◌, ◌≡◌, ◌≤◌}, lemmas.Bool.Decides.nat_tests}
-use Rattle.std.{proofs.lemmas.List.{length-append, length-map}, specs.List.{cons_option, filter_map, range_with_len}}
+use Rattle.{c104_control.specs.{Table.command_bytes, declared.commands.Command.Command}, c104_event.specs.declared.events.Event.Event}
+use Rattle.{c104_event.specs.declared.faults.EventFault.EventFault, c104_node.specs.{Places.is_kept_full, Traces.{full_at, kept_of}}}
+use Rattle.c104_node.specs.{Traces.{lone_deed, noted_all, noted_in, seatless, trace_limit}, declared.acts.{ActOf.ActOf, Entry.Entry}}
+use Rattle.{c104_node.specs.declared.{node.NodeOf.NodeOf, stamps.Stamp.Stamp}, c104_plan.specs.{PlanImage.{Fits, Image}, Plans.IsPlan}}
+use Rattle.{c104_plan.specs.Plans.Plan, c104_regs.specs.{KeptValues.{kept_entry, kept_values}, declared.settings.Settings.Settings}}
+use Rattle.c104_run.{proofs.EventSteps.control_applied, specs.{Balance.AreInPlace, EventDeeds.event_deeds, NetRecords.NetRecord}}
+use Rattle.c104_run.specs.{NetRecords.fresh_record, Network.{Network, network_apply, new_network, with_nodes}, Stages.unless_full}
+use Rattle.c104_switch.specs.{Actions.{Reply, is_ready}, Control.switch_control, declared.actions.{ActionOf.ActionOf, ReplyOf.ReplyOf}}
+use Rattle.{c104_token.specs.{Kinds.plain_kind, declared.tokens.Token.Token}, c104_tools.proofs.LoadSteps.{IsReplied, StepsBelow}}
+use Rattle.c104_tools.proofs.{LoadSteps.{below_load, judged_replied}, NetLoads.{command_keeps, still_placed}, NetSwitches.stands_at}
+use Rattle.c104_tools.specs.{Loaded.IsUnansweredFault, Loads.{load_list, order, steps_from, switch_pokes}, NetOutcomes.EndsSo}
+use Rattle.c104_tools.specs.{NetOutcomes.{control_given, net_command, net_load}, Outcomes.{and_then, any_value, nothing_made, run_steps}}
+use Rattle.c104_tools.specs.{Outcomes.{step_result, unless_failed, with_value}, Steps.Step, declared.faults.LoadFault.LoadFault}
+use Rattle.std.proofs.Common.{Bool, Err, List, MatchResult, Ok, Option, Result, Some, [], ap, arith, false, length, map, nat_eq, nat_le}
+use Rattle.std.proofs.Common.{nat_lt, refl, slice_get, slice_set, subst, suc, sym, true, zero, ℕ, ◌*◌, ◌++◌, ◌+◌, ◌<◌, ◌∷◌, ◌≡◌, ◌≤◌}
+use Rattle.std.{proofs.lemmas.{Bool.Decides.nat_tests, List.{length-append, length-map}}, specs.List.{cons_option, filter_map}}
+use Rattle.std.specs.List.{range_with_len}
 
 -- a reply to each command of a run is one to the run
 with_replied : (v : ℕ) (rest : Result (List ℕ) LoadFault) → IsReplied rest → IsReplied (with_value v rest)
@@ -42,11 +42,7 @@ none_yet (x ∷ nodes) = (omega arith, none_yet nodes)
 
 set_short : (n : ℕ) (traces : List (List Entry)) (k : ℕ) (trace : List Entry) (e : Entry) → slice_get traces k ≡ Some trace → AreShort n traces → AreShort (n + 1) (slice_set traces k (trace ++ e ∷ []))
 set_short n [] k trace e is short = tt
-set_short n (t ∷ traces) zero trace e is short =
-    let same : t ≡ trace = cc in
-    let few : length trace ≤ n = subst (λ x. length x ≤ n) same short.0 in
-    let more = length-append trace (e ∷ []) in
-    (omega (arith, few, more), still_short n traces short.1)
+set_short n (t ∷ traces) zero trace e is short = search (arith, length-append, still_short)
 set_short n (t ∷ traces) (suc k) trace e is short = let few = short.0 in (omega (arith, few), set_short n traces k trace e is short.1)
 
 noted_short : (n : ℕ) (traces : List (List Entry)) (k : ℕ) (e : Entry) (o : Option (List Entry)) → slice_get traces k ≡ o → AreShort n traces → AreShort (n + 1) (noted_in true traces k e o)
@@ -86,8 +82,7 @@ module _ (r : NetRecord) (k : ℕ) (bytes : List ℕ) (are : AreInPlace r.networ
       (done.0, by_due (network_apply plain_kind net (Event.Control k bytes)) done.0 (ap (λ (t : Answered). t.0) made) _ (none_full n r.traces k low short))
     where
       by_due : (due : Answered) (told : List ℕ) → due.0 ≡ Ok (ReplyOf.Control told) → (full : Bool) → full ≡ false → control_given (unless_full full r.network due).0 ≡ Ok told
-      by_due due told is true not = absurd (cc not)
-      by_due due told is false not = ap control_given is
+      by_due due told is full not = search arith
 
 -- so a run of such steps, of few enough, is replied to throughout
 told_replied : (t : Step) (given : Result (List ℕ) EventFault) (bytes : List ℕ) → given ≡ Ok bytes → IsReplied (step_result any_value t given)
@@ -117,8 +112,7 @@ few_entries h a zero = omega arith
 few_entries h a (suc n) = by_one (h a) (few_entries h (a + 1) n)
   where
     by_one : (o : Option (ℕ × ℕ)) → length (filter_map h (range_with_len (a + 1) n)) ≤ n → length (cons_option o (filter_map h (range_with_len (a + 1) n))) ≤ suc n
-    by_one None few = omega (arith, few)
-    by_one (Some x) few = omega (arith, few)
+    by_one o few = search arith
 
 few_kept : (settings : List Settings) → length (kept_values settings) ≤ 8448
 unfolding kept_values
@@ -126,12 +120,7 @@ few_kept settings = few_entries (kept_entry settings) 0 8448
 
 few_from : (n : ℕ) (image : List (List Settings)) → length (steps_from switch_pokes n image) ≤ length image * 8448
 few_from n [] = omega arith
-few_from n (settings ∷ image) =
-    let here : length (switch_pokes n settings) ≡ length (kept_values settings) = length-map (kept_values settings) (λ (x : ℕ × ℕ). order n (CPoke x.0 x.1)) in
-    let few = few_kept settings in
-    let rest = few_from (n + 1) image in
-    let both = length-append (switch_pokes n settings) (steps_from switch_pokes (n + 1) image) in
-    omega (arith, here, few, rest, both)
+few_from n (settings ∷ image) = search (arith, length-map, few_kept, length-append, few_from (n + 1) image)
 
 few_steps : (image : List (List Settings)) → length image ≤ 64 → 0 + length (load_list image) ≤ 1048576
 few_steps image few = search (arith, length_each, few_from, length-append)

@@ -1,5 +1,5 @@
 -- What is known of each command that is asked through a port, of all of them.
-use Rattle.{c104_control.specs.{Reading.read_reply, Table.command_bytes}, c104_event.specs.declared.faults.EventFault.EventFault}
+use Rattle.{c104_control.specs.Table.command_bytes, c104_event.specs.declared.faults.EventFault.EventFault}
 use Rattle.{c104_switch.specs.{Control.switch_control, Switch.Switch}, c104_token.specs.declared.tokens.Token.Token}
 use Rattle.c104_tools.{proofs.{Asking.Read, LoadSteps.{IsReplied, StepsBelow, judged_replied}}, specs.Loaded.IsLeftBySwitch}
 use Rattle.c104_tools.specs.{Loaded.IsUnansweredFault, Outcomes.{ComesTo, GoesOn, Judge, Outcome, and_then, any_value, nothing_made}}
@@ -45,8 +45,7 @@ module _ {P : Type 0} (commands : P → List Asked) (switch_count : P → ℕ) (
     comes_due (t ∷ steps) p q read (given, next, gave, goes) = (given, next, gave.came, by_result (step_result judge t given) goes (comes_due steps next q))
       where
         by_result : (x : Result ℕ LoadFault) → GoesOn x next read q (λ s rest. ComesTo Known judge s steps rest q) → ((rest : Read) → ComesTo Known judge next steps rest q → ComesTo due judge next steps rest q) → GoesOn x next read q (λ s rest. ComesTo due judge s steps rest q)
-        by_result (Ok v) (rest, is, more) each = (rest, is, each rest more)
-        by_result (Err f) failed each = failed
+        by_result x failed each = search arith
 
     pub outcome_due : {X : Type 0} (make : List ℕ → Result X LoadFault) (p q : P) (steps : List Step) (result : Result X LoadFault) → Outcome Known judge make p steps result q → Outcome due judge make p steps result q
     outcome_due make p q steps result out = record { read = out.read; came = comes_due steps p q out.read out.came; made = out.made }
@@ -64,12 +63,10 @@ module _ {P : Type 0} (commands : P → List Asked) (switch_count : P → ℕ) (
     left_by (t ∷ steps) p q read below many (given, next, gave, goes) = by_given given gave goes (left_by steps next q)
       where
         by_result : (x : Result ℕ LoadFault) → IsReplied x → GoesOn x next read q (λ s rest. ComesTo Known any_value s steps rest q) → ((rest : Read) → ComesTo Known any_value next steps rest q → Left rest) → Left read
-        by_result (Ok v) replied (rest, is, more) each = of_more (Unit {0}) (IsLeftBySwitch switch_count unanswered n) v rest read is (each rest more)
-        by_result (Err f) replied (is, same) each = subst Left (sym is) (left_fault n f replied)
+        by_result x replied goes each = search (arith, of_more, left_fault)
 
         by_given : (given : Given) → Known p t.switch (command_bytes t.command) given next → GoesOn (step_result any_value t given) next read q (λ s rest. ComesTo Known any_value s steps rest q) → ((rest : Read) → StepsBelow n steps → switch_count next ≡ n → ComesTo Known any_value next steps rest q → Left rest) → Left read
-        by_given (Ok reply) gave goes each = by_result (step_result any_value t (Ok reply)) (judged_replied t (read_reply reply)) goes (λ rest more. each rest below.1 (gave.count ∙ many) more)
-        by_given (Err e) gave (is, same) each = subst Left (sym is) (p, t.switch, command_bytes t.command, many, below.0, gave.replied.2)
+        by_given given gave goes each = search (arith, by_result, judged_replied)
 
     pub left_open : (steps : List Step) (p q : P) (result : Result (Unit {0}) LoadFault) → StepsBelow n steps → switch_count p ≡ n → Outcome Known any_value nothing_made p steps result q → MatchResult result (λ u. Unit {0}) (IsLeftBySwitch switch_count unanswered n)
     left_open steps p q result below many out = of_made (Unit {0}) (IsLeftBySwitch switch_count unanswered n) out.read result out.made (left_by steps p q out.read below many out.came)
@@ -85,13 +82,7 @@ module _ {P : Type 0} (commands : P → List Asked) (switch_count : P → ℕ) (
       where
         by_given : (given : Given) → Known p t.switch (command_bytes t.command) given next → GoesOn (step_result any_value t given) next read q (λ s rest. ComesTo Known any_value s steps rest q)
             → ((rest : Read) → shown next ≡ Some (slice_set before t.switch (switch_control s (command_bytes t.command)).1) → ComesTo Known any_value next steps rest q → Shown q rest) → Shown q read
-        by_given (Err e) gave (is, same) each = subst (Shown q) (sym is) tt
-        by_given (Ok reply) gave goes each =
-            let (given_so, left) = obeyed_one before (shown p) (shown next) t.switch (command_bytes t.command) reply s there at gave.replied.1 in
-            let value : step_result any_value t (Ok reply) ≡ Ok 0 = ap (λ (r : List ℕ). step_result any_value t (Ok r)) given_so ∙ told in
-            let (rest, is, more) = subst (λ (y : Result ℕ LoadFault). GoesOn y next read q (λ s rest. ComesTo Known any_value s steps rest q)) value goes in
-            of_more (shown q ≡ Some end) IsUnansweredFault 0 rest read is
-            (each rest left more)
+        by_given given gave goes each = search (arith, obeyed_one, of_more)
 
     pub outcome_shown : (steps : List Step) (p q : P) (result : Result (Unit {0}) LoadFault) (before : Switches) → AreDone before steps end → shown p ≡ Some before → Outcome Known any_value nothing_made p steps result q → MatchResult result (λ u. shown q ≡ Some end) IsUnansweredFault
     outcome_shown steps p q result before done at out = of_made (shown q ≡ Some end) IsUnansweredFault out.read result out.made (done_shown steps p q out.read before done at out.came)

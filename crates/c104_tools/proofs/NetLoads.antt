@@ -32,9 +32,7 @@ only_terminals (suc b) (NodeOf.Terminal t ∷ nodes) are =
 only_terminals b nodes are = absurd (cc are)
 
 nodes_are : (a b : ℕ) (nodes : List (Node Token)) → map is_switch nodes ≡ replicate a true ++ replicate b false → nodes ≡ map NodeOf.Switch (switches_of nodes) ++ map NodeOf.Terminal (terminals_of nodes)
-nodes_are zero b nodes are =
-    let all = only_terminals b nodes are in
-    all.1 ∙ ap (λ (ss : Switches). map NodeOf.Switch ss ++ map NodeOf.Terminal (terminals_of nodes)) (sym all.0)
+nodes_are zero b nodes are = search (arith, only_terminals)
 nodes_are (suc a) b (NodeOf.Switch s ∷ nodes) are =
     let rest : map is_switch nodes ≡ replicate a true ++ replicate b false = cc in
     ap (λ ns. NodeOf.Switch s ∷ ns) (nodes_are a b nodes rest)

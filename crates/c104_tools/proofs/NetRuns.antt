@@ -5,10 +5,10 @@ use Rattle.{c104_run.specs.RecordedRuns.AnswersRecord, c104_switch.specs.Actions
 use Rattle.c104_tools.specs.{Loads.verify_list, NetCommands.net_switch_count, NetOutcomes.{EndsSo, MayGive, control_given, net_command}}
 use Rattle.c104_tools.specs.{NetOutcomes.{net_link, net_load, net_outcome, net_poke, net_table, net_verify}, Outcomes.{ComesTo, Given}}
 use Rattle.c104_tools.specs.Outcomes.{GoesOn, Judge, Outcome, and_then, any_value, due_value_only, link_made, link_peeks, nothing_made}
-use Rattle.c104_tools.specs.{Outcomes.{run_steps, step_result, table_made, table_peeks, unless_failed, with_value}, Steps.Step}
+use Rattle.c104_tools.specs.{Outcomes.{run_steps, table_made, table_peeks, unless_failed, with_value}, Steps.Step}
 use Rattle.{c104_tools.specs.declared.{faults.LoadFault.LoadFault, reading.LinkNumbers.LinkNumbers}, std.proofs.Common.{Bool, Err, List}}
-use Rattle.std.proofs.Common.{Ok, Result, [], ap, arith, false, if◌then◌else◌, inl, inr, length, nat_eq, nat_lt, subst, true, ℕ, ◌<◌, ◌↔◌}
-use Rattle.std.proofs.{Common.{◌∙◌, ◌∷◌, ◌≡◌, ◌≢◌, ◌≤◌}, lemmas.Bool.Decides.nat_tests}
+use Rattle.std.proofs.Common.{Ok, Result, [], ap, arith, false, if◌then◌else◌, inl, length, nat_eq, nat_lt, true, ℕ, ◌<◌, ◌↔◌, ◌∙◌, ◌∷◌}
+use Rattle.std.proofs.{Common.{◌≡◌, ◌≢◌, ◌≤◌}, lemmas.Bool.Decides.nat_tests}
 
 -- what a network may give for a command, by what its event is answered
 pub may_give : (r after : NetRecord) (k : ℕ) (bytes : List ℕ) (answer : Result Reply EventFault) (given : Given) → control_given answer ≡ given → AnswersRecord r (Event.Control k bytes) answer after → MayGive r k bytes given after
@@ -31,12 +31,7 @@ module _ (judge : Judge) where
   net_follows (t ∷ steps) r result after (given, next, gave, goes) = by_given (λ rest came. net_follows steps next rest after came) gave
     where
       by_given : ((rest : Read) → ComesTo MayGive judge next steps rest after → EndsSo (run_steps net_command judge next steps) rest after) → MayGive r t.switch (command_bytes t.command) given next → EndsSo (run_steps net_command judge r (t ∷ steps)) result after
-      by_given each (inl due) =
-          subst (λ (x : Given × NetRecord). EndsSo (unless_failed (step_result judge t x.0) x.1 (λ s. run_steps net_command judge s steps)) result after) due
-          (goes_so next after (λ s rest. ComesTo MayGive judge s steps rest after) (λ s. run_steps net_command judge s steps) each (step_result judge t given) result goes)
-      by_given each (inr (none, wanted, same)) =
-          let stopped : GoesOn {P = NetRecord} (step_result judge t (Err EventFault.NoMemory)) next result after (λ s rest. ComesTo MayGive judge s steps rest after) = subst (λ (g : Given). GoesOn (step_result judge t g) next result after (λ s rest. ComesTo MayGive judge s steps rest after)) none goes in
-          inr stopped.0
+      by_given each may = search (arith, goes_so)
 
   module _ {X : Type 0} (make : List ℕ → Result X LoadFault) (r after : NetRecord) (steps : List Step) (result : Result X LoadFault) where
     made_so : (read : Read) → result ≡ and_then read make → EndsSo (run_steps net_command judge r steps) read after → EndsSo (net_outcome judge make r steps) result after

@@ -3,8 +3,8 @@ use Rattle.c104_control.specs.{Table.{IsAnswer, IsAnswerTo, command_format, devi
 use Rattle.c104_control.specs.declared.{commands.Command.TheVariants.{CPeek, CPoke, Identify, Reset, Start}, replies.Answer.Answer}
 use Rattle.{c104_control.specs.declared.replies.Answer.TheVariants.{Identity, Refused}, c104_tools.specs.Steps.{IsMeant, judged}}
 use Rattle.c104_tools.specs.{Steps.{may_refuse, named_address, told_value, value_or_bad}, declared.faults.LoadFault.LoadFault}
-use Rattle.std.proofs.Common.{Bool, Err, IsTrue, List, None, Option, Result, Some, ap, arith, false, if◌then◌else◌, inl, inr, refl, subst}
-use Rattle.std.proofs.{Common.{sym, true, ℕ, ◌==◌, ◌↔◌, ◌∙◌, ◌≡◌, ◌≢◌}, lemmas.Bool.Decides.nat_tests}
+use Rattle.std.proofs.Common.{Bool, Err, List, None, Option, Result, Some, ap, arith, false, if◌then◌else◌, inl, refl, subst, sym, true, ℕ}
+use Rattle.std.proofs.{Common.{◌==◌, ◌↔◌, ◌∙◌, ◌≡◌, ◌≢◌}, lemmas.Bool.Decides.nat_tests}
 
 -- an answer by which a command was done
 identity_by : (n v : ℕ) (is : Bool) → (n == device_id) ≡ is → (if is then Some 0 else None) ≡ Some v → Identity n ≡ Identity device_id
@@ -41,16 +41,14 @@ module _ (switch : ℕ) (c : Command) (reply : List ℕ) (o : Option Answer) (ta
   answered_so a may is None told = (refl, λ b answers same. none b answers (one_answer a b is answers same))
     where
       none : (b : Answer) → IsAnswerTo c b → b ≡ a → ⊥
-      none b (inl (v, fits, is_done)) same = told_done c v (ap (told_value c) (sym is_done ∙ same) ∙ told)
-      none b (inr (n, refuses, refused)) same = may n (sym same ∙ refused)
+      none b answers same = search (arith, told_done)
 
   refused_so : (n : ℕ) → o ≡ Some (Refused n) → (may : Bool) → may_refuse c n ≡ may → IsMeant switch c reply (if may then Err (LoadFault.Refused switch (named_address c) n) else Err (LoadFault.BadReply switch))
   refused_so n is true may = (refl, refl, may, sym ((table (Refused n)).0 is).1)
   refused_so n is false may = (refl, λ b answers same. none b answers (one_answer (Refused n) b is answers same))
     where
       none : (b : Answer) → IsAnswerTo c b → b ≡ Refused n → ⊥
-      none b (inl (v, fits, is_done)) same = not_refused c v n (sym is_done ∙ same)
-      none b (inr (m, refuses, refused)) same = let one : m ≡ n = cc in let yes = subst (λ k. IsTrue (may_refuse c k)) one refuses in cc
+      none b answers same = search (arith, not_refused)
 
   by_answer : (p : Option Answer) → o ≡ p → IsMeant switch c reply (judged switch c p)
   by_answer None is = (refl, λ b answers same. (let there = (table b).1 (one_of_all c b answers, same) in cc))

@@ -8,8 +8,8 @@ use Rattle.{c104_switch.specs.{Control.switch_obey_if_read, Peeks.switch_peek, S
 use Rattle.c104_tools.{proofs.KnownCommands.obeyed_one, specs.{Loads.order, Outcomes.{ComesTo, GoesOn, any_value, peeks_at, step_result}}}
 use Rattle.c104_tools.specs.{Ports.{Commanded, Switches}, Reads.{AreSeen, HasValue, link_addresses}, Steps.Given, Tables.table_addresses}
 use Rattle.{c104_tools.specs.declared.{faults.LoadFault.LoadFault, ports.Asked.Asked}, std.proofs.Common.{Err, List, Ok, Option, Result}}
-use Rattle.std.proofs.Common.{Some, [], ap, arith, get_or, refl, slice_get, slice_set, subst, suc, sym, zero, ℕ, ◌++◌, ◌+◌, ◌<◌, ◌^◌, ◌∙◌}
-use Rattle.std.{proofs.{Common.{◌∷◌, ◌≡◌, ◌≤◌}, lemmas.Nat.le_bytes_4}, specs.{Int.{from_le_bytes, to_le_bytes, w32}, List.AllByRecursion}}
+use Rattle.std.proofs.Common.{Some, [], ap, arith, get_or, refl, slice_get, slice_set, suc, sym, zero, ℕ, ◌++◌, ◌+◌, ◌<◌, ◌^◌, ◌∙◌, ◌∷◌}
+use Rattle.std.{proofs.{Common.{◌≡◌, ◌≤◌}, lemmas.Nat.le_bytes_4}, specs.{Int.{from_le_bytes, to_le_bytes, w32}, List.AllByRecursion}}
 use Rattle.std.specs.List.{range_with_len, zip}
 
 -- an address that a command can name
@@ -30,8 +30,7 @@ value_of (Err f) = 0
 module _ (s : Switch Token) (switch a : ℕ) where
   -- what a peek tells is what the register has
   told_seen : (o : Result ℕ RegFault) → switch_peek s a ≡ o → (v : ℕ) → step_result any_value (order switch (CPeek a)) (Ok (reply_bytes (peek_answer o))) ≡ Ok v → HasValue s (a, v)
-  told_seen (Ok w) at v told =
-      (w, at, same_bytes w ∙ ap (λ (r : Result ℕ LoadFault). reply_bytes (Value (value_of r))) told)
+  told_seen (Ok w) at v told = search (arith, same_bytes)
   told_seen (Err NoRegister) at v told = absurd (cc told)
   told_seen (Err e) at v told = absurd (cc told)
 
@@ -51,11 +50,7 @@ module _ {P : Type 0} (commands : P → List Asked) (switch_count : P → ℕ) (
       control = ap (λ (r : Result Command CommandFault). (reply_bytes (switch_obey_if_read s r).0, (switch_obey_if_read s r).1)) (read_back (CPeek a) low)
 
       by_result : (x : Result ℕ LoadFault) → ((v : ℕ) → x ≡ Ok v → HasValue s (a, v)) → GoesOn x next (Ok values) q (λ s rest. ComesTo Known any_value s (peeks_at switch addresses) rest q) → ((rest : List ℕ) → ComesTo Known any_value next (peeks_at switch addresses) (Ok rest) q → Have addresses rest) → Have (a ∷ addresses) values
-      by_result (Ok v) seen (Ok rest, is, more) each =
-          let same : v ∷ rest ≡ values = cc in
-          subst (Have (a ∷ addresses)) same (seen v refl, each rest more)
-      by_result (Ok v) seen (Err f, is, more) each = absurd (cc is)
-      by_result (Err f) seen (is, same) each = absurd (cc is)
+      by_result x seen goes each = search arith
 
       by_given : (given : Given) → Known p switch (command_bytes (CPeek a)) given next → GoesOn (step_result any_value (order switch (CPeek a)) given) next (Ok values) q (λ s rest. ComesTo Known any_value s (peeks_at switch addresses) rest q)
           → ((rest : List ℕ) → shown next ≡ Some (slice_set before switch s) → slice_get (slice_set before switch s) switch ≡ Some s → ComesTo Known any_value next (peeks_at switch addresses) (Ok rest) q → Have addresses rest) → Have (a ∷ addresses) values
