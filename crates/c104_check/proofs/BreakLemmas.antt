@@ -90,10 +90,10 @@ random_on : (count : ℕ) (x : Settings) (g k : ℕ) → k < random_count x → 
 random_on count x g k low is no_end = search (arith, cases_eq)
 
 step_on : (count base k g : ℕ) → IsCount count → suc g < count → g ≡ (base + k) % count → suc g ≡ (base + (k + 1)) % count
-step_on count base k g h1 below is = search (arith, on_small, on_large)
+step_on count base k g size below is = search (arith, on_small, on_large)
 
 step_back : (count base k g : ℕ) → IsCount count → suc g ≡ (base + (k + 1)) % count → g ≡ (base + k) % count
-step_back count base k g h1 is = search (arith, before_small, before_large)
+step_back count base k g size is = search (arith, before_small, before_large)
 
 -- where random headers don't end before it, it is one as the one before it
 pub random_alike : (routes : Routes) (g : ℕ) (p : SwitchPort) → (IsBreak routes (suc g) → ⊥) → suc g < header_count routes → IsRandomAt routes p g → IsRandomAt routes p (suc g)
@@ -134,7 +134,7 @@ homes_alike routes g net quiet (suc k) p wired (inr (link, at, all)) = inr (
 -- At starts
 
 at_alike : (routes : Routes) (g : ℕ) (start : Start) → IsNetwork routes → (IsBreak routes (suc g) → ⊥) → suc g < header_count routes → IsWired routes start.at → LandsAt routes g start → LandsAt routes (suc g) start
-at_alike routes g start net quiet below wired h5 = search (arith, owner_alike, lands_alike, random_alike)
+at_alike routes g start net quiet below wired lands = search (arith, owner_alike, lands_alike, random_alike)
 
 pub before_alike : (routes : Routes) (starts : List Start) (g n : ℕ) → IsNetwork routes → AreInputs routes starts → (IsBreak routes (suc g) → ⊥) → suc g < header_count routes → LandsBefore routes starts g n → LandsBefore routes starts (suc g) n
 before_alike routes starts g n net are quiet below before k start less at =

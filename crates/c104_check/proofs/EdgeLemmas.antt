@@ -70,7 +70,7 @@ edge_input n p o input low = search arith
 
 -- by place is by switch and then by link
 by_place : (n : ℕ) (p q : SwitchPort) (o u : ℕ) → IsInput n p → IsInput n q → o < 32 → u < 32 → dependency_place p o < dependency_place q u → ComesBefore p q ⊎ ((p ≡ q) × (o < u))
-by_place n p q o u h1 h2 low high less = search (arith, cases_lt)
+by_place n p q o u one other low high less = search (arith, cases_lt)
 
 -- where an edge stands in a table
 record IsPlaced (routes : Routes) (e : DependencyEdge) (j : ℕ) : Type 0 where
@@ -82,7 +82,7 @@ record IsPlaced (routes : Routes) (e : DependencyEdge) (j : ℕ) : Type 0 where
 
 -- one doesn't come before another between the same inputs
 never_before : (routes : Routes) (e f : DependencyEdge) → IsNetwork routes → e.input ≡ f.input → e.next ≡ f.next → IsBefore routes e f → ⊥
-never_before routes e f net inputs nexts h4 = search (arith, one_link)
+never_before routes e f net inputs nexts before = search (arith, one_link)
 
 pub all_edges : (routes : Routes) (table : List (Option Dependency)) (edges : List DependencyEdge) → IsNetwork routes → IsAccepted routes → AreDependencies routes table → AreListedBelow routes table (header_count routes) → length table ≡ length routes.settings * 32 * 32 → AreEdgesBefore table (length table) edges → AreAllEdges routes edges
 all_edges routes table edges net accepted dependencies listed size found = record { each = each; all = all; once = once; in_order = in_order }

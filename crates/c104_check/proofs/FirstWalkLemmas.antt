@@ -48,7 +48,7 @@ module _ (routes : Routes) (h : ℕ) (t : Goal) where
   none_over k none links why walk met e is goes = search (arith, cases_Bool, foreign_home)
 
   none_peer : IsNetwork routes → (k : ℕ) (met : List SwitchPort) (p : SwitchPort) (o : ℕ) → MayLeaveBy routes h p o → at_ways (first_fault routes h t k) t met (ways_of routes t p.switch (select routes p.switch p.link h)) ≡ None → at_peer (first_fault routes h t k) t met (routes.peer (Port.Switch p.switch o)) ≡ None
-  none_peer net k met p o h2 is = search (arith, none_among, group_among)
+  none_peer net k met p o leaves is = search (arith, none_among, group_among)
 
 pub none_wrong : (routes : Routes) (h : ℕ) (t : Goal) → IsNetwork routes → (k : ℕ) (links : List ℕ) (why : WalkFault) (walk met : List SwitchPort) (p : SwitchPort) → first_fault routes h t k met p ≡ None → GoesWrong routes h t why walk links met p → ⊥
 none_wrong routes h t net zero links why walk met p is goes = absurd cc
@@ -73,7 +73,7 @@ module _ (routes : Routes) (further : List SwitchPort → SwitchPort → Found) 
 
   -- it is not at the first of these
   found_later : (from : ℕ) → (test from ≡ true → by_link from ≡ None) → IsFoundFrom (from + 1) → IsFoundFrom from
-  found_later from none h2 = search (arith, cases_eq)
+  found_later from none later = search (arith, cases_eq)
 
   found_here : (from n : ℕ) (y : Found) → test from ≡ true → by_link from ≡ y → (by_links (from + 1) n ≡ Some x → IsFoundFrom (from + 1)) → first_of y (by_links (from + 1) n) ≡ Some x → IsFoundFrom from
   found_here from n y passes at later is = search (arith, found_later)
@@ -227,10 +227,10 @@ PartOrSame links others why fault walk other =
     TakesLower links others ⊎ (TakesLower others links ⊎ ((fault ≡ why) × (other ≡ walk)))
 
 part_on : (o : ℕ) (links others : List ℕ) (why fault : WalkFault) (walk other : List SwitchPort) → PartOrSame links others why fault walk other → PartOrSame (o ∷ links) (o ∷ others) why fault walk other
-part_on o links others why fault walk other h1 = search arith
+part_on o links others why fault walk other part = search arith
 
 part_over : (routes : Routes) (h : ℕ) (t : Goal) (links others : List ℕ) (why fault : WalkFault) (walk other met : List SwitchPort) → ((w : List SwitchPort) (q : SwitchPort) → GoesWrong routes h t why walk links w q → GoesWrong routes h t fault other others w q → PartOrSame links others why fault walk other) → (e : Option Port) → GoesWrongOver (GoesWrong routes h t why walk links) t why walk links met e → GoesWrongOver (GoesWrong routes h t fault other others) t fault other others met e → PartOrSame links others why fault walk other
-part_over routes h t links others why fault walk other met further e h2 h3 = search arith
+part_over routes h t links others why fault walk other met further e one two = search arith
 
 part_or_same : (routes : Routes) (h : ℕ) (t : Goal) (links others : List ℕ) (why fault : WalkFault) (walk other met : List SwitchPort) (p : SwitchPort) → GoesWrong routes h t why walk links met p → GoesWrong routes h t fault other others met p → PartOrSame links others why fault walk other
 part_or_same routes h t [] [] why fault walk other met p (a, b, c) (x, y, z) = inr (inr (x ∙ sym a, y ∙ sym b))

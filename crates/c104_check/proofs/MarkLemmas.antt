@@ -15,10 +15,10 @@ marks_none old X none = (refl, λ h below. ((λ was. inl was), (λ may. elim may
 
 -- first some are, and then others
 pub marks_both : (a b c : List Bool) (X Y Z : ℕ → Type 0) → AddsMarks a b X → AddsMarks b c Y → ((h : ℕ) → h < length a → Z h ↔ (X h ⊎ Y h)) → AddsMarks a c Z
-marks_both a b c X Y Z h1 h2 are = search arith
+marks_both a b c X Y Z first second are = search arith
 
 pub marks_same : (a b : List Bool) (X Z : ℕ → Type 0) → AddsMarks a b X → ((h : ℕ) → h < length a → Z h ↔ X h) → AddsMarks a b Z
-marks_same a b X Z h1 are = search arith
+marks_same a b X Z adds are = search arith
 
 -- Some headers, one after another
 
@@ -26,7 +26,7 @@ Contains-next : (x : ℕ) (xs : List ℕ) (y : ℕ) → Contains xs y → Contai
 Contains-next x xs y here = let below = here.1 in (suc here.0, omega (arith, below), here.2)
 
 Contains-first : (x : ℕ) (xs : List ℕ) (y : ℕ) → Contains (x ∷ xs) y → (y ≡ x) ⊎ Contains xs y
-Contains-first x xs y h1 = search arith
+Contains-first x xs y has = search arith
 
 Contains-none : (h : ℕ) → Contains [] h → ⊥
 Contains-none h here = absurd (omega (arith, here.1))
@@ -86,7 +86,7 @@ pub begins_next : (routes : Routes) (a b c : List Bool) (n : ℕ) (p : SwitchPor
 begins_next routes a b c n p is inside before one = search (arith, input_at, place_at, marks_both, cases_eq, place_same)
 
 breaks_input : (routes : Routes) (p : SwitchPort) (h : ℕ) → IsNetwork routes → BreaksAt routes p h → IsInput (length routes.settings) p
-breaks_input routes p h net h2 = search (arith, is_input)
+breaks_input routes p h net breaks = search (arith, is_input)
 
 pub begins_all : (routes : Routes) (a b : List Bool) (n : ℕ) → IsNetwork routes → length routes.settings * 32 ≤ n → AddsMarks a b (BeginsBefore routes n) → AddsMarks a b (λ h. (p : SwitchPort) × BreaksAt routes p h)
 begins_all routes a b n net past are =

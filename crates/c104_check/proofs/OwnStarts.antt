@@ -43,7 +43,7 @@ own_inputs routes starts n are k start at = (are.each k start at).input
 -- A terminal before whose packets no random headers are put
 
 begins_plain : (routes : Routes) (t : ℕ) (p q : SwitchPort) (behind : Bool) → IsEntryOf routes t p → (IsRandomized routes p → ⊥) → BeginsAt routes t behind q → (behind ≡ false) × (p ≡ q)
-begins_plain routes t p q behind wired plain h3 = search (arith, entry_same, random_is_randomized)
+begins_plain routes t p q behind wired plain begins = search (arith, entry_same, random_is_randomized)
 
 pub own_plain : (routes : Routes) (starts : List Start) (t : ℕ) (p : SwitchPort) → IsNetwork routes → IsEntryOf routes t p → IsInput (length routes.settings) p → (IsRandomized routes p → ⊥) → AreOwnStarts routes starts t → AreOwnStarts routes (starts ++ start_at t p ∷ []) (t + 1)
 own_plain routes starts t p net wired here plain are =
@@ -167,7 +167,7 @@ on_ok : (A B : Type 0) (result : Result (Unit {0}) NoMemory) → (A → B) → O
 on_ok A B result f is = search arith
 
 pub own_result : (routes : Routes) (starts new : List Start) (t h : ℕ) (p q : SwitchPort) (result : Result (Unit {0}) NoMemory) → IsNetwork routes → IsEntryOf routes t p → IsRandomAt routes p h → IsReachedFrom routes h (λ x. p ≡ x) q → select routes q.switch q.link h ≡ Some Discard → AreOwnStarts routes starts t → OnOk result (new ≡ with_portal starts t q) → OnOk result (AreOwnStarts routes new t)
-own_result routes starts new t h p q result h1 h2 h3 h4 h5 h6 h7 = search (arith, on_ok, portal_own)
+own_result routes starts new t h p q result net wired random reached portal are is = search (arith, on_ok, portal_own)
 
 pub kept_result : (starts new : List Start) (t : ℕ) (q : SwitchPort) (result : Result (Unit {0}) NoMemory) → OnOk result (new ≡ with_portal starts t q) → OnOk result (AreKept starts new)
 kept_result starts new t q result = on_ok (new ≡ with_portal starts t q) (AreKept starts new) result (portal_kept starts new t q)

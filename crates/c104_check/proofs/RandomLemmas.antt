@@ -44,10 +44,10 @@ before_large base k g is = omega (arith, is)
 -- The test
 
 round_by : (count base n r : ℕ) → IsCount count → r < count → (r + count - base % count) % count < n → r ≡ (base + (r + count - base % count) % count) % count
-round_by count base n r h1 low is = search (arith, round_small, round_large)
+round_by count base n r size low is = search (arith, round_small, round_large)
 
 back_by : (count base n k r : ℕ) → IsCount count → k < n → r ≡ (base + k) % count → (r + count - base % count) % count < n
-back_by count base n k r h1 low is = search (arith, back_small, back_large)
+back_by count base n k r size low is = search (arith, back_small, back_large)
 
 random_tells : (count : ℕ) (x : Settings) (r : ℕ) → IsCount count → r < count → is_random count x r ≡ true → IsRandom count x r
 random_tells count x r size below is =
@@ -56,7 +56,7 @@ random_tells count x r size below is =
     (both.0, ((r + count - x.random_base % count) % count, low, round_by count x.random_base (random_count x) r size below low))
 
 random_told : (count : ℕ) (x : Settings) (r : ℕ) → IsCount count → IsRandom count x r → is_random count x r ≡ true
-random_told count x r size h2 = search (arith, lt-ltb, back_by)
+random_told count x r size random = search (arith, lt-ltb, back_by)
 
 set_tells : (count r : ℕ) (o : Option Settings) → IsCount count → r < count → is_random_set count o r ≡ true → (x : Settings) × (o ≡ Some x) × IsRandom count x r
 set_tells count r o size below is = search (arith, random_tells)
@@ -71,7 +71,7 @@ pub random_at_told : (routes : Routes) (p : SwitchPort) (r : ℕ) → IsRandomAt
 random_at_told routes p r (x, set, random) = set_told (header_count routes) r (link_settings routes.settings p) x (counts routes) set random
 
 mod_below : (count n : ℕ) → IsCount count → n % count < count
-mod_below count n h1 = search arith
+mod_below count n size = search arith
 
 -- each is a header
 pub random_header : (routes : Routes) (p : SwitchPort) (r : ℕ) → IsRandomAt routes p r → r < header_count routes

@@ -139,14 +139,14 @@ ways_leave routes h t p es e (Some (Link g)) at is among = among_leaves routes h
 
 -- where the header leads on, each link of the group arrives
 pub leaves_arrives : (routes : Routes) (h t k : ℕ) (p : SwitchPort) (e : Option Port) → MayLeave routes h p e → Leads routes h t (suc k) p.switch p.link → Arrives (Leads routes h t k) t e
-leaves_arrives routes h t k p e h1 h2 = search (arith, Some-Link-same)
+leaves_arrives routes h t k p e leaves leads = search (arith, Some-Link-same)
 
 pub within : (routes : Routes) (h : ℕ) (p q : SwitchPort) → IsNetwork routes → Follows routes h p q → IsInput (length routes.settings) q
 within routes h p q net (g, o, at, joined, is) = net.inputs (Port.Switch p.switch o) q is
 
 -- a portal is an input
 pub portal_input : (routes : Routes) (p q : SwitchPort) → IsNetwork routes → IsPortal routes p q → IsInput (length routes.settings) q
-portal_input routes p q net h2 = search (arith, selects_at, is_input)
+portal_input routes p q net portal = search (arith, selects_at, is_input)
 
 -- a link is one of its own group
 pub own_link : (continues : ℕ → Bool) (g : ℕ) → group_contains continues g g ≡ true

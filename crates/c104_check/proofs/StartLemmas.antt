@@ -51,7 +51,7 @@ pub no_behind : (routes : Routes) (h : ℕ) (start : Start) → start.behind ≡
 no_behind routes h start front spared = let clash : true ≡ false = sym spared.1 ∙ front in cc
 
 pub lands_own : (routes : Routes) (h : ℕ) (start : Start) → start.behind ≡ false → LandsAt routes h start → Lands routes h start.at (owner routes h)
-lands_own routes h start front h2 = search (arith, no_behind)
+lands_own routes h start front lands = search (arith, no_behind)
 
 pub random_is_randomized : (routes : Routes) (p : SwitchPort) (r : ℕ) → IsRandomAt routes p r → IsRandomized routes p
 random_is_randomized routes p r (x, set, (random, is)) = (x, set, random)
@@ -83,7 +83,7 @@ portals_front routes starts start portals covers all = covers (land_front routes
 -- At one where they are
 
 lands_behind : (routes : Routes) (h t : ℕ) (q : SwitchPort) (o : Option ℕ) → owner routes h ≡ o → LandsAt routes h (start_behind t q) → LandsBehind routes h q o
-lands_behind routes h t q o own h2 = search arith
+lands_behind routes h t q o own lands = search arith
 
 -- a portal is wired, since some wire leads to it
 pub reached_wired : (routes : Routes) (r m : ℕ) (p q : SwitchPort) → IsNetwork routes → IsWired routes p → Reaches routes r m p q → IsWired routes q
@@ -165,7 +165,7 @@ take_get (y ∷ xs) (suc k) zero x at = (omega arith, at)
 take_get (y ∷ xs) (suc k) (suc j) x at = let rest = take_get xs k j x at in let low = rest.0 in (omega (arith, low), rest.1)
 
 pub lands_behind_at : (routes : Routes) (h : ℕ) (start : Start) (o : Option ℕ) → owner routes h ≡ o → LandsAt routes h start → LandsBehind routes h start.at o
-lands_behind_at routes h start o own h2 = search arith
+lands_behind_at routes h start o own lands = search arith
 
 lands_front : (routes : Routes) (starts : List Start) (k : ℕ) (start : Start) → slice_get starts k ≡ Some start → ((h : ℕ) → h < header_count routes → (j : ℕ) (x : Start) → j < k → slice_get starts j ≡ Some x → LandsAt routes h x) → AllLand routes (take k starts)
 lands_front routes starts k start at before h below j x inside there = search (arith, take_get)
@@ -229,7 +229,7 @@ some_same : (x y : Settings) → Some x ≡ Some y → x ≡ y
 some_same x y is = cc
 
 pub plain_of : (routes : Routes) (p : SwitchPort) (x : Settings) → link_settings routes.settings p ≡ Some x → x.randomize ≡ false → IsRandomized routes p → ⊥
-plain_of routes p x set plain h3 = search (arith, some_same)
+plain_of routes p x set plain random = search (arith, some_same)
 
 pub covers_all : (routes : Routes) (starts : List Start) (n : ℕ) → length routes.ranges ≤ n → CoverTerminals routes starts n → CoverTerminals routes starts (length routes.ranges)
 covers_all routes starts n past covers all t below = covers all t (omega (arith, below, past))

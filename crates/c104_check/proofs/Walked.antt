@@ -89,7 +89,7 @@ later_halts routes h t walk new q halt is found stop = search (arith, on_is)
 -- Marks
 
 pub place-same : (n : ℕ) (p q : SwitchPort) → IsInput n p → IsInput n q → place p ≡ place q → p ≡ q
-place-same n p q h1 h2 same = search arith
+place-same n p q one other same = search arith
 
 -- each mark is the new one at its own place, and else as it was
 pub mark_set : (n : ℕ) (marks : List Mark) (p q : SwitchPort) (m : Mark) → IsInput n p → IsInput n q → place p < length marks → ((q ≡ p) × (mark_at (slice_set marks (place p) m) q ≡ m)) ⊎ ((q ≡ p → ⊥) × (mark_at (slice_set marks (place p) m) q ≡ mark_at marks q))
