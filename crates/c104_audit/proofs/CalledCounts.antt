@@ -50,7 +50,7 @@ module _ (lists : Lists) (leads : List Leading) where
   -- the same, of the count and the list that are there
   pub count_there : AreLeads lists leads → (i t : ℕ) (l : Leading) (x : Entry) (counts : List (Option ℕ)) (calls : List Call) (d p : Option ℕ) → slice_get leads i ≡ Some l → lead_seat lists l ≡ Some t → (lead_in lists.traces l).1.entry ≡ x →
       t < length counts → list_at lists.calls t ≡ calls → TellsNext lists.switches l.place x calls (get_or counts t d) p → AreTold lists leads i counts → AreTold lists leads (i + 1) (slice_set counts t p)
-  count_there h1 i t l x counts calls d p h2 h3 h4 h5 h6 h7 h8 = search (arith, counts_next, slice_get-get_or)
+  count_there all i t l x counts calls d p at own entry within calls_are next told = search (arith, counts_next, slice_get-get_or)
 
   -- or it is no seat's that is counted
   pub counts_over : (i : ℕ) (l : Leading) (counts : List (Option ℕ)) → slice_get leads i ≡ Some l → ((s : ℕ) → s < length counts → lead_seat lists l ≡ Some s → ⊥) → AreTold lists leads i counts → AreTold lists leads (i + 1) counts

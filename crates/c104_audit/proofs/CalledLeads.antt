@@ -72,7 +72,7 @@ module _ (lists : Lists) where
 
     -- the call at a place of a list is the one that is told, or it isn't
     pub call_there : (i k : ℕ) (x : Entry) (met : IsMet i x k) (calls : List Call) (at : ℕ) → IsNextCall lists.switches k x calls at → slice_get calls at ≡ Some (told_call met.event x)
-    call_there i k x met calls at h1 = search arith
+    call_there i k x met calls at next = search arith
 
     pub call_found : (i k : ℕ) (x : Entry) (met : IsMet i x k) (calls : List Call) (at : ℕ) → slice_get calls at ≡ Some (told_call met.event x) → IsNextCall lists.switches k x calls at
     call_found i k x met calls at there = (told_call met.event x, there, record { ticket = refl; event = met.names; reply = refl })

@@ -6,7 +6,7 @@ use Rattle.std.specs.List.{AllByRecursion}
 
 module _ {X : Type 0} where
   before_both : (m n : ℕ × Lead X) → StandsBefore m n → StandsBefore n m → ⊥
-  before_both m n h1 h2 = search arith
+  before_both m n before after = search arith
 
   before_itself : (m n : ℕ × Lead X) → n ≡ m → StandsBefore m n → ⊥
   before_itself m n same before = search arith
@@ -21,7 +21,7 @@ module _ {X : Type 0} where
       ap (λ z. z ∷ ms) heads ∙ ap (λ zs. n ∷ zs) (same_leading ms ns first.1 second.1 (rest_there heads) (rest_back heads))
     where
       by_first : (m ≡ n) ⊎ IsIn m ns → (n ≡ m) ⊎ IsIn n ms → m ≡ n
-      by_first h1 other = search (arith, before_both, each_in)
+      by_first one other = search (arith, before_both, each_in)
 
       rest_there : m ≡ n → (z : ℕ × Lead X) → IsIn z ms → IsIn z ns
       rest_there heads z has = search (arith, before_itself, each_in)

@@ -49,7 +49,7 @@ module _ {X : Type 0} (ticket : X → ℕ) (leads : ℕ → X → Bool) (far : �
   in_place k z (d ∷ ds) has = by_place (in_place k z ds) (nat_eq d.0 k) refl has
     where
       by_place : (IsIn (k, z) ds → IsIn z (at_place k ds)) → (b : Bool) → nat_eq d.0 k ≡ b → IsIn (k, z) (d ∷ ds) → IsIn z (if b then d.1 ∷ at_place k ds else at_place k ds)
-      by_place rest b at h3 = search (arith, nat_tests)
+      by_place rest b at there = search (arith, nat_tests)
 
   -- each deed of one that is there is among all
   in_deeds : (k : ℕ) (z : X) (m : ℕ × Lead X) (ms : List (ℕ × Lead X)) → IsIn m ms → IsDeedOf m k z → IsIn (k, z) (all_deeds far ms)
@@ -57,7 +57,7 @@ module _ {X : Type 0} (ticket : X → ℕ) (leads : ℕ → X → Bool) (far : �
   in_deeds k z m (n ∷ ms) (inl same) deed = in_left (k, z) (lead_deeds far n) (all_deeds far ms) (subst (λ (o : ℕ × Lead X). IsIn (k, z) (lead_deeds far o)) same (here deed))
     where
       here : IsDeedOf m k z → IsIn (k, z) (lead_deeds far m)
-      here h1 = search arith
+      here deed = search arith
   in_deeds k z m (n ∷ ms) (inr has) deed = in_right (k, z) (lead_deeds far n) (all_deeds far ms) (in_deeds k z m ms has deed)
 
   module _ (lists : List (List X)) (matched : AreMatched ticket leads far lists) where
@@ -107,7 +107,7 @@ module _ {X : Type 0} (ticket : X → ℕ) (leads : ℕ → X → Bool) (far : �
             omega (arith, less, both)
 
         by_order : IsBefore m.0 m.1.place n.0 n.1.place → ticket z < ticket y
-        by_order h1 = search (arith, told_one, told_two, by_deeds, same_thing)
+        by_order before = search (arith, told_one, told_two, by_deeds, same_thing)
 
     -- what leaders in order do at a place rises
     deeds_rise : (k : ℕ) (ms : List (ℕ × Lead X)) → ((m : ℕ × Lead X) → IsIn m ms → IsLed m) → AreLeading ms → AreRising ticket (at_place k (all_deeds far ms))

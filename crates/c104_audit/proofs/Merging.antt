@@ -44,7 +44,7 @@ module _ {X : Type 0} where
         ap (λ z. z ∷ xs) heads ∙ ap (λ zs. y ∷ zs) (same_lists xs ys first.1 second.1 (rest_there heads) (rest_back heads))
       where
         by_first : (x ≡ y) ⊎ IsIn x ys → (y ≡ x) ⊎ IsIn y xs → x ≡ y
-        by_first h1 other = search (arith, each_in)
+        by_first one other = search (arith, each_in)
 
         rest_there : x ≡ y → (z : X) → IsIn z xs → IsIn z ys
         rest_there heads z has = search (arith, each_in)
@@ -92,7 +92,7 @@ module _ {X : Type 0} where
   before_all m n (o ∷ ms) before each = (further before each.0, before_all m n ms before each.1)
     where
       further : StandsBefore m n → StandsBefore n o → StandsBefore m o
-      further h1 h2 = search arith
+      further first second = search arith
 
   join_leading : (m : ℕ × Lead X) (ms : List (ℕ × Lead X)) → AreLeading ms → AllByRecursion (IsFurther m) ms → AreLeading (join_by_ticket m ms)
   join_leading m [] leading further = (tt, tt)
@@ -157,7 +157,7 @@ module _ {X : Type 0} where
         lead z = (ticket z, record { place = k; entry = z })
 
         by_test : (IsIn x ys → leads k x ≡ true → IsIn (lead x) (leads_at ticket leads k ys)) → (b : Bool) → leads k y ≡ b → IsIn x (y ∷ ys) → IsIn (lead x) (if b then lead y ∷ leads_at ticket leads k ys else leads_at ticket leads k ys)
-        by_test rest b at h3 = search arith
+        by_test rest b at there = search arith
 
     -- each thing that leads is among them
     pub leads_there : (k j : ℕ) (x : X) (lists : List (List X)) → IsIn x (list_at lists j) → leads (k + j) x ≡ true → IsIn (ticket x, record { place = k + j; entry = x }) (leads_from ticket leads k lists)
