@@ -20,6 +20,7 @@ SVG = '{http://www.w3.org/2000/svg}'
 TITLE = re.compile(r'rounds (\d+) to (\d+); hatched: a packet holds the wire, and nothing crosses')
 FITS = re.compile(rb'draw 1 TooLarge: --from (\d+) --to (\d+) fits\n')
 CELL, ROW, FIRST_ROW = 8, 14, 2
+LAST = 4294967295
 COLUMNS = ('port', 'to', 'sender', 'number', 'first', 'last', 'state')
 TEXT_OF = {'table': table_text, 'csv': csv_text, 'json': json_text}
 
@@ -50,6 +51,7 @@ DRAWN = {
     'no more rounds than there are': (PLAN, FIRST, ['--to', '4000000000'], 1, 9,
         ['A', ('a to A.0', ('a 0', A_0, 1, 3)), ('A.1 to b', ('a 0', A_0, 2, 4))]),
     'rounds behind the last': (PLAN, FIRST, ['--from', '77'], 77, 77, []),
+    'a packet that has yet to leave': (PLAN, b'send a 01 eop\n', [], 0, 0, []),
     'nothing is asked': (PLAN, b'', [], 0, 0, []),
     'no network': (b'', b'rounds 3\n', [], 0, 3, []),
     'events before the first round': (PLAN, b'send a 01 68 eop\ncredit A.0\ncross a\ncross a\n', [], 0, 0,
@@ -267,7 +269,8 @@ def words(runner):
     for name, given in (('no script', ['--over-time']), ('no picture of the script', ['-']), ('a state too', ['-', '--over-time', '--state']),
                         ('a header too', ['-', '--over-time', '--header', '1']), ('a cycle too', ['-', '--over-time', '--cycles']),
                         ('rounds alone', ['--from', '1']), ('rounds of a state', ['-', '--state', '--to', '1']),
-                        ('no number', ['-', '--over-time', '--from', 'x']), ('no such format', ['-', '--over-time', '--format', 'xml']),
+                        ('no number', ['-', '--over-time', '--from', 'x']), ('a round that is too large', ['-', '--over-time', '--to', str(LAST + 1)]),
+                        ('no such format', ['-', '--over-time', '--format', 'xml']),
                         ('a format alone', ['--format', 'csv']), ('a format of a state', ['-', '--state', '--format', 'csv']), ('a first round behind the last',
                         ['-', '--over-time', '--from', '2', '--to', '1'])):
         runner.case(name, b'', 2, words=['draw', '/dev/null', *given])

@@ -23,6 +23,10 @@ A_0, A_1, B_0 = ('blue', 'solid', '2'), ('blue', 'dashed', '2'), ('darkorange', 
 # Three switches in a row, with a terminal at each.
 LINE = (b'buffer 8\nswitch A\nswitch B\nswitch C\nwire A.1 B.1\nwire B.2 C.1\nterminal a A.0\nterminal b B.0\n'
     b'terminal c C.0\nlabel tree A\n')
+# Two switches, with a terminal at each. In round 3 the first byte of a's packet arrives, the second is in the output to b, and
+# its end in that to B.
+CUT = (b'switch A\nswitch B\nterminal a A.0\nterminal b B.0\nwire A.1 B.1\nrow A.0 2 1\nrow B.1 2 0\n')
+CUT_PACKET = b'send a 01 aa eop\nrounds 3\ncontrol A 02\n'
 # One link of a group leads nowhere.
 NOWHERE = b'switch A\nterminal a A.0\nrow A.0 1 5\n'
 TOO_LONG = b'c104: a script has at most 16777216 bytes; the lines that end within them were answered\n'
@@ -42,6 +46,7 @@ DRAWN = {
     'a packet that no link is held for': (PLAN, lines_of(FIRST_RUN[:11]), [('A', 'b', 'A.1 [2] to b [1]', GRAY)]),
     'a second packet behind the first': (PLAN, b'send a 01 eop\nsend a 01 aa eop\ncredit A.0\n' + b'cross a\n' * 3,
         [('a', 'A', r'a 1\na [2] to A.0 [3]', A_1)]),
+    'a packet whose end is lost': (CUT, CUT_PACKET, [('B', 'b', r'?\nB.0 [1] to b', ('black', 'solid', '2'))]),
     'packets of two terminals': (PLAN, b'send b 00 aa eop\ncredit A.1\ncross b\n' + SENT,
         [('a', 'A', r'a 0\na [1] to A.0 [3]', A_0), ('b', 'A', r'b 0\nb [2] to A.1 [1]', B_0)]),
     'an output that leads nowhere': (NOWHERE, b'send a 00 aa eop\nrounds 9\n', [('A', 'A.5', 'A.5 [3]', GRAY)]),

@@ -38,6 +38,10 @@ THREE = b'send westernmost 01 68 eop\nsend westernmost 01 69 eop\nsend easternmo
 # it is started, A finds a packet without a header in that.
 RESET = b'send a 01 68 eop\nrounds 2\ncontrol A 02\n'
 RESTART = RESET + b'control A 05 40 01 02 00 00 00\ncontrol A 05 80 01 01 00 00 00\ncontrol A 01\n'
+# Each of four packets holds the link to the next switch from round 2 on, up to the end, and round 24 is the last in which
+# anything is done. Of its 25 tokens 8 cross that link, and one stays at the terminal.
+RING_ROWS = tuple(row for it in 'ABCD' for row in ('%s.0 0 0.000 0 0 0' % it, '%s.1 8 0.333 0 23 8' % it, '%s.2 0 0.000 0 0 0' % it))
+RING_ROWS += tuple('%s 24 1.000 0 24 25' % it for it in 'abcd')
 SEEDS = range(5)
 WHATS = ('packets', 'links', 'rounds')
 
@@ -69,6 +73,10 @@ BY_HAND = {
     'packets that are lost': (NO_ROWS, b'send a 01 68 eop\nsend b eop\nrounds 9\n', 'packets',
         ('a 0 - 2 1 0 1 - - 0 sunk', 'b 0 - 0 1 0 1 - - 0 short')),
     'a packet that goes nowhere': (STUCK, FIRST, 'packets', ('a 0 - 2 1 0 1 - - 0 unfinished',)),
+    'a line between rounds counts to the round that is over where the next begins': (PLAN,
+        b'rounds 3\nsend a 01 eop\nrounds 1\n', 'rounds',
+        ('0 0 0 0 0 0', '1 0 0 0 0 0', '2 0 0 0 0 0', '3 2 0 0 0 0', '4 1 1 1 0 1')),
+    'rounds that are refused': (PLAN, FULL + b'rounds 20\nrounds 4\n', 'rounds', ('0 0 0 0 0 0', '1 0 0 0 0 0', '2 0 0 0 0 0')),
     'names wider than a column': (WIDE, THREE, 'packets',
         ('westernmost 0 easternmost 2 2 0 1 4 4 0 arrived', 'westernmost 1 easternmost 2 2 0 4 7 7 0 arrived',
          'easternmost 0 westernmost 1 2 0 1 3 3 0 arrived')),
@@ -79,6 +87,8 @@ BY_HAND = {
     'no network': (b'', b'send a 01 eop\nrounds 3\n', 'links', ()),
 }
 
+# Of four tokens three cross before the first round.
+BEFORE = b'send a 01 aa bb eop\ncredit A.0\n' + b'cross a\n' * 3
 # A description, a script, and the values of its summary.
 SUMMARIES = {
     'the first run': (PLAN, FIRST, '4 1 1 0 4 4 4 4 1.500 A.1 0.750 a 0.750 - -'),
@@ -88,6 +98,12 @@ SUMMARIES = {
         '7 3 3 0 3 4 7 7 2.285 crossroads.31 0.857 westernmost 0.857 crossroads.10 0.285'),
     'nothing is asked': (PLAN, b'', '0 0 0 0 - - - - 0.000 - - - - - -'),
     'lost packets': (NO_ROWS, b'send a 01 68 eop\nsend b eop\nrounds 9\n', '3 2 0 2 - - - - 1.333 a 1.000 b 0.333 - -'),
+    # In rounds 1 and 2 A grants what it has room for.
+    'a command behind the last event': (PLAN, b'rounds 9\ncontrol A 04 00 00\n', '9 0 0 0 - - - - 0.000 - - - - - -'),
+    'a register that is read': (PLAN, b'rounds 9\npeek A 0000\n', '2 0 0 0 - - - - 0.000 - - - - - -'),
+    'a register that is set': (PLAN, b'rounds 9\npoke A 0181 7\n', '2 0 0 0 - - - - 0.000 - - - - - -'),
+    'tokens before the first round': (PLAN, BEFORE + b'rounds 1\n', '1 1 0 0 - - - - 4.000 a 1.000 - - - -'),
+    'no rounds': (PLAN, BEFORE, '0 1 0 0 - - - - 0.000 - - - - - -'),
 }
 
 # Of runs that a Reset cuts, how many tokens are gone. 01 has come to b, and 68 is cleared. The terminator that comes behind it
@@ -189,6 +205,13 @@ def read(runner, name, words, script, due):
     found = runner.run(words=words, data=script)
     good = found is not None and found[0] == 0 and json.loads(found[1]) == due
     runner.judge(name, None if good else '%.400r' % (found,))
+
+
+def held(runner):
+    """A packet that holds a link at the end holds it up to the run's length, though the script has 200 rounds."""
+    ring = os.path.join(EXAMPLES, 'ring.txt')
+    with open(os.path.join(EXAMPLES, 'ring-packets.txt'), 'rb') as file:
+        runner.case('links that are held at the end', csv_text(LINKS, RING_ROWS), words=words_of(ring, 'links', 'csv'), data=file.read())
 
 
 def standing(runner):
@@ -320,4 +343,4 @@ def sweep(runner):
     runner.judge(name, None if found == due else '%.400r' % found)
 
 
-PARTS = [by_hand, summaries, standing, randoms, conserved, usage, failures, sweep]
+PARTS = [by_hand, summaries, held, standing, randoms, conserved, usage, failures, sweep]
