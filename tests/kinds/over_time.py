@@ -37,6 +37,8 @@ STUCK = (b'buffer 8\nswitch A\nswitch B\nwire A.1 B.1\nterminal a A.0\nrow A.0 1
 # eight wait in A's output, so that the last comes to A in round 24.
 STUCK_PACKET = b'send a 00' + b' 11' * 22 + b' eop\nrounds 30\n'
 # Resets A, lets it send everything by link 1 again, and has B throw everything away.
+# Behind it nothing is done for fifty rounds.
+STUCK_LONG = STUCK_PACKET + b'rounds 50\n'
 RESET = b'control A 02\npoke A 0140 1\npoke A 0180 1\ncontrol A 01\ncontrol B 02\ncontrol B 01\n'
 
 # A description, a script, words, the first and the last round, and the rows: a name, or a name with what is drawn there, each
@@ -51,6 +53,12 @@ DRAWN = {
     'no more rounds than there are': (PLAN, FIRST, ['--to', '4000000000'], 1, 9,
         ['A', ('a to A.0', ('a 0', A_0, 1, 3)), ('A.1 to b', ('a 0', A_0, 2, 4))]),
     'rounds behind the last': (PLAN, FIRST, ['--from', '77'], 77, 77, []),
+    'a packet that holds a wire, behind the last round that is drawn otherwise': (STUCK, STUCK_LONG, ['--from', '60'], 60, 60,
+        ['A', ('A.1 to B.1', ('a 0', A_IDLE, 60, 60))]),
+    'no more than the first round there': (STUCK, STUCK_LONG, ['--from', '60', '--to', '70'], 60, 60,
+        ['A', ('A.1 to B.1', ('a 0', A_IDLE, 60, 60))]),
+    'the last round of a run': (STUCK, STUCK_LONG, ['--from', '80'], 80, 80, ['A', ('A.1 to B.1', ('a 0', A_IDLE, 80, 80))]),
+    'a round behind the end of a run': (STUCK, STUCK_LONG, ['--from', '81'], 81, 81, []),
     'a packet that has yet to leave': (PLAN, b'send a 01 eop\n', [], 0, 0, []),
     'nothing is asked': (PLAN, b'', [], 0, 0, []),
     'no network': (b'', b'rounds 3\n', [], 0, 3, []),
@@ -219,6 +227,23 @@ def ring(runner):
         else 'wanted %s, found %s' % (due, held))
 
 
+def ring_later(runner):
+    """The same ring at any round behind that, up to the last: each packet holds its terminal's wire too."""
+    ends = list(zip('ABCD', 'BCDA', 'abcd', ('blue', 'darkorange', 'forestgreen', 'purple')))
+    for number in (29, 30, 100, 200):
+        name = 'a ring that is locked, in round %d' % number
+        if not runner.wanted(name):
+            continue
+        words = ['--from', str(number), '--to', str(number)]
+        _, _, picture = pictured(runner, example('ring.txt'), example('ring-packets.txt'), words)
+        due = []
+        for here, there, terminal, color in ends:
+            idle = (terminal + ' 0', 'url(#%s-idle)' % color, number, number)
+            due += [here, ('%s to %s.0' % (terminal, here), idle), ('%s.1 to %s.2' % (here, there), idle)]
+        found = rows_of(picture)
+        runner.judge(name, None if found == (number, number, due) else 'wanted %s, found %s' % (due, found))
+
+
 def large(runner):
     """A picture that would be too large is refused by the most rounds that fit."""
     name = 'a picture that is too large'
@@ -284,4 +309,4 @@ def devices(runner):
                     stdout=full)
 
 
-PARTS = [drawn, tabled, pictures, blocked, ring, large, too_large_at_once, refused, words, devices]
+PARTS = [drawn, tabled, pictures, blocked, ring, ring_later, large, too_large_at_once, refused, words, devices]

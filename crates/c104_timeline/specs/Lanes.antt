@@ -1,4 +1,5 @@
--- What crossed the wire at a port, from there: stretches of rounds, in each of which tokens of one packet crossed.
+-- What crossed the wire at a port, from there: stretches of rounds, in each of which tokens of one packet crossed, or behind its
+-- last token it held the wire and nothing crossed.
 --     lane_crossed l round ends      a token crosses
 --     lane_settled l      the token that crossed last has become part of a stretch
 --     lane_cut round l      the tokens behind it are thrown away
@@ -43,7 +44,7 @@ abbrev pub held_since : Stretch → ℕ → ℕ → ℕ
 held_since s k round = if is_open s k then next_round s.last else round
 
 abbrev pub first_stretch : ℕ → ℕ → ℕ → Stretch
-first_stretch k since round = record { packet = k; since = since; first = round; last = round }
+first_stretch k since round = record { packet = k; since = since; first = round; last = round; moves = true }
 
 -- the latest stretch after a token that crosses in this round, and the one before, if it is past
 abbrev pub step_by : Bool → Stretch → ℕ → ℕ → Step
@@ -75,14 +76,16 @@ abbrev pub lane_settled : Lane → Lane
 lane_settled l = settled_by l l.token
 
 -- the rounds behind a stretch, up to this one, in which its packet holds the wire and nothing crosses
+abbrev pub rest_from : ℕ → ℕ → Stretch → Stretch
+rest_from first end s = record { packet = s.packet; since = first; first = first; last = end; moves = false }
+
 abbrev pub rest_of : Bool → ℕ → Stretch → Option Stretch
-rest_of true end s = Some (record { packet = s.packet; since = next_round s.last; first = next_round end; last = end })
-rest_of false end s = None
+rest_of held end s = if held && nat_lt s.last end then Some (rest_from (next_round s.last) end s) else None
 
 -- a packet that holds the wire is cut in this round: it has held the wire up to then, and has ended without a name
 abbrev pub cut_with : ℕ → Lane → Bool → Stretch → Lane
 cut_with round l true s = record l {
-  stretches = l.stretches ++ s ∷ option_to_list (rest_of (nat_lt s.last round) round s);
+  stretches = l.stretches ++ s ∷ option_to_list (rest_of true round s);
   packets = l.packets ++ None ∷ [];
   latest = None;
 }
@@ -100,7 +103,7 @@ abbrev pub name_if : Bool → Option Origin → Option Origin
 name_if true packet = packet
 name_if false packet = None
 
--- the run is at its end, and this is the last round that is drawn
+-- the run is at its end, and this is its last round
 abbrev pub closed_with : ℕ → Option Origin → Lane → Bool → Stretch → Lane
 closed_with end packet l held s = record l {
   stretches = l.stretches ++ s ∷ option_to_list (rest_of held end s);

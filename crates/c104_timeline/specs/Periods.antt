@@ -45,9 +45,13 @@ clipped p first last = clipped_by (max first p.from) (min last p.to)
 abbrev pub is_in : Period → Stretch → Bool
 is_in p s = nat_le s.since p.to && nat_le p.from s.last
 
--- the rounds of a stretch among them, and those before in which the packet held the wire and nothing crossed
+-- the rounds of a stretch among them in which tokens crossed, and those in which the packet held the wire and nothing did: those
+-- before, or all
 abbrev pub moved_in : Period → Stretch → Option Period
-moved_in p s = clipped p s.first s.last
+moved_in p s = if s.moves then clipped p s.first s.last else None
+
+abbrev pub idle_before : Period → Stretch → Option Period
+idle_before p s = if nat_lt s.since s.first then clipped p s.since (s.first - 1) else None
 
 abbrev pub idle_in : Period → Stretch → Option Period
-idle_in p s = if nat_lt s.since s.first then clipped p s.since (s.first - 1) else None
+idle_in p s = if s.moves then idle_before p s else clipped p s.since s.last

@@ -78,6 +78,7 @@ timeline_passed t times = record t { round = few (t.round + times) }
 abbrev pub last_round : Timeline → ℕ
 last_round t = min t.round (few (t.active + BEYOND))
 
--- the run is at its end, and this is the packet whose end has yet to cross at a place, if it is known
+-- the run is at its end, and this is the packet whose end has yet to cross at a place, if it is known: it holds the wire up to
+-- the last round of the run, however few rounds are drawn
 abbrev pub timeline_closed : Timeline → ℕ → Option Origin → Timeline
-timeline_closed t place packet = record t { lanes = change_at t.lanes place (lane_closed (last_round t) packet) }
+timeline_closed t place packet = record t { lanes = change_at t.lanes place (lane_closed t.round packet) }

@@ -11,17 +11,20 @@ use c104_token::NoMemory;
 use std::alloc::Global;
 use std::marker::Model;
 
-/// A stretch of rounds, in each of which tokens of one packet crossed.
+/// A stretch of rounds, in each of which tokens of one packet crossed; or, behind its last token, in which it held the wire
+/// and nothing crossed.
 #[derive(Clone, Copy)]
 pub(crate) struct Stretch {
     /// The packet's number among those that crossed here, from 0.
     pub(crate) packet: usize,
-    /// The round from which on the packet held the wire and nothing crossed; or that of the first token.
+    /// The round from which on the packet held the wire and nothing crossed; or the first round.
     pub(crate) since: u32,
     /// The first round.
     pub(crate) first: u32,
     /// The last round.
     pub(crate) last: u32,
+    /// Whether tokens crossed.
+    pub(crate) moves: bool,
 }
 
 /// A token that crosses: the round, and the packet that it ends, if it ends one.
@@ -125,17 +128,14 @@ impl Lane {
             return Ok(());
         }
         self.stretches.push(latest)?;
-        push_if(
-            &mut self.stretches,
-            rest_of(latest.last < round, round, latest),
-        )?;
+        push_if(&mut self.stretches, rest_of(true, round, latest))?;
         self.packets.push(None)?;
         self.latest = None;
         Ok(())
     }
 
-    /// The run is at its end, this is the last round that is drawn, and this the packet whose end has yet to cross, if it is
-    /// known. The only error is out of memory.
+    /// The run is at its end, this is its last round, and this the packet whose end has yet to cross, if it is known. The only
+    /// error is out of memory.
     pub(crate) fn close(&mut self, end: u32, packet: Option<Origin>) -> Result<(), NoMemory>
         ensures { OnOk result (self.new ≡ lane_closed end packet self.old) }
     {
@@ -162,6 +162,7 @@ impl Stretch {
             since,
             first: round,
             last: round,
+            moves: true,
         }
     }
 
@@ -227,14 +228,16 @@ fn step_of(latest: Option<Stretch>, packets: usize, round: u32) -> Step
 fn rest_of(held: bool, end: u32, stretch: Stretch) -> Option<Stretch>
     ensures { result ≡ rest_of held end stretch }
 {
-    if !held {
+    if !held || end <= stretch.last {
         return None;
     }
+    let first = next_round(stretch.last);
     Some(Stretch {
         packet: stretch.packet,
-        since: next_round(stretch.last),
-        first: next_round(end),
+        since: first,
+        first,
         last: end,
+        moves: false,
     })
 }
 

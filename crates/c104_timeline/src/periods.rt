@@ -48,18 +48,25 @@ impl Period {
         stretch.since <= self.to && self.from <= stretch.last
     }
 
-    /// The rounds of a stretch among them.
+    /// The rounds of a stretch among them, if tokens crossed.
     pub(crate) fn moved(self, stretch: Stretch) -> Option<Period>
         ensures { result ≡ moved_in self stretch }
     {
-        self.clipped(stretch.first, stretch.last)
+        if stretch.moves {
+            self.clipped(stretch.first, stretch.last)
+        } else {
+            None
+        }
     }
 
-    /// The rounds before a stretch among them, in which the packet held the wire and nothing crossed.
+    /// The rounds before a stretch among them, in which the packet held the wire and nothing crossed; or those of a stretch in
+    /// which nothing did.
     pub(crate) fn idle(self, stretch: Stretch) -> Option<Period>
         ensures { result ≡ idle_in self stretch }
     {
-        if stretch.since < stretch.first {
+        if !stretch.moves {
+            self.clipped(stretch.since, stretch.last)
+        } else if stretch.since < stretch.first {
             self.clipped(stretch.since, stretch.first - 1)
         } else {
             None

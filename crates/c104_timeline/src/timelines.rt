@@ -188,9 +188,8 @@ impl Timeline {
     pub(crate) fn close(&mut self, place: usize, packet: Option<Origin>) -> Result<(), NoMemory>
         ensures { OnOk result (self.new ≡ timeline_closed self.old place packet) }
     {
-        let end = self.last_round();
         match self.lanes.get_mut(place) {
-            Some(lane) => lane.close(end, packet),
+            Some(lane) => lane.close(self.round, packet),
             None => Ok(()),
         }
     }
