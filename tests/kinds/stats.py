@@ -23,7 +23,7 @@ FIRST = b'send a 01 68 eop\nrounds 9\n'
 # A packet for b goes to a link that nothing leads on from.
 STUCK = PLAN.replace(b'row A.0 2 1', b'row A.0 2 7')
 NO_ROWS = PLAN[:PLAN.index(b'row')]
-# Names that are wider than a column, and links of two digits. Two packets cross one behind the other, in rounds 1 to 6 to the
+# Names that are wider than columns are at least, and links of two digits. Two packets cross one behind the other, in rounds 1 to 6 to the
 # switch and in 2 to 7 from it, and one the other way, in 1 and 2, and in 2 and 3.
 WIDE = b'''switch crossroads
 terminal westernmost crossroads.10
@@ -42,6 +42,15 @@ RESTART = RESET + b'control A 05 40 01 02 00 00 00\ncontrol A 05 80 01 01 00 00 
 # anything is done. Of its 25 tokens 8 cross that link, and one stays at the terminal.
 RING_ROWS = tuple(row for it in 'ABCD' for row in ('%s.0 0 0.000 0 0 0' % it, '%s.1 8 0.333 0 23 8' % it, '%s.2 0 0.000 0 0 0' % it))
 RING_ROWS += tuple('%s 24 1.000 0 24 25' % it for it in 'abcd')
+# The table of the links of WIDE, whose first column is as wide as its widest name.
+WIDE_TABLE = b'''port           tokens    share     packets   longest   waiting
+crossroads.10  2         0.285     1         2         1
+crossroads.31  6         0.857     2         3         1
+westernmost    6         0.857     2         3         6
+easternmost    2         0.285     1         2         2
+'''
+# With 73 acts for each line A has done all that it may.
+FULL = b'table A.0\n' * 14365
 SEEDS = range(5)
 WHATS = ('packets', 'links', 'rounds')
 
@@ -143,9 +152,10 @@ def cells_of(rows):
 
 
 def table_text(columns, rows):
-    """Cells in columns of 8, two spaces apart; the last isn't padded."""
+    """Cells in columns as wide as the widest, and at least 8, two spaces apart; the last isn't padded."""
     lines = [columns, *cells_of(rows)]
-    return ''.join('  '.join([it.ljust(8) for it in line[:-1]] + [line[-1]]) + '\n' for line in lines).encode()
+    widths = [max(8, *(len(line[place]) for line in lines)) for place in range(len(columns) - 1)]
+    return ''.join('  '.join([*(it.ljust(width) for it, width in zip(line, widths)), line[-1]]) + '\n' for line in lines).encode()
 
 
 def csv_text(columns, rows):
@@ -205,6 +215,12 @@ def read(runner, name, words, script, due):
     found = runner.run(words=words, data=script)
     good = found is not None and found[0] == 0 and json.loads(found[1]) == due
     runner.judge(name, None if good else '%.400r' % (found,))
+
+
+def wide(runner):
+    """Columns whose cells are long, byte by byte."""
+    with Files(WIDE) as path:
+        runner.case('a table with wide cells', WIDE_TABLE, words=words_of(path, 'links'), data=THREE)
 
 
 def held(runner):
@@ -343,4 +359,4 @@ def sweep(runner):
     runner.judge(name, None if found == due else '%.400r' % found)
 
 
-PARTS = [by_hand, summaries, held, standing, randoms, conserved, usage, failures, sweep]
+PARTS = [by_hand, summaries, wide, held, standing, randoms, conserved, usage, failures, sweep]

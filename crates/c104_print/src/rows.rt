@@ -22,6 +22,12 @@ pub(crate) enum Names {
     Beside,
 }
 
+/// How wide a column of a table is at least.
+const LEAST_WIDTH: usize = 8;
+
+/// How far columns stand apart.
+const GAP: usize = 2;
+
 /// Rows of cells with named columns, which take their cells one by one.
 #[derive(Drop)]
 pub(crate) struct Rows {
@@ -29,8 +35,11 @@ pub(crate) struct Rows {
     format: Format,
     names: Names,
     columns: &'static [&'static str],
+    // How wide the columns of a table are by now.
+    widths: Vec<usize>,
     // The column of the next cell.
     place: usize,
+    // How wide columns are is known at the end, so until then each cell of a table with columns has a line.
     text: String,
 }
 
@@ -47,12 +56,19 @@ impl Rows {
             format,
             names,
             columns,
+            widths: Vec::new(alloc),
             place: 0,
             text: String::new(alloc),
         };
         match (format, names) {
             (Format::Table, Names::Beside) => {}
-            (Format::Table | Format::Csv, _) => {
+            (Format::Table, Names::Above) => {
+                for name in columns {
+                    rows.widths.push(LEAST_WIDTH)?;
+                    rows.add(name)?;
+                }
+            }
+            (Format::Csv, _) => {
                 for name in columns {
                     rows.add(name)?;
                 }
@@ -107,8 +123,12 @@ impl Rows {
     /// The text of all rows.
     pub(crate) fn finish(self) -> Result<String, AllocError> {
         let mut text = self.text;
-        if let Format::Json = self.format {
-            text.push_str("\n]\n")?;
+        match (self.format, self.names) {
+            (Format::Table, Names::Above) => {
+                return columns_text(self.alloc, self.widths.as_slice(), text.as_str());
+            }
+            (Format::Json, _) => text.push_str("\n]\n")?,
+            (Format::Table | Format::Csv, _) => {}
         }
         Ok(text)
     }
@@ -123,8 +143,10 @@ impl Rows {
         self.place = if is_last { 0 } else { place + 1 };
         match (self.format, self.names) {
             (Format::Table, Names::Beside) => write!(self.text, "{column:<16}{cell}\n"),
-            (Format::Table, _) if is_last => write!(self.text, "{cell}\n"),
-            (Format::Table, _) => write!(self.text, "{cell:<8}  "),
+            (Format::Table, Names::Above) => {
+                self.widen(place, cell.len());
+                write!(self.text, "{cell}\n")
+            }
             (Format::Csv, _) if is_last => write!(self.text, "{cell}\r\n"),
             (Format::Csv, _) => write!(self.text, "{cell},"),
             (Format::Json, _) => {
@@ -138,4 +160,42 @@ impl Rows {
             }
         }
     }
+
+    /// A column is as wide as a cell of it, at least.
+    fn widen(&mut self, place: usize, length: usize) {
+        if let Some(width) = self.widths.get_mut(place)
+            && *width < length
+        {
+            *width = length;
+        }
+    }
+}
+
+/// The rows of a table with columns as wide as these, of whose cells each has a line. The last of a row isn't filled up.
+fn columns_text(alloc: Global, widths: &[usize], cells: &str) -> Result<String, AllocError> {
+    let filled = widths.len().saturating_sub(1);
+    let mut text = String::new(alloc);
+    let mut place = 0;
+    for cell in cells.lines() {
+        text.push_str(cell)?;
+        if let Some(width) = widths.get(place)
+            && place < filled
+        {
+            let width = width.saturating_add(GAP);
+            add_spaces(&mut text, width.saturating_sub(cell.len()))?;
+            place += 1;
+        } else {
+            text.push('\n')?;
+            place = 0;
+        }
+    }
+    Ok(text)
+}
+
+/// As many spaces join a text.
+fn add_spaces(text: &mut String, count: usize) -> Result<(), AllocError> {
+    for _space in 0..count {
+        text.push(' ')?;
+    }
+    Ok(())
 }
