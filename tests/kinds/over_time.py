@@ -20,6 +20,8 @@ SVG = '{http://www.w3.org/2000/svg}'
 TITLE = re.compile(r'rounds (\d+) to (\d+); hatched: a packet holds the wire, and nothing crosses')
 FITS = re.compile(rb'draw 1 TooLarge: --from (\d+) --to (\d+) fits\n')
 CELL, ROW, FIRST_ROW = 8, 14, 2
+# How wide a letter is at most: that of a browser's font is a little wider than what a picture reckons with.
+LETTER = 6.02
 LAST = 4294967295
 COLUMNS = ('port', 'to', 'sender', 'number', 'first', 'last', 'state')
 TEXT_OF = {'table': table_text, 'csv': csv_text, 'json': json_text}
@@ -39,6 +41,8 @@ STUCK_PACKET = b'send a 00' + b' 11' * 22 + b' eop\nrounds 30\n'
 # Resets A, lets it send everything by link 1 again, and has B throw everything away.
 # Behind it nothing is done for fifty rounds.
 STUCK_LONG = STUCK_PACKET + b'rounds 50\n'
+# 1,204 tokens, of which a's link takes one in each round from round 1 on, and the link to b one in each from round 2 on.
+LONG_PACKET = b'send a 01' + b' 11' * 1200 + b' eop\nrounds 1001\n'
 RESET = b'control A 02\npoke A 0140 1\npoke A 0180 1\ncontrol A 01\ncontrol B 02\ncontrol B 01\n'
 
 # A description, a script, words, the first and the last round, and the rows: a name, or a name with what is drawn there, each
@@ -59,6 +63,9 @@ DRAWN = {
         ['A', ('A.1 to B.1', ('a 0', A_IDLE, 60, 60))]),
     'the last round of a run': (STUCK, STUCK_LONG, ['--from', '80'], 80, 80, ['A', ('A.1 to B.1', ('a 0', A_IDLE, 80, 80))]),
     'a round behind the end of a run': (STUCK, STUCK_LONG, ['--from', '81'], 81, 81, []),
+    'rounds of ten digits': (PLAN, FIRST, ['--from', str(LAST), '--to', str(LAST)], LAST, LAST, []),
+    'a number of four digits in the last column': (PLAN, LONG_PACKET, ['--from', '901'], 901, 1001,
+        ['A', ('a to A.0', ('a 0', A_0, 901, 1001)), ('A.1 to b', ('a 0', A_0, 901, 1001))]),
     'a packet that has yet to leave': (PLAN, b'send a 01 eop\n', [], 0, 0, []),
     'nothing is asked': (PLAN, b'', [], 0, 0, []),
     'no network': (b'', b'rounds 3\n', [], 0, 3, []),
@@ -129,6 +136,18 @@ def list_of(picture):
     return texts[texts.index('packets:') + 1:]
 
 
+def cut_texts(picture):
+    """Texts that don't fit between the edges of a picture."""
+    left, width = (int(picture.get('viewBox').split()[place]) for place in (0, 2))
+    found = []
+    for it in picture.findall(SVG + 'text'):
+        size = LETTER * len(it.text)
+        begin = int(it.get('x')) - (size if it.get('text-anchor') == 'end' else 0)
+        if begin < left or begin + size > left + width:
+            found.append(it.text)
+    return found
+
+
 def unknown_fills(picture):
     """Fills that no pattern gives."""
     known = {'url(#%s)' % it.get('id') for it in picture.iter(SVG + 'pattern')}
@@ -153,6 +172,8 @@ def drawn(runner):
         wrong = None if found == due else 'wanted %s, found %s' % (due, found)
         if wrong is None and unknown_fills(picture):
             wrong = 'unknown fills: %s' % unknown_fills(picture)
+        if wrong is None and cut_texts(picture):
+            wrong = 'texts are cut off: %s' % cut_texts(picture)
         packets = {it[0] for row in rows if not isinstance(row, str) for it in row[1:]}
         if wrong is None and sorted(list_of(picture)) != sorted(packets):
             wrong = 'packets: %s' % list_of(picture)

@@ -18,6 +18,12 @@ const LEAST_WIDTH: u64 = 480;
 /// The most letters that a name has.
 const MOST_LETTERS: usize = 32;
 
+/// How much room there is right of the rounds and of texts, at least.
+const MARGIN: u64 = 4;
+
+/// What stands above the rounds behind the numbers of the first and the last.
+pub(crate) const HATCHED: &str = "; hatched: a packet holds the wire, and nothing crosses";
+
 /// Where the parts of a picture stand, from the round at 0 on: a line for what it is and one for the numbers of rounds, the
 /// rows, and the list of packets.
 #[derive(Clone, Copy)]
@@ -30,8 +36,6 @@ pub(crate) struct Layout {
     pub(crate) width: u64,
     /// How much is left of them, where the names of wires stand.
     pub(crate) left: u64,
-    /// How wide all of it is.
-    pub(crate) total_width: u64,
     /// How wide a packet's place in the list is.
     entry_width: u64,
     /// How many packets stand side by side in the list.
@@ -56,12 +60,28 @@ impl Layout {
             rows: rows as u64,
             width,
             left,
-            total_width: left + width + 8,
             entry_width,
             columns: width / entry_width,
             tick_step,
             tick_count: (rounds - 1) / tick_step + 1,
         }
+    }
+
+    /// How wide all of it is: what is left of the rounds, and they, the text above them or the last number of a round.
+    pub(crate) fn total_width(&self) -> u64 {
+        let (x, round) = self.tick(self.tick_count.saturating_sub(1));
+        let number = x.saturating_add(text_width(digits(round)));
+        let rounds = self.width.saturating_add(2 * MARGIN);
+        let right = rounds.max(number).max(text_width(self.title_letters()));
+        self.left.saturating_add(right)
+    }
+
+    /// How many letters the text above the rounds has.
+    fn title_letters(&self) -> u64 {
+        let words = "rounds  to ".len() + HATCHED.len();
+        (words as u64)
+            .saturating_add(digits(u64::from(self.period.from)))
+            .saturating_add(digits(u64::from(self.period.to)))
     }
 
     /// How high it is, with this many packets.
@@ -110,6 +130,16 @@ impl Layout {
         let width = CELL * (u64::from(rounds.to.saturating_sub(rounds.from)) + 1);
         (x, width)
     }
+}
+
+/// How wide a text of so many letters is, at most.
+fn text_width(letters: u64) -> u64 {
+    LETTER.saturating_mul(letters).saturating_add(MARGIN)
+}
+
+/// How many digits a number has.
+fn digits(number: u64) -> u64 {
+    u64::from(number.checked_ilog10().unwrap_or(0)).saturating_add(1)
 }
 
 /// The upper edge of a line.

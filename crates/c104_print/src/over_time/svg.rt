@@ -1,6 +1,6 @@
 //! The text of a picture of a run, in SVG.
 
-use crate::over_time::layouts::Layout;
+use crate::over_time::layouts::{HATCHED, Layout};
 use crate::packets::{COLORS, Pattern, packet_color, packet_pattern, packet_text};
 use c104_net::Origin;
 use c104_plan::{Plan, Port};
@@ -54,9 +54,9 @@ impl<'a> Svg<'a> {
         let Layout {
             period: Period { from, to },
             left,
-            total_width: width,
             ..
         } = self.layout;
+        let width = self.layout.total_width();
         let height = self.layout.height(packets);
         write!(
             self.text,
@@ -67,8 +67,7 @@ impl<'a> Svg<'a> {
         self.add_patterns()?;
         write!(
             self.text,
-            "<text x=\"0\" y=\"10\">rounds {from} to {to}; \
-             hatched: a packet holds the wire, and nothing crosses</text>\n"
+            "<text x=\"0\" y=\"10\">rounds {from} to {to}{HATCHED}</text>\n"
         )?;
         self.add_ticks()
     }
