@@ -290,7 +290,7 @@ def at_a_terminal(runner):
 
 
 def what_waits(runner):
-    """`show waiting` tells which outputs inputs hold and want."""
+    """`show waiting` tells which outputs inputs hold and want; of an input that drops, the next case."""
     name = 'what waits'
     if not runner.wanted(name):
         return
@@ -341,7 +341,8 @@ def reads_and_drops(runner):
         for line in (b'input A.0', b'show waiting'):
             asked.send(line + b'\n')
             told = asked.read(asked.errors, b'> ')
-        wanted = b'A.0 wants A.1 for the header 256, and it is free\nA.1 wants A.0 for the header 300, and it is free\n'
+        wanted = (b'A.0 wants A.1 for the header 256, and it is free\nA.1 wants A.0 for the header 300, and it is free\n'
+                  b'A.2 drops its packet, and waits for the next token from c\n')
         wrong = wrong or (None if told.startswith(wanted) else 'wanted %r, found %r' % (wanted, told))
         asked.send(END_OF_INPUT)
         asked.read(asked.output, None)

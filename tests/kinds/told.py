@@ -71,8 +71,19 @@ CHECKS = {
 # a's packet holds the link to b, and one that comes in there wants to go back by it.
 BACK = (b'send a 01 aa eop\ncredit A.0\ncross a\ninput A.0\nclaim A 0 1\n'
         b'send b 01 eop\ncredit A.1\ncross b\ncross b\ninput A.1\n')
+# Two switches, and a packet whose header comes to the second before the first is reset, which throws its end away.
+OVER_A = b'switch A\nswitch B\nterminal a A.0\nwire A.1 B.1\nrow A.0 3 1\n'
+CUT = b'send a 02 eop\nrounds 2\ncontrol A 02\ncontrol A 01\nrounds 20\n'
 # A description, a script, and what is told of its last line, and then of what didn't arrive.
 RUNS = {
+    'an input that waits for a header behind one that it discards': (OVER_A + b'row B.1 4 discard\n', CUT,
+        ['stands still: 0 tokens wait', 'B.1 reads a header, and waits for the next token from A.1'], []),
+    'an input that has the first byte of a header': (b'header 2\n' + OVER_A + b'row B.1 4 sink\n',
+        CUT.replace(b'02 eop\nrounds 2', b'02 00 eop\nrounds 3'),
+        ['stands still: 1 token waits', 'B.1 reads a header, and waits for the next token from A.1'], []),
+    'an input that drops a packet without an end': (OVER_A + b'row B.1 4 sink\n', CUT,
+        ['stands still: 0 tokens wait', 'B.1 drops its packet, and waits for the next token from A.1'],
+        ['input B.1 has dropped 1 packet, since no row covers their header, or a row sinks it']),
     'a header that goes back by its own link': (PLAN, BACK, [],
         ['1 token waits at input A.1; output A.1 belongs to A.0\'s packet until its terminator passes',
          '1 token waits at output A.1; `credit` and `cross` or more `rounds` move it on',

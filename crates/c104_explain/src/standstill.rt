@@ -10,8 +10,8 @@ use c104_token::{NoMemory, Token};
 use std::alloc::{AllocError, Global};
 
 /// What is told of a network that stands still: how many tokens wait in it, and in how many packets, where it is known
-/// how many were sent; and in a line for each, which output an input holds for its packet, and which one wants for its
-/// header. None when out of memory.
+/// how many were sent; and in a line for each, which output an input holds for its packet, which one wants for its header,
+/// and which reads or drops a packet of which no more comes. None when out of memory.
 pub fn standstill_message(alloc: Global, net: &TracedNet, sent: Option<usize>) -> Option<String> {
     standstill_text(alloc, net, sent).ok()
 }

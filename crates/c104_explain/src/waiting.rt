@@ -28,8 +28,8 @@ impl Input {
 }
 
 /// A line for each switch that isn't started, for each output that an input holds for its packet, for each that one wants
-/// for its header, and for each without a wire that holds tokens and that no input holds, by switch and link. Nothing
-/// where there is none such.
+/// for its header, for each input that reads or drops and has no token, and for each output without a wire that holds tokens
+/// and that no input holds, by switch and link. Nothing where there is none such.
 pub(crate) fn waiting_text(alloc: Global, net: &TracedNet) -> Result<String, AllocError> {
     let mut text = String::new(alloc);
     for switch in 0..net.plan().switches().len() {
@@ -103,8 +103,33 @@ fn add_input(
     match &view.phase {
         Phase::Stream(output) => add_held(alloc, net, input, *output, text),
         Phase::Want(header, _) => add_wanted(alloc, net, input, header.value(), text),
-        Phase::Fresh | Phase::Head(_) | Phase::Sinking => Ok(()),
+        Phase::Head(_) => add_starved(alloc, net, input, view, "reads a header", text),
+        Phase::Sinking => add_starved(alloc, net, input, view, "drops its packet", text),
+        Phase::Fresh => Ok(()),
     }
+}
+
+/// The line of an input that reads or drops joins the text, if no token is there: where the next one comes from.
+fn add_starved(
+    alloc: Global,
+    net: &TracedNet,
+    input: Input,
+    view: &LinkView,
+    does: &str,
+    text: &mut String,
+) -> Result<(), AllocError> {
+    let plan = net.plan();
+    let own = input.beside(input.link);
+    let Some(other) = plan.peer(own) else {
+        return Ok(());
+    };
+    if view.input_level > 0 {
+        return Ok(());
+    }
+    let own = plan.port_text(alloc, own)?;
+    let other = plan.port_text(alloc, other)?;
+    let line = format!(in alloc; "{own} {does}, and waits for the next token from {other}")?;
+    add_line(text, line.as_str())
 }
 
 /// The line of an output that an input holds joins the text: where it leads, and whether it is full.
