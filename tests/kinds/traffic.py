@@ -2,7 +2,8 @@
 
 Each script is worked out by hand from docs/FORMATS.md: the first words of SplitMix64 from the seed 1234567 are those of
 its reference, 6457827717110365317, 3203168211198807973, 9817491932198370423, 4593380528125082431 and
-16408922859458223821, which leave 0, 1, 0, 1 and 2 when they are divided by 3.
+16408922859458223821, which leave 0, 1, 0, 1 and 2 when they are divided by 3. The first four leave 1, 1, 3 and 1 when they are divided by 2, 3, 4
+and 5: by them a list of five becomes 0 4 1 3 2.
 """
 
 import os
@@ -12,6 +13,7 @@ from case_runner import CANNOT_WRITE, PLAN
 
 SQUARE = b'mesh 2 2 1\n'
 LINE = b'mesh 3 1 1\n'
+RING = b'mesh 5 1 1\n'
 LONE = b'switch A\nterminal a A.0\n'
 ALL = {'--pattern': 'neighbour', '--packets': '3', '--bytes': '1', '--seed': '1234567'}
 # A send line of 4,096 bytes, the header's two among them.
@@ -48,6 +50,19 @@ SCRIPTS = {
         b'send t2 01 06 eop\nsend t0 01 07 eop\n'),
     'to all in turn, itself last': (PLAN, words_of('--own', pattern='all-to-all', packets='4'),
         b'send a 01 01 eop\nsend b 00 02 eop\nsend a 00 03 eop\nsend b 01 04 eop\n'),
+    'to the complement': (LINE, words_of(pattern='complement'), b'send t0 02 01 eop\nsend t2 00 02 eop\nsend t0 02 03 eop\n'),
+    'to bits one place up': (b'cube 3 1\n', words_of(pattern='shuffle', packets='7'),
+        b'send t1 02 01 eop\nsend t2 04 02 eop\nsend t3 06 03 eop\nsend t4 01 04 eop\nsend t5 03 05 eop\nsend t6 05 06 eop\n'
+        b'send t1 02 07 eop\n'),
+    'to bits one place up, and to itself': (LONE, words_of('--own', pattern='shuffle', packets='1'), b'send a 00 01 eop\n'),
+    'less than half of a ring ahead, of an odd one': (RING, words_of(pattern='tornado', packets='5'),
+        b'send t0 02 01 eop\nsend t1 03 02 eop\nsend t2 04 03 eop\nsend t3 00 04 eop\nsend t4 01 05 eop\n'),
+    'less than half of a ring ahead, of an even one': (b'cube 3 1\n', words_of(pattern='tornado', packets='6'),
+        b'send t0 03 01 eop\nsend t1 04 02 eop\nsend t2 05 03 eop\nsend t3 06 04 eop\nsend t4 07 05 eop\nsend t5 00 06 eop\n'),
+    'to another for each': (RING, words_of(pattern='permutation', packets='4'),
+        b'send t1 02 01 eop\nsend t2 04 02 eop\nsend t4 01 03 eop\nsend t1 02 04 eop\n'),
+    'to another for each, some to themselves': (RING, words_of('--own', pattern='permutation', packets='5'),
+        b'send t0 00 01 eop\nsend t1 02 02 eop\nsend t2 04 03 eop\nsend t3 03 04 eop\nsend t4 01 05 eop\n'),
     'to itself alone': (LONE, words_of('--own', packets='2'), b'send a 00 01 eop\nsend a 00 02 eop\n'),
     'no bytes behind the header': (PLAN, words_of(bytes='0'), b'send a 01 eop\nsend b 00 eop\nsend a 01 eop\n'),
     'headers of two bytes': (b'header 2\n' + PLAN.replace(b'b A.1', b'b A.1 labels 9 from 258'), words_of(bytes='2'),
@@ -70,7 +85,11 @@ REFUSED = {
     'no square': (LINE, words_of(pattern='transpose'), b'traffic 1 NotSquare\n',
         b'a transpose wants as many terminals as a square has fields: 1, 4, 9, 16, ..'),
     'no power of two': (LINE, words_of(pattern='reverse'), b'traffic 2 NotPowerOfTwo\n',
-        b'a reverse wants 1, 2, 4, 8, .. terminals'),
+        b'a reverse or a shuffle wants 1, 2, 4, 8, .. terminals'),
+    'no power of two, of a shuffle': (LINE, words_of(pattern='shuffle'), b'traffic 2 NotPowerOfTwo\n',
+        b'a reverse or a shuffle wants 1, 2, 4, 8, .. terminals'),
+    'a ring of two': (PLAN, words_of(pattern='tornado'), b'traffic 4 NoTarget\n',
+        b'by this pattern no terminal has another one to send to'),
     'no such terminal': (PLAN, words_of(pattern='hot-spot', target='c'), b'traffic 3 NoTerminal\n',
         b'no terminal has the target\'s name'),
     'a switch as target': (PLAN, words_of(pattern='hot-spot', target='A'), b'traffic 3 NoTerminal\n',

@@ -14,7 +14,8 @@ TOLD = [
     (('stats', 'a', 'b', '--what', 'tokens'), COUNT_WORDS),
     (('draw', 'a', 'b', '--over-time', '--format', 'xml'), b'error: the formats are svg, table, csv and json\n'),
     (('draw', 'a', 'b', '--over-time', '--from', '2', '--to', '1'), b'error: --from comes after --to, so no round is shown\n'),
-    ((*SENT, 'frob'), b'error: the patterns are uniform, transpose, reverse, neighbour, hot-spot and all-to-all: frob\n'),
+    ((*SENT, 'frob'), b'error: the patterns are uniform, transpose, reverse, neighbour, hot-spot, '
+        b'all-to-all, complement, shuffle, tornado and permutation: frob\n'),
     ((*SENT, 'hot-spot'), HOT_SPOT),
     ((*SENT, 'uniform', '--target', 'a'), HOT_SPOT),
     ((b'\xff',), b"error: a word isn't UTF-8\n\nFor more information, try '--help'.\n"),

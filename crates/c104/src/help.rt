@@ -173,12 +173,16 @@ pub const TRAFFIC: &str =
 lines between them. Packets go to the first labels of their targets. Of T terminals,
 counted from 0 in the order of the description, terminal t sends to
 
-  uniform     any, picked by the generator of the seed
-  transpose   row c and column r of a square, where t is in row r and column c
-  reverse     the one whose number has the bits of t in reverse
-  neighbour   the next one, and the last to the first
-  hot-spot    the one named by --target
-  all-to-all  each in turn, from the next one on
+  uniform      any, picked by the generator of the seed
+  transpose    row c and column r of a square, where t is in row r and column c
+  reverse      the one whose number has the bits of t in reverse
+  neighbour    the next one, and the last to the first
+  hot-spot     the one named by --target
+  all-to-all   each in turn, from the next one on
+  complement   terminal T - 1 - t
+  shuffle      the one whose number has the bits of t one place up, the highest lowest
+  tornado      of a ring, the one farthest ahead by less than half of it
+  permutation  another for each, by a permutation that the seed gives
 
 and to itself only with --own. The same words print the same script anywhere. It ends
 with the last packet: further rounds let it arrive.

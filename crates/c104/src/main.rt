@@ -46,7 +46,6 @@ use std::thread::Threads;
 use std::{env, io};
 use subcommands::Subcommand;
 use told::{Told, tell_of_words};
-use traffic_words::pattern_of;
 use typed::Typed;
 
 /// The exit status of a wrong command line.
@@ -306,11 +305,8 @@ fn draw_file(rt: &HostRuntime, order: Order<'_>, told: &mut Told<'_>) -> Status 
 /// Prints a script of traffic for the network of a description's file. A pattern that there isn't is a wrong word, and so
 /// is a hot spot without its terminal, or a terminal without a hot spot.
 fn send_file(rt: &HostRuntime, order: Order<'_>, told: &mut Told<'_>) -> Status {
-    let word = order.traffic.pattern.unwrap_or("");
-    let Some(name) = pattern_of(word) else {
-        let _ = eprintln!(rt;
-            "error: the patterns are uniform, transpose, reverse, neighbour, hot-spot and all-to-all: {word}"
-        );
+    let Some(name) = order.traffic.pattern_name() else {
+        refuse_pattern(rt, order.traffic.pattern.unwrap_or(""));
         told.note_wrong_word();
         return Status::Refused;
     };
@@ -335,6 +331,13 @@ fn send_file(rt: &HostRuntime, order: Order<'_>, told: &mut Told<'_>) -> Status 
     );
     told.note_fault(description.fault());
     status
+}
+
+/// Tells that there is no pattern of this name, and which there are.
+fn refuse_pattern(rt: &HostRuntime, word: &str) {
+    let _ = eprintln!(rt;
+        "error: the patterns are uniform, transpose, reverse, neighbour, hot-spot, all-to-all, complement, shuffle, tornado and permutation: {word}"
+    );
 }
 
 /// What is to be marked in a picture.

@@ -46,6 +46,11 @@ impl<'a> TrafficWords<'a> {
         }
     }
 
+    /// The pattern that is asked for. None where there is no pattern of the name.
+    pub fn pattern_name(self) -> Option<PatternName> {
+        pattern_of(self.pattern.unwrap_or(""), self.seed.unwrap_or(0))
+    }
+
     /// How much traffic is asked for, within its limits.
     pub fn amount(self) -> Traffic
         ensures { IsTraffic result }
@@ -80,8 +85,8 @@ fn at_least_one(said: Option<usize>) -> Option<usize>
     }
 }
 
-/// The pattern of this name. None where there is no such pattern.
-pub fn pattern_of(word: &str) -> Option<PatternName> {
+/// The pattern of this name, by this seed if it has one. None where there is no such pattern.
+fn pattern_of(word: &str, seed: u64) -> Option<PatternName> {
     match word {
         "uniform" => Some(PatternName::Uniform),
         "transpose" => Some(PatternName::Transpose),
@@ -89,6 +94,10 @@ pub fn pattern_of(word: &str) -> Option<PatternName> {
         "neighbour" => Some(PatternName::Neighbour),
         "hot-spot" => Some(PatternName::HotSpot),
         "all-to-all" => Some(PatternName::AllToAll),
+        "complement" => Some(PatternName::Complement),
+        "shuffle" => Some(PatternName::Shuffle),
+        "tornado" => Some(PatternName::Tornado),
+        "permutation" => Some(PatternName::Permutation(seed)),
         _ => None,
     }
 }
@@ -96,8 +105,8 @@ pub fn pattern_of(word: &str) -> Option<PatternName> {
 /// The options of traffic.
 const PATTERN: &str = "pattern";
 
-const PATTERN_HELP: &str = "Where packets go: uniform, transpose, reverse, neighbour, hot-spot or
-all-to-all";
+const PATTERN_HELP: &str = "Where packets go: uniform, transpose, reverse, neighbour, hot-spot,
+all-to-all, complement, shuffle, tornado or permutation";
 
 const TARGET: &str = "target";
 

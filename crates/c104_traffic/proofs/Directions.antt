@@ -1,14 +1,15 @@
 -- Where the packets of traffic go: from a terminal to a terminal, which is another one unless that is asked for.
 use Rattle.{c104_check.{proofs.RangeLemmas.is_has, specs.Routes.{Owns, has_label, routes_of}}, c104_plan.specs.PlanImage.{Fits, Image}}
 use Rattle.{c104_plan.specs.Plans.{IsPlan, IsRange, Plan}, c104_switch.specs.Headers.header_number}
-use Rattle.c104_traffic.{proofs.{Senders.sender_inside, Squares.{reversed_below, transposed_inside}}, specs.Directions.AreDirected}
-use Rattle.c104_traffic.specs.{Packets.{Traffic, byte_at, first_label, packet_of, packet_word, sender_at, target_at}, Patterns.IsPatternFor}
-use Rattle.c104_traffic.specs.{Patterns.Pattern, Schedules.{AreLabelled, HaveRanges}, Targets.{behind, choices, is_sender, pick}}
-use Rattle.{c104_traffic.specs.Targets.{senders_of, target_of}, std.proofs.Common.{Bool, IfSome, Some, ap, arith, cond, false, get_or, inl}}
-use Rattle.std.proofs.Common.{inr, length, map, nat_lt, refl, slice_get, subst, suc, sym, take, true, zero, ℕ, ◌%◌, ◌*◌, ◌+◌, ◌-◌, ◌/◌, ◌<◌}
-use Rattle.std.proofs.{Common.{◌∙◌, ◌≡◌, ◌≢◌, ◌≤◌, ◌⊎◌}, lemmas.{Bool.{Decides.nat_tests, cases_lt}, List.Elements.filter_passes}}
-use Rattle.std.proofs.lemmas.{List.FromFn.length-map-range_with_len, Nat.mod_below, Option.{slice_get-get_or, unwrap_or-slice_get}}
-use Rattle.std.specs.{List.range_with_len, Option.option_map_or}
+use Rattle.c104_traffic.proofs.{Permutations.{permuted_inside, pick_few, shuffled_inside}, Senders.sender_inside, Squares.reversed_below}
+use Rattle.c104_traffic.{proofs.Squares.transposed_inside, specs.{Directions.AreDirected, Packets.{Traffic, byte_at, first_label}}}
+use Rattle.c104_traffic.specs.{Packets.{packet_of, packet_word, sender_at, target_at}, Patterns.{IsPatternFor, Pattern}}
+use Rattle.c104_traffic.specs.{Schedules.{AreLabelled, HaveRanges}, Targets.{behind, choices, is_sender, pick, senders_of, target_of}}
+use Rattle.std.proofs.Common.{Bool, IfSome, Some, ap, arith, cond, false, get_or, inl, inr, length, map, nat_lt, refl, slice_get, subst}
+use Rattle.std.proofs.Common.{suc, sym, take, true, zero, ℕ, ◌%◌, ◌*◌, ◌+◌, ◌-◌, ◌/◌, ◌<◌, ◌∙◌, ◌≡◌, ◌≢◌, ◌≤◌, ◌⊎◌}
+use Rattle.std.proofs.lemmas.{Bool.{Decides.nat_tests, cases_lt}, List.{Elements.filter_passes, FromFn.length-map-range_with_len}}
+use Rattle.std.{proofs.lemmas.{Nat.mod_below, Option.{slice_get-get_or, unwrap_or-slice_get}}, specs.List.range_with_len}
+use Rattle.std.specs.Option.{option_map_or}
 
 -- every target is one of the terminals
 pub target_inside : (p : Pattern) (own : Bool) (count s turn word : ℕ) → IsPatternFor count p → s < count → target_of p own count s turn word < count
@@ -18,6 +19,10 @@ target_inside (Pattern.Reverse bits) own count s turn word fits inside = omega (
 target_inside Pattern.Neighbour own count s turn word fits inside = mod_below (s + 1 + 0) count (omega arith)
 target_inside (Pattern.HotSpot t) own count s turn word fits inside = fits
 target_inside Pattern.AllToAll own count s turn word fits inside = mod_below (s + 1 + pick (choices own count) turn) count (omega arith)
+target_inside Pattern.Complement own count s turn word fits inside = omega (arith, inside)
+target_inside (Pattern.Shuffle bits) own count s turn word fits inside = shuffled_inside count s inside
+target_inside Pattern.Tornado own count s turn word fits inside = mod_below (s + (count + 1) / 2 - 1) count (omega arith)
+target_inside (Pattern.Permutation seed) own count s turn word fits inside = permuted_inside seed (count - 1) s count inside (omega (arith, inside))
 
 -- by fewer places than there are others none comes round to itself
 behind_apart : (count s places : ℕ) → s < count → places + 1 < count → behind count s places ≢ s
@@ -29,9 +34,6 @@ behind_apart count s places inside few is =
     turns : (q : ℕ) → count * q ≡ places + 1 → ⊥
     turns zero round = omega arith
     turns (suc q) round = omega (arith, few)
-
-pick_few : (n word : ℕ) → 0 < n → pick n word < n
-pick_few n word some = grind (arith, nat_tests, mod_below word n)
 
 -- a terminal that sends, though none may send to itself, sends to another
 ring_apart : (count s number : ℕ) → s < count → behind count s (pick (count - 1) 0) ≢ s → behind count s (pick (count - 1) number) ≢ s
@@ -50,6 +52,10 @@ target_apart (Pattern.Reverse bits) count s turn word inside first = first
 target_apart Pattern.Neighbour count s turn word inside first = first
 target_apart (Pattern.HotSpot t) count s turn word inside first = first
 target_apart Pattern.AllToAll count s turn word inside first = ring_apart count s turn inside first
+target_apart Pattern.Complement count s turn word inside first = first
+target_apart (Pattern.Shuffle bits) count s turn word inside first = first
+target_apart Pattern.Tornado count s turn word inside first = first
+target_apart (Pattern.Permutation seed) count s turn word inside first = first
 
 -- who sends passes the test of those that do
 sender_passes : (p : Pattern) (own : Bool) (count number : ℕ) → 0 < length (senders_of p own count) → is_sender p own count (sender_at (senders_of p own count) number) ≡ true

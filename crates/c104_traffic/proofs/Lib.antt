@@ -1,3 +1,4 @@
+mod Permutations
 mod Squares
 mod Numbered
 mod Joining

@@ -1,4 +1,5 @@
 pub mod Patterns
+pub mod Words
 pub mod Targets
 pub mod Packets
 pub mod Faults

@@ -1,9 +1,8 @@
 -- The packets of traffic: from which terminal each comes, to which it goes, of which bytes it is, and when it is sent.
 --     packet_of plan bytes label number      the packet of this number, counted from 0, to a label
-pub use Rattle.c104_traffic.specs.declared.{amounts.Traffic.Traffic, packets.Sent.Sent}
+pub use Rattle.c104_traffic.specs.{Words.{generator_at, packet_word}, declared.{amounts.Traffic.Traffic, packets.Sent.Sent}}
 use Rattle.{c104_plan.specs.{PlanImage.Image, Plans.Plan}, c104_token.specs.declared.{packets.Packet.Packet, tokens.Mark.Mark}}
 use Rattle.c104_traffic.specs.{Patterns.Pattern, Targets.target_of, declared.amounts.TheConstants.{MAX_DATA, MAX_PACKETS}}
-use Rattle.rand_xoshiro.specs.SplitMix64.{mix_u64}
 use Rattle.std.specs.{List.range_with_len, Option.{option_map_or, unwrap_or}, Prelude.{IfSome, List, None, Option, Some, if◌then◌else◌}}
 use Rattle.std.specs.Prelude.{length, map, nat_lt, slice_get, suc, zero, ℕ, ◌%◌, ◌*◌, ◌+◌, ◌-◌, ◌/◌, ◌<◌, ◌==◌, ◌≤◌}
 
@@ -12,15 +11,6 @@ pub record IsTraffic (traffic : Traffic) : Type 0 where
   pub packets : traffic.packets ≤ MAX_PACKETS
   pub bytes : traffic.bytes ≤ MAX_DATA
   pub load : IfSome traffic.load (λ load. 0 < load)
-
--- the state of the generator, SplitMix64, behind a number of words from a seed on
-abbrev pub generator_at : ℕ → ℕ → ℕ
-generator_at seed zero = seed
-generator_at seed (suc words) = (mix_u64 (generator_at seed words)).1
-
--- the word of the packet of this number: each has one
-abbrev pub packet_word : ℕ → ℕ → ℕ
-packet_word seed number = (mix_u64 (generator_at seed number)).0
 
 -- from which terminal a packet comes: those that send do so in turn
 abbrev pub sender_at : List ℕ → ℕ → ℕ

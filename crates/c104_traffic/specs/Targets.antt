@@ -1,7 +1,7 @@
 -- Which terminals send by a pattern, and to which terminal a packet goes. Terminals are counted from 0.
 --     target_of pattern own count s turn word      the target of terminal s
 --     senders_of pattern own count      the terminals that send
-use Rattle.c104_traffic.specs.Patterns.{Pattern}
+use Rattle.c104_traffic.specs.{Patterns.Pattern, Words.packet_word}
 use Rattle.std.specs.{List.range_with_len, Prelude.{Bool, List, filter, if◌then◌else◌, not, suc, zero, ℕ, ◌%◌, ◌*◌, ◌+◌, ◌-◌, ◌/◌, ◌==◌}}
 use Rattle.std.specs.Prelude.{◌||◌}
 
@@ -26,6 +26,21 @@ abbrev pub reversed_onto : ℕ → ℕ → ℕ → ℕ
 reversed_onto done zero number = done
 reversed_onto done (suc bits) number = reversed_onto (2 * done + number % 2) bits (number / 2)
 
+-- a number with its bits one place up, and the highest, which has no place there, lowest: of as many bits as the numbers
+-- below count have, which is a power of two
+abbrev pub shuffled : ℕ → ℕ → ℕ
+shuffled count s = 2 * s % count + 2 * s / count
+
+-- where a number is, once two have changed places
+abbrev pub exchanged : ℕ → ℕ → ℕ → ℕ
+exchanged one other s = if s == one then other else (if s == other then one else s)
+
+-- the place of a number in the list 0, 1, 2, .., after so many exchanges: the first of 1, the next of 2 and so on, each
+-- with one of the numbers up to it that the generator picks
+abbrev pub permuted : ℕ → ℕ → ℕ → ℕ
+permuted seed zero s = s
+permuted seed (suc done) s = exchanged (done + 1) (pick (done + 2) (packet_word seed done)) (permuted seed done s)
+
 -- to which terminal terminal s sends, of a number of them: turn is how many packets it sent before, and word is a word of
 -- the generator
 abbrev pub target_of : Pattern → Bool → ℕ → ℕ → ℕ → ℕ → ℕ
@@ -35,6 +50,10 @@ target_of (Pattern.Reverse bits) own count s turn word = reversed_onto 0 bits s
 target_of Pattern.Neighbour own count s turn word = behind count s 0
 target_of (Pattern.HotSpot t) own count s turn word = t
 target_of Pattern.AllToAll own count s turn word = behind count s (pick (choices own count) turn)
+target_of Pattern.Complement own count s turn word = count - 1 - s
+target_of (Pattern.Shuffle bits) own count s turn word = shuffled count s
+target_of Pattern.Tornado own count s turn word = (s + (count + 1) / 2 - 1) % count
+target_of (Pattern.Permutation seed) own count s turn word = permuted seed (count - 1) s
 
 -- whether a terminal sends: it has a target that is another terminal, or may be its own
 abbrev pub is_sender : Pattern → Bool → ℕ → ℕ → Bool

@@ -15,8 +15,8 @@ pub enum TrafficFault {
     /// A transpose is asked for, and the number of terminals is no square.
     #[error("a transpose wants as many terminals as a square has fields: 1, 4, 9, 16, ..")]
     NotSquare,
-    /// A reverse is asked for, and the number of terminals is no power of two.
-    #[error("a reverse wants 1, 2, 4, 8, .. terminals")]
+    /// A reverse or a shuffle is asked for, and the number of terminals is no power of two.
+    #[error("a reverse or a shuffle wants 1, 2, 4, 8, .. terminals")]
     NotPowerOfTwo,
     /// A hot spot is asked for that is no terminal.
     #[error("no terminal has the target's name")]

@@ -8,8 +8,9 @@ use c104_plan::Plan;
 
 /// The pattern of this name in a network. The target is the name of a terminal, which a hot spot alone wants.
 ///
-/// NotSquare where a transpose is asked for and the number of terminals is no square, NotPowerOfTwo where a reverse is
-/// and it is no power of two, and NoTerminal where a hot spot is and no terminal has the name. No other error comes.
+/// NotSquare where a transpose is asked for and the number of terminals is no square, NotPowerOfTwo where a reverse or a
+/// shuffle is and it is no power of two, and NoTerminal where a hot spot is and no terminal has the name. No other error
+/// comes.
 pub(crate) fn find_pattern(
     plan: &Plan,
     name: PatternName,
@@ -34,6 +35,13 @@ pub(crate) fn find_pattern(
             None => Err(TrafficFault::NoTerminal),
         },
         PatternName::AllToAll => Ok(Pattern::AllToAll),
+        PatternName::Complement => Ok(Pattern::Complement),
+        PatternName::Shuffle => match find_bits(plan.terminals().len()) {
+            Some(bits) => Ok(Pattern::Shuffle(bits)),
+            None => Err(TrafficFault::NotPowerOfTwo),
+        },
+        PatternName::Tornado => Ok(Pattern::Tornado),
+        PatternName::Permutation(seed) => Ok(Pattern::Permutation(seed)),
     }
 }
 

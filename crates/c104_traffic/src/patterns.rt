@@ -17,6 +17,14 @@ pub enum PatternName {
     HotSpot,
     /// To all terminals in turn, from the next one on.
     AllToAll,
+    /// To the terminal that is as far from the last one as the sender is from the first.
+    Complement,
+    /// To the terminal whose number has the bits of the sender's one place up, and its highest bit lowest.
+    Shuffle,
+    /// Of terminals in a ring, to the one that is the most places ahead that are less than half of the ring.
+    Tornado,
+    /// By a permutation of the terminals, which this seed gives.
+    Permutation(u64),
 }
 
 /// A pattern in a network.
@@ -34,4 +42,13 @@ pub enum Pattern {
     HotSpot(usize),
     /// To all terminals in turn, from the next one on.
     AllToAll,
+    /// To the terminal that is as far from the last one as the sender is from the first.
+    Complement,
+    /// To the terminal whose number has the bits of the sender's, of which there are this many, one place up, and its
+    /// highest bit lowest.
+    Shuffle(usize),
+    /// Of terminals in a ring, to the one that is the most places ahead that are less than half of the ring.
+    Tornado,
+    /// By a permutation of the terminals, which this seed gives.
+    Permutation(u64),
 }

@@ -25,10 +25,10 @@ pub struct Schedule {
 /// Who sends by the pattern of this name in a network whose terminals have the labels of an image, and may send to
 /// themselves where `own` is true. The target is the name of a terminal, which a hot spot alone wants.
 ///
-/// NotSquare where a transpose is asked for and the number of terminals is no square, NotPowerOfTwo where a reverse is
-/// and it is no power of two, NoTerminal where a hot spot is and no terminal has the target's name; then NoTarget where
-/// no terminal sends, and NoLabel for the first terminal whose first label is no header. NoMemory may come in place of
-/// NoTarget and NoLabel.
+/// NotSquare where a transpose is asked for and the number of terminals is no square, NotPowerOfTwo where a reverse or a
+/// shuffle is and it is no power of two, NoTerminal where a hot spot is and no terminal has the target's name; then
+/// NoTarget where no terminal sends, and NoLabel for the first terminal whose first label is no header. NoMemory may come
+/// in place of NoTarget and NoLabel.
 pub fn find_schedule(
     alloc: Global,
     plan: &Plan,

@@ -3,11 +3,14 @@
 //! Only terminals with a target send, in turn: in a transpose those on the diagonal have none but themselves. So N
 //! packets are N `send` lines, and a load is the same for all that send. A terminal's packets are labelled by its first
 //! label, so a network in which one has none that is a header has no traffic.
-ghost use Rattle.std.specs.Prelude.{◌≡◌, ◌*◌, ◌^◌, ◌<◌, ◌≤◌};
-ghost use Rattle.c104_traffic.specs.Patterns.{IsPatternFor};
-ghost use Rattle.c104_traffic.specs.Targets.{behind, choices, is_sender, pick, reversed_onto, target_of, transposed};
+ghost use Rattle.std.specs.Prelude.{ℕ, ◌*◌, ◌-◌, ◌<◌, ◌^◌, ◌≡◌, ◌≤◌};
+ghost use Rattle.c104_traffic.specs.{Patterns.IsPatternFor, Targets.{behind, choices, exchanged, is_sender, permuted, pick, reversed_onto}};
+ghost use Rattle.c104_traffic.specs.Targets.{shuffled, target_of, transposed};
 
 use crate::patterns::Pattern;
+use rand_core::SeedableRng;
+use rand_core::utils::NextWord;
+use rand_xoshiro::SplitMix64;
 
 /// To which terminal one sends, of this number of them. The turn is how many packets it sent before, and the word is one
 /// of the generator.
@@ -31,6 +34,10 @@ pub(crate) fn target_of(
         Pattern::Neighbour => behind(count, sender, 0),
         Pattern::HotSpot(terminal) => terminal,
         Pattern::AllToAll => behind(count, sender, pick(choices(own, count), turn as u64)),
+        Pattern::Complement => count - 1 - sender,
+        Pattern::Shuffle(_) => shuffled(count, sender),
+        Pattern::Tornado => (sender + (count + 1) / 2 - 1) % count,
+        Pattern::Permutation(seed) => permuted(seed, count, sender),
     }
 }
 
@@ -94,4 +101,44 @@ fn reversed(bits: usize, number: usize) -> usize
         left /= 2;
     }
     done
+}
+
+/// A number with its bits one place up, and the highest, which has no place there, lowest: of as many bits as the numbers
+/// below the count have, which is a power of two.
+fn shuffled(count: usize, number: usize) -> usize
+    requires few { count ≤ 256 }
+    requires inside { number < count }
+    ensures { result ≡ shuffled count number }
+{
+    2 * number % count + 2 * number / count
+}
+
+/// The place of a number in a list of all below the count, in which each place, from 1 on, was exchanged with one of those
+/// up to it. No other number has this place.
+fn permuted(seed: u64, count: usize, number: usize) -> usize
+    requires few { count ≤ 256 }
+    requires inside { number < count }
+    ensures value { result ≡ permuted seed (count - 1) number }
+    ensures alone { (other : ℕ) → permuted seed (count - 1) other ≡ result → other ≡ number }
+{
+    let mut generator = SplitMix64::seed_from_u64(seed);
+    let mut place = number;
+    for done in 0..count - 1 {
+        let other = pick(done + 2, generator.next_word());
+        place = exchanged(done + 1, other, place);
+    }
+    place
+}
+
+/// Where a number is, once two have changed places.
+fn exchanged(one: usize, other: usize, number: usize) -> usize
+    ensures { result ≡ exchanged one other number }
+{
+    if number == one {
+        return other;
+    }
+    if number == other {
+        return one;
+    }
+    number
 }
