@@ -2,8 +2,9 @@
 
 Each script is worked out by hand from docs/FORMATS.md: the first words of SplitMix64 from the seed 1234567 are those of
 its reference, 6457827717110365317, 3203168211198807973, 9817491932198370423, 4593380528125082431 and
-16408922859458223821, which leave 0, 1, 0, 1 and 2 when they are divided by 3. The first four leave 1, 1, 3 and 1 when they are divided by 2, 3, 4
-and 5: by them a list of five becomes 0 4 1 3 2.
+16408922859458223821, which leave 0, 1, 0, 1 and 2 when they are divided by 3. The first four leave 1, 1, 3 and 1 when they
+are divided by 2, 3, 4 and 5: by them a list of five becomes 0 4 1 3 2. Their last two digits, which are below a share or not,
+are 17, 73, 23, 31 and 21; those before them leave 1, 1, 0, 0 and 0 when they are divided by 2, and 1, 0, 1, 0 and 2 by 3.
 """
 
 import os
@@ -45,6 +46,12 @@ SCRIPTS = {
         b'send t0 01 01 eop\nsend t2 01 02 eop\nsend t0 01 03 eop\n'),
     'to one, and from it': (LINE, words_of('--own', pattern='hot-spot', target='t1'),
         b'send t0 01 01 eop\nsend t1 01 02 eop\nsend t2 01 03 eop\n'),
+    'a share to one, the others to any': (LINE, words_of('--share 25', pattern='hot-spot', target='t1', packets='5'),
+        b'send t0 01 01 eop\nsend t2 01 02 eop\nsend t0 01 03 eop\nsend t2 00 04 eop\nsend t0 01 05 eop\n'),
+    'a share to one, and from it': (LINE, words_of('--own --share 20', pattern='hot-spot', target='t1', packets='5'),
+        b'send t0 01 01 eop\nsend t1 02 02 eop\nsend t2 01 03 eop\nsend t0 01 04 eop\nsend t1 01 05 eop\n'),
+    'a share of all to one': (LINE, words_of('--share 100', pattern='hot-spot', target='t1'),
+        b'send t0 01 01 eop\nsend t2 01 02 eop\nsend t0 01 03 eop\n'),
     'to all in turn': (LINE, words_of(pattern='all-to-all', packets='7'),
         b'send t0 01 01 eop\nsend t1 02 02 eop\nsend t2 00 03 eop\nsend t0 02 04 eop\nsend t1 00 05 eop\n'
         b'send t2 01 06 eop\nsend t0 01 07 eop\n'),
@@ -113,7 +120,10 @@ REFUSED = {
 WRONG = (words_of(pattern='frob'), words_of(pattern=None), words_of(packets=None), words_of(bytes=None),
     words_of(seed=None), words_of(packets='0'), words_of(packets='1048577'), words_of(bytes='4095'), words_of(bytes='-1'),
     words_of(seed='18446744073709551616'), words_of(seed='x'), words_of(load='0'), words_of(load='1001'),
-    words_of(pattern='hot-spot'), words_of(target='a'), words_of('SCRIPT'))
+    words_of(pattern='hot-spot'), words_of(target='a'),
+    words_of('--share 5', pattern='hot-spot'), words_of('--share 5', target='a'),
+    words_of('--share 0', pattern='hot-spot', target='a'), words_of('--share 101', pattern='hot-spot', target='a'),
+    words_of('SCRIPT'))
 
 
 def scripts(runner):

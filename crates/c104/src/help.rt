@@ -177,7 +177,8 @@ counted from 0 in the order of the description, terminal t sends to
   transpose    row c and column r of a square, where t is in row r and column c
   reverse      the one whose number has the bits of t in reverse
   neighbour    the next one, and the last to the first
-  hot-spot     the one named by --target
+  hot-spot     the one named by --target, with --share only so many of 100 packets,
+               and the others to any
   all-to-all   each in turn, from the next one on
   complement   terminal T - 1 - t
   shuffle      the one whose number has the bits of t one place up, the highest lowest

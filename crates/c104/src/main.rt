@@ -310,7 +310,7 @@ fn send_file(rt: &HostRuntime, order: Order<'_>, told: &mut Told<'_>) -> Status 
         told.note_wrong_word();
         return Status::Refused;
     };
-    if order.traffic.target.is_some() != (name == PatternName::HotSpot) {
+    if order.traffic.target.is_some() != matches!(name, PatternName::HotSpot(_)) {
         let _ = rt.eprintln(
             "error: a hot-spot wants --target T, its terminal, and no other pattern does",
         );

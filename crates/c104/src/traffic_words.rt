@@ -14,6 +14,7 @@ pub struct TrafficWords<'a> {
     pub pattern: Option<&'a str>,
     /// The name of a hot spot.
     pub target: Option<&'a str>,
+    share: Option<usize>,
     packets: Option<usize>,
     bytes: Option<usize>,
     seed: Option<u64>,
@@ -26,6 +27,7 @@ impl<'a> TrafficWords<'a> {
     pub const NONE: TrafficWords<'static> = TrafficWords {
         pattern: None,
         target: None,
+        share: None,
         packets: None,
         bytes: None,
         seed: None,
@@ -38,6 +40,7 @@ impl<'a> TrafficWords<'a> {
         TrafficWords {
             pattern: given.get_str(PATTERN),
             target: given.get_str(TARGET),
+            share: given.get_one(SHARE),
             packets: given.get_one(PACKETS),
             bytes: given.get_one(BYTES),
             seed: given.get_one(SEED),
@@ -48,7 +51,9 @@ impl<'a> TrafficWords<'a> {
 
     /// The pattern that is asked for. None where there is no pattern of the name.
     pub fn pattern_name(self) -> Option<PatternName> {
-        pattern_of(self.pattern.unwrap_or(""), self.seed.unwrap_or(0))
+        let seed = self.seed.unwrap_or(0);
+        let share = self.share.unwrap_or(ALL_PACKETS);
+        pattern_of(self.pattern.unwrap_or(""), seed, share)
     }
 
     /// How much traffic is asked for, within its limits.
@@ -85,14 +90,14 @@ fn at_least_one(said: Option<usize>) -> Option<usize>
     }
 }
 
-/// The pattern of this name, by this seed if it has one. None where there is no such pattern.
-fn pattern_of(word: &str, seed: u64) -> Option<PatternName> {
+/// The pattern of this name, by this seed or with this share if it has one. None where there is no such pattern.
+fn pattern_of(word: &str, seed: u64, share: usize) -> Option<PatternName> {
     match word {
         "uniform" => Some(PatternName::Uniform),
         "transpose" => Some(PatternName::Transpose),
         "reverse" => Some(PatternName::Reverse),
         "neighbour" => Some(PatternName::Neighbour),
-        "hot-spot" => Some(PatternName::HotSpot),
+        "hot-spot" => Some(PatternName::HotSpot(share)),
         "all-to-all" => Some(PatternName::AllToAll),
         "complement" => Some(PatternName::Complement),
         "shuffle" => Some(PatternName::Shuffle),
@@ -111,6 +116,12 @@ all-to-all, complement, shuffle, tornado or permutation";
 const TARGET: &str = "target";
 
 const TARGET_HELP: &str = "The terminal that is the hot spot";
+
+const SHARE: &str = "share";
+
+const SHARE_HELP: &str = "How many of 100 packets go to the hot spot, 1 to 100, by default all";
+
+const ALL_PACKETS: usize = 100;
 
 const PACKETS: &str = "packets";
 
@@ -132,7 +143,7 @@ const OWN: &str = "own";
 
 const OWN_HELP: &str = "Let terminals send to themselves, too";
 
-/// `--pattern P [--target T] --packets N --bytes B --seed S [--load R] [--own]`.
+/// `--pattern P [--target T [--share C]] --packets N --bytes B --seed S [--load R] [--own]`.
 pub fn with_traffic<'a>(alloc: Global, named: Command<'a>) -> Result<Command<'a>, AllocError> {
     named.args(traffic_arguments(alloc)?)
 }
@@ -146,11 +157,19 @@ fn traffic_arguments<'a>(alloc: Global) -> Result<Vec<Arg<'a>>, AllocError> {
     Ok(arguments)
 }
 
-/// `--pattern P [--target T]`.
+/// `--pattern P [--target T [--share C]]`.
 fn add_pattern<'a>(alloc: Global, arguments: &mut Vec<Arg<'a>>) -> Result<(), AllocError> {
     let pattern = valued(alloc, PATTERN, "P", PATTERN_HELP).required(true);
     add_argument(arguments, Ok(pattern))?;
-    add_argument(arguments, Ok(valued(alloc, TARGET, "T", TARGET_HELP)))
+    add_argument(arguments, Ok(valued(alloc, TARGET, "T", TARGET_HELP)))?;
+    add_argument(arguments, share_option(alloc))
+}
+
+/// `--share C`, of a hot spot alone.
+fn share_option<'a>(alloc: Global) -> Result<Arg<'a>, AllocError> {
+    valued(alloc, SHARE, "C", SHARE_HELP)
+        .value_parser(value_parser!(usize).range(1..=100))
+        .requires_arg(TARGET)
 }
 
 /// `--packets N --bytes B --seed S [--load R]`.

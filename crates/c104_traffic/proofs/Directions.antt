@@ -4,12 +4,21 @@ use Rattle.{c104_plan.specs.Plans.{IsPlan, IsRange, Plan}, c104_switch.specs.Hea
 use Rattle.c104_traffic.proofs.{Permutations.{permuted_inside, pick_few, shuffled_inside}, Senders.sender_inside, Squares.reversed_below}
 use Rattle.c104_traffic.{proofs.Squares.transposed_inside, specs.{Directions.AreDirected, Packets.{Traffic, byte_at, first_label}}}
 use Rattle.c104_traffic.specs.{Packets.{packet_of, packet_word, sender_at, target_at}, Patterns.{IsPatternFor, Pattern}}
-use Rattle.c104_traffic.specs.{Schedules.{AreLabelled, HaveRanges}, Targets.{behind, choices, is_sender, pick, senders_of, target_of}}
-use Rattle.std.proofs.Common.{Bool, IfSome, Some, ap, arith, cond, false, get_or, inl, inr, length, map, nat_lt, refl, slice_get, subst}
-use Rattle.std.proofs.Common.{suc, sym, take, true, zero, ℕ, ◌%◌, ◌*◌, ◌+◌, ◌-◌, ◌/◌, ◌<◌, ◌∙◌, ◌≡◌, ◌≢◌, ◌≤◌, ◌⊎◌}
-use Rattle.std.proofs.lemmas.{Bool.{Decides.nat_tests, cases_lt}, List.{Elements.filter_passes, FromFn.length-map-range_with_len}}
-use Rattle.std.{proofs.lemmas.{Nat.mod_below, Option.{slice_get-get_or, unwrap_or-slice_get}}, specs.List.range_with_len}
-use Rattle.std.specs.Option.{option_map_or}
+use Rattle.c104_traffic.specs.{Schedules.{AreLabelled, HaveRanges}, Targets.{behind, choices, is_sender, pick, senders_of, shared}}
+use Rattle.{c104_traffic.specs.Targets.target_of, std.proofs.Common.{Bool, IfSome, Some, ap, arith, cond, false, get_or, inl, inr, length}}
+use Rattle.std.proofs.Common.{map, nat_lt, refl, slice_get, subst, suc, sym, take, true, zero, ℕ, ◌%◌, ◌*◌, ◌+◌, ◌-◌, ◌/◌, ◌<◌, ◌∙◌, ◌≡◌}
+use Rattle.std.proofs.{Common.{◌≢◌, ◌≤◌, ◌⊎◌}, lemmas.{Bool.{Decides.nat_tests, cases_lt}, List.Elements.filter_passes}}
+use Rattle.std.proofs.lemmas.{List.FromFn.length-map-range_with_len, Nat.mod_below, Option.{slice_get-get_or, unwrap_or-slice_get}}
+use Rattle.std.specs.{List.range_with_len, Option.option_map_or}
+
+shared_inside : (share word spot any count : ℕ) → spot < count → any < count → shared share word spot any < count
+shared_inside share word spot any count first second = grind (arith, nat_tests)
+
+shared_none : (word spot any : ℕ) → shared 0 word spot any ≡ any
+shared_none word spot any = grind (arith, nat_tests)
+
+shared_first : (share spot any : ℕ) → shared (suc share) 0 spot any ≡ spot
+shared_first share spot any = grind (arith, nat_tests)
 
 -- every target is one of the terminals
 pub target_inside : (p : Pattern) (own : Bool) (count s turn word : ℕ) → IsPatternFor count p → s < count → target_of p own count s turn word < count
@@ -17,7 +26,9 @@ target_inside Pattern.Uniform own count s turn word fits inside = mod_below (s +
 target_inside (Pattern.Transpose side) own count s turn word fits inside = subst (λ n. target_of (Pattern.Transpose side) own count s turn word < n) fits (transposed_inside side s (omega (arith, inside, fits)))
 target_inside (Pattern.Reverse bits) own count s turn word fits inside = omega (arith, reversed_below bits 0 s, fits)
 target_inside Pattern.Neighbour own count s turn word fits inside = mod_below (s + 1 + 0) count (omega arith)
-target_inside (Pattern.HotSpot t) own count s turn word fits inside = fits
+target_inside (Pattern.HotSpot t share) own count s turn word fits inside =
+    shared_inside share word t (behind count s (pick (choices own count) (word / 100))) count fits
+    (mod_below (s + 1 + pick (choices own count) (word / 100)) count (omega arith))
 target_inside Pattern.AllToAll own count s turn word fits inside = mod_below (s + 1 + pick (choices own count) turn) count (omega arith)
 target_inside Pattern.Complement own count s turn word fits inside = omega (arith, inside)
 target_inside (Pattern.Shuffle bits) own count s turn word fits inside = shuffled_inside count s inside
@@ -45,17 +56,37 @@ ring_apart count s number inside first = by_count (cases_lt 1 count)
         let none : count - 1 ≡ 0 = omega arith in
         subst (λ n. behind count s (pick n number) ≢ s) (sym none) (subst (λ n. behind count s (pick n 0) ≢ s) none first)
 
-target_apart : (p : Pattern) (count s turn word : ℕ) → s < count → target_of p false count s 0 0 ≢ s → target_of p false count s turn word ≢ s
-target_apart Pattern.Uniform count s turn word inside first = ring_apart count s word inside first
-target_apart (Pattern.Transpose side) count s turn word inside first = first
-target_apart (Pattern.Reverse bits) count s turn word inside first = first
-target_apart Pattern.Neighbour count s turn word inside first = first
-target_apart (Pattern.HotSpot t) count s turn word inside first = first
-target_apart Pattern.AllToAll count s turn word inside first = ring_apart count s turn inside first
-target_apart Pattern.Complement count s turn word inside first = first
-target_apart (Pattern.Shuffle bits) count s turn word inside first = first
-target_apart Pattern.Tornado count s turn word inside first = first
-target_apart (Pattern.Permutation seed) count s turn word inside first = first
+-- of a spot and any other terminal neither is the sender, where the spot isn't, or no packet goes there
+either_apart : (b : Bool) (spot any s : ℕ) → spot ≢ s → any ≢ s → cond b spot any ≢ s
+either_apart true spot any s first second = first
+either_apart false spot any s first second = second
+
+spot_apart : (share word t count s : ℕ) → t < count → s < count → shared share 0 t (behind count s (pick (count - 1) 0)) ≢ s
+    → shared share word t (behind count s (pick (count - 1) (word / 100))) ≢ s
+spot_apart zero word t count s fits inside first =
+    subst (λ target. target ≢ s) (sym (shared_none word t (behind count s (pick (count - 1) (word / 100))))) (ring_apart count s (word / 100) inside first)
+spot_apart (suc share) word t count s fits inside first = by_count (cases_lt 1 count)
+  where
+    other : t ≢ s
+    other = subst (λ target. target ≢ s) (shared_first share t (behind count s (pick (count - 1) 0))) first
+
+    by_count : (1 < count) ⊎ (count ≤ 1) → shared (suc share) word t (behind count s (pick (count - 1) (word / 100))) ≢ s
+    by_count (inl many) =
+        either_apart (nat_lt (word % 100) (suc share)) t (behind count s (pick (count - 1) (word / 100))) s other
+        (behind_apart count s (pick (count - 1) (word / 100)) inside (omega (arith, pick_few (count - 1) (word / 100) (omega arith))))
+    by_count (inr one) = absurd (other (omega (arith, fits, inside)))
+
+target_apart : (p : Pattern) (count s turn word : ℕ) → IsPatternFor count p → s < count → target_of p false count s 0 0 ≢ s → target_of p false count s turn word ≢ s
+target_apart Pattern.Uniform count s turn word fits inside first = ring_apart count s word inside first
+target_apart (Pattern.Transpose side) count s turn word fits inside first = first
+target_apart (Pattern.Reverse bits) count s turn word fits inside first = first
+target_apart Pattern.Neighbour count s turn word fits inside first = first
+target_apart (Pattern.HotSpot t share) count s turn word fits inside first = spot_apart share word t count s fits inside first
+target_apart Pattern.AllToAll count s turn word fits inside first = ring_apart count s turn inside first
+target_apart Pattern.Complement count s turn word fits inside first = first
+target_apart (Pattern.Shuffle bits) count s turn word fits inside first = first
+target_apart Pattern.Tornado count s turn word fits inside first = first
+target_apart (Pattern.Permutation seed) count s turn word fits inside first = first
 
 -- who sends passes the test of those that do
 sender_passes : (p : Pattern) (own : Bool) (count number : ℕ) → 0 < length (senders_of p own count) → is_sender p own count (sender_at (senders_of p own count) number) ≡ true
@@ -114,5 +145,5 @@ are_directed plan image p traffic kept fits some labels ranges for_plan number i
   where
     by_own : (own : Bool) → own ≡ false → target_of p own (length plan.terminals) (sender_at (senders_of p traffic.own (length plan.terminals)) number) 0 0 ≢ sender_at (senders_of p traffic.own (length plan.terminals)) number → sender_at (senders_of p traffic.own (length plan.terminals)) number < length plan.terminals
         → target_of p own (length plan.terminals) (sender_at (senders_of p traffic.own (length plan.terminals)) number) (number / length (senders_of p traffic.own (length plan.terminals))) (packet_word traffic.seed number) ≢ sender_at (senders_of p traffic.own (length plan.terminals)) number
-    by_own false other first from = target_apart p (length plan.terminals) _ _ _ from first
+    by_own false other first from = target_apart p (length plan.terminals) _ _ _ fits from first
     by_own true other first from = cc

@@ -12,7 +12,7 @@ name_of pattern.Uniform = PatternName.Uniform
 name_of (pattern.Transpose side) = PatternName.Transpose
 name_of (pattern.Reverse bits) = PatternName.Reverse
 name_of pattern.Neighbour = PatternName.Neighbour
-name_of (pattern.HotSpot t) = PatternName.HotSpot
+name_of (pattern.HotSpot t share) = PatternName.HotSpot share
 name_of pattern.AllToAll = PatternName.AllToAll
 name_of pattern.Complement = PatternName.Complement
 name_of (pattern.Shuffle bits) = PatternName.Shuffle
@@ -26,7 +26,7 @@ IsPatternFor count pattern.Uniform = ⊤
 IsPatternFor count (pattern.Transpose side) = side * side ≡ count
 IsPatternFor count (pattern.Reverse bits) = 2 ^ bits ≡ count
 IsPatternFor count pattern.Neighbour = ⊤
-IsPatternFor count (pattern.HotSpot t) = t < count
+IsPatternFor count (pattern.HotSpot t share) = t < count
 IsPatternFor count pattern.AllToAll = ⊤
 IsPatternFor count pattern.Complement = ⊤
 IsPatternFor count (pattern.Shuffle bits) = 2 ^ bits ≡ count
@@ -39,7 +39,7 @@ IsAtTarget plan target pattern.Uniform = ⊤
 IsAtTarget plan target (pattern.Transpose side) = ⊤
 IsAtTarget plan target (pattern.Reverse bits) = ⊤
 IsAtTarget plan target pattern.Neighbour = ⊤
-IsAtTarget plan target (pattern.HotSpot t) = terminal_number plan target ≡ Some t
+IsAtTarget plan target (pattern.HotSpot t share) = terminal_number plan target ≡ Some t
 IsAtTarget plan target pattern.AllToAll = ⊤
 IsAtTarget plan target pattern.Complement = ⊤
 IsAtTarget plan target (pattern.Shuffle bits) = ⊤
@@ -52,11 +52,24 @@ pub record IsPatternOf (plan : Plan) (name : PatternName) (target : List ℕ) (p
   pub fits : IsPatternFor (length plan.terminals) pattern
   pub spot : IsAtTarget plan target pattern
 
+-- a name is that of a hot spot
+abbrev pub NamesSpot : PatternName → Type 0
+NamesSpot PatternName.Uniform = ⊥
+NamesSpot PatternName.Transpose = ⊥
+NamesSpot PatternName.Reverse = ⊥
+NamesSpot PatternName.Neighbour = ⊥
+NamesSpot (PatternName.HotSpot share) = ⊤
+NamesSpot PatternName.AllToAll = ⊥
+NamesSpot PatternName.Complement = ⊥
+NamesSpot PatternName.Shuffle = ⊥
+NamesSpot PatternName.Tornado = ⊥
+NamesSpot (PatternName.Permutation seed) = ⊥
+
 -- a network can't have the pattern of this name
 abbrev pub IsNoPattern : Plan → PatternName → List ℕ → TrafficFault → Type 0
 IsNoPattern plan name target TrafficFault.NotSquare = (name ≡ PatternName.Transpose) × ((side : ℕ) → side * side ≢ length plan.terminals)
 IsNoPattern plan name target TrafficFault.NotPowerOfTwo = ((name ≡ PatternName.Reverse) ⊎ (name ≡ PatternName.Shuffle)) × ((bits : ℕ) → 2 ^ bits ≢ length plan.terminals)
-IsNoPattern plan name target TrafficFault.NoTerminal = (name ≡ PatternName.HotSpot) × (terminal_number plan target ≡ None)
+IsNoPattern plan name target TrafficFault.NoTerminal = NamesSpot name × (terminal_number plan target ≡ None)
 IsNoPattern plan name target TrafficFault.NoTarget = ⊥
 IsNoPattern plan name target (TrafficFault.NoLabel t) = ⊥
 IsNoPattern plan name target TrafficFault.NoMemory = ⊥

@@ -2,8 +2,8 @@
 --     target_of pattern own count s turn word      the target of terminal s
 --     senders_of pattern own count      the terminals that send
 use Rattle.c104_traffic.specs.{Patterns.Pattern, Words.packet_word}
-use Rattle.std.specs.{List.range_with_len, Prelude.{Bool, List, filter, if◌then◌else◌, not, suc, zero, ℕ, ◌%◌, ◌*◌, ◌+◌, ◌-◌, ◌/◌, ◌==◌}}
-use Rattle.std.specs.Prelude.{◌||◌}
+use Rattle.std.specs.{List.range_with_len, Prelude.{Bool, List, filter, if◌then◌else◌, nat_lt, not, suc, zero, ℕ, ◌%◌, ◌*◌, ◌+◌, ◌-◌, ◌/◌}}
+use Rattle.std.specs.Prelude.{◌==◌, ◌||◌}
 
 -- how many of the terminals a packet may go to: its sender is among them if that is asked for
 abbrev pub choices : Bool → ℕ → ℕ
@@ -16,6 +16,10 @@ pick choices number = if choices == 0 then 0 else number % choices
 -- the terminal a number of places behind the one that follows s, in a ring
 abbrev pub behind : ℕ → ℕ → ℕ → ℕ
 behind count s places = (s + 1 + places) % count
+
+-- a hot spot, for this share of all words in percent, and else any terminal
+abbrev pub shared : ℕ → ℕ → ℕ → ℕ → ℕ
+shared share word spot any = if nat_lt (word % 100) share then spot else any
 
 -- the place in a square of this side, counted row by row, whose row is the column of s, and whose column is its row
 abbrev pub transposed : ℕ → ℕ → ℕ
@@ -48,7 +52,7 @@ target_of Pattern.Uniform own count s turn word = behind count s (pick (choices 
 target_of (Pattern.Transpose side) own count s turn word = transposed side s
 target_of (Pattern.Reverse bits) own count s turn word = reversed_onto 0 bits s
 target_of Pattern.Neighbour own count s turn word = behind count s 0
-target_of (Pattern.HotSpot t) own count s turn word = t
+target_of (Pattern.HotSpot t share) own count s turn word = shared share word t (behind count s (pick (choices own count) (word / 100)))
 target_of Pattern.AllToAll own count s turn word = behind count s (pick (choices own count) turn)
 target_of Pattern.Complement own count s turn word = count - 1 - s
 target_of (Pattern.Shuffle bits) own count s turn word = shuffled count s

@@ -30,8 +30,8 @@ pub(crate) fn find_pattern(
             None => Err(TrafficFault::NotPowerOfTwo),
         },
         PatternName::Neighbour => Ok(Pattern::Neighbour),
-        PatternName::HotSpot => match plan.terminal_number(target) {
-            Some(terminal) => Ok(Pattern::HotSpot(terminal)),
+        PatternName::HotSpot(share) => match plan.terminal_number(target) {
+            Some(terminal) => Ok(Pattern::HotSpot(terminal, share)),
             None => Err(TrafficFault::NoTerminal),
         },
         PatternName::AllToAll => Ok(Pattern::AllToAll),

@@ -13,8 +13,8 @@ pub enum PatternName {
     Reverse,
     /// To the next terminal, and from the last to the first.
     Neighbour,
-    /// To one terminal.
-    HotSpot,
+    /// To one terminal this share of all packets, in percent, and the others to any.
+    HotSpot(usize),
     /// To all terminals in turn, from the next one on.
     AllToAll,
     /// To the terminal that is as far from the last one as the sender is from the first.
@@ -38,8 +38,8 @@ pub enum Pattern {
     Reverse(usize),
     /// To the next terminal, and from the last to the first.
     Neighbour,
-    /// To this terminal.
-    HotSpot(usize),
+    /// To this terminal this share of all packets, in percent, and the others to any, picked anew for each.
+    HotSpot(usize, usize),
     /// To all terminals in turn, from the next one on.
     AllToAll,
     /// To the terminal that is as far from the last one as the sender is from the first.

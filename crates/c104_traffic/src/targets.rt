@@ -5,7 +5,7 @@
 //! label, so a network in which one has none that is a header has no traffic.
 ghost use Rattle.std.specs.Prelude.{ℕ, ◌*◌, ◌-◌, ◌<◌, ◌^◌, ◌≡◌, ◌≤◌};
 ghost use Rattle.c104_traffic.specs.{Patterns.IsPatternFor, Targets.{behind, choices, exchanged, is_sender, permuted, pick, reversed_onto}};
-ghost use Rattle.c104_traffic.specs.Targets.{shuffled, target_of, transposed};
+ghost use Rattle.c104_traffic.specs.Targets.{shared, shuffled, target_of, transposed};
 
 use crate::patterns::Pattern;
 use rand_core::SeedableRng;
@@ -32,7 +32,10 @@ pub(crate) fn target_of(
         Pattern::Transpose(side) => transposed(side, sender),
         Pattern::Reverse(bits) => reversed(bits, sender),
         Pattern::Neighbour => behind(count, sender, 0),
-        Pattern::HotSpot(terminal) => terminal,
+        Pattern::HotSpot(terminal, share) => {
+            let any = behind(count, sender, pick(choices(own, count), word / 100));
+            shared(share, word, terminal, any)
+        }
         Pattern::AllToAll => behind(count, sender, pick(choices(own, count), turn as u64)),
         Pattern::Complement => count - 1 - sender,
         Pattern::Shuffle(_) => shuffled(count, sender),
@@ -78,6 +81,13 @@ fn behind(count: usize, sender: usize, places: usize) -> usize
     ensures { result ≡ behind count sender places }
 {
     (sender + 1 + places) % count
+}
+
+/// The spot, for words whose last two decimal digits are below its share in percent, and for others the other terminal.
+fn shared(share: usize, word: u64, spot: usize, any: usize) -> usize
+    ensures { result ≡ shared share word spot any }
+{
+    if word % 100 < share as u64 { spot } else { any }
 }
 
 /// The place in a square, counted row by row, whose row and column are the column and the row of this one.
