@@ -6,6 +6,8 @@ from case_runner import FIRST_TEXT, difference
 
 SENT = ('traffic', '-', '--packets', '1', '--bytes', '1', '--seed', '1', '--pattern')
 COUNT_WORDS = b'error: the formats are table, csv and json, and the tables packets, links and rounds\n'
+LOAD = b'error: --load is a number from 0.001 to 1000, of at most three digits behind its point\n'
+TOKENS = b'error: --tokens is a number from 0.000001 to 1, of at most six digits behind its point\n'
 HOT_SPOT = b'error: a hot-spot wants --target T, its terminal, and no other pattern does\n'
 
 # Words whose fault the program itself tells, and what it tells; nothing is read then.
@@ -18,6 +20,9 @@ TOLD = [
         b'all-to-all, complement, shuffle, tornado and permutation: frob\n'),
     ((*SENT, 'hot-spot'), HOT_SPOT),
     ((*SENT, 'uniform', '--target', 'a'), HOT_SPOT),
+    ((*SENT, 'uniform', '--load', '0.0005'), LOAD),
+    ((*SENT, 'uniform', '--load', '1001'), LOAD),
+    ((*SENT, 'uniform', '--tokens', '0.0000005'), TOKENS),
     ((b'\xff',), b"error: a word isn't UTF-8\n\nFor more information, try '--help'.\n"),
 ]
 

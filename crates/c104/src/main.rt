@@ -46,6 +46,7 @@ use std::thread::Threads;
 use std::{env, io};
 use subcommands::Subcommand;
 use told::{Told, tell_of_words};
+use traffic_words::TrafficWords;
 use typed::Typed;
 
 /// The exit status of a wrong command line.
@@ -302,21 +303,20 @@ fn draw_file(rt: &HostRuntime, order: Order<'_>, told: &mut Told<'_>) -> Status 
     )
 }
 
-/// Prints a script of traffic for the network of a description's file. A pattern that there isn't is a wrong word, and so
-/// is a hot spot without its terminal, or a terminal without a hot spot.
+/// Prints a script of traffic for the network of a description's file. A pattern or a load that there isn't is a wrong word.
 fn send_file(rt: &HostRuntime, order: Order<'_>, told: &mut Told<'_>) -> Status {
-    let Some(name) = order.traffic.pattern_name() else {
-        refuse_pattern(rt, order.traffic.pattern.unwrap_or(""));
+    let Some(name) = asked_pattern(rt, order.traffic) else {
         told.note_wrong_word();
         return Status::Refused;
     };
-    if order.traffic.target.is_some() != matches!(name, PatternName::HotSpot(_)) {
-        let _ = rt.eprintln(
-            "error: a hot-spot wants --target T, its terminal, and no other pattern does",
-        );
-        told.note_wrong_word();
-        return Status::Refused;
-    }
+    let traffic = match order.traffic.amount() {
+        Ok(traffic) => traffic,
+        Err(why) => {
+            let _ = eprintln!(rt; "error: {why}");
+            told.note_wrong_word();
+            return Status::Refused;
+        }
+    };
     let Some(mut description) = open_path(rt, order.description, told) else {
         return Status::CannotRead(0);
     };
@@ -324,13 +324,29 @@ fn send_file(rt: &HostRuntime, order: Order<'_>, told: &mut Told<'_>) -> Status 
         rt.alloc(),
         name,
         order.traffic.target.unwrap_or(""),
-        order.traffic.amount(),
+        traffic,
         &mut description,
         &mut io::writer(rt),
         told,
     );
     told.note_fault(description.fault());
     status
+}
+
+/// The pattern that is asked for. A pattern that there isn't is a wrong word, which is told, and so is a hot spot without its
+/// terminal, or a terminal without a hot spot.
+fn asked_pattern(rt: &HostRuntime, words: TrafficWords<'_>) -> Option<PatternName> {
+    let Some(name) = words.pattern_name() else {
+        refuse_pattern(rt, words.pattern.unwrap_or(""));
+        return None;
+    };
+    if words.target.is_some() != matches!(name, PatternName::HotSpot(_)) {
+        let _ = rt.eprintln(
+            "error: a hot-spot wants --target T, its terminal, and no other pattern does",
+        );
+        return None;
+    }
+    Some(name)
 }
 
 /// Tells that there is no pattern of this name, and which there are.

@@ -1,9 +1,9 @@
 //! What the command line says of traffic.
-ghost use Rattle.std.specs.Prelude.{◌≤◌, ◌<◌, IfSome};
-ghost use Rattle.c104_traffic.specs.Packets.{IsTraffic};
+ghost use Rattle.std.specs.Prelude.{IfOk, IfSome, ◌<◌, ◌≤◌};
+ghost use Rattle.c104_traffic.specs.Packets.{IsTraffic, amount_of};
 
 use crate::command_line::{add_argument, flag, valued};
-use c104_traffic::{MAX_DATA, MAX_PACKETS, PatternName, Traffic};
+use c104_traffic::{Load, MAX_DATA, MAX_PACKETS, PatternName, Traffic};
 use clap::{Arg, ArgMatches, Command, value_parser};
 use std::alloc::{AllocError, Global};
 
@@ -18,7 +18,8 @@ pub struct TrafficWords<'a> {
     packets: Option<usize>,
     bytes: Option<usize>,
     seed: Option<u64>,
-    load: Option<usize>,
+    load: Option<&'a str>,
+    tokens: Option<&'a str>,
     own: bool,
 }
 
@@ -32,6 +33,7 @@ impl<'a> TrafficWords<'a> {
         bytes: None,
         seed: None,
         load: None,
+        tokens: None,
         own: false,
     };
 
@@ -44,7 +46,8 @@ impl<'a> TrafficWords<'a> {
             packets: given.get_one(PACKETS),
             bytes: given.get_one(BYTES),
             seed: given.get_one(SEED),
-            load: given.get_one(LOAD),
+            load: given.get_str(LOAD),
+            tokens: given.get_str(TOKENS),
             own: given.get_flag(OWN),
         }
     }
@@ -56,18 +59,58 @@ impl<'a> TrafficWords<'a> {
         pattern_of(self.pattern.unwrap_or(""), seed, share)
     }
 
-    /// How much traffic is asked for, within its limits.
-    pub fn amount(self) -> Traffic
-        ensures { IsTraffic result }
+    /// How much traffic is asked for, within its limits. The error says which loads there are, where the load is none.
+    pub fn amount(self) -> Result<Traffic, &'static str>
+        ensures { IfOk result (λ traffic. IsTraffic traffic) }
     {
-        Traffic {
+        let load = self.asked_load()?;
+        Ok(Traffic {
             packets: at_most(self.packets, MAX_PACKETS),
             bytes: at_most(self.bytes, MAX_DATA),
             seed: self.seed.unwrap_or(0),
-            load: at_least_one(self.load),
+            load,
             own: self.own,
-        }
+        })
     }
+
+    /// How often each terminal that sends does send, if that is said. The error says how it can be.
+    fn asked_load(self) -> Result<Option<Load>, &'static str>
+        ensures { IfOk result (λ load. IfSome load (λ load. 0 < amount_of load)) }
+    {
+        if let Some(word) = self.tokens {
+            let amount = scaled(word, 6).ok_or(TOKENS_RANGE)?;
+            return Ok(Some(Load::Tokens(amount)));
+        }
+        if let Some(word) = self.load {
+            let amount = scaled(word, 3).ok_or(LOAD_RANGE)?;
+            return Ok(Some(Load::Packets(amount)));
+        }
+        Ok(None)
+    }
+}
+
+/// A number above 0 with at most so many digits behind its point, as many times one of the last of them: with three, 0.5 is
+/// 500. None where it is none, or comes to more than 1,000,000 of them.
+fn scaled(word: &str, places: usize) -> Option<usize>
+    ensures { IfSome result (λ amount. 0 < amount) }
+{
+    let (whole, part) = word.split_once('.').unwrap_or((word, "0"));
+    let digits = part.as_bytes();
+    if digits.is_empty() || digits.len() > places {
+        return None;
+    }
+    let mut amount: usize = whole.parse().ok()?;
+    for place in 0..places {
+        let digit = digits.get(place).copied().unwrap_or(b'0');
+        if !digit.is_ascii_digit() || amount > 1_000_000 {
+            return None;
+        }
+        amount = 10 * amount + usize::from(digit - b'0');
+    }
+    if amount == 0 || amount > 1_000_000 {
+        return None;
+    }
+    Some(amount)
 }
 
 /// A number that is said, up to a limit.
@@ -77,16 +120,6 @@ fn at_most(said: Option<usize>, limit: usize) -> usize
     match said {
         Some(number) if number <= limit => number,
         _ => limit,
-    }
-}
-
-/// A number that is said, if it isn't 0.
-fn at_least_one(said: Option<usize>) -> Option<usize>
-    ensures { IfSome result (λ number. 0 < number) }
-{
-    match said {
-        Some(number) if number > 0 => Some(number),
-        _ => None,
     }
 }
 
@@ -137,13 +170,23 @@ const SEED_HELP: &str = "Where the generator begins, 0 to 18446744073709551615";
 
 const LOAD: &str = "load";
 
-const LOAD_HELP: &str = "How many packets a terminal sends in 1,000 rounds, 1 to 1000";
+const LOAD_HELP: &str = "How many packets a terminal sends in 1,000 rounds, 0.001 to 1000";
+
+const LOAD_RANGE: &str =
+    "--load is a number from 0.001 to 1000, of at most three digits behind its point";
+
+const TOKENS: &str = "tokens";
+
+const TOKENS_HELP: &str = "The load, as how many tokens a terminal sends in a round, 0.000001 to 1";
+
+const TOKENS_RANGE: &str =
+    "--tokens is a number from 0.000001 to 1, of at most six digits behind its point";
 
 const OWN: &str = "own";
 
 const OWN_HELP: &str = "Let terminals send to themselves, too";
 
-/// `--pattern P [--target T [--share C]] --packets N --bytes B --seed S [--load R] [--own]`.
+/// `--pattern P [--target T [--share C]] --packets N --bytes B --seed S [--load R | --tokens L] [--own]`.
 pub fn with_traffic<'a>(alloc: Global, named: Command<'a>) -> Result<Command<'a>, AllocError> {
     named.args(traffic_arguments(alloc)?)
 }
@@ -172,12 +215,13 @@ fn share_option<'a>(alloc: Global) -> Result<Arg<'a>, AllocError> {
         .requires_arg(TARGET)
 }
 
-/// `--packets N --bytes B --seed S [--load R]`.
+/// `--packets N --bytes B --seed S [--load R | --tokens L]`.
 fn add_numbers<'a>(alloc: Global, arguments: &mut Vec<Arg<'a>>) -> Result<(), AllocError> {
     add_argument(arguments, Ok(packets_option(alloc)))?;
     add_argument(arguments, Ok(bytes_option(alloc)))?;
     add_argument(arguments, Ok(seed_option(alloc)))?;
-    add_argument(arguments, Ok(load_option(alloc)))
+    add_argument(arguments, Ok(valued(alloc, LOAD, "R", LOAD_HELP)))?;
+    add_argument(arguments, tokens_option(alloc))
 }
 
 /// `--packets N`.
@@ -201,7 +245,7 @@ fn seed_option<'a>(alloc: Global) -> Arg<'a> {
         .required(true)
 }
 
-/// `--load R`.
-fn load_option<'a>(alloc: Global) -> Arg<'a> {
-    valued(alloc, LOAD, "R", LOAD_HELP).value_parser(value_parser!(usize).range(1..=1_000))
+/// `--tokens L`.
+fn tokens_option<'a>(alloc: Global) -> Result<Arg<'a>, AllocError> {
+    valued(alloc, TOKENS, "L", TOKENS_HELP).conflicts_with(LOAD)
 }

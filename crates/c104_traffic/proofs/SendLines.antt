@@ -1,12 +1,12 @@
 -- Lines are written part by part.
 use Rattle.{c104_plan.specs.{Plans.Plan, PortTexts.terminal_name}, c104_token.specs.{Text.mark_word, declared.tokens.Mark.Mark}}
-use Rattle.c104_traffic.{proofs.Numbered.flat_map_map, specs.{Packets.{byte_at, packet_of}, Texts.{hex_word, rounds_text, send_text}}}
+use Rattle.c104_traffic.{proofs.Numbered.flat_map_map, specs.{Packets.{byte_at, packet_of}, Texts.{hex_word, rest_text, send_text}}}
 use Rattle.std.proofs.{Common.{List, [], ap, codes, flat_map, if◌then◌else◌, map, sym, ℕ, ◌++◌, ◌+◌, ◌∙◌, ◌≡◌, ◌≢◌}, lemmas.Bool.ne_eqb}
 use Rattle.std.specs.{Fmt.decimal, List.range_with_len}
 use mathlib.Core.List.{append_assoc}
 
 -- the line of some rounds
-pub rounds_are : (count : ℕ) (digits : List ℕ) → count ≢ 0 → digits ≡ decimal count → codes "rounds " ++ (digits ++ codes "\n") ≡ rounds_text count
+pub rounds_are : (count : ℕ) (digits : List ℕ) → count ≢ 0 → digits ≡ decimal count → codes "rounds " ++ (digits ++ codes "\n") ≡ rest_text count
 rounds_are count digits some is =
     ap (λ (ds : List ℕ). codes "rounds " ++ (ds ++ codes "\n")) is
     ∙ ap (λ b. if b then [] else codes "rounds " ++ (decimal count ++ codes "\n")) (sym (ne_eqb count 0 some))

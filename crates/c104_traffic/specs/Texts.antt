@@ -2,7 +2,7 @@
 --     traffic_text plan image pattern traffic      the whole of it
 use Rattle.{c104_plan.specs.{PlanImage.Image, Plans.Plan, PortTexts.terminal_name}, c104_token.specs.Text.{hex_digit, packet_text}}
 use Rattle.{c104_token.specs.declared.packets.Packet.Packet, c104_traffic.specs.Packets.{Sent, Traffic, packet_of, sent_at}}
-use Rattle.c104_traffic.specs.{Patterns.Pattern, Targets.senders_of}
+use Rattle.c104_traffic.specs.{Patterns.Pattern, Targets.senders_of, declared.amounts.TheConstants.MAX_ROUNDS}
 use Rattle.std.specs.{Fmt.decimal, List.range_with_len, Prelude.{List, [], codes, flat_map, if◌then◌else◌, length, ℕ, ◌%◌, ◌++◌, ◌/◌, ◌==◌}}
 use Rattle.std.specs.Prelude.{◌∷◌}
 
@@ -11,8 +11,12 @@ abbrev pub hex_word : ℕ → List ℕ
 hex_word byte = hex_digit (byte / 16) ∷ hex_digit (byte % 16) ∷ 0x20 ∷ []
 
 -- the line of rounds, where there are some
+abbrev pub rest_text : ℕ → List ℕ
+rest_text count = if count == 0 then [] else codes "rounds " ++ (decimal count ++ codes "\n")
+
+-- the lines of rounds: of 10,000 as long as there are so many, and of the rest
 abbrev pub rounds_text : ℕ → List ℕ
-rounds_text count = if count == 0 then [] else codes "rounds " ++ (decimal count ++ codes "\n")
+rounds_text count = flat_map (λ _. codes "rounds 10000\n") (range_with_len 0 (count / MAX_ROUNDS)) ++ rest_text (count % MAX_ROUNDS)
 
 -- the line of a packet
 abbrev pub send_text : Plan → ℕ → Packet → List ℕ

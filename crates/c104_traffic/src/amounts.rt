@@ -7,6 +7,18 @@ pub const MAX_PACKETS: usize = 1_048_576;
 /// script's packet may have.
 pub const MAX_DATA: usize = 4_094;
 
+/// The most rounds of a line of a script.
+pub const MAX_ROUNDS: usize = 10_000;
+
+/// How often each terminal that sends does send.
+#[derive(Clone, Copy)]
+pub enum Load {
+    /// So many packets in 1,000,000 rounds, at least one.
+    Packets(usize),
+    /// So many tokens in 1,000,000 rounds, at least one: those of a packet are its bytes and its terminator.
+    Tokens(usize),
+}
+
 /// How much traffic there is, and from what it is made.
 #[derive(Clone, Copy)]
 pub struct Traffic {
@@ -16,9 +28,8 @@ pub struct Traffic {
     pub bytes: usize,
     /// The seed of the generator by which targets are picked.
     pub seed: u64,
-    /// How many packets each terminal that sends does send in 1,000 rounds, at least one. Without it no rounds are
-    /// between the packets.
-    pub load: Option<usize>,
+    /// How often each terminal that sends does send. Without it no rounds are between the packets.
+    pub load: Option<Load>,
     /// Whether a terminal may send packets to itself.
     pub own: bool,
 }

@@ -19,7 +19,7 @@ mod schedules;
 mod targets;
 mod writing;
 
-pub use amounts::{MAX_DATA, MAX_PACKETS, Traffic};
+pub use amounts::{Load, MAX_DATA, MAX_PACKETS, Traffic};
 pub use faults::{TrafficFault, traffic_fault_text};
 pub use patterns::{Pattern, PatternName};
 pub use schedules::{Schedule, find_schedule};
@@ -29,3 +29,5 @@ pub use writing::write_traffic;
 const _: () = prove!(amounts::MAX_PACKETS == 1_048_576);
 
 const _: () = prove!(amounts::MAX_DATA == 4_094);
+
+const _: () = prove!(amounts::MAX_ROUNDS == 10_000);

@@ -1,9 +1,10 @@
 //! The packets of traffic: from which terminal each comes, to which it goes, and when it is sent.
+ghost use Rattle.c104_traffic.specs.Packets.{amount_of};
 ghost use Rattle.std.specs.Prelude.{IfSome, length, slice_get, ℕ, ◌<◌, ◌≡◌, ◌≤◌};
 ghost use Rattle.{c104_plan.specs.{Plans.IsRange, PortTexts.terminal_name}, c104_traffic.specs.Packets.{IsTraffic, byte_at, first_label}};
 ghost use Rattle.c104_traffic.specs.{Packets.{packet_word, rounds_before, rounds_by, sender_at, sent_at}, Schedules.IsSchedule};
 
-use crate::amounts::Traffic;
+use crate::amounts::{Load, Traffic};
 use crate::schedules::Schedule;
 use crate::targets::target_of;
 use c104_plan::{Image, Plan};
@@ -11,7 +12,7 @@ use c104_plan::{Image, Plan};
 /// What is sent as a packet.
 #[derive(Clone, Copy)]
 pub(crate) struct Sent {
-    /// How many rounds are done before it, 0 to 1,000.
+    /// How many rounds are done before it.
     pub rounds: usize,
     /// The terminal that sends it.
     pub sender: usize,
@@ -45,7 +46,12 @@ pub(crate) fn sent_at(
         word,
     );
     Sent {
-        rounds: rounds_before(traffic.load, senders.len(), number),
+        rounds: rounds_before(
+            traffic.load,
+            plan.header() + traffic.bytes + 1,
+            senders.len(),
+            number,
+        ),
         sender,
         label: first_label(image, target),
     }
@@ -59,26 +65,29 @@ fn sender_at(senders: &[usize], number: usize) -> usize
     senders.get(number % senders.len()).copied().unwrap_or(0)
 }
 
-/// How many rounds are done since the packet before.
-fn rounds_before(load: Option<usize>, senders: usize, number: usize) -> usize
-    requires load { IfSome load (λ load. 0 < load) }
+/// How many rounds are done since the packet before, of packets of so many tokens.
+fn rounds_before(load: Option<Load>, tokens: usize, senders: usize, number: usize) -> usize
+    requires load { IfSome load (λ load. 0 < amount_of load) }
+    requires tokens { tokens ≤ 4097 }
     requires senders { 0 < senders }
     requires number { number ≤ 1048576 }
-    ensures { result ≡ rounds_before load senders number }
+    ensures { result ≡ rounds_before load tokens senders number }
 {
-    let before = rounds_by(load, senders, number.saturating_sub(1));
-    rounds_by(load, senders, number).saturating_sub(before)
+    let before = rounds_by(load, tokens, senders, number.saturating_sub(1));
+    rounds_by(load, tokens, senders, number).saturating_sub(before)
 }
 
 /// How many rounds are done in all before a packet is sent.
-fn rounds_by(load: Option<usize>, senders: usize, number: usize) -> usize
-    requires load { IfSome load (λ load. 0 < load) }
+fn rounds_by(load: Option<Load>, tokens: usize, senders: usize, number: usize) -> usize
+    requires load { IfSome load (λ load. 0 < amount_of load) }
+    requires tokens { tokens ≤ 4097 }
     requires senders { 0 < senders }
     requires number { number ≤ 1048576 }
-    ensures { result ≡ rounds_by load senders number }
+    ensures { result ≡ rounds_by load tokens senders number }
 {
     match load {
-        Some(load) => number * 1000 / load / senders,
+        Some(Load::Packets(amount)) => number * 1_000_000 / amount / senders,
+        Some(Load::Tokens(amount)) => number * tokens * 1_000_000 / amount / senders,
         None => 0,
     }
 }

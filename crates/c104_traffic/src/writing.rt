@@ -2,12 +2,13 @@
 //!
 //! The bytes of a packet count on from its number, and aren't picked: who reads what arrived sees which packet it was,
 //! and where a token is in it. Each packet takes one word of the generator, whatever the pattern.
+ghost use Rattle.{c104_traffic.specs.Texts.{rest_text}, std.specs.Prelude.codes};
 ghost use Rattle.std.specs.{Io.KnownBytes.Appends, List.range_with_len, Prelude.{MatchResult, OnErr, OnOk, flat_map, ◌++◌, ◌+◌, ◌≡◌, ◌≤◌}};
 ghost use Rattle.{c104_plan.specs.PlanImage.Fits, c104_stream.specs.Writing.{AppendsAndKeeps, AppendsPrefix}};
 ghost use Rattle.c104_traffic.specs.{Directions.AreDirected, Packets.{IsTraffic, byte_at, packet_of}, Schedules.IsSchedule, Texts.hex_word};
 ghost use Rattle.c104_traffic.specs.{Texts.{rounds_text, send_text, sent_text, traffic_text}, Writing.StopsWriting};
 
-use crate::amounts::Traffic;
+use crate::amounts::{MAX_ROUNDS, Traffic};
 use crate::packets::{Sent, byte_at, sent_at, terminal_name};
 use crate::schedules::Schedule;
 use c104_plan::{Image, Plan};
@@ -118,12 +119,37 @@ fn write_sent<W: Write>(
     Ok(())
 }
 
-/// The line of rounds joins what is kept, if there are some.
+/// The lines of rounds join what is kept, if there are some.
 fn write_rounds<W: Write>(count: usize, kept: &mut Kept, writer: &mut W) -> Result<(), CannotWrite>
     ensures kept { OnOk result (AppendsAndKeeps (W.contents writer.old) (W.contents writer.new) kept.new
         (kept.old ++ rounds_text count)) }
     ensures prefix { OnErr result (AppendsPrefix (W.contents writer.old) (W.contents writer.new)
         (kept.old ++ rounds_text count)) }
+{
+    write_full(count / MAX_ROUNDS, kept, writer)?;
+    write_rest(count % MAX_ROUNDS, kept, writer)?;
+    Ok(())
+}
+
+/// So many lines of the most rounds join what is kept.
+fn write_full<W: Write>(lines: usize, kept: &mut Kept, writer: &mut W) -> Result<(), CannotWrite>
+    ensures kept { OnOk result (AppendsAndKeeps (W.contents writer.old) (W.contents writer.new) kept.new
+        (kept.old ++ flat_map (λ _. codes "rounds 10000\n") (range_with_len 0 lines))) }
+    ensures prefix { OnErr result (AppendsPrefix (W.contents writer.old) (W.contents writer.new)
+        (kept.old ++ flat_map (λ _. codes "rounds 10000\n") (range_with_len 0 lines))) }
+{
+    for _line in 0..lines {
+        kept.add(writer, b"rounds 10000\n")?;
+    }
+    Ok(())
+}
+
+/// The line of rounds joins what is kept, if there are some.
+fn write_rest<W: Write>(count: usize, kept: &mut Kept, writer: &mut W) -> Result<(), CannotWrite>
+    ensures kept { OnOk result (AppendsAndKeeps (W.contents writer.old) (W.contents writer.new) kept.new
+        (kept.old ++ rest_text count)) }
+    ensures prefix { OnErr result (AppendsPrefix (W.contents writer.old) (W.contents writer.new)
+        (kept.old ++ rest_text count)) }
 {
     if count == 0 {
         return Ok(());
