@@ -5,12 +5,15 @@ its reference, 6457827717110365317, 3203168211198807973, 9817491932198370423, 45
 16408922859458223821, which leave 0, 1, 0, 1 and 2 when they are divided by 3. The first four leave 1, 1, 3 and 1 when they
 are divided by 2, 3, 4 and 5: by them a list of five becomes 0 4 1 3 2. Their last two digits, which are below a share or not,
 are 17, 73, 23, 31 and 21; those before them leave 1, 1, 0, 0 and 0 when they are divided by 2, and 1, 0, 1, 0 and 2 by 3.
+Scripts of all kinds, and those by chance, are worked out by sends.py.
 """
 
 import os
+import random
 import re
 
 from case_runner import CANNOT_WRITE, PLAN
+from sends import script
 
 SQUARE = b'mesh 2 2 1\n'
 LINE = b'mesh 3 1 1\n'
@@ -28,6 +31,10 @@ def words_of(extra='', **said):
     return [it for pair in words.items() if pair[1] is not None for it in pair] + extra.split()
 
 
+PATTERNS = ('uniform', 'transpose', 'reverse', 'neighbour', 'hot-spot', 'all-to-all', 'complement', 'shuffle', 'tornado',
+    'permutation')
+# How many terminals there may be, where not any number may.
+COUNTS = {'transpose': (1, 4, 9, 16), 'reverse': (1, 2, 4, 8, 16), 'shuffle': (1, 2, 4, 8, 16)}
 # A description, the words, and the script.
 SCRIPTS = {
     'to the next one': (SQUARE, words_of(packets='5'),
@@ -96,6 +103,12 @@ SCRIPTS = {
         b'send a 01 00 02 eop\nrounds 5\nsend b 00 00 03 eop\nrounds 6\nsend a 01 00 04 eop\n'),
     'a token in each round': (PLAN, words_of('--tokens 1', bytes='0'),
         b'send a 01 eop\nrounds 1\nsend b 00 eop\nrounds 1\nsend a 01 eop\n'),
+    'by chance': (LINE, words_of('--process bernoulli', load='400', packets='6'),
+        b'send t1 02 01 eop\nrounds 1\nsend t0 01 02 eop\nrounds 1\nsend t1 02 03 eop\nsend t2 00 04 eop\nrounds 1\n'
+        b'send t1 02 05 eop\nrounds 3\nsend t0 01 06 eop\n'),
+    'by chance, all of the time': (LINE, words_of('--process bernoulli', load='1000', packets='5'),
+        b'send t0 01 01 eop\nsend t1 02 02 eop\nsend t2 00 03 eop\nrounds 1\nsend t0 01 04 eop\nsend t1 02 05 eop\n'),
+    'regularly, as it is said': (PLAN, words_of('--process regular', packets='2'), b'send a 01 01 eop\nsend b 00 02 eop\n'),
     'the most rounds': (LONE + b'terminal b A.1\n', words_of(pattern='hot-spot', target='b', load='1'),
         b'send a 01 01 eop\nrounds 1000\nsend a 01 02 eop\nrounds 1000\nsend a 01 03 eop\n'),
 }
@@ -135,7 +148,7 @@ WRONG = (words_of(pattern='frob'), words_of(pattern=None), words_of(packets=None
     words_of(seed='18446744073709551616'), words_of(seed='x'), words_of(load='0'), words_of(load='1001'),
     words_of(load='0.0005'), words_of(load='1000.001'), words_of(load='1.'), words_of(load='.5'), words_of(load='1.x'),
     words_of(load='1.2345'), words_of('--tokens 0'), words_of('--tokens 1.000001'), words_of('--tokens 0.0000001'),
-    words_of('--tokens 0.5', load='5'),
+    words_of('--tokens 0.5', load='5'), words_of('--process bernoulli'), words_of('--process frob', load='5'),
     words_of(pattern='hot-spot'), words_of(target='a'),
     words_of('--share 5', pattern='hot-spot'), words_of('--share 5', target='a'),
     words_of('--share 0', pattern='hot-spot', target='a'), words_of('--share 101', pattern='hot-spot', target='a'),
@@ -145,6 +158,34 @@ WRONG = (words_of(pattern='frob'), words_of(pattern=None), words_of(packets=None
 def scripts(runner):
     for name, (description, words, script) in SCRIPTS.items():
         runner.case(name, script, words=['traffic', '-', *words], data=description, errors=b'')
+
+
+def worked_out(runner):
+    """Scripts of all kinds."""
+    source = random.Random(1)
+    for number in range(120):
+        runner.case('worked out %d' % number, **any_script(source))
+
+
+def any_script(source):
+    """A description, words, and what they have to print."""
+    pattern = PATTERNS[source.randrange(len(PATTERNS))]
+    count = source.choice(COUNTS.get(pattern, range(1, 17)))
+    packets, size, seed, header = source.randint(1, 40), source.randint(0, 4), source.getrandbits(64), source.choice((1, 2))
+    said = {'own': source.random() < 0.4}
+    words = ['--own'] * said['own']
+    if pattern == 'hot-spot':
+        said['target'], said['share'] = source.randrange(count), source.randint(1, 100)
+        words += ['--target', 't%d' % said['target'], '--share', str(said['share'])]
+    load = source.choice(((), ('load', '0.25'), ('load', '33.333'), ('load', '1000'), ('tokens', '0.3'), ('tokens', '0.015625'),
+                          ('tokens', '1')))
+    if load:
+        said[load[0]], said['chance'] = load[1], source.random() < 0.6
+        words += ['--' + load[0], load[1], *['--process', 'bernoulli'] * said['chance']]
+    text = script(count, pattern, packets, size, seed, header=header, **said)
+    words = ['--pattern', pattern, '--packets', str(packets), '--bytes', str(size), '--seed', str(seed), *words]
+    return {'expected': text or b'traffic 4 NoTarget\n', 'status': 0 if text else 1, 'words': ['traffic', '-', *words],
+            'data': b'header %d\nmesh %d 1 1\n' % (header, count)}
 
 
 def refused(runner):
@@ -202,4 +243,4 @@ def failures(runner):
                         stdout=full)
 
 
-PARTS = [scripts, refused, usage, limits, arrivals, failures]
+PARTS = [scripts, worked_out, refused, usage, limits, arrivals, failures]

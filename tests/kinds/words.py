@@ -23,6 +23,8 @@ TOLD = [
     ((*SENT, 'uniform', '--load', '0.0005'), LOAD),
     ((*SENT, 'uniform', '--load', '1001'), LOAD),
     ((*SENT, 'uniform', '--tokens', '0.0000005'), TOKENS),
+    ((*SENT, 'uniform', '--process', 'frob', '--load', '1'), b'error: --process is regular or bernoulli\n'),
+    ((*SENT, 'uniform', '--process', 'bernoulli'), b'error: --process bernoulli wants a load, --load or --tokens\n'),
     ((b'\xff',), b"error: a word isn't UTF-8\n\nFor more information, try '--help'.\n"),
 ]
 

@@ -171,8 +171,10 @@ pub const TRAFFIC: &str =
     "Prints a `send` line for each packet, from the terminals that have a target in turn; with
 --load, which is a number of packets of each such terminal in 1,000 rounds, or --tokens,
 a number of tokens of each in a round, `rounds` lines between them. A packet has its
-header, B bytes and its terminator as tokens. Packets go to the first labels of their targets. Of T terminals,
-counted from 0 in the order of the description, terminal t sends to
+header, B bytes and its terminator as tokens. Under --process bernoulli terminals send by
+chance instead, each in a round as often as the load says on average. Packets go to the
+first labels of their targets. Of T terminals, counted from 0 in the order of the
+description, terminal t sends to
 
   uniform      any, picked by the generator of the seed
   transpose    row c and column r of a square, where t is in row r and column c

@@ -1,9 +1,9 @@
 //! What the command line says of traffic.
 ghost use Rattle.std.specs.Prelude.{IfOk, IfSome, ◌<◌, ◌≤◌};
-ghost use Rattle.c104_traffic.specs.Packets.{IsTraffic, amount_of};
+ghost use Rattle.c104_traffic.specs.{Injections.{HasLoad, amount_of}, Packets.IsTraffic};
 
 use crate::command_line::{add_argument, flag, valued};
-use c104_traffic::{Load, MAX_DATA, MAX_PACKETS, PatternName, Traffic};
+use c104_traffic::{Injection, Load, MAX_DATA, MAX_PACKETS, PatternName, Traffic};
 use clap::{Arg, ArgMatches, Command, value_parser};
 use std::alloc::{AllocError, Global};
 
@@ -20,6 +20,7 @@ pub struct TrafficWords<'a> {
     seed: Option<u64>,
     load: Option<&'a str>,
     tokens: Option<&'a str>,
+    process: Option<&'a str>,
     own: bool,
 }
 
@@ -34,6 +35,7 @@ impl<'a> TrafficWords<'a> {
         seed: None,
         load: None,
         tokens: None,
+        process: None,
         own: false,
     };
 
@@ -48,6 +50,7 @@ impl<'a> TrafficWords<'a> {
             seed: given.get_one(SEED),
             load: given.get_str(LOAD),
             tokens: given.get_str(TOKENS),
+            process: given.get_str(PROCESS),
             own: given.get_flag(OWN),
         }
     }
@@ -59,18 +62,36 @@ impl<'a> TrafficWords<'a> {
         pattern_of(self.pattern.unwrap_or(""), seed, share)
     }
 
-    /// How much traffic is asked for, within its limits. The error says which loads there are, where the load is none.
+    /// How much traffic is asked for, within its limits. The error says what is wrong with a word.
     pub fn amount(self) -> Result<Traffic, &'static str>
         ensures { IfOk result (λ traffic. IsTraffic traffic) }
     {
-        let load = self.asked_load()?;
+        let injection = self.injection()?;
         Ok(Traffic {
             packets: at_most(self.packets, MAX_PACKETS),
             bytes: at_most(self.bytes, MAX_DATA),
             seed: self.seed.unwrap_or(0),
-            load,
+            injection,
             own: self.own,
         })
+    }
+
+    /// When packets are sent. The error says how that can be said.
+    fn injection(self) -> Result<Injection, &'static str>
+        ensures { IfOk result (λ injection. HasLoad injection) }
+    {
+        let load = self.asked_load()?;
+        let word = self.process.unwrap_or(REGULAR);
+        let by_chance = word != REGULAR;
+        if by_chance && word != BERNOULLI {
+            return Err(PROCESSES);
+        }
+        match load {
+            Some(load) if by_chance => Ok(Injection::Bernoulli(load)),
+            Some(load) => Ok(Injection::Regular(load)),
+            None if by_chance => Err(NO_LOAD),
+            None => Ok(Injection::AtOnce),
+        }
     }
 
     /// How often each terminal that sends does send, if that is said. The error says how it can be.
@@ -182,11 +203,24 @@ const TOKENS_HELP: &str = "The load, as how many tokens a terminal sends in a ro
 const TOKENS_RANGE: &str =
     "--tokens is a number from 0.000001 to 1, of at most six digits behind its point";
 
+const PROCESS: &str = "process";
+
+const PROCESS_HELP: &str =
+    "When terminals send: regular, which is the default, or bernoulli, by chance";
+
+const REGULAR: &str = "regular";
+
+const BERNOULLI: &str = "bernoulli";
+
+const PROCESSES: &str = "--process is regular or bernoulli";
+
+const NO_LOAD: &str = "--process bernoulli wants a load, --load or --tokens";
+
 const OWN: &str = "own";
 
 const OWN_HELP: &str = "Let terminals send to themselves, too";
 
-/// `--pattern P [--target T [--share C]] --packets N --bytes B --seed S [--load R | --tokens L] [--own]`.
+/// `--pattern P [--target T [--share C]] --packets N --bytes B --seed S [--load R | --tokens L] [--process I] [--own]`.
 pub fn with_traffic<'a>(alloc: Global, named: Command<'a>) -> Result<Command<'a>, AllocError> {
     named.args(traffic_arguments(alloc)?)
 }
@@ -215,13 +249,14 @@ fn share_option<'a>(alloc: Global) -> Result<Arg<'a>, AllocError> {
         .requires_arg(TARGET)
 }
 
-/// `--packets N --bytes B --seed S [--load R | --tokens L]`.
+/// `--packets N --bytes B --seed S [--load R | --tokens L] [--process I]`.
 fn add_numbers<'a>(alloc: Global, arguments: &mut Vec<Arg<'a>>) -> Result<(), AllocError> {
     add_argument(arguments, Ok(packets_option(alloc)))?;
     add_argument(arguments, Ok(bytes_option(alloc)))?;
     add_argument(arguments, Ok(seed_option(alloc)))?;
     add_argument(arguments, Ok(valued(alloc, LOAD, "R", LOAD_HELP)))?;
-    add_argument(arguments, tokens_option(alloc))
+    add_argument(arguments, tokens_option(alloc))?;
+    add_argument(arguments, Ok(valued(alloc, PROCESS, "I", PROCESS_HELP)))
 }
 
 /// `--packets N`.

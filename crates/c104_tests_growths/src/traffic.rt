@@ -13,7 +13,8 @@ use c104_plan::{Image, Plan};
 use c104_setup::Status;
 use c104_stream::Halt;
 use c104_traffic::{
-    PatternName, Schedule, Traffic, TrafficFault, find_schedule, traffic_fault_text, write_traffic,
+    Injection, PatternName, Schedule, Traffic, TrafficFault, find_schedule, traffic_fault_text,
+    write_traffic,
 };
 use std::alloc::Global;
 
@@ -28,7 +29,7 @@ fn two_packets() -> Traffic
         packets: 2,
         bytes: 1,
         seed: 0,
-        load: None,
+        injection: Injection::AtOnce,
         own: false,
     }
 }

@@ -3,7 +3,7 @@ use Rattle.{c104_check.{proofs.RangeLemmas.is_has, specs.Routes.{Owns, has_label
 use Rattle.{c104_plan.specs.Plans.{IsPlan, IsRange, Plan}, c104_switch.specs.Headers.header_number}
 use Rattle.c104_traffic.proofs.{Permutations.{permuted_inside, pick_few, shuffled_inside}, Senders.sender_inside, Squares.reversed_below}
 use Rattle.c104_traffic.{proofs.Squares.transposed_inside, specs.{Directions.AreDirected, Packets.{Traffic, byte_at, first_label}}}
-use Rattle.c104_traffic.specs.{Packets.{packet_of, packet_word, sender_at, target_at}, Patterns.{IsPatternFor, Pattern}}
+use Rattle.c104_traffic.specs.{Packets.{packet_of, packet_word, sender_at, target_at, turn_of}, Patterns.{IsPatternFor, Pattern}}
 use Rattle.c104_traffic.specs.{Schedules.{AreLabelled, HaveRanges}, Targets.{behind, choices, is_sender, pick, senders_of, shared}}
 use Rattle.{c104_traffic.specs.Targets.target_of, std.proofs.Common.{Bool, IfSome, Some, ap, arith, cond, false, get_or, inl, inr, length}}
 use Rattle.std.proofs.Common.{map, nat_lt, refl, slice_get, subst, suc, sym, take, true, zero, ℕ, ◌%◌, ◌*◌, ◌+◌, ◌-◌, ◌/◌, ◌<◌, ◌∙◌, ◌≡◌}
@@ -128,10 +128,11 @@ pub are_directed : (plan : Plan) (image : Image) (p : Pattern) (traffic : Traffi
 are_directed plan image p traffic kept fits some labels ranges for_plan number inside =
     let count = length plan.terminals in
     let senders = senders_of p traffic.own count in
-    let s = sender_at senders number in
-    let from : s < count = sender_inside p traffic.own count senders number refl some in
-    let to : target_at p traffic count senders number < count = target_inside p traffic.own count s (number / length senders) (packet_word traffic.seed number) fits from in
-    let target = target_at p traffic count senders number in
+    let turn = turn_of plan traffic number in
+    let s = sender_at senders turn in
+    let from : s < count = sender_inside p traffic.own count senders turn refl some in
+    let to : target_at p traffic count senders turn number < count = target_inside p traffic.own count s (turn / length senders) (packet_word traffic.seed number) fits from in
+    let target = target_at p traffic count senders turn number in
     let label = first_label image target in
     let header : header_number (take plan.header (packet_of plan traffic.bytes label number).bytes) ≡ label = header_is plan.header traffic.bytes label number kept.header.0 kept.header.1 (labels target to) in
     record {
@@ -140,10 +141,10 @@ are_directed plan image p traffic kept fits some labels ranges for_plan number i
       header = header;
       owned = subst (λ h. Owns (routes_of plan image) target h) (sym header) (owns_first plan image target ranges for_plan to);
       size = packet_size plan traffic.bytes label number;
-      apart = λ other. by_own traffic.own other (sends_apart p traffic.own count s (sender_passes p traffic.own count number some) other) from;
+      apart = λ other. by_own traffic.own other (sends_apart p traffic.own count s (sender_passes p traffic.own count turn some) other) from;
     }
   where
-    by_own : (own : Bool) → own ≡ false → target_of p own (length plan.terminals) (sender_at (senders_of p traffic.own (length plan.terminals)) number) 0 0 ≢ sender_at (senders_of p traffic.own (length plan.terminals)) number → sender_at (senders_of p traffic.own (length plan.terminals)) number < length plan.terminals
-        → target_of p own (length plan.terminals) (sender_at (senders_of p traffic.own (length plan.terminals)) number) (number / length (senders_of p traffic.own (length plan.terminals))) (packet_word traffic.seed number) ≢ sender_at (senders_of p traffic.own (length plan.terminals)) number
+    by_own : (own : Bool) → own ≡ false → target_of p own (length plan.terminals) (sender_at (senders_of p traffic.own (length plan.terminals)) (turn_of plan traffic number)) 0 0 ≢ sender_at (senders_of p traffic.own (length plan.terminals)) (turn_of plan traffic number) → sender_at (senders_of p traffic.own (length plan.terminals)) (turn_of plan traffic number) < length plan.terminals
+        → target_of p own (length plan.terminals) (sender_at (senders_of p traffic.own (length plan.terminals)) (turn_of plan traffic number)) (turn_of plan traffic number / length (senders_of p traffic.own (length plan.terminals))) (packet_word traffic.seed number) ≢ sender_at (senders_of p traffic.own (length plan.terminals)) (turn_of plan traffic number)
     by_own false other first from = target_apart p (length plan.terminals) _ _ _ fits from first
     by_own true other first from = cc

@@ -4,4 +4,5 @@ mod Numbered
 mod Joining
 mod Senders
 mod SendLines
+mod Turns
 mod Directions

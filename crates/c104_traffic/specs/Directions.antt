@@ -2,7 +2,7 @@
 --     AreDirected plan image pattern traffic      each packet goes from a terminal to a terminal, by a label of that
 use Rattle.{c104_check.specs.Routes.{Owns, routes_of}, c104_plan.specs.{PlanImage.Image, Plans.Plan}}
 use Rattle.{c104_switch.specs.Headers.header_number, c104_token.specs.declared.packets.Packet.Packet, c104_traffic.specs.Packets.Traffic}
-use Rattle.c104_traffic.specs.{Packets.{first_label, packet_of, sender_at, target_at}, Patterns.Pattern, Targets.senders_of}
+use Rattle.c104_traffic.specs.{Packets.{first_label, packet_of, sender_at, target_at, turn_of}, Patterns.Pattern, Targets.senders_of}
 use Rattle.std.specs.Prelude.{Bool, false, length, take, ℕ, ◌+◌, ◌<◌, ◌≡◌, ◌≢◌}
 
 -- a packet goes from a terminal to a terminal: its header is the first label of that, which that terminal owns, and a given
@@ -18,11 +18,11 @@ pub record IsDirected (plan : Plan) (image : Image) (own : Bool) (bytes sender t
 -- the target of a packet by its number
 abbrev pub numbered_target : Plan → Pattern → Traffic → ℕ → ℕ
 numbered_target plan pattern traffic number =
-    target_at pattern traffic (length plan.terminals) (senders_of pattern traffic.own (length plan.terminals)) number
+    target_at pattern traffic (length plan.terminals) (senders_of pattern traffic.own (length plan.terminals)) (turn_of plan traffic number) number
 
 -- the sender of a packet by its number
 abbrev pub numbered_sender : Plan → Pattern → Traffic → ℕ → ℕ
-numbered_sender plan pattern traffic number = sender_at (senders_of pattern traffic.own (length plan.terminals)) number
+numbered_sender plan pattern traffic number = sender_at (senders_of pattern traffic.own (length plan.terminals)) (turn_of plan traffic number)
 
 -- all packets go so
 abbrev pub AreDirected : Plan → Image → Pattern → Traffic → Type 0

@@ -1,6 +1,7 @@
 pub mod Patterns
 pub mod Words
 pub mod Targets
+pub mod Injections
 pub mod Packets
 pub mod Faults
 pub mod Schedules

@@ -1,35 +1,35 @@
 -- The packets of traffic: from which terminal each comes, to which it goes, of which bytes it is, and when it is sent.
 --     packet_of plan bytes label number      the packet of this number, counted from 0, to a label
 pub use Rattle.c104_traffic.specs.{Words.{generator_at, packet_word}, declared.{amounts.{Load.Load, Traffic.Traffic}, packets.Sent.Sent}}
+pub use Rattle.c104_traffic.specs.declared.packets.Turn.{Turn}
 use Rattle.{c104_plan.specs.{PlanImage.Image, Plans.Plan}, c104_token.specs.declared.{packets.Packet.Packet, tokens.Mark.Mark}}
-use Rattle.c104_traffic.specs.{Patterns.Pattern, Targets.target_of, declared.amounts.TheConstants.{MAX_DATA, MAX_PACKETS}}
-use Rattle.std.specs.{List.range_with_len, Option.{option_map_or, unwrap_or}, Prelude.{IfSome, List, None, Option, Some, if◌then◌else◌}}
-use Rattle.std.specs.Prelude.{length, map, nat_lt, slice_get, ℕ, ◌%◌, ◌*◌, ◌+◌, ◌-◌, ◌/◌, ◌<◌, ◌==◌, ◌≤◌}
-
--- how many packets or tokens a load has in 1,000,000 rounds
-abbrev pub amount_of : Load → ℕ
-amount_of (Load.Packets amount) = amount
-amount_of (Load.Tokens amount) = amount
-
--- how many of them a packet of so many tokens is
-abbrev pub weight_of : Load → ℕ → ℕ
-weight_of (Load.Packets amount) tokens = 1
-weight_of (Load.Tokens amount) tokens = tokens
+use Rattle.c104_traffic.specs.{Injections.{HasLoad, rounds_before, turn_at, turn_from}, Patterns.Pattern, Targets.target_of}
+use Rattle.c104_traffic.specs.declared.amounts.TheConstants.{MAX_DATA, MAX_PACKETS}
+use Rattle.std.specs.{List.range_with_len, Option.{option_map_or, unwrap_or}, Prelude.{List, if◌then◌else◌, length, map, nat_lt, slice_get}}
+use Rattle.std.specs.Prelude.{ℕ, ◌%◌, ◌+◌, ◌/◌, ◌==◌, ◌≡◌, ◌≤◌}
 
 -- traffic within the limits
 pub record IsTraffic (traffic : Traffic) : Type 0 where
   pub packets : traffic.packets ≤ MAX_PACKETS
   pub bytes : traffic.bytes ≤ MAX_DATA
-  pub load : IfSome traffic.load (λ load. 0 < amount_of load)
+  pub load : HasLoad traffic.injection
 
--- from which terminal a packet comes: those that send do so in turn
+-- how many tokens each packet is: its header, the bytes behind it, and the terminator
+abbrev pub tokens_of : Plan → Traffic → ℕ
+tokens_of plan traffic = plan.header + traffic.bytes + 1
+
+-- in which turn a packet is sent
+abbrev pub turn_of : Plan → Traffic → ℕ → ℕ
+turn_of plan traffic number = turn_at traffic.injection (tokens_of plan traffic) traffic.seed number
+
+-- whose turn it is: that of each terminal that sends, one after the other
 abbrev pub sender_at : List ℕ → ℕ → ℕ
-sender_at senders number = unwrap_or (slice_get senders (number % length senders)) 0
+sender_at senders turn = unwrap_or (slice_get senders (turn % length senders)) 0
 
--- to which terminal it goes
-abbrev pub target_at : Pattern → Traffic → ℕ → List ℕ → ℕ → ℕ
-target_at pattern traffic count senders number =
-    target_of pattern traffic.own count (sender_at senders number) (number / length senders) (packet_word traffic.seed number)
+-- to which terminal a packet goes that is sent in a turn
+abbrev pub target_at : Pattern → Traffic → ℕ → List ℕ → ℕ → ℕ → ℕ
+target_at pattern traffic count senders turn number =
+    target_of pattern traffic.own count (sender_at senders turn) (turn / length senders) (packet_word traffic.seed number)
 
 -- the first label of a terminal
 abbrev pub first_label : Image → ℕ → ℕ
@@ -49,19 +49,16 @@ packet_of plan bytes label number = record {
   mark = Mark.Eop;
 }
 
--- how many rounds are done in all before a packet of so many tokens is sent, by a number of senders
-abbrev pub rounds_by : Option Load → ℕ → ℕ → ℕ → ℕ
-rounds_by None tokens senders number = 0
-rounds_by (Some load) tokens senders number = number * weight_of load tokens * 1000000 / amount_of load / senders
-
--- how many of them since the packet before
-abbrev pub rounds_before : Option Load → ℕ → ℕ → ℕ → ℕ
-rounds_before load tokens senders number = rounds_by load tokens senders number - rounds_by load tokens senders (number - 1)
+-- the turn of a packet, and what else is known of it
+pub record IsTurn (plan : Plan) (traffic : Traffic) (packet : Turn) : Type 0 where
+  pub from : packet.from ≡ turn_from traffic.injection (tokens_of plan traffic) traffic.seed packet.number
+  pub turn : packet.turn ≡ turn_of plan traffic packet.number
+  pub word : packet.word ≡ packet_word traffic.seed packet.number
 
 -- what is sent as the packet of this number: the rounds before it, its sender, and the first label of its target
 abbrev pub sent_at : Plan → Image → Pattern → Traffic → List ℕ → ℕ → Sent
 sent_at plan image pattern traffic senders number = record {
-  rounds = rounds_before traffic.load (plan.header + traffic.bytes + 1) (length senders) number;
-  sender = sender_at senders number;
-  label = first_label image (target_at pattern traffic (length plan.terminals) senders number);
+  rounds = rounds_before traffic.injection (tokens_of plan traffic) traffic.seed (length senders) number;
+  sender = sender_at senders (turn_of plan traffic number);
+  label = first_label image (target_at pattern traffic (length plan.terminals) senders (turn_of plan traffic number) number);
 }

@@ -19,6 +19,21 @@ pub enum Load {
     Tokens(usize),
 }
 
+/// When packets are sent.
+#[derive(Clone, Copy)]
+pub enum Injection {
+    /// At once: no rounds are between them.
+    AtOnce,
+    /// So often, by the terminals that send in turn.
+    Regular(Load),
+    /// So often on average: in each round each of the terminals that send does so by chance.
+    Bernoulli(Load),
+}
+
+/// The most turns of terminals that pass between two packets that are sent by chance: behind so many the next is sent
+/// in any case. At the least load that is less than once in 10^100 times.
+pub const MAX_WAIT: usize = 1_099_511_627_776;
+
 /// How much traffic there is, and from what it is made.
 #[derive(Clone, Copy)]
 pub struct Traffic {
@@ -26,10 +41,10 @@ pub struct Traffic {
     pub packets: usize,
     /// How many bytes each packet has behind its header, up to 4,094.
     pub bytes: usize,
-    /// The seed of the generator by which targets are picked.
+    /// The seed of the generators by which targets are picked, and senders by chance.
     pub seed: u64,
-    /// How often each terminal that sends does send. Without it no rounds are between the packets.
-    pub load: Option<Load>,
+    /// When they are sent.
+    pub injection: Injection,
     /// Whether a terminal may send packets to itself.
     pub own: bool,
 }

@@ -13,13 +13,14 @@
 mod amounts;
 mod faults;
 mod finding;
+mod injections;
 mod packets;
 mod patterns;
 mod schedules;
 mod targets;
 mod writing;
 
-pub use amounts::{Load, MAX_DATA, MAX_PACKETS, Traffic};
+pub use amounts::{Injection, Load, MAX_DATA, MAX_PACKETS, Traffic};
 pub use faults::{TrafficFault, traffic_fault_text};
 pub use patterns::{Pattern, PatternName};
 pub use schedules::{Schedule, find_schedule};
@@ -31,3 +32,5 @@ const _: () = prove!(amounts::MAX_PACKETS == 1_048_576);
 const _: () = prove!(amounts::MAX_DATA == 4_094);
 
 const _: () = prove!(amounts::MAX_ROUNDS == 10_000);
+
+const _: () = prove!(amounts::MAX_WAIT == 1_099_511_627_776);

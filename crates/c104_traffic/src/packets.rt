@@ -1,10 +1,10 @@
 //! The packets of traffic: from which terminal each comes, to which it goes, and when it is sent.
-ghost use Rattle.c104_traffic.specs.Packets.{amount_of};
 ghost use Rattle.std.specs.Prelude.{IfSome, length, slice_get, ℕ, ◌<◌, ◌≡◌, ◌≤◌};
-ghost use Rattle.{c104_plan.specs.{Plans.IsRange, PortTexts.terminal_name}, c104_traffic.specs.Packets.{IsTraffic, byte_at, first_label}};
-ghost use Rattle.c104_traffic.specs.{Packets.{packet_word, rounds_before, rounds_by, sender_at, sent_at}, Schedules.IsSchedule};
+ghost use Rattle.{c104_plan.specs.{Plans.IsRange, PortTexts.terminal_name}, c104_traffic.specs.Packets.{IsTraffic, IsTurn, byte_at}};
+ghost use Rattle.c104_traffic.specs.{Packets.{first_label, sender_at, sent_at, tokens_of}, Schedules.IsSchedule};
 
-use crate::amounts::{Load, Traffic};
+use crate::amounts::Traffic;
+use crate::injections::rounds_before;
 use crate::schedules::Schedule;
 use crate::targets::target_of;
 use c104_plan::{Image, Plan};
@@ -20,76 +20,67 @@ pub(crate) struct Sent {
     pub label: u32,
 }
 
-/// What is sent as the packet of this number. The word is the one that the generator has for it.
+/// When a packet is sent.
+#[derive(Clone, Copy)]
+pub(crate) struct Turn {
+    /// Its number.
+    pub number: usize,
+    /// The turn from which on it may be sent.
+    pub from: usize,
+    /// The turn in which it is sent.
+    pub turn: usize,
+    /// The word that the generator has for it.
+    pub word: u64,
+}
+
+/// What is sent as a packet, in its turn.
 pub(crate) fn sent_at(
     plan: &Plan,
     image: &Image,
     traffic: Traffic,
     schedule: &Schedule,
-    number: usize,
-    word: u64,
+    turn: Turn,
 ) -> Sent
     requires traffic { IsTraffic traffic }
     requires schedule { IsSchedule plan.now image.now traffic.own schedule.now }
-    requires number { number ≤ 1048576 }
-    requires word { word ≡ packet_word traffic.seed number }
-    ensures { result ≡ sent_at plan.now image.now schedule.now.pattern traffic schedule.now.senders.items number }
+    requires number { turn.number ≤ 1048576 }
+    requires turn { IsTurn plan.now traffic turn }
+    ensures { result ≡ sent_at plan.now image.now schedule.now.pattern traffic schedule.now.senders.items turn.number }
 {
     let senders = schedule.senders.as_slice();
-    let sender = sender_at(senders, number);
+    let sender = sender_at(senders, turn.turn);
     let target = target_of(
         schedule.pattern,
         traffic.own,
         plan.terminals().len(),
         sender,
-        number / senders.len(),
-        word,
+        turn.turn / senders.len(),
+        turn.word,
     );
+    let tokens = tokens_of(plan, traffic);
     Sent {
-        rounds: rounds_before(
-            traffic.load,
-            plan.header() + traffic.bytes + 1,
-            senders.len(),
-            number,
-        ),
+        rounds: rounds_before(traffic.injection, tokens, senders.len(), turn),
         sender,
         label: first_label(image, target),
     }
 }
 
-/// Which of the terminals that send is the one of this packet.
-fn sender_at(senders: &[usize], number: usize) -> usize
+/// How many tokens each packet is: its header, the bytes behind it, and the terminator.
+pub(crate) fn tokens_of(plan: &Plan, traffic: Traffic) -> usize
+    requires { traffic.bytes ≤ 4094 }
+    ensures tokens { result ≡ tokens_of plan.now traffic }
+    ensures some { 0 < result }
+    ensures few { result ≤ 4097 }
+{
+    plan.header() + traffic.bytes + 1
+}
+
+/// Which of the terminals that send is the one of this turn.
+fn sender_at(senders: &[usize], turn: usize) -> usize
     requires { 0 < length senders.now }
-    ensures { result ≡ sender_at senders.now number }
+    ensures { result ≡ sender_at senders.now turn }
 {
-    senders.get(number % senders.len()).copied().unwrap_or(0)
-}
-
-/// How many rounds are done since the packet before, of packets of so many tokens.
-fn rounds_before(load: Option<Load>, tokens: usize, senders: usize, number: usize) -> usize
-    requires load { IfSome load (λ load. 0 < amount_of load) }
-    requires tokens { tokens ≤ 4097 }
-    requires senders { 0 < senders }
-    requires number { number ≤ 1048576 }
-    ensures { result ≡ rounds_before load tokens senders number }
-{
-    let before = rounds_by(load, tokens, senders, number.saturating_sub(1));
-    rounds_by(load, tokens, senders, number).saturating_sub(before)
-}
-
-/// How many rounds are done in all before a packet is sent.
-fn rounds_by(load: Option<Load>, tokens: usize, senders: usize, number: usize) -> usize
-    requires load { IfSome load (λ load. 0 < amount_of load) }
-    requires tokens { tokens ≤ 4097 }
-    requires senders { 0 < senders }
-    requires number { number ≤ 1048576 }
-    ensures { result ≡ rounds_by load tokens senders number }
-{
-    match load {
-        Some(Load::Packets(amount)) => number * 1_000_000 / amount / senders,
-        Some(Load::Tokens(amount)) => number * tokens * 1_000_000 / amount / senders,
-        None => 0,
-    }
+    senders.get(turn % senders.len()).copied().unwrap_or(0)
 }
 
 /// The first label of a terminal.

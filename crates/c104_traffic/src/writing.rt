@@ -1,7 +1,7 @@
 //! The script of traffic, written packet by packet.
 //!
 //! The bytes of a packet count on from its number, and aren't picked: who reads what arrived sees which packet it was,
-//! and where a token is in it. Each packet takes one word of the generator, whatever the pattern.
+//! and where a token is in it. Each packet takes one word of the generator, whatever the pattern, and each turn one of a second generator.
 ghost use Rattle.{c104_traffic.specs.Texts.{rest_text}, std.specs.Prelude.codes};
 ghost use Rattle.std.specs.{Io.KnownBytes.Appends, List.range_with_len, Prelude.{MatchResult, OnErr, OnOk, flat_map, ◌++◌, ◌+◌, ◌≡◌, ◌≤◌}};
 ghost use Rattle.{c104_plan.specs.PlanImage.Fits, c104_stream.specs.Writing.{AppendsAndKeeps, AppendsPrefix}};
@@ -9,7 +9,8 @@ ghost use Rattle.c104_traffic.specs.{Directions.AreDirected, Packets.{IsTraffic,
 ghost use Rattle.c104_traffic.specs.{Texts.{rounds_text, send_text, sent_text, traffic_text}, Writing.StopsWriting};
 
 use crate::amounts::{MAX_ROUNDS, Traffic};
-use crate::packets::{Sent, byte_at, sent_at, terminal_name};
+use crate::injections::{next_turn, turn_words};
+use crate::packets::{Sent, Turn, byte_at, sent_at, terminal_name, tokens_of};
 use crate::schedules::Schedule;
 use c104_plan::{Image, Plan};
 use c104_stream::{CannotWrite, Halt, Kept};
@@ -89,11 +90,27 @@ fn write_packets<W: Write>(
     ensures prefix { OnErr result (AppendsPrefix (W.contents writer.old) (W.contents writer.new)
         (kept.old ++ traffic_text plan.now image.now schedule.now.pattern traffic)) }
 {
+    let tokens = tokens_of(plan, traffic);
     let mut generator = SplitMix64::seed_from_u64(traffic.seed);
+    let mut words = turn_words(traffic.seed);
+    let mut from = 0usize;
     for number in 0..traffic.packets {
         let word = generator.next_word();
-        let sent = sent_at(plan, image, traffic, schedule, number, word);
+        let turn = next_turn(traffic.injection, tokens, traffic.seed, from, &mut words);
+        let sent = sent_at(
+            plan,
+            image,
+            traffic,
+            schedule,
+            Turn {
+                number,
+                from,
+                turn,
+                word,
+            },
+        );
         write_sent(plan, traffic.bytes, number, sent, kept, writer)?;
+        from = turn + 1;
     }
     Ok(())
 }
