@@ -156,6 +156,25 @@ def runs(runner):
             runner.case('run of ' + name, None, 0, errors, words=['--explain', 'run', path, '-'], data=script)
 
 
+# A script that fills a switch's trace in round 3: a `verify` asks 2,432 acts of 1,048,576, so the last two are refused, and a
+# run of which something is counted or drawn ends at the first of these.
+FULL = b'rounds 3\n' + b'verify\n' * 433 + b'send a 01 eop\nrounds 9\n'
+WHY = 'a switch or a terminal does at most 1048576 acts, and one that would act has done that many; '
+ENDS = text_of('-:433: ', [WHY + 'so the run ends here, in round 3'])
+
+
+def full(runner):
+    with Files(PLAN) as path:
+        for name, status, errors, words in (
+            ('told once', 0, text_of('-:433: ', [WHY + 'this is told once']), ['--explain', 'run', path, '-']),
+            ('counted', 1, ENDS, ['stats', path, '-']),
+            ('counted in rows', 1, ENDS, ['stats', path, '-', '--what', 'rounds', '--format', 'csv']),
+            ('drawn', 1, ENDS, ['draw', path, '-', '--over-time']),
+            ('drawn and explained', 1, ENDS, ['--explain', 'draw', path, '-', '--over-time']),
+        ):
+            runner.case('full trace, %s' % name, None, status, errors, words=words, data=FULL)
+
+
 def storm_progress(runner):
     """How many turns are done is told each second, and a preloaded clock is a second later each time that it is read."""
     name = 'progress of a storm'
@@ -192,4 +211,4 @@ def questions(runner):
                 runner.judge('questions on ' + name, wrong_of_typed(runner, path, lines))
 
 
-PARTS = [checks, runs, storm_progress, questions]
+PARTS = [checks, runs, full, storm_progress, questions]

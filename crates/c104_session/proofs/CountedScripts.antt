@@ -1,14 +1,14 @@
 -- What is counted of the run of a script, by what its parts come to.
 use Rattle.{c104_plan.specs.{PlanImage.Image, Plans.Plan}, c104_script.specs.Answering.DoesScript, c104_session.specs.Counted.counts_kept}
 use Rattle.c104_session.specs.{CountedRuns.{IsCountedAfter, IsCountedOn, IsCountedPlan, IsRefusedCount}, Driven.driven_outcome}
-use Rattle.{c104_session.specs.declared.{counted_runs.CountedRun.CountedRun, driven.Driven.Driven}, c104_stats.specs.Counts.Counts}
-use Rattle.{c104_stats.specs.declared.stats.What.What, std.proofs.Common.{Bool, List, Option, arith, refl, ℕ, ◌||◌, ◌≡◌}}
+use Rattle.c104_session.specs.{Refusals.refuses, declared.{counted_runs.CountedRun.CountedRun, driven.Driven.Driven}}
+use Rattle.{c104_stats.specs.{Counts.Counts, declared.stats.What.What}, std.proofs.Common.{Bool, List, Option, arith, refl, ℕ, ◌||◌, ◌≡◌}}
 
 -- a script that was done
 module _ (driven after : Driven Counts) (long : Bool) (run : CountedRun) where
   pub script_counted : (all : Option (List ℕ)) → DoesScript (driven_outcome counts_kept) driven all after long
-      → IsCountedOn after.session.net after.driver run → run.is_refused ≡ (long || after.session.faulty)
-      → IsCountedAfter driven all run
+      → IsCountedOn after.session.net after.driver after.refusals run
+      → run.is_refused ≡ refuses after.refusals long after.session → IsCountedAfter driven all run
   script_counted all done counted is_refused = search arith
 
 -- what it tells of whether the script is refused

@@ -2,8 +2,9 @@
 use Rattle.{c104_event.specs.declared.{events.Event.Event, faults.EventFault.EventFault}, c104_run.specs.EventRuns.run_events}
 use Rattle.{c104_run.specs.{NetRecords.NetRecord, RecordedRuns.record_apply, Rounds.rounds}, c104_script.specs.Answering.shown_by}
 use Rattle.c104_script.specs.{Script.read_script_line, declared.{answers.Answer.Answer, faults.LineFault.LineFault, places.Request.Request}}
-use Rattle.{c104_session.specs.{Shown.line_answer, declared.driven.Driven.Driven}, c104_switch.specs.Actions.Reply}
-use Rattle.std.specs.Prelude.{Err, List, None, Ok, Option, Result, Some, ℕ, ◌≡◌, ◌⊎◌}
+use Rattle.c104_session.specs.{Refusals.{no_refusals, refused_too}, Shown.line_answer, declared.driven.Driven.Driven}
+use Rattle.{c104_session.specs.declared.session.Session.Session, c104_switch.specs.Actions.Reply}
+use Rattle.std.specs.Prelude.{Err, List, None, Ok, Option, Result, Some, if◌then◌else◌, ℕ, ◌≡◌, ◌⊎◌}
 
 -- what a driver keeps: its state after it did an event, or as many rounds, on a network that was in this state. That is
 -- said of all that memory suffices for
@@ -26,6 +27,10 @@ DoesRounds net count result after =
 abbrev pub keeps_nothing : {D : Type 0} → Driving D
 keeps_nothing = record { event = λ driver net e. driver; rounds = λ driver net count. driver }
 
+-- before a script's first line
+abbrev pub new_driven : {D : Type 0} → Session → D → Driven D
+new_driven session driver = record { session = session; driver = driver; refusals = no_refusals }
+
 module _ {D : Type 0} (drives : Driving D) where
   -- the driver after a request: it does events and rounds, and has no part in anything else
   abbrev pub request_driven : D → NetRecord → Request → D
@@ -44,11 +49,14 @@ module _ {D : Type 0} (drives : Driving D) where
   unfoldable pub line_driven : D → NetRecord → List ℕ → D
   line_driven driver net text = read_driven driver net (read_script_line net.network.plan text)
 
-  -- what answers a line, and the run and the driver after it
-  abbrev pub driven_answer : Driven D → List ℕ → Option Answer × Driven D
-  driven_answer s text =
+  -- what answers a line, and the run and the driver after it: nothing is done any more once the run is over
+  abbrev pub done_answer : Driven D → List ℕ → Option Answer × Driven D
+  done_answer s text =
       let r = line_answer s.session text in
-      (r.0, record { session = r.1; driver = line_driven s.driver s.session.net text })
+      (r.0, record { session = r.1; driver = line_driven s.driver s.session.net text; refusals = refused_too s.refusals r.0 })
+
+  abbrev pub driven_answer : Driven D → List ℕ → Option Answer × Driven D
+  driven_answer s text = if s.refusals.is_over then (None, s) else done_answer s text
 
   -- what a line of this number shows, and the run and the driver after it
   abbrev pub driven_outcome : ℕ → Driven D → List ℕ → List ℕ × Driven D

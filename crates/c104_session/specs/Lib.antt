@@ -3,6 +3,7 @@ pub mod Probing
 pub mod Shown
 pub mod Leavings
 pub mod Resets
+pub mod Refusals
 pub mod Driven
 pub mod Keepers
 pub mod Runs

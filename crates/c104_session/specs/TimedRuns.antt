@@ -1,8 +1,8 @@
 -- The run of a script, what crosses the wires of its network round by round, and the text that is written of that.
 use Rattle.{c104_plan.specs.{PlanImage.Image, Plans.Plan}, c104_print.specs.TimePictures.IsShorter}
 use Rattle.c104_print.specs.declared.{over_time.pictures.TheConstants.TIME_TEXT_LIMIT, rows.Format.Format}
-use Rattle.c104_session.specs.{Driven.driven_outcome, Shown.new_session, Timed.timeline_kept, declared.driven.Driven.Driven}
-use Rattle.{c104_session.specs.declared.{over_time.Asked.Asked, session.Session.Session}, c104_stream.specs.ScriptLines.is_long}
+use Rattle.c104_session.specs.{Driven.{driven_outcome, new_driven}, Refusals.refuses, Shown.new_session, Timed.timeline_kept}
+use Rattle.{c104_session.specs.declared.{driven.Driven.Driven, over_time.Asked.Asked}, c104_stream.specs.ScriptLines.is_long}
 use Rattle.{c104_stream.specs.Scripts.script_outcome, c104_timeline.specs.{Closing.closed_all, Periods.period_of, Timelines.Timeline}}
 use Rattle.c104_timeline.specs.{Timelines.new_timeline, declared.periods.Period.Period}
 use Rattle.std.specs.Prelude.{Bool, IfSome, List, None, Option, Some, codes, decimal, false, length, true, ℕ, ⊤, ◌++◌, ◌||◌, ◌≡◌, ◌≤◌}
@@ -11,16 +11,11 @@ use Rattle.std.specs.Prelude.{Bool, IfSome, List, None, Option, Some, codes, dec
 abbrev pub timed_script : Driven Timeline → List ℕ → Driven Timeline
 timed_script driven script = (script_outcome (driven_outcome timeline_kept) driven script).1
 
--- this is the timeline of a run that ended with this session and with that timeline, and this tells whether the script is
--- refused: for its length or for one of its lines
-abbrev pub IsTimedOn : Session → Bool → Timeline → Timeline → Bool → Type 0
-IsTimedOn session long before t refused = (t ≡ closed_all session.net before) × (refused ≡ (long || session.faulty))
-
--- the same of the run of a script
+-- this is the timeline of the run of a script, and this tells whether the script is refused
 abbrev pub IsTimedScript : Driven Timeline → List ℕ → Timeline → Bool → Type 0
 IsTimedScript driven script t refused =
     let run = timed_script driven script in
-    IsTimedOn run.session (is_long script) run.driver t refused
+    (t ≡ closed_all run.session.net run.driver) × (refused ≡ refuses run.refusals (is_long script) run.session)
 
 -- the same where nothing may be known of the script, and on the network of a plan with an image
 abbrev pub IsTimedAfter : Driven Timeline → Option (List ℕ) → Timeline → Bool → Type 0
@@ -29,7 +24,7 @@ IsTimedAfter driven (Some script) t refused = IsTimedScript driven script t refu
 
 abbrev pub IsTimedPlan : Plan → Image → Option (List ℕ) → Timeline → Bool → Type 0
 IsTimedPlan plan image script t refused =
-    IsTimedAfter (record { session = new_session plan image; driver = new_timeline plan }) script t refused
+    IsTimedAfter (new_driven (new_session plan image) (new_timeline plan)) script t refused
 
 -- the line that refuses a picture that would be too long, and says which rounds fit
 abbrev pub fits_text : Option Period → List ℕ

@@ -6,6 +6,7 @@ ghost use Rattle.c104_stream.specs.declared.halt.Halt.TheVariants as halt;
 
 use crate::driven::Driven;
 use crate::driver::Driver;
+use crate::keepers::Keeper;
 use crate::session::Session;
 use crate::telling::Telling;
 use c104_mistakes::{Messages, tell_if_long};
@@ -45,7 +46,7 @@ pub fn answer_script<S: Read, W: Write, M: Messages>(
 /// Does the lines of a script by a driver, as `answer_script` does, but writes no answers. Where the script is too long, that
 /// is told. It never fails to write.
 #[tactic(auto, using(crate::proofs::NewScripts::done_anew))]
-pub(crate) fn drive_script<D: Driver, S: Read, M: Messages>(
+pub(crate) fn drive_script<D: Driver + Keeper, S: Read, M: Messages>(
     alloc: Global,
     driven: &mut Driven<D>,
     script: &mut S,

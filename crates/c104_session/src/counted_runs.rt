@@ -1,11 +1,12 @@
 //! A script, run on the network of a plan, and what is counted of that.
-ghost use Rattle.std.specs.Prelude.{Err, IfOk, IfSome, IsSome, IsTrue, ◌||◌, ◌↔◌, ◌≡◌, ◌≢◌};
+ghost use Rattle.std.specs.Prelude.{Err, IfOk, IfSome, IsSome, IsTrue, ◌↔◌, ◌≡◌, ◌≢◌};
 ghost use Rattle.{c104_plan.specs.PlanImage.Fits, c104_run.specs.Standstill.IsDeadlocked, c104_session.specs.CountedRuns.IsCountedAfter};
-ghost use Rattle.{c104_session.specs.CountedRuns.{IsCountedOn, IsCountedPlan}, c104_token.specs.Kinds.plain_kind};
+ghost use Rattle.{c104_session.specs.{CountedRuns.{IsCountedOn, IsCountedPlan}, Refusals.refuses}, c104_token.specs.Kinds.plain_kind};
 ghost use Rattle.c104_stream.specs.declared.halt.Halt.TheVariants as halt;
 
 use crate::answering::drive_script;
 use crate::driven::Driven;
+use crate::refusals::Refusals;
 use crate::runs::leftovers_of;
 use crate::session::Session;
 use c104_explain::{standstill_message, tell_leftovers};
@@ -64,7 +65,9 @@ fn still_line(alloc: Global, round: u32) -> Result<String, AllocError> {
 #[derive(Drop)]
 pub struct CountedRun {
     pub stats: Stats,
-    /// Whether the script is refused, for its length or for one of its lines.
+    /// How many lines of the script were refused.
+    pub refused: u64,
+    /// Whether the script is refused: for its length, for a line that was faulty, or for one that ended the run.
     pub is_refused: bool,
     /// What is told of a network that stands still with tokens in it.
     pub still: Option<Still>,
@@ -80,8 +83,9 @@ impl CountedRun {
 }
 
 /// Runs a script on the network of a plan, started with an image that fits it, and counts that for what is to be printed: a
-/// table, or the summary. Of a script that is too long the lines that end within 16 MiB are done. Messages are those of
-/// `run_plan`, but for what didn't arrive. It never fails to write.
+/// table, or the summary. Of a script that is too long the lines that end within 16 MiB are done, and behind a line that is
+/// refused since a trace or an inbox is full nothing is done. Messages are those of `run_plan`, but for what didn't arrive,
+/// and that the run ended so is told whoever reads them. It never fails to write.
 pub fn count_plan<S: Read, M: Messages>(
     alloc: Global,
     plan: &Plan,
@@ -97,10 +101,7 @@ pub fn count_plan<S: Read, M: Messages>(
 {
     let stats = Stats::new(alloc, plan, what)?;
     let session = Session::new(alloc, plan, image)?;
-    let driven = Driven {
-        session,
-        driver: stats,
-    };
+    let driven = Driven::new(session, stats);
     count_driven(alloc, driven, script, messages)
 }
 
@@ -118,9 +119,13 @@ fn count_driven<S: Read, M: Messages>(
 {
     let mut driven = driven;
     let drove = drive_script(alloc, &mut driven, script, messages);
-    let Driven { session, driver } = driven;
+    let Driven {
+        session,
+        driver,
+        refusals,
+    } = driven;
     let counted = match drove {
-        Ok(is_long) => Ok(counted_run(alloc, is_long, &session, driver, messages)),
+        Ok(is_long) => Ok(counted_run(alloc, is_long, &session, driver, refusals, messages)),
         Err(halt) => Err(halt),
     };
     session.finish().retire();
@@ -133,10 +138,11 @@ fn counted_run<M: Messages>(
     is_long: bool,
     session: &Session,
     stats: Stats,
+    refusals: Refusals,
     messages: &mut M,
 ) -> CountedRun
-    ensures run { IsCountedOn session.now.net stats result }
-    ensures is_refused { result.is_refused ≡ (is_long || session.now.faulty) }
+    ensures run { IsCountedOn session.now.net stats refusals result }
+    ensures is_refused { result.is_refused ≡ refuses refusals is_long session.now }
 {
     let mut stats = stats;
     stats.end_at(&session.net);
@@ -144,7 +150,8 @@ fn counted_run<M: Messages>(
     let leftovers = leftovers_of(alloc, session, messages);
     CountedRun {
         stats,
-        is_refused: is_long || session.faulty,
+        refused: refusals.lines,
+        is_refused: refusals.refuse(is_long, session),
         still,
         leftovers,
     }

@@ -19,6 +19,10 @@ impl Keeper for Stats {
 
     ghost keeps = { counts_keep };
 
+    fn round(&self) -> u32 {
+        self.round()
+    }
+
     fn begin(&mut self, net: &TracedNet) -> Result<(), NoMemory> {
         self.see_net(net);
         self.begin_round()

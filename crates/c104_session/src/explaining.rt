@@ -5,9 +5,11 @@
 //! `draw FILE`.
 
 use crate::asked_pictures::{asked_file, picture_message};
+use crate::refusals::ends_run;
 use crate::session::Session;
 use crate::tally::Tally;
 use crate::telling::Telling;
+use c104_event::EventFault;
 use c104_explain::{
     about_question, is_question, question_message, reason_message, standstill_message,
 };
@@ -44,6 +46,26 @@ pub(crate) fn line_message<M: Messages>(
     Some((About::ScriptLine(number), message))
 }
 
+/// What is told about the line that ends a run in this round, by what is full: that is told whoever reads the messages. None
+/// behind it, and out of memory.
+pub(crate) fn end_message<M: Messages>(
+    alloc: Global,
+    session: &Session,
+    number: usize,
+    line: &[u8],
+    answer: &Option<Answer>,
+    round: u32,
+    telling: &mut Telling<'_, M>,
+) -> Option<(About, String)> {
+    let Some(Answer::Refused(fault)) = answer else {
+        return None;
+    };
+    telling.tally.note_line();
+    let why = refusal_message(alloc, session.net.plan(), line, *fault)?;
+    let message = format!(in alloc; "{why}; so the run ends here, in round {round}").ok()?;
+    Some((About::ScriptLine(number), message))
+}
+
 /// What is told about a line that isn't faulty and was answered so, of which `rounds` rounds changed something.
 fn message_of_answer(
     alloc: Global,
@@ -54,7 +76,7 @@ fn message_of_answer(
     tally: &mut Tally,
 ) -> Option<String> {
     match answer {
-        Answer::Refused(fault) => refusal_message(alloc, session.net.plan(), line, *fault),
+        Answer::Refused(fault) => refused_message(alloc, session, line, *fault, tally),
         Answer::Found(Finding::Refused(fault)) => register_message(alloc, line, *fault),
         Answer::Found(Finding::Link { owner, .. }) => owner_message(alloc, line, *owner),
         Answer::Replied(Reply::NotReady) => unready_message(alloc, session, line),
@@ -66,6 +88,24 @@ fn message_of_answer(
         }
         Answer::Found(_) | Answer::Replied(Reply::Token(_)) | Answer::Faulty(_) => None,
     }
+}
+
+/// Why a line was refused. That a trace is full, or an inbox, is told of the first line that is refused for it.
+fn refused_message(
+    alloc: Global,
+    session: &Session,
+    line: &[u8],
+    fault: EventFault,
+    tally: &mut Tally,
+) -> Option<String> {
+    if ends_run(fault) && !tally.note_full(fault) {
+        return None;
+    }
+    let why = refusal_message(alloc, session.net.plan(), line, fault)?;
+    if !ends_run(fault) {
+        return Some(why);
+    }
+    format!(in alloc; "{why}; this is told once").ok()
 }
 
 /// Why what a line asks isn't ready. Where that was its answer, the network is as it was when the line came. None

@@ -17,6 +17,9 @@ pub(crate) trait Keeper: Meter<TaggedToken> {
     /// What it keeps.
     ghost keeps: { Keeping Self };
 
+    /// The number of the round that began last.
+    fn round(&self) -> u32;
+
     /// A round begins on a network. The only error is out of memory.
     fn begin(&mut self, net: &TracedNet) -> Result<(), NoMemory>
         ensures { OnOk result (self.new ≡ keeps.begun net.now self.old) };

@@ -34,6 +34,7 @@ mod explaining;
 mod keepers;
 mod over_time;
 mod probing;
+mod refusals;
 mod resets;
 mod run_commands;
 mod runs;

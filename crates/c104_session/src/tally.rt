@@ -3,7 +3,7 @@
 //! It is counted by the lines that send packets, and only where anyone reads messages; the network itself keeps no entry.
 
 use crate::resets::is_reset;
-use c104_event::Event;
+use c104_event::{Event, EventFault};
 
 /// What the lines of a run have done.
 #[derive(Drop)]
@@ -11,6 +11,9 @@ pub(crate) struct Tally {
     sent: Option<usize>,
     // Whether a line had words.
     has_lines: bool,
+    // Whether it was told that a trace is full, and that an inbox is.
+    told_trace: bool,
+    told_inbox: bool,
 }
 
 impl Tally {
@@ -19,6 +22,8 @@ impl Tally {
         Tally {
             sent: Some(0),
             has_lines: false,
+            told_trace: false,
+            told_inbox: false,
         }
     }
 
@@ -36,6 +41,17 @@ impl Tally {
     /// Whether any line had words.
     pub(crate) fn has_lines(&self) -> bool {
         self.has_lines
+    }
+
+    /// A line was refused for what is full: a trace, or else an inbox. Says whether it is the first one.
+    pub(crate) fn note_full(&mut self, fault: EventFault) -> bool {
+        let told = match fault {
+            EventFault::TraceFull => &mut self.told_trace,
+            _ => &mut self.told_inbox,
+        };
+        let is_first = !*told;
+        *told = true;
+        is_first
     }
 
     /// An event was done.

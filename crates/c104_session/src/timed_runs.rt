@@ -1,6 +1,7 @@
 //! A script, run on the network of a plan, and what crosses its wires round by round.
-ghost use Rattle.std.specs.Prelude.{Err, IfOk, ◌||◌, ◌≡◌, ◌≢◌};
-ghost use Rattle.{c104_plan.specs.PlanImage.Fits, c104_session.specs.TimedRuns.{IsTimedAfter, IsTimedOn, IsTimedPlan}};
+ghost use Rattle.std.specs.Prelude.{Err, IfOk, ◌≡◌, ◌≢◌};
+ghost use Rattle.{c104_plan.specs.PlanImage.Fits, c104_session.specs.TimedRuns.{IsTimedAfter, IsTimedPlan}};
+ghost use Rattle.c104_timeline.specs.Closing.{closed_all};
 ghost use Rattle.c104_stream.specs.declared.halt.Halt.TheVariants as halt;
 
 use crate::answering::drive_script;
@@ -38,10 +39,7 @@ pub fn time_plan<S: Read, M: Messages>(
 {
     let timeline = Timeline::new(alloc, plan)?;
     let session = Session::new(alloc, plan, image)?;
-    let driven = Driven {
-        session,
-        driver: timeline,
-    };
+    let driven = Driven::new(session, timeline);
     time_driven(alloc, driven, script, messages)
 }
 
@@ -59,9 +57,13 @@ fn time_driven<S: Read, M: Messages>(
 {
     let mut driven = driven;
     let drove = drive_script(alloc, &mut driven, script, messages);
-    let Driven { session, driver } = driven;
+    let Driven {
+        session,
+        driver,
+        refusals,
+    } = driven;
     let timed = match drove {
-        Ok(is_long) => timed_run(is_long, &session, driver),
+        Ok(is_long) => timed_run(refusals.refuse(is_long, &session), &session, driver),
         Err(halt) => Err(halt),
     };
     session.finish().retire();
@@ -69,14 +71,15 @@ fn time_driven<S: Read, M: Messages>(
 }
 
 /// What crossed the wires in a run up to its end, at which its network and its timeline are these.
-fn timed_run(is_long: bool, session: &Session, timeline: Timeline) -> Result<TimedRun, Halt>
-    ensures run { IfOk result (λ timed. IsTimedOn session.now is_long timeline timed.timeline timed.is_refused) }
+fn timed_run(is_refused: bool, session: &Session, timeline: Timeline) -> Result<TimedRun, Halt>
+    ensures run { IfOk result (λ timed. timed.timeline ≡ closed_all session.now.net timeline) }
+    ensures refused { IfOk result (λ timed. timed.is_refused ≡ is_refused) }
     ensures unwritten { result ≢ Err halt.CannotWrite }
 {
     let mut timeline = timeline;
     timeline.close_all(&session.net)?;
     Ok(TimedRun {
         timeline,
-        is_refused: is_long || session.faulty,
+        is_refused,
     })
 }

@@ -18,6 +18,10 @@ impl Keeper for Timeline {
 
     ghost keeps = { timeline_keeps };
 
+    fn round(&self) -> u32 {
+        self.round()
+    }
+
     fn begin(&mut self, _net: &TracedNet) -> Result<(), NoMemory> {
         self.begin_round()
     }

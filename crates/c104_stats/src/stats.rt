@@ -77,6 +77,13 @@ impl Stats {
         })
     }
 
+    /// The number of the round that began last.
+    pub fn round(&self) -> u32
+        ensures { result ≡ self.now.current.round }
+    {
+        self.current.round
+    }
+
     /// What is to be printed: a table, or the summary.
     pub fn what(&self) -> Option<What>
         ensures { result ≡ self.now.what }

@@ -66,6 +66,13 @@ impl Timeline {
         self.lanes.as_slice()
     }
 
+    /// The number of the round that began last.
+    pub fn round(&self) -> u32
+        ensures { result ≡ self.now.round }
+    {
+        self.round
+    }
+
     /// The last round that is drawn.
     pub(crate) fn last_round(&self) -> u32
         ensures { result ≡ last_round self.now }
