@@ -162,6 +162,12 @@ FULL = b'rounds 3\n' + b'verify\n' * 433 + b'send a 01 eop\nrounds 9\n'
 WHY = 'a switch or a terminal does at most 1048576 acts, and one that would act has done that many; '
 ENDS = text_of('-:433: ', [WHY + 'so the run ends here, in round 3'])
 
+# One that fills an inbox: by 64 packets of 4,096 tokens, each of which has arrived within 4,200 rounds. The first token of the
+# next packet crosses two wires in the second round.
+FULL_INBOX = (b'send a 01' + b' 55' * 4094 + b' eop\nrounds 4200\n') * 64 + b'send a 01 eop\nrounds 9\n'
+INBOX_ENDS = text_of('-:130: ', ['262144 tokens have arrived at a terminal, and it takes no more; so the run ends here, '
+                                 'in round 268802'])
+
 
 def full(runner):
     with Files(PLAN) as path:
@@ -173,6 +179,7 @@ def full(runner):
             ('drawn and explained', 1, ENDS, ['--explain', 'draw', path, '-', '--over-time']),
         ):
             runner.case('full trace, %s' % name, None, status, errors, words=words, data=FULL)
+        runner.case('full inbox, counted', None, 1, INBOX_ENDS, words=['stats', path, '-'], data=FULL_INBOX)
 
 
 def storm_progress(runner):
