@@ -77,6 +77,9 @@ impl<D: Driver + Keeper, M: Messages> AnswersLines<Telling<'_, M>> for Driven<D>
             let round = self.driver.round();
             return end_message(alloc, &self.session, number, line, answer, round, told);
         }
+        if !told.messages.are_wanted() {
+            return None;
+        }
         line_message(alloc, &self.session, number, line, answer, told)
     }
 
@@ -104,6 +107,7 @@ impl<M: Messages> AnswersLines<Telling<'_, M>> for Session {
         self.answer_driven(alloc, line, &mut Plain, told)
     }
 
+    #[inline(always)]
     fn message(
         &self,
         alloc: Global,
@@ -112,6 +116,9 @@ impl<M: Messages> AnswersLines<Telling<'_, M>> for Session {
         answer: &Option<Answer>,
         told: &mut Telling<'_, M>,
     ) -> Option<(About, String)> {
+        if !told.messages.are_wanted() {
+            return None;
+        }
         line_message(alloc, self, number, line, answer, told)
     }
 

@@ -21,8 +21,8 @@ use c104_script::{Answer, Finding, LineFault, Request, read_line};
 use c104_switch::Reply;
 use std::alloc::Global;
 
-/// What is told about a line that was answered so, where anyone reads the messages, and what it asks where a person types
-/// it and may ask. None where there is nothing to tell, and out of memory. What was done joins the tally.
+/// What is told about a line that was answered so, and what it asks where a person types it and may ask. None where there
+/// is nothing to tell, and out of memory. What was done joins the tally.
 pub(crate) fn line_message<M: Messages>(
     alloc: Global,
     session: &Session,
@@ -31,9 +31,6 @@ pub(crate) fn line_message<M: Messages>(
     answer: &Option<Answer>,
     telling: &mut Telling<'_, M>,
 ) -> Option<(About, String)> {
-    if !telling.messages.are_wanted() {
-        return None;
-    }
     let Some(answer) = answer else {
         return None;
     };
