@@ -1,8 +1,8 @@
 -- How a reader's known bytes go to those read ahead, and from there one by one to what was taken.
-use Rattle.{c104_stream.specs.Reading.piece_before, std.proofs.Common.{List, None, Option, Some, [], ap, arith, drop, drop-cons, get_or}}
-use Rattle.std.proofs.Common.{length, min, refl, slice_range, suc, sym, take, take-append-drop, zero, ℕ, ◌++◌, ◌+◌, ◌-◌, ◌<◌, ◌==◌, ◌∙◌}
-use Rattle.std.{proofs.{Common.{◌∷◌, ◌≡◌, ◌≤◌}, lemmas.List.{drop-drop, drop-take, take_min}}, specs.Io.KnownBytes.{Consumes, Keeps}}
-use Rattle.std.specs.{Io.KnownBytes.prepend_known, List.before_first}
+use Rattle.{c104_stream.specs.Reading.piece_before, std.proofs.Common.{List, None, Option, Some, [], ap, append_assoc, arith, drop}}
+use Rattle.std.proofs.Common.{drop-cons, get_or, length, min, refl, slice_range, suc, sym, take, take-append-drop, zero, ℕ, ◌++◌, ◌+◌, ◌-◌}
+use Rattle.std.proofs.{Common.{◌<◌, ◌==◌, ◌∙◌, ◌∷◌, ◌≡◌, ◌≤◌}, Math.Nat.min-le_right, lemmas.List.{drop-drop, drop-take, drop_min}}
+use Rattle.std.{proofs.lemmas.List.{length-take-le, take_min}, specs.{Io.KnownBytes.{Consumes, Keeps, prepend_known}, List.before_first}}
 
 -- a piece that was read stands before what the reader has left
 pub filled : (old new : Option (List ℕ)) (before piece : List ℕ) → before ≡ [] → Consumes old new piece → Keeps (prepend_known before old) (prepend_known piece new)
@@ -55,3 +55,27 @@ took_before xs old front piece start end most byte is_old size is_front is_piece
     let within : length piece ≤ end - start = omega (arith, short, size) in
     let rest : drop (length piece) old ≡ slice_range xs (start + length piece) end = ap (drop (length piece)) (sym is_old) ∙ between_after xs start end (length piece) within in
     (is, sym (take-append-drop (length piece) old) ∙ ap (λ ys. ys ++ drop (length piece) old) begins ∙ ap (λ ys. piece ++ ys) rest)
+
+-- as much of what was read ahead was taken as may be
+pub took_front : (xs old : List ℕ) (start end most count : ℕ) → slice_range xs start end ≡ old → length old ≡ end - start → count ≡ min most (length old)
+    → (slice_range xs (start + length (take count old)) end ≡ drop most old) × (take count old ≡ take most old)
+took_front xs old start end most count is_old size is_count =
+    let short : count ≤ length old = omega (arith, is_count, min-le_right most (length old)) in
+    let within : count ≤ end - start = omega (arith, short, size) in (
+      ap (λ n. slice_range xs (start + n) end) (length-take-le count old short) ∙ sym (between_after xs start end count within) ∙ ap (drop count) is_old ∙ ap (λ n. drop n old) is_count ∙ drop_min most old,
+      ap (λ n. take n old) is_count ∙ take_min most old,
+    )
+
+-- and joins what was taken, behind a byte
+pub took_more : (old new left : Option (List ℕ)) (before ahead taken : List ℕ) (byte most : ℕ) → Consumes old (prepend_known before new) taken
+    → Consumes (prepend_known before new) (prepend_known ahead left) (byte ∷ []) → Consumes old (prepend_known (drop most ahead) left) ((taken ++ byte ∷ []) ++ take most ahead)
+took_more None new left before ahead taken byte most took gave = tt
+took_more (Some text) None left before ahead taken byte most took gave = absurd took
+took_more (Some text) (Some rest) None before ahead taken byte most took gave = absurd gave
+took_more (Some text) (Some rest) (Some more) before ahead taken byte most took gave =
+    let front : List ℕ = take most ahead in
+    let behind : List ℕ = drop most ahead ++ more in
+    let one : List ℕ = byte ∷ [] in
+    let whole : ahead ++ more ≡ front ++ behind = ap (λ xs. xs ++ more) (sym (take-append-drop most ahead)) ∙ append_assoc front (drop most ahead) more in
+    let joined : ((taken ++ one) ++ front) ++ behind ≡ taken ++ (one ++ (front ++ behind)) = append_assoc (taken ++ one) front behind ∙ append_assoc taken one (front ++ behind) in
+    took ∙ ap (λ xs. taken ++ xs) (gave ∙ ap (λ xs. one ++ xs) whole) ∙ sym joined

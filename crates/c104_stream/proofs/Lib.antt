@@ -1,4 +1,5 @@
 pub mod Growing
+mod FoundBytes
 pub mod KnownReads
 pub mod Prefixes
 pub mod ScriptEnds

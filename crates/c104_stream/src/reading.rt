@@ -1,10 +1,11 @@
 //! Bytes, one by one, from a reader that is asked once for each piece of them.
 ghost use Rattle.std.specs.{Io.KnownBytes.{Consumes, IsAtEnd, Keeps, prepend_known}, List.before_first, Prelude.{Err, IfOk, IfSome}};
-ghost use Rattle.std.specs.Prelude.{IsTrue, MatchBool, MatchResult, [], length, position, ◌++◌, ◌<◌, ◌==◌, ◌↔◌, ◌≡◌, ◌≤◌};
+ghost use Rattle.std.specs.Prelude.{IsTrue, MatchBool, MatchResult, OnOk, [], drop, length, position, take, ◌++◌, ◌<◌, ◌==◌, ◌↔◌, ◌≡◌, ◌≤◌};
 ghost use Rattle.c104_stream.specs.Reading.{GivesByte, StopsWithin, TakesUpTo, piece_before};
 ghost use Rattle.c104_stream.specs.declared.reading.ReadFault.TheVariants as fault;
 
 use c104_token::NoMemory;
+use memchr::memchr;
 use std::alloc::{AllocError, Global};
 use std::io::Read;
 use std::marker::Model;
@@ -119,6 +120,18 @@ impl Ahead {
         Ok(count)
     }
 
+    /// Takes what was read, but no more than `most` bytes, and adds it to the text. The reader isn't asked. The only error is
+    /// out of memory.
+    fn take(&mut self, most: usize, text: &mut Vec<u8>) -> Result<(), NoMemory>
+        ensures { OnOk result ((self.new ≡ drop most self.old) × (text.new.items ≡ text.old.items ++ take most self.old)) }
+    {
+        let ahead = &self.piece[self.start..self.end];
+        let piece = &ahead[..most.min(ahead.len())];
+        text.extend_from_slice(piece)?;
+        self.start += piece.len();
+        Ok(())
+    }
+
     /// Asks the reader for one piece, in place of what was left.
     fn read_piece<R: Read>(&mut self, reader: &mut R) -> Result<(), ReadFault>
         ensures { MatchResult result
@@ -150,11 +163,12 @@ fn before_first(bytes: &[u8], byte: u8) -> &[u8]
 }
 
 /// The first place of a byte.
+#[tactic(auto, using(crate::proofs::FoundBytes::found_first))]
 fn place_of(byte: u8, bytes: &[u8]) -> Option<usize>
     ensures place { result ≡ position (λ other. other == byte) bytes.now }
     ensures inside { IfSome result (λ place. place < length bytes.now) }
 {
-    bytes.iter().position(|other| *other == byte)
+    memchr(byte, bytes)
 }
 
 /// Reads all bytes to the end, or `most` bytes and one more. Where the reader fails, it has given at most `most`
@@ -172,6 +186,7 @@ pub fn read_up_to<R: Read>(alloc: Global, most: usize, reader: &mut R) -> Result
             return Ok(bytes);
         };
         bytes.push(byte).map_err(AllocError::from)?;
+        ahead.take(most.saturating_sub(bytes.len()), &mut bytes)?;
     }
     Ok(bytes)
 }
