@@ -1,3 +1,4 @@
 pub mod TakenCounts
 pub mod NumberSteps
 mod WiredSteps
+pub mod LatencyRows

@@ -3,6 +3,9 @@ pub mod Links
 pub mod Packets
 pub mod Rounds
 pub mod Counts
+pub mod Windows
+pub mod Latencies
+pub mod Histograms
 pub mod Summaries
 pub mod Lists
 pub mod Sights

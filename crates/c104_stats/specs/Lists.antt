@@ -1,11 +1,11 @@
 -- What is listed of a run: its packets, its links or its rounds, in the order of their table.
---     listed_packets header c      the packets, by sender and number
+--     listed_packets w header c      the packets that are measured, by sender and number
 --     listed_links plan c      the links with a wire: those of the switches, by switch and link, and then those of the terminals
 --     listed_rounds c      the rounds that are over, if they are kept, and the one that began last
 pub use Rattle.c104_stats.specs.declared.lists.{ListedLink.ListedLink, ListedPacket.ListedPacket}
 use Rattle.{c104_plan.specs.{Plans.Plan, Wiring.peer, declared.ports.Port.Port}, c104_regs.specs.declared.registers.TheConstants.LINKS}
 use Rattle.c104_stats.specs.{Counts.Counts, Links.{LinkRow, longest_at}, Numbers.share, Packets.{Arrival, PacketRow, latency}}
-use Rattle.c104_stats.specs.{Rounds.RoundRow, Summaries.ending_of}
+use Rattle.c104_stats.specs.{Rounds.RoundRow, Summaries.ending_of, Windows.{Window, is_in_window}}
 use Rattle.std.specs.Prelude.{List, None, Option, Some, [], if◌then◌else◌, is_some, ℕ, ◌%◌, ◌++◌, ◌+◌, ◌/◌, ◌∷◌}
 
 -- how long a packet took, if it arrived
@@ -17,17 +17,21 @@ latency_of p (Some a) = Some (latency p a)
 abbrev pub packet_listed : ℕ → ℕ → ℕ → PacketRow → ListedPacket
 packet_listed header t n p = record { sender = t; number = n; row = p; latency = latency_of p p.arrival; ending = ending_of header p }
 
+-- it is listed if it is measured
+abbrev pub packet_if : Window → ListedPacket → List ListedPacket
+packet_if w p = if is_in_window w p.row.sent then p ∷ [] else []
+
 -- the packets of terminal t from number n on, and those of terminals from t on
-abbrev pub packets_from : ℕ → ℕ → ℕ → List PacketRow → List ListedPacket
-packets_from header t n [] = []
-packets_from header t n (p ∷ ps) = packet_listed header t n p ∷ packets_from header t (n + 1) ps
+abbrev pub packets_from : Window → ℕ → ℕ → ℕ → List PacketRow → List ListedPacket
+packets_from w header t n [] = []
+packets_from w header t n (p ∷ ps) = packet_if w (packet_listed header t n p) ++ packets_from w header t (n + 1) ps
 
-abbrev pub senders_from : ℕ → ℕ → List (List PacketRow) → List ListedPacket
-senders_from header t [] = []
-senders_from header t (ps ∷ senders) = packets_from header t 0 ps ++ senders_from header (t + 1) senders
+abbrev pub senders_from : Window → ℕ → ℕ → List (List PacketRow) → List ListedPacket
+senders_from w header t [] = []
+senders_from w header t (ps ∷ senders) = packets_from w header t 0 ps ++ senders_from w header (t + 1) senders
 
-abbrev pub listed_packets : ℕ → Counts → List ListedPacket
-listed_packets header c = senders_from header 0 c.senders
+abbrev pub listed_packets : Window → ℕ → Counts → List ListedPacket
+listed_packets w header c = senders_from w header 0 c.senders
 
 -- a link, of a run in which something was done up to this round
 abbrev pub link_listed : ℕ → Port → LinkRow → ListedLink

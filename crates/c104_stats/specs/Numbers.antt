@@ -5,6 +5,10 @@ use Rattle.std.specs.Prelude.{if◌then◌else◌, min, nat_eq, suc, zero, ℕ, 
 abbrev pub told : ℕ → ℕ
 told n = min n 18446744073709551615
 
+-- a sum of squares, or what goes into it, in 128 bits
+abbrev pub wide : ℕ → ℕ
+wide n = min n 340282366920938463463374607431768211455
+
 -- a number of rounds, of wires or of bytes in 32 bits
 abbrev pub few : ℕ → ℕ
 few n = min n 4294967295

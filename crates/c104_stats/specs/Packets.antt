@@ -31,6 +31,10 @@ inside_packet p = record p { is_inside = true }
 abbrev pub latency : PacketRow → Arrival → ℕ
 latency p a = a.round - p.sent
 
+-- the same from the one in which its first token left its sender; 0 if none left
+abbrev pub network_latency : PacketRow → Arrival → ℕ
+network_latency p a = a.round - first_of p.left a.round
+
 module _ {X : Type 0} where
   -- a change of one thing of a list, if it is there
   abbrev pub changed_by : List X → ℕ → (X → X) → Option X → List X

@@ -89,11 +89,13 @@ switches_seen net c = each_number (links_seen net) (length net.plan.switches) c
 abbrev pub terminals_seen : Network Token → Counts → Counts
 terminals_seen net c = each_number (λ t. terminal_seen (network_terminal_view net t) t) (length net.plan.terminals) c
 
--- the counts after a network was seen for what is to be printed: of packets, and for the summary, nothing is looked at
+-- the counts after a network was seen for what is to be printed: of packets and latencies, and for the summary, nothing is looked
+-- at
 abbrev pub seen_for : Option What → Network Token → Counts → Counts
 seen_for (Some What.Rounds) net c = counts_seen c (levels_of net)
 seen_for (Some What.Links) net c = terminals_seen net (switches_seen net c)
 seen_for (Some What.Packets) net c = c
+seen_for (Some What.Latencies) net c = c
 seen_for None net c = c
 
 abbrev pub counts_of_net : Network Token → Counts → Counts

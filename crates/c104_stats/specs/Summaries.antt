@@ -1,10 +1,11 @@
 -- What the counts of a run come to.
 pub use Rattle.c104_stats.specs.declared.{endings.Ending.Ending, summaries.{Endings.Endings, Summary.Summary}, tops.{Busy.Busy, Top.Top}}
 use Rattle.{c104_plan.specs.declared.ports.Port.Port, c104_regs.specs.declared.registers.TheConstants.LINKS, c104_stats.specs.Counts.Counts}
-use Rattle.c104_stats.specs.{Links.LinkRow, Numbers.{share, told}, Packets.{Arrival, PacketRow, latency}}
-use Rattle.c104_stats.specs.declared.endings.Ending.TheVariants.{Arrived, Short, Sunk, Unfinished}
-use Rattle.std.specs.{Ordering.nat_cmp, Prelude.{Bool, IsPermutation, IsSorted, List, None, Option, Some, [], if◌then◌else◌, is_some}}
-use Rattle.std.specs.Prelude.{length, nat_lt, slice_get, ℕ, ◌%◌, ◌*◌, ◌++◌, ◌+◌, ◌-◌, ◌/◌, ◌∷◌, ◌≡◌}
+use Rattle.c104_stats.specs.{Latencies.AreLatencies, Links.LinkRow, Numbers.{share, told}, Packets.{Arrival, PacketRow}, Windows.Window}
+use Rattle.c104_stats.specs.{Windows.{is_in_window, measured_packets, window_rounds}, declared.endings.Ending.TheVariants.{Arrived, Short}}
+use Rattle.c104_stats.specs.declared.endings.Ending.TheVariants.{Sunk, Unfinished}
+use Rattle.std.specs.Prelude.{Bool, List, None, Option, Some, [], false, if◌then◌else◌, is_some, length, nat_lt, ℕ, ◌%◌, ◌*◌, ◌+◌, ◌/◌, ◌∷◌}
+use Rattle.std.specs.Prelude.{◌≡◌}
 
 -- what became of a packet, where headers have this many bytes: it arrived; its terminator is in the network or at its
 -- sender; or it is gone, with fewer bytes than a header, or else dropped by an input or cleared by a Reset
@@ -25,31 +26,6 @@ one_ending Sunk e = record e { lost = told (e.lost + 1) }
 abbrev pub endings_with : ℕ → Endings → List PacketRow → Endings
 endings_with header e [] = e
 endings_with header e (p ∷ ps) = endings_with header (one_ending (ending_of header p) e) ps
-
-abbrev pub all_endings : ℕ → Endings → List (List PacketRow) → Endings
-all_endings header e [] = e
-all_endings header e (ps ∷ senders) = all_endings header (endings_with header e ps) senders
-
--- how long each packet took that arrived
-abbrev pub latency_if : PacketRow → Option Arrival → List ℕ
-latency_if p None = []
-latency_if p (Some a) = latency p a ∷ []
-
-abbrev pub latencies : List PacketRow → List ℕ
-latencies [] = []
-latencies (p ∷ ps) = latency_if p p.arrival ++ latencies ps
-
-abbrev pub all_latencies : List (List PacketRow) → List ℕ
-all_latencies [] = []
-all_latencies (ps ∷ senders) = latencies ps ++ all_latencies senders
-
--- the place of a percentile in an ascending list of this length, by nearest rank: the first number there that at least this
--- percentage of them don't exceed
-abbrev pub rank : ℕ → ℕ → ℕ
-rank percent n = (n / 100 * percent + (n % 100 * percent + 99) / 100) - 1
-
-abbrev pub ranked : ℕ → List ℕ → Option ℕ
-ranked percent sorted = slice_get sorted (rank percent (length sorted))
 
 -- how many tokens crossed any of these links
 abbrev pub tokens_with : ℕ → List LinkRow → ℕ
@@ -82,17 +58,35 @@ top_wires k t (row ∷ rows) = top_wires (k + 1) (top_with (record { port = Port
 abbrev pub top_of : Counts → Top
 top_of c = top_wires 0 (top_links 0 no_top c.links) c.wires
 
--- what the counts of a run come to, where headers have this many bytes: latencies in some order, and these sorted
-pub record IsSummary (header : ℕ) (c : Counts) (s : Summary) : Type 0 where
+-- how many tokens packets have, each with its terminator, and others before
+abbrev pub tokens_of : ℕ → List PacketRow → ℕ
+tokens_of n [] = n
+tokens_of n (p ∷ ps) = tokens_of (told (n + (p.bytes + 1))) ps
+
+-- the same of those packets, sent in whatever round, whose terminators arrived in a round of a window
+abbrev pub is_accepted : Window → Option Arrival → Bool
+is_accepted w None = false
+is_accepted w (Some a) = is_in_window w a.round
+
+abbrev pub accepted_of : Window → ℕ → List PacketRow → ℕ
+accepted_of w n [] = n
+accepted_of w n (p ∷ ps) = accepted_of w (if is_accepted w p.arrival then told (n + (p.bytes + 1)) else n) ps
+
+abbrev pub all_accepted : Window → ℕ → List (List PacketRow) → ℕ
+all_accepted w n [] = n
+all_accepted w n (ps ∷ senders) = all_accepted w (accepted_of w n ps) senders
+
+-- tokens for each round of a window and each terminal, in thousandths, rounded down, and 0 where there is no such round or terminal
+abbrev pub load : Window → Counts → ℕ → ℕ
+load w c tokens = share tokens (told (window_rounds w c.active * length c.senders))
+
+-- what the counts of a run come to, where headers have this many bytes and the packets of a window are measured
+pub record IsSummary (header : ℕ) (w : Window) (c : Counts) (s : Summary) : Type 0 where
   pub rounds : s.rounds ≡ c.active
-  pub endings : s.endings ≡ all_endings header no_endings c.senders
-  pub sorted : List ℕ
-  pub permutation : IsPermutation (all_latencies c.senders) sorted
-  pub ascending : IsSorted nat_cmp sorted
-  pub least : s.least ≡ slice_get sorted 0
-  pub median : s.median ≡ ranked 50 sorted
-  pub ninety_five : s.ninety_five ≡ ranked 95 sorted
-  pub most : s.most ≡ ranked 100 sorted
+  pub endings : s.endings ≡ endings_with header no_endings (measured_packets w c)
+  pub latencies : AreLatencies (measured_packets w c) s.latencies
+  pub offered : s.offered ≡ load w c (tokens_of 0 (measured_packets w c))
+  pub accepted : s.accepted ≡ load w c (all_accepted w 0 c.senders)
   pub tokens : s.tokens ≡ tokens_with (tokens_with 0 c.links) c.wires
   pub top : s.top ≡ top_of c
 

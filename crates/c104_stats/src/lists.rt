@@ -1,8 +1,8 @@
-//! What is listed of a run: its packets, its links or its rounds, in the order of their table.
+//! What is listed of a run: its packets, as far as they are measured, its links or its rounds, in the order of their table.
 //!
 //! An entry has each number of its row, so that a printer computes none.
 ghost use Rattle.std.specs.Prelude.{◌≡◌, ◌++◌, IfOk, OnOk};
-ghost use Rattle.c104_stats.specs.Lists.{latency_of, link_if, link_listed, listed_links, listed_packets, listed_rounds, packet_listed};
+ghost use Rattle.c104_stats.specs.Lists.{latency_of, link_if, link_listed, listed_links, listed_packets, listed_rounds, packet_if, packet_listed};
 ghost use Rattle.c104_stats.specs.Lists.{packets_from, switch_links, terminal_links};
 
 use crate::endings::Ending;
@@ -11,6 +11,7 @@ use crate::numbers::share;
 use crate::packets::PacketRow;
 use crate::rounds::RoundRow;
 use crate::stats::Stats;
+use crate::windows::Window;
 use c104_plan::{Plan, Port};
 use c104_regs::LINKS;
 use c104_token::NoMemory;
@@ -123,33 +124,56 @@ impl ListedLink {
     }
 }
 
-/// The packets, by sender and number, where headers have this many bytes. The only error is out of memory.
+/// The packets that are measured, by sender and number, where headers have this many bytes. The only error is out of memory.
 pub fn listed_packets(
     alloc: Global,
+    window: Window,
     header: usize,
     stats: &Stats,
 ) -> Result<Vec<ListedPacket>, NoMemory>
-    ensures { IfOk result (λ list. list.items ≡ listed_packets header stats.now) }
+    ensures { IfOk result (λ list. list.items ≡ listed_packets window header stats.now) }
 {
     let mut list = Vec::new(alloc);
     let senders = stats.senders();
     for terminal in 0..senders.len() {
-        add_packets(header, terminal, senders[terminal].packets(), &mut list)?;
+        add_packets(
+            window,
+            header,
+            terminal,
+            senders[terminal].packets(),
+            &mut list,
+        )?;
     }
     Ok(list)
 }
 
-/// The packets of a terminal join the list. The only error is out of memory.
+/// Those of a terminal's packets that are measured join the list. The only error is out of memory.
 fn add_packets(
+    window: Window,
     header: usize,
     terminal: usize,
     packets: &[PacketRow],
     list: &mut Vec<ListedPacket>,
 ) -> Result<(), NoMemory>
-    ensures { OnOk result (list.new.items ≡ list.old.items ++ packets_from header terminal 0 packets.now) }
+    ensures { OnOk result (list.new.items ≡ list.old.items ++ packets_from window header terminal 0 packets.now) }
 {
     for number in 0..packets.len() {
-        list.push(ListedPacket::of(header, terminal, number, packets[number]))?;
+        let packet = ListedPacket::of(header, terminal, number, packets[number]);
+        add_packet(window, packet, list)?;
+    }
+    Ok(())
+}
+
+/// A packet joins the list, if it is measured. The only error is out of memory.
+fn add_packet(
+    window: Window,
+    packet: ListedPacket,
+    list: &mut Vec<ListedPacket>,
+) -> Result<(), NoMemory>
+    ensures { OnOk result (list.new.items ≡ list.old.items ++ packet_if window packet) }
+{
+    if window.has(packet.row.sent) {
+        list.push(packet)?;
     }
     Ok(())
 }

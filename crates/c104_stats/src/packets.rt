@@ -1,10 +1,9 @@
 //! What is counted of packets, and the packets of a terminal.
 //!
 //! A packet is counted before it is sent, when there may be no memory for its row, and taken back where it isn't sent.
-//! Percentiles are nearest ranks: each is the latency of some packet.
 ghost use Rattle.std.specs.Prelude.{OnErr, OnOk, [], ◌++◌, ◌∷◌, ◌≡◌};
 ghost use Rattle.c104_stats.specs.{Links.first_of, Packets.{all_but_last, arrived_packet, change_at, crossed_packet, inside_packet}};
-ghost use Rattle.c104_stats.specs.Packets.{latency, left_packet, sent_packet};
+ghost use Rattle.c104_stats.specs.Packets.{latency, left_packet, network_latency, sent_packet};
 
 use crate::numbers::add_saturating;
 use c104_token::NoMemory;
@@ -101,6 +100,15 @@ impl PacketRow {
         ensures { result ≡ latency self arrival }
     {
         arrival.round.saturating_sub(self.sent)
+    }
+
+    /// How many rounds it took from the one in which its first token left its sender.
+    pub(crate) fn network_latency(self, arrival: Arrival) -> u32
+        ensures { result ≡ network_latency self arrival }
+    {
+        arrival
+            .round
+            .saturating_sub(first_of(self.left, arrival.round))
     }
 }
 

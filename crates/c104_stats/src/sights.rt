@@ -133,7 +133,7 @@ impl Stats {
                 see_switches(self, net);
                 see_terminals(self, net);
             }
-            Some(What::Packets) | None => {}
+            Some(What::Packets | What::Latencies) | None => {}
         }
     }
 }

@@ -25,6 +25,8 @@ use std::marker::Model;
 pub enum What {
     /// The packets that were sent.
     Packets,
+    /// Their latencies.
+    Latencies,
     /// The links with a wire.
     Links,
     /// The rounds.

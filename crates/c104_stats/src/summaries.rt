@@ -1,14 +1,16 @@
 //! What the counts of a run come to.
-ghost use Rattle.std.specs.{Ordering.nat_cmp, Prelude.{IfOk, IsPermutation, IsSorted, OnOk, slice_get, ◌++◌, ◌≡◌, ◌≤◌}};
-ghost use Rattle.c104_stats.specs.Summaries.{IsSummary, all_endings, all_latencies, busy_share, endings_with, latencies, latency_if};
-ghost use Rattle.c104_stats.specs.Summaries.{no_endings, one_ending, ranked, sent_count, token_rate, tokens_with, top_of};
+ghost use Rattle.std.specs.Prelude.{IfOk, if◌then◌else◌, ◌+◌, ◌≡◌};
+ghost use Rattle.c104_stats.specs.{Numbers.told, Summaries.{IsSummary, accepted_of, all_accepted, busy_share, endings_with}};
+ghost use Rattle.c104_stats.specs.Summaries.{is_accepted, load, no_endings, one_ending, sent_count, token_rate, tokens_of, tokens_with, top_of};
 
 use crate::endings::Ending;
+use crate::latencies::Latencies;
 use crate::links::LinkRow;
 use crate::numbers::share;
-use crate::packets::PacketRow;
+use crate::packets::{Arrival, PacketRow};
 use crate::stats::Stats;
 use crate::tops::{Busy, Top, top_of};
+use crate::windows::{Window, measured_packets};
 use c104_token::NoMemory;
 use std::alloc::Global;
 
@@ -23,19 +25,20 @@ pub struct Endings {
     pub lost: u64,
 }
 
-/// What the counts of a run come to.
+/// What the counts of a run come to, where packets are measured that were sent in some of its rounds.
 #[derive(Clone, Copy)]
 pub struct Summary {
     /// The last round in which something was done.
     pub rounds: u32,
-    /// What became of the packets.
+    /// What became of the packets that are measured.
     pub endings: Endings,
-    /// How many rounds the quickest packet took that arrived; the one in the middle; the one that 95 of 100 weren't slower
-    /// than; and the slowest. None where none arrived.
-    pub least: Option<u32>,
-    pub median: Option<u32>,
-    pub ninety_five: Option<u32>,
-    pub most: Option<u32>,
+    /// How many rounds they took that arrived.
+    pub latencies: Latencies,
+    /// How many tokens they have for each of these rounds and each terminal, in thousandths, rounded down; 0 of no round, and
+    /// of no terminal.
+    pub offered: u64,
+    /// The same of the packets that arrived in these rounds.
+    pub accepted: u64,
     /// How many tokens crossed a wire.
     pub tokens: u64,
     /// The busiest links.
@@ -43,12 +46,22 @@ pub struct Summary {
 }
 
 impl Summary {
-    /// What the counts of a run come to, where headers have this many bytes. The only error is out of memory.
-    pub fn of(alloc: Global, header: usize, stats: &Stats) -> Result<Self, NoMemory>
-        ensures { IfOk result (λ summary. IsSummary header stats.now summary) }
+    /// What the counts of a run come to, where headers have this many bytes and packets are measured that were sent in these
+    /// rounds. The only error is out of memory.
+    pub fn of(alloc: Global, header: usize, window: Window, stats: &Stats) -> Result<Self, NoMemory>
+        ensures { IfOk result (λ summary. IsSummary header window stats.now summary) }
     {
-        let latencies = sorted_latencies(alloc, stats)?;
-        Ok(sum_up(header, stats, latencies.as_slice()))
+        let packets = measured_packets(alloc, window, stats)?;
+        let latencies = Latencies::of(alloc, packets.as_slice())?;
+        Ok(Summary {
+            rounds: stats.active(),
+            endings: endings_of(header, packets.as_slice()),
+            latencies,
+            offered: load(window, stats, tokens_of(packets.as_slice())),
+            accepted: load(window, stats, accepted_tokens(window, stats)),
+            tokens: crossed_tokens(stats),
+            top: top_of(stats),
+        })
     }
 
     /// How many tokens crossed a wire in a round on average, those before the first among them, in thousandths, rounded
@@ -64,24 +77,6 @@ impl Summary {
         ensures { result ≡ busy_share self.now link }
     {
         share(link.busy, u64::from(self.rounds))
-    }
-}
-
-/// What the counts of a run come to, where these are its latencies, ascending.
-fn sum_up(header: usize, stats: &Stats, sorted: &[u32]) -> Summary
-    ensures { IsPermutation (all_latencies stats.now.senders) sorted.now → IsSorted nat_cmp sorted.now →
-        IsSummary header stats.now result }
-{
-    let of_links = add_tokens(0, stats.links());
-    Summary {
-        rounds: stats.active(),
-        endings: all_endings(header, stats),
-        least: least_of(sorted),
-        median: ranked(50, sorted),
-        ninety_five: ranked(95, sorted),
-        most: ranked(100, sorted),
-        tokens: add_tokens(of_links, stats.wires()),
-        top: top_of(stats),
     }
 }
 
@@ -127,86 +122,94 @@ impl Endings {
     }
 }
 
-/// What became of the packets of a run.
-fn all_endings(header: usize, stats: &Stats) -> Endings
-    ensures { result ≡ all_endings header no_endings stats.now.senders }
+/// What became of packets, where headers have this many bytes.
+fn endings_of(header: usize, packets: &[PacketRow]) -> Endings
+    ensures { result ≡ endings_with header no_endings packets.now }
 {
     let mut endings = Endings::new();
-    let senders = stats.senders();
-    for sender in senders {
-        endings = add_endings(header, endings, sender.packets());
-    }
-    endings
-}
-
-/// The same of the packets of a terminal, beside others.
-fn add_endings(header: usize, others: Endings, packets: &[PacketRow]) -> Endings
-    ensures { result ≡ endings_with header others packets.now }
-{
-    let mut endings = others;
     for packet in packets {
         endings = endings.with(Ending::of(header, *packet));
     }
     endings
 }
 
-/// How long each packet took that arrived, ascending. The only error is out of memory.
-fn sorted_latencies(alloc: Global, stats: &Stats) -> Result<Vec<u32>, NoMemory>
-    ensures permutation { IfOk result (λ list. IsPermutation (all_latencies stats.now.senders) list.items) }
-    ensures ascending { IfOk result (λ list. IsSorted nat_cmp list.items) }
+/// How many tokens packets have.
+fn tokens_of(packets: &[PacketRow]) -> u64
+    ensures { result ≡ tokens_of 0 packets.now }
 {
-    let mut list = all_latencies(alloc, stats)?;
-    list.sort()?;
-    Ok(list)
+    let mut tokens = 0;
+    for packet in packets {
+        tokens = with_tokens(tokens, *packet);
+    }
+    tokens
 }
 
-/// How long each packet took that arrived, by sender and number. The only error is out of memory.
-fn all_latencies(alloc: Global, stats: &Stats) -> Result<Vec<u32>, NoMemory>
-    ensures { IfOk result (λ list. list.items ≡ all_latencies stats.now.senders) }
+/// How many tokens those packets have that arrived in these rounds, whenever they were sent.
+fn accepted_tokens(window: Window, stats: &Stats) -> u64
+    ensures { result ≡ all_accepted window 0 stats.now.senders }
 {
-    let mut list = Vec::new(alloc);
+    let mut tokens = 0;
     let senders = stats.senders();
     for sender in senders {
-        add_latencies(sender.packets(), &mut list)?;
+        tokens = add_accepted(window, tokens, sender.packets());
     }
-    Ok(list)
+    tokens
 }
 
-/// How long each of these packets took that arrived joins the list. The only error is out of memory.
-fn add_latencies(packets: &[PacketRow], list: &mut Vec<u32>) -> Result<(), NoMemory>
-    ensures { OnOk result (list.new.items ≡ list.old.items ++ latencies packets.now) }
+/// The same of the packets of a terminal, beside others.
+fn add_accepted(window: Window, others: u64, packets: &[PacketRow]) -> u64
+    ensures { result ≡ accepted_of window others packets.now }
 {
+    let mut tokens = others;
     for packet in packets {
-        add_latency(*packet, list)?;
+        tokens = with_accepted(window, tokens, *packet);
     }
-    Ok(())
+    tokens
 }
 
-/// How long a packet took joins the list, if it arrived. The only error is out of memory.
-fn add_latency(packet: PacketRow, list: &mut Vec<u32>) -> Result<(), NoMemory>
-    ensures { OnOk result (list.new.items ≡ list.old.items ++ latency_if packet packet.arrival) }
+/// The same of a packet.
+fn with_accepted(window: Window, others: u64, packet: PacketRow) -> u64
+    ensures { result ≡ (if is_accepted window packet.arrival then told (others + (packet.bytes + 1)) else others) }
 {
-    if let Some(arrival) = packet.arrival {
-        list.push(packet.latency(arrival))?;
+    if is_accepted(window, packet.arrival) {
+        with_tokens(others, packet)
+    } else {
+        others
     }
-    Ok(())
 }
 
-/// The first of these numbers, if there is one.
-fn least_of(sorted: &[u32]) -> Option<u32>
-    ensures { result ≡ slice_get sorted.now 0 }
+/// Whether a packet arrived in these rounds.
+fn is_accepted(window: Window, arrival: Option<Arrival>) -> bool
+    ensures { result ≡ is_accepted window arrival }
 {
-    sorted.first().copied()
+    match arrival {
+        Some(arrival) => window.has(arrival.round),
+        None => false,
+    }
 }
 
-/// The least of these numbers, which ascend, that this percentage of them aren't larger than. None where there is none.
-fn ranked(percent: usize, sorted: &[u32]) -> Option<u32>
-    requires { percent ≤ 100 }
-    ensures { result ≡ ranked percent sorted.now }
+/// How many tokens a packet has, with its terminator, and others.
+fn with_tokens(others: u64, packet: PacketRow) -> u64
+    ensures { result ≡ told (others + (packet.bytes + 1)) }
 {
-    let count = sorted.len();
-    let rank = count / 100 * percent + (count % 100 * percent + 99) / 100;
-    sorted.get(rank.saturating_sub(1)).copied()
+    others.saturating_add(u64::from(packet.bytes) + 1)
+}
+
+/// Tokens for each round of a window and each terminal, in thousandths, rounded down.
+fn load(window: Window, stats: &Stats, tokens: u64) -> u64
+    ensures { result ≡ load window stats.now tokens }
+{
+    let rounds = window.rounds(stats.active());
+    let terminals = stats.senders().len() as u64;
+    share(tokens, rounds.saturating_mul(terminals))
+}
+
+/// How many tokens crossed a wire.
+fn crossed_tokens(stats: &Stats) -> u64
+    ensures { result ≡ tokens_with (tokens_with 0 stats.now.links) stats.now.wires }
+{
+    let of_links = add_tokens(0, stats.links());
+    add_tokens(of_links, stats.wires())
 }
 
 /// How many tokens crossed any of these links, and others before.
