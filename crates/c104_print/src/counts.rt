@@ -1,11 +1,11 @@
-//! What is counted of a run: a table of its packets, of its links or of its rounds, or its summary.
+//! What is counted of a run: a table of its packets, of their latencies, of its links or of its rounds, or its summary.
 
 use crate::rows::{Format, Names, Rows};
 use crate::summaries::summary_text;
 use c104_plan::Plan;
 use c104_stats::{
-    Ending, ListedLink, ListedPacket, RoundRow, Stats, Summary, What, listed_links, listed_packets,
-    listed_rounds,
+    Ending, LatencyRow, ListedLink, ListedPacket, RoundRow, Stats, Summary, What, Window,
+    listed_latencies, listed_links, listed_packets, listed_rounds,
 };
 use c104_token::NoMemory;
 use std::alloc::{AllocError, Global};
@@ -15,25 +15,39 @@ const PACKET_COLUMNS: [&str; 11] = [
     "ending",
 ];
 
+const LATENCY_COLUMNS: [&str; 2] = ["latency", "packets"];
+
 const LINK_COLUMNS: [&str; 6] = ["port", "tokens", "share", "packets", "longest", "waiting"];
 
 const ROUND_COLUMNS: [&str; 6] = ["round", "waiting", "inside", "moved", "arrived", "held"];
 
-/// What is printed of the counts of a run: the table that they were made for, or else their summary. The only error is out of
-/// memory.
+/// How a run ended.
+#[derive(Clone, Copy)]
+pub struct Outcome {
+    /// How many lines of the script were refused.
+    pub refused: u64,
+    /// The last round in which something was done, of a network that stands still with tokens in it.
+    pub still: Option<u32>,
+}
+
+/// What is printed of the counts of a run: the table that they were made for, or else their summary. Packets are measured that
+/// were sent in these rounds. The only error is out of memory.
 pub fn counts_text(
     alloc: Global,
     format: Format,
     plan: &Plan,
+    window: Window,
+    outcome: Outcome,
     stats: &Stats,
 ) -> Result<String, NoMemory> {
     let text = match stats.what() {
-        Some(What::Packets) => packets_text(alloc, format, plan, stats)?,
+        Some(What::Packets) => packets_text(alloc, format, plan, window, stats)?,
+        Some(What::Latencies) => latencies_text(alloc, format, window, stats)?,
         Some(What::Links) => links_text(alloc, format, plan, stats)?,
         Some(What::Rounds) => rounds_text(alloc, format, stats)?,
         None => {
-            let summary = Summary::of(alloc, plan.header(), stats)?;
-            summary_text(alloc, format, plan, &summary)?
+            let summary = Summary::of(alloc, plan.header(), window, stats)?;
+            summary_text(alloc, format, plan, outcome, &summary)?
         }
     };
     Ok(text)
@@ -44,10 +58,11 @@ fn packets_text(
     alloc: Global,
     format: Format,
     plan: &Plan,
+    window: Window,
     stats: &Stats,
 ) -> Result<String, NoMemory> {
     let mut rows = Rows::new(alloc, format, Names::Above, &PACKET_COLUMNS)?;
-    for packet in listed_packets(alloc, plan.header(), stats)?.iter() {
+    for packet in listed_packets(alloc, window, plan.header(), stats)?.iter() {
         add_packet(&mut rows, plan, *packet)?;
     }
     Ok(rows.finish()?)
@@ -75,6 +90,26 @@ fn add_packet(rows: &mut Rows, plan: &Plan, packet: ListedPacket) -> Result<(), 
         Ending::Short => "short",
         Ending::Sunk => "sunk",
     })
+}
+
+/// The table of latencies.
+fn latencies_text(
+    alloc: Global,
+    format: Format,
+    window: Window,
+    stats: &Stats,
+) -> Result<String, NoMemory> {
+    let mut rows = Rows::new(alloc, format, Names::Above, &LATENCY_COLUMNS)?;
+    for latency in listed_latencies(alloc, window, stats)?.iter() {
+        add_latency(&mut rows, *latency)?;
+    }
+    Ok(rows.finish()?)
+}
+
+/// A latency joins the table.
+fn add_latency(rows: &mut Rows, row: LatencyRow) -> Result<(), AllocError> {
+    rows.number(u64::from(row.latency))?;
+    rows.number(row.packets)
 }
 
 /// The table of links.

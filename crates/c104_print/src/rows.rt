@@ -100,6 +100,14 @@ impl Rows {
         self.add(cell.as_str())
     }
 
+    /// A number of thousandths that may not be there.
+    pub(crate) fn thousandths_if(&mut self, number: Option<u64>) -> Result<(), AllocError> {
+        match number {
+            Some(number) => self.thousandths(number),
+            None => self.nothing(),
+        }
+    }
+
     /// A name, or a word of this emulator's own. None has a character that CSV or JSON would mark.
     pub(crate) fn word(&mut self, word: &str) -> Result<(), AllocError> {
         let mark = match self.format {
@@ -142,7 +150,7 @@ impl Rows {
         let is_last = place + 1 == self.columns.len();
         self.place = if is_last { 0 } else { place + 1 };
         match (self.format, self.names) {
-            (Format::Table, Names::Beside) => write!(self.text, "{column:<16}{cell}\n"),
+            (Format::Table, Names::Beside) => write!(self.text, "{column:<19}{cell}\n"),
             (Format::Table, Names::Above) => {
                 self.widen(place, cell.len());
                 write!(self.text, "{cell}\n")
