@@ -7,9 +7,9 @@ use crate::counted_runs::{CountedRun, count_plan};
 use crate::text_runs::write_run;
 use c104_mistakes::Messages;
 use c104_plan::{Image, Plan};
-use c104_print::{Format, counts_text};
+use c104_print::{Format, Outcome, counts_text};
 use c104_setup::{Setup, Status, read_setup};
-use c104_stats::What;
+use c104_stats::{What, Window};
 use c104_token::NoMemory;
 use std::alloc::Global;
 use std::io::{Read, Write};
@@ -21,11 +21,13 @@ pub struct Printing {
     pub what: Option<What>,
     /// How.
     pub format: Format,
+    /// The rounds in which packets are sent that are measured.
+    pub window: Window,
 }
 
 /// Reads a description, and then reads a script and does on its network, started with the image of its labels, what the
 /// script's lines ask, as `run` does; and writes, in place of the answers and of what arrived, what is counted of that: a
-/// table of packets, of links or of rounds, or a summary of all.
+/// table of packets, of latencies, of links or of rounds, or a summary of all.
 ///
 /// It tells people of each line that is faulty, refused or not ready, and at the end of what didn't arrive. A network that
 /// stands still with tokens in it is told of even where no messages are wanted, as far as there is memory for that, unless it
@@ -72,7 +74,7 @@ fn stats_setup<S: Read, W: Write, M: Messages>(
         Ok(run) => run,
         Err(halt) => return Status::of_halt(halt, 1),
     };
-    let Ok(text) = printed_text(alloc, printing.format, plan, &run, messages) else {
+    let Ok(text) = printed_text(alloc, printing, plan, &run, messages) else {
         return Status::NoMemory;
     };
     let status = write_run(text.as_bytes(), run.is_refused, writer);
@@ -85,12 +87,13 @@ fn stats_setup<S: Read, W: Write, M: Messages>(
 /// What is printed of a run. That its network stands still is told to programs, which read rows alone, as a message.
 fn printed_text<M: Messages>(
     alloc: Global,
-    format: Format,
+    printing: Printing,
     plan: &Plan,
     run: &CountedRun,
     messages: &mut M,
 ) -> Result<String, NoMemory> {
-    let mut text = counts_text(alloc, format, plan, &run.stats)?;
+    let Printing { format, window, .. } = printing;
+    let mut text = counts_text(alloc, format, plan, window, outcome_of(run), &run.stats)?;
     let Some(still) = &run.still else {
         return Ok(text);
     };
@@ -99,4 +102,12 @@ fn printed_text<M: Messages>(
         Format::Csv | Format::Json => still.tell(alloc, messages),
     }
     Ok(text)
+}
+
+/// How a run ended.
+fn outcome_of(run: &CountedRun) -> Outcome {
+    Outcome {
+        refused: 0,
+        still: run.still.as_ref().map(|still| still.round),
+    }
 }

@@ -52,7 +52,7 @@ mod tools;
 
 pub use answering::answer_script;
 pub use c104_print::Format;
-pub use c104_stats::What;
+pub use c104_stats::{What, Window};
 pub use counted_runs::{CountedRun, Still, count_plan, is_locked};
 pub use counts::{Printing, stats_command};
 pub use ended::EndedNet;
