@@ -29,6 +29,9 @@ pub struct Printing {
 /// script's lines ask, as `run` does; and writes, in place of the answers and of what arrived, what is counted of that: a
 /// table of packets, of latencies, of links or of rounds, or a summary of all.
 ///
+/// Behind the first line that is refused since a trace or an inbox is full nothing is done; that is told even where no messages
+/// are wanted, and the status is Refused.
+///
 /// It tells people of each line that is faulty, refused or not ready, and at the end of what didn't arrive. A network that
 /// stands still with tokens in it is told of even where no messages are wanted, as far as there is memory for that, unless it
 /// is written behind a table or a summary for people. How the command ends is the same whatever takes the messages does.
@@ -107,7 +110,7 @@ fn printed_text<M: Messages>(
 /// How a run ended.
 fn outcome_of(run: &CountedRun) -> Outcome {
     Outcome {
-        refused: 0,
+        refused: run.refused,
         still: run.still.as_ref().map(|still| still.round),
     }
 }
