@@ -35,4 +35,4 @@ pub use rounds::{Levels, RoundRow};
 pub use stats::{Stats, What};
 pub use summaries::{Endings, Summary};
 pub use tops::{Busy, Top};
-pub use windows::Window;
+pub use windows::{MAX_BATCHES, Window};

@@ -1,7 +1,8 @@
 //! Which packets are measured.
-ghost use Rattle.std.specs.Prelude.{IfOk, OnOk, ◌++◌, ◌≡◌};
-ghost use Rattle.c104_stats.specs.Windows.{all_rounds, is_in_window, measured_if, measured_of, measured_packets, window_rounds};
+ghost use Rattle.std.specs.Prelude.{IfOk, OnOk, ◌++◌, ◌<◌, ◌≡◌, ◌≤◌};
+ghost use Rattle.c104_stats.specs.Windows.{all_rounds, is_in_window, measured_if, measured_of, measured_packets, window_part, window_rounds};
 
+use crate::numbers::saturate_u32;
 use crate::packets::PacketRow;
 use crate::stats::Stats;
 use c104_token::NoMemory;
@@ -41,7 +42,29 @@ impl Window {
         let end = u64::from(self.to.min(last)) + 1;
         end.saturating_sub(u64::from(self.from.max(1)))
     }
+
+    /// The part of this number, from 0 on, of as many equal parts of its rounds in a run of which this is the last round. One
+    /// may be a round longer than another, and what comes before the first round is in none.
+    pub fn part(self, last: u32, number: u32, parts: u32) -> Self
+        requires number { number < parts }
+        requires parts { parts ≤ MAX_BATCHES }
+        ensures { result ≡ window_part self last number parts }
+    {
+        let rounds = self.rounds(last);
+        let first = u64::from(self.from.max(1));
+        let parts = u64::from(parts);
+        let number = u64::from(number);
+        let before = rounds * number / parts;
+        let with = rounds * (number + 1) / parts;
+        Window {
+            from: saturate_u32(first + before),
+            to: saturate_u32(first + with - 1),
+        }
+    }
 }
+
+/// How many parts of a window are told apart, at most.
+pub const MAX_BATCHES: u32 = 1_000;
 
 /// The packets that are measured, by sender and number. The only error is out of memory.
 pub(crate) fn measured_packets(
