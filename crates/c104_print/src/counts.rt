@@ -1,7 +1,7 @@
 //! What is counted of a run: a table of its packets, of their latencies, of its links or of its rounds, or its summary.
 
 use crate::rows::{Format, Names, Rows};
-use crate::summaries::summary_text;
+use crate::summaries::{batches_text, summary_text};
 use c104_plan::Plan;
 use c104_stats::{
     Ending, LatencyRow, ListedLink, ListedPacket, RoundRow, Stats, Summary, What, Window,
@@ -30,25 +30,39 @@ pub struct Outcome {
     pub still: Option<u32>,
 }
 
-/// What is printed of the counts of a run: the table that they were made for, or else their summary. Packets are measured that
-/// were sent in these rounds. The only error is out of memory.
+/// Which packets are measured.
+#[derive(Clone, Copy)]
+pub struct Measured {
+    /// Those that were sent in these rounds.
+    pub window: Window,
+    /// Into how many parts the window falls, of each of which is told in place of the summary, at most 1,000. None for the
+    /// summary.
+    pub batches: Option<u32>,
+}
+
+/// What is printed of the counts of a run: the table that they were made for, or else what is told of the batches that are
+/// asked for, or their summary. The only error is out of memory.
 pub fn counts_text(
     alloc: Global,
     format: Format,
     plan: &Plan,
-    window: Window,
+    measured: Measured,
     outcome: Outcome,
     stats: &Stats,
 ) -> Result<String, NoMemory> {
+    let Measured { window, batches } = measured;
     let text = match stats.what() {
         Some(What::Packets) => packets_text(alloc, format, plan, window, stats)?,
         Some(What::Latencies) => latencies_text(alloc, format, window, stats)?,
         Some(What::Links) => links_text(alloc, format, plan, stats)?,
         Some(What::Rounds) => rounds_text(alloc, format, stats)?,
-        None => {
-            let summary = Summary::of(alloc, plan.header(), window, stats)?;
-            summary_text(alloc, format, plan, outcome, &summary)?
-        }
+        None => match batches {
+            Some(batches) => batches_text(alloc, format, plan.header(), window, batches, stats)?,
+            None => {
+                let summary = Summary::of(alloc, plan.header(), window, stats)?;
+                summary_text(alloc, format, plan, outcome, &summary)?
+            }
+        },
     };
     Ok(text)
 }

@@ -20,7 +20,7 @@ mod states;
 mod summaries;
 
 pub use advice::{cycle_sentences, label_lines, no_cycle_text, refusal_text, row_lines};
-pub use counts::{Outcome, counts_text};
+pub use counts::{Measured, Outcome, counts_text};
 pub use drawings::{drawing_text, drawing_text_with};
 pub use over_time::{TIME_TEXT_LIMIT, TimeFault, time_picture, time_table};
 pub use rows::Format;

@@ -3,7 +3,8 @@
 use crate::counts::Outcome;
 use crate::rows::{Format, Names, Rows};
 use c104_plan::Plan;
-use c104_stats::{Latencies, Summary, Top};
+use c104_stats::{Endings, Latencies, MAX_BATCHES, Stats, Summary, Top, Window};
+use c104_token::NoMemory;
 use std::alloc::{AllocError, Global};
 
 const COLUMNS: [&str; 24] = [
@@ -33,6 +34,25 @@ const COLUMNS: [&str; 24] = [
     "third_share",
 ];
 
+const BATCH_COLUMNS: [&str; 16] = [
+    "from",
+    "to",
+    "sent",
+    "arrived",
+    "unfinished",
+    "lost",
+    "latency_least",
+    "latency_median",
+    "latency_95",
+    "latency_99",
+    "latency_most",
+    "latency_mean",
+    "latency_deviation",
+    "network_mean",
+    "offered",
+    "accepted",
+];
+
 /// The text of a summary: a line for each number for people, and else one row.
 pub(crate) fn summary_text(
     alloc: Global,
@@ -44,20 +64,54 @@ pub(crate) fn summary_text(
     let mut row = Rows::new(alloc, format, Names::Beside, &COLUMNS)?;
     add_packets(&mut row, outcome, summary)?;
     add_latencies(&mut row, &summary.latencies)?;
-    add_tokens(&mut row, summary)?;
+    add_rates(&mut row, summary)?;
+    row.thousandths(summary.token_rate())?;
     add_top(alloc, &mut row, plan, summary)?;
     row.finish()
+}
+
+/// The table of as many parts of a window: a row for each, with what is measured of it. There are at most as many as may be.
+pub(crate) fn batches_text(
+    alloc: Global,
+    format: Format,
+    header: usize,
+    window: Window,
+    batches: u32,
+    stats: &Stats,
+) -> Result<String, NoMemory> {
+    let mut rows = Rows::new(alloc, format, Names::Above, &BATCH_COLUMNS)?;
+    let batches = batches.min(MAX_BATCHES);
+    for number in 0..batches {
+        let part = window.part(stats.active(), number, batches);
+        let summary = Summary::of(alloc, header, part, stats)?;
+        add_batch(&mut rows, part, &summary)?;
+    }
+    Ok(rows.finish()?)
+}
+
+/// A part of a window joins the table.
+fn add_batch(rows: &mut Rows, part: Window, summary: &Summary) -> Result<(), AllocError> {
+    rows.number(u64::from(part.from))?;
+    rows.number(u64::from(part.to))?;
+    add_endings(rows, summary.endings)?;
+    add_latencies(rows, &summary.latencies)?;
+    add_rates(rows, summary)
 }
 
 /// How long the run was, and what became of its packets and its lines.
 fn add_packets(row: &mut Rows, outcome: Outcome, summary: &Summary) -> Result<(), AllocError> {
     row.number(u64::from(summary.rounds))?;
-    row.number(summary.endings.sent())?;
-    row.number(summary.endings.arrived)?;
-    row.number(summary.endings.unfinished)?;
-    row.number(summary.endings.lost)?;
+    add_endings(row, summary.endings)?;
     row.number(outcome.refused)?;
     row.number_if(outcome.still)
+}
+
+/// What became of the packets that are measured.
+fn add_endings(row: &mut Rows, endings: Endings) -> Result<(), AllocError> {
+    row.number(endings.sent())?;
+    row.number(endings.arrived)?;
+    row.number(endings.unfinished)?;
+    row.number(endings.lost)
 }
 
 /// How many rounds packets took.
@@ -72,11 +126,10 @@ fn add_latencies(row: &mut Rows, latencies: &Latencies) -> Result<(), AllocError
     row.thousandths_if(latencies.network_mean)
 }
 
-/// How many tokens were sent and arrived, and crossed wires.
-fn add_tokens(row: &mut Rows, summary: &Summary) -> Result<(), AllocError> {
+/// How many tokens were sent and arrived.
+fn add_rates(row: &mut Rows, summary: &Summary) -> Result<(), AllocError> {
     row.thousandths(summary.offered)?;
-    row.thousandths(summary.accepted)?;
-    row.thousandths(summary.token_rate())
+    row.thousandths(summary.accepted)
 }
 
 /// The busiest links.
