@@ -7,9 +7,9 @@ use crate::counted_runs::{CountedRun, count_plan};
 use crate::text_runs::write_run;
 use c104_mistakes::Messages;
 use c104_plan::{Image, Plan};
-use c104_print::{Format, Outcome, counts_text};
+use c104_print::{Format, Measured, Outcome, counts_text};
 use c104_setup::{Setup, Status, read_setup};
-use c104_stats::{What, Window};
+use c104_stats::What;
 use c104_token::NoMemory;
 use std::alloc::Global;
 use std::io::{Read, Write};
@@ -21,8 +21,8 @@ pub struct Printing {
     pub what: Option<What>,
     /// How.
     pub format: Format,
-    /// The rounds in which packets are sent that are measured.
-    pub window: Window,
+    /// Which packets are measured.
+    pub measured: Measured,
 }
 
 /// Reads a description, and then reads a script and does on its network, started with the image of its labels, what the
@@ -95,8 +95,12 @@ fn printed_text<M: Messages>(
     run: &CountedRun,
     messages: &mut M,
 ) -> Result<String, NoMemory> {
-    let Printing { format, window, .. } = printing;
-    let mut text = counts_text(alloc, format, plan, window, outcome_of(run), &run.stats)?;
+    let Printing {
+        format,
+        measured,
+        ..
+    } = printing;
+    let mut text = counts_text(alloc, format, plan, measured, outcome_of(run), &run.stats)?;
     let Some(still) = &run.still else {
         return Ok(text);
     };

@@ -51,7 +51,7 @@ mod timing;
 mod tools;
 
 pub use answering::answer_script;
-pub use c104_print::Format;
+pub use c104_print::{Format, Measured};
 pub use c104_stats::{What, Window};
 pub use counted_runs::{CountedRun, Still, count_plan, is_locked};
 pub use counts::{Printing, stats_command};
