@@ -78,19 +78,27 @@ pub const STATS: &str =
     "Does what the script asks, as run does, and prints numbers in place of the answers and of
 what arrived. Time is counted in rounds; what happens outside of rounds counts to the
 round before. Without --what it prints a summary: the rounds up to the last in which
-anything was done; how many packets were sent, arrived and are lost; their latencies,
-in rounds, from the least to the largest; how many tokens crossed wires in a round; and
-the three links over which tokens crossed in most rounds. A table has a row for each
+anything was done; how many packets were sent, arrived, are unfinished and are lost; how
+many lines were refused; the round after which the network stands still with tokens in
+it, if it does; latencies, in rounds, from the least to the largest, their mean and
+their standard deviation, and the mean from the first token on; how many tokens were
+sent and arrived for each round and terminal; how many crossed wires in a round; and the
+three links over which tokens crossed in most rounds. A table has a row for each
 
-  packets  that was sent: where it arrived and when, and how long it held links in vain
-  links    port with a wire: the tokens and packets that crossed from there, and in which
-           share of the rounds
-  rounds   in which anything was done: what moved, arrived, waited and was held
+  packets    that was sent: where it arrived and when, and how long it held links in vain
+  latencies  that packets had: how many of them
+  links      port with a wire: the tokens and packets that crossed from there, and in
+             which share of the rounds
+  rounds     in which anything was done: what moved, arrived, waited and was held
+
+With --from and --to the packets of the summary, of packets and of latencies are those
+that were sent in these rounds, wherever they end.
 
 CSV and JSON are for programs. A network that stands still with tokens in it is said to,
 with who waits for what: behind what is for people, and else on standard error.
 
-  c104 stats --what links --format csv network.txt events.txt > links.csv";
+  c104 stats --what links --format csv network.txt events.txt > links.csv
+  c104 stats --from 1000 --to 2999 network.txt events.txt";
 
 /// Of `check`.
 pub const CHECK: &str =

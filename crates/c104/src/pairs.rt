@@ -3,10 +3,10 @@
 use crate::command_line::Order;
 use crate::count_words::CountWords;
 use crate::opening::open_both;
-use crate::picture_words::PictureWords;
 use crate::told::Told;
 use c104_session::{
-    Asked, Format, Printing, What, draw_over_time_command, draw_state_command, stats_command,
+    Asked, Format, Printing, What, Window, draw_over_time_command, draw_state_command,
+    stats_command,
 };
 use c104_setup::Status;
 use c104_storm::storm_command;
@@ -68,7 +68,7 @@ pub fn draw_files(rt: &HostRuntime, order: Order<'_>, told: &mut Told<'_>) -> St
 /// Draws a run of two files over its rounds. A first round behind the last is a wrong word, and so is a format that there
 /// isn't.
 pub fn time_files(rt: &HostRuntime, order: Order<'_>, told: &mut Told<'_>) -> Status {
-    match asked_of(order.picture, order.counts) {
+    match asked_of(order.counts) {
         Ok(asked) => time_asked(rt, order, asked, told),
         Err(wrong) => {
             let _ = rt.eprintln(wrong);
@@ -101,15 +101,25 @@ fn time_asked(rt: &HostRuntime, order: Order<'_>, asked: Asked, told: &mut Told<
     status
 }
 
-/// Counts a run of two files. A format or a table that there isn't is a wrong word.
+/// Counts a run of two files. A format or a table that there isn't is a wrong word, and so are rounds that choose nothing.
 pub fn count_files(rt: &HostRuntime, order: Order<'_>, told: &mut Told<'_>) -> Status {
-    let Some(printing) = printing_of(order.counts) else {
-        let _ = rt.eprintln(
-            "error: the formats are table, csv and json, and the tables packets, links and rounds",
-        );
-        told.note_wrong_word();
-        return Status::Refused;
-    };
+    match printing_of(order.counts) {
+        Ok(printing) => count_printed(rt, order, printing, told),
+        Err(wrong) => {
+            let _ = rt.eprintln(wrong);
+            told.note_wrong_word();
+            Status::Refused
+        }
+    }
+}
+
+/// Counts a run of two files, and prints that so.
+fn count_printed(
+    rt: &HostRuntime,
+    order: Order<'_>,
+    printing: Printing,
+    told: &mut Told<'_>,
+) -> Status {
     let (mut description, mut script) = match open_both(
         rt,
         order.description,
@@ -132,8 +142,8 @@ pub fn count_files(rt: &HostRuntime, order: Order<'_>, told: &mut Told<'_>) -> S
 }
 
 /// The rounds that are asked for, and their format; or what is wrong.
-fn asked_of(words: PictureWords, counts: CountWords<'_>) -> Result<Asked, &'static str> {
-    let format = match counts.format {
+fn asked_of(words: CountWords<'_>) -> Result<Asked, &'static str> {
+    let format = match words.format {
         None | Some("svg") => None,
         Some(word) => match format_of(word) {
             Some(format) => Some(format),
@@ -148,14 +158,47 @@ fn asked_of(words: PictureWords, counts: CountWords<'_>) -> Result<Asked, &'stat
     }
 }
 
-/// What is to be printed, and how. None where a word names neither.
-fn printing_of(words: CountWords<'_>) -> Option<Printing> {
+/// What is to be printed, and how; or what is wrong.
+fn printing_of(words: CountWords<'_>) -> Result<Printing, &'static str> {
+    let Some((what, format)) = table_of(words) else {
+        return Err(
+            "error: the formats are table, csv and json, and the tables packets, latencies, links and rounds",
+        );
+    };
+    let window = window_of(words, what)?;
+    Ok(Printing {
+        what,
+        format,
+        window,
+    })
+}
+
+/// The table that is to be printed, and its format. None where a word names neither.
+fn table_of(words: CountWords<'_>) -> Option<(Option<What>, Format)> {
     let format = format_of(words.format.unwrap_or("table"))?;
     let what = match words.what {
         Some(word) => Some(what_of(word)?),
         None => None,
     };
-    Some(Printing { what, format })
+    Some((what, format))
+}
+
+/// The rounds in which packets are sent that are measured for a table, or for the summary; or what is wrong.
+fn window_of(words: CountWords<'_>, what: Option<What>) -> Result<Window, &'static str> {
+    if words.from.is_none() && words.to.is_none() {
+        return Ok(Window::all());
+    }
+    if let Some(What::Links | What::Rounds) = what {
+        return Err(
+            "error: --from and --to choose packets, for the summary, packets and latencies, and neither links nor rounds",
+        );
+    }
+    let from = words.from.unwrap_or(0);
+    let to = words.to.unwrap_or(u32::MAX);
+    if from > to {
+        return Err("error: --from comes after --to, so no packet is measured");
+    }
+    Ok(Window { from, to })
 }
 
 /// The format of this name.
@@ -172,6 +215,7 @@ fn format_of(word: &str) -> Option<Format> {
 fn what_of(word: &str) -> Option<What> {
     match word {
         "packets" => Some(What::Packets),
+        "latencies" => Some(What::Latencies),
         "links" => Some(What::Links),
         "rounds" => Some(What::Rounds),
         _ => None,

@@ -1,7 +1,7 @@
 //! What the command line says of a picture.
 
 use crate::command_line::{SCRIPT, add_argument, flag, script_argument, valued};
-use crate::count_words::FORMAT;
+use crate::count_words::{FORMAT, FROM, TO, round_option};
 use clap::{Arg, ArgMatches, Command, value_parser};
 use std::alloc::{AllocError, Global};
 
@@ -16,10 +16,6 @@ pub struct PictureWords {
     pub state: bool,
     /// Whether it is of a script's run over its rounds.
     pub over_time: bool,
-    /// The first of these that is drawn, from 0 for what comes before the first round, if it is said.
-    pub from: Option<u32>,
-    /// The last of these that is drawn, if it is said.
-    pub to: Option<u32>,
 }
 
 impl PictureWords {
@@ -29,8 +25,6 @@ impl PictureWords {
         cycles: false,
         state: false,
         over_time: false,
-        from: None,
-        to: None,
     };
 
     /// What words that were matched say.
@@ -40,8 +34,6 @@ impl PictureWords {
             cycles: given.get_flag(CYCLES),
             state: given.get_flag(STATE),
             over_time: given.get_flag(OVER_TIME),
-            from: given.get_one(FROM),
-            to: given.get_one(TO),
         }
     }
 }
@@ -61,17 +53,13 @@ const STATE: &str = "state";
 
 const STATE_HELP: &str = "Show the packets under way at the end of the script";
 
-/// The option of a run over its rounds, and those of the first and the last round.
+/// The option of a run over its rounds, and what help says there of the first and the last of them, and of the format.
 const OVER_TIME: &str = "over-time";
 
 const OVER_TIME_HELP: &str = "Show the packets round by round, as SVG";
 
-const FROM: &str = "from";
-
 const FROM_HELP: &str =
     "The first round shown; by default that of the first token that crosses a wire";
-
-const TO: &str = "to";
 
 const TO_HELP: &str =
     "The last round shown; by default the last one, or a few after the last in which anything was done";
@@ -111,8 +99,11 @@ fn add_script<'a>(alloc: Global, arguments: &mut Vec<Arg<'a>>) -> Result<(), All
 
 /// `[--from R] [--to R] [--format F]`, with `--over-time`.
 fn add_rounds<'a>(alloc: Global, arguments: &mut Vec<Arg<'a>>) -> Result<(), AllocError> {
-    add_argument(arguments, round_option(alloc, FROM, FROM_HELP))?;
-    add_argument(arguments, round_option(alloc, TO, TO_HELP))?;
+    add_argument(
+        arguments,
+        rounds_option(round_option(alloc, FROM, FROM_HELP)),
+    )?;
+    add_argument(arguments, rounds_option(round_option(alloc, TO, TO_HELP)))?;
     add_argument(arguments, format_option(alloc))
 }
 
@@ -140,18 +131,13 @@ fn script_option<'a>(option: Arg<'a>) -> Result<Arg<'a>, AllocError> {
         .conflicts_with(CYCLES)
 }
 
-/// `--from R` or `--to R`. What is wanted but stands against another word isn't missed, so it is said that neither goes with
-/// `--state`.
-fn round_option<'a>(alloc: Global, name: &'a str, help: &'a str) -> Result<Arg<'a>, AllocError> {
-    rounds_option(valued(alloc, name, "R", help).value_parser(value_parser!(u32)))
-}
-
 /// `--format F`.
 fn format_option<'a>(alloc: Global) -> Result<Arg<'a>, AllocError> {
     rounds_option(valued(alloc, FORMAT, "F", FORMAT_HELP))
 }
 
-/// An option of the rounds of a picture.
+/// An option of the rounds of a picture. What is wanted but stands against another word isn't missed, so it is said that none
+/// goes with `--state`.
 fn rounds_option<'a>(option: Arg<'a>) -> Result<Arg<'a>, AllocError> {
     option.requires_arg(OVER_TIME)?.conflicts_with(STATE)
 }
