@@ -11,8 +11,8 @@ use c104_commands::{
 use c104_lockup::lockup_command;
 use c104_mistakes::Silent;
 use c104_session::{
-    Asked, Format, Printing, What, debug_command, draw_over_time_command, draw_state_command, run,
-    run_text, stats_command,
+    Asked, Format, Printing, What, Window, debug_command, draw_over_time_command,
+    draw_state_command, run, run_text, stats_command,
 };
 use c104_setup::Status;
 use c104_storm::storm_command;
@@ -39,16 +39,24 @@ const ALL_AS_ROWS: Asked = Asked {
     format: Some(Format::Json),
 };
 
+/// All packets are measured.
+const ALL_PACKETS: Window = Window {
+    from: 0,
+    to: u32::MAX,
+};
+
 /// Links are counted.
 const LINKS_AS_ROWS: Printing = Printing {
     what: Some(What::Links),
     format: Format::Csv,
+    window: ALL_PACKETS,
 };
 
 /// What all comes to is counted.
 const SUMMARY_AS_TABLE: Printing = Printing {
     what: None,
     format: Format::Table,
+    window: ALL_PACKETS,
 };
 
 /// Two switches that lock up: before each packet of a terminal its input puts the random header of the other switch, from
