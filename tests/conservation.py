@@ -7,6 +7,7 @@ each round was over too.
 
 import csv
 import io
+import math
 
 TABLES = ('packets', 'links', 'rounds')
 
@@ -65,11 +66,53 @@ def gains_a_token(network, packets, rounds):
     return False
 
 
-def ranks(packets):
-    """The latencies that a summary tells, by their names, each by its nearest rank; none where nothing arrived."""
-    found = sorted(it['latency'] for it in packets if 'latency' in it)
-    shares = {'latency_least': 0, 'latency_median': 50, 'latency_95': 95, 'latency_most': 100}
-    return {name: found[max(-(-len(found) * share // 100), 1) - 1] for name, share in shares.items()} if found else {}
+def in_thousandths(number, among=1):
+    """A share of a number of thousandths, as it is told."""
+    return '%d.%03d' % divmod(number // among, 1000)
+
+
+def latencies_of(packets):
+    """What a summary tells of the latencies of packets, by its columns' names: ranks, each by its nearest one, the mean and the
+    standard deviation, and the mean from the first token on. Nothing where nothing arrived."""
+    came = [it for it in packets if 'latency' in it]
+    found = sorted(it['latency'] for it in came)
+    n = len(found)
+    if not n:
+        return {}
+    shares = {'latency_least': 0, 'latency_median': 50, 'latency_95': 95, 'latency_99': 99, 'latency_most': 100}
+    variance = n * sum(it * it for it in found) - sum(found) ** 2
+    return {**{name: found[max(-(-n * share // 100), 1) - 1] for name, share in shares.items()},
+            'latency_mean': in_thousandths(1000 * sum(found), n),
+            'latency_deviation': in_thousandths(math.isqrt(10 ** 6 * variance), n),
+            'network_mean': in_thousandths(1000 * sum(it['arrived'] - it.get('left', it['arrived']) for it in came), n)}
+
+
+def tokens_of(packets):
+    """How many tokens packets have, each with its terminator."""
+    return sum(it['bytes'] + 1 for it in packets)
+
+
+def measured_of(packets, terminals, length, window=range(1 << 32)):
+    """What a summary tells of the packets that were sent in the rounds of a window, among all packets of a run of this length, by
+    its columns' names."""
+    sent = [it for it in packets if it['sent'] in window]
+    came = [it for it in packets if it.get('arrived', -1) in window]
+    endings = [it['ending'] for it in sent]
+    places = terminals * len([it for it in range(1, length + 1) if it in window])
+    return {'sent': len(sent), 'arrived': endings.count('arrived'), 'unfinished': endings.count('unfinished'),
+            'lost': endings.count('sunk') + endings.count('short'), **latencies_of(sent),
+            'offered': in_thousandths(1000 * tokens_of(sent), places) if places else '0.000',
+            'accepted': in_thousandths(1000 * tokens_of(came), places) if places else '0.000'}
+
+
+def terminals_of(links):
+    """How many terminals there are: a terminal is a port of which the name has no link, and each has a wire."""
+    return len([it for it in links if '.' not in it['port']])
+
+
+# What a summary tells of its packets, and of nothing else.
+MEASURED = ('sent', 'arrived', 'unfinished', 'lost', 'latency_least', 'latency_median', 'latency_95', 'latency_99', 'latency_most',
+            'latency_mean', 'latency_deviation', 'network_mean', 'offered', 'accepted')
 
 
 def wrong_counts(network, tables, summary, has_reset, gone):
@@ -77,14 +120,12 @@ def wrong_counts(network, tables, summary, has_reset, gone):
     known by hand."""
     packets, links, rounds = (tables[it] for it in TABLES)
     last = rounds[-1]
-    sent = sum(it['bytes'] + 1 for it in packets)
+    sent = tokens_of(packets)
     moved, came = (sum(it[name] for it in rounds) for name in ('moved', 'arrived'))
     left = sent - came - last['waiting'] - last['inside']
     due = Gone(network, packets, has_reset)
     # a terminal is the port of which the name has no link
     begun = sum(it['tokens'] for it in links if '.' not in it['port'])
-    endings = [it['ending'] for it in packets]
-    counted = {'sent': len(packets), 'arrived': endings.count('arrived'), 'lost': endings.count('sunk') + endings.count('short')}
     checks = {
         'tokens that are gone: %d, wanted %d to %d' % (left, due.least, due.most): due.least <= left <= due.most,
         'tokens that are gone: %d, wanted %s' % (left, gone): gone in (None, left),
@@ -93,8 +134,8 @@ def wrong_counts(network, tables, summary, has_reset, gone):
         'terminators that crossed': sum(it['packets'] for it in links) == sum(it['wires'] for it in packets),
         'latencies': all(it['latency'] == it['arrived'] - it['sent'] for it in packets if 'latency' in it),
         'tokens of each round': not gains_a_token(network, packets, rounds),
-        'packets of the summary': all(summary[name] == it for name, it in counted.items()),
-        'latencies of the summary': ranks(packets) == {name: it for name, it in summary.items() if name.startswith('latency')},
+        'packets of the summary': measured_of(packets, terminals_of(links), summary['rounds'])
+            == {name: it for name, it in summary.items() if name in MEASURED},
     }
     return next((name for name, holds in checks.items() if not holds), None)
 

@@ -8,6 +8,6 @@ set xlabel 'packets that each terminal sends in 1,000 rounds'
 set ylabel 'median latency in rounds'
 set logscale y
 set grid
-median = 9
+median = 12
 plot for [name in names] \
     sprintf("< grep '^%s,' points.csv", name) using 2:median smooth unique with linespoints title name

@@ -12,9 +12,10 @@ import os
 import re
 import subprocess
 import tempfile
+from collections import Counter
 
 from case_runner import CANNOT_WRITE, EXAMPLE_FILES, EXAMPLES, PLAN, SCRIPT_LIMIT, SCRIPT_LINE, comments
-from conservation import wrong_of
+from conservation import MEASURED, measured_of, records, terminals_of, wrong_of
 from random_networks import chance_of, network_of, packets_of
 
 # In rounds 1 to 3 a's tokens cross to A.0, in 2 to 4 from A.1 to b, and each arrives in the round in which it crosses. 5 is
@@ -34,6 +35,8 @@ row crossroads.31 1 10
 row crossroads.31 2 31
 '''
 THREE = b'send westernmost 01 68 eop\nsend westernmost 01 69 eop\nsend easternmost 00 eop\nrounds 9\n'
+# The second packet is sent in round 3. Its tokens cross to the switch in rounds 4 and 5, and from it in 5 and 6.
+APART = b'send a 01 68 eop\nrounds 3\nsend a 01 eop\nrounds 9\n'
 # Of a's packet 68 is in A, behind 01, when A is reset in round 2; its terminator leaves a in round 3. Once its row is set and
 # it is started, A finds a packet without a header in that.
 RESET = b'send a 01 68 eop\nrounds 2\ncontrol A 02\n'
@@ -52,13 +55,15 @@ easternmost    2         0.285     1         2         2
 # With 73 acts for each line A has done all that it may.
 FULL = b'table A.0\n' * 14365
 SEEDS = range(5)
-WHATS = ('packets', 'links', 'rounds')
+WHATS = ('packets', 'latencies', 'links', 'rounds')
 
 PACKETS = ('sender', 'number', 'receiver', 'bytes', 'wires', 'sent', 'left', 'arrived', 'latency', 'idle', 'ending')
+LATENCIES = ('latency', 'packets')
 LINKS = ('port', 'tokens', 'share', 'packets', 'longest', 'waiting')
 ROUNDS = ('round', 'waiting', 'inside', 'moved', 'arrived', 'held')
-COLUMNS = {'packets': PACKETS, 'links': LINKS, 'rounds': ROUNDS}
-SUMMARY = ('rounds', 'sent', 'arrived', 'lost', 'latency_least', 'latency_median', 'latency_95', 'latency_most',
+COLUMNS = {'packets': PACKETS, 'latencies': LATENCIES, 'links': LINKS, 'rounds': ROUNDS}
+SUMMARY = ('rounds', 'sent', 'arrived', 'unfinished', 'lost', 'refused', 'still', 'latency_least', 'latency_median', 'latency_95',
+           'latency_99', 'latency_most', 'latency_mean', 'latency_deviation', 'network_mean', 'offered', 'accepted',
            'tokens_a_round', 'busiest', 'busiest_share', 'second', 'second_share', 'third', 'third_share')
 # What stands for people, and in CSV, where there is nothing: in JSON it is null.
 NOTHING = {'table': '-', 'csv': ''}
@@ -68,6 +73,10 @@ BY_HAND = {
     'the packet of the first run': (PLAN, FIRST, 'packets', ('a 0 b 2 2 0 1 4 4 0 arrived',)),
     'its links': (PLAN, FIRST, 'links',
         ('A.0 0 0.000 0 0 0', 'A.1 3 0.750 1 3 1', 'a 3 0.750 1 3 3', 'b 0 0.000 0 0 0')),
+    'its latency': (PLAN, FIRST, 'latencies', ('4 1',)),
+    'two packets of one latency': (PLAN, FIRST + FIRST, 'latencies', ('4 2',)),
+    'three latencies': (WIDE, THREE, 'latencies', ('3 1', '4 1', '7 1')),
+    'no latency, since no packet arrives': (STUCK, FIRST, 'latencies', ()),
     'its rounds': (PLAN, FIRST, 'rounds',
         ('0 3 0 0 0 0', '1 2 1 1 0 1', '2 1 1 2 1 1', '3 0 1 2 1 0', '4 0 0 1 1 0', '9 0 0 0 0 0')),
     'events between rounds count to the round before': (PLAN,
@@ -100,31 +109,58 @@ BY_HAND = {
 BEFORE = b'send a 01 aa bb eop\ncredit A.0\n' + b'cross a\n' * 3
 # A description, a script, and the values of its summary.
 SUMMARIES = {
-    'the first run': (PLAN, FIRST, '4 1 1 0 4 4 4 4 1.500 A.1 0.750 a 0.750 - -'),
+    'the first run': (PLAN, FIRST,
+        '4 1 1 0 0 0 - 4 4 4 4 4 4.000 0.000 3.000 0.375 0.375 1.500 A.1 0.750 a 0.750 - -'),
     'the first run, with a packet behind it': (PLAN, FIRST + b'send b 00 eop\n',
-        '9 2 1 0 4 4 4 4 0.666 A.1 0.333 a 0.333 - -'),
+        '9 2 1 1 0 0 - 4 4 4 4 4 4.000 0.000 3.000 0.277 0.166 0.666 A.1 0.333 a 0.333 - -'),
+    # In the network they were for 2, 3 and 3 rounds.
     'three packets, each of another latency': (WIDE, THREE,
-        '7 3 3 0 3 4 7 7 2.285 crossroads.31 0.857 westernmost 0.857 crossroads.10 0.285'),
-    'nothing is asked': (PLAN, b'', '0 0 0 0 - - - - 0.000 - - - - - -'),
-    'lost packets': (NO_ROWS, b'send a 01 68 eop\nsend b eop\nrounds 9\n', '3 2 0 2 - - - - 1.333 a 1.000 b 0.333 - -'),
+        '7 3 3 0 0 0 - 3 4 7 7 7 4.666 1.699 2.666 0.571 0.571 2.285 crossroads.31 0.857 westernmost 0.857 crossroads.10 0.285'),
+    'two packets apart': (PLAN, APART,
+        '6 2 2 0 0 0 - 3 3 4 4 4 3.500 0.500 2.500 0.416 0.416 1.666 A.1 0.833 a 0.833 - -'),
+    'nothing is asked': (PLAN, b'', '0 0 0 0 0 0 - - - - - - - - - 0.000 0.000 0.000 - - - - - -'),
+    'lost packets': (NO_ROWS, b'send a 01 68 eop\nsend b eop\nrounds 9\n',
+        '3 2 0 0 2 0 - - - - - - - - - 0.666 0.000 1.333 a 1.000 b 0.333 - -'),
     # In rounds 1 and 2 A grants what it has room for.
-    'a command behind the last event': (PLAN, b'rounds 9\ncontrol A 04 00 00\n', '9 0 0 0 - - - - 0.000 - - - - - -'),
-    'a register that is read': (PLAN, b'rounds 9\npeek A 0000\n', '2 0 0 0 - - - - 0.000 - - - - - -'),
-    'a register that is set': (PLAN, b'rounds 9\npoke A 0181 7\n', '2 0 0 0 - - - - 0.000 - - - - - -'),
-    'tokens before the first round': (PLAN, BEFORE + b'rounds 1\n', '1 1 0 0 - - - - 4.000 a 1.000 - - - -'),
-    'no rounds': (PLAN, BEFORE, '0 1 0 0 - - - - 0.000 - - - - - -'),
+    'a command behind the last event': (PLAN, b'rounds 9\ncontrol A 04 00 00\n',
+        '9 0 0 0 0 0 - - - - - - - - - 0.000 0.000 0.000 - - - - - -'),
+    'a register that is read': (PLAN, b'rounds 9\npeek A 0000\n',
+        '2 0 0 0 0 0 - - - - - - - - - 0.000 0.000 0.000 - - - - - -'),
+    'a register that is set': (PLAN, b'rounds 9\npoke A 0181 7\n',
+        '2 0 0 0 0 0 - - - - - - - - - 0.000 0.000 0.000 - - - - - -'),
+    'tokens before the first round': (PLAN, BEFORE + b'rounds 1\n',
+        '1 1 0 1 0 0 - - - - - - - - - 2.000 0.000 4.000 a 1.000 - - - -'),
+    'no rounds': (PLAN, BEFORE, '0 1 0 1 0 0 - - - - - - - - - 0.000 0.000 0.000 - - - - - -'),
+    'an empty network': (b'', b'', '0 0 0 0 0 0 - - - - - - - - - 0.000 0.000 0.000 - - - - - -'),
+}
+
+# Words for a window of the run of APART, and what of the summary is of it: all but the run's length at the front, and the tokens
+# in a round and the links behind.
+WINDOWS = {
+    'the packet sent in round 3': ('--from 1 --to 3', '1 1 0 0 0 - 3 3 3 3 3 3.000 0.000 2.000 0.333 0.000'),
+    'the same, with both ends on it': ('--from 3 --to 3', '1 1 0 0 0 - 3 3 3 3 3 3.000 0.000 2.000 1.000 0.000'),
+    'the packet sent before the first round': ('--to 2', '1 1 0 0 0 - 4 4 4 4 4 4.000 0.000 3.000 0.750 0.000'),
+    'no round': ('--to 0', '1 1 0 0 0 - 4 4 4 4 4 4.000 0.000 3.000 0.000 0.000'),
+    'no packet, and the rounds in which both arrive': ('--from 4', '0 0 0 0 0 - - - - - - - - - 0.000 0.833'),
+    'no packet, and the round in which one arrives': ('--from 4 --to 4', '0 0 0 0 0 - - - - - - - - - 0.000 1.500'),
+    'rounds behind the last': ('--from 7', '0 0 0 0 0 - - - - - - - - - 0.000 0.000'),
+    'all rounds': ('--from 0 --to 4294967295', '2 2 0 0 0 - 3 3 4 4 4 3.500 0.500 2.500 0.416 0.416'),
 }
 
 # Of runs that a Reset cuts, how many tokens are gone. 01 has come to b, and 68 is cleared. The terminator that comes behind it
 # waits in A, or once A is started is dropped there as a packet without a header.
 GONE = {'a Reset ends how long links were held': 1, 'a packet behind a Reset': 2}
 
+# The same of STUCK, in which a packet never ends.
+STUCK_VALUES = '3 1 0 1 0 0 3 - - - - - - - - 0.500 0.000 1.000 a 1.000 - - - -'
 STILL = b'stands still after round 3\nA.7, which has no wire, holds 3 tokens\n'
 
 SWEEP = os.path.join(EXAMPLES, 'sweep')
 LOAD, SEED = '32', '7'
 
-WRONG = (['--format', 'xml'], ['--format'], ['--what', 'switches'], ['--what'], ['--format', 'csv', '--format', 'json'], ['third'])
+WRONG = (['--format', 'xml'], ['--format'], ['--what', 'switches'], ['--what'], ['--format', 'csv', '--format', 'json'], ['third'],
+         ['--from', '2', '--to', '1'], ['--from'], ['--to', 'x'], ['--to', '4294967296'], ['--from', '1', '--from', '1'],
+         ['--what', 'links', '--from', '0'], ['--what', 'rounds', '--to', '9'])
 
 
 class Files:
@@ -143,8 +179,8 @@ class Files:
         self.room.cleanup()
 
 
-def words_of(path, what=None, form=None):
-    return ['stats', path, '-', *(['--what', what] if what else []), *(['--format', form] if form else [])]
+def words_of(path, what=None, form=None, window=()):
+    return ['stats', path, '-', *(['--what', what] if what else []), *(['--format', form] if form else []), *window]
 
 
 def cells_of(rows):
@@ -197,15 +233,36 @@ def by_hand(runner):
             read(runner, name + ': json, read', words_of(path, what, 'json'), script, objects_of(columns, rows))
 
 
+def summary_text(values):
+    """A line for each column, whose cell stands two spaces behind the longest name."""
+    return ''.join('%-19s%s\n' % pair for pair in zip(SUMMARY, values.split())).encode()
+
+
 def summaries(runner):
     for name, (description, script, values) in SUMMARIES.items():
         title = 'summary of ' + name
-        lines = ''.join('%-16s%s\n' % pair for pair in zip(SUMMARY, values.split())).encode()
+        lines = summary_text(values)
         with Files(description) as path:
             runner.case(title, lines, words=words_of(path), data=script)
             runner.case(title + ': csv', csv_text(SUMMARY, [values]), words=words_of(path, form='csv'), data=script)
             runner.case(title + ': json', json_text(SUMMARY, [values]), words=words_of(path, form='json'), data=script)
             read(runner, title + ': json, read', words_of(path, form='json'), script, objects_of(SUMMARY, [values]))
+
+
+def windows(runner):
+    """What is measured of a window, in a summary and in the tables of packets and of latencies."""
+    of_packets = {'0': 'a 0 b 2 2 0 1 4 4 0 arrived', '3': 'a 1 b 1 2 3 4 6 3 0 arrived'}
+    with Files(PLAN) as path:
+        for name, (window, values) in WINDOWS.items():
+            window = window.split()
+            bounds = dict(zip(window[::2], map(int, window[1::2])))
+            sent = [it for it in of_packets if bounds.get('--from', 0) <= int(it) <= bounds.get('--to', 9)]
+            due = csv_text(SUMMARY, ['6 %s 1.666 A.1 0.833 a 0.833 - -' % values])
+            runner.case('window of ' + name, due, words=words_of(path, form='csv', window=window), data=APART)
+            runner.case('packets of ' + name, table_text(PACKETS, [of_packets[it] for it in sent]),
+                        words=words_of(path, 'packets', window=window), data=APART)
+            runner.case('latencies of ' + name, table_text(LATENCIES, ['3 1'] * ('3' in sent) + ['4 1'] * ('0' in sent)),
+                        words=words_of(path, 'latencies', window=window), data=APART)
 
 
 def read(runner, name, words, script, due):
@@ -238,7 +295,9 @@ def standing(runner):
             name = 'stands still: ' + form
             if runner.wanted(name):
                 found = runner.run(words=words_of(path, form=form), data=FIRST)
-                good = found[0] == 0 and found[2] == errors and found[1].endswith(STILL) == (form == 'table')
+                due = {'table': summary_text(STUCK_VALUES) + STILL, 'csv': csv_text(SUMMARY, [STUCK_VALUES]),
+                       'json': json_text(SUMMARY, [STUCK_VALUES])}
+                good = found == (0, due[form], errors)
                 runner.judge(name, None if good else '%.400r' % (found,))
 
 
@@ -294,9 +353,50 @@ def random(runner, seed):
         runner.judge(name, wrong)
 
 
+def apart(chance, script):
+    """Lines of packets with rounds between them, so that they are sent in various rounds."""
+    return b''.join(line + b'rounds %d\n' % chance.randint(1, 9) * (chance.random() < 0.4) for line in script.splitlines(keepends=True))
+
+
+def wrong_window(run, packets, terminals, length, window):
+    """What of a window isn't told as the rows of the whole run have it, or None. `run` gives the rows of a table, or of the
+    summary, for words of the command line."""
+    words = [word for name, it in (('--from', window.start), ('--to', window.stop - 1)) for word in (name, str(it))]
+    if run('packets', words) != [it for it in packets if it['sent'] in window]:
+        return 'packets of %s' % window
+    due = measured_of(packets, terminals, length, window)
+    if {name: it for name, it in run(None, words)[0].items() if name in MEASURED} != due:
+        return 'summary of %s' % window
+    came = [it['latency'] for it in packets if it['sent'] in window and 'latency' in it]
+    if [(it['latency'], it['packets']) for it in run('latencies', words)] != sorted(Counter(came).items()):
+        return 'latencies of %s' % window
+    return None
+
+
+def random_windows(runner, seed):
+    """Packets of a random network, of which those of a window are measured."""
+    name = 'windows of random network %d' % seed
+    if not runner.wanted(name):
+        return
+    chance = chance_of(seed)
+    network = network_of(chance)
+    with Files(network.description) as path:
+        script = apart(chance, packets_of(chance, network, labels_of(runner, path))) + b'rounds %d\n' % chance.choice((9, 3000))
+
+        def run(what, words=()):
+            return records(runner.run(words=words_of(path, what, 'csv', words), data=script)[1])
+        packets, terminals, length = run('packets'), terminals_of(run('links')), run(None)[0]['rounds']
+        wrong = None
+        for _ in range(4):
+            first, last = sorted(chance.randint(0, length + 2) for _ in range(2))
+            wrong = wrong or wrong_window(run, packets, terminals, length, range(first, last + 1))
+        runner.judge(name, wrong)
+
+
 def randoms(runner):
     for seed in SEEDS:
         random(runner, seed)
+        random_windows(runner, seed)
 
 
 def runs_of_examples():
@@ -359,4 +459,4 @@ def sweep(runner):
     runner.judge(name, None if found == due else '%.400r' % found)
 
 
-PARTS = [by_hand, summaries, wide, held, standing, randoms, conserved, usage, failures, sweep]
+PARTS = [by_hand, summaries, windows, wide, held, standing, randoms, conserved, usage, failures, sweep]

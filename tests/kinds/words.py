@@ -5,7 +5,8 @@ help and the version.
 from case_runner import FIRST_TEXT, difference
 
 SENT = ('traffic', '-', '--packets', '1', '--bytes', '1', '--seed', '1', '--pattern')
-COUNT_WORDS = b'error: the formats are table, csv and json, and the tables packets, links and rounds\n'
+COUNT_WORDS = b'error: the formats are table, csv and json, and the tables packets, latencies, links and rounds\n'
+NO_PACKETS = b'error: --from and --to choose packets, for the summary, packets and latencies, and neither links nor rounds\n'
 LOAD = b'error: --load is a number from 0.001 to 1000, of at most three digits behind its point\n'
 TOKENS = b'error: --tokens is a number from 0.000001 to 1, of at most six digits behind its point\n'
 HOT_SPOT = b'error: a hot-spot wants --target T, its terminal, and no other pattern does\n'
@@ -14,6 +15,9 @@ HOT_SPOT = b'error: a hot-spot wants --target T, its terminal, and no other patt
 TOLD = [
     (('stats', 'a', 'b', '--format', 'svg'), COUNT_WORDS),
     (('stats', 'a', 'b', '--what', 'tokens'), COUNT_WORDS),
+    (('stats', 'a', 'b', '--from', '2', '--to', '1'), b'error: --from comes after --to, so no packet is measured\n'),
+    (('stats', 'a', 'b', '--what', 'links', '--from', '0'), NO_PACKETS),
+    (('stats', 'a', 'b', '--what', 'rounds', '--to', '9'), NO_PACKETS),
     (('draw', 'a', 'b', '--over-time', '--format', 'xml'), b'error: the formats are svg, table, csv and json\n'),
     (('draw', 'a', 'b', '--over-time', '--from', '2', '--to', '1'), b'error: --from comes after --to, so no round is shown\n'),
     ((*SENT, 'frob'), b'error: the patterns are uniform, transpose, reverse, neighbour, hot-spot, '
