@@ -15,6 +15,8 @@ pub struct CountWords<'a> {
     pub from: Option<u32>,
     /// The last, if it is said.
     pub to: Option<u32>,
+    /// Of how many equal parts of the rounds is told, if it is said.
+    pub batches: Option<usize>,
 }
 
 impl<'a> CountWords<'a> {
@@ -24,6 +26,7 @@ impl<'a> CountWords<'a> {
         what: None,
         from: None,
         to: None,
+        batches: None,
     };
 
     /// What words that were matched say.
@@ -33,6 +36,7 @@ impl<'a> CountWords<'a> {
             what: given.get_str(WHAT),
             from: given.get_one(FROM),
             to: given.get_one(TO),
+            batches: given.get_one(BATCHES),
         }
     }
 }
@@ -56,7 +60,12 @@ pub(crate) const TO: &str = "to";
 
 const TO_HELP: &str = "The last round in which packets are sent that are measured";
 
-/// `[--format F] [--what W] [--from R] [--to R]`.
+const BATCHES: &str = "batches";
+
+const BATCHES_HELP: &str =
+    "Tell of K equal parts of these rounds, 1 to 1000, in place of a summary";
+
+/// `[--format F] [--what W] [--from R] [--to R] [--batches K]`.
 pub fn with_counts<'a>(alloc: Global, named: Command<'a>) -> Result<Command<'a>, AllocError> {
     named.args(count_arguments(alloc)?)
 }
@@ -68,7 +77,13 @@ fn count_arguments<'a>(alloc: Global) -> Result<Vec<Arg<'a>>, AllocError> {
     add_argument(&mut arguments, Ok(valued(alloc, WHAT, "W", WHAT_HELP)))?;
     add_argument(&mut arguments, Ok(round_option(alloc, FROM, FROM_HELP)))?;
     add_argument(&mut arguments, Ok(round_option(alloc, TO, TO_HELP)))?;
+    add_argument(&mut arguments, Ok(batches_option(alloc)))?;
     Ok(arguments)
+}
+
+/// `--batches K`.
+fn batches_option<'a>(alloc: Global) -> Arg<'a> {
+    valued(alloc, BATCHES, "K", BATCHES_HELP).value_parser(value_parser!(usize).range(1..=1_000))
 }
 
 /// `--from R` or `--to R`.

@@ -92,7 +92,8 @@ three links over which tokens crossed in most rounds. A table has a row for each
   rounds     in which anything was done: what moved, arrived, waited and was held
 
 With --from and --to the packets of the summary, of packets and of latencies are those
-that were sent in these rounds, wherever they end.
+that were sent in these rounds, wherever they end. With --batches a table has a row for
+each of K parts of the rounds, as alike as can be.
 
 CSV and JSON are for programs. A network that stands still with tokens in it is said to,
 with who waits for what: behind what is for people, and else on standard error.

@@ -5,7 +5,7 @@ use crate::count_words::CountWords;
 use crate::opening::open_both;
 use crate::told::Told;
 use c104_session::{
-    Asked, Format, Printing, What, Window, draw_over_time_command, draw_state_command,
+    Asked, Format, Measured, Printing, What, Window, draw_over_time_command, draw_state_command,
     stats_command,
 };
 use c104_setup::Status;
@@ -165,11 +165,18 @@ fn printing_of(words: CountWords<'_>) -> Result<Printing, &'static str> {
             "error: the formats are table, csv and json, and the tables packets, latencies, links and rounds",
         );
     };
-    let window = window_of(words, what)?;
+    if what.is_some() && words.batches.is_some() {
+        return Err("error: --batches tells in place of a summary, and not beside --what");
+    }
+    let measured = Measured {
+        window: window_of(words, what)?,
+        // The command line takes at most 1,000, so the cast loses nothing.
+        batches: words.batches.map(|batches| batches as u32),
+    };
     Ok(Printing {
         what,
         format,
-        window,
+        measured,
     })
 }
 
