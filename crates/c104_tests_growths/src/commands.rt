@@ -11,7 +11,7 @@ use c104_commands::{
 use c104_lockup::lockup_command;
 use c104_mistakes::Silent;
 use c104_session::{
-    Asked, Format, Printing, What, Window, debug_command, draw_over_time_command,
+    Asked, Format, Measured, Printing, What, Window, debug_command, draw_over_time_command,
     draw_state_command, run, run_text, stats_command,
 };
 use c104_setup::Status;
@@ -39,24 +39,27 @@ const ALL_AS_ROWS: Asked = Asked {
     format: Some(Format::Json),
 };
 
-/// All packets are measured.
-const ALL_PACKETS: Window = Window {
-    from: 0,
-    to: u32::MAX,
+/// All packets are measured, and told of together.
+const ALL_PACKETS: Measured = Measured {
+    window: Window {
+        from: 0,
+        to: u32::MAX,
+    },
+    batches: None,
 };
 
 /// Links are counted.
 const LINKS_AS_ROWS: Printing = Printing {
     what: Some(What::Links),
     format: Format::Csv,
-    window: ALL_PACKETS,
+    measured: ALL_PACKETS,
 };
 
 /// What all comes to is counted.
 const SUMMARY_AS_TABLE: Printing = Printing {
     what: None,
     format: Format::Table,
-    window: ALL_PACKETS,
+    measured: ALL_PACKETS,
 };
 
 /// Two switches that lock up: before each packet of a terminal its input puts the random header of the other switch, from
