@@ -52,8 +52,11 @@ crossroads.31  6         0.857     2         3         1
 westernmost    6         0.857     2         3         6
 easternmost    2         0.285     1         2         2
 '''
-# With 73 acts for each line A has done all that it may.
-FULL = b'table A.0\n' * 14365
+# A `table` asks 73 acts and a `peek` one, so A has two left of all that it may do. In round 1 it grants at both links, and in
+# round 2 it would again.
+NEARLY_FULL = b'peek A 7fff\npeek A 0000\n' + b'table A.0\n' * 14364
+ENDS = (b'c104: -:14368: a switch or a terminal does at most 1048576 acts, and one that would act has done that many; so the run ends '
+        b'here, in round 2\n')
 SEEDS = range(5)
 WHATS = ('packets', 'latencies', 'links', 'rounds')
 
@@ -65,6 +68,7 @@ COLUMNS = {'packets': PACKETS, 'latencies': LATENCIES, 'links': LINKS, 'rounds':
 SUMMARY = ('rounds', 'sent', 'arrived', 'unfinished', 'lost', 'refused', 'still', 'latency_least', 'latency_median', 'latency_95',
            'latency_99', 'latency_most', 'latency_mean', 'latency_deviation', 'network_mean', 'offered', 'accepted',
            'tokens_a_round', 'busiest', 'busiest_share', 'second', 'second_share', 'third', 'third_share')
+BATCH = SUMMARY[1:5] + SUMMARY[7:17]
 # What stands for people, and in CSV, where there is nothing: in JSON it is null.
 NOTHING = {'table': '-', 'csv': ''}
 
@@ -94,7 +98,6 @@ BY_HAND = {
     'a line between rounds counts to the round that is over where the next begins': (PLAN,
         b'rounds 3\nsend a 01 eop\nrounds 1\n', 'rounds',
         ('0 0 0 0 0 0', '1 0 0 0 0 0', '2 0 0 0 0 0', '3 2 0 0 0 0', '4 1 1 1 0 1')),
-    'rounds that are refused': (PLAN, FULL + b'rounds 20\nrounds 4\n', 'rounds', ('0 0 0 0 0 0', '1 0 0 0 0 0', '2 0 0 0 0 0')),
     'names wider than a column': (WIDE, THREE, 'packets',
         ('westernmost 0 easternmost 2 2 0 1 4 4 0 arrived', 'westernmost 1 easternmost 2 2 0 4 7 7 0 arrived',
          'easternmost 0 westernmost 1 2 0 1 3 3 0 arrived')),
@@ -160,7 +163,8 @@ LOAD, SEED = '32', '7'
 
 WRONG = (['--format', 'xml'], ['--format'], ['--what', 'switches'], ['--what'], ['--format', 'csv', '--format', 'json'], ['third'],
          ['--from', '2', '--to', '1'], ['--from'], ['--to', 'x'], ['--to', '4294967296'], ['--from', '1', '--from', '1'],
-         ['--what', 'links', '--from', '0'], ['--what', 'rounds', '--to', '9'])
+         ['--what', 'links', '--from', '0'], ['--what', 'rounds', '--to', '9'], ['--what', 'packets', '--batches', '2'],
+         ['--batches', '0'], ['--batches', '1001'])
 
 
 class Files:
@@ -373,6 +377,23 @@ def wrong_window(run, packets, terminals, length, window):
     return None
 
 
+def wrong_batches(run, length, window, count):
+    """Which batch of a window isn't told as the summary of its rounds, or None."""
+    words = [word for name, it in (('--from', window.start), ('--to', window.stop - 1)) for word in (name, str(it))]
+    first, rounds = max(window.start, 1), len(range(max(window.start, 1), min(window.stop, length + 1)))
+    ends = [first + rounds * it // count for it in range(count + 1)]
+    rows = run(None, [*words, '--batches', str(count)])
+    if [(it['from'], it['to']) for it in rows] != [(a, b - 1) for a, b in zip(ends, ends[1:])]:
+        return 'rounds of %d batches of %s' % (count, window)
+    for row in rows:
+        begin, end = row.pop('from'), row.pop('to')
+        if begin <= end:
+            whole = run(None, ['--from', str(begin), '--to', str(end)])[0]
+            if row != {name: it for name, it in whole.items() if name in BATCH}:
+                return 'batch from %d to %d' % (begin, end)
+    return None
+
+
 def random_windows(runner, seed):
     """Packets of a random network, of which those of a window are measured."""
     name = 'windows of random network %d' % seed
@@ -389,7 +410,9 @@ def random_windows(runner, seed):
         wrong = None
         for _ in range(4):
             first, last = sorted(chance.randint(0, length + 2) for _ in range(2))
-            wrong = wrong or wrong_window(run, packets, terminals, length, range(first, last + 1))
+            window = range(first, last + 1)
+            wrong = wrong or wrong_window(run, packets, terminals, length, window)
+            wrong = wrong or wrong_batches(run, length, window, chance.randint(1, 5))
         runner.judge(name, wrong)
 
 
@@ -444,6 +467,16 @@ def failures(runner):
         runner.case('a faulty description', b'description 2: 8 SelfWire\n', 1, words=words_of(path), data=FIRST)
 
 
+def ended(runner):
+    """A run ends with the first line that is refused since a trace is full."""
+    script = b'send c eop\n' + NEARLY_FULL + b'rounds 20\nsend a 01 eop\nrounds 4\nfrob\n'
+    with Files(PLAN) as path:
+        runner.case('rounds up to a full trace', table_text(ROUNDS, ['0 0 0 0 0 0', '1 0 0 0 0 0', '2 0 0 0 0 0']), 1, ENDS,
+                    words=words_of(path, 'rounds'), data=script)
+        runner.case('lines that are refused', summary_text('1 0 0 0 0 3 - - - - - - - - - 0.000 0.000 0.000 - - - - - -'), 1, ENDS,
+                    words=words_of(path), data=script)
+
+
 def sweep(runner):
     """A point of the curve of examples/sweep is the summary of that traffic."""
     name = 'a point of the sweep'
@@ -459,4 +492,4 @@ def sweep(runner):
     runner.judge(name, None if found == due else '%.400r' % found)
 
 
-PARTS = [by_hand, summaries, windows, wide, held, standing, randoms, conserved, usage, failures, sweep]
+PARTS = [by_hand, summaries, windows, wide, held, standing, randoms, conserved, usage, failures, ended, sweep]
