@@ -1,21 +1,29 @@
 -- Workers: threads that do the parts of rounds, each through a seat. Of n workers number i has the nodes k with k mod n ≡ i.
 use Rattle.{c104_audit.specs.declared.calls.Call.Call, c104_event.specs.declared.{events.Event.Event, faults.EventFault.EventFault}}
 use Rattle.{c104_plan.specs.Plans.Plan, c104_run.specs.NodeParts.round_part, c104_workers.specs.Calls.{IsSameSeat, SeatView}}
-use Rattle.c104_workers.specs.declared.workers.RunFault.{RunFault}
+use Rattle.c104_workers.specs.{Words.{with_word, word_of}, declared.{words.Words.Words, workers.RunFault.RunFault}}
 use Rattle.std.specs.Prelude.{All, Contains, Err, List, None, Ok, Result, Some, length, slice_index_or, take, ℕ, ◌%◌, ◌++◌, ◌<◌, ◌≡◌}
 
 -- an event is in the part that a round has for a node of worker i, of n workers
-pub record IsOwnEvent (plan : Plan) (n i : ℕ) (e : Event) : Type 0 where
+pub record IsPartEvent (plan : Plan) (n i : ℕ) (e : Event) : Type 0 where
   pub node : ℕ
   pub own : node % n ≡ i
   pub part : Contains (round_part plan node) e
 
+-- an event is such a one, with the worker's word behind so many events if it is the turn of an input: whether an input is
+-- ready for its turn doesn't depend on the word
+pub record IsOwnEvent (plan : Plan) (words : Words) (n i : ℕ) (e : Event) : Type 0 where
+  pub event : Event
+  pub part : IsPartEvent plan n i event
+  pub done : ℕ
+  pub is : e ≡ with_word (word_of words i done) event
+
 -- what worker i of n did to its seat: it is the seat that it was, and its list grew by calls of such events, or of none
-pub record HasWorked (plan : Plan) (n i : ℕ) (old new : SeatView) : Type 0 where
+pub record HasWorked (plan : Plan) (words : Words) (n i : ℕ) (old new : SeatView) : Type 0 where
   pub same : IsSameSeat old new
   pub more : List Call
   pub listed : new.calls ≡ old.calls ++ more
-  pub own : All (λ c. IsOwnEvent plan n i c.event) more
+  pub own : All (λ c. IsOwnEvent plan words n i c.event) more
 
 -- the worker of a seat did all its turns
 abbrev pub WentOn : SeatView × ℕ → Type 0

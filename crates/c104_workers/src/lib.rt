@@ -6,10 +6,11 @@
 //! the order of all events.
 //!
 //! [`Fabric::apply_held`] does an event on nodes that are lent to it, and [`Fabric::apply`] takes their locks for it, the
-//! lower first. [`run_workers`] does rounds by several threads, each of which asks a [`Gate`] on its way. [`FabricPort`]
-//! takes control commands through a seat. [`Fabric::close`] ends a fabric and gives what it leaves, [`Gathered`]: the
-//! nodes, and the calls of each seat. [`Gathered::audit`] judges whether these are what one run leaves, in which the
-//! seats' calls stand and nothing else, and gives this run; [`audit_lists`] judges any [`Lists`] in the same way.
+//! lower first. [`run_workers`] does rounds by several threads, each of which asks a [`Gate`] on its way, and hands
+//! [`Words`] to inputs. [`FabricPort`] takes control commands through a seat. [`Fabric::close`] ends a fabric and gives what
+//! it leaves, [`Gathered`]: the nodes, and the calls of each seat. [`Gathered::audit`] judges whether these are what one run
+//! leaves, in which the seats' calls stand and nothing else, and gives this run; [`audit_lists`] judges any [`Lists`] in the
+//! same way.
 //!
 //! A fabric and what it leaves can't be dropped, since switches hold claims.
 #![tactic(auto)]
@@ -24,6 +25,7 @@ mod making;
 mod parts;
 mod ports;
 mod seats;
+mod words;
 mod workers;
 
 pub use c104_audit::{AuditFault, Call, Lists, NodeShape, audit_lists};
@@ -34,4 +36,5 @@ pub use gates::{Gate, OpenGate};
 pub use making::FabricFault;
 pub use ports::FabricPort;
 pub use seats::Seat;
+pub use words::Words;
 pub use workers::{RunFault, run_workers};

@@ -3,14 +3,16 @@
 //! The fault that is answered is looked up in the seats, and is that of the lowest worker, whichever stopped first. One
 //! that is out of memory between events stops with NoMemory, as at an event.
 ghost use Rattle.std.specs.Prelude.{All, IfOk, MatchBool, length, slice_index_or, ℕ, ◌%◌, ◌<◌, ◌≡◌, ◌≢◌, ◌≤◌};
-ghost use Rattle.c104_workers.specs.{Calls.SeatView, Fabrics.AreSeatsOf, Working.{EndsAs, HasWorked, IsOwnEvent}};
+ghost use Rattle.c104_workers.specs.{Calls.SeatView, Fabrics.AreSeatsOf, Working.{EndsAs, HasWorked, IsPartEvent}};
 
 use crate::fabric::Fabric;
 use crate::gates::Gate;
 use crate::parts::{Part, Stage};
 use crate::seats::Seat;
+use crate::words::Words;
 use c104_event::{Event, EventFault};
 use c104_run::round_part;
+use c104_switch::Reply;
 use c104_token::NoMemory;
 use std::alloc::Global;
 use std::sync::Wait;
@@ -29,8 +31,9 @@ pub enum RunFault {
 /// Does turns on a fabric by workers, each in a thread of its own: worker 0 through the first of these seats, and so on.
 /// Where no thread can be made, the workers run one after another. Of n workers number i has the nodes k with
 /// k mod n = i. In a turn it does the part that a round has for each of these nodes, by their numbers: it asks the node
-/// which of these events it is ready for, and does these in turn. The gate is asked before the turn, and inside each event
-/// of the part, done or not. A worker stops at its first event that is refused; an event that isn't ready is none.
+/// which of these events it is ready for, and does these in turn, the turn of an input with a word of the worker's. The gate
+/// is asked before the turn, and inside each event of the part, done or not. A worker stops at its first event that is
+/// refused; an event that isn't ready is none.
 ///
 /// There is at least one seat. What was done stays done.
 pub fn run_workers<R: Threads + Wait + Sync, G: Gate + Sync>(
@@ -39,12 +42,13 @@ pub fn run_workers<R: Threads + Wait + Sync, G: Gate + Sync>(
     fabric: &Fabric,
     seats: &mut [Seat],
     gate: &G,
+    words: Words,
     turns: u64,
 ) -> Result<(), RunFault>
     requires some { 1 ≤ length seats.old }
     requires own { AreSeatsOf fabric.now.word_id seats.old }
     ensures own { AreSeatsOf fabric.now.word_id seats.new }
-    ensures worked { (i : ℕ) (d : SeatView × ℕ) → i < length seats.old → HasWorked fabric.now.handed.plan (length seats.old) i
+    ensures worked { (i : ℕ) (d : SeatView × ℕ) → i < length seats.old → HasWorked fabric.now.handed.plan words (length seats.old) i
         (slice_index_or seats.old i d).0 (slice_index_or seats.new i d).0 }
     ensures end { EndsAs seats.new result }
 {
@@ -55,12 +59,13 @@ pub fn run_workers<R: Threads + Wait + Sync, G: Gate + Sync>(
         count,
         &|number: usize, seat: &mut Seat|
             requires { (1 ≤ count) × (seat.now.0.word_id ≡ fabric.now.word_id) }
-            ensures { HasWorked fabric.entry.now.handed.plan count number seat.entry.now.0 seat.exit.now.0 }
+            ensures { HasWorked fabric.entry.now.handed.plan words count number seat.entry.now.0 seat.exit.now.0 }
         {
             let worker = Worker {
                 rt,
                 fabric,
                 gate,
+                words,
                 number,
                 count,
             };
@@ -88,6 +93,7 @@ struct Worker<'a, R: Wait, G: Gate> {
     rt: &'a R,
     fabric: &'a Fabric,
     gate: &'a G,
+    words: Words,
     number: usize,
     // How many there are.
     count: usize,
@@ -98,7 +104,7 @@ impl<R: Wait, G: Gate> Worker<'_, R, G> {
     fn work(&self, alloc: Global, seat: &mut Seat, turns: u64)
         requires some { 1 ≤ self.now.count }
         requires word { seat.old.0.word_id ≡ self.now.fabric.now.word_id }
-        ensures { HasWorked self.now.fabric.now.handed.plan self.now.count self.now.number seat.old.0 seat.new.0 }
+        ensures { HasWorked self.now.fabric.now.handed.plan self.now.words self.now.count self.now.number seat.old.0 seat.new.0 }
     {
         let end = self.do_turns(alloc, seat, turns);
         seat.stop(end.err());
@@ -108,7 +114,7 @@ impl<R: Wait, G: Gate> Worker<'_, R, G> {
     fn do_turns(&self, alloc: Global, seat: &mut Seat, turns: u64) -> Result<(), EventFault>
         requires some { 1 ≤ self.now.count }
         requires word { seat.old.0.word_id ≡ self.now.fabric.now.word_id }
-        ensures { HasWorked self.now.fabric.now.handed.plan self.now.count self.now.number seat.old.0 seat.new.0 }
+        ensures { HasWorked self.now.fabric.now.handed.plan self.now.words self.now.count self.now.number seat.old.0 seat.new.0 }
     {
         let parts = self.own_parts(alloc)?;
         let mut ready = Vec::new(alloc);
@@ -128,9 +134,9 @@ impl<R: Wait, G: Gate> Worker<'_, R, G> {
         ready: &mut Vec<usize>,
     ) -> Result<(), EventFault>
         requires word { seat.old.0.word_id ≡ self.now.fabric.now.word_id }
-        requires own { All (λ part. All (IsOwnEvent self.now.fabric.now.handed.plan self.now.count self.now.number)
+        requires own { All (λ part. All (IsPartEvent self.now.fabric.now.handed.plan self.now.count self.now.number)
             part.events.items) parts.now }
-        ensures { HasWorked self.now.fabric.now.handed.plan self.now.count self.now.number seat.old.0 seat.new.0 }
+        ensures { HasWorked self.now.fabric.now.handed.plan self.now.words self.now.count self.now.number seat.old.0 seat.new.0 }
     {
         for part in parts {
             self.do_part(seat, part, ready)?;
@@ -146,8 +152,8 @@ impl<R: Wait, G: Gate> Worker<'_, R, G> {
         ready: &mut Vec<usize>,
     ) -> Result<(), EventFault>
         requires word { seat.old.0.word_id ≡ self.now.fabric.now.word_id }
-        requires own { All (IsOwnEvent self.now.fabric.now.handed.plan self.now.count self.now.number) part.now.events.items }
-        ensures { HasWorked self.now.fabric.now.handed.plan self.now.count self.now.number seat.old.0 seat.new.0 }
+        requires own { All (IsPartEvent self.now.fabric.now.handed.plan self.now.count self.now.number) part.now.events.items }
+        ensures { HasWorked self.now.fabric.now.handed.plan self.now.words self.now.count self.now.number seat.old.0 seat.new.0 }
     {
         for stage in [Stage::Crossings, Stage::Turns, Stage::Claims] {
             self.fabric
@@ -160,24 +166,39 @@ impl<R: Wait, G: Gate> Worker<'_, R, G> {
     /// Does the events of these numbers, up to the first that is refused.
     fn do_ready(&self, seat: &mut Seat, events: &[Event], ready: &[usize]) -> Result<(), EventFault>
         requires word { seat.old.0.word_id ≡ self.now.fabric.now.word_id }
-        requires own { All (IsOwnEvent self.now.fabric.now.handed.plan self.now.count self.now.number) events.now }
-        ensures { HasWorked self.now.fabric.now.handed.plan self.now.count self.now.number seat.old.0 seat.new.0 }
+        requires own { All (IsPartEvent self.now.fabric.now.handed.plan self.now.count self.now.number) events.now }
+        ensures { HasWorked self.now.fabric.now.handed.plan self.now.words self.now.count self.now.number seat.old.0 seat.new.0 }
     {
         for number in ready {
             let Some(event) = events.get(*number) else {
                 continue;
             };
-            self.fabric
-                .apply_by_worker(self.rt, seat, event, self.gate, self.number)?;
+            self.do_event(seat, event)?;
         }
         Ok(())
+    }
+
+    /// Does an event, the turn of an input with a word of the worker's.
+    fn do_event(&self, seat: &mut Seat, event: &Event) -> Result<Reply, EventFault>
+        requires word { seat.old.0.word_id ≡ self.now.fabric.now.word_id }
+        requires own { IsPartEvent self.now.fabric.now.handed.plan self.now.count self.now.number event.now }
+        ensures { HasWorked self.now.fabric.now.handed.plan self.now.words self.now.count self.now.number seat.old.0 seat.new.0 }
+    {
+        match self.words.hand(self.number, seat.calls().len(), event) {
+            Some(turn) => self
+                .fabric
+                .apply_by_worker(self.rt, seat, &turn, self.gate, self.number),
+            None => self
+                .fabric
+                .apply_by_worker(self.rt, seat, event, self.gate, self.number),
+        }
     }
 
     /// The parts that a round has for the worker's nodes. The only error is out of memory.
     fn own_parts(&self, alloc: Global) -> Result<Vec<Part>, NoMemory>
         requires some { 1 ≤ self.now.count }
         ensures { IfOk result (λ parts.
-            All (λ part. All (IsOwnEvent self.now.fabric.now.handed.plan self.now.count self.now.number)
+            All (λ part. All (IsPartEvent self.now.fabric.now.handed.plan self.now.count self.now.number)
             part.events.items) parts.items) }
     {
         let plan = self.fabric.plan();
