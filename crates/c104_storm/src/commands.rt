@@ -7,14 +7,15 @@ use crate::storms::{MAX_WORKERS, storm_plan};
 use c104_mistakes::Messages;
 use c104_plan::{Image, Plan};
 use c104_setup::{Setup, Status, read_setup};
+use c104_workers::Words;
 use std::alloc::Global;
 use std::io::{Read, Write};
 use std::sync::Wait;
 use std::thread::Threads;
 
 /// Reads a description, and then reads and answers the `send` lines of a script on its network, started with the image of
-/// its labels; then lets this many workers, 1 to 64, each in a thread of its own, do turns until all is quiet, and writes
-/// what the audit of their run says and what arrived.
+/// its labels; then lets this many workers, 1 to 64, each in a thread of its own, do turns until all is quiet, in which they
+/// hand such words to inputs, and writes what the audit of their run says and what arrived.
 ///
 /// It tells people of each line that is faulty or refused, at the end of what didn't arrive, and while the workers go on
 /// how many turns they have done, as of line 0. What is written and how it ends are the same whatever takes the messages
@@ -26,6 +27,7 @@ pub fn storm_command<R: Threads + Wait + Sync, D: Read, S: Read, W: Write, M: Me
     alloc: Global,
     rt: &R,
     workers: u8,
+    words: Words,
     description: &mut D,
     script: &mut S,
     writer: &mut W,
@@ -40,7 +42,9 @@ pub fn storm_command<R: Threads + Wait + Sync, D: Read, S: Read, W: Write, M: Me
         Ok(setup) => setup,
         Err(status) => return status,
     };
-    storm_setup(alloc, rt, workers, &plan, &image, script, writer, messages)
+    storm_setup(
+        alloc, rt, workers, words, &plan, &image, script, writer, messages,
+    )
 }
 
 /// The same of the network of a plan, with an image that fits it.
@@ -49,6 +53,7 @@ fn storm_setup<R: Threads + Wait + Sync, S: Read, W: Write, M: Messages>(
     alloc: Global,
     rt: &R,
     workers: u8,
+    words: Words,
     plan: &Plan,
     image: &Image,
     script: &mut S,
@@ -61,7 +66,9 @@ fn storm_setup<R: Threads + Wait + Sync, S: Read, W: Write, M: Messages>(
         (W.contents writer.old) (W.contents writer.new) result }
     ensures of_script { (n : ℕ) → result ≡ status.CannotRead n → n ≡ 1 }
 {
-    match storm_plan(alloc, rt, workers, plan, image, script, writer, messages) {
+    match storm_plan(
+        alloc, rt, workers, words, plan, image, script, writer, messages,
+    ) {
         Ok(false) => Status::Done,
         Ok(true) => Status::Refused,
         Err(halt) => Status::of_halt(halt, 1),

@@ -19,5 +19,6 @@ mod storms;
 mod telling;
 mod working;
 
+pub use c104_workers::Words;
 pub use commands::storm_command;
 pub use storms::{MAX_WORKERS, storm_plan};

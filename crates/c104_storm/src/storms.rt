@@ -14,7 +14,7 @@ use c104_mistakes::Messages;
 use c104_plan::{Image, Plan};
 use c104_script::answer_lines;
 use c104_stream::{Ahead, Halt};
-use c104_workers::{Fabric, Seat};
+use c104_workers::{Fabric, Seat, Words};
 use std::alloc::Global;
 use std::io::{Read, Write};
 use std::sync::Wait;
@@ -24,15 +24,17 @@ use std::thread::Threads;
 pub const MAX_WORKERS: u8 = 64;
 
 /// Lets a storm go over the network of a plan, started with an image that fits it: the lines of a script are answered as
-/// they are read, whose packets are sent; then workers, each in a thread of its own, do turns until all is quiet. At the
-/// end is written what the audit says, and the packets that arrived. Says whether anything was refused: the script, for
-/// its length or for one of its lines, or the storm, which isn't quiet, whose worker stopped or whose audit finds no run.
+/// they are read, whose packets are sent; then workers, each in a thread of its own, do turns with such words until all is
+/// quiet. At the end is written what the audit says, and the packets that arrived. Says whether anything was refused: the
+/// script, for its length or for one of its lines, or the storm, which isn't quiet, whose worker stopped or whose audit finds
+/// no run.
 ///
 /// Where no thread can be made, the workers do their turns one after another.
 pub fn storm_plan<R: Threads + Wait + Sync, S: Read, W: Write, M: Messages>(
     alloc: Global,
     rt: &R,
     workers: u8,
+    words: Words,
     plan: &Plan,
     image: &Image,
     script: &mut S,
@@ -45,7 +47,7 @@ pub fn storm_plan<R: Threads + Wait + Sync, S: Read, W: Write, M: Messages>(
         (W.contents writer.old) (W.contents writer.new) result }
 {
     let sending = Sending::new(alloc, plan, image)?;
-    storm_script(alloc, rt, workers, sending, script, writer, messages)
+    storm_script(alloc, rt, workers, words, sending, script, writer, messages)
 }
 
 /// The same of a network that is before the first line of the script.
@@ -53,6 +55,7 @@ fn storm_script<R: Threads + Wait + Sync, S: Read, W: Write, M: Messages>(
     alloc: Global,
     rt: &R,
     workers: u8,
+    words: Words,
     sending: Sending,
     script: &mut S,
     writer: &mut W,
@@ -65,7 +68,9 @@ fn storm_script<R: Threads + Wait + Sync, S: Read, W: Write, M: Messages>(
 {
     let mut sending = sending;
     match answer_sends(alloc, &mut sending, script, writer, messages) {
-        Ok(is_long) => storm_net(alloc, rt, workers, sending, is_long, writer, messages),
+        Ok(is_long) => storm_net(
+            alloc, rt, workers, words, sending, is_long, writer, messages,
+        ),
         Err(halt) => {
             sending.retire();
             Err(halt)
@@ -95,6 +100,7 @@ fn storm_net<R: Threads + Wait + Sync, W: Write, M: Messages>(
     alloc: Global,
     rt: &R,
     workers: u8,
+    words: Words,
     sending: Sending,
     is_long: bool,
     writer: &mut W,
@@ -107,7 +113,9 @@ fn storm_net<R: Threads + Wait + Sync, W: Write, M: Messages>(
     let Sending { net, is_faulty } = sending;
     let sent = Sent { is_long, is_faulty };
     match Fabric::new(alloc, net, usize::from(workers)) {
-        Ok((fabric, seats)) => storm_fabric(alloc, rt, fabric, seats, sent, writer, messages),
+        Ok((fabric, seats)) => storm_fabric(
+            alloc, rt, fabric, seats, words, sent, writer, messages,
+        ),
         Err((net, _)) => {
             // The number of seats is one that there may be, so that there was no memory.
             net.retire();
@@ -122,6 +130,7 @@ fn storm_fabric<R: Threads + Wait + Sync, W: Write, M: Messages>(
     rt: &R,
     fabric: Fabric,
     seats: Vec<Seat>,
+    words: Words,
     sent: Sent,
     writer: &mut W,
     messages: &mut M,
@@ -132,7 +141,7 @@ fn storm_fabric<R: Threads + Wait + Sync, W: Write, M: Messages>(
         (W.contents writer.old) (W.contents writer.new) result }
 {
     let mut seats = seats;
-    let worked = work(alloc, rt, &fabric, seats.as_mut_slice(), messages);
+    let worked = work(alloc, rt, &fabric, seats.as_mut_slice(), words, messages);
     let gathered = fabric.close(seats);
     let written = write_end(alloc, &gathered, sent, worked, writer);
     if written.is_ok() {

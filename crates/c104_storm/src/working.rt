@@ -8,7 +8,7 @@ ghost use Rattle.c104_workers.specs.Fabrics.{AreSeatsOf};
 
 use c104_event::EventFault;
 use c104_mistakes::Messages;
-use c104_workers::{Fabric, OpenGate, RunFault, Seat, run_workers};
+use c104_workers::{Fabric, OpenGate, RunFault, Seat, Words, run_workers};
 use std::alloc::Global;
 use std::sync::Wait;
 use std::thread::Threads;
@@ -30,13 +30,14 @@ pub(crate) enum Worked {
     Stopped(usize, EventFault),
 }
 
-/// Lets workers do turns, each through one of these seats, until all is quiet. Where none of them does anything in
-/// 64 turns, no later turn would. What takes the messages is told how many turns are done, of line 0.
+/// Lets workers do turns, each through one of these seats and with such words, until all is quiet. Where none of them does
+/// anything in 64 turns, no later turn would. What takes the messages is told how many turns are done, of line 0.
 pub(crate) fn work<R: Threads + Wait + Sync, M: Messages>(
     alloc: Global,
     rt: &R,
     fabric: &Fabric,
     seats: &mut [Seat],
+    words: Words,
     messages: &mut M,
 ) -> Worked
     requires some { 1 ≤ length seats.old }
@@ -51,7 +52,7 @@ pub(crate) fn work<R: Threads + Wait + Sync, M: Messages>(
         messages.progress(0, times * TURNS, MOST_TIMES * TURNS);
         let turns = u64::from(TURNS);
         if let Err(RunFault::Event(worker, fault)) = run_workers(
-            alloc, rt, fabric, seats, &OpenGate, turns,
+            alloc, rt, fabric, seats, &OpenGate, words, turns,
         ) {
             return Worked::Stopped(worker, fault);
         }
