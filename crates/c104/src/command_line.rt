@@ -8,8 +8,8 @@ use crate::count_words::{CountWords, with_counts};
 use crate::help;
 use crate::picture_words::{PictureWords, with_pictures};
 use crate::subcommands::{Row, SUBCOMMANDS, Subcommand};
-use crate::traffic_words::{TrafficWords, with_traffic};
-use c104_storm::MAX_WORKERS;
+use crate::traffic_words::{SEED, TrafficWords, with_traffic};
+use c104_storm::{MAX_WORKERS, Words as HandedWords};
 use clap::{Arg, ArgAction, ArgMatches, Command, Error, value_parser};
 use std::alloc::{AllocError, Global};
 
@@ -61,6 +61,8 @@ pub struct Order<'a> {
     pub rows: bool,
     /// How many workers a storm is to have, 1 to 64, if that is said.
     pub workers: Option<u8>,
+    /// The seed of the words by which the inputs of a storm pick random headers, if one is said.
+    pub seed: Option<u64>,
     /// The traffic of which a script is to be printed.
     pub traffic: TrafficWords<'a>,
     /// Which counts of a run are to be printed, and how.
@@ -78,6 +80,7 @@ impl<'a> Order<'a> {
         lockup: false,
         rows: false,
         workers: None,
+        seed: None,
         traffic: TrafficWords::NONE,
         counts: CountWords::NONE,
     };
@@ -99,6 +102,7 @@ impl<'a> Order<'a> {
             lockup: given.get_flag(LOCKUP),
             rows: given.get_flag(ROWS),
             workers: given.get_one(WORKERS),
+            seed: given.get_one(SEED),
             traffic: TrafficWords::of_matches(given),
             counts: CountWords::of_matches(given),
         }
@@ -121,6 +125,14 @@ impl<'a> Order<'a> {
         match self.workers {
             Some(count) if (1..=MAX_WORKERS).contains(&count) => count,
             _ => DEFAULT_WORKERS,
+        }
+    }
+
+    /// The words that the workers of a storm hand to inputs.
+    pub fn words(self) -> HandedWords {
+        match self.seed {
+            Some(seed) => HandedWords::Seeded(seed),
+            None => HandedWords::Zero,
         }
     }
 }
@@ -171,6 +183,9 @@ const WORKERS: &str = "workers";
 const WORKERS_HELP: &str = "How many threads carry the packets, 1 to 64, by default 2";
 
 const DEFAULT_WORKERS: u8 = 2;
+
+const HEADERS_SEED_HELP: &str = "Where the generator begins that picks random headers, 0 to
+18446744073709551615; without it each input takes its first";
 
 const DESCRIPTION_HELP: &str = "The description: a file, or - for standard input";
 
@@ -233,9 +248,10 @@ fn with_cycles<'a>(alloc: Global, named: Command<'a>) -> Result<Command<'a>, All
     named.arg(flag(alloc, ALL, ALL_HELP))?.arg(lockup)
 }
 
-/// `DESC SCRIPT [--workers N]`.
+/// `DESC SCRIPT [--workers N] [--seed S]`.
 fn with_workers<'a>(alloc: Global, named: Command<'a>) -> Result<Command<'a>, AllocError> {
-    with_both(alloc, named)?.arg(workers_option(alloc))
+    let named = with_both(alloc, named)?.arg(workers_option(alloc))?;
+    named.arg(headers_seed_option(alloc))
 }
 
 /// `DESC SCRIPT`.
@@ -301,4 +317,9 @@ fn workers_option<'a>(alloc: Global) -> Arg<'a> {
     valued(alloc, WORKERS, "N", WORKERS_HELP).value_parser(value_parser!(u8).range(
         1..=i64::from(MAX_WORKERS),
     ))
+}
+
+/// `--seed S`, of random headers.
+fn headers_seed_option<'a>(alloc: Global) -> Arg<'a> {
+    valued(alloc, SEED, "S", HEADERS_SEED_HELP).value_parser(value_parser!(u64))
 }

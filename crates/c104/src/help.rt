@@ -70,6 +70,9 @@ by the terminal where it arrived, the one that sent it, and its number there; or
 exit status 1, `not quiet` where tokens are left that go nowhere, `worker` with its
 number and the fault at which it stopped, or `audit` with what is wrong.
 
+An input that puts random headers before packets takes the first each time, as in rounds;
+with --seed, one by a word of a generator, of which each thread has words of its own.
+
 On a terminal, or under --explain, standard error says who waits for whom, and what
 wasn't delivered.";
 

@@ -34,6 +34,7 @@ pub fn storm_files<H: Threads + Wait + Sync>(
         rt.alloc(),
         threads,
         order.worker_count(),
+        order.words(),
         &mut description,
         &mut script,
         &mut io::writer(rt),

@@ -185,7 +185,7 @@ const BYTES: &str = "bytes";
 
 const BYTES_HELP: &str = "How many bytes behind the header of each, 0 to 4094";
 
-const SEED: &str = "seed";
+pub const SEED: &str = "seed";
 
 const SEED_HELP: &str = "Where the generator begins, 0 to 18446744073709551615";
 
