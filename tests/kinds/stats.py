@@ -10,14 +10,10 @@ import io
 import json
 import os
 import re
-import shutil
-import subprocess
 import tempfile
-import xml.etree.ElementTree
-from collections import Counter
 
 from case_runner import CANNOT_WRITE, EXAMPLE_FILES, EXAMPLES, PLAN, SCRIPT_LIMIT, SCRIPT_LINE, comments
-from conservation import MEASURED, measured_of, records, terminals_of, wrong_of
+from conservation import wrong_of
 from random_networks import chance_of, network_of, packets_of
 
 # In rounds 1 to 3 a's tokens cross to A.0, in 2 to 4 from A.1 to b, and each arrives in the round in which it crosses. 5 is
@@ -70,7 +66,6 @@ COLUMNS = {'packets': PACKETS, 'latencies': LATENCIES, 'links': LINKS, 'rounds':
 SUMMARY = ('rounds', 'sent', 'arrived', 'unfinished', 'lost', 'refused', 'still', 'latency_least', 'latency_median', 'latency_95',
            'latency_99', 'latency_most', 'latency_mean', 'latency_deviation', 'network_mean', 'offered', 'accepted',
            'tokens_a_round', 'busiest', 'busiest_share', 'second', 'second_share', 'third', 'third_share')
-BATCH = SUMMARY[1:5] + SUMMARY[7:17]
 # What stands for people, and in CSV, where there is nothing: in JSON it is null.
 NOTHING = {'table': '-', 'csv': ''}
 
@@ -139,19 +134,6 @@ SUMMARIES = {
     'an empty network': (b'', b'', '0 0 0 0 0 0 - - - - - - - - - 0.000 0.000 0.000 - - - - - -'),
 }
 
-# Words for a window of the run of APART, and what of the summary is of it: all but the run's length at the front, and the tokens
-# in a round and the links behind.
-WINDOWS = {
-    'the packet sent in round 3': ('--from 1 --to 3', '1 1 0 0 0 - 3 3 3 3 3 3.000 0.000 2.000 0.333 0.000'),
-    'the same, with both ends on it': ('--from 3 --to 3', '1 1 0 0 0 - 3 3 3 3 3 3.000 0.000 2.000 1.000 0.000'),
-    'the packet sent before the first round': ('--to 2', '1 1 0 0 0 - 4 4 4 4 4 4.000 0.000 3.000 0.750 0.000'),
-    'no round': ('--to 0', '1 1 0 0 0 - 4 4 4 4 4 4.000 0.000 3.000 0.000 0.000'),
-    'no packet, and the rounds in which both arrive': ('--from 4', '0 0 0 0 0 - - - - - - - - - 0.000 0.833'),
-    'no packet, and the round in which one arrives': ('--from 4 --to 4', '0 0 0 0 0 - - - - - - - - - 0.000 1.500'),
-    'rounds behind the last': ('--from 7', '0 0 0 0 0 - - - - - - - - - 0.000 0.000'),
-    'all rounds': ('--from 0 --to 4294967295', '2 2 0 0 0 - 3 3 4 4 4 3.500 0.500 2.500 0.416 0.416'),
-}
-
 # Of runs that a Reset cuts, how many tokens are gone. 01 has come to b, and 68 is cleared. The terminator that comes behind it
 # waits in A, or once A is started is dropped there as a packet without a header.
 GONE = {'a Reset ends how long links were held': 1, 'a packet behind a Reset': 2}
@@ -159,12 +141,6 @@ GONE = {'a Reset ends how long links were held': 1, 'a packet behind a Reset': 2
 # The same of STUCK, in which a packet never ends.
 STUCK_VALUES = '3 1 0 1 0 0 3 - - - - - - - - 0.500 0.000 1.000 a 1.000 - - - -'
 STILL = b'stands still after round 3\nA.7, which has no wire, holds 3 tokens\n'
-
-SWEEP = os.path.join(EXAMPLES, 'sweep')
-# With this seed packets are sent in the rounds at both ends of the window, and beside them.
-LOAD, SEED = '0.6', '214'
-# A network in which two thirds of the packets cross the wire between its switches.
-HALVES = b'mesh 2 1 2\n'
 
 WRONG = (['--format', 'xml'], ['--format'], ['--what', 'switches'], ['--what'], ['--format', 'csv', '--format', 'json'], ['third'],
          ['--from', '2', '--to', '1'], ['--from'], ['--to', 'x'], ['--to', '4294967296'], ['--from', '1', '--from', '1'],
@@ -258,22 +234,6 @@ def summaries(runner):
             read(runner, title + ': json, read', words_of(path, form='json'), script, objects_of(SUMMARY, [values]))
 
 
-def windows(runner):
-    """What is measured of a window, in a summary and in the tables of packets and of latencies."""
-    of_packets = {'0': 'a 0 b 2 2 0 1 4 4 0 arrived', '3': 'a 1 b 1 2 3 4 6 3 0 arrived'}
-    with Files(PLAN) as path:
-        for name, (window, values) in WINDOWS.items():
-            window = window.split()
-            bounds = dict(zip(window[::2], map(int, window[1::2])))
-            sent = [it for it in of_packets if bounds.get('--from', 0) <= int(it) <= bounds.get('--to', 9)]
-            due = csv_text(SUMMARY, ['6 %s 1.666 A.1 0.833 a 0.833 - -' % values])
-            runner.case('window of ' + name, due, words=words_of(path, form='csv', window=window), data=APART)
-            runner.case('packets of ' + name, table_text(PACKETS, [of_packets[it] for it in sent]),
-                        words=words_of(path, 'packets', window=window), data=APART)
-            runner.case('latencies of ' + name, table_text(LATENCIES, ['3 1'] * ('3' in sent) + ['4 1'] * ('0' in sent)),
-                        words=words_of(path, 'latencies', window=window), data=APART)
-
-
 def read(runner, name, words, script, due):
     """What JSON's reader makes of it."""
     if not runner.wanted(name):
@@ -362,69 +322,9 @@ def random(runner, seed):
         runner.judge(name, wrong)
 
 
-def apart(chance, script):
-    """Lines of packets with rounds between them, so that they are sent in various rounds."""
-    return b''.join(line + b'rounds %d\n' % chance.randint(1, 9) * (chance.random() < 0.4) for line in script.splitlines(keepends=True))
-
-
-def wrong_window(run, packets, terminals, length, window):
-    """What of a window isn't told as the rows of the whole run have it, or None. `run` gives the rows of a table, or of the
-    summary, for words of the command line."""
-    words = [word for name, it in (('--from', window.start), ('--to', window.stop - 1)) for word in (name, str(it))]
-    if run('packets', words) != [it for it in packets if it['sent'] in window]:
-        return 'packets of %s' % window
-    due = measured_of(packets, terminals, length, window)
-    if {name: it for name, it in run(None, words)[0].items() if name in MEASURED} != due:
-        return 'summary of %s' % window
-    came = [it['latency'] for it in packets if it['sent'] in window and 'latency' in it]
-    if [(it['latency'], it['packets']) for it in run('latencies', words)] != sorted(Counter(came).items()):
-        return 'latencies of %s' % window
-    return None
-
-
-def wrong_batches(run, length, window, count):
-    """Which batch of a window isn't told as the summary of its rounds, or None."""
-    words = [word for name, it in (('--from', window.start), ('--to', window.stop - 1)) for word in (name, str(it))]
-    first, rounds = max(window.start, 1), len(range(max(window.start, 1), min(window.stop, length + 1)))
-    ends = [first + rounds * it // count for it in range(count + 1)]
-    rows = run(None, [*words, '--batches', str(count)])
-    if [(it['from'], it['to']) for it in rows] != [(a, b - 1) for a, b in zip(ends, ends[1:])]:
-        return 'rounds of %d batches of %s' % (count, window)
-    for row in rows:
-        begin, end = row.pop('from'), row.pop('to')
-        if begin <= end:
-            whole = run(None, ['--from', str(begin), '--to', str(end)])[0]
-            if row != {name: it for name, it in whole.items() if name in BATCH}:
-                return 'batch from %d to %d' % (begin, end)
-    return None
-
-
-def random_windows(runner, seed):
-    """Packets of a random network, of which those of a window are measured."""
-    name = 'windows of random network %d' % seed
-    if not runner.wanted(name):
-        return
-    chance = chance_of(seed)
-    network = network_of(chance)
-    with Files(network.description) as path:
-        script = apart(chance, packets_of(chance, network, labels_of(runner, path))) + b'rounds %d\n' % chance.choice((9, 3000))
-
-        def run(what, words=()):
-            return records(runner.run(words=words_of(path, what, 'csv', words), data=script)[1])
-        packets, terminals, length = run('packets'), terminals_of(run('links')), run(None)[0]['rounds']
-        wrong = None
-        for _ in range(4):
-            first, last = sorted(chance.randint(0, length + 2) for _ in range(2))
-            window = range(first, last + 1)
-            wrong = wrong or wrong_window(run, packets, terminals, length, window)
-            wrong = wrong or wrong_batches(run, length, window, chance.randint(1, 5))
-        runner.judge(name, wrong)
-
-
 def randoms(runner):
     for seed in SEEDS:
         random(runner, seed)
-        random_windows(runner, seed)
 
 
 def runs_of_examples():
@@ -482,88 +382,4 @@ def ended(runner):
                     words=words_of(path), data=script)
 
 
-def swept(runner, words, folder=None):
-    """Runs a script of examples/sweep with this program: status, standard output and standard error."""
-    environment = {**os.environ, 'C104': os.path.abspath(runner.program[0])}
-    done = subprocess.run([os.path.join(SWEEP, words[0]), *words[1:]], capture_output=True, env=environment, cwd=folder)
-    return done.returncode, done.stdout.decode(), done.stderr.decode()
-
-
-def rows_by_name(text, delimiter=','):
-    return list(csv.DictReader(io.StringIO(text, newline=''), delimiter=delimiter))
-
-
-def point(runner):
-    """A point is the summary of the packets of its window, and the tokens that were sent and that arrived there."""
-    if not runner.wanted('a point of the sweep'):
-        return
-    mesh = os.path.join(SWEEP, 'mesh.txt')
-    sent = ['--pattern', 'uniform', '--packets', '6000', '--bytes', '15', '--process', 'bernoulli', '--seed', SEED, '--tokens', LOAD]
-    _, script, _ = runner.run(words=['traffic', mesh, *sent])
-    lines = re.sub(rb'rounds (\d+)', lambda it: b'\n'.join([b'rounds 1'] * int(it[1])), script).split(b'\n')
-    ends = [number for number, line in enumerate(lines) if line == b'rounds 1']
-    script = b'\n'.join([*lines[:ends[6999] + 1], b'rounds 10000', b''])
-    _, summary, _ = runner.run(words=words_of(mesh, form='csv') + ['--from', '1000', '--to', '5999'], data=script)
-    packets = rows_by_name(runner.run(words=words_of(mesh, 'packets', 'csv'), data=script)[1].decode())
-    tokens = [sum(int(it['bytes']) + 1 for it in packets if 1000 <= int(it[end] or 0) < 6000) for end in ('sent', 'arrived')]
-    found = swept(runner, ['point', mesh, LOAD, SEED])
-    due = ['mesh', LOAD, SEED, *map(str, tokens), *list(csv.reader(io.StringIO(summary.decode(), newline='')))[1]]
-    runner.judge('a point of the sweep', None if found == (0, '\t'.join(due) + '\n', '') else '%.400r' % (found,))
-
-
-def carried_loads(points):
-    """For each load of these points, whether the network carries it, over all seeds."""
-    seeds = {}
-    for row in points:
-        seeds.setdefault(float(row['load']), []).append(row)
-    return {load: all(row['sent'] == row['arrived'] and not row['still'] and row['refused'] == '0' for row in rows)
-            and 100 * sum(int(row['tokens_arrived']) for row in rows) >= 95 * sum(int(row['tokens_sent']) for row in rows)
-            for load, rows in seeds.items()}
-
-
-def wrong_of_curve(found, folder):
-    """What is wrong with a sweep over two networks that are measured, of which the ring locks up, and one that is refused."""
-    status, out, told = found
-    saturations = {name: load for load, _, _, name in (line.split(maxsplit=3) for line in out.splitlines()[1:])}
-    if status != 1 or sorted(saturations) != ['ring', 'two halves']:
-        return 'the networks are others'
-    parts = ('\n', 'ring.txt may lock up: ', 'labels-that-loop.txt is left out: ', ' missing, and the network stands still\n')
-    if [told.count(it) for it in parts] != [3, 1, 1, 1]:
-        return 'other things are told'
-    with open(os.path.join(folder, 'points.tsv')) as file:
-        points = rows_by_name(file.read(), '\t')
-    for name, saturation in saturations.items():
-        carried = carried_loads([row for row in points if row['network'] == name])
-        above = min([load for load in carried if load > float(saturation)], default=1.0001)
-        if not carried.get(float(saturation)) or carried.get(above) or above > 1.0101 * float(saturation) + 0.0001:
-            return '%s is not saturated there' % name
-    drawn = xml.etree.ElementTree.parse(os.path.join(folder, 'curve.svg'))
-    titles = {it.text for it in drawn.iter('{http://www.w3.org/2000/svg}text')}
-    wanted = {'not all packets arrive', *('%s, saturated at %s' % it for it in saturations.items())}
-    return None if wanted <= {(it or '').strip() for it in titles} else 'the picture has %r' % titles
-
-
-def sweep(runner):
-    """The curve of examples/sweep, where its tools are, from another folder and of files whose paths have spaces."""
-    if len(runner.program) > 1:
-        return
-    point(runner)
-    if not shutil.which('parallel') or not shutil.which('gnuplot'):
-        return
-    with tempfile.TemporaryDirectory(prefix='a b') as folder:
-        with open(os.path.join(folder, 'two halves.txt'), 'wb') as file:
-            file.write(HALVES)
-        shutil.copy(os.path.join(EXAMPLES, 'ring.txt'), folder)
-        shutil.copy(os.path.join(EXAMPLES, 'labels-that-loop.txt'), folder)
-        found = swept(runner, ['sweep', 'ring.txt', 'none.txt'], folder)
-        good = found == (2, '', 'sweep: cannot read none.txt\n') and len(os.listdir(folder)) == 3
-        runner.judge('a sweep over a file that is not there', None if good else '%.400r' % (found,))
-        if runner.wanted('a sweep'):
-            words = ['--seeds', '2', '--warm-up', '200', 'two halves.txt', 'ring.txt', 'labels-that-loop.txt']
-            found = swept(runner, ['sweep', *words], folder)
-            wrong = wrong_of_curve(found, folder)
-            runner.judge('a sweep', wrong and '%s: %.400r' % (wrong, found))
-
-
-
-PARTS = [by_hand, summaries, windows, wide, held, standing, randoms, conserved, usage, failures, ended, sweep]
+PARTS = [by_hand, summaries, wide, held, standing, randoms, conserved, usage, failures, ended]
