@@ -16,7 +16,7 @@ pub struct CountWords<'a> {
     /// The last, if it is said.
     pub to: Option<u32>,
     /// Of how many equal parts of the rounds is told, if it is said.
-    pub batches: Option<usize>,
+    pub batches: Option<u32>,
 }
 
 impl<'a> CountWords<'a> {
@@ -83,7 +83,7 @@ fn count_arguments<'a>(alloc: Global) -> Result<Vec<Arg<'a>>, AllocError> {
 
 /// `--batches K`.
 fn batches_option<'a>(alloc: Global) -> Arg<'a> {
-    valued(alloc, BATCHES, "K", BATCHES_HELP).value_parser(value_parser!(usize).range(1..=1_000))
+    valued(alloc, BATCHES, "K", BATCHES_HELP).value_parser(value_parser!(u32).range(1..=1_000))
 }
 
 /// `--from R` or `--to R`.

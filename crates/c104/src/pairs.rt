@@ -171,8 +171,7 @@ fn printing_of(words: CountWords<'_>) -> Result<Printing, &'static str> {
     }
     let measured = Measured {
         window: window_of(words, what)?,
-        // The command line takes at most 1,000, so the cast loses nothing.
-        batches: words.batches.map(|batches| batches as u32),
+        batches: words.batches,
     };
     Ok(Printing {
         what,
