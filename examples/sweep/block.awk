@@ -7,7 +7,7 @@ BEGIN {
     print ENVIRON["name"] ", saturated at " saturation
     reason["missing"] = ""
     reason["still"] = ", and the network stands still"
-    reason["refused"] = ", since a trace or an inbox is full"
+    reason["refused"] = ", and the run ends, since a trace or an inbox is full"
 }
 $1 != ENVIRON["name"] || $2 > 1.2 * saturation { next }
 { print $0, saturation }
