@@ -9,7 +9,7 @@ use crate::outcomes::Outcome;
 use c104_event::Event;
 use c104_net::Net;
 use c104_switch::Reply;
-use c104_workers::{Fabric, Gathered, OpenGate, Seat, run_workers};
+use c104_workers::{Fabric, Gathered, OpenGate, Seat, Words, run_workers};
 use std::alloc::Global;
 use std::sync::Wait;
 use std::thread::Threads;
@@ -172,7 +172,7 @@ fn worked<R: Threads + Wait + Sync>(
     ensures own { AreSeatsOf fabric.now.word_id seats.new }
 {
     refusal.begin(alloc);
-    let end = run_workers(alloc, rt, fabric, seats, &OpenGate, 2);
+    let end = run_workers(alloc, rt, fabric, seats, &OpenGate, Words::Zero, 2);
     refusal.end(alloc);
     Outcome::of(end)
 }

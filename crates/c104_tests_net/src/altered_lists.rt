@@ -16,7 +16,7 @@ use c104_control::ControlBytes;
 use c104_event::Event;
 use c104_node::Entry;
 use c104_token::{Items, NoMemory};
-use c104_workers::{Fabric, Gathered, OpenGate, Seat, run_workers};
+use c104_workers::{Fabric, Gathered, OpenGate, Seat, Words, run_workers};
 use std::alloc::Global;
 use std::sync::Wait;
 use std::thread::Threads;
@@ -56,7 +56,15 @@ fn work<R: Threads + Wait + Sync>(rt: &R, alloc: Global, fabric: &Fabric, seats:
     ensures { AreSeatsOf fabric.now.word_id seats.new.items }
 {
     if !seats.is_empty() {
-        let _end = run_workers(alloc, rt, fabric, seats.as_mut_slice(), &OpenGate, 3);
+        let _end = run_workers(
+            alloc,
+            rt,
+            fabric,
+            seats.as_mut_slice(),
+            &OpenGate,
+            Words::Zero,
+            3,
+        );
     }
 }
 

@@ -7,7 +7,7 @@ use crate::plan_calls::{Maker, described};
 use c104_control::ControlBytes;
 use c104_plan::Image;
 use c104_tools::{ControlPort, load, read_link, read_table, verify, write_register};
-use c104_workers::{Fabric, FabricPort, Gate, Gathered, Seat, run_workers};
+use c104_workers::{Fabric, FabricPort, Gate, Gathered, Seat, Words, run_workers};
 use std::alloc::Global;
 use std::sync::Wait;
 use std::sync::atomic::{AtomicBool, Ordering};
@@ -280,7 +280,7 @@ fn worked<R: Threads + Wait + Sync>(
     let gate = BesideWorkers(meeting);
     let Workers { first, second } = workers;
     let mut seats = [first, second];
-    let end = run_workers(alloc, rt, fabric, &mut seats, &gate, TURNS);
+    let end = run_workers(alloc, rt, fabric, &mut seats, &gate, Words::Zero, TURNS);
     meeting.worked.store(end.is_ok(), Ordering::SeqCst);
     let [first, second] = seats;
     Workers { first, second }

@@ -52,6 +52,8 @@ mod faults;
 #[cfg(test)]
 mod found_packets;
 #[cfg(test)]
+mod handed_words;
+#[cfg(test)]
 mod hops;
 #[cfg(test)]
 mod image;

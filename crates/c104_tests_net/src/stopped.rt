@@ -5,7 +5,7 @@ use crate::networks::{CUBE, MESH, PLAN, busy_fabric, fabric_of, is_run, network}
 use c104_control::ControlBytes;
 use c104_event::{Event, EventFault};
 use c104_run::Net;
-use c104_workers::{Fabric, OpenGate, RunFault, Seat, run_workers};
+use c104_workers::{Fabric, OpenGate, RunFault, Seat, Words, run_workers};
 use std::alloc::Global;
 use std::sync::Wait;
 use std::thread::Threads;
@@ -39,7 +39,16 @@ fn are_done<R: Threads + Wait + Sync>(
     if seats.is_empty() {
         return false;
     }
-    run_workers(alloc, rt, fabric, seats.as_mut_slice(), &OpenGate, turns).is_ok()
+    run_workers(
+        alloc,
+        rt,
+        fabric,
+        seats.as_mut_slice(),
+        &OpenGate,
+        Words::Zero,
+        turns,
+    )
+    .is_ok()
 }
 
 /// Wherever three workers stop, the audit of what they leave answers a run. It fails where a worker that stops leaves an
@@ -111,7 +120,7 @@ fn end_of_turns<R: Threads + Wait + Sync>(
         return None;
     }
     let seats = seats.as_mut_slice();
-    Some(run_workers(alloc, rt, fabric, seats, &OpenGate, TURNS))
+    Some(run_workers(alloc, rt, fabric, seats, &OpenGate, Words::Zero, TURNS))
 }
 
 /// Workers stop in a turn where the trace of a node is full, and leave one run. It fails where workers do no event, or where

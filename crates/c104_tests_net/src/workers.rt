@@ -9,7 +9,7 @@ use crate::fabrics::{PLAN, audit_fault, seated};
 use c104_control::ControlBytes;
 use c104_event::{Event, EventFault};
 use c104_net::Net;
-use c104_workers::{Fabric, Gate, Gathered, OpenGate, RunFault, Seat, run_workers};
+use c104_workers::{Fabric, Gate, Gathered, OpenGate, RunFault, Seat, Words, run_workers};
 use std::alloc::Global;
 use std::sync::Wait;
 use std::sync::atomic::{AtomicBool, Ordering};
@@ -135,7 +135,7 @@ fn turns<R: Threads + Wait + Sync, G: Gate + Sync>(
         return None;
     }
     let seats = seats.as_mut_slice();
-    Some(run_workers(alloc, rt, fabric, seats, gate, count))
+    Some(run_workers(alloc, rt, fabric, seats, gate, Words::Zero, count))
 }
 
 /// Two workers are before a turn at once. It fails where all workers run on one thread, one after another: then the first
