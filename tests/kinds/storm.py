@@ -73,6 +73,24 @@ BY_HAND = {
 }
 
 
+# An input that puts random headers before packets: it discards the first, so that the packet goes on, and sinks the second
+# with the packet.
+DROPPING = b"""switch A
+terminal a A.0
+terminal b A.1
+random A.0 10 2
+row A.0 1 0
+row A.0 2 1
+row A.0 10 sink
+row A.0 11 discard
+row A.0 12 sink
+row A.1 1 0
+row A.1 2 1
+"""
+DROPPED_OF = 200
+SEEDS_OF_HEADERS = (0, 1, 2 ** 64 - 1)
+
+
 # More tokens than a worker may have calls for.
 CROWD = (b'mesh 1 1 6\n', b''.join(b'send t%d 00 %seop\n' % (i, b'55 ' * 4000) for i in range(6) for _ in range(16)))
 
@@ -200,10 +218,55 @@ def rings(runner):
         runner.judge(name, None if stuck or through else '%d, %.300r' % (status, out))
 
 
+def random_headers(runner):
+    """Without a seed each input puts its first random header before packets. With one, sometimes another."""
+    sends = b''.join(b'send a 01 %02x eop\n' % i for i in range(DROPPED_OF))
+    with Files(DROPPING) as path:
+        due = due_of(runner, path, DROPPING, sends)
+        all_arrive = due.count(b' from ') == DROPPED_OF
+        runner.judge('a run of random headers', None if all_arrive else 'not all packets arrive')
+        for workers in WORKERS:
+            words = ['storm', path, '-', '--workers', str(workers)]
+            runner.case('first random headers by %d' % workers, due, words=words, data=sends)
+            for seed in SEEDS_OF_HEADERS:
+                judge_headers(runner, '%d by %d' % (seed, workers), [*words, '--seed', str(seed)], sends, due)
+        one = ['storm', path, '-', '--workers', '1', '--seed', '1']
+        _, out, _ = runner.run(words=one, data=sends)
+        runner.case('one worker picks again what it picked', out, words=one, data=sends)
+
+
+def judge_headers(runner, name, words, sends, due):
+    """Of the packets many arrive, and many don't: which do differs from storm to storm."""
+    name = 'random headers of seed ' + name
+    if not runner.wanted(name):
+        return
+    status, out, _ = runner.run(words=words, data=sends)
+    found, all_lines = out.splitlines(), due.splitlines()
+    answers = len(sends.splitlines()) + 1
+    arrived = len(found) - answers
+    good = (status == 0 and found[:answers] == all_lines[:answers] and set(found) <= set(all_lines)
+            and DROPPED_OF / 4 < arrived < DROPPED_OF * 3 / 4)
+    runner.judge(name, None if good else '%d, %d arrived, %.200r' % (status, arrived, out[-200:]))
+
+
+def universal(runner):
+    """Whichever way packets go, they arrive as they were sent."""
+    with open(os.path.join(EXAMPLES, 'universal-routing.txt'), 'rb') as file:
+        text = file.read()
+    description = text[:text.index(b'\nscript\n') + 1]
+    sends = b''.join(b'send a %02x %02x eop\n' % (i % 2, i) for i in range(DROPPED_OF))
+    with Files(description) as path:
+        due = due_of(runner, path, description, sends)
+        for workers in WORKERS:
+            runner.case('universal routing by %d' % workers, due,
+                        words=['storm', path, '-', '--workers', str(workers), '--seed', '1'], data=sends)
+
+
 def usage(runner):
     """Words that a storm doesn't take."""
     for words in ([], ['a'], ['a', 'b', 'c'], ['a', 'b', '--workers'], ['a', 'b', '--workers', '0'],
-                  ['a', 'b', '--workers', '65'], ['a', 'b', '--workers', 'x'], ['a', 'b', '--workers', '-1']):
+                  ['a', 'b', '--workers', '65'], ['a', 'b', '--workers', 'x'], ['a', 'b', '--workers', '-1'],
+                  ['a', 'b', '--seed'], ['a', 'b', '--seed', 'x'], ['a', 'b', '--seed', str(2 ** 64)]):
         runner.case('usage of storm %s' % ' '.join(words), b'', 2, words=['storm', *words])
 
 
@@ -219,4 +282,4 @@ def files(runner):
             runner.case(name, b'', 3, b'c104: cannot read %s\n' % path.encode(), words=['storm', *words])
 
 
-PARTS = [as_a_run, at_random, by_hand, full_traces, rings, usage, files]
+PARTS = [as_a_run, at_random, by_hand, full_traces, rings, random_headers, universal, usage, files]
