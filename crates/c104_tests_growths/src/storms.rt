@@ -8,7 +8,7 @@ use crate::outcomes::Outcome;
 use crate::written::{Page, SENDS, STORM_END, TWO_ANSWERS};
 use c104_mistakes::Silent;
 use c104_plan::{Image, Plan};
-use c104_storm::storm_plan;
+use c104_storm::{Words, storm_plan};
 use c104_stream::Halt;
 use std::alloc::Global;
 use std::sync::Wait;
@@ -49,7 +49,17 @@ fn storm<R: Threads + Wait + Sync>(
     requires { Fits image.now plan.now }
 {
     let mut sends = SENDS;
-    storm_plan(alloc, rt, 2, plan, image, &mut sends, page, &mut Silent)
+    storm_plan(
+        alloc,
+        rt,
+        2,
+        Words::Zero,
+        plan,
+        image,
+        &mut sends,
+        page,
+        &mut Silent,
+    )
 }
 
 #[test]
