@@ -177,7 +177,7 @@ SCRIPTS = [
     (b'send a 01 aa', 'a packet ends with `eop` or `eom`: aa'),
     (b'send a 01 eop aa', 'a packet ends at its first `eop` or `eom`, and a line sends one packet: aa'),
     (b'send a' + b' 01' * 4097 + b' eop', 'a packet has at most 4096 bytes'),
-    (b'verify\n' * 432, 'a switch or a terminal does at most 1048576 acts, and one that would act has done that many'),
+    (b'verify\n' * 432, 'a switch or a terminal does at most 1048576 acts, and one that would act has done that many; this is told once'),
     (b'send z 01 eop', 'the description defines no such name: z'),
     (b'send a 05 eop\nrounds 9\ndrain c', 'the description defines no such name: c'),
     (b'send B 01 eop', 'the description defines no such name: B; did you mean b?'),
@@ -191,7 +191,7 @@ SCRIPTS = [
     ((b'send a' + b' 01' * 4000 + b' eop\n') * 16 + b'send a' + b' 01' * 4000 + b' eop',
         'at most 65536 tokens wait at a terminal; give them rounds before more is sent: a'),
     ((b'send a' + b' 01' * 4000 + b' eop\nrounds 5000\n') * 66,
-        '262144 tokens have arrived at a terminal, and it takes no more'),
+        '262144 tokens have arrived at a terminal, and it takes no more; this is told once'),
 ]
 
 # Three switches in a row, with buffers of eight tokens, and two terminals that send by one output.
