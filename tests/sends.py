@@ -73,7 +73,7 @@ def drawn(seed, below, of):
 
 
 def rounds(count):
-    """The lines of so many rounds."""
+    """The lines that do this many rounds."""
     return ['rounds 10000'] * (count // 10000) + ['rounds %d' % (count % 10000)] * (count % 10000 > 0)
 
 
@@ -82,7 +82,7 @@ def script(count, pattern, packets, size, seed, load=None, tokens=None, chance=F
     senders, target_of = choices(pattern, count, seed, own, target, share)
     if not senders:
         return None
-    # So many are sent of so many: packets, or tokens, in a million rounds.
+    # A terminal sends a packet in `below` of `of` rounds.
     below = Fraction(load) * 1000 if load else Fraction(tokens or 0) * 1000000
     of = 1000000 * (1 if load else header + size + 1)
     lines, done = [], 0
