@@ -2,10 +2,11 @@
 use Rattle.{c104_event.specs.declared.{events.Event.Event, faults.EventFault.EventFault}, c104_node.proofs.PlaceSteps.err_is}
 use Rattle.{c104_node.specs.Places.Shown, c104_plan.specs.Plans.Plan, c104_run.proofs.{MeteredSteps.idle_part, PartRuns.number_next}}
 use Rattle.c104_run.proofs.PartRuns.{number_passes, number_stops, part_after, part_empty, stops_after, stops_before}
-use Rattle.c104_run.{proofs.PortWalks.round_walked, specs.{Engines.{DoesPart, EngineView, engine_at, engine_network}, Meters.Sees}}
-use Rattle.{c104_run.specs.{Meters.metered_apply, RoundParts.{IsNext, PartEnds, walked_round}, Rounds.round}, c104_token.specs.Kinds.Kind}
-use Rattle.std.proofs.Common.{Bool, Err, IsErr, IsErrAnd, List, None, Ok, Option, Result, Some, ap, arith, false, length, refl, subst, sym}
-use Rattle.std.{proofs.Common.{unwrap_or, ℕ, ◌++◌, ◌+◌, ◌<◌, ◌||◌, ◌∙◌, ◌≡◌, ◌≤◌}, specs.List.{flat_map, range_with_len}}
+use Rattle.c104_run.{proofs.WordedRounds.walked_words, specs.{Engines.{DoesPart, EngineView, engine_at, engine_network}, HandedWords.Words}}
+use Rattle.c104_run.specs.{HandedWords.{round_with, walked_with}, Meters.{Sees, metered_apply}, RoundParts.{IsNext, PartEnds}}
+use Rattle.{c104_token.specs.Kinds.Kind, std.proofs.Common.{Bool, Err, IsErr, IsErrAnd, List, None, Ok, Option, Result, Some, ap, arith}}
+use Rattle.std.{proofs.Common.{false, length, refl, subst, sym, unwrap_or, ℕ, ◌++◌, ◌+◌, ◌<◌, ◌||◌, ◌∙◌, ◌≡◌, ◌≤◌}, specs.List.flat_map}
+use Rattle.std.specs.List.{range_with_len}
 
 module _ {A M P : Type 0} {kind : Kind A} {keeps : Bool} {sees : Sees M A} {shown : P → Shown A} where
   -- a part of which the events are named otherwise
@@ -35,8 +36,8 @@ module _ {A M P : Type 0} {kind : Kind A} {keeps : Bool} {sees : Sees M A} {show
   }
 
   -- a round, by what is walked
-  pub does_round : {old new : EngineView P} {m n : M} {result : Result Bool EventFault} → DoesPart kind keeps sees shown old m walked_round result new n → DoesPart kind keeps sees shown old m round result new n
-  does_round {old} does = does_so (sym (round_walked old.plan)) does
+  pub does_round : (words : Words) {old new : EngineView P} {m n : M} {result : Result Bool EventFault} → DoesPart kind keeps sees shown old m (walked_with words) result new n → DoesPart kind keeps sees shown old m (round_with words) result new n
+  does_round words {old} does = does_so (sym (walked_words words old.plan)) does
 
 -- what a walk has done of the numbers below i, of these, which are those below n
 pub record SoFar {A M P : Type 0} (kind : Kind A) (keeps : Bool) (sees : Sees M A) (shown : P → Shown A) (part : Plan → ℕ → List Event) (numbers : Plan → List ℕ) (n : Plan → ℕ)

@@ -21,12 +21,14 @@ pub mod SeenRuns
 pub mod StageSteps
 pub mod MeteredSteps
 pub mod NoFaults
+pub mod HandedWords
 pub mod IdleEvents
 pub mod RoundJoins
 pub mod RecordedRuns
 pub mod DoneEvents
 pub mod WiredPorts
 pub mod PortWalks
+pub mod WordedRounds
 pub mod LinkFrames
 mod LivePlaces
 mod LiveRounds

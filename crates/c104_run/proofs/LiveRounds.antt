@@ -4,11 +4,11 @@ use Rattle.c104_node.{proofs.IdleNodes.{unclaimed_there, unready_there}, specs.{
 use Rattle.c104_node.specs.{Nodes.node_claim, PlaceActs.ActsEnd, PortActs.near_act, PortParts.{is_node_ready, part_act}, Records.has_link}
 use Rattle.c104_node.specs.declared.{acts.ActOf.ActOf, crossings.Crossing.{Crossing, TheVariants.{Grant, Token}}, node.NodeOf.NodeOf}
 use Rattle.{c104_node.specs.declared.port_part.PortPart.{PortPart, TheVariants.{Credit, Cross, Turn}}, c104_plan.specs.Plans.{IsPlan, Plan}}
-use Rattle.{c104_plan.specs.{Wiring.IsPlanPort, declared.ports.Port.Port}, c104_run.proofs.IdleEvents.{idle_credit, idle_cross, idle_drain}}
-use Rattle.c104_run.proofs.{IdleEvents.{idle_links, idle_outputs, port_inside}, PortWalks.{idle_link, idle_wired}, WiredPorts.has_wire}
-use Rattle.c104_run.{proofs.WiredPorts.wire_there, specs.{EventActs.port_place, KnownWires.is_linked_end, LivePlaces.AreLive}}
-use Rattle.c104_run.specs.{LivePlaces.{IsIdlePlace, IsOfRound, is_live}, Network.{Network, terminal_place, wired_fault}, RoundParts.AreIdle}
-use Rattle.c104_run.specs.{RoundParts.{input_walk, link_walk, port_walk}, Rounds.is_wired}
+use Rattle.{c104_plan.specs.{Wiring.IsPlanPort, declared.ports.Port.Port}, c104_run.proofs.HandedWords.unready_word}
+use Rattle.c104_run.proofs.{IdleEvents.{idle_credit, idle_cross, idle_drain, idle_links, idle_outputs, port_inside}, PortWalks.idle_link}
+use Rattle.c104_run.{proofs.{PortWalks.idle_wired, WiredPorts.{has_wire, wire_there}}, specs.EventActs.port_place}
+use Rattle.c104_run.specs.{KnownWires.is_linked_end, LivePlaces.{AreLive, IsIdlePlace, IsOfRound, is_live}, Network.Network}
+use Rattle.c104_run.specs.{Network.{terminal_place, wired_fault}, RoundParts.{AreIdle, input_walk, link_walk, port_walk}, Rounds.is_wired}
 use Rattle.{c104_switch.specs.declared.actions.{ActionOf.ActionOf, ReplyOf.ReplyOf}, c104_token.specs.Kinds.Kind, std.proofs.Common.Bool}
 use Rattle.std.proofs.Common.{List, None, Option, Result, Some, [], ap, arith, false, inl, inr, is_some, length, nat_lt, refl, slice_get}
 use Rattle.std.proofs.{Common.{subst, sym, true, ℕ, ◌-◌, ◌<◌, ◌∙◌, ◌∷◌, ◌≡◌, ◌≢◌}, lemmas.Bool.{Decides.nat_tests, cases_eq}}
@@ -119,15 +119,15 @@ module _ {A : Type 0} (kind : Kind A) (plan : Plan) (blocks : List ℕ) (nodes :
 
 -- the turns, claims and arrivals of a round
 module _ {A : Type 0} (kind : Kind A) (plan : Plan) where
-  pub turn_begins : (s l : ℕ) → wired_fault plan (Port.Switch s l) ≡ None → IsOfRound {A = A} kind plan s (ActOf.Step (ActionOf.Input l 0))
-  turn_begins s l possible n idle = by_node n (idle.links Turn l linked)
+  pub turn_begins : (s l word : ℕ) → wired_fault plan (Port.Switch s l) ≡ None → IsOfRound {A = A} kind plan s (ActOf.Step (ActionOf.Input l word))
+  turn_begins s l word possible n idle = unready_word kind 0 word 0 (s - length plan.switches) l n (by_node n (idle.links Turn l linked))
     where
       linked : is_linked_end plan s l ≡ true
       linked =
           let below : s < length plan.switches = (port_inside plan (Port.Switch s l) possible).0 in
           let here : nat_lt s (length plan.switches) ≡ true = grind (arith, nat_tests) in rw here (wire_there plan (Port.Switch s l) possible)
 
-      by_node : (n : Node A) → is_some (node_act kind 0 (part_act Turn l) n) ≡ false → is_some (node_act kind (s - length plan.switches) (ActOf.Step (ActionOf.Input l 0)) n) ≡ false
+      by_node : (n : Node A) → is_some (node_act kind 0 (part_act Turn l) n) ≡ false → is_some (node_act kind 0 (ActOf.Step (ActionOf.Input l 0)) n) ≡ false
       by_node (NodeOf.Switch here) is = is
       by_node (NodeOf.Terminal here) is = refl
 

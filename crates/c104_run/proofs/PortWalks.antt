@@ -46,7 +46,7 @@ module _ (plan : Plan) (part : PortPart) where
   switches_walked : flat_map (port_events part) links ≡ switch_walk plan part
   switches_walked = sym (flat_same (link_walk plan part) of_switch (λ s. wired_each (Port.Switch s) link_numbers) (range_with_len 0 (length plan.switches)) ∙ switches_each (range_with_len 0 (length plan.switches)))
 
-  ports_walked : flat_map (port_events part) (wired_ports plan) ≡ switch_walk plan part ++ terminal_walk plan part
+  pub ports_walked : flat_map (port_events part) (wired_ports plan) ≡ switch_walk plan part ++ terminal_walk plan part
   ports_walked = search (arith, switches_walked, wired_each, flat_map-append)
 
 -- what crosses from a wired port in a part of a round
@@ -62,7 +62,7 @@ no_turns plan [] = refl
 no_turns plan (n ∷ ns) = search (arith, no_turns plan ns)
 
 -- so the turns of the switches' ports are all turns
-turns_walked : (plan : Plan) → flat_map turn_at (wired_ports plan) ≡ switch_walk plan Turn
+pub turns_walked : (plan : Plan) → flat_map turn_at (wired_ports plan) ≡ switch_walk plan Turn
 turns_walked plan = search (arith, flat_map-append, no_turns, append-nil, switches_walked)
 
 claims_walked : (n : ℕ) → all_claims n ≡ flat_map input_walk (range_with_len 0 n)

@@ -21,6 +21,7 @@ pub mod EventRuns
 pub mod Stages
 pub mod Meters
 pub mod Rounds
+pub mod HandedWords
 pub mod RecordedRuns
 pub mod FinishedRecords
 pub mod NodeRuns

@@ -40,6 +40,7 @@ mod run_parts;
 mod traced_net;
 mod watch;
 mod wires;
+mod words;
 
 pub use asked::{Asked, acts_of};
 pub use asks::{Ask, act_event, ask_of, crossing_event};
@@ -56,3 +57,4 @@ pub use run::Run;
 pub use traced_net::TracedNet;
 pub use watch::{Unwatched, Watch};
 pub use wires::Wires;
+pub use words::Words;

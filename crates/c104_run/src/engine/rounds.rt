@@ -4,6 +4,7 @@
 //! out an event of which the near end says that it isn't ready: it would change nothing.
 ghost use Rattle.std.specs.Prelude.{OnOk, length, map, ◌+◌, ◌<◌, ◌≡◌};
 ghost use Rattle.{c104_node.specs.Places.states, c104_run.specs.NotedSwitches.{AreSo, GrantsNone}};
+ghost use Rattle.c104_run.specs.HandedWords.{round_with, rounds_with};
 ghost use Rattle.c104_run.specs.{Engines.{DoesPart, engine_at}, EventRuns.EventsEnd, Meters.metered_apply, Rounds.{round, rounds}};
 
 mod attempts;
@@ -14,6 +15,7 @@ mod walks;
 use super::Engine;
 use crate::meter::Meter;
 use crate::watch::Watch;
+use crate::words::Words;
 use c104_event::EventFault;
 use c104_node::{Crossing, Place, is_idle_at};
 use c104_token::TokenKind;
@@ -33,7 +35,7 @@ impl<T: TokenKind, P: Place<T>> Engine<T, P> {
     {
         let mut noted = Noted::all();
         for round in 0..times {
-            let changed = self.round_by(meter, &mut noted)?;
+            let changed = self.round_by(meter, Words::Zero, &mut noted)?;
             if !changed {
                 // Nor would any further round change anything.
                 return Ok(());
@@ -43,24 +45,50 @@ impl<T: TokenKind, P: Place<T>> Engine<T, P> {
         Ok(())
     }
 
+    /// The same with words that are handed to inputs, those of each round behind those of the one before. It does all rounds:
+    /// where nothing is done in one, nothing is in any other, and that costs little.
+    pub fn rounds_with<W: Watch, M: Meter<T>>(
+        &mut self,
+        times: u32,
+        words: Words,
+        meter: &mut M,
+        watch: &mut W,
+    ) -> Result<(), EventFault>
+        ensures plan { self.new.plan ≡ self.old.plan }
+        ensures ends { EventsEnd (metered_apply T.kind P.keeps M.sees) (engine_at P.shown self.old meter.old)
+            (rounds_with words self.old.plan times) result (engine_at P.shown self.new meter.new) }
+    {
+        let mut noted = Noted::all();
+        let mut handed = words;
+        for round in 0..times {
+            let changed = self.round_by(meter, handed, &mut noted)?;
+            handed = handed.next(self.switch_count());
+            if changed {
+                watch.rounds_done(round + 1, times);
+            }
+        }
+        Ok(())
+    }
+
     /// Does one round, and tells whether any event of it was done.
     pub fn round<M: Meter<T>>(&mut self, meter: &mut M) -> Result<bool, EventFault>
         ensures { DoesPart T.kind P.keeps M.sees P.shown self.old meter.old round result self.new meter.new }
     {
-        self.round_by(meter, &mut Noted::all())
+        self.round_by(meter, Words::Zero, &mut Noted::all())
     }
 
-    /// The same by what was noted of the grants of switches, which is noted anew. Each part of a round that is about ports
+    /// The same with words that are handed to inputs, by what was noted of the grants of switches, which is noted anew. Each part of a round that is about ports
     /// is walked at the switches, and then at the terminals.
     #[inline(always)]
     fn round_by<M: Meter<T>>(
         &mut self,
         meter: &mut M,
+        words: Words,
         noted: &mut Noted,
     ) -> Result<bool, EventFault>
         requires { AreSo (GrantsNone T.kind self.old.plan) noted.old.granting (states (map P.shown self.old.places))
             0 (length self.old.plan.switches) }
-        ensures does { DoesPart T.kind P.keeps M.sees P.shown self.old meter.old round result self.new meter.new }
+        ensures does { DoesPart T.kind P.keeps M.sees P.shown self.old meter.old (round_with words) result self.new meter.new }
         ensures grants { OnOk result (AreSo (GrantsNone T.kind self.old.plan) noted.new.granting
             (states (map P.shown self.new.places)) 0 (length self.old.plan.switches)) }
     {
@@ -69,7 +97,7 @@ impl<T: TokenKind, P: Place<T>> Engine<T, P> {
         let crossed = self.cross_switches(meter)?;
         let sent = self.walk_terminals(meter, Crossing::Token)?;
         // A terminal has no input.
-        let turned = self.turn_switches(meter, noted)?;
+        let turned = self.turn_switches(meter, words, noted)?;
         let claimed = self.claim_outputs(meter, noted)?;
         let drained = self.drain_terminals(meter)?;
         self.settle();

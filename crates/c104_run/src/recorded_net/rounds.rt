@@ -1,10 +1,11 @@
 //! Rounds of a network whose nodes are seen with their records.
-ghost use Rattle.c104_run.specs.{MeteredRuns.{MetersRound, RecordsRound}, RecordedRuns.RecordsRounds};
+ghost use Rattle.c104_run.specs.{MeteredRuns.{MetersRound, RecordsRound}, RecordedRuns.{RecordsHanded, RecordsRounds}};
 
 use super::RecordedNet;
 use crate::meter::{Meter, Unmetered};
 use crate::recorded_place::RecordedPlace;
 use crate::watch::{Unwatched, Watch};
+use crate::words::Words;
 use c104_event::EventFault;
 use c104_token::TokenKind;
 
@@ -29,6 +30,21 @@ impl<T: TokenKind, P: RecordedPlace<T>> RecordedNet<T, P> {
         // The proof reads here what every plan keeps.
         let _plan = self.engine.plan();
         self.engine.rounds(count, &mut Unmetered, watch)
+    }
+
+    /// The same with words that are handed to inputs in place of 0, those of each round behind those of the one before. Where an
+    /// input puts random headers before packets, its word picks one.
+    pub fn rounds_handed<W: Watch>(
+        &mut self,
+        count: u32,
+        words: Words,
+        watch: &mut W,
+    ) -> Result<(), EventFault>
+        ensures { RecordsHanded words self.old count result self.new }
+    {
+        // The proof reads here what every plan keeps.
+        let _plan = self.engine.plan();
+        self.engine.rounds_with(count, words, &mut Unmetered, watch)
     }
 
     /// Does one round, tells a meter of each token that crosses a wire and of each that arrives, and tells whether any

@@ -3,23 +3,25 @@
 //! A round knows of each of its events that it can happen, and what acts it asks: so an event is tried by its acts.
 ghost use Rattle.std.specs.Prelude.{None, Some, [], is_some, length, map, true, ℕ, ◌-◌, ◌<◌, ◌∷◌, ◌≡◌};
 ghost use Rattle.{c104_event.specs.declared.events.Event.Event as TheEvent, c104_node.specs.{ActLinks.act_link, Acts.IsWithinLimits}};
-ghost use Rattle.c104_node.specs.{Acts.nodes_act, PlaceActs.AloneDone, Places.states, PortActs.{Acts, near_act}, PortParts.part_act, Traces.seatless};
-ghost use Rattle.{c104_regs.specs.declared.registers.TheConstants.LINKS, c104_run.specs.Engines.{DoesPart, engine_of}};
-ghost use Rattle.c104_run.specs.{EventActs.{crossing_event, event_acts, port_place}, EventsAtPlaces.told_answer, LivePlaces.IsOfRound};
-ghost use Rattle.c104_run.specs.{Meters.meter_after, NetRecords.{is_done, ticket_after}, Network.{event_fault, wired_fault}};
-ghost use Rattle.c104_run.specs.{Engines.engine_network, Network.terminal_place, RoundParts.{CanTry, crossing_part, wired_events}};
-ghost use Rattle.c104_run.specs.LinkedSets.{LeavesCrossed, LeavesLinks};
-ghost use Rattle.c104_run.specs.NotedSwitches.{LeavesEnds, LeavesOthers, LeavesUnnoted};
-ghost use Rattle.c104_node.specs.declared.port_part.PortPart.TheVariants as part;
-ghost use Rattle.{c104_run.specs.RoundParts.done_answer, c104_switch.specs.declared.actions.ReplyOf.ReplyOf as TheReply};
+ghost use Rattle.c104_node.specs.{Acts.nodes_act, PlaceActs.AloneDone, Places.states, PortActs.{Acts, near_act}, Traces.seatless};
+ghost use Rattle.{c104_regs.specs.declared.registers.TheConstants.LINKS, c104_run.specs.Engines.{DoesPart, engine_network, engine_of}};
+ghost use Rattle.c104_run.specs.{EventActs.{crossing_event, event_acts, port_place}, EventsAtPlaces.told_answer, HandedWords.all_worded};
+ghost use Rattle.c104_run.specs.{LinkedSets.{LeavesCrossed, LeavesLinks}, LivePlaces.IsOfRound, Meters.meter_after, NetRecords.is_done};
+ghost use Rattle.c104_run.specs.{NetRecords.ticket_after, Network.{event_fault, terminal_place, wired_fault}, NotedSwitches.LeavesEnds};
+ghost use Rattle.c104_run.specs.{NotedSwitches.{LeavesOthers, LeavesUnnoted}, RoundParts.{CanTry, crossing_part, done_answer}};
+ghost use Rattle.{c104_run.specs.RoundParts.wired_events, c104_switch.specs.declared.actions.ReplyOf.ReplyOf as TheReply};
 ghost use Rattle.c104_event.specs.declared.events.Event.TheVariants as event;
+ghost use Rattle.c104_node.specs.declared.acts.ActOf.TheVariants as of_node;
+ghost use Rattle.c104_node.specs.declared.port_part.PortPart.TheVariants as part;
 ghost use Rattle.c104_plan.specs.declared.ports.Port.TheVariants as port;
+ghost use Rattle.c104_switch.specs.declared.actions.ActionOf.TheVariants as of_switch;
 
 use crate::asked::far_port;
 use crate::doing::do_alone;
 use crate::engine::Engine;
 use crate::live_places::LivePlaces;
 use crate::meter::{Meter, tell_arrived, tell_joint};
+use crate::words::Words;
 use c104_event::{EventFault, Port};
 use c104_node::{ActOf, Crossing, Joint, Place, Stamp, joint_from};
 use c104_switch::{ActionOf, ReplyOf};
@@ -104,22 +106,24 @@ impl<T: TokenKind, P: Place<T>> Engine<T, P> {
         self.attempt_part(meter, port, Crossing::Grant)
     }
 
-    /// The same of a turn of the input at a wired link, with word 0.
+    /// The same of a turn of the input at a wired link, with its word.
     #[inline(always)]
     pub(crate) fn attempt_turn<M: Meter<T>>(
         &mut self,
         meter: &mut M,
+        words: Words,
         switch: usize,
         link: usize,
     ) -> Result<bool, EventFault>
         requires { CanTry T.kind (engine_network P.shown self.old) part.Turn (port.Switch switch link) }
         ensures does { DoesPart T.kind P.keeps M.sees P.shown self.old meter.old
-            (λ plan. wired_events plan part.Turn (port.Switch switch link)) result self.new meter.new }
+            (λ plan. all_worded words (wired_events plan part.Turn (port.Switch switch link))) result self.new meter.new }
         ensures others { LeavesOthers switch (states (map P.shown self.old.places)) (states (map P.shown self.new.places)) }
         ensures links { LeavesLinks T.kind part.Turn switch link (states (map P.shown self.old.places))
             (states (map P.shown self.new.places)) }
     {
-        self.attempt_alone(meter, switch, ActOf::Step(ActionOf::Input(link, 0)))
+        let word = words.word(switch, link);
+        self.attempt_alone(meter, switch, ActOf::Step(ActionOf::Input(link, word)))
     }
 
     /// The same of a claim.
@@ -176,7 +180,7 @@ impl<T: TokenKind, P: Place<T>> Engine<T, P> {
             ((reply : TheReply T) → meter_after M.sees _meter.now e reply ≡ _meter.now) →
             DoesPart T.kind P.keeps M.sees P.shown self.old _meter.now (λ plan. e ∷ []) result self.new _meter.now }
         ensures others { LeavesOthers place (states (map P.shown self.old.places)) (states (map P.shown self.new.places)) }
-        ensures links { (l : ℕ) → act ≡ part_act part.Turn l → LeavesLinks T.kind part.Turn place l
+        ensures links { (l word : ℕ) → act ≡ of_node.Step (of_switch.Input l word) → LeavesLinks T.kind part.Turn place l
             (states (map P.shown self.old.places)) (states (map P.shown self.new.places)) }
     {
         let answer = self.do_next(place, act);

@@ -9,9 +9,9 @@
 
 ghost use Rattle.std.specs.Prelude.{OnOk, length, map, slice_get, ℕ, ◌<◌, ◌≡◌};
 ghost use Rattle.{c104_node.specs.Places.states, c104_regs.specs.declared.registers.TheConstants.LINKS, c104_run.specs.Engines.DoesPart};
-ghost use Rattle.c104_run.specs.{Engines.engine_network, NotedSwitches.{AreNoted, AreSo, GrantsNone, LeavesOthers, LeavesUnnoted}};
-ghost use Rattle.c104_run.specs.RoundParts.{claim_walk, crossing_part, drain_walk, input_walk, link_walk, output_walk, port_walk};
-ghost use Rattle.c104_run.specs.RoundParts.{switch_walk, terminal_walk};
+ghost use Rattle.c104_run.specs.{Engines.engine_network, HandedWords.all_worded, NotedSwitches.{AreNoted, AreSo, GrantsNone, LeavesOthers}};
+ghost use Rattle.c104_run.specs.{NotedSwitches.LeavesUnnoted, RoundParts.{claim_walk, crossing_part, drain_walk, input_walk, link_walk}};
+ghost use Rattle.c104_run.specs.RoundParts.{output_walk, port_walk, switch_walk, terminal_walk};
 ghost use Rattle.c104_node.specs.declared.port_part.PortPart.TheVariants as part;
 ghost use Rattle.c104_plan.specs.declared.ports.Port.TheVariants as port;
 
@@ -19,6 +19,7 @@ use super::noted::Noted;
 use crate::engine::Engine;
 use crate::live_places::LivePlaces;
 use crate::meter::Meter;
+use crate::words::Words;
 use c104_event::{EventFault, Port};
 use c104_node::{Crossing, Place, PortPart};
 use c104_token::TokenKind;
@@ -146,10 +147,11 @@ impl<T: TokenKind, P: Place<T>> Engine<T, P> {
     pub(crate) fn turn_switches<M: Meter<T>>(
         &mut self,
         meter: &mut M,
+        words: Words,
         noted: &mut Noted,
     ) -> Result<bool, EventFault>
         ensures does { DoesPart T.kind P.keeps M.sees P.shown self.old meter.old
-            (λ plan. switch_walk plan part.Turn) result self.new meter.new }
+            (λ plan. all_worded words (switch_walk plan part.Turn)) result self.new meter.new }
         ensures noted { OnOk result (AreNoted T.kind self.old.plan noted.new.claiming noted.new.granting
             (states (map P.shown self.new.places))) }
     {
@@ -157,7 +159,7 @@ impl<T: TokenKind, P: Place<T>> Engine<T, P> {
         let mut changed = false;
         let mut from = 0;
         while let Some(switch) = self.next_switch(from) {
-            let done = self.turn_links(meter, switch)?;
+            let done = self.turn_links(meter, words, switch)?;
             self.note(switch, noted);
             changed |= done;
             from = switch + 1;
@@ -167,17 +169,22 @@ impl<T: TokenKind, P: Place<T>> Engine<T, P> {
 
     /// The turns of the inputs at the wired links of a switch.
     #[inline(always)]
-    fn turn_links<M: Meter<T>>(&mut self, meter: &mut M, switch: usize) -> Result<bool, EventFault>
+    fn turn_links<M: Meter<T>>(
+        &mut self,
+        meter: &mut M,
+        words: Words,
+        switch: usize,
+    ) -> Result<bool, EventFault>
         requires { switch < length self.old.plan.switches }
         ensures does { DoesPart T.kind P.keeps M.sees P.shown self.old meter.old
-            (λ plan. link_walk plan part.Turn switch) result self.new meter.new }
+            (λ plan. all_worded words (link_walk plan part.Turn switch)) result self.new meter.new }
         ensures others { LeavesOthers switch (states (map P.shown self.old.places)) (states (map P.shown self.new.places)) }
     {
         let ready = self.ready_links(PortPart::Turn, switch);
         let mut changed = false;
         let mut from = 0;
         while let Some(link) = self.next_link(PortPart::Turn, switch, ready, from) {
-            let done = self.attempt_turn(meter, switch, link)?;
+            let done = self.attempt_turn(meter, words, switch, link)?;
             changed |= done;
             from = link + 1;
         }

@@ -1,6 +1,6 @@
-use Rattle.c104_node.{proofs.{IdleNodes.alone_stays, PartFrames.alone_keeps}, specs.declared.port_part.PortPart.PortPart}
-use Rattle.c104_run.{proofs.{ActAttempts.alone_tried, MeteredSteps.silent_meter}, specs.{EventsAtPlaces.told_answer, NetRecords.is_done}}
-use Rattle.{c104_run.specs.NetRecords.ticket_after, std.proofs.Common.{ap, length, ◌-◌}}
+use Rattle.{c104_node.proofs.{IdleNodes.alone_stays, PartFrames.turn_keeps}, c104_run.proofs.ActAttempts.alone_tried}
+use Rattle.c104_run.{proofs.MeteredSteps.silent_meter, specs.{EventsAtPlaces.told_answer, NetRecords.{is_done, ticket_after}}}
+use Rattle.std.proofs.Common.{ap, length, ◌-◌}
 
 pub returns-clause-does : Rattle.c104_run.proofs.engine.Engine.attempt_alone.Goals.returns-clause-does
 returns-clause-does g c = λ e possible known none.
@@ -16,4 +16,4 @@ pub returns-clause-others : Rattle.c104_run.proofs.engine.Engine.attempt_alone.G
 returns-clause-others g c = rw c.counted.ensures.next (record { stay = λ j other. alone_stays g.T.TokenKind.kind g.P.Place.keeps _ _ _ c.do_next-answer.result j c.args.place _ c.args.act c.do_next-answer.ensures.done other })
 
 pub returns-clause-links : Rattle.c104_run.proofs.engine.Engine.attempt_alone.Goals.returns-clause-links
-returns-clause-links g c = λ l same. rw c.counted.ensures.next (record { stay = λ other differs. alone_keeps g.T.TokenKind.kind l other differs g.P.Place.keeps _ _ _ c.do_next-answer.result c.args.place PortPart.Turn (c.args.place - length c.args.self.now.plan.switches) (rw same at c.do_next-answer.ensures.done) })
+returns-clause-links g c = λ l word same. rw c.counted.ensures.next (record { stay = λ other differs. turn_keeps g.T.TokenKind.kind l other differs g.P.Place.keeps _ _ _ c.do_next-answer.result c.args.place word (c.args.place - length c.args.self.now.plan.switches) (rw same at c.do_next-answer.ensures.done) })

@@ -1,7 +1,8 @@
 use Rattle.{c104_node.specs.{Places.states, declared.port_part.PortPart.PortPart}, c104_plan.specs.Plans.Plan}
-use Rattle.c104_run.proofs.{EngineParts.{none_yet, step_done, step_stops, steps_done}, LiveRounds.idle_part, NotedSwitches.noted_next}
-use Rattle.c104_run.{proofs.NotedSwitches.{noted_rest, nothing_noted}, specs.{Engines.engine_network, NotedSwitches.ClaimsNone}}
-use Rattle.{c104_run.specs.NotedSwitches.{GrantsNone, IsSoAt}, std.proofs.Common.{arith, length, map, subst, ◌∙◌}}
+use Rattle.c104_run.proofs.{EngineParts.{does_so, none_yet, step_done, step_stops, steps_done}, HandedWords.{flat_worded, next_worded}}
+use Rattle.c104_run.{proofs.{LiveRounds.idle_part, NotedSwitches.{noted_next, noted_rest, nothing_noted}}, specs.Engines.engine_network}
+use Rattle.{c104_run.specs.{NotedSwitches.{ClaimsNone, GrantsNone, IsSoAt}, RoundParts.link_walk}, std.proofs.Common.{None, Some, arith}}
+use Rattle.std.{proofs.Common.{length, map, subst, ◌∙◌}, specs.List.range_with_len}
 use Rattle.c104_run.proofs.engine.Engine.turn_switches.Goals as goal
 
 pub loop-switch-init : goal.loop-switch-init
@@ -10,7 +11,7 @@ loop-switch-init g c = (none_yet, nothing_noted ClaimsNone _ _, nothing_noted (G
 pub loop-switch-preserved : goal.loop-switch-preserved
 loop-switch-preserved g c =
     let inside = (c.in-Some.ensures.ports PortPart.Turn).found.1 in (
-      step_done c.loop-switch.invariant.0 (c.in-Some.ensures.ports PortPart.Turn) c.in_ok-done.ensures.does,
+      step_done c.loop-switch.invariant.0 (next_worded g.T.TokenKind.kind (engine_network g.P.Place.shown c.loop-switch.self) c.args.words (link_walk c.loop-switch.self.plan PortPart.Turn) (range_with_len 0 (length c.loop-switch.self.plan.switches)) (length c.loop-switch.self.plan.switches) c.loop-switch.from (Some c.in-Some.switch) (c.in-Some.ensures.ports PortPart.Turn)) c.in_ok-done.ensures.does,
       noted_next ClaimsNone _ _ _ _ _ c.in_ok-done.ensures.others c.note.ensures.claiming c.loop-switch.from c.loop-switch.invariant.1
           (λ j from below n here. ((c.in-Some.ensures.passed j from below).idle n here).claims) c.note.ensures.claims,
       noted_next (GrantsNone g.T.TokenKind.kind c.args.self.now.plan) _ _ _ _ _ c.in_ok-done.ensures.others c.note.ensures.granting c.loop-switch.from c.loop-switch.invariant.2
@@ -19,7 +20,9 @@ loop-switch-preserved g c =
     )
 
 pub returns-clause-does : goal.returns-clause-does
-returns-clause-does g c = steps_done c.loop-switch.invariant.0 (c.in_default.ensures.ports PortPart.Turn)
+returns-clause-does g c =
+    let next = next_worded g.T.TokenKind.kind (engine_network g.P.Place.shown c.loop-switch.self) c.args.words (link_walk c.loop-switch.self.plan PortPart.Turn) (range_with_len 0 (length c.loop-switch.self.plan.switches)) (length c.loop-switch.self.plan.switches) c.loop-switch.from None (c.in_default.ensures.ports PortPart.Turn) in
+    does_so (flat_worded c.args.words (link_walk c.args.self.now.plan PortPart.Turn) (range_with_len 0 (length c.args.self.now.plan.switches))) (steps_done c.loop-switch.invariant.0 next)
 
 pub returns-clause-noted : goal.returns-clause-noted
 returns-clause-noted g c = record {
@@ -30,4 +33,6 @@ returns-clause-noted g c = record {
 }
 
 pub returns-in_err-done-clause-does : goal.returns-in_err-done-clause-does
-returns-in_err-done-clause-does g c = step_stops c.loop-switch.invariant.0 (c.in-Some.ensures.ports PortPart.Turn) c.in_err-done.ensures.does c.from_residual.ensures
+returns-in_err-done-clause-does g c =
+    let next = next_worded g.T.TokenKind.kind (engine_network g.P.Place.shown c.loop-switch.self) c.args.words (link_walk c.loop-switch.self.plan PortPart.Turn) (range_with_len 0 (length c.loop-switch.self.plan.switches)) (length c.loop-switch.self.plan.switches) c.loop-switch.from (Some c.in-Some.switch) (c.in-Some.ensures.ports PortPart.Turn) in
+    does_so (flat_worded c.args.words (link_walk c.args.self.now.plan PortPart.Turn) (range_with_len 0 (length c.args.self.now.plan.switches))) (step_stops c.loop-switch.invariant.0 next c.in_err-done.ensures.does c.from_residual.ensures)
