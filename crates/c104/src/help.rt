@@ -88,7 +88,7 @@ their standard deviation, and the mean from the first token on; how many tokens 
 sent and arrived for each round and terminal; how many crossed wires in a round; and the
 three links over which tokens crossed in most rounds. A table has a row for each
 
-  packets    that was sent: where it arrived and when, and how long it held links in vain
+  packets    that was sent: where it arrived and when, and for how long it held links and moved nothing
   latencies  that packets had: how many of them
   links      port with a wire: the tokens and packets that crossed from there, and in
              which share of the rounds
@@ -192,7 +192,7 @@ description, terminal t sends to
   transpose    row c and column r of a square, where t is in row r and column c
   reverse      the one whose number has the bits of t in reverse
   neighbour    the next one, and the last to the first
-  hot-spot     the one named by --target, with --share only so many of 100 packets,
+  hot-spot     the one named by --target, with --share only C of 100 packets,
                and the others to any
   all-to-all   each in turn, from the next one on
   complement   terminal T - 1 - t

@@ -110,7 +110,7 @@ impl<'a> TrafficWords<'a> {
     }
 }
 
-/// A number above 0 with at most so many digits behind its point, as many times one of the last of them: with three, 0.5 is
+/// A number above 0 with at most `places` digits behind its point, in units of the last of them: with three, 0.5 is
 /// 500. None where it is none, or comes to more than 1,000,000 of them.
 fn scaled(word: &str, places: usize) -> Option<usize>
     ensures { IfSome result (λ amount. 0 < amount) }

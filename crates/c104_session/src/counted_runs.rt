@@ -85,7 +85,7 @@ impl CountedRun {
 /// Runs a script on the network of a plan, started with an image that fits it, and counts that for what is to be printed: a
 /// table, or the summary. Of a script that is too long the lines that end within 16 MiB are done, and behind a line that is
 /// refused since a trace or an inbox is full nothing is done. Messages are those of `run_plan`, but for what didn't arrive,
-/// and that the run ended so is told whoever reads them. It never fails to write.
+/// and that the run ended so is told even where none are wanted. It never fails to write.
 pub fn count_plan<S: Read, M: Messages>(
     alloc: Global,
     plan: &Plan,

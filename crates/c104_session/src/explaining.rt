@@ -43,7 +43,7 @@ pub(crate) fn line_message<M: Messages>(
     Some((About::ScriptLine(number), message))
 }
 
-/// What is told about the line that ends a run in this round, by what is full: that is told whoever reads the messages. None
+/// What is told about the line that ends a run in this round, by what is full: that is told even where none are wanted. None
 /// behind it, and out of memory.
 pub(crate) fn end_message<M: Messages>(
     alloc: Global,

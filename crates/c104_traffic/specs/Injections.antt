@@ -11,7 +11,7 @@ abbrev pub amount_of : Load → ℕ
 amount_of (Load.Packets amount) = amount
 amount_of (Load.Tokens amount) = amount
 
--- how many of them a packet of so many tokens is
+-- how many of them a packet with this many tokens is
 abbrev pub weight_of : Load → ℕ → ℕ
 weight_of (Load.Packets amount) tokens = 1
 weight_of (Load.Tokens amount) tokens = tokens
@@ -22,7 +22,7 @@ HasLoad Injection.AtOnce = ⊤
 HasLoad (Injection.Regular load) = 0 < amount_of load
 HasLoad (Injection.Bernoulli load) = 0 < amount_of load
 
--- whether a word is below a load of packets of so many tokens: of a million words for each round that a packet takes
+-- whether a word is below a load of packets with this many tokens: of a million words for each round that a packet takes
 abbrev pub is_below : Load → ℕ → ℕ → Bool
 is_below load tokens word = nat_lt (word % (weight_of load tokens * 1000000)) (amount_of load)
 
@@ -34,7 +34,7 @@ turn_seed seed = packet_word seed 0
 abbrev pub is_drawn : Load → ℕ → ℕ → ℕ → Bool
 is_drawn load tokens seed turn = is_below load tokens (packet_word (turn_seed seed) turn)
 
--- the first turn from one on that passes a test, or the one behind so many that don't
+-- the first turn from one on that passes a test, or the one behind this many that don't
 unfoldable pub first_passing : (ℕ → Bool) → ℕ → ℕ → ℕ
 first_passing test zero turn = turn
 first_passing test (suc more) turn = if test turn then turn else first_passing test more (turn + 1)

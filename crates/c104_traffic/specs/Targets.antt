@@ -39,7 +39,7 @@ shuffled count s = 2 * s % count + 2 * s / count
 abbrev pub exchanged : ℕ → ℕ → ℕ → ℕ
 exchanged one other s = if s == one then other else (if s == other then one else s)
 
--- the place of a number in the list 0, 1, 2, .., after so many exchanges: the first of 1, the next of 2 and so on, each
+-- the place of a number in the list 0, 1, 2, .., after this many exchanges: the first of 1, the next of 2 and so on, each
 -- with one of the numbers up to it that the generator picks
 abbrev pub permuted : ℕ → ℕ → ℕ → ℕ
 permuted seed zero s = s

@@ -14,7 +14,7 @@ hex_word byte = hex_digit (byte / 16) ∷ hex_digit (byte % 16) ∷ 0x20 ∷ []
 abbrev pub rest_text : ℕ → List ℕ
 rest_text count = if count == 0 then [] else codes "rounds " ++ (decimal count ++ codes "\n")
 
--- the lines of rounds: of 10,000 as long as there are so many, and of the rest
+-- the lines of rounds: as many of 10,000 as fit, and one of the rest
 abbrev pub rounds_text : ℕ → List ℕ
 rounds_text count = flat_map (λ _. codes "rounds 10000\n") (range_with_len 0 (count / MAX_ROUNDS)) ++ rest_text (count % MAX_ROUNDS)
 

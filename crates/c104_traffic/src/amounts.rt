@@ -13,9 +13,9 @@ pub const MAX_ROUNDS: usize = 10_000;
 /// How often each terminal that sends does send.
 #[derive(Clone, Copy)]
 pub enum Load {
-    /// So many packets in 1,000,000 rounds, at least one.
+    /// This many packets in 1,000,000 rounds, at least one.
     Packets(usize),
-    /// So many tokens in 1,000,000 rounds, at least one: those of a packet are its bytes and its terminator.
+    /// This many tokens in 1,000,000 rounds, at least one: those of a packet are its bytes and its terminator.
     Tokens(usize),
 }
 
@@ -30,7 +30,7 @@ pub enum Injection {
     Bernoulli(Load),
 }
 
-/// The most turns of terminals that pass between two packets that are sent by chance: behind so many the next is sent
+/// The most turns of terminals that pass between two packets that are sent by chance: behind this many the next is sent
 /// in any case. At the least load that is less than once in 10^100 times.
 pub const MAX_WAIT: usize = 1_099_511_627_776;
 

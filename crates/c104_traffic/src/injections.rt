@@ -43,7 +43,7 @@ pub(crate) fn next_turn(
     }
 }
 
-/// The first turn, from one on, whose word is below the load, or the one behind so many whose word isn't.
+/// The first turn, from one on, whose word is below the load, or the one behind as many as may pass whose words aren't.
 fn first_drawn(load: Load, tokens: usize, seed: u64, from: usize, words: &mut SplitMix64) -> usize
     requires tokens { (0 < tokens) × (tokens ≤ 4097) }
     requires from { from ≤ 4611686018427387904 }
@@ -62,7 +62,7 @@ fn first_drawn(load: Load, tokens: usize, seed: u64, from: usize, words: &mut Sp
     end
 }
 
-/// Whether a word is below a load of packets of so many tokens.
+/// Whether a word is below a load of packets with this many tokens.
 fn is_below(load: Load, tokens: usize, word: u64) -> bool
     requires tokens { (0 < tokens) × (tokens ≤ 4097) }
     ensures { result ≡ is_below load tokens word }

@@ -148,7 +148,7 @@ fn write_rounds<W: Write>(count: usize, kept: &mut Kept, writer: &mut W) -> Resu
     Ok(())
 }
 
-/// So many lines of the most rounds join what is kept.
+/// This many lines of the most rounds join what is kept.
 fn write_full<W: Write>(lines: usize, kept: &mut Kept, writer: &mut W) -> Result<(), CannotWrite>
     ensures kept { OnOk result (AppendsAndKeeps (W.contents writer.old) (W.contents writer.new) kept.new
         (kept.old ++ flat_map (λ _. codes "rounds 10000\n") (range_with_len 0 lines))) }

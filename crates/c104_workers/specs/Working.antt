@@ -10,7 +10,7 @@ pub record IsPartEvent (plan : Plan) (n i : ℕ) (e : Event) : Type 0 where
   pub own : node % n ≡ i
   pub part : Contains (round_part plan node) e
 
--- an event is such a one, with the worker's word behind so many events if it is the turn of an input: whether an input is
+-- an event is such a one, with the worker's word behind this many events if it is the turn of an input: whether an input is
 -- ready for its turn doesn't depend on the word
 pub record IsOwnEvent (plan : Plan) (words : Words) (n i : ℕ) (e : Event) : Type 0 where
   pub event : Event

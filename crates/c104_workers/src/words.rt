@@ -25,7 +25,7 @@ const SHARE: u64 = 1_048_576;
 const STEP: u64 = 0x9e37_79b9_7f4a_7c15;
 
 impl Words {
-    /// The turn of an input, with the word of a worker through whose seat so many events were done. None for an event of
+    /// The turn of an input, with the word of a worker through whose seat this many events were done. None for an event of
     /// another kind, which has no word.
     pub(crate) fn hand(self, worker: usize, done: usize, event: &Event) -> Option<Event>
         ensures { MatchOption result (with_word (word_of self worker done) event.now ≡ event.now)
@@ -45,7 +45,7 @@ impl Words {
         }
     }
 
-    /// The word of a worker through whose seat so many events were done.
+    /// The word of a worker through whose seat this many events were done.
     fn word(self, worker: usize, done: usize) -> u32
         ensures { result ≡ word_of self worker done }
     {

@@ -132,7 +132,7 @@ impl Layout {
     }
 }
 
-/// How wide a text of so many letters is, at most.
+/// How wide a text with this many letters is, at most.
 fn text_width(letters: u64) -> u64 {
     LETTER.saturating_mul(letters).saturating_add(MARGIN)
 }
