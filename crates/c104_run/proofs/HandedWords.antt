@@ -42,7 +42,7 @@ module _ {A : Type 0} (kind : Kind A) (v w : ℕ) where
   apply_word net s l is = search (arith, step_word)
 
 module _ {A : Type 0} (kind : Kind A) (net : Network A) (words : Words) where
-  event_word : (e : Event) → network_apply kind net e ≡ (Ok ReplyOf.NotReady, net) → network_apply kind net (worded words e) ≡ (Ok ReplyOf.NotReady, net)
+  pub event_word : (e : Event) → network_apply kind net e ≡ (Ok ReplyOf.NotReady, net) → network_apply kind net (worded words e) ≡ (Ok ReplyOf.NotReady, net)
   event_word (Event.Cross p) is = is
   event_word (Event.Credit p) is = is
   event_word (Event.Input s l w) is = apply_word kind w (word_at words s l) net s l is
@@ -70,5 +70,3 @@ module _ {A : Type 0} (kind : Kind A) (net : Network A) (words : Words) where
 pub flat_worded : (words : Words) (part : ℕ → List Event) (numbers : List ℕ) → flat_map (λ k. all_worded words (part k)) numbers ≡ all_worded words (flat_map part numbers)
 flat_worded words part [] = refl
 flat_worded words part (n ∷ numbers) = search (arith, map-append, flat_worded words part numbers)
-
--- a plain round hands 0 to each

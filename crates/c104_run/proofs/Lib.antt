@@ -15,13 +15,13 @@ pub mod StartsBack
 pub mod FirstRecords
 pub mod RoundLists
 pub mod RoundRuns
-pub mod RoundsTaken
 pub mod PartRuns
 pub mod SeenRuns
 pub mod StageSteps
 pub mod MeteredSteps
 pub mod NoFaults
 pub mod HandedWords
+pub mod IdleRounds
 pub mod IdleEvents
 pub mod RoundJoins
 pub mod RecordedRuns

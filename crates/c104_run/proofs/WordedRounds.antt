@@ -5,7 +5,7 @@ use Rattle.{c104_plan.specs.declared.ports.Port.Port, c104_run.proofs.PortWalks.
 use Rattle.c104_run.{proofs.RoundRuns.{Applied, run_append, run_from}, specs.EventRuns.{EventsEnd, Outcome, run_events, unless_fault}}
 use Rattle.c104_run.specs.HandedWords.{Words, all_worded, round_with, rounds_with, walked_with, worded, words_after, words_behind}
 use Rattle.c104_run.specs.RoundParts.{claim_walk, drain_walk, input_walk, output_walk, port_events, switch_walk, terminal_walk}
-use Rattle.{c104_run.specs.Rounds.{link_numbers, round, turn_at, wired_ports}, std.proofs.Common.{Err, List, Ok, Result, [], ap}}
+use Rattle.{c104_run.specs.Rounds.{link_numbers, round, rounds, turn_at, wired_ports}, std.proofs.Common.{Err, List, Ok, Result, [], ap}}
 use Rattle.std.proofs.Common.{append-nil, append_assoc, arith, inl, inr, length, refl, suc, sym, zero, ℕ, ◌++◌, ◌+◌, ◌-◌, ◌<◌, ◌∙◌, ◌∷◌}
 use Rattle.std.{proofs.{Common.◌≡◌, lemmas.List.map-append}, specs.List.{flat_map, range_with_len}}
 
@@ -45,13 +45,18 @@ zero_turns plan = ap (all_worded Words.Zero) (sym (turns_walked plan)) ∙ flat_
 pub zero_round : (plan : Plan) → round_with Words.Zero plan ≡ round plan
 zero_round plan = ap (all_worded Words.Zero) (round_walked plan) ∙ joined Words.Zero _ _ (joined Words.Zero _ _ (joined Words.Zero _ _ (joined Words.Zero _ _ (credit_kept Words.Zero plan) (cross_kept Words.Zero plan)) (zero_turns plan)) (claims_kept Words.Zero plan)) (drains_kept Words.Zero plan) ∙ sym (round_walked plan)
 
+-- so do rounds
+pub zero_rounds : (plan : Plan) (n : ℕ) → rounds_with Words.Zero plan n ≡ rounds plan n
+zero_rounds plan zero = refl
+zero_rounds plan (suc n) = ap (λ es. es ++ rounds_with Words.Zero plan n) (zero_round plan) ∙ ap (λ es. round plan ++ es) (zero_rounds plan n)
+
 -- rounds in two parts
-rounds_two : (plan : Plan) (words : Words) (m n : ℕ) → rounds_with words plan (m + n) ≡ rounds_with words plan m ++ rounds_with (words_after words (length plan.switches) m) plan n
-rounds_two plan words zero n = let same : zero + n ≡ n = omega arith in ap (rounds_with words plan) same
-rounds_two plan words (suc m) n =
+pub words_two : (plan : Plan) (words : Words) (m n : ℕ) → rounds_with words plan (m + n) ≡ rounds_with words plan m ++ rounds_with (words_after words (length plan.switches) m) plan n
+words_two plan words zero n = let same : zero + n ≡ n = omega arith in ap (rounds_with words plan) same
+words_two plan words (suc m) n =
     let same : suc m + n ≡ suc (m + n) = omega arith in
     let next : Words = words_behind words (length plan.switches) in
-    ap (rounds_with words plan) same ∙ ap (λ es. round_with words plan ++ es) (rounds_two plan next m n)
+    ap (rounds_with words plan) same ∙ ap (λ es. round_with words plan ++ es) (words_two plan next m n)
     ∙ sym (append_assoc (round_with words plan) (rounds_with next plan m) (rounds_with (words_after next (length plan.switches) m) plan n))
 
 -- the words of the next round
@@ -59,9 +64,9 @@ pub words_next : (words : Words) (switches i : ℕ) → words_behind (words_afte
 words_next words switches zero = refl
 words_next words switches (suc i) = words_next (words_behind words switches) switches i ∙ (let same : suc (i + 1) ≡ suc i + 1 = omega arith in ap (words_after words switches) same)
 
--- i rounds, the next one, and those after it
-rounds_from : (plan : Plan) (words : Words) (i n : ℕ) → i < n → rounds_with words plan n ≡ rounds_with words plan i ++ (round_with (words_after words (length plan.switches) i) plan ++ rounds_with (words_behind (words_after words (length plan.switches) i) (length plan.switches)) plan (n - suc i))
-rounds_from plan words i n further = let count : n ≡ i + suc (n - suc i) = omega arith in ap (rounds_with words plan) count ∙ rounds_two plan words i (suc (n - suc i))
+-- some rounds, the next one, and those after it
+pub words_from : (plan : Plan) (words : Words) (i n : ℕ) → i < n → rounds_with words plan n ≡ rounds_with words plan i ++ (round_with (words_after words (length plan.switches) i) plan ++ rounds_with (words_behind (words_after words (length plan.switches) i) (length plan.switches)) plan (n - suc i))
+words_from plan words i n further = let count : n ≡ i + suc (n - suc i) = omega arith in ap (rounds_with words plan) count ∙ words_two plan words i (suc (n - suc i))
 
 module _ {S : Type 0} (apply : S → Event → Applied S) (plan : Plan) (words : Words) where
   abbrev pub Handed : ℕ → Words
@@ -70,7 +75,7 @@ module _ {S : Type 0} (apply : S → Event → Applied S) (plan : Plan) (words :
   -- one more round
   pub words_taken : (net mid after : S) (i : ℕ) → run_events apply net (rounds_with words plan i) ≡ (Ok tt, mid) → run_events apply mid (round_with (Handed i) plan) ≡ (Ok tt, after) → run_events apply net (rounds_with words plan (i + 1)) ≡ (Ok tt, after)
   words_taken net mid after i front next =
-      ap (run_events apply net) (rounds_two plan words i 1 ∙ ap (λ es. rounds_with words plan i ++ es) (append-nil (round_with (Handed i) plan)))
+      ap (run_events apply net) (words_two plan words i 1 ∙ ap (λ es. rounds_with words plan i ++ es) (append-nil (round_with (Handed i) plan)))
       ∙ run_from apply net mid (rounds_with words plan i) (round_with (Handed i) plan) front ∙ next
 
   -- a round that ends with a fault, or short
@@ -79,14 +84,14 @@ module _ {S : Type 0} (apply : S → Event → Applied S) (plan : Plan) (words :
       let now : List Event = round_with (Handed i) plan in
       let more : List Event = rounds_with (words_behind (Handed i) (length plan.switches)) plan (n - suc i) in
       elim ends [
-        | inl due ↦ inl (sym (ap (run_events apply net) (rounds_from plan words i n further) ∙ run_from apply net mid (rounds_with words plan i) (now ++ more) front
+        | inl due ↦ inl (sym (ap (run_events apply net) (words_from plan words i n further) ∙ run_from apply net mid (rounds_with words plan i) (now ++ more) front
             ∙ run_append apply now more mid ∙ ap (λ (r : Outcome S). unless_fault r.0 r.1 (λ next. run_events apply next more)) (sym due)))
         | inr short ↦ inr (record {
           refused = short.refused;
           front = rounds_with words plan i ++ short.front;
           event = short.event;
           rest = short.rest ++ more;
-          parts = rounds_from plan words i n further ∙ ap (λ es. rounds_with words plan i ++ (es ++ more)) short.parts ∙ ap (λ es. rounds_with words plan i ++ es) (append_assoc short.front (short.event ∷ short.rest) more) ∙ sym (append_assoc (rounds_with words plan i) short.front (short.event ∷ (short.rest ++ more)));
+          parts = words_from plan words i n further ∙ ap (λ es. rounds_with words plan i ++ (es ++ more)) short.parts ∙ ap (λ es. rounds_with words plan i ++ es) (append_assoc short.front (short.event ∷ short.rest) more) ∙ sym (append_assoc (rounds_with words plan i) short.front (short.event ∷ (short.rest ++ more)));
           stands = run_from apply net mid (rounds_with words plan i) short.front front ∙ short.stands;
           wanted = short.wanted;
         })

@@ -4,7 +4,12 @@ use Rattle.{c104_event.specs.declared.events.Event.Event, c104_node.specs.declar
 use Rattle.{c104_plan.specs.Plans.Plan, c104_run.specs.{RoundParts.{claim_walk, drain_walk, switch_walk, terminal_walk}, Rounds.round}}
 use Rattle.c104_run.specs.declared.words.TheConstants.{SHARE, STEP}
 use Rattle.rand_xoshiro.specs.SplitMix64.{mix_u64}
-use Rattle.std.specs.Prelude.{List, [], length, map, suc, zero, ℕ, ◌%◌, ◌*◌, ◌++◌, ◌+◌, ◌/◌, ◌^◌}
+use Rattle.std.specs.Prelude.{List, None, Option, Some, [], length, map, suc, zero, ℕ, ◌%◌, ◌*◌, ◌++◌, ◌+◌, ◌/◌, ◌^◌}
+
+-- the words from a seed, where there is one
+abbrev pub words_of : Option ℕ → Words
+words_of None = Words.Zero
+words_of (Some seed) = Words.Seeded seed
 
 -- the state of the generator SplitMix64 behind so many words
 abbrev pub state_behind : ℕ → ℕ → ℕ

@@ -1,8 +1,9 @@
 -- What a meter is told of a network with its record: by the tokens that the network carries itself.
 use Rattle.{c104_event.specs.declared.{events.Event.Event, faults.EventFault.EventFault}, c104_node.specs.MappedNodes.map_node}
 use Rattle.{c104_node.specs.{Nodes.Node, Places.started_base, Starts.start_node, Traces.seatless}, c104_run.specs.EventRuns.Answers}
+use Rattle.c104_run.specs.HandedWords.{Words, round_with}
 use Rattle.c104_run.specs.{Meters.{Metered, Sees, metered_apply, with_meter}, NetRecords.NetRecord, Network.network_of}
-use Rattle.c104_run.specs.{RecordedRuns.record_apply, RoundParts.PartEnds, Rounds.round, Runs.IsRunRecord, Stages.Stage}
+use Rattle.c104_run.specs.{RecordedRuns.record_apply, RoundParts.PartEnds, Runs.IsRunRecord, Stages.Stage}
 use Rattle.{c104_switch.specs.Actions.Reply, c104_token.specs.Kinds.Kind}
 use Rattle.std.specs.Prelude.{Bool, List, Result, map, true, ◌≡◌}
 
@@ -37,11 +38,11 @@ abbrev pub MetersEvent : {A M : Type 0} → Kind A → Sees M A → NetRecord �
 MetersEvent kind sees old m e answer new n =
     MetersSo kind old m new n (λ x y. Answers (metered_apply kind true sees) x e answer y)
 
--- it is told what is due of the events of a round
-abbrev pub MetersRound : {A M : Type 0} → Kind A → Sees M A → NetRecord → M → Result Bool EventFault → NetRecord → M → Type 0
-MetersRound kind sees old m result new n =
-    MetersSo kind old m new n (λ x y. PartEnds (metered_apply kind true sees) x (round old.network.plan) result y)
+-- it is told what is due of the events of a round whose inputs are handed words
+abbrev pub MetersRound : {A M : Type 0} → Kind A → Sees M A → Words → NetRecord → M → Result Bool EventFault → NetRecord → M → Type 0
+MetersRound kind sees words old m result new n =
+    MetersSo kind old m new n (λ x y. PartEnds (metered_apply kind true sees) x (round_with words old.network.plan) result y)
 
 -- how one round ends: as the run of its events, up to the first that is refused; where none was done nothing has changed
-abbrev pub RecordsRound : NetRecord → Result Bool EventFault → NetRecord → Type 0
-RecordsRound old result new = PartEnds record_apply old (round old.network.plan) result new
+abbrev pub RecordsRound : Words → NetRecord → Result Bool EventFault → NetRecord → Type 0
+RecordsRound words old result new = PartEnds record_apply old (round_with words old.network.plan) result new

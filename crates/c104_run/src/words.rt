@@ -1,6 +1,6 @@
 //! The words that the inputs of rounds are handed.
 ghost use Rattle.std.specs.Prelude.{◌≡◌};
-ghost use Rattle.c104_run.specs.HandedWords.{word_at, words_behind};
+ghost use Rattle.c104_run.specs.HandedWords.{word_at, words_behind, words_of};
 
 use rand_core::SeedableRng;
 use rand_core::utils::NextWord;
@@ -23,6 +23,16 @@ const STEP: u64 = 0x9e37_79b9_7f4a_7c15;
 const SHARE: u64 = 32;
 
 impl Words {
+    /// The words from a seed, where there is one.
+    pub fn of(seed: Option<u64>) -> Words
+        ensures { result ≡ words_of seed }
+    {
+        match seed {
+            None => Words::Zero,
+            Some(seed) => Words::Seeded(seed),
+        }
+    }
+
     /// The word of the input at a link of a switch.
     pub(crate) fn word(self, switch: usize, link: usize) -> u32
         ensures { result ≡ word_at self switch link }
@@ -40,7 +50,7 @@ impl Words {
     }
 
     /// The words of the next round of a network of so many switches.
-    pub(crate) fn next(self, switches: usize) -> Words
+    pub fn next(self, switches: usize) -> Words
         ensures { result ≡ words_behind self switches }
     {
         match self {

@@ -5,7 +5,7 @@
 ghost use Rattle.std.specs.Prelude.{OnOk, length, map, ◌+◌, ◌<◌, ◌≡◌};
 ghost use Rattle.{c104_node.specs.Places.states, c104_run.specs.NotedSwitches.{AreSo, GrantsNone}};
 ghost use Rattle.c104_run.specs.HandedWords.{round_with, rounds_with};
-ghost use Rattle.c104_run.specs.{Engines.{DoesPart, engine_at}, EventRuns.EventsEnd, Meters.metered_apply, Rounds.{round, rounds}};
+ghost use Rattle.c104_run.specs.{Engines.{DoesPart, engine_at}, EventRuns.EventsEnd, Meters.metered_apply};
 
 mod attempts;
 mod finding;
@@ -22,32 +22,9 @@ use c104_token::TokenKind;
 use noted::Noted;
 
 impl<T: TokenKind, P: Place<T>> Engine<T, P> {
-    /// Does `times` rounds, up to the first fault of an event, and tells of each that changed something.
+    /// Does `times` rounds whose inputs are handed words, those of each round behind those of the one before, up to the first
+    /// fault of an event, and tells of each that changed something.
     pub fn rounds<W: Watch, M: Meter<T>>(
-        &mut self,
-        times: u32,
-        meter: &mut M,
-        watch: &mut W,
-    ) -> Result<(), EventFault>
-        ensures plan { self.new.plan ≡ self.old.plan }
-        ensures ends { EventsEnd (metered_apply T.kind P.keeps M.sees) (engine_at P.shown self.old meter.old)
-            (rounds self.old.plan times) result (engine_at P.shown self.new meter.new) }
-    {
-        let mut noted = Noted::all();
-        for round in 0..times {
-            let changed = self.round_by(meter, Words::Zero, &mut noted)?;
-            if !changed {
-                // Nor would any further round change anything.
-                return Ok(());
-            }
-            watch.rounds_done(round + 1, times);
-        }
-        Ok(())
-    }
-
-    /// The same with words that are handed to inputs, those of each round behind those of the one before. It does all rounds:
-    /// where nothing is done in one, nothing is in any other, and that costs little.
-    pub fn rounds_with<W: Watch, M: Meter<T>>(
         &mut self,
         times: u32,
         words: Words,
@@ -62,23 +39,26 @@ impl<T: TokenKind, P: Place<T>> Engine<T, P> {
         let mut handed = words;
         for round in 0..times {
             let changed = self.round_by(meter, handed, &mut noted)?;
-            handed = handed.next(self.switch_count());
-            if changed {
-                watch.rounds_done(round + 1, times);
+            if !changed && self.count < u64::MAX {
+                // Nor would any further round change anything, whatever its words. At the largest count, which no network comes
+                // near, the count doesn't tell that no event was done.
+                return Ok(());
             }
+            handed = handed.next(self.switch_count());
+            watch.rounds_done(round + 1, times);
         }
         Ok(())
     }
 
-    /// Does one round, and tells whether any event of it was done.
-    pub fn round<M: Meter<T>>(&mut self, meter: &mut M) -> Result<bool, EventFault>
-        ensures { DoesPart T.kind P.keeps M.sees P.shown self.old meter.old round result self.new meter.new }
+    /// Does one round whose inputs are handed words, and tells whether any event of it was done.
+    pub fn round<M: Meter<T>>(&mut self, words: Words, meter: &mut M) -> Result<bool, EventFault>
+        ensures { DoesPart T.kind P.keeps M.sees P.shown self.old meter.old (round_with words) result self.new meter.new }
     {
-        self.round_by(meter, Words::Zero, &mut Noted::all())
+        self.round_by(meter, words, &mut Noted::all())
     }
 
-    /// The same with words that are handed to inputs, by what was noted of the grants of switches, which is noted anew. Each part of a round that is about ports
-    /// is walked at the switches, and then at the terminals.
+    /// The same by what was noted of the grants of switches, which is noted anew. Each part of a round that is about ports is
+    /// walked at the switches, and then at the terminals.
     #[inline(always)]
     fn round_by<M: Meter<T>>(
         &mut self,

@@ -1,4 +1,5 @@
 //! Rounds of a network whose nodes are seen with their records.
+ghost use Rattle.c104_run.specs.declared.words.Words.TheVariants as Words;
 ghost use Rattle.c104_run.specs.{MeteredRuns.{MetersRound, RecordsRound}, RecordedRuns.{RecordsHanded, RecordsRounds}};
 
 use super::RecordedNet;
@@ -18,23 +19,15 @@ impl<T: TokenKind, P: RecordedPlace<T>> RecordedNet<T, P> {
     /// The events before a fault stand, and their entries. NoMemory comes when out of memory for an event
     /// that would be done.
     pub fn rounds(&mut self, count: u32) -> Result<(), EventFault>
-        ensures { RecordsRounds self.old count result self.new }
+        ensures plain { RecordsRounds self.old count result self.new }
+        ensures handed { RecordsHanded Words.Zero self.old count result self.new }
     {
-        self.rounds_watched(count, &mut Unwatched)
-    }
-
-    /// The same, and tells of each round that changed something.
-    pub fn rounds_watched<W: Watch>(&mut self, count: u32, watch: &mut W) -> Result<(), EventFault>
-        ensures { RecordsRounds self.old count result self.new }
-    {
-        // The proof reads here what every plan keeps.
-        let _plan = self.engine.plan();
-        self.engine.rounds(count, &mut Unmetered, watch)
+        self.rounds_watched(count, Words::Zero, &mut Unwatched)
     }
 
     /// The same with words that are handed to inputs in place of 0, those of each round behind those of the one before. Where an
-    /// input puts random headers before packets, its word picks one.
-    pub fn rounds_handed<W: Watch>(
+    /// input puts random headers before packets, its word picks one. Each round that changed something is told of.
+    pub fn rounds_watched<W: Watch>(
         &mut self,
         count: u32,
         words: Words,
@@ -44,19 +37,23 @@ impl<T: TokenKind, P: RecordedPlace<T>> RecordedNet<T, P> {
     {
         // The proof reads here what every plan keeps.
         let _plan = self.engine.plan();
-        self.engine.rounds_with(count, words, &mut Unmetered, watch)
+        self.engine.rounds(count, words, &mut Unmetered, watch)
     }
 
-    /// Does one round, tells a meter of each token that crosses a wire and of each that arrives, and tells whether any
-    /// event of the round was done. Where none was, no further round would change anything.
+    /// Does one round whose inputs are handed words, tells a meter of each token that crosses a wire and of each that arrives,
+    /// and tells whether any event of the round was done. Where none was, no further round would change anything.
     ///
     /// The events before a fault stand, and a meter was told of them.
-    pub fn round_metered<M: Meter<T>>(&mut self, meter: &mut M) -> Result<bool, EventFault>
-        ensures recorded { RecordsRound self.old result self.new }
-        ensures metered { MetersRound T.kind M.sees self.old meter.old result self.new meter.new }
+    pub fn round_metered<M: Meter<T>>(
+        &mut self,
+        words: Words,
+        meter: &mut M,
+    ) -> Result<bool, EventFault>
+        ensures recorded { RecordsRound words self.old result self.new }
+        ensures metered { MetersRound T.kind M.sees words self.old meter.old result self.new meter.new }
     {
         // The proof reads here what every plan keeps.
         let _plan = self.engine.plan();
-        self.engine.round(meter)
+        self.engine.round(words, meter)
     }
 }
