@@ -1,12 +1,12 @@
 -- Whether an input is ready for its turn doesn't depend on the word that it is handed.
 use Rattle.{c104_event.specs.declared.events.Event.Event, c104_link.{proofs.MadeSteps.given, specs.{Buffers.Outgoing, Steps.joint_step_at}}}
 use Rattle.c104_node.specs.{Acts.{node_act, nodes_act}, Nodes.Node, declared.{acts.ActOf.ActOf, node.NodeOf.NodeOf}}
-use Rattle.{c104_regs.specs.declared.settings.Settings.Settings, c104_run.specs.HandedWords.{Words, all_worded, word_at, worded}}
-use Rattle.c104_run.specs.{Network.{Network, network_apply, network_step}, RoundParts.{AreIdle, EachIdle, IsNext}}
-use Rattle.c104_switch.specs.{Switch.{Input, Switch}, Turns.{input_turn, inputs_turn, switch_input, turn_by_phase}}
-use Rattle.c104_switch.specs.declared.{actions.{ActionOf.ActionOf, ReplyOf.ReplyOf}, phase.Phase.{Phase, TheVariants.{Fresh, Head}}}
-use Rattle.{c104_switch.specs.declared.phase.Phase.TheVariants.{Sinking, Stream, Want}, c104_token.specs.Kinds.Kind, std.proofs.Common.List}
-use Rattle.std.proofs.Common.{None, Ok, Option, Some, [], arith, false, is_some, map, refl, slice_get, ℕ, ◌++◌, ◌∷◌, ◌≡◌}
+use Rattle.{c104_plan.specs.Plans.Plan, c104_regs.specs.declared.settings.Settings.Settings, c104_run.specs.HandedWords.{Words, all_worded}}
+use Rattle.c104_run.specs.{HandedWords.{round_with, word_at, worded}, Network.{Network, network_apply, network_step}, RoundParts.AreIdle}
+use Rattle.{c104_run.specs.{RoundParts.{EachIdle, IsNext}, Rounds.round}, c104_switch.specs.{Switch.{Input, Switch}, Turns.input_turn}}
+use Rattle.c104_switch.specs.{Turns.{inputs_turn, switch_input, turn_by_phase}, declared.actions.{ActionOf.ActionOf, ReplyOf.ReplyOf}}
+use Rattle.{c104_switch.specs.declared.phase.Phase.{Phase, TheVariants.{Fresh, Head, Sinking, Stream, Want}}, c104_token.specs.Kinds.Kind}
+use Rattle.std.proofs.Common.{List, None, Ok, Option, Some, [], arith, false, is_some, map, refl, slice_get, ℕ, ◌++◌, ◌∷◌, ◌≡◌}
 use Rattle.std.{proofs.lemmas.List.map-append, specs.List.flat_map}
 
 module _ {A : Type 0} (kind : Kind A) (v w : ℕ) where
@@ -70,3 +70,21 @@ module _ {A : Type 0} (kind : Kind A) (net : Network A) (words : Words) where
 pub flat_worded : (words : Words) (part : ℕ → List Event) (numbers : List ℕ) → flat_map (λ k. all_worded words (part k)) numbers ≡ all_worded words (flat_map part numbers)
 flat_worded words part [] = refl
 flat_worded words part (n ∷ numbers) = search (arith, map-append, flat_worded words part numbers)
+
+-- an event has the word that it was handed last
+pub worded_again : (words other : Words) (e : Event) → worded words (worded other e) ≡ worded words e
+worded_again words other (Event.Cross p) = refl
+worded_again words other (Event.Credit p) = refl
+worded_again words other (Event.Input s l word) = refl
+worded_again words other (Event.Claim s i o) = refl
+worded_again words other (Event.Control s bytes) = refl
+worded_again words other (Event.Send t packet) = refl
+worded_again words other (Event.Drain t) = refl
+
+all_again : (words other : Words) (events : List Event) → all_worded words (all_worded other events) ≡ all_worded words events
+all_again words other [] = refl
+all_again words other (e ∷ events) = search (arith, worded_again, all_again words other events)
+
+-- the same of a round
+pub round_again : (words other : Words) (plan : Plan) → all_worded words (round_with other plan) ≡ round_with words plan
+round_again words other plan = all_again words other (round plan)

@@ -1,25 +1,15 @@
 -- A run of events of which none was done: each is answered with NotReady where the run began, and so is each event of a round
 -- with any other words. That none was done is told by the count of events, which each that is done makes larger.
 use Rattle.{c104_event.specs.declared.{events.Event.Event, faults.EventFault.EventFault}, c104_plan.specs.Plans.Plan}
-use Rattle.c104_run.proofs.{HandedWords.event_word, RoundRuns.{Applied, ends_keep, run_from, undone_left}, StageSteps.unready_stage}
-use Rattle.c104_run.proofs.{UndoneEvents.undone_deeds, WordedRounds.words_from}
-use Rattle.c104_run.specs.{EventRuns.{EventsEnd, Outcome, run_events, unless_fault}, NetRecords.{NetRecord, is_done, largest_ticket}}
-use Rattle.c104_run.specs.{HandedWords.{Words, all_worded, round_with, rounds_with, words_after, words_behind, worded}, Meters.Metered}
-use Rattle.c104_run.specs.{Meters.{Sees, metered_apply}, NetRecords.ticket_after, Network.network_apply, RecordedRuns.{record_apply, record_stage}}
+use Rattle.c104_run.proofs.{HandedWords.{event_word, worded_again}, RoundRuns.{Applied, ends_keep, run_from, undone_left}}
+use Rattle.c104_run.{proofs.{StageSteps.unready_stage, UndoneEvents.undone_deeds, WordedRounds.words_from}, specs.EventRuns.EventsEnd}
+use Rattle.c104_run.specs.{EventRuns.{Outcome, run_events, unless_fault}, HandedWords.{Words, all_worded, round_with, rounds_with, worded}}
+use Rattle.c104_run.specs.{HandedWords.{words_after, words_behind}, Meters.{Metered, Sees, metered_apply}, NetRecords.{NetRecord, is_done}}
+use Rattle.c104_run.specs.{NetRecords.{largest_ticket, ticket_after}, Network.network_apply, RecordedRuns.{record_apply, record_stage}}
 use Rattle.{c104_run.specs.{Rounds.round, Stages.{Stage, stage_apply, stage_full}}, c104_switch.specs.Actions.{Reply, is_ready}}
 use Rattle.{c104_switch.specs.declared.actions.ReplyOf.ReplyOf, c104_token.specs.Kinds.{Kind, plain_kind}, std.proofs.Common.{Bool, Err}}
-use Rattle.std.proofs.Common.{List, Ok, Result, [], ap, arith, false, inl, inr, length, map, refl, subst, suc, sym, true, zero, ℕ, ◌&&◌, ◌++◌}
-use Rattle.std.proofs.Common.{◌+◌, ◌-◌, ◌<◌, ◌∙◌, ◌∷◌, ◌≡◌, ◌≤◌}
-
--- an event handed one word and then another has the other
-both_words : (v w : Words) (e : Event) → worded w (worded v e) ≡ worded w e
-both_words v w (Event.Cross p) = refl
-both_words v w (Event.Credit p) = refl
-both_words v w (Event.Input s l word) = refl
-both_words v w (Event.Claim s i o) = refl
-both_words v w (Event.Control s bytes) = refl
-both_words v w (Event.Send t packet) = refl
-both_words v w (Event.Drain t) = refl
+use Rattle.std.proofs.Common.{List, Ok, Result, [], ap, arith, false, inl, inr, length, map, refl, subst, suc, sym, true, zero, ℕ, ◌&&◌}
+use Rattle.std.proofs.Common.{◌++◌, ◌+◌, ◌-◌, ◌<◌, ◌∙◌, ◌∷◌, ◌≡◌, ◌≤◌}
 
 -- what isn't done and no fault isn't ready
 not_ready : (r : Reply) → is_ready r ≡ false → r ≡ ReplyOf.NotReady
@@ -45,7 +35,7 @@ module _ {S : Type 0} (apply : S → Event → Applied S) (count : S → ℕ) (l
   pub passes_worded : (s : S) (v w : Words) (events : List Event) → Passes s (all_worded v events) → Passes s (all_worded w events)
   passes_worded s v w [] each = each
   passes_worded s v w (e ∷ events) each =
-      (subst (λ x. apply s x ≡ (Ok ReplyOf.NotReady, s)) (both_words v w e) (law.rewords s w (worded v e) each.0), passes_worded s v w events each.1)
+      (subst (λ x. apply s x ≡ (Ok ReplyOf.NotReady, s)) (worded_again w v e) (law.rewords s w (worded v e) each.0), passes_worded s v w events each.1)
 
   rounds_pass : (s : S) (plan : Plan) (v w : Words) (n : ℕ) → Passes s (round_with v plan) → run_events apply s (rounds_with w plan n) ≡ (Ok tt, s)
   rounds_pass s plan v w zero each = refl

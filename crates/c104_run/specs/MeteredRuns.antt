@@ -1,9 +1,8 @@
 -- What a meter is told of a network with its record: by the tokens that the network carries itself.
 use Rattle.{c104_event.specs.declared.{events.Event.Event, faults.EventFault.EventFault}, c104_node.specs.MappedNodes.map_node}
 use Rattle.{c104_node.specs.{Nodes.Node, Places.started_base, Starts.start_node, Traces.seatless}, c104_run.specs.EventRuns.Answers}
-use Rattle.c104_run.specs.HandedWords.{Words, round_with}
-use Rattle.c104_run.specs.{Meters.{Metered, Sees, metered_apply, with_meter}, NetRecords.NetRecord, Network.network_of}
-use Rattle.c104_run.specs.{RecordedRuns.record_apply, RoundParts.PartEnds, Runs.IsRunRecord, Stages.Stage}
+use Rattle.c104_run.specs.{HandedWords.{Words, round_with}, Meters.{Metered, Sees, metered_apply, with_meter}, NetRecords.NetRecord}
+use Rattle.c104_run.specs.{Network.network_of, RecordedRuns.record_apply, RoundParts.PartEnds, Runs.IsRunRecord, Stages.Stage}
 use Rattle.{c104_switch.specs.Actions.Reply, c104_token.specs.Kinds.Kind}
 use Rattle.std.specs.Prelude.{Bool, List, Result, map, true, ◌≡◌}
 

@@ -1,4 +1,5 @@
-use Rattle.{c104_run.{proofs.MeteredPlaces.round_on, specs.{HandedWords.round_with, RecordedNets.{Reading, reading}}}, std.proofs.Common.sym}
+use Rattle.c104_run.{proofs.MeteredPlaces.round_on, specs.{HandedWords.round_with, RecordedNets.{Reading, reading}}}
+use Rattle.std.proofs.Common.{sym}
 use Rattle.c104_run.proofs.recorded_net.RecordedNet.round_metered.Goals as goal
 
 -- the run goes on by the events of a round
