@@ -1,13 +1,13 @@
 -- Whether an input is ready for its turn doesn't depend on the word that it is handed.
-use Rattle.{c104_event.specs.declared.events.Event.Event, c104_link.{proofs.MadeSteps.given, specs.{Buffers.Outgoing, Steps.joint_step_at}}}
-use Rattle.c104_node.specs.{Acts.{node_act, nodes_act}, Nodes.Node, declared.{acts.ActOf.ActOf, node.NodeOf.NodeOf}}
-use Rattle.{c104_plan.specs.Plans.Plan, c104_regs.specs.declared.settings.Settings.Settings, c104_run.specs.HandedWords.{Words, all_worded}}
-use Rattle.c104_run.specs.{HandedWords.{round_with, word_at, worded}, Network.{Network, network_apply, network_step}, RoundParts.AreIdle}
-use Rattle.{c104_run.specs.{RoundParts.{EachIdle, IsNext}, Rounds.round}, c104_switch.specs.{Switch.{Input, Switch}, Turns.input_turn}}
-use Rattle.c104_switch.specs.{Turns.{inputs_turn, switch_input, turn_by_phase}, declared.actions.{ActionOf.ActionOf, ReplyOf.ReplyOf}}
-use Rattle.{c104_switch.specs.declared.phase.Phase.{Phase, TheVariants.{Fresh, Head, Sinking, Stream, Want}}, c104_token.specs.Kinds.Kind}
-use Rattle.std.proofs.Common.{List, None, Ok, Option, Some, [], arith, false, is_some, map, refl, slice_get, ℕ, ◌++◌, ◌∷◌, ◌≡◌}
-use Rattle.std.{proofs.lemmas.List.map-append, specs.List.flat_map}
+use Rattle.{c104_event.specs.declared.events.Event.Event, c104_link.specs.Buffers.Outgoing, c104_node.specs.Acts.{node_act, nodes_act}}
+use Rattle.{c104_node.specs.{Nodes.Node, declared.{acts.ActOf.ActOf, node.NodeOf.NodeOf}}, c104_plan.specs.Plans.Plan}
+use Rattle.{c104_regs.specs.declared.settings.Settings.Settings, c104_run.specs.HandedWords.{Words, all_worded, round_with, word_at}}
+use Rattle.c104_run.specs.{HandedWords.worded, Network.{Network, network_apply, network_step}, RoundParts.{AreIdle, EachIdle, IsNext}}
+use Rattle.{c104_run.specs.Rounds.round, c104_switch.specs.{Switch.{Input, Switch}, Turns.{input_turn, switch_input, turn_by_phase}}}
+use Rattle.c104_switch.specs.declared.{actions.{ActionOf.ActionOf, ReplyOf.ReplyOf}, phase.Phase.{Phase, TheVariants.{Fresh, Head}}}
+use Rattle.{c104_switch.specs.declared.phase.Phase.TheVariants.{Sinking, Stream, Want}, c104_token.specs.Kinds.Kind, std.proofs.Common.List}
+use Rattle.std.proofs.{Common.{None, Ok, Option, [], arith, false, is_some, refl, ℕ, ◌∷◌, ◌≡◌}, lemmas.List.map-append}
+use Rattle.std.specs.List.{flat_map}
 
 module _ {A : Type 0} (kind : Kind A) (v w : ℕ) where
   phase_word : (s : Settings) (p : Input A) (qs : List (Outgoing A)) (phase : Phase (List A)) (x : A) → turn_by_phase kind s v p qs phase x ≡ None → turn_by_phase kind s w p qs phase x ≡ None

@@ -5,10 +5,10 @@ use Rattle.c104_run.proofs.{HandedWords.{event_word, worded_again}, RoundRuns.{A
 use Rattle.c104_run.{proofs.{StageSteps.unready_stage, UndoneEvents.undone_deeds, WordedRounds.words_from}, specs.EventRuns.EventsEnd}
 use Rattle.c104_run.specs.{EventRuns.{Outcome, run_events, unless_fault}, HandedWords.{Words, all_worded, round_with, rounds_with, worded}}
 use Rattle.c104_run.specs.{HandedWords.{words_after, words_behind}, Meters.{Metered, Sees, metered_apply}, NetRecords.{NetRecord, is_done}}
-use Rattle.c104_run.specs.{NetRecords.{largest_ticket, ticket_after}, Network.network_apply, RecordedRuns.{record_apply, record_stage}}
-use Rattle.{c104_run.specs.{Rounds.round, Stages.{Stage, stage_apply, stage_full}}, c104_switch.specs.Actions.{Reply, is_ready}}
-use Rattle.{c104_switch.specs.declared.actions.ReplyOf.ReplyOf, c104_token.specs.Kinds.{Kind, plain_kind}, std.proofs.Common.{Bool, Err}}
-use Rattle.std.proofs.Common.{List, Ok, Result, [], ap, arith, false, inl, inr, length, map, refl, subst, suc, sym, true, zero, ℕ, ◌&&◌}
+use Rattle.c104_run.specs.{NetRecords.{largest_ticket, ticket_after}, Network.network_apply, RecordedRuns.{record_apply, record_at}}
+use Rattle.{c104_run.specs.{RecordedRuns.record_stage, Rounds.round, Stages.{Stage, stage_apply}}, c104_switch.specs.Actions.Reply}
+use Rattle.{c104_switch.specs.{Actions.is_ready, declared.actions.ReplyOf.ReplyOf}, c104_token.specs.Kinds.{Kind, plain_kind}}
+use Rattle.std.proofs.Common.{Bool, Err, List, Ok, Result, [], ap, arith, false, inl, inr, length, refl, subst, suc, sym, true, zero, ℕ}
 use Rattle.std.proofs.Common.{◌++◌, ◌+◌, ◌-◌, ◌<◌, ◌∙◌, ◌∷◌, ◌≡◌, ◌≤◌}
 
 -- what isn't done and no fault isn't ready
@@ -141,7 +141,7 @@ module _ {A : Type 0} (kind : Kind A) (keeps : Bool) where
 
 -- so do networks with their records
 record_stays : (r : NetRecord) (e : Event) → is_done (record_apply r e).0 ≡ false → (record_apply r e).1 ≡ r
-record_stays r e undone = search (arith, stage_stays)
+record_stays r e undone = ap (record_at r.starts) (stage_stays plain_kind true (record_stage r) e undone)
 
 record_rewords : (r : NetRecord) (w : Words) (e : Event) → record_apply r e ≡ (Ok ReplyOf.NotReady, r) → record_apply r (worded w e) ≡ (Ok ReplyOf.NotReady, r)
 record_rewords r w e is = search (arith, stage_rewords)

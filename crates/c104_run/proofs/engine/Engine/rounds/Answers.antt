@@ -1,7 +1,8 @@
-use Rattle.{c104_node.{proofs.PlaceSteps.err_is, specs.Places.states}, c104_plan.specs.Plans.Plan, c104_run.proofs.NotedSwitches.all_noted}
-use Rattle.c104_run.{proofs.WordedRounds.{words_next, words_refused, words_taken}, specs.{Engines.engine_at, EventRuns.run_events}}
-use Rattle.c104_run.specs.{HandedWords.{Words, round_with, rounds_with, words_behind}, Meters.metered_apply, NotedSwitches.AreSo}
-use Rattle.{c104_run.specs.NotedSwitches.GrantsNone, std.proofs.Common.{ap, arith, inl, length, map, refl, subst, sym, ◌∙◌, ◌≡◌}}
+use Rattle.{c104_node.{proofs.PlaceSteps.err_is, specs.Places.states}, c104_plan.specs.Plans.Plan, c104_run.proofs.IdleRounds.meters_count}
+use Rattle.c104_run.proofs.{IdleRounds.words_idle, NotedSwitches.all_noted, WordedRounds.{words_next, words_refused, words_taken}}
+use Rattle.c104_run.specs.{Engines.{EngineView, engine_at}, EventRuns.run_events, HandedWords.{Words, round_with, rounds_with}}
+use Rattle.c104_run.specs.{HandedWords.words_behind, Meters.{Metered, metered_apply}, NetRecords.largest_ticket, NotedSwitches.AreSo}
+use Rattle.{c104_run.specs.NotedSwitches.GrantsNone, std.proofs.Common.{ap, arith, inl, length, map, refl, subst, sym, ◌<◌, ◌∙◌, ◌≡◌}}
 use Rattle.c104_run.proofs.engine.Engine.rounds.Goals as goal
 
 pub loop-round-init : goal.loop-round-init
@@ -38,3 +39,11 @@ loop-round-preserved g c =
           ∙ words_next c.args.words (length c.args.self.now.plan.switches) c.loop-round.round;
       grants = subst (λ (p : Plan). AreSo (GrantsNone g.T.TokenKind.kind p) c.round_by.new.noted.granting (states (map g.P.Place.shown c.round_by.new.self.places)) 0 (length p.switches)) c.loop-round.invariant.plan c.in_ok-changed.ensures.grants;
     }
+
+pub returns-then-self-lt18446744073709551615-clause-ends : goal.returns-then-self-lt18446744073709551615-clause-ends
+returns-then-self-lt18446744073709551615-clause-ends g c =
+    let same = c.in_ok-changed.ensures.does.ends.ends.1 c.if-not-changed.true in
+    let count : c.round_by.new.self.count ≡ c.loop-round.self.count = ap (λ (x : Metered g.row.T.Denot g.row.M.Denot). x.stage.count) same in
+    let there : c.self.inside.count ≡ c.loop-round.self.count = ap (λ (e : EngineView g.row.P.Denot). e.count) c.self.view_is ∙ count in
+    inl (sym (words_idle (metered_apply g.T.TokenKind.kind g.P.Place.keeps g.M.Meter.sees) (λ x. x.stage.count) (meters_count g.T.TokenKind.kind g.P.Place.keeps g.M.Meter.sees) c.args.self.now.plan c.args.words (engine_at g.P.Place.shown c.args.self.now c.args.meter.now) (engine_at g.P.Place.shown c.loop-round.self c.loop-round.meter) (engine_at g.P.Place.shown c.round_by.new.self c.round_by.new.meter) c.loop-round.round c.args.times c.loop-round-test.true c.loop-round.invariant.done
+    (rw (sym c.loop-round.invariant.handed, sym c.loop-round.invariant.plan) (inl (sym c.in_ok-changed.ensures.does.ends.ends.0))) (subst (λ n. n < largest_ticket) there c.if-self-lt18446744073709551615.true) (omega (arith, count))))
