@@ -5,12 +5,13 @@ use Rattle.{c104_plan.specs.{Plans.Plan, TextCut.{is_plain_line, line_words, unc
 use Rattle.c104_script.specs.{HexWords.register_word, Script.{bytes_after, claim_line, control_line, credit_line, cross_line, drain_line}}
 use Rattle.c104_script.specs.Script.{input_at, input_line, link_line, most_line, most_rounds, number_word, packet_of, peek_line, place_word}
 use Rattle.c104_script.specs.Script.{poke_line, port_at, probe_line, probe_of, read_script_line, read_script_words, request_of, rounds_line}
-use Rattle.c104_script.specs.Script.{send_line, some_request, switch_at, table_line, terminal_at, verb_line, verb_of}
-use Rattle.c104_script.specs.declared.{faults.LineFault.LineFault, places.Request.Request, probes.Probe.Probe, words.ProbeVerb.ProbeVerb}
-use Rattle.{c104_script.specs.declared.words.Verb.Verb, c104_token.{proofs.Spelling.{Spelled, accepted}, specs.Text.IsHexDigit}}
-use Rattle.c104_token.specs.{Text.{SpellBytes, SpellsByte, parse_words}, declared.{faults.TokenFault.TokenFault, packets.Packet.Packet}}
-use Rattle.std.proofs.Common.{All, Bool, Err, IfOk, List, None, Ok, Option, Result, Some, [], ap, arith, false, if◌then◌else◌, inl, inr}
-use Rattle.std.proofs.{Common.{length, nat_le, refl, subst, sym, true, ℕ, ◌&&◌, ◌<◌, ◌∷◌, ◌≡◌}, lemmas.List.Elements.{All-cons, All-nil}}
+use Rattle.c104_script.specs.Script.{seeded_line, send_line, some_request, switch_at, table_line, terminal_at, verb_line, verb_of}
+use Rattle.c104_script.specs.{SeedWords.seed_of, declared.{faults.LineFault.LineFault, places.Request.Request, probes.Probe.Probe}}
+use Rattle.{c104_script.specs.declared.words.{ProbeVerb.ProbeVerb, Verb.Verb}, c104_token.proofs.Spelling.{Spelled, accepted}}
+use Rattle.c104_token.specs.{Text.{IsHexDigit, SpellBytes, SpellsByte, parse_words}, declared.faults.TokenFault.TokenFault}
+use Rattle.{c104_token.specs.declared.packets.Packet.Packet, std.proofs.Common.{All, Bool, Err, IfOk, List, None, Ok, Option, Result, Some}}
+use Rattle.std.proofs.Common.{[], ap, arith, false, if◌then◌else◌, inl, inr, length, nat_le, refl, subst, sym, true, ℕ, ◌&&◌, ◌<◌, ◌∷◌, ◌≡◌}
+use Rattle.std.{proofs.lemmas.List.Elements.{All-cons, All-nil}, specs.Prelude.{bytes_eq, codes}}
 use Rattle.c104_script.specs.declared.places.Request.TheVariants as ask
 
 -- what an event sends, if it sends something, is bytes
@@ -92,8 +93,11 @@ module _ (plan : Plan) where
   control_fine : (place : List ℕ) (list : List (List ℕ)) → Fine (control_line plan place list)
   control_fine place list = checked RequestBytes (nat_le (length list) MAX_CONTROL_BYTES) LineFault.BadShape _ (chained RequestBytes (place_word place) _ (λ at was. chained RequestBytes (bytes_after [] list) _ (λ bytes is. asked (switch_at plan at) (λ s. Event.Control s bytes) (λ s. tt))))
 
-  rounds_fine : (word : List ℕ) → Fine (rounds_line word)
-  rounds_fine word = chained RequestBytes (number_word word) _ (λ count is. checked RequestBytes (nat_le 1 count && nat_le count most_rounds) LineFault.BadNumber (Ok (ask.Rounds count)) tt)
+  rounds_fine : (word : List ℕ) (behind : Option (List ℕ)) → Fine (rounds_line word behind)
+  rounds_fine word behind = chained RequestBytes (number_word word) _ (λ count is. checked RequestBytes (nat_le 1 count && nat_le count most_rounds) LineFault.BadNumber _ (chained RequestBytes (seed_of behind) _ (λ seed is'. tt)))
+
+  seeded_fine : (word key behind : List ℕ) → Fine (seeded_line word key behind)
+  seeded_fine word key behind = checked RequestBytes (bytes_eq key (codes "seed")) LineFault.BadShape _ (rounds_fine word (Some behind))
 
   peek_fine : (place addr : List ℕ) → Fine (peek_line plan place addr)
   peek_fine place addr = chained RequestBytes (place_word place) _ (λ at was. chained RequestBytes (address_word addr) _ (λ a is. probed (switch_at plan at) _))
@@ -124,7 +128,8 @@ module _ (plan : Plan) where
   verb_fine Verb.Input (place ∷ word ∷ []) = input_fine place (number_word word)
   verb_fine Verb.Claim (place ∷ a ∷ b ∷ []) = claim_fine place a b
   verb_fine Verb.Control (place ∷ list) = control_fine place list
-  verb_fine Verb.Rounds (word ∷ []) = rounds_fine word
+  verb_fine Verb.Rounds (word ∷ []) = rounds_fine word None
+  verb_fine Verb.Rounds (word ∷ key ∷ behind ∷ []) = seeded_fine word key behind
   verb_fine (Verb.Probe word) rest = probe_fine word rest
   verb_fine word rest = tt
 

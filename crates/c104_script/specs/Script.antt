@@ -8,8 +8,9 @@ use Rattle.{c104_event.specs.declared.faults.EventFault.{EventFault, TheVariants
 use Rattle.c104_plan.specs.{Checks.{value_or_fault, ◌>>=◌, ◌>>◌}, Plans.{Plan, switch_number, terminal_number}, TextCut.is_plain_line}
 use Rattle.c104_plan.specs.{TextCut.{line_words, uncommented_line}, TextWords.{dots, read_number}, declared.ports.Port.Port}
 use Rattle.{c104_plan.specs.declared.text.Dots.{Dots, TheVariants.{At, Several, Without}}, c104_script.specs.HexWords.address_word}
-use Rattle.c104_script.specs.{HexWords.register_word, declared.places.Request.TheVariants.{Asked, Probed, Refused, Rounds}}
-use Rattle.c104_token.specs.{Text.{parse_words, spelled_byte}, declared.{faults.TokenFault.TokenFault, packets.Packet.Packet}}
+use Rattle.c104_script.specs.{HexWords.register_word, SeedWords.seed_of, declared.places.Request.TheVariants.{Asked, Probed, Refused}}
+use Rattle.{c104_script.specs.declared.places.Request.TheVariants.Rounds, c104_token.specs.Text.{parse_words, spelled_byte}}
+use Rattle.c104_token.specs.declared.{faults.TokenFault.TokenFault, packets.Packet.Packet}
 use Rattle.std.specs.{Map.lookup, Prelude.{Bool, Err, List, None, Ok, Option, Result, Some, [], bytes_eq, codes, drop, if◌then◌else◌}}
 use Rattle.std.specs.Prelude.{length, nat_le, take, ℕ, ◌&&◌, ◌++◌, ◌+◌, ◌∷◌, ◌≡◌, ◌⊎◌}
 
@@ -145,12 +146,19 @@ control_line plan node byte_words = do
 abbrev pub most_rounds : ℕ
 most_rounds = 10000
 
--- `rounds N`
-abbrev pub rounds_line : List ℕ → Result Request LineFault
-rounds_line count_word = do
+-- the count of rounds, and their seed if a word for it stands there
+abbrev pub rounds_line : List ℕ → Option (List ℕ) → Result Request LineFault
+rounds_line count_word seed_word = do
   count ← number_word count_word
   require (nat_le 1 count && nat_le count most_rounds) LineFault.BadNumber
-  Ok (Rounds count)
+  seed ← seed_of seed_word
+  Ok (Rounds count seed)
+
+-- `rounds N seed S`
+abbrev pub seeded_line : List ℕ → List ℕ → List ℕ → Result Request LineFault
+seeded_line count_word key seed_word = do
+  require (bytes_eq key (codes "seed")) LineFault.BadShape
+  rounds_line count_word (Some seed_word)
 
 -- what is asked of what was found, or the refusal where nothing was
 abbrev pub probe_of : {X : Type 0} → Result X EventFault → (X → Probe) → Request
@@ -225,7 +233,8 @@ verb_line Verb.Input plan (node ∷ []) = input_line plan node (Ok 0)
 verb_line Verb.Input plan (node ∷ word ∷ []) = input_line plan node (number_word word)
 verb_line Verb.Claim plan (node ∷ input_word ∷ output_word ∷ []) = claim_line plan node input_word output_word
 verb_line Verb.Control plan (node ∷ byte_words) = control_line plan node byte_words
-verb_line Verb.Rounds plan (count_word ∷ []) = rounds_line count_word
+verb_line Verb.Rounds plan (count_word ∷ []) = rounds_line count_word None
+verb_line Verb.Rounds plan (count_word ∷ key ∷ seed_word ∷ []) = seeded_line count_word key seed_word
 verb_line (Verb.Probe word) plan rest = probe_line word plan rest
 verb_line verb plan rest = Err LineFault.BadShape
 

@@ -21,8 +21,9 @@ pub enum LineFault {
     /// too few or too many words, or a node or a port has a second dot.
     #[error("the line has a wrong byte or a wrong count of words, or a second dot")]
     BadShape = 3,
-    /// A number is not 1 to 7 decimal digits.
-    #[error("a number is 1 to 7 decimal digits")]
+    /// A number is not 1 to 7 decimal digits, the number of rounds not 1 to 10,000, or their seed not 1 to 20 digits
+    /// below 2^64.
+    #[error("a number is 1 to 7 decimal digits, rounds are 1 to 10000, and a seed is below 2^64")]
     BadNumber = 4,
     /// A word of a packet is neither two hexadecimal digits nor a terminator, or a word of another line isn't
     /// the hexadecimal digits that are asked for.
