@@ -31,7 +31,7 @@ pub(crate) const CLAIM_LINE: &str = "the line is `claim SWITCH INPUT OUTPUT`, as
 
 pub(crate) const CONTROL_LINE: &str = "the line is `control SWITCH`, followed by at most 8 bytes";
 
-pub(crate) const ROUNDS_LINE: &str = "the line is `rounds COUNT`";
+pub(crate) const ROUNDS_LINE: &str = "the line is `rounds COUNT` or `rounds COUNT seed NUMBER`";
 
 pub(crate) const PEEK_LINE: &str = "the line is `peek SWITCH ADDRESS`, as `peek A 0140`";
 
@@ -49,6 +49,8 @@ pub(crate) const NO_PORT: &str = "a port has one dot, as A.0";
 pub const NO_NUMBER: &str = "a number is 1 to 7 decimal digits";
 
 pub(crate) const NO_ROUNDS: &str = "the count of rounds is 1 to 10000";
+
+pub(crate) const NO_SEED: &str = "a seed is 1 to 20 decimal digits, at most 18446744073709551615";
 
 pub(crate) const NO_TOKEN: &str =
     "a byte of a packet is two hexadecimal digits, 00 to ff, and its end is `eop` or `eom`";

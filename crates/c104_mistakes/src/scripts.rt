@@ -7,8 +7,8 @@ use crate::nearest::{nearest_node, nearest_switch, nearest_terminal};
 use crate::register_ranges::range_of_word;
 use crate::script_mistakes::{
     AFTER_END, BUSY, DESCRIPTIONS_WORD, INBOX_FULL, LINE_TOO_LONG, LINK_MISSING, NO_ADDRESS,
-    NO_BYTE, NO_END, NO_INPUT, NO_NODE, NO_NUMBER, NO_PORT, NO_REGISTER, NO_ROUNDS, NO_TOKEN,
-    NO_VALUE, NO_WORD, NO_WORD_ASKED, NOT_WIRED, OUTBOX_FULL, PACKET_TOO_LONG, READ_ONLY,
+    NO_BYTE, NO_END, NO_INPUT, NO_NODE, NO_NUMBER, NO_PORT, NO_REGISTER, NO_ROUNDS, NO_SEED,
+    NO_TOKEN, NO_VALUE, NO_WORD, NO_WORD_ASKED, NOT_WIRED, OUTBOX_FULL, PACKET_TOO_LONG, READ_ONLY,
     SCRIPT_BEGAN, SWITCHS_LINK, TERMINALS_LINK, TRACE_FULL,
 };
 use crate::words::{
@@ -21,6 +21,9 @@ use c104_regs::RegFault;
 use c104_script::LineFault;
 use c104_token::read_byte;
 use std::alloc::Global;
+
+/// The most rounds that a line asks for.
+const MAX_ROUNDS: u32 = 10_000;
 
 /// The most digits of a register's address.
 const ADDRESS_DIGITS: usize = 4;
@@ -120,7 +123,7 @@ fn shape_mistake<'a>(words: &[&'a [u8]]) -> Mistake<'a> {
     let Some((_, line, least, most)) = form_of(&SCRIPT_FORMS, words) else {
         return Mistake::new(NO_WORD, None);
     };
-    if least <= words.len() && words.len() <= most {
+    if least <= words.len() && words.len() <= most && !asks_rounds(words) {
         return Mistake::new(NO_PORT, word_at(words, 1));
     }
     Mistake::new(line, None)
@@ -128,8 +131,8 @@ fn shape_mistake<'a>(words: &[&'a [u8]]) -> Mistake<'a> {
 
 /// A number that is none, or out of its range.
 fn number_mistake<'a>(words: &[&'a [u8]]) -> Mistake<'a> {
-    if word_at(words, 0) == Some(b"rounds".as_slice()) {
-        return Mistake::new(NO_ROUNDS, word_at(words, 1));
+    if asks_rounds(words) {
+        return rounds_mistake(words);
     }
     match words {
         [_, node, ..] if has_dot(node) && link_of(node).is_none() => {
@@ -139,6 +142,21 @@ fn number_mistake<'a>(words: &[&'a [u8]]) -> Mistake<'a> {
             Mistake::new(NO_NUMBER, Some(*input))
         }
         _ => Mistake::new(NO_NUMBER, word_at(words, 3)),
+    }
+}
+
+/// Whether the words are those of a line of rounds.
+fn asks_rounds(words: &[&[u8]]) -> bool {
+    word_at(words, 0) == Some(b"rounds".as_slice())
+}
+
+/// A count of rounds out of its range, or a seed that is none.
+fn rounds_mistake<'a>(words: &[&'a [u8]]) -> Mistake<'a> {
+    match words {
+        [_, count, _, seed] if is_within(1, MAX_ROUNDS, count) => {
+            Mistake::new(NO_SEED, Some(*seed))
+        }
+        _ => Mistake::new(NO_ROUNDS, word_at(words, 1)),
     }
 }
 
