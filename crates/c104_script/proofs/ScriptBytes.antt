@@ -2,16 +2,17 @@
 use Rattle.{c104_control.specs.declared.bytes.TheConstants.MAX_CONTROL_BYTES, c104_event.specs.declared.events.Event.Event}
 use Rattle.{c104_event.specs.declared.faults.EventFault.EventFault, c104_plan.specs.Checks.{require, value_or_fault, ◌>>=◌, ◌>>◌}}
 use Rattle.{c104_plan.specs.{Plans.Plan, TextCut.{is_plain_line, line_words, uncommented_line}}, c104_script.specs.HexWords.address_word}
-use Rattle.c104_script.specs.{HexWords.register_word, Script.{bytes_after, claim_line, control_line, credit_line, cross_line, drain_line}}
-use Rattle.c104_script.specs.Script.{input_at, input_line, link_line, most_line, most_rounds, number_word, packet_of, peek_line, place_word}
-use Rattle.c104_script.specs.Script.{poke_line, port_at, probe_line, probe_of, read_script_line, read_script_words, request_of, rounds_line}
-use Rattle.c104_script.specs.Script.{seeded_line, send_line, some_request, switch_at, table_line, terminal_at, verb_line, verb_of}
-use Rattle.c104_script.specs.{SeedWords.seed_of, declared.{faults.LineFault.LineFault, places.Request.Request, probes.Probe.Probe}}
-use Rattle.{c104_script.specs.declared.words.{ProbeVerb.ProbeVerb, Verb.Verb}, c104_token.proofs.Spelling.{Spelled, accepted}}
-use Rattle.c104_token.specs.{Text.{IsHexDigit, SpellBytes, SpellsByte, parse_words}, declared.faults.TokenFault.TokenFault}
-use Rattle.{c104_token.specs.declared.packets.Packet.Packet, std.proofs.Common.{All, Bool, Err, IfOk, List, None, Ok, Option, Result, Some}}
-use Rattle.std.proofs.Common.{[], ap, arith, false, if◌then◌else◌, inl, inr, length, nat_le, refl, subst, sym, true, ℕ, ◌&&◌, ◌<◌, ◌∷◌, ◌≡◌}
-use Rattle.std.{proofs.lemmas.List.Elements.{All-cons, All-nil}, specs.Prelude.{bytes_eq, codes}}
+use Rattle.c104_script.specs.{HexWords.register_word, Script.{bytes_after, claim_line, control_line, counted_line, credit_line, cross_line}}
+use Rattle.c104_script.specs.Script.{drain_line, input_at, input_line, link_line, most_line, most_rounds, number_word, packet_of, peek_line}
+use Rattle.c104_script.specs.Script.{place_word, poke_line, port_at, probe_line, probe_of, read_script_line, read_script_words, request_of}
+use Rattle.c104_script.specs.Script.{rounds_line, seeded_line, send_line, some_request, switch_at, table_line, terminal_at, verb_line}
+use Rattle.c104_script.specs.{Script.verb_of, SeedWords.seed_of, declared.{faults.LineFault.LineFault, places.Request.Request}}
+use Rattle.{c104_script.specs.declared.{probes.Probe.Probe, words.{ProbeVerb.ProbeVerb, Verb.Verb}}, c104_token.proofs.Spelling.Spelled}
+use Rattle.c104_token.{proofs.Spelling.accepted, specs.Text.{IsHexDigit, SpellBytes, SpellsByte, parse_words}}
+use Rattle.{c104_token.specs.declared.{faults.TokenFault.TokenFault, packets.Packet.Packet}, std.proofs.Common.{All, Bool, Err, IfOk, List}}
+use Rattle.std.proofs.Common.{None, Ok, Option, Result, Some, [], ap, arith, false, if◌then◌else◌, inl, inr, length, nat_le, refl, subst}
+use Rattle.std.{proofs.{Common.{sym, true, ℕ, ◌&&◌, ◌<◌, ◌∷◌, ◌≡◌}, lemmas.List.Elements.{All-cons, All-nil}}, specs.Prelude.bytes_eq}
+use Rattle.std.specs.Prelude.{codes}
 use Rattle.c104_script.specs.declared.places.Request.TheVariants as ask
 
 -- what an event sends, if it sends something, is bytes
@@ -93,11 +94,16 @@ module _ (plan : Plan) where
   control_fine : (place : List ℕ) (list : List (List ℕ)) → Fine (control_line plan place list)
   control_fine place list = checked RequestBytes (nat_le (length list) MAX_CONTROL_BYTES) LineFault.BadShape _ (chained RequestBytes (place_word place) _ (λ at was. chained RequestBytes (bytes_after [] list) _ (λ bytes is. asked (switch_at plan at) (λ s. Event.Control s bytes) (λ s. tt))))
 
-  rounds_fine : (word : List ℕ) (behind : Option (List ℕ)) → Fine (rounds_line word behind)
-  rounds_fine word behind = chained RequestBytes (number_word word) _ (λ count is. checked RequestBytes (nat_le 1 count && nat_le count most_rounds) LineFault.BadNumber _ (chained RequestBytes (seed_of behind) _ (λ seed is'. tt)))
+  counted_fine : (word : List ℕ) (behind : Option (List ℕ)) → Fine (counted_line word behind)
+  counted_fine word behind = chained RequestBytes (number_word word) _ (λ count is. checked RequestBytes (nat_le 1 count && nat_le count most_rounds) LineFault.BadNumber _ (chained RequestBytes (seed_of behind) _ (λ seed is'. tt)))
 
   seeded_fine : (word key behind : List ℕ) → Fine (seeded_line word key behind)
-  seeded_fine word key behind = checked RequestBytes (bytes_eq key (codes "seed")) LineFault.BadShape _ (rounds_fine word (Some behind))
+  seeded_fine word key behind = checked RequestBytes (bytes_eq key (codes "seed")) LineFault.BadShape _ (counted_fine word (Some behind))
+
+  rounds_fine : (rest : List (List ℕ)) → Fine (rounds_line rest)
+  rounds_fine (word ∷ []) = counted_fine word None
+  rounds_fine (word ∷ key ∷ behind ∷ []) = seeded_fine word key behind
+  rounds_fine rest = tt
 
   peek_fine : (place addr : List ℕ) → Fine (peek_line plan place addr)
   peek_fine place addr = chained RequestBytes (place_word place) _ (λ at was. chained RequestBytes (address_word addr) _ (λ a is. probed (switch_at plan at) _))
@@ -128,8 +134,7 @@ module _ (plan : Plan) where
   verb_fine Verb.Input (place ∷ word ∷ []) = input_fine place (number_word word)
   verb_fine Verb.Claim (place ∷ a ∷ b ∷ []) = claim_fine place a b
   verb_fine Verb.Control (place ∷ list) = control_fine place list
-  verb_fine Verb.Rounds (word ∷ []) = rounds_fine word None
-  verb_fine Verb.Rounds (word ∷ key ∷ behind ∷ []) = seeded_fine word key behind
+  verb_fine Verb.Rounds rest = rounds_fine rest
   verb_fine (Verb.Probe word) rest = probe_fine word rest
   verb_fine word rest = tt
 

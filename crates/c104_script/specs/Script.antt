@@ -147,8 +147,8 @@ abbrev pub most_rounds : ℕ
 most_rounds = 10000
 
 -- the count of rounds, and their seed if a word for it stands there
-abbrev pub rounds_line : List ℕ → Option (List ℕ) → Result Request LineFault
-rounds_line count_word seed_word = do
+abbrev pub counted_line : List ℕ → Option (List ℕ) → Result Request LineFault
+counted_line count_word seed_word = do
   count ← number_word count_word
   require (nat_le 1 count && nat_le count most_rounds) LineFault.BadNumber
   seed ← seed_of seed_word
@@ -158,7 +158,13 @@ rounds_line count_word seed_word = do
 abbrev pub seeded_line : List ℕ → List ℕ → List ℕ → Result Request LineFault
 seeded_line count_word key seed_word = do
   require (bytes_eq key (codes "seed")) LineFault.BadShape
-  rounds_line count_word (Some seed_word)
+  counted_line count_word (Some seed_word)
+
+-- `rounds N` or `rounds N seed S`, by the words after the first
+abbrev pub rounds_line : List (List ℕ) → Result Request LineFault
+rounds_line (count_word ∷ []) = counted_line count_word None
+rounds_line (count_word ∷ key ∷ seed_word ∷ []) = seeded_line count_word key seed_word
+rounds_line rest = Err LineFault.BadShape
 
 -- what is asked of what was found, or the refusal where nothing was
 abbrev pub probe_of : {X : Type 0} → Result X EventFault → (X → Probe) → Request
@@ -233,8 +239,7 @@ verb_line Verb.Input plan (node ∷ []) = input_line plan node (Ok 0)
 verb_line Verb.Input plan (node ∷ word ∷ []) = input_line plan node (number_word word)
 verb_line Verb.Claim plan (node ∷ input_word ∷ output_word ∷ []) = claim_line plan node input_word output_word
 verb_line Verb.Control plan (node ∷ byte_words) = control_line plan node byte_words
-verb_line Verb.Rounds plan (count_word ∷ []) = rounds_line count_word None
-verb_line Verb.Rounds plan (count_word ∷ key ∷ seed_word ∷ []) = seeded_line count_word key seed_word
+verb_line Verb.Rounds plan rest = rounds_line rest
 verb_line (Verb.Probe word) plan rest = probe_line word plan rest
 verb_line verb plan rest = Err LineFault.BadShape
 

@@ -1,6 +1,6 @@
 //! A script, line by line.
 ghost use Rattle.std.specs.Prelude.{◌≡◌, map, option_map};
-ghost use Rattle.c104_script.specs.Script.{claim_line, control_line, credit_line, cross_line, drain_line, input_line, read_script_line, rounds_line, seeded_line, send_line, verb_line, read_script_words, GivesLineOrNoMemory};
+ghost use Rattle.c104_script.specs.Script.{claim_line, control_line, counted_line, credit_line, cross_line, drain_line, input_line, read_script_line, rounds_line, seeded_line, send_line, verb_line, read_script_words, GivesLineOrNoMemory};
 
 use crate::faults::LineFault;
 use crate::places::{Request, find_input, find_port, find_switch, find_terminal};
@@ -76,8 +76,7 @@ fn read_request(
         (Verb::Input, [node, word]) => read_input(plan, node, read_number_word(word)),
         (Verb::Claim, [node, input, output]) => read_claim(plan, node, input, output),
         (Verb::Control, [node, bytes @ ..]) => read_control(plan, node, bytes),
-        (Verb::Rounds, [count]) => read_rounds(count, None),
-        (Verb::Rounds, [count, key, seed]) => read_seeded(count, key, seed),
+        (Verb::Rounds, words) => read_rounds(words),
         (Verb::Probe(verb), words) => read_probe(plan, verb, words),
         _ => Err(LineFault::BadShape),
     }
@@ -181,6 +180,17 @@ fn read_control(plan: &Plan, node: &[u8], words: &[&[u8]]) -> Result<Request, Li
     })
 }
 
+/// Reads `rounds N` or `rounds N seed S`, by the words after the first.
+fn read_rounds(words: &[&[u8]]) -> Result<Request, LineFault>
+    ensures { result ≡ rounds_line (map (λ word. word.now) words.now) }
+{
+    match words {
+        [count] => read_counted(count, None),
+        [count, key, seed] => read_seeded(count, key, seed),
+        _ => Err(LineFault::BadShape),
+    }
+}
+
 /// Reads `rounds N seed S`, of which the word at the place of `seed` is to be this.
 fn read_seeded(count: &[u8], key: &[u8], seed: &[u8]) -> Result<Request, LineFault>
     ensures { result ≡ seeded_line count.now key.now seed.now }
@@ -188,12 +198,12 @@ fn read_seeded(count: &[u8], key: &[u8], seed: &[u8]) -> Result<Request, LineFau
     if key != b"seed".as_slice() {
         return Err(LineFault::BadShape);
     }
-    read_rounds(count, Some(seed))
+    read_counted(count, Some(seed))
 }
 
 /// Reads the count of rounds, and their seed where a word for it stands there.
-fn read_rounds(count: &[u8], seed: Option<&[u8]>) -> Result<Request, LineFault>
-    ensures { result ≡ rounds_line count.now (option_map (λ word. word.now) seed) }
+fn read_counted(count: &[u8], seed: Option<&[u8]>) -> Result<Request, LineFault>
+    ensures { result ≡ counted_line count.now (option_map (λ word. word.now) seed.entry) }
 {
     let count = read_number_word(count)?;
     if count < 1 || count > MAX_ROUNDS {

@@ -1,5 +1,5 @@
 //! The words of seeds.
-ghost use Rattle.std.specs.Prelude.◌≡◌;
+ghost use Rattle.std.specs.Prelude.{◌≡◌};
 ghost use Rattle.c104_script.specs.SeedWords.{long_number, seed_word};
 
 use crate::faults::LineFault;
