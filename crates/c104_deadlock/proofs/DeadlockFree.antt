@@ -12,12 +12,12 @@ use Rattle.c104_net.proofs.{Promises.{each, starts}, RunOrigins.still_steady, Ru
 use Rattle.c104_net.{proofs.{StartMaps.starts_are, TracedRuns.{token_of, traced_from}}, specs.{Deliveries.Promise, RoundEvents.IsOfRound}}
 use Rattle.c104_node.specs.{MappedNodes.map_node, Quiet.IsQuietNode, Starts.start_node, Traced.traced_kind, declared.traced.Traced.Traced}
 use Rattle.{c104_plan.specs.{PlanImage.Image, Plans.{IsPlan, Plan}}, c104_run.proofs.{NodeMaps.quiet_map, RecordSteps.done_made}}
-use Rattle.c104_run.{proofs.{RoundRuns.Applied, StepMaps.apply_map}, specs.EventRuns.{Outcome, StopsShort, run_events}}
-use Rattle.c104_run.specs.{NetRecords.{IsNetRecord, NetRecord, is_done}, Network.{Network, network_apply, network_of}, QuietNets.IsQuiet}
-use Rattle.c104_run.specs.{RecordedRuns.record_apply, Rounds.rounds, Runs.IsDoneRun, Standstill.StandsStill, TracedRuns.map_network}
-use Rattle.{c104_switch.specs.Actions.Reply, c104_token.specs.{Kinds.plain_kind, declared.tokens.Token.Token}, std.proofs.Common.Err}
-use Rattle.std.proofs.Common.{List, Ok, Result, ap, arith, get_or, inl, inr, length, map, refl, subst, sym, true, ℕ, ⊎_elim, ◌*◌, ◌++◌, ◌<◌}
-use Rattle.std.proofs.{Common.{◌∙◌, ◌≡◌, ◌≤◌, ◌⊎◌}, lemmas.List.Elements.All-map}
+use Rattle.c104_run.{proofs.{RoundRuns.Applied, StepMaps.apply_map}, specs.{EventRuns.{Outcome, StopsShort, run_events}, HandedWords.Words}}
+use Rattle.c104_run.specs.{HandedWords.rounds_with, NetRecords.{IsNetRecord, NetRecord, is_done}, Network.{Network, network_apply}}
+use Rattle.c104_run.specs.{Network.network_of, QuietNets.IsQuiet, RecordedRuns.record_apply, Runs.IsDoneRun, Standstill.StandsStill}
+use Rattle.{c104_run.specs.TracedRuns.map_network, c104_switch.specs.Actions.Reply, c104_token.specs.Kinds.plain_kind}
+use Rattle.{c104_token.specs.declared.tokens.Token.Token, std.proofs.Common.{Err, List, Ok, Result, ap, arith, get_or, inl, inr, length}}
+use Rattle.std.proofs.{Common.{map, refl, subst, sym, true, ℕ, ⊎_elim, ◌*◌, ◌++◌, ◌<◌, ◌∙◌, ◌≡◌, ◌≤◌, ◌⊎◌}, lemmas.List.Elements.All-map}
 
 module _ (net : NetRecord) (is_plan : IsPlan net.network.plan) (kept : IsNetRecord net) (sent : AreBytesSent kept.told.0) (image : Image) (is : IsAcyclicNet image net) where
   abbrev plan : Plan
@@ -50,20 +50,21 @@ module _ (net : NetRecord) (is_plan : IsPlan net.network.plan) (kept : IsNetReco
   abbrev Ended : NetRecord → Type 0
   Ended after = (last : Network Traced) × (map_network token_of last ≡ after.network) × (more : List (Event × Reply)) × IsDoneRun traced_kind (network_of plan (map start_node net.starts)) more last × IsQuiet last × Promise routes last
 
-  ended_so : (rank : SwitchPort → ℕ) → IsRanking routes rank → (n : ℕ) → random_work plan routes rank net.network.nodes < n → (after : NetRecord) → ◌≡◌ {A = Outcome (Network Token)} (run_events (network_apply plain_kind) net.network (rounds plan n)) (Ok tt, after.network) → Ended after
-  ended_so rank falls n few after end =
+  ended_so : (rank : SwitchPort → ℕ) → IsRanking routes rank → (n : ℕ) (words : Words) → random_work plan routes rank net.network.nodes < n → (after : NetRecord) → ◌≡◌ {A = Outcome (Network Token)} (run_events (network_apply plain_kind) net.network (rounds_with words plan n)) (Ok tt, after.network) → Ended after
+  ended_so rank falls n words few after end =
       let found = traced_from plan net.starts net.network.nodes events kept.told.1.run in
       let mid : Network Traced = network_of plan found.0 in
       let balance = run_steady traced_kind (network_of plan (map start_node net.starts)) mid events is_plan found.1.run (still_steady Token Traced plan net.starts kept.started) in
       let started = run_started plain_kind routes (network_of plan (map start_node net.starts)) net.network events kept.told.1.run (is.unchanged events kept.told.1) acyclic_run.started in
       let same : random_work plan routes rank found.0 ≡ random_work plan routes rank net.network.nodes = sym (work_map token_of plan routes rank found.0) ∙ ap (random_work plan routes rank) found.1.plain in
-      let after_traced = run_events (network_apply traced_kind) mid (rounds plan n) in
-      let both : ◌≡◌ {A = Outcome (Network Token)} (after_traced.0, map_network token_of after_traced.1) (Ok tt, after.network) = sym (run_plain mid (rounds plan n)) ∙ ap (λ ns. run_events (network_apply plain_kind) (network_of plan ns) (rounds plan n)) found.1.plain ∙ end in
+      let es : List Event = rounds_with words plan n in
+      let after_traced = run_events (network_apply traced_kind) mid es in
+      let both : ◌≡◌ {A = Outcome (Network Token)} (after_traced.0, map_network token_of after_traced.1) (Ok tt, after.network) = sym (run_plain mid es) ∙ ap (λ ns. run_events (network_apply plain_kind) (network_of plan ns) es) found.1.plain ∙ end in
       let told : after_traced.0 ≡ Ok tt = ap (λ (z : Outcome (Network Token)). z.0) both in
       let whole : ◌≡◌ {A = Outcome (Network Traced)} after_traced (Ok tt, after_traced.1) = ap (λ o. (o, after_traced.1)) told in
-      let delivered = rounds_deliver image (network_of plan (map start_node net.starts)) mid after_traced.1 events rank n is_plan is.accepted falls (starts_are plan image net.starts is.set) found.1.run (is.unchanged events kept.told.1) sent balance
+      let delivered = rounds_deliver image (network_of plan (map start_node net.starts)) mid after_traced.1 events rank n words is_plan is.accepted falls (starts_are plan image net.starts is.set) found.1.run (is.unchanged events kept.told.1) sent balance
       (started_traced plan net.starts net.network.nodes events is_plan kept.told.1.run found.0 found.1.plain started) (subst (λ k. k < n) (sym same) few) whole in
-      let more = done_of traced_kind (rounds plan n) mid after_traced.1 whole in (
+      let more = done_of traced_kind es mid after_traced.1 whole in (
         after_traced.1,
         ap (λ (z : Outcome (Network Token)). z.1) both,
         events ++ more.0,
@@ -89,11 +90,11 @@ module _ (net : NetRecord) (is_plan : IsPlan net.network.plan) (kept : IsNetReco
       }
 
   rounds_law : (rank : SwitchPort → ℕ) → IsRanking routes rank → (n : ℕ) → random_work plan routes rank net.network.nodes < n → RoundsDeliver routes net n
-  rounds_law rank falls n few after ends =
-      let stay = starts_stay net after (rounds plan n) (Ok tt) ends in
+  rounds_law rank falls n few words after ends =
+      let stay = starts_stay net after (rounds_with words plan n) (Ok tt) ends in
       ⊎_elim
-      (λ (due : ◌≡◌ {A = Outcome NetRecord} (Ok tt, after) (run_events record_apply net (rounds plan n))). delivered_so after stay.0 stay.1 (ended_so rank falls n few after (plain_run (rounds plan n) net after (sym due))))
-      (λ (short : StopsShort record_apply net (rounds plan n) (Ok tt) after). let no = short.refused in absurd (cc))
+      (λ (due : ◌≡◌ {A = Outcome NetRecord} (Ok tt, after) (run_events record_apply net (rounds_with words plan n))). delivered_so after stay.0 stay.1 (ended_so rank falls n words few after (plain_run (rounds_with words plan n) net after (sym due))))
+      (λ (short : StopsShort record_apply net (rounds_with words plan n) (Ok tt) after). let no = short.refused in absurd (cc))
       ends
 
   -- an event of a round that is done leaves less work: over tokens that tell where they came from it is done too, and

@@ -1,6 +1,7 @@
 pub mod StillWires
 pub mod StillPorts
 pub mod RoundMembers
+pub mod HandedRounds
 pub mod StandingRuns
 pub mod WorkSteps
 pub mod WorkEvents

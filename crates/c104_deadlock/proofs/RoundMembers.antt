@@ -2,12 +2,12 @@
 use Rattle.{c104_event.specs.declared.events.Event.Event, c104_net.proofs.Members.{IsIn, contained, in_filter, in_flat, in_left, in_map}}
 use Rattle.{c104_net.proofs.Members.{in_range, in_right}, c104_plan.proofs.RangeLists.{each_append, each_flat, each_range}}
 use Rattle.{c104_plan.specs.{Plans.{IsPlan, Plan}, Wiring.peer, declared.ports.Port.Port}, c104_run.proofs.BalanceWires.switch_inside}
-use Rattle.c104_run.{proofs.{BalanceWires.terminal_inside, PartRuns.{single, singles}, RoundLists.links_passed}, specs.Network.Network}
-use Rattle.c104_run.specs.Rounds.{all_claims, all_drains, claims_of, is_wired, link_numbers, round, switch_claims, turn_at, wired_links}
-use Rattle.c104_run.specs.{Rounds.{wired_ports, wired_terminals}, Standstill.{IsStill, IsUnready, StandsStill}}
-use Rattle.{c104_token.specs.Kinds.Kind, std.proofs.Common.{List, Some, [], ap, arith, filter, inl, is_some, length, map, refl, subst, sym}}
-use Rattle.std.proofs.{Common.{ℕ, ◌++◌, ◌<◌, ◌∷◌, ◌≡◌}, lemmas.{Grind.flat_map-append, List.Elements.All-contains}}
-use Rattle.std.specs.List.{AllByRecursion, flat_map, range_with_len}
+use Rattle.c104_run.{proofs.{BalanceWires.terminal_inside, PartRuns.{single, singles}, RoundLists.links_passed}, specs.HandedWords.Words}
+use Rattle.c104_run.specs.{HandedWords.{all_worded, round_with, word_at, worded}, Network.Network, Rounds.{all_claims, all_drains}}
+use Rattle.c104_run.specs.Rounds.{claims_of, is_wired, link_numbers, round, switch_claims, turn_at, wired_links, wired_ports}
+use Rattle.{c104_run.specs.{Rounds.wired_terminals, Standstill.{IsStill, IsUnready, StandsStill}}, c104_token.specs.Kinds.Kind}
+use Rattle.std.proofs.Common.{List, Some, [], ap, arith, filter, inl, is_some, length, map, refl, subst, sym, ℕ, ◌++◌, ◌<◌, ◌∷◌, ◌≡◌}
+use Rattle.std.{proofs.lemmas.{Grind.flat_map-append, List.Elements.All-contains}, specs.List.{AllByRecursion, flat_map, range_with_len}}
 
 in_links : (l : ℕ) → l < 32 → IsIn l link_numbers
 in_links l below = subst (IsIn l) (links_passed 32 refl) (in_range 0 32 l (omega arith) (omega (arith, below)))
@@ -94,6 +94,17 @@ module _ (plan : Plan) (P : Event → Type 0) where
       subst (λ ns. AllByRecursion P (map (Event.Claim s i) ns)) (links_passed 32 refl) (each_range P (Event.Claim s i) 0 32 (λ o low output. of_claim s i o (omega (arith, inside)) (omega (arith, input)) (omega (arith, output))))))) in
       let each_drain : AllByRecursion P e = each_range P Event.Drain 0 (length plan.terminals) (λ t low inside. of_drain t (omega (arith, inside))) in
       each_append P (a ++ b ++ c ++ d) e (each_append P (a ++ b ++ c) d (each_append P (a ++ b) c (each_append P a b each_credit each_cross) (each_wired turn_at (each_turn of_turn))) each_claim) each_drain
+
+-- the same of a round whose inputs are handed words
+each_worded : (words : Words) (P : Event → Type 0) (es : List Event) → AllByRecursion (λ e. P (worded words e)) es → AllByRecursion P (all_worded words es)
+each_worded words P [] all = tt
+each_worded words P (e ∷ es) all = (all.0, each_worded words P es all.1)
+
+pub each_of_round_with : (plan : Plan) (P : Event → Type 0) (words : Words) → ((p q : Port) → peer plan p ≡ Some q → P (Event.Credit p)) → ((p q : Port) → peer plan p ≡ Some q → P (Event.Cross p)) →
+    ((s l w : ℕ) (q : Port) → peer plan (Port.Switch s l) ≡ Some q → P (Event.Input s l w)) → ((s i o : ℕ) → s < length plan.switches → i < 32 → o < 32 → P (Event.Claim s i o)) →
+    ((t : ℕ) → t < length plan.terminals → P (Event.Drain t)) → AllByRecursion P (round_with words plan)
+each_of_round_with plan P words of_credit of_cross of_turn of_claim of_drain =
+    each_worded words P (round plan) (each_of_round plan (λ e. P (worded words e)) of_credit of_cross (λ s l q wire. of_turn s l (word_at words s l) q wire) of_claim of_drain)
 
 -- what is so of each event of a round
 pub still_of : {A : Type 0} (kind : Kind A) (net : Network A) → IsPlan net.plan → StandsStill kind net → IsStill kind net

@@ -1,25 +1,27 @@
--- Rounds go on until the network is quiet: each round that does something leaves less work.
+-- Rounds go on until the network is quiet: each round that does something leaves less work, whatever words its inputs are handed.
 use Rattle.c104_check.specs.{ChannelDependencies.IsRanking, Routes.{IsRandomized, Routes, link_settings, routes_of}, Walks.port_of}
-use Rattle.{c104_check.specs.declared.ports.SwitchPort.SwitchPort, c104_deadlock.proofs.RoundMembers.{each_of_round, still_of}}
-use Rattle.c104_deadlock.proofs.{StillPorts.{all_quiet, depends_on}, WorkEvents.{AreFalling, AreStarted, event_less, event_started}}
-use Rattle.c104_deadlock.{proofs.WorkSteps.{at_far, far_of, own}, specs.HeaderWork.{ahead_by, random_ahead, random_work}}
-use Rattle.{c104_event.specs.declared.{events.Event.Event, faults.EventFault.EventFault}, c104_net.proofs.JointKeeps.IsOfRound}
-use Rattle.c104_net.proofs.{LinkEvents.world_of, NodeViews.phases, PacketInvariant.{IsChosen, IsLabelled, Suits, group_at}, PlanWires.wired}
-use Rattle.c104_net.{proofs.{Promises.{IsSettled, one, set_is}, RunSteps.done_step_is, SentBytes.SendsBytes}, specs.Unchanged.MayHappen}
+use Rattle.{c104_check.specs.declared.ports.SwitchPort.SwitchPort, c104_deadlock.proofs.HandedRounds.{still_plain, still_rounds}}
+use Rattle.c104_deadlock.proofs.{RoundMembers.{each_of_round_with, still_of}, StillPorts.{all_quiet, depends_on}, WorkEvents.AreFalling}
+use Rattle.c104_deadlock.proofs.{WorkEvents.{AreStarted, event_less, event_started}, WorkSteps.{at_far, far_of, own}}
+use Rattle.{c104_deadlock.specs.HeaderWork.{ahead_by, random_ahead, random_work}, c104_event.specs.declared.events.Event.Event}
+use Rattle.{c104_event.specs.declared.faults.EventFault.EventFault, c104_net.proofs.{JointKeeps.IsOfRound, LinkEvents.world_of}}
+use Rattle.c104_net.proofs.{NodeViews.phases, PacketInvariant.{IsChosen, IsLabelled, Suits, group_at}, PlanWires.wired, Promises.IsSettled}
+use Rattle.c104_net.{proofs.{Promises.{one, set_is}, RunSteps.done_step_is, SentBytes.SendsBytes}, specs.Unchanged.MayHappen}
 use Rattle.c104_node.specs.{Nodes.Node, Traced.traced_kind, declared.{node.NodeOf.NodeOf, traced.Traced.Traced}}
 use Rattle.c104_plan.{proofs.RangeLists.all_of_each, specs.{PlanImage.Image, Plans.{IsPlan, Plan}, Wiring.peer, declared.ports.Port.Port}}
 use Rattle.{c104_regs.specs.{Settings.header_length, declared.settings.Settings.Settings}, c104_run.proofs.BalanceEvents.applied_steady}
-use Rattle.c104_run.{proofs.{BalanceWires.peer_back, RoundRuns.{run_append, run_from, undone_leaves}}, specs.Balance.IsSteady}
-use Rattle.c104_run.specs.{EventRuns.{Outcome, run_events, unless_fault}, Network.{Network, network_apply, network_of, network_step}}
-use Rattle.{c104_run.specs.{QuietNets.IsQuiet, Rounds.{round, rounds}, Standstill.{IsStarted, IsUnready}}, c104_switch.specs.Actions.Reply}
-use Rattle.c104_switch.specs.{Actions.is_ready, Group.is_in_group, Switch.{Input, Switch}, declared.actions.ReplyOf.ReplyOf}
-use Rattle.{c104_switch.specs.declared.phase.Phase.TheVariants.{Stream, Want}, std.proofs.Common.{Bool, Err, List, None, Ok, Option}}
-use Rattle.std.proofs.Common.{Result, Some, [], ap, arith, false, inl, inr, length, refl, slice_get, subst, suc, sym, true, zero, ℕ, ⊎_elim}
-use Rattle.std.{proofs.{Common.{◌*◌, ◌+◌, ◌<◌, ◌∙◌, ◌∷◌, ◌≡◌, ◌≤◌, ◌⊎◌}, lemmas.Bool.cases_Bool}, specs.List.AllByRecursion}
+use Rattle.c104_run.{proofs.{BalanceWires.peer_back, RoundRuns.{run_append, undone_leaves}}, specs.{Balance.IsSteady, EventRuns.Outcome}}
+use Rattle.c104_run.specs.{EventRuns.{run_events, unless_fault}, HandedWords.{Words, round_with, rounds_with, words_behind}}
+use Rattle.c104_run.specs.{Network.{Network, network_apply, network_of, network_step}, QuietNets.IsQuiet, Rounds.round}
+use Rattle.{c104_run.specs.Standstill.{IsStarted, IsUnready}, c104_switch.specs.{Actions.{Reply, is_ready}, Group.is_in_group}}
+use Rattle.c104_switch.specs.{Switch.{Input, Switch}, declared.{actions.ReplyOf.ReplyOf, phase.Phase.TheVariants.{Stream, Want}}}
+use Rattle.std.proofs.Common.{Bool, Err, List, None, Ok, Option, Result, Some, [], ap, arith, false, inl, inr, length, refl, slice_get}
+use Rattle.std.proofs.{Common.{subst, suc, sym, true, zero, ℕ, ⊎_elim, ◌*◌, ◌+◌, ◌<◌, ◌∙◌, ◌∷◌, ◌≡◌, ◌≤◌, ◌⊎◌}, lemmas.Bool.cases_Bool}
+use Rattle.std.specs.List.{AllByRecursion}
 
 -- all events of a round are events of a round
-of_round : (plan : Plan) → AllByRecursion IsOfRound (round plan)
-of_round plan = each_of_round plan IsOfRound (λ p q wire. tt) (λ p q wire. tt) (λ s l q wire. tt) (λ s i o inside input output. tt) (λ t inside. tt)
+of_round : (plan : Plan) (words : Words) → AllByRecursion IsOfRound (round_with words plan)
+of_round plan words = each_of_round_with plan IsOfRound words (λ p q wire. tt) (λ p q wire. tt) (λ s l w q wire. tt) (λ s i o inside input output. tt) (λ t inside. tt)
 
 may_happen : (routes : Routes) (e : Event) (r : Reply) → IsOfRound e → MayHappen routes e r
 may_happen routes e r of = grind arith
@@ -133,11 +135,6 @@ module _ (plan : Plan) (image : Image) (is_plan : IsPlan plan) (labelled : IsLab
   round_quiet : (nodes : List (Node Traced)) → IsSettled plan image is_plan labelled nodes → AreStarted nodes → IsSteady (network_of plan nodes) → AllByRecursion (IsUnready traced_kind (network_of plan nodes)) (round plan) → IsQuiet (network_of plan nodes)
   round_quiet nodes good started steady all = all_quiet plan image is_plan labelled nodes good steady started (still_of traced_kind (network_of plan nodes) is_plan (all_of_each (IsUnready traced_kind (network_of plan nodes)) (round plan) all)) rank falls
 
-  -- a round that changes nothing changes nothing again
-  stays : (net : Network Traced) → Run net (round plan) net → (n : ℕ) → Run net (rounds plan n) net
-  stays net is zero = refl
-  stays net is (suc n) = run_from (network_apply traced_kind) net net (round plan) (rounds plan n) is ∙ stays net is n
-
   -- a network in which all is settled and quiet
   pub record IsAtRest (ended : Network Traced) : Type 0 where
     pub nodes : List (Node Traced)
@@ -146,29 +143,35 @@ module _ (plan : Plan) (image : Image) (is_plan : IsPlan plan) (labelled : IsLab
     pub quiet : IsQuiet (network_of plan nodes)
 
   abbrev pub Rest : ℕ → Type 0
-  Rest n = (nodes : List (Node Traced)) (ended : Network Traced) → IsSettled plan image is_plan labelled nodes → AreStarted nodes → IsSteady (network_of plan nodes) → random_work plan (routes_of plan image) rank nodes < n → Run (network_of plan nodes) (rounds plan n) ended → IsAtRest ended
+  Rest n = (words : Words) (nodes : List (Node Traced)) (ended : Network Traced) → IsSettled plan image is_plan labelled nodes → AreStarted nodes → IsSteady (network_of plan nodes) → random_work plan (routes_of plan image) rank nodes < n → Run (network_of plan nodes) (rounds_with words plan n) ended → IsAtRest ended
 
   one_more : (n : ℕ) → Rest n → Rest (suc n)
-  one_more n later nodes ended good started steady few is =
-      by_first (run_events (network_apply traced_kind) (network_of plan nodes) (round plan)).0 (run_events (network_apply traced_kind) (network_of plan nodes) (round plan)).1 refl
-      (sym (run_append (network_apply traced_kind) (round plan) (rounds plan n) (network_of plan nodes)) ∙ is)
+  one_more n later words nodes ended good started steady few is =
+      by_first (run_events (network_apply traced_kind) (network_of plan nodes) first_events).0 (run_events (network_apply traced_kind) (network_of plan nodes) first_events).1 refl
+      (sym (run_append (network_apply traced_kind) first_events (rounds_with next plan n) (network_of plan nodes)) ∙ is)
     where
-      by_first : (answer : Result (Unit {0}) EventFault) (mid : Network Traced) → ◌≡◌ {A = Outcome (Network Traced)} (run_events (network_apply traced_kind) (network_of plan nodes) (round plan)) (answer, mid) →
-          ◌≡◌ {A = Outcome (Network Traced)} (unless_fault answer mid (λ next. run_events (network_apply traced_kind) next (rounds plan n))) (Ok tt, ended) → IsAtRest ended
+      next : Words
+      next = words_behind words (length plan.switches)
+
+      first_events : List Event
+      first_events = round_with words plan
+
+      by_first : (answer : Result (Unit {0}) EventFault) (mid : Network Traced) → ◌≡◌ {A = Outcome (Network Traced)} (run_events (network_apply traced_kind) (network_of plan nodes) first_events) (answer, mid) →
+          ◌≡◌ {A = Outcome (Network Traced)} (unless_fault answer mid (λ net. run_events (network_apply traced_kind) net (rounds_with next plan n))) (Ok tt, ended) → IsAtRest ended
       by_first (Err f) mid first rest = let told : ◌≡◌ {A = Result (Unit {0}) EventFault} (Err f) (Ok tt) = ap (λ (z : Outcome (Network Traced)). z.0) rest in absurd (cc)
       by_first (Ok u) mid first rest =
-          let g = goes (round plan) nodes mid (of_round plan) good started steady first in
+          let g = goes first_events nodes mid (of_round plan words) good started steady first in
           ⊎_elim
-          (λ (h : random_work plan (routes_of plan image) rank g.nodes' + 1 ≤ random_work plan (routes_of plan image) rank nodes). later g.nodes' ended g.good g.started g.steady (omega (arith, h, few)) (subst (λ net. Run net (rounds plan n) ended) (sym g.is) rest))
-          (λ (h : (g.nodes' ≡ nodes) × AllByRecursion (IsUnready traced_kind (network_of plan nodes)) (round plan)).
+          (λ (h : random_work plan (routes_of plan image) rank g.nodes' + 1 ≤ random_work plan (routes_of plan image) rank nodes). later next g.nodes' ended g.good g.started g.steady (omega (arith, h, few)) (subst (λ net. Run net (rounds_with next plan n) ended) (sym g.is) rest))
+          (λ (h : (g.nodes' ≡ nodes) × AllByRecursion (IsUnready traced_kind (network_of plan nodes)) first_events).
           let same : mid ≡ network_of plan nodes = sym g.is ∙ ap (network_of plan) h.0 in
-          let again : Run (network_of plan nodes) (round plan) (network_of plan nodes) = subst (λ net. Run (network_of plan nodes) (round plan) net) same first in
-          let last : Run (network_of plan nodes) (rounds plan n) ended = subst (λ net. Run net (rounds plan n) ended) same rest in
-          let end : network_of plan nodes ≡ ended = ap (λ (z : Outcome (Network Traced)). z.1) (sym (stays (network_of plan nodes) again n) ∙ last) in
-          record { nodes = nodes; is = end; good = good; quiet = round_quiet nodes good started steady h.1 })
+          let still : AllByRecursion (IsUnready traced_kind (network_of plan nodes)) (round plan) = still_plain traced_kind (network_of plan nodes) words (round plan) h.1 in
+          let last : Run (network_of plan nodes) (rounds_with next plan n) ended = subst (λ net. Run net (rounds_with next plan n) ended) same rest in
+          let end : network_of plan nodes ≡ ended = ap (λ (z : Outcome (Network Traced)). z.1) (sym (still_rounds traced_kind (network_of plan nodes) still next n) ∙ last) in
+          record { nodes = nodes; is = end; good = good; quiet = round_quiet nodes good started steady still })
           g.less
 
-  -- more rounds than there is work leave the network quiet
+  -- more rounds than there is work leave the network quiet, whatever words they are handed
   pub rounds_rest : (n : ℕ) → Rest n
-  rounds_rest zero = λ nodes ended good started steady few is. absurd (omega (arith, few))
+  rounds_rest zero = λ words nodes ended good started steady few is. absurd (omega (arith, few))
   rounds_rest (suc n) = one_more n (rounds_rest n)

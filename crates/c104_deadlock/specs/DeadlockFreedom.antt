@@ -12,10 +12,10 @@ use Rattle.{c104_net.specs.{RoundEvents.IsOfRound, Unchanged.{AreStartsOf, IsUnc
 use Rattle.c104_node.specs.{Nodes.Node, Starts.{IsStartedStart, start_node}, Traced.traced_kind, Traces.{is_trace_full, seatless}}
 use Rattle.c104_node.specs.declared.{acts.Entry.Entry, stamps.Stamp.Stamp, starts.NodeStart.NodeStart, traced.Traced.Traced}
 use Rattle.{c104_plan.specs.{PlanImage.{Fits, Image}, Plans.Plan}, c104_run.specs.{Balance.IsSteady, Finished.network_finish}}
-use Rattle.c104_run.specs.{FinishedRecords.FinishedRecord, NetRecords.{NetRecord, is_done}, Network.network_of, QuietNets.IsQuiet}
-use Rattle.c104_run.specs.{RecordedRuns.{RecordsRounds, record_apply}, Rounds.round, Runs.{IsDoneRun, IsRunRecord}, Standstill.IsDeadlocked}
-use Rattle.{c104_run.specs.Standstill.{IsStarted, StandsStill}, c104_switch.specs.Actions.Reply, c104_token.specs.Kinds.plain_kind}
-use Rattle.c104_token.specs.declared.tokens.Token.{Token}
+use Rattle.c104_run.specs.{FinishedRecords.FinishedRecord, HandedWords.Words, NetRecords.{NetRecord, is_done}, Network.network_of}
+use Rattle.c104_run.specs.{QuietNets.IsQuiet, RecordedRuns.{RecordsHanded, record_apply}, Rounds.round, Runs.{IsDoneRun, IsRunRecord}}
+use Rattle.{c104_run.specs.Standstill.{IsDeadlocked, IsStarted, StandsStill}, c104_switch.specs.Actions.Reply}
+use Rattle.c104_token.specs.{Kinds.plain_kind, declared.tokens.Token.Token}
 use Rattle.std.specs.Prelude.{All, Err, List, Ok, Some, false, map, slice_get, true, ℕ, ◌*◌, ◌+◌, ◌<◌, ◌≡◌, ◌≤◌, ◌⊎◌}
 
 -- A network with its record whose labels the check accepts, and whose channels don't depend on one another in a cycle:
@@ -58,9 +58,9 @@ pub record IsAllDelivered (routes : Routes) (net : NetRecord) : Type 0 where
   pub plain : map (map_node (λ (x : Traced). x.token)) traced ≡ net.network.nodes
   pub promise : Promise routes (network_of net.network.plan traced)
 
--- after n rounds in which no event was refused, all is delivered
+-- after n rounds in which no event was refused, whatever words their inputs are handed, all is delivered
 abbrev pub RoundsDeliver : Routes → NetRecord → ℕ → Type 0
-RoundsDeliver routes net n = (after : NetRecord) → RecordsRounds net n (Ok tt) after → IsAllDelivered routes after
+RoundsDeliver routes net n = (words : Words) (after : NetRecord) → RecordsHanded words net n (Ok tt) after → IsAllDelivered routes after
 
 -- such a network has no deadlock
 pub record HasNoDeadlock (image : Image) (net : NetRecord) : Type 0 where

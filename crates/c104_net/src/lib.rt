@@ -22,7 +22,7 @@ pub use c104_node::{
 };
 pub use c104_run::{
     Meter, Net, NetParts, PlaceFault, Reason, RecordedNet, RecordedPlace, Run, TracedNet,
-    Unmetered, Unwatched, Watch, round_part,
+    Unmetered, Unwatched, Watch, Words, round_part,
 };
 pub use leading::{Lead, event_of, sort_leads};
 pub use metered_net::MeteredNet;

@@ -1,10 +1,10 @@
 //! Events and rounds of a network of tagged tokens, of which a meter is told.
 ghost use Rattle.{c104_net.specs.MeteredRecords.{at_meter, record_metered}, c104_run.specs.{EventRuns.Answers, NetRecords.NetRecord}};
-ghost use Rattle.c104_run.specs.{RoundParts.PartEnds, Rounds.round};
+ghost use Rattle.c104_run.specs.{HandedWords.round_with, RoundParts.PartEnds};
 
 use c104_event::{Event, EventFault};
 use c104_node::TaggedToken;
-use c104_run::{Meter, TracedNet};
+use c104_run::{Meter, TracedNet, Words};
 use c104_switch::Reply;
 
 /// Does events and rounds, and tells a meter of each token that crosses a wire and of each that arrives. The record of the
@@ -22,11 +22,15 @@ pub trait MeteredNet {
         ensures { Answers (record_metered M.sees) (at_meter (record_of self.old) meter.old) event.now
             result (at_meter (record_of self.new) meter.new) };
 
-    /// Does one round, and tells whether any event of it was done. Where none was, no further round would change
-    /// anything.
-    fn round_told<M: Meter<TaggedToken>>(&mut self, meter: &mut M) -> Result<bool, EventFault>
+    /// Does one round whose inputs are handed these words, and tells whether any event of it was done. Where none was, no
+    /// further round would change anything, whatever its words.
+    fn round_told<M: Meter<TaggedToken>>(
+        &mut self,
+        words: Words,
+        meter: &mut M,
+    ) -> Result<bool, EventFault>
         ensures { PartEnds (record_metered M.sees) (at_meter (record_of self.old) meter.old)
-            (round (record_of self.old).network.plan) result (at_meter (record_of self.new) meter.new) };
+            (round_with words (record_of self.old).network.plan) result (at_meter (record_of self.new) meter.new) };
 }
 
 impl MeteredNet for TracedNet {
@@ -46,13 +50,17 @@ impl MeteredNet for TracedNet {
         self.apply_metered(event, meter)
     }
 
-    fn round_told<M: Meter<TaggedToken>>(&mut self, meter: &mut M) -> Result<bool, EventFault>
+    fn round_told<M: Meter<TaggedToken>>(
+        &mut self,
+        words: Words,
+        meter: &mut M,
+    ) -> Result<bool, EventFault>
         ensures { PartEnds (record_metered M.sees) (at_meter self.old meter.old)
-            (round self.old.network.plan) result (at_meter self.new meter.new) }
+            (round_with words self.old.network.plan) result (at_meter self.new meter.new) }
     {
         // The proof reads here what every plan and every such network keeps.
         let plan = self.told_plan();
         let _switches = plan.switches();
-        self.round_metered(meter)
+        self.round_metered(words, meter)
     }
 }

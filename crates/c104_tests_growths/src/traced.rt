@@ -4,7 +4,7 @@ use crate::ground::{Ground, Suite, is_right_on};
 use crate::growths::{Growing, Refusal, is_right};
 use crate::outcomes::Outcome;
 use c104_event::{Event, EventFault};
-use c104_net::{Origins, TracedNet, Unwatched};
+use c104_net::{Origins, TracedNet, Unwatched, Words};
 use c104_plan::Plan;
 use c104_switch::Reply;
 use c104_token::Token;
@@ -107,7 +107,7 @@ impl Growing for DoingRounds<'_> {
 }
 
 fn rounds(net: &mut TracedNet) -> Result<(), EventFault> {
-    net.rounds_watched(12, &mut Unwatched)
+    net.rounds_watched(12, Words::Zero, &mut Unwatched)
 }
 
 /// What is asked of a network.

@@ -4,8 +4,8 @@ use Rattle.{c104_check.specs.{Routes.routes_of, declared.ports.SwitchPort.Switch
 use Rattle.c104_deadlock.specs.{DeadlockFreedom.{IsAcyclicNet, IsAllDelivered, IsFreeOfDeadlock}, HeaderWork.{work, work_bound}}
 use Rattle.{c104_deadlock.specs.Work.told_work, c104_event.specs.declared.faults.EventFault.EventFault}
 use Rattle.{c104_net.specs.Unchanged.AreStartsOf, c104_node.specs.{Starts.IsStartedStart, Traces.seatless}, c104_plan.specs.PlanImage.Fits}
-use Rattle.{c104_plan.specs.{PlanImage.Image, Plans.Plan}, c104_run.specs.{NetRecords.NetRecord, QuietNets.IsQuiet}}
-use Rattle.{c104_run.specs.{RecordedRuns.RecordsRounds, Standstill.StandsStill}, c104_tests_net.proofs.CalmRuns.unchanged}
+use Rattle.{c104_plan.specs.{PlanImage.Image, Plans.Plan}, c104_run.specs.{HandedWords.Words, NetRecords.NetRecord, QuietNets.IsQuiet}}
+use Rattle.{c104_run.specs.{RecordedRuns.RecordsHanded, Standstill.StandsStill}, c104_tests_net.proofs.CalmRuns.unchanged}
 use Rattle.c104_tests_net.specs.{CalmNets.{IsCalm, IsCalmTrace}, DeliveredNets.{DeliversByRanks, DeliversWithin}}
 use Rattle.{c104_token.specs.Kinds.plain_kind, std.proofs.Common.{All, Err, IfOk, Ok, Result, arith, subst, sym, ℕ, ◌<◌}}
 
@@ -28,13 +28,14 @@ acyclic_net plan image net calm fits accepted acyclic started =
 pub stood_quiet : (plan : Plan) (image : Image) (net : NetRecord) → IsCalm plan image net → Fits image plan → IsAccepted (routes_of plan image) → IsAcyclic (routes_of plan image) → All IsStartedStart net.starts → IsFreeOfDeadlock net → StandsStill plain_kind net.network → IsQuiet net.network
 stood_quiet plan image net calm fits accepted acyclic started free still = (free image (acyclic_net plan image net calm fits accepted acyclic started)).stands_quiet still
 
-pub delivers_within : (old new : NetRecord) (n : ℕ) (result : Result (Unit {0}) EventFault) → IsFreeOfDeadlock old → RecordsRounds old n result new → DeliversWithin old n result new
-delivers_within old new n (Ok u) free ends = λ image is plain few. (free image is).rounds_suffice n (subst (λ k. k < n) (sym ((free image is).plain_bound plain)) few) new ends
-delivers_within old new n (Err f) free ends = λ image is plain few. tt
+-- what rounds deliver, whatever words their inputs are handed
+pub delivers_within : (words : Words) (old new : NetRecord) (n : ℕ) (result : Result (Unit {0}) EventFault) → IsFreeOfDeadlock old → RecordsHanded words old n result new → DeliversWithin old n result new
+delivers_within words old new n (Ok u) free ends = λ image is plain few. (free image is).rounds_suffice n (subst (λ k. k < n) (sym ((free image is).plain_bound plain)) few) words new ends
+delivers_within words old new n (Err f) free ends = λ image is plain few. tt
 
-pub delivers_by : (old new : NetRecord) (n : ℕ) (result : Result (Unit {0}) EventFault) → IsFreeOfDeadlock old → RecordsRounds old n result new → DeliversByRanks old n result new
-delivers_by old new n (Ok u) free ends = λ image is plain rank falls few. (free image is).rounds_deliver rank falls n (subst (λ k. k < n) (sym ((free image is).plain_work plain rank)) few) new ends
-delivers_by old new n (Err f) free ends = λ image is plain rank falls few. tt
+pub delivers_by : (words : Words) (old new : NetRecord) (n : ℕ) (result : Result (Unit {0}) EventFault) → IsFreeOfDeadlock old → RecordsHanded words old n result new → DeliversByRanks old n result new
+delivers_by words old new n (Ok u) free ends = λ image is plain rank falls few. (free image is).rounds_deliver rank falls n (subst (λ k. k < n) (sym ((free image is).plain_work plain rank)) few) words new ends
+delivers_by words old new n (Err f) free ends = λ image is plain rank falls few. tt
 
 module _ (plan : Plan) (image : Image) (old new : NetRecord) (n : ℕ) (result : Result (Unit {0}) EventFault) (calm : IsCalm plan image old) (fits : Fits image plan) (accepted : IsAccepted (routes_of plan image)) (never : IsNeverRandomized (routes_of plan image)) (started : All IsStartedStart old.starts) (small : n < 4294967296) where
   plain : IsNeverRandomized (routes_of old.network.plan image)

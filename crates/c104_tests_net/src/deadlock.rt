@@ -1,9 +1,10 @@
 //! The theorem that a network without a cycle of channel dependencies has no deadlock, cited as a caller does.
 //!
 //! Of a labelled mesh nothing is checked and no cycle is sought; of a ring whose labels were made by hand `find_cycle`
-//! tells that there is none, and gives ranks. In both the number of rounds that are enough is known before them, and
-//! that all is quiet afterwards is proved from the contracts of `Net` alone. Where random headers are put before packets
-//! no call tells that number; but where the network stands still, it is proved to be quiet.
+//! tells that there is none, and gives ranks; there the inputs of rounds are handed words of a seed. In both the number of
+//! rounds that are enough is known before them, and that all is quiet afterwards is proved from the contracts of `Net`
+//! alone. Where random headers are put before packets no call tells that number; but where the network stands still, it
+//! is proved to be quiet.
 ghost use Rattle.std.specs.Prelude.{IfOk, true, ◌<◌, ◌≡◌};
 ghost use Rattle.c104_check.specs.ChannelDependencies.{AreRanksWithin, IsAcyclic, IsNeverRandomized, IsRanking, input_count};
 ghost use Rattle.{c104_check.specs.{Ranks.rank_in, Routes.{IsAccepted, routes_of}}, c104_deadlock.specs.DeadlockFreedom.IsAllDelivered};
@@ -18,7 +19,7 @@ use c104_check::{Ranks, RanksOrCycle, check, find_cycle};
 use c104_deadlock::{LeftWork, NoDeadlock};
 use c104_event::EventFault;
 use c104_label::{image_of, label_mesh};
-use c104_net::Net;
+use c104_net::{Net, Unwatched, Words};
 use c104_plan::{Image, Plan};
 use c104_token::parse_packet;
 use std::alloc::Global;
@@ -149,11 +150,18 @@ fn is_within_work(net: &Net, ranks: &Ranks, count: u32) -> bool
 
 /// Rounds, of which the theorem says what they come to.
 fn rounds_within(net: &mut Net, count: u32) -> Result<(), EventFault>
-    ensures within { DeliversWithin net.old count result net.new }
-    ensures by_ranks { DeliversByRanks net.old count result net.new }
+    ensures { DeliversWithin net.old count result net.new }
 {
     net.has_no_deadlock();
     net.rounds(count)
+}
+
+/// The same of rounds whose inputs are handed words of a seed.
+fn seeded_rounds(net: &mut Net, count: u32) -> Result<(), EventFault>
+    ensures { DeliversByRanks net.old count result net.new }
+{
+    net.has_no_deadlock();
+    net.rounds_watched(count, Words::Seeded(7), &mut Unwatched)
 }
 
 /// Two packets are sent over the ring, and all is quiet after `count` rounds.
@@ -259,7 +267,7 @@ fn deliver_by(
     if !is_within_work(net, ranks, count) {
         return Err("more rounds are needed".into());
     }
-    rounds_within(net, count)?;
+    seeded_rounds(net, count)?;
     Ok(())
 }
 
