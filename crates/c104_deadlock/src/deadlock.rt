@@ -2,8 +2,7 @@
 //! and of a finished run.
 ghost use Rattle.std.specs.Prelude.{All};
 ghost use Rattle.{c104_deadlock.specs.DeadlockFreedom.{EndsWithoutDeadlock, IsFreeOfDeadlock}, c104_node.specs.Records.IsRecorded};
-ghost use Rattle.c104_node.specs.Records.{NodeRecord};
-ghost use Rattle.c104_node.specs.{Records.NodeRoom, TracedRecords.{IsFit, TracedRecord}};
+ghost use Rattle.c104_node.specs.{Records.{NodeRecord, NodeRoom}, TracedRecords.{IsFit, TracedRecord}};
 
 use c104_node::{CountedNode, Node};
 use c104_run::{Net, Run, TracedNet};

@@ -5,8 +5,7 @@
 ghost use Rattle.std.specs.Prelude.{length, map, slice_get, ℕ, ◌*◌, ◌+◌, ◌<◌, ◌≡◌, ◌≤◌};
 ghost use Rattle.c104_check.specs.{Ranks.rank_in, Walks.port_of, declared.ports.SwitchPort.SwitchPort as TheInput};
 ghost use Rattle.c104_deadlock.specs.HeaderWork.{full_input, full_inputs, full_link, full_node, full_outputs, full_terminal, none_ahead};
-ghost use Rattle.c104_deadlock.specs.HeaderWork.{work};
-ghost use Rattle.{c104_deadlock.specs.{HeaderWork.work_bound, Work.{header_held, level, told_work}}, c104_node.specs.Places.states};
+ghost use Rattle.{c104_deadlock.specs.{HeaderWork.{work, work_bound}, Work.{header_held, level, told_work}}, c104_node.specs.Places.states};
 ghost use Rattle.{c104_node.specs.Traces.part, c104_plan.specs.Wiring.peer, c104_regs.specs.declared.registers.TheConstants.LINKS};
 ghost use Rattle.{c104_run.specs.Network.Network, c104_token.specs.declared.tokens.Token.Token as TheToken};
 
