@@ -43,8 +43,8 @@ module _ (net : NetRecord) (is_plan : IsPlan net.network.plan) (kept : IsNetReco
   stands : StandsStill plain_kind net.network → IsQuiet net.network
   stands still = stands_quiet plan image net.starts events net.network.nodes is_plan acyclic_run sent still
 
-  nothing_done : NothingDone net → IsQuiet net.network ⊎ (HasFullInbox net ⊎ HasFullTrace net)
-  nothing_done none = ⊎_elim (λ (still : StandsStill plain_kind net.network). inl (stands still)) (λ (full : HasFullInbox net ⊎ HasFullTrace net). inr full) (undone_stands net is_plan none)
+  nothing_done : (words : Words) → NothingDone words net → IsQuiet net.network ⊎ (HasFullInbox net ⊎ HasFullTrace net)
+  nothing_done words none = ⊎_elim (λ (still : StandsStill plain_kind net.network). inl (stands still)) (λ (full : HasFullInbox net ⊎ HasFullTrace net). inr full) (undone_stands net is_plan words none)
 
   -- the run so far over tokens that tell where they came from
   abbrev Ended : NetRecord → Type 0

@@ -1,19 +1,20 @@
 -- Where no event of a round is done the network stands still, or an inbox or a trace is full.
-use Rattle.c104_deadlock.{proofs.RoundMembers.each_of_round, specs.DeadlockFreedom.{HasFullInbox, HasFullTrace, IsUndone, NothingDone}}
-use Rattle.{c104_event.specs.declared.{events.Event.Event, faults.EventFault.EventFault}, c104_link.proofs.MadeSteps.All-place}
-use Rattle.{c104_link.specs.Steps.◌>>=◌, c104_node.specs.{Nodes.{Node, arrived_tokens}, PortActs.{Acts, act_limit, acts_limit}}}
-use Rattle.c104_node.specs.{PortActs.inbox_limit, Traces.{full_at, is_trace_full, part}, declared.acts.{ActOf.ActOf, Entry.Entry}}
-use Rattle.{c104_node.specs.declared.crossings.Crossing.Crossing, c104_plan.proofs.{RangeLists.all_of_each, Wires.wiring}}
-use Rattle.{c104_plan.specs.{Plans.{IsPlan, Plan}, Wiring.peer, declared.ports.Port.Port}, c104_run.proofs.ActAttempts.claim_possible}
-use Rattle.c104_run.proofs.{ActAttempts.{drain_possible, turn_possible}, IdleEvents.wired_inside, RoundRuns.Applied}
-use Rattle.c104_run.specs.{EventActs.{crossing_acts, event_acts, port_place}, EventDeeds.{acts_full, event_full}, NetRecords.NetRecord}
-use Rattle.c104_run.specs.{NetRecords.is_done, Network.{Network, event_fault, event_limit, network_apply, network_step}}
-use Rattle.c104_run.specs.Network.{outcome_if_possible, outcome_if_ready, outcome_within_limit, terminal_place, wired_fault}
-use Rattle.c104_run.specs.{RecordedRuns.{record_apply, record_stage}, Rounds.round, Stages.stage_full, Standstill.{IsUnready, StandsStill}}
-use Rattle.c104_switch.specs.{Actions.{Action, Reply}, declared.actions.{ActionOf.ActionOf, ReplyOf.ReplyOf}}
-use Rattle.{c104_token.specs.{Kinds.plain_kind, declared.tokens.Token.Token}, std.proofs.Common.{Bool, Err, List, None, Ok, Option, Result}}
-use Rattle.std.proofs.Common.{Some, [], ap, false, if◌then◌else◌, inl, inr, length, map, nat_lt, refl, slice_get, suc, sym, true, unwrap_or}
-use Rattle.std.{proofs.{Common.{ℕ, ⊎_elim, ◌&&◌, ◌<◌, ◌||◌, ◌∙◌, ◌∷◌, ◌≡◌, ◌⊎◌}, lemmas.Option.slice_get-map}, specs.List.AllByRecursion}
+use Rattle.c104_deadlock.{proofs.{HandedRounds.still_plain, RoundMembers.each_of_round_with}, specs.DeadlockFreedom.HasFullInbox}
+use Rattle.{c104_deadlock.specs.DeadlockFreedom.{HasFullTrace, IsUndone, NothingDone}, c104_event.specs.declared.events.Event.Event}
+use Rattle.{c104_event.specs.declared.faults.EventFault.EventFault, c104_link.{proofs.MadeSteps.All-place, specs.Steps.◌>>=◌}}
+use Rattle.c104_node.specs.{Nodes.{Node, arrived_tokens}, PortActs.{Acts, act_limit, acts_limit, inbox_limit}, Traces.full_at}
+use Rattle.c104_node.specs.{Traces.{is_trace_full, part}, declared.{acts.{ActOf.ActOf, Entry.Entry}, crossings.Crossing.Crossing}}
+use Rattle.c104_plan.{proofs.{RangeLists.all_of_each, Wires.wiring}, specs.{Plans.{IsPlan, Plan}, Wiring.peer, declared.ports.Port.Port}}
+use Rattle.c104_run.proofs.{ActAttempts.{claim_possible, drain_possible, turn_possible}, IdleEvents.wired_inside, RoundRuns.Applied}
+use Rattle.c104_run.specs.{EventActs.{crossing_acts, event_acts, port_place}, EventDeeds.{acts_full, event_full}, HandedWords.Words}
+use Rattle.c104_run.specs.{HandedWords.round_with, NetRecords.{NetRecord, is_done}, Network.{Network, event_fault, event_limit}}
+use Rattle.c104_run.specs.Network.{network_apply, network_step, outcome_if_possible, outcome_if_ready, outcome_within_limit, terminal_place}
+use Rattle.c104_run.specs.{Network.wired_fault, RecordedRuns.{record_apply, record_stage}, Rounds.round, Stages.stage_full}
+use Rattle.{c104_run.specs.Standstill.{IsUnready, StandsStill}, c104_switch.specs.Actions.{Action, Reply}}
+use Rattle.{c104_switch.specs.declared.actions.{ActionOf.ActionOf, ReplyOf.ReplyOf}, c104_token.specs.Kinds.plain_kind}
+use Rattle.{c104_token.specs.declared.tokens.Token.Token, std.proofs.Common.{Bool, Err, List, None, Ok, Option, Result, Some, [], ap}}
+use Rattle.std.proofs.Common.{false, if◌then◌else◌, inl, inr, length, map, nat_lt, refl, slice_get, suc, sym, true, unwrap_or, ℕ, ⊎_elim}
+use Rattle.std.{proofs.{Common.{◌&&◌, ◌<◌, ◌||◌, ◌∙◌, ◌∷◌, ◌≡◌, ◌⊎◌}, lemmas.Option.slice_get-map}, specs.List.AllByRecursion}
 use Rattle.std.specs.Option.{option_map}
 
 module _ (net : NetRecord) where
@@ -99,8 +100,8 @@ module _ (net : NetRecord) where
     cross_may : (p q : Port) → peer plan p ≡ Some q → May (Event.Cross p)
     cross_may p q wire = hindered (Event.Cross p) (wired_possible p q wire) (λ f is told. no_limit f (sym (none_limits Crossing.Token p q wire) ∙ is))
 
-    turn_may : (s l : ℕ) (q : Port) → peer plan (Port.Switch s l) ≡ Some q → May (Event.Input s l 0)
-    turn_may s l q wire = hindered (Event.Input s l 0) (turn_possible plan s l 0 (wired_possible (Port.Switch s l) q wire)) (λ f is told. no_limit f (sym (step_unlimited (slice_get net.network.nodes s) (ActionOf.Input l 0)) ∙ is))
+    turn_may : (s l w : ℕ) (q : Port) → peer plan (Port.Switch s l) ≡ Some q → May (Event.Input s l w)
+    turn_may s l w q wire = hindered (Event.Input s l w) (turn_possible plan s l w (wired_possible (Port.Switch s l) q wire)) (λ f is told. no_limit f (sym (step_unlimited (slice_get net.network.nodes s) (ActionOf.Input l w)) ∙ is))
 
     claim_may : (s i o : ℕ) → s < length plan.switches → i < 32 → o < 32 → May (Event.Claim s i o)
     claim_may s i o inside input output = hindered (Event.Claim s i o) (claim_possible plan s i o inside input output) (λ f is told. no_limit f (sym (step_unlimited (slice_get net.network.nodes s) (ActionOf.Claim i o)) ∙ is))
@@ -116,8 +117,8 @@ module _ (net : NetRecord) where
             by_test true is = absurd (let no : ⊥ = cc in no)
             by_test false is = cc
 
-    each_event : AllByRecursion May (round plan)
-    each_event = each_of_round plan May credit_may cross_may turn_may claim_may drain_may
+    each_event : (words : Words) → AllByRecursion May (round_with words plan)
+    each_event words = each_of_round_with plan May words credit_may cross_may turn_may claim_may drain_may
 
     -- all of them are unready, or something is full
     abbrev Found : List Event → Type 0
@@ -132,9 +133,9 @@ module _ (net : NetRecord) where
         by_first (inr full) (inl first) = inr full
         by_first rest (inr full) = inr full
 
-    undone_found : NothingDone net → StandsStill plain_kind net.network ⊎ (HasFullInbox net ⊎ HasFullTrace net)
-    undone_found none = ⊎_elim (λ (all : AllByRecursion (IsUnready plain_kind net.network) (round plan)). inl (all_of_each (IsUnready plain_kind net.network) (round plan) all)) (λ (full : HasFullInbox net ⊎ HasFullTrace net). inr full)
-        (found_in (round plan) each_event (λ i e at. All-place (IsUndone net) (round plan) i e at none))
+    undone_found : (words : Words) → NothingDone words net → StandsStill plain_kind net.network ⊎ (HasFullInbox net ⊎ HasFullTrace net)
+    undone_found words none = ⊎_elim (λ (all : AllByRecursion (IsUnready plain_kind net.network) (round_with words plan)). inl (all_of_each (IsUnready plain_kind net.network) (round plan) (still_plain plain_kind net.network words (round plan) all))) (λ (full : HasFullInbox net ⊎ HasFullTrace net). inr full)
+        (found_in (round_with words plan) (each_event words) (λ i e at. All-place (IsUndone net) (round_with words plan) i e at none))
 
-pub undone_stands : (net : NetRecord) → IsPlan net.network.plan → NothingDone net → StandsStill plain_kind net.network ⊎ (HasFullInbox net ⊎ HasFullTrace net)
-undone_stands net is_plan none = undone_found net is_plan none
+pub undone_stands : (net : NetRecord) → IsPlan net.network.plan → (words : Words) → NothingDone words net → StandsStill plain_kind net.network ⊎ (HasFullInbox net ⊎ HasFullTrace net)
+undone_stands net is_plan words none = undone_found net is_plan words none

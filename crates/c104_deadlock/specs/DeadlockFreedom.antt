@@ -1,7 +1,7 @@
 -- What is so of a network that is accepted, that nobody changed, and whose channels don't depend on one another in a
 -- cycle: it has no deadlock.
 --     IsAcyclicNet image net      such a network, with its record
---     NothingDone net      no event of a round is done
+--     NothingDone words net      no event of a round is done
 --     IsFreeOfDeadlock net      what follows
 --     EndsWithoutDeadlock run      the same of a finished run
 use Rattle.c104_check.specs.{ChannelDependencies.{IsAcyclic, IsNeverRandomized, IsRanking}, Routes.{IsAccepted, Routes, routes_of}}
@@ -12,8 +12,8 @@ use Rattle.{c104_net.specs.{RoundEvents.IsOfRound, Unchanged.{AreStartsOf, IsUnc
 use Rattle.c104_node.specs.{Nodes.Node, Starts.{IsStartedStart, start_node}, Traced.traced_kind, Traces.{is_trace_full, seatless}}
 use Rattle.c104_node.specs.declared.{acts.Entry.Entry, stamps.Stamp.Stamp, starts.NodeStart.NodeStart, traced.Traced.Traced}
 use Rattle.{c104_plan.specs.{PlanImage.{Fits, Image}, Plans.Plan}, c104_run.specs.{Balance.IsSteady, Finished.network_finish}}
-use Rattle.c104_run.specs.{FinishedRecords.FinishedRecord, HandedWords.Words, NetRecords.{NetRecord, is_done}, Network.network_of}
-use Rattle.c104_run.specs.{QuietNets.IsQuiet, RecordedRuns.{RecordsHanded, record_apply}, Rounds.round, Runs.{IsDoneRun, IsRunRecord}}
+use Rattle.c104_run.specs.{FinishedRecords.FinishedRecord, HandedWords.{Words, round_with}, NetRecords.{NetRecord, is_done}}
+use Rattle.c104_run.specs.{Network.network_of, QuietNets.IsQuiet, RecordedRuns.{RecordsHanded, record_apply}, Runs.{IsDoneRun, IsRunRecord}}
 use Rattle.{c104_run.specs.Standstill.{IsDeadlocked, IsStarted, StandsStill}, c104_switch.specs.Actions.Reply}
 use Rattle.c104_token.specs.{Kinds.plain_kind, declared.tokens.Token.Token}
 use Rattle.std.specs.Prelude.{All, Err, List, Ok, Some, false, map, slice_get, true, ℕ, ◌*◌, ◌+◌, ◌<◌, ◌≡◌, ◌≤◌, ◌⊎◌}
@@ -36,9 +36,9 @@ pub record IsAcyclicNet (image : Image) (net : NetRecord) : Type 0 where
 abbrev pub IsUndone : NetRecord → Event → Type 0
 IsUndone net e = is_done (record_apply net e).0 ≡ false
 
--- no event of a round is done
-abbrev pub NothingDone : NetRecord → Type 0
-NothingDone net = All (IsUndone net) (round net.network.plan)
+-- no event of a round whose inputs are handed words is done
+abbrev pub NothingDone : Words → NetRecord → Type 0
+NothingDone words net = All (IsUndone net) (round_with words net.network.plan)
 
 -- a terminal refuses a token, since it keeps all that arrive and has no room for more
 abbrev pub HasFullInbox : NetRecord → Type 0
@@ -65,7 +65,7 @@ RoundsDeliver routes net n = (words : Words) (after : NetRecord) → RecordsHand
 -- such a network has no deadlock
 pub record HasNoDeadlock (image : Image) (net : NetRecord) : Type 0 where
   -- where no event of a round is done, the network is quiet, or waits for its user: an inbox or a trace is full
-  pub no_deadlock : NothingDone net → IsQuiet net.network ⊎ (HasFullInbox net ⊎ HasFullTrace net)
+  pub no_deadlock : (words : Words) → NothingDone words net → IsQuiet net.network ⊎ (HasFullInbox net ⊎ HasFullTrace net)
   -- where each is answered with NotReady, it is quiet
   pub never : IsDeadlocked plain_kind net.network → ⊥
   pub stands_quiet : StandsStill plain_kind net.network → IsQuiet net.network
