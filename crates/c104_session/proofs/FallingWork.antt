@@ -1,23 +1,23 @@
 -- Lines that send nothing leave no more work, and each of their rounds leaves less, till the network is quiet: whatever else
 -- they ask between the rounds.
-use Rattle.{c104_check.specs.Routes.Routes, c104_deadlock.proofs.RecordedRounds.{applied_plain, starts_stay}}
+use Rattle.{c104_check.specs.Routes.Routes, c104_deadlock.proofs.{HandedRounds.still_plain, RecordedRounds.{applied_plain, starts_stay}}}
 use Rattle.{c104_event.specs.declared.{events.Event.Event, faults.EventFault.EventFault}, c104_net.proofs.SentBytes.SendsBytes}
 use Rattle.{c104_net.specs.{RoundEvents.IsOfRound, Unchanged.MayHappen}, c104_node.specs.{Nodes.Node, Quiet.IsQuietNode}}
 use Rattle.{c104_node.specs.declared.starts.NodeStart.NodeStart, c104_plan.{proofs.RangeLists.all_of_each, specs.Plans.{IsPlan, Plan}}}
 use Rattle.c104_run.{proofs.{RecordSteps.done_made, RoundRuns.{Applied, run_append, undone_leaves}}, specs.EventRuns.{Outcome, run_events}}
-use Rattle.c104_run.specs.{EventRuns.unless_fault, NetRecords.NetRecord, Network.{Network, network_apply}, QuietNets.IsQuiet}
-use Rattle.c104_run.specs.{RecordedRuns.record_apply, Rounds.{round, rounds}, Standstill.{IsUnready, StandsStill}}
-use Rattle.c104_script.specs.{Script.read_script_line, declared.{faults.LineFault.LineFault, places.Request.Request}}
-use Rattle.c104_session.proofs.{QuietEvents.stays_quiet, UnchangedNets.{Fact, IsUnchangedNet, Keeps, events_leave, keeps_nothing, nothing}}
-use Rattle.c104_session.proofs.{UnchangedNets.{of_fact, of_round, round_event}, UnchangedScripts.line_leaves}
-use Rattle.c104_session.specs.{DeliveredRuns.{line_rounds, lines_rounds, rounds_asked}, PrintedPackets.{LeaveUnchanged, MayAsk}}
-use Rattle.c104_session.specs.{PrintedPackets.{event_sends, line_sends, lines_sent, was_done}, Shown.{answer_of_read, event_answer}}
-use Rattle.c104_session.specs.{Shown.{line_answer, line_outcome, rounds_answer}, declared.session.Session.Session}
-use Rattle.{c104_stream.specs.Scripts.lines_outcome, c104_switch.specs.{Actions.{Reply, is_ready}, declared.actions.ReplyOf.ReplyOf}}
-use Rattle.{c104_token.specs.{Kinds.plain_kind, declared.{packets.Packet.Packet, tokens.Token.Token}}, std.proofs.Common.{All, Bool, Err}}
-use Rattle.std.proofs.Common.{List, Ok, Option, Result, Some, [], ap, append-nil, arith, false, if◌then◌else◌, inl, inr, length}
-use Rattle.std.proofs.Common.{length-append, refl, subst, suc, sym, true, zero, ℕ, ◌++◌, ◌+◌, ◌<◌, ◌∙◌, ◌∷◌, ◌≡◌, ◌≤◌, ◌⊎◌}
-use Rattle.std.specs.List.{AllByRecursion}
+use Rattle.c104_run.specs.{EventRuns.unless_fault, HandedWords.{Words, round_with, rounds_with, words_behind, words_of}}
+use Rattle.c104_run.specs.{NetRecords.NetRecord, Network.{Network, network_apply}, QuietNets.IsQuiet, RecordedRuns.record_apply}
+use Rattle.{c104_run.specs.{Rounds.round, Standstill.{IsUnready, StandsStill}}, c104_script.specs.Script.read_script_line}
+use Rattle.{c104_script.specs.declared.{faults.LineFault.LineFault, places.Request.Request}, c104_session.proofs.QuietEvents.stays_quiet}
+use Rattle.c104_session.proofs.UnchangedNets.{Fact, IsUnchangedNet, Keeps, events_leave, keeps_nothing, nothing, of_fact, of_round}
+use Rattle.c104_session.{proofs.{UnchangedNets.round_event, UnchangedScripts.line_leaves}, specs.DeliveredRuns.{line_rounds, lines_rounds}}
+use Rattle.c104_session.specs.{DeliveredRuns.rounds_asked, PrintedPackets.{LeaveUnchanged, MayAsk, event_sends, line_sends, lines_sent}}
+use Rattle.c104_session.specs.{PrintedPackets.was_done, Shown.{answer_of_read, event_answer, line_answer, line_outcome, rounds_answer}}
+use Rattle.{c104_session.specs.declared.session.Session.Session, c104_stream.specs.Scripts.lines_outcome, c104_switch.specs.Actions.Reply}
+use Rattle.{c104_switch.specs.{Actions.is_ready, declared.actions.ReplyOf.ReplyOf}, c104_token.specs.Kinds.plain_kind}
+use Rattle.{c104_token.specs.declared.{packets.Packet.Packet, tokens.Token.Token}, std.proofs.Common.{All, Bool, Err, List, Ok, Option}}
+use Rattle.std.proofs.Common.{Result, Some, [], ap, append-nil, arith, false, if◌then◌else◌, inl, inr, length, length-append, refl, subst}
+use Rattle.std.{proofs.Common.{suc, sym, true, zero, ℕ, ◌++◌, ◌+◌, ◌<◌, ◌∙◌, ◌∷◌, ◌≡◌, ◌≤◌, ◌⊎◌}, specs.List.AllByRecursion}
 
 not_ready : (r : Reply) → is_ready r ≡ false → r ≡ ReplyOf.NotReady
 not_ready r is = search arith
@@ -29,13 +29,24 @@ both_empty (x ∷ xs) ys is = absurd (cc is)
 none_either : (b : Bool) → ◌≡◌ {A = ℕ} (if b then 0 else 0) 0
 none_either b = search arith
 
+-- what a round comes to whose inputs are handed words, and several
+abbrev round_to : Words → NetRecord → Outcome NetRecord
+round_to words net = run_events record_apply net (round_with words net.network.plan)
+
+abbrev rounds_to : Words → NetRecord → ℕ → Outcome NetRecord
+rounds_to words net count = run_events record_apply net (rounds_with words net.network.plan count)
+
 -- as many rounds were done
-abbrev pub Came : NetRecord → ℕ → NetRecord → Type 0
-Came net count after = ◌≡◌ {A = Outcome NetRecord} (run_events record_apply net (rounds net.network.plan count)) (Ok tt, after)
+abbrev pub Came : Words → NetRecord → ℕ → NetRecord → Type 0
+Came words net count after = rounds_to words net count ≡ (Ok tt, after)
+
+-- the same of some words
+abbrev pub CameSo : NetRecord → ℕ → NetRecord → Type 0
+CameSo net count after = (words : Words) × Came words net count after
 
 -- a line does no rounds, or all that count
 abbrev CountsRounds : Session → ℕ → Session → Type 0
-CountsRounds session count after = (count ≡ 0) ⊎ Came session.net count after.net
+CountsRounds session count after = (count ≡ 0) ⊎ CameSo session.net count after.net
 
 abbrev read_rounds : Session → Result (Option Request) LineFault → ℕ
 read_rounds session asked = if was_done (answer_of_read session asked).0 then rounds_asked asked else 0
@@ -44,12 +55,15 @@ read_rounds session asked = if was_done (answer_of_read session asked).0 then ro
 abbrev rounds_counted : ℕ → Result (Unit {0}) EventFault → ℕ
 rounds_counted count answer = if was_done (Some (event_answer (rounds_answer answer))) then count else 0
 
-answer_counts : (net : NetRecord) (count : ℕ) (answer : Result (Unit {0}) EventFault) → (run_events record_apply net (rounds net.network.plan count)).0 ≡ answer →
-    (rounds_counted count answer ≡ 0) ⊎ Came net (rounds_counted count answer) (run_events record_apply net (rounds net.network.plan count)).1
-answer_counts net count answer told = search arith
+answer_counts : (words : Words) (net : NetRecord) (count : ℕ) (answer : Result (Unit {0}) EventFault) → (rounds_to words net count).0 ≡ answer →
+    (rounds_counted count answer ≡ 0) ⊎ CameSo net (rounds_counted count answer) (rounds_to words net count).1
+answer_counts words net count (Ok u) told = inr (words, ap (λ (o : Result (Unit {0}) EventFault). (o, (rounds_to words net count).1)) told)
+answer_counts words net count (Err f) told = inl refl
 
 read_counts : (session : Session) (asked : Result (Option Request) LineFault) → CountsRounds session (read_rounds session asked) (answer_of_read session asked).1
-read_counts session asked = search (arith, answer_counts, none_either)
+read_counts session (Ok (Some (Request.Rounds count seed))) =
+    answer_counts (words_of seed) session.net count (rounds_to (words_of seed) session.net count).0 refl
+read_counts session asked = search (arith, none_either)
 
 line_counts : (session : Session) (line : List ℕ) → CountsRounds session (line_rounds session line) (line_answer session line).1
 unfolding line_answer
@@ -144,44 +158,56 @@ module _ (routes : Routes) (plan : Plan) (is_plan : IsPlan plan) (starts : List 
         (record_apply net e).0 refl is
 
     -- so a round leaves less, or finds the network quiet
-    one_round : (sends : List (ℕ × Packet)) (net after : NetRecord) → Is sends net → ◌≡◌ {A = Outcome NetRecord} (run_events record_apply net (round net.network.plan)) (Ok tt, after) →
+    one_round : (words : Words) (sends : List (ℕ × Packet)) (net after : NetRecord) → Is sends net → round_to words net ≡ (Ok tt, after) →
         (work after.network.nodes < work net.network.nodes) ⊎ All IsQuietNode after.network.nodes
-    one_round sends net after was is = by_run (goes sends (round net.network.plan) net after (of_round net.network.plan) was is)
+    one_round words sends net after was is =
+        by_run (goes sends (round_with words net.network.plan) net after (of_round words net.network.plan) was is)
       where
-        by_run : Goes net (round net.network.plan) after → (work after.network.nodes < work net.network.nodes) ⊎ All IsQuietNode after.network.nodes
+        still : AllByRecursion (IsUnready plain_kind net.network) (round_with words net.network.plan) → StandsStill plain_kind net.network
+        still all =
+            let plain : List Event = round net.network.plan in
+            all_of_each (IsUnready plain_kind net.network) plain (still_plain plain_kind net.network words plain all)
+
+        by_run : Goes net (round_with words net.network.plan) after → (work after.network.nodes < work net.network.nodes) ⊎ All IsQuietNode after.network.nodes
         by_run (inl less) = inl less
-        by_run (inr all) = inr (subst IsQuiet (sym all.0) (falling.rests sends net was (all_of_each (IsUnready plain_kind net.network) (round net.network.plan) all.1)))
+        by_run (inr all) = inr (subst IsQuiet (sym all.0) (falling.rests sends net was (still all.1)))
 
     -- as much is left after a round as before, less one
-    left_after : (sends : List (ℕ × Packet)) (net mid : NetRecord) (most : ℕ) → Is sends net → ◌≡◌ {A = Outcome NetRecord} (run_events record_apply net (round net.network.plan)) (Ok tt, mid) → IsLeft (most + 1) net.network.nodes → IsLeft most mid.network.nodes
-    left_after sends net mid most was is (inl quiet) =
-        let run = events_leave routes plan is_plan starts (left_since (length sends) 0) (keeps_left (length sends) 0) sends (round net.network.plan) net (of_round net.network.plan) (left_of sends net 0 was (inl quiet)) in
-        let came : (run_events record_apply net (round net.network.plan)).1 ≡ mid = ap (λ (z : Outcome NetRecord). z.1) is in
-        inl (subst (λ (n : NetRecord). All IsQuietNode n.network.nodes) came (none_left (run_events record_apply net (round net.network.plan)).1.network.nodes (run.holds.0 refl)))
-    left_after sends net mid most was is (inr few) = by_round (one_round sends net mid was is)
+    left_after : (words : Words) (sends : List (ℕ × Packet)) (net mid : NetRecord) (most : ℕ) → Is sends net → round_to words net ≡ (Ok tt, mid) → IsLeft (most + 1) net.network.nodes → IsLeft most mid.network.nodes
+    left_after words sends net mid most was is (inl quiet) =
+        let run = events_leave routes plan is_plan starts (left_since (length sends) 0) (keeps_left (length sends) 0) sends (round_with words net.network.plan) net (of_round words net.network.plan) (left_of sends net 0 was (inl quiet)) in
+        let came : (round_to words net).1 ≡ mid = ap (λ (z : Outcome NetRecord). z.1) is in
+        inl (subst (λ (n : NetRecord). All IsQuietNode n.network.nodes) came (none_left (round_to words net).1.network.nodes (run.holds.0 refl)))
+    left_after words sends net mid most was is (inr few) = by_round (one_round words sends net mid was is)
       where
         by_round : (work mid.network.nodes < work net.network.nodes) ⊎ All IsQuietNode mid.network.nodes → IsLeft most mid.network.nodes
         by_round left = search arith
 
-    -- and after several: the first, and then the others
-    first_left : (n : ℕ) (sends : List (ℕ × Packet)) (most : ℕ) (net after : NetRecord) → Is sends net → IsLeft (suc n + most) net.network.nodes →
-        ((mid : NetRecord) → Is sends mid → Came mid n after → IsLeft (n + most) mid.network.nodes → IsLeft most after.network.nodes) →
-        (answer : Result (Unit {0}) EventFault) → (run_events record_apply net (round net.network.plan)).0 ≡ answer →
-        ◌≡◌ {A = Outcome NetRecord} (unless_fault answer (run_events record_apply net (round net.network.plan)).1 (λ next. run_events record_apply next (rounds net.network.plan n))) (Ok tt, after) → IsLeft most after.network.nodes
-    first_left n sends most net after was left later (Err f) told rest = let no : ◌≡◌ {A = Result (Unit {0}) EventFault} (Err f) (Ok tt) = ap (λ (z : Outcome NetRecord). z.0) rest in absurd (cc)
-    first_left n sends most net after was left later (Ok u) told rest =
-        let mid : NetRecord = (run_events record_apply net (round net.network.plan)).1 in
-        let first : ◌≡◌ {A = Outcome NetRecord} (run_events record_apply net (round net.network.plan)) (Ok tt, mid) = ap (λ (o : Result (Unit {0}) EventFault). (o, mid)) told in
-        let there : Is sends mid = events_leave routes plan is_plan starts nothing (keeps_nothing routes plan starts) sends (round net.network.plan) net (of_round net.network.plan) was in
-        let stays : mid.network.plan ≡ net.network.plan = (starts_stay net mid (round net.network.plan) (Ok tt) (inl (sym first))).0 in
-        later mid there (ap (λ p. run_events record_apply mid (rounds p n)) stays ∙ rest)
-        (left_after sends net mid (n + most) was first (left_within (suc n + most) (n + most + 1) net.network.nodes (omega arith) left))
+    -- the words of the next round
+    abbrev next_words : Words → NetRecord → Words
+    next_words words net = words_behind words (length net.network.plan.switches)
 
-    rounds_left : (n : ℕ) (sends : List (ℕ × Packet)) (most : ℕ) (net after : NetRecord) → Is sends net → Came net n after → IsLeft (n + most) net.network.nodes → IsLeft most after.network.nodes
-    rounds_left zero sends most net after was is left = subst (λ (m : NetRecord). IsLeft most m.network.nodes) (ap (λ (z : Outcome NetRecord). z.1) is) (left_within (zero + most) most net.network.nodes (omega arith) left)
-    rounds_left (suc n) sends most net after was is left =
-        first_left n sends most net after was left (λ mid there came fewer. rounds_left n sends most mid after there came fewer)
-        (run_events record_apply net (round net.network.plan)).0 refl (sym (run_append record_apply (round net.network.plan) (rounds net.network.plan n) net) ∙ is)
+    -- and after several: the first, and then the others
+    first_left : (words : Words) (n : ℕ) (sends : List (ℕ × Packet)) (most : ℕ) (net after : NetRecord) → Is sends net → IsLeft (suc n + most) net.network.nodes →
+        ((mid : NetRecord) → Is sends mid → Came (next_words words net) mid n after → IsLeft (n + most) mid.network.nodes → IsLeft most after.network.nodes) →
+        (answer : Result (Unit {0}) EventFault) → (round_to words net).0 ≡ answer →
+        ◌≡◌ {A = Outcome NetRecord} (unless_fault answer (round_to words net).1 (λ next. run_events record_apply next (rounds_with (next_words words net) net.network.plan n))) (Ok tt, after) → IsLeft most after.network.nodes
+    first_left words n sends most net after was left later (Err f) told rest = let no : ◌≡◌ {A = Result (Unit {0}) EventFault} (Err f) (Ok tt) = ap (λ (z : Outcome NetRecord). z.0) rest in absurd (cc)
+    first_left words n sends most net after was left later (Ok u) told rest =
+        let events : List Event = round_with words net.network.plan in
+        let mid : NetRecord = (round_to words net).1 in
+        let first : round_to words net ≡ (Ok tt, mid) = ap (λ (o : Result (Unit {0}) EventFault). (o, mid)) told in
+        let there : Is sends mid = events_leave routes plan is_plan starts nothing (keeps_nothing routes plan starts) sends events net (of_round words net.network.plan) was in
+        let stays : mid.network.plan ≡ net.network.plan = (starts_stay net mid events (Ok tt) (inl (sym first))).0 in
+        later mid there (ap (λ p. run_events record_apply mid (rounds_with (next_words words net) p n)) stays ∙ rest)
+        (left_after words sends net mid (n + most) was first (left_within (suc n + most) (n + most + 1) net.network.nodes (omega arith) left))
+
+    rounds_left : (n : ℕ) (words : Words) (sends : List (ℕ × Packet)) (most : ℕ) (net after : NetRecord) → Is sends net → Came words net n after → IsLeft (n + most) net.network.nodes → IsLeft most after.network.nodes
+    rounds_left zero words sends most net after was is left = subst (λ (m : NetRecord). IsLeft most m.network.nodes) (ap (λ (z : Outcome NetRecord). z.1) is) (left_within (zero + most) most net.network.nodes (omega arith) left)
+    rounds_left (suc n) words sends most net after was is left =
+        first_left words n sends most net after was left (λ mid there came fewer. rounds_left n (next_words words net) sends most mid after there came fewer)
+        (round_to words net).0 refl
+        (sym (run_append record_apply (round_with words net.network.plan) (rounds_with (next_words words net) net.network.plan n) net) ∙ is)
 
     -- the same of a line that sends nothing, and of lines
     line_left : (sends : List (ℕ × Packet)) (session : Session) (line : List ℕ) (most : ℕ) → Is sends session.net → MayAsk routes (read_script_line session.net.network.plan line) (line_answer session line).0 → line_sends session line ≡ [] → IsLeft (line_rounds session line + most) session.net.network.nodes → IsLeft most (line_answer session line).1.net.network.nodes
@@ -192,7 +218,7 @@ module _ (routes : Routes) (plan : Plan) (is_plan : IsPlan plan) (starts : List 
             let fewer : IsLeft most session.net.network.nodes = left_within (line_rounds session line + most) most session.net.network.nodes (omega (arith, none)) left in
             let held = line_leaves routes plan is_plan starts (left_since (length sends) most) (keeps_left (length sends) most) sends session (left_of sends session.net most was fewer) line may in
             held.holds.0 (ap (λ (s : List (ℕ × Packet)). length (sends ++ s)) silent ∙ ap (λ (s : List (ℕ × Packet)). length s) (append-nil sends))
-        by_count (inr came) = rounds_left (line_rounds session line) sends most session.net (line_answer session line).1.net was came left
+        by_count (inr came) = rounds_left (line_rounds session line) came.0 sends most session.net (line_answer session line).1.net was came.1 left
 
     pub lines_left : (lines : List (List ℕ)) (number : ℕ) (sends : List (ℕ × Packet)) (session : Session) → Is sends session.net → LeaveUnchanged routes session lines → lines_sent session lines ≡ [] → IsLeft (lines_rounds session lines) session.net.network.nodes → IsQuiet (lines_outcome line_outcome number session lines).1.net.network
     unfolding line_outcome

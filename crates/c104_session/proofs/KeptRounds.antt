@@ -1,74 +1,100 @@
 -- Rounds of which something is kept, one by one: what is kept of them, and how the network goes on beside that.
 use Rattle.{c104_event.specs.declared.faults.EventFault.EventFault, c104_net.specs.MeteredRecords.{MeteredRecord, at_meter, record_metered}}
-use Rattle.{c104_node.specs.declared.tagged.TaggedToken.TaggedToken, c104_run.proofs.{RoundRuns.run_seen, RoundsTaken.round_idle}}
-use Rattle.c104_run.{proofs.RoundsTaken.{round_refused, round_taken}, specs.{EventRuns.{EventsEnd, Outcome, run_events}, Meters.Sees}}
-use Rattle.{c104_run.specs.{NetRecords.NetRecord, RecordedRuns.record_apply, Rounds.{round, rounds}}, c104_session.specs.Keepers.Keeping}
-use Rattle.{c104_session.specs.Keepers.{KeepsRound, kept_on, round_kept, rounds_kept}, std.proofs.Common.{Bool, Err, Ok, Result, ap, arith}}
-use Rattle.std.proofs.Common.{false, if◌then◌else◌, inl, refl, sym, true, ℕ, ◌+◌, ◌-◌, ◌<◌, ◌∙◌, ◌≡◌}
+use Rattle.{c104_node.specs.declared.tagged.TaggedToken.TaggedToken, c104_plan.specs.Plans.Plan, c104_run.proofs.IdleRounds.records_count}
+use Rattle.c104_run.proofs.{IdleRounds.words_idle, RoundRuns.run_seen, WordedRounds.{words_next, words_refused, words_taken}}
+use Rattle.c104_run.specs.{EventRuns.{EventsEnd, Outcome, run_events}, HandedWords.{Words, round_with, rounds_with, words_after}}
+use Rattle.c104_run.specs.{HandedWords.words_behind, Meters.Sees, NetRecords.{NetRecord, largest_ticket}, RecordedRuns.record_apply}
+use Rattle.{c104_session.specs.Keepers.{Keeping, KeepsRound, is_later, kept_on, round_kept, rounds_kept}, std.proofs.Common.{Bool, Err, Ok}}
+use Rattle.std.proofs.Common.{Result, ap, arith, false, if◌then◌else◌, inl, length, refl, sym, true, ℕ, ◌+◌, ◌-◌, ◌<◌, ◌∙◌, ◌≡◌, ◌≤◌}
+use Rattle.std.proofs.lemmas.Bool.Decides.{nat_tests}
+
+-- no more events were done than before
+few_done : (before after : ℕ) → is_later before after ≡ false → (before < largest_ticket) × (after ≤ before)
+few_done before after none = (grind (arith, nat_tests, none), grind (arith, nat_tests, none))
 
 module _ {M : Type 0} (sees : Sees M TaggedToken) (keeps : Keeping M) where
   -- the network of a round of which something is kept goes on as by itself
-  record_of : (net : NetRecord) (c : M)
-      → ◌≡◌ {A = Outcome NetRecord} ((round_kept sees keeps (at_meter net c)).0, (round_kept sees keeps (at_meter net c)).1.net)
-      (run_events record_apply net (round net.network.plan))
-  record_of net c =
-      run_seen (record_metered sees) record_apply (λ (s : MeteredRecord M). s.net) (λ s e. refl) (round net.network.plan)
+  record_of : (words : Words) (net : NetRecord) (c : M)
+      → ◌≡◌ {A = Outcome NetRecord} ((round_kept sees keeps words (at_meter net c)).0, (round_kept sees keeps words (at_meter net c)).1.net)
+      (run_events record_apply net (round_with words net.network.plan))
+  record_of words net c =
+      run_seen (record_metered sees) record_apply (λ (s : MeteredRecord M). s.net) (λ s e. refl) (round_with words net.network.plan)
       (at_meter net (keeps.begun net c))
 
-  -- so many rounds are done, and these are left
-  pub record Going (start : NetRecord) (begun : M) (count i : ℕ) (net : NetRecord) (c : M) : Type 0 where
-    pub run : run_events record_apply start (rounds start.network.plan i) ≡ (Ok tt, net)
+  -- so many rounds are done, the next one is handed these words, and these are left
+  pub record Going (words : Words) (start : NetRecord) (begun : M) (count i : ℕ) (handed : Words) (net : NetRecord) (c : M) : Type 0 where
+    pub run : run_events record_apply start (rounds_with words start.network.plan i) ≡ (Ok tt, net)
     pub same : net.network.plan ≡ start.network.plan
-    pub left : rounds_kept sees keeps count (at_meter start begun) ≡ rounds_kept sees keeps (count - i) (at_meter net c)
+    pub next : handed ≡ words_after words (length start.network.plan.switches) i
+    pub left : rounds_kept sees keeps words count (at_meter start begun) ≡ rounds_kept sees keeps handed (count - i) (at_meter net c)
 
-  module _ (start : NetRecord) (begun : M) (count i : ℕ) (net after : NetRecord) (c d : M)
-      (going : Going start begun count i net c) (further : i < count) where
+  module _ (words : Words) (start : NetRecord) (begun : M) (count i : ℕ) (handed : Words) (net after : NetRecord) (c d : M)
+      (going : Going words start begun count i handed net c) (further : i < count) where
+    abbrev plan : Plan
+    plan = start.network.plan
+
     abbrev rest : ℕ
     rest = count - (i + 1)
 
+    abbrev behind : Words
+    behind = words_behind handed (length net.network.plan.switches)
+
     -- what the next one comes to
-    next_left : rounds_kept sees keeps count (at_meter start begun)
-        ≡ kept_on sees keeps rest (rounds_kept sees keeps rest) net (round_kept sees keeps (at_meter net c))
+    next_left : rounds_kept sees keeps words count (at_meter start begun)
+        ≡ kept_on sees keeps rest (rounds_kept sees keeps behind rest) net (round_kept sees keeps handed (at_meter net c))
     next_left = search arith
 
+    -- its events, of the plan and by the words of the start
+    round_is : round_with handed net.network.plan ≡ round_with (words_after words (length plan.switches) i) plan
+    round_is = ap (round_with handed) going.same ∙ ap (λ (w : Words). round_with w plan) going.next
+
     -- its network
-    ends_so : (result : Result (Unit {0}) EventFault) (e : M) → round_kept sees keeps (at_meter net c) ≡ (result, at_meter after e)
-        → EventsEnd record_apply net (round net.network.plan) result after
-    ends_so result e is = inl (ap (λ (o : Outcome (MeteredRecord M)). (o.0, o.1.net)) (sym is) ∙ record_of net c)
+    run_so : (result : Result (Unit {0}) EventFault) (e : M) → round_kept sees keeps handed (at_meter net c) ≡ (result, at_meter after e)
+        → run_events record_apply net (round_with handed net.network.plan) ≡ (result, after)
+    run_so result e is = sym (record_of handed net c) ∙ ap (λ (o : Outcome (MeteredRecord M)). (o.0, o.1.net)) is
 
-    pub round_runs : (done : Bool) → KeepsRound sees keeps net c (Ok done) after d
-        → run_events record_apply net (round net.network.plan) ≡ (Ok tt, after)
-    round_runs done came = sym (record_of net c) ∙ ap (λ (o : Outcome (MeteredRecord M)). (o.0, o.1.net)) came.1
+    started_so : (result : Result (Unit {0}) EventFault) (e : M)
+        → round_kept sees keeps handed (at_meter net c) ≡ (result, at_meter after e)
+        → run_events record_apply net (round_with (words_after words (length plan.switches) i) plan) ≡ (result, after)
+    started_so result e is = ap (run_events record_apply net) (sym round_is) ∙ run_so result e is
 
-    plan_is : round net.network.plan ≡ round start.network.plan
-    plan_is = ap round going.same
+    pub round_runs : (done : Bool) → KeepsRound sees keeps handed net c (Ok done) after d
+        → run_events record_apply net (round_with handed net.network.plan) ≡ (Ok tt, after)
+    round_runs done came = run_so (Ok tt) came.0 came.1
 
     -- what is kept where the round ended so
     abbrev by_later : M → Bool → M
     by_later e later =
-        if later then rounds_kept sees keeps rest (at_meter after (keeps.ended e true)) else keeps.passed (keeps.ended e false) rest
+        if later then rounds_kept sees keeps behind rest (at_meter after (keeps.ended e true)) else keeps.passed (keeps.ended e false) rest
 
     -- something was done in it
-    pub goes_on : after.network.plan ≡ net.network.plan → KeepsRound sees keeps net c (Ok true) after d
-        → Going start begun count (i + 1) after d
+    pub goes_on : after.network.plan ≡ net.network.plan → KeepsRound sees keeps handed net c (Ok true) after d
+        → Going words start begun count (i + 1) (words_behind handed (length after.network.plan.switches)) after d
     goes_on kept came = record {
-      run =
-          round_taken record_apply start net after start.network.plan (round net.network.plan) i plan_is going.run
-          (ends_so (Ok tt) came.0 came.1);
+      run = words_taken record_apply plan words start net after i going.run (started_so (Ok tt) came.0 came.1);
       same = kept ∙ going.same;
+      next =
+          ap (λ (p : Plan). words_behind handed (length p.switches)) (kept ∙ going.same)
+          ∙ ap (λ (w : Words). words_behind w (length plan.switches)) going.next ∙ words_next words (length plan.switches) i;
       left =
-          next_left ∙ ap (λ (o : Outcome (MeteredRecord M)). kept_on sees keeps rest (rounds_kept sees keeps rest) net o) came.1
-          ∙ ap (by_later came.0) (sym came.2) ∙ ap (λ e. rounds_kept sees keeps rest (at_meter after e)) (sym came.3);
+          next_left ∙ ap (λ (o : Outcome (MeteredRecord M)). kept_on sees keeps rest (rounds_kept sees keeps behind rest) net o) came.1
+          ∙ ap (by_later came.0) (sym came.2) ∙ ap (λ e. rounds_kept sees keeps behind rest (at_meter after e)) (sym came.3)
+          ∙ ap (λ (p : Plan). rounds_kept sees keeps (words_behind handed (length p.switches)) rest (at_meter after d)) (sym kept);
     }
 
-    -- nothing was: the network stays as it was
-    pub idle_counts : KeepsRound sees keeps net c (Ok false) after d → keeps.passed d rest ≡ rounds_kept sees keeps count (at_meter start begun)
+    -- nothing was: nor is anything in those behind it
+    pub idle_counts : KeepsRound sees keeps handed net c (Ok false) after d
+        → keeps.passed d rest ≡ rounds_kept sees keeps words count (at_meter start begun)
     idle_counts came = search arith
 
-    pub idle_ends : after ≡ net → KeepsRound sees keeps net c (Ok false) after d
-        → EventsEnd record_apply start (rounds start.network.plan count) (Ok tt) after
-    idle_ends unchanged came = search (arith, round_idle, plan_is, ends_so)
+    pub idle_ends : KeepsRound sees keeps handed net c (Ok false) after d
+        → EventsEnd record_apply start (rounds_with words plan count) (Ok tt) after
+    idle_ends came =
+        let few = few_done net.count after.count (sym came.2) in
+        inl (sym (words_idle record_apply (λ (r : NetRecord). r.count) records_count plan words start net after i count further going.run
+        (inl (sym (started_so (Ok tt) came.0 came.1))) few.0 few.1))
 
-    pub fault_ends : (f : EventFault) → round_kept sees keeps (at_meter net c) ≡ (Err f, at_meter after d)
-        → EventsEnd record_apply start (rounds start.network.plan count) (Err f) after
-    fault_ends f is = search (arith, round_refused, plan_is, ends_so)
+    pub fault_ends : (f : EventFault) → round_kept sees keeps handed (at_meter net c) ≡ (Err f, at_meter after d)
+        → EventsEnd record_apply start (rounds_with words plan count) (Err f) after
+    fault_ends f is =
+        words_refused record_apply plan words start net after i count f further going.run (inl (sym (started_so (Err f) d is)))

@@ -1,7 +1,7 @@
 -- What is left of a network where there was no memory for what a line asks.
-use Rattle.{c104_event.specs.declared.{events.Event.Event, faults.EventFault.EventFault}, c104_run.specs.NetRecords.NetRecord}
-use Rattle.c104_run.specs.{Network.{Network, outcome_if_possible, outcome_if_ready, outcome_within_limit}, RecordedRuns.AnswersRecord}
-use Rattle.c104_run.specs.{RecordedRuns.{RecordsRounds, record_apply, record_at, record_stage}, Stages.stage_after}
+use Rattle.{c104_event.specs.declared.{events.Event.Event, faults.EventFault.EventFault}, c104_run.specs.HandedWords.Words}
+use Rattle.c104_run.specs.{NetRecords.NetRecord, Network.{Network, outcome_if_possible, outcome_if_ready, outcome_within_limit}}
+use Rattle.c104_run.specs.{RecordedRuns.{AnswersRecord, RecordsHanded, record_apply, record_at, record_stage}, Stages.stage_after}
 use Rattle.{c104_script.specs.declared.{faults.LineFault.LineFault, places.Request.Request}, c104_session.specs.Leavings.LeavesNet}
 use Rattle.{c104_session.specs.Leavings.{LeavesRead, LeavesRounds}, c104_switch.specs.Actions.Reply, c104_token.specs.Kinds.plain_kind}
 use Rattle.{c104_token.specs.declared.tokens.Token.Token, std.proofs.Common.{Bool, Err, Ok, OnErr, Option, Result, Some, arith}}
@@ -36,8 +36,8 @@ pub event_kept : (net : NetRecord) (event : Event) (answer : Result Reply EventF
 event_kept net event answer left came = search (arith, refused_keeps)
 
 -- what rounds leave
-pub rounds_left : (net : NetRecord) (count : ℕ) (result : Result (Unit {0}) EventFault) (left : NetRecord) → RecordsRounds net count result left → LeavesRounds net count left
-rounds_left net count result left recorded = search (arith, append-nil)
+pub rounds_left : (words : Words) (net : NetRecord) (count : ℕ) (result : Result (Unit {0}) EventFault) (left : NetRecord) → RecordsHanded words net count result left → LeavesRounds words net count left
+rounds_left words net count result left recorded = search (arith, append-nil)
 
 -- nothing was done
 nothing_asked : (net : NetRecord) (request : Request) → LeavesNet net request net

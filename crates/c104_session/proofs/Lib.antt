@@ -6,7 +6,6 @@ pub mod LinesLaw
 pub mod DrivenLines
 pub mod ToldEvents
 pub mod CountedEvents
-pub mod StillCounts
 pub mod RoundLeavings
 pub mod NewScripts
 pub mod CountedScripts

@@ -1,19 +1,19 @@
 -- A network that nobody changed, with what its terminals have sent: by an event, by rounds, and by the debugger's peeks.
-use Rattle.{c104_check.specs.Routes.Routes, c104_deadlock.proofs.RoundMembers.each_of_round, c104_event.specs.declared.events.Event.Event}
-use Rattle.{c104_event.specs.declared.faults.EventFault.EventFault, c104_net.proofs.{JointKeeps.IsOfRound, SentBytes.AreBytesSent}}
-use Rattle.c104_net.{proofs.SentBytes.SendsBytes, specs.{Deliveries.sent_at, Unchanged.{IsUnchanged, MayHappen}}}
+use Rattle.{c104_check.specs.Routes.Routes, c104_deadlock.proofs.RoundMembers.each_of_round_with}
+use Rattle.{c104_event.specs.declared.{events.Event.Event, faults.EventFault.EventFault}, c104_net.proofs.JointKeeps.IsOfRound}
+use Rattle.c104_net.{proofs.SentBytes.{AreBytesSent, SendsBytes}, specs.{Deliveries.sent_at, Unchanged.{IsUnchanged, MayHappen}}}
 use Rattle.c104_node.specs.{Nodes.Node, Starts.start_node, Traces.{noted_all, seatless}, declared.starts.NodeStart.NodeStart}
 use Rattle.{c104_plan.{proofs.RangeLists.each_append, specs.Plans.{IsPlan, Plan}}, c104_run.proofs.RecordSteps.{done_made, same_record}}
 use Rattle.c104_run.proofs.{RecordSteps.ticket_left, RecordedRuns.record_kept, RoundJoins.apply_plan, RoundRuns.{Applied, undone_left}}
 use Rattle.c104_run.{proofs.{RunRecords.{record_on, seatless_order}, UndoneEvents.undone_deeds}, specs.EventDeeds.event_deeds}
-use Rattle.c104_run.specs.{EventRuns.{run_events, unless_fault}, NetRecords.{IsNetRecord, NetRecord, is_done, ticket_after}}
-use Rattle.c104_run.specs.{Network.{Network, network_apply, network_of}, RecordedRuns.{record_apply, record_at, record_stage}, Rounds.round}
-use Rattle.c104_run.specs.{Rounds.rounds, Runs.{IsDoneRun, IsRunRecord}, Stages.{stage_after, stage_full}}
-use Rattle.c104_session.{proofs.SentLists.{packets_append, sent_after}, specs.PrintedPackets.{event_sends, packets_of}}
-use Rattle.{c104_switch.specs.Actions.{Reply, is_ready}, c104_token.specs.{Kinds.plain_kind, declared.packets.Packet.Packet}}
-use Rattle.{c104_token.specs.declared.tokens.Token.Token, std.proofs.Common.{Bool, Err, List, Ok, Result, [], ap, append-nil, arith, false}}
-use Rattle.std.proofs.Common.{if◌then◌else◌, inl, map, refl, subst, suc, sym, true, zero, ℕ, ◌&&◌, ◌++◌, ◌+◌, ◌∙◌, ◌∷◌, ◌≡◌}
-use Rattle.std.specs.List.{AllByRecursion}
+use Rattle.c104_run.specs.{EventRuns.{run_events, unless_fault}, HandedWords.{Words, round_with, rounds_with, words_behind}}
+use Rattle.c104_run.specs.{NetRecords.{IsNetRecord, NetRecord, is_done, ticket_after}, Network.{Network, network_apply, network_of}}
+use Rattle.c104_run.specs.{RecordedRuns.{record_apply, record_at, record_stage}, Runs.{IsDoneRun, IsRunRecord}, Stages.stage_after}
+use Rattle.{c104_run.specs.Stages.stage_full, c104_session.proofs.SentLists.{packets_append, sent_after}}
+use Rattle.{c104_session.specs.PrintedPackets.{event_sends, packets_of}, c104_switch.specs.Actions.{Reply, is_ready}}
+use Rattle.{c104_token.specs.{Kinds.plain_kind, declared.{packets.Packet.Packet, tokens.Token.Token}}, std.proofs.Common.{Bool, Err, List}}
+use Rattle.std.proofs.Common.{Ok, Result, [], ap, append-nil, arith, false, if◌then◌else◌, inl, length, map, refl, subst, suc, sym, true}
+use Rattle.std.{proofs.Common.{zero, ℕ, ◌&&◌, ◌++◌, ◌+◌, ◌∙◌, ◌∷◌, ◌≡◌}, specs.List.AllByRecursion}
 
 -- what is said of the nodes of a network whose terminals sent these packets
 abbrev pub Fact : Type 1
@@ -155,9 +155,13 @@ module _ (routes : Routes) (plan : Plan) (is_plan : IsPlan plan) (starts : List 
       by_fault more answer next left = search arith
 
 -- all events of rounds are events of a round
-pub of_round : (plan : Plan) → AllByRecursion IsOfRound (round plan)
-of_round plan = each_of_round plan IsOfRound (λ p q wire. tt) (λ p q wire. tt) (λ s l q wire. tt) (λ s i o inside input output. tt) (λ t inside. tt)
+pub of_round : (words : Words) (plan : Plan) → AllByRecursion IsOfRound (round_with words plan)
+of_round words plan =
+    each_of_round_with plan IsOfRound words (λ p q wire. tt) (λ p q wire. tt) (λ s l w q wire. tt)
+    (λ s i o inside input output. tt) (λ t inside. tt)
 
-pub of_rounds : (plan : Plan) (n : ℕ) → AllByRecursion IsOfRound (rounds plan n)
-of_rounds plan zero = tt
-of_rounds plan (suc n) = each_append IsOfRound (round plan) (rounds plan n) (of_round plan) (of_rounds plan n)
+pub of_rounds : (words : Words) (plan : Plan) (n : ℕ) → AllByRecursion IsOfRound (rounds_with words plan n)
+of_rounds words plan zero = tt
+of_rounds words plan (suc n) =
+    let next : Words = words_behind words (length plan.switches) in
+    each_append IsOfRound (round_with words plan) (rounds_with next plan n) (of_round words plan) (of_rounds next plan n)

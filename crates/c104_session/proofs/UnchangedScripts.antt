@@ -1,7 +1,7 @@
 -- A script that changes nothing leaves a network that nobody changed, whose terminals sent what its lines sent.
 use Rattle.{c104_check.specs.Routes.Routes, c104_event.specs.declared.{events.Event.Event, faults.EventFault.EventFault}}
 use Rattle.{c104_net.{proofs.SentBytes.SendsBytes, specs.Unchanged.MayHappen}, c104_node.specs.declared.starts.NodeStart.NodeStart}
-use Rattle.{c104_plan.specs.Plans.{IsPlan, Plan}, c104_run.specs.{NetRecords.{NetRecord, is_done}, Rounds.rounds}}
+use Rattle.{c104_plan.specs.Plans.{IsPlan, Plan}, c104_run.specs.{HandedWords.{rounds_with, words_of}, NetRecords.{NetRecord, is_done}}}
 use Rattle.c104_script.{proofs.ScriptBytes.{AskedBytes, line_bytes}, specs.{Script.read_script_line, declared.faults.LineFault.LineFault}}
 use Rattle.{c104_script.specs.declared.{places.Request.Request, probes.Probe.Probe}, c104_session.proofs.PeekedNets.IsNoPoke}
 use Rattle.c104_session.proofs.{PeekedNets.probe_leaves, UnchangedNets.{Fact, IsUnchangedNet, Keeps, event_leaves, events_leave, of_rounds}}
@@ -44,7 +44,10 @@ module _ (routes : Routes) (plan : Plan) (is_plan : IsPlan plan) (starts : List 
     read_leaves : (asked : Result (Option Request) LineFault) → IfOk asked (AskedBytes plan) → MayAsk routes asked (answer_of_read session asked).0 → IsAfter asked
     read_leaves (Ok None) bytes may = nothing false session.net was
     read_leaves (Ok (Some (Request.Asked e))) bytes may = event_done e bytes may
-    read_leaves (Ok (Some (Request.Rounds count))) bytes may = nothing (was_done (answer_of_read session (Ok (Some (Request.Rounds count)))).0) _ (events_leave routes plan is_plan starts fact keeps sends (rounds session.net.network.plan count) session.net (of_rounds session.net.network.plan count) was)
+    read_leaves (Ok (Some (Request.Rounds count seed))) bytes may =
+        nothing (was_done (answer_of_read session (Ok (Some (Request.Rounds count seed)))).0) _
+        (events_leave routes plan is_plan starts fact keeps sends (rounds_with (words_of seed) session.net.network.plan count) session.net
+        (of_rounds (words_of seed) session.net.network.plan count) was)
     read_leaves (Ok (Some (Request.Probed it))) bytes may = nothing (was_done (answer_of_read session (Ok (Some (Request.Probed it)))).0) _ (probe_leaves routes plan is_plan starts fact keeps sends session.net session.image it (poked it may) was)
     read_leaves (Ok (Some (Request.Refused kind))) bytes may = nothing false session.net was
     read_leaves (Err kind) bytes may = nothing false session.net was

@@ -1,10 +1,11 @@
 -- The counts of a run: what an event that is asked of a network adds to them, and what rounds do.
 --     counted_event c net e      an event
---     counted_rounds c net n      n rounds
+--     counted_rounds c net words n      n rounds whose inputs are handed words
 use Rattle.{c104_event.specs.declared.events.Event.Event, c104_net.specs.MeteredRecords.{at_meter, record_metered}}
-use Rattle.{c104_run.specs.{NetRecords.{NetRecord, is_done}, RecordedRuns.record_apply}, c104_session.specs.Driven.Driving}
-use Rattle.{c104_session.specs.{Keepers.{Keeping, rounds_kept}, Resets.is_reset}, c104_stats.specs.Counts.{Counts, counts_begun}}
-use Rattle.c104_stats.specs.{Counts.{counts_cut, counts_noted, counts_passed, counts_sent}, Metering.counting, Sights.counts_of_net}
+use Rattle.c104_run.specs.{HandedWords.Words, NetRecords.{NetRecord, is_done}, RecordedRuns.record_apply}
+use Rattle.{c104_session.specs.{Driven.Driving, Keepers.{Keeping, rounds_kept}, Resets.is_reset}, c104_stats.specs.Counts.Counts}
+use Rattle.c104_stats.specs.{Counts.{counts_begun, counts_cut, counts_noted, counts_passed, counts_sent}, Metering.counting}
+use Rattle.c104_stats.specs.Sights.{counts_of_net}
 use Rattle.std.specs.Prelude.{Bool, false, length, true, ℕ, ◌&&◌}
 
 -- what is counted of a packet that a terminal was asked to send, where that was done
@@ -42,8 +43,8 @@ counts_keep = record {
 }
 
 -- after rounds
-abbrev pub counted_rounds : Counts → NetRecord → ℕ → Counts
-counted_rounds c net count = rounds_kept counting counts_keep count (at_meter net c)
+abbrev pub counted_rounds : Counts → NetRecord → Words → ℕ → Counts
+counted_rounds c net words count = rounds_kept counting counts_keep words count (at_meter net c)
 
 -- what is counted of what a network is asked
 abbrev pub counts_kept : Driving Counts

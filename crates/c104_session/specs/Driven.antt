@@ -1,16 +1,16 @@
 -- What a driver keeps of what a network is asked, line by line of a script, beside what the network does and answers.
 use Rattle.{c104_event.specs.declared.{events.Event.Event, faults.EventFault.EventFault}, c104_run.specs.EventRuns.run_events}
-use Rattle.{c104_run.specs.{NetRecords.NetRecord, RecordedRuns.record_apply, Rounds.rounds}, c104_script.specs.Answering.shown_by}
-use Rattle.c104_script.specs.{Script.read_script_line, declared.{answers.Answer.Answer, faults.LineFault.LineFault, places.Request.Request}}
-use Rattle.c104_session.specs.{Refusals.{no_refusals, refused_too}, Shown.line_answer, declared.driven.Driven.Driven}
-use Rattle.{c104_session.specs.declared.session.Session.Session, c104_switch.specs.Actions.Reply}
+use Rattle.c104_run.specs.{HandedWords.{Words, rounds_with, words_of}, NetRecords.NetRecord, RecordedRuns.record_apply}
+use Rattle.c104_script.specs.{Answering.shown_by, Script.read_script_line, declared.{answers.Answer.Answer, faults.LineFault.LineFault}}
+use Rattle.{c104_script.specs.declared.places.Request.Request, c104_session.specs.{Refusals.{no_refusals, refused_too}, Shown.line_answer}}
+use Rattle.{c104_session.specs.declared.{driven.Driven.Driven, session.Session.Session}, c104_switch.specs.Actions.Reply}
 use Rattle.std.specs.Prelude.{Err, List, None, Ok, Option, Result, Some, if◌then◌else◌, ℕ, ◌≡◌, ◌⊎◌}
 
--- what a driver keeps: its state after it did an event, or as many rounds, on a network that was in this state. That is
--- said of all that memory suffices for
+-- what a driver keeps: its state after it did an event, or as many rounds whose inputs are handed words, on a network that
+-- was in this state. That is said of all that memory suffices for
 pub record Driving (D : Type 0) : Type 0 where
   pub event : D → NetRecord → Event → D
-  pub rounds : D → NetRecord → ℕ → D
+  pub rounds : D → NetRecord → Words → ℕ → D
 
 -- an event was done, or refused, as is due; or there was no memory for it
 abbrev pub DoesEvent : NetRecord → Event → Result Reply EventFault → NetRecord → Type 0
@@ -18,14 +18,15 @@ DoesEvent net event result after =
     (◌≡◌ {A = Result Reply EventFault × NetRecord} (result, after) (record_apply net event)) ⊎ (result ≡ Err EventFault.NoMemory)
 
 -- the same of rounds
-abbrev pub DoesRounds : NetRecord → ℕ → Result (Unit {0}) EventFault → NetRecord → Type 0
-DoesRounds net count result after =
-    (◌≡◌ {A = Result (Unit {0}) EventFault × NetRecord} (result, after) (run_events record_apply net (rounds net.network.plan count)))
+abbrev pub DoesRounds : Words → NetRecord → ℕ → Result (Unit {0}) EventFault → NetRecord → Type 0
+DoesRounds words net count result after =
+    (◌≡◌ {A = Result (Unit {0}) EventFault × NetRecord} (result, after)
+    (run_events record_apply net (rounds_with words net.network.plan count)))
     ⊎ (result ≡ Err EventFault.NoMemory)
 
 -- a driver that keeps nothing
 abbrev pub keeps_nothing : {D : Type 0} → Driving D
-keeps_nothing = record { event = λ driver net e. driver; rounds = λ driver net count. driver }
+keeps_nothing = record { event = λ driver net e. driver; rounds = λ driver net words count. driver }
 
 -- before a script's first line
 abbrev pub new_driven : {D : Type 0} → Session → D → Driven D
@@ -35,7 +36,7 @@ module _ {D : Type 0} (drives : Driving D) where
   -- the driver after a request: it does events and rounds, and has no part in anything else
   abbrev pub request_driven : D → NetRecord → Request → D
   request_driven driver net (Request.Asked event) = drives.event driver net event
-  request_driven driver net (Request.Rounds count) = drives.rounds driver net count
+  request_driven driver net (Request.Rounds count seed) = drives.rounds driver net (words_of seed) count
   request_driven driver net (Request.Probed it) = driver
   request_driven driver net (Request.Refused kind) = driver
 

@@ -1,21 +1,22 @@
 -- What is left of a session where there was no memory to answer a line.
-use Rattle.{c104_event.specs.declared.events.Event.Event, c104_run.specs.{EventRuns.run_events, NetRecords.NetRecord}}
-use Rattle.{c104_run.specs.{RecordedRuns.record_apply, Rounds.rounds}, c104_script.specs.Script.read_script_line}
+use Rattle.{c104_event.specs.declared.events.Event.Event, c104_run.specs.{EventRuns.run_events, HandedWords.{Words, rounds_with, words_of}}}
+use Rattle.{c104_run.specs.{NetRecords.NetRecord, RecordedRuns.record_apply}, c104_script.specs.Script.read_script_line}
 use Rattle.c104_script.specs.declared.{faults.LineFault.LineFault, places.Request.Request}
 use Rattle.c104_session.specs.declared.session.Session.{Session}
 use Rattle.std.specs.Prelude.{Err, List, None, Ok, Option, Result, Some, ℕ, ⊤, ◌++◌, ◌≡◌}
 
--- the network after the first of the events of a given number of rounds: none, some or all of them, and no others
-abbrev pub LeavesRounds : NetRecord → ℕ → NetRecord → Type 0
-LeavesRounds net count left = (front : List Event) × (rest : List Event)
-    × (rounds net.network.plan count ≡ front ++ rest)
+-- the network after the first of the events of a given number of rounds whose inputs are handed words: none, some or all of
+-- them, and no others
+abbrev pub LeavesRounds : Words → NetRecord → ℕ → NetRecord → Type 0
+LeavesRounds words net count left = (front : List Event) × (rest : List Event)
+    × (rounds_with words net.network.plan count ≡ front ++ rest)
     × (left ≡ (run_events record_apply net front).1)
 
 -- the network that a request leaves for which there was no memory: an event isn't done, rounds may be done in part, and
 -- what the debugger has done by then isn't said
 abbrev pub LeavesNet : NetRecord → Request → NetRecord → Type 0
 LeavesNet net (Request.Asked event) left = left ≡ net
-LeavesNet net (Request.Rounds count) left = LeavesRounds net count left
+LeavesNet net (Request.Rounds count seed) left = LeavesRounds (words_of seed) net count left
 LeavesNet net (Request.Probed it) left = ⊤
 LeavesNet net (Request.Refused kind) left = left ≡ net
 

@@ -2,14 +2,14 @@
 use Rattle.{c104_event.specs.declared.faults.EventFault.EventFault, c104_net.specs.{Deliveries.arrived_at, TracedEnds.traced_end}}
 use Rattle.{c104_node.specs.{Origins.origins_in, declared.{origins.Origin.Origin, traced.Traced.Traced}}, c104_plan.specs.PlanImage.Image}
 use Rattle.{c104_plan.specs.{Plans.Plan, PortTexts.terminal_name, declared.plans.Terminal.Terminal}, c104_run.specs.EventRuns.run_events}
-use Rattle.c104_run.specs.{FinishedRecords.{FinishedRecord, record_finish}, NetRecords.{NetRecord, fresh_record}, Network.Network}
-use Rattle.{c104_run.specs.{Network.placed_network, RecordedRuns.record_apply, Rounds.rounds}, c104_script.specs.Answering.shown_by}
-use Rattle.c104_script.specs.{Script.read_script_line, Texts.token_text, declared.answers.Answer.{Answer, TheVariants.{Faulty, Refused}}}
-use Rattle.c104_script.specs.declared.{answers.Answer.TheVariants.Replied, faults.LineFault.LineFault, places.Request.Request}
-use Rattle.c104_session.specs.{Probing.probe_answer, declared.{session.Session.Session, summary_text.SummaryLine.SummaryLine}}
-use Rattle.{c104_stream.specs.{ScriptLines.{is_long, script_too_long}, Scripts.script_outcome}, c104_switch.specs.Actions.Reply}
-use Rattle.{c104_switch.specs.declared.actions.ReplyOf.TheVariants.Done, c104_token.specs.{Cut.whole_pieces, Packets.packet_tokens}}
-use Rattle.c104_token.specs.{Text.hex_digit, declared.tokens.Token.Token}
+use Rattle.c104_run.specs.{FinishedRecords.{FinishedRecord, record_finish}, HandedWords.{Words, rounds_with, words_of}}
+use Rattle.c104_run.specs.{NetRecords.{NetRecord, fresh_record}, Network.{Network, placed_network}, RecordedRuns.record_apply}
+use Rattle.c104_script.specs.{Answering.shown_by, Script.read_script_line, Texts.token_text, declared.answers.Answer.Answer}
+use Rattle.c104_script.specs.declared.{answers.Answer.TheVariants.{Faulty, Refused, Replied}, faults.LineFault.LineFault}
+use Rattle.{c104_script.specs.declared.places.Request.Request, c104_session.specs.{Probing.probe_answer, declared.session.Session.Session}}
+use Rattle.{c104_session.specs.declared.summary_text.SummaryLine.SummaryLine, c104_stream.specs.ScriptLines.{is_long, script_too_long}}
+use Rattle.{c104_stream.specs.Scripts.script_outcome, c104_switch.specs.{Actions.Reply, declared.actions.ReplyOf.TheVariants.Done}}
+use Rattle.c104_token.specs.{Cut.whole_pieces, Packets.packet_tokens, Text.hex_digit, declared.tokens.Token.Token}
 use Rattle.std.specs.Prelude.{Bool, Err, List, None, Ok, Option, Result, Some, [], codes, decimal, false, flat_map, map, option_to_list}
 use Rattle.std.specs.Prelude.{suc, true, ℕ, ◌%◌, ◌++◌, ◌/◌, ◌∷◌}
 
@@ -22,10 +22,11 @@ abbrev pub rounds_answer : Result (Unit {0}) EventFault → Result Reply EventFa
 rounds_answer (Ok u) = Ok Done
 rounds_answer (Err kind) = Err kind
 
--- the network after a given number of rounds, or after those events of them that came before a refusal
-abbrev pub rounds_outcome : NetRecord → ℕ → Result Reply EventFault × NetRecord
-rounds_outcome net count =
-    let r = run_events record_apply net (rounds net.network.plan count) in (rounds_answer r.0, r.1)
+-- the network after a given number of rounds whose inputs are handed these words, or after those events of them that came
+-- before a refusal
+abbrev pub rounds_outcome : Words → NetRecord → ℕ → Result Reply EventFault × NetRecord
+rounds_outcome words net count =
+    let r = run_events record_apply net (rounds_with words net.network.plan count) in (rounds_answer r.0, r.1)
 
 -- what answers an event: the reply, or the refusal
 abbrev pub event_answer : Result Reply EventFault → Answer
@@ -43,7 +44,7 @@ probe_after session r = (r.0, record session { net = r.1 })
 -- what answers a request, and the run after it
 abbrev pub request_answer : Session → Request → Answer × Session
 request_answer session (Request.Asked event) = answer_after session (record_apply session.net event)
-request_answer session (Request.Rounds count) = answer_after session (rounds_outcome session.net count)
+request_answer session (Request.Rounds count seed) = answer_after session (rounds_outcome (words_of seed) session.net count)
 request_answer session (Request.Probed it) = probe_after session (probe_answer session.net session.image it)
 request_answer session (Request.Refused kind) = (Refused kind, session)
 

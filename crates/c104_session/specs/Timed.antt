@@ -1,9 +1,9 @@
 -- The timeline of a run: what an event that is asked of a network adds to it, and what rounds do.
 --     timed_event t net e      an event
---     timed_rounds t net n      n rounds
+--     timed_rounds t net words n      n rounds whose inputs are handed words
 use Rattle.{c104_event.specs.declared.events.Event.Event, c104_net.specs.MeteredRecords.{at_meter, record_metered}}
-use Rattle.{c104_run.specs.{NetRecords.{NetRecord, is_done}, RecordedRuns.record_apply}, c104_session.specs.Driven.Driving}
-use Rattle.{c104_session.specs.{Keepers.{Keeping, rounds_kept}, Resets.is_reset}, c104_timeline.specs.Metering.watching}
+use Rattle.c104_run.specs.{HandedWords.Words, NetRecords.{NetRecord, is_done}, RecordedRuns.record_apply}
+use Rattle.{c104_session.specs.{Driven.Driving, Keepers.{Keeping, rounds_kept}, Resets.is_reset}, c104_timeline.specs.Metering.watching}
 use Rattle.c104_timeline.specs.Timelines.{Timeline, timeline_begun, timeline_cut, timeline_ended, timeline_passed, timeline_settled}
 use Rattle.std.specs.Prelude.{List, if◌then◌else◌, ℕ}
 
@@ -35,8 +35,8 @@ abbrev pub timed_event : Timeline → NetRecord → Event → Timeline
 timed_event t net e = told_event (before_event t e) net e
 
 -- after rounds
-abbrev pub timed_rounds : Timeline → NetRecord → ℕ → Timeline
-timed_rounds t net count = rounds_kept watching timeline_keeps count (at_meter net t)
+abbrev pub timed_rounds : Timeline → NetRecord → Words → ℕ → Timeline
+timed_rounds t net words count = rounds_kept watching timeline_keeps words count (at_meter net t)
 
 -- the timeline of what a network is asked
 abbrev pub timeline_kept : Driving Timeline

@@ -4,7 +4,7 @@ ghost use Rattle.c104_session.specs.{Driven.{DoesEvent, DoesRounds}, Leavings.Le
 ghost use Rattle.c104_event.specs.declared.faults.EventFault.TheVariants as fault;
 
 use c104_event::{Event, EventFault};
-use c104_net::{TracedNet, Watch};
+use c104_net::{TracedNet, Watch, Words};
 use c104_switch::Reply;
 
 /// Who does the events and the rounds that a script asks of a network. What the network does and answers is the same
@@ -21,16 +21,18 @@ pub(crate) trait Driver {
         ensures kept { OnErr result (net.new ≡ net.old) }
         ensures driven { (self.new ≡ drives.event self.old net.old event.now) ⊎ (result ≡ Err fault.NoMemory) };
 
-    /// Does `count` rounds, as `TracedNet::rounds_watched` does. Out of memory the first of their events are done.
+    /// Does `count` rounds whose inputs are handed words, as `TracedNet::rounds_watched` does. Out of memory the first of their
+    /// events are done.
     fn rounds<W: Watch>(
         &mut self,
         net: &mut TracedNet,
+        words: Words,
         count: u32,
         watch: &mut W,
     ) -> Result<(), EventFault>
-        ensures due { DoesRounds net.old count result net.new }
-        ensures left { LeavesRounds net.old count net.new }
-        ensures driven { (self.new ≡ drives.rounds self.old net.old count) ⊎ (result ≡ Err fault.NoMemory) };
+        ensures due { DoesRounds words net.old count result net.new }
+        ensures left { LeavesRounds words net.old count net.new }
+        ensures driven { (self.new ≡ drives.rounds self.old net.old words count) ⊎ (result ≡ Err fault.NoMemory) };
 }
 
 /// A driver that keeps nothing.
@@ -53,9 +55,10 @@ impl Driver for Plain {
     fn rounds<W: Watch>(
         &mut self,
         net: &mut TracedNet,
+        words: Words,
         count: u32,
         watch: &mut W,
     ) -> Result<(), EventFault> {
-        net.rounds_watched(count, watch)
+        net.rounds_watched(count, words, watch)
     }
 }

@@ -1,11 +1,11 @@
 //! Rounds of which something is kept.
-ghost use Rattle.std.specs.Prelude.{Err, OnErr, ◌≡◌, ◌⊎◌};
-ghost use Rattle.{c104_net.specs.MeteredRecords.{at_meter, record_metered}, c104_session.specs.Driven.{DoesEvent, DoesRounds}};
-ghost use Rattle.c104_session.specs.{Keepers.{KeepsRound, is_later, rounds_kept}, Leavings.LeavesRounds};
+ghost use Rattle.std.specs.Prelude.{Err, OnErr, length, ◌≡◌, ◌⊎◌};
+ghost use Rattle.{c104_net.specs.MeteredRecords.{at_meter, record_metered}, c104_run.specs.HandedWords.words_behind};
+ghost use Rattle.c104_session.specs.{Driven.{DoesEvent, DoesRounds}, Keepers.{KeepsRound, is_later, rounds_kept}, Leavings.LeavesRounds};
 ghost use Rattle.c104_event.specs.declared.faults.EventFault.TheVariants as fault;
 
 use c104_event::{Event, EventFault};
-use c104_net::{Meter, MeteredNet, TaggedToken, TracedNet, Watch};
+use c104_net::{Meter, MeteredNet, TaggedToken, TracedNet, Watch, Words};
 use c104_switch::Reply;
 use c104_token::NoMemory;
 
@@ -47,37 +47,52 @@ pub(crate) fn do_told<K: Keeper>(
     net.apply_told(event, keeper)
 }
 
-/// Does rounds, as `TracedNet::rounds_watched` does, and has this kept of them. Out of memory the first of their events are
-/// done.
+/// Does rounds whose inputs are handed words, as `TracedNet::rounds_watched` does, and has this kept of them. Out of memory the
+/// first of their events are done.
 pub(crate) fn keep_rounds<K: Keeper, W: Watch>(
     keeper: &mut K,
     net: &mut TracedNet,
+    words: Words,
     count: u32,
     watch: &mut W,
 ) -> Result<(), EventFault>
-    ensures due { DoesRounds net.old count result net.new }
-    ensures left { LeavesRounds net.old count net.new }
-    ensures kept { (keeper.new ≡ rounds_kept K.sees K.keeps count (at_meter net.old keeper.old)) ⊎ (result ≡ Err fault.NoMemory) }
+    ensures due { DoesRounds words net.old count result net.new }
+    ensures left { LeavesRounds words net.old count net.new }
+    ensures kept { (keeper.new ≡ rounds_kept K.sees K.keeps words count (at_meter net.old keeper.old))
+        ⊎ (result ≡ Err fault.NoMemory) }
 {
+    let mut handed = words;
     for round in 0..count {
-        let done = keep_round(keeper, net)?;
+        let done = keep_round(keeper, net, handed)?;
         if !done {
-            // Nor would any further round change anything.
+            // Nor would any further round change anything, whatever its words.
             keeper.pass(count - (round + 1));
             return Ok(());
         }
         watch.rounds_done(round + 1, count);
+        handed = words_behind(handed, net);
     }
     Ok(())
 }
 
-/// Does a round, and tells whether any event of it was done.
-fn keep_round<K: Keeper>(keeper: &mut K, net: &mut TracedNet) -> Result<bool, EventFault>
-    ensures { KeepsRound K.sees K.keeps net.old keeper.old result net.new keeper.new }
+/// The words of the round behind one that is handed these.
+fn words_behind(words: Words, net: &TracedNet) -> Words
+    ensures { result ≡ words_behind words (length net.now.network.plan.switches) }
+{
+    words.next(net.plan().switches().len())
+}
+
+/// Does a round whose inputs are handed words, and tells whether any event of it was done.
+fn keep_round<K: Keeper>(
+    keeper: &mut K,
+    net: &mut TracedNet,
+    words: Words,
+) -> Result<bool, EventFault>
+    ensures { KeepsRound K.sees K.keeps words net.old keeper.old result net.new keeper.new }
 {
     keeper.begin(net)?;
     let before = net.done_count();
-    net.round_told(keeper)?;
+    net.round_told(words, keeper)?;
     let done = is_later(before, net.done_count());
     keeper.end(done);
     Ok(done)

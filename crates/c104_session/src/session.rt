@@ -13,7 +13,7 @@ use crate::ended::EndedNet;
 use crate::probing::answer_probe;
 use crate::starting::start_net;
 use c104_event::{Event, EventFault};
-use c104_net::{TracedNet, Unwatched, Watch};
+use c104_net::{TracedNet, Unwatched, Watch, Words};
 use c104_plan::{Image, Plan};
 use c104_script::{Answer, LineFault, Request, read_line};
 use c104_switch::Reply;
@@ -123,7 +123,9 @@ impl Session {
     {
         let done = match request {
             Request::Asked(event) => do_event(&mut self.net, event, driver),
-            Request::Rounds(count) => do_rounds(&mut self.net, *count, driver, watch),
+            Request::Rounds(count, seed) => {
+                do_rounds(&mut self.net, Words::of(*seed), *count, driver, watch)
+            }
             Request::Probed(probe) => {
                 return answer_probe(alloc, &mut self.net, &self.image, *probe);
             }
@@ -158,18 +160,19 @@ fn do_event<D: Driver>(
     driver.event(net, event)
 }
 
-/// Does `count` rounds, up to the first event that is refused.
+/// Does `count` rounds whose inputs are handed words, up to the first event that is refused.
 fn do_rounds<D: Driver, W: Watch>(
     net: &mut TracedNet,
+    words: Words,
     count: u32,
     driver: &mut D,
     watch: &mut W,
 ) -> Result<Reply, EventFault>
     ensures due { (◌≡◌ {A = Result TheReply TheFault × TheNet}
-        (result, net.new) (rounds_outcome net.old count)) ⊎ (result ≡ Err fault.NoMemory) }
-    ensures left { LeavesRounds net.old count net.new }
-    ensures driven { (driver.new ≡ D.drives.rounds driver.old net.old count) ⊎ (result ≡ Err fault.NoMemory) }
+        (result, net.new) (rounds_outcome words net.old count)) ⊎ (result ≡ Err fault.NoMemory) }
+    ensures left { LeavesRounds words net.old count net.new }
+    ensures driven { (driver.new ≡ D.drives.rounds driver.old net.old words count) ⊎ (result ≡ Err fault.NoMemory) }
 {
-    driver.rounds(net, count, watch)?;
+    driver.rounds(net, words, count, watch)?;
     Ok(Reply::Done)
 }

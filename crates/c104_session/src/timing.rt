@@ -8,7 +8,7 @@ use crate::driver::Driver;
 use crate::keepers::{Keeper, do_told, keep_rounds};
 use crate::resets::is_reset;
 use c104_event::{Event, EventFault};
-use c104_net::{TracedNet, Watch};
+use c104_net::{TracedNet, Watch, Words};
 use c104_switch::Reply;
 use c104_timeline::Timeline;
 use c104_token::NoMemory;
@@ -48,10 +48,11 @@ impl Driver for Timeline {
     fn rounds<W: Watch>(
         &mut self,
         net: &mut TracedNet,
+        words: Words,
         count: u32,
         watch: &mut W,
     ) -> Result<(), EventFault> {
-        keep_rounds(self, net, count, watch)
+        keep_rounds(self, net, words, count, watch)
     }
 }
 
