@@ -12,12 +12,13 @@ use Rattle.c104_net.proofs.{Promises.{each, starts}, RunOrigins.still_steady, Ru
 use Rattle.c104_net.{proofs.{StartMaps.starts_are, TracedRuns.{token_of, traced_from}}, specs.{Deliveries.Promise, RoundEvents.IsOfRound}}
 use Rattle.c104_node.specs.{MappedNodes.map_node, Quiet.IsQuietNode, Starts.start_node, Traced.traced_kind, declared.traced.Traced.Traced}
 use Rattle.{c104_plan.specs.{PlanImage.Image, Plans.{IsPlan, Plan}}, c104_run.proofs.{NodeMaps.quiet_map, RecordSteps.done_made}}
-use Rattle.c104_run.{proofs.{RoundRuns.Applied, StepMaps.apply_map}, specs.{EventRuns.{Outcome, StopsShort, run_events}, HandedWords.Words}}
+use Rattle.c104_run.{proofs.{RoundRuns.Applied, StepMaps.apply_map}, specs.EventRuns.{Outcome, StopsShort, run_events}}
 use Rattle.c104_run.specs.{HandedWords.rounds_with, NetRecords.{IsNetRecord, NetRecord, is_done}, Network.{Network, network_apply}}
 use Rattle.c104_run.specs.{Network.network_of, QuietNets.IsQuiet, RecordedRuns.record_apply, Runs.IsDoneRun, Standstill.StandsStill}
-use Rattle.{c104_run.specs.TracedRuns.map_network, c104_switch.specs.Actions.Reply, c104_token.specs.Kinds.plain_kind}
-use Rattle.{c104_token.specs.declared.tokens.Token.Token, std.proofs.Common.{Err, List, Ok, Result, ap, arith, get_or, inl, inr, length}}
-use Rattle.std.proofs.{Common.{map, refl, subst, sym, true, ℕ, ⊎_elim, ◌*◌, ◌++◌, ◌<◌, ◌∙◌, ◌≡◌, ◌≤◌, ◌⊎◌}, lemmas.List.Elements.All-map}
+use Rattle.{c104_run.specs.{TracedRuns.map_network, declared.words.Words.Words}, c104_switch.specs.Actions.Reply}
+use Rattle.{c104_token.specs.{Kinds.plain_kind, declared.tokens.Token.Token}, std.proofs.Common.{Err, List, Ok, Result, ap, arith, get_or}}
+use Rattle.std.proofs.Common.{inl, inr, length, map, refl, subst, sym, true, ℕ, ⊎_elim, ◌*◌, ◌++◌, ◌<◌, ◌∙◌, ◌≡◌, ◌≤◌, ◌⊎◌}
+use Rattle.std.proofs.lemmas.List.Elements.{All-map}
 
 module _ (net : NetRecord) (is_plan : IsPlan net.network.plan) (kept : IsNetRecord net) (sent : AreBytesSent kept.told.0) (image : Image) (is : IsAcyclicNet image net) where
   abbrev plan : Plan

@@ -1,11 +1,11 @@
 -- Whether an event is ready doesn't depend on the word that it is handed: so where no event of a round is ready, none is of
 -- a round with other words, and rounds with any words leave all as it was.
 use Rattle.{c104_event.specs.declared.events.Event.Event, c104_run.proofs.{HandedWords.apply_word, RoundRuns.{Applied, run_from}}}
-use Rattle.c104_run.{proofs.RoundRuns.undone_left, specs.{EventRuns.{Outcome, run_events, unless_fault}, HandedWords.{Words, all_worded}}}
+use Rattle.c104_run.{proofs.RoundRuns.undone_left, specs.{EventRuns.{Outcome, run_events, unless_fault}, HandedWords.all_worded}}
 use Rattle.c104_run.specs.{HandedWords.{round_with, rounds_with, word_at, worded, words_behind}, NetRecords.is_done, Network.Network}
-use Rattle.{c104_run.specs.{Network.network_apply, Rounds.round, Standstill.IsUnready}, c104_switch.specs.declared.actions.ReplyOf.ReplyOf}
-use Rattle.{c104_token.specs.Kinds.Kind, std.proofs.Common.{List, Ok, [], ap, length, refl, suc, zero, ℕ, ◌∙◌, ◌∷◌, ◌≡◌}}
-use Rattle.std.specs.List.{AllByRecursion}
+use Rattle.c104_run.specs.{Network.network_apply, Rounds.round, Standstill.IsUnready, declared.words.Words.Words}
+use Rattle.{c104_switch.specs.declared.actions.ReplyOf.ReplyOf, c104_token.specs.Kinds.Kind, std.proofs.Common.{List, Ok, [], ap, length}}
+use Rattle.std.{proofs.Common.{refl, suc, zero, ℕ, ◌∙◌, ◌∷◌, ◌≡◌}, specs.List.AllByRecursion}
 
 module _ {A : Type 0} (kind : Kind A) (net : Network A) where
   abbrev Unready : Event → Type 0

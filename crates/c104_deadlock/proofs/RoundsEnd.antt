@@ -10,8 +10,8 @@ use Rattle.c104_net.{proofs.{SentBytes.AreBytesSent, TracedRuns.token_of}, specs
 use Rattle.c104_node.specs.{MappedNodes.{map_incoming, map_input, map_node, map_outgoing}, Nodes.Node, Traced.traced_kind}
 use Rattle.{c104_node.specs.declared.{node.NodeOf.NodeOf, traced.Traced.Traced}, c104_plan.specs.{PlanImage.Image, Plans.{IsPlan, Plan}}}
 use Rattle.{c104_plan.specs.{Wiring.peer, declared.ports.Port.Port}, c104_run.{proofs.StepMaps.apply_map, specs.Balance.IsSteady}}
-use Rattle.c104_run.specs.{EventRuns.{Outcome, run_events, unless_fault}, HandedWords.{Words, rounds_with}, Network.Network}
-use Rattle.c104_run.specs.{Network.network_apply, QuietNets.IsQuiet, Runs.IsDoneRun, Standstill.IsStarted, TracedRuns.map_network}
+use Rattle.c104_run.specs.{EventRuns.{Outcome, run_events, unless_fault}, HandedWords.rounds_with, Network.{Network, network_apply}}
+use Rattle.c104_run.specs.{QuietNets.IsQuiet, Runs.IsDoneRun, Standstill.IsStarted, TracedRuns.map_network, declared.words.Words.Words}
 use Rattle.c104_switch.specs.{Actions.Reply, Phases.with_header, Switch.Input, declared.phase.Phase.{Phase, TheVariants.{Fresh, Head}}}
 use Rattle.{c104_switch.specs.declared.phase.Phase.TheVariants.Want, c104_token.specs.{Kinds.plain_kind, declared.tokens.Token.Token}}
 use Rattle.std.proofs.Common.{Err, List, Ok, Result, Some, [], ap, length, map, refl, subst, suc, sym, ℕ, ◌*◌, ◌+◌, ◌-◌, ◌<◌, ◌∙◌, ◌∷◌, ◌≡◌}

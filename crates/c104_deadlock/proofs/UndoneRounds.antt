@@ -6,16 +6,15 @@ use Rattle.c104_node.specs.{Nodes.{Node, arrived_tokens}, PortActs.{Acts, act_li
 use Rattle.c104_node.specs.{Traces.{is_trace_full, part}, declared.{acts.{ActOf.ActOf, Entry.Entry}, crossings.Crossing.Crossing}}
 use Rattle.c104_plan.{proofs.{RangeLists.all_of_each, Wires.wiring}, specs.{Plans.{IsPlan, Plan}, Wiring.peer, declared.ports.Port.Port}}
 use Rattle.c104_run.proofs.{ActAttempts.{claim_possible, drain_possible, turn_possible}, IdleEvents.wired_inside, RoundRuns.Applied}
-use Rattle.c104_run.specs.{EventActs.{crossing_acts, event_acts, port_place}, EventDeeds.{acts_full, event_full}, HandedWords.Words}
-use Rattle.c104_run.specs.{HandedWords.round_with, NetRecords.{NetRecord, is_done}, Network.{Network, event_fault, event_limit}}
-use Rattle.c104_run.specs.Network.{network_apply, network_step, outcome_if_possible, outcome_if_ready, outcome_within_limit, terminal_place}
-use Rattle.c104_run.specs.{Network.wired_fault, RecordedRuns.{record_apply, record_stage}, Rounds.round, Stages.stage_full}
-use Rattle.{c104_run.specs.Standstill.{IsUnready, StandsStill}, c104_switch.specs.Actions.{Action, Reply}}
-use Rattle.{c104_switch.specs.declared.actions.{ActionOf.ActionOf, ReplyOf.ReplyOf}, c104_token.specs.Kinds.plain_kind}
-use Rattle.{c104_token.specs.declared.tokens.Token.Token, std.proofs.Common.{Bool, Err, List, None, Ok, Option, Result, Some, [], ap}}
-use Rattle.std.proofs.Common.{false, if◌then◌else◌, inl, inr, length, map, nat_lt, refl, slice_get, suc, sym, true, unwrap_or, ℕ, ⊎_elim}
-use Rattle.std.{proofs.{Common.{◌&&◌, ◌<◌, ◌||◌, ◌∙◌, ◌∷◌, ◌≡◌, ◌⊎◌}, lemmas.Option.slice_get-map}, specs.List.AllByRecursion}
-use Rattle.std.specs.Option.{option_map}
+use Rattle.c104_run.specs.{EventActs.{crossing_acts, event_acts, port_place}, EventDeeds.{acts_full, event_full}, HandedWords.round_with}
+use Rattle.c104_run.specs.{NetRecords.{NetRecord, is_done}, Network.{Network, event_fault, event_limit, network_apply, network_step}}
+use Rattle.c104_run.specs.Network.{outcome_if_possible, outcome_if_ready, outcome_within_limit, terminal_place, wired_fault}
+use Rattle.c104_run.specs.{RecordedRuns.{record_apply, record_stage}, Rounds.round, Stages.stage_full, Standstill.{IsUnready, StandsStill}}
+use Rattle.{c104_run.specs.declared.words.Words.Words, c104_switch.specs.{Actions.{Action, Reply}, declared.actions.ActionOf.ActionOf}}
+use Rattle.{c104_switch.specs.declared.actions.ReplyOf.ReplyOf, c104_token.specs.{Kinds.plain_kind, declared.tokens.Token.Token}}
+use Rattle.std.proofs.Common.{Bool, Err, List, None, Ok, Option, Result, Some, [], ap, false, if◌then◌else◌, inl, inr, length, map, nat_lt}
+use Rattle.std.proofs.Common.{refl, slice_get, suc, sym, true, unwrap_or, ℕ, ⊎_elim, ◌&&◌, ◌<◌, ◌||◌, ◌∙◌, ◌∷◌, ◌≡◌, ◌⊎◌}
+use Rattle.std.{proofs.lemmas.Option.slice_get-map, specs.{List.AllByRecursion, Option.option_map}}
 
 module _ (net : NetRecord) where
   abbrev plan : Plan

@@ -11,13 +11,13 @@ use Rattle.c104_node.specs.{Nodes.Node, Traced.traced_kind, declared.{node.NodeO
 use Rattle.c104_plan.{proofs.RangeLists.all_of_each, specs.{PlanImage.Image, Plans.{IsPlan, Plan}, Wiring.peer, declared.ports.Port.Port}}
 use Rattle.{c104_regs.specs.{Settings.header_length, declared.settings.Settings.Settings}, c104_run.proofs.BalanceEvents.applied_steady}
 use Rattle.c104_run.{proofs.{BalanceWires.peer_back, RoundRuns.{run_append, undone_leaves}}, specs.{Balance.IsSteady, EventRuns.Outcome}}
-use Rattle.c104_run.specs.{EventRuns.{run_events, unless_fault}, HandedWords.{Words, round_with, rounds_with, words_behind}}
-use Rattle.c104_run.specs.{Network.{Network, network_apply, network_of, network_step}, QuietNets.IsQuiet, Rounds.round}
-use Rattle.{c104_run.specs.Standstill.{IsStarted, IsUnready}, c104_switch.specs.{Actions.{Reply, is_ready}, Group.is_in_group}}
-use Rattle.c104_switch.specs.{Switch.{Input, Switch}, declared.{actions.ReplyOf.ReplyOf, phase.Phase.TheVariants.{Stream, Want}}}
-use Rattle.std.proofs.Common.{Bool, Err, List, None, Ok, Option, Result, Some, [], ap, arith, false, inl, inr, length, refl, slice_get}
-use Rattle.std.proofs.{Common.{subst, suc, sym, true, zero, ℕ, ⊎_elim, ◌*◌, ◌+◌, ◌<◌, ◌∙◌, ◌∷◌, ◌≡◌, ◌≤◌, ◌⊎◌}, lemmas.Bool.cases_Bool}
-use Rattle.std.specs.List.{AllByRecursion}
+use Rattle.c104_run.specs.{EventRuns.{run_events, unless_fault}, HandedWords.{round_with, rounds_with, words_behind}, Network.Network}
+use Rattle.c104_run.specs.{Network.{network_apply, network_of, network_step}, QuietNets.IsQuiet, Rounds.round, Standstill.IsStarted}
+use Rattle.{c104_run.specs.{Standstill.IsUnready, declared.words.Words.Words}, c104_switch.specs.Actions.{Reply, is_ready}}
+use Rattle.c104_switch.specs.{Group.is_in_group, Switch.{Input, Switch}, declared.{actions.ReplyOf.ReplyOf, phase.Phase.TheVariants.Stream}}
+use Rattle.{c104_switch.specs.declared.phase.Phase.TheVariants.Want, std.proofs.Common.{Bool, Err, List, None, Ok, Option, Result, Some}}
+use Rattle.std.proofs.Common.{[], ap, arith, false, inl, inr, length, refl, slice_get, subst, suc, sym, true, zero, ℕ, ⊎_elim, ◌*◌, ◌+◌}
+use Rattle.std.{proofs.{Common.{◌<◌, ◌∙◌, ◌∷◌, ◌≡◌, ◌≤◌, ◌⊎◌}, lemmas.Bool.cases_Bool}, specs.List.AllByRecursion}
 
 -- all events of a round are events of a round
 of_round : (plan : Plan) (words : Words) → AllByRecursion IsOfRound (round_with words plan)

@@ -12,9 +12,9 @@ use Rattle.{c104_net.specs.{RoundEvents.IsOfRound, Unchanged.{AreStartsOf, IsUnc
 use Rattle.c104_node.specs.{Nodes.Node, Starts.{IsStartedStart, start_node}, Traced.traced_kind, Traces.{is_trace_full, seatless}}
 use Rattle.c104_node.specs.declared.{acts.Entry.Entry, stamps.Stamp.Stamp, starts.NodeStart.NodeStart, traced.Traced.Traced}
 use Rattle.{c104_plan.specs.{PlanImage.{Fits, Image}, Plans.Plan}, c104_run.specs.{Balance.IsSteady, Finished.network_finish}}
-use Rattle.c104_run.specs.{FinishedRecords.FinishedRecord, HandedWords.{Words, round_with}, NetRecords.{NetRecord, is_done}}
-use Rattle.c104_run.specs.{Network.network_of, QuietNets.IsQuiet, RecordedRuns.{RecordsHanded, record_apply}, Runs.{IsDoneRun, IsRunRecord}}
-use Rattle.{c104_run.specs.Standstill.{IsDeadlocked, IsStarted, StandsStill}, c104_switch.specs.Actions.Reply}
+use Rattle.c104_run.specs.{FinishedRecords.FinishedRecord, HandedWords.round_with, NetRecords.{NetRecord, is_done}, Network.network_of}
+use Rattle.c104_run.specs.{QuietNets.IsQuiet, RecordedRuns.{RecordsHanded, record_apply}, Runs.{IsDoneRun, IsRunRecord}}
+use Rattle.{c104_run.specs.{Standstill.{IsDeadlocked, IsStarted, StandsStill}, declared.words.Words.Words}, c104_switch.specs.Actions.Reply}
 use Rattle.c104_token.specs.{Kinds.plain_kind, declared.tokens.Token.Token}
 use Rattle.std.specs.Prelude.{All, Err, List, Ok, Some, false, map, slice_get, true, ℕ, ◌*◌, ◌+◌, ◌<◌, ◌≡◌, ◌≤◌, ◌⊎◌}
 

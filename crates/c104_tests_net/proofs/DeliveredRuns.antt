@@ -4,10 +4,11 @@ use Rattle.{c104_check.specs.{Routes.routes_of, declared.ports.SwitchPort.Switch
 use Rattle.c104_deadlock.specs.{DeadlockFreedom.{IsAcyclicNet, IsAllDelivered, IsFreeOfDeadlock}, HeaderWork.{work, work_bound}}
 use Rattle.{c104_deadlock.specs.Work.told_work, c104_event.specs.declared.faults.EventFault.EventFault}
 use Rattle.{c104_net.specs.Unchanged.AreStartsOf, c104_node.specs.{Starts.IsStartedStart, Traces.seatless}, c104_plan.specs.PlanImage.Fits}
-use Rattle.{c104_plan.specs.{PlanImage.Image, Plans.Plan}, c104_run.specs.{HandedWords.Words, NetRecords.NetRecord, QuietNets.IsQuiet}}
-use Rattle.{c104_run.specs.{RecordedRuns.RecordsHanded, Standstill.StandsStill}, c104_tests_net.proofs.CalmRuns.unchanged}
-use Rattle.c104_tests_net.specs.{CalmNets.{IsCalm, IsCalmTrace}, DeliveredNets.{DeliversByRanks, DeliversWithin}}
-use Rattle.{c104_token.specs.Kinds.plain_kind, std.proofs.Common.{All, Err, IfOk, Ok, Result, arith, subst, sym, ℕ, ◌<◌}}
+use Rattle.{c104_plan.specs.{PlanImage.Image, Plans.Plan}, c104_run.specs.{NetRecords.NetRecord, QuietNets.IsQuiet}}
+use Rattle.c104_run.specs.{RecordedRuns.RecordsHanded, Standstill.StandsStill, declared.words.Words.Words}
+use Rattle.c104_tests_net.{proofs.CalmRuns.unchanged, specs.{CalmNets.{IsCalm, IsCalmTrace}, DeliveredNets.DeliversByRanks}}
+use Rattle.{c104_tests_net.specs.DeliveredNets.DeliversWithin, c104_token.specs.Kinds.plain_kind, std.proofs.Common.{All, Err, IfOk, Ok}}
+use Rattle.std.proofs.Common.{Result, arith, subst, sym, ℕ, ◌<◌}
 
 -- what such a network keeps is what the theorem asks for
 pub acyclic_net : (plan : Plan) (image : Image) (net : NetRecord) → IsCalm plan image net → Fits image plan → IsAccepted (routes_of plan image) → IsAcyclic (routes_of plan image) → All IsStartedStart net.starts → IsAcyclicNet image net
