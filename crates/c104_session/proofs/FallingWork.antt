@@ -5,9 +5,9 @@ use Rattle.{c104_event.specs.declared.{events.Event.Event, faults.EventFault.Eve
 use Rattle.{c104_net.specs.{RoundEvents.IsOfRound, Unchanged.MayHappen}, c104_node.specs.{Nodes.Node, Quiet.IsQuietNode}}
 use Rattle.{c104_node.specs.declared.starts.NodeStart.NodeStart, c104_plan.{proofs.RangeLists.all_of_each, specs.Plans.{IsPlan, Plan}}}
 use Rattle.c104_run.{proofs.{RecordSteps.done_made, RoundRuns.{Applied, run_append, undone_leaves}}, specs.EventRuns.{Outcome, run_events}}
-use Rattle.c104_run.specs.{EventRuns.unless_fault, HandedWords.{Words, round_with, rounds_with, words_behind, words_of}}
-use Rattle.c104_run.specs.{NetRecords.NetRecord, Network.{Network, network_apply}, QuietNets.IsQuiet, RecordedRuns.record_apply}
-use Rattle.{c104_run.specs.{Rounds.round, Standstill.{IsUnready, StandsStill}}, c104_script.specs.Script.read_script_line}
+use Rattle.c104_run.specs.{EventRuns.unless_fault, HandedWords.{round_with, rounds_with, words_behind, words_of}, NetRecords.NetRecord}
+use Rattle.c104_run.specs.{Network.{Network, network_apply}, QuietNets.IsQuiet, RecordedRuns.record_apply, Rounds.round}
+use Rattle.{c104_run.specs.{Standstill.{IsUnready, StandsStill}, declared.words.Words.Words}, c104_script.specs.Script.read_script_line}
 use Rattle.{c104_script.specs.declared.{faults.LineFault.LineFault, places.Request.Request}, c104_session.proofs.QuietEvents.stays_quiet}
 use Rattle.c104_session.proofs.UnchangedNets.{Fact, IsUnchangedNet, Keeps, events_leave, keeps_nothing, nothing, of_fact, of_round}
 use Rattle.c104_session.{proofs.{UnchangedNets.round_event, UnchangedScripts.line_leaves}, specs.DeliveredRuns.{line_rounds, lines_rounds}}

@@ -2,9 +2,9 @@
 use Rattle.{c104_deadlock.proofs.RecordedRounds.starts_stay, c104_event.specs.declared.{events.Event.Event, faults.EventFault.EventFault}}
 use Rattle.c104_net.specs.MeteredRecords.{MeteredRecord, at_meter, record_metered}
 use Rattle.{c104_node.specs.declared.tagged.TaggedToken.TaggedToken, c104_run.{proofs.RoundRuns.run_seen, specs.EventRuns.EventsEnd}}
-use Rattle.c104_run.specs.{EventRuns.{Outcome, run_events}, HandedWords.{Words, round_with, rounds_with, words_behind}, Meters.Sees}
-use Rattle.{c104_run.specs.{NetRecords.NetRecord, RecordedRuns.record_apply, RoundParts.PartEnds}, c104_session.proofs.KeptRounds.Going}
-use Rattle.c104_session.proofs.{KeptRounds.{fault_ends, goes_on, idle_counts, idle_ends, round_runs}, Leavings.rounds_left}
+use Rattle.c104_run.specs.{EventRuns.{Outcome, run_events}, HandedWords.{round_with, rounds_with, words_behind}, Meters.Sees}
+use Rattle.c104_run.specs.{NetRecords.NetRecord, RecordedRuns.record_apply, RoundParts.PartEnds, declared.words.Words.Words}
+use Rattle.c104_session.proofs.{KeptRounds.{Going, fault_ends, goes_on, idle_counts, idle_ends, round_runs}, Leavings.rounds_left}
 use Rattle.c104_session.{proofs.RoundLeavings.later_left, specs.{Driven.DoesRounds, Keepers.{Keeping, KeepsRound, rounds_kept}}}
 use Rattle.{c104_session.specs.Leavings.LeavesRounds, std.proofs.Common.{Bool, Err, List, Ok, Result, [], ap, append-nil, arith, false}}
 use Rattle.std.proofs.Common.{inl, inr, length, refl, sym, true, ℕ, ◌+◌, ◌-◌, ◌<◌, ◌∙◌, ◌∷◌, ◌≡◌}

@@ -1,11 +1,11 @@
 -- What is left of a network where there was no memory for what a line asks.
-use Rattle.{c104_event.specs.declared.{events.Event.Event, faults.EventFault.EventFault}, c104_run.specs.HandedWords.Words}
-use Rattle.c104_run.specs.{NetRecords.NetRecord, Network.{Network, outcome_if_possible, outcome_if_ready, outcome_within_limit}}
-use Rattle.c104_run.specs.{RecordedRuns.{AnswersRecord, RecordsHanded, record_apply, record_at, record_stage}, Stages.stage_after}
-use Rattle.{c104_script.specs.declared.{faults.LineFault.LineFault, places.Request.Request}, c104_session.specs.Leavings.LeavesNet}
-use Rattle.{c104_session.specs.Leavings.{LeavesRead, LeavesRounds}, c104_switch.specs.Actions.Reply, c104_token.specs.Kinds.plain_kind}
-use Rattle.{c104_token.specs.declared.tokens.Token.Token, std.proofs.Common.{Bool, Err, Ok, OnErr, Option, Result, Some, arith}}
-use Rattle.std.proofs.{Common.{if◌then◌else◌, subst, true, ℕ, ◌≡◌}, lemmas.List.append-nil}
+use Rattle.{c104_event.specs.declared.{events.Event.Event, faults.EventFault.EventFault}, c104_run.specs.NetRecords.NetRecord}
+use Rattle.c104_run.specs.{Network.{Network, outcome_if_possible, outcome_if_ready, outcome_within_limit}, RecordedRuns.AnswersRecord}
+use Rattle.c104_run.specs.{RecordedRuns.{RecordsHanded, record_apply, record_at, record_stage}, Stages.stage_after}
+use Rattle.{c104_run.specs.declared.words.Words.Words, c104_script.specs.declared.{faults.LineFault.LineFault, places.Request.Request}}
+use Rattle.{c104_session.specs.Leavings.{LeavesNet, LeavesRead, LeavesRounds}, c104_switch.specs.Actions.Reply}
+use Rattle.{c104_token.specs.{Kinds.plain_kind, declared.tokens.Token.Token}, std.proofs.Common.{Bool, Err, Ok, OnErr, Option, Result}}
+use Rattle.std.proofs.{Common.{Some, arith, if◌then◌else◌, subst, true, ℕ, ◌≡◌}, lemmas.List.append-nil}
 
 abbrev Came : Type 0
 Came = Result Reply EventFault × Network Token

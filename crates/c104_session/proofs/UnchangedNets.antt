@@ -6,10 +6,10 @@ use Rattle.c104_node.specs.{Nodes.Node, Starts.start_node, Traces.{noted_all, se
 use Rattle.{c104_plan.{proofs.RangeLists.each_append, specs.Plans.{IsPlan, Plan}}, c104_run.proofs.RecordSteps.{done_made, same_record}}
 use Rattle.c104_run.proofs.{RecordSteps.ticket_left, RecordedRuns.record_kept, RoundJoins.apply_plan, RoundRuns.{Applied, undone_left}}
 use Rattle.c104_run.{proofs.{RunRecords.{record_on, seatless_order}, UndoneEvents.undone_deeds}, specs.EventDeeds.event_deeds}
-use Rattle.c104_run.specs.{EventRuns.{run_events, unless_fault}, HandedWords.{Words, round_with, rounds_with, words_behind}}
+use Rattle.c104_run.specs.{EventRuns.{run_events, unless_fault}, HandedWords.{round_with, rounds_with, words_behind}}
 use Rattle.c104_run.specs.{NetRecords.{IsNetRecord, NetRecord, is_done, ticket_after}, Network.{Network, network_apply, network_of}}
 use Rattle.c104_run.specs.{RecordedRuns.{record_apply, record_at, record_stage}, Runs.{IsDoneRun, IsRunRecord}, Stages.stage_after}
-use Rattle.{c104_run.specs.Stages.stage_full, c104_session.proofs.SentLists.{packets_append, sent_after}}
+use Rattle.{c104_run.specs.{Stages.stage_full, declared.words.Words.Words}, c104_session.proofs.SentLists.{packets_append, sent_after}}
 use Rattle.{c104_session.specs.PrintedPackets.{event_sends, packets_of}, c104_switch.specs.Actions.{Reply, is_ready}}
 use Rattle.{c104_token.specs.{Kinds.plain_kind, declared.{packets.Packet.Packet, tokens.Token.Token}}, std.proofs.Common.{Bool, Err, List}}
 use Rattle.std.proofs.Common.{Ok, Result, [], ap, append-nil, arith, false, if◌then◌else◌, inl, length, map, refl, subst, suc, sym, true}

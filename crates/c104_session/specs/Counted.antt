@@ -2,7 +2,7 @@
 --     counted_event c net e      an event
 --     counted_rounds c net words n      n rounds whose inputs are handed words
 use Rattle.{c104_event.specs.declared.events.Event.Event, c104_net.specs.MeteredRecords.{at_meter, record_metered}}
-use Rattle.c104_run.specs.{HandedWords.Words, NetRecords.{NetRecord, is_done}, RecordedRuns.record_apply}
+use Rattle.c104_run.specs.{NetRecords.{NetRecord, is_done}, RecordedRuns.record_apply, declared.words.Words.Words}
 use Rattle.{c104_session.specs.{Driven.Driving, Keepers.{Keeping, rounds_kept}, Resets.is_reset}, c104_stats.specs.Counts.Counts}
 use Rattle.c104_stats.specs.{Counts.{counts_begun, counts_cut, counts_noted, counts_passed, counts_sent}, Metering.counting}
 use Rattle.c104_stats.specs.Sights.{counts_of_net}

@@ -2,9 +2,9 @@
 -- is told whether anything was done, and rounds in which nothing would be done pass.
 --     rounds_kept words n s      of n rounds whose inputs are handed words
 use Rattle.{c104_event.specs.declared.faults.EventFault.EventFault, c104_net.specs.MeteredRecords.{MeteredRecord, at_meter, record_metered}}
-use Rattle.{c104_node.specs.declared.tagged.TaggedToken.TaggedToken, c104_run.specs.{EventRuns.{Outcome, run_events}, HandedWords.Words}}
+use Rattle.{c104_node.specs.declared.tagged.TaggedToken.TaggedToken, c104_run.specs.EventRuns.{Outcome, run_events}}
 use Rattle.c104_run.specs.{HandedWords.{round_with, words_behind}, Meters.Sees, NetRecords.{NetRecord, largest_ticket}}
-use Rattle.c104_session.specs.Leavings.{LeavesRounds}
+use Rattle.{c104_run.specs.declared.words.Words.Words, c104_session.specs.Leavings.LeavesRounds}
 use Rattle.std.specs.Prelude.{Bool, Err, Ok, Result, false, if◌then◌else◌, length, nat_le, nat_lt, suc, true, zero, ℕ, ◌||◌, ◌≡◌, ◌⊎◌}
 
 -- whether anything was done, by how many events were before and after. At the largest count, which no network comes near,

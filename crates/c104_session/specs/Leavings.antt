@@ -1,7 +1,7 @@
 -- What is left of a session where there was no memory to answer a line.
-use Rattle.{c104_event.specs.declared.events.Event.Event, c104_run.specs.{EventRuns.run_events, HandedWords.{Words, rounds_with, words_of}}}
-use Rattle.{c104_run.specs.{NetRecords.NetRecord, RecordedRuns.record_apply}, c104_script.specs.Script.read_script_line}
-use Rattle.c104_script.specs.declared.{faults.LineFault.LineFault, places.Request.Request}
+use Rattle.{c104_event.specs.declared.events.Event.Event, c104_run.specs.{EventRuns.run_events, HandedWords.{rounds_with, words_of}}}
+use Rattle.c104_run.specs.{NetRecords.NetRecord, RecordedRuns.record_apply, declared.words.Words.Words}
+use Rattle.c104_script.specs.{Script.read_script_line, declared.{faults.LineFault.LineFault, places.Request.Request}}
 use Rattle.c104_session.specs.declared.session.Session.{Session}
 use Rattle.std.specs.Prelude.{Err, List, None, Ok, Option, Result, Some, ℕ, ⊤, ◌++◌, ◌≡◌}
 

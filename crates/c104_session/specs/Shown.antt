@@ -2,10 +2,10 @@
 use Rattle.{c104_event.specs.declared.faults.EventFault.EventFault, c104_net.specs.{Deliveries.arrived_at, TracedEnds.traced_end}}
 use Rattle.{c104_node.specs.{Origins.origins_in, declared.{origins.Origin.Origin, traced.Traced.Traced}}, c104_plan.specs.PlanImage.Image}
 use Rattle.{c104_plan.specs.{Plans.Plan, PortTexts.terminal_name, declared.plans.Terminal.Terminal}, c104_run.specs.EventRuns.run_events}
-use Rattle.c104_run.specs.{FinishedRecords.{FinishedRecord, record_finish}, HandedWords.{Words, rounds_with, words_of}}
-use Rattle.c104_run.specs.{NetRecords.{NetRecord, fresh_record}, Network.{Network, placed_network}, RecordedRuns.record_apply}
-use Rattle.c104_script.specs.{Answering.shown_by, Script.read_script_line, Texts.token_text, declared.answers.Answer.Answer}
-use Rattle.c104_script.specs.declared.{answers.Answer.TheVariants.{Faulty, Refused, Replied}, faults.LineFault.LineFault}
+use Rattle.c104_run.specs.{FinishedRecords.{FinishedRecord, record_finish}, HandedWords.{rounds_with, words_of}, NetRecords.NetRecord}
+use Rattle.c104_run.specs.{NetRecords.fresh_record, Network.{Network, placed_network}, RecordedRuns.record_apply}
+use Rattle.{c104_run.specs.declared.words.Words.Words, c104_script.specs.{Answering.shown_by, Script.read_script_line, Texts.token_text}}
+use Rattle.c104_script.specs.declared.{answers.Answer.{Answer, TheVariants.{Faulty, Refused, Replied}}, faults.LineFault.LineFault}
 use Rattle.{c104_script.specs.declared.places.Request.Request, c104_session.specs.{Probing.probe_answer, declared.session.Session.Session}}
 use Rattle.{c104_session.specs.declared.summary_text.SummaryLine.SummaryLine, c104_stream.specs.ScriptLines.{is_long, script_too_long}}
 use Rattle.{c104_stream.specs.Scripts.script_outcome, c104_switch.specs.{Actions.Reply, declared.actions.ReplyOf.TheVariants.Done}}

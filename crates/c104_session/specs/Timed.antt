@@ -2,7 +2,7 @@
 --     timed_event t net e      an event
 --     timed_rounds t net words n      n rounds whose inputs are handed words
 use Rattle.{c104_event.specs.declared.events.Event.Event, c104_net.specs.MeteredRecords.{at_meter, record_metered}}
-use Rattle.c104_run.specs.{HandedWords.Words, NetRecords.{NetRecord, is_done}, RecordedRuns.record_apply}
+use Rattle.c104_run.specs.{NetRecords.{NetRecord, is_done}, RecordedRuns.record_apply, declared.words.Words.Words}
 use Rattle.{c104_session.specs.{Driven.Driving, Keepers.{Keeping, rounds_kept}, Resets.is_reset}, c104_timeline.specs.Metering.watching}
 use Rattle.c104_timeline.specs.Timelines.{Timeline, timeline_begun, timeline_cut, timeline_ended, timeline_passed, timeline_settled}
 use Rattle.std.specs.Prelude.{List, if◌then◌else◌, ℕ}

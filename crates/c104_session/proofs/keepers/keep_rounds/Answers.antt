@@ -1,6 +1,5 @@
-use Rattle.c104_session.proofs.KeptLoops.{halted_due, halted_left, idle_due, idle_left, idle_passed, next_going}
-use Rattle.{c104_session.{proofs.KeptRounds.Going, specs.Keepers.KeepsRound}, c104_stream.proofs.ScriptEnds.err_is}
-use Rattle.std.proofs.Common.{Ok, inl, subst, sym, ◌+◌, ◌∙◌}
+use Rattle.c104_session.proofs.{KeptLoops.{halted_due, halted_left, idle_due, idle_left, idle_passed, next_going}, KeptRounds.Going}
+use Rattle.{c104_session.specs.Keepers.KeepsRound, c104_stream.proofs.ScriptEnds.err_is, std.proofs.Common.{Ok, inl, subst, sym, ◌+◌, ◌∙◌}}
 use Rattle.c104_session.proofs.keepers.keep_rounds.Goals as goal
 
 -- a fault stopped a round
