@@ -30,6 +30,7 @@ fn two_packets() -> Traffic
         bytes: 1,
         seed: 0,
         injection: Injection::AtOnce,
+        words: None,
         own: false,
     }
 }

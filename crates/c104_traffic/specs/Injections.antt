@@ -65,8 +65,12 @@ rounds_by Injection.AtOnce tokens senders number turn = 0
 rounds_by (Injection.Regular load) tokens senders number turn = number * weight_of load tokens * 1000000 / amount_of load / senders
 rounds_by (Injection.Bernoulli load) tokens senders number turn = turn / senders
 
--- how many of them since the packet before
+-- how many rounds are done in all up to the packet before this one
+abbrev pub rounds_done : Injection → ℕ → ℕ → ℕ → ℕ → ℕ
+rounds_done injection tokens seed senders number =
+    rounds_by injection tokens senders (number - 1) (turn_from injection tokens seed number - 1)
+
+-- how many since then
 abbrev pub rounds_before : Injection → ℕ → ℕ → ℕ → ℕ → ℕ
 rounds_before injection tokens seed senders number =
-    rounds_by injection tokens senders number (turn_at injection tokens seed number)
-    - rounds_by injection tokens senders (number - 1) (turn_from injection tokens seed number - 1)
+    rounds_by injection tokens senders number (turn_at injection tokens seed number) - rounds_done injection tokens seed senders number

@@ -3,7 +3,7 @@
 pub use Rattle.c104_traffic.specs.{Words.{generator_at, packet_word}, declared.{amounts.{Load.Load, Traffic.Traffic}, packets.Sent.Sent}}
 pub use Rattle.c104_traffic.specs.declared.packets.Turn.{Turn}
 use Rattle.{c104_plan.specs.{PlanImage.Image, Plans.Plan}, c104_token.specs.declared.{packets.Packet.Packet, tokens.Mark.Mark}}
-use Rattle.c104_traffic.specs.{Injections.{HasLoad, rounds_before, turn_at, turn_from}, Patterns.Pattern, Targets.target_of}
+use Rattle.c104_traffic.specs.{Injections.{HasLoad, rounds_before, rounds_done, turn_at, turn_from}, Patterns.Pattern, Targets.target_of}
 use Rattle.c104_traffic.specs.declared.amounts.TheConstants.{MAX_DATA, MAX_PACKETS}
 use Rattle.std.specs.{List.range_with_len, Option.{option_map_or, unwrap_or}, Prelude.{List, if◌then◌else◌, length, map, nat_lt, slice_get}}
 use Rattle.std.specs.Prelude.{ℕ, ◌%◌, ◌+◌, ◌/◌, ◌==◌, ◌≡◌, ◌≤◌}
@@ -55,9 +55,11 @@ pub record IsTurn (plan : Plan) (traffic : Traffic) (packet : Turn) : Type 0 whe
   pub turn : packet.turn ≡ turn_of plan traffic packet.number
   pub word : packet.word ≡ packet_word traffic.seed packet.number
 
--- what is sent as the packet of this number: the rounds before it, its sender, and the first label of its target
+-- what is sent as the packet of this number: the rounds up to the packet before, and since then, its sender, and the first
+-- label of its target
 abbrev pub sent_at : Plan → Image → Pattern → Traffic → List ℕ → ℕ → Sent
 sent_at plan image pattern traffic senders number = record {
+  done = rounds_done traffic.injection (tokens_of plan traffic) traffic.seed (length senders) number;
   rounds = rounds_before traffic.injection (tokens_of plan traffic) traffic.seed (length senders) number;
   sender = sender_at senders (turn_of plan traffic number);
   label = first_label image (target_at pattern traffic (length plan.terminals) senders (turn_of plan traffic number) number);

@@ -3,20 +3,36 @@
 use Rattle.{c104_plan.specs.{PlanImage.Image, Plans.Plan, PortTexts.terminal_name}, c104_token.specs.Text.{hex_digit, packet_text}}
 use Rattle.{c104_token.specs.declared.packets.Packet.Packet, c104_traffic.specs.Packets.{Sent, Traffic, packet_of, sent_at}}
 use Rattle.c104_traffic.specs.{Patterns.Pattern, Targets.senders_of, declared.amounts.TheConstants.MAX_ROUNDS}
-use Rattle.std.specs.{Fmt.decimal, List.range_with_len, Prelude.{List, [], codes, flat_map, if◌then◌else◌, length, ℕ, ◌%◌, ◌++◌, ◌/◌, ◌==◌}}
-use Rattle.std.specs.Prelude.{◌∷◌}
+use Rattle.std.specs.{Fmt.decimal, List.range_with_len, Prelude.{List, None, Option, Some, [], codes, flat_map, if◌then◌else◌, length, ℕ}}
+use Rattle.std.specs.Prelude.{◌%◌, ◌*◌, ◌++◌, ◌+◌, ◌/◌, ◌==◌, ◌^◌, ◌∷◌}
 
 -- a byte of a packet: its two hexadecimal digits, and the space (0x20) behind them
 abbrev pub hex_word : ℕ → List ℕ
 hex_word byte = hex_digit (byte / 16) ∷ hex_digit (byte % 16) ∷ 0x20 ∷ []
 
+-- the seed of a line of rounds, where such lines have one: the first of all and the number of the rounds before the line
+-- together, modulo 2^64
+abbrev pub seed_text : Option ℕ → ℕ → List ℕ
+seed_text None before = []
+seed_text (Some words) before = codes " seed " ++ decimal ((words + before) % 2 ^ 64)
+
+-- a line of rounds, behind those before it
+abbrev pub line_text : Option ℕ → ℕ → ℕ → List ℕ
+line_text words before count = codes "rounds " ++ (decimal count ++ (seed_text words before ++ codes "\n"))
+
+-- a line of the most rounds, behind this many such lines
+abbrev pub full_text : Option ℕ → ℕ → ℕ → List ℕ
+full_text words before line = line_text words (before + MAX_ROUNDS * line) MAX_ROUNDS
+
 -- the line of rounds, where there are some
-abbrev pub rest_text : ℕ → List ℕ
-rest_text count = if count == 0 then [] else codes "rounds " ++ (decimal count ++ codes "\n")
+abbrev pub rest_text : Option ℕ → ℕ → ℕ → List ℕ
+rest_text words before count = if count == 0 then [] else line_text words before count
 
 -- the lines of rounds: as many of 10,000 as fit, and one of the rest
-abbrev pub rounds_text : ℕ → List ℕ
-rounds_text count = flat_map (λ _. codes "rounds 10000\n") (range_with_len 0 (count / MAX_ROUNDS)) ++ rest_text (count % MAX_ROUNDS)
+abbrev pub rounds_text : Option ℕ → ℕ → ℕ → List ℕ
+rounds_text words before count =
+    flat_map (full_text words before) (range_with_len 0 (count / MAX_ROUNDS))
+    ++ rest_text words (before + MAX_ROUNDS * (count / MAX_ROUNDS)) (count % MAX_ROUNDS)
 
 -- the line of a packet
 abbrev pub send_text : Plan → ℕ → Packet → List ℕ
@@ -24,14 +40,14 @@ send_text plan sender packet =
     codes "send " ++ (terminal_name plan sender ++ (codes " " ++ (packet_text packet ++ codes "\n")))
 
 -- the lines of what is sent as the packet of this number
-abbrev pub sent_text : Plan → ℕ → ℕ → Sent → List ℕ
-sent_text plan bytes number sent =
-    rounds_text sent.rounds ++ send_text plan sent.sender (packet_of plan bytes sent.label number)
+abbrev pub sent_text : Plan → Traffic → ℕ → Sent → List ℕ
+sent_text plan traffic number sent =
+    rounds_text traffic.words sent.done sent.rounds ++ send_text plan sent.sender (packet_of plan traffic.bytes sent.label number)
 
 -- the lines of a packet by its number, from these senders
 abbrev pub numbered_text : Plan → Image → Pattern → Traffic → List ℕ → ℕ → List ℕ
 numbered_text plan image pattern traffic senders number =
-    sent_text plan traffic.bytes number (sent_at plan image pattern traffic senders number)
+    sent_text plan traffic number (sent_at plan image pattern traffic senders number)
 
 -- the lines of all packets
 abbrev pub traffic_text : Plan → Image → Pattern → Traffic → List ℕ

@@ -45,6 +45,9 @@ pub struct Traffic {
     pub seed: u64,
     /// When they are sent.
     pub injection: Injection,
+    /// The seed of the first line of rounds, if such lines have one. That of another is it and the number of rounds before
+    /// that line together, modulo 2^64.
+    pub words: Option<u64>,
     /// Whether a terminal may send packets to itself.
     pub own: bool,
 }

@@ -73,28 +73,31 @@ fn is_below(load: Load, tokens: usize, word: u64) -> bool
     }
 }
 
-/// How many rounds are done since the packet before.
+/// How many rounds are done up to the packet before, and how many since then.
 pub(crate) fn rounds_before(
     injection: Injection,
     tokens: usize,
     senders: usize,
     turn: Turn,
-) -> usize
+) -> (usize, usize)
     requires load { HasLoad injection }
     requires tokens { tokens ≤ 4097 }
     requires senders { 0 < senders }
     requires number { turn.number ≤ 1048576 }
-    ensures { result ≡ rounds_by injection tokens senders turn.number turn.turn
+    ensures done { result.0 ≡ rounds_by injection tokens senders (turn.number - 1) (turn.from - 1) }
+    ensures since { result.1 ≡ rounds_by injection tokens senders turn.number turn.turn
         - rounds_by injection tokens senders (turn.number - 1) (turn.from - 1) }
+    ensures few { result.0 + result.1 ≤ 18446744073709551615 }
 {
-    let before = rounds_by(
+    let done = rounds_by(
         injection,
         tokens,
         senders,
         turn.number.saturating_sub(1),
         turn.from.saturating_sub(1),
     );
-    rounds_by(injection, tokens, senders, turn.number, turn.turn).saturating_sub(before)
+    let due = rounds_by(injection, tokens, senders, turn.number, turn.turn);
+    (done, due.saturating_sub(done))
 }
 
 /// How many rounds are done in all before the packet of this number is sent, in a turn.

@@ -1,5 +1,5 @@
 //! The packets of traffic: from which terminal each comes, to which it goes, and when it is sent.
-ghost use Rattle.std.specs.Prelude.{IfSome, length, slice_get, ℕ, ◌<◌, ◌≡◌, ◌≤◌};
+ghost use Rattle.std.specs.Prelude.{IfSome, length, slice_get, ℕ, ◌+◌, ◌<◌, ◌≡◌, ◌≤◌};
 ghost use Rattle.{c104_plan.specs.{Plans.IsRange, PortTexts.terminal_name}, c104_traffic.specs.Packets.{IsTraffic, IsTurn, byte_at}};
 ghost use Rattle.c104_traffic.specs.{Packets.{first_label, sender_at, sent_at, tokens_of}, Schedules.IsSchedule};
 
@@ -12,7 +12,9 @@ use c104_plan::{Image, Plan};
 /// What is sent as a packet.
 #[derive(Clone, Copy)]
 pub(crate) struct Sent {
-    /// How many rounds are done before it.
+    /// How many rounds are done up to the packet before.
+    pub done: usize,
+    /// How many rounds are done since then.
     pub rounds: usize,
     /// The terminal that sends it.
     pub sender: usize,
@@ -45,7 +47,8 @@ pub(crate) fn sent_at(
     requires schedule { IsSchedule plan.now image.now traffic.own schedule.now }
     requires number { turn.number ≤ 1048576 }
     requires turn { IsTurn plan.now traffic turn }
-    ensures { result ≡ sent_at plan.now image.now schedule.now.pattern traffic schedule.now.senders.items turn.number }
+    ensures sent { result ≡ sent_at plan.now image.now schedule.now.pattern traffic schedule.now.senders.items turn.number }
+    ensures few { result.done + result.rounds ≤ 18446744073709551615 }
 {
     let senders = schedule.senders.as_slice();
     let sender = sender_at(senders, turn.turn);
@@ -58,8 +61,10 @@ pub(crate) fn sent_at(
         turn.word,
     );
     let tokens = tokens_of(plan, traffic);
+    let (done, rounds) = rounds_before(traffic.injection, tokens, senders.len(), turn);
     Sent {
-        rounds: rounds_before(traffic.injection, tokens, senders.len(), turn),
+        done,
+        rounds,
         sender,
         label: first_label(image, target),
     }

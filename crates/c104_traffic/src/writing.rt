@@ -2,8 +2,8 @@
 //!
 //! The bytes of a packet count on from its number, and aren't picked: who reads what arrived sees which packet it was,
 //! and where a token is in it. Each packet takes one word of the generator, whatever the pattern, and each turn one of a second generator.
-ghost use Rattle.{c104_traffic.specs.Texts.{rest_text}, std.specs.Prelude.codes};
-ghost use Rattle.std.specs.{Io.KnownBytes.Appends, List.range_with_len, Prelude.{MatchResult, OnErr, OnOk, flat_map, ◌++◌, ◌+◌, ◌≡◌, ◌≤◌}};
+ghost use Rattle.{c104_traffic.specs.Texts.{full_text, line_text, rest_text, seed_text}};
+ghost use Rattle.std.specs.{Io.KnownBytes.Appends, List.range_with_len, Prelude.{MatchResult, OnErr, OnOk, flat_map, ◌*◌, ◌++◌, ◌+◌, ◌≡◌, ◌≤◌}};
 ghost use Rattle.{c104_plan.specs.PlanImage.Fits, c104_stream.specs.Writing.{AppendsAndKeeps, AppendsPrefix}};
 ghost use Rattle.c104_traffic.specs.{Directions.AreDirected, Packets.{IsTraffic, byte_at, packet_of}, Schedules.IsSchedule, Texts.hex_word};
 ghost use Rattle.c104_traffic.specs.{Texts.{rounds_text, send_text, sent_text, traffic_text}, Writing.StopsWriting};
@@ -109,7 +109,7 @@ fn write_packets<W: Write>(
                 word,
             },
         );
-        write_sent(plan, traffic.bytes, number, sent, kept, writer)?;
+        write_sent(plan, traffic, number, sent, kept, writer)?;
         from = turn + 1;
     }
     Ok(())
@@ -118,67 +118,131 @@ fn write_packets<W: Write>(
 /// The lines of what is sent as the packet of this number join what is kept.
 fn write_sent<W: Write>(
     plan: &Plan,
-    bytes: usize,
+    traffic: Traffic,
     number: usize,
     sent: Sent,
     kept: &mut Kept,
     writer: &mut W,
 ) -> Result<(), CannotWrite>
-    requires bytes { bytes ≤ 4094 }
+    requires traffic { IsTraffic traffic }
     requires number { number ≤ 1048576 }
+    requires rounds { sent.done + sent.rounds ≤ 18446744073709551615 }
     ensures kept { OnOk result (AppendsAndKeeps (W.contents writer.old) (W.contents writer.new) kept.new
-        (kept.old ++ sent_text plan.now bytes number sent)) }
+        (kept.old ++ sent_text plan.now traffic number sent)) }
     ensures prefix { OnErr result (AppendsPrefix (W.contents writer.old) (W.contents writer.new)
-        (kept.old ++ sent_text plan.now bytes number sent)) }
+        (kept.old ++ sent_text plan.now traffic number sent)) }
 {
-    write_rounds(sent.rounds, kept, writer)?;
-    write_send(plan, bytes, number, sent, kept, writer)?;
+    write_rounds(traffic.words, sent.done, sent.rounds, kept, writer)?;
+    write_send(plan, traffic.bytes, number, sent, kept, writer)?;
     Ok(())
 }
 
-/// The lines of rounds join what is kept, if there are some.
-fn write_rounds<W: Write>(count: usize, kept: &mut Kept, writer: &mut W) -> Result<(), CannotWrite>
+/// The lines of rounds join what is kept, if there are some. So many rounds are before them.
+fn write_rounds<W: Write>(
+    words: Option<u64>,
+    before: usize,
+    count: usize,
+    kept: &mut Kept,
+    writer: &mut W,
+) -> Result<(), CannotWrite>
+    requires { before + count ≤ 18446744073709551615 }
     ensures kept { OnOk result (AppendsAndKeeps (W.contents writer.old) (W.contents writer.new) kept.new
-        (kept.old ++ rounds_text count)) }
+        (kept.old ++ rounds_text words before count)) }
     ensures prefix { OnErr result (AppendsPrefix (W.contents writer.old) (W.contents writer.new)
-        (kept.old ++ rounds_text count)) }
+        (kept.old ++ rounds_text words before count)) }
 {
-    write_full(count / MAX_ROUNDS, kept, writer)?;
-    write_rest(count % MAX_ROUNDS, kept, writer)?;
+    let lines = count / MAX_ROUNDS;
+    write_full(words, before, lines, kept, writer)?;
+    write_rest(
+        words,
+        before + MAX_ROUNDS * lines,
+        count % MAX_ROUNDS,
+        kept,
+        writer,
+    )?;
     Ok(())
 }
 
 /// This many lines of the most rounds join what is kept.
-fn write_full<W: Write>(lines: usize, kept: &mut Kept, writer: &mut W) -> Result<(), CannotWrite>
+fn write_full<W: Write>(
+    words: Option<u64>,
+    before: usize,
+    lines: usize,
+    kept: &mut Kept,
+    writer: &mut W,
+) -> Result<(), CannotWrite>
+    requires { before + 10000 * lines ≤ 18446744073709551615 }
     ensures kept { OnOk result (AppendsAndKeeps (W.contents writer.old) (W.contents writer.new) kept.new
-        (kept.old ++ flat_map (λ _. codes "rounds 10000\n") (range_with_len 0 lines))) }
+        (kept.old ++ flat_map (full_text words before) (range_with_len 0 lines))) }
     ensures prefix { OnErr result (AppendsPrefix (W.contents writer.old) (W.contents writer.new)
-        (kept.old ++ flat_map (λ _. codes "rounds 10000\n") (range_with_len 0 lines))) }
+        (kept.old ++ flat_map (full_text words before) (range_with_len 0 lines))) }
 {
-    for _line in 0..lines {
-        kept.add(writer, b"rounds 10000\n")?;
+    for line in 0..lines {
+        write_line(words, before + MAX_ROUNDS * line, MAX_ROUNDS, kept, writer)?;
     }
     Ok(())
 }
 
 /// The line of rounds joins what is kept, if there are some.
-fn write_rest<W: Write>(count: usize, kept: &mut Kept, writer: &mut W) -> Result<(), CannotWrite>
+fn write_rest<W: Write>(
+    words: Option<u64>,
+    before: usize,
+    count: usize,
+    kept: &mut Kept,
+    writer: &mut W,
+) -> Result<(), CannotWrite>
     ensures kept { OnOk result (AppendsAndKeeps (W.contents writer.old) (W.contents writer.new) kept.new
-        (kept.old ++ rest_text count)) }
+        (kept.old ++ rest_text words before count)) }
     ensures prefix { OnErr result (AppendsPrefix (W.contents writer.old) (W.contents writer.new)
-        (kept.old ++ rest_text count)) }
+        (kept.old ++ rest_text words before count)) }
 {
     if count == 0 {
         return Ok(());
     }
+    write_line(words, before, count, kept, writer)?;
+    Ok(())
+}
+
+/// A line of rounds joins what is kept.
+fn write_line<W: Write>(
+    words: Option<u64>,
+    before: usize,
+    count: usize,
+    kept: &mut Kept,
+    writer: &mut W,
+) -> Result<(), CannotWrite>
+    ensures kept { OnOk result (AppendsAndKeeps (W.contents writer.old) (W.contents writer.new) kept.new
+        (kept.old ++ line_text words before count)) }
+    ensures prefix { OnErr result (AppendsPrefix (W.contents writer.old) (W.contents writer.new)
+        (kept.old ++ line_text words before count)) }
+{
     let mut digits = Buffer::new();
-    write_three(
-        b"rounds ",
-        digits.format(count).as_bytes(),
-        b"\n",
-        kept,
-        writer,
-    )?;
+    kept.add(writer, b"rounds ")?;
+    kept.add(writer, digits.format(count).as_bytes())?;
+    write_seed(words, before, kept, writer)?;
+    kept.add(writer, b"\n")?;
+    Ok(())
+}
+
+/// The seed of a line of rounds joins what is kept, if it has one.
+fn write_seed<W: Write>(
+    words: Option<u64>,
+    before: usize,
+    kept: &mut Kept,
+    writer: &mut W,
+) -> Result<(), CannotWrite>
+    ensures kept { OnOk result (AppendsAndKeeps (W.contents writer.old) (W.contents writer.new) kept.new
+        (kept.old ++ seed_text words before)) }
+    ensures prefix { OnErr result (AppendsPrefix (W.contents writer.old) (W.contents writer.new)
+        (kept.old ++ seed_text words before)) }
+{
+    let Some(words) = words else {
+        return Ok(());
+    };
+    let seed = words.wrapping_add(before as u64);
+    let mut digits = Buffer::new();
+    kept.add(writer, b" seed ")?;
+    kept.add(writer, digits.format(seed).as_bytes())?;
     Ok(())
 }
 

@@ -28,7 +28,7 @@ sent_at-sent-requires-clause-turn g c = record {
 pub loop-number-preserved : goal.loop-number-preserved
 loop-number-preserved g c = record {
   reached = reached_next _ _ _ _ _ _ _ _ c.loop-number.invariant.reached _ c.loop-number-test.true
-      (joins_same _ _ c.loop-number.kept c.write_sent.new.kept (sent_text c.args.plan.now c.args.traffic.bytes c.loop-number.number c.sent_at-sent.result) (numbered_text c.args.plan.now c.args.image.now c.args.schedule.now.pattern c.args.traffic c.args.schedule.now.senders.items c.loop-number.number) (ap (sent_text c.args.plan.now c.args.traffic.bytes c.loop-number.number) c.sent_at-sent.ensures) c.in_ok-write_sent.ensures.kept);
+      (joins_same _ _ c.loop-number.kept c.write_sent.new.kept (sent_text c.args.plan.now c.args.traffic c.loop-number.number c.sent_at-sent.result) (numbered_text c.args.plan.now c.args.image.now c.args.schedule.now.pattern c.args.traffic c.args.schedule.now.senders.items c.loop-number.number) (ap (sent_text c.args.plan.now c.args.traffic c.loop-number.number) c.sent_at-sent.ensures.sent) c.in_ok-write_sent.ensures.kept);
   generator = ap (λ (p : ℕ × ℕ). p.1) c.next_word-word.ensures ∙ ap (λ x. (mix_u64 x).1) c.loop-number.invariant.generator ∙ sym (generator_next c.args.traffic.seed c.loop-number.number);
   words = c.next_turn-turn.ensures.words;
   from = ap (λ turn. turn + 1) (c.next_turn-turn.ensures.turn ∙ ap (λ tokens. next_turn c.args.traffic.injection tokens c.args.traffic.seed c.loop-number.from) c.tokens_of-tokens.ensures.tokens)
@@ -40,7 +40,7 @@ pub returns-in_err-write_sent-clause-prefix : goal.returns-in_err-write_sent-cla
 returns-in_err-write_sent-clause-prefix g c =
     at_error _ c.from_residual.result
     (reached_stops _ _ _ _ _ _ _ _ c.loop-number.invariant.reached c.loop-number-test.true
-    (stops_same _ _ c.loop-number.kept (sent_text c.args.plan.now c.args.traffic.bytes c.loop-number.number c.sent_at-sent.result) (numbered_text c.args.plan.now c.args.image.now c.args.schedule.now.pattern c.args.traffic c.args.schedule.now.senders.items c.loop-number.number) (ap (sent_text c.args.plan.now c.args.traffic.bytes c.loop-number.number) c.sent_at-sent.ensures) c.in_err-write_sent.ensures.prefix))
+    (stops_same _ _ c.loop-number.kept (sent_text c.args.plan.now c.args.traffic c.loop-number.number c.sent_at-sent.result) (numbered_text c.args.plan.now c.args.image.now c.args.schedule.now.pattern c.args.traffic c.args.schedule.now.senders.items c.loop-number.number) (ap (sent_text c.args.plan.now c.args.traffic c.loop-number.number) c.sent_at-sent.ensures.sent) c.in_err-write_sent.ensures.prefix))
 
 pub returns-clause-kept : goal.returns-clause-kept
 returns-clause-kept g c = reached_all _ _ _ _ _ _ _ c.loop-number.invariant.reached c.loop-number-test.false
