@@ -21,6 +21,7 @@ pub struct TrafficWords<'a> {
     load: Option<&'a str>,
     tokens: Option<&'a str>,
     process: Option<&'a str>,
+    words: Option<u64>,
     own: bool,
 }
 
@@ -36,6 +37,7 @@ impl<'a> TrafficWords<'a> {
         load: None,
         tokens: None,
         process: None,
+        words: None,
         own: false,
     };
 
@@ -51,6 +53,7 @@ impl<'a> TrafficWords<'a> {
             load: given.get_str(LOAD),
             tokens: given.get_str(TOKENS),
             process: given.get_str(PROCESS),
+            words: given.get_one(WORDS),
             own: given.get_flag(OWN),
         }
     }
@@ -72,6 +75,7 @@ impl<'a> TrafficWords<'a> {
             bytes: at_most(self.bytes, MAX_DATA),
             seed: self.seed.unwrap_or(0),
             injection,
+            words: self.words,
             own: self.own,
         })
     }
@@ -90,6 +94,7 @@ impl<'a> TrafficWords<'a> {
             Some(load) if by_chance => Ok(Injection::Bernoulli(load)),
             Some(load) => Ok(Injection::Regular(load)),
             None if by_chance => Err(NO_LOAD),
+            None if self.words.is_some() => Err(NO_ROUNDS),
             None => Ok(Injection::AtOnce),
         }
     }
@@ -216,11 +221,19 @@ const PROCESSES: &str = "--process is regular or bernoulli";
 
 const NO_LOAD: &str = "--process bernoulli wants a load, --load or --tokens";
 
+const WORDS: &str = "words";
+
+const WORDS_HELP: &str =
+    "Where the seeds of `rounds` lines begin, 0 to 18446744073709551615, with a load";
+
+const NO_ROUNDS: &str = "--words wants a load, --load or --tokens";
+
 const OWN: &str = "own";
 
 const OWN_HELP: &str = "Let terminals send to themselves, too";
 
-/// `--pattern P [--target T [--share C]] --packets N --bytes B --seed S [--load R | --tokens L] [--process I] [--own]`.
+/// `--pattern P [--target T [--share C]] --packets N --bytes B --seed S [--load R | --tokens L] [--process I] [--words W]
+/// [--own]`.
 pub fn with_traffic<'a>(alloc: Global, named: Command<'a>) -> Result<Command<'a>, AllocError> {
     named.args(traffic_arguments(alloc)?)
 }
@@ -249,14 +262,15 @@ fn share_option<'a>(alloc: Global) -> Result<Arg<'a>, AllocError> {
         .requires_arg(TARGET)
 }
 
-/// `--packets N --bytes B --seed S [--load R | --tokens L] [--process I]`.
+/// `--packets N --bytes B --seed S [--load R | --tokens L] [--process I] [--words W]`.
 fn add_numbers<'a>(alloc: Global, arguments: &mut Vec<Arg<'a>>) -> Result<(), AllocError> {
     add_argument(arguments, Ok(packets_option(alloc)))?;
     add_argument(arguments, Ok(bytes_option(alloc)))?;
     add_argument(arguments, Ok(seed_option(alloc)))?;
     add_argument(arguments, Ok(valued(alloc, LOAD, "R", LOAD_HELP)))?;
     add_argument(arguments, tokens_option(alloc))?;
-    add_argument(arguments, Ok(valued(alloc, PROCESS, "I", PROCESS_HELP)))
+    add_argument(arguments, Ok(valued(alloc, PROCESS, "I", PROCESS_HELP)))?;
+    add_argument(arguments, Ok(words_option(alloc)))
 }
 
 /// `--packets N`.
@@ -278,6 +292,11 @@ fn seed_option<'a>(alloc: Global) -> Arg<'a> {
     valued(alloc, SEED, "S", SEED_HELP)
         .value_parser(value_parser!(u64))
         .required(true)
+}
+
+/// `--words W`.
+fn words_option<'a>(alloc: Global) -> Arg<'a> {
+    valued(alloc, WORDS, "W", WORDS_HELP).value_parser(value_parser!(u64))
 }
 
 /// `--tokens L`.
