@@ -22,7 +22,7 @@ LONE = b'switch A\nterminal a A.0\n'
 ALL = {'--pattern': 'neighbour', '--packets': '3', '--bytes': '1', '--seed': '1234567'}
 # A send line of 4,096 bytes, the header's two among them.
 LONGEST = re.compile(rb'send t0 01 00(?: [0-9a-f]{2}){4094} eop\n')
-SENT = re.compile(rb'(send \w+(?: [0-9a-f]{2})+ eop\n|rounds [1-9][0-9]*\n)*')
+SENT = re.compile(rb'(send \w+(?: [0-9a-f]{2})+ eop\n|rounds [1-9][0-9]*( seed [0-9]+)?\n)*')
 
 
 def words_of(extra='', **said):
@@ -108,6 +108,21 @@ SCRIPTS = {
         b'send t1 02 05 eop\nrounds 3\nsend t0 01 06 eop\n'),
     'by chance, all of the time': (LINE, words_of('--process bernoulli', load='1000', packets='5'),
         b'send t0 01 01 eop\nsend t1 02 02 eop\nsend t2 00 03 eop\nrounds 1\nsend t0 01 04 eop\nsend t1 02 05 eop\n'),
+    'rounds with seeds': (LINE, words_of('--words 1000', packets='5', load='120'),
+        b'send t0 01 01 eop\nrounds 2 seed 1000\nsend t1 02 02 eop\nrounds 3 seed 1002\nsend t2 00 03 eop\nrounds 3 seed 1005\n'
+        b'send t0 01 04 eop\nrounds 3 seed 1008\nsend t1 02 05 eop\n'),
+    'seeds from 0 on, of a load in tokens': (PLAN, words_of('--tokens 0.3 --words 0'),
+        b'send a 01 01 eop\nrounds 5 seed 0\nsend b 00 02 eop\nrounds 5 seed 5\nsend a 01 03 eop\n'),
+    'seeds by chance': (LINE, words_of('--process bernoulli --words 7', load='400', packets='6'),
+        b'send t1 02 01 eop\nrounds 1 seed 7\nsend t0 01 02 eop\nrounds 1 seed 8\nsend t1 02 03 eop\nsend t2 00 04 eop\n'
+        b'rounds 1 seed 9\nsend t1 02 05 eop\nrounds 3 seed 10\nsend t0 01 06 eop\n'),
+    'seeds behind the largest': (PLAN, words_of('--words 18446744073709551615', load='250'),
+        b'send a 01 01 eop\nrounds 2 seed 18446744073709551615\nsend b 00 02 eop\nrounds 2 seed 1\nsend a 01 03 eop\n'),
+    'seeds of more rounds than a line has': (LONE + b'terminal b A.1\n',
+        words_of('--words 3', pattern='hot-spot', target='b', load='0.04'),
+        b'send a 01 01 eop\nrounds 10000 seed 3\nrounds 10000 seed 10003\nrounds 5000 seed 20003\nsend a 01 02 eop\n'
+        b'rounds 10000 seed 25003\nrounds 10000 seed 35003\nrounds 5000 seed 45003\nsend a 01 03 eop\n'),
+    'seeds of no rounds': (PLAN, words_of('--words 3', load='1000', packets='2'), b'send a 01 01 eop\nsend b 00 02 eop\n'),
     'regularly, as it is said': (PLAN, words_of('--process regular', packets='2'), b'send a 01 01 eop\nsend b 00 02 eop\n'),
     'the most rounds': (LONE + b'terminal b A.1\n', words_of(pattern='hot-spot', target='b', load='1'),
         b'send a 01 01 eop\nrounds 1000\nsend a 01 02 eop\nrounds 1000\nsend a 01 03 eop\n'),
@@ -149,6 +164,7 @@ WRONG = (words_of(pattern='frob'), words_of(pattern=None), words_of(packets=None
     words_of(load='0.0005'), words_of(load='1000.001'), words_of(load='1.'), words_of(load='.5'), words_of(load='1.x'),
     words_of(load='1.2345'), words_of('--tokens 0'), words_of('--tokens 1.000001'), words_of('--tokens 0.0000001'),
     words_of('--tokens 0.5', load='5'), words_of('--process bernoulli'), words_of('--process frob', load='5'),
+    words_of('--words 1'), words_of('--words -1', load='5'), words_of('--words 18446744073709551616', load='5'),
     words_of(pattern='hot-spot'), words_of(target='a'),
     words_of('--share 5', pattern='hot-spot'), words_of('--share 5', target='a'),
     words_of('--share 0', pattern='hot-spot', target='a'), words_of('--share 101', pattern='hot-spot', target='a'),
@@ -182,6 +198,9 @@ def any_script(source):
     if load:
         said[load[0]], said['chance'] = load[1], source.random() < 0.6
         words += ['--' + load[0], load[1], *['--process', 'bernoulli'] * said['chance']]
+        if source.random() < 0.5:
+            said['first'] = source.choice((source.getrandbits(64), 2 ** 64 - 1 - source.randrange(20)))
+            words += ['--words', str(said['first'])]
     text = script(count, pattern, packets, size, seed, header=header, **said)
     words = ['--pattern', pattern, '--packets', str(packets), '--bytes', str(size), '--seed', str(seed), *words]
     return {'expected': text or b'traffic 4 NoTarget\n', 'status': 0 if text else 1, 'words': ['traffic', '-', *words],

@@ -29,6 +29,7 @@ TOLD = [
     ((*SENT, 'uniform', '--tokens', '0.0000005'), TOKENS),
     ((*SENT, 'uniform', '--process', 'frob', '--load', '1'), b'error: --process is regular or bernoulli\n'),
     ((*SENT, 'uniform', '--process', 'bernoulli'), b'error: --process bernoulli wants a load, --load or --tokens\n'),
+    ((*SENT, 'uniform', '--words', '1'), b'error: --words wants a load, --load or --tokens\n'),
     ((b'\xff',), b"error: a word isn't UTF-8\n\nFor more information, try '--help'.\n"),
 ]
 
