@@ -5,4 +5,5 @@ mod Joining
 mod Senders
 mod SendLines
 mod Turns
+mod Rounds
 mod Directions

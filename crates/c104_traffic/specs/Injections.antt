@@ -2,6 +2,7 @@
 -- round n / S.
 --     turn_at injection tokens seed number      the turn in which the packet of this number is sent
 --     rounds_before injection tokens seed senders number      how many rounds are done between the packet before and this one
+--     rounds_done injection tokens seed senders number      how many are done up to the packet before
 pub use Rattle.c104_traffic.specs.declared.amounts.{Injection.Injection, Load.Load}
 use Rattle.c104_traffic.specs.{Words.packet_word, declared.amounts.TheConstants.MAX_WAIT}
 use Rattle.std.specs.Prelude.{Bool, if◌then◌else◌, nat_lt, suc, zero, ℕ, ⊤, ◌%◌, ◌*◌, ◌+◌, ◌-◌, ◌/◌, ◌<◌}
@@ -65,12 +66,14 @@ rounds_by Injection.AtOnce tokens senders number turn = 0
 rounds_by (Injection.Regular load) tokens senders number turn = number * weight_of load tokens * 1000000 / amount_of load / senders
 rounds_by (Injection.Bernoulli load) tokens senders number turn = turn / senders
 
--- how many rounds are done in all up to the packet before this one
-abbrev pub rounds_done : Injection → ℕ → ℕ → ℕ → ℕ → ℕ
-rounds_done injection tokens seed senders number =
-    rounds_by injection tokens senders (number - 1) (turn_from injection tokens seed number - 1)
-
--- how many since then
+-- how many of them since the packet before
 abbrev pub rounds_before : Injection → ℕ → ℕ → ℕ → ℕ → ℕ
 rounds_before injection tokens seed senders number =
-    rounds_by injection tokens senders number (turn_at injection tokens seed number) - rounds_done injection tokens seed senders number
+    rounds_by injection tokens senders number (turn_at injection tokens seed number)
+    - rounds_by injection tokens senders (number - 1) (turn_from injection tokens seed number - 1)
+
+-- how many rounds are done up to the packet before: those before each packet up to it, together
+abbrev pub rounds_done : Injection → ℕ → ℕ → ℕ → ℕ → ℕ
+rounds_done injection tokens seed senders zero = 0
+rounds_done injection tokens seed senders (suc number) =
+    rounds_done injection tokens seed senders number + rounds_before injection tokens seed senders number

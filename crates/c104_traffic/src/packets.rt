@@ -36,6 +36,7 @@ pub(crate) struct Turn {
 }
 
 /// What is sent as a packet, in its turn.
+#[tactic(auto, using(crate::proofs::Rounds::done_is))]
 pub(crate) fn sent_at(
     plan: &Plan,
     image: &Image,
