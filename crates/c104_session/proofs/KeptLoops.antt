@@ -4,10 +4,10 @@ use Rattle.c104_net.specs.MeteredRecords.{MeteredRecord, at_meter, record_metere
 use Rattle.{c104_node.specs.declared.tagged.TaggedToken.TaggedToken, c104_run.{proofs.RoundRuns.run_seen, specs.EventRuns.EventsEnd}}
 use Rattle.c104_run.specs.{EventRuns.{Outcome, run_events}, HandedWords.{round_with, rounds_with, words_behind}, Meters.Sees}
 use Rattle.c104_run.specs.{NetRecords.NetRecord, RecordedRuns.record_apply, RoundParts.PartEnds, declared.words.Words.Words}
-use Rattle.c104_session.proofs.{KeptRounds.{Going, fault_ends, goes_on, idle_counts, idle_ends, round_runs}, Leavings.rounds_left}
-use Rattle.c104_session.{proofs.RoundLeavings.later_left, specs.{Driven.DoesRounds, Keepers.{Keeping, KeepsRound, rounds_kept}}}
-use Rattle.{c104_session.specs.Leavings.LeavesRounds, std.proofs.Common.{Bool, Err, List, Ok, Result, [], ap, append-nil, arith, false}}
-use Rattle.std.proofs.Common.{inl, inr, length, refl, sym, true, ℕ, ◌+◌, ◌-◌, ◌<◌, ◌∙◌, ◌∷◌, ◌≡◌}
+use Rattle.c104_session.proofs.KeptRounds.{Going, fault_counts, fault_ends, goes_on, idle_counts, idle_ends, round_runs}
+use Rattle.c104_session.{proofs.{Leavings.rounds_left, RoundLeavings.later_left}, specs.{Driven.DoesRounds, Keepers.{Keeping, KeepsRound}}}
+use Rattle.{c104_session.specs.{Keepers.rounds_kept, Leavings.LeavesRounds}, std.proofs.Common.{Bool, Err, List, Ok, Result, [], ap}}
+use Rattle.std.proofs.Common.{append-nil, arith, false, inl, inr, length, refl, sym, true, ℕ, ◌+◌, ◌-◌, ◌<◌, ◌∙◌, ◌∷◌, ◌≡◌, ◌⊎◌}
 
 module _ {M : Type 0} (sees : Sees M TaggedToken) (keeps : Keeping M) where
   same_fault : (f : EventFault) → ◌≡◌ {A = Result (Unit {0}) EventFault} (Err f) (Err EventFault.NoMemory) → f ≡ EventFault.NoMemory
@@ -67,6 +67,11 @@ module _ {M : Type 0} (sees : Sees M TaggedToken) (keeps : Keeping M) where
         rounds_left words start count (Err f) after
         (fault_ends sees keeps words start begun count i handed net after c d going further f is)
     halted_left f (inr short) = later_left words handed start net after i count further going.run going.same going.next short.1
+
+    pub halted_kept : (f : EventFault) → Halted f
+        → (d ≡ rounds_kept sees keeps words count (at_meter start begun)) ⊎ (◌≡◌ {A = Result (Unit {0}) EventFault} (Err f) (Err EventFault.NoMemory))
+    halted_kept f (inl is) = inl (fault_counts sees keeps words start begun count i handed net after c d going further f is)
+    halted_kept f (inr short) = inr (ap Err short.0)
 
     -- a round in which nothing was done is the last
     module _ (idle : KeepsRound sees keeps handed net c (Ok false) after d) where

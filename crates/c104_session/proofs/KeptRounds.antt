@@ -5,7 +5,7 @@ use Rattle.c104_run.proofs.{IdleRounds.words_idle, RoundRuns.run_seen, WordedRou
 use Rattle.c104_run.specs.{EventRuns.{EventsEnd, Outcome, run_events}, HandedWords.{round_with, rounds_with, words_after, words_behind}}
 use Rattle.c104_run.specs.{Meters.Sees, NetRecords.{NetRecord, largest_ticket}, RecordedRuns.record_apply, declared.words.Words.Words}
 use Rattle.{c104_session.specs.Keepers.{Keeping, KeepsRound, is_later, kept_on, round_kept, rounds_kept}, std.proofs.Common.{Bool, Err, Ok}}
-use Rattle.std.proofs.Common.{Result, ap, arith, false, if◌then◌else◌, inl, length, refl, sym, true, ℕ, ◌+◌, ◌-◌, ◌<◌, ◌∙◌, ◌≡◌, ◌≤◌}
+use Rattle.std.proofs.Common.{Result, ap, arith, false, if◌then◌else◌, inl, length, refl, suc, sym, true, ℕ, ◌+◌, ◌-◌, ◌<◌, ◌∙◌, ◌≡◌, ◌≤◌}
 use Rattle.std.proofs.lemmas.Bool.Decides.{nat_tests}
 
 -- no more events were done than before
@@ -42,7 +42,9 @@ module _ {M : Type 0} (sees : Sees M TaggedToken) (keeps : Keeping M) where
     -- what the next one comes to
     next_left : rounds_kept sees keeps words count (at_meter start begun)
         ≡ kept_on sees keeps rest (rounds_kept sees keeps behind rest) net (round_kept sees keeps handed (at_meter net c))
-    next_left = search arith
+    next_left =
+        let one : count - i ≡ suc rest = omega (arith, further) in
+        going.left ∙ ap (λ n. rounds_kept sees keeps handed n (at_meter net c)) one
 
     -- its events, of the plan and by the words of the start
     round_is : round_with handed net.network.plan ≡ round_with (words_after words (length plan.switches) i) plan
@@ -85,7 +87,9 @@ module _ {M : Type 0} (sees : Sees M TaggedToken) (keeps : Keeping M) where
     -- nothing was: nor is anything in those behind it
     pub idle_counts : KeepsRound sees keeps handed net c (Ok false) after d
         → keeps.passed d rest ≡ rounds_kept sees keeps words count (at_meter start begun)
-    idle_counts came = search arith
+    idle_counts came =
+        sym (next_left ∙ ap (λ (o : Outcome (MeteredRecord M)). kept_on sees keeps rest (rounds_kept sees keeps behind rest) net o) came.1
+        ∙ ap (by_later came.0) (sym came.2) ∙ ap (λ m. keeps.passed m rest) (sym came.3))
 
     pub idle_ends : KeepsRound sees keeps handed net c (Ok false) after d
         → EventsEnd record_apply start (rounds_with words plan count) (Ok tt) after
@@ -98,3 +102,7 @@ module _ {M : Type 0} (sees : Sees M TaggedToken) (keeps : Keeping M) where
         → EventsEnd record_apply start (rounds_with words plan count) (Err f) after
     fault_ends f is =
         words_refused record_apply plan words start net after i count f further going.run (inl (sym (started_so (Err f) d is)))
+
+    pub fault_counts : (f : EventFault) → round_kept sees keeps handed (at_meter net c) ≡ (Err f, at_meter after d)
+        → d ≡ rounds_kept sees keeps words count (at_meter start begun)
+    fault_counts f is = sym (next_left ∙ ap (λ (o : Outcome (MeteredRecord M)). kept_on sees keeps rest (rounds_kept sees keeps behind rest) net o) is)
