@@ -145,7 +145,7 @@ STILL = b'stands still after round 3\nA.7, which has no wire, holds 3 tokens\n'
 WRONG = (['--format', 'xml'], ['--format'], ['--what', 'switches'], ['--what'], ['--format', 'csv', '--format', 'json'], ['third'],
          ['--from', '2', '--to', '1'], ['--from'], ['--to', 'x'], ['--to', '4294967296'], ['--from', '1', '--from', '1'],
          ['--what', 'links', '--from', '0'], ['--what', 'rounds', '--to', '9'], ['--what', 'packets', '--batches', '2'],
-         ['--batches', '0'], ['--batches', '1001'])
+         ['--batches', '0'], ['--batches', '1001'], ['--out'], ['--out', 'a', '--out', 'b'])
 
 
 class Files:

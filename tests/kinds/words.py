@@ -7,6 +7,8 @@ from case_runner import FIRST_TEXT, difference
 SENT = ('traffic', '-', '--packets', '1', '--bytes', '1', '--seed', '1', '--pattern')
 COUNT_WORDS = b'error: the formats are table, csv and json, and the tables packets, latencies, links and rounds\n'
 NO_PACKETS = b'error: --from and --to choose packets, for the summary, packets and latencies, and neither links nor rounds\n'
+SEVERAL = b'error: several tables want --out PREFIX, since each goes to a file of its own\n'
+NO_BATCHES = b'error: --batches tells in place of a summary, and not beside --what\n'
 LOAD = b'error: --load is a number from 0.001 to 1000, of at most three digits behind its point\n'
 TOKENS = b'error: --tokens is a number from 0.000001 to 1, of at most six digits behind its point\n'
 HOT_SPOT = b'error: a hot-spot wants --target T, its terminal, and no other pattern does\n'
@@ -15,6 +17,13 @@ HOT_SPOT = b'error: a hot-spot wants --target T, its terminal, and no other patt
 TOLD = [
     (('stats', 'a', 'b', '--format', 'svg'), COUNT_WORDS),
     (('stats', 'a', 'b', '--what', 'tokens'), COUNT_WORDS),
+    (('stats', 'a', 'b', '--what', 'links', '--what', 'tokens', '--out', 'c'), COUNT_WORDS),
+    (('stats', 'a', 'b', '--what', 'links', '--what', 'packets'), SEVERAL),
+    (('stats', 'a', 'b', '--what', 'links', '--what', 'packets', '--what', 'links', '--out', 'c'), b'error: --what links is said twice\n'),
+    (('stats', 'a', 'b', '--what', 'rounds', '--what', 'rounds'), b'error: --what rounds is said twice\n'),
+    (('stats', 'a', 'b', '--what', 'links', '--what', 'packets', '--batches', '2', '--out', 'c'), NO_BATCHES),
+    (('stats', 'a', 'b', '--what', 'packets', '--batches', '2'), NO_BATCHES),
+    (('stats', 'a', 'b', '--what', 'links', '--what', 'rounds', '--from', '1', '--out', 'c'), NO_PACKETS),
     (('stats', 'a', 'b', '--from', '2', '--to', '1'), b'error: --from comes after --to, so no packet is measured\n'),
     (('stats', 'a', 'b', '--what', 'links', '--from', '0'), NO_PACKETS),
     (('stats', 'a', 'b', '--what', 'rounds', '--to', '9'), NO_PACKETS),

@@ -98,11 +98,16 @@ With --from and --to the packets of the summary, of packets and of latencies are
 that were sent in these rounds, wherever they end. With --batches a table has a row for
 each of K parts of the rounds, as alike as can be.
 
+With --out each table is written to a file PREFIX-W.txt, .csv or .json, by its format,
+and nothing is printed; W is summary or batches where there is no --what. There may be
+several --what, each another; then --from and --to are for those that have packets.
+
 CSV and JSON are for programs. A network that stands still with tokens in it is said to,
 with who waits for what: behind what is for people, and else on standard error.
 
   c104 stats --what links --format csv network.txt events.txt > links.csv
-  c104 stats --from 1000 --to 2999 network.txt events.txt";
+  c104 stats --from 1000 --to 2999 network.txt events.txt
+  c104 stats --what packets --what links --out run network.txt events.txt";
 
 /// Of `check`.
 pub const CHECK: &str =

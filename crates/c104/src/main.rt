@@ -3,9 +3,9 @@
 //! `main` reads the command line, opens what it names, calls the function of a command and says what that
 //! function's `Status` means: a message on standard error and an exit status. What the words of the command line ask for is
 //! in `command_line`, with the words of pictures, traffic and counts in modules of their own; the texts of help are in `help`.
-//! Commands of two files but `run` are in `pairs`, how files are opened in `opening`, what a path stands for in `sources`, a
-//! script that is typed in `typed`, what people are told beside the answers in `told`. The functions of the commands are
-//! those of `c104_commands`, `c104_session`, `c104_lockup` and `c104_storm`.
+//! Commands of two files but `run` are in `pairs`, and those that count in `tables`; how files are opened in `opening`, what a
+//! path stands for in `sources`, a script that is typed in `typed`, what people are told beside the answers in `told`. The
+//! functions of the commands are those of `c104_commands`, `c104_session`, `c104_lockup` and `c104_storm`.
 #![tactic(auto)]
 
 mod command_line;
@@ -16,6 +16,7 @@ mod pairs;
 mod picture_words;
 mod sources;
 mod subcommands;
+mod tables;
 mod told;
 mod traffic_words;
 mod typed;
@@ -37,7 +38,7 @@ use c104_stream::{ReadFault, read_up_to};
 use clap::error::ErrorKind;
 use command_line::{Order, STANDARD_INPUT, Words};
 use opening::{HostSource, is_closed, open_both, open_path};
-use pairs::{count_files, draw_files, storm_files, time_files};
+use pairs::{draw_files, storm_files, time_files};
 use sources::Watched;
 use std::io::{Input, IsTerminal};
 use std::process::ExitCode;
@@ -45,6 +46,7 @@ use std::sync::Wait;
 use std::thread::Threads;
 use std::{env, io};
 use subcommands::Subcommand;
+use tables::count_files;
 use told::{Told, tell_of_words};
 use traffic_words::TrafficWords;
 use typed::Typed;
@@ -63,7 +65,7 @@ fn main(rt: HostRuntime) -> ExitCode {
     match command_words(&rt) {
         Ok(words) => do_words(&rt, &rt, words.as_slice()),
         Err(error) if error.kind() == io::ErrorKind::OutOfMemory => {
-            finish(&rt, Status::NoMemory, Order::PLAIN)
+            finish(&rt, Status::NoMemory, None)
         }
         Err(_) => {
             let _ = rt.eprintln("error: a word isn't UTF-8\n\nFor more information, try '--help'.");
@@ -81,24 +83,11 @@ fn command_words(rt: &HostRuntime) -> io::Result<Vec<String>> {
 /// Does what the words ask for, or says what is wrong with them. Help and the version are no fault.
 fn do_words<H: Threads + Wait + Sync>(rt: &HostRuntime, threads: &H, words: &[String]) -> ExitCode {
     let error = match Words::read(rt.alloc(), words) {
-        Ok(words) => {
-            let mut told = Told::new(rt, words.order, words.explain);
-            let status = do_order(rt, threads, words.order, &mut told);
-            if told.has_wrong_word() {
-                return ExitCode::from(WRONG_USAGE);
-            }
-            let code = finish(rt, status, words.order);
-            if let Status::CannotRead(number) = status
-                && let Some(fault) = told.fault()
-            {
-                let _ = eprintln!(rt; "c104: {}: {fault}", words.order.path(number));
-            }
-            return code;
-        }
+        Ok(words) => return do_matched(rt, threads, words),
         Err(error) => error,
     };
     if error.kind() == ErrorKind::OutOfMemory {
-        return finish(rt, Status::NoMemory, Order::PLAIN);
+        return finish(rt, Status::NoMemory, None);
     }
     let shown = error.print(rt);
     if error.use_stderr() {
@@ -109,7 +98,28 @@ fn do_words<H: Threads + Wait + Sync>(rt: &HostRuntime, threads: &H, words: &[St
         Ok(()) => Status::Done,
         Err(_) => Status::CannotWrite,
     };
-    finish(rt, status, Order::PLAIN)
+    finish(rt, status, None)
+}
+
+/// Does what the words ask for that were matched.
+fn do_matched<H: Threads + Wait + Sync>(
+    rt: &HostRuntime,
+    threads: &H,
+    words: Words<'_>,
+) -> ExitCode {
+    let mut told = Told::new(rt, words.order, words.explain);
+    let status = do_order(rt, threads, words.order, &mut told);
+    if told.has_wrong_word() {
+        return ExitCode::from(WRONG_USAGE);
+    }
+    let path = told.failed_path(status);
+    let code = finish(rt, status, path);
+    if let Some(path) = path
+        && let Some(fault) = told.fault()
+    {
+        let _ = eprintln!(rt; "c104: {path}: {fault}");
+    }
+    code
 }
 
 /// Does an order, and tells what people are to be told.
@@ -297,7 +307,7 @@ fn draw_file(rt: &HostRuntime, order: Order<'_>, told: &mut Told<'_>) -> Status 
     draw_command(
         rt.alloc(),
         &mut text,
-        marks_of(order),
+        order.picture.marks(),
         &mut io::writer(rt),
         told,
     )
@@ -356,15 +366,6 @@ fn refuse_pattern(rt: &HostRuntime, word: &str) {
     );
 }
 
-/// What is to be marked in a picture.
-fn marks_of(order: Order<'_>) -> Marks {
-    match order.picture.header {
-        Some(header) => Marks::Header(u32::from(header)),
-        None if order.picture.cycles => Marks::Cycle,
-        None => Marks::Nothing,
-    }
-}
-
 /// Whether the headers of a description's network have one byte.
 fn has_short_headers(rt: &HostRuntime, description: &[u8]) -> bool {
     match read_description(rt.alloc(), description) {
@@ -373,13 +374,18 @@ fn has_short_headers(rt: &HostRuntime, description: &[u8]) -> bool {
     }
 }
 
-/// Says on standard error what failed, and gives the exit status.
-fn finish(rt: &HostRuntime, status: Status, order: Order<'_>) -> ExitCode {
-    let _ = match status {
-        Status::Done | Status::Refused => Ok(()),
-        Status::CannotRead(number) => eprintln!(rt; "c104: cannot read {}", order.path(number)),
-        Status::CannotWrite => rt.eprintln("c104: cannot write"),
-        Status::NoMemory => rt.eprintln("c104: no memory"),
+/// Says on standard error what failed, and of which file, and gives the exit status.
+fn finish(rt: &HostRuntime, status: Status, path: Option<&str>) -> ExitCode {
+    let code = ExitCode::from(status.exit_code());
+    let failed = match status {
+        Status::Done | Status::Refused => return code,
+        Status::CannotRead(_) => "cannot read",
+        Status::CannotWrite => "cannot write",
+        Status::NoMemory => "no memory",
     };
-    ExitCode::from(status.exit_code())
+    let _ = match path {
+        Some(path) => eprintln!(rt; "c104: {failed} {path}"),
+        None => eprintln!(rt; "c104: {failed}"),
+    };
+    code
 }

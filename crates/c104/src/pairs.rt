@@ -4,10 +4,7 @@ use crate::command_line::Order;
 use crate::count_words::CountWords;
 use crate::opening::open_both;
 use crate::told::Told;
-use c104_session::{
-    Asked, Format, Measured, Printing, What, Window, draw_over_time_command, draw_state_command,
-    stats_command,
-};
+use c104_session::{Asked, Format, draw_over_time_command, draw_state_command};
 use c104_setup::Status;
 use c104_storm::storm_command;
 use std::io;
@@ -102,46 +99,6 @@ fn time_asked(rt: &HostRuntime, order: Order<'_>, asked: Asked, told: &mut Told<
     status
 }
 
-/// Counts a run of two files. A format or a table that there isn't is a wrong word, and so are rounds that choose nothing.
-pub fn count_files(rt: &HostRuntime, order: Order<'_>, told: &mut Told<'_>) -> Status {
-    match printing_of(order.counts) {
-        Ok(printing) => count_printed(rt, order, printing, told),
-        Err(wrong) => {
-            let _ = rt.eprintln(wrong);
-            told.note_wrong_word();
-            Status::Refused
-        }
-    }
-}
-
-/// Counts a run of two files, and prints that so.
-fn count_printed(
-    rt: &HostRuntime,
-    order: Order<'_>,
-    printing: Printing,
-    told: &mut Told<'_>,
-) -> Status {
-    let (mut description, mut script) = match open_both(
-        rt,
-        order.description,
-        order.path(1),
-        told,
-    ) {
-        Ok(sources) => sources,
-        Err(status) => return status,
-    };
-    let status = stats_command(
-        rt.alloc(),
-        printing,
-        &mut description,
-        &mut script,
-        &mut io::writer(rt),
-        told,
-    );
-    told.note_fault(description.fault().or(script.fault()));
-    status
-}
-
 /// The rounds that are asked for, and their format; or what is wrong.
 fn asked_of(words: CountWords<'_>) -> Result<Asked, &'static str> {
     let format = match words.format {
@@ -159,72 +116,12 @@ fn asked_of(words: CountWords<'_>) -> Result<Asked, &'static str> {
     }
 }
 
-/// What is to be printed, and how; or what is wrong.
-fn printing_of(words: CountWords<'_>) -> Result<Printing, &'static str> {
-    let Some((what, format)) = table_of(words) else {
-        return Err(
-            "error: the formats are table, csv and json, and the tables packets, latencies, links and rounds",
-        );
-    };
-    if what.is_some() && words.batches.is_some() {
-        return Err("error: --batches tells in place of a summary, and not beside --what");
-    }
-    let measured = Measured {
-        window: window_of(words, what)?,
-        batches: words.batches,
-    };
-    Ok(Printing {
-        what,
-        format,
-        measured,
-    })
-}
-
-/// The table that is to be printed, and its format. None where a word names neither.
-fn table_of(words: CountWords<'_>) -> Option<(Option<What>, Format)> {
-    let format = format_of(words.format.unwrap_or("table"))?;
-    let what = match words.what {
-        Some(word) => Some(what_of(word)?),
-        None => None,
-    };
-    Some((what, format))
-}
-
-/// The rounds in which packets are sent that are measured for a table, or for the summary; or what is wrong.
-fn window_of(words: CountWords<'_>, what: Option<What>) -> Result<Window, &'static str> {
-    if words.from.is_none() && words.to.is_none() {
-        return Ok(Window::all());
-    }
-    if let Some(What::Links | What::Rounds) = what {
-        return Err(
-            "error: --from and --to choose packets, for the summary, packets and latencies, and neither links nor rounds",
-        );
-    }
-    let from = words.from.unwrap_or(0);
-    let to = words.to.unwrap_or(u32::MAX);
-    if from > to {
-        return Err("error: --from comes after --to, so no packet is measured");
-    }
-    Ok(Window { from, to })
-}
-
 /// The format of this name.
-fn format_of(word: &str) -> Option<Format> {
+pub fn format_of(word: &str) -> Option<Format> {
     match word {
         "table" => Some(Format::Table),
         "csv" => Some(Format::Csv),
         "json" => Some(Format::Json),
-        _ => None,
-    }
-}
-
-/// The table of this name.
-fn what_of(word: &str) -> Option<What> {
-    match word {
-        "packets" => Some(What::Packets),
-        "latencies" => Some(What::Latencies),
-        "links" => Some(What::Links),
-        "rounds" => Some(What::Rounds),
         _ => None,
     }
 }

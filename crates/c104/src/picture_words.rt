@@ -2,6 +2,7 @@
 
 use crate::command_line::{SCRIPT, add_argument, flag, script_argument, valued};
 use crate::count_words::{FORMAT, FROM, TO, round_option};
+use c104_commands::Marks;
 use clap::{Arg, ArgMatches, Command, value_parser};
 use std::alloc::{AllocError, Global};
 
@@ -34,6 +35,15 @@ impl PictureWords {
             cycles: given.get_flag(CYCLES),
             state: given.get_flag(STATE),
             over_time: given.get_flag(OVER_TIME),
+        }
+    }
+
+    /// What is to be marked in a picture.
+    pub fn marks(self) -> Marks {
+        match self.header {
+            Some(header) => Marks::Header(u32::from(header)),
+            None if self.cycles => Marks::Cycle,
+            None => Marks::Nothing,
         }
     }
 }

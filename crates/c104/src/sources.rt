@@ -1,10 +1,11 @@
-//! What a path of the command line stands for: a file, or standard input.
+//! What a path of the command line stands for: a file that is read, or standard input; and files that are written.
 //!
-//! A file and standard input are one type, so each command is compiled once.
+//! A file that is read and standard input are one type, so each command of them is compiled once.
 ghost use Rattle.c104.specs.Sources.{source_remaining};
 
 use crate::command_line::STANDARD_INPUT;
-use std::io::{Input, Read};
+use std::fs::File;
+use std::io::{Input, Read, Write};
 use std::marker::Model;
 use std::rt::Files;
 use std::{fs, io};
@@ -93,5 +94,42 @@ impl<R: Read + Drop> Read for Watched<R> {
                 Err(error)
             }
         }
+    }
+}
+
+/// A file that is written, of which is kept why that failed last.
+#[derive(Drop)]
+pub struct Saved {
+    file: File,
+    // The system's number of the fault.
+    fault: Option<i32>,
+}
+
+impl Saved {
+    /// Makes the file of a path, or empties it.
+    pub fn create(rt: &HostRuntime, path: &str) -> io::Result<Self> {
+        let file = fs::create(rt, path)?;
+        Ok(Saved { file, fault: None })
+    }
+
+    /// The system's number of why it failed last, where it did and the system has one.
+    pub fn fault(&self) -> Option<i32> {
+        self.fault
+    }
+}
+
+impl Write for Saved {
+    fn write(&mut self, buf: &[u8]) -> io::Result<usize> {
+        match self.file.write(buf) {
+            Ok(count) => Ok(count),
+            Err(error) => {
+                self.fault = error.raw_os_error();
+                Err(error)
+            }
+        }
+    }
+
+    fn flush(&mut self) -> io::Result<()> {
+        self.file.flush()
     }
 }

@@ -4,6 +4,7 @@ ghost use Rattle.std.specs.Prelude.{⊤};
 use crate::command_line::{EXPLAIN_WORD, Order};
 use crate::subcommands::Subcommand;
 use c104_mistakes::{About, Messages};
+use c104_setup::Status;
 use clap::Error;
 use clap::error::ErrorKind;
 use std::alloc::AllocError;
@@ -33,10 +34,14 @@ pub struct Told<'a> {
     is_watched: bool,
     // Whether a person types the script.
     is_asked: bool,
-    // The system's number of the fault of what can't be read.
+    // The system's number of the fault of what can't be read, or written.
     fault: Option<i32>,
+    // The path of a file that can't be written.
+    unwritten: Option<String>,
     // Whether a word of the command line turned out to be wrong.
     has_wrong_word: bool,
+    // Whether a run is done again of which all was told. Then it is told how far its rounds are, and nothing else.
+    is_again: bool,
     going: Option<Going>,
 }
 
@@ -53,7 +58,9 @@ impl<'a> Told<'a> {
             is_watched,
             is_asked: is_typed && is_watched,
             fault: None,
+            unwritten: None,
             has_wrong_word: false,
+            is_again: false,
             going: None,
         }
     }
@@ -68,6 +75,17 @@ impl<'a> Told<'a> {
         self.fault = fault;
     }
 
+    /// Notes the path of a file that can't be written, and why, where the system has a number for it.
+    pub fn note_unwritten(&mut self, path: String, fault: Option<i32>) {
+        self.unwritten = Some(path);
+        self.fault = fault;
+    }
+
+    /// Notes that all is told of a run, so that nothing is told twice where it is done again.
+    pub fn note_told(&mut self) {
+        self.is_again = true;
+    }
+
     /// Notes that a word of the command line doesn't go with the description.
     pub fn note_wrong_word(&mut self) {
         self.has_wrong_word = true;
@@ -78,11 +96,27 @@ impl<'a> Told<'a> {
         self.has_wrong_word
     }
 
-    /// Why something couldn't be read, as the system names it, where people are told.
+    /// The path of what can't be read or written, where a command that ends so was stopped by one.
+    pub fn failed_path(&self, status: Status) -> Option<&str> {
+        match (status, &self.unwritten) {
+            (Status::CannotRead(number), _) => Some(self.order.path(number)),
+            (Status::CannotWrite, Some(path)) => Some(path.as_str()),
+            _ => None,
+        }
+    }
+
+    /// Why something couldn't be read or written, as the system names it, where people are told.
     pub fn fault(&self) -> Option<io::Error> {
         match self.fault {
             Some(code) if self.is_wanted => Some(io::Error::from_raw_os_error(code)),
             _ => None,
+        }
+    }
+
+    /// Shows a message, the whole line at once. Where that fails, the message is lost.
+    fn show(&self, about: About, message: &str) {
+        if let Ok(line) = self.line_of(about, message) {
+            let _ = self.rt.stderr().write_all(line.as_bytes());
         }
     }
 
@@ -131,7 +165,7 @@ impl Messages for Told<'_> {
     ghost saves = { λ old file picture new. ⊤ };
 
     fn are_wanted(&self) -> bool {
-        self.is_wanted
+        self.is_wanted && !self.is_again
     }
 
     fn are_asked(&self) -> bool {
@@ -139,9 +173,8 @@ impl Messages for Told<'_> {
     }
 
     fn tell(&mut self, about: About, message: &str) {
-        if let Ok(line) = self.line_of(about, message) {
-            // The whole line at once. Where that fails, the message is lost.
-            let _ = self.rt.stderr().write_all(line.as_bytes());
+        if !self.is_again {
+            self.show(about, message);
         }
     }
 
@@ -155,7 +188,7 @@ impl Messages for Told<'_> {
             line => (About::ScriptLine(line), "rounds"),
         };
         if let Ok(message) = format!(in self.rt.alloc(); "{done} of {count} {what} are done") {
-            self.tell(about, message.as_str());
+            self.show(about, message.as_str());
         }
     }
 
