@@ -43,7 +43,7 @@ fn faulty_lines(rt: HostRuntime) {
     let messages = "a line has at most 16384 bytes\n\
         the first word is not one that a script has\n\
         the line has a wrong byte or a wrong count of words, or a second dot\n\
-        a number is 1 to 7 decimal digits\n\
+        a number is 1 to 7 decimal digits, rounds are 1 to 10000, and a seed is below 2^64\n\
         a word isn't made of the hexadecimal digits that are wanted, and is no end of a packet\n\
         the packet has no end: `eop` or `eom` is wanted\n\
         a word follows the packet's end\n\
