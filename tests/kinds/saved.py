@@ -83,7 +83,8 @@ def tables(runner):
     case(runner, 'batches', ('--out', 'run', '--format', 'csv', '--batches', '1'),
          {'run-batches.csv': csv_text(('from', 'to', *SUMMARY[1:5], *SUMMARY[7:17]), ['1 4 0 0 0 0 - - - - - - - - 0.000 0.375'])})
     case(runner, 'from a round on', (*TWO, *form, '--from', '3'),
-         {'run-packets.csv': csv_text(PACKETS, ('a 1 b 1 2 3 4 6 3 0 arrived',)), 'run-links.csv': csv_text(LINKS, APART_LINKS)}, script=APART)
+         {'run-packets.csv': csv_text(PACKETS, ('a 1 b 1 2 3 4 6 3 0 arrived',)), 'run-links.csv': csv_text(LINKS, APART_LINKS)},
+         script=APART)
     case(runner, 'files in place of others', (*TWO, *form), csv_of('packets', 'links'),
          before=lambda room: [shadow(room, 'run-packets.csv', b'x' * 10000), shadow(room, 'run-links.csv', b'')])
 
@@ -100,7 +101,8 @@ def inputs(runner):
     case(runner, 'a script on standard input', words, due, paths=('network', '-'), data=FIRST)
     case(runner, 'a description on standard input', words, due, paths=('-', 'events'), data=PLAN)
     case(runner, 'a description through a pipe', words, due, paths=('/dev/stdin', 'events'), data=PLAN)
-    empty = {'run-packets.csv': csv_text(PACKETS, ()), 'run-links.csv': csv_text(LINKS, ['%s 0 0.000 0 0 0' % it for it in ('A.0', 'A.1', 'a', 'b')])}
+    unused = ['%s 0 0.000 0 0 0' % it for it in ('A.0', 'A.1', 'a', 'b')]
+    empty = {'run-packets.csv': csv_text(PACKETS, ()), 'run-links.csv': csv_text(LINKS, unused)}
     case(runner, 'both on standard input', words, empty, paths=('-', '-'), data=PLAN)
     case(runner, 'a script too long', ('--what', 'packets', '--out', 'run'),
          {'run-packets.txt': table_text(PACKETS, ['a 0 - 1 0 0 - - - 0 unfinished'])}, status=1,
