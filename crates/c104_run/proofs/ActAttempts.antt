@@ -3,12 +3,13 @@ use Rattle.{c104_event.specs.declared.{events.Event.Event, faults.EventFault.Eve
 use Rattle.c104_node.specs.{Places.{IsFullByTrace, Shown}, PortActs.Acts, Traces.seatless, declared.acts.ActOf.ActOf}
 use Rattle.{c104_node.specs.declared.{crossings.Crossing.Crossing, ends.End.End}, c104_plan.specs.{Plans.Plan, Wiring.peer}}
 use Rattle.{c104_plan.specs.declared.ports.Port.Port, c104_run.proofs.{ActAnswers.event_done, MeteredSteps.{part_done, told_meter}}}
-use Rattle.c104_run.{proofs.StageSteps.fulls_kept, specs.{Ends.end_of, EventActs.{crossing_acts, crossing_event, event_acts, port_place}}}
-use Rattle.c104_run.specs.{EventsAtPlaces.{ActsDone, told_answer}, FarEnds.far_end, Meters.{Sees, meter_told, metered_apply, metered_of}}
-use Rattle.c104_run.specs.{NetRecords.{is_done, ticket_after}, Network.{event_fault, wired_fault}, RoundParts.{PartEnds, done_answer}}
-use Rattle.{c104_switch.specs.declared.actions.ReplyOf.ReplyOf, c104_token.specs.Kinds.Kind, std.proofs.Common.{Bool, List, None, Option}}
-use Rattle.std.proofs.Common.{Result, Some, [], ap, arith, length, map, nat_lt, refl, subst, true, ℕ, ◌-◌, ◌<◌, ◌∙◌, ◌∷◌, ◌≡◌}
-use Rattle.std.proofs.lemmas.Bool.Decides.{nat_tests}
+use Rattle.c104_run.{proofs.{RoundRuns.Applied, StageSteps.{fulls_kept, stage_done}}, specs.{Ends.end_of, EventActs.crossing_acts}}
+use Rattle.c104_run.specs.{EventActs.{crossing_event, event_acts, port_place}, EventRuns.Answers, EventsAtPlaces.{ActsDone, told_answer}}
+use Rattle.c104_run.specs.{FarEnds.far_end, Meters.{Sees, meter_told, metered_apply, metered_of}, NetRecords.{is_done, ticket_after}}
+use Rattle.c104_run.specs.{Network.{event_fault, wired_fault}, RoundParts.{PartEnds, done_answer}, Stages.{stage_apply, stage_of}}
+use Rattle.{c104_switch.specs.{Actions.Reply, declared.actions.ReplyOf.ReplyOf}, c104_token.specs.Kinds.Kind, std.proofs.Common.{Bool, Err}}
+use Rattle.std.proofs.Common.{IfOk, List, None, Ok, Option, Result, Some, [], ap, arith, inl, inr, length, map, nat_lt, refl, subst, sym}
+use Rattle.std.proofs.{Common.{true, ℕ, ◌-◌, ◌<◌, ◌∙◌, ◌∷◌, ◌≡◌}, lemmas.Bool.Decides.nat_tests}
 
 -- what can happen at a wired port: what crosses from there, of whatever kind
 crossing_possible : (plan : Plan) (crossing : Crossing) (p : Port) → wired_fault plan p ≡ None → event_fault plan (crossing_event crossing p) ≡ None
@@ -17,6 +18,11 @@ crossing_possible plan crossing p wired = search arith
 -- it asks that this crosses
 crossing_known : {A : Type 0} (plan : Plan) (crossing : Crossing) (p : Port) → ◌≡◌ {A = Option (Acts A)} (event_acts plan (crossing_event crossing p)) (crossing_acts crossing p (peer plan p))
 crossing_known plan crossing p = search arith
+
+-- an answer tells whether its event was done
+answer_tells : {S : Type 0} (apply : S → Event → Applied S) (s after : S) (e : Event) (answer : Result Reply EventFault) → Answers apply s e answer after → IfOk (done_answer answer) (λ done. is_done (apply s e).0 ≡ done)
+answer_tells {S} apply s after e (Ok r) answers = elim answers [ inl due ↦ sym (ap (λ (x : Applied S). is_done x.0) due) | inr short ↦ absurd (cc short.0) ]
+answer_tells {S} apply s after e (Err f) answers = tt
 
 module _ {A M P : Type 0} (kind : Kind A) (keeps : Bool) (sees : Sees M A) (shown : P → Shown A) (limited : (p : P) → IsFullByTrace keeps (shown p)) (plan : Plan) (olds news : List P) (count counted : ℕ) (m n : M)
     (told : Result (ReplyOf A) EventFault) (counts : counted ≡ ticket_after count (is_done (told_answer kind told))) where
@@ -33,6 +39,13 @@ module _ {A M P : Type 0} (kind : Kind A) (keeps : Bool) (sees : Sees M A) (show
   -- an act of one node
   pub alone_tried : (e : Event) → n ≡ meter_told sees m e told → event_fault plan e ≡ None → (k : ℕ) (a : ActOf A) → event_acts plan e ≡ Some (Acts.Alone k a) → AloneDone kind keeps k (k - length plan.switches) (seatless count) a (map shown olds) told (map shown news) → IsTried e
   alone_tried e tells possible k a known done = acts_tried e tells possible (Acts.Alone k a) known done
+
+  pub alone_tells : (e : Event) → event_fault plan e ≡ None → (k : ℕ) (a : ActOf A) → event_acts plan e ≡ Some (Acts.Alone k a) → AloneDone kind keeps k (k - length plan.switches) (seatless count) a (map shown olds) told (map shown news) →
+      IfOk (done_answer (told_answer kind told)) (λ done. is_done (metered_apply kind keeps sees (metered_of plan (map shown olds) count m) e).0 ≡ done)
+  alone_tells e possible k a known done =
+      answer_tells (stage_apply kind keeps) (stage_of plan (map shown olds) count) (stage_of plan (map shown news) counted) e (told_answer kind told)
+      (stage_done kind keeps plan (map shown olds) (map shown news) count counted (fulls_kept keeps shown limited olds) e (told_answer kind told)
+      (event_done kind plan e (Acts.Alone k a) known keeps (seatless count) possible (map shown olds) told (map shown news) done) counts)
 
   -- what crosses a wire
   module _ (p q : Port) (crossing : Crossing) (near far : End) (near_is : near ≡ end_of plan p) (far_is : far_end plan p ≡ Some far) (wired : peer plan p ≡ Some q) where

@@ -22,6 +22,12 @@ pub mod MeteredSteps
 pub mod NoFaults
 pub mod HandedWords
 pub mod IdleRounds
+pub mod LinkOrders
+pub mod FairParts
+pub mod FairRecords
+pub mod FairRoundRecords
+pub mod FairRuns
+pub mod FairWalks
 pub mod IdleEvents
 pub mod RoundJoins
 pub mod RecordedRuns

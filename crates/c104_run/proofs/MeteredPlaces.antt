@@ -31,7 +31,7 @@ module _ {A P M : Type 0} (v : Reading A P) (keeps : Bool) (is : KeepsRecord v k
     same_start : map v.start new ≡ map v.start old
     same_start = starts_same v is.reads new old same
 
-    meters_so : (Ends : Bool → Metered A M → Metered A M → Type 0) → ((x y : Metered A M) → Ends true x y → Ends true (at_starts (map v.start old) x) (at_starts (map v.start old) y)) → Ends keeps (metered_of plan (map v.shown old) count m) (metered_of plan (map v.shown new) counted n) →
+    pub meters_so : (Ends : Bool → Metered A M → Metered A M → Type 0) → ((x y : Metered A M) → Ends true x y → Ends true (at_starts (map v.start old) x) (at_starts (map v.start old) y)) → Ends keeps (metered_of plan (map v.shown old) count m) (metered_of plan (map v.shown new) counted n) →
         MetersSo v.kind (places_record v plan old count) m (places_record v plan new counted) n (λ x y. Ends true x y)
     meters_so Ends seen ends = record {
       before = map (read_state v) old;

@@ -5,24 +5,24 @@ use Rattle.{c104_plan.specs.declared.ports.Port.Port, c104_run.proofs.PortWalks.
 use Rattle.c104_run.{proofs.RoundRuns.{Applied, run_append, run_from}, specs.EventRuns.{EventsEnd, Outcome, run_events, unless_fault}}
 use Rattle.c104_run.specs.HandedWords.{Words, all_worded, round_with, rounds_with, walked_with, worded, words_after, words_behind}
 use Rattle.c104_run.specs.RoundParts.{claim_walk, drain_walk, input_walk, output_walk, port_events, switch_walk, terminal_walk}
-use Rattle.{c104_run.specs.Rounds.{link_numbers, round, rounds, turn_at, wired_ports}, std.proofs.Common.{Err, List, Ok, Result, [], ap}}
+use Rattle.{c104_run.specs.Rounds.{link_numbers, round, rounds, turn_at, wired_ports}, std.proofs.Common.{Err, List, Ok, [], ap}}
 use Rattle.std.proofs.Common.{append-nil, append_assoc, arith, inl, inr, length, refl, suc, sym, zero, ℕ, ◌++◌, ◌+◌, ◌-◌, ◌<◌, ◌∙◌, ◌∷◌}
 use Rattle.std.{proofs.{Common.◌≡◌, lemmas.List.map-append}, specs.List.{flat_map, range_with_len}}
 
 module _ (words : Words) where
   -- events of parts that hand none
-  flat_kept : {X : Type 0} (f : X → List Event) → ((x : X) → all_worded words (f x) ≡ f x) → (xs : List X) → all_worded words (flat_map f xs) ≡ flat_map f xs
+  pub flat_kept : {X : Type 0} (f : X → List Event) → ((x : X) → all_worded words (f x) ≡ f x) → (xs : List X) → all_worded words (flat_map f xs) ≡ flat_map f xs
   flat_kept f each [] = refl
   flat_kept f each (x ∷ xs) = search (arith, map-append, each x, flat_kept f each xs)
 
-  joined : (xs ys : List Event) {us vs : List Event} → all_worded words xs ≡ us → all_worded words ys ≡ vs → all_worded words (xs ++ ys) ≡ us ++ vs
+  pub joined : (xs ys : List Event) {us vs : List Event} → all_worded words xs ≡ us → all_worded words ys ≡ vs → all_worded words (xs ++ ys) ≡ us ++ vs
   joined xs ys {us} {vs} one two = map-append (worded words) xs ys ∙ ap (λ es. es ++ all_worded words ys) one ∙ ap (λ es. us ++ es) two
 
   module _ (plan : Plan) where
-    credit_kept : all_worded words (switch_walk plan Credit ++ terminal_walk plan Credit) ≡ switch_walk plan Credit ++ terminal_walk plan Credit
+    pub credit_kept : all_worded words (switch_walk plan Credit ++ terminal_walk plan Credit) ≡ switch_walk plan Credit ++ terminal_walk plan Credit
     credit_kept = ap (all_worded words) (sym (ports_walked plan Credit)) ∙ flat_kept (port_events Credit) (λ p. refl) (wired_ports plan) ∙ ports_walked plan Credit
 
-    cross_kept : all_worded words (switch_walk plan Cross ++ terminal_walk plan Cross) ≡ switch_walk plan Cross ++ terminal_walk plan Cross
+    pub cross_kept : all_worded words (switch_walk plan Cross ++ terminal_walk plan Cross) ≡ switch_walk plan Cross ++ terminal_walk plan Cross
     cross_kept = ap (all_worded words) (sym (ports_walked plan Cross)) ∙ flat_kept (port_events Cross) (λ p. refl) (wired_ports plan) ∙ ports_walked plan Cross
 
     claims_kept : all_worded words (claim_walk plan) ≡ claim_walk plan

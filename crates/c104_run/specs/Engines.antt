@@ -1,9 +1,10 @@
 -- The engine of a network as a value: what it has of the network when it runs, and the network and the stage that this shows.
 use Rattle.{c104_event.specs.declared.{events.Event.Event, faults.EventFault.EventFault}, c104_node.specs.Places.{Shown, bases, states}}
-use Rattle.{c104_plan.specs.Plans.Plan, c104_run.specs.{KnownWires.KnowWires, LivePlaces.AreLive, Meters.{Metered, Sees, metered_apply}}}
-use Rattle.c104_run.specs.{Meters.metered_of, NetRecords.NetRecord, Network.{Network, network_of}, RecordedNets.{Reading, places_record}}
-use Rattle.{c104_run.specs.RoundParts.PartEnds, c104_token.specs.Kinds.Kind}
-use Rattle.std.specs.Prelude.{Bool, List, Result, map, ℕ, ◌≡◌}
+use Rattle.{c104_plan.specs.Plans.Plan, c104_run.specs.{FairRounds.{SwitchTurns, fairly, in_turn}, KnownWires.KnowWires}}
+use Rattle.c104_run.specs.{LivePlaces.AreLive, Meters.{Metered, Sees, metered_apply, metered_of}, NetRecords.{NetRecord, is_done}}
+use Rattle.c104_run.specs.{Network.{Network, network_of}, RecordedNets.{Reading, places_record}, RoundParts.PartEnds}
+use Rattle.c104_token.specs.Kinds.{Kind}
+use Rattle.std.specs.Prelude.{Bool, IfOk, List, Result, map, ℕ, ◌≡◌}
 
 -- an engine: its plan, the places of its nodes, and how many events were done
 pub record EngineView (P : Type 0) : Type 0 where
@@ -39,3 +40,16 @@ pub record DoesPart {A M P : Type 0} (kind : Kind A) (keeps : Bool) (sees : Sees
     (old : EngineView P) (m : M) (part : Plan → List Event) (result : Result Bool EventFault) (new : EngineView P) (n : M) : Type 0 where
   pub plan : new.plan ≡ old.plan
   pub ends : PartEnds (metered_apply kind keeps sees) (engine_at shown old m) (part old.plan) result (engine_at shown new n)
+
+-- the same of a part of a fair round, with the turns before and after it
+pub record DoesFairly {A M P : Type 0} (kind : Kind A) (keeps : Bool) (sees : Sees M A) (shown : P → Shown A)
+    (old : EngineView P) (m : M) (turns : List SwitchTurns) (part : Plan → List Event) (result : Result Bool EventFault)
+    (new : EngineView P) (n : M) (left : List SwitchTurns) : Type 0 where
+  pub plan : new.plan ≡ old.plan
+  pub ends : PartEnds (fairly (metered_apply kind keeps sees)) (in_turn (engine_at shown old m) turns) (part old.plan) result
+      (in_turn (engine_at shown new n) left)
+
+-- the answer of a part that is one event tells whether that was done
+abbrev pub TellsDone : {A M P : Type 0} → Kind A → Bool → Sees M A → (P → Shown A) → EngineView P → M → Event → Result Bool EventFault → Type 0
+TellsDone kind keeps sees shown old m e result =
+    IfOk result (λ done. is_done (metered_apply kind keeps sees (engine_at shown old m) e).0 ≡ done)

@@ -38,3 +38,5 @@ pub mod RecordedNets
 pub mod Engines
 pub mod RecordedPlaces
 pub mod NetParts
+pub mod LinkOrders
+pub mod FairRounds

@@ -1,9 +1,10 @@
 -- What a meter is told of a network with its record: by the tokens that the network carries itself.
 use Rattle.{c104_event.specs.declared.{events.Event.Event, faults.EventFault.EventFault}, c104_node.specs.MappedNodes.map_node}
 use Rattle.{c104_node.specs.{Nodes.Node, Places.started_base, Starts.start_node, Traces.seatless}, c104_run.specs.EventRuns.Answers}
-use Rattle.c104_run.specs.{HandedWords.{Words, round_with}, Meters.{Metered, Sees, metered_apply, with_meter}, NetRecords.NetRecord}
-use Rattle.c104_run.specs.{Network.network_of, RecordedRuns.record_apply, RoundParts.PartEnds, Runs.IsRunRecord, Stages.Stage}
-use Rattle.{c104_switch.specs.Actions.Reply, c104_token.specs.Kinds.Kind}
+use Rattle.c104_run.specs.{FairRounds.{SwitchTurns, fair_round, fairly, in_turn}, HandedWords.{Words, round_with}, Meters.{Metered, Sees}}
+use Rattle.c104_run.specs.{Meters.{metered_apply, with_meter}, NetRecords.NetRecord, Network.network_of, RecordedRuns.record_apply}
+use Rattle.{c104_run.specs.{RoundParts.PartEnds, Runs.IsRunRecord, Stages.Stage}, c104_switch.specs.Actions.Reply}
+use Rattle.c104_token.specs.Kinds.{Kind}
 use Rattle.std.specs.Prelude.{Bool, List, Result, map, true, ◌≡◌}
 
 -- the stage that a network with its record is at, where its nodes over its own tokens are these
@@ -45,3 +46,14 @@ MetersRound kind sees words old m result new n =
 -- how one round ends: as the run of its events, up to the first that is refused; where none was done nothing has changed
 abbrev pub RecordsRound : Words → NetRecord → Result Bool EventFault → NetRecord → Type 0
 RecordsRound words old result new = PartEnds record_apply old (round_with words old.network.plan) result new
+
+-- the same of a fair round, from turns on, and the turns that it leaves
+abbrev pub MetersFairRound : {A M : Type 0} → Kind A → Sees M A → Words → NetRecord → M → List SwitchTurns → Result Bool EventFault
+    → NetRecord → M → List SwitchTurns → Type 0
+MetersFairRound kind sees words old m turns result new n left =
+    MetersSo kind old m new n (λ x y. PartEnds (fairly (metered_apply kind true sees)) (in_turn x turns)
+    (fair_round words turns old.network.plan) result (in_turn y left))
+
+abbrev pub RecordsFairRound : Words → NetRecord → List SwitchTurns → Result Bool EventFault → NetRecord → List SwitchTurns → Type 0
+RecordsFairRound words old turns result new left =
+    PartEnds (fairly record_apply) (in_turn old turns) (fair_round words turns old.network.plan) result (in_turn new left)

@@ -1,9 +1,10 @@
 -- What events come to in a network with its record, one alone or in turn.
 use Rattle.{c104_event.specs.declared.{events.Event.Event, faults.EventFault.EventFault}, c104_node.specs.Places.started_base}
 use Rattle.{c104_node.specs.{Traces.is_trace_full, declared.starts.NodeStart.NodeStart}, c104_run.specs.EventDeeds.event_full}
-use Rattle.c104_run.specs.{EventRuns.{Answers, EventsEnd}, HandedWords.{Words, rounds_with}, NetRecords.{NetRecord, is_done}}
-use Rattle.{c104_run.specs.{Network.WouldBeDone, Rounds.rounds, Stages.{Stage, stage_apply}}, c104_switch.specs.Actions.Reply}
-use Rattle.c104_token.specs.{Kinds.plain_kind, declared.tokens.Token.Token}
+use Rattle.c104_run.specs.{EventRuns.{Answers, EventsEnd}, FairRounds.{SwitchTurns, fair_events, fairly, in_turn}, HandedWords.Words}
+use Rattle.c104_run.specs.{HandedWords.rounds_with, NetRecords.{NetRecord, is_done}, Network.WouldBeDone, Rounds.rounds, Stages.Stage}
+use Rattle.{c104_run.specs.Stages.stage_apply, c104_switch.specs.Actions.Reply, c104_token.specs.Kinds.plain_kind}
+use Rattle.c104_token.specs.declared.tokens.Token.{Token}
 use Rattle.std.specs.Prelude.{List, Result, false, map, true, ℕ, ◌↔◌, ◌≡◌}
 
 -- the stage that a network with its record is at
@@ -43,6 +44,11 @@ RecordsRounds old n result new = EventsEnd record_apply old (rounds old.network.
 -- the same of rounds whose inputs are handed words
 abbrev pub RecordsHanded : Words → NetRecord → ℕ → Result (Unit {0}) EventFault → NetRecord → Type 0
 RecordsHanded words old n result new = EventsEnd record_apply old (rounds_with words old.network.plan n) result new
+
+-- the same of fair rounds, from turns on, and the turns that they leave
+abbrev pub RecordsFairly : Words → NetRecord → List SwitchTurns → ℕ → Result (Unit {0}) EventFault → NetRecord → List SwitchTurns → Type 0
+RecordsFairly words old turns n result new left =
+    EventsEnd (fairly record_apply) (in_turn old turns) (fair_events record_apply words old.network.plan n (in_turn old turns)) result (in_turn new left)
 
 -- what is due to an event says that it is done exactly where it would be done in the network, and no trace
 -- that it adds to is full

@@ -3,11 +3,11 @@
 //! No list of a round's events is made. Each part walks the places at which something may begin (`LivePlaces`), and leaves
 //! out an event of which the near end says that it isn't ready: it would change nothing.
 ghost use Rattle.std.specs.Prelude.{OnOk, length, map, ◌+◌, ◌<◌, ◌≡◌};
-ghost use Rattle.{c104_node.specs.Places.states, c104_run.specs.NotedSwitches.{AreSo, GrantsNone}};
-ghost use Rattle.c104_run.specs.HandedWords.{round_with, rounds_with};
-ghost use Rattle.c104_run.specs.{Engines.{DoesPart, engine_at}, EventRuns.EventsEnd, Meters.metered_apply};
+ghost use Rattle.{c104_node.specs.Places.states, c104_run.specs.{Engines.{DoesPart, engine_at}, EventRuns.EventsEnd}};
+ghost use Rattle.c104_run.specs.{HandedWords.{round_with, rounds_with}, Meters.metered_apply, NotedSwitches.{AreSo, GrantsNone}};
 
 mod attempts;
+mod fair;
 mod finding;
 mod noted;
 mod walks;

@@ -1,10 +1,11 @@
 //! Rounds of a network whose nodes are seen with their records.
 ghost use Rattle.c104_run.specs.declared.words.Words.TheVariants as Words;
-ghost use Rattle.c104_run.specs.{MeteredRuns.{MetersRound, RecordsRound}, RecordedRuns.{RecordsHanded, RecordsRounds}};
+ghost use Rattle.c104_run.specs.{MeteredRuns.{MetersFairRound, MetersRound, RecordsFairRound, RecordsRound}, RecordedRuns.{RecordsFairly, RecordsHanded, RecordsRounds}};
 
 use super::RecordedNet;
 use crate::meter::{Meter, Unmetered};
 use crate::recorded_place::RecordedPlace;
+use crate::turns::Turns;
 use crate::watch::{Unwatched, Watch};
 use crate::words::Words;
 use c104_event::EventFault;
@@ -40,6 +41,24 @@ impl<T: TokenKind, P: RecordedPlace<T>> RecordedNet<T, P> {
         self.engine.rounds(count, words, &mut Unmetered, watch)
     }
 
+    /// Does `count` fair rounds whose inputs are handed words, as `rounds_watched` does plain ones: of each switch the claims
+    /// go by turns, first those of the input that was given an output longest ago, and of an input that of the output that was
+    /// taken longest ago. Each claim that is done puts its input and its output behind all others in the turns.
+    pub fn fair_rounds<W: Watch>(
+        &mut self,
+        count: u32,
+        words: Words,
+        turns: &mut Turns,
+        watch: &mut W,
+    ) -> Result<(), EventFault>
+        ensures { RecordsFairly words self.old turns.old count result self.new turns.new }
+    {
+        // The proof reads here what every plan keeps.
+        let _plan = self.engine.plan();
+        self.engine
+            .fair_rounds(count, words, turns, &mut Unmetered, watch)
+    }
+
     /// Does one round whose inputs are handed words, tells a meter of each token that crosses a wire and of each that arrives,
     /// and tells whether any event of the round was done. Where none was, no further round would change anything.
     ///
@@ -55,5 +74,20 @@ impl<T: TokenKind, P: RecordedPlace<T>> RecordedNet<T, P> {
         // The proof reads here what every plan keeps.
         let _plan = self.engine.plan();
         self.engine.round(words, meter)
+    }
+
+    /// Does one fair round, as `round_metered` does a plain one.
+    pub fn fair_round_metered<M: Meter<T>>(
+        &mut self,
+        words: Words,
+        turns: &mut Turns,
+        meter: &mut M,
+    ) -> Result<bool, EventFault>
+        ensures recorded { RecordsFairRound words self.old turns.old result self.new turns.new }
+        ensures metered { MetersFairRound T.kind M.sees words self.old meter.old turns.old result self.new meter.new turns.new }
+    {
+        // The proof reads here what every plan keeps.
+        let _plan = self.engine.plan();
+        self.engine.fair_round(words, turns, meter)
     }
 }

@@ -4,7 +4,7 @@
 ghost use Rattle.std.specs.Prelude.{None, Some, [], is_some, length, map, true, ℕ, ◌-◌, ◌<◌, ◌∷◌, ◌≡◌};
 ghost use Rattle.{c104_event.specs.declared.events.Event.Event as TheEvent, c104_node.specs.{ActLinks.act_link, Acts.IsWithinLimits}};
 ghost use Rattle.c104_node.specs.{Acts.nodes_act, PlaceActs.AloneDone, Places.states, PortActs.{Acts, near_act}, Traces.seatless};
-ghost use Rattle.{c104_regs.specs.declared.registers.TheConstants.LINKS, c104_run.specs.Engines.{DoesPart, engine_network, engine_of}};
+ghost use Rattle.{c104_regs.specs.declared.registers.TheConstants.LINKS, c104_run.specs.Engines.{DoesPart, TellsDone, engine_network, engine_of}};
 ghost use Rattle.c104_run.specs.{EventActs.{crossing_event, event_acts, port_place}, EventsAtPlaces.told_answer, HandedWords.all_worded};
 ghost use Rattle.c104_run.specs.{LinkedSets.{LeavesCrossed, LeavesLinks}, LivePlaces.IsOfRound, Meters.meter_after, NetRecords.is_done};
 ghost use Rattle.c104_run.specs.{NetRecords.ticket_after, Network.{event_fault, terminal_place, wired_fault}, NotedSwitches.LeavesEnds};
@@ -139,6 +139,7 @@ impl<T: TokenKind, P: Place<T>> Engine<T, P> {
         requires output { output < LINKS }
         ensures does { DoesPart T.kind P.keeps M.sees P.shown self.old meter.old
             (λ plan. event.Claim switch input output ∷ []) result self.new meter.new }
+        ensures told { TellsDone T.kind P.keeps M.sees P.shown self.old meter.old (event.Claim switch input output) result }
         ensures others { LeavesOthers switch (states (map P.shown self.old.places)) (states (map P.shown self.new.places)) }
     {
         self.attempt_alone(meter, switch, ActOf::Step(ActionOf::Claim(input, output)))
@@ -179,6 +180,9 @@ impl<T: TokenKind, P: Place<T>> Engine<T, P> {
             event_acts self.old.plan e ≡ Some (Acts.Alone place act) →
             ((reply : TheReply T) → meter_after M.sees _meter.now e reply ≡ _meter.now) →
             DoesPart T.kind P.keeps M.sees P.shown self.old _meter.now (λ plan. e ∷ []) result self.new _meter.now }
+        ensures told { (e : TheEvent) → event_fault self.old.plan e ≡ None →
+            event_acts self.old.plan e ≡ Some (Acts.Alone place act) →
+            TellsDone T.kind P.keeps M.sees P.shown self.old _meter.now e result }
         ensures others { LeavesOthers place (states (map P.shown self.old.places)) (states (map P.shown self.new.places)) }
         ensures links { (l word : ℕ) → act ≡ of_node.Step (of_switch.Input l word) → LeavesLinks T.kind part.Turn place l
             (states (map P.shown self.old.places)) (states (map P.shown self.new.places)) }

@@ -1,0 +1,12 @@
+use Rattle.{c104_node.specs.Places.states, c104_run.specs.{Engines.engine_at, EventRuns.run_events, FairRounds.{fair_events, fairly}}}
+use Rattle.c104_run.specs.{FairRounds.in_turn, HandedWords.words_after, Meters.metered_apply, NotedSwitches.{AreSo, GrantsNone}}
+use Rattle.std.proofs.Common.{Ok, length, map, ◌≡◌}
+
+-- the rounds so far are done without a fault, their words are handed on, and what they noted of grants holds
+abbrev pub invariant-loop-round : Rattle.c104_run.proofs.engine.Engine.fair_rounds.Given.invariant-loop-round
+invariant-loop-round g l = record {
+  done : run_events (fairly (metered_apply g.T.TokenKind.kind g.P.Place.keeps g.M.Meter.sees)) (in_turn (engine_at g.P.Place.shown l.initial.self l.initial.meter) l.initial.turns) (fair_events (metered_apply g.T.TokenKind.kind g.P.Place.keeps g.M.Meter.sees) l.fn.words l.initial.self.plan l.round (in_turn (engine_at g.P.Place.shown l.initial.self l.initial.meter) l.initial.turns)) ≡ (Ok tt, in_turn (engine_at g.P.Place.shown l.self l.meter) l.turns);
+  plan : l.self.plan ≡ l.initial.self.plan;
+  handed : l.handed ≡ words_after l.fn.words (length l.initial.self.plan.switches) l.round;
+  grants : AreSo (GrantsNone g.T.TokenKind.kind l.initial.self.plan) l.noted.granting (states (map g.P.Place.shown l.self.places)) 0 (length l.initial.self.plan.switches);
+}
