@@ -2,17 +2,19 @@
 -- deadlock: from what the type of a network with its record keeps.
 use Rattle.c104_check.specs.{ChannelDependencies.IsRanking, Routes.{Routes, routes_of}, declared.ports.SwitchPort.SwitchPort}
 use Rattle.c104_deadlock.proofs.{BeginsStarted.starts_are_started, FullWork.{plain_work, random_within}, RecordedRounds.applied_plain}
-use Rattle.c104_deadlock.proofs.{RecordedRounds.{done_after, done_of, plain_run, starts_stay}, RoundsEnd.{rounds_deliver, run_plain}}
-use Rattle.c104_deadlock.proofs.{RoundsEnd.work_map, StandingRuns.{run_steady, stands_quiet, started_traced}, StartedRuns.run_started}
-use Rattle.c104_deadlock.proofs.{UndoneRounds.undone_stands, WorkBounds.bound_by_tokens, WorkEvents.event_less, WorkRounds.falling}
+use Rattle.c104_deadlock.proofs.{RecordedRounds.{done_after, done_of, plain_run, starts_stay}, RoundsAlike.{AreRounds, fair_rounds}}
+use Rattle.c104_deadlock.proofs.{RoundsAlike.handed_rounds, RoundsEnd.{rounds_deliver, run_plain, work_map}, StandingRuns.run_steady}
+use Rattle.c104_deadlock.proofs.{StandingRuns.{stands_quiet, started_traced}, StartedRuns.run_started, UndoneRounds.undone_stands}
+use Rattle.c104_deadlock.{proofs.{WorkBounds.bound_by_tokens, WorkEvents.event_less, WorkRounds.falling}, specs.DeadlockFreedom.FairDeliver}
 use Rattle.c104_deadlock.specs.DeadlockFreedom.{HasFullInbox, HasFullTrace, HasNoDeadlock, IsAcyclicNet, IsAcyclicRun, IsAllDelivered}
-use Rattle.c104_deadlock.specs.{DeadlockFreedom.{NothingDone, RoundsDeliver}, HeaderWork.{random_ahead, random_work}, Work.highest_rank}
-use Rattle.{c104_event.specs.declared.{events.Event.Event, faults.EventFault.EventFault}, c104_net.proofs.PacketInvariant.IsLabelled}
-use Rattle.c104_net.proofs.{Promises.{each, starts}, RunOrigins.still_steady, RunSteps.header_positive, SentBytes.AreBytesSent}
-use Rattle.c104_net.{proofs.{StartMaps.starts_are, TracedRuns.{token_of, traced_from}}, specs.{Deliveries.Promise, RoundEvents.IsOfRound}}
-use Rattle.c104_node.specs.{MappedNodes.map_node, Quiet.IsQuietNode, Starts.start_node, Traced.traced_kind, declared.traced.Traced.Traced}
-use Rattle.{c104_plan.specs.{PlanImage.Image, Plans.{IsPlan, Plan}}, c104_run.proofs.{NodeMaps.quiet_map, RecordSteps.done_made}}
-use Rattle.c104_run.{proofs.{RoundRuns.Applied, StepMaps.apply_map}, specs.EventRuns.{Outcome, StopsShort, run_events}}
+use Rattle.c104_deadlock.specs.{DeadlockFreedom.{NothingDone, RoundsDeliver}, HeaderWork.{random_ahead, random_bound, random_work}}
+use Rattle.{c104_deadlock.specs.Work.highest_rank, c104_event.specs.declared.{events.Event.Event, faults.EventFault.EventFault}}
+use Rattle.c104_net.proofs.{PacketInvariant.IsLabelled, Promises.{each, starts}, RunOrigins.still_steady, RunSteps.header_positive}
+use Rattle.c104_net.{proofs.{SentBytes.AreBytesSent, StartMaps.starts_are, TracedRuns.{token_of, traced_from}}, specs.Deliveries.Promise}
+use Rattle.{c104_net.specs.RoundEvents.IsOfRound, c104_node.specs.{MappedNodes.map_node, Quiet.IsQuietNode, Starts.start_node}}
+use Rattle.{c104_node.specs.{Traced.traced_kind, declared.traced.Traced.Traced}, c104_plan.specs.{PlanImage.Image, Plans.{IsPlan, Plan}}}
+use Rattle.c104_run.proofs.{FairRecords.fair_plain, NodeMaps.quiet_map, RecordSteps.done_made, RoundRuns.Applied, StepMaps.apply_map}
+use Rattle.c104_run.specs.{EventRuns.{EventsEnd, Outcome, StopsShort, run_events}, FairRounds.{InTurn, fair_events, in_turn}}
 use Rattle.c104_run.specs.{HandedWords.rounds_with, NetRecords.{IsNetRecord, NetRecord, is_done}, Network.{Network, network_apply}}
 use Rattle.c104_run.specs.{Network.network_of, QuietNets.IsQuiet, RecordedRuns.record_apply, Runs.IsDoneRun, Standstill.StandsStill}
 use Rattle.{c104_run.specs.{TracedRuns.map_network, declared.words.Words.Words}, c104_switch.specs.Actions.Reply}
@@ -51,19 +53,18 @@ module _ (net : NetRecord) (is_plan : IsPlan net.network.plan) (kept : IsNetReco
   abbrev Ended : NetRecord → Type 0
   Ended after = (last : Network Traced) × (map_network token_of last ≡ after.network) × (more : List (Event × Reply)) × IsDoneRun traced_kind (network_of plan (map start_node net.starts)) more last × IsQuiet last × Promise routes last
 
-  ended_so : (rank : SwitchPort → ℕ) → IsRanking routes rank → (n : ℕ) (words : Words) → random_work plan routes rank net.network.nodes < n → (after : NetRecord) → ◌≡◌ {A = Outcome (Network Token)} (run_events (network_apply plain_kind) net.network (rounds_with words plan n)) (Ok tt, after.network) → Ended after
-  ended_so rank falls n words few after end =
+  ended_so : (rank : SwitchPort → ℕ) → IsRanking routes rank → (n : ℕ) (es : List Event) → AreRounds plan n es → random_work plan routes rank net.network.nodes < n → (after : NetRecord) → ◌≡◌ {A = Outcome (Network Token)} (run_events (network_apply plain_kind) net.network es) (Ok tt, after.network) → Ended after
+  ended_so rank falls n es rounds few after end =
       let found = traced_from plan net.starts net.network.nodes events kept.told.1.run in
       let mid : Network Traced = network_of plan found.0 in
       let balance = run_steady traced_kind (network_of plan (map start_node net.starts)) mid events is_plan found.1.run (still_steady Token Traced plan net.starts kept.started) in
       let started = run_started plain_kind routes (network_of plan (map start_node net.starts)) net.network events kept.told.1.run (is.unchanged events kept.told.1) acyclic_run.started in
       let same : random_work plan routes rank found.0 ≡ random_work plan routes rank net.network.nodes = sym (work_map token_of plan routes rank found.0) ∙ ap (random_work plan routes rank) found.1.plain in
-      let es : List Event = rounds_with words plan n in
       let after_traced = run_events (network_apply traced_kind) mid es in
       let both : ◌≡◌ {A = Outcome (Network Token)} (after_traced.0, map_network token_of after_traced.1) (Ok tt, after.network) = sym (run_plain mid es) ∙ ap (λ ns. run_events (network_apply plain_kind) (network_of plan ns) es) found.1.plain ∙ end in
       let told : after_traced.0 ≡ Ok tt = ap (λ (z : Outcome (Network Token)). z.0) both in
       let whole : ◌≡◌ {A = Outcome (Network Traced)} after_traced (Ok tt, after_traced.1) = ap (λ o. (o, after_traced.1)) told in
-      let delivered = rounds_deliver image (network_of plan (map start_node net.starts)) mid after_traced.1 events rank n words is_plan is.accepted falls (starts_are plan image net.starts is.set) found.1.run (is.unchanged events kept.told.1) sent balance
+      let delivered = rounds_deliver image (network_of plan (map start_node net.starts)) mid after_traced.1 events rank n es rounds is_plan is.accepted falls (starts_are plan image net.starts is.set) found.1.run (is.unchanged events kept.told.1) sent balance
       (started_traced plan net.starts net.network.nodes events is_plan kept.told.1.run found.0 found.1.plain started) (subst (λ k. k < n) (sym same) few) whole in
       let more = done_of traced_kind es mid after_traced.1 whole in (
         after_traced.1,
@@ -90,13 +91,29 @@ module _ (net : NetRecord) (is_plan : IsPlan net.network.plan) (kept : IsNetReco
         promise = subst (Promise routes) whole e.5;
       }
 
-  rounds_law : (rank : SwitchPort → ℕ) → IsRanking routes rank → (n : ℕ) → random_work plan routes rank net.network.nodes < n → RoundsDeliver routes net n
-  rounds_law rank falls n few words after ends =
-      let stay = starts_stay net after (rounds_with words plan n) (Ok tt) ends in
+  ends_so : (rank : SwitchPort → ℕ) → IsRanking routes rank → (n : ℕ) → random_work plan routes rank net.network.nodes < n → (es : List Event) → AreRounds plan n es → (after : NetRecord) → EventsEnd record_apply net es (Ok tt) after → IsAllDelivered routes after
+  ends_so rank falls n few es rounds after ends =
+      let stay = starts_stay net after es (Ok tt) ends in
       ⊎_elim
-      (λ (due : ◌≡◌ {A = Outcome NetRecord} (Ok tt, after) (run_events record_apply net (rounds_with words plan n))). delivered_so after stay.0 stay.1 (ended_so rank falls n words few after (plain_run (rounds_with words plan n) net after (sym due))))
-      (λ (short : StopsShort record_apply net (rounds_with words plan n) (Ok tt) after). let no = short.refused in absurd (cc))
+      (λ (due : ◌≡◌ {A = Outcome NetRecord} (Ok tt, after) (run_events record_apply net es)). delivered_so after stay.0 stay.1 (ended_so rank falls n es rounds few after (plain_run es net after (sym due))))
+      (λ (short : StopsShort record_apply net es (Ok tt) after). let no = short.refused in absurd (cc))
       ends
+
+  rounds_law : (rank : SwitchPort → ℕ) → IsRanking routes rank → (n : ℕ) → random_work plan routes rank net.network.nodes < n → RoundsDeliver routes net n
+  rounds_law rank falls n few words after ends = ends_so rank falls n few (rounds_with words plan n) (handed_rounds plan n words) after ends
+
+  fair_law : (rank : SwitchPort → ℕ) → IsRanking routes rank → (n : ℕ) → random_work plan routes rank net.network.nodes < n → FairDeliver routes net n
+  fair_law rank falls n few words turns after left orders ends =
+      let x : InTurn NetRecord = in_turn net turns in
+      let es : List Event = fair_events record_apply words plan n x in
+      ends_so rank falls n few es (fair_rounds plan is_plan record_apply n words x orders) after (fair_plain record_apply x (in_turn after left) es (Ok tt) ends)
+
+  -- more rounds than the bound are more than the work by the ranks that there are
+  within_bound : (n : ℕ) → random_bound plan routes net.network.nodes < n → random_work plan routes is.acyclic.0 net.network.nodes < n
+  within_bound n few =
+      let within : (p : SwitchPort) → is.acyclic.0 p ≤ 32 * length plan.switches = λ p. subst (λ m. is.acyclic.0 p ≤ 32 * m) is.fits.settings (is.acyclic.2 p) in
+      let most = random_within plan routes is.acyclic.0 within net.network.nodes in
+      omega (arith, most, few)
 
   -- an event of a round that is done leaves less work: over tokens that tell where they came from it is done too, and
   -- there leaves less
@@ -131,10 +148,9 @@ module _ (net : NetRecord) (is_plan : IsPlan net.network.plan) (kept : IsNetReco
     stands_quiet = stands;
     lessens = lessens;
     rounds_deliver = rounds_law;
-    rounds_suffice = λ n few.
-        (let within : (p : SwitchPort) → is.acyclic.0 p ≤ 32 * length plan.switches = λ p. subst (λ m. is.acyclic.0 p ≤ 32 * m) is.fits.settings (is.acyclic.2 p) in
-        let most = random_within plan routes is.acyclic.0 within net.network.nodes in
-        rounds_law is.acyclic.0 is.acyclic.1 n (omega (arith, most, few)));
+    rounds_suffice = λ n few. rounds_law is.acyclic.0 is.acyclic.1 n (within_bound n few);
+    fair_deliver = fair_law;
+    fair_suffice = λ n few. fair_law is.acyclic.0 is.acyclic.1 n (within_bound n few);
     plain_work = λ plain rank. plain_work plan routes rank plain net.network.nodes;
     plain_bound = λ plain. plain_work plan routes (highest_rank plan) plain net.network.nodes;
     bounded = bound_by_tokens plan net.network.nodes;

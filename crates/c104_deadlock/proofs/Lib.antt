@@ -2,6 +2,9 @@ pub mod StillWires
 pub mod StillPorts
 pub mod RoundMembers
 pub mod HandedRounds
+pub mod FairMembers
+pub mod FairOrders
+pub mod RoundsAlike
 pub mod StandingRuns
 pub mod WorkSteps
 pub mod WorkEvents

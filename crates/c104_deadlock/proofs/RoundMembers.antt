@@ -59,6 +59,10 @@ module _ (plan : Plan) (is_plan : IsPlan plan) where
   drain_in t inside = in_right (Event.Drain t) (credits ++ crosses ++ turns ++ claims) drains
       (in_map Event.Drain t (range_with_len 0 (length plan.terminals)) (in_range 0 (length plan.terminals) t (omega arith) (omega (arith, inside))))
 
+-- what a round begins with: all but its claims and arrivals
+abbrev pub round_front : Plan → List Event
+round_front plan = map Event.Credit (wired_ports plan) ++ map Event.Cross (wired_ports plan) ++ flat_map turn_at (wired_ports plan)
+
 -- what holds of each kind of event that a round has holds of all its events
 module _ (plan : Plan) (P : Event → Type 0) where
   joined : (events_of : Port → List Event) (xs ys : List Port) → AllByRecursion P (flat_map events_of xs) → AllByRecursion P (flat_map events_of ys) → AllByRecursion P (flat_map events_of (xs ++ ys))
@@ -80,24 +84,34 @@ module _ (plan : Plan) (P : Event → Type 0) where
   each_turn : ((s l : ℕ) (q : Port) → peer plan (Port.Switch s l) ≡ Some q → P (Event.Input s l 0)) → (p q : Port) → peer plan p ≡ Some q → AllByRecursion P (turn_at p)
   each_turn of_turn p q wire = search arith
 
-  pub each_of_round : ((p q : Port) → peer plan p ≡ Some q → P (Event.Credit p)) → ((p q : Port) → peer plan p ≡ Some q → P (Event.Cross p)) → ((s l : ℕ) (q : Port) → peer plan (Port.Switch s l) ≡ Some q → P (Event.Input s l 0)) →
-      ((s i o : ℕ) → s < length plan.switches → i < 32 → o < 32 → P (Event.Claim s i o)) → ((t : ℕ) → t < length plan.terminals → P (Event.Drain t)) → AllByRecursion P (round plan)
-  each_of_round of_credit of_cross of_turn of_claim of_drain =
+  -- what a round begins with, its claims and its arrivals
+  pub each_front : ((p q : Port) → peer plan p ≡ Some q → P (Event.Credit p)) → ((p q : Port) → peer plan p ≡ Some q → P (Event.Cross p)) → ((s l : ℕ) (q : Port) → peer plan (Port.Switch s l) ≡ Some q → P (Event.Input s l 0)) → AllByRecursion P (round_front plan)
+  each_front of_credit of_cross of_turn =
       let a : List Event = map Event.Credit (wired_ports plan) in
       let b : List Event = map Event.Cross (wired_ports plan) in
       let c : List Event = flat_map turn_at (wired_ports plan) in
-      let d : List Event = all_claims (length plan.switches) in
-      let e : List Event = all_drains (length plan.terminals) in
       let each_credit : AllByRecursion P a = subst (AllByRecursion P) (singles Event.Credit (wired_ports plan)) (each_wired (single Event.Credit) (λ p q wire. (of_credit p q wire, tt))) in
       let each_cross : AllByRecursion P b = subst (AllByRecursion P) (singles Event.Cross (wired_ports plan)) (each_wired (single Event.Cross) (λ p q wire. (of_cross p q wire, tt))) in
-      let each_claim : AllByRecursion P d = each_flat P switch_claims 0 (length plan.switches) (λ s inside.
+      each_append P (a ++ b) c (each_append P a b each_credit each_cross) (each_wired turn_at (each_turn of_turn))
+
+  pub each_claim : ((s i o : ℕ) → s < length plan.switches → i < 32 → o < 32 → P (Event.Claim s i o)) → AllByRecursion P (all_claims (length plan.switches))
+  each_claim of_claim = each_flat P switch_claims 0 (length plan.switches) (λ s inside.
       subst (λ ns. AllByRecursion P (flat_map (claims_of s) ns)) (links_passed 32 refl) (each_flat P (claims_of s) 0 32 (λ i input.
-      subst (λ ns. AllByRecursion P (map (Event.Claim s i) ns)) (links_passed 32 refl) (each_range P (Event.Claim s i) 0 32 (λ o low output. of_claim s i o (omega (arith, inside)) (omega (arith, input)) (omega (arith, output))))))) in
-      let each_drain : AllByRecursion P e = each_range P Event.Drain 0 (length plan.terminals) (λ t low inside. of_drain t (omega (arith, inside))) in
-      each_append P (a ++ b ++ c ++ d) e (each_append P (a ++ b ++ c) d (each_append P (a ++ b) c (each_append P a b each_credit each_cross) (each_wired turn_at (each_turn of_turn))) each_claim) each_drain
+      subst (λ ns. AllByRecursion P (map (Event.Claim s i) ns)) (links_passed 32 refl) (each_range P (Event.Claim s i) 0 32 (λ o low output. of_claim s i o (omega (arith, inside)) (omega (arith, input)) (omega (arith, output)))))))
+
+  pub each_drain : ((t : ℕ) → t < length plan.terminals → P (Event.Drain t)) → AllByRecursion P (all_drains (length plan.terminals))
+  each_drain of_drain = each_range P Event.Drain 0 (length plan.terminals) (λ t low inside. of_drain t (omega (arith, inside)))
+
+  -- one after another, with some events as the claims
+  pub each_joined : (front claims : List Event) → AllByRecursion P front → AllByRecursion P claims → AllByRecursion P (all_drains (length plan.terminals)) → AllByRecursion P (front ++ claims ++ all_drains (length plan.terminals))
+  each_joined front claims a b c = each_append P (front ++ claims) (all_drains (length plan.terminals)) (each_append P front claims a b) c
+
+  pub each_of_round : ((p q : Port) → peer plan p ≡ Some q → P (Event.Credit p)) → ((p q : Port) → peer plan p ≡ Some q → P (Event.Cross p)) → ((s l : ℕ) (q : Port) → peer plan (Port.Switch s l) ≡ Some q → P (Event.Input s l 0)) →
+      ((s i o : ℕ) → s < length plan.switches → i < 32 → o < 32 → P (Event.Claim s i o)) → ((t : ℕ) → t < length plan.terminals → P (Event.Drain t)) → AllByRecursion P (round plan)
+  each_of_round of_credit of_cross of_turn of_claim of_drain = each_joined (round_front plan) (all_claims (length plan.switches)) (each_front of_credit of_cross of_turn) (each_claim of_claim) (each_drain of_drain)
 
 -- the same of a round whose inputs are handed words
-each_worded : (words : Words) (P : Event → Type 0) (es : List Event) → AllByRecursion (λ e. P (worded words e)) es → AllByRecursion P (all_worded words es)
+pub each_worded : (words : Words) (P : Event → Type 0) (es : List Event) → AllByRecursion (λ e. P (worded words e)) es → AllByRecursion P (all_worded words es)
 each_worded words P [] all = tt
 each_worded words P (e ∷ es) all = (all.0, each_worded words P es all.1)
 

@@ -1,8 +1,8 @@
 -- In an accepted network whose channels don't depend on one another in a cycle rounds go on until all is quiet: then each
 -- packet with an owner was received by it.
 use Rattle.c104_check.specs.{ChannelDependencies.IsRanking, Routes.{IsAccepted, Routes, routes_of}, Walks.port_of}
-use Rattle.{c104_check.specs.declared.ports.SwitchPort.SwitchPort, c104_deadlock.{proofs.WorkRounds.rounds_rest, specs.HeaderWork.ahead_at}}
-use Rattle.c104_deadlock.specs.HeaderWork.{first_ahead, full_incoming, full_input, full_link, full_node, full_work, random_ahead}
+use Rattle.{c104_check.specs.declared.ports.SwitchPort.SwitchPort, c104_deadlock.proofs.{RoundsAlike.AreRounds, WorkRounds.rounds_rest}}
+use Rattle.c104_deadlock.specs.HeaderWork.{ahead_at, first_ahead, full_incoming, full_input, full_link, full_node, full_work, random_ahead}
 use Rattle.c104_deadlock.specs.{HeaderWork.random_work, Work.{header_held, level, sum_at, weigh}}
 use Rattle.{c104_event.specs.declared.{events.Event.Event, faults.EventFault.EventFault}, c104_link.specs.Buffers.Incoming}
 use Rattle.c104_net.proofs.{PacketInvariant.IsLabelled, Promises.{IsStart, each, promised, starts}, RunSteps.header_positive}
@@ -10,12 +10,11 @@ use Rattle.c104_net.{proofs.{SentBytes.AreBytesSent, TracedRuns.token_of}, specs
 use Rattle.c104_node.specs.{MappedNodes.{map_incoming, map_input, map_node, map_outgoing}, Nodes.Node, Traced.traced_kind}
 use Rattle.{c104_node.specs.declared.{node.NodeOf.NodeOf, traced.Traced.Traced}, c104_plan.specs.{PlanImage.Image, Plans.{IsPlan, Plan}}}
 use Rattle.{c104_plan.specs.{Wiring.peer, declared.ports.Port.Port}, c104_run.{proofs.StepMaps.apply_map, specs.Balance.IsSteady}}
-use Rattle.c104_run.specs.{EventRuns.{Outcome, run_events, unless_fault}, HandedWords.rounds_with, Network.{Network, network_apply}}
-use Rattle.c104_run.specs.{QuietNets.IsQuiet, Runs.IsDoneRun, Standstill.IsStarted, TracedRuns.map_network, declared.words.Words.Words}
-use Rattle.c104_switch.specs.{Actions.Reply, Phases.with_header, Switch.Input, declared.phase.Phase.{Phase, TheVariants.{Fresh, Head}}}
-use Rattle.{c104_switch.specs.declared.phase.Phase.TheVariants.Want, c104_token.specs.{Kinds.plain_kind, declared.tokens.Token.Token}}
-use Rattle.std.proofs.Common.{Err, List, Ok, Result, Some, [], ap, length, map, refl, subst, suc, sym, ℕ, ◌*◌, ◌+◌, ◌-◌, ◌<◌, ◌∙◌, ◌∷◌, ◌≡◌}
-use Rattle.std.proofs.lemmas.List.{length-map}
+use Rattle.c104_run.specs.{EventRuns.{Outcome, run_events, unless_fault}, Network.{Network, network_apply}, QuietNets.IsQuiet}
+use Rattle.{c104_run.specs.{Runs.IsDoneRun, Standstill.IsStarted, TracedRuns.map_network}, c104_switch.specs.Actions.Reply}
+use Rattle.c104_switch.specs.{Phases.with_header, Switch.Input, declared.phase.Phase.{Phase, TheVariants.{Fresh, Head, Want}}}
+use Rattle.{c104_token.specs.{Kinds.plain_kind, declared.tokens.Token.Token}, std.proofs.Common.{Err, List, Ok, Result, Some, [], ap}}
+use Rattle.std.proofs.{Common.{length, map, refl, subst, suc, sym, ℕ, ◌*◌, ◌+◌, ◌-◌, ◌<◌, ◌∙◌, ◌∷◌, ◌≡◌}, lemmas.List.length-map}
 
 -- the work doesn't read tokens
 module _ {A B : Type 0} (f : A → B) where
@@ -71,12 +70,12 @@ run_plain net (e ∷ es) =
 
 -- from a traced run: after more rounds than there is work nothing stands anywhere, and all promises are kept, so that
 -- each packet with a whole header that has an owner was received by it
-pub rounds_deliver : (image : Image) (start mid ended : Network Traced) (events : List (Event × Reply)) (rank : SwitchPort → ℕ) (n : ℕ) (words : Words) → IsPlan start.plan → IsAccepted (routes_of start.plan image) → IsRanking (routes_of start.plan image) rank → IsStart image start → IsDoneRun traced_kind start events mid → IsUnchanged (routes_of start.plan image) events → AreBytesSent events →
-    IsSteady mid → IsStarted mid → random_work start.plan (routes_of start.plan image) rank mid.nodes < n → ◌≡◌ {A = Outcome (Network Traced)} (run_events (network_apply traced_kind) mid (rounds_with words start.plan n)) (Ok tt, ended) → IsQuiet ended × Promise (routes_of start.plan image) ended
-rounds_deliver image start mid ended events rank n words is_plan accepted falls is_start is_run all sent steady started few is =
+pub rounds_deliver : (image : Image) (start mid ended : Network Traced) (events : List (Event × Reply)) (rank : SwitchPort → ℕ) (n : ℕ) (es : List Event) → AreRounds start.plan n es → IsPlan start.plan → IsAccepted (routes_of start.plan image) → IsRanking (routes_of start.plan image) rank → IsStart image start → IsDoneRun traced_kind start events mid → IsUnchanged (routes_of start.plan image) events → AreBytesSent events →
+    IsSteady mid → IsStarted mid → random_work start.plan (routes_of start.plan image) rank mid.nodes < n → ◌≡◌ {A = Outcome (Network Traced)} (run_events (network_apply traced_kind) mid es) (Ok tt, ended) → IsQuiet ended × Promise (routes_of start.plan image) ended
+rounds_deliver image start mid ended events rank n es rounds is_plan accepted falls is_start is_run all sent steady started few is =
     let labelled : IsLabelled (routes_of start.plan image) = record { accepted = accepted; positive = header_positive start.plan image } in
     let k = each start.plan image is_plan labelled start.nodes mid events is_run all sent (starts start.plan image is_plan labelled start.nodes is_start) in
-    let r = rounds_rest start.plan image is_plan labelled rank falls n words k.0 ended k.2 (subst IsStarted (sym k.1) started) (subst IsSteady (sym k.1) steady)
+    let r = rounds_rest start.plan image is_plan labelled rank falls n es k.0 ended rounds k.2 (subst IsStarted (sym k.1) started) (subst IsSteady (sym k.1) steady)
     (subst (λ (net : Network Traced). random_work start.plan (routes_of start.plan image) rank net.nodes < n) (sym k.1) few)
-    (subst (λ net. ◌≡◌ {A = Outcome (Network Traced)} (run_events (network_apply traced_kind) net (rounds_with words start.plan n)) (Ok tt, ended)) (sym k.1) is) in
+    (subst (λ net. ◌≡◌ {A = Outcome (Network Traced)} (run_events (network_apply traced_kind) net es) (Ok tt, ended)) (sym k.1) is) in
     (subst IsQuiet r.is r.quiet, subst (Promise (routes_of start.plan image)) r.is (promised start.plan image is_plan labelled r.nodes r.good))

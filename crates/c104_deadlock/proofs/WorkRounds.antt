@@ -1,9 +1,10 @@
--- Rounds go on until the network is quiet: each round that does something leaves less work, whatever words its inputs are handed.
+-- Rounds go on until the network is quiet: each round that does something leaves less work, whatever words its inputs are handed, and
+-- in whatever order its claims are.
 use Rattle.c104_check.specs.{ChannelDependencies.IsRanking, Routes.{IsRandomized, Routes, link_settings, routes_of}, Walks.port_of}
-use Rattle.{c104_check.specs.declared.ports.SwitchPort.SwitchPort, c104_deadlock.proofs.HandedRounds.{still_plain, still_rounds}}
-use Rattle.c104_deadlock.proofs.{RoundMembers.{each_of_round_with, still_of}, StillPorts.{all_quiet, depends_on}, WorkEvents.AreFalling}
-use Rattle.c104_deadlock.proofs.{WorkEvents.{AreStarted, event_less, event_started}, WorkSteps.{at_far, far_of, own}}
-use Rattle.{c104_deadlock.specs.HeaderWork.{ahead_by, random_ahead, random_work}, c104_event.specs.declared.events.Event.Event}
+use Rattle.{c104_check.specs.declared.ports.SwitchPort.SwitchPort, c104_deadlock.proofs.{RoundMembers.still_of, RoundsAlike.AreRounds}}
+use Rattle.c104_deadlock.proofs.{RoundsAlike.rounds_idle, StillPorts.{all_quiet, depends_on}, WorkEvents.{AreFalling, AreStarted}}
+use Rattle.c104_deadlock.{proofs.{WorkEvents.{event_less, event_started}, WorkSteps.{at_far, far_of, own}}, specs.HeaderWork.ahead_by}
+use Rattle.{c104_deadlock.specs.HeaderWork.{random_ahead, random_work}, c104_event.specs.declared.events.Event.Event}
 use Rattle.{c104_event.specs.declared.faults.EventFault.EventFault, c104_net.proofs.{JointKeeps.IsOfRound, LinkEvents.world_of}}
 use Rattle.c104_net.proofs.{NodeViews.phases, PacketInvariant.{IsChosen, IsLabelled, Suits, group_at}, PlanWires.wired, Promises.IsSettled}
 use Rattle.c104_net.{proofs.{Promises.{one, set_is}, RunSteps.done_step_is, SentBytes.SendsBytes}, specs.Unchanged.MayHappen}
@@ -11,17 +12,12 @@ use Rattle.c104_node.specs.{Nodes.Node, Traced.traced_kind, declared.{node.NodeO
 use Rattle.c104_plan.{proofs.RangeLists.all_of_each, specs.{PlanImage.Image, Plans.{IsPlan, Plan}, Wiring.peer, declared.ports.Port.Port}}
 use Rattle.{c104_regs.specs.{Settings.header_length, declared.settings.Settings.Settings}, c104_run.proofs.BalanceEvents.applied_steady}
 use Rattle.c104_run.{proofs.{BalanceWires.peer_back, RoundRuns.{run_append, undone_leaves}}, specs.{Balance.IsSteady, EventRuns.Outcome}}
-use Rattle.c104_run.specs.{EventRuns.{run_events, unless_fault}, HandedWords.{round_with, rounds_with, words_behind}, Network.Network}
-use Rattle.c104_run.specs.{Network.{network_apply, network_of, network_step}, QuietNets.IsQuiet, Rounds.round, Standstill.IsStarted}
-use Rattle.{c104_run.specs.{Standstill.IsUnready, declared.words.Words.Words}, c104_switch.specs.Actions.{Reply, is_ready}}
-use Rattle.c104_switch.specs.{Group.is_in_group, Switch.{Input, Switch}, declared.{actions.ReplyOf.ReplyOf, phase.Phase.TheVariants.Stream}}
-use Rattle.{c104_switch.specs.declared.phase.Phase.TheVariants.Want, std.proofs.Common.{Bool, Err, List, None, Ok, Option, Result, Some}}
-use Rattle.std.proofs.Common.{[], ap, arith, false, inl, inr, length, refl, slice_get, subst, suc, sym, true, zero, ℕ, ⊎_elim, ◌*◌, ◌+◌}
-use Rattle.std.{proofs.{Common.{◌<◌, ◌∙◌, ◌∷◌, ◌≡◌, ◌≤◌, ◌⊎◌}, lemmas.Bool.cases_Bool}, specs.List.AllByRecursion}
-
--- all events of a round are events of a round
-of_round : (plan : Plan) (words : Words) → AllByRecursion IsOfRound (round_with words plan)
-of_round plan words = each_of_round_with plan IsOfRound words (λ p q wire. tt) (λ p q wire. tt) (λ s l w q wire. tt) (λ s i o inside input output. tt) (λ t inside. tt)
+use Rattle.c104_run.specs.{EventRuns.{run_events, unless_fault}, Network.{Network, network_apply, network_of, network_step}}
+use Rattle.{c104_run.specs.{QuietNets.IsQuiet, Rounds.round, Standstill.{IsStarted, IsUnready}}, c104_switch.specs.Actions.Reply}
+use Rattle.c104_switch.specs.{Actions.is_ready, Group.is_in_group, Switch.{Input, Switch}, declared.actions.ReplyOf.ReplyOf}
+use Rattle.{c104_switch.specs.declared.phase.Phase.TheVariants.{Stream, Want}, std.proofs.Common.{Bool, Err, List, None, Ok, Option}}
+use Rattle.std.proofs.Common.{Result, Some, [], ap, arith, false, inl, inr, length, refl, slice_get, subst, suc, sym, true, zero, ℕ, ⊎_elim}
+use Rattle.std.{proofs.{Common.{◌*◌, ◌+◌, ◌<◌, ◌∙◌, ◌∷◌, ◌≡◌, ◌≤◌, ◌⊎◌}, lemmas.Bool.cases_Bool}, specs.List.AllByRecursion}
 
 may_happen : (routes : Routes) (e : Event) (r : Reply) → IsOfRound e → MayHappen routes e r
 may_happen routes e r of = grind arith
@@ -143,35 +139,35 @@ module _ (plan : Plan) (image : Image) (is_plan : IsPlan plan) (labelled : IsLab
     pub quiet : IsQuiet (network_of plan nodes)
 
   abbrev pub Rest : ℕ → Type 0
-  Rest n = (words : Words) (nodes : List (Node Traced)) (ended : Network Traced) → IsSettled plan image is_plan labelled nodes → AreStarted nodes → IsSteady (network_of plan nodes) → random_work plan (routes_of plan image) rank nodes < n → Run (network_of plan nodes) (rounds_with words plan n) ended → IsAtRest ended
+  Rest n = (es : List Event) (nodes : List (Node Traced)) (ended : Network Traced) → AreRounds plan n es → IsSettled plan image is_plan labelled nodes → AreStarted nodes → IsSteady (network_of plan nodes) → random_work plan (routes_of plan image) rank nodes < n → Run (network_of plan nodes) es ended → IsAtRest ended
 
   one_more : (n : ℕ) → Rest n → Rest (suc n)
-  one_more n later words nodes ended good started steady few is =
-      by_first (run_events (network_apply traced_kind) (network_of plan nodes) first_events).0 (run_events (network_apply traced_kind) (network_of plan nodes) first_events).1 refl
-      (sym (run_append (network_apply traced_kind) first_events (rounds_with next plan n) (network_of plan nodes)) ∙ is)
+  one_more n later es nodes ended rounds good started steady few is =
+      by_first (run_events (network_apply traced_kind) (network_of plan nodes) now).0 (run_events (network_apply traced_kind) (network_of plan nodes) now).1 refl
+      (sym (ap (run_events (network_apply traced_kind) (network_of plan nodes)) rounds.2 ∙ run_append (network_apply traced_kind) now next (network_of plan nodes)) ∙ is)
     where
-      next : Words
-      next = words_behind words (length plan.switches)
+      now : List Event
+      now = rounds.0
 
-      first_events : List Event
-      first_events = round_with words plan
+      next : List Event
+      next = rounds.1
 
-      by_first : (answer : Result (Unit {0}) EventFault) (mid : Network Traced) → ◌≡◌ {A = Outcome (Network Traced)} (run_events (network_apply traced_kind) (network_of plan nodes) first_events) (answer, mid) →
-          ◌≡◌ {A = Outcome (Network Traced)} (unless_fault answer mid (λ net. run_events (network_apply traced_kind) net (rounds_with next plan n))) (Ok tt, ended) → IsAtRest ended
+      by_first : (answer : Result (Unit {0}) EventFault) (mid : Network Traced) → ◌≡◌ {A = Outcome (Network Traced)} (run_events (network_apply traced_kind) (network_of plan nodes) now) (answer, mid) →
+          ◌≡◌ {A = Outcome (Network Traced)} (unless_fault answer mid (λ net. run_events (network_apply traced_kind) net next)) (Ok tt, ended) → IsAtRest ended
       by_first (Err f) mid first rest = let told : ◌≡◌ {A = Result (Unit {0}) EventFault} (Err f) (Ok tt) = ap (λ (z : Outcome (Network Traced)). z.0) rest in absurd (cc)
       by_first (Ok u) mid first rest =
-          let g = goes first_events nodes mid (of_round plan words) good started steady first in
+          let g = goes now nodes mid rounds.3.of good started steady first in
           ⊎_elim
-          (λ (h : random_work plan (routes_of plan image) rank g.nodes' + 1 ≤ random_work plan (routes_of plan image) rank nodes). later next g.nodes' ended g.good g.started g.steady (omega (arith, h, few)) (subst (λ net. Run net (rounds_with next plan n) ended) (sym g.is) rest))
-          (λ (h : (g.nodes' ≡ nodes) × AllByRecursion (IsUnready traced_kind (network_of plan nodes)) first_events).
+          (λ (h : random_work plan (routes_of plan image) rank g.nodes' + 1 ≤ random_work plan (routes_of plan image) rank nodes). later next g.nodes' ended rounds.4 g.good g.started g.steady (omega (arith, h, few)) (subst (λ net. Run net next ended) (sym g.is) rest))
+          (λ (h : (g.nodes' ≡ nodes) × AllByRecursion (IsUnready traced_kind (network_of plan nodes)) now).
           let same : mid ≡ network_of plan nodes = sym g.is ∙ ap (network_of plan) h.0 in
-          let still : AllByRecursion (IsUnready traced_kind (network_of plan nodes)) (round plan) = still_plain traced_kind (network_of plan nodes) words (round plan) h.1 in
-          let last : Run (network_of plan nodes) (rounds_with next plan n) ended = subst (λ net. Run net (rounds_with next plan n) ended) same rest in
-          let end : network_of plan nodes ≡ ended = ap (λ (z : Outcome (Network Traced)). z.1) (sym (still_rounds traced_kind (network_of plan nodes) still next n) ∙ last) in
+          let still : AllByRecursion (IsUnready traced_kind (network_of plan nodes)) (round plan) = rounds.3.finds nodes h.1 in
+          let last : Run (network_of plan nodes) next ended = subst (λ net. Run net next ended) same rest in
+          let end : network_of plan nodes ≡ ended = ap (λ (z : Outcome (Network Traced)). z.1) (sym (rounds_idle plan nodes still n next rounds.4) ∙ last) in
           record { nodes = nodes; is = end; good = good; quiet = round_quiet nodes good started steady still })
           g.less
 
-  -- more rounds than there is work leave the network quiet, whatever words they are handed
+  -- more rounds than there is work leave the network quiet, whatever words they are handed and in whatever order their claims are
   pub rounds_rest : (n : ℕ) → Rest n
-  rounds_rest zero = λ words nodes ended good started steady few is. absurd (omega (arith, few))
+  rounds_rest zero = λ es nodes ended rounds good started steady few is. absurd (omega (arith, few))
   rounds_rest (suc n) = one_more n (rounds_rest n)

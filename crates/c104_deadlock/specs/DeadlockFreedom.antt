@@ -11,11 +11,12 @@ use Rattle.{c104_event.specs.declared.{events.Event.Event, faults.EventFault.Eve
 use Rattle.{c104_net.specs.{RoundEvents.IsOfRound, Unchanged.{AreStartsOf, IsUnchanged}}, c104_node.specs.MappedNodes.map_node}
 use Rattle.c104_node.specs.{Nodes.Node, Starts.{IsStartedStart, start_node}, Traced.traced_kind, Traces.{is_trace_full, seatless}}
 use Rattle.c104_node.specs.declared.{acts.Entry.Entry, stamps.Stamp.Stamp, starts.NodeStart.NodeStart, traced.Traced.Traced}
-use Rattle.{c104_plan.specs.{PlanImage.{Fits, Image}, Plans.Plan}, c104_run.specs.{Balance.IsSteady, Finished.network_finish}}
-use Rattle.c104_run.specs.{FinishedRecords.FinishedRecord, HandedWords.round_with, NetRecords.{NetRecord, is_done}, Network.network_of}
-use Rattle.c104_run.specs.{QuietNets.IsQuiet, RecordedRuns.{RecordsHanded, record_apply}, Runs.{IsDoneRun, IsRunRecord}}
-use Rattle.{c104_run.specs.{Standstill.{IsDeadlocked, IsStarted, StandsStill}, declared.words.Words.Words}, c104_switch.specs.Actions.Reply}
-use Rattle.c104_token.specs.{Kinds.plain_kind, declared.tokens.Token.Token}
+use Rattle.{c104_plan.specs.{PlanImage.{Fits, Image}, Plans.Plan}, c104_run.specs.{Balance.IsSteady, FairRounds.turns_of}}
+use Rattle.c104_run.specs.{Finished.network_finish, FinishedRecords.FinishedRecord, HandedWords.round_with, LinkOrders.IsOrder}
+use Rattle.c104_run.specs.{NetRecords.{NetRecord, is_done}, Network.network_of, QuietNets.IsQuiet, RecordedRuns.RecordsFairly}
+use Rattle.c104_run.specs.{RecordedRuns.{RecordsHanded, record_apply}, Runs.{IsDoneRun, IsRunRecord}, Standstill.{IsDeadlocked, IsStarted}}
+use Rattle.c104_run.specs.{Standstill.StandsStill, declared.{turns.SwitchTurns.SwitchTurns, words.Words.Words}}
+use Rattle.{c104_switch.specs.Actions.Reply, c104_token.specs.{Kinds.plain_kind, declared.tokens.Token.Token}}
 use Rattle.std.specs.Prelude.{All, Err, List, Ok, Some, false, map, slice_get, true, ℕ, ◌*◌, ◌+◌, ◌<◌, ◌≡◌, ◌≤◌, ◌⊎◌}
 
 -- A network with its record whose labels the check accepts, and whose channels don't depend on one another in a cycle:
@@ -62,6 +63,16 @@ pub record IsAllDelivered (routes : Routes) (net : NetRecord) : Type 0 where
 abbrev pub RoundsDeliver : Routes → NetRecord → ℕ → Type 0
 RoundsDeliver routes net n = (words : Words) (after : NetRecord) → RecordsHanded words net n (Ok tt) after → IsAllDelivered routes after
 
+-- turns that are orders: of each switch each of its inputs and outputs has a place among them
+abbrev pub AreOrders : List SwitchTurns → Type 0
+AreOrders turns = (s : ℕ) → IsOrder (turns_of turns s).inputs × IsOrder (turns_of turns s).outputs
+
+-- the same after n fair rounds, whoever's turn it is before them
+abbrev pub FairDeliver : Routes → NetRecord → ℕ → Type 0
+FairDeliver routes net n =
+    (words : Words) (turns : List SwitchTurns) (after : NetRecord) (left : List SwitchTurns) → AreOrders turns →
+    RecordsFairly words net turns n (Ok tt) after left → IsAllDelivered routes after
+
 -- such a network has no deadlock
 pub record HasNoDeadlock (image : Image) (net : NetRecord) : Type 0 where
   -- where no event of a round is done, the network is quiet, or waits for its user: an inbox or a trace is full
@@ -82,6 +93,12 @@ pub record HasNoDeadlock (image : Image) (net : NetRecord) : Type 0 where
   -- and so do more rounds than the bound of work
   pub rounds_suffice : (n : ℕ) → random_bound net.network.plan (routes_of net.network.plan image) net.network.nodes < n →
       RoundsDeliver (routes_of net.network.plan image) net n
+  -- and so do as many fair rounds
+  pub fair_deliver : (rank : SwitchPort → ℕ) → IsRanking (routes_of net.network.plan image) rank → (n : ℕ) →
+      random_work net.network.plan (routes_of net.network.plan image) rank net.network.nodes < n →
+      FairDeliver (routes_of net.network.plan image) net n
+  pub fair_suffice : (n : ℕ) → random_bound net.network.plan (routes_of net.network.plan image) net.network.nodes < n →
+      FairDeliver (routes_of net.network.plan image) net n
   -- where no link puts random headers before packets, these are the work and the bound by tokens that there are
   pub plain_work : IsNeverRandomized (routes_of net.network.plan image) → (rank : SwitchPort → ℕ) →
       random_work net.network.plan (routes_of net.network.plan image) rank net.network.nodes

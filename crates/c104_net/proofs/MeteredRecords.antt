@@ -4,13 +4,13 @@ use Rattle.{c104_net.specs.MeteredRecords.{MeteredRecord, at_meter, record_meter
 use Rattle.c104_node.specs.{Places.{base_start, started_base}, Tagged.tagged_kind, declared.starts.NodeStart.NodeStart}
 use Rattle.{c104_node.specs.declared.tagged.TaggedToken.TaggedToken, c104_plan.specs.Plans.IsPlan, c104_run.proofs.FirstRecords.map_twice}
 use Rattle.c104_run.proofs.{RecordedStages.{IsRecordedStage, after_plan, plain_stage, record_plain, stage_on}, RoundRuns.Applied}
-use Rattle.c104_run.{proofs.{RoundRuns.ends_keep, SeenRuns.{answers_while, part_while}}, specs.{EventRuns.Answers, MeteredRuns.AreOwnNodes}}
-use Rattle.c104_run.specs.{MeteredRuns.{MetersEvent, MetersSo, own_stage}, Meters.{Metered, Sees, meter_if, metered_apply, own_reply}}
-use Rattle.c104_run.specs.{Meters.with_meter, NetRecords.{IsNetRecord, NetRecord, is_done}, Network.{Network, network_of}}
-use Rattle.c104_run.specs.{RecordedNets.KeepsTokens, RecordedPlaces.counted_keeps, RecordedRuns.{record_apply, record_at}}
-use Rattle.{c104_run.specs.{RoundParts.PartEnds, Stages.stage_apply}, c104_switch.specs.Actions.Reply}
-use Rattle.{c104_token.specs.declared.tokens.Token.Token, std.proofs.Common.{Bool, Err, List, Ok, Result, ap, inl, refl, subst, sym, true}}
-use Rattle.std.proofs.Common.{◌∙◌, ◌≡◌}
+use Rattle.c104_run.{proofs.{RoundRuns.ends_keep, SeenRuns.{answers_while, part_while}}, specs.{EventRuns.Answers, FairRounds.fairly}}
+use Rattle.c104_run.specs.{FairRounds.{in_turn, turned_if}, MeteredRuns.{AreOwnNodes, MetersEvent, MetersSo, own_stage}, Meters.Metered}
+use Rattle.c104_run.specs.{Meters.{Sees, meter_if, metered_apply, own_reply, with_meter}, NetRecords.{IsNetRecord, NetRecord, is_done}}
+use Rattle.c104_run.specs.{Network.{Network, network_of}, RecordedNets.KeepsTokens, RecordedPlaces.counted_keeps, RecordedRuns.record_apply}
+use Rattle.c104_run.specs.{RecordedRuns.record_at, RoundParts.PartEnds, Stages.stage_apply, declared.turns.SwitchTurns.SwitchTurns}
+use Rattle.{c104_switch.specs.Actions.Reply, c104_token.specs.declared.tokens.Token.Token, std.proofs.Common.{Bool, Err, List, Ok, Result}}
+use Rattle.std.proofs.Common.{ap, inl, refl, subst, sym, true, ◌∙◌, ◌≡◌}
 
 abbrev tokens : KeepsTokens tagged_kind
 tokens = counted_keeps.reads.tokens
@@ -72,6 +72,19 @@ module _ {M : Type 0} (sees : Sees M TaggedToken) (old new : NetRecord) (m n : M
       (subst (λ y. PartEnds (record_metered sees) (seen sees old.starts (with_meter (own_stage old meters.before) m)) events result y) (seen_new (part_starts old new events result records) meters.after meters.ended)
       (part_while (metered_apply tagged_kind true sees) (record_metered sees) (seen sees old.starts) (Kept sees old.starts) (keeps sees old.starts) (follows sees old.starts)
       (with_meter (own_stage old meters.before) m) (with_meter (own_stage new meters.after) n) (is_plan, kept_there meters.before meters.begun) events result meters.ends))
+
+  -- the same of a part by turns
+  module _ (t u : List SwitchTurns) (events : List Event) (result : Result Bool EventFault) where
+    fair_starts : PartEnds (fairly record_apply) (in_turn old t) events result (in_turn new u) → new.starts ≡ old.starts
+    fair_starts part = part_starts old new events result (part_while (fairly record_apply) record_apply (λ z. z.state) (λ z. Unit {0}) (λ z e none. tt) (λ z e none. refl) (in_turn old t) (in_turn new u) tt events result part)
+
+    pub fair_told : PartEnds (fairly record_apply) (in_turn old t) events result (in_turn new u) → MetersSo tagged_kind old m new n (λ x y. PartEnds (fairly (metered_apply tagged_kind true sees)) (in_turn x t) events result (in_turn y u)) → PartEnds (fairly (record_metered sees)) (in_turn (at_meter old m) t) events result (in_turn (at_meter new n) u)
+    fair_told records meters =
+        subst (λ x. PartEnds (fairly (record_metered sees)) (in_turn x t) events result (in_turn (at_meter new n) u)) (seen_old meters.before meters.begun)
+        (subst (λ y. PartEnds (fairly (record_metered sees)) (in_turn (seen sees old.starts (with_meter (own_stage old meters.before) m)) t) events result (in_turn y u)) (seen_new (fair_starts records) meters.after meters.ended)
+        (part_while (fairly (metered_apply tagged_kind true sees)) (fairly (record_metered sees)) (λ x. in_turn (seen sees old.starts x.state) x.turns) (λ x. Kept sees old.starts x.state) (λ x. keeps sees old.starts x.state)
+        (λ x e kept. ap (λ (r : Applied (MeteredRecord M)). (r.0, in_turn r.1 (turned_if (is_done r.0) x.turns e))) (follows sees old.starts x.state e kept))
+        (in_turn (with_meter (own_stage old meters.before) m) t) (in_turn (with_meter (own_stage new meters.after) n) u) (is_plan, kept_there meters.before meters.begun) events result meters.ends))
 
   pub event_told : (e : Event) (answer : Result Reply EventFault) → new.starts ≡ old.starts → MetersEvent tagged_kind sees old m e answer new n → Answers (record_metered sees) (at_meter old m) e answer (at_meter new n)
   event_told e answer same meters =

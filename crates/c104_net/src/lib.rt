@@ -21,7 +21,7 @@ pub use c104_node::{
     TerminalStart, TerminalView, all_started,
 };
 pub use c104_run::{
-    Meter, Net, NetParts, PlaceFault, Reason, RecordedNet, RecordedPlace, Run, TracedNet,
+    Meter, Net, NetParts, PlaceFault, Reason, RecordedNet, RecordedPlace, Run, TracedNet, Turns,
     Unmetered, Unwatched, Watch, Words, round_part,
 };
 pub use leading::{Lead, event_of, sort_leads};

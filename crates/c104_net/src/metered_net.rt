@@ -1,10 +1,10 @@
 //! Events and rounds of a network of tagged tokens, of which a meter is told.
 ghost use Rattle.{c104_net.specs.MeteredRecords.{at_meter, record_metered}, c104_run.specs.{EventRuns.Answers, NetRecords.NetRecord}};
-ghost use Rattle.c104_run.specs.{HandedWords.round_with, RoundParts.PartEnds};
+ghost use Rattle.c104_run.specs.{FairRounds.{fair_round, fairly, in_turn}, HandedWords.round_with, RoundParts.PartEnds};
 
 use c104_event::{Event, EventFault};
 use c104_node::TaggedToken;
-use c104_run::{Meter, TracedNet, Words};
+use c104_run::{Meter, TracedNet, Turns, Words};
 use c104_switch::Reply;
 
 /// Does events and rounds, and tells a meter of each token that crosses a wire and of each that arrives. The record of the
@@ -31,6 +31,18 @@ pub trait MeteredNet {
     ) -> Result<bool, EventFault>
         ensures { PartEnds (record_metered M.sees) (at_meter (record_of self.old) meter.old)
             (round_with words (record_of self.old).network.plan) result (at_meter (record_of self.new) meter.new) };
+
+    /// Does one fair round by these turns, and tells whether any event of it was done. Where none was, the turns are as they
+    /// were, and no further round would change anything.
+    fn fair_round_told<M: Meter<TaggedToken>>(
+        &mut self,
+        words: Words,
+        turns: &mut Turns,
+        meter: &mut M,
+    ) -> Result<bool, EventFault>
+        ensures { PartEnds (fairly (record_metered M.sees)) (in_turn (at_meter (record_of self.old) meter.old) turns.old)
+            (fair_round words turns.old (record_of self.old).network.plan)
+            result (in_turn (at_meter (record_of self.new) meter.new) turns.new) };
 }
 
 impl MeteredNet for TracedNet {
@@ -62,5 +74,20 @@ impl MeteredNet for TracedNet {
         let plan = self.told_plan();
         let _switches = plan.switches();
         self.round_metered(words, meter)
+    }
+
+    fn fair_round_told<M: Meter<TaggedToken>>(
+        &mut self,
+        words: Words,
+        turns: &mut Turns,
+        meter: &mut M,
+    ) -> Result<bool, EventFault>
+        ensures { PartEnds (fairly (record_metered M.sees)) (in_turn (at_meter self.old meter.old) turns.old)
+            (fair_round words turns.old self.old.network.plan) result (in_turn (at_meter self.new meter.new) turns.new) }
+    {
+        // The proof reads here what every plan and every such network keeps.
+        let plan = self.told_plan();
+        let _switches = plan.switches();
+        self.fair_round_metered(words, turns, meter)
     }
 }
