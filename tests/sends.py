@@ -72,18 +72,18 @@ def drawn(seed, below, of):
     return (turn for turn, word in enumerate(words(next(words(seed)))) if word % of < below)
 
 
-def rounds(done, due, first):
-    """The lines that do the rounds between two counts; from the first seed on, if there is one."""
+def rounds(done, due, first, fair):
+    """The lines that do the rounds between two counts, fair or not; from the first seed on, if there is one."""
     while done < due:
         count = min(due - done, 10000)
-        yield 'rounds %d' % count if first is None else 'rounds %d seed %d' % (count, (first + done) % LIMIT)
+        yield 'rounds %d' % count + ' fair' * fair + ('' if first is None else ' seed %d' % ((first + done) % LIMIT))
         done += count
 
 
-def script(count, pattern, packets, size, seed, load=None, tokens=None, chance=False, first=None, own=False, target=None, share=100,
-           header=1):
+def script(count, pattern, packets, size, seed, load=None, tokens=None, chance=False, first=None, fair=False, own=False, target=None,
+           share=100, header=1):
     """The script, or None where no terminal sends. The load, or its tokens, are decimal numbers, as text; `first` is from where on
-    lines of rounds have seeds."""
+    lines of rounds have seeds, and `fair` whether they are fair."""
     senders, target_of = choices(pattern, count, seed, own, target, share)
     if not senders:
         return None
@@ -97,6 +97,6 @@ def script(count, pattern, packets, size, seed, load=None, tokens=None, chance=F
         s = senders[turn % len(senders)]
         label = target_of(s, turn // len(senders), word)
         data = [*label.to_bytes(header, 'little'), *((k + place) % 256 for place in range(header, header + size))]
-        lines += [*rounds(done, due, first), 'send t%d %s eop' % (s, ' '.join('%02x' % byte for byte in data))]
+        lines += [*rounds(done, due, first, fair), 'send t%d %s eop' % (s, ' '.join('%02x' % byte for byte in data))]
         done = due
     return ''.join(line + '\n' for line in lines).encode()

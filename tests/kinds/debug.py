@@ -23,7 +23,8 @@ credit PORT                 the port grants eight more tokens to the far end
 input SWITCH.LINK [NUMBER]  an input takes a turn with its first token
 claim SWITCH INPUT OUTPUT   an input claims an output for its header
 control SWITCH BYTE ..      a switch takes a command of at most 8 bytes
-rounds COUNT [seed NUMBER]  run COUNT rounds, with random headers by a seed
+rounds COUNT [fair] [seed NUMBER]
+                            run COUNT rounds, fair ones by turns, with random headers by a seed
 peek SWITCH ADDRESS         the register's value, as `peek A 0140`; not an event
 poke SWITCH ADDRESS VALUE   set a register
 link SWITCH.LINK            the status of a link

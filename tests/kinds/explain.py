@@ -112,6 +112,8 @@ DESCRIPTIONS = [
     (PAIR + b'random a.0 2 1\n', 3, 'this is a terminal, and a switch is wanted: a.0'),
 ]
 
+ROUNDS = 'the line is `rounds COUNT`, followed by an optional `fair`, and by an optional `seed NUMBER`'
+
 # Lines of a script on the plan of the first run, and what is told of the last of them.
 SCRIPTS = [
     (b'x' * 16385, 'a line has at most 16384 bytes'),
@@ -134,9 +136,12 @@ SCRIPTS = [
     (b'input', 'the line is `input SWITCH.LINK`, followed by an optional number, which picks a random header'),
     (b'claim A 0', 'the line is `claim SWITCH INPUT OUTPUT`, as `claim A 0 1`'),
     (b'control A 04 03 01 00 00 00 00 00 00', 'the line is `control SWITCH`, followed by at most 8 bytes'),
-    (b'rounds', 'the line is `rounds COUNT` or `rounds COUNT seed NUMBER`'),
-    (b'rounds 5 seed', 'the line is `rounds COUNT` or `rounds COUNT seed NUMBER`'),
-    (b'rounds 5 sead 7', 'the line is `rounds COUNT` or `rounds COUNT seed NUMBER`'),
+    (b'rounds', ROUNDS),
+    (b'rounds 5 seed', ROUNDS),
+    (b'rounds 5 sead 7', ROUNDS),
+    (b'rounds 5 fare', ROUNDS),
+    (b'rounds 5 seed 7 fair', ROUNDS),
+    (b'rounds 5 fair seed 7 7', ROUNDS),
     (b'peek A', 'the line is `peek SWITCH ADDRESS`, as `peek A 0140`'),
     (b'poke A 0140', 'the line is `poke SWITCH ADDRESS VALUE`, as `poke A 0140 5`'),
     (b'link', 'the line is `link SWITCH.LINK`'),
@@ -176,6 +181,8 @@ SCRIPTS = [
     (b'rounds x', 'the count of rounds is 1 to 10000: x'),
     (b'rounds 0 seed x', 'the count of rounds is 1 to 10000: 0'),
     (b'rounds 5 seed x', 'a seed is 1 to 20 decimal digits, at most 18446744073709551615: x'),
+    (b'rounds 0 fair', 'the count of rounds is 1 to 10000: 0'),
+    (b'rounds 5 fair seed x', 'a seed is 1 to 20 decimal digits, at most 18446744073709551615: x'),
     (b'send a 1 eop', 'a byte of a packet is two hexadecimal digits, 00 to ff, and its end is `eop` or `eom`: 1'),
     (b'control A 3', 'a byte is two hexadecimal digits, 00 to ff: 3'),
     (b'send a 01 aa', 'a packet ends with `eop` or `eom`: aa'),

@@ -212,5 +212,15 @@ def script_lengths(runner):
                 data=text(b'#' * SCRIPT_LIMIT))
 
 
+def fair_rounds(runner):
+    """Three terminals have 600 packets each for a fourth, whose wire carries a token in each round from round 2 on: so 1,802 rounds
+    bring the ends of 600 packets, and these are of the three in turn."""
+    switch = b'switch A\n' + b''.join(b'terminal %s A.%d\nrow A.%d 2 3\n' % (name, link, link) for link, name in enumerate((b'a', b'b', b'c')))
+    sends = b''.join(b'send %s 01 %02x eop\n' % (name, k % 256) for k in range(600) for name in (b'a', b'b', b'c'))
+    answers = b''.join(b'%d: done\n' % number for number in range(1, 1802))
+    arrived = b''.join(b'd: 01 %02x eop from %s %d\n' % (k % 256, name, k) for k in range(200) for name in (b'a', b'b', b'c'))
+    runner.case('fair rounds', answers + arrived, 0, data=switch + b'terminal d A.3\nscript\n' + sends + b'rounds 1802 fair\n')
+
+
 PARTS = [long_lines, faults_line_by_line, long_packets, full_outbox,
          full_trace, last_entry, rounds_at_rest, script_lengths, full_inbox]

@@ -22,7 +22,7 @@ LONE = b'switch A\nterminal a A.0\n'
 ALL = {'--pattern': 'neighbour', '--packets': '3', '--bytes': '1', '--seed': '1234567'}
 # A send line of 4,096 bytes, the header's two among them.
 LONGEST = re.compile(rb'send t0 01 00(?: [0-9a-f]{2}){4094} eop\n')
-SENT = re.compile(rb'(send \w+(?: [0-9a-f]{2})+ eop\n|rounds [1-9][0-9]*( seed [0-9]+)?\n)*')
+SENT = re.compile(rb'(send \w+(?: [0-9a-f]{2})+ eop\n|rounds [1-9][0-9]*( fair)?( seed [0-9]+)?\n)*')
 
 
 def words_of(extra='', **said):
@@ -122,6 +122,12 @@ SCRIPTS = {
         words_of('--words 3', pattern='hot-spot', target='b', load='0.04'),
         b'send a 01 01 eop\nrounds 10000 seed 3\nrounds 10000 seed 10003\nrounds 5000 seed 20003\nsend a 01 02 eop\n'
         b'rounds 10000 seed 25003\nrounds 10000 seed 35003\nrounds 5000 seed 45003\nsend a 01 03 eop\n'),
+    'fair rounds': (PLAN, words_of('--fair', load='250'),
+        b'send a 01 01 eop\nrounds 2 fair\nsend b 00 02 eop\nrounds 2 fair\nsend a 01 03 eop\n'),
+    'fair rounds with seeds, a line of the most among them': (LONE + b'terminal b A.1\n',
+        words_of('--fair --words 3', pattern='hot-spot', target='b', load='0.08', packets='2'),
+        b'send a 01 01 eop\nrounds 10000 fair seed 3\nrounds 2500 fair seed 10003\nsend a 01 02 eop\n'),
+    'no rounds, fair': (PLAN, words_of('--fair', load='1000', packets='2'), b'send a 01 01 eop\nsend b 00 02 eop\n'),
     'seeds of no rounds': (PLAN, words_of('--words 3', load='1000', packets='2'), b'send a 01 01 eop\nsend b 00 02 eop\n'),
     'regularly, as it is said': (PLAN, words_of('--process regular', packets='2'), b'send a 01 01 eop\nsend b 00 02 eop\n'),
     'the most rounds': (LONE + b'terminal b A.1\n', words_of(pattern='hot-spot', target='b', load='1'),
@@ -164,7 +170,7 @@ WRONG = (words_of(pattern='frob'), words_of(pattern=None), words_of(packets=None
     words_of(load='0.0005'), words_of(load='1000.001'), words_of(load='1.'), words_of(load='.5'), words_of(load='1.x'),
     words_of(load='1.2345'), words_of('--tokens 0'), words_of('--tokens 1.000001'), words_of('--tokens 0.0000001'),
     words_of('--tokens 0.5', load='5'), words_of('--process bernoulli'), words_of('--process frob', load='5'),
-    words_of('--words 1'), words_of('--words -1', load='5'), words_of('--words 18446744073709551616', load='5'),
+    words_of('--fair'), words_of('--fair 1', load='5'), words_of('--words 1'), words_of('--words -1', load='5'), words_of('--words 18446744073709551616', load='5'),
     words_of(pattern='hot-spot'), words_of(target='a'),
     words_of('--share 5', pattern='hot-spot'), words_of('--share 5', target='a'),
     words_of('--share 0', pattern='hot-spot', target='a'), words_of('--share 101', pattern='hot-spot', target='a'),
@@ -201,6 +207,9 @@ def any_script(source):
         if source.random() < 0.5:
             said['first'] = source.choice((source.getrandbits(64), 2 ** 64 - 1 - source.randrange(20)))
             words += ['--words', str(said['first'])]
+        if source.random() < 0.3:
+            said['fair'] = True
+            words.append('--fair')
     text = script(count, pattern, packets, size, seed, header=header, **said)
     words = ['--pattern', pattern, '--packets', str(packets), '--bytes', str(size), '--seed', str(seed), *words]
     return {'expected': text or b'traffic 4 NoTarget\n', 'status': 0 if text else 1, 'words': ['traffic', '-', *words],

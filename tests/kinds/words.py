@@ -39,6 +39,7 @@ TOLD = [
     ((*SENT, 'uniform', '--process', 'frob', '--load', '1'), b'error: --process is regular or bernoulli\n'),
     ((*SENT, 'uniform', '--process', 'bernoulli'), b'error: --process bernoulli wants a load, --load or --tokens\n'),
     ((*SENT, 'uniform', '--words', '1'), b'error: --words wants a load, --load or --tokens\n'),
+    ((*SENT, 'uniform', '--fair'), b'error: --fair wants a load, --load or --tokens\n'),
     ((b'\xff',), b"error: a word isn't UTF-8\n\nFor more information, try '--help'.\n"),
 ]
 

@@ -190,9 +190,9 @@ pub const TRAFFIC: &str =
 a number of tokens of each in a round, `rounds` lines between them. A packet has its
 header, B bytes and its terminator as tokens. Under --process bernoulli terminals send by
 chance instead, each in a round as often as the load says on average. With --words each
-`rounds` line has a seed, which is W and the number of rounds before it together. Packets
-go to the first labels of their targets. Of T terminals, counted from 0 in the order of
-the description, terminal t sends to
+`rounds` line has a seed, which is W and the number of rounds before it together; with
+--fair it is fair. Packets go to the first labels of their targets. Of T terminals,
+counted from 0 in the order of the description, terminal t sends to
 
   uniform      any, picked by the generator of the seed
   transpose    row c and column r of a square, where t is in row r and column c

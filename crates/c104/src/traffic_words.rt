@@ -22,6 +22,7 @@ pub struct TrafficWords<'a> {
     tokens: Option<&'a str>,
     process: Option<&'a str>,
     words: Option<u64>,
+    is_fair: bool,
     own: bool,
 }
 
@@ -38,6 +39,7 @@ impl<'a> TrafficWords<'a> {
         tokens: None,
         process: None,
         words: None,
+        is_fair: false,
         own: false,
     };
 
@@ -54,6 +56,7 @@ impl<'a> TrafficWords<'a> {
             tokens: given.get_str(TOKENS),
             process: given.get_str(PROCESS),
             words: given.get_one(WORDS),
+            is_fair: given.get_flag(FAIR),
             own: given.get_flag(OWN),
         }
     }
@@ -76,6 +79,7 @@ impl<'a> TrafficWords<'a> {
             seed: self.seed.unwrap_or(0),
             injection,
             words: self.words,
+            is_fair: self.is_fair,
             own: self.own,
         })
     }
@@ -95,6 +99,7 @@ impl<'a> TrafficWords<'a> {
             Some(load) => Ok(Injection::Regular(load)),
             None if by_chance => Err(NO_LOAD),
             None if self.words.is_some() => Err(NO_ROUNDS),
+            None if self.is_fair => Err(NO_FAIR_ROUNDS),
             None => Ok(Injection::AtOnce),
         }
     }
@@ -228,12 +233,18 @@ const WORDS_HELP: &str =
 
 const NO_ROUNDS: &str = "--words wants a load, --load or --tokens";
 
+const FAIR: &str = "fair";
+
+const FAIR_HELP: &str = "Let `rounds` lines be fair, with a load";
+
+const NO_FAIR_ROUNDS: &str = "--fair wants a load, --load or --tokens";
+
 const OWN: &str = "own";
 
 const OWN_HELP: &str = "Let terminals send to themselves, too";
 
 /// `--pattern P [--target T [--share C]] --packets N --bytes B --seed S [--load R | --tokens L] [--process I] [--words W]
-/// [--own]`.
+/// [--fair] [--own]`.
 pub fn with_traffic<'a>(alloc: Global, named: Command<'a>) -> Result<Command<'a>, AllocError> {
     named.args(traffic_arguments(alloc)?)
 }
@@ -243,6 +254,7 @@ fn traffic_arguments<'a>(alloc: Global) -> Result<Vec<Arg<'a>>, AllocError> {
     let mut arguments = Vec::new(alloc);
     add_pattern(alloc, &mut arguments)?;
     add_numbers(alloc, &mut arguments)?;
+    add_argument(&mut arguments, Ok(flag(alloc, FAIR, FAIR_HELP)))?;
     add_argument(&mut arguments, Ok(flag(alloc, OWN, OWN_HELP)))?;
     Ok(arguments)
 }

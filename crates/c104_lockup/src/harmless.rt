@@ -78,7 +78,7 @@ fn is_harmless_request(plan: &Plan, image: &Image, request: &Request) -> bool
             may_be_sent(plan, image, *terminal, packet)
         }
         Request::Asked(Event::Control { .. }) | Request::Probed(_) => false,
-        Request::Asked(_) | Request::Rounds(..) | Request::Refused(_) => true,
+        Request::Asked(_) | Request::Rounds { .. } | Request::Refused(_) => true,
     }
 }
 

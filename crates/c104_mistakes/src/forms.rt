@@ -43,7 +43,7 @@ pub(crate) const SCRIPT_FORMS: [Form; 13] = [
     (b"input", INPUT_LINE, 2, 3),
     (b"claim", CLAIM_LINE, 4, 4),
     (b"control", CONTROL_LINE, 2, 10),
-    (b"rounds", ROUNDS_LINE, 2, 4),
+    (b"rounds", ROUNDS_LINE, 2, 5),
     (b"peek", PEEK_LINE, 3, 3),
     (b"poke", POKE_LINE, 4, 4),
     (b"link", LINK_LINE, 2, 2),

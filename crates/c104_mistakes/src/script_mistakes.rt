@@ -31,7 +31,8 @@ pub(crate) const CLAIM_LINE: &str = "the line is `claim SWITCH INPUT OUTPUT`, as
 
 pub(crate) const CONTROL_LINE: &str = "the line is `control SWITCH`, followed by at most 8 bytes";
 
-pub(crate) const ROUNDS_LINE: &str = "the line is `rounds COUNT` or `rounds COUNT seed NUMBER`";
+pub(crate) const ROUNDS_LINE: &str =
+    "the line is `rounds COUNT`, followed by an optional `fair`, and by an optional `seed NUMBER`";
 
 pub(crate) const PEEK_LINE: &str = "the line is `peek SWITCH ADDRESS`, as `peek A 0140`";
 

@@ -153,7 +153,7 @@ fn asks_rounds(words: &[&[u8]]) -> bool {
 /// A count of rounds out of its range, or a seed that is none.
 fn rounds_mistake<'a>(words: &[&'a [u8]]) -> Mistake<'a> {
     match words {
-        [_, count, _, seed] if is_within(1, MAX_ROUNDS, count) => {
+        [_, count, .., _, seed] if is_within(1, MAX_ROUNDS, count) => {
             Mistake::new(NO_SEED, Some(*seed))
         }
         _ => Mistake::new(NO_ROUNDS, word_at(words, 1)),

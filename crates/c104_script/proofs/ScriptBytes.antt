@@ -3,10 +3,10 @@ use Rattle.{c104_control.specs.declared.bytes.TheConstants.MAX_CONTROL_BYTES, c1
 use Rattle.{c104_event.specs.declared.faults.EventFault.EventFault, c104_plan.specs.Checks.{require, value_or_fault, ◌>>=◌, ◌>>◌}}
 use Rattle.{c104_plan.specs.{Plans.Plan, TextCut.{is_plain_line, line_words, uncommented_line}}, c104_script.specs.HexWords.address_word}
 use Rattle.c104_script.specs.{HexWords.register_word, Script.{bytes_after, claim_line, control_line, counted_line, credit_line, cross_line}}
-use Rattle.c104_script.specs.Script.{drain_line, input_at, input_line, link_line, most_line, most_rounds, number_word, packet_of, peek_line}
-use Rattle.c104_script.specs.Script.{place_word, poke_line, port_at, probe_line, probe_of, read_script_line, read_script_words, request_of}
-use Rattle.c104_script.specs.Script.{rounds_line, seeded_line, send_line, some_request, switch_at, table_line, terminal_at, verb_line}
-use Rattle.c104_script.specs.{Script.verb_of, SeedWords.seed_of, declared.{faults.LineFault.LineFault, places.Request.Request}}
+use Rattle.c104_script.specs.Script.{drain_line, fair_line, input_at, input_line, link_line, most_line, most_rounds, number_word, packet_of}
+use Rattle.c104_script.specs.Script.{peek_line, place_word, poke_line, port_at, probe_line, probe_of, read_script_line, read_script_words}
+use Rattle.c104_script.specs.Script.{request_of, rounds_line, seeded_line, send_line, some_request, switch_at, table_line, terminal_at}
+use Rattle.c104_script.specs.{Script.{verb_line, verb_of}, SeedWords.seed_of, declared.{faults.LineFault.LineFault, places.Request.Request}}
 use Rattle.{c104_script.specs.declared.{probes.Probe.Probe, words.{ProbeVerb.ProbeVerb, Verb.Verb}}, c104_token.proofs.Spelling.Spelled}
 use Rattle.c104_token.{proofs.Spelling.accepted, specs.Text.{IsHexDigit, SpellBytes, SpellsByte, parse_words}}
 use Rattle.{c104_token.specs.declared.{faults.TokenFault.TokenFault, packets.Packet.Packet}, std.proofs.Common.{All, Bool, Err, IfOk, List}}
@@ -94,15 +94,20 @@ module _ (plan : Plan) where
   control_fine : (place : List ℕ) (list : List (List ℕ)) → Fine (control_line plan place list)
   control_fine place list = checked RequestBytes (nat_le (length list) MAX_CONTROL_BYTES) LineFault.BadShape _ (chained RequestBytes (place_word place) _ (λ at was. chained RequestBytes (bytes_after [] list) _ (λ bytes is. asked (switch_at plan at) (λ s. Event.Control s bytes) (λ s. tt))))
 
-  counted_fine : (word : List ℕ) (behind : Option (List ℕ)) → Fine (counted_line word behind)
-  counted_fine word behind = chained RequestBytes (number_word word) _ (λ count is. checked RequestBytes (nat_le 1 count && nat_le count most_rounds) LineFault.BadNumber _ (chained RequestBytes (seed_of behind) _ (λ seed is'. tt)))
+  counted_fine : (word : List ℕ) (is_fair : Bool) (behind : Option (List ℕ)) → Fine (counted_line word is_fair behind)
+  counted_fine word is_fair behind = chained RequestBytes (number_word word) _ (λ count is. checked RequestBytes (nat_le 1 count && nat_le count most_rounds) LineFault.BadNumber _ (chained RequestBytes (seed_of behind) _ (λ seed is'. tt)))
 
-  seeded_fine : (word key behind : List ℕ) → Fine (seeded_line word key behind)
-  seeded_fine word key behind = checked RequestBytes (bytes_eq key (codes "seed")) LineFault.BadShape _ (counted_fine word (Some behind))
+  seeded_fine : (word : List ℕ) (is_fair : Bool) (key behind : List ℕ) → Fine (seeded_line word is_fair key behind)
+  seeded_fine word is_fair key behind = checked RequestBytes (bytes_eq key (codes "seed")) LineFault.BadShape _ (counted_fine word is_fair (Some behind))
+
+  fair_fine : (key : List ℕ) (line : Result Request LineFault) → Fine line → Fine (fair_line key line)
+  fair_fine key line fine = checked RequestBytes (bytes_eq key (codes "fair")) LineFault.BadShape line fine
 
   rounds_fine : (rest : List (List ℕ)) → Fine (rounds_line rest)
-  rounds_fine (word ∷ []) = counted_fine word None
-  rounds_fine (word ∷ key ∷ behind ∷ []) = seeded_fine word key behind
+  rounds_fine (word ∷ []) = counted_fine word false None
+  rounds_fine (word ∷ key ∷ []) = fair_fine key _ (counted_fine word true None)
+  rounds_fine (word ∷ key ∷ behind ∷ []) = seeded_fine word false key behind
+  rounds_fine (word ∷ fair ∷ key ∷ behind ∷ []) = fair_fine fair _ (seeded_fine word true key behind)
   rounds_fine rest = tt
 
   peek_fine : (place addr : List ℕ) → Fine (peek_line plan place addr)

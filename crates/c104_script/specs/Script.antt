@@ -11,8 +11,8 @@ use Rattle.{c104_plan.specs.declared.text.Dots.{Dots, TheVariants.{At, Several, 
 use Rattle.c104_script.specs.{HexWords.register_word, SeedWords.seed_of, declared.places.Request.TheVariants.{Asked, Probed, Refused}}
 use Rattle.{c104_script.specs.declared.places.Request.TheVariants.Rounds, c104_token.specs.Text.{parse_words, spelled_byte}}
 use Rattle.c104_token.specs.declared.{faults.TokenFault.TokenFault, packets.Packet.Packet}
-use Rattle.std.specs.{Map.lookup, Prelude.{Bool, Err, List, None, Ok, Option, Result, Some, [], bytes_eq, codes, drop, if◌then◌else◌}}
-use Rattle.std.specs.Prelude.{length, nat_le, take, ℕ, ◌&&◌, ◌++◌, ◌+◌, ◌∷◌, ◌≡◌, ◌⊎◌}
+use Rattle.std.specs.{Map.lookup, Prelude.{Bool, Err, List, None, Ok, Option, Result, Some, [], bytes_eq, codes, drop, false}}
+use Rattle.std.specs.Prelude.{if◌then◌else◌, length, nat_le, take, true, ℕ, ◌&&◌, ◌++◌, ◌+◌, ◌∷◌, ◌≡◌, ◌⊎◌}
 
 -- the number that a word spells, or that it spells none
 abbrev pub number_word : List ℕ → Result ℕ LineFault
@@ -146,24 +146,32 @@ control_line plan node byte_words = do
 abbrev pub most_rounds : ℕ
 most_rounds = 10000
 
--- the count of rounds, and their seed if a word for it stands there
-abbrev pub counted_line : List ℕ → Option (List ℕ) → Result Request LineFault
-counted_line count_word seed_word = do
+-- the count of rounds, whether they are fair, and their seed if a word for it stands there
+abbrev pub counted_line : List ℕ → Bool → Option (List ℕ) → Result Request LineFault
+counted_line count_word is_fair seed_word = do
   count ← number_word count_word
   require (nat_le 1 count && nat_le count most_rounds) LineFault.BadNumber
   seed ← seed_of seed_word
-  Ok (Rounds count seed)
+  Ok (Rounds count is_fair seed)
 
--- `rounds N seed S`
-abbrev pub seeded_line : List ℕ → List ℕ → List ℕ → Result Request LineFault
-seeded_line count_word key seed_word = do
+-- `rounds N seed S`, or what is left of a fair line without the word `fair`
+abbrev pub seeded_line : List ℕ → Bool → List ℕ → List ℕ → Result Request LineFault
+seeded_line count_word is_fair key seed_word = do
   require (bytes_eq key (codes "seed")) LineFault.BadShape
-  counted_line count_word (Some seed_word)
+  counted_line count_word is_fair (Some seed_word)
 
--- `rounds N` or `rounds N seed S`, by the words after the first
+-- a line whose word at the place of `fair` is to be this
+abbrev pub fair_line : List ℕ → Result Request LineFault → Result Request LineFault
+fair_line key line = do
+  require (bytes_eq key (codes "fair")) LineFault.BadShape
+  line
+
+-- `rounds N [fair] [seed S]`, by the words after the first
 abbrev pub rounds_line : List (List ℕ) → Result Request LineFault
-rounds_line (count_word ∷ []) = counted_line count_word None
-rounds_line (count_word ∷ key ∷ seed_word ∷ []) = seeded_line count_word key seed_word
+rounds_line (count_word ∷ []) = counted_line count_word false None
+rounds_line (count_word ∷ fair ∷ []) = fair_line fair (counted_line count_word true None)
+rounds_line (count_word ∷ key ∷ seed_word ∷ []) = seeded_line count_word false key seed_word
+rounds_line (count_word ∷ fair ∷ key ∷ seed_word ∷ []) = fair_line fair (seeded_line count_word true key seed_word)
 rounds_line rest = Err LineFault.BadShape
 
 -- what is asked of what was found, or the refusal where nothing was

@@ -1,6 +1,6 @@
 //! A script, line by line.
 ghost use Rattle.std.specs.Prelude.{◌≡◌, map, option_map};
-ghost use Rattle.c104_script.specs.Script.{claim_line, control_line, counted_line, credit_line, cross_line, drain_line, input_line, read_script_line, rounds_line, seeded_line, send_line, verb_line, read_script_words, GivesLineOrNoMemory};
+ghost use Rattle.c104_script.specs.Script.{claim_line, control_line, counted_line, credit_line, cross_line, drain_line, fair_line, input_line, read_script_line, rounds_line, seeded_line, send_line, verb_line, read_script_words, GivesLineOrNoMemory};
 
 use crate::faults::LineFault;
 use crate::places::{Request, find_input, find_port, find_switch, find_terminal};
@@ -180,30 +180,42 @@ fn read_control(plan: &Plan, node: &[u8], words: &[&[u8]]) -> Result<Request, Li
     })
 }
 
-/// Reads `rounds N` or `rounds N seed S`, by the words after the first.
+/// Reads `rounds N [fair] [seed S]`, by the words after the first.
 fn read_rounds(words: &[&[u8]]) -> Result<Request, LineFault>
     ensures { result ≡ rounds_line (map (λ word. word.now) words.now) }
 {
     match words {
-        [count] => read_counted(count, None),
-        [count, key, seed] => read_seeded(count, key, seed),
+        [count] => read_counted(count, false, None),
+        [count, fair] => read_fair(fair, read_counted(count, true, None)),
+        [count, key, seed] => read_seeded(count, false, key, seed),
+        [count, fair, key, seed] => read_fair(fair, read_seeded(count, true, key, seed)),
         _ => Err(LineFault::BadShape),
     }
 }
 
-/// Reads `rounds N seed S`, of which the word at the place of `seed` is to be this.
-fn read_seeded(count: &[u8], key: &[u8], seed: &[u8]) -> Result<Request, LineFault>
-    ensures { result ≡ seeded_line count.now key.now seed.now }
+/// Reads a line whose word at the place of `fair` is to be this, and that else asks what was read of its other words.
+fn read_fair(key: &[u8], line: Result<Request, LineFault>) -> Result<Request, LineFault>
+    ensures { result ≡ fair_line key.now line }
+{
+    if key != b"fair".as_slice() {
+        return Err(LineFault::BadShape);
+    }
+    line
+}
+
+/// Reads a line with a seed, of which the word at the place of `seed` is to be this.
+fn read_seeded(count: &[u8], is_fair: bool, key: &[u8], seed: &[u8]) -> Result<Request, LineFault>
+    ensures { result ≡ seeded_line count.now is_fair key.now seed.now }
 {
     if key != b"seed".as_slice() {
         return Err(LineFault::BadShape);
     }
-    read_counted(count, Some(seed))
+    read_counted(count, is_fair, Some(seed))
 }
 
 /// Reads the count of rounds, and their seed where a word for it stands there.
-fn read_counted(count: &[u8], seed: Option<&[u8]>) -> Result<Request, LineFault>
-    ensures { result ≡ counted_line count.now (option_map (λ word. word.now) seed.entry) }
+fn read_counted(count: &[u8], is_fair: bool, seed: Option<&[u8]>) -> Result<Request, LineFault>
+    ensures { result ≡ counted_line count.now is_fair (option_map (λ word. word.now) seed.entry) }
 {
     let count = read_number_word(count)?;
     if count < 1 || count > MAX_ROUNDS {
@@ -213,5 +225,9 @@ fn read_counted(count: &[u8], seed: Option<&[u8]>) -> Result<Request, LineFault>
         Some(word) => Some(read_seed(word)?),
         None => None,
     };
-    Ok(Request::Rounds(count, seed))
+    Ok(Request::Rounds {
+        count,
+        is_fair,
+        seed,
+    })
 }

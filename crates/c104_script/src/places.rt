@@ -15,9 +15,15 @@ use c104_plan::Plan;
 pub enum Request {
     /// An event, which the network may still refuse.
     Asked(Event),
-    /// A number of rounds, 1 to 10,000, and the seed of the words that their inputs are handed. Without a seed each is
-    /// handed word 0.
-    Rounds(u32, Option<u64>),
+    /// Rounds.
+    Rounds {
+        /// How many, 1 to 10,000.
+        count: u32,
+        /// Whether the claims of each switch go by turns.
+        is_fair: bool,
+        /// The seed of the words that their inputs are handed. Without one each is handed word 0.
+        seed: Option<u64>,
+    },
     /// What the debugger is to read or to set.
     Probed(Probe),
     /// An event of a node that isn't there or of the wrong kind, or of a link where none is wanted

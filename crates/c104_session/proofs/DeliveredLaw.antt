@@ -4,13 +4,13 @@ use Rattle.c104_deadlock.{proofs.{FullWork.random_within, StandingRuns.stands_qu
 use Rattle.{c104_deadlock.specs.HeaderWork.{random_bound, random_work}, c104_net.specs.Unchanged.AreStartsOf, c104_node.specs.Nodes.Node}
 use Rattle.{c104_node.specs.declared.starts.NodeStart.NodeStart, c104_plan.specs.{PlanImage.{Fits, Image}, Plans.{IsPlan, Plan}}}
 use Rattle.c104_run.specs.{NetRecords.NetRecord, Network.{network_of, placed_network}, QuietNets.IsQuiet, Standstill.StandsStill}
-use Rattle.c104_session.proofs.{FallingWork.{IsFalling, lines_left}, PlacedNets.{IsOfLinks, placed_set, placed_started, placed_starts}}
-use Rattle.c104_session.proofs.{PlacedNets.{placed_steady, placed_unchanged}, PrintedLaw.printed_law, UnchangedNets.IsUnchangedNet}
-use Rattle.c104_session.proofs.{UnchangedNets.{nothing, of_fact, run_so_far}, UnchangedScripts.lines_leave, WorkGrowth.IsWorkWithin}
-use Rattle.c104_session.{proofs.WorkGrowth.{keeps_within, weight_parts, work_falls, work_grows}, specs.DeliveredRuns.EndsWithRounds}
-use Rattle.c104_session.specs.{DeliveredRuns.{PrintsAllPackets, sends_weight, session_after, token_weight}, PrintedPackets.IsUnchangedRun}
-use Rattle.c104_session.specs.{PrintedPackets.{LeaveUnchanged, PrintsPackets, lines_sent, script_end, script_sent}, Shown.line_answer}
-use Rattle.c104_session.specs.{Shown.{line_outcome, new_session}, declared.session.Session.Session}
+use Rattle.c104_session.proofs.{FallingWork.{IsFalling, first_orders, lines_left, lines_orders}, PlacedNets.{IsOfLinks, placed_set}}
+use Rattle.c104_session.proofs.{PlacedNets.{placed_started, placed_starts, placed_steady, placed_unchanged}, PrintedLaw.printed_law}
+use Rattle.c104_session.proofs.{UnchangedNets.{IsUnchangedNet, nothing, of_fact, run_so_far}, UnchangedScripts.lines_leave}
+use Rattle.c104_session.proofs.WorkGrowth.{IsWorkWithin, keeps_within, weight_parts, work_falls, work_grows}
+use Rattle.c104_session.specs.DeliveredRuns.{EndsWithRounds, PrintsAllPackets, sends_weight, session_after, token_weight}
+use Rattle.c104_session.specs.PrintedPackets.{IsUnchangedRun, LeaveUnchanged, PrintsPackets, lines_sent, script_end, script_sent}
+use Rattle.c104_session.specs.{Shown.{line_answer, line_outcome, new_session}, declared.session.Session.Session}
 use Rattle.{c104_stream.specs.Scripts.lines_outcome, c104_token.specs.{Kinds.plain_kind, declared.packets.Packet.Packet}}
 use Rattle.{c104_token.specs.declared.tokens.Token.Token, std.proofs.Common.{All, List, [], ap, arith, inr, length, refl, subst, suc, sym}}
 use Rattle.std.proofs.Common.{ℕ, ◌*◌, ◌++◌, ◌+◌, ◌∙◌, ◌∷◌, ◌≡◌, ◌≤◌}
@@ -94,6 +94,7 @@ module _ (plan : Plan) (image : Image) (script : List ℕ) (is_plan : IsPlan pla
       subst (λ (s : Session). IsQuiet s.net.network) end
       (lines_left routes plan is_plan starts work falling ends.back parts.0 (lines_sent first ends.front) mid
       (of_fact routes plan starts (IsWorkWithin plan image acyclic.0) nothing (lines_sent first ends.front) mid.net there tt)
+      (lines_orders ends.front 1 first (first_orders plan image))
       (last_lines routes ends.front ends.back 1 first all_unchanged) ends.silent (inr (omega (arith, less, part, ends.enough))))
 
   pub delivered_law : PrintsAllPackets plan image script

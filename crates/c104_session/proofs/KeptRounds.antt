@@ -9,7 +9,7 @@ use Rattle.std.proofs.Common.{Result, ap, arith, false, if◌then◌else◌, inl
 use Rattle.std.proofs.lemmas.Bool.Decides.{nat_tests}
 
 -- no more events were done than before
-few_done : (before after : ℕ) → is_later before after ≡ false → (before < largest_ticket) × (after ≤ before)
+pub few_done : (before after : ℕ) → is_later before after ≡ false → (before < largest_ticket) × (after ≤ before)
 few_done before after none = (grind (arith, nat_tests, none), grind (arith, nat_tests, none))
 
 module _ {M : Type 0} (sees : Sees M TaggedToken) (keeps : Keeping M) where

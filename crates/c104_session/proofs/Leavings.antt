@@ -1,11 +1,11 @@
 -- What is left of a network where there was no memory for what a line asks.
-use Rattle.{c104_event.specs.declared.{events.Event.Event, faults.EventFault.EventFault}, c104_run.specs.NetRecords.NetRecord}
-use Rattle.c104_run.specs.{Network.{Network, outcome_if_possible, outcome_if_ready, outcome_within_limit}, RecordedRuns.AnswersRecord}
-use Rattle.c104_run.specs.{RecordedRuns.{RecordsHanded, record_apply, record_at, record_stage}, Stages.stage_after}
+use Rattle.{c104_event.specs.declared.{events.Event.Event, faults.EventFault.EventFault}, c104_run.specs.FairRounds.SwitchTurns}
+use Rattle.c104_run.specs.{NetRecords.NetRecord, Network.{Network, outcome_if_possible, outcome_if_ready, outcome_within_limit}}
+use Rattle.c104_run.specs.{RecordedRuns.{AnswersRecord, RecordsHanded, record_apply, record_at, record_stage}, Stages.stage_after}
 use Rattle.{c104_run.specs.declared.words.Words.Words, c104_script.specs.declared.{faults.LineFault.LineFault, places.Request.Request}}
 use Rattle.{c104_session.specs.Leavings.{LeavesNet, LeavesRead, LeavesRounds}, c104_switch.specs.Actions.Reply}
-use Rattle.{c104_token.specs.{Kinds.plain_kind, declared.tokens.Token.Token}, std.proofs.Common.{Bool, Err, Ok, OnErr, Option, Result}}
-use Rattle.std.proofs.{Common.{Some, arith, if◌then◌else◌, subst, true, ℕ, ◌≡◌}, lemmas.List.append-nil}
+use Rattle.{c104_token.specs.{Kinds.plain_kind, declared.tokens.Token.Token}, std.proofs.Common.{Bool, Err, List, Ok, OnErr, Option}}
+use Rattle.std.proofs.{Common.{Result, Some, arith, if◌then◌else◌, subst, true, ℕ, ◌≡◌}, lemmas.List.append-nil}
 
 abbrev Came : Type 0
 Came = Result Reply EventFault × Network Token
@@ -40,12 +40,12 @@ pub rounds_left : (words : Words) (net : NetRecord) (count : ℕ) (result : Resu
 rounds_left words net count result left recorded = search (arith, append-nil)
 
 -- nothing was done
-nothing_asked : (net : NetRecord) (request : Request) → LeavesNet net request net
-nothing_asked net request = search arith
+nothing_asked : (net : NetRecord) (turns : List SwitchTurns) (request : Request) → LeavesNet net turns request net turns
+nothing_asked net turns request = search arith
 
-pub nothing_left : (net : NetRecord) (due : Result (Option Request) LineFault) → LeavesRead net due net
-nothing_left net due = search (arith, nothing_asked)
+pub nothing_left : (net : NetRecord) (turns : List SwitchTurns) (due : Result (Option Request) LineFault) → LeavesRead net turns due net turns
+nothing_left net turns due = search (arith, nothing_asked)
 
 -- what a line leaves that asks this
-pub request_left : (net : NetRecord) (due : Result (Option Request) LineFault) (request : Request) (left : NetRecord) → Ok (Some request) ≡ due → LeavesNet net request left → LeavesRead net due left
-request_left net due request left is leaves = subst (λ (r : Result (Option Request) LineFault). LeavesRead net r left) is leaves
+pub request_left : (net : NetRecord) (turns : List SwitchTurns) (due : Result (Option Request) LineFault) (request : Request) (left : NetRecord) (behind : List SwitchTurns) → Ok (Some request) ≡ due → LeavesNet net turns request left behind → LeavesRead net turns due left behind
+request_left net turns due request left behind is leaves = subst (λ (r : Result (Option Request) LineFault). LeavesRead net turns r left behind) is leaves

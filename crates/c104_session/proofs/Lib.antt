@@ -11,8 +11,11 @@ pub mod NewScripts
 pub mod CountedScripts
 pub mod KeptRounds
 pub mod KeptLoops
+pub mod KeptFairRounds
+pub mod KeptFairLoops
 pub mod TimedScripts
 pub mod Leavings
+pub mod FairLeavings
 pub mod PlanRuns
 pub mod Starts
 pub mod SentLists

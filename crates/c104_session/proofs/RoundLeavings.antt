@@ -6,7 +6,7 @@ use Rattle.{c104_run.specs.declared.words.Words.Words, c104_session.specs.Leavin
 use Rattle.std.proofs.Common.{append-nil, append_assoc, arith, length, suc, sym, ℕ, ◌++◌, ◌-◌, ◌<◌, ◌∙◌, ◌≡◌}
 
 -- the events of the next one in two parts
-parted : (before front rest more : List Event) → before ++ ((front ++ rest) ++ more) ≡ (before ++ front) ++ (rest ++ more)
+pub parted : (before front rest more : List Event) → before ++ ((front ++ rest) ++ more) ≡ (before ++ front) ++ (rest ++ more)
 parted before front rest more = search (arith, append_assoc)
 
 module _ (words handed : Words) (start net after : NetRecord) (i n : ℕ) where

@@ -1,15 +1,17 @@
 -- A script that changes nothing leaves a network that nobody changed, whose terminals sent what its lines sent.
-use Rattle.{c104_check.specs.Routes.Routes, c104_event.specs.declared.{events.Event.Event, faults.EventFault.EventFault}}
-use Rattle.{c104_net.{proofs.SentBytes.SendsBytes, specs.Unchanged.MayHappen}, c104_node.specs.declared.starts.NodeStart.NodeStart}
-use Rattle.{c104_plan.specs.Plans.{IsPlan, Plan}, c104_run.specs.{HandedWords.{rounds_with, words_of}, NetRecords.{NetRecord, is_done}}}
+use Rattle.{c104_check.specs.Routes.Routes, c104_deadlock.proofs.RoundsAlike.of_fair_events, c104_event.specs.declared.events.Event.Event}
+use Rattle.{c104_event.specs.declared.faults.EventFault.EventFault, c104_net.{proofs.SentBytes.SendsBytes, specs.Unchanged.MayHappen}}
+use Rattle.{c104_node.specs.declared.starts.NodeStart.NodeStart, c104_plan.specs.Plans.{IsPlan, Plan}, c104_run.proofs.RoundRuns.run_seen}
+use Rattle.c104_run.specs.{EventRuns.Outcome, FairRounds.{InTurn, fair_events, fairly, in_turn}, HandedWords.{rounds_with, words_of}}
+use Rattle.c104_run.specs.{NetRecords.{NetRecord, is_done}, RecordedRuns.record_apply, declared.words.Words.Words}
 use Rattle.c104_script.{proofs.ScriptBytes.{AskedBytes, line_bytes}, specs.{Script.read_script_line, declared.faults.LineFault.LineFault}}
 use Rattle.{c104_script.specs.declared.{places.Request.Request, probes.Probe.Probe}, c104_session.proofs.PeekedNets.IsNoPoke}
 use Rattle.c104_session.proofs.{PeekedNets.probe_leaves, UnchangedNets.{Fact, IsUnchangedNet, Keeps, event_leaves, events_leave, of_rounds}}
 use Rattle.c104_session.specs.{PrintedPackets.{LeaveUnchanged, MayAsk, asked_sends, line_sends, lines_sent, was_done}, Shown.answer_of_read}
-use Rattle.c104_session.specs.{Shown.{event_answer, line_answer, line_outcome}, declared.session.Session.Session}
+use Rattle.c104_session.specs.{Shown.{event_answer, fair_outcome, line_answer, line_outcome}, declared.session.Session.Session}
 use Rattle.{c104_stream.specs.Scripts.lines_outcome, c104_switch.specs.Actions.Reply, c104_token.specs.declared.packets.Packet.Packet}
 use Rattle.std.proofs.Common.{Bool, Err, IfOk, List, None, Ok, Option, Result, Some, [], ap, append-nil, append_assoc, arith, false}
-use Rattle.std.proofs.Common.{if◌then◌else◌, subst, suc, sym, ℕ, ◌++◌, ◌∙◌, ◌∷◌, ◌≡◌}
+use Rattle.std.proofs.Common.{if◌then◌else◌, refl, subst, suc, sym, true, ℕ, ◌++◌, ◌∙◌, ◌∷◌, ◌≡◌}
 
 done_same : (a : Result Reply EventFault) → is_done a ≡ was_done (Some (event_answer a))
 done_same a = search arith
@@ -41,11 +43,23 @@ module _ (routes : Routes) (plan : Plan) (is_plan : IsPlan plan) (starts : List 
     poked : (it : Probe) → MayAsk routes (Ok (Some (Request.Probed it))) (answer_of_read session (Ok (Some (Request.Probed it)))).0 → IsNoPoke routes plan is_plan starts fact keeps sends it
     poked it may = search arith
 
+    -- what fair rounds leave, beside their turns
+    fair_leaves : (words : Words) (count : ℕ) → Is sends (fair_outcome words session.net session.turns count).1.state
+    fair_leaves words count =
+        let x : InTurn NetRecord = in_turn session.net session.turns in
+        let events : List Event = fair_events record_apply words session.net.network.plan count x in
+        subst (λ (n : NetRecord). Is sends n)
+        (sym (ap (λ (o : Outcome NetRecord). o.1) (run_seen (fairly record_apply) record_apply (λ (z : InTurn NetRecord). z.state) (λ z e. refl) events x)))
+        (events_leave routes plan is_plan starts fact keeps sends events session.net
+        (of_fair_events record_apply words session.net.network.plan count x) was)
+
     read_leaves : (asked : Result (Option Request) LineFault) → IfOk asked (AskedBytes plan) → MayAsk routes asked (answer_of_read session asked).0 → IsAfter asked
     read_leaves (Ok None) bytes may = nothing false session.net was
     read_leaves (Ok (Some (Request.Asked e))) bytes may = event_done e bytes may
-    read_leaves (Ok (Some (Request.Rounds count seed))) bytes may =
-        nothing (was_done (answer_of_read session (Ok (Some (Request.Rounds count seed)))).0) _
+    read_leaves (Ok (Some (Request.Rounds count true seed))) bytes may =
+        nothing (was_done (answer_of_read session (Ok (Some (Request.Rounds count true seed)))).0) _ (fair_leaves (words_of seed) count)
+    read_leaves (Ok (Some (Request.Rounds count false seed))) bytes may =
+        nothing (was_done (answer_of_read session (Ok (Some (Request.Rounds count false seed)))).0) _
         (events_leave routes plan is_plan starts fact keeps sends (rounds_with (words_of seed) session.net.network.plan count) session.net
         (of_rounds (words_of seed) session.net.network.plan count) was)
     read_leaves (Ok (Some (Request.Probed it))) bytes may = nothing (was_done (answer_of_read session (Ok (Some (Request.Probed it)))).0) _ (probe_leaves routes plan is_plan starts fact keeps sends session.net session.image it (poked it may) was)

@@ -1,12 +1,13 @@
 -- The counts of a run: what an event that is asked of a network adds to them, and what rounds do.
 --     counted_event c net e      an event
 --     counted_rounds c net words n      n rounds whose inputs are handed words
+--     counted_fairly c net turns words n      n fair rounds, from turns on
 use Rattle.{c104_event.specs.declared.events.Event.Event, c104_net.specs.MeteredRecords.{at_meter, record_metered}}
-use Rattle.c104_run.specs.{NetRecords.{NetRecord, is_done}, RecordedRuns.record_apply, declared.words.Words.Words}
-use Rattle.{c104_session.specs.{Driven.Driving, Keepers.{Keeping, rounds_kept}, Resets.is_reset}, c104_stats.specs.Counts.Counts}
-use Rattle.c104_stats.specs.{Counts.{counts_begun, counts_cut, counts_noted, counts_passed, counts_sent}, Metering.counting}
-use Rattle.c104_stats.specs.Sights.{counts_of_net}
-use Rattle.std.specs.Prelude.{Bool, false, length, true, ℕ, ◌&&◌}
+use Rattle.c104_run.specs.{FairRounds.{SwitchTurns, in_turn}, NetRecords.{NetRecord, is_done}, RecordedRuns.record_apply}
+use Rattle.{c104_run.specs.declared.words.Words.Words, c104_session.specs.{Driven.Driving, Keepers.{Keeping, fair_rounds_kept}}}
+use Rattle.{c104_session.specs.{Keepers.rounds_kept, Resets.is_reset}, c104_stats.specs.Counts.{Counts, counts_begun, counts_cut}}
+use Rattle.c104_stats.specs.{Counts.{counts_noted, counts_passed, counts_sent}, Metering.counting, Sights.counts_of_net}
+use Rattle.std.specs.Prelude.{Bool, List, false, length, true, ℕ, ◌&&◌}
 
 -- what is counted of a packet that a terminal was asked to send, where that was done
 abbrev pub sent_if : Bool → Counts → ℕ → ℕ → Counts
@@ -46,6 +47,10 @@ counts_keep = record {
 abbrev pub counted_rounds : Counts → NetRecord → Words → ℕ → Counts
 counted_rounds c net words count = rounds_kept counting counts_keep words count (at_meter net c)
 
+-- after fair rounds, from turns on
+abbrev pub counted_fairly : Counts → NetRecord → List SwitchTurns → Words → ℕ → Counts
+counted_fairly c net turns words count = fair_rounds_kept counting counts_keep words count (in_turn (at_meter net c) turns)
+
 -- what is counted of what a network is asked
 abbrev pub counts_kept : Driving Counts
-counts_kept = record { event = counted_event; rounds = counted_rounds }
+counts_kept = record { event = counted_event; rounds = counted_rounds; fair = counted_fairly }

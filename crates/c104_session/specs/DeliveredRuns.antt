@@ -12,9 +12,9 @@ use Rattle.{c104_stream.specs.{ScriptLines.script_lines, Scripts.lines_outcome},
 use Rattle.c104_token.specs.declared.tokens.Token.{Token}
 use Rattle.std.specs.Prelude.{List, Ok, Option, Result, Some, [], if◌then◌else◌, length, slice_get, ℕ, ◌*◌, ◌++◌, ◌+◌, ◌<◌, ◌∷◌, ◌≡◌}
 
--- how many rounds a line asks for, whatever words their inputs are handed
+-- how many rounds a line asks for, whether they are fair or not, and whatever words their inputs are handed
 abbrev pub rounds_asked : Result (Option Request) LineFault → ℕ
-rounds_asked (Ok (Some (Request.Rounds count seed))) = count
+rounds_asked (Ok (Some (Request.Rounds count is_fair seed))) = count
 rounds_asked asked = 0
 
 -- how many a line did: all that it asks for, where it is answered that they were done

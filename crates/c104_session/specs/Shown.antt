@@ -1,7 +1,8 @@
 -- What a run shows: the answers to the script's lines in turn, and then what arrived.
 use Rattle.{c104_event.specs.declared.faults.EventFault.EventFault, c104_net.specs.{Deliveries.arrived_at, TracedEnds.traced_end}}
 use Rattle.{c104_node.specs.{Origins.origins_in, declared.{origins.Origin.Origin, traced.Traced.Traced}}, c104_plan.specs.PlanImage.Image}
-use Rattle.{c104_plan.specs.{Plans.Plan, PortTexts.terminal_name, declared.plans.Terminal.Terminal}, c104_run.specs.EventRuns.run_events}
+use Rattle.c104_plan.specs.{Plans.Plan, PortTexts.terminal_name, declared.{limits.TheConstants.MAX_SWITCHES, plans.Terminal.Terminal}}
+use Rattle.c104_run.specs.{EventRuns.run_events, FairRounds.{InTurn, SwitchTurns, fair_events, fairly, first_turns, in_turn}}
 use Rattle.c104_run.specs.{FinishedRecords.{FinishedRecord, record_finish}, HandedWords.{rounds_with, words_of}, NetRecords.NetRecord}
 use Rattle.c104_run.specs.{NetRecords.fresh_record, Network.{Network, placed_network}, RecordedRuns.record_apply}
 use Rattle.{c104_run.specs.declared.words.Words.Words, c104_script.specs.{Answering.shown_by, Script.read_script_line, Texts.token_text}}
@@ -11,11 +12,11 @@ use Rattle.{c104_session.specs.declared.summary_text.SummaryLine.SummaryLine, c1
 use Rattle.{c104_stream.specs.Scripts.script_outcome, c104_switch.specs.{Actions.Reply, declared.actions.ReplyOf.TheVariants.Done}}
 use Rattle.c104_token.specs.{Cut.whole_pieces, Packets.packet_tokens, Text.hex_digit, declared.tokens.Token.Token}
 use Rattle.std.specs.Prelude.{Bool, Err, List, None, Ok, Option, Result, Some, [], codes, decimal, false, flat_map, map, option_to_list}
-use Rattle.std.specs.Prelude.{suc, true, ℕ, ◌%◌, ◌++◌, ◌/◌, ◌∷◌}
+use Rattle.std.specs.Prelude.{replicate, suc, true, ℕ, ◌%◌, ◌++◌, ◌/◌, ◌∷◌}
 
 -- a network of this plan with an image, before the first line
 abbrev pub new_session : Plan → Image → Session
-new_session plan image = record { net = fresh_record (placed_network plan image); image = image; faulty = false }
+new_session plan image = record { net = fresh_record (placed_network plan image); image = image; faulty = false; turns = replicate MAX_SWITCHES first_turns }
 
 -- what rounds answer: that they are done, or the refusal of the event that they stopped at
 abbrev pub rounds_answer : Result (Unit {0}) EventFault → Result Reply EventFault
@@ -28,6 +29,12 @@ abbrev pub rounds_outcome : Words → NetRecord → ℕ → Result Reply EventFa
 rounds_outcome words net count =
     let r = run_events record_apply net (rounds_with words net.network.plan count) in (rounds_answer r.0, r.1)
 
+-- the same of fair rounds, from turns on, and the turns that they leave
+abbrev pub fair_outcome : Words → NetRecord → List SwitchTurns → ℕ → Result Reply EventFault × InTurn NetRecord
+fair_outcome words net turns count =
+    let r = run_events (fairly record_apply) (in_turn net turns)
+    (fair_events record_apply words net.network.plan count (in_turn net turns)) in (rounds_answer r.0, r.1)
+
 -- what answers an event: the reply, or the refusal
 abbrev pub event_answer : Result Reply EventFault → Answer
 event_answer (Ok r) = Replied r
@@ -37,6 +44,15 @@ event_answer (Err kind) = Refused kind
 abbrev pub answer_after : Session → Result Reply EventFault × NetRecord → Answer × Session
 answer_after session r = (event_answer r.0, record session { net = r.1 })
 
+-- the same of fair rounds, which leave other turns
+abbrev pub fair_after : Session → Result Reply EventFault × InTurn NetRecord → Answer × Session
+fair_after session r = (event_answer r.0, record session { net = r.1.state; turns = r.1.turns })
+
+-- of rounds, which are fair or not
+abbrev pub rounds_after : Session → Bool → Words → ℕ → Answer × Session
+rounds_after session false words count = answer_after session (rounds_outcome words session.net count)
+rounds_after session true words count = fair_after session (fair_outcome words session.net session.turns count)
+
 -- the same of the debugger, whose answer is made
 abbrev pub probe_after : Session → Answer × NetRecord → Answer × Session
 probe_after session r = (r.0, record session { net = r.1 })
@@ -44,7 +60,7 @@ probe_after session r = (r.0, record session { net = r.1 })
 -- what answers a request, and the run after it
 abbrev pub request_answer : Session → Request → Answer × Session
 request_answer session (Request.Asked event) = answer_after session (record_apply session.net event)
-request_answer session (Request.Rounds count seed) = answer_after session (rounds_outcome (words_of seed) session.net count)
+request_answer session (Request.Rounds count is_fair seed) = rounds_after session is_fair (words_of seed) count
 request_answer session (Request.Probed it) = probe_after session (probe_answer session.net session.image it)
 request_answer session (Request.Refused kind) = (Refused kind, session)
 

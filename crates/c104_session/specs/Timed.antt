@@ -1,10 +1,12 @@
 -- The timeline of a run: what an event that is asked of a network adds to it, and what rounds do.
 --     timed_event t net e      an event
 --     timed_rounds t net words n      n rounds whose inputs are handed words
+--     timed_fairly t net turns words n      n fair rounds, from turns on
 use Rattle.{c104_event.specs.declared.events.Event.Event, c104_net.specs.MeteredRecords.{at_meter, record_metered}}
-use Rattle.c104_run.specs.{NetRecords.{NetRecord, is_done}, RecordedRuns.record_apply, declared.words.Words.Words}
-use Rattle.{c104_session.specs.{Driven.Driving, Keepers.{Keeping, rounds_kept}, Resets.is_reset}, c104_timeline.specs.Metering.watching}
-use Rattle.c104_timeline.specs.Timelines.{Timeline, timeline_begun, timeline_cut, timeline_ended, timeline_passed, timeline_settled}
+use Rattle.c104_run.specs.{FairRounds.{SwitchTurns, in_turn}, NetRecords.{NetRecord, is_done}, RecordedRuns.record_apply}
+use Rattle.{c104_run.specs.declared.words.Words.Words, c104_session.specs.{Driven.Driving, Keepers.{Keeping, fair_rounds_kept}}}
+use Rattle.{c104_session.specs.{Keepers.rounds_kept, Resets.is_reset}, c104_timeline.specs.{Metering.watching, Timelines.Timeline}}
+use Rattle.c104_timeline.specs.Timelines.{timeline_begun, timeline_cut, timeline_ended, timeline_passed, timeline_settled}
 use Rattle.std.specs.Prelude.{List, if◌then◌else◌, ℕ}
 
 -- what rounds do beside their tokens
@@ -38,6 +40,10 @@ timed_event t net e = told_event (before_event t e) net e
 abbrev pub timed_rounds : Timeline → NetRecord → Words → ℕ → Timeline
 timed_rounds t net words count = rounds_kept watching timeline_keeps words count (at_meter net t)
 
+-- after fair rounds, from turns on
+abbrev pub timed_fairly : Timeline → NetRecord → List SwitchTurns → Words → ℕ → Timeline
+timed_fairly t net turns words count = fair_rounds_kept watching timeline_keeps words count (in_turn (at_meter net t) turns)
+
 -- the timeline of what a network is asked
 abbrev pub timeline_kept : Driving Timeline
-timeline_kept = record { event = timed_event; rounds = timed_rounds }
+timeline_kept = record { event = timed_event; rounds = timed_rounds; fair = timed_fairly }

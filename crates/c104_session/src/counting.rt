@@ -6,10 +6,10 @@ ghost use Rattle.c104_stats.specs.Counts.{counts_sent};
 ghost use Rattle.c104_event.specs.declared.faults.EventFault.TheVariants as fault;
 
 use crate::driver::Driver;
-use crate::keepers::{Keeper, do_told, keep_rounds};
+use crate::keepers::{Keeper, do_told, keep_fair_rounds, keep_rounds};
 use crate::resets::is_reset;
 use c104_event::{Event, EventFault};
-use c104_net::{TracedNet, Watch, Words};
+use c104_net::{TracedNet, Turns, Watch, Words};
 use c104_stats::Stats;
 use c104_switch::Reply;
 use c104_token::NoMemory;
@@ -57,6 +57,17 @@ impl Driver for Stats {
         watch: &mut W,
     ) -> Result<(), EventFault> {
         keep_rounds(self, net, words, count, watch)
+    }
+
+    fn fair_rounds<W: Watch>(
+        &mut self,
+        net: &mut TracedNet,
+        turns: &mut Turns,
+        words: Words,
+        count: u32,
+        watch: &mut W,
+    ) -> Result<(), EventFault> {
+        keep_fair_rounds(self, net, turns, words, count, watch)
     }
 }
 

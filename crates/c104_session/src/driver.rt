@@ -1,10 +1,10 @@
 //! Who does what the lines of a script ask of a network.
 ghost use Rattle.std.specs.Prelude.{Err, OnErr, ◌≡◌, ◌⊎◌};
-ghost use Rattle.c104_session.specs.{Driven.{DoesEvent, DoesRounds}, Leavings.LeavesRounds};
+ghost use Rattle.c104_session.specs.{Driven.{DoesEvent, DoesFairly, DoesRounds}, Leavings.{LeavesFairly, LeavesRounds}};
 ghost use Rattle.c104_event.specs.declared.faults.EventFault.TheVariants as fault;
 
 use c104_event::{Event, EventFault};
-use c104_net::{TracedNet, Watch, Words};
+use c104_net::{TracedNet, Turns, Watch, Words};
 use c104_switch::Reply;
 
 /// Who does the events and the rounds that a script asks of a network. What the network does and answers is the same
@@ -33,6 +33,20 @@ pub(crate) trait Driver {
         ensures due { DoesRounds words net.old count result net.new }
         ensures left { LeavesRounds words net.old count net.new }
         ensures driven { (self.new ≡ drives.rounds self.old net.old words count) ⊎ (result ≡ Err fault.NoMemory) };
+
+    /// Does `count` fair rounds whose inputs are handed words, from these turns on, as `TracedNet::fair_rounds` does. Out of
+    /// memory the first of their events are done.
+    fn fair_rounds<W: Watch>(
+        &mut self,
+        net: &mut TracedNet,
+        turns: &mut Turns,
+        words: Words,
+        count: u32,
+        watch: &mut W,
+    ) -> Result<(), EventFault>
+        ensures due { DoesFairly words net.old turns.old count result net.new turns.new }
+        ensures left { LeavesFairly words net.old turns.old count net.new turns.new }
+        ensures driven { (self.new ≡ drives.fair self.old net.old turns.old words count) ⊎ (result ≡ Err fault.NoMemory) };
 }
 
 /// A driver that keeps nothing.
@@ -60,5 +74,18 @@ impl Driver for Plain {
         watch: &mut W,
     ) -> Result<(), EventFault> {
         net.rounds_watched(count, words, watch)
+    }
+
+    #[tactic(auto, using(crate::proofs::FairLeavings::fairly_left))]
+    #[inline]
+    fn fair_rounds<W: Watch>(
+        &mut self,
+        net: &mut TracedNet,
+        turns: &mut Turns,
+        words: Words,
+        count: u32,
+        watch: &mut W,
+    ) -> Result<(), EventFault> {
+        net.fair_rounds(count, words, turns, watch)
     }
 }

@@ -126,7 +126,7 @@ fn message_of_done(
     tally: &mut Tally,
 ) -> Option<String> {
     match read_line(alloc, session.net.plan(), line) {
-        Ok(Some(Request::Rounds(count, _))) if rounds < count && !session.net.quiet() => {
+        Ok(Some(Request::Rounds { count, .. })) if rounds < count && !session.net.quiet() => {
             standstill_message(alloc, &session.net, tally.sent())
         }
         Ok(Some(Request::Asked(event))) => {

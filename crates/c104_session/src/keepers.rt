@@ -1,11 +1,12 @@
 //! Rounds of which something is kept.
 ghost use Rattle.std.specs.Prelude.{Err, OnErr, length, ◌≡◌, ◌⊎◌};
-ghost use Rattle.{c104_net.specs.MeteredRecords.{at_meter, record_metered}, c104_run.specs.HandedWords.words_behind};
-ghost use Rattle.c104_session.specs.{Driven.{DoesEvent, DoesRounds}, Keepers.{KeepsRound, is_later, rounds_kept}, Leavings.LeavesRounds};
+ghost use Rattle.{c104_net.specs.MeteredRecords.{at_meter, record_metered}, c104_run.specs.{FairRounds.in_turn, HandedWords.words_behind}};
+ghost use Rattle.c104_session.specs.{Driven.{DoesEvent, DoesFairly, DoesRounds}, Leavings.{LeavesFairly, LeavesRounds}};
+ghost use Rattle.c104_session.specs.Keepers.{KeepsFairRound, KeepsRound, fair_rounds_kept, is_later, rounds_kept};
 ghost use Rattle.c104_event.specs.declared.faults.EventFault.TheVariants as fault;
 
 use c104_event::{Event, EventFault};
-use c104_net::{Meter, MeteredNet, TaggedToken, TracedNet, Watch, Words};
+use c104_net::{Meter, MeteredNet, TaggedToken, TracedNet, Turns, Watch, Words};
 use c104_switch::Reply;
 use c104_token::NoMemory;
 
@@ -75,6 +76,35 @@ pub(crate) fn keep_rounds<K: Keeper, W: Watch>(
     Ok(())
 }
 
+/// Does fair rounds whose inputs are handed words, from these turns on, as `TracedNet::fair_rounds` does, and has this kept of
+/// them. Out of memory the first of their events are done.
+pub(crate) fn keep_fair_rounds<K: Keeper, W: Watch>(
+    keeper: &mut K,
+    net: &mut TracedNet,
+    turns: &mut Turns,
+    words: Words,
+    count: u32,
+    watch: &mut W,
+) -> Result<(), EventFault>
+    ensures due { DoesFairly words net.old turns.old count result net.new turns.new }
+    ensures left { LeavesFairly words net.old turns.old count net.new turns.new }
+    ensures kept { (keeper.new ≡ fair_rounds_kept K.sees K.keeps words count (in_turn (at_meter net.old keeper.old) turns.old))
+        ⊎ (result ≡ Err fault.NoMemory) }
+{
+    let mut handed = words;
+    for round in 0..count {
+        let done = keep_fair_round(keeper, net, turns, handed)?;
+        if !done {
+            // Nor would any further round change anything: its claims go by the same turns.
+            keeper.pass(count - (round + 1));
+            return Ok(());
+        }
+        watch.rounds_done(round + 1, count);
+        handed = words_behind(handed, net);
+    }
+    Ok(())
+}
+
 /// The words of the round behind one that is handed these.
 fn words_behind(words: Words, net: &TracedNet) -> Words
     ensures { result ≡ words_behind words (length net.now.network.plan.switches) }
@@ -93,6 +123,23 @@ fn keep_round<K: Keeper>(
     keeper.begin(net)?;
     let before = net.done_count();
     net.round_told(words, keeper)?;
+    let done = is_later(before, net.done_count());
+    keeper.end(done);
+    Ok(done)
+}
+
+/// Does a fair round whose inputs are handed words, from these turns on, and tells whether any event of it was done.
+fn keep_fair_round<K: Keeper>(
+    keeper: &mut K,
+    net: &mut TracedNet,
+    turns: &mut Turns,
+    words: Words,
+) -> Result<bool, EventFault>
+    ensures { KeepsFairRound K.sees K.keeps words net.old turns.old keeper.old result net.new turns.new keeper.new }
+{
+    keeper.begin(net)?;
+    let before = net.done_count();
+    net.fair_round_told(words, turns, keeper)?;
     let done = is_later(before, net.done_count());
     keeper.end(done);
     Ok(done)

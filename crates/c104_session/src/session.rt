@@ -1,10 +1,10 @@
 //! A run of a network, line by line.
 ghost use Rattle.std.specs.Prelude.{Err, IfOk, OnErr, OnOk, Option, Result, ◌≡◌, ◌⊎◌};
 ghost use Rattle.{c104_event.specs.declared.faults.EventFault.EventFault as TheFault, c104_plan.specs.PlanImage.Fits};
-ghost use Rattle.c104_run.specs.{FinishedRecords.record_finish, NetRecords.NetRecord as TheNet};
+ghost use Rattle.c104_run.specs.{FairRounds.{InTurn, in_turn}, FinishedRecords.record_finish, NetRecords.NetRecord as TheNet};
 ghost use Rattle.{c104_script.specs.declared.answers.Answer.Answer as TheAnswer, c104_session.specs.Driven.{DoesEvent, line_driven}};
-ghost use Rattle.c104_session.specs.{Driven.request_driven, Leavings.{KeepsAllButNet, LeavesLine, LeavesNet, LeavesRounds}};
-ghost use Rattle.c104_session.specs.Shown.{line_answer, new_session, request_answer, rounds_outcome};
+ghost use Rattle.c104_session.specs.{Driven.request_driven, Leavings.{KeepsAllButNet, LeavesFairly, LeavesLine, LeavesNet, LeavesRounds}};
+ghost use Rattle.c104_session.specs.Shown.{fair_outcome, line_answer, new_session, request_answer, rounds_outcome};
 ghost use Rattle.{c104_session.specs.declared.session.Session.Session as TheSession, c104_switch.specs.Actions.Reply as TheReply};
 ghost use Rattle.c104_event.specs.declared.faults.EventFault.TheVariants as fault;
 
@@ -13,7 +13,7 @@ use crate::ended::EndedNet;
 use crate::probing::answer_probe;
 use crate::starting::start_net;
 use c104_event::{Event, EventFault};
-use c104_net::{TracedNet, Unwatched, Watch, Words};
+use c104_net::{TracedNet, Turns, Unwatched, Watch, Words};
 use c104_plan::{Image, Plan};
 use c104_script::{Answer, LineFault, Request, read_line};
 use c104_switch::Reply;
@@ -28,6 +28,8 @@ pub struct Session {
     pub image: Image,
     /// Whether a line was faulty so far.
     pub faulty: bool,
+    /// Whose turn it is at each switch, of fair rounds.
+    pub turns: Turns,
 }
 
 /// What a script's run came to. It can't be dropped: `retire` disposes of its network.
@@ -49,6 +51,7 @@ impl Session {
             net,
             image,
             faulty: false,
+            turns: Turns::first(),
         })
     }
 
@@ -61,6 +64,7 @@ impl Session {
             net,
             image: _,
             faulty,
+            turns: _,
         } = self;
         Ended {
             run: EndedNet::new(net),
@@ -69,7 +73,7 @@ impl Session {
     }
 
     /// Does what a line asks. None where it asks nothing. The only error is out of memory: then
-    /// only the network may have changed; an event isn't done, and rounds may be done in part.
+    /// only the network and its turns may have changed; an event isn't done, and rounds may be done in part.
     pub fn answer(&mut self, alloc: Global, line: &[u8]) -> Result<Option<Answer>, NoMemory>
         ensures answered { IfOk result (λ answer. ◌≡◌ {A = Option TheAnswer × TheSession}
             (answer, self.new) (line_answer self.old line.now)) }
@@ -91,7 +95,7 @@ impl Session {
         ensures answered { IfOk result (λ answer. ◌≡◌ {A = Option TheAnswer × TheSession}
             (answer, self.new) (line_answer self.old line.now)) }
         ensures left { OnErr result (LeavesLine self.old line.now self.new) }
-        ensures driven { OnOk result (driver.new ≡ line_driven D.drives driver.old self.old.net line.now) }
+        ensures driven { OnOk result (driver.new ≡ line_driven D.drives driver.old self.old.net self.old.turns line.now) }
     {
         match read_line(alloc, self.net.plan(), line) {
             Ok(None) => Ok(None),
@@ -118,13 +122,23 @@ impl Session {
         ensures answered { IfOk result (λ answer. ◌≡◌ {A = TheAnswer × TheSession}
             (answer, self.new) (request_answer self.old request.now)) }
         ensures kept { OnErr result (KeepsAllButNet self.old self.new) }
-        ensures left { OnErr result (LeavesNet self.old.net request.now self.new.net) }
-        ensures driven { OnOk result (driver.new ≡ request_driven D.drives driver.old self.old.net request.now) }
+        ensures left { OnErr result (LeavesNet self.old.net self.old.turns request.now self.new.net self.new.turns) }
+        ensures driven { OnOk result (driver.new ≡ request_driven D.drives driver.old self.old.net self.old.turns request.now) }
     {
         let done = match request {
             Request::Asked(event) => do_event(&mut self.net, event, driver),
-            Request::Rounds(count, seed) => {
-                do_rounds(&mut self.net, Words::of(*seed), *count, driver, watch)
+            Request::Rounds {
+                count,
+                is_fair: false,
+                seed,
+            } => do_rounds(&mut self.net, Words::of(*seed), *count, driver, watch),
+            Request::Rounds {
+                count,
+                is_fair: true,
+                seed,
+            } => {
+                let words = Words::of(*seed);
+                do_fair_rounds(&mut self.net, &mut self.turns, words, *count, driver, watch)
             }
             Request::Probed(probe) => {
                 return answer_probe(alloc, &mut self.net, &self.image, *probe);
@@ -174,5 +188,23 @@ fn do_rounds<D: Driver, W: Watch>(
     ensures driven { (driver.new ≡ D.drives.rounds driver.old net.old words count) ⊎ (result ≡ Err fault.NoMemory) }
 {
     driver.rounds(net, words, count, watch)?;
+    Ok(Reply::Done)
+}
+
+/// Does `count` fair rounds whose inputs are handed words, from these turns on, up to the first event that is refused.
+fn do_fair_rounds<D: Driver, W: Watch>(
+    net: &mut TracedNet,
+    turns: &mut Turns,
+    words: Words,
+    count: u32,
+    driver: &mut D,
+    watch: &mut W,
+) -> Result<Reply, EventFault>
+    ensures due { (◌≡◌ {A = Result TheReply TheFault × InTurn TheNet}
+        (result, in_turn net.new turns.new) (fair_outcome words net.old turns.old count)) ⊎ (result ≡ Err fault.NoMemory) }
+    ensures left { LeavesFairly words net.old turns.old count net.new turns.new }
+    ensures driven { (driver.new ≡ D.drives.fair driver.old net.old turns.old words count) ⊎ (result ≡ Err fault.NoMemory) }
+{
+    driver.fair_rounds(net, turns, words, count, watch)?;
     Ok(Reply::Done)
 }

@@ -35,7 +35,7 @@ event_outcome net event = let r = record_apply net event in (event_answer r.0, r
 -- what answers a request, and the network after it: only an event may be asked
 abbrev pub request_answer : NetRecord → Request → Answer × NetRecord
 request_answer net (Request.Asked event) = event_outcome net event
-request_answer net (Request.Rounds count seed) = (Faulty LineFault.UnknownWord, net)
+request_answer net (Request.Rounds count is_fair seed) = (Faulty LineFault.UnknownWord, net)
 request_answer net (Request.Probed it) = (Faulty LineFault.UnknownWord, net)
 request_answer net (Request.Refused kind) = (Refused kind, net)
 

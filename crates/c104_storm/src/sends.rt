@@ -112,7 +112,7 @@ fn answer_send(alloc: Global, net: &mut Net, line: &[u8]) -> Result<Option<Answe
             Ok(Some(answer))
         }
         Some(Request::Refused(fault)) => Ok(Some(Answer::Refused(fault))),
-        Some(Request::Rounds(..)) => Ok(Some(Answer::Faulty(LineFault::UnknownWord))),
+        Some(Request::Rounds { .. }) => Ok(Some(Answer::Faulty(LineFault::UnknownWord))),
         Some(Request::Probed(_)) => Ok(Some(Answer::Faulty(LineFault::UnknownWord))),
     }
 }

@@ -31,6 +31,7 @@ fn two_packets() -> Traffic
         seed: 0,
         injection: Injection::AtOnce,
         words: None,
+        is_fair: false,
         own: false,
     }
 }

@@ -169,6 +169,6 @@ fn is_calm_request(request: &Request) -> bool
 {
     match request {
         Request::Asked(Event::Control { .. }) | Request::Probed(_) => false,
-        Request::Asked(_) | Request::Rounds(..) | Request::Refused(_) => true,
+        Request::Asked(_) | Request::Rounds { .. } | Request::Refused(_) => true,
     }
 }

@@ -1,19 +1,19 @@
 -- Lines are written part by part.
 use Rattle.{c104_plan.specs.{Plans.Plan, PortTexts.terminal_name}, c104_stream.specs.Writing.AppendsPrefix, c104_token.specs.Text.mark_word}
 use Rattle.{c104_token.specs.declared.tokens.Mark.Mark, c104_traffic.proofs.{Joining.{joins_first, stops_same}, Numbered.flat_map_map}}
-use Rattle.c104_traffic.specs.{Packets.{byte_at, packet_of}, Texts.{hex_word, line_text, rest_text, seed_text, send_text}}
-use Rattle.std.proofs.Common.{List, Option, Some, [], ap, codes, flat_map, if◌then◌else◌, map, sym, ℕ, ◌%◌, ◌++◌, ◌+◌, ◌^◌, ◌∙◌, ◌≡◌, ◌≢◌}
-use Rattle.std.{proofs.lemmas.Bool.ne_eqb, specs.{Fmt.decimal, List.range_with_len}}
+use Rattle.c104_traffic.specs.{Packets.{byte_at, packet_of}, Texts.{hex_word, kind_text, line_text, rest_text, seed_text, send_text}}
+use Rattle.std.proofs.Common.{Bool, List, Option, Some, [], ap, codes, flat_map, if◌then◌else◌, map, sym, true, ℕ, ◌%◌, ◌++◌, ◌+◌, ◌^◌, ◌∙◌}
+use Rattle.std.{proofs.{Common.{◌≡◌, ◌≢◌}, lemmas.Bool.ne_eqb}, specs.{Fmt.decimal, List.range_with_len}}
 use mathlib.Core.List.{append_assoc}
 
 -- the line of some rounds
-pub rest_is : (words : Option ℕ) (before count : ℕ) → count ≢ 0 → line_text words before count ≡ rest_text words before count
-rest_is words before count some = ap (λ b. if b then [] else line_text words before count) (sym (ne_eqb count 0 some))
+pub rest_is : (is_fair : Bool) (words : Option ℕ) (before count : ℕ) → count ≢ 0 → line_text is_fair words before count ≡ rest_text is_fair words before count
+rest_is is_fair words before count some = ap (λ b. if b then [] else line_text is_fair words before count) (sym (ne_eqb count 0 some))
 
 -- a line of rounds, and its seed
-pub rounds_are : (words : Option ℕ) (before count : ℕ) (digits : List ℕ) → digits ≡ decimal count
-    → codes "rounds " ++ (digits ++ (seed_text words before ++ codes "\n")) ≡ line_text words before count
-rounds_are words before count digits is = ap (λ (ds : List ℕ). codes "rounds " ++ (ds ++ (seed_text words before ++ codes "\n"))) is
+pub rounds_are : (is_fair : Bool) (words : Option ℕ) (before count : ℕ) (digits : List ℕ) → digits ≡ decimal count
+    → codes "rounds " ++ (digits ++ (kind_text is_fair words before ++ codes "\n")) ≡ line_text is_fair words before count
+rounds_are is_fair words before count digits is = ap (λ (ds : List ℕ). codes "rounds " ++ (ds ++ (kind_text is_fair words before ++ codes "\n"))) is
 
 pub seed_is : (said : Option ℕ) (words before : ℕ) (digits : List ℕ) → said ≡ Some words → digits ≡ decimal ((words + before) % 2 ^ 64)
     → codes " seed " ++ digits ≡ seed_text said before
@@ -25,6 +25,10 @@ pub seed_first : (held holds : Option (List ℕ)) (kept : List ℕ) (said : Opti
 seed_first held holds kept said words before are front =
     stops_same held holds kept (seed_text (Some words) before) (seed_text said before) (ap (λ it. seed_text it before) (sym are))
     (joins_first held holds kept (codes " seed ") (decimal ((words + before) % 2 ^ 64)) front)
+
+-- what stands behind the count of fair rounds
+pub fair_is : (is_fair : Bool) (words : Option ℕ) (before : ℕ) → is_fair ≡ true → codes " fair" ++ seed_text words before ≡ kind_text is_fair words before
+fair_is is_fair words before fair = ap (λ b. if b then codes " fair" ++ seed_text words before else seed_text words before) (sym fair)
 
 -- the line of a packet: its front, its bytes and its end
 parts_are : (name bytes : List ℕ) → (codes "send " ++ (name ++ codes " ")) ++ (bytes ++ codes "eop\n") ≡ codes "send " ++ (name ++ (codes " " ++ ((bytes ++ mark_word Mark.Eop) ++ codes "\n")))

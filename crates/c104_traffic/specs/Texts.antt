@@ -3,8 +3,8 @@
 use Rattle.{c104_plan.specs.{PlanImage.Image, Plans.Plan, PortTexts.terminal_name}, c104_token.specs.Text.{hex_digit, packet_text}}
 use Rattle.{c104_token.specs.declared.packets.Packet.Packet, c104_traffic.specs.Packets.{Sent, Traffic, packet_of, sent_at}}
 use Rattle.c104_traffic.specs.{Patterns.Pattern, Targets.senders_of, declared.amounts.TheConstants.MAX_ROUNDS}
-use Rattle.std.specs.{Fmt.decimal, List.range_with_len, Prelude.{List, None, Option, Some, [], codes, flat_map, if◌then◌else◌, length, ℕ}}
-use Rattle.std.specs.Prelude.{◌%◌, ◌*◌, ◌++◌, ◌+◌, ◌/◌, ◌==◌, ◌^◌, ◌∷◌}
+use Rattle.std.specs.{Fmt.decimal, List.range_with_len, Prelude.{Bool, List, None, Option, Some, [], codes, flat_map, if◌then◌else◌}}
+use Rattle.std.specs.Prelude.{length, ℕ, ◌%◌, ◌*◌, ◌++◌, ◌+◌, ◌/◌, ◌==◌, ◌^◌, ◌∷◌}
 
 -- a byte of a packet: its two hexadecimal digits, and the space (0x20) behind them
 abbrev pub hex_word : ℕ → List ℕ
@@ -16,23 +16,27 @@ abbrev pub seed_text : Option ℕ → ℕ → List ℕ
 seed_text None before = []
 seed_text (Some words) before = codes " seed " ++ decimal ((words + before) % 2 ^ 64)
 
+-- whether the rounds of a line are fair, and its seed
+abbrev pub kind_text : Bool → Option ℕ → ℕ → List ℕ
+kind_text is_fair words before = if is_fair then codes " fair" ++ seed_text words before else seed_text words before
+
 -- a line of rounds, behind those before it
-abbrev pub line_text : Option ℕ → ℕ → ℕ → List ℕ
-line_text words before count = codes "rounds " ++ (decimal count ++ (seed_text words before ++ codes "\n"))
+abbrev pub line_text : Bool → Option ℕ → ℕ → ℕ → List ℕ
+line_text is_fair words before count = codes "rounds " ++ (decimal count ++ (kind_text is_fair words before ++ codes "\n"))
 
 -- a line of the most rounds, behind this many such lines
-abbrev pub full_text : Option ℕ → ℕ → ℕ → List ℕ
-full_text words before line = line_text words (before + MAX_ROUNDS * line) MAX_ROUNDS
+abbrev pub full_text : Bool → Option ℕ → ℕ → ℕ → List ℕ
+full_text is_fair words before line = line_text is_fair words (before + MAX_ROUNDS * line) MAX_ROUNDS
 
 -- the line of rounds, where there are some
-abbrev pub rest_text : Option ℕ → ℕ → ℕ → List ℕ
-rest_text words before count = if count == 0 then [] else line_text words before count
+abbrev pub rest_text : Bool → Option ℕ → ℕ → ℕ → List ℕ
+rest_text is_fair words before count = if count == 0 then [] else line_text is_fair words before count
 
 -- the lines of rounds: as many of 10,000 as fit, and one of the rest
-abbrev pub rounds_text : Option ℕ → ℕ → ℕ → List ℕ
-rounds_text words before count =
-    flat_map (full_text words before) (range_with_len 0 (count / MAX_ROUNDS))
-    ++ rest_text words (before + MAX_ROUNDS * (count / MAX_ROUNDS)) (count % MAX_ROUNDS)
+abbrev pub rounds_text : Bool → Option ℕ → ℕ → ℕ → List ℕ
+rounds_text is_fair words before count =
+    flat_map (full_text is_fair words before) (range_with_len 0 (count / MAX_ROUNDS))
+    ++ rest_text is_fair words (before + MAX_ROUNDS * (count / MAX_ROUNDS)) (count % MAX_ROUNDS)
 
 -- the line of a packet
 abbrev pub send_text : Plan → ℕ → Packet → List ℕ
@@ -42,7 +46,7 @@ send_text plan sender packet =
 -- the lines of what is sent as the packet of this number
 abbrev pub sent_text : Plan → Traffic → ℕ → Sent → List ℕ
 sent_text plan traffic number sent =
-    rounds_text traffic.words sent.done sent.rounds ++ send_text plan sent.sender (packet_of plan traffic.bytes sent.label number)
+    rounds_text traffic.is_fair traffic.words sent.done sent.rounds ++ send_text plan sent.sender (packet_of plan traffic.bytes sent.label number)
 
 -- the lines of a packet by its number, from these senders
 abbrev pub numbered_text : Plan → Image → Pattern → Traffic → List ℕ → ℕ → List ℕ

@@ -48,6 +48,8 @@ pub struct Traffic {
     /// The seed of the first line of rounds, if such lines have one. That of another is it and the number of rounds before
     /// that line together, modulo 2^64.
     pub words: Option<u64>,
+    /// Whether the rounds are fair.
+    pub is_fair: bool,
     /// Whether a terminal may send packets to itself.
     pub own: bool,
 }

@@ -2,7 +2,7 @@
 //!
 //! The bytes of a packet count on from its number, and aren't picked: who reads what arrived sees which packet it was,
 //! and where a token is in it. Each packet takes one word of the generator, whatever the pattern, and each turn one of a second generator.
-ghost use Rattle.{c104_traffic.specs.Texts.{full_text, line_text, rest_text, seed_text}};
+ghost use Rattle.{c104_traffic.specs.Texts.{full_text, kind_text, line_text, rest_text, seed_text}};
 ghost use Rattle.std.specs.{Io.KnownBytes.Appends, List.range_with_len, Prelude.{MatchResult, OnErr, OnOk, flat_map, ◌*◌, ◌++◌, ◌+◌, ◌≡◌, ◌≤◌}};
 ghost use Rattle.{c104_plan.specs.PlanImage.Fits, c104_stream.specs.Writing.{AppendsAndKeeps, AppendsPrefix}};
 ghost use Rattle.c104_traffic.specs.{Directions.AreDirected, Packets.{IsTraffic, byte_at, packet_of}, Schedules.IsSchedule, Texts.hex_word};
@@ -132,13 +132,21 @@ fn write_sent<W: Write>(
     ensures prefix { OnErr result (AppendsPrefix (W.contents writer.old) (W.contents writer.new)
         (kept.old ++ sent_text plan.now traffic number sent)) }
 {
-    write_rounds(traffic.words, sent.done, sent.rounds, kept, writer)?;
+    write_rounds(
+        traffic.is_fair,
+        traffic.words,
+        sent.done,
+        sent.rounds,
+        kept,
+        writer,
+    )?;
     write_send(plan, traffic.bytes, number, sent, kept, writer)?;
     Ok(())
 }
 
 /// The lines of rounds join what is kept, if there are some. So many rounds are before them.
 fn write_rounds<W: Write>(
+    is_fair: bool,
     words: Option<u64>,
     before: usize,
     count: usize,
@@ -147,13 +155,14 @@ fn write_rounds<W: Write>(
 ) -> Result<(), CannotWrite>
     requires { before + count ≤ 18446744073709551615 }
     ensures kept { OnOk result (AppendsAndKeeps (W.contents writer.old) (W.contents writer.new) kept.new
-        (kept.old ++ rounds_text words before count)) }
+        (kept.old ++ rounds_text is_fair words before count)) }
     ensures prefix { OnErr result (AppendsPrefix (W.contents writer.old) (W.contents writer.new)
-        (kept.old ++ rounds_text words before count)) }
+        (kept.old ++ rounds_text is_fair words before count)) }
 {
     let lines = count / MAX_ROUNDS;
-    write_full(words, before, lines, kept, writer)?;
+    write_full(is_fair, words, before, lines, kept, writer)?;
     write_rest(
+        is_fair,
         words,
         before + MAX_ROUNDS * lines,
         count % MAX_ROUNDS,
@@ -165,6 +174,7 @@ fn write_rounds<W: Write>(
 
 /// This many lines of the most rounds join what is kept.
 fn write_full<W: Write>(
+    is_fair: bool,
     words: Option<u64>,
     before: usize,
     lines: usize,
@@ -173,18 +183,26 @@ fn write_full<W: Write>(
 ) -> Result<(), CannotWrite>
     requires { before + 10000 * lines ≤ 18446744073709551615 }
     ensures kept { OnOk result (AppendsAndKeeps (W.contents writer.old) (W.contents writer.new) kept.new
-        (kept.old ++ flat_map (full_text words before) (range_with_len 0 lines))) }
+        (kept.old ++ flat_map (full_text is_fair words before) (range_with_len 0 lines))) }
     ensures prefix { OnErr result (AppendsPrefix (W.contents writer.old) (W.contents writer.new)
-        (kept.old ++ flat_map (full_text words before) (range_with_len 0 lines))) }
+        (kept.old ++ flat_map (full_text is_fair words before) (range_with_len 0 lines))) }
 {
     for line in 0..lines {
-        write_line(words, before + MAX_ROUNDS * line, MAX_ROUNDS, kept, writer)?;
+        write_line(
+            is_fair,
+            words,
+            before + MAX_ROUNDS * line,
+            MAX_ROUNDS,
+            kept,
+            writer,
+        )?;
     }
     Ok(())
 }
 
 /// The line of rounds joins what is kept, if there are some.
 fn write_rest<W: Write>(
+    is_fair: bool,
     words: Option<u64>,
     before: usize,
     count: usize,
@@ -192,19 +210,20 @@ fn write_rest<W: Write>(
     writer: &mut W,
 ) -> Result<(), CannotWrite>
     ensures kept { OnOk result (AppendsAndKeeps (W.contents writer.old) (W.contents writer.new) kept.new
-        (kept.old ++ rest_text words before count)) }
+        (kept.old ++ rest_text is_fair words before count)) }
     ensures prefix { OnErr result (AppendsPrefix (W.contents writer.old) (W.contents writer.new)
-        (kept.old ++ rest_text words before count)) }
+        (kept.old ++ rest_text is_fair words before count)) }
 {
     if count == 0 {
         return Ok(());
     }
-    write_line(words, before, count, kept, writer)?;
+    write_line(is_fair, words, before, count, kept, writer)?;
     Ok(())
 }
 
 /// A line of rounds joins what is kept.
 fn write_line<W: Write>(
+    is_fair: bool,
     words: Option<u64>,
     before: usize,
     count: usize,
@@ -212,15 +231,36 @@ fn write_line<W: Write>(
     writer: &mut W,
 ) -> Result<(), CannotWrite>
     ensures kept { OnOk result (AppendsAndKeeps (W.contents writer.old) (W.contents writer.new) kept.new
-        (kept.old ++ line_text words before count)) }
+        (kept.old ++ line_text is_fair words before count)) }
     ensures prefix { OnErr result (AppendsPrefix (W.contents writer.old) (W.contents writer.new)
-        (kept.old ++ line_text words before count)) }
+        (kept.old ++ line_text is_fair words before count)) }
 {
     let mut digits = Buffer::new();
     kept.add(writer, b"rounds ")?;
     kept.add(writer, digits.format(count).as_bytes())?;
-    write_seed(words, before, kept, writer)?;
+    write_kind(is_fair, words, before, kept, writer)?;
     kept.add(writer, b"\n")?;
+    Ok(())
+}
+
+/// Whether a line's rounds are fair, and its seed, join what is kept.
+fn write_kind<W: Write>(
+    is_fair: bool,
+    words: Option<u64>,
+    before: usize,
+    kept: &mut Kept,
+    writer: &mut W,
+) -> Result<(), CannotWrite>
+    ensures kept { OnOk result (AppendsAndKeeps (W.contents writer.old) (W.contents writer.new) kept.new
+        (kept.old ++ kind_text is_fair words before)) }
+    ensures prefix { OnErr result (AppendsPrefix (W.contents writer.old) (W.contents writer.new)
+        (kept.old ++ kind_text is_fair words before)) }
+{
+    if !is_fair {
+        return write_seed(words, before, kept, writer);
+    }
+    kept.add(writer, b" fair")?;
+    write_seed(words, before, kept, writer)?;
     Ok(())
 }
 

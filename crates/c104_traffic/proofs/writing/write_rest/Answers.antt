@@ -8,10 +8,10 @@ returns-then-count-eq0-clause-kept g c = rw c.if-count-eq0.true (joins_none _ _)
 pub returns-in_err-write_line-clause-prefix : goal.returns-in_err-write_line-clause-prefix
 returns-in_err-write_line-clause-prefix g c =
     at_error _ c.from_residual.result
-    (stops_same _ _ c.args.kept.now (line_text c.args.words c.args.before c.args.count) (rest_text c.args.words c.args.before c.args.count)
-    (rest_is c.args.words c.args.before c.args.count c.if-count-eq0.false) c.in_err-write_line.ensures.prefix)
+    (stops_same _ _ c.args.kept.now (line_text c.args.is_fair c.args.words c.args.before c.args.count) (rest_text c.args.is_fair c.args.words c.args.before c.args.count)
+    (rest_is c.args.is_fair c.args.words c.args.before c.args.count c.if-count-eq0.false) c.in_err-write_line.ensures.prefix)
 
 pub returns-clause-kept : goal.returns-clause-kept
 returns-clause-kept g c =
-    joins_same _ _ c.args.kept.now c.write_line.new.kept (line_text c.args.words c.args.before c.args.count) (rest_text c.args.words c.args.before c.args.count)
-    (rest_is c.args.words c.args.before c.args.count c.if-count-eq0.false) c.in_ok-write_line.ensures.kept
+    joins_same _ _ c.args.kept.now c.write_line.new.kept (line_text c.args.is_fair c.args.words c.args.before c.args.count) (rest_text c.args.is_fair c.args.words c.args.before c.args.count)
+    (rest_is c.args.is_fair c.args.words c.args.before c.args.count c.if-count-eq0.false) c.in_ok-write_line.ensures.kept
