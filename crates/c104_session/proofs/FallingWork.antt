@@ -132,7 +132,7 @@ read_orders : (session : Session) (asked : Result (Option Request) LineFault) �
 read_orders session (Ok (Some (Request.Rounds count true seed))) orders =
     let x : InTurn NetRecord = in_turn session.net session.turns in
     orders_kept record_apply x (fair_events record_apply (words_of seed) session.net.network.plan count x) orders
-read_orders session asked orders = search arith
+read_orders session asked orders = orders
 
 line_orders : (session : Session) (line : List ℕ) → AreOrders session.turns → AreOrders (line_answer session line).1.turns
 unfolding line_answer

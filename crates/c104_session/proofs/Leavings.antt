@@ -1,11 +1,12 @@
 -- What is left of a network where there was no memory for what a line asks.
 use Rattle.{c104_event.specs.declared.{events.Event.Event, faults.EventFault.EventFault}, c104_run.specs.FairRounds.SwitchTurns}
-use Rattle.c104_run.specs.{NetRecords.NetRecord, Network.{Network, outcome_if_possible, outcome_if_ready, outcome_within_limit}}
-use Rattle.c104_run.specs.{RecordedRuns.{AnswersRecord, RecordsHanded, record_apply, record_at, record_stage}, Stages.stage_after}
+use Rattle.c104_run.specs.{FairRounds.{fair_events, in_turn}, HandedWords.{rounds_with, words_of}, NetRecords.NetRecord, Network.Network}
+use Rattle.c104_run.specs.{Network.{outcome_if_possible, outcome_if_ready, outcome_within_limit}, RecordedRuns.AnswersRecord}
+use Rattle.c104_run.specs.{RecordedRuns.{RecordsHanded, record_apply, record_at, record_stage}, Stages.stage_after}
 use Rattle.{c104_run.specs.declared.words.Words.Words, c104_script.specs.declared.{faults.LineFault.LineFault, places.Request.Request}}
 use Rattle.{c104_session.specs.Leavings.{LeavesNet, LeavesRead, LeavesRounds}, c104_switch.specs.Actions.Reply}
 use Rattle.{c104_token.specs.{Kinds.plain_kind, declared.tokens.Token.Token}, std.proofs.Common.{Bool, Err, List, Ok, OnErr, Option}}
-use Rattle.std.proofs.{Common.{Result, Some, arith, if◌then◌else◌, subst, true, ℕ, ◌≡◌}, lemmas.List.append-nil}
+use Rattle.std.proofs.{Common.{Result, Some, [], arith, false, if◌then◌else◌, refl, subst, true, ℕ, ◌≡◌}, lemmas.List.append-nil}
 
 abbrev Came : Type 0
 Came = Result Reply EventFault × Network Token
@@ -41,7 +42,11 @@ rounds_left words net count result left recorded = search (arith, append-nil)
 
 -- nothing was done
 nothing_asked : (net : NetRecord) (turns : List SwitchTurns) (request : Request) → LeavesNet net turns request net turns
-nothing_asked net turns request = search arith
+nothing_asked net turns (Request.Asked event) = (refl, refl)
+nothing_asked net turns (Request.Rounds count false seed) = (([], rounds_with (words_of seed) net.network.plan count, refl, refl), refl)
+nothing_asked net turns (Request.Rounds count true seed) = ([], fair_events record_apply (words_of seed) net.network.plan count (in_turn net turns), refl, refl)
+nothing_asked net turns (Request.Probed it) = refl
+nothing_asked net turns (Request.Refused kind) = (refl, refl)
 
 pub nothing_left : (net : NetRecord) (turns : List SwitchTurns) (due : Result (Option Request) LineFault) → LeavesRead net turns due net turns
 nothing_left net turns due = search (arith, nothing_asked)
