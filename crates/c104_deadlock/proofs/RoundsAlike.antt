@@ -52,12 +52,17 @@ module _ (plan : Plan) where
   pub handed_rounds : (n : ℕ) (words : Words) → AreRounds n (rounds_with words plan n)
   handed_rounds zero words = refl
   handed_rounds (suc n) words =
-      let later : Words = words_behind words (length plan.switches) in
-      (round_with words plan, rounds_with later plan n, refl, record {
-        of = of_round plan words;
-        finds = λ nodes all. still_plain traced_kind (network_of plan nodes) words (round plan) all;
-        idles = λ nodes all. still_worded traced_kind (network_of plan nodes) words (round plan) all;
-      }, handed_rounds n later)
+      let later : Words = words_behind words (length plan.switches) in (
+        round_with words plan,
+        rounds_with later plan n,
+        refl,
+        record {
+          of = of_round plan words;
+          finds = λ nodes all. still_plain traced_kind (network_of plan nodes) words (round plan) all;
+          idles = λ nodes all. still_worded traced_kind (network_of plan nodes) words (round plan) all;
+        },
+        handed_rounds n later,
+      )
 
   -- and fair ones, where the turns are orders
   pub fair_rounds : IsPlan plan → {S : Type 0} (apply : S → Event → Applied S) (n : ℕ) (words : Words) (x : InTurn S) → AreOrders x.turns → AreRounds n (fair_events apply words plan n x)
@@ -65,9 +70,14 @@ module _ (plan : Plan) where
   fair_rounds is_plan apply (suc n) words x orders =
       let now : List Event = fair_round words x.turns plan in
       let next = (run_events (fairly apply) x now).1 in
-      let later : Words = words_behind words (length plan.switches) in
-      (now, fair_events apply later plan n next, refl, record {
-        of = of_fair_round plan words x.turns;
-        finds = λ nodes all. fair_finds x.turns orders traced_kind (network_of plan nodes) words all;
-        idles = λ nodes all. fair_idles x.turns orders traced_kind (network_of plan nodes) words is_plan all;
-      }, fair_rounds is_plan apply n later next (orders_kept apply x now orders))
+      let later : Words = words_behind words (length plan.switches) in (
+        now,
+        fair_events apply later plan n next,
+        refl,
+        record {
+          of = of_fair_round plan words x.turns;
+          finds = λ nodes all. fair_finds x.turns orders traced_kind (network_of plan nodes) words all;
+          idles = λ nodes all. fair_idles x.turns orders traced_kind (network_of plan nodes) words is_plan all;
+        },
+        fair_rounds is_plan apply n later next (orders_kept apply x now orders),
+      )
