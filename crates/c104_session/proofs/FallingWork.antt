@@ -15,13 +15,12 @@ use Rattle.{c104_script.specs.declared.{faults.LineFault.LineFault, places.Reque
 use Rattle.c104_session.proofs.UnchangedNets.{Fact, IsUnchangedNet, Keeps, events_leave, keeps_nothing, nothing, of_fact, of_round}
 use Rattle.c104_session.{proofs.{UnchangedNets.round_event, UnchangedScripts.line_leaves}, specs.DeliveredRuns.{line_rounds, lines_rounds}}
 use Rattle.c104_session.specs.{DeliveredRuns.rounds_asked, PrintedPackets.{LeaveUnchanged, MayAsk, event_sends, line_sends, lines_sent}}
-use Rattle.c104_session.specs.{PrintedPackets.was_done, Shown.{answer_of_read, event_answer, line_answer, line_outcome, rounds_answer}}
-use Rattle.{c104_session.specs.declared.session.Session.Session, c104_stream.specs.Scripts.lines_outcome, c104_switch.specs.Actions.Reply}
-use Rattle.{c104_switch.specs.{Actions.is_ready, declared.actions.ReplyOf.ReplyOf}, c104_token.specs.Kinds.plain_kind}
+use Rattle.c104_session.specs.{PrintedPackets.was_done, Shown.{answer_of_read, event_answer, line_answer, line_outcome, new_session}}
+use Rattle.{c104_session.specs.{Shown.rounds_answer, declared.session.Session.Session}, c104_stream.specs.Scripts.lines_outcome}
+use Rattle.{c104_switch.specs.{Actions.{Reply, is_ready}, declared.actions.ReplyOf.ReplyOf}, c104_token.specs.Kinds.plain_kind}
 use Rattle.{c104_token.specs.declared.{packets.Packet.Packet, tokens.Token.Token}, std.proofs.Common.{All, Bool, Err, List, Ok, Option}}
 use Rattle.std.proofs.Common.{Result, Some, [], ap, append-nil, arith, false, if◌then◌else◌, inl, inr, length, length-append, refl, subst}
 use Rattle.std.{proofs.Common.{suc, sym, true, zero, ℕ, ◌++◌, ◌+◌, ◌<◌, ◌∙◌, ◌∷◌, ◌≡◌, ◌≤◌, ◌⊎◌}, specs.List.AllByRecursion}
-use Rattle.c104_session.specs.Shown.new_session
 
 not_ready : (r : Reply) → is_ready r ≡ false → r ≡ ReplyOf.NotReady
 not_ready r is = search arith

@@ -1,16 +1,16 @@
 -- Fair rounds of which something is kept in a loop: a round as it is kept, and how the loop ends, as `KeptLoops` tells of others.
 use Rattle.{c104_deadlock.proofs.RecordedRounds.starts_stay, c104_event.specs.declared.{events.Event.Event, faults.EventFault.EventFault}}
-use Rattle.{c104_net.specs.MeteredRecords.{MeteredRecord, at_meter, record_metered}, c104_run.proofs.FairRecords.fair_plain}
-use Rattle.c104_run.{proofs.{FairRuns.fair_from, RoundRuns.{run_from, run_seen}}, specs.EventRuns.{EventsEnd, Outcome, run_events}}
-use Rattle.c104_run.specs.{FairRounds.{InTurn, SwitchTurns, fair_events, fair_round, fairly, in_turn}, HandedWords.words_after}
-use Rattle.c104_run.specs.{HandedWords.words_behind, Meters.Sees, NetRecords.NetRecord, RecordedRuns.record_apply, RoundParts.PartEnds}
+use Rattle.c104_net.specs.MeteredRecords.{MeteredRecord, at_meter, record_metered}
+use Rattle.{c104_node.specs.declared.tagged.TaggedToken.TaggedToken, c104_run.proofs.{FairRecords.fair_plain, FairRuns.fair_from}}
+use Rattle.c104_run.{proofs.RoundRuns.{run_from, run_seen}, specs.{EventRuns.{EventsEnd, Outcome, run_events}, FairRounds.InTurn}}
+use Rattle.c104_run.specs.{FairRounds.{fair_events, fair_round, fairly, in_turn}, HandedWords.{words_after, words_behind}, Meters.Sees}
+use Rattle.c104_run.specs.{NetRecords.NetRecord, RecordedRuns.record_apply, RoundParts.PartEnds, declared.turns.SwitchTurns.SwitchTurns}
 use Rattle.{c104_run.specs.declared.words.Words.Words, c104_session.proofs.{FairLeavings.fairly_left, KeptFairRounds.FairGoing}}
 use Rattle.c104_session.proofs.KeptFairRounds.{fair_fault_counts, fair_fault_ends, fair_idle_counts, fair_idle_ends, fair_runs}
 use Rattle.c104_session.{proofs.{KeptFairRounds.goes_on_fairly, RoundLeavings.parted}, specs.{Driven.DoesFairly, Keepers.Keeping}}
 use Rattle.{c104_session.specs.{Keepers.{KeepsFairRound, fair_rounds_kept}, Leavings.LeavesFairly}, std.proofs.Common.{Bool, Err, List, Ok}}
 use Rattle.std.proofs.Common.{Result, [], ap, append-nil, arith, false, inl, inr, length, refl, subst, suc, sym, true, ℕ, ◌++◌, ◌+◌, ◌-◌}
 use Rattle.std.proofs.Common.{◌<◌, ◌∙◌, ◌∷◌, ◌≡◌, ◌⊎◌}
-use Rattle.c104_node.specs.declared.tagged.TaggedToken.TaggedToken
 
 module _ {M : Type 0} (sees : Sees M TaggedToken) (keeps : Keeping M) where
   same_fault : (f : EventFault) → ◌≡◌ {A = Result (Unit {0}) EventFault} (Err f) (Err EventFault.NoMemory) → f ≡ EventFault.NoMemory

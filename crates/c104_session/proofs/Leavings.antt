@@ -1,8 +1,8 @@
 -- What is left of a network where there was no memory for what a line asks.
-use Rattle.{c104_event.specs.declared.{events.Event.Event, faults.EventFault.EventFault}, c104_run.specs.FairRounds.SwitchTurns}
-use Rattle.c104_run.specs.{FairRounds.{fair_events, in_turn}, HandedWords.{rounds_with, words_of}, NetRecords.NetRecord, Network.Network}
-use Rattle.c104_run.specs.{Network.{outcome_if_possible, outcome_if_ready, outcome_within_limit}, RecordedRuns.AnswersRecord}
-use Rattle.c104_run.specs.{RecordedRuns.{RecordsHanded, record_apply, record_at, record_stage}, Stages.stage_after}
+use Rattle.{c104_event.specs.declared.{events.Event.Event, faults.EventFault.EventFault}, c104_run.specs.FairRounds.{fair_events, in_turn}}
+use Rattle.c104_run.specs.{HandedWords.{rounds_with, words_of}, NetRecords.NetRecord, Network.{Network, outcome_if_possible}}
+use Rattle.c104_run.specs.{Network.{outcome_if_ready, outcome_within_limit}, RecordedRuns.{AnswersRecord, RecordsHanded, record_apply}}
+use Rattle.c104_run.specs.{RecordedRuns.{record_at, record_stage}, Stages.stage_after, declared.turns.SwitchTurns.SwitchTurns}
 use Rattle.{c104_run.specs.declared.words.Words.Words, c104_script.specs.declared.{faults.LineFault.LineFault, places.Request.Request}}
 use Rattle.{c104_session.specs.Leavings.{LeavesNet, LeavesRead, LeavesRounds}, c104_switch.specs.Actions.Reply}
 use Rattle.{c104_token.specs.{Kinds.plain_kind, declared.tokens.Token.Token}, std.proofs.Common.{Bool, Err, List, Ok, OnErr, Option}}

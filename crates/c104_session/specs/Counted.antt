@@ -3,10 +3,11 @@
 --     counted_rounds c net words n      n rounds whose inputs are handed words
 --     counted_fairly c net turns words n      n fair rounds, from turns on
 use Rattle.{c104_event.specs.declared.events.Event.Event, c104_net.specs.MeteredRecords.{at_meter, record_metered}}
-use Rattle.c104_run.specs.{FairRounds.{SwitchTurns, in_turn}, NetRecords.{NetRecord, is_done}, RecordedRuns.record_apply}
-use Rattle.{c104_run.specs.declared.words.Words.Words, c104_session.specs.{Driven.Driving, Keepers.{Keeping, fair_rounds_kept}}}
-use Rattle.{c104_session.specs.{Keepers.rounds_kept, Resets.is_reset}, c104_stats.specs.Counts.{Counts, counts_begun, counts_cut}}
-use Rattle.c104_stats.specs.{Counts.{counts_noted, counts_passed, counts_sent}, Metering.counting, Sights.counts_of_net}
+use Rattle.c104_run.specs.{FairRounds.in_turn, NetRecords.{NetRecord, is_done}, RecordedRuns.record_apply}
+use Rattle.{c104_run.specs.declared.{turns.SwitchTurns.SwitchTurns, words.Words.Words}, c104_session.specs.Driven.Driving}
+use Rattle.{c104_session.specs.{Keepers.{Keeping, fair_rounds_kept, rounds_kept}, Resets.is_reset}, c104_stats.specs.Counts.Counts}
+use Rattle.c104_stats.specs.{Counts.{counts_begun, counts_cut, counts_noted, counts_passed, counts_sent}, Metering.counting}
+use Rattle.c104_stats.specs.Sights.{counts_of_net}
 use Rattle.std.specs.Prelude.{Bool, List, false, length, true, ℕ, ◌&&◌}
 
 -- what is counted of a packet that a terminal was asked to send, where that was done

@@ -1,7 +1,7 @@
 -- What a driver keeps of what a network is asked, line by line of a script, beside what the network does and answers.
 use Rattle.{c104_event.specs.declared.{events.Event.Event, faults.EventFault.EventFault}, c104_run.specs.EventRuns.run_events}
-use Rattle.c104_run.specs.{FairRounds.{InTurn, SwitchTurns, fair_events, fairly, in_turn}, HandedWords.{rounds_with, words_of}}
-use Rattle.c104_run.specs.{NetRecords.NetRecord, RecordedRuns.record_apply, declared.words.Words.Words}
+use Rattle.c104_run.specs.{FairRounds.{InTurn, fair_events, fairly, in_turn}, HandedWords.{rounds_with, words_of}, NetRecords.NetRecord}
+use Rattle.c104_run.specs.{RecordedRuns.record_apply, declared.{turns.SwitchTurns.SwitchTurns, words.Words.Words}}
 use Rattle.c104_script.specs.{Answering.shown_by, Script.read_script_line, declared.{answers.Answer.Answer, faults.LineFault.LineFault}}
 use Rattle.{c104_script.specs.declared.places.Request.Request, c104_session.specs.{Refusals.{no_refusals, refused_too}, Shown.line_answer}}
 use Rattle.{c104_session.specs.declared.{driven.Driven.Driven, session.Session.Session}, c104_switch.specs.Actions.Reply}

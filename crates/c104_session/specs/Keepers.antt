@@ -4,10 +4,10 @@
 --     fair_rounds_kept words n x      of n fair rounds, from turns on
 use Rattle.{c104_event.specs.declared.faults.EventFault.EventFault, c104_net.specs.MeteredRecords.{MeteredRecord, at_meter, record_metered}}
 use Rattle.{c104_node.specs.declared.tagged.TaggedToken.TaggedToken, c104_run.specs.{EventRuns.{Outcome, run_events}, FairRounds.InTurn}}
-use Rattle.c104_run.specs.{FairRounds.{SwitchTurns, fair_round, fairly, in_turn}, HandedWords.{round_with, words_behind}, Meters.Sees}
-use Rattle.{c104_run.specs.{NetRecords.{NetRecord, largest_ticket}, declared.words.Words.Words}, c104_session.specs.Leavings.LeavesRounds}
+use Rattle.c104_run.specs.{FairRounds.{fair_round, fairly, in_turn}, HandedWords.{round_with, words_behind}, Meters.Sees}
+use Rattle.c104_run.specs.{NetRecords.{NetRecord, largest_ticket}, declared.{turns.SwitchTurns.SwitchTurns, words.Words.Words}}
+use Rattle.c104_session.specs.Leavings.{LeavesFairly, LeavesRounds}
 use Rattle.std.specs.Prelude.{Bool, Err, List, Ok, Result, false, if◌then◌else◌, length, nat_le, nat_lt, suc, true, zero, ℕ, ◌||◌, ◌≡◌, ◌⊎◌}
-use Rattle.c104_session.specs.Leavings.LeavesFairly
 
 -- whether anything was done, by how many events were before and after. At the largest count, which no network comes near,
 -- that can't be told, and counts as done

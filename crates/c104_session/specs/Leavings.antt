@@ -1,7 +1,7 @@
 -- What is left of a session where there was no memory to answer a line.
-use Rattle.{c104_event.specs.declared.events.Event.Event, c104_run.specs.{EventRuns.run_events, FairRounds.{SwitchTurns, fair_events}}}
-use Rattle.c104_run.specs.{FairRounds.{fairly, in_turn}, HandedWords.{rounds_with, words_of}, NetRecords.NetRecord}
-use Rattle.{c104_run.specs.{RecordedRuns.record_apply, declared.words.Words.Words}, c104_script.specs.Script.read_script_line}
+use Rattle.{c104_event.specs.declared.events.Event.Event, c104_run.specs.{EventRuns.run_events, FairRounds.{fair_events, fairly, in_turn}}}
+use Rattle.c104_run.specs.{HandedWords.{rounds_with, words_of}, NetRecords.NetRecord, RecordedRuns.record_apply}
+use Rattle.{c104_run.specs.declared.{turns.SwitchTurns.SwitchTurns, words.Words.Words}, c104_script.specs.Script.read_script_line}
 use Rattle.c104_script.specs.declared.{faults.LineFault.LineFault, places.Request.Request}
 use Rattle.c104_session.specs.declared.session.Session.{Session}
 use Rattle.std.specs.Prelude.{Bool, Err, List, None, Ok, Option, Result, Some, false, true, ℕ, ⊤, ◌++◌, ◌≡◌}

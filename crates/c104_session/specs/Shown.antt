@@ -2,15 +2,16 @@
 use Rattle.{c104_event.specs.declared.faults.EventFault.EventFault, c104_net.specs.{Deliveries.arrived_at, TracedEnds.traced_end}}
 use Rattle.{c104_node.specs.{Origins.origins_in, declared.{origins.Origin.Origin, traced.Traced.Traced}}, c104_plan.specs.PlanImage.Image}
 use Rattle.c104_plan.specs.{Plans.Plan, PortTexts.terminal_name, declared.{limits.TheConstants.MAX_SWITCHES, plans.Terminal.Terminal}}
-use Rattle.c104_run.specs.{EventRuns.run_events, FairRounds.{InTurn, SwitchTurns, fair_events, fairly, first_turns, in_turn}}
+use Rattle.c104_run.specs.{EventRuns.run_events, FairRounds.{InTurn, fair_events, fairly, first_turns, in_turn}}
 use Rattle.c104_run.specs.{FinishedRecords.{FinishedRecord, record_finish}, HandedWords.{rounds_with, words_of}, NetRecords.NetRecord}
 use Rattle.c104_run.specs.{NetRecords.fresh_record, Network.{Network, placed_network}, RecordedRuns.record_apply}
-use Rattle.{c104_run.specs.declared.words.Words.Words, c104_script.specs.{Answering.shown_by, Script.read_script_line, Texts.token_text}}
-use Rattle.c104_script.specs.declared.{answers.Answer.{Answer, TheVariants.{Faulty, Refused, Replied}}, faults.LineFault.LineFault}
-use Rattle.{c104_script.specs.declared.places.Request.Request, c104_session.specs.{Probing.probe_answer, declared.session.Session.Session}}
-use Rattle.{c104_session.specs.declared.summary_text.SummaryLine.SummaryLine, c104_stream.specs.ScriptLines.{is_long, script_too_long}}
-use Rattle.{c104_stream.specs.Scripts.script_outcome, c104_switch.specs.{Actions.Reply, declared.actions.ReplyOf.TheVariants.Done}}
-use Rattle.c104_token.specs.{Cut.whole_pieces, Packets.packet_tokens, Text.hex_digit, declared.tokens.Token.Token}
+use Rattle.{c104_run.specs.declared.{turns.SwitchTurns.SwitchTurns, words.Words.Words}, c104_script.specs.Answering.shown_by}
+use Rattle.c104_script.specs.{Script.read_script_line, Texts.token_text, declared.answers.Answer.{Answer, TheVariants.{Faulty, Refused}}}
+use Rattle.c104_script.specs.declared.{answers.Answer.TheVariants.Replied, faults.LineFault.LineFault, places.Request.Request}
+use Rattle.c104_session.specs.{Probing.probe_answer, declared.{session.Session.Session, summary_text.SummaryLine.SummaryLine}}
+use Rattle.{c104_stream.specs.{ScriptLines.{is_long, script_too_long}, Scripts.script_outcome}, c104_switch.specs.Actions.Reply}
+use Rattle.{c104_switch.specs.declared.actions.ReplyOf.TheVariants.Done, c104_token.specs.{Cut.whole_pieces, Packets.packet_tokens}}
+use Rattle.c104_token.specs.{Text.hex_digit, declared.tokens.Token.Token}
 use Rattle.std.specs.Prelude.{Bool, Err, List, None, Ok, Option, Result, Some, [], codes, decimal, false, flat_map, map, option_to_list}
 use Rattle.std.specs.Prelude.{replicate, suc, true, ℕ, ◌%◌, ◌++◌, ◌/◌, ◌∷◌}
 

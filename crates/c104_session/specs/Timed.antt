@@ -3,10 +3,10 @@
 --     timed_rounds t net words n      n rounds whose inputs are handed words
 --     timed_fairly t net turns words n      n fair rounds, from turns on
 use Rattle.{c104_event.specs.declared.events.Event.Event, c104_net.specs.MeteredRecords.{at_meter, record_metered}}
-use Rattle.c104_run.specs.{FairRounds.{SwitchTurns, in_turn}, NetRecords.{NetRecord, is_done}, RecordedRuns.record_apply}
-use Rattle.{c104_run.specs.declared.words.Words.Words, c104_session.specs.{Driven.Driving, Keepers.{Keeping, fair_rounds_kept}}}
-use Rattle.{c104_session.specs.{Keepers.rounds_kept, Resets.is_reset}, c104_timeline.specs.{Metering.watching, Timelines.Timeline}}
-use Rattle.c104_timeline.specs.Timelines.{timeline_begun, timeline_cut, timeline_ended, timeline_passed, timeline_settled}
+use Rattle.c104_run.specs.{FairRounds.in_turn, NetRecords.{NetRecord, is_done}, RecordedRuns.record_apply}
+use Rattle.{c104_run.specs.declared.{turns.SwitchTurns.SwitchTurns, words.Words.Words}, c104_session.specs.Driven.Driving}
+use Rattle.{c104_session.specs.{Keepers.{Keeping, fair_rounds_kept, rounds_kept}, Resets.is_reset}, c104_timeline.specs.Metering.watching}
+use Rattle.c104_timeline.specs.Timelines.{Timeline, timeline_begun, timeline_cut, timeline_ended, timeline_passed, timeline_settled}
 use Rattle.std.specs.Prelude.{List, if◌then◌else◌, ℕ}
 
 -- what rounds do beside their tokens
