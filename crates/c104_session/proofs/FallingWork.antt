@@ -1,7 +1,7 @@
 -- Lines that send nothing leave no more work, and each of their rounds leaves less, till the network is quiet: whatever else
 -- they ask between the rounds.
 use Rattle.{c104_check.specs.Routes.Routes, c104_deadlock.proofs.{FairMembers.fair_finds, FairOrders.orders_kept, HandedRounds.still_plain}}
-use Rattle.c104_deadlock.{proofs.{RecordedRounds.{applied_plain, starts_stay}, RoundsAlike.of_fair_round}, specs.DeadlockFreedom.AreOrders}
+use Rattle.c104_deadlock.{proofs.{RecordedRounds.applied_plain, RoundsAlike.of_fair_round}, specs.DeadlockFreedom.AreOrders}
 use Rattle.{c104_event.specs.declared.{events.Event.Event, faults.EventFault.EventFault}, c104_net.proofs.SentBytes.SendsBytes}
 use Rattle.{c104_net.specs.{RoundEvents.IsOfRound, Unchanged.MayHappen}, c104_node.specs.{Nodes.Node, Quiet.IsQuietNode}}
 use Rattle.{c104_node.specs.declared.starts.NodeStart.NodeStart, c104_plan.{proofs.RangeLists.all_of_each, specs.PlanImage.Image}}

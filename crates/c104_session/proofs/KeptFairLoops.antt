@@ -9,8 +9,8 @@ use Rattle.{c104_run.specs.declared.words.Words.Words, c104_session.proofs.{Fair
 use Rattle.c104_session.proofs.KeptFairRounds.{fair_fault_counts, fair_fault_ends, fair_idle_counts, fair_idle_ends, fair_runs}
 use Rattle.c104_session.{proofs.{KeptFairRounds.goes_on_fairly, RoundLeavings.parted}, specs.{Driven.DoesFairly, Keepers.Keeping}}
 use Rattle.{c104_session.specs.{Keepers.{KeepsFairRound, fair_rounds_kept}, Leavings.LeavesFairly}, std.proofs.Common.{Bool, Err, List, Ok}}
-use Rattle.std.proofs.Common.{Result, [], ap, append-nil, arith, false, inl, inr, length, refl, subst, suc, sym, true, ℕ, ◌++◌, ◌+◌, ◌-◌}
-use Rattle.std.proofs.Common.{◌<◌, ◌∙◌, ◌∷◌, ◌≡◌, ◌⊎◌}
+use Rattle.std.proofs.Common.{Result, [], ap, append-nil, arith, false, inl, inr, length, refl, suc, sym, true, ℕ, ◌++◌, ◌+◌, ◌-◌, ◌<◌, ◌∙◌}
+use Rattle.std.proofs.Common.{◌∷◌, ◌≡◌, ◌⊎◌}
 
 module _ {M : Type 0} (sees : Sees M TaggedToken) (keeps : Keeping M) where
   same_fault : (f : EventFault) → ◌≡◌ {A = Result (Unit {0}) EventFault} (Err f) (Err EventFault.NoMemory) → f ≡ EventFault.NoMemory

@@ -4,7 +4,7 @@ use Rattle.c104_run.specs.{HandedWords.{rounds_with, words_of}, NetRecords.NetRe
 use Rattle.{c104_run.specs.declared.{turns.SwitchTurns.SwitchTurns, words.Words.Words}, c104_script.specs.Script.read_script_line}
 use Rattle.c104_script.specs.declared.{faults.LineFault.LineFault, places.Request.Request}
 use Rattle.c104_session.specs.declared.session.Session.{Session}
-use Rattle.std.specs.Prelude.{Bool, Err, List, None, Ok, Option, Result, Some, false, true, ℕ, ⊤, ◌++◌, ◌≡◌}
+use Rattle.std.specs.Prelude.{Bool, Err, List, None, Ok, Option, Result, Some, false, true, ℕ, ◌++◌, ◌≡◌}
 
 -- the network after the first of the events of a given number of rounds whose inputs are handed words: none, some or all of
 -- them, and no others
