@@ -18,3 +18,8 @@ pub mod FullWork
 mod UndoneRounds
 pub mod DeadlockFree
 pub mod PlainWork
+pub mod LinkPlaces
+pub mod ClaimedSwitches
+pub mod ClaimsLeft
+pub mod FairTurns
+pub mod FairWaits

@@ -1,3 +1,4 @@
 pub mod Work
 pub mod HeaderWork
 pub mod DeadlockFreedom
+pub mod FairWaits

@@ -1,7 +1,7 @@
 //! The theorem that a network without a cycle of channel dependencies has no deadlock, of a network as it stands
 //! and of a finished run.
 ghost use Rattle.std.specs.Prelude.{All};
-ghost use Rattle.{c104_deadlock.specs.DeadlockFreedom.{EndsWithoutDeadlock, IsFreeOfDeadlock}, c104_node.specs.Records.IsRecorded};
+ghost use Rattle.{c104_deadlock.specs.{DeadlockFreedom.{EndsWithoutDeadlock, IsFreeOfDeadlock}, FairWaits.FairWaits}, c104_node.specs.Records.IsRecorded};
 ghost use Rattle.c104_node.specs.{Records.{NodeRecord, NodeRoom}, TracedRecords.{IsFit, TracedRecord}};
 
 use c104_node::{CountedNode, Node};
@@ -18,7 +18,7 @@ pub trait NoDeadlock {
 }
 
 impl NoDeadlock for Net {
-    ghost use Rattle.c104_deadlock.specs.DeadlockFreedom.{IsFreeOfDeadlock};
+    ghost use Rattle.c104_deadlock.specs.{DeadlockFreedom.IsFreeOfDeadlock, FairWaits.FairWaits};
 
     ghost theorem = { IsFreeOfDeadlock };
 
@@ -27,10 +27,11 @@ impl NoDeadlock for Net {
     /// whose packets random headers are put sent one that begins with such a header itself: it has no deadlock, and there
     /// is a number of rounds of which more, none of them refused, deliver each packet with a whole header that has an
     /// owner, whatever words their inputs are handed, and so do as many fair rounds, whoever's turn it is before them.
-    /// This is a law: whoever cites it calls this before the rounds that it is about. It changes nothing and takes no
-    /// memory.
+    /// And of every network: in fair rounds at most 31 packets of other inputs pass an input that waits. This is a law:
+    /// whoever cites it calls this before the rounds that it is about. It changes nothing and takes no memory.
     fn has_no_deadlock(&self)
-        ensures { IsFreeOfDeadlock self.now }
+        ensures free { IsFreeOfDeadlock self.now }
+        ensures waits { FairWaits self.now }
     {
         // The proof reads by these names what every plan, and every such network, keeps.
         let plan = self.plan();
@@ -40,13 +41,14 @@ impl NoDeadlock for Net {
 }
 
 impl NoDeadlock for TracedNet {
-    ghost use Rattle.c104_deadlock.specs.DeadlockFreedom.{IsFreeOfDeadlock};
+    ghost use Rattle.c104_deadlock.specs.{DeadlockFreedom.IsFreeOfDeadlock, FairWaits.FairWaits};
 
     ghost theorem = { IsFreeOfDeadlock };
 
     /// The same of a network whose tokens tell their packets, as the program runs it.
     fn has_no_deadlock(&self)
-        ensures { IsFreeOfDeadlock self.now }
+        ensures free { IsFreeOfDeadlock self.now }
+        ensures waits { FairWaits self.now }
     {
         // The proof reads by these names what every plan, and every such network, keeps.
         let plan = self.plan();

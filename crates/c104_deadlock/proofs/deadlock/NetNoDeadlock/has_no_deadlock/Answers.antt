@@ -1,4 +1,4 @@
-use Rattle.c104_deadlock.{proofs.DeadlockFree.has_no_deadlock, specs.DeadlockFreedom.IsFreeOfDeadlock}
+use Rattle.c104_deadlock.{proofs.{DeadlockFree.has_no_deadlock, FairWaits.fair_waits}, specs.DeadlockFreedom.IsFreeOfDeadlock}
 use Rattle.{c104_net.proofs.{RunOrigins.traces_fit, SentBytes.{AreBytesSent, run_bytes}}, c104_node.specs.Starts.start_node}
 use Rattle.{c104_node.specs.Traces.seatless, c104_plan.specs.Plans.IsPlan, c104_run.proofs.WiredTraces.{all_recorded, traces_wired}}
 use Rattle.{c104_run.specs.NetRecords.{IsNetRecord, NetRecord, net_record}, std.proofs.Common.{map, subst}}
@@ -10,4 +10,7 @@ returns c =
     let kept : IsNetRecord net = c.places.ensures.kept.kept in
     let recorded = all_recorded c.args.self.now.network.plan c.places.result.now c.args.self.now.count (traces_wired net is_plan kept) c.read_records.ensures in
     let sent : AreBytesSent kept.told.0 = run_bytes net.network.plan seatless (map start_node net.starts) net.network.nodes net.traces net.count kept.told.0 kept.started.in_place kept.told.1 (traces_fit net recorded) in
-    subst IsFreeOfDeadlock c.places.ensures.shown (λ image is. has_no_deadlock net is_plan kept sent image is)
+    record {
+      free = subst IsFreeOfDeadlock c.places.ensures.shown (λ image is. has_no_deadlock net is_plan kept sent image is);
+      waits = fair_waits c.args.self.now;
+    }

@@ -1,4 +1,4 @@
-use Rattle.c104_deadlock.{proofs.DeadlockFree.has_no_deadlock, specs.DeadlockFreedom.IsFreeOfDeadlock}
+use Rattle.c104_deadlock.{proofs.{DeadlockFree.has_no_deadlock, FairWaits.fair_waits}, specs.DeadlockFreedom.IsFreeOfDeadlock}
 use Rattle.{c104_link.proofs.MadeSteps.All-place, c104_net.proofs.{SentBytes.{AreBytesSent, run_bytes}, TracedOrigins.fit_there}}
 use Rattle.{c104_node.specs.{Starts.start_node, TracedRecords.{IsFit, TracedRecord}, Traces.seatless}, c104_plan.specs.Plans.IsPlan}
 use Rattle.c104_run.specs.{NetRecords.{IsNetRecord, NetRecord}, RecordedNets.places_record, RecordedPlaces.counted_reading}
@@ -12,4 +12,7 @@ returns c =
     let kept : IsNetRecord net = c.places.ensures.kept.kept in
     let fit : (k : ℕ) (n : TracedRecord) → slice_get nodes k ≡ Some n → All IsFit n.trace = λ k n here. All-place (λ (m : TracedRecord). All IsFit m.trace) nodes k n here c.read_counts.ensures in
     let sent : AreBytesSent kept.told.0 = run_bytes net.network.plan seatless (map start_node net.starts) net.network.nodes net.traces net.count kept.told.0 kept.started.in_place kept.told.1 (fit_there nodes fit) in
-    subst IsFreeOfDeadlock c.places.ensures.shown (λ image is. has_no_deadlock net is_plan kept sent image is)
+    record {
+      free = subst IsFreeOfDeadlock c.places.ensures.shown (λ image is. has_no_deadlock net is_plan kept sent image is);
+      waits = fair_waits c.args.self.now;
+    }
