@@ -11,11 +11,11 @@ abbrev pub words_of : Option ℕ → Words
 words_of None = Words.Zero
 words_of (Some seed) = Words.Seeded seed
 
--- the state of the generator SplitMix64 behind so many words
+-- the state of the generator SplitMix64 behind n words
 abbrev pub state_behind : ℕ → ℕ → ℕ
 state_behind seed number = (seed + number * STEP % 2 ^ 64) % 2 ^ 64
 
--- the word of the input at a link of a switch, and the words of the next round, in a network of so many switches
+-- the word of the input at a link of a switch, and the words of the next round, in a network of this many switches
 abbrev pub word_at : Words → ℕ → ℕ → ℕ
 word_at Words.Zero s l = 0
 word_at (Words.Seeded seed) s l = (mix_u64 (state_behind seed ((s * SHARE % 2 ^ 64 + l) % 2 ^ 64))).0 / 2 ^ 32
@@ -24,7 +24,7 @@ abbrev pub words_behind : Words → ℕ → Words
 words_behind Words.Zero switches = Words.Zero
 words_behind (Words.Seeded seed) switches = Words.Seeded (state_behind seed (switches * SHARE % 2 ^ 64))
 
--- the words of a round behind so many others
+-- the words of a round behind n others
 abbrev pub words_after : Words → ℕ → ℕ → Words
 words_after words switches zero = words
 words_after words switches (suc n) = words_after (words_behind words switches) switches n

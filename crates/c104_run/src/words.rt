@@ -49,7 +49,7 @@ impl Words {
         }
     }
 
-    /// The words of the next round of a network of so many switches.
+    /// The words of the next round of a network of this many switches.
     pub fn next(self, switches: usize) -> Words
         ensures { result ≡ words_behind self switches }
     {

@@ -27,7 +27,7 @@ module _ {M : Type 0} (sees : Sees M TaggedToken) (keeps : Keeping M) where
       run_seen (fairly (record_metered sees)) (fairly record_apply) seen (λ x e. refl) (fair_round words turns net.network.plan)
       (in_turn (at_meter net (keeps.begun net c)) turns)
 
-  -- so many rounds are done, the next one is handed these words and goes by these turns, and these are left
+  -- n rounds are done, the next one is handed these words and goes by these turns, and these are left
   pub record FairGoing (words : Words) (start : NetRecord) (first : List SwitchTurns) (begun : M) (count i : ℕ) (handed : Words) (net : NetRecord)
       (turns : List SwitchTurns) (c : M) : Type 0 where
     pub run : run_events (fairly record_apply) (in_turn start first) (fair_events record_apply words start.network.plan i (in_turn start first))

@@ -21,7 +21,7 @@ module _ {M : Type 0} (sees : Sees M TaggedToken) (keeps : Keeping M) where
       run_seen (record_metered sees) record_apply (λ (s : MeteredRecord M). s.net) (λ s e. refl) (round_with words net.network.plan)
       (at_meter net (keeps.begun net c))
 
-  -- so many rounds are done, the next one is handed these words, and these are left
+  -- n rounds are done, the next one is handed these words, and these are left
   pub record Going (words : Words) (start : NetRecord) (begun : M) (count i : ℕ) (handed : Words) (net : NetRecord) (c : M) : Type 0 where
     pub run : run_events record_apply start (rounds_with words start.network.plan i) ≡ (Ok tt, net)
     pub same : net.network.plan ≡ start.network.plan
