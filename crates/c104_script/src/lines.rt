@@ -1,6 +1,8 @@
 //! A script, line by line.
 ghost use Rattle.std.specs.Prelude.{◌≡◌, map, option_map};
-ghost use Rattle.c104_script.specs.Script.{claim_line, control_line, counted_line, credit_line, cross_line, drain_line, fair_line, input_line, read_script_line, rounds_line, seeded_line, send_line, verb_line, read_script_words, GivesLineOrNoMemory};
+ghost use Rattle.c104_script.specs.Script.{claim_line, control_line, counted_line, credit_line, cross_line, drain_line, fair_line};
+ghost use Rattle.c104_script.specs.Script.{GivesLineOrNoMemory, input_line, read_script_line, read_script_words, rounds_line, seeded_line};
+ghost use Rattle.c104_script.specs.Script.{send_line, verb_line};
 
 use crate::faults::LineFault;
 use crate::places::{Request, find_input, find_port, find_switch, find_terminal};

@@ -2,11 +2,11 @@
 //!
 //! The bytes of a packet count on from its number, and aren't picked: who reads what arrived sees which packet it was,
 //! and where a token is in it. Each packet takes one word of the generator, whatever the pattern, and each turn one of a second generator.
-ghost use Rattle.{c104_traffic.specs.Texts.{full_text, kind_text, line_text, rest_text, seed_text}};
+ghost use Rattle.c104_traffic.specs.Texts.{full_text, hex_word, kind_text, line_text, rest_text, rounds_text, seed_text, send_text};
 ghost use Rattle.std.specs.{Io.KnownBytes.Appends, List.range_with_len, Prelude.{MatchResult, OnErr, OnOk, flat_map, ◌*◌, ◌++◌, ◌+◌, ◌≡◌, ◌≤◌}};
 ghost use Rattle.{c104_plan.specs.PlanImage.Fits, c104_stream.specs.Writing.{AppendsAndKeeps, AppendsPrefix}};
-ghost use Rattle.c104_traffic.specs.{Directions.AreDirected, Packets.{IsTraffic, byte_at, packet_of}, Schedules.IsSchedule, Texts.hex_word};
-ghost use Rattle.c104_traffic.specs.{Texts.{rounds_text, send_text, sent_text, traffic_text}, Writing.StopsWriting};
+ghost use Rattle.c104_traffic.specs.Texts.{sent_text, traffic_text};
+ghost use Rattle.c104_traffic.specs.{Directions.AreDirected, Packets.{IsTraffic, byte_at, packet_of}, Schedules.IsSchedule, Writing.StopsWriting};
 
 use crate::amounts::{MAX_ROUNDS, Traffic};
 use crate::injections::{next_turn, turn_words};
