@@ -1,4 +1,5 @@
 -- The walk of a fair round over the switches, and the round as it is walked.
+use Rattle.c104_crossbar.specs.Groups.{has_bit}
 use Rattle.{c104_event.specs.declared.{events.Event.Event, faults.EventFault.EventFault}, c104_node.proofs.PlaceSteps.err_is}
 use Rattle.c104_node.specs.{Places.Shown, declared.port_part.PortPart.{PortPart, TheVariants.{Credit, Cross, Turn}}}
 use Rattle.{c104_plan.specs.{Plans.Plan, declared.ports.Port.Port}, c104_run.proofs.FairParts.{Turnless, does_turnless, fairly_so}}
@@ -10,8 +11,8 @@ use Rattle.c104_run.specs.{HandedWords.{Words, all_worded, worded}, LinkOrders.I
 use Rattle.c104_run.specs.RoundParts.{AreIdle, EachIdle, IsNext, PartEnds, drain_walk, input_walk, output_walk, port_events, port_walk}
 use Rattle.c104_run.specs.{RoundParts.{switch_walk, terminal_walk}, Rounds.{is_wired, link_numbers, turn_at, wired_ports}}
 use Rattle.{c104_token.specs.Kinds.Kind, std.proofs.Common.{All, Bool, Err, IsErr, IsErrAnd, List, None, Ok, Option, Result, Some, [], ap}}
-use Rattle.std.proofs.Common.{arith, false, filter, is_some, length, map, nat_eq, refl, slice_get, subst, suc, sym, true, unwrap_or, zero}
-use Rattle.std.proofs.{Common.{ℕ, ◌++◌, ◌+◌, ◌<◌, ◌||◌, ◌∙◌, ◌∷◌, ◌≡◌, ◌≢◌, ◌≤◌}, lemmas.{Bool.Decides.nat_tests, List.map-append}}
+use Rattle.std.proofs.Common.{arith, false, filter, inl, inr, is_some, length, map, nat_eq, nat_lt, refl, slice_get, subst, suc, sym, true, unwrap_or, zero}
+use Rattle.std.proofs.{Common.{ℕ, ◌++◌, ◌+◌, ◌<◌, ◌||◌, ◌∙◌, ◌∷◌, ◌≡◌, ◌≢◌, ◌≤◌}, lemmas.{Bool.{Decides.nat_tests, cases_Bool}, List.map-append}}
 use Rattle.std.specs.List.{flat_map, range_with_len}
 
 -- claims in another order of links are as idle
@@ -48,6 +49,24 @@ module _ {A : Type 0} (kind : Kind A) (net : Network A) where
 
   pub idle_outputs : (s i : ℕ) (outputs : List ℕ) → All (λ l. l < 32) outputs → ((o : ℕ) → o < 32 → AreIdle kind net (Event.Claim s i o ∷ [])) → AreIdle kind net (output_turns s i outputs)
   idle_outputs s i outputs within each = record { each = idle_order (λ o. Event.Claim s i o ∷ []) outputs within (λ o few. (each o few).each) }
+
+  pub idle_input : (s i : ℕ) (outputs : List ℕ) → All (λ l. l < 32) outputs → AreIdle kind net (output_walk s i) → AreIdle kind net (output_turns s i outputs)
+  idle_input s i outputs within idle = record { each = idle_order (λ o. Event.Claim s i o ∷ []) outputs within (λ o few. idle_link (λ o. Event.Claim s i o ∷ []) o idle.each few) }
+
+  -- one more is found, those before it are passed over
+  pub outside_next : {part : ℕ → List Event} {numbers : List ℕ} {n from k : ℕ} (set next : ℕ) → ((i : ℕ) → i < from → i < 32 → has_bit set i ≡ false → AreIdle kind net (part i)) → IsNext kind net part numbers n from (Some k) → (k < 32 → has_bit next k ≡ true) → ((l : ℕ) → l < 32 → l ≢ k → has_bit next l ≡ has_bit set l) →
+      (i : ℕ) → i < k + 1 → i < 32 → has_bit next i ≡ false → AreIdle kind net (part i)
+  outside_next {part} {numbers} {n} {from} {k} set next before found here others i below small out = elim (cases_Bool (nat_lt i from)) [
+    | inl is ↦
+        let inside : i < from = grind (arith, nat_tests, is) in
+        before i inside small (sym (others i small (λ same. absurd (omega (arith, same, inside, found.found.0)))) ∙ out)
+    | inr past ↦
+        let after : from ≤ i = grind (arith, nat_tests, past) in
+        elim (cases_Bool (nat_eq i k)) [
+          | inl is ↦ let same : i ≡ k = grind (arith, nat_tests, is) in let in_it = here (subst (λ l. l < 32) same small) in absurd (cc (sym in_it ∙ subst (λ l. has_bit next l ≡ false) same out))
+          | inr not ↦ let other : i ≢ k = grind (arith, nat_tests, not) in found.passed i after (omega (arith, below, other))
+        ]
+  ]
 
   pub idle_claims : (s : ℕ) (inputs outputs : List ℕ) → All (λ l. l < 32) inputs → All (λ l. l < 32) outputs → AreIdle kind net (input_walk s) → AreIdle kind net (switch_turns s (record { inputs = inputs; outputs = outputs }))
   idle_claims s inputs outputs below within idle = record {

@@ -1,9 +1,10 @@
 -- The wired links of each switch, as sets.
-use Rattle.{c104_crossbar.specs.Groups.has_bit, c104_node.specs.{Nodes.Node, PortParts.may_act_at, declared.crossings.Crossing.Crossing}}
+use Rattle.{c104_crossbar.specs.Groups.has_bit, c104_event.specs.declared.events.Event.Event}
+use Rattle.c104_node.specs.{Nodes.Node, PortParts.may_act_at, declared.crossings.Crossing.Crossing}
 use Rattle.{c104_node.specs.declared.port_part.PortPart.PortPart, c104_plan.specs.{Plans.Plan, declared.ports.Port.Port}}
 use Rattle.{c104_regs.specs.declared.registers.TheConstants.LINKS, c104_run.specs.Network.{Network, wired_fault}}
-use Rattle.{c104_run.specs.{RoundParts.crossing_part, Rounds.is_wired}, c104_token.specs.Kinds.Kind}
-use Rattle.std.specs.Prelude.{List, None, length, slice_index_or, true, ℕ, ◌&&◌, ◌<◌, ◌≡◌, ◌≢◌, ◌≤◌}
+use Rattle.{c104_run.specs.{RoundParts.{AreIdle, crossing_part}, Rounds.is_wired}, c104_token.specs.Kinds.Kind}
+use Rattle.std.specs.Prelude.{List, None, false, length, slice_index_or, true, ℕ, ◌&&◌, ◌<◌, ◌≡◌, ◌≢◌, ◌≤◌}
 
 -- these sets have the wired links of the first n switches
 pub record AreLinked (plan : Plan) (n : ℕ) (sets : List ℕ) : Type 0 where
@@ -25,3 +26,7 @@ module _ {A : Type 0} (kind : Kind A) (part : PortPart) (s : ℕ) where
 abbrev pub LeavesCrossed : {A : Type 0} → Kind A → Crossing → Port → List (Node A) → List (Node A) → Type 0
 LeavesCrossed kind crossing (Port.Switch s l) olds news = LeavesLinks kind (crossing_part crossing) s l olds news
 LeavesCrossed kind crossing (Port.Terminal t) olds news = Unit {0}
+
+-- of a walk over links: what isn't of a link of this set does nothing
+pub record IdleOutside {A : Type 0} (kind : Kind A) (net : Network A) (part : ℕ → List Event) (set : ℕ) : Type 0 where
+  pub idle : (l : ℕ) → l < LINKS → has_bit set l ≡ false → AreIdle kind net (part l)

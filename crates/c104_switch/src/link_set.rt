@@ -98,6 +98,15 @@ impl LinkSet {
         }
     }
 
+    /// Whether a link is in the set.
+    #[inline(always)]
+    pub fn has(&self, link: usize) -> bool
+        requires { link < LINKS }
+        ensures { result ≡ has_bit self.now link }
+    {
+        (self.word >> link) & 1 == 1
+    }
+
     /// The links that are in this set and in another.
     #[inline(always)]
     pub fn both(self, other: LinkSet) -> LinkSet

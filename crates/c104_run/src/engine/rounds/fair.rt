@@ -4,9 +4,9 @@
 ghost use Rattle.std.specs.Prelude.{OnOk, [], length, map, slice_get, ℕ, ◌++◌, ◌<◌, ◌∷◌, ◌≡◌, ◌≢◌};
 ghost use Rattle.{c104_node.specs.Places.states, c104_regs.specs.declared.registers.TheConstants.LINKS};
 ghost use Rattle.c104_run.specs.{EventRuns.EventsEnd, Meters.metered_apply};
-ghost use Rattle.c104_run.specs.{Engines.{DoesFairly, DoesPart, engine_at}, FairRounds.{fair_claims, fair_events, fair_round, fairly, in_turn, output_turns, switch_turns, turns_of}};
-ghost use Rattle.c104_run.specs.{LinkOrders.IsOrder, NotedSwitches.{AreNoted, AreSo, GrantsNone, LeavesOthers}};
-ghost use Rattle.c104_run.specs.{HandedWords.all_worded, RoundParts.{switch_walk, terminal_walk}};
+ghost use Rattle.c104_run.specs.{Engines.{DoesFairly, DoesPart, engine_at, engine_network}, FairRounds.{fair_claims, fair_events, fair_round, fairly, in_turn, output_turns, switch_turns, turns_of}};
+ghost use Rattle.c104_run.specs.{LinkOrders.IsOrder, LinkedSets.IdleOutside, NotedSwitches.{AreNoted, AreSo, GrantsNone, LeavesOthers}};
+ghost use Rattle.c104_run.specs.{HandedWords.all_worded, RoundParts.{output_walk, switch_walk, terminal_walk}};
 ghost use Rattle.c104_event.specs.declared.events.Event.TheVariants as event;
 ghost use Rattle.c104_node.specs.declared.port_part.PortPart.TheVariants as part;
 
@@ -18,7 +18,7 @@ use crate::watch::Watch;
 use crate::words::Words;
 use c104_event::EventFault;
 use c104_node::{Crossing, Place};
-use c104_switch::LINKS;
+use c104_switch::{LINKS, LinkSet};
 use c104_token::TokenKind;
 
 impl<T: TokenKind, P: Place<T>> Engine<T, P> {
@@ -139,7 +139,7 @@ impl<T: TokenKind, P: Place<T>> Engine<T, P> {
         Ok(changed)
     }
 
-    /// The claims of a switch by its turns.
+    /// The claims of a switch by its turns. Those of an input that wants no output are left out.
     fn claim_in_turn<M: Meter<T>>(
         &mut self,
         meter: &mut M,
@@ -153,16 +153,57 @@ impl<T: TokenKind, P: Place<T>> Engine<T, P> {
         ensures turns { (k : ℕ) → k ≢ switch → slice_get turns.new k ≡ slice_get turns.old k }
     {
         let order = turns.of(switch);
+        let mut wanting = self.wanting(switch);
         let mut changed = false;
         for position in 0..LINKS {
             let input = order.inputs.link(position);
-            let done = self.claim_for_turn(meter, turns, switch, input, order.outputs)?;
+            let done = self.claim_if_wanting(
+                meter,
+                turns,
+                switch,
+                input,
+                order.outputs,
+                &mut wanting,
+            )?;
             changed |= done;
         }
         Ok(changed)
     }
 
-    /// The claims of an input, in this order of outputs. Where it can make none none is tried.
+    /// The claims of an input, in this order of outputs, if it is among those that want one. They are looked for again where
+    /// a claim may have been made.
+    fn claim_if_wanting<M: Meter<T>>(
+        &mut self,
+        meter: &mut M,
+        turns: &mut Turns,
+        switch: usize,
+        input: usize,
+        outputs: Order,
+        wanting: &mut LinkSet,
+    ) -> Result<bool, EventFault>
+        requires switch { switch < length self.old.plan.switches }
+        requires input { input < LINKS }
+        requires order { IsOrder outputs }
+        requires wanting { IdleOutside T.kind (engine_network P.shown self.old) (output_walk switch) wanting.old }
+        ensures does { DoesFairly T.kind P.keeps M.sees P.shown self.old meter.old turns.old
+            (λ plan. output_turns switch input outputs) result self.new meter.new turns.new }
+        ensures others { LeavesOthers switch (states (map P.shown self.old.places)) (states (map P.shown self.new.places)) }
+        ensures turns { (k : ℕ) → k ≢ switch → slice_get turns.new k ≡ slice_get turns.old k }
+        ensures wanting { OnOk result
+            (IdleOutside T.kind (engine_network P.shown self.new) (output_walk switch) wanting.new) }
+    {
+        if !wanting.has(input) {
+            return Ok(false);
+        }
+        if self.next_claim(switch, input, 0).is_none() {
+            return Ok(false);
+        }
+        let done = self.claim_for_turn(meter, turns, switch, input, outputs)?;
+        *wanting = self.wanting(switch);
+        Ok(done)
+    }
+
+    /// The claims of an input, in this order of outputs. Those that it can't make are left out.
     fn claim_for_turn<M: Meter<T>>(
         &mut self,
         meter: &mut M,
@@ -179,19 +220,48 @@ impl<T: TokenKind, P: Place<T>> Engine<T, P> {
         ensures others { LeavesOthers switch (states (map P.shown self.old.places)) (states (map P.shown self.new.places)) }
         ensures turns { (k : ℕ) → k ≢ switch → slice_get turns.new k ≡ slice_get turns.old k }
     {
-        if self.next_claim(switch, input, 0).is_none() {
-            return Ok(false);
-        }
+        let mut claimable = self.claimable(switch, input);
         let mut changed = false;
         for position in 0..LINKS {
-            let done = self.attempt_in_turn(meter, turns, switch, input, outputs.link(position))?;
+            let output = outputs.link(position);
+            let done = self.attempt_in_turn(meter, turns, switch, input, output, &mut claimable)?;
             changed |= done;
         }
         Ok(changed)
     }
 
-    /// Tries a claim, and tells the turns of it where it was done.
+    /// Tries a claim, if it is of an output that can be claimed, and tells the turns of it where it was done.
     fn attempt_in_turn<M: Meter<T>>(
+        &mut self,
+        meter: &mut M,
+        turns: &mut Turns,
+        switch: usize,
+        input: usize,
+        output: usize,
+        claimable: &mut LinkSet,
+    ) -> Result<bool, EventFault>
+        requires switch { switch < length self.old.plan.switches }
+        requires input { input < LINKS }
+        requires output { output < LINKS }
+        requires claimable { IdleOutside T.kind (engine_network P.shown self.old)
+            (λ o. event.Claim switch input o ∷ []) claimable.old }
+        ensures does { DoesFairly T.kind P.keeps M.sees P.shown self.old meter.old turns.old
+            (λ plan. event.Claim switch input output ∷ []) result self.new meter.new turns.new }
+        ensures others { LeavesOthers switch (states (map P.shown self.old.places)) (states (map P.shown self.new.places)) }
+        ensures turns { (k : ℕ) → k ≢ switch → slice_get turns.new k ≡ slice_get turns.old k }
+        ensures claimable { OnOk result (IdleOutside T.kind (engine_network P.shown self.new)
+            (λ o. event.Claim switch input o ∷ []) claimable.new) }
+    {
+        if !claimable.has(output) {
+            return Ok(false);
+        }
+        let done = self.serve_in_turn(meter, turns, switch, input, output)?;
+        *claimable = self.claimable(switch, input);
+        Ok(done)
+    }
+
+    /// Tries a claim, and tells the turns of it where it was done.
+    fn serve_in_turn<M: Meter<T>>(
         &mut self,
         meter: &mut M,
         turns: &mut Turns,

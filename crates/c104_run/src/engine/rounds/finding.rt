@@ -1,7 +1,7 @@
 //! Where a round goes on: the next place, link, input or output at which an event may be done.
 ghost use Rattle.std.specs.{List.range_with_len, Prelude.{IfSome, [], false, length, map, true, unwrap_or, ℕ, ◌<◌, ◌∷◌, ◌≡◌, ◌≢◌, ◌≤◌}};
 ghost use Rattle.{c104_node.specs.Places.states, c104_regs.specs.declared.registers.TheConstants.LINKS};
-ghost use Rattle.c104_run.specs.{Engines.engine_network, LinkedSets.HasReady, LivePlaces.{IsIdlePlace, is_live, told_places}};
+ghost use Rattle.c104_run.specs.{Engines.engine_network, LinkedSets.{HasReady, IdleOutside}, LivePlaces.{IsIdlePlace, is_live, told_places}};
 ghost use Rattle.c104_run.specs.{NotedSwitches.{AreSo, ClaimsNone, GrantsNone, IsSoAt}, RoundParts.{AreIdle, CanTry, IsNext}};
 ghost use Rattle.c104_run.specs.{RoundParts.{crossing_part, input_walk, link_walk, output_walk, port_walk}, Rounds.link_numbers};
 ghost use Rattle.c104_event.specs.declared.events.Event.TheVariants as event;
@@ -165,6 +165,36 @@ impl<T: TokenKind, P: Place<T>> Engine<T, P> {
         ensures { IsNext T.kind (engine_network P.shown self.now) (output_walk switch) link_numbers LINKS from result }
     {
         next_wanting_at(self.places(), switch, from)
+    }
+
+    /// The inputs of a switch that want an output. An input that isn't among them claims none.
+    pub(crate) fn wanting(&self, switch: usize) -> LinkSet
+        requires { switch < length self.now.plan.switches }
+        ensures { IdleOutside T.kind (engine_network P.shown self.now) (output_walk switch) result }
+    {
+        let mut wanting = LinkSet::new();
+        let mut from = 0;
+        while let Some(input) = self.next_wanting(switch, from) {
+            wanting.set(input, true);
+            from = input + 1;
+        }
+        wanting
+    }
+
+    /// The outputs of a switch that an input can claim.
+    pub(crate) fn claimable(&self, switch: usize, input: usize) -> LinkSet
+        requires switch { switch < length self.now.plan.switches }
+        requires input { input < LINKS }
+        ensures { IdleOutside T.kind (engine_network P.shown self.now)
+            (λ output. event.Claim switch input output ∷ []) result }
+    {
+        let mut claimable = LinkSet::new();
+        let mut from = 0;
+        while let Some(output) = self.next_claim(switch, input, from) {
+            claimable.set(output, true);
+            from = output + 1;
+        }
+        claimable
     }
 
     /// The next output of a switch, from this one on, that an input can claim.

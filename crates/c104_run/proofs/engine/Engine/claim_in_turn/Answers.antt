@@ -4,10 +4,10 @@ use Rattle.std.proofs.Common.{Some, ap, arith, refl, slice_get, subst, sym, ◌�
 use Rattle.c104_run.proofs.engine.Engine.claim_in_turn.Goals as goal
 
 pub loop-position-init : goal.loop-position-init
-loop-position-init g c = (fair_none, record { stay = λ j other. refl }, λ k other. refl)
+loop-position-init g c = (fair_none, record { stay = λ j other. refl }, λ k other. refl, c.wanting-wanting.ensures)
 
-pub claim_for_turn-requires-clause-order : goal.claim_for_turn-requires-clause-order
-claim_for_turn-requires-clause-order g c = subst (λ (t : SwitchTurns). IsOrder t.outputs) (sym c.of-order.ensures.is) (c.of-order.ensures.orders c.args.switch).1
+pub claim_if_wanting-requires-clause-order : goal.claim_if_wanting-requires-clause-order
+claim_if_wanting-requires-clause-order g c = subst (λ (t : SwitchTurns). IsOrder t.outputs) (sym c.of-order.ensures.is) (c.of-order.ensures.orders c.args.switch).1
 
 pub loop-position-preserved : goal.loop-position-preserved
 loop-position-preserved g c = (
@@ -15,6 +15,7 @@ loop-position-preserved g c = (
       (fairly_so (ap (λ (t : SwitchTurns). output_turns c.args.switch c.link-input.result t.outputs) c.of-order.ensures.is) c.in_ok-done.ensures.does),
   others_on c.loop-position.invariant.1 c.in_ok-done.ensures.others,
   λ k other. c.in_ok-done.ensures.turns k other ∙ c.loop-position.invariant.2 k other,
+  c.in_ok-done.ensures.wanting,
 )
 
 pub returns-in_err-done-clause-does : goal.returns-in_err-done-clause-does

@@ -1,7 +1,7 @@
 use Rattle.{c104_event.specs.declared.events.Event.Event, c104_node.proofs.PlaceSteps.err_is, c104_run.proofs.FairParts.does_one}
 use Rattle.{c104_run.{proofs.{FairParts.does_one_stop, LinkOrders.other_turns}, specs.FairRounds.turned_if}, std.proofs.Common.{Bool, List}}
 use Rattle.std.proofs.Common.{ap, slice_get, sym, ◌∙◌}
-use Rattle.c104_run.proofs.engine.Engine.attempt_in_turn.Goals as goal
+use Rattle.c104_run.proofs.engine.Engine.serve_in_turn.Goals as goal
 
 pub returns-in_err-done-clause-does : goal.returns-in_err-done-clause-does
 returns-in_err-done-clause-does g c = rw (err_is _ _ c.from_residual.ensures) (does_one_stop c.args.turns.now c.in_err-done.ensures.does)
