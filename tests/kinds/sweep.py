@@ -35,11 +35,11 @@ def point(runner):
     if not runner.wanted('a point of the sweep'):
         return
     mesh = os.path.join(SWEEP, 'mesh.txt')
-    sent = ['--pattern', 'uniform', '--packets', '6000', '--bytes', '15', '--process', 'bernoulli', '--seed', SEED, '--tokens', LOAD]
+    sent = ['--pattern', 'uniform', '--packets', '6000', '--bytes', '15', '--process', 'bernoulli', '--seed', SEED, '--tokens', LOAD, '--fair']
     _, script, _ = runner.run(words=['traffic', mesh, *sent])
-    lines = re.sub(rb'rounds (\d+)', lambda it: b'\n'.join([b'rounds 1'] * int(it[1])), script).split(b'\n')
-    ends = [number for number, line in enumerate(lines) if line == b'rounds 1']
-    script = b'\n'.join([*lines[:ends[6999] + 1], b'rounds 10000', b''])
+    lines = re.sub(rb'rounds (\d+) fair', lambda it: b'\n'.join([b'rounds 1 fair'] * int(it[1])), script).split(b'\n')
+    ends = [number for number, line in enumerate(lines) if line == b'rounds 1 fair']
+    script = b'\n'.join([*lines[:ends[6999] + 1], b'rounds 10000 fair', b''])
     _, summary, _ = runner.run(words=words_of(mesh, form='csv') + ['--from', '1000', '--to', '5999'], data=script)
     packets = rows_by_name(runner.run(words=words_of(mesh, 'packets', 'csv'), data=script)[1].decode())
     tokens = [sum(int(it['bytes']) + 1 for it in packets if 1000 <= int(it[end] or 0) < 6000) for end in ('sent', 'arrived')]
