@@ -48,6 +48,14 @@ def point(runner):
     runner.judge('a point of the sweep', None if found == (0, '\t'.join(due) + '\n', '') else '%.400r' % (found,))
 
 
+def cubes(runner):
+    """Cubes for universal routing and for straight ways are accepted, and no channels depend on one another in a cycle."""
+    for words in (['2'], ['3', '--plain'], ['1'], ['6']):
+        made = subprocess.run([os.path.join(SWEEP, 'universal-cube'), *words], capture_output=True, check=True).stdout
+        for command in ('check', 'cycles'):
+            runner.case('%s of a cube %s' % (command, ' '.join(words)), None, words=[command, '-'], data=made)
+
+
 def carried_loads(points):
     """For each load of these points, whether the network carries it, over all seeds."""
     seeds = {}
@@ -85,6 +93,7 @@ def sweep(runner):
     if len(runner.program) > 1:
         return
     point(runner)
+    cubes(runner)
     if not shutil.which('parallel') or not shutil.which('gnuplot'):
         return
     with tempfile.TemporaryDirectory(prefix='a b') as folder:
