@@ -12,6 +12,8 @@ from sends import words
 
 SEEDS = range(8)
 LINKS = 32
+# A number of a script has at most seven digits. Of a word counts what is left over by the range of random headers, which is 2 here.
+SHORTER = 10 ** 6
 # Three terminals share the two links of a group, and one of them waits where claims go by their numbers.
 GROUP = (b'switch A\nswitch B\nwire A.1 B.1\nwire A.2 B.2\ncontinue A.2\ncontinue B.2\nterminal d B.0\n'
          + b''.join(b'terminal %s A.%d\nrow A.%d 1 1\n' % (name, link, link) for link, name in ((7, b'a'), (4, b'b'), (9, b'c')))
@@ -57,7 +59,7 @@ def round_of(ports, claims, handed):
     """The lines of a round whose inputs are handed these words, or 0."""
     lines = ['%s %s' % (verb, port) for verb in ('credit', 'cross') for port in ports.ports]
     numbers = {name: s for s, name in enumerate(ports.switches)}
-    lines += ['input %s.%d %d' % (name, link, handed[LINKS * numbers[name] + link] >> 32 if handed else 0)
+    lines += ['input %s.%d %d' % (name, link, (handed[LINKS * numbers[name] + link] >> 32) % SHORTER if handed else 0)
               for name, link in ports.inputs()]
     lines += ['claim %s %d %d' % (ports.switches[s], i, o) for s, i, o in claims]
     return lines + ['drain %s' % it for it in ports.terminals]
@@ -126,9 +128,12 @@ def rounds_with_words(runner):
 
 
 def rounds_of_a_group(runner):
-    sends = b''.join(b'send %s 00 %02x %02x eop\n' % (name, k, k) for k in range(6) for name in (b'a', b'b', b'c'))
-    for is_fair in (False, True):
-        alike(runner, 'a group, %s' % ('fair' if is_fair else 'plain'), GROUP, sends, 30, is_fair, None)
+    """Where three send they wait for each other, and where one does it finds both links free."""
+    for names in ((b'a', b'b', b'c'), (b'a',)):
+        sends = b''.join(b'send %s 00 %02x %02x eop\n' % (name, k, k) for k in range(6) for name in names)
+        for is_fair in (False, True):
+            name = 'a group for %d, %s' % (len(names), 'fair' if is_fair else 'plain')
+            alike(runner, name, GROUP, sends, 31, is_fair, None)
 
 
 PARTS = [random_rounds, rounds_with_words, rounds_of_a_group]

@@ -50,7 +50,7 @@ def point(runner):
 
 def cubes(runner):
     """Cubes for universal routing and for straight ways are accepted, and no channels depend on one another in a cycle."""
-    for words in (['2'], ['3', '--plain'], ['1'], ['6']):
+    for words in (['2', '3'], ['3', '2', '--plain'], ['1', '1'], ['6', '2']):
         made = subprocess.run([os.path.join(SWEEP, 'universal-cube'), *words], capture_output=True, check=True).stdout
         for command in ('check', 'cycles'):
             runner.case('%s of a cube %s' % (command, ' '.join(words)), None, words=[command, '-'], data=made)
