@@ -77,7 +77,7 @@ def answers_of(runner, path, script):
 
 
 def events_of(runner, path, ports, sends, count, is_fair, seed):
-    """The lines of so many rounds behind what is sent: those of a fair round go by what the rounds before it did."""
+    """The lines of this many rounds behind what is sent: those of a fair round go by what the rounds before it did."""
     turns, lines = Turns(ports, is_fair), []
     handed = None if seed is None else words(seed)
     for _ in range(count):

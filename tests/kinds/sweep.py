@@ -52,8 +52,12 @@ def cubes(runner):
     """Cubes for universal routing and for straight ways are accepted, and no channels depend on one another in a cycle."""
     for words in (['2', '3'], ['3', '2', '--plain'], ['1', '1'], ['6', '2']):
         made = subprocess.run([os.path.join(SWEEP, 'universal-cube'), *words], capture_output=True, check=True).stdout
-        for command in ('check', 'cycles'):
-            runner.case('%s of a cube %s' % (command, ' '.join(words)), None, words=[command, '-'], data=made)
+        due = int(words[1]) << int(words[0])
+        found = made.count(b'terminal '), made.count(b'random ')
+        wrong = None if found == (due, 0 if '--plain' in words else due) else 'terminals and random headers: %r' % (found,)
+        runner.judge('terminals of a cube %s' % ' '.join(words), wrong)
+        for command, answer in (('check', b'accepted\n'), ('cycles', b'acyclic\n')):
+            runner.case('%s of a cube %s' % (command, ' '.join(words)), answer, words=[command, '-'], data=made)
 
 
 def carried_loads(points):
