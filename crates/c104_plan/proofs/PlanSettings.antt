@@ -42,12 +42,15 @@ random_in_range plan p kept = with_line plan.randoms p (plain_settings_of plan p
 same_table : (line : Option PlanRandom) (s : Settings) → (with_random line s).table ≡ s.table
 same_table line s = search arith
 
-pub settings_in_range : (plan : Plan) (p : Port) → IsPlan plan → IsInRange (settings_of plan p)
+pub own_table_in_range : (plan : Plan) (p : Port) → IsPlan plan → IsTableInRange (settings_of plan p).table
 unfolding settings_of
+own_table_in_range plan p kept =
+    subst IsTableInRange (sym (same_table (find (is_random_of p) plan.randoms) (plain_settings_of plan p))) (table_in_range plan p kept)
+
+pub settings_in_range : (plan : Plan) (p : Port) → IsPlan plan → IsInRange (settings_of plan p)
 settings_in_range plan p kept =
     let numbers = random_in_range plan p kept in
-    let same = same_table (find (is_random_of p) plan.randoms) (plain_settings_of plan p) in
-    IsInRange-from (settings_of plan p) numbers.0 numbers.1 (subst IsTableInRange (sym same) (table_in_range plan p kept))
+    IsInRange-from (settings_of plan p) numbers.0 numbers.1 (own_table_in_range plan p kept)
 
 -- a switch has settings for each of its links
 pub are_settings : (plan : Plan) (switch : ℕ) → IsPlan plan → AreSettings (switch_settings plan switch)

@@ -3,7 +3,8 @@
 use Rattle.{c104_interval.specs.{Selection.reset_table, declared.intervals.Table.Table}, c104_plan.specs.PlanImage.{Image, settings_of}}
 use Rattle.{c104_plan.specs.{Plans.Plan, Ports.Port, Wiring.peer}, c104_regs.specs.declared.registers.TheConstants.LINKS}
 use Rattle.c104_regs.specs.declared.settings.Settings.{Settings}
-use Rattle.std.specs.{List.range_with_len, Prelude.{List, if◌then◌else◌, is_some, length, map, slice_index_or, ℕ, ◌*◌, ◌+◌}}
+use Rattle.std.specs.{List.range_with_len, Prelude.{Bool, List, false, if◌then◌else◌, is_some, length, map, slice_index_or, ℕ, ◌*◌, ◌+◌}}
+use Rattle.std.specs.Prelude.{◌||◌}
 
 -- what is set at a port of a switch that has this table: what the plan's own lines say, and the table where the
 -- port has a wire
@@ -20,20 +21,30 @@ labelled_switch plan table switch =
 abbrev pub table_in : List Table → ℕ → Table
 table_in tables switch = slice_index_or tables switch reset_table
 
--- what is set at the links of a switch that have these tables
-unfoldable pub port_labelled_switch : Plan → (ℕ → Table) → ℕ → List Settings
-port_labelled_switch plan tables switch =
-    map (λ link. labelled_settings plan (tables link) (Port.Switch switch link)) (range_with_len 0 LINKS)
+-- settings of a link, which continues a group where this says so, or they do
+abbrev pub with_group : Bool → Settings → Settings
+with_group grouped s = record s { continue_group = grouped || s.continue_group }
+
+-- what is set at the links of a switch that have these tables, and of which these continue groups, beside those that do so
+-- by the plan's own lines
+unfoldable pub port_labelled_switch : Plan → (ℕ → Table) → (ℕ → Bool) → ℕ → List Settings
+port_labelled_switch plan tables groups switch =
+    map (λ link. with_group (groups link) (labelled_settings plan (tables link) (Port.Switch switch link))) (range_with_len 0 LINKS)
 
 -- the table of a link of a switch among those of all links, by switch and then by link
 abbrev pub port_table : List Table → ℕ → ℕ → Table
 port_table tables switch link = slice_index_or tables (switch * LINKS + link) reset_table
 
--- the image with these ranges, and at each port that has a wire its own table, by switch and link
-abbrev pub port_labelled_image : Plan → List (ℕ × ℕ) → (ℕ → ℕ → Table) → Image
-port_labelled_image plan ranges tables = record {
+-- whether a link continues a group, among what is said of all links, by switch and then by link
+abbrev pub port_grouped : List Bool → ℕ → ℕ → Bool
+port_grouped groups switch link = slice_index_or groups (switch * LINKS + link) false
+
+-- the image with these ranges, and at each port that has a wire its own table, by switch and link; and with these groups
+-- beside those of the plan's own lines
+abbrev pub port_labelled_image : Plan → List (ℕ × ℕ) → (ℕ → ℕ → Table) → (ℕ → ℕ → Bool) → Image
+port_labelled_image plan ranges tables groups = record {
   ranges = ranges;
-  settings = map (λ switch. port_labelled_switch plan (tables switch) switch) (range_with_len 0 (length plan.switches));
+  settings = map (λ switch. port_labelled_switch plan (tables switch) (groups switch) switch) (range_with_len 0 (length plan.switches));
 }
 
 -- the image with these ranges, and these tables at the ports that have a wire

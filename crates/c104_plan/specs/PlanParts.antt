@@ -26,9 +26,9 @@ without_first t = record t { first = 0 }
 abbrev pub has_some : {X : Type 0} → List X → Bool
 has_some xs = not (length xs == 0)
 
--- whether a plan has lines that set something at links
-abbrev pub has_settings : Plan → Bool
-has_settings plan = has_some plan.continues || (has_some plan.bases || (has_some plan.rows || has_some plan.randoms))
+-- whether a plan has lines that set more at links than that they continue groups
+abbrev pub has_tables : Plan → Bool
+has_tables plan = has_some plan.bases || (has_some plan.rows || has_some plan.randoms)
 
 -- the plan of no line: headers of one byte, and buffers of 16 tokens
 abbrev pub empty_plan : Plan

@@ -184,6 +184,12 @@ pub record IsUnset (plan : Plan) : Type 0 where
   pub rows : plan.rows ≡ []
   pub randoms : plan.randoms ≡ []
 
+-- nothing but groups is set at links by lines of their own: labellers set the rest
+pub record HasGroupsAlone (plan : Plan) : Type 0 where
+  pub bases : plan.bases ≡ []
+  pub rows : plan.rows ≡ []
+  pub randoms : plan.randoms ≡ []
+
 -- how many labels terminals have in all
 abbrev pub total_count : List Terminal → ℕ
 total_count [] = 0
@@ -196,6 +202,19 @@ pub record IsTreePlan (root : ℕ) (plan : Plan) : Type 0 where
   pub counts : total_count plan.terminals ≤ label_count
   pub unset : IsUnset plan
 
+-- a root that is named is one of so many switches
+abbrev pub IsNamedIn : ℕ → Option ℕ → Type 0
+IsNamedIn n None = Unit {0}
+IsNamedIn n (Some root) = root < n
+
+-- a plan to be labelled up and down from one of its switches, which may be named: its terminals carry counts alone, and
+-- links may be grouped
+pub record IsUpDownPlan (root : Option ℕ) (plan : Plan) : Type 0 where
+  pub inside : IsNamedIn (length plan.switches) root
+  pub firsts : All (λ (t : Terminal). t.first ≡ 0) plan.terminals
+  pub counts : total_count plan.terminals ≤ label_count
+  pub unset : HasGroupsAlone plan
+
 -- a plan of a layout whose switches have p terminals each
 pub record IsFilled (layout : Layout) (p : ℕ) (plan : Plan) : Type 0 where
   pub switches : plan.switches ≡ filled_switches layout
@@ -207,7 +226,7 @@ pub record IsFilled (layout : Layout) (p : ℕ) (plan : Plan) : Type 0 where
 abbrev pub IsOfShape : Shape → Plan → Type 0
 IsOfShape Hand plan = Unit {0}
 IsOfShape (Tree root) plan = IsTreePlan root plan
-IsOfShape (UpDown root) plan = IsTreePlan root plan
+IsOfShape (UpDown root) plan = IsUpDownPlan root plan
 IsOfShape (Mesh w h p) plan = IsMesh w h p × IsFilled (mesh w h) p plan
 IsOfShape (Cube d p) plan = IsCube d p × IsFilled (cube d) p plan
 

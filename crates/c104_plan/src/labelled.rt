@@ -1,7 +1,7 @@
 //! The image of a plan whose switches have tables that are given.
 ghost use Rattle.std.specs.{List.range_with_len, Prelude.{All, IfOk, length, map, ◌*◌, ◌<◌, ◌≡◌}};
 ghost use Rattle.c104_plan.specs.LabelledImages.{labelled_image, labelled_settings, labelled_switch, port_labelled_image};
-ghost use Rattle.c104_plan.specs.{LabelledImages.{port_labelled_switch, port_table, table_in}, PlanImage.{AreSettings, Fits}, Plans.IsPlan};
+ghost use Rattle.c104_plan.specs.{LabelledImages.{port_grouped, port_labelled_switch, port_table, table_in, with_group}, PlanImage.{AreSettings, Fits}, Plans.IsPlan};
 ghost use Rattle.{c104_plan.specs.{Plans.{IsRange, is_continued, rows_of}, Ports.is_any_at}, c104_regs.specs.Ranges.IsTableInRange};
 ghost use Rattle.c104_regs.specs.declared.registers.TheConstants.{LINKS as LINK_COUNT};
 
@@ -51,22 +51,25 @@ impl Image {
     }
 
     /// The image of a plan with the ranges of this one, and with a table for each link of each switch, by switch and
-    /// then by link: a port that has a wire has its own table, and all else is as the plan's own lines say, as in
-    /// `hand_image`. The only error is out of memory.
+    /// then by link: a port that has a wire has its own table. `groups` says of each link whether it continues the group
+    /// of the link before it where the plan's own lines don't. All else is as these lines say, as in `hand_image`. The
+    /// only error is out of memory.
     pub fn with_port_tables(
         &self,
         alloc: Global,
         plan: &Plan,
         tables: &[Table],
+        groups: &[bool],
     ) -> Result<Self, NoMemory>
         requires terminals { length self.now.ranges ≡ length plan.now.terminals }
         requires ports { length tables.now ≡ length plan.now.switches * LINK_COUNT }
         requires tables { All IsTableInRange tables.now }
+        requires groups { length groups.now ≡ length plan.now.switches * LINK_COUNT }
         ensures image { IfOk result (λ image. image
-            ≡ port_labelled_image plan.now self.now.ranges (port_table tables.now)) }
+            ≡ port_labelled_image plan.now self.now.ranges (port_table tables.now) (port_grouped groups.now)) }
         ensures fits { IfOk result (λ image. Fits image plan.now) }
     {
-        let switches = port_labelled_switches(alloc, plan, tables)?;
+        let switches = port_labelled_switches(alloc, plan, tables, groups)?;
         let ranges = Vec::from_slice(alloc, self.ranges.as_slice())?;
         Ok(Image { ranges, switches })
     }
@@ -77,16 +80,18 @@ fn port_labelled_switches(
     alloc: Global,
     plan: &Plan,
     tables: &[Table],
+    groups: &[bool],
 ) -> Result<Vec<SwitchImage>, AllocError>
     requires ports { length tables.now ≡ length plan.now.switches * LINK_COUNT }
     requires tables { All IsTableInRange tables.now }
+    requires groups { length groups.now ≡ length plan.now.switches * LINK_COUNT }
     ensures settings { IfOk result (λ switches. switches.items
-        ≡ map (λ s. port_labelled_switch plan.now (port_table tables.now s) s) (range_with_len 0 (length plan.now.switches))) }
+        ≡ map (λ s. port_labelled_switch plan.now (port_table tables.now s) (port_grouped groups.now s) s) (range_with_len 0 (length plan.now.switches))) }
     ensures kept { IsPlan plan.now }
 {
     let mut switches = Vec::new(alloc);
     for switch in 0..plan.switches().len() {
-        switches.push(port_labelled_switch(alloc, plan, tables, switch)?)?;
+        switches.push(port_labelled_switch(alloc, plan, tables, groups, switch)?)?;
     }
     Ok(switches)
 }
@@ -96,14 +101,16 @@ fn port_labelled_switch(
     alloc: Global,
     plan: &Plan,
     tables: &[Table],
+    groups: &[bool],
     switch: usize,
 ) -> Result<SwitchImage, AllocError>
     requires switch { switch < length plan.now.switches }
     requires ports { length tables.now ≡ length plan.now.switches * LINK_COUNT }
     requires tables { All IsTableInRange tables.now }
-    ensures { IfOk result (λ image. image ≡ port_labelled_switch plan.now (port_table tables.now switch) switch) }
+    requires groups { length groups.now ≡ length plan.now.switches * LINK_COUNT }
+    ensures { IfOk result (λ image. image ≡ port_labelled_switch plan.now (port_table tables.now switch) (port_grouped groups.now switch) switch) }
 {
-    let settings = port_labelled_links(alloc, plan, tables, switch)?;
+    let settings = port_labelled_links(alloc, plan, tables, groups, switch)?;
     SwitchImage::with_settings(alloc, settings.as_slice())
 }
 
@@ -112,12 +119,14 @@ fn port_labelled_links(
     alloc: Global,
     plan: &Plan,
     tables: &[Table],
+    groups: &[bool],
     switch: usize,
 ) -> Result<Vec<Settings>, AllocError>
     requires switch { switch < length plan.now.switches }
     requires ports { length tables.now ≡ length plan.now.switches * LINK_COUNT }
     requires tables { All IsTableInRange tables.now }
-    ensures settings { IfOk result (λ settings. settings.items ≡ port_labelled_switch plan.now (port_table tables.now switch) switch) }
+    requires groups { length groups.now ≡ length plan.now.switches * LINK_COUNT }
+    ensures settings { IfOk result (λ settings. settings.items ≡ port_labelled_switch plan.now (port_table tables.now switch) (port_grouped groups.now switch) switch) }
     ensures all { IfOk result (λ settings. AreSettings settings.items) }
 {
     let rows = rows_of_switch(alloc, plan, switch)?;
@@ -128,9 +137,22 @@ fn port_labelled_links(
         let rows = rows.as_slice();
         let continues = continues.as_slice();
         let table = tables[switch * LINKS + link];
-        settings.push(labelled_settings(plan, rows, continues, table, port))?;
+        let grouped = groups[switch * LINKS + link];
+        settings.push(with_group(
+            labelled_settings(plan, rows, continues, table, port),
+            grouped,
+        ))?;
     }
     Ok(settings)
+}
+
+/// Settings of a link, which continues a group where this says so, or they do.
+fn with_group(settings: Settings, grouped: bool) -> Settings
+    ensures { result ≡ with_group grouped settings }
+{
+    let mut settings = settings;
+    settings.continue_group = grouped || settings.continue_group;
+    settings
 }
 
 /// What each switch is to hold.

@@ -62,7 +62,7 @@ struct Headers {
 
 impl Parts {
     ghost use Rattle.std.specs.{List.list_any, Prelude.{IfOk, IfSome, length, ℕ, ◌<◌, ◌||◌, ◌≡◌, ◌≤◌}};
-    ghost use Rattle.c104_plan.specs.{PlanParts.{empty_plan, has_settings, plan_of}, Plans.{AreTerminals, PlanBase as TheBase}};
+    ghost use Rattle.c104_plan.specs.{PlanParts.{empty_plan, has_tables, plan_of}, Plans.{AreTerminals, PlanBase as TheBase}};
     ghost use Rattle.c104_plan.specs.Plans.{PlanRandom as TheRandom, host_port, is_continued, is_deleted, is_linked, is_taken, label_count};
     ghost use Rattle.c104_plan.specs.{Plans.{most_switches, next_first, rows_of, switch_number, terminal_number}, Ports.IsSwitchPort};
     ghost use Rattle.c104_plan.specs.Ports.{Wire as TheWire, is_any_at, is_port};
@@ -253,14 +253,11 @@ impl Parts {
         self.randoms.iter().any(|random| random.port.is_same(port))
     }
 
-    /// Whether lines set something at links.
-    pub fn has_settings(&self) -> bool
-        ensures { result ≡ has_settings (plan_of self.now) }
+    /// Whether lines set more at links than that they continue groups.
+    pub fn has_tables(&self) -> bool
+        ensures { result ≡ has_tables (plan_of self.now) }
     {
-        !self.continues.is_empty()
-            || !self.bases.is_empty()
-            || !self.rows.as_slice().is_empty()
-            || !self.randoms.is_empty()
+        !self.bases.is_empty() || !self.rows.as_slice().is_empty() || !self.randoms.is_empty()
     }
 
     /// How many rows an input has.

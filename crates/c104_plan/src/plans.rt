@@ -58,8 +58,9 @@ pub enum Shape {
     Hand,
     /// Line by line, to be labelled as a tree from the switch of this number.
     Tree(usize),
-    /// Line by line, to be labelled so that packets go up towards the switch of this number, and then down.
-    UpDown(usize),
+    /// Line by line, to be labelled so that packets go up towards the switch of this number, or one that the labeller
+    /// takes, and then down.
+    UpDown(Option<usize>),
     /// A mesh: its width, its height, and how many terminals each switch has.
     Mesh(usize, usize, usize),
     /// A cube: its dimension, and how many terminals each switch has.
