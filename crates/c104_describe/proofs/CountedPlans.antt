@@ -1,11 +1,12 @@
 -- A plan to be labelled as a tree, as it is while its lines are read: made line by line, and each terminal's
 -- range begins where that of the one before ends.
-use Rattle.{c104_describe.specs.PlanPrint.{counted_words, delete_words, wire_words}, c104_plan.specs.Distinctness.AreDistinct}
-use Rattle.c104_plan.specs.{PlanParts.without_first, Plans.{AreNames, IsPlan, IsRange, IsTreePlan, Plan, host_port, label_count}}
-use Rattle.c104_plan.specs.{Plans.{next_first, total_count}, PortTexts.{port_text, terminal_name}, Ports.{IsSwitchPort, both_ends, is_port}}
-use Rattle.c104_plan.specs.declared.{plans.{Shape.TheVariants.Hand, Terminal.Terminal}, ports.{Port.Port, Wire.Wire}}
-use Rattle.std.proofs.Common.{All, List, [], ap, arith, codes, length, map, refl, slice_get, subst, suc, sym, zero, ℕ, ◌++◌, ◌+◌, ◌<◌, ◌∙◌}
-use Rattle.std.{proofs.{Common.{◌∷◌, ◌≡◌, ◌≤◌}, lemmas.List.Elements.{All-cons, All-head, All-nil, All-tail}}, specs.Option.option_map_or}
+use Rattle.c104_describe.specs.PlanPrint.{continue_words, counted_words, delete_words, wire_words}
+use Rattle.c104_plan.specs.{Distinctness.AreDistinct, PlanParts.without_first, Plans.{AreNames, IsPlan, IsRange, Plan, host_port}}
+use Rattle.c104_plan.specs.{Plans.{label_count, next_first, total_count}, PortTexts.{port_text, terminal_name}, Ports.IsSwitchPort}
+use Rattle.c104_plan.specs.{Ports.{both_ends, is_port}, declared.{plans.{Shape.TheVariants.Hand, Terminal.Terminal}, ports.Port.Port}}
+use Rattle.{c104_plan.specs.declared.ports.Wire.Wire, std.proofs.Common.{All, List, [], ap, arith, codes, length, map, refl, slice_get}}
+use Rattle.std.proofs.{Common.{subst, suc, sym, zero, ℕ, ◌++◌, ◌+◌, ◌<◌, ◌∙◌, ◌∷◌, ◌≡◌, ◌≤◌}, lemmas.List.Elements.{All-cons, All-head}}
+use Rattle.std.{proofs.lemmas.List.Elements.{All-nil, All-tail}, specs.Option.option_map_or}
 
 -- the first range begins at n
 abbrev pub counted_from : ℕ → List Terminal → List Terminal
@@ -86,8 +87,8 @@ module _ (plan : Plan) where
   abbrev pub counted : Plan
   counted = record plan { shape = Hand; terminals = counted_from 0 plan.terminals }
 
-  pub counted_kept : (root : ℕ) → IsPlan plan → IsTreePlan root plan → IsPlan counted
-  counted_kept root kept is = record {
+  pub counted_kept : IsPlan plan → total_count plan.terminals ≤ label_count → IsPlan counted
+  counted_kept kept few = record {
     header = kept.header;
     cap = kept.cap;
     shape = tt;
@@ -96,7 +97,7 @@ module _ (plan : Plan) where
     terminals = record {
       few = omega (arith, same_count 0 plan.terminals, kept.terminals.few);
       on_switches = hosts_all (length plan.switches) 0 plan.terminals kept.terminals.on_switches;
-      ranges = ranges_all 0 plan.terminals kept.terminals.ranges (omega (arith, is.counts));
+      ranges = ranges_all 0 plan.terminals kept.terminals.ranges (omega (arith, few));
     };
     wires = kept.wires;
     links = subst (AreDistinct is_port) (ap (λ ports. ports ++ both_ends plan.wires) (sym (same_hosts 0 plan.terminals))) kept.links;
@@ -120,6 +121,9 @@ module _ (plan : Plan) where
 
   pub same_wires : (wires : List Wire) → map (wire_words counted) wires ≡ map (wire_words plan) wires
   same_wires wires = search (arith, codes, same_port)
+
+  pub same_continues : (continues : List Port) → map (continue_words counted) continues ≡ map (continue_words plan) continues
+  same_continues continues = search (arith, codes, same_port)
 
   pub same_deletes : (deletes : List ℕ) → map (delete_words counted) deletes ≡ map (delete_words plan) deletes
   same_deletes deletes = search (arith, codes, same_terminal)

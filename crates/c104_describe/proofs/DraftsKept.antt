@@ -1,22 +1,22 @@
 -- What the lines read so far keep, so that they give a plan.
 use Rattle.c104_describe.proofs.{FaultOrder.{made, sound}, PlanLinesKept.{IsBeside, IsHosting, IsNext, IsRead, IsSound, base_kept}}
-use Rattle.c104_describe.proofs.PlanLinesKept.{buffer_kept, continue_kept, cube_kept, delete_kept, hand_kept, header_kept, mesh_kept}
-use Rattle.c104_describe.proofs.PlanLinesKept.{random_kept, row_kept, switch_inside, switch_kept, terminal_kept, wire_kept}
-use Rattle.c104_describe.{proofs.PlanRooted.{IsRootIn, root_in_more, root_in_none, rooted_kept}, specs.LineFaults.read_plan_line}
-use Rattle.c104_describe.specs.{PlanDrafts.{Draft, finished, is_begun, is_by_hand, rooted, says_from}, PlanFaults.PlanFault}
-use Rattle.c104_describe.specs.{PlanFaults.PlanFaultKind, PlanLines.{first_word_parts, keyword_parts, labelled_shape, line_parts}}
-use Rattle.c104_describe.specs.{PlanLines.{switch_said, terminal_parts}, PlanText.{draft_after_line, empty_draft, read_plan_lines}}
-use Rattle.{c104_describe.specs.PlanWords.{Keyword, keyword_of, range_words}, c104_plan.specs.PlanParts.{has_settings, has_some}}
-use Rattle.c104_plan.specs.{Plans.{IsPlan, IsUnset, Plan, next_first, rows_of, total_count}, TextCut.{is_plain_line, line_words}}
-use Rattle.{c104_plan.specs.{TextCut.uncommented_line, declared.plans.Shape.{Shape, TheVariants.Hand}}, std.proofs.Common.{Bool, Bor, Err}}
-use Rattle.std.proofs.Common.{List, None, Ok, Option, Result, Some, [], arith, bytes_eq, codes, false, get_or, is_some, length, not, refl}
-use Rattle.std.proofs.{Common.{subst, sym, true, ℕ, ◌&&◌, ◌+◌, ◌<◌, ◌||◌, ◌∙◌, ◌∷◌, ◌≡◌}, lemmas.Bool.{Decides.nat_tests, or_from}}
-use Rattle.std.proofs.lemmas.{Bool.or_parts, List.Elements.All-nil}
+use Rattle.c104_describe.proofs.PlanLinesKept.{buffer_kept, continue_alone, continue_kept, cube_kept, delete_kept, hand_kept, header_kept}
+use Rattle.c104_describe.proofs.PlanLinesKept.{mesh_kept, random_kept, row_kept, switch_inside, switch_kept, terminal_kept, wire_kept}
+use Rattle.c104_describe.{proofs.PlanRooted.{IsRootIn, IsUnsetFor, root_in_more, rooted_kept}, specs.LineFaults.read_plan_line}
+use Rattle.c104_describe.specs.PlanDrafts.{Draft, asks_tree, excludes_groups, finished, is_begun, is_by_hand, rooted, says_from}
+use Rattle.c104_describe.specs.{PlanFaults.{PlanFault, PlanFaultKind}, PlanLines.{first_word_parts, keyword_parts, labelled_shape}}
+use Rattle.c104_describe.specs.{PlanLines.{line_parts, switch_said, terminal_parts}, PlanText.{draft_after_line, empty_draft}}
+use Rattle.c104_describe.specs.{PlanText.read_plan_lines, PlanWords.{Keyword, keyword_of, range_words}}
+use Rattle.c104_plan.specs.{PlanParts.{has_some, has_tables}, Plans.{HasGroupsAlone, IsPlan, Plan, next_first, rows_of, total_count}}
+use Rattle.c104_plan.specs.{TextCut.{is_plain_line, line_words, uncommented_line}, declared.plans.Shape.{Shape, TheVariants.{Hand, Tree}}}
+use Rattle.{c104_plan.specs.declared.plans.Shape.TheVariants.UpDown, std.proofs.Common.{Bool, Bor, Err, List, None, Ok, Option, Result}}
+use Rattle.std.proofs.Common.{Some, [], arith, bytes_eq, codes, false, get_or, is_some, length, not, refl, subst, sym, true, ℕ, ◌&&◌, ◌+◌}
+use Rattle.std.proofs.{Common.{◌<◌, ◌||◌, ◌∙◌, ◌∷◌, ◌≡◌}, lemmas.{Bool.{Decides.nat_tests, or_from, or_parts}, List.Elements.All-nil}}
 
--- with a root a plan is one that is made line by line, without `from` and without what labellers set
+-- with labels that are asked for a plan is one that is made line by line, without `from` and without what labellers set
 abbrev pub IsRooted : Option Shape → Plan → Bool → Type 0
 IsRooted None plan from_said = Unit {0}
-IsRooted (Some shape) plan from_said = IsRootIn (length plan.switches) shape × (plan.shape ≡ Hand) × (from_said ≡ false) × IsUnset plan
+IsRooted (Some shape) plan from_said = IsRootIn (length plan.switches) shape × (plan.shape ≡ Hand) × (from_said ≡ false) × IsUnsetFor shape plan
 
 -- the lines so far give a plan; and unless they said where a range begins, ranges follow one another
 pub record IsDraft (draft : Draft) : Type 0 where
@@ -37,8 +37,22 @@ no_root o is = search arith
 root_asked : (style : List ℕ) (root n : ℕ) → root < n → IsRootIn n (labelled_shape style root)
 root_asked style root n inside = search (arith, bytes_eq, codes)
 
+not_both : {b : Bool} → b ≡ false → b ≡ true → ⊥
+not_both one other = search arith
+
+-- and that such a shape excludes groups where the word asks for a tree's labels
+groups_asked : (style : List ℕ) (root : ℕ) (has : Bool) → (has && bytes_eq style (codes "tree")) ≡ false → excludes_groups (Some (labelled_shape style root)) ≡ true → has ≡ false
+groups_asked style root has apart is = by_style (bytes_eq style (codes "tree")) has apart is
+  where
+    by_style : (tree has : Bool) → (has && tree) ≡ false → excludes_groups (Some (if tree then Tree root else UpDown (Some root))) ≡ true → has ≡ false
+    by_style true true apart is = apart
+    by_style true false apart is = refl
+    by_style false has apart is = absurd (not_both refl is)
+
 rooted_beside : (o : Option Shape) (plan next : Plan) (b : Bool) → IsBeside plan next → IsRooted o plan b → IsRooted o next b
-rooted_beside o plan next b beside is = search (arith, root_in_more)
+rooted_beside None plan next b beside is = tt
+rooted_beside (Some shape) plan next b beside is =
+    (root_in_more _ _ shape beside.0.more is.0, beside.0.shape ∙ is.1, is.2, (beside.1.alone is.3.0, λ closed. beside.1.ungrouped (is.3.1 closed)))
 
 counted_next : (draft next : Draft) → IsDraft draft → next.from_said ≡ draft.from_said → IsNext draft.plan next.plan
     → next.from_said ≡ false → next.plan.shape ≡ Hand → next_first next.plan.terminals ≡ total_count next.plan.terminals
@@ -48,7 +62,16 @@ counted_next draft next all from is none hand = subst (λ terminals. next_first 
 beside : (draft next : Draft) → IsDraft draft → next.labels ≡ draft.labels → next.from_said ≡ draft.from_said → IsBeside draft.plan next.plan → IsDraft next
 beside draft next all root from is = search (arith, counted_next, rooted_beside)
 
--- a line that does, where no root was said
+-- a line by which a link continues a group, where that goes with the labels
+rooted_grouped : (o : Option Shape) (plan next : Plan) (b : Bool) → excludes_groups o ≡ false → IsNext plan next → (HasGroupsAlone plan → HasGroupsAlone next) → IsRooted o plan b → IsRooted o next b
+rooted_grouped None plan next b allowed is alone rooted = tt
+rooted_grouped (Some shape) plan next b allowed is alone rooted =
+    (root_in_more _ _ shape is.more rooted.0, is.shape ∙ rooted.1, rooted.2, (alone rooted.3.0, λ closed. absurd (not_both allowed closed)))
+
+grouping : (draft next : Draft) → IsDraft draft → next.labels ≡ draft.labels → next.from_said ≡ draft.from_said → excludes_groups draft.labels ≡ false → IsNext draft.plan next.plan → (HasGroupsAlone draft.plan → HasGroupsAlone next.plan) → IsDraft next
+grouping draft next all root from allowed is alone = search (arith, counted_next, rooted_grouped)
+
+-- a line that sets something else at a link, where no labels are asked for
 settings : (draft next : Draft) → IsDraft draft → next.labels ≡ None → next.from_said ≡ draft.from_said → IsNext draft.plan next.plan → IsDraft next
 settings draft next all none from is = search (arith, counted_next)
 
@@ -56,15 +79,22 @@ not_said : (from : Option (List ℕ)) → is_some from ≡ false → from ≡ No
 not_said from is = search arith
 
 rooted_hosting : (o : Option Shape) (plan next : Plan) (b : Bool) (from : Option (List ℕ)) → (is_some o && is_some from) ≡ false → IsHosting from plan next → IsRooted o plan b → IsRooted o next (b || is_some from)
-rooted_hosting o plan next b from apart hosting is = search (arith, hosting, or_from)
+rooted_hosting None plan next b from apart hosting is = tt
+rooted_hosting (Some shape) plan next b from apart hosting is = (
+  subst (λ (switches : List (List ℕ)). IsRootIn (length switches) shape) (sym hosting.switches) is.0,
+  hosting.shape ∙ is.1,
+  or_from b (is_some from) is.2 apart,
+  (hosting.unset.alone is.3.0, λ closed. hosting.unset.ungrouped (is.3.1 closed)),
+)
 
 hosting : (draft : Draft) (plan : Plan) (from : Option (List ℕ)) → IsDraft draft → (is_some draft.labels && is_some from) ≡ false → IsHosting from draft.plan plan → IsDraft (record draft { plan = plan; from_said = draft.from_said || is_some from })
 hosting draft plan from all apart is = search (arith, or_parts, not_said, rooted_hosting)
 
-rooted_nowhere : (o : Option Shape) (plan next : Plan) (b : Bool) → plan.switches ≡ [] → IsRooted o plan b → IsRooted o next b
-rooted_nowhere o plan next b none is = search (arith, root_in_none)
+rooted_nowhere : (o : Option Shape) (next : Plan) (b : Bool) → is_some o ≡ false → IsRooted o next b
+rooted_nowhere None next b none = tt
+rooted_nowhere (Some shape) next b none = absurd (not_both none refl)
 
-filled : (draft : Draft) (plan : Plan) → IsDraft draft → draft.plan.switches ≡ [] → IsPlan plan × is_by_hand plan.shape ≡ false → IsDraft (record draft { plan = plan })
+filled : (draft : Draft) (plan : Plan) → IsDraft draft → is_some draft.labels ≡ false → IsPlan plan × is_by_hand plan.shape ≡ false → IsDraft (record draft { plan = plan })
 filled draft plan all none is = search (arith, rooted_nowhere)
 
 -- Lines
@@ -86,22 +116,44 @@ module _ (draft : Draft) (is_plain : Bool) (all : IsDraft draft) where
       by_range (Err fault) hand apart sound = all
       by_range (Ok range) hand apart sound = hosting draft _ range.1 all apart (terminal_kept draft is_plain all.kept name at range _ hand sound)
 
-  label-kept : (style name : List ℕ) → Keeps Keyword.Label (style ∷ name ∷ [])
-  label-kept style name sound =
-      let parts = or_parts (not (is_by_hand draft.plan.shape)) (draft.from_said || has_settings draft.plan) (sound PlanFaultKind.MixedStyle) in
-      let rest = or_parts draft.from_said (has_settings draft.plan) parts.1 in
-      let set = or_parts (has_some draft.plan.continues) (has_some draft.plan.bases || (has_some draft.plan.rows || has_some draft.plan.randoms)) rest.1 in
-      let tables = or_parts (has_some draft.plan.bases) (has_some draft.plan.rows || has_some draft.plan.randoms) set.1 in
+  -- what doesn't go with `label` isn't there
+  label_parts : (rest : List (List ℕ)) → (not (is_by_hand draft.plan.shape) || (draft.from_said || (has_tables draft.plan || (has_some draft.plan.continues && asks_tree rest)))) ≡ false
+      → (draft.plan.shape ≡ Hand) × (draft.from_said ≡ false) × HasGroupsAlone draft.plan × ((has_some draft.plan.continues && asks_tree rest) ≡ false)
+  label_parts rest mixed =
+      let parts = or_parts (not (is_by_hand draft.plan.shape)) (draft.from_said || (has_tables draft.plan || (has_some draft.plan.continues && asks_tree rest))) mixed in
+      let said = or_parts draft.from_said (has_tables draft.plan || (has_some draft.plan.continues && asks_tree rest)) parts.1 in
+      let set = or_parts (has_tables draft.plan) (has_some draft.plan.continues && asks_tree rest) said.1 in
+      let tables = or_parts (has_some draft.plan.bases) (has_some draft.plan.rows || has_some draft.plan.randoms) set.0 in
       let last = or_parts (has_some draft.plan.rows) (has_some draft.plan.randoms) tables.1 in
-      let unset : IsUnset draft.plan = record {
-        continues = has_none draft.plan.continues set.0;
+      let alone : HasGroupsAlone draft.plan = record {
         bases = has_none draft.plan.bases tables.0;
         rows = has_none draft.plan.rows last.0;
         randoms = has_none draft.plan.randoms last.1;
       } in
+      (hand_kept draft is_plain all.kept parts.0, said.0, alone, set.1)
+
+  -- a line by which a link continues a group
+  continue-kept : (at : List ℕ) → Keeps Keyword.Continue (at ∷ [])
+  continue-kept at sound =
+      let parts = or_parts (not (is_by_hand draft.plan.shape)) (excludes_groups draft.labels) (sound PlanFaultKind.MixedStyle) in
+      grouping draft _ all refl refl parts.1 (continue_kept draft is_plain all.kept at (hand_kept draft is_plain all.kept parts.0) sound) (continue_alone draft is_plain all.kept at)
+
+  label-kept : (style name : List ℕ) → Keeps Keyword.Label (style ∷ name ∷ [])
+  label-kept style name sound =
+      let parts = label_parts (style ∷ name ∷ []) (sound PlanFaultKind.MixedStyle) in
       let root = switch_said draft.plan name in
       let inside : root < length draft.plan.switches = switch_inside draft.plan name (or_parts _ _ (sound PlanFaultKind.UnknownName)).0 in
-      record { kept = all.kept; counted = all.counted; rooted = (root_asked style root (length draft.plan.switches) inside, hand_kept draft is_plain all.kept parts.0, rest.0, unset) }
+      record {
+        kept = all.kept;
+        counted = all.counted;
+        rooted = (root_asked style root (length draft.plan.switches) inside, parts.0, parts.1, (parts.2, λ closed. has_none draft.plan.continues (groups_asked style root (has_some draft.plan.continues) parts.3 closed)));
+      }
+
+  -- a line that names no root
+  ask-kept : (style : List ℕ) → Keeps Keyword.Label (style ∷ [])
+  ask-kept style sound =
+      let parts = label_parts (style ∷ []) (sound PlanFaultKind.MixedStyle) in
+      record { kept = all.kept; counted = all.counted; rooted = (tt, parts.0, parts.1, (parts.2, λ closed. absurd (not_both refl closed))) }
 
   keyword_kept : (k : Keyword) (rest : List (List ℕ)) → Keeps k rest
   keyword_kept Keyword.Switch (name ∷ []) sound = beside draft _ all refl refl (switch_kept draft is_plain all.kept name sound)
@@ -109,18 +161,19 @@ module _ (draft : Draft) (is_plain : Bool) (all : IsDraft draft) where
   keyword_kept Keyword.Wire (here ∷ there ∷ []) sound = beside draft _ all refl refl (wire_kept draft is_plain all.kept here there sound)
   keyword_kept Keyword.Header (bytes ∷ []) sound = beside draft _ all refl refl (header_kept draft is_plain all.kept bytes sound)
   keyword_kept Keyword.Buffer (size ∷ []) sound = beside draft _ all refl refl (buffer_kept draft is_plain all.kept size sound)
-  keyword_kept Keyword.Continue (at ∷ []) sound = setting _ (sound PlanFaultKind.MixedStyle) refl refl (λ hand. continue_kept draft is_plain all.kept at hand sound)
+  keyword_kept Keyword.Continue (at ∷ []) sound = continue-kept at sound
   keyword_kept Keyword.Delete (name ∷ []) sound = beside draft _ all refl refl (delete_kept draft is_plain all.kept name sound)
   keyword_kept Keyword.Base (at ∷ base ∷ []) sound = setting _ (sound PlanFaultKind.MixedStyle) refl refl (λ hand. base_kept draft is_plain all.kept at base hand sound)
   keyword_kept Keyword.Row (at ∷ limit ∷ select ∷ []) sound = setting _ (sound PlanFaultKind.MixedStyle) refl refl (λ hand. row_kept draft is_plain all.kept at limit select hand sound)
   keyword_kept Keyword.Random (at ∷ base ∷ range ∷ []) sound = setting _ (sound PlanFaultKind.MixedStyle) refl refl (λ hand. random_kept draft is_plain all.kept at base range hand sound)
   keyword_kept Keyword.Label (style ∷ name ∷ []) sound = label-kept style name sound
+  keyword_kept Keyword.Label (style ∷ []) sound = ask-kept style sound
   keyword_kept Keyword.Mesh (width ∷ height ∷ terminals ∷ []) sound =
-      let none = has_none draft.plan.switches (sound PlanFaultKind.MixedStyle) in
-      filled draft _ all none (mesh_kept draft is_plain all.kept width height terminals none sound)
+      let parts = or_parts (has_some draft.plan.switches) (is_some draft.labels) (sound PlanFaultKind.MixedStyle) in
+      filled draft _ all parts.1 (mesh_kept draft is_plain all.kept width height terminals (has_none draft.plan.switches parts.0) sound)
   keyword_kept Keyword.Cube (dimensions ∷ terminals ∷ []) sound =
-      let none = has_none draft.plan.switches (sound PlanFaultKind.MixedStyle) in
-      filled draft _ all none (cube_kept draft is_plain all.kept dimensions terminals none sound)
+      let parts = or_parts (has_some draft.plan.switches) (is_some draft.labels) (sound PlanFaultKind.MixedStyle) in
+      filled draft _ all parts.1 (cube_kept draft is_plain all.kept dimensions terminals (has_none draft.plan.switches parts.0) sound)
   -- too few words or too many: nothing is added
   keyword_kept k rest sound = all
 

@@ -5,7 +5,7 @@ use Rattle.c104_describe.specs.PlanLines.{is_from_to, keyword_parts, names_port,
 use Rattle.c104_describe.specs.{PlanLines.{selected_link, switch_said, terminal_parts, value_said}, PlanWords.Keyword}
 use Rattle.{c104_interval.specs.declared.intervals.TheConstants.ROWS, c104_plan.proofs.{LayoutNumbers.power_small, PlanKept.with_base}}
 use Rattle.c104_plan.proofs.PlanKept.{with_buffer, with_continue, with_delete, with_header, with_random, with_row, with_switch}
-use Rattle.c104_plan.{proofs.PlanKept.{with_terminal, with_wire}, specs.Plans.{IsPlan, IsPlanSelect, IsPlanWire, IsUnset, Plan}}
+use Rattle.c104_plan.{proofs.PlanKept.{with_terminal, with_wire}, specs.Plans.{HasGroupsAlone, IsPlan, IsPlanSelect, IsPlanWire, Plan}}
 use Rattle.c104_plan.specs.Plans.{is_buffer_size, is_continued, is_deleted, is_linked, label_count, last_link, most_header_bytes}
 use Rattle.c104_plan.specs.{Plans.{most_terminals, next_first, rows_of, switch_number, terminal_number, total_count}, Ports.IsSwitchPort}
 use Rattle.c104_plan.specs.{Ports.is_any_at, TextWords.read_number, declared.plans.{PlanBase.PlanBase, PlanRandom.PlanRandom}}
@@ -97,20 +97,28 @@ pub record IsNext (plan next : Plan) : Type 0 where
   pub more : length plan.switches ≤ length next.switches
   pub terminals : next.terminals ≡ plan.terminals
 
+-- what is set at links stays
+pub record IsSetAs (plan next : Plan) : Type 0 where
+  pub alone : HasGroupsAlone plan → HasGroupsAlone next
+  pub ungrouped : plan.continues ≡ [] → next.continues ≡ []
+
 -- and which sets nothing at a link
 abbrev pub IsBeside : Plan → Plan → Type 0
-IsBeside plan next = IsNext plan next × (IsUnset plan → IsUnset next)
+IsBeside plan next = IsNext plan next × IsSetAs plan next
 
 -- a plan after one more terminal's line
 pub record IsHosting (from : Option (List ℕ)) (plan next : Plan) : Type 0 where
   pub kept : IsPlan next
   pub shape : next.shape ≡ plan.shape
   pub switches : next.switches ≡ plan.switches
-  pub unset : IsUnset plan → IsUnset next
+  pub unset : IsSetAs plan next
   pub counted : from ≡ None → next_first plan.terminals ≡ total_count plan.terminals → next_first next.terminals ≡ total_count next.terminals
 
-same_unset : (plan next : Plan) → next.continues ≡ plan.continues → next.bases ≡ plan.bases → next.rows ≡ plan.rows → next.randoms ≡ plan.randoms → IsUnset plan → IsUnset next
-same_unset plan next continues bases rows randoms unset = search arith
+same_unset : (plan next : Plan) → next.continues ≡ plan.continues → next.bases ≡ plan.bases → next.rows ≡ plan.rows → next.randoms ≡ plan.randoms → IsSetAs plan next
+same_unset plan next continues bases rows randoms = record {
+  alone = λ is. record { bases = bases ∙ is.bases; rows = rows ∙ is.rows; randoms = randoms ∙ is.randoms };
+  ungrouped = λ none. continues ∙ none;
+}
 
 next_first-pushed : (terminals : List Terminal) (t : Terminal) → next_first (terminals ++ t ∷ []) ≡ t.first + t.count
 next_first-pushed [] t = refl
@@ -202,6 +210,9 @@ module _ (draft : Draft) (is_plain : Bool) (kept : IsPlan draft.plan) where
         next_by _ (with_wire plan kept w (by_hand plan.shape (sound PlanFaultKind.MixedStyle)) is_wire (rw differ refl) (port_free plan here used.0 (is_linked plan) linked.0) (port_free plan there far_used.0 (is_linked plan) (or_parts _ _ linked.1).0)) refl refl refl,
         same_unset plan _ refl refl refl refl,
       )
+
+  pub continue_alone : (at : List ℕ) → HasGroupsAlone plan → HasGroupsAlone (after Keyword.Continue (at ∷ []))
+  continue_alone at alone = record { bases = alone.bases; rows = alone.rows; randoms = alone.randoms }
 
   pub continue_kept : (at : List ℕ) → plan.shape ≡ Hand → IsRead Keyword.Continue (at ∷ []) → IsNext plan (after Keyword.Continue (at ∷ []))
   continue_kept at hand sound =

@@ -1,25 +1,30 @@
 -- A plan to be labelled from a root keeps what every plan does.
 use Rattle.c104_plan.{proofs.{NamesKept.same_names, PlanRanges.next_first-le}, specs.{PlanParts.without_first, Plans.AreTerminals}}
-use Rattle.c104_plan.specs.Plans.{IsOfShape, IsPlan, IsRange, IsTreePlan, IsUnset, Plan, host_port, next_first, total_count}
-use Rattle.c104_plan.specs.{Ports.IsSwitchPort, declared.plans.Shape.{Shape, TheVariants.{Cube, Hand, Mesh, Tree, UpDown}}}
-use Rattle.{c104_plan.specs.declared.plans.Terminal.Terminal, std.proofs.Common.{List, [], ap, arith, length, map, refl, ℕ, ◌+◌, ◌<◌, ◌∷◌}}
-use Rattle.std.proofs.{Common.{◌≡◌, ◌≤◌}, lemmas.{List.{Elements.{All-map, All-weaker}, length-map}, Simd.map-map}}
+use Rattle.c104_plan.specs.Plans.{HasGroupsAlone, IsNamedIn, IsOfShape, IsPlan, IsRange, IsTreePlan, IsUnset, IsUpDownPlan, Plan, host_port}
+use Rattle.c104_plan.specs.{Plans.{next_first, total_count}, Ports.IsSwitchPort, declared.plans.Shape.{Shape, TheVariants.{Cube, Hand}}}
+use Rattle.{c104_plan.specs.declared.plans.{Shape.TheVariants.{Mesh, Tree, UpDown}, Terminal.Terminal}, std.proofs.Common.{List, Option}}
+use Rattle.std.proofs.{Common.{Some, [], ap, arith, length, map, refl, true, ℕ, ◌+◌, ◌<◌, ◌∷◌, ◌≡◌, ◌≤◌}, lemmas.List.Elements.All-map}
+use Rattle.std.proofs.lemmas.{List.{Elements.All-weaker, length-map}, Simd.map-map}
+use Rattle.c104_describe.specs.PlanDrafts.excludes_groups
 
 -- a plan of so many switches is labelled as this shape from one of them
 abbrev pub IsRootIn : ℕ → Shape → Type 0
 IsRootIn n Hand = ⊥
 IsRootIn n (Tree root) = root < n
-IsRootIn n (UpDown root) = root < n
+IsRootIn n (UpDown root) = IsNamedIn n root
 IsRootIn n (Mesh w h p) = ⊥
 IsRootIn n (Cube d p) = ⊥
 
 -- and so is one of more
-pub root_in_more : (n m : ℕ) (shape : Shape) → n ≤ m → IsRootIn n shape → IsRootIn m shape
-root_in_more n m shape le is = search arith
+named_in_more : (n m : ℕ) (root : Option ℕ) → n ≤ m → IsNamedIn n root → IsNamedIn m root
+named_in_more n m root le is = search arith
 
--- but none of no switches
-pub root_in_none : (n : ℕ) (shape : Shape) → n ≡ 0 → IsRootIn n shape → ⊥
-root_in_none n shape none is = search arith
+pub root_in_more : (n m : ℕ) (shape : Shape) → n ≤ m → IsRootIn n shape → IsRootIn m shape
+root_in_more n m shape le is = search (arith, named_in_more)
+
+-- nothing but groups is set at its links, and these too only where they go with the labels
+abbrev pub IsUnsetFor : Shape → Plan → Type 0
+IsUnsetFor shape plan = HasGroupsAlone plan × (excludes_groups (Some shape) ≡ true → plan.continues ≡ [])
 
 total_same : (terminals : List Terminal) → total_count (map without_first terminals) ≡ total_count terminals
 total_same [] = refl
@@ -49,14 +54,19 @@ module _ (plan : Plan) (kept : IsPlan plan) where
   unfolding counts asked
   tree_plan shape root inside counted unset = search (arith, asked, All-map, total_same, next_first-le)
 
-  of_root : (shape : Shape) → IsRootIn (length plan.switches) shape → next_first plan.terminals ≡ total_count plan.terminals → IsUnset plan → IsOfShape shape (asked shape)
+  up_down_plan : (root : Option ℕ) → IsNamedIn (length plan.switches) root → next_first plan.terminals ≡ total_count plan.terminals → HasGroupsAlone plan → IsUpDownPlan root (asked (UpDown root))
+  unfolding counts asked
+  up_down_plan root inside counted unset = search (arith, asked, All-map, total_same, next_first-le)
+
+  of_root : (shape : Shape) → IsRootIn (length plan.switches) shape → next_first plan.terminals ≡ total_count plan.terminals → IsUnsetFor shape plan → IsOfShape shape (asked shape)
   unfolding counts asked
   of_root Hand inside counted unset = absurd inside
-  of_root (Tree root) inside counted unset = tree_plan (Tree root) root inside counted unset
-  of_root (UpDown root) inside counted unset = tree_plan (UpDown root) root inside counted unset
+  of_root (Tree root) inside counted unset =
+      tree_plan (Tree root) root inside counted (record { continues = unset.1 refl; bases = unset.0.bases; rows = unset.0.rows; randoms = unset.0.randoms })
+  of_root (UpDown root) inside counted unset = up_down_plan root inside counted unset.0
   of_root (Mesh w h p) inside counted unset = absurd inside
   of_root (Cube d p) inside counted unset = absurd inside
 
-  pub rooted_kept : (shape : Shape) → IsRootIn (length plan.switches) shape → next_first plan.terminals ≡ total_count plan.terminals → IsUnset plan → IsPlan (record plan { shape = shape; terminals = map without_first plan.terminals })
+  pub rooted_kept : (shape : Shape) → IsRootIn (length plan.switches) shape → next_first plan.terminals ≡ total_count plan.terminals → IsUnsetFor shape plan → IsPlan (record plan { shape = shape; terminals = map without_first plan.terminals })
   unfolding counts asked
   rooted_kept shape inside counted unset = search (arith, asked, of_root, same_names, counts_are, map-map, how_many)

@@ -30,7 +30,7 @@ module _ (plan : Plan) (kept : IsPlan plan) (shape : plan.shape ≡ Hand) where
       read_kind switch_words (λ done. draft_with false None (with_switches plan kept done)) plan.switches (switch_step plan kept hand) n [] plan.switches (map (terminal_words plan) plan.terminals ++ (map (wire_words plan) plan.wires ++ lines_after_network plan)) refl
       ∙ read_kind (terminal_words plan) (λ done. draft_by_hand done (with_terminals plan kept done)) plan.terminals (λ done t more is. terminal_step plan kept done t more is hand) at_terminals [] plan.terminals (map (wire_words plan) plan.wires ++ lines_after_network plan) refl
       ∙ read_kind (wire_words plan) (λ done. draft_with said None (with_wires plan kept done)) plan.wires (wire_step plan kept said hand) at_wires [] plan.wires (lines_after_network plan) refl
-      ∙ read_kind (continue_words plan) (λ done. draft_with said None (with_continues plan kept done)) plan.continues (continue_step plan kept said hand) at_continues [] plan.continues (lines_after_continues plan) refl
+      ∙ read_kind (continue_words plan) (λ done. draft_with said None (with_continues plan kept done)) plan.continues (continue_step plan kept said None refl hand) at_continues [] plan.continues (lines_after_continues plan) refl
       ∙ read_kind (delete_words plan) (λ done. draft_with said None (with_deletes plan kept done)) plan.deletes (delete_step plan kept said None) at_deletes [] plan.deletes (lines_after_deletes plan) refl
       ∙ read_kind (base_words plan) (λ done. draft_with said None (with_bases plan kept done)) plan.bases (base_step plan kept said hand) at_bases [] plan.bases (lines_after_bases plan) refl
       ∙ read_kind (row_words plan) (λ done. draft_with said None (with_rows plan kept done)) plan.rows (row_step plan kept said hand) at_rows [] plan.rows (lines_after_rows plan) refl

@@ -1,5 +1,5 @@
 -- What is printed of a mesh or a cube is read back.
-use Rattle.c104_describe.proofs.{PrintedDeletes.{deletes_alone, deletes_read}, PrintedNumbers.{number-decimal, value-decimal}}
+use Rattle.c104_describe.proofs.{PrintedDeletes.{deletes_alone, deletes_read, groups_alone}, PrintedNumbers.{number-decimal, value-decimal}}
 use Rattle.c104_describe.proofs.{PrintedParts.lines_after_network, PrintedSteps.{draft_with, with_deletes}, PrintedText.read_lines_of_words}
 use Rattle.c104_describe.specs.{LineFaults.read_plan_words, PlanLines.filled_plan, PlanPrint.{cube_words, mesh_words}}
 use Rattle.{c104_describe.specs.PlanText.{draft_after_line, plan_of_draft}, c104_plan.specs.Layouts.{IsCube, IsMesh, Layout, cube, mesh}}
@@ -21,8 +21,8 @@ module _ (plan : Plan) (kept : IsPlan plan) where
         → plan_of_draft (read_lines_of_words n (words ∷ lines_after_network plan) (draft_with false None begun)) ≡ Ok plan
     read_filled n words said =
         ap (λ r. plan_of_draft (draft_after_line n r (λ next. read_lines_of_words (n + 1) (lines_after_network plan) next))) said
-        ∙ (λ i. plan_of_draft (read_lines_of_words (n + 1) (deletes_alone plan kept is.unset i) (draft_with false None (made i))))
-        ∙ ap plan_of_draft (deletes_read plan kept is.unset (n + 1) false None)
+        ∙ (λ i. plan_of_draft (read_lines_of_words (n + 1) (deletes_alone plan kept (groups_alone plan is.unset) is.unset.continues i) (draft_with false None (made i))))
+        ∙ ap plan_of_draft (deletes_read plan kept (groups_alone plan is.unset) (n + 1) false None)
 
   pub read_mesh : (w h p : ℕ) → plan.shape ≡ Mesh w h p → IsMesh w h p → IsFilled (mesh w h) p plan → (n : ℕ) → plan_of_draft (read_lines_of_words n (mesh_words w h p ∷ lines_after_network plan) (draft_with false None begun)) ≡ Ok plan
   read_mesh w h p is_shape sizes is n =

@@ -2,13 +2,14 @@
 use Rattle.c104_describe.proofs.{PrintedByHand.read_by_hand, PrintedFills.{read_cube, read_mesh}, PrintedNumbers.number-decimal}
 use Rattle.c104_describe.proofs.{PrintedNumbers.{read_number-decimal, value-decimal}, PrintedParts.{lines_after_network, lines_by_kinds}}
 use Rattle.c104_describe.proofs.{PrintedParts.plan_lines-by_kinds, PrintedSteps.draft_with, PrintedText.{lines_of, read_lines_of_words}}
-use Rattle.c104_describe.proofs.{PrintedText.read_sentences, PrintedTrees.read_tree, PrintedWords.{small_buffer, words_plan}}
-use Rattle.c104_describe.specs.{LineFaults.read_plan_words, PlanFaults.fault_at, PlanPrint.{buffer_words, header_words, network_lines}}
-use Rattle.c104_describe.specs.{PlanPrint.{plan_text, text_of}, PlanText.{empty_draft, plan_of_draft, read_description, read_plan_lines}}
-use Rattle.{c104_describe.specs.declared.faults.PlanFaultKind.TheVariants.TooLong, c104_plan.specs.{PlanParts.empty_plan, Plans.IsOfShape}}
-use Rattle.c104_plan.specs.{Plans.{IsPlan, Plan}, TextCut.{lines, most_bytes}, declared.plans.Shape.{Shape, TheVariants.{Cube, Hand, Mesh}}}
-use Rattle.{c104_plan.specs.declared.plans.Shape.TheVariants.{Tree, UpDown}, std.proofs.Common.{Err, List, None, Ok, ap, arith, false}}
-use Rattle.std.proofs.{Common.{if◌then◌else◌, length, nat_le, subst, true, ℕ, ◌++◌, ◌∙◌, ◌≡◌, ◌≤◌}, lemmas.Bool.Decides.nat_tests}
+use Rattle.c104_describe.proofs.{PrintedText.read_sentences, PrintedTrees.{read_tree, read_up_down}, PrintedWords.small_buffer}
+use Rattle.c104_describe.{proofs.PrintedWords.words_plan, specs.{LineFaults.read_plan_words, PlanFaults.fault_at, PlanPrint.buffer_words}}
+use Rattle.c104_describe.specs.{PlanPrint.{header_words, network_lines, plan_text, text_of}, PlanText.{empty_draft, plan_of_draft}}
+use Rattle.c104_describe.specs.{PlanText.{read_description, read_plan_lines}, declared.faults.PlanFaultKind.TheVariants.TooLong}
+use Rattle.c104_plan.specs.{PlanParts.empty_plan, Plans.{IsOfShape, IsPlan, Plan}, TextCut.{lines, most_bytes}, declared.plans.Shape.Shape}
+use Rattle.{c104_plan.specs.declared.plans.Shape.TheVariants.{Cube, Hand, Mesh, Tree, UpDown}, std.proofs.Common.{Err, List, None, Ok, ap}}
+use Rattle.std.proofs.Common.{arith, false, if◌then◌else◌, length, nat_le, subst, true, ℕ, ◌++◌, ◌∙◌, ◌≡◌, ◌≤◌}
+use Rattle.std.proofs.lemmas.Bool.Decides.{nat_tests}
 
 module _ (plan : Plan) (kept : IsPlan plan) where
   header_read : read_plan_words empty_draft true (header_words plan.header) ≡ Ok (record { plan = record empty_plan { header = plan.header }; header_said = true; buffer_said = false; from_said = false; labels = None })
@@ -20,8 +21,8 @@ module _ (plan : Plan) (kept : IsPlan plan) where
   -- the network, by the plan's shape, and what is behind it
   network_read : (shape : Shape) → plan.shape ≡ shape → IsOfShape shape plan → plan_of_draft (read_lines_of_words 3 (network_lines plan shape ++ lines_after_network plan) (draft_with false None (record empty_plan { header = plan.header; cap = plan.cap }))) ≡ Ok plan
   network_read Hand is_shape is = read_by_hand plan kept is_shape 3
-  network_read (Tree root) is_shape is = read_tree plan kept false root is_shape is 3
-  network_read (UpDown root) is_shape is = read_tree plan kept true root is_shape is 3
+  network_read (Tree root) is_shape is = read_tree plan kept root is_shape is 3
+  network_read (UpDown root) is_shape is = read_up_down plan kept root is_shape is 3
   network_read (Mesh w h p) is_shape is = read_mesh plan kept w h p is_shape is.0 is.1 3
   network_read (Cube d p) is_shape is = read_cube plan kept d p is_shape is.0 is.1 3
 

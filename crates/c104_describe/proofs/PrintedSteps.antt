@@ -2,19 +2,20 @@
 use Rattle.c104_describe.proofs.DistinctPlaces.{All-here, distinct_back, distinct_front, distinct_mapped, fresh, position_at}
 use Rattle.c104_describe.proofs.{PlanLinesKept.same_switch, PrintedNumbers.{number-decimal, value-decimal}, PrintedPorts.cut-port}
 use Rattle.c104_describe.{proofs.PrintedPorts.{link-good, link-port, name-port, select-good, select-is}, specs.LineFaults.read_plan_words}
-use Rattle.c104_describe.specs.{PlanDrafts.{Draft, is_by_hand}, PlanLines.{is_bad_number, is_from_to, is_one_dot, port_link, port_name}}
-use Rattle.c104_describe.specs.{PlanLines.value_said, PlanPrint.{base_words, continue_words, delete_words, random_words, row_words}}
-use Rattle.{c104_describe.specs.PlanPrint.{switch_words, terminal_words, wire_words}, c104_interval.specs.declared.intervals.Select.Select}
-use Rattle.c104_plan.{proofs.PortLemmas.is_port-refl, specs.{Distinctness.AreDistinct, PlanParts.has_some, Plans.{IsLaterPort, IsPlan}}}
-use Rattle.c104_plan.specs.Plans.{IsPlanSelect, IsPlanWire, IsRange, Plan, host_port, is_deleted, is_linked, is_row_of, is_taken}
-use Rattle.c104_plan.specs.Plans.{label_count, last_link, linked_ports, names, rows_of, switch_number, terminal_number}
-use Rattle.c104_plan.specs.{PortTexts.{port_text, terminal_name}, Ports.{IsSwitchPort, both_ends, is_any_at, is_port}, TextWords.dots}
-use Rattle.c104_plan.specs.{TextWords.is_name, declared.plans.{PlanBase.PlanBase, PlanRandom.PlanRandom, PlanRow.PlanRow, Shape.Shape}}
-use Rattle.{c104_plan.specs.declared.{plans.Terminal.Terminal, ports.{Port.Port, Wire.Wire}}, std.proofs.Common.{All, Bool, List, None, Ok}}
-use Rattle.std.proofs.Common.{Option, Some, [], ap, append-nil, append_assoc, arith, bytes_eq, cond, false, filter, get_or, length}
-use Rattle.std.proofs.Common.{length-append, map, nat_lt, position, refl, subst, sym, true, ℕ, ◌++◌, ◌+◌, ◌<◌, ◌==◌, ◌||◌, ◌∙◌, ◌∷◌, ◌≡◌}
-use Rattle.std.proofs.{Common.{◌≢◌, ◌≤◌}, lemmas.{Bool.{Decides.nat_tests, or_parts}, List.{Elements.filter-append, Folds.list_any-append}}}
-use Rattle.std.proofs.lemmas.{List.{get_or-append-add, get_or-map, get_or_append_left, length-map, map-append}, Option.slice_get-get_or}
+use Rattle.c104_describe.specs.{PlanDrafts.{Draft, excludes_groups, is_by_hand}, PlanLines.{is_bad_number, is_from_to, is_one_dot}}
+use Rattle.c104_describe.specs.{PlanLines.{port_link, port_name, value_said}, PlanPrint.{base_words, continue_words, delete_words}}
+use Rattle.c104_describe.specs.PlanPrint.{random_words, row_words, switch_words, terminal_words, wire_words}
+use Rattle.{c104_interval.specs.declared.intervals.Select.Select, c104_plan.proofs.PortLemmas.is_port-refl}
+use Rattle.c104_plan.specs.{Distinctness.AreDistinct, PlanParts.has_some, Plans.{IsLaterPort, IsPlan, IsPlanSelect, IsPlanWire, IsRange}}
+use Rattle.c104_plan.specs.Plans.{Plan, host_port, is_deleted, is_linked, is_row_of, is_taken, label_count, last_link, linked_ports, names}
+use Rattle.c104_plan.specs.{Plans.{rows_of, switch_number, terminal_number}, PortTexts.{port_text, terminal_name}, Ports.IsSwitchPort}
+use Rattle.c104_plan.specs.{Ports.{both_ends, is_any_at, is_port}, TextWords.{dots, is_name}, declared.plans.PlanBase.PlanBase}
+use Rattle.c104_plan.specs.declared.{plans.{PlanRandom.PlanRandom, PlanRow.PlanRow, Shape.Shape, Terminal.Terminal}, ports.Port.Port}
+use Rattle.{c104_plan.specs.declared.ports.Wire.Wire, std.proofs.Common.{All, Bool, List, None, Ok, Option, Some, [], ap, append-nil}}
+use Rattle.std.proofs.Common.{append_assoc, arith, bytes_eq, cond, false, filter, get_or, length, length-append, map, nat_lt, position}
+use Rattle.std.proofs.Common.{refl, subst, sym, true, ℕ, ◌++◌, ◌+◌, ◌<◌, ◌==◌, ◌||◌, ◌∙◌, ◌∷◌, ◌≡◌, ◌≢◌, ◌≤◌}
+use Rattle.std.proofs.lemmas.{Bool.{Decides.nat_tests, or_parts}, List.{Elements.filter-append, Folds.list_any-append, get_or-append-add}}
+use Rattle.std.proofs.lemmas.{List.{get_or-map, get_or_append_left, length-map, map-append}, Option.slice_get-get_or}
 use Rattle.std.{proofs.lemmas.Slice.Eq.bytes_eq-Decides, specs.{Fmt.decimal, List.list_any, Option.{option_map_or, unwrap_or}}}
 
 pub bytes_eq-refl : (xs : List ℕ) → bytes_eq xs xs ≡ true
@@ -187,20 +188,20 @@ module _ (plan : Plan) (kept : IsPlan plan) where
 
   -- Continues
 
-  continue_line : (said : Bool) → is_by_hand plan.shape ≡ true → (done : List Port) (p : Port) → IsLaterPort (length plan.switches) p → list_any (λ q. is_port q p) done ≡ false
-      → read_plan_words (draft_with said None (with_continues done)) true (continue_words plan p) ≡ Ok (draft_with said None (with_continues (done ++ p ∷ [])))
+  continue_line : (said : Bool) (labels : Option Shape) → excludes_groups labels ≡ false → is_by_hand plan.shape ≡ true → (done : List Port) (p : Port) → IsLaterPort (length plan.switches) p → list_any (λ q. is_port q p) done ≡ false
+      → read_plan_words (draft_with said labels (with_continues done)) true (continue_words plan p) ≡ Ok (draft_with said labels (with_continues (done ++ p ∷ [])))
   unfolding is_any_at switch_number
-  continue_line said hand done (Port.Terminal t) later free = absurd later
-  continue_line said hand done (Port.Switch s l) later free =
+  continue_line said labels allowed hand done (Port.Terminal t) later free = absurd later
+  continue_line said labels allowed hand done (Port.Switch s l) later free =
       let is : IsSwitchPort (length plan.switches) (Port.Switch s l) = (later.0, later.2) in
       let not_first = number-decimal 1 last_link l (omega (arith, later.1)) (omega (arith, later.2)) (omega (arith, later.2)) in
-      rw (port_cut s l is, port_name-is s l is, port_link-is s l is, link_good s l is, link_is s l is, not_first, port_named s l is, port_number s l is, free, hand) refl
+      rw (port_cut s l is, port_name-is s l is, port_link-is s l is, link_good s l is, link_is s l is, not_first, port_named s l is, port_number s l is, free, hand, allowed) refl
 
-  pub continue_step : (said : Bool) → is_by_hand plan.shape ≡ true → (done : List Port) (p : Port) (more : List Port) → done ++ p ∷ more ≡ plan.continues
-      → read_plan_words (draft_with said None (with_continues done)) true (continue_words plan p) ≡ Ok (draft_with said None (with_continues (done ++ p ∷ [])))
-  continue_step said hand done p more is =
+  pub continue_step : (said : Bool) (labels : Option Shape) → excludes_groups labels ≡ false → is_by_hand plan.shape ≡ true → (done : List Port) (p : Port) (more : List Port) → done ++ p ∷ more ≡ plan.continues
+      → read_plan_words (draft_with said labels (with_continues done)) true (continue_words plan p) ≡ Ok (draft_with said labels (with_continues (done ++ p ∷ [])))
+  continue_step said labels allowed hand done p more is =
       let differ : AreDistinct is_port plan.continues = distinct_mapped is_port (λ q. q) plan.continues kept.continues.once in
-      continue_line said hand done p (All-here (IsLaterPort (length plan.switches)) plan.continues done p more is kept.continues.later) (fresh is_port done p more (subst (AreDistinct is_port) (sym is) differ))
+      continue_line said labels allowed hand done p (All-here (IsLaterPort (length plan.switches)) plan.continues done p more is kept.continues.later) (fresh is_port done p more (subst (AreDistinct is_port) (sym is) differ))
 
   -- Deletes
 

@@ -2,15 +2,15 @@
 use Rattle.c104_describe.proofs.{PrintedNumbers.word-decimal, PrintedParts.lines_by_kinds, PrintedPorts.{word-name, word-port, word-select}}
 use Rattle.c104_describe.proofs.PrintedSteps.{delete_printed, name_of, port_named, port_printed, switch_named, terminal_named}
 use Rattle.c104_describe.{proofs.PrintedText.{are_words, is_word}, specs.PlanPrint.{base_words, continue_words, counted_words}}
-use Rattle.c104_describe.specs.PlanPrint.{delete_words, label_words, labelled_lines, labeller, network_lines, random_words, row_words}
-use Rattle.{c104_describe.specs.PlanPrint.{switch_words, terminal_words, wire_words}, c104_plan.specs.Plans.{IsLaterPort, IsOfShape}}
-use Rattle.c104_plan.specs.Plans.{IsPlan, IsPlanSelect, IsPlanWire, IsRange, IsTreePlan, Plan, host_port, is_buffer_size, label_count}
-use Rattle.c104_plan.specs.{PortTexts.{port_text, switch_name}, Ports.IsSwitchPort, TextWords.is_name, declared.plans.PlanBase.PlanBase}
+use Rattle.c104_describe.specs.PlanPrint.{delete_words, label_words, labelled_lines, network_lines, random_words, row_words, switch_words}
+use Rattle.{c104_describe.specs.PlanPrint.{terminal_words, wire_words}, c104_plan.specs.Plans.{IsLaterPort, IsNamedIn, IsOfShape, IsPlan}}
+use Rattle.c104_plan.specs.{Plans.{IsPlanSelect, IsPlanWire, IsRange, Plan, host_port, is_buffer_size, label_count}, PortTexts.port_text}
+use Rattle.c104_plan.specs.{PortTexts.switch_name, Ports.IsSwitchPort, TextWords.is_name, declared.plans.PlanBase.PlanBase}
 use Rattle.c104_plan.specs.declared.plans.{PlanRandom.PlanRandom, PlanRow.PlanRow, Shape.{Shape, TheVariants.{Cube, Hand, Mesh, Tree}}}
 use Rattle.c104_plan.specs.declared.{plans.{Shape.TheVariants.UpDown, Terminal.Terminal}, ports.{Port.Port, Wire.Wire}}
-use Rattle.std.proofs.Common.{All, Bool, List, [], ap, arith, false, get_or, length, map, nat_le, refl, true, ℕ, ◌&&◌, ◌++◌, ◌<◌, ◌∙◌, ◌∷◌}
-use Rattle.std.proofs.{Common.{◌≡◌, ◌≤◌}, lemmas.{Bool.{and_parts, leb-true}, List.{Elements.{All-head, All-tail}, Folds.list_all-append}}}
-use Rattle.std.{proofs.lemmas.Option.slice_get-get_or, specs.{List.list_all, Option.unwrap_or}}
+use Rattle.std.proofs.Common.{All, List, None, Option, Some, [], ap, arith, codes, get_or, length, map, nat_le, refl, true, ℕ, ◌&&◌, ◌++◌}
+use Rattle.std.proofs.{Common.{◌<◌, ◌∙◌, ◌∷◌, ◌≡◌, ◌≤◌}, lemmas.{Bool.{and_parts, leb-true}, List.Elements.{All-head, All-tail}}}
+use Rattle.std.{proofs.lemmas.{List.Folds.list_all-append, Option.slice_get-get_or}, specs.{List.list_all, Option.unwrap_or}}
 
 words_both : (xs ys : List (List (List ℕ))) → are_words xs ≡ true → are_words ys ≡ true → are_words (xs ++ ys) ≡ true
 words_both xs ys a b = list_all-append (λ ws. list_all is_word ws) xs ys ∙ (λ i. a i && b i)
@@ -68,24 +68,24 @@ module _ (plan : Plan) (kept : IsPlan plan) where
   pub root_printed : (root : ℕ) → root < length plan.switches → switch_name plan root ≡ name_of plan kept root
   root_printed root inside = ap (λ name. unwrap_or name []) (slice_get-get_or plan.switches root [] inside)
 
-  word-labeller : (up_down : Bool) → is_word (labeller up_down) ≡ true
-  word-labeller up_down = search arith
-
-  words_label : (up_down : Bool) (root : ℕ) → root < length plan.switches → list_all is_word (label_words plan up_down root) ≡ true
-  words_label up_down root inside = search (arith, root_printed, word-name, switch_named, word-labeller)
+  words_label : (style : List ℕ) (root : Option ℕ) → is_word style ≡ true → IsNamedIn (length plan.switches) root → list_all is_word (label_words plan style root) ≡ true
+  words_label style None word inside = λ i. word i && true
+  words_label style (Some root) word inside =
+      let named : is_word (switch_name plan root) ≡ true = ap is_word (root_printed root inside) ∙ word-name (name_of plan kept root) (switch_named plan kept root [] inside) in
+      λ i. word i && (named i && true)
 
   all_printed : All IsPrinted plan.terminals
   all_printed = λ k d inside. (terminal_named plan kept k d inside, kept.terminals.on_switches k d inside, kept.terminals.ranges k d inside)
 
-  words_labelled : (up_down : Bool) (root : ℕ) → IsTreePlan root plan → are_words (labelled_lines plan up_down root) ≡ true
-  words_labelled up_down root is =
-      words_both (map switch_words plan.switches ++ map (counted_words plan) plan.terminals ++ map (wire_words plan) plan.wires) (label_words plan up_down root ∷ [])
+  words_labelled : (asked : List (List ℕ)) → list_all is_word asked ≡ true → are_words (labelled_lines plan asked) ≡ true
+  words_labelled asked words =
+      words_both (map switch_words plan.switches ++ map (counted_words plan) plan.terminals ++ map (wire_words plan) plan.wires) (asked ∷ [])
       (words_both (map switch_words plan.switches ++ map (counted_words plan) plan.terminals) (map (wire_words plan) plan.wires)
       (words_both (map switch_words plan.switches) (map (counted_words plan) plan.terminals)
       (words_kind switch_words (λ name. is_name name ≡ true) words_switch plan.switches (switch_named plan kept))
       (words_kind (counted_words plan) IsPrinted words_counted plan.terminals all_printed))
       (words_kind (wire_words plan) (IsPlanWire (length plan.switches)) words_wire plan.wires kept.wires))
-      (λ i. words_label up_down root is.inside i && true)
+      (λ i. words i && true)
 
   words_network : (shape : Shape) → IsOfShape shape plan → are_words (network_lines plan shape) ≡ true
   words_network Hand is =
@@ -94,8 +94,8 @@ module _ (plan : Plan) (kept : IsPlan plan) where
       (words_kind switch_words (λ name. is_name name ≡ true) words_switch plan.switches (switch_named plan kept))
       (words_kind (terminal_words plan) IsPrinted words_terminal plan.terminals all_printed))
       (words_kind (wire_words plan) (IsPlanWire (length plan.switches)) words_wire plan.wires kept.wires)
-  words_network (Tree root) is = words_labelled false root is
-  words_network (UpDown root) is = words_labelled true root is
+  words_network (Tree root) is = words_labelled (label_words plan (codes "tree") (Some root)) (words_label (codes "tree") (Some root) refl is.inside)
+  words_network (UpDown root) is = words_labelled (label_words plan (codes "up-down") root) (words_label (codes "up-down") root refl is.inside)
   words_network (Mesh w h p) is = search (arith, word-decimal)
   words_network (Cube d p) is = search (arith, word-decimal)
 

@@ -1,9 +1,10 @@
 -- Drafts: what the lines of a description have said so far, the plan that this gives, and which further
 -- lines go with it.
-use Rattle.{c104_describe.specs.{PlanFaults.PlanFaultKind, PlanWords.{Keyword, range_words}}, c104_plan.specs.PlanParts.has_settings}
-use Rattle.c104_plan.specs.{PlanParts.{has_some, plan_of, without_first}, Plans.Plan, declared.plans.Shape.{Shape, TheVariants.Cube}}
+use Rattle.{c104_describe.specs.{PlanFaults.PlanFaultKind, PlanWords.{Keyword, range_words}}, c104_plan.specs.PlanParts.has_some}
+use Rattle.c104_plan.specs.{PlanParts.{has_tables, plan_of, without_first}, Plans.Plan, declared.plans.Shape.{Shape, TheVariants.Cube}}
 use Rattle.c104_plan.specs.declared.plans.{Shape.TheVariants.{Hand, Mesh, Tree, UpDown}, Terminal.Terminal}
-use Rattle.std.specs.Prelude.{Bool, Err, List, None, Ok, Option, Result, Some, [], false, is_some, map, not, true, ℕ, ◌&&◌, ◌||◌, ◌∷◌}
+use Rattle.std.specs.Prelude.{Bool, Err, List, None, Ok, Option, Result, Some, [], bytes_eq, codes, false, is_some, map, not, true, ℕ, ◌&&◌}
+use Rattle.std.specs.Prelude.{◌||◌, ◌∷◌}
 use Rattle.c104_describe.specs.declared.drafts.Draft as kept
 
 -- a plan, of which the shape is that of a mesh or a cube once a line gave one; whether lines have said its
@@ -44,20 +45,40 @@ says_from [] = false
 says_from (name ∷ []) = false
 says_from (name ∷ at ∷ rest) = is_begun (range_words rest)
 
+-- whether labels of this shape go up and down
+abbrev pub is_up_down : Shape → Bool
+is_up_down Hand = false
+is_up_down (Tree root) = false
+is_up_down (UpDown root) = true
+is_up_down (Mesh w h p) = false
+is_up_down (Cube d p) = false
+
+-- whether labels are asked for with which links that continue groups don't go
+abbrev pub excludes_groups : Option Shape → Bool
+excludes_groups None = false
+excludes_groups (Some shape) = not (is_up_down shape)
+
+-- whether the words behind `label` ask for a tree's labels
+abbrev pub asks_tree : List (List ℕ) → Bool
+asks_tree [] = false
+asks_tree (style ∷ rest) = bytes_eq style (codes "tree")
+
 -- whether a line, by what its first word says and the words after it, doesn't go with the lines before it:
--- `label` goes with neither `continue`, `base`, `row`, `random` nor a terminal's `from`, and `mesh` and `cube` give all
--- of a network but its headers, buffers and deletes. Each line of another kind gives or names a switch.
+-- `label` goes with neither `base`, `row`, `random` nor a terminal's `from`, and a tree's not with `continue`; and `mesh`
+-- and `cube` give all of a network but its headers, buffers and deletes. Each line of another kind but `label` gives or
+-- names a switch.
 abbrev pub is_mixed : Draft → Keyword → List (List ℕ) → Bool
 is_mixed draft Keyword.Switch rest = not (is_by_hand draft.plan.shape)
 is_mixed draft Keyword.Terminal rest = not (is_by_hand draft.plan.shape) || (is_some draft.labels && says_from rest)
 is_mixed draft Keyword.Wire rest = not (is_by_hand draft.plan.shape)
-is_mixed draft Keyword.Continue rest = not (is_by_hand draft.plan.shape) || is_some draft.labels
+is_mixed draft Keyword.Continue rest = not (is_by_hand draft.plan.shape) || excludes_groups draft.labels
 is_mixed draft Keyword.Base rest = not (is_by_hand draft.plan.shape) || is_some draft.labels
 is_mixed draft Keyword.Row rest = not (is_by_hand draft.plan.shape) || is_some draft.labels
 is_mixed draft Keyword.Random rest = not (is_by_hand draft.plan.shape) || is_some draft.labels
-is_mixed draft Keyword.Label rest = not (is_by_hand draft.plan.shape) || (draft.from_said || has_settings draft.plan)
-is_mixed draft Keyword.Mesh rest = has_some draft.plan.switches
-is_mixed draft Keyword.Cube rest = has_some draft.plan.switches
+is_mixed draft Keyword.Label rest =
+    not (is_by_hand draft.plan.shape) || (draft.from_said || (has_tables draft.plan || (has_some draft.plan.continues && asks_tree rest)))
+is_mixed draft Keyword.Mesh rest = has_some draft.plan.switches || is_some draft.labels
+is_mixed draft Keyword.Cube rest = has_some draft.plan.switches || is_some draft.labels
 is_mixed draft Keyword.Header rest = false
 is_mixed draft Keyword.Buffer rest = false
 is_mixed draft Keyword.Delete rest = false

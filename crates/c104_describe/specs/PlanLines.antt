@@ -85,7 +85,7 @@ is_labeller style = bytes_eq style (codes "tree") || bytes_eq style (codes "up-d
 
 -- the shape that is asked for by such a word, with this root
 abbrev pub labelled_shape : List ℕ → ℕ → Shape
-labelled_shape style root = if bytes_eq style (codes "tree") then Tree root else UpDown root
+labelled_shape style root = if bytes_eq style (codes "tree") then Tree root else UpDown (Some root)
 
 -- whether a number lies between two others, both included
 abbrev pub is_from_to : ℕ → ℕ → ℕ → Bool
@@ -261,6 +261,12 @@ keyword_parts draft Keyword.Label (style ∷ name ∷ []) =
     record (no_parts (record draft { labels = Some (labelled_shape style (switch_said draft.plan name)) })) {
       is_shaped = is_labeller style;
       switches = name ∷ [];
+      is_said = is_some draft.labels;
+    }
+-- `label up-down`: labels are to be up and down from a root that is found with them
+keyword_parts draft Keyword.Label (style ∷ []) =
+    record (no_parts (record draft { labels = Some (UpDown None) })) {
+      is_shaped = bytes_eq style (codes "up-down");
       is_said = is_some draft.labels;
     }
 -- `mesh w h p`: all of a mesh of w columns and h rows, with p terminals at each switch

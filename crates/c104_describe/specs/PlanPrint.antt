@@ -3,7 +3,7 @@
 use Rattle.c104_plan.specs.{Plans.{Plan, host_port}, PortTexts.{port_text, select_text, switch_name, terminal_name}}
 use Rattle.c104_plan.specs.declared.plans.{PlanBase.PlanBase, PlanRandom.PlanRandom, PlanRow.PlanRow, Shape.{Shape, TheVariants.Cube}}
 use Rattle.c104_plan.specs.declared.{plans.{Shape.TheVariants.{Hand, Mesh, Tree, UpDown}, Terminal.Terminal}, ports.{Port.Port, Wire.Wire}}
-use Rattle.std.specs.{Fmt.decimal, Prelude.{Bool, List, [], codes, false, map, true, ℕ, ◌++◌, ◌∷◌}}
+use Rattle.std.specs.{Fmt.decimal, Prelude.{List, None, Option, Some, [], codes, map, ℕ, ◌++◌, ◌∷◌}}
 
 -- words with a space (0x20) between neighbours
 abbrev pub sentence : List (List ℕ) → List ℕ
@@ -43,14 +43,10 @@ counted_words plan t =
 abbrev pub wire_words : Plan → Wire → List (List ℕ)
 wire_words plan w = codes "wire" ∷ port_text plan w.here ∷ port_text plan w.there ∷ []
 
--- the word by which labels are asked for, as a tree's or up and down
-abbrev pub labeller : Bool → List ℕ
-labeller false = codes "tree"
-labeller true = codes "up-down"
-
--- the line of a root, from which labels are made
-abbrev pub label_words : Plan → Bool → ℕ → List (List ℕ)
-label_words plan up_down root = codes "label" ∷ labeller up_down ∷ switch_name plan root ∷ []
+-- the line that asks for labels by this word, from a root if one is named
+abbrev pub label_words : Plan → List ℕ → Option ℕ → List (List ℕ)
+label_words plan style None = codes "label" ∷ style ∷ []
+label_words plan style (Some root) = codes "label" ∷ style ∷ switch_name plan root ∷ []
 
 -- the line of a mesh
 abbrev pub mesh_words : ℕ → ℕ → ℕ → List (List ℕ)
@@ -80,17 +76,17 @@ row_words plan r = codes "row" ∷ port_text plan r.port ∷ decimal r.limit ∷
 abbrev pub random_words : Plan → PlanRandom → List (List ℕ)
 random_words plan r = codes "random" ∷ port_text plan r.port ∷ decimal r.base ∷ decimal r.range ∷ []
 
--- the lines of a network that is to be labelled from a root
-abbrev pub labelled_lines : Plan → Bool → ℕ → List (List (List ℕ))
-labelled_lines plan up_down root =
-    map switch_words plan.switches ++ map (counted_words plan) plan.terminals ++ map (wire_words plan) plan.wires ++ label_words plan up_down root ∷ []
+-- the lines of a network for which labels are asked by a line
+abbrev pub labelled_lines : Plan → List (List ℕ) → List (List (List ℕ))
+labelled_lines plan asked =
+    map switch_words plan.switches ++ map (counted_words plan) plan.terminals ++ map (wire_words plan) plan.wires ++ asked ∷ []
 
 -- the lines of a network by its plan's shape, each kind in the order of its list, and what a name stands for
 -- before what names it. What a labeller gives isn't said, and of a mesh and a cube nothing but its sizes
 abbrev pub network_lines : Plan → Shape → List (List (List ℕ))
 network_lines plan Hand = map switch_words plan.switches ++ map (terminal_words plan) plan.terminals ++ map (wire_words plan) plan.wires
-network_lines plan (Tree root) = labelled_lines plan false root
-network_lines plan (UpDown root) = labelled_lines plan true root
+network_lines plan (Tree root) = labelled_lines plan (label_words plan (codes "tree") (Some root))
+network_lines plan (UpDown root) = labelled_lines plan (label_words plan (codes "up-down") root)
 network_lines plan (Mesh w h p) = mesh_words w h p ∷ []
 network_lines plan (Cube d p) = cube_words d p ∷ []
 

@@ -3,7 +3,7 @@
 //! Beside `label` ranges run on while lines are read, as if they were to be kept: so labels past 65535 are TooMany
 //! whichever of the lines comes first.
 ghost use Rattle.std.specs.Prelude.{IfOk, map, ◌≡◌};
-ghost use Rattle.c104_describe.specs.{PlanDrafts.{draft_of, finished, is_mixed, says_from}, PlanText.empty_draft};
+ghost use Rattle.c104_describe.specs.{PlanDrafts.{asks_tree, draft_of, excludes_groups, finished, is_mixed, says_from}, PlanText.empty_draft};
 ghost use Rattle.c104_plan.specs.{PlanParts.plan_of, Plans.IsPlan};
 
 use crate::words::{Keyword, read_range};
@@ -20,7 +20,7 @@ pub(crate) struct Draft {
     pub(crate) buffer_said: bool,
     /// Whether a line has said where the range of a terminal begins.
     pub(crate) from_said: bool,
-    /// The shape as which a line asks the plan to be labelled, with its root.
+    /// The shape as which a line asks the plan to be labelled, with its root if that is named.
     pub(crate) labels: Option<Shape>,
 }
 
@@ -50,11 +50,18 @@ impl Draft {
             Keyword::Header | Keyword::Buffer | Keyword::Delete => false,
             Keyword::Switch | Keyword::Wire => is_filled,
             Keyword::Terminal => is_filled || (self.labels.is_some() && says_from(rest)),
-            Keyword::Continue | Keyword::Base | Keyword::Row | Keyword::Random => {
-                is_filled || self.labels.is_some()
+            Keyword::Continue => is_filled || excludes_groups(self.labels),
+            Keyword::Base | Keyword::Row | Keyword::Random => is_filled || self.labels.is_some(),
+            Keyword::Label => {
+                let has_groups = !self.parts.continues.is_empty();
+                is_filled
+                    || self.from_said
+                    || self.parts.has_tables()
+                    || (has_groups && asks_tree(rest))
             }
-            Keyword::Label => is_filled || self.from_said || self.parts.has_settings(),
-            Keyword::Mesh | Keyword::Cube => self.parts.switches.len() != 0,
+            Keyword::Mesh | Keyword::Cube => {
+                self.parts.switches.len() != 0 || self.labels.is_some()
+            }
         }
     }
 
@@ -76,6 +83,27 @@ impl Draft {
             parts.terminals.forget_ranges();
         }
         parts
+    }
+}
+
+/// Whether labels are asked for with which links that continue groups don't go.
+fn excludes_groups(labels: Option<Shape>) -> bool
+    ensures { result ≡ excludes_groups labels }
+{
+    match labels {
+        Some(Shape::UpDown(_)) => false,
+        Some(_) => true,
+        None => false,
+    }
+}
+
+/// Whether the words behind `label` ask for a tree's labels.
+fn asks_tree(words: &[&[u8]]) -> bool
+    ensures { result ≡ asks_tree (map (λ word. word.now) words.now) }
+{
+    match words {
+        [style, ..] => *style == b"tree".as_slice(),
+        [] => false,
     }
 }
 

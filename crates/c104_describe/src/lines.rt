@@ -124,6 +124,7 @@ fn read_word(
         Keyword::Buffer => set_buffer(draft, word),
         Keyword::Continue => add_continue(draft, word),
         Keyword::Delete => add_delete(draft, word),
+        Keyword::Label => ask_labels(draft, word),
         _ => Err(PlanFaultKind::BadShape),
     }
 }
@@ -305,6 +306,21 @@ fn set_labels(draft: &mut Draft, style: &[u8], name: &[u8]) -> Result<(), PlanFa
     Ok(())
 }
 
+/// Reads `label up-down`.
+fn ask_labels(draft: &mut Draft, style: &[u8]) -> Result<(), PlanFaultKind>
+    ensures { ReadsLine result (draft_of draft.new)
+        (keyword_line (draft_of draft.old) variant.Label (style.now ∷ [])) }
+{
+    if style != b"up-down".as_slice() {
+        return Err(PlanFaultKind::BadShape);
+    }
+    if draft.labels.is_some() {
+        return Err(PlanFaultKind::Twice);
+    }
+    draft.labels = Some(Shape::UpDown(None));
+    Ok(())
+}
+
 /// Whether labels may be asked for by this word.
 fn is_labeller(style: &[u8]) -> bool
     ensures { result ≡ is_labeller style.now }
@@ -319,7 +335,7 @@ fn labelled_shape(style: &[u8], root: usize) -> Shape
     if style == b"tree".as_slice() {
         Shape::Tree(root)
     } else {
-        Shape::UpDown(root)
+        Shape::UpDown(Some(root))
     }
 }
 

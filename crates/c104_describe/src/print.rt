@@ -1,7 +1,7 @@
 //! What a plan is printed as.
 ghost use Rattle.std.specs.{Prelude.{IfOk, Ok, OnOk, [], length, map, ◌++◌, ◌∷◌, ◌≡◌, ◌≤◌}, String.string_bytes};
 ghost use Rattle.c104_describe.specs.PlanPrint.{base_words, buffer_words, continue_words, counted_words, delete_words, header_words};
-ghost use Rattle.c104_describe.specs.PlanPrint.{label_words, labelled_lines, labeller, network_lines, plan_text, random_words, row_words};
+ghost use Rattle.c104_describe.specs.PlanPrint.{label_words, labelled_lines, network_lines, plan_text, random_words, row_words};
 ghost use Rattle.c104_describe.specs.{PlanPrint.{sentence, switch_words, terminal_words, text_of, wire_words}, PlanText.read_description};
 ghost use Rattle.c104_plan.specs.{TextCut.most_bytes, declared.plans.Shape.TheVariants.Hand};
 
@@ -51,8 +51,8 @@ fn add_network(alloc: Global, text: &mut String, plan: &Plan) -> Result<(), Allo
 {
     match plan.shape() {
         Shape::Hand => add_by_hand(alloc, text, plan),
-        Shape::Tree(root) => add_labelled(alloc, text, plan, root, false),
-        Shape::UpDown(root) => add_labelled(alloc, text, plan, root, true),
+        Shape::Tree(root) => add_labelled(alloc, text, plan, "tree", Some(root)),
+        Shape::UpDown(root) => add_labelled(alloc, text, plan, "up-down", root),
         Shape::Mesh(width, height, terminals) => {
             let line = format!(in alloc; "mesh {width} {height} {terminals}\n")?;
             text.push_str(line.as_str())
@@ -75,46 +75,46 @@ fn add_by_hand(alloc: Global, text: &mut String, plan: &Plan) -> Result<(), Allo
     Ok(())
 }
 
-/// The lines of a network that is to be labelled from a switch on, as a tree or up and down, join the text.
+/// The lines of a network for which labels are asked by this word, from a root if one is named, join the text.
 fn add_labelled(
     alloc: Global,
     text: &mut String,
     plan: &Plan,
-    root: usize,
-    up_down: bool,
+    style: &str,
+    root: Option<usize>,
 ) -> Result<(), AllocError>
     ensures { OnOk result (string_bytes text.new ≡
-        string_bytes text.old ++ text_of (labelled_lines plan.now up_down root)) }
+        string_bytes text.old ++ text_of (labelled_lines plan.now (label_words plan.now style.now root))) }
 {
     add_switches(alloc, text, plan)?;
     add_counted_terminals(alloc, text, plan)?;
     add_wires(alloc, text, plan)?;
-    add_root(alloc, text, plan, root, up_down)?;
+    add_label(alloc, text, plan, style, root)?;
     Ok(())
 }
 
-/// The line of the root joins the text.
-fn add_root(
+/// The line that asks for labels joins the text.
+fn add_label(
     alloc: Global,
     text: &mut String,
     plan: &Plan,
-    root: usize,
-    up_down: bool,
+    style: &str,
+    root: Option<usize>,
 ) -> Result<(), AllocError>
     ensures { OnOk result (string_bytes text.new ≡
-        string_bytes text.old ++ text_of (label_words plan.now up_down root ∷ [])) }
+        string_bytes text.old ++ text_of (label_words plan.now style.now root ∷ [])) }
 {
-    let style = labeller(up_down);
-    let name = plan.switch_name(root);
-    let line = format!(in alloc; "label {style} {name}\n")?;
-    text.push_str(line.as_str())
-}
-
-/// The word by which labels are asked for.
-fn labeller(up_down: bool) -> &'static str
-    ensures { result.now ≡ labeller up_down }
-{
-    if up_down { "up-down" } else { "tree" }
+    match root {
+        Some(root) => {
+            let name = plan.switch_name(root);
+            let line = format!(in alloc; "label {style} {name}\n")?;
+            text.push_str(line.as_str())
+        }
+        None => {
+            let line = format!(in alloc; "label {style}\n")?;
+            text.push_str(line.as_str())
+        }
+    }
 }
 
 /// The lines of the switches join the text.

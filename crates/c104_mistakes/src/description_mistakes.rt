@@ -39,7 +39,8 @@ pub(crate) const ROW_LINE: &str = "the line is `row SWITCH.LINK LIMIT SELECT`";
 
 pub(crate) const RANDOM_LINE: &str = "the line is `random SWITCH.LINK BASE RANGE`";
 
-pub(crate) const LABEL_LINE: &str = "the line is `label tree SWITCH` or `label up-down SWITCH`";
+pub(crate) const LABEL_LINE: &str =
+    "the line is `label tree SWITCH`, `label up-down SWITCH` or `label up-down`";
 
 pub(crate) const MESH_LINE: &str = "the line is `mesh COLUMNS ROWS TERMINALS`";
 
@@ -109,5 +110,5 @@ pub(crate) const RANDOM_TWICE: &str =
     "an input has one `random` line, already given by an earlier line";
 
 pub(crate) const MIXED: &str =
-    "the line doesn't go with earlier lines: `label` can't be combined with `row`, `base`, `random`, \
-     `continue` or `from`, and `mesh` or `cube` only with `header`, `buffer` and `delete`";
+    "the line doesn't go with earlier lines: `label` can't be combined with `row`, `base`, `random` or \
+     `from`, `label tree` not with `continue`, and `mesh` or `cube` only with `header`, `buffer` and `delete`";

@@ -29,7 +29,7 @@ pub(crate) const DESCRIPTION_FORMS: [Form; 13] = [
     (b"delete", DELETE_LINE, 2, 2),
     (b"header", HEADER_LINE, 2, 2),
     (b"buffer", BUFFER_LINE, 2, 2),
-    (b"label", LABEL_LINE, 3, 3),
+    (b"label", LABEL_LINE, 2, 3),
     (b"mesh", MESH_LINE, 4, 4),
     (b"cube", CUBE_LINE, 3, 3),
 ];
