@@ -4,19 +4,19 @@ use Rattle.c104_check.specs.Routes.{IsRandomized, Routes, link_settings, or_no_s
 use Rattle.{c104_check.specs.declared.ports.SwitchPort.SwitchPort, c104_interval.specs.declared.intervals.Table.Table}
 use Rattle.c104_label.proofs.{LabelledRoutes.plain_own, MappedRanges.{map_at, map_was}}
 use Rattle.c104_plan.{proofs.LabelledSettings.port_labelled_at, specs.LabelledImages.{port_labelled_image, port_labelled_switch}}
-use Rattle.{c104_plan.specs.Plans.Plan, c104_regs.specs.declared.settings.Settings.Settings, std.proofs.Common.{List, Some, [], ap, arith}}
-use Rattle.std.proofs.{Common.{length, ℕ, ◌<◌, ◌≡◌, ◌≤◌}, lemmas.{Bool.cases_lt, List.FromFn.length-map-range_with_len}}
+use Rattle.{c104_plan.specs.Plans.Plan, c104_regs.specs.declared.settings.Settings.Settings, std.proofs.Common.{Bool, List, Some, [], ap}}
+use Rattle.std.proofs.{Common.{arith, length, ℕ, ◌<◌, ◌≡◌, ◌≤◌}, lemmas.{Bool.cases_lt, List.FromFn.length-map-range_with_len}}
 use Rattle.std.proofs.lemmas.Option.{slice_get_past}
 
-module _ (plan : Plan) (ranges : List (ℕ × ℕ)) (tables : ℕ → ℕ → Table) where
+module _ (plan : Plan) (ranges : List (ℕ × ℕ)) (tables : ℕ → ℕ → Table) (groups : ℕ → ℕ → Bool) where
   abbrev routes : Routes
-  routes = routes_of plan (port_labelled_image plan ranges tables)
+  routes = routes_of plan (port_labelled_image plan ranges tables groups)
 
   abbrev at : ℕ → ℕ → Settings
-  at s l = port_labelled_at plan (tables s) s l
+  at s l = port_labelled_at plan (tables s) (groups s) s l
 
-  settings_are : (s : ℕ) → s < length plan.switches → settings_at routes s ≡ port_labelled_switch plan (tables s) s
-  settings_are s lt = ap or_no_settings (map_at (λ switch. port_labelled_switch plan (tables switch) switch) (length plan.switches) s lt)
+  settings_are : (s : ℕ) → s < length plan.switches → settings_at routes s ≡ port_labelled_switch plan (tables s) (groups s) s
+  settings_are s lt = ap or_no_settings (map_at (λ switch. port_labelled_switch plan (tables switch) (groups switch) switch) (length plan.switches) s lt)
 
   none_set : (s : ℕ) → length plan.switches ≤ s → settings_at routes s ≡ []
   none_set s le = search (arith, length-map-range_with_len, slice_get_past)

@@ -6,7 +6,8 @@ use Rattle.c104_label.specs.{TreeImages.{plan_labels, total_count}, TreeLabels.{
 use Rattle.{c104_label.specs.declared.faults.LabelFault.LabelFault, c104_plan.specs.LabelledImages.{labelled_image, port_labelled_image}}
 use Rattle.c104_plan.specs.{PlanImage.{Image, hand_image, range_of}, Plans.Plan, declared.plans.Shape.{Shape, TheVariants.{Cube, Hand}}}
 use Rattle.c104_plan.specs.declared.plans.Shape.TheVariants.{Mesh, Tree, UpDown}
-use Rattle.std.specs.{List.range_with_len, Prelude.{Bool, false, map, true, ℕ, ◌*◌, ◌^◌, ◌≡◌}}
+use Rattle.std.specs.{List.range_with_len, Prelude.{Bool, None, Option, Some, [], false, length, map, true, ℕ, ◌*◌, ◌<◌, ◌^◌, ◌≡◌, ◌≢◌}}
+use Rattle.std.specs.Prelude.{◌⊎◌}
 
 -- the image of a plan whose switches have the tables of a mesh, which are right
 pub record IsMeshImage (plan : Plan) (width height terminals : ℕ) (image : Image) : Type 0 where
@@ -19,22 +20,33 @@ pub record IsCubeImage (plan : Plan) (dimensions terminals : ℕ) (image : Image
   pub tables : AreCubeTables dimensions terminals
 
 -- the image of a plan that is labelled up and down from a root: the labels are those of the root's tree, each port that
--- has a wire has a table of its own, and all else is as the plan's own lines say. Of the tables it is said that by them
--- each label comes to its terminal, and that no inputs depend on one another in a cycle, but not which they are.
+-- has a wire has a table of its own, links continue groups beside those that do so by the plan's own lines, and all else is
+-- as these lines say. Of the tables and groups it is said that by them each label comes to its terminal, and that no inputs
+-- depend on one another in a cycle, but not which they are.
 pub record IsUpDownImage (plan : Plan) (root : ℕ) (forest : Forest) (image : Image) : Type 0 where
   pub tree : IsSpanning plan root forest
   pub tables : ℕ → ℕ → Table
-  pub is : image ≡ port_labelled_image plan (map (tree_range plan root forest) plan.terminals) tables
+  pub groups : ℕ → ℕ → Bool
+  pub is : image ≡ port_labelled_image plan (map (tree_range plan root forest) plan.terminals) tables groups
   pub labels : plan_labels plan root forest ≡ total_count plan.terminals
   pub order : AreInOrder (own_labels (net_of plan)) root forest
   pub accepted : IsAccepted (routes_of plan image)
   pub acyclic : IsAcyclic (routes_of plan image)
 
+-- a root by which a plan is labelled up and down: the switch that is named, and else one of its switches
+abbrev pub IsRootOf : Plan → Option ℕ → ℕ → Type 0
+IsRootOf plan None root = root < length plan.switches
+IsRootOf plan (Some named) root = root ≡ named
+
+-- the image of a plan that is labelled up and down from such a root
+abbrev pub IsUpDownMade : Plan → Option ℕ → Image → Type 0
+IsUpDownMade plan named image = (root : ℕ) × IsRootOf plan named root × (forest : Forest) × IsUpDownImage plan root forest image
+
 -- an image of a plan that is to be of this shape
 abbrev pub IsImageBy : Shape → Plan → Image → Type 0
 IsImageBy Hand plan image = image ≡ hand_image plan
 IsImageBy (Tree root) plan image = (forest : Forest) × IsTreeImage plan root forest image
-IsImageBy (UpDown root) plan image = (forest : Forest) × IsUpDownImage plan root forest image
+IsImageBy (UpDown named) plan image = IsUpDownMade plan named image
 IsImageBy (Mesh width height terminals) plan image = IsMeshImage plan width height terminals image
 IsImageBy (Cube dimensions terminals) plan image = IsCubeImage plan dimensions terminals image
 
@@ -85,12 +97,30 @@ IsNoMemory LabelFault.NotConnected = ⊥
 IsNoMemory LabelFault.TooManyLabels = ⊥
 IsNoMemory LabelFault.WrongShape = ⊥
 IsNoMemory LabelFault.NoMemory = Unit {0}
+IsNoMemory LabelFault.BadGroups = ⊥
+
+-- why a plan isn't labelled up and down from a root: why it isn't labelled as a tree from it, or its own lines group links
+abbrev pub IsRootCause : Plan → ℕ → LabelFault → Type 0
+IsRootCause plan root LabelFault.NotConnected = IsLabelCause plan root LabelFault.NotConnected
+IsRootCause plan root LabelFault.TooManyLabels = IsLabelCause plan root LabelFault.TooManyLabels
+IsRootCause plan root LabelFault.WrongShape = ⊥
+IsRootCause plan root LabelFault.NoMemory = Unit {0}
+IsRootCause plan root LabelFault.BadGroups = 0 < length plan.continues
+
+-- and why it isn't from such a root: that of one of these, or it has no switch
+abbrev pub IsUpDownCause : Plan → Option ℕ → LabelFault → Type 0
+IsUpDownCause plan named LabelFault.NotConnected =
+    (length plan.switches ≡ 0) ⊎ ((root : ℕ) × IsRootOf plan named root × IsRootCause plan root LabelFault.NotConnected)
+IsUpDownCause plan named LabelFault.TooManyLabels = (root : ℕ) × IsRootOf plan named root × IsRootCause plan root LabelFault.TooManyLabels
+IsUpDownCause plan named LabelFault.WrongShape = ⊥
+IsUpDownCause plan named LabelFault.NoMemory = Unit {0}
+IsUpDownCause plan named LabelFault.BadGroups = 0 < length plan.continues
 
 -- why a plan that is to be of this shape has no image
 abbrev pub IsCauseBy : Shape → Plan → LabelFault → Type 0
 IsCauseBy Hand plan why = IsNoMemory why
 IsCauseBy (Tree root) plan why = IsLabelCause plan root why
-IsCauseBy (UpDown root) plan why = IsLabelCause plan root why
+IsCauseBy (UpDown named) plan why = IsUpDownCause plan named why
 IsCauseBy (Mesh width height terminals) plan why = IsNoMemory why
 IsCauseBy (Cube dimensions terminals) plan why = IsNoMemory why
 

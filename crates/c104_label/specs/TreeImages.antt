@@ -66,3 +66,4 @@ IsLabelCause plan root LabelFault.NotConnected = (s : ℕ) × (s < length plan.s
 IsLabelCause plan root LabelFault.TooManyLabels = IsConnected plan root × (most_labels plan < total_count plan.terminals)
 IsLabelCause plan root LabelFault.WrongShape = ⊥
 IsLabelCause plan root LabelFault.NoMemory = Unit {0}
+IsLabelCause plan root LabelFault.BadGroups = ⊥

@@ -16,6 +16,7 @@ IsTreeCause plan root LabelFault.NotConnected = (s : ℕ) × (s < length plan.sw
 IsTreeCause plan root LabelFault.TooManyLabels = ⊥
 IsTreeCause plan root LabelFault.WrongShape = ⊥
 IsTreeCause plan root LabelFault.NoMemory = Unit {0}
+IsTreeCause plan root LabelFault.BadGroups = ⊥
 
 -- the far end of a link, where that is a switch which wasn't visited
 abbrev pub unvisited : Option Port → List ℕ → Option FarEnd

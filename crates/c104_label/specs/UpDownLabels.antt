@@ -19,14 +19,20 @@ pub record ArePortTables (plan : Plan) (tables : List Table) : Type 0 where
   pub count : length tables ≡ length plan.switches * LINKS
   pub within : All IsTableInRange tables
 
+-- such a table for each link, and whether it continues a group
+pub record ArePortLabels (plan : Plan) (tables : List Table) (flags : List Bool) : Type 0 where
+  pub within : ArePortTables plan tables
+  pub flagged : length flags ≡ length plan.switches * LINKS
+
 -- each label comes to its terminal, and no inputs depend on one another in a cycle
 pub record IsSound (plan : Plan) (image : Image) : Type 0 where
   pub accepted : IsAccepted (routes_of plan image)
   pub acyclic : IsAcyclic (routes_of plan image)
 
--- an image with the ranges of another, in which each port that has a wire has a table of its own
+-- an image with the ranges of another, in which each port that has a wire has a table of its own, and links may be grouped
 pub record IsRelabelled (plan : Plan) (ranges : Image) (image : Image) : Type 0 where
   pub tables : ℕ → ℕ → Table
-  pub is : image ≡ port_labelled_image plan ranges.ranges tables
+  pub groups : ℕ → ℕ → Bool
+  pub is : image ≡ port_labelled_image plan ranges.ranges tables groups
   pub fits : Fits image plan
   pub sound : IsSound plan image

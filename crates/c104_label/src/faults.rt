@@ -22,10 +22,13 @@ pub enum LabelFault {
     /// Out of memory.
     #[error("out of memory")]
     NoMemory,
+    /// Lines of the plan group links, and no labels are accepted with these groups.
+    #[error("no labels go with these groups of links")]
+    BadGroups,
 }
 
 impl LabelFault {
-    /// The fault's number, 1 to 4.
+    /// The fault's number, 1 to 5.
     pub fn number(self) -> u8
         ensures { result ≡ label_fault_number self }
     {
@@ -34,6 +37,7 @@ impl LabelFault {
             LabelFault::TooManyLabels => 2,
             LabelFault::WrongShape => 3,
             LabelFault::NoMemory => 4,
+            LabelFault::BadGroups => 5,
         }
     }
 
@@ -46,6 +50,7 @@ impl LabelFault {
             LabelFault::TooManyLabels => "TooManyLabels",
             LabelFault::WrongShape => "WrongShape",
             LabelFault::NoMemory => "NoMemory",
+            LabelFault::BadGroups => "BadGroups",
         }
     }
 }

@@ -9,6 +9,7 @@ ghost use Rattle.c104_label.specs.declared.faults.LabelFault.TheVariants as faul
 use crate::cubes::cube_image;
 use crate::faults::LabelFault;
 use crate::meshes::mesh_image;
+use crate::reports::UpDownReport;
 use crate::trees::tree_image;
 use crate::up_down::up_down_image;
 use c104_interval::Table;
@@ -20,10 +21,29 @@ use std::alloc::Global;
 /// shape, a tree, up and down from a root, a mesh or a cube.
 ///
 /// What is labelled from a root alone may be refused: NotConnected where wires don't lead from its root to each switch,
-/// then TooManyLabels where its terminals have more labels than there are headers. Any plan may fail with NoMemory. Such
-/// labels need no check, nor do those of a mesh and a cube, and by them no inputs depend on one another in a cycle. No
-/// link puts random headers before packets where no line of the plan says so.
+/// then TooManyLabels where its terminals have more labels than there are headers, and BadGroups where up and down no labels
+/// go with groups of its own lines. Any plan may fail with NoMemory. Such labels need no check, nor do those of a mesh and
+/// a cube, and by them no inputs depend on one another in a cycle. No link puts random headers before packets where no
+/// line of the plan says so.
 pub fn image_of(alloc: Global, plan: &Plan) -> Result<Image, LabelFault>
+    ensures image { IfOk result (λ image. IsImageOf plan.now image) }
+    ensures fits { IfOk result (λ image. Fits image plan.now) }
+    ensures accepted { is_labelled_shape plan.now.shape ≡ true → IfOk result (λ image. IsAccepted (routes_of plan.now image)) }
+    ensures acyclic { is_labelled_shape plan.now.shape ≡ true → IfOk result (λ image. IsAcyclic (routes_of plan.now image)) }
+    ensures never_randomized { plan.now.randoms ≡ [] → IfOk result (λ image. IsNeverRandomized (routes_of plan.now image)) }
+    ensures crossings { IfOk result (λ image. AreCrossings plan.now.shape (routes_of plan.now image)) }
+    ensures refused { IfErr result (IsImageCause plan.now) }
+{
+    let mut report = None;
+    image_with_report(alloc, plan, &mut report)
+}
+
+/// The same, with a report of labels by which packets go up and then down, if such are made.
+pub fn image_with_report(
+    alloc: Global,
+    plan: &Plan,
+    report: &mut Option<UpDownReport>,
+) -> Result<Image, LabelFault>
     ensures image { IfOk result (λ image. IsImageOf plan.now image) }
     ensures fits { IfOk result (λ image. Fits image plan.now) }
     ensures accepted { is_labelled_shape plan.now.shape ≡ true → IfOk result (λ image. IsAccepted (routes_of plan.now image)) }
@@ -38,7 +58,7 @@ pub fn image_of(alloc: Global, plan: &Plan) -> Result<Image, LabelFault>
             Ok(image)
         }
         Shape::Tree(_) => label_tree(alloc, plan),
-        Shape::UpDown(_) => label_up_down(alloc, plan),
+        Shape::UpDown(_) => up_down_labels(alloc, plan, report),
         Shape::Mesh(_, _, _) => label_mesh(alloc, plan),
         Shape::Cube(_, _) => label_cube(alloc, plan),
     }
@@ -76,15 +96,19 @@ pub fn label_tree(alloc: Global, plan: &Plan) -> Result<Image, LabelFault>
 
 /// The image of a plan that is to be labelled so that packets go up towards a root, and then down, over any of the wires.
 ///
-/// The labels of terminals are those that `label_tree` gives them by the same root. A wire leads up to the switch that
-/// the depth-first visit met first, and each port that has a wire has a table of its own: what came down goes down, and
-/// all else goes up or down, by a shortest such way where the tables have room for it. Where they have no room, or
-/// aren't accepted, they are those of the tree. All else is as the plan's own lines say. The labels need no check: they
-/// are accepted, whatever else the plan says, and by them no inputs depend on one another in a cycle.
+/// The labels of terminals are those that `label_tree` gives them by the same root: the switch that the plan names, or that
+/// from which links are loaded least. A wire leads up to the switch that a visit met first, depth first, or without a name
+/// also breadth first, and each port that has a wire has a table of its own: what came down goes down, and all else goes
+/// up or down, by a shortest such way where the tables have room for it. Neighbouring links that are equally good for all
+/// labels are a group, unless the plan's own lines group links of their switch: then its groups are these, and labels
+/// take each as a whole. Where tables have no room, or aren't accepted, they are those of the tree. All else is as the
+/// plan's own lines say. The labels need no check: they are accepted, whatever else the plan says, and by them no inputs
+/// depend on one another in a cycle.
 ///
 /// WrongShape exactly where the plan is to be labelled otherwise; then NotConnected where wires don't lead from
-/// the root to each switch; then TooManyLabels where the terminals have more labels than there are headers, 256, or
-/// 65536 of two bytes; and NoMemory.
+/// the root to each switch, or there is none; then TooManyLabels where the terminals have more labels than there are
+/// headers, 256, or 65536 of two bytes; then BadGroups where the plan's own lines group links, and no labels are accepted
+/// with these groups; and NoMemory.
 pub fn label_up_down(alloc: Global, plan: &Plan) -> Result<Image, LabelFault>
     ensures image { IfOk result (λ image. IsImageOf plan.now image) }
     ensures fits { IfOk result (λ image. Fits image plan.now) }
@@ -94,8 +118,26 @@ pub fn label_up_down(alloc: Global, plan: &Plan) -> Result<Image, LabelFault>
     ensures shape { IsErrOf result fault.WrongShape ↔ (is_up_down_shape plan.now.shape ≡ false) }
     ensures refused { IfErr result (IsShapeCause (is_up_down_shape plan.now.shape) plan.now) }
 {
+    let mut report = None;
+    up_down_labels(alloc, plan, &mut report)
+}
+
+/// The same, with a report.
+fn up_down_labels(
+    alloc: Global,
+    plan: &Plan,
+    report: &mut Option<UpDownReport>,
+) -> Result<Image, LabelFault>
+    ensures image { IfOk result (λ image. IsImageOf plan.now image) }
+    ensures fits { IfOk result (λ image. Fits image plan.now) }
+    ensures accepted { IfOk result (λ image. IsAccepted (routes_of plan.now image)) }
+    ensures acyclic { IfOk result (λ image. IsAcyclic (routes_of plan.now image)) }
+    ensures never_randomized { IfOk result (λ image. IsNeverRandomized (routes_of plan.now image)) }
+    ensures shape { IsErrOf result fault.WrongShape ↔ (is_up_down_shape plan.now.shape ≡ false) }
+    ensures refused { IfErr result (IsShapeCause (is_up_down_shape plan.now.shape) plan.now) }
+{
     match plan.shape() {
-        Shape::UpDown(root) => up_down_image(alloc, plan, root),
+        Shape::UpDown(named) => up_down_image(alloc, plan, named, report),
         Shape::Hand => Err(LabelFault::WrongShape),
         Shape::Tree(_) => Err(LabelFault::WrongShape),
         Shape::Mesh(_, _, _) => Err(LabelFault::WrongShape),

@@ -1,63 +1,143 @@
 //! Labels by which packets go up towards a root and then down, over any of the wires.
 //!
-//! What is up is told by the visit of the tree, and not by how far a switch is from the root: so the tree's ways are
-//! among those that go up and then down, and neighbouring labels more often share a row. What came down may only go down,
-//! so each input has a table of its own.
-ghost use Rattle.std.specs.Prelude.{IfErr, IfOk, IfSome, true, ◌<◌, ◌≡◌, ◌≤◌};
+//! What is up is told by an order of the switches: that in which the tree is visited, by which the tree's ways are among
+//! those that go up and then down, and neighbouring labels more often share a row; or one by how far switches are from the
+//! root. What came down may only go down, so each input has a table of its own.
+ghost use Rattle.std.specs.Prelude.{IfErr, IfOk, IfSome, Option, false, length, true, ℕ, ◌<◌, ◌≡◌, ◌≤◌, ◌⊎◌};
 ghost use Rattle.{c104_check.specs.Routes.{IsAccepted, routes_of}, c104_label.specs.Forests.{Forest as TheForest, IsSpanning}};
-ghost use Rattle.c104_label.specs.{Images.IsUpDownImage, TreeImages.{IsLabelCause, most_labels, total_count}, Trees.forest_of};
-ghost use Rattle.{c104_label.specs.UpDownLabels.{ArePortTables, IsRelabelled, IsSound}, c104_plan.specs.{PlanImage.Fits, Plans.IsPlan}};
-ghost use Rattle.{c104_plan.specs.Plans.IsTreePlan, c104_regs.specs.Ranges.IsTableInRange};
-ghost use Rattle.c104_regs.specs.declared.registers.TheConstants.{LINKS as LINK_COUNT};
+ghost use Rattle.c104_label.specs.Images.{IsRootCause, IsRootOf, IsUpDownCause, IsUpDownImage, IsUpDownMade};
+ghost use Rattle.c104_label.specs.{TreeImages.{most_labels, total_count}, Trees.forest_of};
+ghost use Rattle.c104_label.specs.UpDownLabels.{ArePortLabels, IsRelabelled, IsSound};
+ghost use Rattle.c104_plan.specs.{PlanImage.Fits, Plans.{IsPlan, IsUpDownPlan}};
 
+use crate::choices::choice_of;
+use crate::exits::Plot;
+use crate::fabric::Fabric;
 use crate::faults::LabelFault;
 use crate::forests::{Forest, spanning_tree};
-use crate::numbers::{count_at, label_sum, labels_behind, own_counts};
+use crate::numbers::label_sum;
+use crate::orders::Choice;
+use crate::port_tables::{group_flags, port_tables};
+use crate::reports::{UpDownReport, UpDownWay, report_of};
 use crate::trees::{forest_image, most_labels};
-use crate::way_rows::{Segment, segment_table};
-use crate::ways::Ways;
 use c104_check::{CheckFault, RanksOrCycle, check, find_cycle};
 use c104_interval::Table;
-use c104_plan::{Image, Plan, Port};
-use c104_regs::LINKS;
+use c104_plan::{Image, Plan};
 use c104_token::NoMemory;
 use std::alloc::{AllocError, Global};
 
-/// The image of a plan whose packets go up towards a root, a switch of the plan, and then down.
+/// The image of a plan whose packets go up towards a root and then down: a switch of the plan that is named, or that from
+/// which links are loaded least. What was made is told by the report.
 ///
 /// The labels are those of the root's tree, and where no tables could be made by which they go over other wires too,
 /// or such tables aren't accepted, the tables are the tree's.
 ///
-/// NotConnected where wires don't lead from the root to each switch; then TooManyLabels where the
-/// terminals have more labels than there are headers, 256, or 65536 of two bytes; and NoMemory.
-pub(crate) fn up_down_image(alloc: Global, plan: &Plan, root: usize) -> Result<Image, LabelFault>
-    requires tree { IsTreePlan root plan.now }
-    ensures image { IfOk result (λ image. (forest : TheForest) × IsUpDownImage plan.now root forest image) }
+/// NotConnected where wires don't lead from the root to each switch, or there is no switch; then TooManyLabels where the
+/// terminals have more labels than there are headers, 256, or 65536 of two bytes; BadGroups where lines of the plan group
+/// links and no tables are accepted with these; and NoMemory.
+#[tactic(auto, using(crate::proofs::UpDownImages::root_cause))]
+pub(crate) fn up_down_image(
+    alloc: Global,
+    plan: &Plan,
+    named: Option<usize>,
+    report: &mut Option<UpDownReport>,
+) -> Result<Image, LabelFault>
+    requires plan { IsUpDownPlan named plan.now }
+    ensures image { IfOk result (IsUpDownMade plan.now named) }
     ensures fits { IfOk result (λ image. Fits image plan.now) }
-    ensures refused { IfErr result (IsLabelCause plan.now root) }
+    ensures refused { IfErr result (IsUpDownCause plan.now named) }
 {
-    let forest = spanning_tree(alloc, plan, root)?;
+    if plan.switches().len() == 0 {
+        return Err(LabelFault::NotConnected);
+    }
+    let choice = choice_of(alloc, plan, named)?;
+    let image = chosen_image(alloc, plan, named, choice, report)?;
+    Ok(image)
+}
+
+/// The image of a plan by a choice.
+#[tactic(auto, using(crate::proofs::UpDownImages::tree_cause))]
+fn chosen_image(
+    alloc: Global,
+    plan: &Plan,
+    named: Option<usize>,
+    choice: Choice,
+    report: &mut Option<UpDownReport>,
+) -> Result<Image, LabelFault>
+    requires plan { IsUpDownPlan named plan.now }
+    requires root { IsRootOf plan.now named choice.root }
+    ensures image { IfOk result (λ image. (forest : TheForest) × IsUpDownImage plan.now choice.root forest image) }
+    ensures fits { IfOk result (λ image. Fits image plan.now) }
+    ensures refused { IfErr result (IsRootCause plan.now choice.root) }
+{
+    let forest = spanning_tree(alloc, plan, choice.root)?;
     if label_sum(plan) > most_labels(plan) {
         return Err(LabelFault::TooManyLabels);
     }
-    let image = best_image(alloc, plan, root, &forest)?;
+    let image = told_image(alloc, plan, choice, &forest, report)?;
+    Ok(image)
+}
+
+/// The image of a plan by a choice, and its report.
+fn told_image(
+    alloc: Global,
+    plan: &Plan,
+    choice: Choice,
+    forest: &Forest,
+    report: &mut Option<UpDownReport>,
+) -> Result<Image, LabelFault>
+    requires kept { IsPlan plan.now }
+    requires plan { (named : Option ℕ) × IsUpDownPlan named plan.now }
+    requires root { choice.root < length plan.now.switches }
+    requires tree { IsSpanning plan.now choice.root (forest_of forest.now) }
+    requires few { total_count plan.now.terminals ≤ most_labels plan.now }
+    ensures image { IfOk result (IsUpDownImage plan.now choice.root (forest_of forest.now)) }
+    ensures fits { IfOk result (λ image. Fits image plan.now) }
+    ensures refused { IfErr result (IsRootCause plan.now choice.root) }
+{
+    let mut way = UpDownWay::Tree;
+    let image = best_image(alloc, plan, choice, forest, &mut way)?;
+    *report = Some(report_of(alloc, plan, choice, way, forest, &image)?);
     Ok(image)
 }
 
 /// The image of a plan by its tree, or by shorter ways where these are accepted.
-fn best_image(alloc: Global, plan: &Plan, root: usize, forest: &Forest) -> Result<Image, NoMemory>
+fn best_image(
+    alloc: Global,
+    plan: &Plan,
+    choice: Choice,
+    forest: &Forest,
+    way: &mut UpDownWay,
+) -> Result<Image, LabelFault>
     requires kept { IsPlan plan.now }
-    requires plan { IsTreePlan root plan.now }
-    requires tree { IsSpanning plan.now root (forest_of forest.now) }
+    requires plan { (named : Option ℕ) × IsUpDownPlan named plan.now }
+    requires root { choice.root < length plan.now.switches }
+    requires tree { IsSpanning plan.now choice.root (forest_of forest.now) }
     requires few { total_count plan.now.terminals ≤ most_labels plan.now }
-    ensures image { IfOk result (IsUpDownImage plan.now root (forest_of forest.now)) }
+    ensures image { IfOk result (IsUpDownImage plan.now choice.root (forest_of forest.now)) }
     ensures fits { IfOk result (λ image. Fits image plan.now) }
+    ensures refused { IfErr result (IsRootCause plan.now choice.root) }
 {
-    let tree = forest_image(alloc, plan, root, forest)?;
-    let found = shorter_image(alloc, plan, root, forest, &tree)?;
+    let tree = forest_image(alloc, plan, choice.root, forest)?;
+    let stands = stands_with_groups(alloc, plan, &tree)?;
+    let found = shorter_image(alloc, plan, choice, forest, &tree, way)?;
     match found {
         Some(image) => Ok(image),
-        None => Ok(tree),
+        None if stands => Ok(tree),
+        None => Err(LabelFault::BadGroups),
+    }
+}
+
+/// Whether a tree's image stands beside the groups of the plan's own lines: there are none, or it is accepted with them.
+fn stands_with_groups(alloc: Global, plan: &Plan, tree: &Image) -> Result<bool, NoMemory>
+    requires { Fits tree.now plan.now }
+    ensures stands { IfOk result (λ stands. stands ≡ true → (length plan.now.continues ≡ 0) ⊎ IsSound plan.now tree.now) }
+    ensures falls { IfOk result (λ stands. stands ≡ false → 0 < length plan.now.continues) }
+{
+    if plan.continues().len() == 0 {
+        Ok(true)
+    } else {
+        is_sound(alloc, plan, tree)
     }
 }
 
@@ -65,22 +145,32 @@ fn best_image(alloc: Global, plan: &Plan, root: usize, forest: &Forest) -> Resul
 fn shorter_image(
     alloc: Global,
     plan: &Plan,
-    root: usize,
+    choice: Choice,
     forest: &Forest,
     tree: &Image,
+    way: &mut UpDownWay,
 ) -> Result<Option<Image>, NoMemory>
     requires { Fits tree.now plan.now }
     ensures { IfOk result (λ found. IfSome found (IsRelabelled plan.now tree.now)) }
 {
-    let Some(tables) = port_tables(alloc, plan, root, forest)? else {
+    let Some(labels) = port_labels(alloc, plan, choice, forest)? else {
         return Ok(None);
     };
-    let image = tree.with_port_tables(alloc, plan, tables.as_slice())?;
-    if is_sound(alloc, plan, &image)? {
-        Ok(Some(image))
-    } else {
-        Ok(None)
+    let image = tree.with_port_tables(
+        alloc,
+        plan,
+        labels.tables.as_slice(),
+        labels.groups.as_slice(),
+    )?;
+    if !is_sound(alloc, plan, &image)? {
+        return Ok(None);
     }
+    *way = if labels.is_shortest {
+        UpDownWay::Shortest
+    } else {
+        UpDownWay::Any
+    };
+    Ok(Some(image))
 }
 
 /// Whether labels are accepted, and no inputs depend on one another in a cycle.
@@ -107,147 +197,46 @@ fn is_acyclic(alloc: Global, plan: &Plan, image: &Image) -> Result<bool, NoMemor
     }
 }
 
-/// The table of each link, by switch and then by link. None where one needs more rows than a table has.
-fn port_tables(
+/// Tables and groups of all links, by switch and then by link.
+#[derive(Drop)]
+struct PortLabels {
+    tables: Vec<Table>,
+    /// Whether links continue groups.
+    groups: Vec<bool>,
+    /// Whether all tables are of shortest ways.
+    is_shortest: bool,
+}
+
+/// The table of each link, and whether it continues a group. None where a table needs more rows than it has.
+fn port_labels(
     alloc: Global,
     plan: &Plan,
-    root: usize,
+    choice: Choice,
     forest: &Forest,
-) -> Result<Option<Vec<Table>>, AllocError>
-    ensures { IfOk result (λ found. IfSome found (λ tables. ArePortTables plan.now tables.items)) }
+) -> Result<Option<PortLabels>, AllocError>
+    ensures { IfOk result (λ found. IfSome found (λ labels. ArePortLabels plan.now labels.tables.items labels.groups.items)) }
 {
-    let ways = Ways::new(alloc, plan, root, forest)?;
-    let counts = own_counts(alloc, plan)?;
-    tables_by(alloc, plan, &ways, counts.as_slice())
+    let fabric = Fabric::new(alloc, plan)?;
+    let plot = Plot::new(alloc, &fabric, choice, forest)?;
+    plotted_labels(alloc, plan, &fabric, &plot)
 }
 
-/// The same by the ways between switches, and by how many labels each switch has of its own.
-fn tables_by(
+/// The same by what they are made by.
+fn plotted_labels(
     alloc: Global,
     plan: &Plan,
-    ways: &Ways,
-    counts: &[u32],
-) -> Result<Option<Vec<Table>>, AllocError>
-    ensures { IfOk result (λ found. IfSome found (λ tables. ArePortTables plan.now tables.items)) }
+    fabric: &Fabric,
+    plot: &Plot,
+) -> Result<Option<PortLabels>, AllocError>
+    ensures { IfOk result (λ found. IfSome found (λ labels. ArePortLabels plan.now labels.tables.items labels.groups.items)) }
 {
-    let mut tables = Vec::new(alloc);
-    for place in 0..plan.switches().len() * LINKS {
-        let switch = place / LINKS;
-        let Some(table) = port_table(alloc, plan, ways, counts, switch, place % LINKS)? else {
-            return Ok(None);
-        };
-        tables.push(table)?;
-    }
-    Ok(Some(tables))
-}
-
-/// The table of a link of a switch: by shortest ways, or by any, where those need more rows than a table has.
-fn port_table(
-    alloc: Global,
-    plan: &Plan,
-    ways: &Ways,
-    counts: &[u32],
-    switch: usize,
-    link: usize,
-) -> Result<Option<Table>, AllocError>
-    requires { link < LINK_COUNT }
-    ensures { IfOk result (λ table. IfSome table IsTableInRange) }
-{
-    if plan.peer(Port::Switch(switch, link)).is_none() {
-        return Ok(Some(no_rows()));
-    }
-    let input = Input {
-        switch,
-        came_down: ways.is_up(switch, link),
+    let groups = group_flags(alloc, plan, plot.continues.as_slice())?;
+    let Some(made) = port_tables(alloc, plan, fabric, plot)? else {
+        return Ok(None);
     };
-    let table = table_by(alloc, plan, ways, counts, input, true, link)?;
-    if table.is_some() {
-        return Ok(table);
-    }
-    table_by(alloc, plan, ways, counts, input, false, link)
-}
-
-/// The table of no rows.
-fn no_rows() -> Table
-    ensures { IsTableInRange result }
-{
-    Table::reset()
-}
-
-/// An input of a switch.
-#[derive(Clone, Copy)]
-struct Input {
-    switch: usize,
-    /// Whether packets came down to it.
-    came_down: bool,
-}
-
-/// The table of an input by shortest ways, or by any.
-fn table_by(
-    alloc: Global,
-    plan: &Plan,
-    ways: &Ways,
-    counts: &[u32],
-    input: Input,
-    is_shortest: bool,
-    choice: usize,
-) -> Result<Option<Table>, AllocError>
-    ensures { IfOk result (λ table. IfSome table IsTableInRange) }
-{
-    let segments = segments(alloc, plan, ways, counts, input, is_shortest)?;
-    segment_table(alloc, segments.as_slice(), choice)
-}
-
-/// By which links labels leave an input: its switch's own by those of their terminals, and others by shortest ways, or
-/// by any.
-fn segments(
-    alloc: Global,
-    plan: &Plan,
-    ways: &Ways,
-    counts: &[u32],
-    input: Input,
-    is_shortest: bool,
-) -> Result<Vec<Segment>, AllocError> {
-    let mut segments = Vec::new(alloc);
-    let mut choice = 0usize;
-    for switch in ways.order() {
-        if *switch == input.switch {
-            add_own(&mut segments, plan, *switch)?;
-        } else {
-            let links = ways.links(input.switch, input.came_down, *switch, is_shortest);
-            add(&mut segments, count_at(counts, *switch), links, choice)?;
-        }
-        choice = choice.saturating_add(1);
-    }
-    Ok(segments)
-}
-
-/// Adds the labels of a switch's own terminals.
-fn add_own(segments: &mut Vec<Segment>, plan: &Plan, switch: usize) -> Result<(), AllocError> {
-    for link in 0..LINKS {
-        add(segments, labels_behind(plan, switch, link), 1u32 << link, 0)?;
-    }
-    Ok(())
-}
-
-/// Adds labels, unless there are none.
-fn add(
-    segments: &mut Vec<Segment>,
-    labels: u32,
-    links: u32,
-    choice: usize,
-) -> Result<(), AllocError> {
-    if labels == 0 {
-        return Ok(());
-    }
-    let first = match segments.last() {
-        Some(last) => last.limit,
-        None => 0,
-    };
-    segments.push(Segment {
-        limit: first.saturating_add(labels),
-        links,
-        choice,
-    })?;
-    Ok(())
+    Ok(Some(PortLabels {
+        tables: made.tables,
+        groups,
+        is_shortest: made.is_shortest,
+    }))
 }

@@ -1,10 +1,10 @@
-//! Ways that go up towards the root of a depth-first tree and then down, over any of the wires between switches.
+//! Ways that go up towards a root and then down, over any of the wires between switches.
 //!
-//! A wire goes up to the switch that the visit met first. Nothing is proved of these ways but that they are found
+//! A wire goes up to the switch that comes first in an order. Nothing is proved of these ways but that they are found
 //! safely: an image that is made by them is checked.
 
-use crate::forests::Forest;
-use c104_plan::{Plan, Port};
+use crate::fabric::Fabric;
+use c104_plan::Port;
 use c104_regs::LINKS;
 use std::alloc::{AllocError, Global};
 
@@ -24,8 +24,8 @@ struct Step {
 
 /// The switches of a plan, and the wires between them.
 #[derive(Drop)]
-struct Fabric {
-    /// The switches in the order of the visit.
+struct Wires {
+    /// The switches in their order.
     order: Vec<usize>,
     /// The wires from each switch, by number.
     steps: Vec<Vec<Step>>,
@@ -43,7 +43,7 @@ struct Lengths {
 /// The ways between a plan's switches.
 #[derive(Drop)]
 pub(crate) struct Ways {
-    fabric: Fabric,
+    wires: Wires,
     lengths: Lengths,
 }
 
@@ -51,21 +51,21 @@ impl Ways {
     ghost use Rattle.std.specs.Prelude.{◌<◌};
     ghost use Rattle.c104_regs.specs.declared.registers.TheConstants.{LINKS as LINK_COUNT};
 
-    /// The ways between a plan's switches, by its depth-first tree.
+    /// The ways between a plan's switches, by their order.
     pub(crate) fn new(
         alloc: Global,
-        plan: &Plan,
-        root: usize,
-        forest: &Forest,
+        fabric: &Fabric,
+        order: Vec<usize>,
     ) -> Result<Ways, AllocError> {
-        let fabric = fabric_of(alloc, plan, root, forest)?;
-        let lengths = lengths_of(alloc, &fabric)?;
-        Ok(Ways { fabric, lengths })
+        let steps = all_steps(alloc, fabric, order.as_slice())?;
+        let wires = Wires { order, steps };
+        let lengths = lengths_of(alloc, &wires)?;
+        Ok(Ways { wires, lengths })
     }
 
-    /// The switches, in the order of the visit.
+    /// The switches in their order.
     pub(crate) fn order(&self) -> &[usize] {
-        self.fabric.order.as_slice()
+        self.wires.order.as_slice()
     }
 
     /// Whether the wire on a link of a switch leads up to another switch.
@@ -73,7 +73,7 @@ impl Ways {
         requires { link < LINK_COUNT }
     {
         let bit = 1u32 << link;
-        match self.fabric.steps.get(switch) {
+        match self.wires.steps.get(switch) {
             Some(steps) => steps.iter().any(|step| step.bit == bit && step.is_up),
             None => false,
         }
@@ -82,7 +82,7 @@ impl Ways {
     /// The links, as bits, by which a way leaves a switch that ends at another: a shortest way, or any. What came down
     /// goes down.
     pub(crate) fn links(&self, from: usize, came_down: bool, to: usize, is_shortest: bool) -> u32 {
-        let Some(steps) = self.fabric.steps.get(from) else {
+        let Some(steps) = self.wires.steps.get(from) else {
             return 0;
         };
         let length = self.length(from, came_down, to);
@@ -121,37 +121,15 @@ fn length_at(lengths: &[usize], switch: usize) -> usize {
     }
 }
 
-/// A plan's switches and the wires between them.
-fn fabric_of(
+/// The wires from each switch, by number, where the switches are in this order.
+fn all_steps(
     alloc: Global,
-    plan: &Plan,
-    root: usize,
-    forest: &Forest,
-) -> Result<Fabric, AllocError> {
-    let mut order = Vec::new(alloc);
-    order.push(root)?;
-    add_switches(&mut order, forest)?;
-    let steps = all_steps(alloc, plan, order.as_slice())?;
-    Ok(Fabric { order, steps })
-}
-
-/// Adds the switches of subtrees, in the order of the visit.
-fn add_switches(order: &mut Vec<usize>, forest: &Forest) -> Result<(), AllocError> {
-    match forest {
-        Forest::Empty => Ok(()),
-        Forest::Child(_, switch, _, below, rest) => {
-            order.push(*switch)?;
-            add_switches(order, below.as_ref())?;
-            add_switches(order, rest.as_ref())
-        }
-    }
-}
-
-/// The wires from each switch, by number, where the visit met the switches in this order.
-fn all_steps(alloc: Global, plan: &Plan, order: &[usize]) -> Result<Vec<Vec<Step>>, AllocError> {
+    fabric: &Fabric,
+    order: &[usize],
+) -> Result<Vec<Vec<Step>>, AllocError> {
     let mut all = Vec::new(alloc);
-    for switch in 0..plan.switches().len() {
-        all.push(steps_from(alloc, plan, order, switch)?)?;
+    for switch in 0..fabric.switches() {
+        all.push(steps_from(alloc, fabric, order, switch)?)?;
     }
     Ok(all)
 }
@@ -159,14 +137,14 @@ fn all_steps(alloc: Global, plan: &Plan, order: &[usize]) -> Result<Vec<Vec<Step
 /// The wires from a switch.
 fn steps_from(
     alloc: Global,
-    plan: &Plan,
+    fabric: &Fabric,
     order: &[usize],
     switch: usize,
 ) -> Result<Vec<Step>, AllocError> {
     let here = place_in(order, switch);
     let mut steps = Vec::new(alloc);
     for link in 0..LINKS {
-        if let Some(Port::Switch(to, _)) = plan.peer(Port::Switch(switch, link)) {
+        if let Some(Port::Switch(to, _)) = fabric.peer(switch, link) {
             let is_up = place_in(order, to) < here;
             steps.push(Step {
                 bit: 1u32 << link,
@@ -179,7 +157,7 @@ fn steps_from(
 }
 
 /// Where a switch stands among others, and how many there are where it isn't one of them.
-fn place_in(order: &[usize], switch: usize) -> usize {
+pub(crate) fn place_in(order: &[usize], switch: usize) -> usize {
     match order.iter().position(|other| *other == switch) {
         Some(place) => place,
         None => order.len(),
@@ -187,17 +165,17 @@ fn place_in(order: &[usize], switch: usize) -> usize {
 }
 
 /// The lengths of the shortest ways.
-fn lengths_of(alloc: Global, fabric: &Fabric) -> Result<Lengths, AllocError> {
-    let down = all_down(alloc, fabric)?;
-    let up_down = all_up_down(alloc, fabric, down.as_slice())?;
+fn lengths_of(alloc: Global, wires: &Wires) -> Result<Lengths, AllocError> {
+    let down = all_down(alloc, wires)?;
+    let up_down = all_up_down(alloc, wires, down.as_slice())?;
     Ok(Lengths { down, up_down })
 }
 
 /// Those of ways that go down alone.
-fn all_down(alloc: Global, fabric: &Fabric) -> Result<Vec<Vec<usize>>, AllocError> {
+fn all_down(alloc: Global, wires: &Wires) -> Result<Vec<Vec<usize>>, AllocError> {
     let mut all = Vec::new(alloc);
-    for to in 0..fabric.steps.len() {
-        all.push(down_to(alloc, fabric, to)?)?;
+    for to in 0..wires.steps.len() {
+        all.push(down_to(alloc, wires, to)?)?;
     }
     Ok(all)
 }
@@ -205,41 +183,40 @@ fn all_down(alloc: Global, fabric: &Fabric) -> Result<Vec<Vec<usize>>, AllocErro
 /// Those of ways that go up and then down.
 fn all_up_down(
     alloc: Global,
-    fabric: &Fabric,
+    wires: &Wires,
     down: &[Vec<usize>],
 ) -> Result<Vec<Vec<usize>>, AllocError> {
     let mut all = Vec::new(alloc);
     for lengths in down {
-        all.push(up_down_to(alloc, fabric, lengths.as_slice())?)?;
+        all.push(up_down_to(alloc, wires, lengths.as_slice())?)?;
     }
     Ok(all)
 }
 
-/// Those of ways to a switch that go down alone: each is one more than a shorter one of a switch that the visit met
-/// later.
-fn down_to(alloc: Global, fabric: &Fabric, to: usize) -> Result<Vec<usize>, AllocError> {
-    let mut lengths = vec![in alloc; FAR; fabric.steps.len()]?;
+/// Those of ways to a switch that go down alone: each is one more than a shorter one of a switch that comes later.
+fn down_to(alloc: Global, wires: &Wires, to: usize) -> Result<Vec<usize>, AllocError> {
+    let mut lengths = vec![in alloc; FAR; wires.steps.len()]?;
     lower(&mut lengths, to, 0);
-    for switch in fabric.order.as_slice().iter().rev() {
-        let length = one_more(fabric, *switch, false, &lengths);
+    for switch in wires.order.as_slice().iter().rev() {
+        let length = one_more(wires, *switch, false, &lengths);
         lower(&mut lengths, *switch, length);
     }
     Ok(lengths)
 }
 
 /// Those of ways to a switch that go up and then down, where those that go down alone have these lengths.
-fn up_down_to(alloc: Global, fabric: &Fabric, down: &[usize]) -> Result<Vec<usize>, AllocError> {
+fn up_down_to(alloc: Global, wires: &Wires, down: &[usize]) -> Result<Vec<usize>, AllocError> {
     let mut lengths = Vec::from_slice(alloc, down)?;
-    for switch in fabric.order.as_slice() {
-        let length = one_more(fabric, *switch, true, &lengths);
+    for switch in wires.order.as_slice() {
+        let length = one_more(wires, *switch, true, &lengths);
         lower(&mut lengths, *switch, length);
     }
     Ok(lengths)
 }
 
 /// One more than the least length at the far end of a wire from a switch that goes up, or of one that goes down.
-fn one_more(fabric: &Fabric, switch: usize, up: bool, lengths: &[usize]) -> usize {
-    let Some(steps) = fabric.steps.get(switch) else {
+fn one_more(wires: &Wires, switch: usize, up: bool, lengths: &[usize]) -> usize {
+    let Some(steps) = wires.steps.get(switch) else {
         return FAR;
     };
     let mut least = FAR;

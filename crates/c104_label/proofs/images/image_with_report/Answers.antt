@@ -1,5 +1,5 @@
 use Rattle.{c104_label.proofs.NeverRandomized.never_by, c104_plan.specs.declared.plans.Shape.TheVariants.Hand}
-use Rattle.c104_label.proofs.images.image_of.Goals as goal
+use Rattle.c104_label.proofs.images.image_with_report.Goals as goal
 
 pub returns-in_ok-image-in-Hand-clause-never_randomized : goal.returns-in_ok-image-in-Hand-clause-never_randomized
 returns-in_ok-image-in-Hand-clause-never_randomized c =
