@@ -5,6 +5,7 @@ ghost use Rattle.{c104_describe.specs.declared.faults.PlanFault.PlanFault as The
 ghost use Rattle.{c104_plan.specs.{Plans.Plan as ThePlan, RowPlans.row_plan}, c104_setup.specs.Endings.{CommandEnds, CommandRuns}};
 ghost use Rattle.c104_setup.specs.Setups.{ComesTo};
 
+use crate::reports::tell_labels;
 use c104_describe::print_plan;
 use c104_mistakes::{About, Messages};
 use c104_plan::{Image, Plan};
@@ -23,8 +24,8 @@ const UNSAYABLE: &str = "these labels can't be said by row lines";
 /// registers, if it has at most 1 MiB.
 ///
 /// Reading ends at 1 MiB, whatever the reader. Each error of the reader or the writer is a fault at once. People are
-/// told why the description or its labels are refused; what is written and how it ends are the same whatever takes the
-/// messages does.
+/// told why the description or its labels are refused, and which labels up and down were made; what is written and how it
+/// ends are the same whatever takes the messages does.
 #[tactic(auto, using(c104_setup::proofs::Refusals::runs_before))]
 pub fn label_rows_command<D: Read, W: Write, M: Messages>(
     alloc: Global,
@@ -62,6 +63,7 @@ fn show_rows<W: Write, M: Messages>(
         messages.tell(About::Description, UNSAYABLE);
         Status::Refused
     } else {
+        tell_labels(alloc, setup, messages);
         Status::Done
     }
 }

@@ -4,6 +4,7 @@ ghost use Rattle.{c104_commands.specs.Labels.PrintsLabels, c104_describe.specs.d
 ghost use Rattle.{c104_plan.specs.Plans.Plan as ThePlan, c104_setup.specs.{Endings.{CommandEnds, CommandRuns}, Setups.ComesTo}};
 
 use crate::images::image_text;
+use crate::reports::tell_labels;
 use c104_mistakes::Messages;
 use c104_setup::{Setup, Status, read_setup};
 use c104_stream::write_whole;
@@ -14,8 +15,8 @@ use std::io::{Read, Write};
 /// registers of each switch, or why the network isn't labelled, or the first fault of the description.
 ///
 /// Reading ends at 1 MiB, whatever the reader. Each error of the reader or the writer is a fault at once. People are
-/// told why the description or its labels are refused; what is written and how it ends are the same whatever takes the
-/// messages does.
+/// told why the description or its labels are refused, and which labels up and down were made; what is written and how it
+/// ends are the same whatever takes the messages does.
 #[tactic(auto, using(c104_setup::proofs::Refusals::runs_before))]
 pub fn label_command<D: Read, W: Write, M: Messages>(
     alloc: Global,
@@ -27,21 +28,27 @@ pub fn label_command<D: Read, W: Write, M: Messages>(
         (W.contents writer.old) (W.contents writer.new) result }
 {
     match read_setup(alloc, description, writer, messages) {
-        Ok(setup) => show_setup(alloc, &setup, writer),
+        Ok(setup) => show_setup(alloc, &setup, writer, messages),
         Err(status) => status,
     }
 }
 
-/// Writes the image of a network.
-fn show_setup<W: Write>(alloc: Global, setup: &Setup, writer: &mut W) -> Status
+/// Writes the image of a network, and tells people which labels were made.
+fn show_setup<W: Write, M: Messages>(
+    alloc: Global,
+    setup: &Setup,
+    writer: &mut W,
+    messages: &mut M,
+) -> Status
     ensures { (due : Result ThePlan ThePlanFault) → ComesTo due (Ok (setup.now.plan, setup.now.image))
         → CommandEnds PrintsLabels due (W.contents writer.old) (W.contents writer.new) result }
 {
     let Ok(text) = image_text(alloc, &setup.plan, &setup.image) else {
         return Status::NoMemory;
     };
-    match write_whole(writer, text.as_bytes()) {
-        Ok(()) => Status::Done,
-        Err(_) => Status::CannotWrite,
-    }
+    let Ok(()) = write_whole(writer, text.as_bytes()) else {
+        return Status::CannotWrite;
+    };
+    tell_labels(alloc, setup, messages);
+    Status::Done
 }

@@ -21,6 +21,7 @@ mod label_rows;
 mod labels;
 mod pictures;
 mod range_changes;
+mod reports;
 mod row_changes;
 mod sameness;
 mod texts;

@@ -58,10 +58,10 @@ impl Frame {
         match plan.shape() {
             Shape::Mesh(columns, rows, terminals) => Ok(Frame::Grid(columns, rows, terminals)),
             Shape::Cube(_, terminals) => Ok(Frame::Cube(terminals)),
-            Shape::Tree(root) | Shape::UpDown(root) => {
+            Shape::Tree(root) | Shape::UpDown(Some(root)) => {
                 Ok(Frame::Hanging(depths(alloc, plan, root)?))
             }
-            Shape::Hand => Ok(Frame::Hanging(depths(alloc, plan, 0)?)),
+            Shape::UpDown(None) | Shape::Hand => Ok(Frame::Hanging(depths(alloc, plan, 0)?)),
         }
     }
 

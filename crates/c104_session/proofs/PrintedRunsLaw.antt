@@ -3,8 +3,8 @@ use Rattle.c104_describe.{proofs.DraftsKept.{empty-kept, read_lines-kept}, specs
 use Rattle.c104_describe.specs.{PlanLines.Draft, PlanText.{empty_draft, plan_of_draft, read_description, read_plan_lines}}
 use Rattle.c104_describe.specs.declared.faults.{PlanFault.PlanFault, PlanFaultKind.TheVariants.TooLong}
 use Rattle.{c104_interval.specs.declared.intervals.Table.Table, c104_label.specs.Images.{IsImageBy, IsImageOf}}
-use Rattle.c104_plan.specs.{LabelledImages.{labelled_image, labelled_settings, labelled_switch, port_labelled_switch}, PlanImage.Fits}
-use Rattle.c104_plan.specs.{PlanImage.{Image, settings_of, switch_settings}, Plans.{IsPlan, Plan}, TextCut.{lines, most_bytes}}
+use Rattle.c104_plan.specs.LabelledImages.{labelled_image, labelled_settings, labelled_switch, port_labelled_switch, with_group}
+use Rattle.c104_plan.specs.{PlanImage.{Fits, Image, settings_of, switch_settings}, Plans.{IsPlan, Plan}, TextCut.{lines, most_bytes}}
 use Rattle.c104_plan.specs.declared.{plans.Shape.{Shape, TheVariants.{Cube, Hand, Mesh, Tree, UpDown}}, ports.Port.Port}
 use Rattle.c104_regs.specs.declared.{registers.TheConstants.LINKS, settings.Settings.Settings}
 use Rattle.c104_session.{proofs.{DeliveredLaw.delivered_law, PlacedNets.IsOfLinks, PrintedLaw.printed_law}, specs.PrintedRuns.PrintsAllOf}
@@ -31,9 +31,9 @@ by_label : (plan : Plan) (table : Table) (switch : ℕ) → IsOfLinks (labelled_
 unfolding labelled_switch
 by_label plan table switch = length-map-range_with_len (λ link. labelled_settings plan table (Port.Switch switch link)) 0 LINKS
 
-by_ports : (plan : Plan) (tables : ℕ → Table) (switch : ℕ) → IsOfLinks (port_labelled_switch plan tables switch)
+by_ports : (plan : Plan) (tables : ℕ → Table) (groups : ℕ → Bool) (switch : ℕ) → IsOfLinks (port_labelled_switch plan tables groups switch)
 unfolding port_labelled_switch
-by_ports plan tables switch = length-map-range_with_len (λ link. labelled_settings plan (tables link) (Port.Switch switch link)) 0 LINKS
+by_ports plan tables groups switch = length-map-range_with_len (λ link. with_group (groups link) (labelled_settings plan (tables link) (Port.Switch switch link))) 0 LINKS
 
 of_each : (f : ℕ → List Settings) → ((s : ℕ) → IsOfLinks (f s)) → (ns : List ℕ) → All IsOfLinks (map f ns)
 of_each f each ns = All-map IsOfLinks f ns (λ i s inside. each (get_or ns i s))
@@ -44,7 +44,7 @@ labelled_sized plan ranges tables image is = search (arith, of_each, by_label)
 sized_by : (plan : Plan) (image : Image) (shape : Shape) → IsImageBy shape plan image → All IsOfLinks image.settings
 sized_by plan image Hand is = subst (λ (i : Image). All IsOfLinks i.settings) (sym is) (of_each (switch_settings plan) (by_own plan) (range_with_len 0 (length plan.switches)))
 sized_by plan image (Tree root) (forest, is) = labelled_sized plan _ _ image is.is
-sized_by plan image (UpDown root) (forest, is) = search (arith, of_each, by_ports)
+sized_by plan image (UpDown named) (root, of, forest, is) = search (arith, of_each, by_ports)
 sized_by plan image (Mesh width height terminals) is = labelled_sized plan _ _ image is.is
 sized_by plan image (Cube dimensions terminals) is = labelled_sized plan _ _ image is.is
 

@@ -156,7 +156,7 @@ fn run_setup<S: Read, W: Write, M: Messages>(
         (W.contents writer.old) (W.contents writer.new) result }
     ensures of_script { (n : ℕ) → result ≡ status.CannotRead n → n ≡ 1 }
 {
-    let Setup { plan, image } = setup;
+    let Setup { plan, image, .. } = setup;
     let status = run_image(alloc, &plan, image, ahead, script, writer, messages);
     drop_plan(plan);
     status

@@ -8,7 +8,7 @@ ghost use Rattle.c104_setup.specs.declared.status.Status.TheVariants as status;
 
 use crate::status::Status;
 use c104_describe::{PlanFault, PlanFaultKind, description_text, read_description};
-use c104_label::{LabelFault, image_of};
+use c104_label::{LabelFault, UpDownReport, image_with_report};
 use c104_mistakes::{About, Messages, description_message};
 use c104_plan::{Image, MAX_DESCRIPTION, Plan};
 use c104_stream::{Halt, read_up_to, write_whole};
@@ -23,6 +23,8 @@ pub struct Setup {
     pub plan: Plan,
     /// The settings of links and the terminals' ranges of labels.
     pub image: Image,
+    /// Which labels were made, where packets go up and then down by them.
+    pub report: Option<UpDownReport>,
 }
 
 /// Why a description gives no network with labels.
@@ -51,8 +53,13 @@ pub fn set_up(alloc: Global, description: &[u8]) -> Result<Setup, SetupFault>
         Ok(plan) => plan,
         Err(fault) => return Err(SetupFault::Description(fault)),
     };
-    match image_of(alloc, &plan) {
-        Ok(image) => Ok(Setup { plan, image }),
+    let mut report = None;
+    match image_with_report(alloc, &plan, &mut report) {
+        Ok(image) => Ok(Setup {
+            plan,
+            image,
+            report,
+        }),
         Err(fault) => {
             drop_plan(plan);
             Err(SetupFault::Labels(fault))

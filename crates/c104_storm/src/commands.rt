@@ -38,7 +38,7 @@ pub fn storm_command<R: Threads + Wait + Sync, D: Read, S: Read, W: Write, M: Me
         (W.contents writer.old) (W.contents writer.new) result }
     ensures of_description { result ≡ status.CannotRead 0 → script.new ≡ script.old }
 {
-    let Setup { plan, image } = match read_setup(alloc, description, writer, messages) {
+    let Setup { plan, image, .. } = match read_setup(alloc, description, writer, messages) {
         Ok(setup) => setup,
         Err(status) => return status,
     };
