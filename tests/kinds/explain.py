@@ -37,7 +37,7 @@ DESCRIPTIONS = [
         '`continue`, `delete`, `random`, `header`, `buffer`, `label`, `mesh` or `cube`: frobnicate'),
     (PAIR + b'randm A.0 2 1\n', 3, 'a line begins with `switch`, `terminal`, `wire`, `row`, `base`, `continue`, '
         '`delete`, `random`, `header`, `buffer`, `label`, `mesh` or `cube`: randm; did you mean random?'),
-    (b'switch A\nlabel A\n', 2, 'the line is `label tree SWITCH` or `label up-down SWITCH`'),
+    (b'switch A\nlabel A\n', 2, 'the line is `label tree SWITCH`, `label up-down SWITCH` or `label up-down`'),
     (b'mesh 2 2\n', 1, 'the line is `mesh COLUMNS ROWS TERMINALS`'),
     (b'cube 1\n', 1, 'the line is `cube DIMENSIONS TERMINALS`'),
     (b'mesh 0 2 1\n', 1, 'a mesh has 1 to 64 columns, 1 to 64 rows, and 1 to 28 terminals at each switch'),
@@ -45,10 +45,10 @@ DESCRIPTIONS = [
     (b'mesh 64 64 1\n', 1, 'there are at most 64 switches and 256 terminals'),
     (b'switch A\nlabel tree B\n', 2, 'no earlier line defines a switch of this name: B'),
     (b'switch A\nrow A.0 1 0\nlabel tree A\n', 3, 'the line doesn\'t go with earlier lines: `label` can\'t be combined '
-        'with `row`, `base`, `random`, `continue` or `from`, and `mesh` or `cube` only with `header`, `buffer` and '
-        '`delete`: label'),
+        'with `row`, `base`, `random` or `from`, `label tree` not with `continue`, and `mesh` or `cube` only with `header`, '
+        '`buffer` and `delete`: label'),
     (b'mesh 2 1 1\nrandom s0.4 2 1\n', 2, 'the line doesn\'t go with earlier lines: `label` can\'t be combined with `row`, '
-        '`base`, `random`, `continue` or `from`, and `mesh` or `cube` only with `header`, `buffer` and '
+        '`base`, `random` or `from`, `label tree` not with `continue`, and `mesh` or `cube` only with `header`, `buffer` and '
         '`delete`: random'),
     (b'switch \xc3\x84\n', 1,
         'outside of a comment a byte is printable ASCII, a space, a tab or a carriage return: ??'),

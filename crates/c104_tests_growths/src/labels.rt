@@ -24,6 +24,10 @@ const TREE: &[u8] = b"switch A\nswitch B\nswitch C\nwire A.1 B.0\nwire A.2 C.5\n
 const UP_DOWN: &[u8] = b"switch A\nswitch B\nswitch C\nwire A.1 B.0\nwire B.1 C.0\nwire C.1 A.0\n\
     terminal a A.2\nterminal b B.2\nterminal c C.2\nlabel up-down A\n";
 
+/// Two switches with two wires, of which either may be the root.
+const BY_ITSELF: &[u8] = b"switch A\nswitch B\nwire A.0 B.0\nwire A.1 B.1\nterminal a A.2\n\
+    terminal b B.2\nlabel up-down\n";
+
 const CUBE: &[u8] = b"cube 2 1\n";
 
 /// Two terminals on one switch. What a sends to b comes back to a.
@@ -293,6 +297,7 @@ fn labellers(rt: HostRuntime) {
         ("image_of", CUBE, Labeller::Any),
         ("label_tree", TREE, Labeller::Tree),
         ("label_up_down", UP_DOWN, Labeller::UpDown),
+        ("label_up_down by itself", BY_ITSELF, Labeller::UpDown),
         ("label_mesh", MESH, Labeller::Mesh),
         ("label_cube", CUBE, Labeller::Cube),
     ] {

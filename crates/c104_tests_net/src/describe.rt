@@ -82,6 +82,9 @@ fn prints_up_down(rt: HostRuntime) {
     let text = b"switch A\nlabel up-down A\nterminal a A.0\n";
     let expected = "header 1\nbuffer 16\nswitch A\nterminal a A.0 labels 1\nlabel up-down A\n";
     assert!(rt; prints(rt.alloc(), text, expected));
+    let text = b"label up-down\nswitch A\ncontinue A.1\n";
+    let expected = "header 1\nbuffer 16\nswitch A\nlabel up-down\ncontinue A.1\n";
+    assert!(rt; prints(rt.alloc(), text, expected));
 }
 
 /// A mesh and a cube are printed by their sizes.

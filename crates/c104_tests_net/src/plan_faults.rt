@@ -82,11 +82,13 @@ fn of_labels(rt: HostRuntime) {
         LabelFault::TooManyLabels,
         LabelFault::WrongShape,
         LabelFault::NoMemory,
+        LabelFault::BadGroups,
     ];
     let messages = "wires do not lead from the root to each switch\n\
         there are more labels than headers\n\
         the network does not have the shape that is labelled so\n\
-        out of memory\n";
+        out of memory\n\
+        no labels go with these groups of links\n";
     assert!(rt; say(rt.alloc(), &faults, messages));
 }
 
@@ -167,6 +169,7 @@ fn label_name(fault: LabelFault) -> (u8, &'static str) {
 fn names_of_labels(rt: HostRuntime) {
     assert!(rt; label_name(LabelFault::WrongShape) == (3, "WrongShape"));
     assert!(rt; label_name(LabelFault::NoMemory) == (4, "NoMemory"));
+    assert!(rt; label_name(LabelFault::BadGroups) == (5, "BadGroups"));
 }
 
 fn image_name(fault: ImageFault) -> (u8, &'static str) {
