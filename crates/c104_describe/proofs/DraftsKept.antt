@@ -1,17 +1,18 @@
 -- What the lines read so far keep, so that they give a plan.
 use Rattle.c104_describe.proofs.{FaultOrder.{made, sound}, PlanLinesKept.{IsBeside, IsHosting, IsNext, IsRead, IsSound, base_kept}}
-use Rattle.c104_describe.proofs.PlanLinesKept.{buffer_kept, continue_alone, continue_kept, cube_kept, delete_kept, hand_kept, header_kept}
-use Rattle.c104_describe.proofs.PlanLinesKept.{mesh_kept, random_kept, row_kept, switch_inside, switch_kept, terminal_kept, wire_kept}
-use Rattle.c104_describe.{proofs.PlanRooted.{IsRootIn, IsUnsetFor, root_in_more, rooted_kept}, specs.LineFaults.read_plan_line}
-use Rattle.c104_describe.specs.PlanDrafts.{Draft, asks_tree, excludes_groups, finished, is_begun, is_by_hand, rooted, says_from}
-use Rattle.c104_describe.specs.{PlanFaults.{PlanFault, PlanFaultKind}, PlanLines.{first_word_parts, keyword_parts, labelled_shape}}
-use Rattle.c104_describe.specs.{PlanLines.{line_parts, switch_said, terminal_parts}, PlanText.{draft_after_line, empty_draft}}
-use Rattle.c104_describe.specs.{PlanText.read_plan_lines, PlanWords.{Keyword, keyword_of, range_words}}
-use Rattle.c104_plan.specs.{PlanParts.{has_some, has_tables}, Plans.{HasGroupsAlone, IsPlan, Plan, next_first, rows_of, total_count}}
-use Rattle.c104_plan.specs.{TextCut.{is_plain_line, line_words, uncommented_line}, declared.plans.Shape.{Shape, TheVariants.{Hand, Tree}}}
-use Rattle.{c104_plan.specs.declared.plans.Shape.TheVariants.UpDown, std.proofs.Common.{Bool, Bor, Err, List, None, Ok, Option, Result}}
-use Rattle.std.proofs.Common.{Some, [], arith, bytes_eq, codes, false, get_or, is_some, length, not, refl, subst, sym, true, ℕ, ◌&&◌, ◌+◌}
-use Rattle.std.proofs.{Common.{◌<◌, ◌||◌, ◌∙◌, ◌∷◌, ◌≡◌}, lemmas.{Bool.{Decides.nat_tests, or_from, or_parts}, List.Elements.All-nil}}
+use Rattle.c104_describe.proofs.PlanLinesKept.{buffer_kept, clos_kept, continue_alone, continue_kept, cube_kept, delete_kept, hand_kept}
+use Rattle.c104_describe.proofs.PlanLinesKept.{header_kept, mesh_kept, random_kept, row_kept, switch_inside, switch_kept, terminal_kept}
+use Rattle.c104_describe.proofs.{PlanLinesKept.{torus_kept, wide_cube_kept, wide_mesh_kept, wire_kept}, PlanRooted.{IsRootIn, IsUnsetFor}}
+use Rattle.c104_describe.{proofs.PlanRooted.{root_in_more, rooted_kept}, specs.{LineFaults.read_plan_line, PlanDrafts.{Draft, asks_tree}}}
+use Rattle.c104_describe.specs.{PlanDrafts.{excludes_groups, finished, is_begun, is_by_hand, rooted, says_from}, PlanFaults.PlanFault}
+use Rattle.c104_describe.specs.{PlanFaults.PlanFaultKind, PlanLines.{first_word_parts, keyword_parts, labelled_shape, line_parts}}
+use Rattle.c104_describe.specs.{PlanLines.{switch_said, terminal_parts}, PlanText.{draft_after_line, empty_draft, read_plan_lines}}
+use Rattle.{c104_describe.specs.PlanWords.{Keyword, keyword_of, range_words}, c104_plan.specs.PlanParts.{has_some, has_tables}}
+use Rattle.c104_plan.specs.{Plans.{HasGroupsAlone, IsPlan, Plan, next_first, rows_of, total_count}, TextCut.{is_plain_line, line_words}}
+use Rattle.c104_plan.specs.{TextCut.uncommented_line, declared.plans.Shape.{Shape, TheVariants.{Hand, Tree, UpDown}}}
+use Rattle.std.proofs.Common.{Bool, Bor, Err, List, None, Ok, Option, Result, Some, [], arith, bytes_eq, codes, false, get_or, is_some}
+use Rattle.std.proofs.{Common.{length, not, refl, subst, sym, true, ℕ, ◌&&◌, ◌+◌, ◌<◌, ◌||◌, ◌∙◌, ◌∷◌, ◌≡◌}, lemmas.Bool.Decides.nat_tests}
+use Rattle.std.proofs.lemmas.{Bool.{or_from, or_parts}, List.Elements.All-nil}
 
 -- with labels that are asked for a plan is one that is made line by line, without `from` and without what labellers set
 abbrev pub IsRooted : Option Shape → Plan → Bool → Type 0
@@ -174,6 +175,24 @@ module _ (draft : Draft) (is_plain : Bool) (all : IsDraft draft) where
   keyword_kept Keyword.Cube (dimensions ∷ terminals ∷ []) sound =
       let parts = or_parts (has_some draft.plan.switches) (is_some draft.labels) (sound PlanFaultKind.MixedStyle) in
       filled draft _ all parts.1 (cube_kept draft is_plain all.kept dimensions terminals (has_none draft.plan.switches parts.0) sound)
+  keyword_kept Keyword.Mesh (width ∷ height ∷ terminals ∷ wires ∷ []) sound =
+      let parts = or_parts (has_some draft.plan.switches) (is_some draft.labels) (sound PlanFaultKind.MixedStyle) in
+      filled draft _ all parts.1 (wide_mesh_kept draft is_plain all.kept width height terminals wires (has_none draft.plan.switches parts.0) sound)
+  keyword_kept Keyword.Cube (dimensions ∷ terminals ∷ wires ∷ []) sound =
+      let parts = or_parts (has_some draft.plan.switches) (is_some draft.labels) (sound PlanFaultKind.MixedStyle) in
+      filled draft _ all parts.1 (wide_cube_kept draft is_plain all.kept dimensions terminals wires (has_none draft.plan.switches parts.0) sound)
+  keyword_kept Keyword.Torus (width ∷ height ∷ terminals ∷ []) sound =
+      let parts = or_parts (has_some draft.plan.switches) (is_some draft.labels) (sound PlanFaultKind.MixedStyle) in
+      filled draft _ all parts.1 (torus_kept draft is_plain all.kept width height terminals (codes "1") (has_none draft.plan.switches parts.0) sound)
+  keyword_kept Keyword.Torus (width ∷ height ∷ terminals ∷ wires ∷ []) sound =
+      let parts = or_parts (has_some draft.plan.switches) (is_some draft.labels) (sound PlanFaultKind.MixedStyle) in
+      filled draft _ all parts.1 (torus_kept draft is_plain all.kept width height terminals wires (has_none draft.plan.switches parts.0) sound)
+  keyword_kept Keyword.Clos (leaves ∷ spines ∷ terminals ∷ []) sound =
+      let parts = or_parts (has_some draft.plan.switches) (is_some draft.labels) (sound PlanFaultKind.MixedStyle) in
+      filled draft _ all parts.1 (clos_kept draft is_plain all.kept leaves spines terminals (codes "1") (has_none draft.plan.switches parts.0) sound)
+  keyword_kept Keyword.Clos (leaves ∷ spines ∷ terminals ∷ wires ∷ []) sound =
+      let parts = or_parts (has_some draft.plan.switches) (is_some draft.labels) (sound PlanFaultKind.MixedStyle) in
+      filled draft _ all parts.1 (clos_kept draft is_plain all.kept leaves spines terminals wires (has_none draft.plan.switches parts.0) sound)
   -- too few words or too many: nothing is added
   keyword_kept k rest sound = all
 

@@ -1,10 +1,14 @@
 -- No link has two terminals or wires in a filled plan.
-use Rattle.c104_plan.proofs.{LayoutJoins.{AreJoined, IsJoined}, PortLemmas.is_port-ne, RangeLists.each_flat}
-use Rattle.c104_plan.specs.{Distinctness.AreDistinct, Layouts.{Layout, filled_terminal, filled_terminals, filled_wires, wire_at, wire_to}}
-use Rattle.c104_plan.specs.{Layouts.wires_from, Plans.{host_port, linked_ports}, Ports.{both_ends, is_port}, declared.ports.Port.Port}
-use Rattle.{c104_plan.specs.declared.ports.Wire.Wire, std.proofs.Common.{List, None, Option, Some, [], ap, arith, false, map, refl, subst}}
-use Rattle.std.proofs.Common.{suc, sym, true, zero, ℕ, ⊎_elim, ◌%◌, ◌*◌, ◌++◌, ◌+◌, ◌/◌, ◌<◌, ◌∙◌, ◌∷◌, ◌≡◌, ◌≢◌, ◌≤◌}
-use Rattle.std.{proofs.lemmas.Bool.cases_Bool, specs.List.{AllByRecursion, flat_map, range_with_len}}
+use Rattle.{c104_describe.specs.ShapeLayouts.hosted_terminals, c104_plan.proofs.{LayoutJoins.{AreJoined, IsJoined}, PortLemmas.is_port-ne}}
+use Rattle.c104_plan.{proofs.RangeLists.each_flat, specs.{Distinctness.AreDistinct, Layouts.{Layout, filled_terminal, filled_wires}}}
+use Rattle.c104_plan.specs.{Layouts.{wire_at, wire_to, wires_from}, Plans.{host_port, linked_ports}, Ports.{both_ends, is_port}}
+use Rattle.{c104_plan.specs.declared.ports.{Port.Port, Wire.Wire}, std.proofs.Common.{List, None, Option, Some, [], ap, arith, false, inl}}
+use Rattle.std.proofs.Common.{inr, map, refl, subst, suc, sym, true, zero, ℕ, ⊎_elim, ◌%◌, ◌*◌, ◌++◌, ◌+◌, ◌/◌, ◌<◌, ◌∙◌, ◌∷◌, ◌≡◌, ◌≢◌}
+use Rattle.std.{proofs.{Common.{◌≤◌, ◌⊎◌}, lemmas.{Bool.cases_Bool, Nat.div_below}}, specs.List.{AllByRecursion, flat_map, range_with_len}}
+
+-- a link of a switch that is for no other, or isn't wired
+abbrev pub IsFree : Layout → ℕ → ℕ → Type 0
+IsFree layout s l = (layout.links ≤ l) ⊎ (layout.beyond s l ≡ None)
 
 -- where a link for a switch leads
 leads : Layout → Port → Option Port
@@ -23,6 +27,7 @@ IsEnd layout (Port.Terminal t) = ⊥
 record IsGood (layout : Layout) (w : Wire) : Type 0 where
   begin : IsBegin layout w.here
   end : IsEnd layout w.there
+  forth : leads layout w.here ≡ Some w.there
   back : leads layout w.there ≡ Some w.here
 
 clash : (layout : Layout) (q : Port) → IsBegin layout q → IsEnd layout q → ⊥
@@ -67,13 +72,13 @@ wires_run layout = run_range layout 0 layout.links 0 layout.switches 0 (layout.s
     let hi : s * layout.links + l + 1 ≡ 0 + s * layout.links + l * 1 + 1 = omega arith in
     subst (λ x. IsRun layout x (0 + s * layout.links + l * 1 + 1) (wire_at layout s l)) lo (subst (λ x. IsRun layout (s * layout.links + l) x (wire_at layout s l)) hi (wire_at_run layout s l))))
 
-wire_good : (layout : Layout) (s l : ℕ) (q : Option Port) → s < layout.switches → l < layout.links → layout.begins s l ≡ true → IsJoined layout s l q → AllByRecursion (IsGood layout) (wire_to (Port.Switch s l) q)
+wire_good : (layout : Layout) (s l : ℕ) (q : Option Port) → s < layout.switches → l < layout.links → layout.begins s l ≡ true → layout.beyond s l ≡ q → IsJoined layout s l q → AllByRecursion (IsGood layout) (wire_to (Port.Switch s l) q)
 unfolding leads
-wire_good layout s l q a b c j = search arith
+wire_good layout s l q a b c is j = search arith
 
 wires_good : (layout : Layout) → AreJoined layout → AllByRecursion (IsGood layout) (filled_wires layout)
 wires_good layout joined = each_flat (IsGood layout) (wires_from layout) 0 layout.switches (λ s a. each_flat (IsGood layout) (wire_at layout s) 0 layout.links (λ l b. ⊎_elim
-    (λ (t : layout.begins s l ≡ true). rw t (wire_good layout s l (layout.beyond s l) (omega (arith, a)) (omega (arith, b)) t (joined s l (omega (arith, a)) (omega (arith, b)))))
+    (λ (t : layout.begins s l ≡ true). rw t (wire_good layout s l (layout.beyond s l) (omega (arith, a)) (omega (arith, b)) t refl (joined s l (omega (arith, a)) (omega (arith, b)))))
     (λ (t : layout.begins s l ≡ false). rw t tt)
     (cases_Bool (layout.begins s l))))
 
@@ -97,33 +102,37 @@ module _ (layout : Layout) where
 
   -- terminals are on other links
 
-  no_begin : (s l : ℕ) (p : Port) → layout.links ≤ l → IsBegin layout p → Port.Switch s l ≢ p
-  no_begin s l p le a = search arith
+  no_begin : (s l : ℕ) (p q : Port) → IsFree layout s l → IsBegin layout p → leads layout p ≡ Some q → Port.Switch s l ≢ p
+  unfolding leads
+  no_begin s l p q (inl past) a is = search arith
+  no_begin s l p q (inr none) a is = λ e. let nowhere : None ≡ Some q = sym none ∙ ap (leads layout) e ∙ is in cc
 
-  no_end : (s l : ℕ) (p : Port) → layout.links ≤ l → IsEnd layout p → Port.Switch s l ≢ p
-  no_end s l p le a = search arith
+  no_end : (s l : ℕ) (p q : Port) → IsFree layout s l → IsEnd layout p → leads layout p ≡ Some q → Port.Switch s l ≢ p
+  unfolding leads
+  no_end s l p q (inl past) a is = search arith
+  no_end s l p q (inr none) a is = λ e. let nowhere : None ≡ Some q = sym none ∙ ap (leads layout) e ∙ is in cc
 
-  own_none : (s l : ℕ) (ws : List Wire) → layout.links ≤ l → AllByRecursion (IsGood layout) ws → IsNone (Port.Switch s l) (both_ends ws)
-  own_none s l [] le good = tt
-  own_none s l (w ∷ ws) le good = (is_port-ne (Port.Switch s l) w.here (no_begin s l w.here le good.0.begin), (is_port-ne (Port.Switch s l) w.there (no_end s l w.there le good.0.end), own_none s l ws le good.1))
+  own_none : (s l : ℕ) (ws : List Wire) → IsFree layout s l → AllByRecursion (IsGood layout) ws → IsNone (Port.Switch s l) (both_ends ws)
+  own_none s l [] free good = tt
+  own_none s l (w ∷ ws) free good = (is_port-ne (Port.Switch s l) w.here (no_begin s l w.here w.there free good.0.begin good.0.forth), (is_port-ne (Port.Switch s l) w.there (no_end s l w.there w.here free good.0.end good.0.back), own_none s l ws free good.1))
 
-  module _ (p : ℕ) where
+  module _ (hosts first p : ℕ) (some : 0 < p) (free : (s l : ℕ) → s < hosts → first ≤ l → IsFree layout s l) where
     own_port : ℕ → Port
-    own_port t = host_port (filled_terminal layout.links p t)
+    own_port t = host_port (filled_terminal first p t)
 
     own_same : (t u : ℕ) → own_port t ≡ own_port u → t ≡ u
     unfolding own_port
     own_same t u is = search (arith, own_port)
 
-    terminal_none : (t n count : ℕ) (ws : List Wire) → t < n → AllByRecursion (IsGood layout) ws → IsNone (own_port t) (linked_ports (map (filled_terminal layout.links p) (range_with_len n count)) ws)
+    terminal_none : (t n count : ℕ) (ws : List Wire) → t < n → n + count ≤ hosts * p → AllByRecursion (IsGood layout) ws → IsNone (own_port t) (linked_ports (map (filled_terminal first p) (range_with_len n count)) ws)
     unfolding own_port
-    terminal_none t n zero ws lt good = own_none (t / p) (layout.links + t % p) ws (omega arith) good
-    terminal_none t n (suc count) ws lt good = (is_port-ne (own_port t) (own_port n) (λ e. let same : t ≡ n = own_same t n e in omega (arith, lt, same)), terminal_none t (n + 1) count ws (omega (arith, lt)) good)
+    terminal_none t n zero ws lt fit good = own_none (t / p) (first + t % p) ws (free (t / p) (first + t % p) (div_below t p hosts some (omega (arith, lt, fit))) (omega arith)) good
+    terminal_none t n (suc count) ws lt fit good = (is_port-ne (own_port t) (own_port n) (λ e. let same : t ≡ n = own_same t n e in omega (arith, lt, same)), terminal_none t (n + 1) count ws (omega (arith, lt)) (omega (arith, fit)) good)
 
-    terminals_differ : (n count : ℕ) (ws : List Wire) → AllByRecursion (IsGood layout) ws → AreDistinct is_port (both_ends ws) → AreDistinct is_port (linked_ports (map (filled_terminal layout.links p) (range_with_len n count)) ws)
+    terminals_differ : (n count : ℕ) (ws : List Wire) → n + count ≤ hosts * p → AllByRecursion (IsGood layout) ws → AreDistinct is_port (both_ends ws) → AreDistinct is_port (linked_ports (map (filled_terminal first p) (range_with_len n count)) ws)
     unfolding own_port
-    terminals_differ n zero ws good differ = differ
-    terminals_differ n (suc count) ws good differ = (terminal_none n (n + 1) count ws (omega arith) good, terminals_differ (n + 1) count ws good differ)
+    terminals_differ n zero ws fit good differ = differ
+    terminals_differ n (suc count) ws fit good differ = (terminal_none n (n + 1) count ws (omega arith) (omega (arith, fit)) good, terminals_differ (n + 1) count ws (omega (arith, fit)) good differ)
 
-    pub filled_links : AreJoined layout → AreDistinct is_port (linked_ports (filled_terminals layout p) (filled_wires layout))
-    filled_links joined = terminals_differ 0 (layout.switches * p) (filled_wires layout) (wires_good layout joined) (wires_differ 0 (layout.switches * layout.links) (filled_wires layout) (wires_run layout) (wires_good layout joined))
+    pub hosted_links : AreJoined layout → AreDistinct is_port (linked_ports (hosted_terminals hosts first p) (filled_wires layout))
+    hosted_links joined = terminals_differ 0 (hosts * p) (filled_wires layout) (omega arith) (wires_good layout joined) (wires_differ 0 (layout.switches * layout.links) (filled_wires layout) (wires_run layout) (wires_good layout joined))

@@ -6,8 +6,9 @@ mod PrintedPorts
 pub mod FilledNames
 pub mod FilledLinks
 pub mod FilledSteps
-pub mod FilledKept
+pub mod ShapeJoins
 pub mod PlanRooted
+pub mod FilledKept
 pub mod DraftsKept
 pub mod PlanLinesKept
 pub mod FaultOrder

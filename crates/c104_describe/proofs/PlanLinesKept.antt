@@ -1,19 +1,23 @@
 -- What each line without a fault keeps of the plan: what its type does, and what the line leaves as it was.
-use Rattle.c104_describe.{proofs.FilledKept.{cube_kept as filled_cube, mesh_kept as filled_mesh}, specs.LineFaults.is_fault_of}
-use Rattle.c104_describe.specs.{PlanDrafts.{is_by_hand, is_mixed}, PlanFaults.PlanFaultKind, PlanLines.{Draft, LineParts, is_bad_number}}
+use Rattle.c104_describe.proofs.{FilledKept.{cube_kept as filled_cube, hosted_kept, mesh_kept as filled_mesh}, ShapeJoins.clos_free}
+use Rattle.c104_describe.{proofs.ShapeJoins.{clos_is, parallel_is, torus_is}, specs.{LineFaults.is_fault_of, PlanDrafts.is_by_hand}}
+use Rattle.c104_describe.specs.{PlanDrafts.is_mixed, PlanFaults.PlanFaultKind, PlanLines.{Draft, LineParts, clos_parts, is_bad_number}}
 use Rattle.c104_describe.specs.PlanLines.{is_from_to, keyword_parts, names_port, number_said, port_link, port_name, port_said, select_said}
-use Rattle.c104_describe.specs.{PlanLines.{selected_link, switch_said, terminal_parts, value_said}, PlanWords.Keyword}
-use Rattle.{c104_interval.specs.declared.intervals.TheConstants.ROWS, c104_plan.proofs.{LayoutNumbers.power_small, PlanKept.with_base}}
-use Rattle.c104_plan.proofs.PlanKept.{with_buffer, with_continue, with_delete, with_header, with_random, with_row, with_switch}
-use Rattle.c104_plan.{proofs.PlanKept.{with_terminal, with_wire}, specs.Plans.{HasGroupsAlone, IsPlan, IsPlanSelect, IsPlanWire, Plan}}
+use Rattle.c104_describe.specs.{PlanLines.{selected_link, switch_said, terminal_parts, torus_parts, value_said}, PlanWords.Keyword}
+use Rattle.{c104_describe.specs.ShapeLayouts.{clos, parallel, torus}, c104_interval.specs.declared.intervals.TheConstants.ROWS}
+use Rattle.c104_plan.proofs.{LayoutJoins.{cube_is, mesh_is}, LayoutNumbers.{power_small, times}, PlanKept.{with_base, with_buffer}}
+use Rattle.c104_plan.proofs.PlanKept.{with_continue, with_delete, with_header, with_random, with_row, with_switch, with_terminal, with_wire}
+use Rattle.c104_plan.specs.{Layouts.{cube, mesh}, PlanParts.has_some, Plans.{HasGroupsAlone, IsPlan, IsPlanSelect, IsPlanWire, Plan}}
 use Rattle.c104_plan.specs.Plans.{is_buffer_size, is_continued, is_deleted, is_linked, label_count, last_link, most_header_bytes}
 use Rattle.c104_plan.specs.{Plans.{most_terminals, next_first, rows_of, switch_number, terminal_number, total_count}, Ports.IsSwitchPort}
 use Rattle.c104_plan.specs.{Ports.is_any_at, TextWords.read_number, declared.plans.{PlanBase.PlanBase, PlanRandom.PlanRandom}}
 use Rattle.c104_plan.specs.declared.{plans.{PlanRow.PlanRow, Shape.{Shape, TheVariants.Hand}, Terminal.Terminal}, ports.Port.Port}
 use Rattle.{c104_plan.specs.declared.ports.Wire.Wire, std.proofs.Common.{Bool, List, None, Ok, Option, Some, [], ap, arith, bytes_eq}}
-use Rattle.std.proofs.Common.{codes, false, get_or, is_none, length, length-append, nat_lt, not, refl, sym, true, ℕ, ◌++◌, ◌+◌, ◌<◌, ◌==◌}
-use Rattle.std.proofs.{Common.{◌||◌, ◌∙◌, ◌∷◌, ◌≡◌, ◌≤◌}, lemmas.Bool.{and_parts, eqb-false, eqb-true, leb-true, ltb-false, or_parts}}
-use Rattle.std.{proofs.lemmas.{List.Quantifiers.position-Some, Slice.Eq.bytes_eq-Decides}, specs.Option.{option_map_or, unwrap_or}}
+use Rattle.std.proofs.Common.{codes, false, get_or, if◌then◌else◌, inl, inr, is_none, length, length-append, nat_le, nat_lt, not, refl, sym}
+use Rattle.std.proofs.{Common.{true, ℕ, ⊎_elim, ◌*◌, ◌++◌, ◌+◌, ◌<◌, ◌==◌, ◌^◌, ◌||◌, ◌∙◌, ◌∷◌, ◌≡◌, ◌≤◌}, lemmas.Bool.and_parts}
+use Rattle.std.proofs.lemmas.{Bool.{cases_Bool, eqb-false, eqb-true, leb-true, ltb-false, or_parts}, List.Quantifiers.position-Some}
+use Rattle.std.{proofs.lemmas.{Nat.pow_pos, Slice.Eq.bytes_eq-Decides}, specs.Option.{option_map_or, unwrap_or}}
+use Rattle.std.proofs.Common.is_some
 
 -- Conditions that hold
 
@@ -134,6 +138,14 @@ begins_there : (next : ℕ) (from : Option (List ℕ)) → from ≡ None → num
 begins_there next from none = search arith
 
 -- Lines
+
+-- a product of two that aren't zero isn't
+some_of_both : (a b : ℕ) → 0 < a → 0 < b → 0 < a * b
+some_of_both a b some_a some_b = omega (arith, some_a, times 1 b a some_b)
+
+-- the larger of two fits where both do
+larger_fits : (m n k most : ℕ) → m * k ≤ most → n * k ≤ most → (if nat_le m n then n else m) * k ≤ most
+larger_fits m n k most a b = ⊎_elim (λ (t : nat_le m n ≡ true). rw t b) (λ (t : nat_le m n ≡ false). rw t a) (cases_Bool (nat_le m n))
 
 by_hand : (shape : Shape) → not (is_by_hand shape) ≡ false → shape ≡ Hand
 by_hand shape is = search arith
@@ -296,5 +308,94 @@ module _ (draft : Draft) (is_plain : Bool) (kept : IsPlan draft.plan) where
           links = some.1;
           labels = ltb-false _ _ (or_parts _ _ (sound PlanFaultKind.TooMany)).0;
         }) (power_small (value_said dimensions) low),
+        refl,
+      )
+
+  -- networks that are labelled up and down from their first switch
+
+  pub wide_mesh_kept : (width height terminals wires : List ℕ) → plan.switches ≡ [] → IsRead Keyword.Mesh (width ∷ height ∷ terminals ∷ wires ∷ []) → IsFilledPlan (after Keyword.Mesh (width ∷ height ∷ terminals ∷ wires ∷ []))
+  wide_mesh_kept width height terminals wires none sound =
+      let first = or_parts _ _ (sound PlanFaultKind.BadNumber) in
+      let second = or_parts _ _ first.1 in
+      let third = or_parts _ _ second.1 in
+      let counts = or_parts _ _ (sound PlanFaultKind.TooMany) in
+      let more = or_parts _ _ counts.1 in
+      let w = value_said width in
+      let h = value_said height in
+      let p = value_said terminals in
+      let k = value_said wires in
+      let wide = number_kept 1 64 width first.0 in
+      let high = number_kept 1 64 height second.0 in
+      let some = number_kept 1 28 terminals third.0 in
+      let made = number_kept 2 7 wires (or_parts _ _ third.1).0 in
+      let room : 4 * k + p ≤ 32 = ltb-false _ _ (or_parts _ _ more.1).0 in
+      let made_some : 0 < k = omega (arith, made.0) in (
+        hosted_kept (parallel k (mesh w h)) (w * h) (4 * k) p (parallel_is k (mesh w h) made_some (mesh_is w h wide.0)) some.0 (some_of_both w h wide.0 high.0)
+            (ltb-false _ _ counts.0) (omega arith) (ltb-false _ _ more.0) (omega (arith, room)) room (λ s l a b. inl b) plan kept none,
+        refl,
+      )
+
+  pub wide_cube_kept : (dimensions terminals wires : List ℕ) → plan.switches ≡ [] → IsRead Keyword.Cube (dimensions ∷ terminals ∷ wires ∷ []) → IsFilledPlan (after Keyword.Cube (dimensions ∷ terminals ∷ wires ∷ []))
+  wide_cube_kept dimensions terminals wires none sound =
+      let first = or_parts _ _ (sound PlanFaultKind.BadNumber) in
+      let second = or_parts _ _ first.1 in
+      let counts = or_parts _ _ (sound PlanFaultKind.TooMany) in
+      let d = value_said dimensions in
+      let p = value_said terminals in
+      let k = value_said wires in
+      let low = (number_kept 0 6 dimensions first.0).1 in
+      let some = number_kept 1 26 terminals second.0 in
+      let made = number_kept 2 31 wires (or_parts _ _ second.1).0 in
+      let room : d * k + p ≤ 32 = ltb-false _ _ (or_parts _ _ counts.1).0 in
+      let made_some : 0 < k = omega (arith, made.0) in (
+        hosted_kept (parallel k (cube d)) (2 ^ d) (d * k) p (parallel_is k (cube d) made_some (cube_is d)) some.0 (pow_pos d)
+            (power_small d low) (omega arith) (ltb-false _ _ counts.0) (omega (arith, room)) room (λ s l a b. inl b) plan kept none,
+        refl,
+      )
+
+  abbrev pub IsShapeRead : LineParts → Type 0
+  IsShapeRead parts = IsSound draft.plan (record parts { is_known = true; is_plain = is_plain; is_mixed = has_some plan.switches || is_some draft.labels })
+
+  pub torus_kept : (width height terminals wires : List ℕ) → plan.switches ≡ [] → IsShapeRead (torus_parts draft width height terminals wires) → IsFilledPlan (torus_parts draft width height terminals wires).next.plan
+  torus_kept width height terminals wires none sound =
+      let first = or_parts _ _ (sound PlanFaultKind.BadNumber) in
+      let second = or_parts _ _ first.1 in
+      let third = or_parts _ _ second.1 in
+      let counts = or_parts _ _ (sound PlanFaultKind.TooMany) in
+      let more = or_parts _ _ counts.1 in
+      let w = value_said width in
+      let h = value_said height in
+      let p = value_said terminals in
+      let k = value_said wires in
+      let wide = number_kept 1 64 width first.0 in
+      let high = number_kept 1 64 height second.0 in
+      let some = number_kept 1 24 terminals third.0 in
+      let made = number_kept 1 3 wires (or_parts _ _ third.1).0 in
+      let room : 4 * (2 * k) + p ≤ 32 = ltb-false _ _ (or_parts _ _ more.1).0 in
+      let made_some : 0 < 2 * k = omega (arith, made.0) in (
+        hosted_kept (parallel (2 * k) (torus w h)) (w * h) (4 * (2 * k)) p (parallel_is (2 * k) (torus w h) made_some (torus_is w h wide.0)) some.0 (some_of_both w h wide.0 high.0)
+            (ltb-false _ _ counts.0) (omega arith) (ltb-false _ _ more.0) (omega (arith, room)) room (λ s l a b. inl b) plan kept none,
+        refl,
+      )
+
+  pub clos_kept : (leaves spines terminals wires : List ℕ) → plan.switches ≡ [] → IsShapeRead (clos_parts draft leaves spines terminals wires) → IsFilledPlan (clos_parts draft leaves spines terminals wires).next.plan
+  clos_kept leaves spines terminals wires none sound =
+      let first = or_parts _ _ (sound PlanFaultKind.BadNumber) in
+      let second = or_parts _ _ first.1 in
+      let third = or_parts _ _ second.1 in
+      let counts = or_parts _ _ (sound PlanFaultKind.TooMany) in
+      let more = or_parts _ _ counts.1 in
+      let m = value_said leaves in
+      let n = value_said spines in
+      let p = value_said terminals in
+      let k = value_said wires in
+      let some_leaves = number_kept 1 32 leaves first.0 in
+      let few_spines = (number_kept 1 31 spines second.0).1 in
+      let some = number_kept 1 31 terminals third.0 in
+      let made = (number_kept 1 31 wires (or_parts _ _ third.1).0).0 in
+      let room : n * k + p ≤ 32 = ltb-false _ _ more.0 in
+      let few : m * k ≤ 32 = ltb-false _ _ (or_parts _ _ more.1).0 in (
+        hosted_kept (parallel k (clos m n)) m (n * k) p (parallel_is k (clos m n) made (clos_is m n)) some.0 some_leaves.0
+            (omega (arith, some_leaves.1, few_spines)) (omega arith) (ltb-false _ _ counts.0) (larger_fits m n k 32 few (omega (arith, room))) room (λ s l a b. inr (clos_free m n k s l made a b)) plan kept none,
         refl,
       )

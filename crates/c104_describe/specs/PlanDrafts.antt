@@ -7,7 +7,7 @@ use Rattle.std.specs.Prelude.{Bool, Err, List, None, Ok, Option, Result, Some, [
 use Rattle.std.specs.Prelude.{◌||◌, ◌∷◌}
 use Rattle.c104_describe.specs.declared.drafts.Draft as kept
 
--- a plan, of which the shape is that of a mesh or a cube once a line gave one; whether lines have said its
+-- a plan, of which the shape is that of a whole network once a line gave one; whether lines have said its
 -- header length, its buffer size, and where the range of some terminal begins; and the shape as which a line asks it
 -- to be labelled, if one does
 pub record Draft : Type 0 where
@@ -64,9 +64,9 @@ asks_tree [] = false
 asks_tree (style ∷ rest) = bytes_eq style (codes "tree")
 
 -- whether a line, by what its first word says and the words after it, doesn't go with the lines before it:
--- `label` goes with neither `base`, `row`, `random` nor a terminal's `from`, and a tree's not with `continue`; and `mesh`
--- and `cube` give all of a network but its headers, buffers and deletes. Each line of another kind but `label` gives or
--- names a switch.
+-- `label` goes with neither `base`, `row`, `random` nor a terminal's `from`, and a tree's not with `continue`; and `mesh`,
+-- `cube`, `torus` and `clos` give all of a network but its headers, buffers and deletes. Each line of another kind but
+-- `label` gives or names a switch.
 abbrev pub is_mixed : Draft → Keyword → List (List ℕ) → Bool
 is_mixed draft Keyword.Switch rest = not (is_by_hand draft.plan.shape)
 is_mixed draft Keyword.Terminal rest = not (is_by_hand draft.plan.shape) || (is_some draft.labels && says_from rest)
@@ -79,6 +79,8 @@ is_mixed draft Keyword.Label rest =
     not (is_by_hand draft.plan.shape) || (draft.from_said || (has_tables draft.plan || (has_some draft.plan.continues && asks_tree rest)))
 is_mixed draft Keyword.Mesh rest = has_some draft.plan.switches || is_some draft.labels
 is_mixed draft Keyword.Cube rest = has_some draft.plan.switches || is_some draft.labels
+is_mixed draft Keyword.Torus rest = has_some draft.plan.switches || is_some draft.labels
+is_mixed draft Keyword.Clos rest = has_some draft.plan.switches || is_some draft.labels
 is_mixed draft Keyword.Header rest = false
 is_mixed draft Keyword.Buffer rest = false
 is_mixed draft Keyword.Delete rest = false

@@ -2,13 +2,14 @@
 -- word with which lines begin. What is wrong with a line and what it adds are said of the row's parts.
 pub use Rattle.c104_describe.specs.PlanDrafts.{Draft}
 use Rattle.c104_describe.specs.{PlanDrafts.is_mixed, PlanFaults.PlanFaultKind, PlanWords.{Keyword, keyword_of, range_words}}
-use Rattle.c104_interval.specs.declared.intervals.{Select.{Select, TheVariants.{Discard, Link, Sink}}, TheConstants.ROWS}
+use Rattle.{c104_describe.specs.ShapeLayouts.{clos, hosted_plan, parallel, torus}, c104_interval.specs.declared.intervals.Select.Select}
+use Rattle.c104_interval.specs.declared.intervals.{Select.TheVariants.{Discard, Link, Sink}, TheConstants.ROWS}
 use Rattle.c104_plan.specs.{Layouts.{Layout, cube, filled_switches, filled_terminals, filled_wires, mesh}, Plans.{Plan, is_buffer_size}}
 use Rattle.c104_plan.specs.Plans.{is_continued, is_deleted, label_count, last_link, most_header_bytes, most_switches, most_terminals}
 use Rattle.c104_plan.specs.{Plans.{next_first, rows_of, switch_number, terminal_number}, Ports.is_any_at, TextWords.{dots, read_number}}
 use Rattle.c104_plan.specs.declared.plans.{PlanBase.PlanBase, PlanRandom.PlanRandom, PlanRow.PlanRow, Shape.{Shape, TheVariants.Cube}}
 use Rattle.c104_plan.specs.declared.{plans.Shape.TheVariants.{Mesh, Tree, UpDown}, ports.{Port.Port, Wire.Wire}, text.Dots.Dots}
-use Rattle.c104_plan.specs.declared.text.Dots.TheVariants.{At, Several, Without}
+use Rattle.{c104_plan.specs.declared.text.Dots.TheVariants.{At, Several, Without}, c104_regs.specs.declared.registers.TheConstants.LINKS}
 use Rattle.std.specs.{Option.{option_map_or, unwrap_or}, Prelude.{Bool, Err, List, None, Ok, Option, Result, Some, [], bytes_eq, codes}}
 use Rattle.std.specs.Prelude.{drop, false, if◌then◌else◌, is_some, length, nat_le, not, take, true, ℕ, ◌&&◌, ◌*◌, ◌++◌, ◌+◌, ◌^◌, ◌||◌, ◌∷◌}
 
@@ -183,6 +184,32 @@ terminal_parts draft name at (Ok range) =
     }
 terminal_parts draft name at (Err kind) = record (no_parts draft) { is_shaped = false }
 
+-- `torus w h p k`: all of a torus of w columns and h rows, with p terminals at each switch, and twice k wires to each
+-- neighbour. It is to be labelled up and down from its first switch.
+abbrev pub torus_parts : Draft → List ℕ → List ℕ → List ℕ → List ℕ → LineParts
+torus_parts draft width height terminals wires =
+    let w = value_said width in
+    let h = value_said height in
+    let p = value_said terminals in
+    let k = value_said wires in
+    record (no_parts (with_plan draft (hosted_plan (parallel (2 * k) (torus w h)) (w * h) (4 * (2 * k)) p draft.plan))) {
+      numbers = (Some width, is_from_to 1 64) ∷ (Some height, is_from_to 1 64) ∷ (Some terminals, is_from_to 1 24) ∷ (Some wires, is_from_to 1 3) ∷ [];
+      counts = (w * h, most_switches) ∷ (w * h * p, most_terminals) ∷ (4 * (2 * k) + p, LINKS) ∷ [];
+    }
+
+-- `clos m n p k`: all of a folded Clos network of m leaves, with p terminals at each, and n spines, with k wires from each
+-- leaf to each spine. It is to be labelled up and down from its first leaf.
+abbrev pub clos_parts : Draft → List ℕ → List ℕ → List ℕ → List ℕ → LineParts
+clos_parts draft leaves spines terminals wires =
+    let m = value_said leaves in
+    let n = value_said spines in
+    let p = value_said terminals in
+    let k = value_said wires in
+    record (no_parts (with_plan draft (hosted_plan (parallel k (clos m n)) m (n * k) p draft.plan))) {
+      numbers = (Some leaves, is_from_to 1 32) ∷ (Some spines, is_from_to 1 31) ∷ (Some terminals, is_from_to 1 31) ∷ (Some wires, is_from_to 1 31) ∷ [];
+      counts = (m * p, most_terminals) ∷ (n * k + p, LINKS) ∷ (m * k, LINKS) ∷ [];
+    }
+
 -- a line's parts, by what its first word says and the words after it
 abbrev pub keyword_parts : Draft → Keyword → List (List ℕ) → LineParts
 -- `switch N`
@@ -286,6 +313,29 @@ keyword_parts draft Keyword.Cube (dimensions ∷ terminals ∷ []) =
       numbers = (Some dimensions, is_from_to 0 6) ∷ (Some terminals, is_from_to 1 26) ∷ [];
       counts = (2 ^ d * p, most_terminals) ∷ [];
     }
+-- the same with k wires to each neighbour, to be labelled up and down from its first switch
+keyword_parts draft Keyword.Mesh (width ∷ height ∷ terminals ∷ wires ∷ []) =
+    let w = value_said width in
+    let h = value_said height in
+    let p = value_said terminals in
+    let k = value_said wires in
+    record (no_parts (with_plan draft (hosted_plan (parallel k (mesh w h)) (w * h) (4 * k) p draft.plan))) {
+      numbers = (Some width, is_from_to 1 64) ∷ (Some height, is_from_to 1 64) ∷ (Some terminals, is_from_to 1 28) ∷ (Some wires, is_from_to 2 7) ∷ [];
+      counts = (w * h, most_switches) ∷ (w * h * p, most_terminals) ∷ (4 * k + p, LINKS) ∷ [];
+    }
+keyword_parts draft Keyword.Cube (dimensions ∷ terminals ∷ wires ∷ []) =
+    let d = value_said dimensions in
+    let p = value_said terminals in
+    let k = value_said wires in
+    record (no_parts (with_plan draft (hosted_plan (parallel k (cube d)) (2 ^ d) (d * k) p draft.plan))) {
+      numbers = (Some dimensions, is_from_to 0 6) ∷ (Some terminals, is_from_to 1 26) ∷ (Some wires, is_from_to 2 31) ∷ [];
+      counts = (2 ^ d * p, most_terminals) ∷ (d * k + p, LINKS) ∷ [];
+    }
+-- `torus w h p` and `clos m n p`, where k is 1 if it isn't said
+keyword_parts draft Keyword.Torus (width ∷ height ∷ terminals ∷ []) = torus_parts draft width height terminals (codes "1")
+keyword_parts draft Keyword.Torus (width ∷ height ∷ terminals ∷ wires ∷ []) = torus_parts draft width height terminals wires
+keyword_parts draft Keyword.Clos (leaves ∷ spines ∷ terminals ∷ []) = clos_parts draft leaves spines terminals (codes "1")
+keyword_parts draft Keyword.Clos (leaves ∷ spines ∷ terminals ∷ wires ∷ []) = clos_parts draft leaves spines terminals wires
 keyword_parts draft keyword rest = record (no_parts draft) { is_shaped = false }
 
 -- the same by the first word, if it is one with which lines begin

@@ -18,6 +18,8 @@ keywords =
     ∷ (codes "label", Keyword.Label)
     ∷ (codes "mesh", Keyword.Mesh)
     ∷ (codes "cube", Keyword.Cube)
+    ∷ (codes "torus", Keyword.Torus)
+    ∷ (codes "clos", Keyword.Clos)
     ∷ (codes "random", Keyword.Random)
     ∷ []
 

@@ -15,7 +15,8 @@ use std::alloc::Global;
 ///
 /// Its lines are `switch N`, `terminal N S.l [labels n] [from f]`, `wire S.l S.l`, `header n`,
 /// `buffer n`, `continue S.l`, `delete T`, `base S.l n`, `row S.l limit select`,
-/// `random S.l base range`, `label tree S`, `label up-down S`, `mesh w h p` and `cube d p`; `#` begins a comment.
+/// `random S.l base range`, `label tree S`, `label up-down S`, `mesh w h p [k]`, `cube d p [k]`, `torus w h p [k]`
+/// and `clos m s p [k]`; `#` begins a comment.
 ///
 /// TooLong at line 0 where the text has more than 1 MiB, whatever its lines say; else the first
 /// faulty line, with the least of its faults; or NoMemory at line 0 when out of memory.

@@ -59,7 +59,7 @@ impl Draft {
                     || self.parts.has_tables()
                     || (has_groups && asks_tree(rest))
             }
-            Keyword::Mesh | Keyword::Cube => {
+            Keyword::Mesh | Keyword::Cube | Keyword::Torus | Keyword::Clos => {
                 self.parts.switches.len() != 0 || self.labels.is_some()
             }
         }

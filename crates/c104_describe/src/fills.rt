@@ -1,6 +1,6 @@
 //! Descriptions: whole networks, meshes and cubes.
-ghost use Rattle.std.specs.{List.range_with_len, Prelude.{IfOk, OnOk, [], map, ℕ, ◌*◌, ◌++◌, ◌<◌, ◌^◌, ◌∷◌, ◌≡◌, ◌≤◌}};
-ghost use Rattle.{c104_describe.specs.{LineFaults.keyword_line, PlanDrafts.draft_of, PlanText.ReadsLine}, c104_plan.specs.Layouts.cube};
+ghost use Rattle.std.specs.{List.range_with_len, Prelude.{IfOk, IfSome, OnOk, [], map, ℕ, ◌*◌, ◌++◌, ◌<◌, ◌^◌, ◌∷◌, ◌≡◌, ◌≤◌}};
+ghost use Rattle.{c104_describe.specs.{LineFaults.keyword_line, PlanDrafts.draft_of, PlanText.ReadsLine, ShapeLayouts.IsNear}, c104_plan.specs.Layouts.cube};
 ghost use Rattle.c104_plan.specs.Layouts.{filled_name, filled_terminal, filled_wires, mesh, mesh_beyond, wire_at, wire_to, wires_from};
 ghost use Rattle.c104_plan.specs.Plans.{most_switches, most_terminals};
 ghost use Rattle.c104_describe.specs.declared.words.Keyword.TheVariants as keyword;
@@ -38,7 +38,7 @@ pub(crate) fn set_mesh(
         return Err(PlanFaultKind::TooMany);
     }
     let wires = mesh_wires(alloc, width, height)?;
-    let network = filled_network(alloc, wires, switches, MESH_LINKS, terminals)?;
+    let network = filled_network(alloc, wires, switches, switches, MESH_LINKS, terminals)?;
     draft
         .parts
         .fill(network, Shape::Mesh(width, height, terminals));
@@ -62,32 +62,34 @@ pub(crate) fn set_cube(
         return Err(PlanFaultKind::TooMany);
     }
     let wires = cube_wires(alloc, dimensions)?;
-    let network = filled_network(alloc, wires, switches, dimensions, terminals)?;
+    let network = filled_network(alloc, wires, switches, switches, dimensions, terminals)?;
     draft
         .parts
         .fill(network, Shape::Cube(dimensions, terminals));
     Ok(())
 }
 
-/// `switches` switches, each with `terminals` terminals on its links from `links` on, and the wires.
-fn filled_network(
+/// `switches` switches, the first of them, the hosts, each with `terminals` terminals on its links from `links` on, and
+/// the wires.
+pub(crate) fn filled_network(
     alloc: Global,
     wires: Vec<Wire>,
     switches: usize,
+    hosts: usize,
     links: usize,
     terminals: usize,
 ) -> Result<Network, NoMemory>
-    requires links { links ≤ 6 }
+    requires links { links ≤ 32 }
     requires some { 0 < terminals }
     requires few_switches { switches ≤ most_switches }
-    requires few_terminals { switches * terminals ≤ most_terminals }
+    requires few_terminals { hosts * terminals ≤ most_terminals }
     ensures switches { IfOk result (λ network.
         network.switches ≡ map filled_name (range_with_len 0 switches)) }
     ensures terminals { IfOk result (λ network.
-        network.terminals ≡ map (filled_terminal links terminals) (range_with_len 0 (switches * terminals))) }
+        network.terminals ≡ map (filled_terminal links terminals) (range_with_len 0 (hosts * terminals))) }
     ensures wires { IfOk result (λ network. network.wires.items ≡ wires.items) }
 {
-    let count = switches * terminals;
+    let count = hosts * terminals;
     let switches = filled_switches(alloc, switches)?;
     let terminals = filled_terminals(alloc, links, terminals, count)?;
     Ok(Network {
@@ -117,7 +119,7 @@ fn filled_terminals(
     terminals: usize,
     count: usize,
 ) -> Result<TerminalList, NoMemory>
-    requires links { links ≤ 6 }
+    requires links { links ≤ 32 }
     requires some { 0 < terminals }
     requires few { count ≤ most_terminals }
     ensures { IfOk result (λ list.
@@ -138,7 +140,7 @@ fn filled_terminal(
     terminals: usize,
     number: usize,
 ) -> Result<Terminal, NoMemory>
-    requires links { links ≤ 6 }
+    requires links { links ≤ 32 }
     requires some { 0 < terminals }
     requires few { number < most_terminals }
     ensures { IfOk result (λ terminal. terminal ≡ filled_terminal links terminals number) }
@@ -177,10 +179,11 @@ fn mesh_wires(alloc: Global, width: usize, height: usize) -> Result<Vec<Wire>, A
 }
 
 /// Where the link of a mesh's switch to the column after it leads.
-fn port_after(width: usize, switch: usize) -> Option<Port>
+pub(crate) fn port_after(width: usize, switch: usize) -> Option<Port>
     requires wide { 0 < width }
     requires few { switch < most_switches }
-    ensures { (h : ℕ) → result ≡ mesh_beyond width h switch 2 }
+    ensures end { (h : ℕ) → result ≡ mesh_beyond width h switch 2 }
+    ensures near { IfSome result IsNear }
 {
     if switch % width + 1 < width {
         Some(Port::Switch(switch + 1, 1))
@@ -190,10 +193,11 @@ fn port_after(width: usize, switch: usize) -> Option<Port>
 }
 
 /// Where the link of a mesh's switch to the row below it leads.
-fn port_below(width: usize, height: usize, switch: usize) -> Option<Port>
+pub(crate) fn port_below(width: usize, height: usize, switch: usize) -> Option<Port>
     requires few { width * height ≤ most_switches }
     requires inside { switch < width * height }
-    ensures { result ≡ mesh_beyond width height switch 3 }
+    ensures end { result ≡ mesh_beyond width height switch 3 }
+    ensures near { IfSome result IsNear }
 {
     if switch + width < width * height {
         Some(Port::Switch(switch + width, 0))
@@ -242,7 +246,11 @@ fn port_beyond(switch: usize, link: usize) -> Option<Port>
 }
 
 /// The wire from a port to another, where there is one, joins a list.
-fn add_wire(wires: &mut Vec<Wire>, here: Port, there: Option<Port>) -> Result<(), AllocError>
+pub(crate) fn add_wire(
+    wires: &mut Vec<Wire>,
+    here: Port,
+    there: Option<Port>,
+) -> Result<(), AllocError>
     ensures { OnOk result (wires.new.items ≡ wires.old.items ++ wire_to here there) }
 {
     if let Some(there) = there {
@@ -253,7 +261,7 @@ fn add_wire(wires: &mut Vec<Wire>, here: Port, there: Option<Port>) -> Result<()
 
 /// Two to a power.
 #[tactic(auto, using(c104_plan::proofs::LayoutNumbers::power_is, c104_plan::proofs::LayoutNumbers::power_small))]
-fn power_of_two(exponent: usize) -> usize
+pub(crate) fn power_of_two(exponent: usize) -> usize
     requires { exponent ≤ 6 }
     ensures power { result ≡ 2 ^ exponent }
     ensures few { result ≤ most_switches }

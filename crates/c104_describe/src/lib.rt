@@ -11,9 +11,11 @@ mod drafts;
 mod fault_texts;
 mod faults;
 mod fills;
+mod forms;
 mod lines;
 mod link_lines;
 mod print;
+mod shape_lines;
 mod words;
 
 pub use c104_plan::{

@@ -9,6 +9,7 @@ use crate::drafts::Draft;
 use crate::faults::PlanFaultKind;
 use crate::fills::{set_cube, set_mesh};
 use crate::link_lines::{add, add_base, add_continue, add_random, add_row};
+use crate::shape_lines::{set_clos, set_torus, set_wide_cube, set_wide_mesh};
 use crate::words::{
     Keyword, RangeWords, cut_port, read_keyword, read_link, read_number_or, read_number_within,
     read_range,
@@ -91,6 +92,9 @@ fn read_keyword_line(
         [word] => read_word(alloc, draft, keyword, word),
         [first, second] => read_two_words(alloc, draft, keyword, first, second),
         [first, second, third] => read_three_words(alloc, draft, keyword, first, second, third),
+        [first, second, third, fourth] => {
+            read_four_words(alloc, draft, keyword, first, second, third, fourth)
+        }
         _ => Err(PlanFaultKind::BadShape),
     }
 }
@@ -168,6 +172,31 @@ fn read_three_words(
         Keyword::Row => add_row(draft, first, second, third),
         Keyword::Random => add_random(draft, first, second, third),
         Keyword::Mesh => set_mesh(alloc, draft, first, second, third),
+        Keyword::Cube => set_wide_cube(alloc, draft, first, second, third),
+        Keyword::Torus => set_torus(alloc, draft, first, second, third, b"1".as_slice()),
+        Keyword::Clos => set_clos(alloc, draft, first, second, third, b"1".as_slice()),
+        _ => Err(PlanFaultKind::BadShape),
+    }
+}
+
+/// Reads a line of four words behind its first, which isn't `terminal`.
+fn read_four_words(
+    alloc: Global,
+    draft: &mut Draft,
+    keyword: Keyword,
+    first: &[u8],
+    second: &[u8],
+    third: &[u8],
+    fourth: &[u8],
+) -> Result<(), PlanFaultKind>
+    requires { keyword ≡ variant.Terminal → ⊥ }
+    ensures { ReadsLine result (draft_of draft.new)
+        (keyword_line (draft_of draft.old) keyword (first.now ∷ second.now ∷ third.now ∷ fourth.now ∷ [])) }
+{
+    match keyword {
+        Keyword::Mesh => set_wide_mesh(alloc, draft, first, second, third, fourth),
+        Keyword::Torus => set_torus(alloc, draft, first, second, third, fourth),
+        Keyword::Clos => set_clos(alloc, draft, first, second, third, fourth),
         _ => Err(PlanFaultKind::BadShape),
     }
 }

@@ -33,10 +33,12 @@ pub(crate) enum Keyword {
     Label,
     Mesh,
     Cube,
+    Torus,
+    Clos,
 }
 
 /// The words with which lines begin, the most frequent first.
-const KEYWORDS: [(&[u8], Keyword); 13] = [
+const KEYWORDS: [(&[u8], Keyword); 15] = [
     (b"row", Keyword::Row),
     (b"base", Keyword::Base),
     (b"wire", Keyword::Wire),
@@ -49,6 +51,8 @@ const KEYWORDS: [(&[u8], Keyword); 13] = [
     (b"label", Keyword::Label),
     (b"mesh", Keyword::Mesh),
     (b"cube", Keyword::Cube),
+    (b"torus", Keyword::Torus),
+    (b"clos", Keyword::Clos),
     (b"random", Keyword::Random),
 ];
 
