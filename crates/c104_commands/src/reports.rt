@@ -30,11 +30,12 @@ fn ways_text(alloc: Global, plan: &Plan, report: UpDownReport) -> Result<String,
         Visit::BreadthFirst => "breadth first",
     };
     let ways = match report.way {
-        UpDownWay::Shortest => "the shortest ways",
-        UpDownWay::Any => "ways of which some aren't the shortest",
-        UpDownWay::Tree => "the wires of the tree alone",
+        UpDownWay::Form => "by the ways of the network's form",
+        UpDownWay::Shortest => "up and then down by the shortest ways",
+        UpDownWay::Any => "up and then down by ways of which some aren't the shortest",
+        UpDownWay::Tree => "up and then down by the wires of the tree alone",
     };
-    format!(in alloc; "labelled from {root}, {visit}: packets go up and then down by {ways}")
+    format!(in alloc; "labelled from {root}, {visit}: packets go {ways}")
 }
 
 /// What the labels come to.

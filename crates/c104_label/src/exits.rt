@@ -127,7 +127,11 @@ fn links_to(plot: &Plot, inputs: Inputs, to: usize, is_shortest: bool) -> u32 {
 }
 
 /// Adds the labels of a switch's own terminals.
-fn add_own(segments: &mut Vec<Segment>, fabric: &Fabric, switch: usize) -> Result<(), AllocError> {
+pub(crate) fn add_own(
+    segments: &mut Vec<Segment>,
+    fabric: &Fabric,
+    switch: usize,
+) -> Result<(), AllocError> {
     for link in 0..LINKS {
         add(
             segments,
@@ -140,7 +144,7 @@ fn add_own(segments: &mut Vec<Segment>, fabric: &Fabric, switch: usize) -> Resul
 }
 
 /// Adds labels, unless there are none.
-fn add(
+pub(crate) fn add(
     segments: &mut Vec<Segment>,
     labels: u32,
     links: u32,

@@ -105,6 +105,10 @@ pub fn label_tree(alloc: Global, plan: &Plan) -> Result<Image, LabelFault>
 /// plan's own lines say. The labels need no check: they are accepted, whatever else the plan says, and by them no inputs
 /// depend on one another in a cycle.
 ///
+/// If the plan names its first switch as the root and groups no links, and the wires are those of a torus, of a folded
+/// Clos network, or of a mesh or a cube with several wires to each neighbour, packets go as that form says instead, where
+/// such labels are accepted too. Then the wires that are equally good for all labels are a group.
+///
 /// WrongShape exactly where the plan is to be labelled otherwise; then NotConnected where wires don't lead from
 /// the root to each switch, or there is none; then TooManyLabels where the terminals have more labels than there are
 /// headers, 256, or 65536 of two bytes; then BadGroups where the plan's own lines group links, and no labels are accepted

@@ -136,24 +136,69 @@ fn add_target(
             add(&mut flows, place_of(input.switch, input.link), packets);
         }
     }
-    for input in inputs {
-        if input.switch != target.switch {
-            pass_on(tables, *input, target.label, &mut flows, links);
+    // ways that go up and then down take one pass, and those of a form some more
+    for _ in 0..inputs.len() {
+        if !pass_all(tables, inputs, target, &mut flows, links) {
+            return Ok(());
         }
     }
     Ok(())
 }
 
-/// Passes on the packets of a label that came to an input.
-fn pass_on(tables: Tables<'_>, input: Input, label: u32, flows: &mut [u64], links: &mut [u64]) {
-    let place = place_of(input.switch, input.link);
-    let flow = match flows.get(place) {
-        Some(flow) => *flow,
-        None => 0,
-    };
-    if flow == 0 {
-        return;
+/// Passes on what came to each input, in their order. Whether there was anything.
+fn pass_all(
+    tables: Tables<'_>,
+    inputs: &[Input],
+    target: Target,
+    flows: &mut [u64],
+    links: &mut [u64],
+) -> bool {
+    let mut was_any = false;
+    for input in inputs {
+        if input.switch != target.switch && pass_on(tables, *input, target.label, flows, links) {
+            was_any = true;
+        }
     }
+    was_any
+}
+
+/// Passes on the packets of a label that came to an input. Whether there were any.
+fn pass_on(
+    tables: Tables<'_>,
+    input: Input,
+    label: u32,
+    flows: &mut [u64],
+    links: &mut [u64],
+) -> bool {
+    let place = place_of(input.switch, input.link);
+    let flow = take(flows, place);
+    if flow != 0 {
+        share_out(tables, input, label, flow, flows, links);
+    }
+    flow != 0
+}
+
+/// What is at a place, from where it is taken.
+fn take(flows: &mut [u64], place: usize) -> u64 {
+    if place < flows.len() {
+        let flow = flows[place];
+        flows[place] = 0;
+        flow
+    } else {
+        0
+    }
+}
+
+/// Shares packets of a label that came to an input among the links by which they go on.
+fn share_out(
+    tables: Tables<'_>,
+    input: Input,
+    label: u32,
+    flow: u64,
+    flows: &mut [u64],
+    links: &mut [u64],
+) {
+    let place = place_of(input.switch, input.link);
     let Some(table) = tables.tables.get(place) else {
         return;
     };

@@ -6,6 +6,7 @@ ghost use Rattle.c104_regs.specs.declared.registers.TheConstants.{LINKS as LINK_
 use crate::exits::{Exits, Plot, all_exits};
 use crate::fabric::Fabric;
 use crate::numbers::count_at;
+use crate::reports::UpDownWay;
 use crate::way_rows::segment_table;
 use c104_interval::Table;
 use c104_plan::Plan;
@@ -18,6 +19,16 @@ pub(crate) struct PortTables {
     pub(crate) tables: Vec<Table>,
     /// Whether all are of shortest ways.
     pub(crate) is_shortest: bool,
+}
+
+/// A table for each link, by switch and then by link, and groups of links.
+#[derive(Drop)]
+pub(crate) struct PortLabels {
+    pub(crate) tables: Vec<Table>,
+    /// Whether links continue groups.
+    pub(crate) groups: Vec<bool>,
+    /// The ways that the tables take.
+    pub(crate) way: UpDownWay,
 }
 
 /// The table of a link.
@@ -124,7 +135,7 @@ fn table_by(alloc: Global, exits: &Exits, link: usize) -> Result<Option<PortTabl
 }
 
 /// The table of no rows.
-fn no_rows() -> Table
+pub(crate) fn no_rows() -> Table
     ensures { IsTableInRange result }
 {
     Table::reset()

@@ -13,6 +13,8 @@ use std::alloc::{AllocError, Global};
 /// Over which ways labels go.
 #[derive(Clone, Copy, Debug, PartialEq, Eq)]
 pub enum UpDownWay {
+    /// Those of the form that the network has, as a torus or a folded Clos network.
+    Form,
     /// The shortest that go up and then down.
     Shortest,
     /// Also others that go up and then down.
@@ -51,7 +53,7 @@ pub(crate) fn report_of(
     image: &Image,
 ) -> Result<UpDownReport, NoMemory> {
     let visit = match way {
-        UpDownWay::Tree => Visit::DepthFirst,
+        UpDownWay::Form | UpDownWay::Tree => Visit::DepthFirst,
         UpDownWay::Shortest | UpDownWay::Any => choice.visit,
     };
     let root = choice.root;

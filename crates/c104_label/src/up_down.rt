@@ -3,11 +3,12 @@
 //! What is up is told by an order of the switches: that in which the tree is visited, by which the tree's ways are among
 //! those that go up and then down, and neighbouring labels more often share a row; or one by how far switches are from the
 //! root. What came down may only go down, so each input has a table of its own.
+//!
+//! Where the wires tell that the network is a torus or the like, tables by its own ways are tried first.
 ghost use Rattle.std.specs.Prelude.{IfErr, IfOk, IfSome, Option, false, length, true, ℕ, ◌<◌, ◌≡◌, ◌≤◌, ◌⊎◌};
 ghost use Rattle.{c104_check.specs.Routes.{IsAccepted, routes_of}, c104_label.specs.Forests.{Forest as TheForest, IsSpanning}};
-ghost use Rattle.c104_label.specs.Images.{IsRootCause, IsRootOf, IsUpDownCause, IsUpDownImage, IsUpDownMade};
-ghost use Rattle.c104_label.specs.{TreeImages.{most_labels, total_count}, Trees.forest_of};
-ghost use Rattle.c104_label.specs.UpDownLabels.{ArePortLabels, IsRelabelled, IsSound};
+ghost use Rattle.c104_label.specs.{Images.{IsRootCause, IsRootOf, IsUpDownCause, IsUpDownImage, IsUpDownMade}, TreeImages.most_labels};
+ghost use Rattle.c104_label.specs.{TreeImages.total_count, Trees.forest_of, UpDownLabels.{ArePortLabels, IsRelabelled, IsSound}};
 ghost use Rattle.c104_plan.specs.{PlanImage.Fits, Plans.{IsPlan, IsUpDownPlan}};
 
 use crate::choices::choice_of;
@@ -15,13 +16,13 @@ use crate::exits::Plot;
 use crate::fabric::Fabric;
 use crate::faults::LabelFault;
 use crate::forests::{Forest, spanning_tree};
+use crate::form_tables::form_labels;
 use crate::numbers::label_sum;
 use crate::orders::Choice;
-use crate::port_tables::{group_flags, port_tables};
+use crate::port_tables::{PortLabels, group_flags, port_tables};
 use crate::reports::{UpDownReport, UpDownWay, report_of};
 use crate::trees::{forest_image, most_labels};
 use c104_check::{CheckFault, RanksOrCycle, check, find_cycle};
-use c104_interval::Table;
 use c104_plan::{Image, Plan};
 use c104_token::NoMemory;
 use std::alloc::{AllocError, Global};
@@ -141,7 +142,8 @@ fn stands_with_groups(alloc: Global, plan: &Plan, tree: &Image) -> Result<bool, 
     }
 }
 
-/// The image by which labels go up and then down. None where there is none that is accepted.
+/// The image by which labels go as the form of the network says, or up and then down. None where there is none that is
+/// accepted.
 fn shorter_image(
     alloc: Global,
     plan: &Plan,
@@ -153,7 +155,29 @@ fn shorter_image(
     requires { Fits tree.now plan.now }
     ensures { IfOk result (λ found. IfSome found (IsRelabelled plan.now tree.now)) }
 {
-    let Some(labels) = port_labels(alloc, plan, choice, forest)? else {
+    let labels = form_labels(alloc, plan, forest)?;
+    match sound_image(alloc, plan, tree, labels, way)? {
+        Some(image) => Ok(Some(image)),
+        None => {
+            let labels = port_labels(alloc, plan, choice, forest)?;
+            sound_image(alloc, plan, tree, labels, way)
+        }
+    }
+}
+
+/// The image with these labels. None where there are none, or they aren't accepted.
+fn sound_image(
+    alloc: Global,
+    plan: &Plan,
+    tree: &Image,
+    labels: Option<PortLabels>,
+    way: &mut UpDownWay,
+) -> Result<Option<Image>, NoMemory>
+    requires fits { Fits tree.now plan.now }
+    requires labels { IfSome labels (λ labels. ArePortLabels plan.now labels.tables.items labels.groups.items) }
+    ensures { IfOk result (λ found. IfSome found (IsRelabelled plan.now tree.now)) }
+{
+    let Some(labels) = labels else {
         return Ok(None);
     };
     let image = tree.with_port_tables(
@@ -165,11 +189,7 @@ fn shorter_image(
     if !is_sound(alloc, plan, &image)? {
         return Ok(None);
     }
-    *way = if labels.is_shortest {
-        UpDownWay::Shortest
-    } else {
-        UpDownWay::Any
-    };
+    *way = labels.way;
     Ok(Some(image))
 }
 
@@ -195,16 +215,6 @@ fn is_acyclic(alloc: Global, plan: &Plan, image: &Image) -> Result<bool, NoMemor
         RanksOrCycle::Ranks(_) => Ok(true),
         RanksOrCycle::Cycle(_) => Ok(false),
     }
-}
-
-/// Tables and groups of all links, by switch and then by link.
-#[derive(Drop)]
-struct PortLabels {
-    tables: Vec<Table>,
-    /// Whether links continue groups.
-    groups: Vec<bool>,
-    /// Whether all tables are of shortest ways.
-    is_shortest: bool,
 }
 
 /// The table of each link, and whether it continues a group. None where a table needs more rows than it has.
@@ -237,6 +247,15 @@ fn plotted_labels(
     Ok(Some(PortLabels {
         tables: made.tables,
         groups,
-        is_shortest: made.is_shortest,
+        way: way_of(made.is_shortest),
     }))
+}
+
+/// The ways of tables that go up and then down.
+fn way_of(are_shortest: bool) -> UpDownWay {
+    if are_shortest {
+        UpDownWay::Shortest
+    } else {
+        UpDownWay::Any
+    }
 }
