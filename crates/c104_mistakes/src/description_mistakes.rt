@@ -15,7 +15,7 @@ pub(crate) const SCRIPT_LINE: &str =
 
 pub(crate) const NO_WORD: &str =
     "a line begins with `switch`, `terminal`, `wire`, `row`, `base`, `continue`, `delete`, `random`, \
-     `header`, `buffer`, `label`, `mesh` or `cube`";
+     `header`, `buffer`, `label`, `mesh`, `cube`, `torus` or `clos`";
 
 pub(crate) const SWITCH_LINE: &str = "the line is `switch NAME`";
 
@@ -42,9 +42,13 @@ pub(crate) const RANDOM_LINE: &str = "the line is `random SWITCH.LINK BASE RANGE
 pub(crate) const LABEL_LINE: &str =
     "the line is `label tree SWITCH`, `label up-down SWITCH` or `label up-down`";
 
-pub(crate) const MESH_LINE: &str = "the line is `mesh COLUMNS ROWS TERMINALS`";
+pub(crate) const MESH_LINE: &str = "the line is `mesh COLUMNS ROWS TERMINALS [WIRES]`";
 
-pub(crate) const CUBE_LINE: &str = "the line is `cube DIMENSIONS TERMINALS`";
+pub(crate) const CUBE_LINE: &str = "the line is `cube DIMENSIONS TERMINALS [WIRES]`";
+
+pub(crate) const TORUS_LINE: &str = "the line is `torus COLUMNS ROWS TERMINALS [WIRES]`";
+
+pub(crate) const CLOS_LINE: &str = "the line is `clos LEAVES SPINES TERMINALS [WIRES]`";
 
 pub(crate) const NO_PORT: &str = "a port is the name of a switch, a dot and a link, as A.0";
 
@@ -71,10 +75,20 @@ pub(crate) const NO_RANDOM_RANGE: &str =
     "the range of random headers is 0 to 65536, and at 0 the base alone is one";
 
 pub(crate) const MESH_SIZE: &str =
-    "a mesh has 1 to 64 columns, 1 to 64 rows, and 1 to 28 terminals at each switch";
+    "a mesh has 1 to 64 columns, 1 to 64 rows, 1 to 28 terminals at each switch, and, if they are said, 2 to \
+     7 wires to each neighbour";
 
 pub(crate) const CUBE_SIZE: &str =
-    "a cube has 0 to 6 dimensions, and 1 to 26 terminals at each switch";
+    "a cube has 0 to 6 dimensions, 1 to 26 terminals at each switch, and, if they are said, 2 to 31 wires to \
+     each neighbour";
+
+pub(crate) const TORUS_SIZE: &str =
+    "a torus has 1 to 64 columns, 1 to 64 rows, 1 to 24 terminals at each switch, and 1 to 3 wires in each of \
+     the two groups to a neighbour";
+
+pub(crate) const CLOS_SIZE: &str =
+    "a folded Clos network has 1 to 32 leaves, 1 to 31 spines, 1 to 31 terminals at each leaf, and 1 to 31 \
+     wires from each leaf to each spine";
 
 pub(crate) const NO_NAME: &str =
     "a name is a letter and then letters, digits, `_` and `-`, at most 32 in all";
@@ -102,7 +116,8 @@ pub(crate) const LABELS: &str =
 
 pub(crate) const ROWS: &str = "an input has at most 36 rows";
 
-pub(crate) const SIZES: &str = "there are at most 64 switches and 256 terminals";
+pub(crate) const SIZES: &str =
+    "there are at most 64 switches and 256 terminals, and 32 links at a switch";
 
 pub(crate) const TWICE: &str = "already given by an earlier line";
 
@@ -111,4 +126,5 @@ pub(crate) const RANDOM_TWICE: &str =
 
 pub(crate) const MIXED: &str =
     "the line doesn't go with earlier lines: `label` can't be combined with `row`, `base`, `random` or \
-     `from`, `label tree` not with `continue`, and `mesh` or `cube` only with `header`, `buffer` and `delete`";
+     `from`, `label tree` not with `continue`, and `mesh`, `cube`, `torus` or `clos` only with \
+     `header`, `buffer` and `delete`";

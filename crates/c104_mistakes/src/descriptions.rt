@@ -5,10 +5,11 @@
 
 use crate::common_mistakes::{BYTE_ORDER_MARK, NO_LINK, NOT_A_SWITCH, NOT_A_TERMINAL, WRONG_BYTE};
 use crate::description_mistakes::{
-    CUBE_SIZE, LABELS, MESH_SIZE, MIXED, NAME_TAKEN, NO_BASE, NO_BUFFER, NO_CONTINUING, NO_COUNT,
-    NO_FIRST, NO_HEADER, NO_LIMIT, NO_NAME, NO_PORT, NO_RANDOM_BASE, NO_RANDOM_RANGE, NO_SELECT,
-    NO_SWITCH, NO_TERMINAL, NO_WORD, RANDOM_TWICE, ROWS, SCRIPT_BEGINS, SCRIPT_LINE, SCRIPTS_WORD,
-    SELF_WIRE, SIZES, SWITCHES, TERMINAL_THERE, TERMINALS, TOO_LONG, TWICE, WIRE_THERE,
+    CLOS_SIZE, CUBE_SIZE, LABELS, MESH_SIZE, MIXED, NAME_TAKEN, NO_BASE, NO_BUFFER, NO_CONTINUING,
+    NO_COUNT, NO_FIRST, NO_HEADER, NO_LIMIT, NO_NAME, NO_PORT, NO_RANDOM_BASE, NO_RANDOM_RANGE,
+    NO_SELECT, NO_SWITCH, NO_TERMINAL, NO_WORD, RANDOM_TWICE, ROWS, SCRIPT_BEGINS, SCRIPT_LINE,
+    SCRIPTS_WORD, SELF_WIRE, SIZES, SWITCHES, TERMINAL_THERE, TERMINALS, TOO_LONG, TORUS_SIZE,
+    TWICE, WIRE_THERE,
 };
 use crate::forms::{DESCRIPTION_FORMS, SCRIPT_FORMS, form_of, nearest_form};
 use crate::nearest::{nearest_select_word, nearest_switch, nearest_terminal};
@@ -147,6 +148,8 @@ fn number_mistake<'a>(words: &[&'a [u8]]) -> Mistake<'a> {
         Some(b"buffer") => Mistake::new(NO_BUFFER, word_at(words, 1)),
         Some(b"mesh") => Mistake::new(MESH_SIZE, None),
         Some(b"cube") => Mistake::new(CUBE_SIZE, None),
+        Some(b"torus") => Mistake::new(TORUS_SIZE, None),
+        Some(b"clos") => Mistake::new(CLOS_SIZE, None),
         _ => Mistake::new(NO_HEADER, word_at(words, 1)),
     }
 }
@@ -263,7 +266,7 @@ fn count_mistake<'a>(words: &[&'a [u8]], before: &Plan) -> Mistake<'a> {
     match word_at(words, 0) {
         Some(b"switch") => Mistake::new(SWITCHES, word),
         Some(b"row") => Mistake::new(ROWS, word),
-        Some(b"mesh" | b"cube") => Mistake::new(SIZES, None),
+        Some(b"mesh" | b"cube" | b"torus" | b"clos") => Mistake::new(SIZES, None),
         _ if before.terminals().len() >= MAX_TERMINALS => Mistake::new(TERMINALS, word),
         _ => Mistake::new(LABELS, word),
     }

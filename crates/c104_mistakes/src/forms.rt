@@ -1,8 +1,9 @@
 //! What the lines of descriptions and of scripts are, by the words with which they begin.
 
 use crate::description_mistakes::{
-    BASE_LINE, BUFFER_LINE, CONTINUE_LINE, CUBE_LINE, DELETE_LINE, HEADER_LINE, LABEL_LINE,
-    MESH_LINE, RANDOM_LINE, ROW_LINE, SWITCH_LINE, TERMINAL_LINE, WIRE_LINE,
+    BASE_LINE, BUFFER_LINE, CLOS_LINE, CONTINUE_LINE, CUBE_LINE, DELETE_LINE, HEADER_LINE,
+    LABEL_LINE, MESH_LINE, RANDOM_LINE, ROW_LINE, SWITCH_LINE, TERMINAL_LINE, TORUS_LINE,
+    WIRE_LINE,
 };
 use crate::nearest::Search;
 use crate::script_mistakes::{
@@ -18,7 +19,7 @@ const ANY: usize = usize::MAX;
 pub(crate) type Form = (&'static [u8], &'static str, usize, usize);
 
 /// The lines of a description.
-pub(crate) const DESCRIPTION_FORMS: [Form; 13] = [
+pub(crate) const DESCRIPTION_FORMS: [Form; 15] = [
     (b"switch", SWITCH_LINE, 2, 2),
     (b"terminal", TERMINAL_LINE, 3, ANY),
     (b"wire", WIRE_LINE, 3, 3),
@@ -30,8 +31,10 @@ pub(crate) const DESCRIPTION_FORMS: [Form; 13] = [
     (b"header", HEADER_LINE, 2, 2),
     (b"buffer", BUFFER_LINE, 2, 2),
     (b"label", LABEL_LINE, 2, 3),
-    (b"mesh", MESH_LINE, 4, 4),
-    (b"cube", CUBE_LINE, 3, 3),
+    (b"mesh", MESH_LINE, 4, 5),
+    (b"cube", CUBE_LINE, 3, 4),
+    (b"torus", TORUS_LINE, 4, 5),
+    (b"clos", CLOS_LINE, 4, 5),
 ];
 
 /// The lines of a script.
