@@ -32,23 +32,32 @@ DESCRIPTIONS = [
         'word `script` before the script, or the script in a file of its own: send'),
     (b'script now\n', 1, 'the line before a script has one word, `script`, and nothing after it: now'),
     (b'switch A\nterminl a A.0\n', 2, 'a line begins with `switch`, `terminal`, `wire`, `row`, `base`, `continue`, '
-        '`delete`, `random`, `header`, `buffer`, `label`, `mesh` or `cube`: terminl; did you mean terminal?'),
+        '`delete`, `random`, `header`, `buffer`, `label`, `mesh`, `cube`, `torus` or `clos`: terminl; did you mean terminal?'),
     (b'switch A\nfrobnicate tree A\n', 2, 'a line begins with `switch`, `terminal`, `wire`, `row`, `base`, '
-        '`continue`, `delete`, `random`, `header`, `buffer`, `label`, `mesh` or `cube`: frobnicate'),
+        '`continue`, `delete`, `random`, `header`, `buffer`, `label`, `mesh`, `cube`, `torus` or `clos`: frobnicate'),
     (PAIR + b'randm A.0 2 1\n', 3, 'a line begins with `switch`, `terminal`, `wire`, `row`, `base`, `continue`, '
-        '`delete`, `random`, `header`, `buffer`, `label`, `mesh` or `cube`: randm; did you mean random?'),
+        '`delete`, `random`, `header`, `buffer`, `label`, `mesh`, `cube`, `torus` or `clos`: randm; did you mean random?'),
     (b'switch A\nlabel A\n', 2, 'the line is `label tree SWITCH`, `label up-down SWITCH` or `label up-down`'),
-    (b'mesh 2 2\n', 1, 'the line is `mesh COLUMNS ROWS TERMINALS`'),
-    (b'cube 1\n', 1, 'the line is `cube DIMENSIONS TERMINALS`'),
-    (b'mesh 0 2 1\n', 1, 'a mesh has 1 to 64 columns, 1 to 64 rows, and 1 to 28 terminals at each switch'),
-    (b'cube 7 1\n', 1, 'a cube has 0 to 6 dimensions, and 1 to 26 terminals at each switch'),
-    (b'mesh 64 64 1\n', 1, 'there are at most 64 switches and 256 terminals'),
+    (b'mesh 2 2\n', 1, 'the line is `mesh COLUMNS ROWS TERMINALS [WIRES]`'),
+    (b'cube 1\n', 1, 'the line is `cube DIMENSIONS TERMINALS [WIRES]`'),
+    (b'torus 2 2\n', 1, 'the line is `torus COLUMNS ROWS TERMINALS [WIRES]`'),
+    (b'clos 1\n', 1, 'the line is `clos LEAVES SPINES TERMINALS [WIRES]`'),
+    (b'mesh 0 2 1\n', 1, 'a mesh has 1 to 64 columns, 1 to 64 rows, 1 to 28 terminals at each switch, and, if they '
+        'are said, 2 to 7 wires to each neighbour'),
+    (b'cube 7 1\n', 1, 'a cube has 0 to 6 dimensions, 1 to 26 terminals at each switch, and, if they are said, 2 to 31 '
+        'wires to each neighbour'),
+    (b'torus 2 2 25\n', 1, 'a torus has 1 to 64 columns, 1 to 64 rows, 1 to 24 terminals at each switch, and 1 to 3 wires '
+        'in each of the two groups to a neighbour'),
+    (b'clos 2 2 32\n', 1, 'a folded Clos network has 1 to 32 leaves, 1 to 31 spines, 1 to 31 terminals at each leaf, and '
+        '1 to 31 wires from each leaf to each spine'),
+    (b'mesh 64 64 1\n', 1, 'there are at most 64 switches and 256 terminals, and 32 links at a switch'),
     (b'switch A\nlabel tree B\n', 2, 'no earlier line defines a switch of this name: B'),
     (b'switch A\nrow A.0 1 0\nlabel tree A\n', 3, 'the line doesn\'t go with earlier lines: `label` can\'t be combined '
-        'with `row`, `base`, `random` or `from`, `label tree` not with `continue`, and `mesh` or `cube` only with `header`, '
-        '`buffer` and `delete`: label'),
+        'with `row`, `base`, `random` or `from`, `label tree` not with `continue`, and `mesh`, `cube`, `torus` or `clos` only '
+        'with `header`, `buffer` and `delete`: label'),
     (b'mesh 2 1 1\nrandom s0.4 2 1\n', 2, 'the line doesn\'t go with earlier lines: `label` can\'t be combined with `row`, '
-        '`base`, `random` or `from`, `label tree` not with `continue`, and `mesh` or `cube` only with `header`, `buffer` and '
+        '`base`, `random` or `from`, `label tree` not with `continue`, and `mesh`, `cube`, `torus` or `clos` only '
+        'with `header`, `buffer` and '
         '`delete`: random'),
     (b'switch \xc3\x84\n', 1,
         'outside of a comment a byte is printable ASCII, a space, a tab or a carriage return: ??'),
