@@ -28,6 +28,9 @@ const UP_DOWN: &[u8] = b"switch A\nswitch B\nswitch C\nwire A.1 B.0\nwire B.1 C.
 const BY_ITSELF: &[u8] = b"switch A\nswitch B\nwire A.0 B.0\nwire A.1 B.1\nterminal a A.2\n\
     terminal b B.2\nlabel up-down\n";
 
+/// Two leaves and a spine, whose form is known by the wires.
+const FORM: &[u8] = b"clos 2 1 1\n";
+
 const CUBE: &[u8] = b"cube 2 1\n";
 
 /// Two terminals on one switch. What a sends to b comes back to a.
@@ -298,6 +301,7 @@ fn labellers(rt: HostRuntime) {
         ("label_tree", TREE, Labeller::Tree),
         ("label_up_down", UP_DOWN, Labeller::UpDown),
         ("label_up_down by itself", BY_ITSELF, Labeller::UpDown),
+        ("label_up_down by a form", FORM, Labeller::UpDown),
         ("label_mesh", MESH, Labeller::Mesh),
         ("label_cube", CUBE, Labeller::Cube),
     ] {

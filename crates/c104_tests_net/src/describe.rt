@@ -125,3 +125,34 @@ fn fills_a_cube(rt: HostRuntime) {
     ];
     assert!(rt; fills(rt.alloc(), b"cube 3 2\n", 12, 5, ends.as_slice()));
 }
+
+/// A torus's first row and column are neighbours of its last, and each wire is made twice.
+#[test]
+fn fills_a_torus(rt: HostRuntime) {
+    // The switch in the middle of the second row: above and below it is the same one.
+    let ends = [
+        Some(Port::Switch(1, 6)),
+        Some(Port::Switch(1, 7)),
+        Some(Port::Switch(3, 4)),
+        Some(Port::Switch(3, 5)),
+        Some(Port::Switch(5, 2)),
+        Some(Port::Switch(5, 3)),
+        Some(Port::Switch(1, 0)),
+        Some(Port::Switch(1, 1)),
+        Some(Port::Terminal(4)),
+        None,
+    ];
+    assert!(rt; fills(rt.alloc(), b"torus 3 2 1\n", 24, 4, ends.as_slice()));
+}
+
+/// Each leaf of a folded Clos network is wired to each spine.
+#[test]
+fn fills_a_clos_network(rt: HostRuntime) {
+    let ends = [
+        Some(Port::Switch(3, 1)),
+        Some(Port::Switch(4, 1)),
+        Some(Port::Terminal(1)),
+        None,
+    ];
+    assert!(rt; fills(rt.alloc(), b"clos 3 2 1\n", 6, 1, ends.as_slice()));
+}
