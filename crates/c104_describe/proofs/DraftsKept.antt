@@ -10,9 +10,9 @@ use Rattle.c104_describe.specs.{PlanLines.{switch_said, terminal_parts}, PlanTex
 use Rattle.{c104_describe.specs.PlanWords.{Keyword, keyword_of, range_words}, c104_plan.specs.PlanParts.{has_some, has_tables}}
 use Rattle.c104_plan.specs.{Plans.{HasGroupsAlone, IsPlan, Plan, next_first, rows_of, total_count}, TextCut.{is_plain_line, line_words}}
 use Rattle.c104_plan.specs.{TextCut.uncommented_line, declared.plans.Shape.{Shape, TheVariants.{Hand, Tree, UpDown}}}
-use Rattle.std.proofs.Common.{Bool, Bor, Err, List, None, Ok, Option, Result, Some, [], arith, bytes_eq, codes, false, get_or, is_some}
-use Rattle.std.proofs.{Common.{length, not, refl, subst, sym, true, ℕ, ◌&&◌, ◌+◌, ◌<◌, ◌||◌, ◌∙◌, ◌∷◌, ◌≡◌}, lemmas.Bool.Decides.nat_tests}
-use Rattle.std.proofs.lemmas.{Bool.{or_from, or_parts}, List.Elements.All-nil}
+use Rattle.std.proofs.Common.{Bool, Bor, Err, List, None, Ok, Option, Result, Some, [], arith, bytes_eq, codes, false, get_or}
+use Rattle.std.proofs.Common.{if◌then◌else◌, is_some, length, not, refl, subst, sym, true, ℕ, ◌&&◌, ◌+◌, ◌<◌, ◌||◌, ◌∙◌, ◌∷◌, ◌≡◌}
+use Rattle.std.proofs.lemmas.{Bool.{Decides.nat_tests, or_from, or_parts}, List.Elements.All-nil}
 
 -- with labels that are asked for a plan is one that is made line by line, without `from` and without what labellers set
 abbrev pub IsRooted : Option Shape → Plan → Bool → Type 0

@@ -3,9 +3,9 @@ use Rattle.c104_describe.proofs.{FilledLinks.{IsFree, hosted_links}, FilledNames
 use Rattle.c104_describe.specs.{PlanLines.filled_plan, ShapeLayouts.{hosted_plan, hosted_terminals}}
 use Rattle.c104_plan.proofs.{LayoutJoins.{AreJoined, IsJoined, cube_is, mesh_is}, RangeLists.{all_of_each, all_range, each_flat}}
 use Rattle.c104_plan.specs.{Distinctness.AreDistinct, Layouts.{IsCube, IsMesh, Layout, cube, filled_name, filled_switches, filled_terminal}}
-use Rattle.c104_plan.specs.{Layouts.{filled_terminals, filled_wires, mesh, wire_at, wire_to, wires_from}, Plans.{AreBases, AreContinues}}
-use Rattle.c104_plan.specs.Plans.{AreDeletes, AreRandoms, AreRows, AreTerminals, IsLaterPort, IsOfShape, IsPlan, IsPlanWire, IsRange}
-use Rattle.c104_plan.specs.{Plans.{IsUnset, Plan, host_port, linked_ports, next_first, rows_of, total_count}, Ports.{IsSwitchPort, is_port}}
+use Rattle.c104_plan.specs.{Layouts.{filled_wires, mesh, wire_at, wire_to, wires_from}, Plans.{AreBases, AreContinues, AreDeletes}}
+use Rattle.c104_plan.specs.Plans.{AreRandoms, AreRows, AreTerminals, IsLaterPort, IsOfShape, IsPlan, IsPlanWire, IsRange, IsUnset, Plan}
+use Rattle.c104_plan.specs.{Plans.{host_port, linked_ports, next_first, rows_of, total_count}, Ports.{IsSwitchPort, is_port}}
 use Rattle.c104_plan.specs.declared.plans.{PlanBase.PlanBase, PlanRandom.PlanRandom, PlanRow.PlanRow, Shape.{Shape, TheVariants.Cube}}
 use Rattle.c104_plan.specs.declared.{plans.{Shape.TheVariants.{Hand, Mesh, UpDown}, Terminal.Terminal}, ports.Port.Port}
 use Rattle.std.proofs.Common.{All, List, Option, Some, [], ap, arith, false, inl, length, lit≤, map, refl, subst, suc, sym, true, zero, ℕ}

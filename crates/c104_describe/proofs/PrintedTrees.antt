@@ -10,8 +10,8 @@ use Rattle.c104_describe.proofs.{PrintedSteps.with_wires, PrintedText.{read_kind
 use Rattle.c104_describe.specs.{LineFaults.read_plan_words, PlanDrafts.{excludes_groups, is_by_hand, rooted}, PlanLines.is_labeller}
 use Rattle.c104_describe.specs.{PlanLines.labelled_shape, PlanPrint.{continue_words, counted_words, delete_words, label_words}}
 use Rattle.c104_describe.specs.{PlanPrint.{labelled_lines, switch_words, wire_words}, PlanText.{draft_after_line, plan_of_draft}}
-use Rattle.c104_plan.specs.{PlanParts.empty_plan, Plans.{HasGroupsAlone, IsNamedIn, IsPlan, IsRange, IsTreePlan, IsUpDownPlan, Plan}}
-use Rattle.c104_plan.specs.{Plans.{host_port, is_linked, is_taken, label_count, next_first, switch_number, total_count}, Ports.IsSwitchPort}
+use Rattle.c104_plan.specs.{PlanParts.empty_plan, Plans.{HasGroupsAlone, IsPlan, IsRange, IsTreePlan, IsUpDownPlan, Plan, host_port}}
+use Rattle.c104_plan.specs.{Plans.{is_linked, is_taken, label_count, next_first, switch_number, total_count}, Ports.IsSwitchPort}
 use Rattle.c104_plan.specs.{TextWords.is_name, declared.plans.{Shape.{Shape, TheVariants.{Tree, UpDown}}, Terminal.Terminal}}
 use Rattle.{c104_plan.specs.declared.ports.Port.Port, std.proofs.Common.{All, Bool, List, None, Ok, Option, Some, [], ap, append_assoc}}
 use Rattle.std.proofs.Common.{arith, bytes_eq, codes, false, length, length-append, map, nat_lt, position, refl, sym, true, ℕ, ◌++◌, ◌+◌}

@@ -3,8 +3,8 @@
 use Rattle.{c104_describe.specs.declared.forms.Form.Form, c104_plan.specs.Layouts.{Layout, cube, filled_switches, filled_terminal}}
 use Rattle.c104_plan.specs.{Layouts.{filled_wires, mesh}, PlanParts.without_first, Plans.{Plan, most_switches}}
 use Rattle.c104_plan.specs.declared.{plans.{Shape.TheVariants.UpDown, Terminal.Terminal}, ports.Port.Port}
-use Rattle.std.specs.{List.range_with_len, Prelude.{Bool, List, None, Option, Some, if◌then◌else◌, map, nat_le, nat_lt, suc, zero, ℕ, ◌%◌}}
-use Rattle.std.specs.Prelude.{◌*◌, ◌+◌, ◌-◌, ◌/◌, ◌<◌, ◌≤◌}
+use Rattle.std.specs.{List.range_with_len, Prelude.{List, None, Option, Some, if◌then◌else◌, map, nat_le, nat_lt, suc, zero, ℕ, ◌%◌, ◌*◌}}
+use Rattle.std.specs.Prelude.{◌+◌, ◌-◌, ◌/◌, ◌<◌, ◌≤◌}
 
 -- Tori. A torus has the switches of a mesh and their links, but its first and last column are neighbours, and so are its
 -- first and last row, unless there is only one.

@@ -6,8 +6,7 @@ use Rattle.c104_label.specs.{TreeImages.{plan_labels, total_count}, TreeLabels.{
 use Rattle.{c104_label.specs.declared.faults.LabelFault.LabelFault, c104_plan.specs.LabelledImages.{labelled_image, port_labelled_image}}
 use Rattle.c104_plan.specs.{PlanImage.{Image, hand_image, range_of}, Plans.Plan, declared.plans.Shape.{Shape, TheVariants.{Cube, Hand}}}
 use Rattle.c104_plan.specs.declared.plans.Shape.TheVariants.{Mesh, Tree, UpDown}
-use Rattle.std.specs.{List.range_with_len, Prelude.{Bool, None, Option, Some, [], false, length, map, true, ℕ, ◌*◌, ◌<◌, ◌^◌, ◌≡◌, ◌≢◌}}
-use Rattle.std.specs.Prelude.{◌⊎◌}
+use Rattle.std.specs.{List.range_with_len, Prelude.{Bool, None, Option, Some, false, length, map, true, ℕ, ◌*◌, ◌<◌, ◌^◌, ◌≡◌, ◌⊎◌}}
 
 -- the image of a plan whose switches have the tables of a mesh, which are right
 pub record IsMeshImage (plan : Plan) (width height terminals : ℕ) (image : Image) : Type 0 where
