@@ -5,7 +5,7 @@ use Rattle.c104_plan.specs.LabelledImages.{labelled_switch, port_grouped, port_l
 use Rattle.c104_plan.specs.{LabelledImages.with_group, PlanImage.{AreSettings, Fits, Image, IsImage, settings_of}, Plans.{IsPlan, IsRange}}
 use Rattle.{c104_plan.specs.{Plans.Plan, Ports.Port, Wiring.peer}, c104_regs.{proofs.RangeNumbers.IsInRange-from, specs.Ranges.IsInRange}}
 use Rattle.{c104_regs.specs.{Ranges.IsTableInRange, declared.settings.Settings.Settings}, std.proofs.Common.{All, Bool, List, ap, arith}}
-use Rattle.std.proofs.Common.{false, get_or, if◌then◌else◌, is_some, length, map, refl, ℕ, ◌*◌, ◌+◌, ◌<◌, ◌∙◌, ◌≡◌}
+use Rattle.std.proofs.Common.{false, get_or, if◌then◌else◌, is_some, length, map, refl, true, ℕ, ◌*◌, ◌+◌, ◌<◌, ◌∙◌, ◌≡◌}
 use Rattle.std.proofs.lemmas.List.{Elements.{All-map, All-same}, FromFn.{get_or-range_with_len, length-map-range_with_len}}
 use Rattle.std.{proofs.lemmas.List.{FromFn.length-range_with_len, get_or_default}, specs.List.range_with_len}
 
@@ -73,7 +73,12 @@ pub link_in_range : (tables : List Table) (n s l : ℕ) → length tables ≡ n 
 link_in_range tables n s l many all switch link = all (s * 32 + l) reset_table (omega (arith, many, switch, link))
 
 group_in_range : (plan : Plan) (p : Port) (table : Table) (grouped used : Bool) → IsPlan plan → IsTableInRange table → IsInRange (with_group grouped (if used then record (settings_of plan p) { table = table } else settings_of plan p))
-group_in_range plan p table grouped used kept within = search (arith, random_in_range, own_table_in_range, IsInRange-from)
+group_in_range plan p table grouped true kept within =
+    let numbers = random_in_range plan p kept in
+    IsInRange-from (with_group grouped (record (settings_of plan p) { table = table })) numbers.0 numbers.1 within
+group_in_range plan p table grouped false kept within =
+    let numbers = random_in_range plan p kept in
+    IsInRange-from (with_group grouped (settings_of plan p)) numbers.0 numbers.1 (own_table_in_range plan p kept)
 
 grouped_in_range : (plan : Plan) (p : Port) (table : Table) (grouped : Bool) → IsPlan plan → IsTableInRange table → IsInRange (with_group grouped (labelled_settings plan table p))
 unfolding labelled_settings
