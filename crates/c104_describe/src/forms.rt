@@ -130,7 +130,7 @@ fn begun(form: Form, switch: usize, link: usize) -> Option<Port>
 }
 
 /// The same of a mesh.
-#[tactic(auto, using(crate::proofs::ShapeJoins::mesh_two, crate::proofs::ShapeJoins::mesh_three))]
+#[tactic(auto, using(crate::proofs::ShapeJoins::mesh_three))]
 fn mesh_begun(width: usize, height: usize, switch: usize, link: usize) -> Option<Port>
     requires wide { 0 < width }
     requires few { width * height ≤ most_switches }
@@ -149,7 +149,7 @@ fn mesh_begun(width: usize, height: usize, switch: usize, link: usize) -> Option
 }
 
 /// The same of a torus.
-#[tactic(auto, using(crate::proofs::ShapeJoins::torus_two, crate::proofs::ShapeJoins::torus_three))]
+#[tactic(auto, using(crate::proofs::ShapeJoins::torus_three))]
 fn torus_begun(width: usize, height: usize, switch: usize, link: usize) -> Option<Port>
     requires wide { 0 < width }
     requires few { width * height ≤ most_switches }
