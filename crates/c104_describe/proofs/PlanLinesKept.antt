@@ -13,11 +13,10 @@ use Rattle.c104_plan.specs.{Plans.{most_terminals, next_first, rows_of, switch_n
 use Rattle.c104_plan.specs.{Ports.is_any_at, TextWords.read_number, declared.plans.{PlanBase.PlanBase, PlanRandom.PlanRandom}}
 use Rattle.c104_plan.specs.declared.{plans.{PlanRow.PlanRow, Shape.{Shape, TheVariants.Hand}, Terminal.Terminal}, ports.Port.Port}
 use Rattle.{c104_plan.specs.declared.ports.Wire.Wire, std.proofs.Common.{Bool, List, None, Ok, Option, Some, [], ap, arith, bytes_eq}}
-use Rattle.std.proofs.Common.{codes, false, get_or, if◌then◌else◌, inl, inr, is_none, length, length-append, nat_le, nat_lt, not, refl, sym}
-use Rattle.std.proofs.{Common.{true, ℕ, ⊎_elim, ◌*◌, ◌++◌, ◌+◌, ◌<◌, ◌==◌, ◌^◌, ◌||◌, ◌∙◌, ◌∷◌, ◌≡◌, ◌≤◌}, lemmas.Bool.and_parts}
+use Rattle.std.proofs.Common.{codes, false, get_or, if◌then◌else◌, inl, inr, is_none, is_some, length, length-append, nat_le, nat_lt, not}
+use Rattle.std.proofs.{Common.{refl, sym, true, ℕ, ⊎_elim, ◌*◌, ◌++◌, ◌+◌, ◌<◌, ◌==◌, ◌^◌, ◌||◌, ◌∙◌, ◌∷◌, ◌≡◌, ◌≤◌}, lemmas.Bool.and_parts}
 use Rattle.std.proofs.lemmas.{Bool.{cases_Bool, eqb-false, eqb-true, leb-true, ltb-false, or_parts}, List.Quantifiers.position-Some}
 use Rattle.std.{proofs.lemmas.{Nat.pow_pos, Slice.Eq.bytes_eq-Decides}, specs.Option.{option_map_or, unwrap_or}}
-use Rattle.std.proofs.Common.is_some
 
 -- Conditions that hold
 

@@ -1,11 +1,10 @@
 -- A plan to be labelled from a root keeps what every plan does.
-use Rattle.c104_plan.{proofs.{NamesKept.same_names, PlanRanges.next_first-le}, specs.{PlanParts.without_first, Plans.AreTerminals}}
-use Rattle.c104_plan.specs.Plans.{HasGroupsAlone, IsNamedIn, IsOfShape, IsPlan, IsRange, IsTreePlan, IsUnset, IsUpDownPlan, Plan, host_port}
-use Rattle.c104_plan.specs.{Plans.{next_first, total_count}, Ports.IsSwitchPort, declared.plans.Shape.{Shape, TheVariants.{Cube, Hand}}}
-use Rattle.{c104_plan.specs.declared.plans.{Shape.TheVariants.{Mesh, Tree, UpDown}, Terminal.Terminal}, std.proofs.Common.{List, Option}}
-use Rattle.std.proofs.{Common.{Some, [], ap, arith, length, map, refl, true, ℕ, ◌+◌, ◌<◌, ◌∷◌, ◌≡◌, ◌≤◌}, lemmas.List.Elements.All-map}
-use Rattle.std.proofs.lemmas.{List.{Elements.All-weaker, length-map}, Simd.map-map}
-use Rattle.c104_describe.specs.PlanDrafts.excludes_groups
+use Rattle.{c104_describe.specs.PlanDrafts.excludes_groups, c104_plan.proofs.{NamesKept.same_names, PlanRanges.next_first-le}}
+use Rattle.c104_plan.specs.{PlanParts.without_first, Plans.{AreTerminals, HasGroupsAlone, IsNamedIn, IsOfShape, IsPlan, IsRange}}
+use Rattle.c104_plan.specs.{Plans.{IsTreePlan, IsUnset, IsUpDownPlan, Plan, host_port, next_first, total_count}, Ports.IsSwitchPort}
+use Rattle.c104_plan.specs.declared.plans.{Shape.{Shape, TheVariants.{Cube, Hand, Mesh, Tree, UpDown}}, Terminal.Terminal}
+use Rattle.std.proofs.Common.{List, Option, Some, [], ap, arith, length, map, refl, true, ℕ, ◌+◌, ◌<◌, ◌∷◌, ◌≡◌, ◌≤◌}
+use Rattle.std.proofs.lemmas.{List.{Elements.{All-map, All-weaker}, length-map}, Simd.map-map}
 
 -- a plan of so many switches is labelled as this shape from one of them
 abbrev pub IsRootIn : ℕ → Shape → Type 0

@@ -1,7 +1,6 @@
 use Rattle.c104_describe.specs.{LineFaults.read_parts, PlanDrafts.draft_of, PlanLines.{Draft, is_bad_number, is_from_to, torus_parts}}
-use Rattle.c104_describe.specs.{PlanLines.{value_said, with_plan}, ShapeLayouts.{hosted_plan, parallel, torus}}
-use Rattle.std.proofs.Common.{List, Ok, Some, ap, arith, false, nat_lt, sym, ℕ, ◌*◌, ◌+◌, ◌≡◌}
-use Rattle.std.proofs.lemmas.Bool.Decides.{nat_tests}
+use Rattle.{c104_describe.specs.{PlanLines.{value_said, with_plan}, ShapeLayouts.{hosted_plan, parallel, torus}}, std.proofs.Common.List}
+use Rattle.std.proofs.{Common.{Ok, Some, ap, arith, false, nat_lt, sym, ℕ, ◌*◌, ◌+◌, ◌≡◌}, lemmas.Bool.Decides.nat_tests}
 
 -- a line of which each number was read, and which asks for no more than there may be
 torus_read : (draft next : Draft) (width height terminals wires : List ℕ) (w h p k : ℕ)
