@@ -228,7 +228,8 @@ read_lines-draft n (line ∷ more) draft last kept is =
 -- The plan that they give
 
 finished_by : (o : Option Shape) (plan : Plan) (from_said : Bool) → IsPlan plan → (from_said ≡ false → plan.shape ≡ Hand → next_first plan.terminals ≡ total_count plan.terminals) → IsRooted o plan from_said → IsPlan (rooted o plan)
-finished_by o plan from_said kept counted is = search (arith, rooted_kept)
+finished_by None plan from_said kept counted is = kept
+finished_by (Some shape) plan from_said kept counted is = rooted_kept plan kept shape is.0 (counted is.2 is.1) is.3
 
 pub finished_kept : (draft : Draft) → IsDraft draft → IsPlan (finished draft)
 finished_kept draft all = finished_by draft.labels draft.plan draft.from_said all.kept all.counted all.rooted
