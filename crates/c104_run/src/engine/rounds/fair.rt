@@ -172,6 +172,7 @@ impl<T: TokenKind, P: Place<T>> Engine<T, P> {
 
     /// The claims of an input, in this order of outputs, if it is among those that want one. They are looked for again where
     /// a claim may have been made.
+    #[inline(always)]
     fn claim_if_wanting<M: Meter<T>>(
         &mut self,
         meter: &mut M,
@@ -231,6 +232,7 @@ impl<T: TokenKind, P: Place<T>> Engine<T, P> {
     }
 
     /// Tries a claim, if it is of an output that can be claimed, and tells the turns of it where it was done.
+    #[inline(always)]
     fn attempt_in_turn<M: Meter<T>>(
         &mut self,
         meter: &mut M,
