@@ -6,7 +6,8 @@ use Rattle.c104_label.specs.{Images.{IsUpDownImage, IsUpDownMade}, TreeImages.{I
 use Rattle.c104_label.specs.{TreeLabels.{switch_table, tree_range}, Trees.IsTreeCause, UpDownLabels.IsSound}
 use Rattle.{c104_label.specs.declared.faults.LabelFault.LabelFault, c104_plan.proofs.LabelledSettings.labelled_by_port}
 use Rattle.c104_plan.specs.{LabelledImages.table_in, PlanImage.Image, Plans.{IsPlan, IsTreePlan, IsUpDownPlan, Plan}}
-use Rattle.std.proofs.Common.{IfOk, List, None, Option, Result, Some, [], arith, false, inl, inr, length, map, subst, sym, ℕ, ◌<◌, ◌∙◌, ◌∷◌}
+use Rattle.std.proofs.Common.{IfOk, List, None, Option, Result, Some, [], arith, false, inl, inr, length, map, refl, subst, sym, ℕ, ◌<◌, ◌∙◌}
+use Rattle.std.proofs.Common.{◌∷◌}
 use Rattle.std.{proofs.Common.{◌≡◌, ◌≤◌, ◌⊎◌}, specs.List.range_with_len}
 
 pub tree_up_down : (plan : Plan) (root : ℕ) (forest : Forest) (image : Image) → IsPlan plan → IsTreePlan root plan → total_count plan.terminals ≤ most_labels plan → IsTreeImage plan root forest image → IsUpDownImage plan root forest image
