@@ -109,6 +109,12 @@ RUNS = {
 TURNS_DONE = ['64 of 262144 turns are done', 'stands still: 3 tokens wait in 1 packet', 'A.7, which has no wire, holds 3 tokens',
               '3 tokens wait at output A.7; no wire leads on from there']
 
+# Switches in a line, and what the search for the root of their labels tells on a terminal.
+LINE = b'switch A\nswitch B\nswitch C\nwire A.1 B.0\nwire B.1 C.0\nterminal a A.9\nterminal c C.9\nlabel up-down\n'
+ROOTS_TRIED = ['1 of 3 roots are tried', '2 of 3 roots are tried',
+               'labelled from A, depth first: packets go up and then down by the shortest ways',
+               'on average over 2.00 wires; if each terminal sends a packet to each other, at most 1 go over a link; at most 2 rows']
+
 # Descriptions, and lines typed on them, each with what a question is told.
 RANDOM_AT_B = PLAN + b'random A.1 2 1\n'
 TYPED = {
@@ -196,6 +202,18 @@ def storm_progress(runner):
     runner.judge(name, None if found == due else 'wanted %r, found %r' % (due, found))
 
 
+def root_progress(runner):
+    """The same of roots tried."""
+    name = 'progress of the search for a root'
+    if not runner.wanted(name):
+        return
+    with Files(LINE) as path, tempfile.TemporaryDirectory() as folder:
+        clocked = with_a_later_clock(runner.program, folder)
+        status, _, told = run_on_terminal(clocked, ['label', path], TOP, b'')
+    due = (0, text_of(path + ': ', ROOTS_TRIED))
+    runner.judge(name, None if (status, told) == due else 'wanted %r, found %r' % (due, told))
+
+
 def wrong_of_typed(runner, path, lines):
     """What is wrong with what a person is told who types these lines, or None."""
     asked = asked_by_person(runner.program + ['debug', path], False)
@@ -220,4 +238,4 @@ def questions(runner):
                 runner.judge('questions on ' + name, wrong_of_typed(runner, path, lines))
 
 
-PARTS = [checks, runs, full, storm_progress, questions]
+PARTS = [checks, runs, full, storm_progress, root_progress, questions]

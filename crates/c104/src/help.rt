@@ -31,8 +31,8 @@ Examples:
 
 Under --explain, standard error explains what is wrong with a line or with labels, why
 an event isn't ready, who waits for whom where nothing moves, and what wasn't
-delivered. This is the default on a terminal, where long `rounds` and storms also report
-progress. Standard output is the same.
+delivered. This is the default on a terminal, where long `rounds`, storms and the search
+for the best root also report progress. Standard output is the same.
 
 Exit status:
   0  done, even if an event was refused

@@ -3,7 +3,7 @@ ghost use Rattle.std.specs.Prelude.{⊤};
 
 use crate::command_line::{EXPLAIN_WORD, Order};
 use crate::subcommands::Subcommand;
-use c104_mistakes::{About, Messages};
+use c104_mistakes::{About, Messages, Work};
 use c104_setup::Status;
 use clap::Error;
 use clap::error::ErrorKind;
@@ -12,13 +12,13 @@ use std::io::{IsTerminal, Write};
 use std::time::Instant;
 use std::{fs, io};
 
-/// Seconds that a line's rounds go on before it is told how far they are, and between two times.
+/// Seconds that work goes on before it is told how far it is, and between two times.
 const SECONDS_BETWEEN: u64 = 1;
 
-/// The rounds of a line of the script that go on.
+/// Work that goes on.
 #[derive(Drop)]
 struct Going {
-    line: usize,
+    work: Work,
     // When they were told of last, or began.
     told: Instant,
 }
@@ -30,7 +30,7 @@ pub struct Told<'a> {
     rt: &'a HostRuntime,
     order: Order<'a>,
     is_wanted: bool,
-    // Whether it is told how far rounds are: standard error is a terminal.
+    // Whether it is told how far work is: standard error is a terminal.
     is_watched: bool,
     // Whether a person types the script.
     is_asked: bool,
@@ -40,7 +40,7 @@ pub struct Told<'a> {
     unwritten: Option<String>,
     // Whether a word of the command line turned out to be wrong.
     has_wrong_word: bool,
-    // Whether a run is done again of which all was told. Then it is told how far its rounds are, and nothing else.
+    // Whether a run is done again of which all was told. Then it is told how far its work is, and nothing else.
     is_again: bool,
     going: Option<Going>,
 }
@@ -138,26 +138,26 @@ impl<'a> Told<'a> {
         }
     }
 
-    /// Whether the rounds of a line have gone on for long since they were told of. Where that line is another than
-    /// before, they begin now; where there is no clock, it is never long.
-    fn is_long(&mut self, line: usize) -> bool {
+    /// Whether work has gone on for long since it was told of. Where it is other work than before, it begins now; where there
+    /// is no clock, it is never long.
+    fn is_long(&mut self, work: Work) -> bool {
         if let Some(going) = &self.going
-            && going.line == line
+            && going.work == work
         {
             return match going.told.elapsed(self.rt) {
                 Ok(passed) => passed.as_secs() >= SECONDS_BETWEEN,
                 Err(_) => false,
             };
         }
-        self.going = begun(self.rt, line);
+        self.going = begun(self.rt, work);
         false
     }
 }
 
-/// The rounds of a line, from now on.
-fn begun(rt: &HostRuntime, line: usize) -> Option<Going> {
+/// Work, from now on.
+fn begun(rt: &HostRuntime, work: Work) -> Option<Going> {
     let told = Instant::now(rt).ok()?;
-    Some(Going { line, told })
+    Some(Going { work, told })
 }
 
 impl Messages for Told<'_> {
@@ -178,16 +178,17 @@ impl Messages for Told<'_> {
         }
     }
 
-    fn progress(&mut self, line: usize, done: u32, count: u32) {
-        if !self.is_watched || !self.is_long(line) {
+    fn progress(&mut self, work: Work, done: u32, count: u32) {
+        if !self.is_watched || !self.is_long(work) {
             return;
         }
-        self.going = begun(self.rt, line);
-        let (about, what) = match line {
-            0 => (About::Run, "turns"),
-            line => (About::ScriptLine(line), "rounds"),
+        self.going = begun(self.rt, work);
+        let (about, what) = match work {
+            Work::Rounds(line) => (About::ScriptLine(line), "rounds are done"),
+            Work::Turns => (About::Run, "turns are done"),
+            Work::Roots => (About::Description, "roots are tried"),
         };
-        if let Ok(message) = format!(in self.rt.alloc(); "{done} of {count} {what} are done") {
+        if let Ok(message) = format!(in self.rt.alloc(); "{done} of {count} {what}") {
             self.show(about, message.as_str());
         }
     }

@@ -15,7 +15,7 @@ use Rattle.std.{proofs.Common.{Ok, [], ap, length, refl, suc, zero, ℕ, ◌++�
 pub of_round : (plan : Plan) (words : Words) → AllByRecursion IsOfRound (round_with words plan)
 of_round plan words = each_of_round_with plan IsOfRound words (λ p q wire. tt) (λ p q wire. tt) (λ s l w q wire. tt) (λ s i o inside input output. tt) (λ t inside. tt)
 
--- so are those of fair rounds, whoever's turn it is
+-- so are those of fair rounds, whatever turns they begin with
 pub of_fair_round : (plan : Plan) (words : Words) (turns : List SwitchTurns) → AllByRecursion IsOfRound (fair_round words turns plan)
 of_fair_round plan words turns = each_of_fair_round turns plan IsOfRound words (λ p q wire. tt) (λ p q wire. tt) (λ s l w q wire. tt) (λ s i o inside turn. tt) (λ t inside. tt)
 

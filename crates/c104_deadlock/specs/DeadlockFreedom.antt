@@ -67,7 +67,7 @@ RoundsDeliver routes net n = (words : Words) (after : NetRecord) → RecordsHand
 abbrev pub AreOrders : List SwitchTurns → Type 0
 AreOrders turns = (s : ℕ) → IsOrder (turns_of turns s).inputs × IsOrder (turns_of turns s).outputs
 
--- the same after n fair rounds, whoever's turn it is before them
+-- the same after n fair rounds, whatever turns they begin with
 abbrev pub FairDeliver : Routes → NetRecord → ℕ → Type 0
 FairDeliver routes net n =
     (words : Words) (turns : List SwitchTurns) (after : NetRecord) (left : List SwitchTurns) → AreOrders turns →

@@ -32,7 +32,7 @@ pub record IsStretch (words : Words) (n : ℕ) (start first : InTurn NetRecord) 
   pub leads : run_events (fairly record_apply) start before ≡ (Ok tt, first)
   pub goes : (run_events (fairly record_apply) first stretch).0 ≡ Ok tt
 
--- in a stretch of fair rounds in which an input is given no output at most 31 packets pass its own, whoever's turn it was first
+-- in a stretch of fair rounds in which an input is given no output at most 31 packets pass its own, whatever turns it begins with
 abbrev pub FairWaits : NetRecord → Type 0
 FairWaits net =
     (words : Words) (turns : List SwitchTurns) (n s i : ℕ) (first : InTurn NetRecord) (stretch : List Event) →

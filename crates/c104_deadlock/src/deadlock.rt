@@ -26,7 +26,7 @@ impl NoDeadlock for Net {
     /// run began with the image's settings and with every switch started, nobody changed it since, and no terminal before
     /// whose packets random headers are put sent one that begins with such a header itself: it has no deadlock, and there
     /// is a number of rounds of which more, none of them refused, deliver each packet with a whole header that has an
-    /// owner, whatever words their inputs are handed, and so do as many fair rounds, whoever's turn it is before them.
+    /// owner, whatever words their inputs are handed, and so do as many fair rounds, whatever turns they begin with.
     /// And of every network: in fair rounds at most 31 packets of other inputs pass an input that waits. This is a law:
     /// whoever cites it calls this before the rounds that it is about. It changes nothing and takes no memory.
     fn has_no_deadlock(&self)

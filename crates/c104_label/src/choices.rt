@@ -14,6 +14,7 @@ use crate::numbers::label_sum;
 use crate::orders::{Choice, Visit};
 use crate::port_tables::port_tables;
 use crate::trees::most_labels;
+use crate::watch::RootWatch;
 use c104_plan::Plan;
 use c104_token::NoMemory;
 use std::alloc::{AllocError, Global};
@@ -26,10 +27,11 @@ struct Candidate {
 }
 
 /// The root that is named, with the depth-first visit, or the best choice where none is.
-pub(crate) fn choice_of(
+pub(crate) fn choice_of<T: RootWatch>(
     alloc: Global,
     plan: &Plan,
     named: Option<usize>,
+    watch: &mut T,
 ) -> Result<Choice, NoMemory>
     requires some { 0 < length plan.now.switches }
     requires named { IsNamedIn (length plan.now.switches) named }
@@ -41,7 +43,7 @@ pub(crate) fn choice_of(
             visit: Visit::DepthFirst,
         }),
         None => {
-            let best = best_choice(alloc, plan)?;
+            let best = best_choice(alloc, plan, watch)?;
             Ok(inside(best, plan))
         }
     }
@@ -63,11 +65,17 @@ fn inside(choice: Choice, plan: &Plan) -> Choice
 }
 
 /// The best choice, and the first switch where labels can't be made from any.
-fn best_choice(alloc: Global, plan: &Plan) -> Result<Choice, NoMemory> {
+fn best_choice<T: RootWatch>(
+    alloc: Global,
+    plan: &Plan,
+    watch: &mut T,
+) -> Result<Choice, NoMemory> {
     let mut best = None;
     if label_sum(plan) <= most_labels(plan) {
         let fabric = Fabric::new(alloc, plan)?;
-        for root in 0..plan.switches().len() {
+        let count = plan.switches().len();
+        for root in 0..count {
+            watch.roots_tried(root, count);
             try_root(alloc, plan, &fabric, root, &mut best)?;
         }
     }

@@ -12,6 +12,7 @@ use crate::meshes::mesh_image;
 use crate::reports::UpDownReport;
 use crate::trees::tree_image;
 use crate::up_down::up_down_image;
+use crate::watch::{RootWatch, Unwatched};
 use c104_interval::Table;
 use c104_plan::{Image, Plan, Shape, hand_image};
 use c104_token::NoMemory;
@@ -35,14 +36,16 @@ pub fn image_of(alloc: Global, plan: &Plan) -> Result<Image, LabelFault>
     ensures refused { IfErr result (IsImageCause plan.now) }
 {
     let mut report = None;
-    image_with_report(alloc, plan, &mut report)
+    image_with_report(alloc, plan, &mut report, &mut Unwatched)
 }
 
-/// The same, with a report of labels by which packets go up and then down, if such are made.
-pub fn image_with_report(
+/// The same, with a report of labels by which packets go up and then down, if such are made. What watches is told how
+/// many roots were tried, where the plan names none.
+pub fn image_with_report<T: RootWatch>(
     alloc: Global,
     plan: &Plan,
     report: &mut Option<UpDownReport>,
+    watch: &mut T,
 ) -> Result<Image, LabelFault>
     ensures image { IfOk result (λ image. IsImageOf plan.now image) }
     ensures fits { IfOk result (λ image. Fits image plan.now) }
@@ -58,7 +61,7 @@ pub fn image_with_report(
             Ok(image)
         }
         Shape::Tree(_) => label_tree(alloc, plan),
-        Shape::UpDown(_) => up_down_labels(alloc, plan, report),
+        Shape::UpDown(_) => up_down_labels(alloc, plan, report, watch),
         Shape::Mesh(_, _, _) => label_mesh(alloc, plan),
         Shape::Cube(_, _) => label_cube(alloc, plan),
     }
@@ -123,14 +126,15 @@ pub fn label_up_down(alloc: Global, plan: &Plan) -> Result<Image, LabelFault>
     ensures refused { IfErr result (IsShapeCause (is_up_down_shape plan.now.shape) plan.now) }
 {
     let mut report = None;
-    up_down_labels(alloc, plan, &mut report)
+    up_down_labels(alloc, plan, &mut report, &mut Unwatched)
 }
 
 /// The same, with a report.
-fn up_down_labels(
+fn up_down_labels<T: RootWatch>(
     alloc: Global,
     plan: &Plan,
     report: &mut Option<UpDownReport>,
+    watch: &mut T,
 ) -> Result<Image, LabelFault>
     ensures image { IfOk result (λ image. IsImageOf plan.now image) }
     ensures fits { IfOk result (λ image. Fits image plan.now) }
@@ -141,7 +145,7 @@ fn up_down_labels(
     ensures refused { IfErr result (IsShapeCause (is_up_down_shape plan.now.shape) plan.now) }
 {
     match plan.shape() {
-        Shape::UpDown(named) => up_down_image(alloc, plan, named, report),
+        Shape::UpDown(named) => up_down_image(alloc, plan, named, report, watch),
         Shape::Hand => Err(LabelFault::WrongShape),
         Shape::Tree(_) => Err(LabelFault::WrongShape),
         Shape::Mesh(_, _, _) => Err(LabelFault::WrongShape),

@@ -30,6 +30,7 @@ mod reports;
 mod rows;
 mod trees;
 mod up_down;
+mod watch;
 mod way_rows;
 mod ways;
 
@@ -41,3 +42,4 @@ pub use loads::Load;
 pub use meshes::{is_mesh, mesh_tables};
 pub use orders::Visit;
 pub use reports::{UpDownReport, UpDownWay};
+pub use watch::{RootWatch, Unwatched};

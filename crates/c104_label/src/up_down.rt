@@ -22,6 +22,7 @@ use crate::orders::Choice;
 use crate::port_tables::{PortLabels, group_flags, port_tables};
 use crate::reports::{UpDownReport, UpDownWay, report_of};
 use crate::trees::{forest_image, most_labels};
+use crate::watch::RootWatch;
 use c104_check::{CheckFault, RanksOrCycle, check, find_cycle};
 use c104_plan::{Image, Plan};
 use c104_token::NoMemory;
@@ -37,11 +38,12 @@ use std::alloc::{AllocError, Global};
 /// terminals have more labels than there are headers, 256, or 65536 of two bytes; BadGroups where lines of the plan group
 /// links and no tables are accepted with these; and NoMemory.
 #[tactic(auto, using(crate::proofs::UpDownImages::root_cause))]
-pub(crate) fn up_down_image(
+pub(crate) fn up_down_image<T: RootWatch>(
     alloc: Global,
     plan: &Plan,
     named: Option<usize>,
     report: &mut Option<UpDownReport>,
+    watch: &mut T,
 ) -> Result<Image, LabelFault>
     requires plan { IsUpDownPlan named plan.now }
     ensures image { IfOk result (IsUpDownMade plan.now named) }
@@ -51,7 +53,7 @@ pub(crate) fn up_down_image(
     if plan.switches().len() == 0 {
         return Err(LabelFault::NotConnected);
     }
-    let choice = choice_of(alloc, plan, named)?;
+    let choice = choice_of(alloc, plan, named, watch)?;
     let image = chosen_image(alloc, plan, named, choice, report)?;
     Ok(image)
 }
@@ -122,11 +124,13 @@ fn best_image(
     let tree = forest_image(alloc, plan, choice.root, forest)?;
     let stands = stands_with_groups(alloc, plan, &tree)?;
     let found = shorter_image(alloc, plan, choice, forest, &tree, way)?;
-    match found {
-        Some(image) => Ok(image),
-        None if stands => Ok(tree),
-        None => Err(LabelFault::BadGroups),
+    if let Some(image) = found {
+        return Ok(image);
     }
+    if !stands {
+        return Err(LabelFault::BadGroups);
+    }
+    Ok(tree)
 }
 
 /// Whether a tree's image stands beside the groups of the plan's own lines: there are none, or it is accepted with them.

@@ -24,7 +24,7 @@ mod words;
 pub use commands::{command_message, is_refusal};
 pub use common_mistakes::{NO_LINK, NOT_A_TERMINAL};
 pub use descriptions::description_message;
-pub use messages::{About, Behind, Messages, Silent, tell_if_long, tell_lines};
+pub use messages::{About, Behind, Messages, Silent, Work, tell_if_long, tell_lines};
 pub use nearest::{nearest_node, nearest_switch, nearest_terminal};
 pub use script_mistakes::{NO_NODE, NO_NUMBER, TERMINALS_LINK};
 pub use scripts::{fault_message, owner_message, refusal_message, register_message};

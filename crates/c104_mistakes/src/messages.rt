@@ -29,6 +29,17 @@ pub enum About {
     Run,
 }
 
+/// Long work of which people are told how far it is.
+#[derive(Clone, Copy, Debug, PartialEq, Eq)]
+pub enum Work {
+    /// The rounds of a line of the script.
+    Rounds(usize),
+    /// A storm's turns.
+    Turns,
+    /// The switches that are tried as the root of labels up and down.
+    Roots,
+}
+
 /// What takes messages for people. Nothing is promised of it, and no contract of what calls it speaks of messages: one
 /// that is lost is lost. Contracts speak of the pictures that it takes.
 pub trait Messages {
@@ -45,9 +56,8 @@ pub trait Messages {
     /// Takes a message, without a line feed at its end.
     fn tell(&mut self, about: About, message: &str);
 
-    /// Takes the number of rounds done so far, of the count that a line of the script asks for; or, where the line is 0, of
-    /// a storm's turns. It is called again and again while they go on.
-    fn progress(&mut self, line: usize, done: u32, count: u32);
+    /// Takes how much of some work is done so far, of this count. It is called again and again while the work goes on.
+    fn progress(&mut self, work: Work, done: u32, count: u32);
 
     /// Saves a picture that a person asks for as a file of this name, in place of one that is there. The error says why it
     /// isn't saved, and then a part of it may be there.
@@ -76,7 +86,7 @@ impl Messages for Silent {
     fn tell(&mut self, _about: About, _message: &str) {}
 
     #[inline]
-    fn progress(&mut self, _line: usize, _done: u32, _count: u32) {}
+    fn progress(&mut self, _work: Work, _done: u32, _count: u32) {}
 
     fn save(&mut self, _file: &str, _picture: &str) -> io::Result<()> {
         Err(io::Error::from(io::ErrorKind::Unsupported))
@@ -125,9 +135,12 @@ impl<M: Messages> Messages for Behind<'_, M> {
         self.messages.tell(about, message);
     }
 
-    fn progress(&mut self, line: usize, done: u32, count: u32) {
-        self.messages
-            .progress(line.saturating_add(self.lines), done, count);
+    fn progress(&mut self, work: Work, done: u32, count: u32) {
+        let work = match work {
+            Work::Rounds(line) => Work::Rounds(line.saturating_add(self.lines)),
+            Work::Turns | Work::Roots => work,
+        };
+        self.messages.progress(work, done, count);
     }
 
     fn save(&mut self, file: &str, picture: &str) -> io::Result<()> {

@@ -32,7 +32,7 @@ both_empty (x ∷ xs) ys is = absurd (cc is)
 none_either : (b : Bool) → ◌≡◌ {A = ℕ} (if b then 0 else 0) 0
 none_either b = search arith
 
--- rounds, whatever their words and whoever's turn it is: events of the kinds that rounds have, of which none is ready only
+-- rounds, whatever their words and turns: events of the kinds that rounds have, of which none is ready only
 -- where none of a plain round is
 pub record IsRound (plan : Plan) (es : List Event) : Type 0 where
   pub of : AllByRecursion IsOfRound es

@@ -134,7 +134,7 @@ fn run_description<S: Read, W: Write, M: Messages>(
         (W.contents writer.old) (W.contents writer.new) result }
     ensures of_script { (n : ℕ) → result ≡ status.CannotRead n → (n ≡ 1) × (length description.now ≤ most_bytes) }
 {
-    match set_up(alloc, description) {
+    match set_up(alloc, description, messages) {
         Ok(setup) => run_setup(alloc, setup, ahead, script, writer, messages),
         Err(fault) => refuse(alloc, description, fault, writer, messages),
     }

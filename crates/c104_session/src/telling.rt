@@ -1,7 +1,7 @@
 //! Who is told of a run as it goes on.
 
 use crate::tally::Tally;
-use c104_mistakes::{About, Messages, tell_lines};
+use c104_mistakes::{About, Messages, Work, tell_lines};
 use c104_net::Watch;
 use c104_stream::Halt;
 
@@ -65,7 +65,7 @@ impl<M: Messages> Watch for Telling<'_, M> {
     fn rounds_done(&mut self, done: u32, count: u32) {
         self.rounds = done;
         if done % ROUNDS_BETWEEN == 0 {
-            self.messages.progress(self.line, done, count);
+            self.messages.progress(Work::Rounds(self.line), done, count);
         }
     }
 }

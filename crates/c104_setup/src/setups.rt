@@ -8,8 +8,8 @@ ghost use Rattle.c104_setup.specs.declared.status.Status.TheVariants as status;
 
 use crate::status::Status;
 use c104_describe::{PlanFault, PlanFaultKind, description_text, read_description};
-use c104_label::{LabelFault, UpDownReport, image_with_report};
-use c104_mistakes::{About, Messages, description_message};
+use c104_label::{LabelFault, RootWatch, UpDownReport, image_with_report};
+use c104_mistakes::{About, Messages, Work, description_message};
 use c104_plan::{Image, MAX_DESCRIPTION, Plan};
 use c104_stream::{Halt, read_up_to, write_whole};
 use c104_token::NoMemory;
@@ -36,9 +36,26 @@ pub enum SetupFault {
     Labels(LabelFault),
 }
 
+/// Messages that take how many roots were tried.
+struct Roots<'a, M: Messages> {
+    messages: &'a mut M,
+}
+
+impl<M: Messages> RootWatch for Roots<'_, M> {
+    fn roots_tried(&mut self, tried: usize, count: usize) {
+        let number = |count| u32::try_from(count).unwrap_or(u32::MAX);
+        self.messages
+            .progress(Work::Roots, number(tried), number(count));
+    }
+}
+
 /// Reads a description and labels its network. The error is the first fault of the description or of its labels, or out of
-/// memory.
-pub fn set_up(alloc: Global, description: &[u8]) -> Result<Setup, SetupFault>
+/// memory. What takes the messages is told how many roots were tried, where one is looked for.
+pub fn set_up<M: Messages>(
+    alloc: Global,
+    description: &[u8],
+    messages: &mut M,
+) -> Result<Setup, SetupFault>
     ensures network { IfOk result (λ setup.
         ComesTo (read_description description.now) (Ok (setup.plan, setup.image))) }
     ensures fits { IfOk result (λ setup. Fits setup.image setup.plan) }
@@ -54,7 +71,7 @@ pub fn set_up(alloc: Global, description: &[u8]) -> Result<Setup, SetupFault>
         Err(fault) => return Err(SetupFault::Description(fault)),
     };
     let mut report = None;
-    match image_with_report(alloc, &plan, &mut report) {
+    match image_with_report(alloc, &plan, &mut report, &mut Roots { messages }) {
         Ok(image) => Ok(Setup {
             plan,
             image,
@@ -112,7 +129,7 @@ fn set_up_text<W: Write, M: Messages>(
     ensures refused { IfErr result (λ status. EndsBefore (Some description.now)
         (W.contents writer.old) (W.contents writer.new) status) }
 {
-    match set_up(alloc, description) {
+    match set_up(alloc, description, messages) {
         Ok(setup) => Ok(setup),
         Err(fault) => Err(refuse(alloc, description, fault, writer, messages)),
     }

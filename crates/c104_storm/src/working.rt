@@ -7,7 +7,7 @@ ghost use Rattle.std.specs.Prelude.{◌≤◌, length};
 ghost use Rattle.c104_workers.specs.Fabrics.{AreSeatsOf};
 
 use c104_event::EventFault;
-use c104_mistakes::Messages;
+use c104_mistakes::{Messages, Work};
 use c104_workers::{Fabric, OpenGate, RunFault, Seat, Words, run_workers};
 use std::alloc::Global;
 use std::sync::Wait;
@@ -31,7 +31,7 @@ pub(crate) enum Worked {
 }
 
 /// Lets workers do turns, each through one of these seats and with such words, until all is quiet. Where none of them does
-/// anything in 64 turns, no later turn would. What takes the messages is told how many turns are done, of line 0.
+/// anything in 64 turns, no later turn would. What takes the messages is told how many turns are done.
 pub(crate) fn work<R: Threads + Wait + Sync, M: Messages>(
     alloc: Global,
     rt: &R,
@@ -49,7 +49,7 @@ pub(crate) fn work<R: Threads + Wait + Sync, M: Messages>(
         if fabric.quiet(rt) {
             return Worked::Quiet;
         }
-        messages.progress(0, times * TURNS, MOST_TIMES * TURNS);
+        messages.progress(Work::Turns, times * TURNS, MOST_TIMES * TURNS);
         let turns = u64::from(TURNS);
         if let Err(RunFault::Event(worker, fault)) = run_workers(
             alloc, rt, fabric, seats, &OpenGate, words, turns,
