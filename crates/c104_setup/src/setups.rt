@@ -37,6 +37,7 @@ pub enum SetupFault {
 }
 
 /// Messages that take how many roots were tried.
+#[derive(Drop)]
 struct Roots<'a, M: Messages> {
     messages: &'a mut M,
 }
