@@ -60,6 +60,23 @@ def cubes(runner):
             runner.case('%s of a cube %s' % (command, ' '.join(words)), answer, words=[command, '-'], data=made)
 
 
+def loads(runner):
+    """Wires are as wide as their loads: here four packets cross the one wire either way."""
+    if not runner.wanted('loads'):
+        return
+    with tempfile.TemporaryDirectory() as folder:
+        network = os.path.join(folder, 'halves.txt')
+        with open(network, 'wb') as file:
+            file.write(HALVES)
+        for words, width in (([], '10.0'), (['16'], '2.5')):
+            found = swept(runner, ['loads', network, *words])
+            drawn = runner.run(words=['draw', network])[1].decode().replace('{\n', '{\n  label="at most 4 packets over a wire"\n', 1)
+            due = drawn.replace('headlabel="1"]', 'headlabel="1", penwidth=%s]' % width)
+            runner.judge(' '.join(['loads', *words]), None if found == (0, due, '') and width in due else '%.400r' % (found,))
+        status, _, told = swept(runner, ['loads', os.path.join(EXAMPLES, 'labels-that-loop.txt')])
+        runner.judge('loads without labels', None if (status, told[:7]) == (1, 'loads: ') else '%.400r' % told)
+
+
 def carried_loads(points):
     """For each load of these points, whether the network carries it, over all seeds."""
     seeds = {}
@@ -98,6 +115,7 @@ def sweep(runner):
         return
     point(runner)
     cubes(runner)
+    loads(runner)
     if not shutil.which('parallel') or not shutil.which('gnuplot'):
         return
     with tempfile.TemporaryDirectory(prefix='a b') as folder:
