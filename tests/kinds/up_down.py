@@ -96,6 +96,23 @@ def fat_tree(half):
                    for pod in range(2 * half) for upper in range(half) for core in range(half)]
 
 
+def connected_cycles(dimensions):
+    """A cube that has in place of each corner a ring, with a switch for each dimension."""
+    corners, places = range(1 << dimensions), range(dimensions)
+    near = [(corner * dimensions + it, corner * dimensions + (it + 1) % dimensions) for corner in corners for it in places]
+    return near + [(corner * dimensions + it, (corner ^ 1 << it) * dimensions + it)
+                   for corner in corners for it in places if not corner >> it & 1]
+
+
+def dragonfly(switches, wires):
+    """Groups whose switches are all joined, and each of which has so many wires to other groups that one joins every two."""
+    groups = range(switches * wires + 1)
+    near = [(group * switches + here, group * switches + there)
+            for group in groups for there in range(switches) for here in range(there)]
+    return near + [(here * switches + (there - 1) // wires, there * switches + here // wires)
+                   for there in groups for here in range(there)]
+
+
 def chance(count, wires, seed):
     """A tree of switches, and further wires by chance, some of them beside others."""
     by = random.Random(seed)
@@ -120,13 +137,16 @@ NETWORKS = {
 }
 
 
-# Of networks without a root the most rows of a table, and the packets that go over the busiest link if each terminal sends one
-# to each other: those that leave a switch with terminals, spread alike over its wires.
+# Of networks without a root the most rows of a table, and the most packets that go over a link if each terminal sends one to
+# each other: those that leave a switch with terminals, spread alike over its wires, or as many as by labels up and down that were
+# made by hand.
 BY_ITSELF = {
     'a folded Clos network of 4 leaves': (Network(8, clos(4, 4), lambda s: 4 if s < 4 else 0, None), 6, 12),
     'a folded Clos network of 8 leaves': (Network(16, clos(8, 8), lambda s: 8 if s < 8 else 0, None), 10, 56),
     'a fat tree': (Network(20, fat_tree(2), lambda s: 2 if s < 8 else 0, None), 4, 14),
     'two switches with four wires': (Network(2, [(0, 1)] * 4, lambda s: 4, None), 5, 4),
+    'a cube of cycles': (Network(24, connected_cycles(3), lambda s: 1, None), 15, 77),
+    'a dragonfly': (Network(36, dragonfly(4, 2), lambda s: 2, None), 36, 336),
 }
 
 
@@ -230,8 +250,8 @@ def wrong_load(network, most_rows, most, ranges, values):
                         front.append((network.peer[out], share / len(ways), wires + 1))
                     elif out != network.hosts[target]:
                         return 'label %d from t%d: %r' % (first, sender, out)
-    if max(loads.values()) != most:
-        return '%s packets over a link, %d due' % (max(loads.values()), most)
+    if max(loads.values()) > most:
+        return '%s packets over a link, at most %d due' % (max(loads.values()), most)
     return None
 
 
