@@ -1,27 +1,30 @@
 -- How a storm ends whose script was answered, and what it writes then.
 use Rattle.c104_audit.specs.{AuditFaults.IsFault, declared.faults.AuditFault.AuditFault}
-use Rattle.{c104_event.specs.declared.faults.EventFault.EventFault, c104_run.specs.FinishedRecords.FinishedRecord}
+use Rattle.{c104_event.specs.declared.faults.EventFault.EventFault, c104_node.specs.{Quiet.IsQuietNode, Records.{NodeRecord, NodeRoom}}}
+use Rattle.c104_run.specs.FinishedRecords.{FinishedRecord}
 use Rattle.c104_storm.specs.{Arrivals.JoinArrivals, Texts.{audit_line, audited_line, not_quiet_line, stop_line}}
 use Rattle.{c104_storm.specs.declared.{endings.Ending.Ending, working.Worked.Worked}, c104_stream.specs.ScriptLines.script_too_long}
 use Rattle.{c104_stream.specs.{Writing.AppendsPrefix, declared.halt.Halt.Halt}, c104_workers.specs.Audited.{TellsSeats, lists_of}}
 use Rattle.c104_workers.specs.Fabrics.{Left}
-use Rattle.std.specs.{Io.KnownBytes.Appends, Prelude.{Bool, Err, List, Ok, Option, Result, false, length, true, ℕ, ⊤, ◌++◌, ◌||◌, ◌≡◌, ◌≢◌}}
+use Rattle.std.specs.{Io.KnownBytes.Appends, Prelude.{All, Bool, Err, List, Ok, Option, Result, false, length, true, ℕ, ◌++◌, ◌||◌, ◌≡◌, ◌≢◌}}
 
--- the workers ended so: what they left is audited where all was quiet, and else not
+-- a worker stopped exactly where the workers ended so
 abbrev pub EndedSo : Worked → Ending → Type 0
-EndedSo worked Ending.NotQuiet = worked ≡ Worked.NotQuiet
 EndedSo worked (Ending.Stopped worker kind) = worked ≡ Worked.Stopped worker kind
-EndedSo worked (Ending.Unaudited kind) = worked ≡ Worked.Quiet
-EndedSo worked (Ending.Audited run) = worked ≡ Worked.Quiet
+EndedSo worked ending = (worker : ℕ) (kind : EventFault) → worked ≢ Worked.Stopped worker kind
 
--- an ending of a storm whose fabric left this: a fault that the audit has is why it finds no run, and a run that it found
--- is the one that is told by what was left, in which the workers' calls follow what was sent, and nothing else. Out of
--- memory there is no ending
+-- no token stands at a node that is left, and no packet is under way in it
+abbrev pub IsQuietLeft : NodeRecord × NodeRoom → Type 0
+IsQuietLeft node = IsQuietNode node.0.state
+
+-- an ending of a storm whose fabric left this: it isn't quiet exactly where a node isn't, unless a worker stopped; a fault that
+-- the audit has is why it finds no run, and a run that it found is the one that is told by what was left, in which the workers'
+-- calls follow what was sent, and nothing else. Out of memory there is no ending
 abbrev pub IsEnding : Left → Ending → Type 0
-IsEnding left Ending.NotQuiet = ⊤
+IsEnding left Ending.NotQuiet = All IsQuietLeft left.nodes → ⊥
 IsEnding left (Ending.Stopped worker kind) = kind ≢ EventFault.NoMemory
-IsEnding left (Ending.Unaudited kind) = IsFault (lists_of left) kind × (kind ≢ AuditFault.NoMemory)
-IsEnding left (Ending.Audited run) = TellsSeats left run
+IsEnding left (Ending.Unaudited kind) = All IsQuietLeft left.nodes × IsFault (lists_of left) kind × (kind ≢ AuditFault.NoMemory)
+IsEnding left (Ending.Audited run) = All IsQuietLeft left.nodes × TellsSeats left run
 
 -- the text of a run that the audit found: that it did, and the packets that arrived, sorted; or that the script is too long
 abbrev pub IsRunText : Bool → FinishedRecord → List ℕ → Type 0

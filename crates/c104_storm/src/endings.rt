@@ -1,14 +1,15 @@
 //! The end of a storm: what follows the answers.
-ghost use Rattle.std.specs.Prelude.{◌≡◌, ◌≢◌, IfOk, OnOk};
+ghost use Rattle.std.specs.Prelude.{◌≡◌, ◌≢◌, ◌↔◌, All, IfOk, IsTrue, OnOk};
 ghost use Rattle.c104_audit.specs.declared.faults.AuditFault.TheVariants as audit_fault;
 ghost use Rattle.c104_event.specs.declared.faults.EventFault.TheVariants as event_fault;
-ghost use Rattle.c104_storm.specs.Endings.{EndedSo, IsEnding, WritesEnd, is_refused};
+ghost use Rattle.c104_storm.specs.Endings.{EndedSo, IsEnding, IsQuietLeft, WritesEnd, is_refused};
 ghost use Rattle.c104_storm.specs.declared.working.Worked.TheVariants as work;
 
 use crate::end_texts::end_text;
 use crate::working::Worked;
 use c104_audit::AuditFault;
 use c104_event::EventFault;
+use c104_node::Node;
 use c104_run::Run;
 use c104_stream::{Halt, write_whole};
 use c104_token::NoMemory;
@@ -74,8 +75,8 @@ fn ending_of(alloc: Global, gathered: &Gathered, worked: Worked) -> Result<Endin
     ensures ended { IfOk result (λ ending. EndedSo worked ending) }
 {
     match worked {
-        Worked::Quiet => audited(alloc, gathered),
-        Worked::NotQuiet => Ok(Ending::NotQuiet),
+        Worked::Quiet => ending_by_nodes(alloc, gathered),
+        Worked::NotQuiet => ending_by_nodes(alloc, gathered),
         Worked::Stopped(worker, fault) => {
             other_event_fault(fault)?;
             Ok(Ending::Stopped(worker, fault))
@@ -83,8 +84,33 @@ fn ending_of(alloc: Global, gathered: &Gathered, worked: Worked) -> Result<Endin
     }
 }
 
+/// How a storm ended in which no worker stopped: what the workers say of the nodes is looked at again. The only error is out
+/// of memory.
+fn ending_by_nodes(alloc: Global, gathered: &Gathered) -> Result<Ending, NoMemory>
+    ensures told { IfOk result (λ ending. IsEnding gathered.now ending) }
+    ensures ended { IfOk result (λ ending. EndedSo work.Quiet ending) }
+{
+    if !are_quiet(gathered.nodes()) {
+        return Ok(Ending::NotQuiet);
+    }
+    audited(alloc, gathered)
+}
+
+/// Whether no token stands at any of these nodes, and no packet is under way in any.
+fn are_quiet(nodes: &[Node]) -> bool
+    ensures { IsTrue result ↔ All IsQuietLeft nodes.now }
+{
+    for node in nodes {
+        if !node.quiet() {
+            return false;
+        }
+    }
+    true
+}
+
 /// What the audit says of what a fabric left. The only error is out of memory.
 fn audited(alloc: Global, gathered: &Gathered) -> Result<Ending, NoMemory>
+    requires { All IsQuietLeft gathered.now.nodes }
     ensures told { IfOk result (λ ending. IsEnding gathered.now ending) }
     ensures ended { IfOk result (λ ending. EndedSo work.Quiet ending) }
 {
