@@ -4,3 +4,4 @@ mod SomeSeats
 mod SortedArrivals
 mod StormEnds
 mod StormStatuses
+mod TeamWork

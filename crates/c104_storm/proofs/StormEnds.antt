@@ -3,7 +3,8 @@ use Rattle.{c104_plan.specs.{PlanImage.Image, Plans.Plan}, c104_storm.specs.{End
 use Rattle.c104_storm.specs.{Storms.{MayEndAfter, MayWrite, StormsOn, StormsPlan}, declared.sends.Sending.Sending}
 use Rattle.c104_stream.proofs.{Growing.{grew_none, grew_prefix, grew_then}, Prefixes.prefix_next, ScriptEnds.nothing_answered}
 use Rattle.c104_stream.specs.{ScriptLines.is_long, Scripts.{AnswersScript, script_outcome}, Writing.Grew, declared.halt.Halt.Halt}
-use Rattle.{c104_workers.specs.Fabrics.{Handed, Left, handed_of}, std.proofs.Common.{Bool, Err, List, None, Ok, Option, Result, Some, []}}
+use Rattle.c104_storm.specs.Workers.{AreDoneBy, Team}
+use Rattle.{c104_workers.specs.Fabrics.{Handed, IsLeft, Left, handed_of}, std.proofs.Common.{Bool, Err, List, None, Ok, Option, Result, Some, []}}
 use Rattle.std.{proofs.{Common.{inl, inr, refl, subst, sym, ℕ, ◌++◌, ◌≡◌}, KnownBytes.Appends-trans}, specs.Io.KnownBytes.Appends}
 use Rattle.std.specs.Io.KnownBytes.{prepend_known}
 
@@ -19,40 +20,40 @@ from_reader start after (Some rest) left held holds before result none answered 
     subst (λ xs. AnswersScript send_outcome start (Some (xs ++ rest)) left held holds after result) none answered
 
 -- what is written at the end, by what was known when the workers began
-pub storms_on : (left : Left) (handed : Handed) (long faulty : Bool) (held holds : Option (List ℕ)) (result : Result Bool Halt) → left.handed ≡ handed → WritesEnd left long faulty held holds result → StormsOn handed long faulty held holds result
-storms_on left handed long faulty held holds (Ok refused) is ends = (ends.0, record { left = left; handed_so = is; ends = ends.1 }, ends.2)
-storms_on left handed long faulty held holds (Err Halt.CannotRead) is ends = absurd ends
-storms_on left handed long faulty held holds (Err Halt.CannotWrite) is ends = (ends.0, ends.1, record { left = left; handed_so = is; ends = ends.2 }, ends.3)
-storms_on left handed long faulty held holds (Err Halt.NoMemory) is ends = ends
+pub storms_on : (team : Team) (left : Left) (handed : Handed) (long faulty : Bool) (held holds : Option (List ℕ)) (result : Result Bool Halt) → IsLeft left → left.handed ≡ handed → AreDoneBy team handed.plan left.seats → WritesEnd left long faulty held holds result → StormsOn team handed long faulty held holds result
+storms_on team left handed long faulty held holds (Ok refused) kept is done ends = (ends.0, record { left = left; kept = kept; handed_so = is; done = done; ends = ends.1 }, ends.2)
+storms_on team left handed long faulty held holds (Err Halt.CannotRead) kept is done ends = absurd ends
+storms_on team left handed long faulty held holds (Err Halt.CannotWrite) kept is done ends = (ends.0, ends.1, record { left = left; kept = kept; handed_so = is; done = done; ends = ends.2 }, ends.3)
+storms_on team left handed long faulty held holds (Err Halt.NoMemory) kept is done ends = ends
 
-module _ (plan : Plan) (image : Image) where
-  -- the sending by its plan
-  pub from_plan : (all left held holds : Option (List ℕ)) (start after : Sending) (result : Result Bool Halt) → start ≡ new_sending plan image → AnswersScript send_outcome start all left held holds after result → AnswersScript send_outcome (new_sending plan image) all left held holds after result
-  from_plan all left held holds start after result is answered = subst (λ s. AnswersScript send_outcome s all left held holds after result) is answered
+-- the sending by its plan
+pub from_plan : (plan : Plan) (image : Image) (all left held holds : Option (List ℕ)) (start after : Sending) (result : Result Bool Halt) → start ≡ new_sending plan image → AnswersScript send_outcome start all left held holds after result → AnswersScript send_outcome (new_sending plan image) all left held holds after result
+from_plan plan image all left held holds start after result is answered = subst (λ s. AnswersScript send_outcome s all left held holds after result) is answered
 
+module _ (team : Team) (plan : Plan) (image : Image) where
   -- the script came to no end
-  pub storm_stops : (all left held holds : Option (List ℕ)) (after : Sending) (kind : Halt) → AnswersScript send_outcome (new_sending plan image) all left held holds after (Err kind) → StormsPlan plan image all left held holds (Err kind)
+  pub storm_stops : (all left held holds : Option (List ℕ)) (after : Sending) (kind : Halt) → AnswersScript send_outcome (new_sending plan image) all left held holds after (Err kind) → StormsPlan team plan image all left held holds (Err kind)
   storm_stops None left held holds after kind stopped = stopped
   storm_stops (Some script) left held holds after Halt.CannotRead stopped = stopped
   storm_stops (Some script) left held holds after Halt.CannotWrite stopped = inl stopped
   storm_stops (Some script) left held holds after Halt.NoMemory stopped = inl stopped
 
   -- no memory for the network: nothing was read and nothing is written
-  pub nothing_stormed : (known held : Option (List ℕ)) → StormsPlan plan image known known held held (Err Halt.NoMemory)
+  pub nothing_stormed : (known held : Option (List ℕ)) → StormsPlan team plan image known known held held (Err Halt.NoMemory)
   nothing_stormed known held = storm_stops known known held held (new_sending plan image) Halt.NoMemory (nothing_sent (new_sending plan image) known held)
 
   -- an end after the answers to this script
-  whole : (script end : List ℕ) (after : Sending) (long refused : Bool) → long ≡ is_long script → after ≡ (script_outcome send_outcome (new_sending plan image) script).1 → MayEndAfter after long end refused
-      → MayWrite plan image script ((script_outcome send_outcome (new_sending plan image) script).0 ++ end) refused
+  whole : (script end : List ℕ) (after : Sending) (long refused : Bool) → long ≡ is_long script → after ≡ (script_outcome send_outcome (new_sending plan image) script).1 → MayEndAfter team after long end refused
+      → MayWrite team plan image script ((script_outcome send_outcome (new_sending plan image) script).0 ++ end) refused
   whole script end after long refused is_so is_after may = record {
     end = end;
-    storms = subst (λ l. MayEndAfter (script_outcome send_outcome (new_sending plan image) script).1 l end refused) is_so (subst (λ (s : Sending). MayEndAfter s long end refused) is_after may);
+    storms = subst (λ l. MayEndAfter team (script_outcome send_outcome (new_sending plan image) script).1 l end refused) is_so (subst (λ (s : Sending). MayEndAfter team s long end refused) is_after may);
     is = refl;
   }
 
   -- the script was answered, and then the storm ended
-  pub storm_ends : (all left held now holds : Option (List ℕ)) (after : Sending) (long : Bool) (result : Result Bool Halt) → AnswersScript send_outcome (new_sending plan image) all left held now after (Ok long) → StormsOn (handed_of after.net) long after.is_faulty now holds result
-      → StormsPlan plan image all left held holds result
+  pub storm_ends : (all left held now holds : Option (List ℕ)) (after : Sending) (long : Bool) (result : Result Bool Halt) → AnswersScript send_outcome (new_sending plan image) all left held now after (Ok long) → StormsOn team (handed_of after.net) long after.is_faulty now holds result
+      → StormsPlan team plan image all left held holds result
   storm_ends None left held now holds after long (Ok refused) answered ends =
       (after, long, answered.written, ends.0, ends.1, Appends-trans held now holds answered.written ends.0 answered.grew ends.2)
   storm_ends None left held now holds after long (Err Halt.CannotRead) answered ends = absurd ends

@@ -6,7 +6,7 @@ use Rattle.c104_storm.specs.{Arrivals.JoinArrivals, Texts.{audit_line, audited_l
 use Rattle.{c104_storm.specs.declared.{endings.Ending.Ending, working.Worked.Worked}, c104_stream.specs.ScriptLines.script_too_long}
 use Rattle.{c104_stream.specs.{Writing.AppendsPrefix, declared.halt.Halt.Halt}, c104_workers.specs.Audited.{TellsSeats, lists_of}}
 use Rattle.c104_workers.specs.Fabrics.{Left}
-use Rattle.std.specs.{Io.KnownBytes.Appends, Prelude.{All, Bool, Err, List, Ok, Option, Result, false, length, true, ℕ, ◌++◌, ◌||◌, ◌≡◌, ◌≢◌}}
+use Rattle.std.specs.{Io.KnownBytes.Appends, Prelude.{All, Bool, Err, List, Ok, Option, Result, false, length, true, ℕ, ◌++◌, ◌<◌, ◌||◌, ◌≡◌, ◌≢◌}}
 
 -- a worker stopped exactly where the workers ended so
 abbrev pub EndedSo : Worked → Ending → Type 0
@@ -17,12 +17,12 @@ EndedSo worked ending = (worker : ℕ) (kind : EventFault) → worked ≢ Worked
 abbrev pub IsQuietLeft : NodeRecord × NodeRoom → Type 0
 IsQuietLeft node = IsQuietNode node.0.state
 
--- an ending of a storm whose fabric left this: it isn't quiet exactly where a node isn't, unless a worker stopped; a fault that
--- the audit has is why it finds no run, and a run that it found is the one that is told by what was left, in which the workers'
+-- an ending of a storm whose fabric left this: it isn't quiet exactly where a node isn't, unless a worker stopped, one of those that there are; a fault
+-- that the audit has is why it finds no run, and a run that it found is the one that is told by what was left, in which the workers'
 -- calls follow what was sent, and nothing else. Out of memory there is no ending
 abbrev pub IsEnding : Left → Ending → Type 0
 IsEnding left Ending.NotQuiet = All IsQuietLeft left.nodes → ⊥
-IsEnding left (Ending.Stopped worker kind) = kind ≢ EventFault.NoMemory
+IsEnding left (Ending.Stopped worker kind) = (worker < length left.seats) × (kind ≢ EventFault.NoMemory)
 IsEnding left (Ending.Unaudited kind) = All IsQuietLeft left.nodes × IsFault (lists_of left) kind × (kind ≢ AuditFault.NoMemory)
 IsEnding left (Ending.Audited run) = All IsQuietLeft left.nodes × TellsSeats left run
 

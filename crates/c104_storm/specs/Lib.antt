@@ -4,3 +4,4 @@ pub mod Endings
 pub mod Sends
 pub mod Storms
 pub mod Texts
+pub mod Workers

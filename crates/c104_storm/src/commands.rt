@@ -18,7 +18,7 @@ use std::thread::Threads;
 /// hand such words to inputs, and writes what the audit of their run says and what arrived.
 ///
 /// It tells people of each line that is faulty or refused, at the end of what didn't arrive, and while the workers go on
-/// how many turns they have done, as of line 0. What is written and how it ends are the same whatever takes the messages
+/// how many turns they have done. What is written and how it ends are the same whatever takes the messages
 /// does.
 ///
 /// Reading ends at 1 MiB of a description and at 16 MiB of a script, whatever the reader. Each error of a reader or a
@@ -34,7 +34,7 @@ pub fn storm_command<R: Threads + Wait + Sync, D: Read, S: Read, W: Write, M: Me
     messages: &mut M,
 ) -> Status
     requires { (1 ≤ workers) × (workers ≤ MAX_WORKERS) }
-    ensures ends { StormEnds (D.remaining description.old) (S.remaining script.old) (S.remaining script.new)
+    ensures ends { StormEnds (record { count = workers; words = words }) (D.remaining description.old) (S.remaining script.old) (S.remaining script.new)
         (W.contents writer.old) (W.contents writer.new) result }
     ensures of_description { result ≡ status.CannotRead 0 → script.new ≡ script.old }
 {
@@ -62,7 +62,7 @@ fn storm_setup<R: Threads + Wait + Sync, S: Read, W: Write, M: Messages>(
 ) -> Status
     requires fits { Fits image.now plan.now }
     requires some { (1 ≤ workers) × (workers ≤ MAX_WORKERS) }
-    ensures runs { StormRuns plan.now image.now (S.remaining script.old) (S.remaining script.new)
+    ensures runs { StormRuns (record { count = workers; words = words }) plan.now image.now (S.remaining script.old) (S.remaining script.new)
         (W.contents writer.old) (W.contents writer.new) result }
     ensures of_script { (n : ℕ) → result ≡ status.CannotRead n → n ≡ 1 }
 {

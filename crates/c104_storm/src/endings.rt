@@ -1,5 +1,6 @@
 //! The end of a storm: what follows the answers.
-ghost use Rattle.std.specs.Prelude.{◌≡◌, ◌≢◌, ◌↔◌, All, IfOk, IsTrue, OnOk};
+ghost use Rattle.std.specs.Prelude.{◌≡◌, ◌≢◌, ◌↔◌, All, IfOk, IsTrue, OnOk, length};
+ghost use Rattle.c104_storm.specs.Workers.{IsStopOf};
 ghost use Rattle.c104_audit.specs.declared.faults.AuditFault.TheVariants as audit_fault;
 ghost use Rattle.c104_event.specs.declared.faults.EventFault.TheVariants as event_fault;
 ghost use Rattle.c104_storm.specs.Endings.{EndedSo, IsEnding, IsQuietLeft, WritesEnd, is_refused};
@@ -49,6 +50,7 @@ pub(crate) fn write_end<W: Write>(
     worked: Worked,
     writer: &mut W,
 ) -> Result<bool, Halt>
+    requires stopped { IsStopOf (length gathered.now.seats) worked }
     ensures { WritesEnd gathered.now sent.is_long sent.is_faulty (W.contents writer.old) (W.contents writer.new) result }
 {
     let ending = ending_of(alloc, gathered, worked)?;
@@ -71,6 +73,7 @@ fn is_refused(ending: &Ending, sent: Sent) -> bool
 
 /// How a storm ended whose workers ended so. The only error is out of memory, which may also be why a worker stopped.
 fn ending_of(alloc: Global, gathered: &Gathered, worked: Worked) -> Result<Ending, NoMemory>
+    requires stopped { IsStopOf (length gathered.now.seats) worked }
     ensures told { IfOk result (λ ending. IsEnding gathered.now ending) }
     ensures ended { IfOk result (λ ending. EndedSo worked ending) }
 {

@@ -1,10 +1,10 @@
 //! A storm, on the network of a plan.
 //!
 //! The network is placed, where a run's is loaded: that both come to the same network is proved of the load.
-ghost use Rattle.std.specs.Prelude.{length, ◌≡◌, ◌≤◌};
+ghost use Rattle.std.specs.Prelude.{length, map, ◌≡◌, ◌≤◌};
 ghost use Rattle.{c104_plan.specs.{PlanImage.{Fits, Image as TheImage}, Plans.Plan as ThePlan}, c104_storm.specs.Sends.{new_sending, send_outcome}};
 ghost use Rattle.{c104_storm.specs.Storms.{StormsOn, StormsPlan}, c104_stream.specs.Scripts.AnswersScript};
-ghost use Rattle.c104_workers.specs.Fabrics.{AreSeatsOf, handed_of};
+ghost use Rattle.c104_workers.specs.Fabrics.{AreSeatsOf, first_seats, handed_of, seat_view};
 
 use crate::endings::{Sent, write_end};
 use crate::sends::Sending;
@@ -43,7 +43,7 @@ pub fn storm_plan<R: Threads + Wait + Sync, S: Read, W: Write, M: Messages>(
 ) -> Result<bool, Halt>
     requires fits { Fits image.now plan.now }
     requires some { (1 ≤ workers) × (workers ≤ MAX_WORKERS) }
-    ensures { StormsPlan plan.now image.now (S.remaining script.old) (S.remaining script.new)
+    ensures { StormsPlan (record { count = workers; words = words }) plan.now image.now (S.remaining script.old) (S.remaining script.new)
         (W.contents writer.old) (W.contents writer.new) result }
 {
     let sending = Sending::new(alloc, plan, image)?;
@@ -63,7 +63,7 @@ fn storm_script<R: Threads + Wait + Sync, S: Read, W: Write, M: Messages>(
 ) -> Result<bool, Halt>
     requires some { (1 ≤ workers) × (workers ≤ MAX_WORKERS) }
     ensures { (plan : ThePlan) (image : TheImage) → sending ≡ new_sending plan image →
-        StormsPlan plan image (S.remaining script.old) (S.remaining script.new)
+        StormsPlan (record { count = workers; words = words }) plan image (S.remaining script.old) (S.remaining script.new)
         (W.contents writer.old) (W.contents writer.new) result }
 {
     let mut sending = sending;
@@ -107,7 +107,7 @@ fn storm_net<R: Threads + Wait + Sync, W: Write, M: Messages>(
     messages: &mut M,
 ) -> Result<bool, Halt>
     requires some { (1 ≤ workers) × (workers ≤ MAX_WORKERS) }
-    ensures { StormsOn (handed_of sending.net) is_long sending.is_faulty
+    ensures { StormsOn (record { count = workers; words = words }) (handed_of sending.net) is_long sending.is_faulty
         (W.contents writer.old) (W.contents writer.new) result }
 {
     let Sending { net, is_faulty } = sending;
@@ -137,12 +137,16 @@ fn storm_fabric<R: Threads + Wait + Sync, W: Write, M: Messages>(
 ) -> Result<bool, Halt>
     requires some { 1 ≤ length seats.items }
     requires own { AreSeatsOf fabric.word_id seats.items }
-    ensures { StormsOn fabric.handed sent.is_long sent.is_faulty
+    requires first { map seat_view seats.items ≡ first_seats fabric.word_id fabric.terms }
+    requires count { 1 ≤ fabric.terms.seats }
+    ensures { StormsOn (record { count = fabric.terms.seats; words = words }) fabric.handed sent.is_long sent.is_faulty
         (W.contents writer.old) (W.contents writer.new) result }
 {
     let mut seats = seats;
     let worked = work(alloc, rt, &fabric, seats.as_mut_slice(), words, messages);
     let gathered = fabric.close(seats);
+    // The proof reads here what its type keeps.
+    let _plan = gathered.plan();
     let written = write_end(alloc, &gathered, sent, worked, writer);
     if written.is_ok() {
         explain_end(alloc, &gathered, sent, worked, messages);

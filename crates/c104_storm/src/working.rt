@@ -1,10 +1,9 @@
 //! The workers of a storm: turns until all is quiet.
 //!
 //! A storm in which 64 turns did nothing isn't quiet, and no further turns are done: each event of a round was asked then
-//! in the state in which all the others were, so none of them will ever be ready. Turns are reported as the progress of
-//! line 0, which no script has.
+//! in the state in which all the others were, so none of them will ever be ready.
 ghost use Rattle.std.specs.Prelude.{◌≤◌, length};
-ghost use Rattle.c104_workers.specs.Fabrics.{AreSeatsOf};
+ghost use Rattle.{c104_storm.specs.Workers.{HaveWorked, IsStopOf}, c104_workers.specs.Fabrics.AreSeatsOf};
 
 use c104_event::EventFault;
 use c104_mistakes::{Messages, Work};
@@ -43,6 +42,8 @@ pub(crate) fn work<R: Threads + Wait + Sync, M: Messages>(
     requires some { 1 ≤ length seats.old }
     requires own { AreSeatsOf fabric.now.word_id seats.old }
     ensures own { AreSeatsOf fabric.now.word_id seats.new }
+    ensures worked { HaveWorked fabric.now.handed.plan words seats.old seats.new }
+    ensures stopped { IsStopOf (length seats.old) result }
 {
     let mut calls = 0;
     for times in 0..MOST_TIMES {

@@ -2,7 +2,7 @@ use Rattle.{c104_storm.proofs.StormEnds.nothing_stormed, c104_stream.{proofs.Scr
 use Rattle.c104_storm.proofs.storms.storm_plan.Goals as goal
 
 pub returns-in_err-sending : goal.returns-in_err-sending
-returns-in_err-sending g c = rw (err_is _ Halt.NoMemory c.from_residual.ensures) (nothing_stormed _ _ _ _)
+returns-in_err-sending g c = rw (err_is _ Halt.NoMemory c.from_residual.ensures) (nothing_stormed _ _ _ _ _)
 
 pub returns : goal.returns
 returns g c = c.storm_script.ensures c.args.plan.now c.args.image.now c.in_ok-sending.ensures
