@@ -157,11 +157,12 @@ impl Growing for PortTabling<'_> {
     fn call(&self, alloc: Global, refusal: Refusal) -> Outcome {
         let (plan, image) = (self.0.plan, self.0.image);
         let tables = [Registers::new().table(0); LINKS];
+        let groups = [false; LINKS];
         if plan.switches().len() != 1 || !image.fits(plan) {
             return Outcome::Wrong;
         }
         refusal.begin(alloc);
-        let result = image.with_port_tables(alloc, plan, &tables);
+        let result = image.with_port_tables(alloc, plan, &tables, &groups);
         refusal.end(alloc);
         Outcome::of(result)
     }
