@@ -1,2 +1,5 @@
-mod Counts
+mod Begins
+pub mod Free
+mod Logs
+pub mod Parts
 mod Steps

@@ -1,160 +1,301 @@
 -- The rule of the word goes on through each kind of step, and what it tells of a pass.
-use Rattle.{atomic_table.proofs.Lists.{at_set, at_snoc, set_else}, c104_tickets.proofs.Counts.{AreSame, HasMore, below, bounded, count_all}}
-use Rattle.c104_tickets.proofs.Counts.{count_le_length, from_more, from_same, more_push, more_set, part_le, replaced, same_join, same_push}
-use Rattle.c104_tickets.{proofs.Counts.{same_set, sum_set}, specs.Tickets.{AreNoneTwice, AreOnce, HasSeat, IsViewOf, IsWordOf, after_draw}}
-use Rattle.c104_tickets.specs.Tickets.{after_join, after_split, all_drawn, all_numbers, count_of, new_seat, one_within, spent}
-use Rattle.{c104_tickets.specs.declared.{TheConstants.TICKET_LIMIT, views.{Terms.Terms, View.View}}, std.proofs.Common.{All, List, [], ap}}
-use Rattle.std.proofs.Common.{arith, length, refl, set, subst, sym, ℕ, ⊎_elim, ◌%◌, ◌*◌, ◌++◌, ◌+◌, ◌<◌, ◌^◌, ◌∙◌, ◌∷◌, ◌≡◌, ◌≢◌, ◌≤◌}
-use Rattle.std.{proofs.{Math.Nat.mod-eq_of_lt, lemmas.List.{Sums.sum_by_push, length-append}}, specs.Prelude.slice_index}
+use Rattle.{atomic_table.proofs.Lists.{at_set, set_else}, c104_tickets.proofs.Logs.{bounded, each_append, each_map, each_so, equals}}
+use Rattle.c104_tickets.proofs.Logs.{earlier_part, itself, length_kept, numbered_snoc, part_other, part_snoc, same_name, same_self}
+use Rattle.c104_tickets.specs.Tickets.{AreApart, AreEarlier, Each, HasRoom, HasTrack, IsClosed, IsFree, IsInside, IsNameOf, IsTrack}
+use Rattle.c104_tickets.specs.Tickets.{IsTrackOf, IsViewOf, IsWordOf, after_draw, after_join, after_split, behind, belongs, first_track}
+use Rattle.c104_tickets.specs.Tickets.{front, is_same, no_terms, part_of, spent, track_after}
+use Rattle.c104_tickets.specs.declared.TheConstants.{TICKET_LIMIT}
+use Rattle.c104_tickets.specs.declared.views.{Deed.Deed, Done.Done, Name.Name, Terms.Terms, Track.Track, View.View}
+use Rattle.std.proofs.Common.{Bool, List, [], ap, arith, cond, false, inl, inr, length, map, refl, set, subst, suc, sym, true, zero, ℕ}
+use Rattle.std.proofs.Common.{⊎_elim, ◌%◌, ◌++◌, ◌+◌, ◌<◌, ◌^◌, ◌∙◌, ◌∷◌, ◌≡◌, ◌≢◌, ◌≤◌, ◌⊎◌}
+use Rattle.std.{proofs.{Math.Nat.mod-eq_of_lt, lemmas.{List.length-append}}, specs.Prelude.{slice_index, ◌==◌}}
 use lib.ListN.{get_elem?}
-use mathlib.Core.Option.{some, some-injective}
+use mathlib.Core.Option.{some, some-injective, some-ne-none}
 
--- what holds of each view, and of the one that comes in the place of another, holds of each after
-set_all : (P : View → Type 0) (views : List View) (id : ℕ) (w : View) → ((i : ℕ) (v : View) → get_elem? views i ≡ some v → P v) → P w → (i : ℕ) (v : View) → get_elem? (set views id w) i ≡ some v → P v
-set_all P views id w each new i v at = ⊎_elim (λ here. subst P here.1 new) (λ there. each i v there.1) (at_set views id i w v at)
+-- what holds of each view after a step: one comes in the place of another, or behind all
+
+at_end : {A : Type 0} (l : List A) (a b : A) (j : ℕ) → get_elem? (l ++ a ∷ []) j ≡ some b
+    → (get_elem? l j ≡ some b) ⊎ ((j ≡ length l) × (a ≡ b))
+at_end [] a b zero e = inr (refl, some-injective a b e)
+at_end [] a b (suc j) e = absurd (some-ne-none b (sym e))
+at_end (x ∷ xs) a b zero e = inl e
+at_end (x ∷ xs) a b (suc j) e = ⊎_elim (λ h. inl h) (λ h. inr (ap suc h.0, h.1)) (at_end xs a b j e)
+
+module _ {A : Type 0} (P : ℕ → A → Type 0) where
+  set_all : (l : List A) (id : ℕ) (a : A) → P id a → ((j : ℕ) (b : A) → j ≢ id → get_elem? l j ≡ some b → P j b)
+      → (j : ℕ) (b : A) → get_elem? (set l id a) j ≡ some b → P j b
+  set_all l id a new old j b at =
+      ⊎_elim (λ here. subst (λ i. P i b) (sym here.0) (subst (P id) here.1 new)) (λ there. old j b there.0 there.1) (at_set l id j a b at)
+
+  push_all : (l : List A) (a : A) → P (length l) a → ((j : ℕ) (b : A) → get_elem? l j ≡ some b → P j b)
+      → (j : ℕ) (b : A) → get_elem? (l ++ a ∷ []) j ≡ some b → P j b
+  push_all l a new old j b at =
+      ⊎_elim (old j b) (λ here. subst (λ i. P i b) (sym here.0) (subst (P (length l)) here.1 new)) (at_end l a b j at)
+
+-- no two tracks have one name
+
+apart_after : (e : Done) (ts : List Track) → AreApart ts → AreApart (map (track_after e) ts)
+apart_after e [] apart = tt
+apart_after e (t ∷ ts) apart =
+    (each_map (λ u. u.name ≢ t.name) (λ u. u.name ≢ t.name) (track_after e) ts (λ u ne. ne) apart.0, apart_after e ts apart.1)
+
+pub apart_append : (xs ys : List Track) → AreApart xs → AreApart ys → Each (λ x. Each (λ y. y.name ≢ x.name) ys) xs
+    → AreApart (xs ++ ys)
+apart_append [] ys left right across = right
+apart_append (x ∷ xs) ys left right across =
+    (each_append (λ y. y.name ≢ x.name) xs ys left.0 across.0, apart_append xs ys left.1 right across.1)
+
+-- who has a track
+
+if_not : (b : Bool) (n o : ℕ) → (b ≡ true → ⊥) → cond {A = ℕ} b n o ≡ o
+if_not true n o never = absurd (never refl)
+if_not false n o never = refl
 
 module _ (terms : Terms) (words : List ℕ) (views : List View) (rule : IsWordOf terms words views) where
-  -- a number of seats is told of each view
-  fit_after : (made : ℕ) (new : List View) → made ≡ length (all_numbers views) → ((i : ℕ) (v : View) → get_elem? new i ≡ some v → IsViewOf terms (length (all_numbers views)) v) → (i : ℕ) (v : View) → get_elem? new i ≡ some v → IsViewOf terms made v
-  fit_after made new is fits i v at = subst (λ n. IsViewOf terms n v) (sym is) (fits i v at)
-
   -- the next ticket is far from the largest number of a word
-  small : terms.first + length (all_drawn views) + 1 < 18446744073709551616
-  small =
-      let drawn = bounded views (λ i v at. (rule.fits i v at).room) in
-      omega (arith, drawn, rule.made_fits, rule.seats_fit, rule.first_fits)
+  small : terms.first + length rule.log + 1 < 18446744073709551616
+  small = omega (arith, bounded terms rule.log rule.inside rule.seats_fit rule.few, rule.first_fits)
 
-  -- tickets and seats of one view stand in no other, and so not twice in it
-  apart : (id : ℕ) (v : View) → get_elem? views id ≡ some v → AreNoneTwice terms.first (terms.first + length (all_drawn views)) v.drawn
-  apart id v at x = omega (arith, part_le (λ u. count_of x u.drawn) views id v at, count_all (λ u. u.drawn) x views, rule.tickets x)
+  abbrev Fits : ℕ → Track → Type 0
+  Fits j t = IsTrackOf terms rule.owner rule.log j t
 
-  draw_keeps : (id : ℕ) (v : View) → get_elem? views id ≡ some v → length v.drawn < TICKET_LIMIT * length v.numbers
-      → IsWordOf terms ((terms.first + length (all_drawn views) + 1) ∷ []) (set views id (after_draw v (terms.first + length (all_drawn views))))
-  draw_keeps id v at room =
-      let next : ℕ = terms.first + length (all_drawn views) in
-      let w : View = after_draw v next in
-      let new : List View = set views id w in
-      let drawn : HasMore (all_drawn views) (all_drawn new) next = more_set (λ u. u.drawn) views id v w next at refl in
-      let numbers : AreSame (all_numbers views) (all_numbers new) = same_set (λ u. u.numbers) views id v w at refl in
-      let fit = rule.fits id v at in
+  -- what is known of a name from a track
+  record IsOf (id : ℕ) (name : Name) : Type 0 where
+    pub owned : rule.owner name ≡ id
+    pub named : IsNameOf terms name
+
+  has_owner : (P : Track → Type 0) (id : ℕ) (name : Name) (ts : List Track) → Each (Fits id) ts → HasTrack P name ts → IsOf id name
+  has_owner P id name [] each has = absurd has
+  has_owner P id name (t ∷ ts) each (inl x) = subst (IsOf id) x.0 (record { owned = each.0.owned; named = each.0.named })
+  has_owner P id name (t ∷ ts) each (inr x) = has_owner P id name ts each.1 x
+
+  has_room : (id : ℕ) (name : Name) (ts : List Track) → Each (Fits id) ts → HasTrack HasRoom name ts
+      → length (part_of name rule.log) < TICKET_LIMIT
+  has_room id name [] each has = absurd has
+  has_room id name (t ∷ ts) each (inl x) =
+      subst (λ n. length (part_of n rule.log) < TICKET_LIMIT) x.0 (subst (λ (l : List Done). length l < TICKET_LIMIT) each.0.is x.1)
+  has_room id name (t ∷ ts) each (inr x) = has_room id name ts each.1 x
+
+  module _ (e : Done) where
+    abbrev FitsAfter : ℕ → Track → Type 0
+    FitsAfter j t = IsTrackOf terms rule.owner (rule.log ++ e ∷ []) j t
+
+    -- a track of the pass that draws takes the deed in, if it belongs to its name
+    grows : (id : ℕ) (t : Track) → Fits id t → FitsAfter id (track_after e t)
+    grows id t fit = record {
+      owned = fit.owned;
+      named = fit.named;
+      is = ap (λ l. l ++ part_of t.name (e ∷ [])) fit.is ∙ sym (part_snoc t.name rule.log e);
+    }
+
+    -- the tracks of other passes are of names to which it doesn't belong
+    stays : (id : ℕ) (v : View) → get_elem? views id ≡ some v → IsFree e.deed v → (j : ℕ) → j ≢ id
+        → (t : Track) → Fits j t → FitsAfter j t
+    stays id v at free j differs t fit =
+        let mine = (rule.fits id v at).tracks in
+        let never : belongs t.name e.deed ≡ true → ⊥ =
+        λ is. differs (sym fit.owned ∙ (has_owner IsTrack id t.name v.tracks mine (free.1 t.name is)).owned) in
+        record { owned = fit.owned; named = fit.named; is = fit.is ∙ sym (part_other t.name rule.log e never) }
+
+    few_after : length (part_of (Name.Seat e.deed.seat) rule.log) < TICKET_LIMIT
+        → (s : ℕ) → length (part_of (Name.Seat s) (rule.log ++ e ∷ [])) ≤ TICKET_LIMIT
+    few_after room s = by (e.deed.seat == s) refl where
+      by : (b : Bool) → (e.deed.seat == s) ≡ b → length (part_of (Name.Seat s) (rule.log ++ e ∷ [])) ≤ TICKET_LIMIT
+      by true is =
+          let less : length (part_of (Name.Seat s) rule.log) < TICKET_LIMIT =
+          subst (λ n. length (part_of (Name.Seat n) rule.log) < TICKET_LIMIT) (equals e.deed.seat s is) room in
+          omega (
+            arith,
+            ap (λ (l : List Done). length l) (part_snoc (Name.Seat s) rule.log e),
+            length-append (part_of (Name.Seat s) rule.log) (part_of (Name.Seat s) (e ∷ [])),
+            length_kept (e.deed.seat == s) e [],
+            ap (λ b. cond {A = ℕ} b 1 0) is,
+            less,
+          )
+      by false is =
+          let never : (e.deed.seat == s) ≡ true → ⊥ = λ yes. cc (is, yes) in
+          omega (arith, ap (λ (l : List Done). length l) (part_other (Name.Seat s) rule.log e never), rule.few s)
+
+  draw_keeps : (id : ℕ) (v : View) (d : Deed) → get_elem? views id ≡ some v → IsFree d v
+      → IsWordOf terms ((terms.first + length rule.log + 1) ∷ []) (set views id (after_draw v d (terms.first + length rule.log)))
+  draw_keeps id v d at free =
+      let e : Done = record { ticket = terms.first + length rule.log; deed = d } in
+      let mine = rule.fits id v at in
       record {
+        log = rule.log ++ e ∷ [];
+        owner = rule.owner;
         first_fits = rule.first_fits;
         seats_fit = rule.seats_fit;
-        made_fits = omega (arith, rule.made_fits, numbers.lengths);
-        word = ap (λ n. n ∷ []) (omega (arith, drawn.lengths));
-        tickets = from_more terms.first (all_drawn views) (all_drawn new) drawn rule.tickets;
-        seats = from_same 0 (all_numbers views) (all_numbers new) numbers rule.seats;
-        one_makes = omega (arith, sum_set (λ u. u.made) views id v w at, rule.one_makes, numbers.lengths);
-        fits = fit_after (length (all_numbers new)) new numbers.lengths (set_all (IsViewOf terms (length (all_numbers views))) views id w rule.fits
-            (record { room = omega (arith, length-append v.drawn (next ∷ []), room); known = fit.known; told = fit.told }));
+        word = ap (λ n. n ∷ []) (omega (arith, length-append rule.log (e ∷ [])));
+        numbered = numbered_snoc terms.first rule.log e rule.numbered refl;
+        inside = each_append (IsInside terms) rule.log (e ∷ []) rule.inside
+            ((λ name is. (has_owner IsTrack id name v.tracks mine.tracks (free.1 name is)).named), tt);
+        few = few_after e (has_room id (Name.Seat d.seat) v.tracks mine.tracks free.0);
+        fits = set_all (IsViewOf terms rule.owner (rule.log ++ e ∷ [])) views id (after_draw v d (terms.first + length rule.log))
+            (record {
+              tracks = each_map (Fits id) (FitsAfter e id) (track_after e) v.tracks (grows e id) mine.tracks;
+              apart = apart_after e v.tracks mine.apart;
+              told = mine.told;
+            })
+            (λ j u differs found. let fit = rule.fits j u found in
+            record {
+              tracks = each_so (Fits j) (FitsAfter e j) u.tracks (stays e id v at free j differs) fit.tracks;
+              apart = fit.apart;
+              told = fit.told;
+            });
       }
 
-  -- no view but the one that makes seats knows how many were made
-  one_makes : (id : ℕ) (v : View) → get_elem? views id ≡ some v → v.made ≡ length (all_numbers views) → (i : ℕ) (u : View) → get_elem? views i ≡ some u → i ≢ id → u.made ≡ 0
-  one_makes id v at known i u there differs =
-      omega (
-        arith,
-        rule.one_makes,
-        known,
-        sum_set (λ w. w.made) views id v spent at,
-        part_le (λ w. w.made) (set views id spent) i u (set_else views id i spent differs ∙ there),
-      )
+  pub earlier : (id : ℕ) (v : View) → get_elem? views id ≡ some v → AreEarlier (terms.first + length rule.log) v.tracks
+  earlier id v at = each_so (Fits id) (λ t. Each (λ d. d.ticket < terms.first + length rule.log) t.done) v.tracks
+      (λ t fit. subst (λ done. Each (λ d. d.ticket < terms.first + length rule.log) done) (sym fit.is)
+      (earlier_part t.name terms.first (terms.first + length rule.log) rule.log rule.numbered (omega arith)))
+      (rule.fits id v at).tracks
 
-  pub split_keeps : (id : ℕ) (v : View) → get_elem? views id ≡ some v → HasSeat v → 0 < v.made → v.made < terms.seats
-      → IsWordOf terms words (set views id (after_split v) ++ new_seat v ∷ [])
-  split_keeps id v at has_seat leads room =
-      let mid : List View = set views id (after_split v) in
-      let new : List View = mid ++ new_seat v ∷ [] in
-      let fit = rule.fits id v at in
-      let known : v.made ≡ length (all_numbers views) = fit.known leads in
-      let drawn : AreSame (all_drawn views) (all_drawn new) = same_push (λ u. u.drawn) (all_drawn views) mid (new_seat v) (same_set (λ u. u.drawn) views id v (after_split v) at refl) refl in
-      let numbers : HasMore (all_numbers views) (all_numbers new) v.made = more_push (λ u. u.numbers) (all_numbers views) mid (new_seat v) v.made (same_set (λ u. u.numbers) views id v (after_split v) at refl) refl in
-      record {
-        first_fits = rule.first_fits;
-        seats_fit = rule.seats_fit;
-        made_fits = omega (arith, numbers.lengths, known, room);
-        word = rule.word ∙ ap (λ n. n ∷ []) (omega (arith, drawn.lengths));
-        tickets = from_same terms.first (all_drawn views) (all_drawn new) drawn rule.tickets;
-        seats = from_more 0 (all_numbers views) (all_numbers new) (subst (HasMore (all_numbers views) (all_numbers new)) (omega (arith, known)) numbers) rule.seats;
-        one_makes = omega (arith, sum_by_push (λ u. u.made) mid (new_seat v), sum_set (λ u. u.made) views id v (after_split v) at, rule.one_makes, numbers.lengths);
-        fits = λ i u found. ⊎_elim
-            (λ old. ⊎_elim
-            (λ here. subst (IsViewOf terms (length (all_numbers new))) here.1 (record { room = fit.room; known = λ _. omega (arith, numbers.lengths, known); told = fit.told }))
-            (λ there. let other = rule.fits i u there.1 in
-            record { room = other.room; known = λ makes. absurd (omega (arith, makes, one_makes id v at known i u there.1 there.0)); told = other.told })
-            (at_set views id i (after_split v) u old))
-            (λ made. subst (IsViewOf terms (length (all_numbers new))) made (record { room = omega arith; known = λ makes. absurd (omega (arith, makes)); told = λ _. fit.told has_seat }))
-            (at_snoc mid (new_seat v) u i found);
-      }
+  -- a step with no deed: some names have another owner
+  module _ (owner : Name → ℕ) where
+    goes_on : (new : List View) → ((j : ℕ) (v : View) → get_elem? new j ≡ some v → IsViewOf terms owner rule.log j v)
+        → IsWordOf terms words new
+    goes_on new fits = record {
+      log = rule.log;
+      owner = owner;
+      first_fits = rule.first_fits;
+      seats_fit = rule.seats_fit;
+      word = rule.word;
+      numbered = rule.numbered;
+      inside = rule.inside;
+      few = rule.few;
+      fits = fits;
+    }
 
-  pub join_keeps : (id : ℕ) (v : View) (other : ℕ) (w : View) → get_elem? views id ≡ some v → get_elem? (set views id (after_join v w)) other ≡ some w → other ≢ id → HasSeat v
+    moves : (i j : ℕ) (ts : List Track) → ((t : Track) → Fits i t → owner t.name ≡ j) → Each (Fits i) ts
+        → Each (IsTrackOf terms owner rule.log j) ts
+    moves i j ts so each = each_so (Fits i) (IsTrackOf terms owner rule.log j) ts
+        (λ t fit. record { owned = so t fit; named = fit.named; is = fit.is }) each
+
+    keeps : (j : ℕ) (v : View) → get_elem? views j ≡ some v → ((t : Track) → Fits j t → owner t.name ≡ j)
+        → IsViewOf terms owner rule.log j v
+    keeps j v at so =
+        let fit = rule.fits j v at in
+        record { tracks = moves j j v.tracks so fit.tracks; apart = fit.apart; told = fit.told }
+
+  split_none : (id : ℕ) (told : Terms) → get_elem? views id ≡ some (record { terms = told; tracks = [] })
+      → IsWordOf terms words (set views id (record { terms = told; tracks = [] }) ++ record { terms = told; tracks = [] } ∷ [])
+  split_none id told at =
+      let none : View = record { terms = told; tracks = [] } in
+      let mine = rule.fits id none at in
+      goes_on rule.owner (set views id none ++ none ∷ [])
+      (push_all (IsViewOf terms rule.owner rule.log) (set views id none) none (record { tracks = tt; apart = tt; told = mine.told })
+      (set_all (IsViewOf terms rule.owner rule.log) views id none mine (λ j u differs found. rule.fits j u found)))
+
+  -- tracks of other names than one whose owner changes
+  others : (owner : Name → ℕ) (name : Name) → ((u : Track) → u.name ≢ name → owner u.name ≡ rule.owner u.name) → (j : ℕ) (us : List Track)
+      → Each (Fits j) us → Each (λ u. u.name ≢ name) us → Each (IsTrackOf terms owner rule.log j) us
+  others owner name else j [] each apart = tt
+  others owner name else j (u ∷ us) each apart = (
+    record { owned = else u apart.0 ∙ each.0.owned; named = each.0.named; is = each.0.is },
+    others owner name else j us each.1 apart.1,
+  )
+
+  split_one : (id : ℕ) (told : Terms) (t : Track) (ts : List Track) → get_elem? views id ≡ some (record { terms = told; tracks = t ∷ ts })
+      → IsWordOf terms words (set views id (record { terms = told; tracks = ts }) ++ record { terms = told; tracks = t ∷ [] } ∷ [])
+  split_one id told t ts at =
+      let left : View = record { terms = told; tracks = ts } in
+      let right : View = record { terms = told; tracks = t ∷ [] } in
+      let mid : List View = set views id left in
+      let mine = rule.fits id (record { terms = told; tracks = t ∷ ts }) at in
+      let home : ℕ = length mid in
+      let owner : Name → ℕ = λ name. cond {A = ℕ} (is_same name t.name) home (rule.owner name) in
+      let else : (u : Track) → u.name ≢ t.name → owner u.name ≡ rule.owner u.name =
+      λ u differs. if_not (is_same u.name t.name) home (rule.owner u.name) (λ is. differs (same_name u.name t.name is)) in
+      let gone : IsTrackOf terms owner rule.log home t = record {
+        owned = ap (λ b. cond {A = ℕ} b home (rule.owner t.name)) (same_self t.name);
+        named = mine.tracks.0.named;
+        is = mine.tracks.0.is;
+      } in
+      goes_on owner (mid ++ right ∷ [])
+      (push_all (IsViewOf terms owner rule.log) mid right (record { tracks = (gone, tt); apart = (tt, tt); told = mine.told })
+      (set_all (IsViewOf terms owner rule.log) views id left
+      (record { tracks = others owner t.name else id ts mine.tracks.1 mine.apart.0; apart = mine.apart.1; told = mine.told })
+      (λ j u differs found. keeps owner j u found
+      (λ w fit. else w (λ same. differs (sym fit.owned ∙ ap rule.owner same ∙ mine.tracks.0.owned)) ∙ fit.owned))))
+
+  split_by : (id : ℕ) (told : Terms) (ts : List Track) → get_elem? views id ≡ some (record { terms = told; tracks = ts })
+      → IsWordOf terms words (set views id (record { terms = told; tracks = behind ts }) ++ record { terms = told; tracks = front ts } ∷ [])
+  split_by id told [] at = split_none id told at
+  split_by id told (t ∷ ts) at = split_one id told t ts at
+
+  pub split_keeps : (id : ℕ) (v : View) → get_elem? views id ≡ some v
+      → IsWordOf terms words (set views id (after_split v) ++ first_track v ∷ [])
+  split_keeps id v at = split_by id v.terms v.tracks at
+
+  -- tracks of two passes have other names
+  across : (id other : ℕ) → other ≢ id → (vs ws : List Track) → Each (Fits id) vs → Each (Fits other) ws
+      → Each (λ x. Each (λ y. y.name ≢ x.name) vs) ws
+  across id other differs vs ws mine theirs = each_so (Fits other) (λ x. Each (λ y. y.name ≢ x.name) vs) ws
+      (λ x fit. each_so (Fits id) (λ y. y.name ≢ x.name) vs
+      (λ y fits same. differs (sym fit.owned ∙ ap rule.owner (sym same) ∙ fits.owned)) mine) theirs
+
+  pub join_keeps : (id : ℕ) (v : View) (other : ℕ) (w : View) → get_elem? views id ≡ some v
+      → get_elem? (set views id (after_join v w)) other ≡ some w → other ≢ id
       → IsWordOf terms words (set (set views id (after_join v w)) other spent)
-  join_keeps id v other w at at_other differs has_seat =
+  join_keeps id v other w at at_mid differs =
       let both : View = after_join v w in
-      let mid : List View = set views id both in
-      let new : List View = set mid other spent in
-      let drawn : AreSame (all_drawn views) (all_drawn new) = same_join (λ u. u.drawn) views id other v w both at at_other refl refl in
-      let numbers : AreSame (all_numbers views) (all_numbers new) = same_join (λ u. u.numbers) views id other v w both at at_other refl refl in
-      let fit = rule.fits id v at in
-      let fit_other = rule.fits other w (sym (set_else views id other both differs) ∙ at_other) in
-      record {
-        first_fits = rule.first_fits;
-        seats_fit = rule.seats_fit;
-        made_fits = omega (arith, rule.made_fits, numbers.lengths);
-        word = rule.word ∙ ap (λ n. n ∷ []) (omega (arith, drawn.lengths));
-        tickets = from_same terms.first (all_drawn views) (all_drawn new) drawn rule.tickets;
-        seats = from_same 0 (all_numbers views) (all_numbers new) numbers rule.seats;
-        one_makes = omega (arith, sum_set (λ u. u.made) mid other w spent at_other, sum_set (λ u. u.made) views id v both at, rule.one_makes, numbers.lengths);
-        fits = fit_after (length (all_numbers new)) new numbers.lengths (set_all (IsViewOf terms (length (all_numbers views))) mid other spent
-            (set_all (IsViewOf terms (length (all_numbers views))) views id both rule.fits
-            (record { room = omega (arith, length-append v.drawn w.drawn, length-append v.numbers w.numbers, fit.room, fit_other.room); known = fit.known; told = λ _. fit.told has_seat }))
-            (record { room = omega arith; known = λ makes. absurd (omega (arith, makes)); told = λ has. absurd (omega (arith, has)) }));
-      }
+      let mine = rule.fits id v at in
+      let theirs = rule.fits other w (sym (set_else views id other both differs) ∙ at_mid) in
+      let owner : Name → ℕ = λ name. cond {A = ℕ} (rule.owner name == other) id (rule.owner name) in
+      let stays : (j : ℕ) → j ≢ other → (t : Track) → Fits j t → owner t.name ≡ j =
+      λ j ne t fit. if_not (rule.owner t.name == other) id (rule.owner t.name)
+      (λ is. ne (sym fit.owned ∙ equals (rule.owner t.name) other is)) ∙ fit.owned in
+      let comes : (t : Track) → Fits other t → owner t.name ≡ id =
+      λ t fit. ap (λ n. cond {A = ℕ} (n == other) id (rule.owner t.name)) fit.owned
+      ∙ ap (λ b. cond {A = ℕ} b id (rule.owner t.name)) (itself other) in
+      let joined : IsViewOf terms owner rule.log id both = record {
+        tracks = each_append (IsTrackOf terms owner rule.log id) w.tracks v.tracks
+            (moves owner other id w.tracks comes theirs.tracks)
+            (moves owner id id v.tracks (stays id (λ is. differs (sym is))) mine.tracks);
+        apart = apart_append w.tracks v.tracks theirs.apart mine.apart
+            (across id other differs v.tracks w.tracks mine.tracks theirs.tracks);
+        told = mine.told;
+      } in
+      goes_on owner (set (set views id both) other spent)
+      (set_all (IsViewOf terms owner rule.log) (set views id both) other spent (record { tracks = tt; apart = tt; told = inr refl })
+      (λ j u apart found. set_all (λ i x. i ≢ other → IsViewOf terms owner rule.log i x) views id both (λ _. joined)
+      (λ i x _ there ne. keeps owner i x there (stays i ne)) j u found apart))
 
-  -- what a pass has that has all seats
-  record HasAll (v : View) : Type 0 where
-    pub drawn : AreOnce terms.first (terms.first + length (all_drawn views)) v.drawn
-    pub numbers : AreOnce 0 terms.seats v.numbers
-
-  -- all other views have no seat and so no ticket
-  gathers : (id : ℕ) (v : View) → get_elem? views id ≡ some v → length v.numbers ≡ terms.seats → HasAll v
-  gathers id v at full =
-      let rest : List View = set views id spent in
-      let drawn = replaced (λ u. u.drawn) views id v spent at in
-      let numbers = replaced (λ u. u.numbers) views id v spent at in
-      let no_seat : length (all_numbers rest) ≡ 0 = omega (arith, numbers.lengths, rule.made_fits, full) in
-      let no_ticket : length (all_drawn rest) ≡ 0 = omega (arith, no_seat, bounded rest (set_all (λ u. length u.drawn ≤ TICKET_LIMIT * length u.numbers) views id spent (λ i u there. (rule.fits i u there).room) (omega arith))) in
-      record {
-        drawn = λ x. omega (arith, drawn.counts x, count_le_length x (all_drawn rest), no_ticket) ∙ rule.tickets x;
-        numbers = λ x. omega (arith, numbers.counts x, count_le_length x (all_numbers rest), no_seat) ∙ rule.seats x
-            ∙ ap (λ n. one_within 0 n x) (omega (arith, numbers.lengths, no_seat, full));
-      }
+-- what a pass is told is no later than the first ticket
+told_first : (told terms : Terms) (n : ℕ) → (told ≡ terms) ⊎ (told ≡ no_terms) → told.first ≤ terms.first + n
+told_first told terms n (inl is) = omega (arith, ap (λ (t : Terms). t.first) is)
+told_first told terms n (inr is) = omega (arith, ap (λ (t : Terms). t.first) is)
 
 -- the word after a ticket was drawn, as the step writes it, and what the pass is told
-pub draws : (terms : Terms) (words : List ℕ) (views : List View) → IsWordOf terms words views → (id : ℕ) (v : View) → get_elem? views id ≡ some v → HasSeat v → length v.drawn < TICKET_LIMIT * length v.numbers
-    → IsWordOf terms (set words 0 ((slice_index words 0 + 1) % 2 ^ 64)) (set views id (after_draw v (slice_index words 0))) × All (λ ticket. ticket < slice_index words 0) v.drawn × (v.terms.first ≤ slice_index words 0)
-draws terms words views rule id v at has_seat room =
-    let next : ℕ = terms.first + length (all_drawn views) in
+abbrev Draws : Terms → List ℕ → List View → ℕ → View → Deed → Type 0
+Draws terms words views id v d =
+    IsWordOf terms (set words 0 ((slice_index words 0 + 1) % 2 ^ 64)) (set views id (after_draw v d (slice_index words 0)))
+    × AreEarlier (slice_index words 0) v.tracks × (v.terms.first ≤ slice_index words 0)
+
+pub draws : (terms : Terms) (words : List ℕ) (views : List View) → IsWordOf terms words views
+    → (id : ℕ) (v : View) (d : Deed) → get_elem? views id ≡ some v → IsFree d v → Draws terms words views id v d
+draws terms words views rule id v d at free =
+    let next : ℕ = terms.first + length rule.log in
     let fits : (next + 1) % 2 ^ 64 ≡ next + 1 = mod-eq_of_lt (small terms words views rule) in
-    subst (λ ws. IsWordOf terms (set ws 0 ((slice_index ws 0 + 1) % 2 ^ 64)) (set views id (after_draw v (slice_index ws 0))) × All (λ ticket. ticket < slice_index ws 0) v.drawn × (v.terms.first ≤ slice_index ws 0)) (sym rule.word) (
-      subst (λ n. IsWordOf terms (n ∷ []) (set views id (after_draw v next))) (sym fits) (draw_keeps terms words views rule id v at room),
-      below terms.first next v.drawn (apart terms words views rule id v at),
-      omega (arith, ap (λ (t : Terms). t.first) ((rule.fits id v at).told has_seat)),
+    subst (λ ws. Draws terms ws views id v d) (sym rule.word) (
+      subst (λ n. IsWordOf terms (n ∷ []) (set views id (after_draw v d next))) (sym fits)
+          (draw_keeps terms words views rule id v d at free),
+      earlier terms words views rule id v at,
+      told_first v.terms terms (length rule.log) (rule.fits id v at).told,
     )
 
 -- what holds of the last word and of the pass that is handed back
-pub record IsClosed (terms : Terms) (next : ℕ) (v : View) : Type 0 where
-  pub none_twice : AreNoneTwice terms.first next v.drawn
-  pub each_once : length v.numbers ≡ terms.seats → AreOnce terms.first next v.drawn
-  pub seats : length v.numbers ≡ terms.seats → AreOnce 0 terms.seats v.numbers
-  pub few : length v.numbers ≤ terms.seats
-
-pub closes : (terms : Terms) (words : List ℕ) (views : List View) → IsWordOf terms words views → (next : ℕ) → get_elem? words 0 ≡ some next → (id : ℕ) (v : View) → get_elem? views id ≡ some v → IsClosed terms next v
+pub closes : (terms : Terms) (words : List ℕ) (views : List View) → IsWordOf terms words views
+    → (next : ℕ) → get_elem? words 0 ≡ some next → (id : ℕ) (v : View) → get_elem? views id ≡ some v → IsClosed terms next v.tracks
 closes terms words views rule next last id v at =
-    let is : terms.first + length (all_drawn views) ≡ next = some-injective _ _ (subst (λ ws. get_elem? ws 0 ≡ some next) rule.word last) in
-    subst (λ n. IsClosed terms n v) is (record {
-      none_twice = apart terms words views rule id v at;
-      each_once = λ full. (gathers terms words views rule id v at full).drawn;
-      seats = λ full. (gathers terms words views rule id v at full).numbers;
-      few = omega (arith, rule.made_fits, (replaced (λ u. u.numbers) views id v spent at).lengths);
-    })
+    let fit = rule.fits id v at in
+    record {
+      log = rule.log;
+      last = sym (some-injective _ _ (subst (λ ws. get_elem? ws 0 ≡ some next) rule.word last));
+      numbered = rule.numbered;
+      inside = rule.inside;
+      parts = each_so (IsTrackOf terms rule.owner rule.log id) (λ t. t.done ≡ part_of t.name rule.log) v.tracks (λ t is. is.is) fit.tracks;
+      named = each_so (IsTrackOf terms rule.owner rule.log id) (λ t. IsNameOf terms t.name) v.tracks (λ t is. is.named) fit.tracks;
+      apart = fit.apart;
+    }

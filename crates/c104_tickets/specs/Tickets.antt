@@ -1,83 +1,171 @@
--- A word from which tickets are drawn, as plain data: what a pass knows of it, its view, how each step changes views,
--- and the rule, which holds between any two steps and says that each ticket was drawn once.
+-- A word from which tickets are drawn, as plain data: the log of all that was done, the parts of it that seats and places
+-- have, what a pass knows of it, its view, how each step changes views, and the rule, which holds between any two steps and
+-- says that each track is the part of one log that its name has.
 pub use Rattle.atomic_table.specs.Seated.{TableId}
-use Rattle.c104_tickets.specs.declared.{TheConstants.{FIRST_LIMIT, SEAT_LIMIT, TICKET_LIMIT}, views.{Terms.Terms, View.View}}
-use Rattle.std.specs.{List.{count_by, flat_map, sum_by}, Prelude.{List, [], if◌then◌else◌, length, nat_le, nat_lt, ℕ, ◌&&◌, ◌*◌, ◌++◌, ◌+◌}}
-use Rattle.std.specs.Prelude.{◌<◌, ◌==◌, ◌∷◌, ◌≡◌, ◌≤◌}
+use Rattle.c104_event.specs.declared.events.Event.{Event}
+use Rattle.c104_switch.specs.declared.actions.ReplyOf.{ReplyOf}
+use Rattle.c104_tickets.specs.declared.TheConstants.{FIRST_LIMIT, SEAT_LIMIT, TICKET_LIMIT}
+use Rattle.c104_tickets.specs.declared.views.{Deed.Deed, Done.Done, Name.Name, Terms.Terms, Track.Track, View.View}
+use Rattle.std.specs.Prelude.{Bool, List, None, Option, Some, [], false, if◌then◌else◌, length, map, suc, true, zero, ℕ, ◌++◌, ◌+◌}
+use Rattle.std.specs.Prelude.{◌<◌, ◌==◌, ◌∷◌, ◌≡◌, ◌≤◌, ◌≢◌, ◌⊎◌}
 use lib.ListN.{get_elem?}
 use mathlib.Core.Option.{some}
 
--- how often a number stands in a list
-abbrev pub count_of : ℕ → List ℕ → ℕ
-count_of x xs = count_by (λ y. x == y) xs
+-- what holds of each element
+abbrev pub Each : {X : Type 0} → (X → Type 0) → List X → Type 0
+Each P [] = Unit {0}
+Each P (x ∷ xs) = P x × Each P xs
 
--- 1 for a number from low on and below high, and 0 for any other
-abbrev pub one_within : ℕ → ℕ → ℕ → ℕ
-one_within low high x = if nat_le low x && nat_lt x high then 1 else 0
+-- whether two names are the same
+abbrev pub is_same : Name → Name → Bool
+is_same (Name.Seat s) (Name.Seat t) = s == t
+is_same (Name.Seat s) (Name.Place k) = false
+is_same (Name.Place k) (Name.Seat s) = false
+is_same (Name.Place k) (Name.Place l) = k == l
 
--- these are the numbers from low on and below high, each once, in any order
-abbrev pub AreOnce : ℕ → ℕ → List ℕ → Type 0
-AreOnce low high xs = (x : ℕ) → count_of x xs ≡ one_within low high x
+-- whether a node stands at this place, if it stands at one
+abbrev pub stands_at : ℕ → Option ℕ → Bool
+stands_at k None = false
+stands_at k (Some l) = l == k
 
--- these are numbers from low on and below high, none of them twice
-abbrev pub AreNoneTwice : ℕ → ℕ → List ℕ → Type 0
-AreNoneTwice low high xs = (x : ℕ) → count_of x xs ≤ one_within low high x
+-- whether a deed belongs to a name: to its seat, and to the places of its nodes
+abbrev pub belongs : Name → Deed → Bool
+belongs (Name.Seat s) deed = deed.seat == s
+belongs (Name.Place k) deed = if stands_at k deed.near then true else stands_at k deed.far
 
--- these are as many numbers as they are, from low on, each once
-abbrev pub AreFrom : ℕ → List ℕ → Type 0
-AreFrom low xs = AreOnce low (low + length xs) xs
+-- the part of a log that belongs to a name, in order
+abbrev pub kept_if : Bool → Done → List Done → List Done
+kept_if true d rest = d ∷ rest
+kept_if false d rest = rest
 
--- the view of the first pass: it has seat 0, the only one that was made
+abbrev pub part_of : Name → List Done → List Done
+part_of name [] = []
+part_of name (d ∷ rest) = kept_if (belongs name d.deed) d (part_of name rest)
+
+-- the tickets of a log are the numbers from this one on, in order
+abbrev pub AreNumbered : ℕ → List Done → Type 0
+AreNumbered first [] = Unit {0}
+AreNumbered first (d ∷ rest) = (d.ticket ≡ first) × AreNumbered (suc first) rest
+
+-- there are such a seat, and such places
+abbrev pub IsNameOf : Terms → Name → Type 0
+IsNameOf terms (Name.Seat s) = s < terms.seats
+IsNameOf terms (Name.Place k) = k < terms.places
+
+-- a deed belongs to seats and places that there are
+abbrev pub IsInside : Terms → Done → Type 0
+IsInside terms d = (name : Name) → belongs name d.deed ≡ true → IsNameOf terms name
+
+-- tracks with nothing in them: of this many seats from a number on, and of places
+abbrev pub new_track : Name → Track
+new_track name = record { name = name; done = [] }
+
+abbrev pub seat_tracks : ℕ → ℕ → List Track
+seat_tracks s zero = []
+seat_tracks s (suc more) = new_track (Name.Seat s) ∷ seat_tracks (suc s) more
+
+abbrev pub place_tracks : ℕ → ℕ → List Track
+place_tracks k zero = []
+place_tracks k (suc more) = new_track (Name.Place k) ∷ place_tracks (suc k) more
+
+-- the view of the first pass: it has all tracks
 abbrev pub first_view : Terms → View
-first_view terms = record { terms = terms; made = 1; numbers = 0 ∷ []; drawn = [] }
+first_view terms = record { terms = terms; tracks = seat_tracks 0 terms.seats ++ place_tracks 0 terms.places }
 
--- the view of the first pass after it made a seat, and the view of that seat
+-- a track, and the view of a pass, after a deed was done
+abbrev pub track_after : Done → Track → Track
+track_after d track = record { name = track.name; done = track.done ++ part_of track.name (d ∷ []) }
+
+abbrev pub after_draw : View → Deed → ℕ → View
+after_draw v deed ticket = record { terms = v.terms; tracks = map (track_after (record { ticket = ticket; deed = deed })) v.tracks }
+
+-- the first of some tracks, and those behind it
+abbrev pub front : List Track → List Track
+front [] = []
+front (track ∷ rest) = track ∷ []
+
+abbrev pub behind : List Track → List Track
+behind [] = []
+behind (track ∷ rest) = rest
+
+-- the view of a pass after it gave its first track to another, and the view of that one
 abbrev pub after_split : View → View
-after_split v = record v { made = v.made + 1 }
+after_split v = record { terms = v.terms; tracks = behind v.tracks }
 
-abbrev pub new_seat : View → View
-new_seat v = record { terms = v.terms; made = 0; numbers = v.made ∷ []; drawn = [] }
-
--- the view of a pass after it drew a ticket
-abbrev pub after_draw : View → ℕ → View
-after_draw v ticket = record v { drawn = v.drawn ++ ticket ∷ [] }
+abbrev pub first_track : View → View
+first_track v = record { terms = v.terms; tracks = front v.tracks }
 
 -- the view of a pass after it took another in, and what is left of that one's
 abbrev pub after_join : View → View → View
-after_join v other = record v { numbers = v.numbers ++ other.numbers; drawn = v.drawn ++ other.drawn }
+after_join v other = record { terms = v.terms; tracks = other.tracks ++ v.tracks }
+
+abbrev pub no_terms : Terms
+no_terms = record { first = 0; seats = 0; places = 0 }
 
 abbrev pub spent : View
-spent = record { terms = record { first = 0; seats = 0 }; made = 0; numbers = []; drawn = [] }
+spent = record { terms = no_terms; tracks = [] }
 
--- a view is that of a pass with a seat: it isn't spent
-abbrev pub HasSeat : View → Type 0
-HasSeat v = 0 < length v.numbers
+-- there is a track of this name, with this property
+abbrev pub HasTrack : (Track → Type 0) → Name → List Track → Type 0
+HasTrack P name [] = ⊥
+HasTrack P name (track ∷ rest) = ((track.name ≡ name) × P track) ⊎ HasTrack P name rest
 
--- the tickets that stand in all views, and the numbers of their seats
-abbrev pub all_drawn : List View → List ℕ
-all_drawn views = flat_map (λ v. v.drawn) views
+abbrev pub HasRoom : Track → Type 0
+HasRoom track = length track.done < TICKET_LIMIT
 
-abbrev pub all_numbers : List View → List ℕ
-all_numbers views = flat_map (λ v. v.numbers) views
+abbrev pub IsTrack : Track → Type 0
+IsTrack track = Unit {0}
 
--- a view agrees with the terms and with how many seats were made: it has no more tickets than its seats may draw, only
--- the first pass knows how many were made, and each pass with a seat knows the terms
-pub record IsViewOf (terms : Terms) (made : ℕ) (v : View) : Type 0 where
-  pub room : length v.drawn ≤ TICKET_LIMIT * length v.numbers
-  pub known : 0 < v.made → v.made ≡ made
-  pub told : HasSeat v → v.terms ≡ terms
+-- the pass has the tracks of all to which a deed belongs, and its seat may draw one more ticket
+abbrev pub IsFree : Deed → View → Type 0
+IsFree deed v =
+    HasTrack HasRoom (Name.Seat deed.seat) v.tracks
+    × ((name : Name) → belongs name deed ≡ true → HasTrack IsTrack name v.tracks)
 
--- the rule of the word: it is the first ticket and as many more as were drawn; each number between stands in one view,
--- and so does the number of each seat that was made; and no two passes make seats
+-- all tickets of tracks are below this one
+abbrev pub AreEarlier : ℕ → List Track → Type 0
+AreEarlier ticket tracks = Each (λ track. Each (λ d. d.ticket < ticket) track.done) tracks
+
+-- no two tracks have one name
+abbrev pub AreApart : List Track → Type 0
+AreApart [] = Unit {0}
+AreApart (track ∷ rest) = Each (λ other. other.name ≢ track.name) rest × AreApart rest
+
+-- a track is the part of the log that its name has, and the pass of this number is the one that has it
+pub record IsTrackOf (terms : Terms) (owner : Name → ℕ) (log : List Done) (i : ℕ) (track : Track) : Type 0 where
+  pub owned : owner track.name ≡ i
+  pub named : IsNameOf terms track.name
+  pub is : track.done ≡ part_of track.name log
+
+-- a view agrees with the terms and the log: its tracks do, none twice; and it knows the terms, unless it is what is left of a
+-- pass that was taken in
+pub record IsViewOf (terms : Terms) (owner : Name → ℕ) (log : List Done) (i : ℕ) (v : View) : Type 0 where
+  pub tracks : Each (IsTrackOf terms owner log i) v.tracks
+  pub apart : AreApart v.tracks
+  pub told : (v.terms ≡ terms) ⊎ (v.terms ≡ no_terms)
+
+-- the rule of the word: it is the first ticket and as many more as were drawn, and there is one log of what was done, with
+-- these tickets in order; each track of a view is the part of the log that its name has, and no name has two
 pub record IsWordOf (terms : Terms) (words : List ℕ) (views : List View) : Type 0 where
+  pub log : List Done
+  pub owner : Name → ℕ
   pub first_fits : terms.first ≤ FIRST_LIMIT
   pub seats_fit : terms.seats ≤ SEAT_LIMIT
-  pub made_fits : length (all_numbers views) ≤ terms.seats
-  pub word : words ≡ (terms.first + length (all_drawn views)) ∷ []
-  pub tickets : AreFrom terms.first (all_drawn views)
-  pub seats : AreFrom 0 (all_numbers views)
-  pub one_makes : sum_by (λ v. v.made) views ≤ length (all_numbers views)
-  pub fits : (i : ℕ) (v : View) → get_elem? views i ≡ some v → IsViewOf terms (length (all_numbers views)) v
+  pub word : words ≡ (terms.first + length log) ∷ []
+  pub numbered : AreNumbered terms.first log
+  pub inside : Each (IsInside terms) log
+  pub few : (s : ℕ) → length (part_of (Name.Seat s) log) ≤ TICKET_LIMIT
+  pub fits : (i : ℕ) (v : View) → get_elem? views i ≡ some v → IsViewOf terms owner log i v
+
+-- the log of a word that was ended, of which these tracks are parts
+pub record IsClosed (terms : Terms) (next : ℕ) (tracks : List Track) : Type 0 where
+  pub log : List Done
+  pub last : next ≡ terms.first + length log
+  pub numbered : AreNumbered terms.first log
+  pub inside : Each (IsInside terms) log
+  pub parts : Each (λ track. track.done ≡ part_of track.name log) tracks
+  pub named : Each (λ track. IsNameOf terms track.name) tracks
+  pub apart : AreApart tracks
 
 -- a word as contracts see it: which one it is, and what it was told
 pub record WordValue : Type 0 where
@@ -88,3 +176,7 @@ pub record WordValue : Type 0 where
 pub record PassValue : Type 0 where
   pub word_id : TableId
   pub view : View
+
+-- nothing is done so: a caller says its own deed
+abbrev pub no_deed : Deed
+no_deed = record { seat = 0; near = None; far = None; event = Event.Drain 0; reply = ReplyOf.Done }

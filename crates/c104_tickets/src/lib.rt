@@ -1,20 +1,26 @@
-//! Tickets that several seats draw from one word, each number once.
+//! Tickets that several seats draw from one word, and the one order of all that they do.
 //!
-//! - [`TicketWord`] is the word, which holds the next ticket. There are four kinds of atomic step on it, and no other:
-//!   it is made, a seat is split off the first one, a ticket is drawn by a single addition, and two passes are joined.
-//! - [`Pass`] is what a seat steps with. One pass stands for one seat, or for several that were joined. In contracts
-//!   it is what it knows, its [`View`]: the numbers of its seats, and the tickets that they drew.
+//! - [`TicketWord`] is the word, which holds the next ticket, and a log of all that was done, which exists in proofs alone.
+//!   There are four kinds of atomic step on the word, and no other: it is made, a pass is split off another, a ticket is
+//!   drawn by a single addition, and two passes are joined.
+//! - [`Pass`] is what one steps with. In contracts it is what it knows, its [`View`]: the tracks of seats and of places,
+//!   each of them the part of the log that belongs to it.
 //!
-//! That no ticket is drawn twice holds between any two steps, whoever takes them: it is the rule of the table to which
-//! the word belongs (`IsWordOf`). So [`TicketWord::close`] can tell it of the pass that is handed back.
+//! A draw puts a [`Deed`] at the end of the log. It asks for the tracks of all to which the deed belongs: the seat's, and
+//! those of the places of its nodes. So the passes of places, which lie behind the locks of their nodes, are joined into the
+//! seat's before a draw, and split off again behind it; and whoever has a track knows all of what its name did.
+//!
+//! That there is one log, of which each track is a part, holds between any two steps, whoever takes them: it is the rule of
+//! the table to which the word belongs (`IsWordOf`). So [`TicketWord::close`] can tell it of the pass that is handed back.
 #![tactic(auto)]
 
 mod rule;
 mod ticket_word;
 mod views;
 
+pub use rule::Asks;
 pub use ticket_word::{Pass, TicketWord};
-pub use views::{Terms, View};
+pub use views::{Deed, Done, Name, Terms, Track, View};
 
 /// The most seats of a word.
 pub const SEAT_LIMIT: u64 = 64;

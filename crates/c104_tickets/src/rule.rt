@@ -1,18 +1,17 @@
 //! The rule of the table that is a word of tickets, and what its steps do to views.
 //!
-//! The number of seats that are to be made is a part of the key, and by the rule no more are made: so a pass with that
-//! many has all, and `close` needs no more to say that each ticket was drawn. The first ticket and that number are in
-//! each view too, since what a step tells its caller is said of the view and can't read the key. A view has two lists, of
-//! seats and of tickets, and the rule counts in the lists of all views: so that each ticket was drawn once is one
-//! equation.
+//! The rule says that there is one log of all that was done, numbered by the tickets from the first on, and that each track
+//! of a view is the part of the log that its name has. A name has one track: so whoever has it knows all of that part, and
+//! a draw, which puts a deed at the end of the log, asks for the tracks of all names to which the deed belongs.
 
-use crate::views::{Terms, View};
+use crate::views::{Deed, Terms, View};
 use atomic_table::{Join, Play, Split, TableRule};
+use std::marker::{Brand, PhantomData};
 
-/// Each ticket was drawn once.
-pub(crate) struct EachOnce;
+/// There is one log, and each track is its part.
+pub(crate) struct OneLog;
 
-impl TableRule<(), View, Terms> for EachOnce {
+impl TableRule<(), View, Terms> for OneLog {
     ghost use Rattle.c104_tickets.specs.Tickets.{IsWordOf, first_view};
 
     ghost holds = { λ terms s. IsWordOf terms s.words s.views };
@@ -20,26 +19,41 @@ impl TableRule<(), View, Terms> for EachOnce {
     ghost first = { first_view };
 }
 
-/// The word as it was is a ticket of the seat.
-pub(crate) struct Draws;
+/// Says which deed a ticket is drawn for. It has no value: the caller picks [`Brand`], and says the deed in its proofs.
+pub trait Asks {
+    ghost use Rattle.c104_tickets.specs.declared.views.Deed.{Deed};
 
-impl Play<(), View> for Draws {
-    ghost use Rattle.std.specs.Prelude.{◌≡◌, ◌<◌, ◌≤◌, All};
-    ghost use Rattle.c104_tickets.specs.Tickets.{after_draw};
-
-    ghost then = { λ _ me found after.
-        (after ≡ (after_draw me.0 found, me.1)) × All (λ ticket. ticket < found) me.0.drawn × (me.0.terms.first ≤ found) };
+    ghost deed: { Deed };
 }
 
-/// The first pass makes a seat.
-pub(crate) struct Makes;
+impl Asks for Brand {
+    ghost use Rattle.c104_tickets.specs.Tickets.{no_deed};
 
-impl Split<View> for Makes {
-    ghost use Rattle.c104_tickets.specs.Tickets.{after_split, new_seat};
+    ghost deed = { no_deed };
+}
+
+/// The word as it was is the ticket of the deed.
+pub(crate) struct Draws<A: Asks> {
+    of: PhantomData<A>,
+}
+
+impl<A: Asks> Play<(), View> for Draws<A> {
+    ghost use Rattle.std.specs.Prelude.{◌≡◌, ◌≤◌};
+    ghost use Rattle.c104_tickets.specs.Tickets.{AreEarlier, after_draw};
+
+    ghost then = { λ _ me found after.
+        (after ≡ (after_draw me.0 A.deed found, me.1)) × AreEarlier found me.0.tracks × (me.0.terms.first ≤ found) };
+}
+
+/// A pass gives the first of its tracks to another.
+pub(crate) struct GivesFirst;
+
+impl Split<View> for GivesFirst {
+    ghost use Rattle.c104_tickets.specs.Tickets.{after_split, first_track};
 
     ghost left = { after_split };
 
-    ghost right = { new_seat };
+    ghost right = { first_track };
 }
 
 /// A pass takes another in.

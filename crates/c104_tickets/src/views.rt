@@ -1,5 +1,7 @@
-//! What is known of a word of tickets. No value of a view is ever made: it is for contracts and proofs alone.
+//! What is known of a word of tickets. No value of these is ever made: they are for contracts and proofs alone.
 
+use c104_event::Event;
+use c104_switch::Reply;
 use std::collections::LinkedList;
 
 /// What a word is told when it is made.
@@ -7,18 +9,55 @@ use std::collections::LinkedList;
 pub struct Terms {
     /// The first ticket.
     pub first: u64,
-    /// How many seats are to be made.
+    /// How many seats there are.
     pub seats: u64,
+    /// How many places there are.
+    pub places: u64,
+}
+
+/// Who has a part of what was done: a seat, or a place.
+#[derive(Clone, Copy)]
+pub enum Name {
+    /// The seat of this number.
+    Seat(u64),
+    /// The place of this number.
+    Place(u64),
+}
+
+/// What is done through a seat.
+pub struct Deed {
+    /// The seat.
+    pub seat: u64,
+    /// The place of the node that leads. None where it stands at no place of these.
+    pub near: Option<u64>,
+    /// The place of the node at the other end of the wire, where there is one.
+    pub far: Option<u64>,
+    /// The event.
+    pub event: Event,
+    /// What was answered.
+    pub reply: Reply,
+}
+
+/// A deed that was done, with its ticket.
+pub struct Done {
+    /// The ticket.
+    pub ticket: u64,
+    /// The deed.
+    pub deed: Deed,
+}
+
+/// All that was done of which someone has a part, in order.
+pub struct Track {
+    /// Who that is.
+    pub name: Name,
+    /// What was done.
+    pub done: LinkedList<Done>,
 }
 
 /// What a pass knows.
 pub struct View {
     /// What the word was told.
     pub terms: Terms,
-    /// How many seats were made: the first pass knows it, which alone makes further ones. All others have 0 here.
-    pub made: u64,
-    /// The numbers of its seats.
-    pub numbers: LinkedList<u64>,
-    /// The tickets that they drew, in order. Those of a pass that is taken in come behind them.
-    pub drawn: LinkedList<u64>,
+    /// The tracks that it has.
+    pub tracks: LinkedList<Track>,
 }
