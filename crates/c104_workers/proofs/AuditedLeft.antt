@@ -7,8 +7,8 @@ use Rattle.{c104_plan.specs.declared.ports.{Port.Port, Wire.Wire}, c104_run.proo
 use Rattle.c104_run.{proofs.RecordSteps.nodes_counted, specs.{Balance.IsSteady, FinishedRecords.FinishedRecord, NetRecords.NetRecord}}
 use Rattle.c104_run.specs.{Network.network_of, NodeRuns.{TellRun, nodes_run}, Runs.{IsRunRecord, at_node, run_deeds}}
 use Rattle.{c104_token.specs.{Kinds.plain_kind, declared.tokens.Token.Token}, c104_workers.specs.Audited.{TellsSeats, lists_of}}
-use Rattle.{c104_workers.specs.Fabrics.{Handed, IsLeft, Left}, std.proofs.Common.{All, List, Some, [], ap, arith, length, map, refl}}
-use Rattle.std.proofs.{Common.{slice_get, subst, suc, sym, take, zero, ℕ, ◌++◌, ◌+◌, ◌∙◌, ◌∷◌, ◌≡◌}, lemmas.List.length-map}
+use Rattle.{c104_workers.specs.{Fabrics.{Handed, Left}, OneRuns.IsLeft}, std.proofs.Common.{All, List, Some, [], ap, arith, length, map}}
+use Rattle.std.proofs.{Common.{refl, slice_get, subst, suc, sym, take, zero, ℕ, ◌++◌, ◌+◌, ◌∙◌, ◌∷◌, ◌≡◌}, lemmas.List.length-map}
 
 -- the wire of one terminal more
 wires_more : (n k : ℕ) (ts : List Terminal) (t : Terminal) → slice_get ts k ≡ Some t → terminal_wires n (take (suc k) ts) ≡ terminal_wires n (take k ts) ++ record { here = Port.Terminal (n + k); there = host_port t } ∷ []

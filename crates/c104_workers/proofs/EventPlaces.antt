@@ -4,8 +4,9 @@ use Rattle.{c104_node.specs.declared.crossings.Crossing.Crossing, c104_plan.{pro
 use Rattle.{c104_plan.specs.{Wiring.{IsPlanPort, peer}, declared.ports.Port.Port}, c104_run.proofs.NoFaults.node_there}
 use Rattle.c104_run.specs.{AskedActs.{AreEnds, acts_asked}, EventActs.{crossing_acts, event_acts, port_place}, NetParts.node_count}
 use Rattle.{c104_run.specs.{Network.event_fault, declared.asked.Asked.Asked}, c104_token.specs.declared.tokens.Token.Token}
-use Rattle.{c104_workers.specs.LentCalls.{AreBelow, AreLentFor, asked_places, event_places}, std.proofs.Common.{Bool, None, Option, Some}}
-use Rattle.std.proofs.{Common.{arith, false, length, nat_lt, refl, subst, sym, true, ℕ, ◌+◌, ◌<◌, ◌≡◌, ◌≢◌}, lemmas.Bool.Decides.nat_tests}
+use Rattle.{c104_node.specs.declared.crossings.Joint.Joint, c104_workers.specs.Held.{AsksNode, AsksPair}}
+use Rattle.{c104_workers.specs.LentCalls.{AreBelow, AreLentFor, acts_places, asked_places, event_places}, std.proofs.Common.{Bool, None, Option, Some}}
+use Rattle.std.proofs.{Common.{ap, arith, false, length, nat_lt, option_map, refl, subst, sym, true, unwrap_or, ℕ, ◌+◌, ◌<◌, ◌∙◌, ◌≡◌, ◌≢◌}, lemmas.Bool.Decides.nat_tests}
 use Rattle.std.specs.Prelude.{if◌then◌else◌}
 
 -- an event of one node isn't about a wire
@@ -82,3 +83,16 @@ module _ (plan : Plan) where
         lent = rw acts (both_lent (nat_lt near far) joint.near joint.far joint.crossing near far);
         inside = in_order (node_count plan) near far ends.2 near_below far_below;
       }
+
+  -- an event of one node is that of the node at its place
+  pub node_asked : (e : Event) (k place held : ℕ) (a : ActOf Token) → event_fault plan e ≡ None → ◌≡◌ {A = Option (Acts Token)} (event_acts plan e) (Some (Acts.Alone k a)) → event_places plan e ≡ Some (place, None) → held ≡ place → AsksNode plan e held a
+  node_asked e k place held a fault acts places is =
+      let both : ◌≡◌ {A = Option (ℕ × Option ℕ)} (Some (k, None)) (Some (place, None)) = sym (ap (option_map (acts_places plan)) acts) ∙ places in
+      let same : k ≡ held = ap (λ (o : Option (ℕ × Option ℕ)). (unwrap_or o (0, None)).0) both ∙ sym is in
+      (fault, subst (λ j. ◌≡◌ {A = Option (Acts Token)} (event_acts plan e) (Some (Acts.Alone j a))) same acts)
+
+  -- and one of two nodes that of the nodes at the two places
+  pub pair_asked : (e : Event) (joint : Joint) (near far near_held far_held : ℕ) → event_fault plan e ≡ None → ◌≡◌ {A = Option (Acts Token)} (event_acts plan e) (Some (Acts.Joint joint.near joint.far joint.crossing))
+      → near ≡ port_place plan joint.near → far ≡ port_place plan joint.far → near_held ≡ near → far_held ≡ far → near ≢ far → AsksPair plan e joint near_held far_held
+  pair_asked e joint near far near_held far_held fault acts near_end far_end near_is far_is apart =
+      (fault, acts, near_is ∙ near_end, far_is ∙ far_end, λ same. apart (sym near_is ∙ same ∙ far_is))

@@ -1,53 +1,87 @@
 -- Seats that are taken in from the last one on.
-use Rattle.{c104_audit.specs.Calls.tickets_of, c104_tickets.specs.{Tickets.{TableId, count_of}, declared.views.Terms.Terms}}
-use Rattle.c104_workers.specs.{Calls.SeatView, Fabrics.{AreSeatsOf, IsSeatOf, all_tickets, calls_of, first_seat, first_seats, seat_view}}
-use Rattle.{c104_workers.specs.declared.calls.SeatCalls.SeatCalls, std.proofs.Common.{List, [], ap, arith, cond, length, map, refl}}
-use Rattle.std.proofs.{Common.{reverse, sym, ℕ, ◌++◌, ◌+◌, ◌-◌, ◌==◌, ◌∙◌, ◌∷◌, ◌≡◌}, lemmas.List.{Sums.sum_by-append, append_assoc}}
-use Rattle.std.{proofs.lemmas.List.{map-append, reverse-append}, specs.List.range_with_len}
-
--- how often a number stands in two lists
-pub count_append : (x : ℕ) (xs ys : List ℕ) → count_of x (xs ++ ys) ≡ count_of x xs + count_of x ys
-count_append x xs ys = sum_by-append (λ y. cond (x == y) 1 0) xs ys
+use Rattle.c104_tickets.specs.{Tickets.{IsClosed, TableId}, declared.views.{Terms.Terms, Track.Track, View.View}}
+use Rattle.c104_workers.{proofs.ClosedWords.few_seats, specs.{Calls.{IsSeat, SeatView, seat_track}, Closing.{AreSeatTracks, TellTracks}}}
+use Rattle.c104_workers.specs.Fabrics.{AreSeatsOf, IsSeatOf, calls_of, first_seat, first_seats, seat_view}
+use Rattle.{c104_workers.specs.declared.calls.SeatCalls.SeatCalls, std.proofs.Common.{List, [], ap, arith, length, map, refl, reverse}}
+use Rattle.std.proofs.{Common.{subst, sym, ℕ, ◌++◌, ◌∙◌, ◌∷◌, ◌≡◌, ◌≤◌}, lemmas.List.{append_assoc, length-map, length-reverse}}
+use Rattle.std.{proofs.lemmas.List.reverse-append, specs.List.range_with_len}
 
 -- what holds of each seat holds of those before the last, and of the last
-pub seats_before : (word_id : TableId) (seats : List (SeatView × ℕ)) (s : SeatView × ℕ) → AreSeatsOf word_id (seats ++ s ∷ []) → AreSeatsOf word_id seats × IsSeatOf word_id s
+pub seats_before : (word_id : TableId) (seats : List (SeatView × ℕ)) (s : SeatView × ℕ) → AreSeatsOf word_id (seats ++ s ∷ [])
+    → AreSeatsOf word_id seats × IsSeatOf word_id s
 seats_before word_id [] s are = (tt, are.0)
 seats_before word_id (x ∷ seats) s are = let rest = seats_before word_id seats s are.1 in ((are.0, rest.0), rest.1)
 
--- the tickets of the last come after the others
-pub tickets_last : (x : ℕ) (seats : List (SeatView × ℕ)) (s : SeatView × ℕ) → count_of x (all_tickets (seats ++ s ∷ [])) ≡ count_of x (all_tickets seats) + count_of x (tickets_of s.0.calls)
-tickets_last x [] s = omega (arith, count_append x (tickets_of s.0.calls) [])
-tickets_last x (y ∷ seats) s = omega (arith, tickets_last x seats s, count_append x (tickets_of y.0.calls) (all_tickets seats), count_append x (tickets_of y.0.calls) (all_tickets (seats ++ s ∷ [])))
+-- of all seats these are left, and the others were taken in: lists have what they left, the last first, and their tracks came
+-- before others
+pub record AreTaken (all left : List (SeatView × ℕ)) (lists : List SeatCalls) (old new : List Track) : Type 0 where
+  pub seats : List (SeatView × ℕ)
+  pub split : all ≡ left ++ seats
+  pub kept : reverse lists ≡ map calls_of seats
+  pub tracks : List Track
+  pub are : AreSeatTracks tracks seats
+  pub is : new ≡ tracks ++ old
 
--- what the last leaves joins what the others left so far
-pub kept_last : (rest : List (SeatView × ℕ)) (s : SeatView × ℕ) (lists : List SeatCalls) (kept : SeatCalls) → kept ≡ calls_of s → map calls_of rest ++ reverse (lists ++ kept ∷ []) ≡ map calls_of (rest ++ s ∷ []) ++ reverse lists
-kept_last rest s lists kept is =
-    ap (λ xs. map calls_of rest ++ xs) (reverse-append lists (kept ∷ []))
-    ∙ ap (λ k. map calls_of rest ++ (k ∷ reverse lists)) is
-    ∙ sym (append_assoc (map calls_of rest) (calls_of s ∷ []) (reverse lists))
-    ∙ ap (λ xs. xs ++ reverse lists) (sym (map-append calls_of rest (s ∷ [])))
+pub none_taken : (all : List (SeatView × ℕ)) (lists : List SeatCalls) (old : List Track) → all ≡ all ++ [] → lists ≡ []
+    → AreTaken all all lists old old
+none_taken all lists old same empty = record { seats = []; split = same; kept = ap reverse empty; tracks = []; are = tt; is = refl }
 
--- no seats drew no tickets
-pub no_tickets : (x : ℕ) (seats : List (SeatView × ℕ)) → length seats ≡ 0 → count_of x (all_tickets seats) ≡ 0
-no_tickets x [] none = refl
-no_tickets x (s ∷ seats) none = absurd (omega (arith, none))
+-- the last of those that are left is taken in, with the pass to its track
+pub one_gathered : (all left rest : List (SeatView × ℕ)) (s : SeatView × ℕ) (lists next : List SeatCalls) (kept : SeatCalls) (view : View)
+    (old now new : List Track) → AreTaken all left lists old now → left ≡ rest ++ s ∷ [] → kept ≡ calls_of s
+    → IsSeat view s.0.number s.0.calls s.0.lent → next ≡ lists ++ kept ∷ [] → new ≡ view.tracks ++ now → AreTaken all rest next old new
+one_gathered all left rest s lists next kept view old now new taken last is own grown joined = record {
+  seats = s ∷ taken.seats;
+  split = taken.split ∙ ap (λ xs. xs ++ taken.seats) last ∙ append_assoc rest (s ∷ []) taken.seats;
+  kept = ap reverse grown ∙ reverse-append lists (kept ∷ []) ∙ ap (λ k. k ∷ reverse lists) is ∙ ap (λ xs. calls_of s ∷ xs) taken.kept;
+  tracks = seat_track s.0.number own.done ∷ taken.tracks;
+  are = (record { name = refl; calls = own.called; own = own.own }, taken.are);
+  is = joined ∙ ap (λ ts. ts ++ now) own.tracks ∙ ap (λ xs. seat_track s.0.number own.done ∷ xs) taken.is;
+}
 
 -- seats with these numbers are seats of the fabric
-seats_own : (word_id : TableId) (terms : Terms) (numbers : List ℕ) (seats : List (SeatView × ℕ)) → map seat_view seats ≡ map (λ k. first_seat word_id terms (k + 1)) numbers → AreSeatsOf word_id seats
+seats_own : (word_id : TableId) (terms : Terms) (numbers : List ℕ) (seats : List (SeatView × ℕ))
+    → map seat_view seats ≡ map (first_seat word_id terms) numbers → AreSeatsOf word_id seats
 seats_own word_id terms numbers [] are = tt
 seats_own word_id terms [] (s ∷ seats) are = absurd (cc are)
-seats_own word_id terms (n ∷ numbers) (s ∷ seats) are = (ap (λ (t : SeatView). t.word_id) (head_is are), seats_own word_id terms numbers seats (tail_is are)) where
-  head_is : seat_view s ∷ map seat_view seats ≡ first_seat word_id terms (n + 1) ∷ map (λ k. first_seat word_id terms (k + 1)) numbers → seat_view s ≡ first_seat word_id terms (n + 1)
-  head_is both = cc both
+seats_own word_id terms (n ∷ numbers) (s ∷ seats) are =
+    (ap (λ (t : SeatView). t.word_id) (head_is are), seats_own word_id terms numbers seats (tail_is are))
+  where
+    head_is : seat_view s ∷ map seat_view seats ≡ first_seat word_id terms n ∷ map (first_seat word_id terms) numbers
+        → seat_view s ≡ first_seat word_id terms n
+    head_is both = cc both
 
-  tail_is : seat_view s ∷ map seat_view seats ≡ first_seat word_id terms (n + 1) ∷ map (λ k. first_seat word_id terms (k + 1)) numbers → map seat_view seats ≡ map (λ k. first_seat word_id terms (k + 1)) numbers
-  tail_is both = cc both
+    tail_is : seat_view s ∷ map seat_view seats ≡ first_seat word_id terms n ∷ map (first_seat word_id terms) numbers
+        → map seat_view seats ≡ map (first_seat word_id terms) numbers
+    tail_is both = cc both
 
-pub first_own : (word_id : TableId) (terms : Terms) (seats : List (SeatView × ℕ)) → map seat_view seats ≡ first_seats word_id terms → AreSeatsOf word_id seats
-first_own word_id terms [] are = tt
-first_own word_id terms (s ∷ seats) are = (ap (λ (t : SeatView). t.word_id) (head_is are), seats_own word_id terms (range_with_len 0 (terms.seats - 1)) seats (tail_is are)) where
-  head_is : seat_view s ∷ map seat_view seats ≡ first_seats word_id terms → seat_view s ≡ first_seat word_id terms 0
-  head_is both = cc both
+pub first_own : (word_id : TableId) (terms : Terms) (seats : List (SeatView × ℕ)) → map seat_view seats ≡ first_seats word_id terms
+    → AreSeatsOf word_id seats
+first_own word_id terms seats are = seats_own word_id terms (range_with_len 0 terms.seats) seats are
 
-  tail_is : seat_view s ∷ map seat_view seats ≡ first_seats word_id terms → map seat_view seats ≡ map (λ k. first_seat word_id terms (k + 1)) (range_with_len 0 (terms.seats - 1))
-  tail_is both = cc both
+-- those that were taken in are no more than the word was told of
+pub taken_few : (terms : Terms) (n : ℕ) (all left : List (SeatView × ℕ)) (lists : List SeatCalls) (old new : List Track)
+    → AreTaken all left lists old new → IsClosed terms n new → length lists ≤ terms.seats
+taken_few terms n all left lists old new taken closed =
+    let told : TellTracks terms n taken.seats old =
+    record { tracks = taken.tracks; are = taken.are; closed = subst (IsClosed terms n) taken.is closed } in
+    omega (
+      arith,
+      few_seats terms n taken.seats old told,
+      length-reverse lists,
+      ap length taken.kept,
+      length-map taken.seats calls_of,
+    )
+
+-- none is left
+pub all_taken : (terms : Terms) (n : ℕ) (all left : List (SeatView × ℕ)) (lists : List SeatCalls) (old new : List Track)
+    → AreTaken all left lists old new → left ≡ [] → IsClosed terms n new → (reverse lists ≡ map calls_of all) × TellTracks terms n all old
+all_taken terms n all left lists old new taken none closed =
+    let same : all ≡ taken.seats = taken.split ∙ ap (λ xs. xs ++ taken.seats) none in (
+      taken.kept ∙ ap (map calls_of) (sym same),
+      record {
+        tracks = taken.tracks;
+        are = subst (AreSeatTracks taken.tracks) (sym same) taken.are;
+        closed = subst (IsClosed terms n) taken.is closed;
+      },
+    )

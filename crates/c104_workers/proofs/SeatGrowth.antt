@@ -7,13 +7,8 @@ use Rattle.{c104_run.specs.EventActs.{event_acts, port_place}, c104_switch.specs
 use Rattle.{c104_token.specs.declared.tokens.Token.Token, c104_workers.proofs.EventReplies.{AreLater, act_later, alone_suits, pair_suits}}
 use Rattle.c104_workers.specs.{Calls.{IsSameSeat, SeatView, is_seat_full}, LentCalls.{CallsNode, CallsOne, CallsPair, CallsPairBy}}
 use Rattle.c104_workers.specs.LentCalls.{CallsTwo, IfDone, IsRefusal, NodeActed, PairActed, SameNode, SamePair, joint_of, node_limit}
-use Rattle.{c104_workers.specs.{LentCalls.pair_limit, SeatGrowth.{FaultsAs, Grew, GrewBy, IsLaterFault}}, std.proofs.Common.{Bool, Err}}
+use Rattle.{c104_workers.specs.{LentCalls.pair_limit, SeatGrowth.{FaultsAs, Follows, Grew, GrewBy, IsLaterFault}}, std.proofs.Common.{Bool, Err}}
 use Rattle.std.proofs.Common.{None, Ok, Option, Result, Some, ap, false, nat_lt, refl, subst, sym, true, ℕ, ◌||◌, ◌∙◌, ◌≡◌}
-
--- what is known of a seat after a call
-pub record Follows (old new : SeatView) (e : Event) (answer : Result Reply EventFault) : Type 0 where
-  pub grew : Grew old new e answer
-  pub fault : FaultsAs None e answer
 
 -- that a list is full is a fault of any event
 full_later : (e : Event) (b : Bool) → AreLater e (fault_first None b)
@@ -29,10 +24,10 @@ refused_later e None f later is = subst (IsLaterFault e) (sym is) tt
 refused_later e (Some g) f later is = subst (IsLaterFault e) (sym is) later
 
 module _ (plan : Plan) (old new : SeatView) (e : Event) where
-  node_follows : (k : ℕ) (a : ActOf Token) (n m : NodeRecord) (answer : Result Reply EventFault) → event_acts {A = Token} plan e ≡ Some (Acts.Alone k a) → CallsNode old new n m e a answer → Follows old new e answer
+  pub node_follows : (k : ℕ) (a : ActOf Token) (n m : NodeRecord) (answer : Result Reply EventFault) → event_acts {A = Token} plan e ≡ Some (Acts.Alone k a) → CallsNode false old new n m e a answer → Follows old new e answer
   node_follows k a n m (Ok r) acts call = record { grew = by_ready (is_ready r) call; fault = tt }
     where
-      by_ready : (b : Bool) → IfDone b (NodeActed old new n m e a r × (node_limit old n a ≡ None)) ((recorded_step n a ≡ None) × SameNode old new n m) → IfDone b (GrewBy old new e r) (new ≡ old)
+      by_ready : (b : Bool) → IfDone b (NodeActed false old new n m e a r × (node_limit old n a ≡ None)) ((recorded_step n a ≡ None) × SameNode old new n m) → IfDone b (GrewBy old new e r) (new ≡ old)
       by_ready true call = record {
         ticket = call.0.ticket;
         fresh = call.0.fresh;
@@ -45,10 +40,10 @@ module _ (plan : Plan) (old new : SeatView) (e : Event) where
     fault = refused_later e (node_limit old n a) f (first_later e (recorded_limit n a) (is_seat_full old) (first_later e (act_limit (Some n.state) a) (is_full n) (act_later plan e k a n.state acts))) call.1;
   }
 
-  pair_follows : (p q : Port) (c : Crossing) (near near' far far' : NodeRecord) (answer : Result Reply EventFault) → event_acts {A = Token} plan e ≡ Some (Acts.Joint p q c) → CallsPair old new near near' far far' e (joint_of p q c) answer → Follows old new e answer
+  pub pair_follows : (p q : Port) (c : Crossing) (near near' far far' : NodeRecord) (answer : Result Reply EventFault) → event_acts {A = Token} plan e ≡ Some (Acts.Joint p q c) → CallsPair false old new near near' far far' e (joint_of p q c) answer → Follows old new e answer
   pair_follows p q c near near' far far' (Ok r) acts call = record { grew = by_ready (is_ready r) call; fault = tt }
     where
-      by_ready : (b : Bool) → IfDone b (PairActed old new near near' far far' e (joint_of p q c) r × (pair_limit old near far ≡ None)) ((pair_step (joint_of p q c) near far ≡ None) × SamePair old new near near' far far') → IfDone b (GrewBy old new e r) (new ≡ old)
+      by_ready : (b : Bool) → IfDone b (PairActed false old new near near' far far' e (joint_of p q c) r × (pair_limit old near far ≡ None)) ((pair_step (joint_of p q c) near far ≡ None) × SamePair old new near near' far far') → IfDone b (GrewBy old new e r) (new ≡ old)
       by_ready true call = record {
         ticket = call.0.ticket;
         fresh = call.0.fresh;
@@ -61,22 +56,6 @@ module _ (plan : Plan) (old new : SeatView) (e : Event) where
     fault = refused_later e (pair_limit old near far) f (full_later e (is_full near || (is_full far || is_seat_full old))) call.1;
   }
 
-  -- of a call on one node
-  pub one_follows : (acts : Option (Acts Token)) (n m : NodeRecord) (answer : Result Reply EventFault) → event_acts {A = Token} plan e ≡ acts → CallsOne acts old new n m e answer → Follows old new e answer
-  one_follows None n m answer is call = absurd call
-  one_follows (Some (Acts.Alone k a)) n m answer is call = node_follows k a n m answer is call
-  one_follows (Some (Acts.Joint p q c)) n m answer is call = absurd call
-
-  by_follows : (b : Bool) (p q : Port) (c : Crossing) (low low' high high' : NodeRecord) (answer : Result Reply EventFault) → event_acts {A = Token} plan e ≡ Some (Acts.Joint p q c) → CallsPairBy b old new low low' high high' e (joint_of p q c) answer → Follows old new e answer
-  by_follows true p q c low low' high high' answer is call = pair_follows p q c low low' high high' answer is call
-  by_follows false p q c low low' high high' answer is call = pair_follows p q c high high' low low' answer is call
-
-  -- and of one on two
-  pub two_follow : (acts : Option (Acts Token)) (low low' high high' : NodeRecord) (answer : Result Reply EventFault) → event_acts {A = Token} plan e ≡ acts → CallsTwo plan acts old new low low' high high' e answer → Follows old new e answer
-  two_follow None low low' high high' answer is call = absurd call
-  two_follow (Some (Acts.Alone k a)) low low' high high' answer is call = absurd call
-  two_follow (Some (Acts.Joint p q c)) low low' high high' answer is call = by_follows (nat_lt (port_place plan p) (port_place plan q)) p q c low low' high high' answer is call
-
 -- whatever a call is answered, the seat has its word and its number
 pub same_seat : (old new : SeatView) (e : Event) (answer : Result Reply EventFault) → Grew old new e answer → IsSameSeat old new
 same_seat old new e (Ok r) grew = by_ready (is_ready r) grew
@@ -86,25 +65,29 @@ same_seat old new e (Ok r) grew = by_ready (is_ready r) grew
       word_id = ap (λ (s : SeatView). s.word_id) grew.listed;
       terms = ap (λ (s : SeatView). s.terms) grew.listed;
       number = ap (λ (s : SeatView). s.number) grew.listed;
+      lent = ap (λ (s : SeatView). s.lent) grew.listed;
     }
     by_ready false same = record {
       word_id = ap (λ (s : SeatView). s.word_id) same;
       terms = ap (λ (s : SeatView). s.terms) same;
       number = ap (λ (s : SeatView). s.number) same;
+      lent = ap (λ (s : SeatView). s.lent) same;
     }
 same_seat old new e (Err f) same = record {
   word_id = ap (λ (s : SeatView). s.word_id) same;
   terms = ap (λ (s : SeatView). s.terms) same;
   number = ap (λ (s : SeatView). s.number) same;
+  lent = ap (λ (s : SeatView). s.lent) same;
 }
 
 -- a seat is the same as itself, and as one that is the same as that
 pub same_self : (s : SeatView) → IsSameSeat s s
-same_self s = record { word_id = refl; terms = refl; number = refl }
+same_self s = record { word_id = refl; terms = refl; number = refl; lent = refl }
 
 pub same_on : (s t u : SeatView) → IsSameSeat s t → IsSameSeat t u → IsSameSeat s u
 same_on s t u first second = record {
   word_id = second.word_id ∙ first.word_id;
   terms = second.terms ∙ first.terms;
   number = second.number ∙ first.number;
+  lent = second.lent ∙ first.lent;
 }

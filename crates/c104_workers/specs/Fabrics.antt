@@ -1,11 +1,11 @@
 -- Fabrics: the plan, the word of tickets, and what the nodes had done when the fabric was made; and what a fabric leaves.
 use Rattle.{c104_audit.specs.Calls.tickets_of, c104_node.specs.{Records.{NodeRecord, NodeRoom}, declared.acts.Entry.Entry}}
 use Rattle.{c104_node.specs.declared.starts.NodeStart.NodeStart, c104_plan.specs.Plans.Plan, c104_run.specs.NetParts.node_count}
-use Rattle.{c104_run.specs.NetRecords.{IsNetRecord, NetRecord}, c104_tickets.specs.Tickets.{TableId, first_view}}
-use Rattle.{c104_tickets.specs.declared.{TheConstants.SEAT_LIMIT, views.{Terms.Terms, View.View}}, c104_workers.specs.Calls.SeatView}
+use Rattle.{c104_plan.specs.PlanParts.empty_plan, c104_run.specs.NetRecords.{IsNetRecord, NetRecord}, c104_tickets.specs.Tickets.TableId}
+use Rattle.{c104_tickets.specs.declared.{TheConstants.SEAT_LIMIT, views.Terms.Terms}, c104_workers.specs.Calls.SeatView}
 use Rattle.c104_workers.specs.declared.{calls.SeatCalls.SeatCalls, making.FabricFault.FabricFault}
-use Rattle.std.specs.{List.range_with_len, Prelude.{List, None, [], if◌then◌else◌, length, map, nat_le, ℕ, ◌&&◌, ◌++◌, ◌+◌, ◌-◌, ◌∷◌, ◌≡◌}}
-use Rattle.std.specs.Prelude.{◌≤◌}
+use Rattle.std.specs.{List.range_with_len, Prelude.{List, None, [], false, if◌then◌else◌, length, map, nat_le, ℕ, ◌&&◌, ◌++◌, ◌∷◌}}
+use Rattle.std.specs.Prelude.{◌≡◌, ◌≤◌}
 
 -- what is known of the network of a fabric: its plan, how many events it had done, where its nodes started, and what they
 -- had done since
@@ -36,26 +36,34 @@ pub record FabricView : Type 0 where
   pub word_id : TableId
   pub terms : Terms
 
--- what a fabric tells its word of tickets: the first ticket is how many events were done
-abbrev pub terms_of : ℕ → ℕ → Terms
-terms_of count seats = record { first = count; seats = seats }
+-- a network of which a fabric may be made, and its word of tickets, as they are seen
+pub record ReadyView : Type 0 where
+  pub net : NetRecord
+  pub word_id : TableId
+  pub terms : Terms
+
+-- what a fabric tells its word of tickets: the first ticket is how many events were done, and there is a place for each node
+abbrev pub terms_of : NetRecord → ℕ → Terms
+terms_of r seats = record { first = r.count; seats = seats; places = node_count r.network.plan }
+
+-- a word of tickets and a network that no fabric has
+abbrev pub no_word : TableId
+no_word = record { words = 0; slots = 0; views_name = 0; atom = 0; block = 0; offset = 0; slot_names = [] }
+
+abbrev pub nothing_handed : Handed
+nothing_handed = record { plan = empty_plan; count = 0; starts = []; before = [] }
 
 -- a seat of a fabric at first, with no call yet
 abbrev pub first_seat : TableId → Terms → ℕ → SeatView
 first_seat word_id terms number =
-    record { word_id = word_id; terms = terms; number = number; calls = []; stopped = None }
+    record { word_id = word_id; terms = terms; number = number; calls = []; stopped = None; lent = false }
 
 -- the seats of a fabric at first, by their numbers from 0 on
 abbrev pub first_seats : TableId → Terms → List SeatView
-first_seats word_id terms =
-    first_seat word_id terms 0 ∷ map (λ k. first_seat word_id terms (k + 1)) (range_with_len 0 (terms.seats - 1))
+first_seats word_id terms = map (first_seat word_id terms) (range_with_len 0 terms.seats)
 
 abbrev pub seat_view : SeatView × ℕ → SeatView
 seat_view s = s.0
-
--- what the first pass knows after this number of seats was made
-abbrev pub first_view_after : Terms → ℕ → View
-first_view_after terms made = record (first_view terms) { made = made }
 
 -- a seat draws from this word
 abbrev pub IsSeatOf : TableId → SeatView × ℕ → Type 0
@@ -73,7 +81,7 @@ all_tickets (s ∷ seats) = tickets_of s.0.calls ++ all_tickets seats
 
 -- what a seat leaves
 abbrev pub calls_of : SeatView × ℕ → SeatCalls
-calls_of s = record { number = s.0.number; calls = s.0.calls }
+calls_of s = record { number = s.0.number; calls = s.0.calls; lent = s.0.lent }
 
 -- whether a fabric may have this number of seats, and why there is none
 abbrev pub IsSeatCount : ℕ → Type 0
@@ -85,12 +93,8 @@ fabric_fault seats = if nat_le 1 seats && nat_le seats SEAT_LIMIT then FabricFau
 -- what a fabric leaves
 pub record Left : Type 0 where
   pub handed : Handed
-  -- the ticket after the last
+  -- how many seats the fabric had, and the ticket after the last
+  pub seat_count : ℕ
   pub next : ℕ
   pub nodes : List (NodeRecord × NodeRoom)
   pub seats : List SeatCalls
-
--- what its type keeps: a node for each switch and each terminal, and what was known of the network
-pub record IsLeft (left : Left) : Type 0 where
-  pub nodes : length left.nodes ≡ node_count left.handed.plan
-  pub handed : WasHanded left.handed

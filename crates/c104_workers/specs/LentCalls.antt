@@ -1,10 +1,10 @@
 -- What one call does to the nodes that are lent to it: one, or the two at the ends of a wire.
 use Rattle.{c104_audit.specs.Calls.tickets_of, c104_event.specs.declared.{events.Event.Event, faults.EventFault.EventFault}}
-use Rattle.c104_node.specs.{PortActs.{Acts, far_act, near_act}, Records.{NodeRecord, NodeRoom, after_act, crossed, fault_first, is_full}}
+use Rattle.c104_node.specs.{PortActs.{Acts, far_act, near_act}, Records.{HasRoomFor, NodeRecord, NodeRoom, after_act, crossed, fault_first, is_full}}
 use Rattle.c104_node.specs.{Records.{pair_step, recorded_limit, recorded_step}, declared.{acts.ActOf.ActOf, crossings.Crossing.Crossing}}
 use Rattle.{c104_node.specs.declared.crossings.Joint.Joint, c104_plan.specs.{Plans.Plan, declared.ports.Port.Port}}
 use Rattle.{c104_run.specs.{EventActs.{event_acts, port_place}, declared.asked.Asked.Asked}, c104_switch.specs.Actions.{Reply, is_ready}}
-use Rattle.{c104_switch.specs.declared.actions.ReplyOf.ReplyOf, c104_token.specs.declared.tokens.Token.Token}
+use Rattle.{c104_switch.specs.declared.actions.ReplyOf.ReplyOf, c104_token.specs.declared.{packets.Packet.Packet, tokens.Token.Token}}
 use Rattle.c104_workers.specs.Calls.{SeatView, after_call, is_seat_full, seat_stamp}
 use Rattle.std.{proofs.Common.{inl, inr}, specs.Prelude.{All, Bool, Err, None, Ok, Option, Result, Some, false, if◌then◌else◌, is_some}}
 use Rattle.std.specs.Prelude.{nat_lt, option_map, true, ℕ, ◌<◌, ◌||◌, ◌≡◌, ◌≤◌, ◌⊎◌}
@@ -15,20 +15,20 @@ pub record IsFresh (s : SeatView) (ticket : ℕ) : Type 0 where
   pub above : All (λ t. t < ticket) (tickets_of s.calls)
   pub from_first : s.terms.first ≤ ticket
 
--- one node acted: the seat has the call, and the node's trace its entry, both with one ticket
-pub record NodeActed (old new : SeatView) (n m : NodeRecord) (e : Event) (a : ActOf Token) (r : Reply) : Type 0 where
+-- one node acted, which was lent or is the fabric's own: the seat has the call, and the node's trace its entry, both with one ticket
+pub record NodeActed (lent : Bool) (old new : SeatView) (n m : NodeRecord) (e : Event) (a : ActOf Token) (r : Reply) : Type 0 where
   pub ticket : ℕ
   pub fresh : IsFresh old ticket
-  pub listed : new ≡ after_call old e ticket r
+  pub listed : new ≡ after_call lent old e ticket r
   pub made : recorded_step n a ≡ Some (r, m.state)
   pub acted : m ≡ after_act n (seat_stamp ticket old.number) a r m.state
 
 -- something crossed a wire between two nodes: the seat has the call, and each node's trace an entry, all with one ticket
-pub record PairActed (old new : SeatView) (near near' far far' : NodeRecord) (e : Event) (joint : Joint) (r : Reply)
+pub record PairActed (lent : Bool) (old new : SeatView) (near near' far far' : NodeRecord) (e : Event) (joint : Joint) (r : Reply)
     : Type 0 where
   pub ticket : ℕ
   pub fresh : IsFresh old ticket
-  pub listed : new ≡ after_call old e ticket r
+  pub listed : new ≡ after_call lent old e ticket r
   pub made : pair_step joint near far ≡ Some (crossed r near'.state far'.state)
   pub near_acted : near' ≡ after_act near (seat_stamp ticket old.number) (near_act joint.crossing joint.near) r near'.state
   pub far_acted : far' ≡ after_act far (seat_stamp ticket old.number) (far_act joint.far r) ReplyOf.Done far'.state
@@ -64,21 +64,21 @@ IfDone false P Q = Q
 -- a call of an act on a node. It is not ready exactly where the act isn't, and refused exactly for the first limit there
 -- is, or when out of memory; then nothing changed. Else it was done.
 abbrev pub CallsNode :
-    SeatView → SeatView → NodeRecord → NodeRecord → Event → ActOf Token → Result Reply EventFault → Type 0
-CallsNode old new n m e a (Ok r) = IfDone (is_ready r)
-    (NodeActed old new n m e a r × (node_limit old n a ≡ None))
+    Bool → SeatView → SeatView → NodeRecord → NodeRecord → Event → ActOf Token → Result Reply EventFault → Type 0
+CallsNode lent old new n m e a (Ok r) = IfDone (is_ready r)
+    (NodeActed lent old new n m e a r × (node_limit old n a ≡ None))
     ((recorded_step n a ≡ None) × SameNode old new n m)
-CallsNode old new n m e a (Err f) =
+CallsNode lent old new n m e a (Err f) =
     (is_some (recorded_step n a) ≡ true) × IsRefusal (node_limit old n a) f × SameNode old new n m
 
 -- the same of what crosses a wire between two nodes
 abbrev pub CallsPair :
-    SeatView → SeatView → NodeRecord → NodeRecord → NodeRecord → NodeRecord
+    Bool → SeatView → SeatView → NodeRecord → NodeRecord → NodeRecord → NodeRecord
     → Event → Joint → Result Reply EventFault → Type 0
-CallsPair old new near near' far far' e joint (Ok r) = IfDone (is_ready r)
-    (PairActed old new near near' far far' e joint r × (pair_limit old near far ≡ None))
+CallsPair lent old new near near' far far' e joint (Ok r) = IfDone (is_ready r)
+    (PairActed lent old new near near' far far' e joint r × (pair_limit old near far ≡ None))
     ((pair_step joint near far ≡ None) × SamePair old new near near' far far')
-CallsPair old new near near' far far' e joint (Err f) =
+CallsPair lent old new near near' far far' e joint (Err f) =
     (is_some (pair_step joint near far) ≡ true) × IsRefusal (pair_limit old near far) f
     × SamePair old new near near' far far'
 
@@ -120,15 +120,15 @@ AreLentFor (Some (Acts.Joint p q crossing)) (Some x) = Unit {0}
 abbrev pub CallsOne :
     Option (Acts Token) → SeatView → SeatView → NodeRecord → NodeRecord → Event → Result Reply EventFault → Type 0
 CallsOne None old new n m e answer = ⊥
-CallsOne (Some (Acts.Alone k a)) old new n m e answer = CallsNode old new n m e a answer
+CallsOne (Some (Acts.Alone k a)) old new n m e answer = CallsNode true old new n m e a answer
 CallsOne (Some (Acts.Joint p q crossing)) old new n m e answer = ⊥
 
 -- a call on two nodes, of which the near one is the lower, or the other way round
 abbrev pub CallsPairBy :
     Bool → SeatView → SeatView → NodeRecord → NodeRecord → NodeRecord → NodeRecord
     → Event → Joint → Result Reply EventFault → Type 0
-CallsPairBy true old new low low' high high' e joint answer = CallsPair old new low low' high high' e joint answer
-CallsPairBy false old new low low' high high' e joint answer = CallsPair old new high high' low low' e joint answer
+CallsPairBy true old new low low' high high' e joint answer = CallsPair true old new low low' high high' e joint answer
+CallsPairBy false old new low low' high high' e joint answer = CallsPair true old new high high' low low' e joint answer
 
 -- a call of an event's acts on two nodes, the lower first
 abbrev pub CallsTwo :
@@ -154,3 +154,36 @@ CallsLent plan acts old new n m None after e answer = CallsOne acts old new n m 
 CallsLent plan acts old new n m (Some b) (inr (inl x)) e answer = CallsTwo plan acts old new n m b.now.0 x.0.now.0 e answer
 CallsLent plan acts old new n m (Some b) (inl x) e answer = ⊥
 CallsLent plan acts old new n m (Some b) (inr (inr x)) e answer = ⊥
+
+-- a seat and a node before an act: all is as it was, and the act is ready, or it isn't; or it is refused. Where it is ready,
+-- no limit refuses it, and there is room for the act and the call
+abbrev pub IsPrepared :
+    SeatView → SeatView × ℕ → NodeRecord → NodeValue → Event → ActOf Token → Result (Option Event) EventFault → Type 0
+IsPrepared old new n m e a (Ok None) = (recorded_step n a ≡ None) × SameNode old new.0 n m.0
+IsPrepared old new n m e a (Ok (Some copy)) =
+    (copy ≡ e) × (is_some (recorded_step n a) ≡ true) × (recorded_limit n a ≡ None) × (is_seat_full old ≡ false)
+    × (0 < new.1) × HasRoomFor m.1 n.state a × SameNode old new.0 n m.0
+IsPrepared old new n m e a (Err f) =
+    (is_some (recorded_step n a) ≡ true) × IsRefusal (node_limit old n a) f × SameNode old new.0 n m.0
+
+-- the same of a packet that is sent, with its act
+abbrev pub IsPreparedSend :
+    SeatView → SeatView × ℕ → NodeRecord → NodeValue → Event → Packet → Result (Option (ActOf Token × Event)) EventFault → Type 0
+IsPreparedSend old new n m e packet (Ok None) = IsPrepared old new n m e (ActOf.Send packet) (Ok None)
+IsPreparedSend old new n m e packet (Ok (Some made)) =
+    (made.0 ≡ ActOf.Send packet) × IsPrepared old new n m e (ActOf.Send packet) (Ok (Some made.1))
+IsPreparedSend old new n m e packet (Err f) = IsPrepared old new n m e (ActOf.Send packet) (Err f)
+
+-- the same of what crosses a wire between two nodes
+abbrev pub IsPreparedPair :
+    SeatView → SeatView × ℕ → NodeRecord → NodeValue → NodeRecord → NodeValue
+    → Event → Joint → Result (Option Event) EventFault → Type 0
+IsPreparedPair old new near near' far far' e joint (Ok None) =
+    (pair_step joint near far ≡ None) × SamePair old new.0 near near'.0 far far'.0
+IsPreparedPair old new near near' far far' e joint (Ok (Some copy)) =
+    (copy ≡ e) × (is_some (pair_step joint near far) ≡ true) × (is_full near ≡ false) × (is_full far ≡ false)
+    × (is_seat_full old ≡ false) × (0 < new.1) × (0 < near'.1.entries) × (0 < far'.1.entries)
+    × SamePair old new.0 near near'.0 far far'.0
+IsPreparedPair old new near near' far far' e joint (Err f) =
+    (is_some (pair_step joint near far) ≡ true) × IsRefusal (pair_limit old near far) f
+    × SamePair old new.0 near near'.0 far far'.0

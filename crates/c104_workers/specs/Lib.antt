@@ -1,7 +1,11 @@
 pub mod Calls
+pub mod Logs
 pub mod LentCalls
 pub mod SeatGrowth
 pub mod Fabrics
+pub mod OneRuns
+pub mod Held
+pub mod Closing
 pub mod SeatCommands
 pub mod Words
 pub mod Working

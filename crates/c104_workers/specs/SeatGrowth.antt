@@ -28,7 +28,7 @@ IsReplyTo e r = IsDoneReply r
 pub record GrewBy (old new : SeatView) (e : Event) (r : Reply) : Type 0 where
   pub ticket : ℕ
   pub fresh : IsFresh old ticket
-  pub listed : new ≡ after_call old e ticket r
+  pub listed : new ≡ after_call false old e ticket r
   pub suits : IsReplyTo e r
 
 -- the same where the event was done; else the seat is as it was
@@ -59,3 +59,8 @@ abbrev pub FaultsAs : Option EventFault → Event → Result Reply EventFault �
 FaultsAs (Some f) e answer = answer ≡ Err f
 FaultsAs None e (Ok r) = Unit {0}
 FaultsAs None e (Err f) = IsLaterFault e f
+
+-- what is known of a seat after a call of an event that can happen
+pub record Follows (old new : SeatView) (e : Event) (answer : Result Reply EventFault) : Type 0 where
+  pub grew : Grew old new e answer
+  pub fault : FaultsAs None e answer

@@ -1,8 +1,8 @@
 -- Workers: threads that do the parts of rounds, each through a seat. Of n workers number i has the nodes k with k mod n ≡ i.
 use Rattle.{c104_audit.specs.declared.calls.Call.Call, c104_event.specs.declared.{events.Event.Event, faults.EventFault.EventFault}}
-use Rattle.{c104_plan.specs.Plans.Plan, c104_run.specs.NodeParts.round_part, c104_workers.specs.Calls.{IsSameSeat, SeatView}}
-use Rattle.c104_workers.specs.{Words.{with_word, word_of}, declared.{words.Words.Words, workers.RunFault.RunFault}}
-use Rattle.std.specs.Prelude.{All, Contains, Err, List, None, Ok, Result, Some, length, slice_index_or, take, ℕ, ◌%◌, ◌++◌, ◌<◌, ◌≡◌}
+use Rattle.{c104_plan.specs.Plans.Plan, c104_run.specs.{Network.event_fault, NodeParts.round_part}, c104_workers.specs.Calls.{IsSameSeat, SeatView}}
+use Rattle.c104_workers.specs.{SeatGrowth.FaultsAs, Words.{with_word, word_of}, declared.{words.Words.Words, workers.RunFault.RunFault}}
+use Rattle.std.specs.Prelude.{All, Contains, Err, List, None, Ok, Result, Some, length, slice_index_or, take, ℕ, ◌%◌, ◌++◌, ◌<◌, ◌≡◌, ◌⊎◌}
 
 -- an event is in the part that a round has for a node of worker i, of n workers
 pub record IsPartEvent (plan : Plan) (n i : ℕ) (e : Event) : Type 0 where
@@ -24,6 +24,11 @@ pub record HasWorked (plan : Plan) (words : Words) (n i : ℕ) (old new : SeatVi
   pub more : List Call
   pub listed : new.calls ≡ old.calls ++ more
   pub own : All (λ c. IsOwnEvent plan words n i c.event) more
+
+-- worker i of n may stop for this: it was out of memory, or an event of its own had this fault
+abbrev pub IsStop : Plan → Words → ℕ → ℕ → EventFault → Type 0
+IsStop plan words n i f =
+    (f ≡ EventFault.NoMemory) ⊎ ((e : Event) × IsOwnEvent plan words n i e × FaultsAs (event_fault plan e) e (Err f))
 
 -- the worker of a seat did all its turns
 abbrev pub WentOn : SeatView × ℕ → Type 0

@@ -1,6 +1,6 @@
 //! The audit of what a fabric leaves.
 ghost use Rattle.std.specs.{List.range_with_len, Prelude.{All, IfOk, MatchResult, length, map, ◌≡◌}};
-ghost use Rattle.c104_audit.specs.{AuditFaults.IsFault, AuditedRuns.{IsKeptStart, IsWholeNode, node_shape}, Audits.IsAudited};
+ghost use Rattle.c104_audit.specs.{AuditFaults.IsFault, AuditedRuns.{IsKeptStart, IsWholeNode, node_shape}, Audits.{AreLists, IsAudited}};
 ghost use Rattle.{c104_audit.specs.Audits.lists_events, c104_node.specs.Records.{has_link, node_trace}, c104_plan.specs.Wiring.wires};
 ghost use Rattle.{c104_run.specs.Rounds.link_numbers, c104_workers.specs.Audited.{TellsSeats, lists_of, past_seats, seat_list}};
 
@@ -31,8 +31,19 @@ struct Kept {
 }
 
 impl Gathered {
-    /// What the fabric left, as lists. The only error is out of memory.
+    /// What the fabric left, as lists, which `audit_lists` can judge. The only error is out of memory.
     pub fn lists(&self, alloc: Global) -> Result<Lists, NoMemory>
+        ensures lists { IfOk result (λ lists. lists ≡ lists_of self.now) }
+        ensures whole { IfOk result (λ _. All IsWholeNode self.now.nodes) }
+        ensures judged { IfOk result (λ lists. AreLists lists) }
+    {
+        // The proof reads here what the type and every plan keeps.
+        let _switches = self.plan().switches();
+        self.copied_lists(alloc)
+    }
+
+    /// The same: that they can be judged is shown above.
+    fn copied_lists(&self, alloc: Global) -> Result<Lists, NoMemory>
         ensures lists { IfOk result (λ lists. lists ≡ lists_of self.now) }
         ensures whole { IfOk result (λ _. All IsWholeNode self.now.nodes) }
     {
@@ -96,8 +107,6 @@ impl Gathered {
             (λ fault. IsFault (lists_of self.now) fault) }
         ensures count { IfOk result (λ count. count ≡ length (lists_events (lists_of self.now))) }
     {
-        // The proof reads here what the type and every plan keeps.
-        let _switches = self.plan().switches();
         let lists = self.lists(alloc)?;
         let events = audit_lists(alloc, &lists)?;
         Ok(events.len())

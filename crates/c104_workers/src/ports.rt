@@ -3,6 +3,7 @@ ghost use Rattle.std.specs.Prelude.{MatchResult, ◌≡◌};
 ghost use Rattle.c104_workers.specs.{Calls.IsSameSeat, SeatCommands.{IsFabricUnanswered, IsOneCall}};
 
 use crate::fabric::Fabric;
+use crate::naming::Naming;
 use crate::seats::Seat;
 use c104_control::ControlBytes;
 use c104_event::{Event, EventFault};
@@ -15,14 +16,14 @@ use std::sync::Wait;
 /// none; so the seat stays one of the fabric. It isn't answered where there is no such switch, where the switch's trace or
 /// the seat's list is full, or when out of memory.
 #[derive(Drop)]
-pub struct FabricPort<'a, R: Wait> {
+pub struct FabricPort<'a, R: Wait, N: Naming> {
     pub rt: &'a R,
-    pub fabric: &'a Fabric,
+    pub fabric: &'a Fabric<N>,
     pub seat: &'a mut Seat,
     ghost own: { seat.now.0.word_id ≡ fabric.now.word_id },
 }
 
-impl<R: Wait> ControlPort for FabricPort<'_, R> {
+impl<R: Wait, N: Naming> ControlPort for FabricPort<'_, R, N> {
     ghost use Rattle.std.specs.Prelude.{◌≡◌, None, length};
     ghost use Rattle.c104_workers.specs.SeatCommands.{CommandCalled, IsFabricUnanswered, seat_commands};
 
@@ -48,7 +49,7 @@ impl<R: Wait> ControlPort for FabricPort<'_, R> {
     }
 }
 
-impl Fabric {
+impl<N: Naming> Fabric<N> {
     /// A switch takes a control command through a seat, in one event. NoNode where it isn't ready for one.
     fn command<R: Wait>(
         &self,

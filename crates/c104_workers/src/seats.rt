@@ -3,16 +3,19 @@
 //! A full list of a seat is TraceFull, as a full trace is: an event that is ready has both to be kept in. A worker's seat
 //! keeps why it stopped, since threads of std's forks hand back what they wrote, and no result.
 ghost use Rattle.std.specs.{Prelude.{None, OnOk, [], false, is_some, length, true, ◌++◌, ◌<◌, ◌∷◌, ◌≡◌}, Vec.vec_capacity};
-ghost use Rattle.{c104_audit.specs.Calls.{call_of, tickets_of}, c104_node.specs.{Acts.IsWithinLimits, Records.{HasRoomFor, is_full}}};
+ghost use Rattle.{c104_audit.specs.Calls.call_of, c104_node.specs.{Acts.IsWithinLimits, Records.{HasRoomFor, is_full}}};
 ghost use Rattle.{c104_node.specs.Records.{pair_step, recorded_limit, recorded_step}, c104_switch.specs.Actions.is_ready};
-ghost use Rattle.c104_workers.specs.{Calls.is_seat_full, Fabrics.first_seat, LentCalls.{NodeActed, PairActed}};
+ghost use Rattle.c104_workers.specs.{Calls.{IsSeat, is_seat_full, seat_track}, Fabrics.first_seat, Held.{AsksNode, AsksPair, crossed_or, lent_deed}};
+ghost use Rattle.c104_workers.specs.{Held.{node_deed, pair_deed, told_or}, LentCalls.{NodeActed, PairActed}};
 
 use crate::calls::SeatCalls;
+use crate::held::Held;
+use crate::naming::Naming;
 use c104_audit::Call;
 use c104_event::{Event, EventFault};
 use c104_node::{Act, Joint, Node, act_pair, same_reply};
 use c104_switch::Reply;
-use c104_tickets::{Pass, TICKET_LIMIT, TicketWord};
+use c104_tickets::{Asks, Pass, TICKET_LIMIT, TicketWord};
 use c104_token::{Items, NoMemory};
 use std::alloc::Global;
 use std::marker::Model;
@@ -25,6 +28,8 @@ pub struct Seat {
     calls: Vec<Call>,
     // Why the last worker stopped that used the seat, if it did.
     stopped: Option<EventFault>,
+    // Whether a call was done on nodes that were lent.
+    lent: bool,
 }
 
 impl Model for Seat {
@@ -41,18 +46,18 @@ impl Model for Seat {
         number = s.number;
         calls = s.calls.items;
         stopped = s.stopped;
+        lent = s.lent;
       },
       vec_capacity s.calls - vec_len s.calls,
     ) };
 
-    ghost invariant = { λ s. IsSeat s.pass s.number s.calls.items };
+    ghost invariant = { λ s. IsSeat s.pass.view s.number s.calls.items s.lent };
 }
 
 impl Seat {
     /// A seat with no call yet.
     pub(crate) fn new(alloc: Global, pass: Pass, number: u8) -> Self
-        requires single { pass.view.numbers ≡ number ∷ [] }
-        requires fresh { pass.view.drawn ≡ [] }
+        requires fresh { pass.view.tracks ≡ seat_track number [] ∷ [] }
         ensures { result.0 ≡ first_seat pass.word_id pass.view.terms number }
     {
         Seat {
@@ -60,6 +65,7 @@ impl Seat {
             number,
             calls: Vec::new(alloc),
             stopped: None,
+            lent: false,
         }
     }
 
@@ -108,8 +114,9 @@ impl Seat {
         Ok(())
     }
 
-    /// Draws a ticket, and a node acts that is ready and that no limit refuses. There is room for the act and the call.
-    pub(crate) fn act(
+    /// Draws a ticket, and a node acts that was lent, is ready and that no limit refuses. There is room for the act and the
+    /// call. The caller says in its proofs for which deed the ticket is drawn, by the types.
+    pub(crate) fn act<A: Asks>(
         &mut self,
         word: &TicketWord,
         node: &mut Node,
@@ -117,24 +124,25 @@ impl Seat {
         event: Event,
     ) -> Reply
         requires word { self.old.0.word_id ≡ word.now.word_id }
+        requires deed { A.deed ≡ lent_deed self.old.0.number event (told_or (recorded_step node.old.0 act)) }
         requires seat_room { 0 < self.old.1 }
         requires free { is_seat_full self.old.0 ≡ false }
         requires short { IsWithinLimits act }
         requires ready { is_some (recorded_step node.old.0 act) ≡ true }
         requires below { recorded_limit node.old.0 act ≡ None }
         requires room { HasRoomFor node.old.1 node.old.0.state act }
-        ensures acted { NodeActed self.old.0 self.new.0 node.old.0 node.new.0 event act result }
+        ensures acted { NodeActed true self.old.0 self.new.0 node.old.0 node.new.0 event act result }
         ensures done { is_ready result ≡ true }
     {
-        let ticket = word.draw(&mut self.pass);
+        let ticket = word.draw::<A>(&mut self.pass);
         let reply = node.act(ticket, Some(self.number), act);
         keep_call(&mut self.calls, ticket, event, &reply);
+        self.lent = true;
         reply
     }
 
-    /// Draws a ticket, and something crosses a wire between two nodes that are ready for it, none of which has a full
-    /// trace. There is room for the entries and the call.
-    pub(crate) fn act_pair(
+    /// The same of what crosses a wire between two nodes that were lent, none of which has a full trace.
+    pub(crate) fn act_pair<A: Asks>(
         &mut self,
         word: &TicketWord,
         near: &mut Node,
@@ -143,6 +151,7 @@ impl Seat {
         event: Event,
     ) -> Reply
         requires word { self.old.0.word_id ≡ word.now.word_id }
+        requires deed { A.deed ≡ lent_deed self.old.0.number event (crossed_or (pair_step joint near.old.0 far.old.0)) }
         requires seat_room { 0 < self.old.1 }
         requires free { is_seat_full self.old.0 ≡ false }
         requires ready { is_some (pair_step joint near.old.0 far.old.0) ≡ true }
@@ -150,11 +159,90 @@ impl Seat {
         requires far_free { is_full far.old.0 ≡ false }
         requires near_room { 0 < near.old.1.entries }
         requires far_room { 0 < far.old.1.entries }
-        ensures acted { PairActed self.old.0 self.new.0 near.old.0 near.new.0 far.old.0 far.new.0 event joint result }
+        ensures acted { PairActed true self.old.0 self.new.0 near.old.0 near.new.0 far.old.0 far.new.0 event joint result }
         ensures done { is_ready result ≡ true }
     {
-        let ticket = word.draw(&mut self.pass);
+        let ticket = word.draw::<A>(&mut self.pass);
         let reply = act_pair(near, far, joint, ticket, Some(self.number));
+        keep_call(&mut self.calls, ticket, event, &reply);
+        self.lent = true;
+        reply
+    }
+
+    /// Draws a ticket, and one of the fabric's own nodes acts, under the same conditions. While the ticket is drawn, the seat
+    /// has the pass of the node's place.
+    pub(crate) fn act_held<N: Naming, A: Asks>(
+        &mut self,
+        word: &TicketWord,
+        held: &mut Held<N>,
+        act: Act,
+        event: Event,
+    ) -> Reply
+        requires word { (self.old.0.word_id ≡ word.now.word_id) × (word.now.word_id ≡ N.word) }
+        requires asked { AsksNode N.handed.plan event held.old.place act }
+        requires deed { A.deed ≡ node_deed self.old.0.number held.old.place event (told_or (recorded_step held.old.node.0 act)) }
+        requires seat_room { 0 < self.old.1 }
+        requires free { is_seat_full self.old.0 ≡ false }
+        requires short { IsWithinLimits act }
+        requires ready { is_some (recorded_step held.old.node.0 act) ≡ true }
+        requires below { recorded_limit held.old.node.0 act ≡ None }
+        requires room { HasRoomFor held.old.node.1 held.old.node.0.state act }
+        ensures acted { NodeActed false self.old.0 self.new.0 held.old.node.0 held.new.node.0 event act result }
+        ensures done { is_ready result ≡ true }
+    {
+        let Some(own) = held.pass.take() else {
+            unreachable!()
+        };
+        word.join(&mut self.pass, own);
+        let ticket = word.draw::<A>(&mut self.pass);
+        held.pass = Some(word.split(&mut self.pass));
+        let reply = held.node.act(ticket, Some(self.number), act);
+        keep_call(&mut self.calls, ticket, event, &reply);
+        reply
+    }
+
+    /// The same of what crosses a wire between two of the fabric's own nodes, none of which has a full trace.
+    pub(crate) fn act_held_pair<N: Naming, A: Asks>(
+        &mut self,
+        word: &TicketWord,
+        near: &mut Held<N>,
+        far: &mut Held<N>,
+        joint: Joint,
+        event: Event,
+    ) -> Reply
+        requires word { (self.old.0.word_id ≡ word.now.word_id) × (word.now.word_id ≡ N.word) }
+        requires asked { AsksPair N.handed.plan event joint near.old.place far.old.place }
+        requires deed { A.deed ≡ pair_deed self.old.0.number near.old.place far.old.place event
+            (crossed_or (pair_step joint near.old.node.0 far.old.node.0)) }
+        requires seat_room { 0 < self.old.1 }
+        requires free { is_seat_full self.old.0 ≡ false }
+        requires ready { is_some (pair_step joint near.old.node.0 far.old.node.0) ≡ true }
+        requires near_free { is_full near.old.node.0 ≡ false }
+        requires far_free { is_full far.old.node.0 ≡ false }
+        requires near_room { 0 < near.old.node.1.entries }
+        requires far_room { 0 < far.old.node.1.entries }
+        ensures acted { PairActed false self.old.0 self.new.0 near.old.node.0 near.new.node.0 far.old.node.0 far.new.node.0
+            event joint result }
+        ensures done { is_ready result ≡ true }
+    {
+        let Some(near_pass) = near.pass.take() else {
+            unreachable!()
+        };
+        let Some(far_pass) = far.pass.take() else {
+            unreachable!()
+        };
+        word.join(&mut self.pass, near_pass);
+        word.join(&mut self.pass, far_pass);
+        let ticket = word.draw::<A>(&mut self.pass);
+        far.pass = Some(word.split(&mut self.pass));
+        near.pass = Some(word.split(&mut self.pass));
+        let reply = act_pair(
+            &mut near.node,
+            &mut far.node,
+            joint,
+            ticket,
+            Some(self.number),
+        );
         keep_call(&mut self.calls, ticket, event, &reply);
         reply
     }
@@ -162,19 +250,20 @@ impl Seat {
     /// The pass of the seat, and what the seat leaves.
     pub(crate) fn into_parts(self) -> (Pass, SeatCalls)
         ensures word { result.0.word_id ≡ self.0.word_id }
-        ensures single { result.0.view.numbers ≡ self.0.number ∷ [] }
-        ensures drawn { result.0.view.drawn ≡ tickets_of self.0.calls }
-        ensures kept { result.1 ≡ record { number = self.0.number; calls = self.0.calls } }
+        ensures seat { IsSeat result.0.view self.0.number self.0.calls self.0.lent }
+        ensures kept { result.1 ≡ record { number = self.0.number; calls = self.0.calls; lent = self.0.lent } }
     {
         let Seat {
             pass,
             number,
             calls,
             stopped: _,
+            lent,
         } = self;
         let kept = SeatCalls {
             number,
             calls: Items::new(calls),
+            lent,
         };
         (pass, kept)
     }

@@ -2,11 +2,12 @@
 //!
 //! The fault that is answered is looked up in the seats, and is that of the lowest worker, whichever stopped first. One
 //! that is out of memory between events stops with NoMemory, as at an event.
-ghost use Rattle.std.specs.Prelude.{All, IfOk, MatchBool, length, slice_index_or, ℕ, ◌%◌, ◌<◌, ◌≡◌, ◌≢◌, ◌≤◌};
-ghost use Rattle.c104_workers.specs.{Calls.SeatView, Fabrics.AreSeatsOf, Working.{EndsAs, HasWorked, IsPartEvent}};
+ghost use Rattle.std.specs.Prelude.{All, IfErr, IfOk, IfSome, MatchBool, length, slice_index_or, ℕ, ◌%◌, ◌<◌, ◌≡◌, ◌≢◌, ◌≤◌};
+ghost use Rattle.c104_workers.specs.{Calls.SeatView, Fabrics.AreSeatsOf, Working.{EndsAs, HasWorked, IsPartEvent, IsStop}};
 
 use crate::fabric::Fabric;
 use crate::gates::Gate;
+use crate::naming::Naming;
 use crate::parts::{Part, Stage};
 use crate::seats::Seat;
 use crate::words::Words;
@@ -36,10 +37,10 @@ pub enum RunFault {
 /// refused; an event that isn't ready is none.
 ///
 /// There is at least one seat. What was done stays done.
-pub fn run_workers<R: Threads + Wait + Sync, G: Gate + Sync>(
+pub fn run_workers<R: Threads + Wait + Sync, G: Gate + Sync, N: Naming + Send + Sync>(
     alloc: Global,
     rt: &R,
-    fabric: &Fabric,
+    fabric: &Fabric<N>,
     seats: &mut [Seat],
     gate: &G,
     words: Words,
@@ -50,6 +51,8 @@ pub fn run_workers<R: Threads + Wait + Sync, G: Gate + Sync>(
     ensures own { AreSeatsOf fabric.now.word_id seats.new }
     ensures worked { (i : ℕ) (d : SeatView × ℕ) → i < length seats.old → HasWorked fabric.now.handed.plan words (length seats.old) i
         (slice_index_or seats.old i d).0 (slice_index_or seats.new i d).0 }
+    ensures stops { (i : ℕ) (d : SeatView × ℕ) → i < length seats.old →
+        IfSome (slice_index_or seats.new i d).0.stopped (IsStop fabric.now.handed.plan words (length seats.old) i) }
     ensures end { EndsAs seats.new result }
 {
     let count = seats.len();
@@ -59,7 +62,8 @@ pub fn run_workers<R: Threads + Wait + Sync, G: Gate + Sync>(
         count,
         &|number: usize, seat: &mut Seat|
             requires { (1 ≤ count) × (seat.now.0.word_id ≡ fabric.now.word_id) }
-            ensures { HasWorked fabric.entry.now.handed.plan words count number seat.entry.now.0 seat.exit.now.0 }
+            ensures { HasWorked fabric.entry.now.handed.plan words count number seat.entry.now.0 seat.exit.now.0
+                × IfSome seat.exit.now.0.stopped (IsStop fabric.entry.now.handed.plan words count number) }
         {
             let worker = Worker {
                 rt,
@@ -89,9 +93,9 @@ fn end_of(seats: &[Seat]) -> Result<(), RunFault>
 
 /// One of several workers.
 #[derive(Drop)]
-struct Worker<'a, R: Wait, G: Gate> {
+struct Worker<'a, R: Wait, G: Gate, N: Naming> {
     rt: &'a R,
-    fabric: &'a Fabric,
+    fabric: &'a Fabric<N>,
     gate: &'a G,
     words: Words,
     number: usize,
@@ -99,12 +103,14 @@ struct Worker<'a, R: Wait, G: Gate> {
     count: usize,
 }
 
-impl<R: Wait, G: Gate> Worker<'_, R, G> {
+impl<R: Wait, G: Gate, N: Naming> Worker<'_, R, G, N> {
     /// Does turns through a seat, which keeps why the worker stopped.
     fn work(&self, alloc: Global, seat: &mut Seat, turns: u64)
         requires some { 1 ≤ self.now.count }
         requires word { seat.old.0.word_id ≡ self.now.fabric.now.word_id }
-        ensures { HasWorked self.now.fabric.now.handed.plan self.now.words self.now.count self.now.number seat.old.0 seat.new.0 }
+        ensures worked { HasWorked self.now.fabric.now.handed.plan self.now.words self.now.count self.now.number seat.old.0 seat.new.0 }
+        ensures stops { IfSome seat.new.0.stopped
+            (IsStop self.now.fabric.now.handed.plan self.now.words self.now.count self.now.number) }
     {
         let end = self.do_turns(alloc, seat, turns);
         seat.stop(end.err());
@@ -114,7 +120,8 @@ impl<R: Wait, G: Gate> Worker<'_, R, G> {
     fn do_turns(&self, alloc: Global, seat: &mut Seat, turns: u64) -> Result<(), EventFault>
         requires some { 1 ≤ self.now.count }
         requires word { seat.old.0.word_id ≡ self.now.fabric.now.word_id }
-        ensures { HasWorked self.now.fabric.now.handed.plan self.now.words self.now.count self.now.number seat.old.0 seat.new.0 }
+        ensures worked { HasWorked self.now.fabric.now.handed.plan self.now.words self.now.count self.now.number seat.old.0 seat.new.0 }
+        ensures stops { IfErr result (IsStop self.now.fabric.now.handed.plan self.now.words self.now.count self.now.number) }
     {
         let parts = self.own_parts(alloc)?;
         let mut ready = Vec::new(alloc);
@@ -136,7 +143,8 @@ impl<R: Wait, G: Gate> Worker<'_, R, G> {
         requires word { seat.old.0.word_id ≡ self.now.fabric.now.word_id }
         requires own { All (λ part. All (IsPartEvent self.now.fabric.now.handed.plan self.now.count self.now.number)
             part.events.items) parts.now }
-        ensures { HasWorked self.now.fabric.now.handed.plan self.now.words self.now.count self.now.number seat.old.0 seat.new.0 }
+        ensures worked { HasWorked self.now.fabric.now.handed.plan self.now.words self.now.count self.now.number seat.old.0 seat.new.0 }
+        ensures stops { IfErr result (IsStop self.now.fabric.now.handed.plan self.now.words self.now.count self.now.number) }
     {
         for part in parts {
             self.do_part(seat, part, ready)?;
@@ -153,7 +161,8 @@ impl<R: Wait, G: Gate> Worker<'_, R, G> {
     ) -> Result<(), EventFault>
         requires word { seat.old.0.word_id ≡ self.now.fabric.now.word_id }
         requires own { All (IsPartEvent self.now.fabric.now.handed.plan self.now.count self.now.number) part.now.events.items }
-        ensures { HasWorked self.now.fabric.now.handed.plan self.now.words self.now.count self.now.number seat.old.0 seat.new.0 }
+        ensures worked { HasWorked self.now.fabric.now.handed.plan self.now.words self.now.count self.now.number seat.old.0 seat.new.0 }
+        ensures stops { IfErr result (IsStop self.now.fabric.now.handed.plan self.now.words self.now.count self.now.number) }
     {
         for stage in [Stage::Crossings, Stage::Turns, Stage::Claims] {
             self.fabric
@@ -167,7 +176,8 @@ impl<R: Wait, G: Gate> Worker<'_, R, G> {
     fn do_ready(&self, seat: &mut Seat, events: &[Event], ready: &[usize]) -> Result<(), EventFault>
         requires word { seat.old.0.word_id ≡ self.now.fabric.now.word_id }
         requires own { All (IsPartEvent self.now.fabric.now.handed.plan self.now.count self.now.number) events.now }
-        ensures { HasWorked self.now.fabric.now.handed.plan self.now.words self.now.count self.now.number seat.old.0 seat.new.0 }
+        ensures worked { HasWorked self.now.fabric.now.handed.plan self.now.words self.now.count self.now.number seat.old.0 seat.new.0 }
+        ensures stops { IfErr result (IsStop self.now.fabric.now.handed.plan self.now.words self.now.count self.now.number) }
     {
         for number in ready {
             let Some(event) = events.get(*number) else {
@@ -182,7 +192,8 @@ impl<R: Wait, G: Gate> Worker<'_, R, G> {
     fn do_event(&self, seat: &mut Seat, event: &Event) -> Result<Reply, EventFault>
         requires word { seat.old.0.word_id ≡ self.now.fabric.now.word_id }
         requires own { IsPartEvent self.now.fabric.now.handed.plan self.now.count self.now.number event.now }
-        ensures { HasWorked self.now.fabric.now.handed.plan self.now.words self.now.count self.now.number seat.old.0 seat.new.0 }
+        ensures worked { HasWorked self.now.fabric.now.handed.plan self.now.words self.now.count self.now.number seat.old.0 seat.new.0 }
+        ensures stops { IfErr result (IsStop self.now.fabric.now.handed.plan self.now.words self.now.count self.now.number) }
     {
         match self.words.hand(self.number, seat.calls().len(), event) {
             Some(turn) => self

@@ -10,4 +10,4 @@ pub returns-clause-own : goal.returns-clause-own
 returns-clause-own g c = seats_all c.args.fabric.now.word_id c.for_each_mut.new.s (λ i d inside.
     let within : i < length c.args.seats.now = subst (λ n. i < n) c.for_each_mut.auto.s inside in
     let at = (c.for_each_mut.ensures i d within).1 in
-    seat_stays c.args.fabric.now.handed.plan c.args.words (length c.args.seats.now) i c.args.fabric.now.word_id (slice_index_or c.args.seats.now i d) at.argument.now at.after_call.now (slice_index_or c.for_each_mut.new.s i d) at.argument_is at.call at.left (seat_at c.args.fabric.now.word_id c.args.seats.now i d c.requires.own within))
+    seat_stays c.args.fabric.now.handed.plan c.args.words (length c.args.seats.now) i c.args.fabric.now.word_id (slice_index_or c.args.seats.now i d) at.argument.now at.after_call.now (slice_index_or c.for_each_mut.new.s i d) at.argument_is at.call.0 at.left (seat_at c.args.fabric.now.word_id c.args.seats.now i d c.requires.own within))

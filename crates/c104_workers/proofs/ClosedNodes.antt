@@ -1,0 +1,201 @@
+-- What a word that was ended tells of the nodes that were taken out: sorted by their places, each stands at its own, and did
+-- just what the log tells of it.
+use Rattle.{c104_audit.specs.Leads.list_at, c104_node.specs.Records.{NodeRecord, NodeRoom}, c104_tickets.proofs.Parts.apart_left}
+use Rattle.c104_tickets.{proofs.Parts.{apart_right, at_most_once, each_left, each_right}, specs.Counts.{AreDistinct, count_of}}
+use Rattle.c104_tickets.specs.{Tickets.{AreApart, Each, IsNameOf, part_of}, declared.views.{Done.Done, Name.Name, Terms.Terms, Track.Track}}
+use Rattle.c104_workers.{proofs.{ClosedWords.{IsPart, itself}, LogRecords.DidPart}, specs.{Calls.SeatView, Closing.ArePlaceTracks}}
+use Rattle.c104_workers.specs.{Closing.{HoldTracks, TellTracks, node_of, place_of}, Fabrics.Handed, Logs.{IsDoneHere, entries_of}}
+use Rattle.{c104_workers.specs.declared.closing.Placed.Placed, std.proofs.Common.{Bool, List, Some, [], ap, arith, cond, false, length}}
+use Rattle.std.proofs.Common.{map, refl, reverse, slice_get, subst, suc, sym, true, zero, ℕ, ◌++◌, ◌+◌, ◌<◌, ◌∙◌, ◌∷◌, ◌≡◌, ◌≢◌, ◌≤◌}
+use Rattle.std.proofs.lemmas.{Bool.Decides.nat_tests, List.{Elements.{All-cons, All-head, All-nil, All-tail}, Sorted.All-permutation}}
+use Rattle.std.proofs.lemmas.List.Sorted.{IsPermutation-map, IsPermutation-reverse, IsPermutation-sym, IsPermutation-trans}
+use Rattle.std.{proofs.lemmas.List.{Sorted.sum_by-IsPermutation, Sums.sum_by-cons, length-map}, specs.List.Sorted.IsNonDecreasingBy}
+use Rattle.std.specs.{List.Sorted.IsPermutation, Prelude.{All, ◌==◌}}
+
+-- what holds of each, by recursion and by index
+
+all_of : {X : Type 0} (P : X → Type 0) (xs : List X) → Each P xs → All P xs
+all_of P [] each = All-nil P
+all_of P (x ∷ xs) each = All-cons P x xs each.0 (all_of P xs each.1)
+
+each_of : {X : Type 0} (P : X → Type 0) (xs : List X) → All P xs → Each P xs
+each_of P [] all = tt
+each_of P (x ∷ xs) all = (All-head P x xs all, each_of P xs (All-tail P x xs all))
+
+moved : {X : Type 0} (P : X → Type 0) (xs ys : List X) → IsPermutation xs ys → Each P xs → Each P ys
+moved P xs ys same each = each_of P ys (All-permutation P xs ys same (all_of P xs each))
+
+-- numbers that rise, from this one on
+
+abbrev Rise : ℕ → List ℕ → Type 0
+Rise low [] = Unit {0}
+Rise low (x ∷ xs) = (low ≤ x) × Rise (suc x) xs
+
+-- there are no more than fit below a number
+fit : (low high : ℕ) (xs : List ℕ) → low ≤ high → Rise low xs → Each (λ x. x < high) xs → low + length xs ≤ high
+fit low high [] le rise each = omega (arith, le)
+fit low high (x ∷ xs) le rise each = omega (arith, fit (suc x) high xs (omega (arith, each.0)) rise.1 each.1, rise.0)
+
+count_next : (x y : ℕ) (ys : List ℕ) → count_of x (y ∷ ys) ≡ cond {A = ℕ} (x == y) 1 0 + count_of x ys
+count_next x y ys = sum_by-cons (λ z. cond (x == z) 1 0) y ys
+
+differ : (a b : ℕ) (rest : List ℕ) → a ≤ b → count_of a (a ∷ b ∷ rest) ≤ 1 → suc a ≤ b
+differ a b rest le once = by (a == b) refl
+  where
+    by : (c : Bool) → (a == b) ≡ c → suc a ≤ b
+    by true is =
+        absurd (omega (
+          arith,
+          once,
+          count_next a a (b ∷ rest),
+          count_next a b rest,
+          ap (λ c. cond {A = ℕ} c 1 0) (itself a),
+          ap (λ c. cond {A = ℕ} c 1 0) is,
+        ))
+    by false is = grind (arith, nat_tests, is, le)
+
+module _ {X : Type 0} (n : X → ℕ) where
+  -- sorted numbers of which none stands twice rise
+  rises : (low : ℕ) (x : X) (xs : List X) → low ≤ n x → IsNonDecreasingBy n (x ∷ xs) → ((y : ℕ) → count_of y (map n (x ∷ xs)) ≤ 1)
+      → Rise low (map n (x ∷ xs))
+  rises low x [] le up once = (le, tt)
+  rises low x (z ∷ zs) le up once =
+      let above : n x ≤ n z = up 0 1 z (omega arith) (omega arith) in (
+        le,
+        rises (suc (n x)) z zs (differ (n x) (n z) (map n zs) above (once (n x)))
+            (λ i j d before inside. up (suc i) (suc j) d (omega (arith, before)) (omega (arith, inside)))
+            (λ y. omega (arith, once y, count_next y (n x) (map n (z ∷ zs)))),
+      )
+
+  all_rise : (xs : List X) → IsNonDecreasingBy n xs → ((y : ℕ) → count_of y (map n xs) ≤ 1) → Rise 0 (map n xs)
+  all_rise [] up once = tt
+  all_rise (x ∷ xs) up once = rises 0 x xs (omega arith) up once
+
+-- the places of tracks that no two names share are distinct
+
+module _ (handed : Handed) where
+  places_differ : (k : ℕ) (tracks : List Track) (placed : List Placed) → ArePlaceTracks handed tracks placed
+      → Each (λ other. other.name ≢ Name.Place k) tracks → Each (λ j. j ≢ k) (map place_of placed)
+  places_differ k [] [] are each = tt
+  places_differ k [] (p ∷ placed) are each = absurd are
+  places_differ k (t ∷ tracks) [] are each = absurd are
+  places_differ k (t ∷ tracks) (p ∷ placed) are each =
+      ((λ same. each.0 (are.0.name ∙ ap Name.Place same)), places_differ k tracks placed are.1 each.1)
+
+  distinct_places : (tracks : List Track) (placed : List Placed) → ArePlaceTracks handed tracks placed → AreApart tracks
+      → AreDistinct (map place_of placed)
+  distinct_places [] [] are apart = tt
+  distinct_places [] (p ∷ placed) are apart = absurd are
+  distinct_places (t ∷ tracks) [] are apart = absurd are
+  distinct_places (t ∷ tracks) (p ∷ placed) are apart = (
+    places_differ p.place tracks placed are.1 (subst (λ name. Each (λ other. other.name ≢ name) tracks) are.0.name apart.0),
+    distinct_places tracks placed are.1 apart.1,
+  )
+
+module _ (handed : Handed) (terms : Terms) (log : List Done) where
+  -- a node that was taken out did so, at a place that there is
+  abbrev DidThere : Placed → Type 0
+  DidThere p = DidPart handed log p.place p.node × (p.place < terms.places)
+
+  each_did : (tracks : List Track) (placed : List Placed) → ArePlaceTracks handed tracks placed → Each (IsPart log) tracks
+      → Each (λ (t : Track). IsNameOf terms t.name) tracks → Each DidThere placed
+  each_did [] [] are parts named = tt
+  each_did [] (p ∷ placed) are parts named = absurd are
+  each_did (t ∷ tracks) [] are parts named = absurd are
+  each_did (t ∷ tracks) (p ∷ placed) are parts named =
+      let own : t.done ≡ part_of (Name.Place p.place) log = parts.0 ∙ ap (λ name. part_of name log) are.0.name in (
+        (
+          record {
+            start = are.0.start;
+            trace = are.0.trace ∙ ap (λ ds. list_at handed.before p.place ++ entries_of handed.plan p.place ds) own;
+            kept = are.0.recorded;
+            done = subst (Each (IsDoneHere handed.plan)) own are.0.here;
+          },
+          subst (IsNameOf terms) are.0.name named.0,
+        ),
+        each_did tracks placed are.1 parts.1 named.1,
+      )
+
+  insides : (ps : List Placed) → Each DidThere ps → Each (λ k. k < terms.places) (map place_of ps)
+  insides [] each = tt
+  insides (p ∷ ps) each = (each.0.1, insides ps each.1)
+
+  -- as many nodes as there are places, whose places rise: the first stands at the first, and each at its own
+
+  first_at : (low : ℕ) (p : Placed) (ps : List Placed) → Rise low (map place_of (p ∷ ps)) → Each DidThere (p ∷ ps)
+      → low + length (p ∷ ps) ≡ terms.places → p.place ≡ low
+  first_at low p ps rise each full =
+      omega (
+        arith,
+        fit (suc p.place) terms.places (map place_of ps) (omega (arith, each.0.1)) rise.1 (insides ps each.1),
+        rise.0,
+        full,
+        length-map ps place_of,
+      )
+
+  did_at : (low : ℕ) (ps : List Placed) → Rise low (map place_of ps) → Each DidThere ps → low + length ps ≡ terms.places
+      → (i : ℕ) (n : NodeRecord × NodeRoom) → slice_get (map node_of ps) i ≡ Some n → DidPart handed log (low + i) n
+  did_at low [] rise each full i n at = absurd (cc at)
+  did_at low (p ∷ ps) rise each full zero n at =
+      let is : node_of p ≡ n = cc at in
+      let same : p.place ≡ low + 0 = omega (arith, first_at low p ps rise each full) in
+      subst (DidPart handed log (low + 0)) is (subst (λ k. DidPart handed log k p.node) same each.0.0)
+  did_at low (p ∷ ps) rise each full (suc i) n at =
+      let first = first_at low p ps rise each full in
+      let next : suc p.place + i ≡ low + suc i = omega (arith, first) in
+      subst (λ k. DidPart handed log k n) next (did_at (suc p.place) ps rise.1 each.1 (omega (arith, first, full)) i n at)
+
+module _ (handed : Handed) (terms : Terms) (next : ℕ) (seats : List (SeatView × ℕ)) (nodes : List (NodeRecord × NodeRoom))
+    (old others : List Track) (told : TellTracks terms next seats others) (held : HoldTracks handed nodes old others)
+    (full : length nodes ≡ terms.places) where
+  abbrev Log : List Done
+  Log = told.closed.log
+
+  abbrev Turned : List Placed
+  Turned = reverse held.placed
+
+  turned_same : IsPermutation Turned held.sorted
+  turned_same =
+      IsPermutation-trans Turned held.placed held.sorted
+      (IsPermutation-sym held.placed Turned (IsPermutation-reverse held.placed)) held.same
+
+  own_parts : Each (IsPart Log) held.taken.tracks
+  own_parts =
+      each_left (IsPart Log) held.taken.tracks old
+      (subst (Each (IsPart Log)) held.taken.is (each_right (IsPart Log) told.tracks others told.closed.parts))
+
+  abbrev IsNamed : Track → Type 0
+  IsNamed t = IsNameOf terms t.name
+
+  own_named : Each IsNamed held.taken.tracks
+  own_named =
+      each_left IsNamed held.taken.tracks old
+      (subst (Each IsNamed) held.taken.is (each_right IsNamed told.tracks others told.closed.named))
+
+  own_apart : AreApart held.taken.tracks
+  own_apart = apart_left held.taken.tracks old (subst AreApart held.taken.is (apart_right told.tracks others told.closed.apart))
+
+  once : (y : ℕ) → count_of y (map place_of held.sorted) ≤ 1
+  once y =
+      omega (
+        arith,
+        at_most_once (map place_of Turned) (distinct_places handed held.taken.tracks Turned held.taken.are own_apart) y,
+        sum_by-IsPermutation (λ z. cond {A = ℕ} (y == z) 1 0) (map place_of Turned) (map place_of held.sorted)
+            (IsPermutation-map place_of Turned held.sorted turned_same),
+      )
+
+  sorted_did : Each (DidThere handed terms Log) held.sorted
+  sorted_did =
+      moved (DidThere handed terms Log) Turned held.sorted turned_same
+      (each_did handed terms Log held.taken.tracks Turned held.taken.are own_parts own_named)
+
+  sorted_full : length held.sorted ≡ terms.places
+  sorted_full = sym (length-map held.sorted node_of) ∙ sym (ap length held.are) ∙ full
+
+  pub nodes_did : (k : ℕ) (n : NodeRecord × NodeRoom) → slice_get nodes k ≡ Some n → DidPart handed Log k n
+  nodes_did k n at =
+      let from : 0 + k ≡ k = omega arith in
+      let all : 0 + length held.sorted ≡ terms.places = omega (arith, sorted_full) in
+      subst (λ j. DidPart handed Log j n) from
+      (did_at handed terms Log 0 held.sorted (all_rise place_of held.sorted held.rising once) sorted_did all k n
+      (ap (λ ns. slice_get ns k) (sym held.are) ∙ at))
