@@ -28,7 +28,7 @@ token_of x = x.token
 abbrev same : Token → Token
 same x = x
 
--- as many pieces where tokens tell more
+-- the same tokens, traced and plain, are cut into the same number of pieces
 pieces_counted : (front : List Traced) (plain : List Token) (xs : List Traced) → length (whole_pieces same plain (map token_of xs)) ≡ length (whole_pieces token_of front xs)
 pieces_counted front plain [] = refl
 pieces_counted front plain (x ∷ xs) = by_end (is_end x.token) (pieces_counted [] [] xs) (pieces_counted (front ++ x ∷ []) (plain ++ x.token ∷ []) xs)
@@ -38,7 +38,7 @@ pieces_counted front plain (x ∷ xs) = by_end (is_end x.token) (pieces_counted 
     by_end true next on = ap suc next
     by_end false next on = on
 
--- as many packets as origins
+-- the packets that arrived are as many as their origins
 pub as_many : (tokens : List Traced) (arrived : List Token) (origins : List Origin) (packets lent : List Packet) → AreSure tokens → arrived ≡ map token_of tokens → origins ≡ origins_in tokens → map packet_tokens packets ≡ whole_pieces same [] arrived → lent ≡ packets → length lent ≡ length origins
 as_many tokens arrived origins packets lent sure plain are whole same_list =
     ap length same_list ∙ sym (length-map packets packet_tokens) ∙ ap length whole ∙ ap (λ ts. length (whole_pieces same [] ts)) plain ∙ pieces_counted [] [] tokens

@@ -4,7 +4,7 @@ use Rattle.c104_storm.specs.{Storms.{MayEndAfter, MayWrite, StormsOn, StormsPlan
 use Rattle.c104_stream.proofs.{Growing.{grew_none, grew_prefix, grew_then}, Prefixes.prefix_next, ScriptEnds.nothing_answered}
 use Rattle.c104_stream.specs.{ScriptLines.is_long, Scripts.{AnswersScript, script_outcome}, Writing.Grew, declared.halt.Halt.Halt}
 use Rattle.c104_storm.specs.Workers.{AreDoneBy, Team}
-use Rattle.{c104_workers.specs.Fabrics.{Handed, IsLeft, Left, handed_of}, std.proofs.Common.{Bool, Err, List, None, Ok, Option, Result, Some, []}}
+use Rattle.{c104_workers.specs.{Fabrics.{Handed, Left, handed_of}, OneRuns.IsLeft}, std.proofs.Common.{Bool, Err, List, None, Ok, Option, Result, Some, []}}
 use Rattle.std.{proofs.{Common.{inl, inr, refl, subst, sym, ℕ, ◌++◌, ◌≡◌}, KnownBytes.Appends-trans}, specs.Io.KnownBytes.Appends}
 use Rattle.std.specs.Io.KnownBytes.{prepend_known}
 
@@ -20,7 +20,7 @@ from_reader start after (Some rest) left held holds before result none answered 
     subst (λ xs. AnswersScript send_outcome start (Some (xs ++ rest)) left held holds after result) none answered
 
 -- what is written at the end, by what was known when the workers began
-pub storms_on : (team : Team) (left : Left) (handed : Handed) (long faulty : Bool) (held holds : Option (List ℕ)) (result : Result Bool Halt) → IsLeft left → left.handed ≡ handed → AreDoneBy team handed.plan left.seats → WritesEnd left long faulty held holds result → StormsOn team handed long faulty held holds result
+pub storms_on : (team : Team) (left : Left) (handed : Handed) (long faulty : Bool) (held holds : Option (List ℕ)) (result : Result Bool Halt) → IsLeft left → left.handed ≡ handed → AreDoneBy team handed.plan left.seats → WritesEnd team left long faulty held holds result → StormsOn team handed long faulty held holds result
 storms_on team left handed long faulty held holds (Ok refused) kept is done ends = (ends.0, record { left = left; kept = kept; handed_so = is; done = done; ends = ends.1 }, ends.2)
 storms_on team left handed long faulty held holds (Err Halt.CannotRead) kept is done ends = absurd ends
 storms_on team left handed long faulty held holds (Err Halt.CannotWrite) kept is done ends = (ends.0, ends.1, record { left = left; kept = kept; handed_so = is; done = done; ends = ends.2 }, ends.3)

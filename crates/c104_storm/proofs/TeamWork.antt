@@ -1,11 +1,13 @@
 -- What the workers of a storm did, by what each did to its seat.
-use Rattle.{c104_plan.specs.Plans.Plan, c104_storm.specs.Workers.{AreDoneBy, HaveWorked, IsDoneBy, Team}}
+use Rattle.{c104_event.specs.declared.faults.EventFault.EventFault, c104_plan.specs.Plans.Plan}
+use Rattle.c104_storm.specs.{Workers.{AreDoneBy, HaveWorked, IsDoneBy, IsStopOf, Team, team_of}, declared.working.Worked.Worked}
 use Rattle.{c104_tickets.specs.{Tickets.TableId, declared.views.Terms.Terms}, c104_workers.proofs.SeatWork.{none_worked, worked_on}}
-use Rattle.c104_workers.specs.{Calls.SeatView, Fabrics.{calls_of, first_seat, first_seats, seat_view}, Working.{HasWorked, IsOwnEvent}}
-use Rattle.c104_workers.specs.declared.{calls.SeatCalls.SeatCalls, words.Words.Words}
-use Rattle.std.proofs.{Common.{All, List, ap, arith, drop, get_or, length, map, refl, slice_index_or, subst, suc, sym, take, zero, ℕ, ◌+◌, ◌++◌, ◌-◌}}
-use Rattle.std.proofs.{Common.{◌<◌, ◌∙◌, ◌∷◌, ◌≡◌, ◌≤◌}, lemmas.List.{FromFn.{get_or-map-range_with_len, length-map-range_with_len}, get_or-map}}
-use Rattle.std.{proofs.{Math.Seq.take-append_seam, lemmas.List.length-map}, specs.List.range_with_len}
+use Rattle.c104_workers.specs.{Calls.SeatView, Fabrics.{Left, calls_of, first_seat, first_seats, seat_view}, OneRuns.IsWhole}
+use Rattle.c104_workers.specs.Working.{HasWorked, IsOwnEvent, IsStop, StoppedFirst}
+use Rattle.c104_workers.specs.declared.{calls.SeatCalls.SeatCalls, words.Words.Words, workers.RunFault.RunFault}
+use Rattle.std.proofs.Common.{[], All, IfSome, List, Option, ap, arith, drop, get_or, length, map, refl, slice_index_or, subst, suc, sym, take}
+use Rattle.std.proofs.{Common.{zero, ℕ, ◌+◌, ◌++◌, ◌-◌, ◌<◌, ◌∙◌, ◌∷◌, ◌≡◌, ◌≤◌}, Math.Seq.take-append_seam, lemmas.List.{get_or-map, length-map}}
+use Rattle.std.{proofs.lemmas.List.FromFn.{get_or-map-range_with_len, length-map-range_with_len}, specs.List.range_with_len}
 
 -- nothing was done
 pub nothing_worked : (plan : Plan) (words : Words) (seats : List (SeatView × ℕ)) → HaveWorked plan words seats seats
@@ -19,29 +21,37 @@ all_worked_on plan words old now new first same second = (
       (subst (λ n. HasWorked plan words n i (slice_index_or now i d).0 (slice_index_or new i d).0) first.0 (second i d (omega (arith, inside, first.0)))),
 )
 
+-- a run's fault is that of one worker's event
+pub fault_seen : (fault : RunFault) → (i : ℕ) × (f : EventFault) × (fault ≡ RunFault.Event i f)
+fault_seen (RunFault.Event i f) = (i, f, refl)
+
+-- the first worker that stopped is one of those that there are, and had its fault
+pub stop_of : (plan : Plan) (words : Words) (old now new : List (SeatView × ℕ)) (i : ℕ) (f : EventFault) → length now ≡ length old → length new ≡ length now → StoppedFirst new i f → ((j : ℕ) (d : SeatView × ℕ) → j < length now → IfSome (slice_index_or new j d).0.stopped (IsStop plan words (length now) j)) → IsStopOf (team_of (length old) words) plan (Worked.Stopped i f)
+stop_of plan words old now [] i f same kept first stops = absurd (omega (arith, first.inside))
+stop_of plan words old now (x ∷ xs) i f same kept first stops =
+    let inside : i < length now = omega (arith, first.inside, kept) in
+    subst (λ n. (i < n) × IsStop plan words n i f) same
+    (inside, subst (λ (o : Option EventFault). IfSome o (IsStop plan words (length now) i)) (first.stopped x) (stops i x inside))
+
 -- what the workers left of their seats stands in the list of these
 pub written_back : (n : ℕ) (seats before : List (SeatView × ℕ)) → length seats ≡ n → take n (seats ++ drop (length seats) before) ≡ seats
 written_back n seats before is = subst (λ k. take k (seats ++ drop (length seats) before) ≡ seats) is (take-append_seam seats (drop (length seats) before))
 
 -- the seat of each number at first
 first_at : (word_id : TableId) (terms : Terms) (i : ℕ) (d : SeatView) → i < terms.seats → get_or (first_seats word_id terms) i d ≡ first_seat word_id terms i
-first_at word_id terms zero d inside = refl
-first_at word_id terms (suc i) d inside =
-    get_or-map-range_with_len (λ k. first_seat word_id terms (k + 1)) 0 (terms.seats - 1) i i d (omega (arith, inside)) (omega arith)
-    ∙ ap (first_seat word_id terms) (omega arith)
+first_at word_id terms i d inside = get_or-map-range_with_len (first_seat word_id terms) 0 terms.seats i i d inside (omega arith)
 
-first_count : (word_id : TableId) (terms : Terms) (seats : List (SeatView × ℕ)) → 1 ≤ terms.seats → map seat_view seats ≡ first_seats word_id terms → length seats ≡ terms.seats
-first_count word_id terms seats some are =
-    let others : ℕ = length (map (λ k. first_seat word_id terms (k + 1)) (range_with_len 0 (terms.seats - 1))) in
-    let all : length (map seat_view seats) ≡ suc others = ap length are in
-    let same : length (map seat_view seats) ≡ length seats = length-map seats seat_view in
-    let behind : others ≡ terms.seats - 1 = length-map-range_with_len (λ k. first_seat word_id terms (k + 1)) 0 (terms.seats - 1) in
-    omega (arith, some, all, same, behind)
+first_count : (word_id : TableId) (terms : Terms) (seats : List (SeatView × ℕ)) → map seat_view seats ≡ first_seats word_id terms → length seats ≡ terms.seats
+first_count word_id terms seats are = sym (length-map seats seat_view) ∙ ap (λ xs. length xs) are ∙ length-map-range_with_len (first_seat word_id terms) 0 terms.seats
+
+-- a worker that stopped is one of those that have a seat
+pub stop_of_team : (plan : Plan) (words : Words) (word_id : TableId) (terms : Terms) (seats : List (SeatView × ℕ)) (worked : Worked) → map seat_view seats ≡ first_seats word_id terms → IsStopOf (team_of (length seats) words) plan worked → IsStopOf (team_of terms.seats words) plan worked
+stop_of_team plan words word_id terms seats worked are stop = subst (λ n. IsStopOf (team_of n words) plan worked) (first_count word_id terms seats are) stop
 
 -- what a team's workers did through seats that were new is all that these have
-module _ (team : Team) (plan : Plan) (word_id : TableId) (terms : Terms) (old new : List (SeatView × ℕ)) (are : map seat_view old ≡ first_seats word_id terms) (count : terms.seats ≡ team.count) (some : 1 ≤ team.count) (worked : HaveWorked plan team.words old new) where
+module _ (team : Team) (plan : Plan) (word_id : TableId) (terms : Terms) (old new : List (SeatView × ℕ)) (are : map seat_view old ≡ first_seats word_id terms) (count : terms.seats ≡ team.count) (worked : HaveWorked plan team.words old new) where
   had : length old ≡ team.count
-  had = first_count word_id terms old (omega (arith, some, count)) are ∙ count
+  had = first_count word_id terms old are ∙ count
 
   was : (i : ℕ) (d : SeatView × ℕ) → i < team.count → (slice_index_or old i d).0 ≡ first_seat word_id terms i
   was i d inside =
@@ -54,6 +64,7 @@ module _ (team : Team) (plan : Plan) (word_id : TableId) (terms : Terms) (old ne
       let work : HasWorked plan team.words (length old) i (slice_index_or old i d).0 (slice_index_or new i d).0 = worked.1 i d (omega (arith, inside, had)) in
       record {
         number = work.same.number ∙ ap (λ (s : SeatView). s.number) (was i d inside);
+        lent = work.same.lent ∙ ap (λ (s : SeatView). s.lent) (was i d inside);
         own = subst (All (λ c. IsOwnEvent plan team.words team.count i c.event)) (sym (work.listed ∙ ap (λ (s : SeatView). s.calls ++ work.more) (was i d inside)))
             (subst (λ n. All (λ c. IsOwnEvent plan team.words n i c.event) work.more) had work.own);
       }
@@ -65,3 +76,11 @@ module _ (team : Team) (plan : Plan) (word_id : TableId) (terms : Terms) (old ne
         (sym (get_or-map calls_of new i (first_seat word_id terms i, 0) d (omega (arith, inside, worked.0, had))))
         (done_by i (first_seat word_id terms i, 0) inside);
   })
+
+-- what a team leaves is whole: it has all seats of the fabric, and nothing was done on nodes that were lent
+pub whole_of : (team : Team) (plan : Plan) (left : Left) → left.seat_count ≡ team.count → AreDoneBy team plan left.seats → IsWhole left
+whole_of team plan left same done = record {
+  count = done.count ∙ sym same;
+  numbers = λ i d inside. (done.each i d (omega (arith, inside, same))).number;
+  own = λ i d inside. (done.each i d (omega (arith, inside, same))).lent;
+}

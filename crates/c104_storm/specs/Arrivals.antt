@@ -55,8 +55,8 @@ pub record JoinSorted (plan : Plan) (terminal : ℕ) (tokens : List Traced) (old
   pub rising : AreSorted sorted
   pub is : new ≡ old ++ flat_map (arrived_line plan terminal) sorted
 
--- the lines of what arrived at the first terminals of a run, of which there is a number, join a text, terminal by terminal.
--- Where packets came from is told by their own tokens, in the same run over tokens that tell it.
+-- the lines of what arrived at the first n terminals of a run join a text, terminal by terminal. Where packets came from is
+-- told by their own tokens, in the same run over tokens that tell it.
 abbrev pub JoinArrivals : FinishedRecord → List ℕ → ℕ → List ℕ → Type 0
 JoinArrivals run old zero new = new ≡ old
 JoinArrivals run old (suc n) new = (text : List ℕ) × JoinArrivals run old n text

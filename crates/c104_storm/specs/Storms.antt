@@ -2,7 +2,7 @@
 use Rattle.{c104_plan.specs.{PlanImage.Image, Plans.Plan}, c104_storm.specs.{Endings.MayEnd, Sends.{new_sending, send_outcome}}}
 use Rattle.{c104_storm.specs.declared.sends.Sending.Sending, c104_stream.specs.{ScriptLines.is_long, Scripts.AnswersPrefix}}
 use Rattle.c104_stream.specs.{Scripts.{StopsAnswered, script_outcome}, Writing.{AppendsPrefix, Grew}, declared.halt.Halt.Halt}
-use Rattle.{c104_storm.specs.Workers.{AreDoneBy, Team}, c104_workers.specs.Fabrics.{Handed, IsLeft, Left, handed_of}}
+use Rattle.{c104_storm.specs.Workers.{AreDoneBy, Team}, c104_workers.specs.{Fabrics.{Handed, Left, handed_of}, OneRuns.IsLeft}}
 use Rattle.std.specs.{Io.KnownBytes.Appends, Prelude.{Bool, Err, List, None, Ok, Option, Result, Some, ℕ, ◌++◌, ◌≡◌, ◌⊎◌}}
 
 -- a storm by such a team may end with a text, and be refused or not, of which this was known when its workers began: what they
@@ -12,7 +12,7 @@ pub record MayStorm (team : Team) (handed : Handed) (long faulty : Bool) (text :
   pub kept : IsLeft left
   pub handed_so : left.handed ≡ handed
   pub done : AreDoneBy team handed.plan left.seats
-  pub ends : MayEnd left long faulty text refused
+  pub ends : MayEnd team left long faulty text refused
 
 -- what is written at the end of such a storm: all of such a text, or a prefix of it where the writer fails, and nothing
 -- where memory runs out
@@ -56,6 +56,7 @@ SomeStorm team held holds (Ok refused) =
 SomeStorm team held holds (Err kind) = Grew held holds
 
 -- a storm over the network of a plan with an image, of a script that a reader has left
-abbrev pub StormsPlan : Team → Plan → Image → Option (List ℕ) → Option (List ℕ) → Option (List ℕ) → Option (List ℕ) → Result Bool Halt → Type 0
+abbrev pub StormsPlan : Team → Plan → Image
+    → Option (List ℕ) → Option (List ℕ) → Option (List ℕ) → Option (List ℕ) → Result Bool Halt → Type 0
 StormsPlan team plan image None left held holds result = SomeStorm team held holds result
 StormsPlan team plan image (Some script) left held holds result = PlanStorms team plan image script left held holds result

@@ -1,5 +1,5 @@
 -- What a storm prints at its end.
-use Rattle.{c104_audit.specs.declared.faults.AuditFault.AuditFault, c104_event.specs.EventFaults.{event_fault_name, event_fault_number}}
+use Rattle.{c104_event.specs.EventFaults.{event_fault_name, event_fault_number}}
 use Rattle.{c104_event.specs.declared.faults.EventFault.EventFault, c104_node.specs.declared.origins.Origin.Origin}
 use Rattle.{c104_plan.specs.{Plans.Plan, PortTexts.terminal_name}, c104_token.specs.{Text.packet_text, declared.packets.Packet.Packet}}
 use Rattle.std.specs.{Fmt.decimal, Prelude.{List, [], codes, ℕ, ◌++◌}}
@@ -14,20 +14,7 @@ stop_line worker kind =
     codes "worker "
     ++ (decimal worker ++ (codes " " ++ (decimal (event_fault_number kind) ++ (codes " " ++ (event_fault_name kind ++ codes "\n")))))
 
--- words, and the number of a node, a wire or a seat
-abbrev pub numbered_line : List ℕ → ℕ → List ℕ
-numbered_line words number = words ++ (decimal number ++ codes "\n")
-
--- the line of an audit that finds no run; out of memory there is none
-abbrev pub audit_line : AuditFault → List ℕ
-audit_line (AuditFault.Shape node) = numbered_line (codes "audit 1 Shape ") node
-audit_line (AuditFault.Order node) = numbered_line (codes "audit 2 Order ") node
-audit_line (AuditFault.Ends wire) = numbered_line (codes "audit 3 Ends ") wire
-audit_line (AuditFault.Calls seat) = numbered_line (codes "audit 4 Calls ") seat
-audit_line (AuditFault.Before node) = numbered_line (codes "audit 5 Before ") node
-audit_line AuditFault.NoMemory = []
-
--- the line of an audit that finds a run
+-- the line of a storm of which all is one run
 abbrev pub audited_line : List ℕ
 audited_line = codes "audit ok\n"
 

@@ -1,6 +1,6 @@
 //! The command that lets a storm go over a description's network.
 ghost use Rattle.std.specs.Prelude.{ℕ, ◌≡◌, ◌≤◌};
-ghost use Rattle.{c104_plan.specs.PlanImage.Fits, c104_storm.specs.Commands.{StormEnds, StormRuns}};
+ghost use Rattle.{c104_plan.specs.PlanImage.Fits, c104_storm.specs.{Commands.{StormEnds, StormRuns}, Workers.team_of}};
 ghost use Rattle.c104_setup.specs.declared.status.Status.TheVariants as status;
 
 use crate::storms::{MAX_WORKERS, storm_plan};
@@ -15,7 +15,7 @@ use std::thread::Threads;
 
 /// Reads a description, and then reads and answers the `send` lines of a script on its network, started with the image of
 /// its labels; then lets this many workers, 1 to 64, each in a thread of its own, do turns until all is quiet, in which they
-/// hand such words to inputs, and writes what the audit of their run says and what arrived.
+/// hand such words to inputs, and writes what arrived in their run.
 ///
 /// It tells people of each line that is faulty or refused, at the end of what didn't arrive, and while the workers go on
 /// how many turns they have done. What is written and how it ends are the same whatever takes the messages
@@ -34,7 +34,7 @@ pub fn storm_command<R: Threads + Wait + Sync, D: Read, S: Read, W: Write, M: Me
     messages: &mut M,
 ) -> Status
     requires { (1 ≤ workers) × (workers ≤ MAX_WORKERS) }
-    ensures ends { StormEnds (record { count = workers; words = words }) (D.remaining description.old) (S.remaining script.old) (S.remaining script.new)
+    ensures ends { StormEnds (team_of workers words) (D.remaining description.old) (S.remaining script.old) (S.remaining script.new)
         (W.contents writer.old) (W.contents writer.new) result }
     ensures of_description { result ≡ status.CannotRead 0 → script.new ≡ script.old }
 {
@@ -62,7 +62,7 @@ fn storm_setup<R: Threads + Wait + Sync, S: Read, W: Write, M: Messages>(
 ) -> Status
     requires fits { Fits image.now plan.now }
     requires some { (1 ≤ workers) × (workers ≤ MAX_WORKERS) }
-    ensures runs { StormRuns (record { count = workers; words = words }) plan.now image.now (S.remaining script.old) (S.remaining script.new)
+    ensures runs { StormRuns (team_of workers words) plan.now image.now (S.remaining script.old) (S.remaining script.new)
         (W.contents writer.old) (W.contents writer.new) result }
     ensures of_script { (n : ℕ) → result ≡ status.CannotRead n → n ≡ 1 }
 {

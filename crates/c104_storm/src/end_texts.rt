@@ -1,10 +1,9 @@
 //! The texts of a storm's end.
 ghost use Rattle.std.specs.Prelude.{IfOk, OnOk, ◌++◌, ◌≡◌};
-ghost use Rattle.c104_storm.specs.{Endings.{IsEndText, IsRunText}, Texts.{audit_line, numbered_line, stop_line}};
+ghost use Rattle.c104_storm.specs.{Endings.{IsEndText, IsRunText}, Texts.stop_line};
 
 use crate::endings::Ending;
 use crate::packets::add_sorted;
-use c104_audit::AuditFault;
 use c104_event::EventFault;
 use c104_run::Run;
 use c104_script::add_number;
@@ -20,13 +19,12 @@ pub(crate) fn end_text(alloc: Global, ending: &Ending, is_long: bool) -> Result<
     match ending {
         Ending::NotQuiet => text.extend_from_slice(b"not quiet\n")?,
         Ending::Stopped(worker, fault) => add_stop(*worker, *fault, &mut text)?,
-        Ending::Unaudited(fault) => add_audit_fault(*fault, &mut text)?,
-        Ending::Audited(run) => return run_text(alloc, run, is_long),
+        Ending::Quiet(run) => return run_text(alloc, run, is_long),
     }
     Ok(text)
 }
 
-/// That the audit found this run, and then the packets that arrived, or that the script is too long. The only error is
+/// That what was done is this run, and then the packets that arrived, or that the script is too long. The only error is
 /// out of memory.
 fn run_text(alloc: Global, run: &Run, is_long: bool) -> Result<Vec<u8>, NoMemory>
     ensures { IfOk result (λ text. IsRunText is_long run.now text.items) }
@@ -51,30 +49,6 @@ fn add_stop(worker: usize, fault: EventFault, text: &mut Vec<u8>) -> Result<(), 
     add_number(usize::from(fault.number()), text)?;
     text.push(b' ')?;
     text.extend_from_slice(fault.name().as_bytes())?;
-    text.push(b'\n')?;
-    Ok(())
-}
-
-/// Why the audit finds no run joins the text. The only error is out of memory, which may also be why.
-fn add_audit_fault(fault: AuditFault, text: &mut Vec<u8>) -> Result<(), NoMemory>
-    ensures { OnOk result (text.new.items ≡ text.old.items ++ audit_line fault) }
-{
-    match fault {
-        AuditFault::Shape(node) => add_refusal(b"audit 1 Shape ", node, text),
-        AuditFault::Order(node) => add_refusal(b"audit 2 Order ", node, text),
-        AuditFault::Ends(wire) => add_refusal(b"audit 3 Ends ", wire, text),
-        AuditFault::Calls(seat) => add_refusal(b"audit 4 Calls ", seat, text),
-        AuditFault::Before(node) => add_refusal(b"audit 5 Before ", node, text),
-        AuditFault::NoMemory => Err(NoMemory),
-    }
-}
-
-/// The words and the number of a line join the text.
-fn add_refusal(words: &[u8], number: usize, text: &mut Vec<u8>) -> Result<(), NoMemory>
-    ensures { OnOk result (text.new.items ≡ text.old.items ++ numbered_line words.now number) }
-{
-    text.extend_from_slice(words)?;
-    add_number(number, text)?;
     text.push(b'\n')?;
     Ok(())
 }

@@ -1,14 +1,11 @@
 //! The end of a storm: what follows the answers.
-ghost use Rattle.std.specs.Prelude.{◌≡◌, ◌≢◌, ◌↔◌, All, IfOk, IsTrue, OnOk, length};
-ghost use Rattle.c104_storm.specs.Workers.{IsStopOf};
-ghost use Rattle.c104_audit.specs.declared.faults.AuditFault.TheVariants as audit_fault;
+ghost use Rattle.std.specs.Prelude.{◌≡◌, ◌≢◌, ◌↔◌, All, IfOk, IsTrue, OnOk};
+ghost use Rattle.c104_workers.specs.OneRuns.{IsWhole};
 ghost use Rattle.c104_event.specs.declared.faults.EventFault.TheVariants as event_fault;
-ghost use Rattle.c104_storm.specs.Endings.{EndedSo, IsEnding, IsQuietLeft, WritesEnd, is_refused};
-ghost use Rattle.c104_storm.specs.declared.working.Worked.TheVariants as work;
+ghost use Rattle.c104_storm.specs.{Endings.{IsEndingByNodes, IsEndingOf, IsQuietLeft, WritesEnd, is_refused}, Workers.{IsStopOf, Team}};
 
 use crate::end_texts::end_text;
 use crate::working::Worked;
-use c104_audit::AuditFault;
 use c104_event::EventFault;
 use c104_node::Node;
 use c104_run::Run;
@@ -34,14 +31,12 @@ pub(crate) enum Ending {
     NotQuiet,
     /// The worker of this number stopped at an event that was refused for this.
     Stopped(usize, EventFault),
-    /// All was quiet, and the audit found no run, for this.
-    Unaudited(AuditFault),
-    /// All was quiet, and the audit found this run.
-    Audited(Run),
+    /// All was quiet, and this is the run that was done.
+    Quiet(Run),
 }
 
-/// Writes how a storm ended whose workers ended so: that it isn't quiet, which worker stopped, or what the audit says and
-/// the packets that arrived. Says whether that or the script was refused. The text is complete before any of it is written,
+/// Writes how a storm ended whose workers ended so: that it isn't quiet, which worker stopped, or that what was done is one
+/// run, and the packets that arrived. Says whether that or the script was refused. The text is complete before any of it is written,
 /// so that none of it is written where memory runs out.
 pub(crate) fn write_end<W: Write>(
     alloc: Global,
@@ -50,8 +45,9 @@ pub(crate) fn write_end<W: Write>(
     worked: Worked,
     writer: &mut W,
 ) -> Result<bool, Halt>
-    requires stopped { IsStopOf (length gathered.now.seats) worked }
-    ensures { WritesEnd gathered.now sent.is_long sent.is_faulty (W.contents writer.old) (W.contents writer.new) result }
+    requires { IsWhole gathered.now }
+    ensures { (team : Team) → IsStopOf team gathered.now.handed.plan worked →
+        WritesEnd team gathered.now sent.is_long sent.is_faulty (W.contents writer.old) (W.contents writer.new) result }
 {
     let ending = ending_of(alloc, gathered, worked)?;
     let text = end_text(alloc, &ending, sent.is_long)?;
@@ -66,20 +62,17 @@ fn is_refused(ending: &Ending, sent: Sent) -> bool
     match ending {
         Ending::NotQuiet => true,
         Ending::Stopped(_, _) => true,
-        Ending::Unaudited(_) => true,
-        Ending::Audited(_) => sent.is_long || sent.is_faulty,
+        Ending::Quiet(_) => sent.is_long || sent.is_faulty,
     }
 }
 
 /// How a storm ended whose workers ended so. The only error is out of memory, which may also be why a worker stopped.
 fn ending_of(alloc: Global, gathered: &Gathered, worked: Worked) -> Result<Ending, NoMemory>
-    requires stopped { IsStopOf (length gathered.now.seats) worked }
-    ensures told { IfOk result (λ ending. IsEnding gathered.now ending) }
-    ensures ended { IfOk result (λ ending. EndedSo worked ending) }
+    requires { IsWhole gathered.now }
+    ensures { IfOk result (λ ending. IsEndingOf worked gathered.now ending) }
 {
     match worked {
-        Worked::Quiet => ending_by_nodes(alloc, gathered),
-        Worked::NotQuiet => ending_by_nodes(alloc, gathered),
+        Worked::Quiet | Worked::NotQuiet => ending_by_nodes(alloc, gathered),
         Worked::Stopped(worker, fault) => {
             other_event_fault(fault)?;
             Ok(Ending::Stopped(worker, fault))
@@ -90,13 +83,13 @@ fn ending_of(alloc: Global, gathered: &Gathered, worked: Worked) -> Result<Endin
 /// How a storm ended in which no worker stopped: what the workers say of the nodes is looked at again. The only error is out
 /// of memory.
 fn ending_by_nodes(alloc: Global, gathered: &Gathered) -> Result<Ending, NoMemory>
-    ensures told { IfOk result (λ ending. IsEnding gathered.now ending) }
-    ensures ended { IfOk result (λ ending. EndedSo work.Quiet ending) }
+    requires { IsWhole gathered.now }
+    ensures { IfOk result (λ ending. IsEndingByNodes gathered.now ending) }
 {
     if !are_quiet(gathered.nodes()) {
         return Ok(Ending::NotQuiet);
     }
-    audited(alloc, gathered)
+    Ok(Ending::Quiet(gathered.run(alloc)?))
 }
 
 /// Whether no token stands at any of these nodes, and no packet is under way in any.
@@ -111,37 +104,12 @@ fn are_quiet(nodes: &[Node]) -> bool
     true
 }
 
-/// What the audit says of what a fabric left. The only error is out of memory.
-fn audited(alloc: Global, gathered: &Gathered) -> Result<Ending, NoMemory>
-    requires { All IsQuietLeft gathered.now.nodes }
-    ensures told { IfOk result (λ ending. IsEnding gathered.now ending) }
-    ensures ended { IfOk result (λ ending. EndedSo work.Quiet ending) }
-{
-    match gathered.audit(alloc) {
-        Ok(run) => Ok(Ending::Audited(run)),
-        Err(fault) => {
-            other_audit_fault(fault)?;
-            Ok(Ending::Unaudited(fault))
-        }
-    }
-}
-
 /// NoMemory where that is the fault of an event.
 fn other_event_fault(fault: EventFault) -> Result<(), NoMemory>
     ensures { OnOk result (fault ≢ event_fault.NoMemory) }
 {
     match fault {
         EventFault::NoMemory => Err(NoMemory),
-        _ => Ok(()),
-    }
-}
-
-/// NoMemory where that is the fault of an audit.
-fn other_audit_fault(fault: AuditFault) -> Result<(), NoMemory>
-    ensures { OnOk result (fault ≢ audit_fault.NoMemory) }
-{
-    match fault {
-        AuditFault::NoMemory => Err(NoMemory),
         _ => Ok(()),
     }
 }

@@ -2,9 +2,9 @@
 //!
 //! The network is placed, where a run's is loaded: that both come to the same network is proved of the load.
 ghost use Rattle.std.specs.Prelude.{length, map, ◌≡◌, ◌≤◌};
-ghost use Rattle.{c104_plan.specs.{PlanImage.{Fits, Image as TheImage}, Plans.Plan as ThePlan}, c104_storm.specs.Sends.{new_sending, send_outcome}};
-ghost use Rattle.{c104_storm.specs.Storms.{StormsOn, StormsPlan}, c104_stream.specs.Scripts.AnswersScript};
-ghost use Rattle.c104_workers.specs.Fabrics.{AreSeatsOf, first_seats, handed_of, seat_view};
+ghost use Rattle.c104_plan.specs.{PlanImage.{Fits, Image as TheImage}, Plans.Plan as ThePlan};
+ghost use Rattle.c104_storm.specs.{Sends.{new_sending, send_outcome}, Storms.{StormsOn, StormsPlan}, Workers.team_of};
+ghost use Rattle.{c104_stream.specs.Scripts.AnswersScript, c104_workers.specs.Fabrics.{AreSeatsOf, first_seats, handed_of, seat_view}};
 
 use crate::endings::{Sent, write_end};
 use crate::sends::Sending;
@@ -14,9 +14,10 @@ use c104_mistakes::Messages;
 use c104_plan::{Image, Plan};
 use c104_script::answer_lines;
 use c104_stream::{Ahead, Halt};
-use c104_workers::{Fabric, Seat, Words};
+use c104_workers::{Fabric, Naming, Ready, Seat, Words};
 use std::alloc::Global;
 use std::io::{Read, Write};
+use std::marker::Brand;
 use std::sync::Wait;
 use std::thread::Threads;
 
@@ -25,9 +26,8 @@ pub const MAX_WORKERS: u8 = 64;
 
 /// Lets a storm go over the network of a plan, started with an image that fits it: the lines of a script are answered as
 /// they are read, whose packets are sent; then workers, each in a thread of its own, do turns with such words until all is
-/// quiet. At the end is written what the audit says, and the packets that arrived. Says whether anything was refused: the
-/// script, for its length or for one of its lines, or the storm, which isn't quiet, whose worker stopped or whose audit finds
-/// no run.
+/// quiet. At the end is written that what they did is one run, and the packets that arrived. Says whether anything was refused:
+/// the script, for its length or for one of its lines, or the storm, which isn't quiet or whose worker stopped.
 ///
 /// Where no thread can be made, the workers do their turns one after another.
 pub fn storm_plan<R: Threads + Wait + Sync, S: Read, W: Write, M: Messages>(
@@ -43,7 +43,7 @@ pub fn storm_plan<R: Threads + Wait + Sync, S: Read, W: Write, M: Messages>(
 ) -> Result<bool, Halt>
     requires fits { Fits image.now plan.now }
     requires some { (1 ≤ workers) × (workers ≤ MAX_WORKERS) }
-    ensures { StormsPlan (record { count = workers; words = words }) plan.now image.now (S.remaining script.old) (S.remaining script.new)
+    ensures { StormsPlan (team_of workers words) plan.now image.now (S.remaining script.old) (S.remaining script.new)
         (W.contents writer.old) (W.contents writer.new) result }
 {
     let sending = Sending::new(alloc, plan, image)?;
@@ -63,7 +63,7 @@ fn storm_script<R: Threads + Wait + Sync, S: Read, W: Write, M: Messages>(
 ) -> Result<bool, Halt>
     requires some { (1 ≤ workers) × (workers ≤ MAX_WORKERS) }
     ensures { (plan : ThePlan) (image : TheImage) → sending ≡ new_sending plan image →
-        StormsPlan (record { count = workers; words = words }) plan image (S.remaining script.old) (S.remaining script.new)
+        StormsPlan (team_of workers words) plan image (S.remaining script.old) (S.remaining script.new)
         (W.contents writer.old) (W.contents writer.new) result }
 {
     let mut sending = sending;
@@ -95,7 +95,6 @@ fn answer_sends<S: Read, W: Write, M: Messages>(
 }
 
 /// The same of a network into which a script's packets were sent.
-#[tactic(auto, using(crate::proofs::SomeSeats::some_seats))]
 fn storm_net<R: Threads + Wait + Sync, W: Write, M: Messages>(
     alloc: Global,
     rt: &R,
@@ -107,15 +106,13 @@ fn storm_net<R: Threads + Wait + Sync, W: Write, M: Messages>(
     messages: &mut M,
 ) -> Result<bool, Halt>
     requires some { (1 ≤ workers) × (workers ≤ MAX_WORKERS) }
-    ensures { StormsOn (record { count = workers; words = words }) (handed_of sending.net) is_long sending.is_faulty
+    ensures { StormsOn (team_of workers words) (handed_of sending.net) is_long sending.is_faulty
         (W.contents writer.old) (W.contents writer.new) result }
 {
     let Sending { net, is_faulty } = sending;
     let sent = Sent { is_long, is_faulty };
-    match Fabric::new(alloc, net, usize::from(workers)) {
-        Ok((fabric, seats)) => storm_fabric(
-            alloc, rt, fabric, seats, words, sent, writer, messages,
-        ),
+    match Ready::new(alloc, net, usize::from(workers)) {
+        Ok(ready) => storm_ready::<Brand, R, W, M>(alloc, rt, ready, words, sent, writer, messages),
         Err((net, _)) => {
             // The number of seats is one that there may be, so that there was no memory.
             net.retire();
@@ -124,11 +121,38 @@ fn storm_net<R: Threads + Wait + Sync, W: Write, M: Messages>(
     }
 }
 
-/// The same of a fabric, by workers that use its seats.
-fn storm_fabric<R: Threads + Wait + Sync, W: Write, M: Messages>(
+/// The same of a network that is ready for a fabric.
+#[tactic(auto, using(crate::proofs::SomeSeats::some_seats))]
+fn storm_ready<N: Naming + Send + Sync, R: Threads + Wait + Sync, W: Write, M: Messages>(
     alloc: Global,
     rt: &R,
-    fabric: Fabric,
+    ready: Ready,
+    words: Words,
+    sent: Sent,
+    writer: &mut W,
+    messages: &mut M,
+) -> Result<bool, Halt>
+    requires named { (ready.word_id ≡ N.word) × (handed_of ready.net ≡ N.handed) }
+    requires some { 1 ≤ ready.terms.seats }
+    ensures { StormsOn (team_of ready.terms.seats words) (handed_of ready.net) sent.is_long sent.is_faulty
+        (W.contents writer.old) (W.contents writer.new) result }
+{
+    match ready.into_fabric::<N>(alloc) {
+        Ok((fabric, seats)) => storm_fabric(
+            alloc, rt, fabric, seats, words, sent, writer, messages,
+        ),
+        Err((net, _)) => {
+            net.retire();
+            Err(Halt::NoMemory)
+        }
+    }
+}
+
+/// The same of a fabric, by workers that use its seats.
+fn storm_fabric<N: Naming + Send + Sync, R: Threads + Wait + Sync, W: Write, M: Messages>(
+    alloc: Global,
+    rt: &R,
+    fabric: Fabric<N>,
     seats: Vec<Seat>,
     words: Words,
     sent: Sent,
@@ -139,7 +163,7 @@ fn storm_fabric<R: Threads + Wait + Sync, W: Write, M: Messages>(
     requires own { AreSeatsOf fabric.word_id seats.items }
     requires first { map seat_view seats.items ≡ first_seats fabric.word_id fabric.terms }
     requires count { 1 ≤ fabric.terms.seats }
-    ensures { StormsOn (record { count = fabric.terms.seats; words = words }) fabric.handed sent.is_long sent.is_faulty
+    ensures { StormsOn (team_of fabric.terms.seats words) fabric.handed sent.is_long sent.is_faulty
         (W.contents writer.old) (W.contents writer.new) result }
 {
     let mut seats = seats;

@@ -1,4 +1,5 @@
 //! What people are told of a storm.
+ghost use Rattle.c104_workers.specs.OneRuns.{IsWhole};
 
 use crate::endings::Sent;
 use crate::working::Worked;
@@ -51,7 +52,9 @@ pub(crate) fn explain_end<M: Messages>(
     sent: Sent,
     worked: Worked,
     messages: &mut M,
-) {
+)
+    requires { IsWhole gathered.now }
+{
     if !messages.are_wanted() {
         return;
     }
@@ -70,9 +73,11 @@ pub(crate) fn explain_end<M: Messages>(
 }
 
 /// A network whose tokens tell where they came from, in which the run of a storm is done once more, whether it ended quiet or
-/// not. None where the audit finds no run, and out of memory.
-fn network_of(alloc: Global, gathered: &Gathered) -> Option<TracedNet> {
-    let run = gathered.audit(alloc).ok()?;
+/// not. None out of memory.
+fn network_of(alloc: Global, gathered: &Gathered) -> Option<TracedNet>
+    requires { IsWhole gathered.now }
+{
+    let run = gathered.run(alloc).ok()?;
     replayed(alloc, &run).ok()
 }
 

@@ -3,11 +3,11 @@
 //! A storm in which 64 turns did nothing isn't quiet, and no further turns are done: each event of a round was asked then
 //! in the state in which all the others were, so none of them will ever be ready.
 ghost use Rattle.std.specs.Prelude.{◌≤◌, length};
-ghost use Rattle.{c104_storm.specs.Workers.{HaveWorked, IsStopOf}, c104_workers.specs.Fabrics.AreSeatsOf};
+ghost use Rattle.{c104_storm.specs.Workers.{HaveWorked, IsStopOf, team_of}, c104_workers.specs.Fabrics.AreSeatsOf};
 
 use c104_event::EventFault;
 use c104_mistakes::{Messages, Work};
-use c104_workers::{Fabric, OpenGate, RunFault, Seat, Words, run_workers};
+use c104_workers::{Fabric, Naming, OpenGate, RunFault, Seat, Words, run_workers};
 use std::alloc::Global;
 use std::sync::Wait;
 use std::thread::Threads;
@@ -31,10 +31,10 @@ pub(crate) enum Worked {
 
 /// Lets workers do turns, each through one of these seats and with such words, until all is quiet. Where none of them does
 /// anything in 64 turns, no later turn would. What takes the messages is told how many turns are done.
-pub(crate) fn work<R: Threads + Wait + Sync, M: Messages>(
+pub(crate) fn work<N: Naming + Send + Sync, R: Threads + Wait + Sync, M: Messages>(
     alloc: Global,
     rt: &R,
-    fabric: &Fabric,
+    fabric: &Fabric<N>,
     seats: &mut [Seat],
     words: Words,
     messages: &mut M,
@@ -43,7 +43,7 @@ pub(crate) fn work<R: Threads + Wait + Sync, M: Messages>(
     requires own { AreSeatsOf fabric.now.word_id seats.old }
     ensures own { AreSeatsOf fabric.now.word_id seats.new }
     ensures worked { HaveWorked fabric.now.handed.plan words seats.old seats.new }
-    ensures stopped { IsStopOf (length seats.old) result }
+    ensures stopped { IsStopOf (team_of (length seats.old) words) fabric.now.handed.plan result }
 {
     let mut calls = 0;
     for times in 0..MOST_TIMES {
