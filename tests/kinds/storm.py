@@ -170,7 +170,7 @@ def storms_of(runner, seed):
 
 
 def at_random(runner):
-    """Random networks: of each the audit finds a run, and the same packets arrive as in a plain run."""
+    """Random networks: the same packets arrive as in a plain run."""
     for seed in SEEDS:
         storms_of(runner, seed)
 

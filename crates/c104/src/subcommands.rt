@@ -55,7 +55,7 @@ pub const SUBCOMMANDS: [Row; 9] = [
     Row {
         subcommand: Subcommand::Storm,
         name: "storm",
-        about: "Lets worker threads carry the packets that a script sends, and audits their run",
+        about: "Lets worker threads carry the packets that a script sends",
         teaching: help::STORM,
     },
     Row {
