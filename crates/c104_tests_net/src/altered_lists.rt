@@ -3,21 +3,22 @@
 //!
 //! These fail where the audit passes over one end of a wire, a reply, a ticket or a start, where it tells one fault of all
 //! lists, and where it takes none for a run: first it has to find one in the lists as they are.
-ghost use Rattle.std.specs.Prelude.{IfOk, IfSome};
-ghost use Rattle.{c104_audit.specs.Audits.AreLists, c104_workers.specs.Fabrics.AreSeatsOf};
+ghost use Rattle.std.specs.Prelude.{IfSome, ◌≡◌};
+ghost use Rattle.{c104_audit.specs.Audits.AreLists, c104_workers.specs.Fabrics.{AreSeatsOf, handed_of}};
 
 use crate::alterations::{ALTERATIONS, Alteration, below, next_number};
 use crate::altered_calls::{calls_fault, calls_with};
 use crate::altered_nodes::{nodes_with, starts_with, wired_with};
 use crate::altered_traces::{Place, trace_fault, trace_with};
-use crate::networks::{CUBE, MESH, PLAN, busy_fabric, is_run, sent};
+use crate::networks::{CUBE, MESH, PLAN, busy_ready, fabric_of, is_run, sent};
 use c104_audit::{AuditFault, Call, Lists, audit_lists};
 use c104_control::ControlBytes;
 use c104_event::Event;
 use c104_node::Entry;
-use c104_token::{Items, NoMemory};
-use c104_workers::{Fabric, Gathered, OpenGate, Seat, Words, run_workers};
+use c104_token::Items;
+use c104_workers::{Fabric, Gathered, Naming, OpenGate, Ready, Seat, Words, run_workers};
 use std::alloc::Global;
+use std::marker::Brand;
 use std::sync::Wait;
 use std::thread::Threads;
 
@@ -27,14 +28,25 @@ const COUNT: usize = 168;
 /// What two seats leave of a network on which packets are under way: a command and a packet by the first, and three turns
 /// of two workers.
 fn left<R: Threads + Wait + Sync>(rt: &R, alloc: Global, text: &[u8]) -> Option<Gathered> {
-    let (fabric, mut seats) = busy_fabric(alloc, text, 2)?;
+    let ready = busy_ready(alloc, text, 2)?;
+    left_of::<Brand, R>(rt, alloc, ready)
+}
+
+fn left_of<N: Naming + Send + Sync, R: Threads + Wait + Sync>(
+    rt: &R,
+    alloc: Global,
+    ready: Ready,
+) -> Option<Gathered>
+    requires { (ready.word_id ≡ N.word) × (handed_of ready.net ≡ N.handed) }
+{
+    let (fabric, mut seats) = fabric_of::<N>(alloc, ready)?;
     ask(rt, alloc, &fabric, &mut seats);
     work(rt, alloc, &fabric, &mut seats);
     Some(fabric.close(seats))
 }
 
 /// A command and a packet through the first seat.
-fn ask<R: Wait>(rt: &R, alloc: Global, fabric: &Fabric, seats: &mut Vec<Seat>)
+fn ask<N: Naming, R: Wait>(rt: &R, alloc: Global, fabric: &Fabric<N>, seats: &mut Vec<Seat>)
     requires { AreSeatsOf fabric.now.word_id seats.old.items }
     ensures { AreSeatsOf fabric.now.word_id seats.new.items }
 {
@@ -51,7 +63,12 @@ fn ask<R: Wait>(rt: &R, alloc: Global, fabric: &Fabric, seats: &mut Vec<Seat>)
 }
 
 /// Three turns of a worker for each seat.
-fn work<R: Threads + Wait + Sync>(rt: &R, alloc: Global, fabric: &Fabric, seats: &mut Vec<Seat>)
+fn work<N: Naming + Send + Sync, R: Threads + Wait + Sync>(
+    rt: &R,
+    alloc: Global,
+    fabric: &Fabric<N>,
+    seats: &mut Vec<Seat>,
+)
     requires { AreSeatsOf fabric.now.word_id seats.old.items }
     ensures { AreSeatsOf fabric.now.word_id seats.new.items }
 {
@@ -66,16 +83,6 @@ fn work<R: Threads + Wait + Sync>(rt: &R, alloc: Global, fabric: &Fabric, seats:
             3,
         );
     }
-}
-
-/// The lists of what a fabric left.
-fn lists_of(alloc: Global, gathered: &Gathered) -> Result<Lists, NoMemory>
-    ensures { IfOk result AreLists }
-{
-    // The proof reads here what the type and every plan keeps.
-    let _switches = gathered.plan().switches();
-    let lists = gathered.lists(alloc)?;
-    Ok(lists)
 }
 
 /// Lists with another trace of a node.
@@ -229,7 +236,7 @@ fn entry_count(lists: &Lists, node: usize) -> usize {
 
 /// Whether the audit tells the first fault of lists that are altered so. None where they can't be.
 fn is_seen(alloc: Global, gathered: &Gathered, alteration: Alteration, seed: u64) -> Option<bool> {
-    let lists = lists_of(alloc, gathered).ok()?;
+    let lists = gathered.lists(alloc).ok()?;
     let altered = alter(alloc, lists, alteration, seed)?;
     Some(match audit_lists(alloc, &altered.lists) {
         Ok(_events) => false,

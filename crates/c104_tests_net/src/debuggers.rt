@@ -1,14 +1,15 @@
 //! A debugger with a seat of its own, beside workers that hold the others.
-ghost use Rattle.std.specs.{Prelude.{length, ◌≡◌, ◌≤◌}, Thread.IsSync};
-ghost use Rattle.c104_workers.specs.Fabrics.{AreSeatsOf};
+ghost use Rattle.std.specs.{Prelude.{length, ◌≡◌, ◌≤◌}, Thread.{IsSend, IsSync}};
+ghost use Rattle.c104_workers.specs.Fabrics.{handed_of};
 
-use crate::networks::{MESH, PLAN, busy_fabric, is_run};
+use crate::networks::{MESH, PLAN, busy_ready, fabric_of, is_run};
 use crate::plan_calls::{Maker, described};
 use c104_control::ControlBytes;
 use c104_plan::Image;
 use c104_tools::{ControlPort, load, read_link, read_table, verify, write_register};
-use c104_workers::{Fabric, FabricPort, Gate, Gathered, Seat, Words, run_workers};
+use c104_workers::{Fabric, FabricPort, Gate, Gathered, Naming, Ready, Seat, Words, run_workers};
 use std::alloc::Global;
+use std::marker::Brand;
 use std::sync::Wait;
 use std::sync::atomic::{AtomicBool, Ordering};
 use std::thread::{Threads, join};
@@ -78,7 +79,13 @@ enum Asked {
 }
 
 /// What a debugger does through a seat.
-fn debug<R: Wait>(rt: &R, fabric: &Fabric, seat: &mut Seat, image: &Image, asked: Asked) -> bool
+fn debug<N: Naming, R: Wait>(
+    rt: &R,
+    fabric: &Fabric<N>,
+    seat: &mut Seat,
+    image: &Image,
+    asked: Asked,
+) -> bool
     requires { seat.old.0.word_id ≡ fabric.now.word_id }
     ensures { seat.new.0.word_id ≡ fabric.now.word_id }
 {
@@ -105,9 +112,9 @@ fn debug<R: Wait>(rt: &R, fabric: &Fabric, seat: &mut Seat, image: &Image, asked
 }
 
 /// Whether a switch replies so to a command.
-fn told<R: Wait>(
+fn told<N: Naming, R: Wait>(
     rt: &R,
-    fabric: &Fabric,
+    fabric: &Fabric<N>,
     seat: &mut Seat,
     switch: usize,
     bytes: &[u8],
@@ -125,7 +132,7 @@ fn told<R: Wait>(
 }
 
 /// Whether an image is loaded through a seat.
-fn is_loaded<R: Wait>(rt: &R, fabric: &Fabric, seat: &mut Seat, image: &Image) -> bool
+fn is_loaded<N: Naming, R: Wait>(rt: &R, fabric: &Fabric<N>, seat: &mut Seat, image: &Image) -> bool
     requires { seat.old.0.word_id ≡ fabric.now.word_id }
     ensures { seat.new.0.word_id ≡ fabric.now.word_id }
 {
@@ -134,7 +141,12 @@ fn is_loaded<R: Wait>(rt: &R, fabric: &Fabric, seat: &mut Seat, image: &Image) -
 }
 
 /// Whether the switches hold an image, by what a seat reads.
-fn is_verified<R: Wait>(rt: &R, fabric: &Fabric, seat: &mut Seat, image: &Image) -> bool
+fn is_verified<N: Naming, R: Wait>(
+    rt: &R,
+    fabric: &Fabric<N>,
+    seat: &mut Seat,
+    image: &Image,
+) -> bool
     requires { seat.old.0.word_id ≡ fabric.now.word_id }
     ensures { seat.new.0.word_id ≡ fabric.now.word_id }
 {
@@ -143,7 +155,7 @@ fn is_verified<R: Wait>(rt: &R, fabric: &Fabric, seat: &mut Seat, image: &Image)
 }
 
 /// Whether a register is written through a seat: where the rows of a link begin that has no wire.
-fn is_written<R: Wait>(rt: &R, fabric: &Fabric, seat: &mut Seat) -> bool
+fn is_written<N: Naming, R: Wait>(rt: &R, fabric: &Fabric<N>, seat: &mut Seat) -> bool
     requires { seat.old.0.word_id ≡ fabric.now.word_id }
     ensures { seat.new.0.word_id ≡ fabric.now.word_id }
 {
@@ -152,7 +164,7 @@ fn is_written<R: Wait>(rt: &R, fabric: &Fabric, seat: &mut Seat) -> bool
 }
 
 /// Whether the numbers of a link are read through a seat.
-fn is_link_read<R: Wait>(rt: &R, fabric: &Fabric, seat: &mut Seat) -> bool
+fn is_link_read<N: Naming, R: Wait>(rt: &R, fabric: &Fabric<N>, seat: &mut Seat) -> bool
     requires { seat.old.0.word_id ≡ fabric.now.word_id }
     ensures { seat.new.0.word_id ≡ fabric.now.word_id }
 {
@@ -161,7 +173,7 @@ fn is_link_read<R: Wait>(rt: &R, fabric: &Fabric, seat: &mut Seat) -> bool
 }
 
 /// Whether a table is read through a seat, with the row of label 0 first.
-fn is_table_read<R: Wait>(rt: &R, fabric: &Fabric, seat: &mut Seat) -> bool
+fn is_table_read<N: Naming, R: Wait>(rt: &R, fabric: &Fabric<N>, seat: &mut Seat) -> bool
     requires { seat.old.0.word_id ≡ fabric.now.word_id }
     ensures { seat.new.0.word_id ≡ fabric.now.word_id }
 {
@@ -178,34 +190,37 @@ fn is_beside<R: Threads + Wait + Sync>(
     image: &Image,
     asked: Asked,
 ) -> bool {
-    let Some((fabric, seats)) = busy_fabric(alloc, text, 3) else {
+    let Some(ready) = busy_ready(alloc, text, 3) else {
         return false;
     };
-    let (is_done, gathered) = work_and_close(rt, alloc, fabric, seats, image, asked);
+    let Some((is_done, gathered)) = work_and_close::<Brand, R>(rt, alloc, ready, image, asked)
+    else {
+        return false;
+    };
     let is_run = is_run(alloc, &gathered);
     gathered.retire();
     is_done && is_run
 }
 
 /// The last seat is the debugger's; then the fabric ends with all three.
-fn work_and_close<R: Threads + Wait + Sync>(
+fn work_and_close<N: Naming + Send + Sync, R: Threads + Wait + Sync>(
     rt: &R,
     alloc: Global,
-    fabric: Fabric,
-    mut seats: Vec<Seat>,
+    ready: Ready,
     image: &Image,
     asked: Asked,
-) -> (bool, Gathered)
-    requires { AreSeatsOf fabric.word_id seats.items }
+) -> Option<(bool, Gathered)>
+    requires { (ready.word_id ≡ N.word) × (handed_of ready.net ≡ N.handed) }
 {
+    let (fabric, mut seats) = fabric_of::<N>(alloc, ready)?;
     let Some(third) = seats.pop() else {
-        return (false, fabric.close(seats));
+        return Some((false, fabric.close(seats)));
     };
     let Some(second) = seats.pop() else {
-        return (false, fabric.close(seats));
+        return Some((false, fabric.close(seats)));
     };
     let Some(first) = seats.pop() else {
-        return (false, fabric.close(seats));
+        return Some((false, fabric.close(seats)));
     };
     let meeting = Meeting::new();
     let (workers, third) = by_two(
@@ -223,7 +238,7 @@ fn work_and_close<R: Threads + Wait + Sync>(
     let _first = seats.push(first);
     let _second = seats.push(second);
     let _third = seats.push(third);
-    (meeting.is_kept(), fabric.close(seats))
+    Some((meeting.is_kept(), fabric.close(seats)))
 }
 
 /// The seats of two workers.
@@ -234,10 +249,10 @@ struct Workers {
 }
 
 /// Workers in threads of their own, and the debugger in another.
-fn by_two<R: Threads + Wait + Sync>(
+fn by_two<N: Naming + Send + Sync, R: Threads + Wait + Sync>(
     rt: &R,
     alloc: Global,
-    fabric: &Fabric,
+    fabric: &Fabric<N>,
     workers: Workers,
     seat: Seat,
     meeting: &Meeting,
@@ -254,7 +269,8 @@ fn by_two<R: Threads + Wait + Sync>(
     join(
         rt,
         move || -> Workers
-            requires { IsSync R.row × (workers.first.0.word_id ≡ fabric.now.word_id) × (workers.second.0.word_id ≡ fabric.now.word_id) }
+            requires { IsSync R.row × IsSend N.row × IsSync N.row
+                × (workers.first.0.word_id ≡ fabric.now.word_id) × (workers.second.0.word_id ≡ fabric.now.word_id) }
             ensures { (result.first.0.word_id ≡ fabric.entry.now.word_id) × (result.second.0.word_id ≡ fabric.entry.now.word_id) }
         { worked(rt, alloc, fabric, workers, meeting) },
         move || -> Seat
@@ -265,10 +281,10 @@ fn by_two<R: Threads + Wait + Sync>(
 }
 
 /// Workers do their turns.
-fn worked<R: Threads + Wait + Sync>(
+fn worked<N: Naming + Send + Sync, R: Threads + Wait + Sync>(
     rt: &R,
     alloc: Global,
-    fabric: &Fabric,
+    fabric: &Fabric<N>,
     workers: Workers,
     meeting: &Meeting,
 ) -> Workers
@@ -287,9 +303,9 @@ fn worked<R: Threads + Wait + Sync>(
 }
 
 /// The debugger waits for workers, and asks.
-fn debugged<R: Wait>(
+fn debugged<N: Naming, R: Wait>(
     rt: &R,
-    fabric: &Fabric,
+    fabric: &Fabric<N>,
     mut seat: Seat,
     meeting: &Meeting,
     image: &Image,

@@ -1,15 +1,17 @@
 //! Fabrics and their events that are refused, and events on nodes that are lent.
 ghost use Rattle.std.specs.Prelude.{◌≡◌};
+ghost use Rattle.c104_workers.specs.Fabrics.{handed_of};
 
 use crate::calls::{placed_network, take_apart};
-use crate::fabrics::{PLAN, audit_fault, fabric_of};
+use crate::fabrics::{PLAN, audit_fault, ready_plan, seated};
 use c104_control::ControlBytes;
 use c104_event::{Event, EventFault};
 use c104_node::Node;
 use c104_switch::Reply;
 use c104_token::{Items, Mark, Packet};
-use c104_workers::{AuditFault, Fabric, FabricFault, Seat};
+use c104_workers::{AuditFault, Fabric, FabricFault, Naming, Ready, Seat};
 use std::alloc::Global;
+use std::marker::Brand;
 use std::sync::Wait;
 use std::test::Fail;
 
@@ -24,9 +26,9 @@ fn seat_counts(rt: HostRuntime) -> Result<(), Fail> {
 
 fn is_refused(alloc: Global, seats: usize) -> Result<bool, Fail> {
     let net = placed_network(alloc, PLAN)?;
-    match Fabric::new(alloc, net, seats) {
-        Ok((fabric, seats)) => {
-            fabric.close(seats).retire();
+    match Ready::new(alloc, net, seats) {
+        Ok(ready) => {
+            end::<Brand>(alloc, ready)?;
             Ok(false)
         }
         Err((net, fault)) => {
@@ -37,17 +39,22 @@ fn is_refused(alloc: Global, seats: usize) -> Result<bool, Fail> {
     }
 }
 
+/// A fabric is made, and ends.
+fn end<N: Naming>(alloc: Global, ready: Ready) -> Result<(), Fail>
+    requires { (ready.word_id ≡ N.word) × (handed_of ready.net ≡ N.handed) }
+{
+    let (fabric, seats) = seated::<N>(alloc, ready)?;
+    fabric.close(seats).retire();
+    Ok(())
+}
+
 /// Events that can't happen are told so, and the seat has no call of them.
 #[test]
 fn impossible_events(rt: HostRuntime) -> Result<(), Fail> {
     let packet = packet_of_length(rt.alloc(), 1)?;
     let long = packet_of_length(rt.alloc(), 4097)?;
-    let (fabric, mut seats) = fabric_of(rt.alloc(), 1)?;
-    let told = match seats.as_mut_slice() {
-        [seat, ..] => are_impossible(&rt, &fabric, seat, packet, long),
-        [] => false,
-    };
-    fabric.close(seats).retire();
+    let ready = ready_plan(rt.alloc(), 1)?;
+    let told = are_refused::<Brand, _>(&rt, rt.alloc(), ready, (packet, long))?;
     assert!(rt; told);
     Ok(())
 }
@@ -59,16 +66,34 @@ fn packet_of_length(alloc: Global, length: usize) -> Result<Packet, Fail> {
     })
 }
 
-fn are_impossible<R: Wait>(
+/// Whether events with these packets are refused through the first seat of a fabric.
+fn are_refused<N: Naming, R: Wait>(
     rt: &R,
-    fabric: &Fabric,
+    alloc: Global,
+    ready: Ready,
+    packets: (Packet, Packet),
+) -> Result<bool, Fail>
+    requires { (ready.word_id ≡ N.word) × (handed_of ready.net ≡ N.handed) }
+{
+    let (fabric, mut seats) = seated::<N>(alloc, ready)?;
+    let told = match seats.as_mut_slice() {
+        [seat, ..] => are_impossible(rt, &fabric, seat, packets),
+        [] => false,
+    };
+    fabric.close(seats).retire();
+    Ok(told)
+}
+
+fn are_impossible<N: Naming, R: Wait>(
+    rt: &R,
+    fabric: &Fabric<N>,
     seat: &mut Seat,
-    packet: Packet,
-    long: Packet,
+    packets: (Packet, Packet),
 ) -> bool
     requires { seat.old.0.word_id ≡ fabric.now.word_id }
     ensures { seat.new.0.word_id ≡ fabric.now.word_id }
 {
+    let (packet, long) = packets;
     let elsewhere = Event::Send {
         terminal: 9,
         packet,
@@ -108,17 +133,23 @@ fn retire_all(mut nodes: Vec<Node>) {
 
 fn by_lent_nodes(alloc: Global, nodes: &mut Vec<Node>) -> Result<bool, Fail> {
     match nodes.as_mut_slice() {
-        [switch, terminal, ..] => by_switch_and_terminal(alloc, switch, terminal),
+        [switch, terminal, ..] => {
+            let ready = ready_plan(alloc, 1)?;
+            by_switch_and_terminal::<Brand>(alloc, ready, switch, terminal)
+        }
         _ => Ok(false),
     }
 }
 
-fn by_switch_and_terminal(
+fn by_switch_and_terminal<N: Naming>(
     alloc: Global,
+    ready: Ready,
     switch: &mut Node,
     terminal: &mut Node,
-) -> Result<bool, Fail> {
-    let (fabric, mut seats) = fabric_of(alloc, 1)?;
+) -> Result<bool, Fail>
+    requires { (ready.word_id ≡ N.word) × (handed_of ready.net ≡ N.handed) }
+{
+    let (fabric, mut seats) = seated::<N>(alloc, ready)?;
     let told = match seats.as_mut_slice() {
         [seat, ..] => are_told(&fabric, seat, switch, terminal),
         [] => false,
@@ -130,7 +161,12 @@ fn by_switch_and_terminal(
 }
 
 /// Nothing arrives at the terminal a, and the switch tells what it is.
-fn are_told(fabric: &Fabric, seat: &mut Seat, switch: &mut Node, terminal: &mut Node) -> bool
+fn are_told<N: Naming>(
+    fabric: &Fabric<N>,
+    seat: &mut Seat,
+    switch: &mut Node,
+    terminal: &mut Node,
+) -> bool
     requires { seat.old.0.word_id ≡ fabric.now.word_id }
     ensures { seat.new.0.word_id ≡ fabric.now.word_id }
 {
@@ -147,8 +183,8 @@ fn are_told(fabric: &Fabric, seat: &mut Seat, switch: &mut Node, terminal: &mut 
 }
 
 /// What an event on one lent node is answered. None if it can't happen, or not on one node.
-fn held(
-    fabric: &Fabric,
+fn held<N: Naming>(
+    fabric: &Fabric<N>,
     seat: &mut Seat,
     event: &Event,
     node: &mut Node,

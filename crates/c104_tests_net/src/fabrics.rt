@@ -1,6 +1,6 @@
 //! Events that threads do through the seats of a fabric.
 ghost use Rattle.std.specs.{Prelude.{IfOk, ◌≡◌}, Thread.IsSync};
-ghost use Rattle.c104_workers.specs.Fabrics.{AreSeatsOf};
+ghost use Rattle.c104_workers.specs.Fabrics.{AreSeatsOf, handed_of};
 
 use crate::calls::{described_image, drop_run, new_network, packet_of, placed_network};
 use c104_control::ControlBytes;
@@ -10,8 +10,9 @@ use c104_plan::Image;
 use c104_switch::Reply;
 use c104_token::{Packet, Token};
 use c104_tools::{ControlPort, load, verify};
-use c104_workers::{AuditFault, Fabric, FabricPort, Gathered, Seat};
+use c104_workers::{AuditFault, Fabric, FabricPort, Gathered, Naming, Ready, Seat};
 use std::alloc::Global;
+use std::marker::Brand;
 use std::sync::Wait;
 use std::test::Fail;
 use std::thread::{Threads, join};
@@ -20,19 +21,29 @@ use std::thread::{Threads, join};
 pub const PLAN: &[u8] = b"switch A\nterminal a A.0\nterminal b A.1\n\
     row A.0 1 0\nrow A.0 2 1\nrow A.1 1 0\nrow A.1 2 1\n";
 
-/// A fabric of the plan with the settings of its lines, and its seats.
-pub fn fabric_of(alloc: Global, seats: usize) -> Result<(Fabric, Vec<Seat>), Fail>
-    ensures { IfOk result (λ made. AreSeatsOf made.0.word_id made.1.items) }
-{
+/// The network of the plan with the settings of its lines, ready for a fabric of so many seats.
+pub fn ready_plan(alloc: Global, seats: usize) -> Result<Ready, Fail> {
     let net = placed_network(alloc, PLAN)?;
-    seated(alloc, net, seats)
+    ready_of(alloc, net, seats)
 }
 
-/// A fabric of a network, and its seats.
-pub fn seated(alloc: Global, net: Net, seats: usize) -> Result<(Fabric, Vec<Seat>), Fail>
+/// A network, ready for a fabric of so many seats.
+pub fn ready_of(alloc: Global, net: Net, seats: usize) -> Result<Ready, Fail> {
+    match Ready::new(alloc, net, seats) {
+        Ok(ready) => Ok(ready),
+        Err((net, fault)) => {
+            net.retire();
+            Err(fault.into())
+        }
+    }
+}
+
+/// The fabric of a network that is ready, and its seats.
+pub fn seated<N: Naming>(alloc: Global, ready: Ready) -> Result<(Fabric<N>, Vec<Seat>), Fail>
+    requires { (ready.word_id ≡ N.word) × (handed_of ready.net ≡ N.handed) }
     ensures { IfOk result (λ made. AreSeatsOf made.0.word_id made.1.items) }
 {
-    match Fabric::new(alloc, net, seats) {
+    match ready.into_fabric::<N>(alloc) {
         Ok(made) => Ok(made),
         Err((net, fault)) => {
             net.retire();
@@ -48,8 +59,8 @@ pub fn seated(alloc: Global, net: Net, seats: usize) -> Result<(Fabric, Vec<Seat
 fn packets_by_two_threads(rt: HostRuntime) -> Result<(), Fail> {
     let one = packet_of(rt.alloc(), "01 aa eop")?;
     let two = packet_of(rt.alloc(), "00 bb eom")?;
-    let (fabric, seats) = fabric_of(rt.alloc(), 2)?;
-    let gathered = run_two(&rt, rt.alloc(), fabric, seats, (one, two));
+    let ready = ready_plan(rt.alloc(), 2)?;
+    let gathered = run_two::<Brand, _>(&rt, rt.alloc(), ready, (one, two))?;
     let counts = counts_of(&gathered);
     let fault = audit_fault(rt.alloc(), &gathered);
     gathered.retire();
@@ -82,32 +93,32 @@ fn counts_of(gathered: &Gathered) -> (usize, usize, usize) {
 }
 
 /// Each of two seats is used by a thread of its own; then the fabric ends.
-fn run_two<R: Threads + Wait + Sync>(
+fn run_two<N: Naming + Send + Sync, R: Threads + Wait + Sync>(
     rt: &R,
     alloc: Global,
-    fabric: Fabric,
-    mut seats: Vec<Seat>,
+    ready: Ready,
     packets: (Packet, Packet),
-) -> Gathered
-    requires { AreSeatsOf fabric.word_id seats.items }
+) -> Result<Gathered, Fail>
+    requires { (ready.word_id ≡ N.word) × (handed_of ready.net ≡ N.handed) }
 {
+    let (fabric, mut seats) = seated::<N>(alloc, ready)?;
     let Some(second) = seats.pop() else {
-        return fabric.close(seats);
+        return Ok(fabric.close(seats));
     };
     let Some(first) = seats.pop() else {
-        return fabric.close(seats);
+        return Ok(fabric.close(seats));
     };
     let (first, second) = by_two_threads(rt, &fabric, first, second, packets);
     let mut seats = Vec::new(alloc);
     let _first = seats.push(first);
     let _second = seats.push(second);
-    fabric.close(seats)
+    Ok(fabric.close(seats))
 }
 
 /// Two threads, each with a seat of its own.
-fn by_two_threads<R: Threads + Wait + Sync>(
+fn by_two_threads<N: Naming + Send + Sync, R: Threads + Wait + Sync>(
     rt: &R,
-    fabric: &Fabric,
+    fabric: &Fabric<N>,
     first: Seat,
     second: Seat,
     packets: (Packet, Packet),
@@ -132,7 +143,13 @@ fn by_two_threads<R: Threads + Wait + Sync>(
 }
 
 /// Sends a packet of three tokens to the other terminal, and takes the one that comes from there.
-fn carried<R: Wait>(rt: &R, fabric: &Fabric, mut seat: Seat, here: usize, packet: Packet) -> Seat
+fn carried<N: Naming, R: Wait>(
+    rt: &R,
+    fabric: &Fabric<N>,
+    mut seat: Seat,
+    here: usize,
+    packet: Packet,
+) -> Seat
     requires { seat.0.word_id ≡ fabric.now.word_id }
     ensures { result.0.word_id ≡ fabric.now.word_id }
 {
@@ -171,7 +188,7 @@ fn own_events(here: usize, packet: Packet) -> [Event; 9] {
 }
 
 /// Does events in turn, whatever they are answered.
-fn do_each<R: Wait>(rt: &R, fabric: &Fabric, seat: &mut Seat, events: &[Event])
+fn do_each<N: Naming, R: Wait>(rt: &R, fabric: &Fabric<N>, seat: &mut Seat, events: &[Event])
     requires { seat.old.0.word_id ≡ fabric.now.word_id }
     ensures { seat.new.0.word_id ≡ fabric.now.word_id }
 {
@@ -181,7 +198,7 @@ fn do_each<R: Wait>(rt: &R, fabric: &Fabric, seat: &mut Seat, events: &[Event])
 }
 
 /// Takes the packet that comes to a terminal, up to its terminator: it waits for who sends it.
-fn take_packet<R: Wait>(rt: &R, fabric: &Fabric, seat: &mut Seat, here: usize)
+fn take_packet<N: Naming, R: Wait>(rt: &R, fabric: &Fabric<N>, seat: &mut Seat, here: usize)
     requires { seat.old.0.word_id ≡ fabric.now.word_id }
     ensures { seat.new.0.word_id ≡ fabric.now.word_id }
 {
@@ -203,8 +220,8 @@ fn take_packet<R: Wait>(rt: &R, fabric: &Fabric, seat: &mut Seat, here: usize)
 /// dropped or an old value read back, whatever the lists say, and where no event is ever ready.
 #[test]
 fn commands_by_a_seat(rt: HostRuntime) -> Result<(), Fail> {
-    let (fabric, seats) = fabric_of(rt.alloc(), 1)?;
-    let (told, gathered) = ask_and_close(&rt, rt.alloc(), fabric, seats);
+    let ready = ready_plan(rt.alloc(), 1)?;
+    let (told, gathered) = ask_and_close::<Brand, _>(&rt, rt.alloc(), ready)?;
     let (calls, _, entries) = counts_of(&gathered);
     gathered.retire();
     assert!(rt; told && calls == entries);
@@ -212,25 +229,25 @@ fn commands_by_a_seat(rt: HostRuntime) -> Result<(), Fail> {
 }
 
 /// The last seat is asked, and then the fabric ends with it.
-fn ask_and_close<R: Wait>(
+fn ask_and_close<N: Naming, R: Wait>(
     rt: &R,
     alloc: Global,
-    fabric: Fabric,
-    mut seats: Vec<Seat>,
-) -> (bool, Gathered)
-    requires { AreSeatsOf fabric.word_id seats.items }
+    ready: Ready,
+) -> Result<(bool, Gathered), Fail>
+    requires { (ready.word_id ≡ N.word) × (handed_of ready.net ≡ N.handed) }
 {
+    let (fabric, mut seats) = seated::<N>(alloc, ready)?;
     let Some(mut seat) = seats.pop() else {
-        return (false, fabric.close(seats));
+        return Ok((false, fabric.close(seats)));
     };
     let told = is_told(rt, &fabric, &mut seat);
     let mut seats = Vec::new(alloc);
     let _kept = seats.push(seat);
-    (told, fabric.close(seats))
+    Ok((told, fabric.close(seats)))
 }
 
 /// What a seat pokes is read back by it, and a terminal that isn't there is told so.
-fn is_told<R: Wait>(rt: &R, fabric: &Fabric, seat: &mut Seat) -> bool
+fn is_told<N: Naming, R: Wait>(rt: &R, fabric: &Fabric<N>, seat: &mut Seat) -> bool
     requires { seat.old.0.word_id ≡ fabric.now.word_id }
     ensures { seat.new.0.word_id ≡ fabric.now.word_id }
 {
@@ -250,9 +267,9 @@ fn is_reply(answer: &Result<ControlBytes, EventFault>, due: &[u8]) -> bool {
 }
 
 /// One command of the switch through a seat.
-fn command_by<R: Wait>(
+fn command_by<N: Naming, R: Wait>(
     rt: &R,
-    fabric: &Fabric,
+    fabric: &Fabric<N>,
     seat: &mut Seat,
     bytes: &ControlBytes,
 ) -> Result<ControlBytes, EventFault>
@@ -269,8 +286,8 @@ fn command_by<R: Wait>(
 fn image_loaded_by_a_seat(rt: HostRuntime) -> Result<(), Fail> {
     let image = described_image(rt.alloc(), PLAN)?;
     let net = new_network(rt.alloc(), PLAN)?;
-    let (fabric, seats) = seated(rt.alloc(), net, 1)?;
-    let (loaded, gathered) = load_and_close(&rt, rt.alloc(), fabric, seats, &image);
+    let ready = ready_of(rt.alloc(), net, 1)?;
+    let (loaded, gathered) = load_and_close::<Brand, _>(&rt, rt.alloc(), ready, &image)?;
     let (calls, _, entries) = counts_of(&gathered);
     gathered.retire();
     assert!(rt; loaded && calls == entries);
@@ -278,27 +295,27 @@ fn image_loaded_by_a_seat(rt: HostRuntime) -> Result<(), Fail> {
 }
 
 /// The last seat loads an image and compares it, and then the fabric ends with it.
-fn load_and_close<R: Wait>(
+fn load_and_close<N: Naming, R: Wait>(
     rt: &R,
     alloc: Global,
-    fabric: Fabric,
-    mut seats: Vec<Seat>,
+    ready: Ready,
     image: &Image,
-) -> (bool, Gathered)
-    requires { AreSeatsOf fabric.word_id seats.items }
+) -> Result<(bool, Gathered), Fail>
+    requires { (ready.word_id ≡ N.word) × (handed_of ready.net ≡ N.handed) }
 {
+    let (fabric, mut seats) = seated::<N>(alloc, ready)?;
     let Some(mut seat) = seats.pop() else {
-        return (false, fabric.close(seats));
+        return Ok((false, fabric.close(seats)));
     };
     let loaded = load_by(rt, &fabric, &mut seat, image);
     let verified = verify_by(rt, &fabric, &mut seat, image);
     let mut seats = Vec::new(alloc);
     let _kept = seats.push(seat);
-    (loaded && verified, fabric.close(seats))
+    Ok((loaded && verified, fabric.close(seats)))
 }
 
 /// Whether a seat loads an image.
-fn load_by<R: Wait>(rt: &R, fabric: &Fabric, seat: &mut Seat, image: &Image) -> bool
+fn load_by<N: Naming, R: Wait>(rt: &R, fabric: &Fabric<N>, seat: &mut Seat, image: &Image) -> bool
     requires { seat.old.0.word_id ≡ fabric.now.word_id }
     ensures { seat.new.0.word_id ≡ fabric.now.word_id }
 {
@@ -307,7 +324,7 @@ fn load_by<R: Wait>(rt: &R, fabric: &Fabric, seat: &mut Seat, image: &Image) -> 
 }
 
 /// Whether the switches hold an image, by what a seat reads.
-fn verify_by<R: Wait>(rt: &R, fabric: &Fabric, seat: &mut Seat, image: &Image) -> bool
+fn verify_by<N: Naming, R: Wait>(rt: &R, fabric: &Fabric<N>, seat: &mut Seat, image: &Image) -> bool
     requires { seat.old.0.word_id ≡ fabric.now.word_id }
     ensures { seat.new.0.word_id ≡ fabric.now.word_id }
 {

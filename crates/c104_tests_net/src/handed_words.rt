@@ -1,11 +1,12 @@
 //! The words that workers hand to inputs.
-ghost use Rattle.std.specs.Prelude.{length, ◌≤◌};
-ghost use Rattle.c104_workers.specs.Fabrics.{AreSeatsOf};
+ghost use Rattle.std.specs.Prelude.{length, ◌≡◌, ◌≤◌};
+ghost use Rattle.c104_workers.specs.Fabrics.{AreSeatsOf, handed_of};
 
-use crate::networks::{MESH, busy_fabric, is_run};
+use crate::networks::{MESH, busy_ready, fabric_of, is_run};
 use c104_event::Event;
-use c104_workers::{Call, Fabric, Gathered, OpenGate, Seat, Words, run_workers};
+use c104_workers::{Call, Fabric, Gathered, Naming, OpenGate, Ready, Seat, Words, run_workers};
 use std::alloc::Global;
+use std::marker::Brand;
 use std::sync::Wait;
 use std::thread::Threads;
 
@@ -56,7 +57,19 @@ fn seen_by_two<R: Threads + Wait + Sync>(
     alloc: Global,
     words: Words,
 ) -> Option<(Seen, Seen)> {
-    let (fabric, mut seats) = busy_fabric(alloc, MESH, 2)?;
+    let ready = busy_ready(alloc, MESH, 2)?;
+    seen_of_run::<Brand, R>(rt, alloc, ready, words)
+}
+
+fn seen_of_run<N: Naming + Send + Sync, R: Threads + Wait + Sync>(
+    rt: &R,
+    alloc: Global,
+    ready: Ready,
+    words: Words,
+) -> Option<(Seen, Seen)>
+    requires { (ready.word_id ≡ N.word) × (handed_of ready.net ≡ N.handed) }
+{
+    let (fabric, mut seats) = fabric_of::<N>(alloc, ready)?;
     if !seats.is_empty() {
         work(rt, alloc, &fabric, seats.as_mut_slice(), words);
     }
@@ -68,10 +81,10 @@ fn seen_by_two<R: Threads + Wait + Sync>(
 }
 
 /// The workers are called again and again, so that they come in turn even where one has done its turns before another begins.
-fn work<R: Threads + Wait + Sync>(
+fn work<N: Naming + Send + Sync, R: Threads + Wait + Sync>(
     rt: &R,
     alloc: Global,
-    fabric: &Fabric,
+    fabric: &Fabric<N>,
     seats: &mut [Seat],
     words: Words,
 )

@@ -1,6 +1,6 @@
 //! Networks whose fabrics are used and audited, and what all tests do with them.
-ghost use Rattle.std.specs.Prelude.{IfSome};
-ghost use Rattle.c104_workers.specs.Fabrics.{AreSeatsOf};
+ghost use Rattle.std.specs.Prelude.{IfSome, ◌≡◌};
+ghost use Rattle.c104_workers.specs.Fabrics.{AreSeatsOf, handed_of};
 
 use crate::calls::{drop_plan, drop_run};
 use crate::plan_calls::{Maker, image, plan_of};
@@ -8,7 +8,7 @@ use c104_event::Event;
 use c104_plan::Plan;
 use c104_run::Net;
 use c104_token::parse_packet;
-use c104_workers::{Fabric, Gathered, Seat};
+use c104_workers::{Fabric, Gathered, Naming, Ready, Seat};
 use std::alloc::Global;
 
 /// Two terminals on one switch, with a row to each.
@@ -58,19 +58,29 @@ fn busy_network(alloc: Global, text: &[u8]) -> Option<Net> {
     Some(net)
 }
 
-/// A fabric of such a network, and its seats.
-pub fn busy_fabric(alloc: Global, text: &[u8], seats: usize) -> Option<(Fabric, Vec<Seat>)>
-    ensures { IfSome result (λ made. AreSeatsOf made.0.word_id made.1.items) }
-{
+/// Such a network, ready for a fabric of so many seats.
+pub fn busy_ready(alloc: Global, text: &[u8], seats: usize) -> Option<Ready> {
     let net = busy_network(alloc, text)?;
-    fabric_of(alloc, net, seats)
+    ready_of(alloc, net, seats)
 }
 
-/// A fabric of a network, and its seats.
-pub fn fabric_of(alloc: Global, net: Net, seats: usize) -> Option<(Fabric, Vec<Seat>)>
+/// A network, ready for a fabric of so many seats.
+pub fn ready_of(alloc: Global, net: Net, seats: usize) -> Option<Ready> {
+    match Ready::new(alloc, net, seats) {
+        Ok(ready) => Some(ready),
+        Err((net, _)) => {
+            net.retire();
+            None
+        }
+    }
+}
+
+/// The fabric of a network that is ready, and its seats.
+pub fn fabric_of<N: Naming>(alloc: Global, ready: Ready) -> Option<(Fabric<N>, Vec<Seat>)>
+    requires { (ready.word_id ≡ N.word) × (handed_of ready.net ≡ N.handed) }
     ensures { IfSome result (λ made. AreSeatsOf made.0.word_id made.1.items) }
 {
-    match Fabric::new(alloc, net, seats) {
+    match ready.into_fabric::<N>(alloc) {
         Ok(made) => Some(made),
         Err((net, _)) => {
             net.retire();

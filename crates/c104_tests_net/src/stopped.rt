@@ -1,12 +1,14 @@
 //! Workers that stop after any number of turns.
-ghost use Rattle.c104_workers.specs.Fabrics.{AreSeatsOf};
+ghost use Rattle.std.specs.Prelude.{◌≡◌};
+ghost use Rattle.c104_workers.specs.Fabrics.{AreSeatsOf, handed_of};
 
-use crate::networks::{CUBE, MESH, PLAN, busy_fabric, fabric_of, is_run, network};
+use crate::networks::{CUBE, MESH, PLAN, busy_ready, fabric_of, is_run, network, ready_of};
 use c104_control::ControlBytes;
 use c104_event::{Event, EventFault};
 use c104_run::Net;
-use c104_workers::{Fabric, OpenGate, RunFault, Seat, Words, run_workers};
+use c104_workers::{Fabric, Naming, OpenGate, Ready, RunFault, Seat, Words, run_workers};
 use std::alloc::Global;
+use std::marker::Brand;
 use std::sync::Wait;
 use std::thread::Threads;
 
@@ -15,21 +17,33 @@ const TURNS: u64 = 20;
 
 /// Whether workers that do a number of turns leave one run.
 fn leave_a_run<R: Threads + Wait + Sync>(rt: &R, alloc: Global, text: &[u8], turns: u64) -> bool {
-    let Some((fabric, mut seats)) = busy_fabric(alloc, text, 3) else {
-        return false;
-    };
+    match busy_ready(alloc, text, 3) {
+        Some(ready) => is_a_run::<Brand, R>(rt, alloc, ready, turns) == Some(true),
+        None => false,
+    }
+}
+
+fn is_a_run<N: Naming + Send + Sync, R: Threads + Wait + Sync>(
+    rt: &R,
+    alloc: Global,
+    ready: Ready,
+    turns: u64,
+) -> Option<bool>
+    requires { (ready.word_id ≡ N.word) × (handed_of ready.net ≡ N.handed) }
+{
+    let (fabric, mut seats) = fabric_of::<N>(alloc, ready)?;
     let is_done = are_done(rt, alloc, &fabric, &mut seats, turns);
     let gathered = fabric.close(seats);
     let is_run = is_run(alloc, &gathered);
     gathered.retire();
-    is_done && is_run
+    Some(is_done && is_run)
 }
 
 /// Whether all turns of a worker for each seat are done.
-fn are_done<R: Threads + Wait + Sync>(
+fn are_done<N: Naming + Send + Sync, R: Threads + Wait + Sync>(
     rt: &R,
     alloc: Global,
-    fabric: &Fabric,
+    fabric: &Fabric<N>,
     seats: &mut Vec<Seat>,
     turns: u64,
 ) -> bool
@@ -98,7 +112,18 @@ fn end_at_a_full_trace<R: Threads + Wait + Sync>(
     alloc: Global,
 ) -> Option<(Result<(), RunFault>, bool)> {
     let net = almost_full_network(alloc)?;
-    let (fabric, mut seats) = fabric_of(alloc, net, 2)?;
+    let ready = ready_of(alloc, net, 2)?;
+    end_of_two::<Brand, R>(rt, alloc, ready)
+}
+
+fn end_of_two<N: Naming + Send + Sync, R: Threads + Wait + Sync>(
+    rt: &R,
+    alloc: Global,
+    ready: Ready,
+) -> Option<(Result<(), RunFault>, bool)>
+    requires { (ready.word_id ≡ N.word) × (handed_of ready.net ≡ N.handed) }
+{
+    let (fabric, mut seats) = fabric_of::<N>(alloc, ready)?;
     let end = end_of_turns(rt, alloc, &fabric, &mut seats);
     let gathered = fabric.close(seats);
     let is_run = is_run(alloc, &gathered);
@@ -107,10 +132,10 @@ fn end_at_a_full_trace<R: Threads + Wait + Sync>(
 }
 
 /// How the turns of a worker for each seat end.
-fn end_of_turns<R: Threads + Wait + Sync>(
+fn end_of_turns<N: Naming + Send + Sync, R: Threads + Wait + Sync>(
     rt: &R,
     alloc: Global,
-    fabric: &Fabric,
+    fabric: &Fabric<N>,
     seats: &mut Vec<Seat>,
 ) -> Option<Result<(), RunFault>>
     requires { AreSeatsOf fabric.now.word_id seats.old.items }

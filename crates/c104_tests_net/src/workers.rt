@@ -2,15 +2,19 @@
 //!
 //! No contract tells that a thread runs, which locks are held, or that an event is done behind them. So what these tests
 //! refuse nothing else does; each names the wrong bodies.
-ghost use Rattle.c104_workers.specs.Fabrics.{AreSeatsOf};
+ghost use Rattle.std.specs.Prelude.{◌≡◌};
+ghost use Rattle.c104_workers.specs.Fabrics.{AreSeatsOf, handed_of};
 
 use crate::calls::{apply, labelled_network, placed_network, retire};
-use crate::fabrics::{PLAN, audit_fault, seated};
+use crate::fabrics::{PLAN, audit_fault, ready_of, ready_plan, seated};
 use c104_control::ControlBytes;
 use c104_event::{Event, EventFault};
 use c104_net::Net;
-use c104_workers::{Fabric, Gate, Gathered, OpenGate, RunFault, Seat, Words, run_workers};
+use c104_workers::{
+    Fabric, Gate, Gathered, Naming, OpenGate, Ready, RunFault, Seat, Words, run_workers,
+};
 use std::alloc::Global;
+use std::marker::Brand;
 use std::sync::Wait;
 use std::sync::atomic::{AtomicBool, Ordering};
 use std::test::Fail;
@@ -105,25 +109,25 @@ impl Gate for InsideTerminals {
 }
 
 /// A turn of two workers, and then the fabric ends.
-fn one_turn<R: Threads + Wait + Sync, G: Gate + Sync>(
+fn one_turn<N: Naming + Send + Sync, R: Threads + Wait + Sync, G: Gate + Sync>(
     rt: &R,
     alloc: Global,
-    made: (Fabric, Vec<Seat>),
+    ready: Ready,
     gate: &G,
-) -> bool
-    requires { AreSeatsOf made.0.word_id made.1.items }
+) -> Result<bool, Fail>
+    requires { (ready.word_id ≡ N.word) × (handed_of ready.net ≡ N.handed) }
 {
-    let (fabric, mut seats) = made;
+    let (fabric, mut seats) = seated::<N>(alloc, ready)?;
     let end = turns(rt, alloc, &fabric, &mut seats, gate, 1);
     fabric.close(seats).retire();
-    end == Some(Ok(()))
+    Ok(end == Some(Ok(())))
 }
 
 /// Turns of a worker for each seat. None if there are no seats.
-fn turns<R: Threads + Wait + Sync, G: Gate + Sync>(
+fn turns<N: Naming + Send + Sync, R: Threads + Wait + Sync, G: Gate + Sync>(
     rt: &R,
     alloc: Global,
-    fabric: &Fabric,
+    fabric: &Fabric<N>,
     seats: &mut Vec<Seat>,
     gate: &G,
     count: u64,
@@ -142,10 +146,9 @@ fn turns<R: Threads + Wait + Sync, G: Gate + Sync>(
 /// waits for the second in vain.
 #[test]
 fn two_before_a_turn(rt: HostRuntime) -> Result<(), Fail> {
-    let net = placed_network(rt.alloc(), PLAN)?;
-    let made = seated(rt.alloc(), net, 2)?;
+    let ready = ready_plan(rt.alloc(), 2)?;
     let gate = BeforeTurns(Meeting::new());
-    let done = one_turn(&rt, rt.alloc(), made, &gate);
+    let done = one_turn::<Brand, _, _>(&rt, rt.alloc(), ready, &gate)?;
     assert!(rt; done && gate.0.is_over());
     Ok(())
 }
@@ -155,9 +158,9 @@ fn two_before_a_turn(rt: HostRuntime) -> Result<(), Fail> {
 #[test]
 fn two_inside_nodes(rt: HostRuntime) -> Result<(), Fail> {
     let net = labelled_network(rt.alloc(), MESH)?;
-    let made = seated(rt.alloc(), net, 2)?;
+    let ready = ready_of(rt.alloc(), net, 2)?;
     let gate = InsideTerminals(Meeting::new());
-    let done = one_turn(&rt, rt.alloc(), made, &gate);
+    let done = one_turn::<Brand, _, _>(&rt, rt.alloc(), ready, &gate)?;
     assert!(rt; done && gate.0.is_over());
     Ok(())
 }
@@ -165,33 +168,32 @@ fn two_inside_nodes(rt: HostRuntime) -> Result<(), Fail> {
 /// No turn adds a call.
 #[test]
 fn no_turns(rt: HostRuntime) -> Result<(), Fail> {
-    let net = placed_network(rt.alloc(), PLAN)?;
-    let made = seated(rt.alloc(), net, 3)?;
-    let (asked, lengths) = after_no_turns(&rt, rt.alloc(), made);
+    let ready = ready_plan(rt.alloc(), 3)?;
+    let (asked, lengths) = after_no_turns::<Brand, _>(&rt, rt.alloc(), ready)?;
     assert!(rt; asked && lengths == Some([1, 0, 0]));
     Ok(())
 }
 
 /// A command is asked through the first of three seats; then workers do no turns, and each seat's calls are counted.
-fn after_no_turns<R: Threads + Wait + Sync>(
+fn after_no_turns<N: Naming + Send + Sync, R: Threads + Wait + Sync>(
     rt: &R,
     alloc: Global,
-    made: (Fabric, Vec<Seat>),
-) -> (bool, Option<[usize; 3]>)
-    requires { AreSeatsOf made.0.word_id made.1.items }
+    ready: Ready,
+) -> Result<(bool, Option<[usize; 3]>), Fail>
+    requires { (ready.word_id ≡ N.word) × (handed_of ready.net ≡ N.handed) }
 {
-    let (fabric, mut seats) = made;
+    let (fabric, mut seats) = seated::<N>(alloc, ready)?;
     let asked = is_asked(rt, &fabric, &mut seats);
     let end = turns(rt, alloc, &fabric, &mut seats, &OpenGate, 0);
     let gathered = fabric.close(seats);
     let lengths = call_counts(&gathered);
     let fault = audit_fault(alloc, &gathered);
     gathered.retire();
-    (asked && end == Some(Ok(())) && fault == None, lengths)
+    Ok((asked && end == Some(Ok(())) && fault == None, lengths))
 }
 
 /// Whether the switch replies to a command through the first seat.
-fn is_asked<R: Wait>(rt: &R, fabric: &Fabric, seats: &mut Vec<Seat>) -> bool
+fn is_asked<N: Naming, R: Wait>(rt: &R, fabric: &Fabric<N>, seats: &mut Vec<Seat>) -> bool
     requires { AreSeatsOf fabric.now.word_id seats.old.items }
     ensures { AreSeatsOf fabric.now.word_id seats.new.items }
 {
@@ -230,8 +232,8 @@ fn stopped_by_a_full_trace(rt: HostRuntime) -> Result<(), Fail> {
         retire(net);
         return Err(fail);
     }
-    let made = seated(rt.alloc(), net, 1)?;
-    let end = end_of_a_turn(&rt, rt.alloc(), made);
+    let ready = ready_of(rt.alloc(), net, 1)?;
+    let end = end_of_a_turn::<Brand, _>(&rt, rt.alloc(), ready)?;
     assert!(rt; end == Some(Err(RunFault::Event(0, EventFault::TraceFull))));
     Ok(())
 }
@@ -245,15 +247,15 @@ fn fill(net: &mut Net) -> Result<(), Fail> {
 }
 
 /// How a turn of workers ends.
-fn end_of_a_turn<R: Threads + Wait + Sync>(
+fn end_of_a_turn<N: Naming + Send + Sync, R: Threads + Wait + Sync>(
     rt: &R,
     alloc: Global,
-    made: (Fabric, Vec<Seat>),
-) -> Option<Result<(), RunFault>>
-    requires { AreSeatsOf made.0.word_id made.1.items }
+    ready: Ready,
+) -> Result<Option<Result<(), RunFault>>, Fail>
+    requires { (ready.word_id ≡ N.word) × (handed_of ready.net ≡ N.handed) }
 {
-    let (fabric, mut seats) = made;
+    let (fabric, mut seats) = seated::<N>(alloc, ready)?;
     let end = turns(rt, alloc, &fabric, &mut seats, &OpenGate, 1);
     fabric.close(seats).retire();
-    end
+    Ok(end)
 }

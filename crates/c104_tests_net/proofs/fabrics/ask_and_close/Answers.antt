@@ -2,4 +2,5 @@ use Rattle.{c104_workers.{proofs.GatheredSeats.seats_before, specs.Fabrics.AreSe
 
 pub is_told-told-requires : Rattle.c104_tests_net.proofs.fabrics.ask_and_close.Goals.is_told-told-requires
 is_told-told-requires g c =
-    (seats_before c.args.fabric.word_id c.pop.new.self.items c.in-Some.seat (subst (AreSeatsOf c.args.fabric.word_id) c.in-Some.ensures.items c.requires)).1
+    let word = c.in_ok-fabric.fabric.word_id in
+    (seats_before word c.pop.new.self.items c.in-Some.seat (subst (AreSeatsOf word) c.in-Some.ensures.items c.in_ok-fabric.ensures)).1

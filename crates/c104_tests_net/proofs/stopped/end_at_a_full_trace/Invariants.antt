@@ -1,0 +1,6 @@
+use Rattle.c104_workers.specs.Fabrics.{handed_of}
+use Rattle.c104_tests_net.proofs.stopped.end_at_a_full_trace.Given as goal
+
+-- the word and the network that were just made ready
+abbrev pub ghosts-end_of_two : goal.ghosts-end_of_two
+ghosts-end_of_two g a = record { word = a.ready.word_id; handed = handed_of a.ready.net }
