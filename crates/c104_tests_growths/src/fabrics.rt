@@ -1,6 +1,6 @@
 //! Fabrics, their events and workers, and the audit.
 ghost use Rattle.std.specs.Prelude.{◌≡◌, ◌≤◌, IfSome, length};
-ghost use Rattle.c104_workers.specs.Fabrics.{AreSeatsOf};
+ghost use Rattle.c104_workers.specs.Fabrics.{AreSeatsOf, handed_of};
 
 use crate::calls::{MESH, PLAN, do_all, drop_run, has_come};
 use crate::ground::{Ground, Suite, growths_on, is_right_on};
@@ -9,26 +9,67 @@ use crate::outcomes::Outcome;
 use c104_event::Event;
 use c104_net::Net;
 use c104_switch::Reply;
-use c104_workers::{Fabric, Gathered, OpenGate, Seat, Words, run_workers};
+use c104_workers::{
+    Fabric, FabricFault, Gathered, Naming, OpenGate, Ready, Seat, Words, run_workers,
+};
 use std::alloc::Global;
+use std::marker::Brand;
 use std::sync::Wait;
 use std::thread::Threads;
 
 /// How many events of the first run are done before there is a fabric.
 const BEFORE: usize = 4;
 
-/// A fabric of two seats, of the ground's network after this many events.
-pub fn fabric_of(alloc: Global, ground: Ground<'_>, count: usize) -> Option<(Fabric, Vec<Seat>)>
+/// The ground's network, ready for a fabric of two seats.
+pub fn ready_of(alloc: Global, ground: Ground<'_>) -> Option<Ready> {
+    let net = ground.net(alloc)?;
+    match Ready::new(alloc, net, 2) {
+        Ok(ready) => Some(ready),
+        Err((net, _)) => {
+            net.retire();
+            None
+        }
+    }
+}
+
+/// The fabric of a network that is ready, and its seats.
+pub fn fabric_of<N: Naming>(alloc: Global, ready: Ready) -> Option<(Fabric<N>, Vec<Seat>)>
+    requires { (ready.word_id ≡ N.word) × (handed_of ready.net ≡ N.handed) }
     ensures { IfSome result (λ made. AreSeatsOf made.0.word_id made.1.items) }
 {
-    let net = ground.net_after(alloc, count)?;
-    match Fabric::new(alloc, net, 2) {
+    match ready.into_fabric::<N>(alloc) {
         Ok(made) => Some(made),
         Err((net, _)) => {
             net.retire();
             None
         }
     }
+}
+
+/// What a fabric leaves through which nothing is done, of the ground's network after this many events.
+pub fn left_after(alloc: Global, ground: Ground<'_>, count: usize) -> Option<Gathered> {
+    let net = ground.net_after(alloc, count)?;
+    match left_of(alloc, net) {
+        Ok(gathered) => Some(gathered),
+        Err((net, _)) => {
+            net.retire();
+            None
+        }
+    }
+}
+
+/// What a fabric of a network leaves through which nothing is done. All memory that it takes is that of the two steps to
+/// the fabric.
+fn left_of(alloc: Global, net: Net) -> Result<Gathered, (Net, FabricFault)> {
+    let ready = Ready::new(alloc, net, 2)?;
+    closed::<Brand>(alloc, ready)
+}
+
+fn closed<N: Naming>(alloc: Global, ready: Ready) -> Result<Gathered, (Net, FabricFault)>
+    requires { (ready.word_id ≡ N.word) × (handed_of ready.net ≡ N.handed) }
+{
+    let (fabric, seats) = ready.into_fabric::<N>(alloc)?;
+    Ok(fabric.close(seats))
 }
 
 /// Whether what a fabric left is one run.
@@ -42,9 +83,9 @@ pub fn is_run(alloc: Global, gathered: &Gathered) -> bool {
     }
 }
 
-/// A fabric is made. Where it is refused, the network comes back whole: each node has the entries that it had, and the
-/// rest of the first run is done on it. It fails where another network comes back, or this one with nodes that have begun
-/// anew or lost tokens.
+/// A fabric is made, in two steps. Where either is refused, the network comes back whole: each node has the entries that it
+/// had, and the rest of the first run is done on it. It fails where another network comes back, or this one with nodes that
+/// have begun anew or lost tokens.
 #[derive(Drop)]
 struct Making<'a>(Ground<'a>);
 
@@ -54,11 +95,11 @@ impl Growing for Making<'_> {
             return Outcome::Wrong;
         };
         refusal.begin(alloc);
-        let result = Fabric::new(alloc, net, 2);
+        let result = left_of(alloc, net);
         refusal.end(alloc);
         match result {
-            Ok((fabric, seats)) => {
-                fabric.close(seats).retire();
+            Ok(gathered) => {
+                gathered.retire();
                 Outcome::Done
             }
             Err((net, fault)) => {
@@ -94,23 +135,38 @@ impl Sharing for Doing {
         let Some(event) = ground.events.first() else {
             return Outcome::Wrong;
         };
-        let Some((fabric, mut seats)) = fabric_of(alloc, ground, 0) else {
+        let Some(ready) = ready_of(alloc, ground) else {
             return Outcome::Wrong;
         };
-        let found = match seats.as_mut_slice() {
-            [seat, ..] => applied(rt, alloc, refusal, &fabric, seat, event),
-            [] => Outcome::Wrong,
-        };
-        fabric.close(seats).retire();
-        found
+        done::<Brand, R>(rt, alloc, refusal, ready, event)
     }
 }
 
-fn applied<R: Wait>(
+fn done<N: Naming, R: Wait>(
     rt: &R,
     alloc: Global,
     refusal: Refusal,
-    fabric: &Fabric,
+    ready: Ready,
+    event: &Event,
+) -> Outcome
+    requires { (ready.word_id ≡ N.word) × (handed_of ready.net ≡ N.handed) }
+{
+    let Some((fabric, mut seats)) = fabric_of::<N>(alloc, ready) else {
+        return Outcome::Wrong;
+    };
+    let found = match seats.as_mut_slice() {
+        [seat, ..] => applied(rt, alloc, refusal, &fabric, seat, event),
+        [] => Outcome::Wrong,
+    };
+    fabric.close(seats).retire();
+    found
+}
+
+fn applied<N: Naming, R: Wait>(
+    rt: &R,
+    alloc: Global,
+    refusal: Refusal,
+    fabric: &Fabric<N>,
     seat: &mut Seat,
     event: &Event,
 ) -> Outcome
@@ -145,26 +201,40 @@ impl Sharing for Working {
         ground: Ground<'_>,
         refusal: Refusal,
     ) -> Outcome {
-        let Some((fabric, mut seats)) = fabric_of(alloc, ground, 0) else {
-            return Outcome::Wrong;
-        };
-        if seats.is_empty() {
-            fabric.close(seats).retire();
-            return Outcome::Wrong;
+        match ready_of(alloc, ground) {
+            Some(ready) => by_workers::<Brand, R>(rt, alloc, refusal, ready),
+            None => Outcome::Wrong,
         }
-        let found = worked(rt, alloc, refusal, &fabric, seats.as_mut_slice());
-        let gathered = fabric.close(seats);
-        let is_run = is_run(alloc, &gathered);
-        gathered.retire();
-        if is_run { found } else { Outcome::Wrong }
     }
 }
 
-fn worked<R: Threads + Wait + Sync>(
+fn by_workers<N: Naming + Send + Sync, R: Threads + Wait + Sync>(
     rt: &R,
     alloc: Global,
     refusal: Refusal,
-    fabric: &Fabric,
+    ready: Ready,
+) -> Outcome
+    requires { (ready.word_id ≡ N.word) × (handed_of ready.net ≡ N.handed) }
+{
+    let Some((fabric, mut seats)) = fabric_of::<N>(alloc, ready) else {
+        return Outcome::Wrong;
+    };
+    if seats.is_empty() {
+        fabric.close(seats).retire();
+        return Outcome::Wrong;
+    }
+    let found = worked(rt, alloc, refusal, &fabric, seats.as_mut_slice());
+    let gathered = fabric.close(seats);
+    let is_run = is_run(alloc, &gathered);
+    gathered.retire();
+    if is_run { found } else { Outcome::Wrong }
+}
+
+fn worked<N: Naming + Send + Sync, R: Threads + Wait + Sync>(
+    rt: &R,
+    alloc: Global,
+    refusal: Refusal,
+    fabric: &Fabric<N>,
     seats: &mut [Seat],
 ) -> Outcome
     requires some { 1 ≤ length seats.old }
@@ -225,15 +295,15 @@ struct FabricCalls;
 
 impl Suite for FabricCalls {
     fn is_right(&self, rt: &HostRuntime, ground: Ground<'_>) -> bool {
-        is_right(rt, "Fabric::new", &Making(ground)) && are_looks_right(rt, ground)
+        is_right(rt, "Ready::new, Ready::into_fabric", &Making(ground))
+            && are_looks_right(rt, ground)
     }
 }
 
 fn are_looks_right(rt: &HostRuntime, ground: Ground<'_>) -> bool {
-    let Some((fabric, seats)) = fabric_of(rt.alloc(), ground, BEFORE) else {
+    let Some(gathered) = left_after(rt.alloc(), ground, BEFORE) else {
         return false;
     };
-    let gathered = fabric.close(seats);
     let are_right = is_right(rt, "Gathered::lists", &Looking(&gathered, Look::Lists))
         && is_right(rt, "Gathered::audit", &Looking(&gathered, Look::Audit));
     gathered.retire();

@@ -1,9 +1,10 @@
 //! Events on nodes that are lent, through a seat: of another network of the same plan, so that it is known of each node
 //! what it kept.
 ghost use Rattle.std.specs.Prelude.{◌≡◌};
+ghost use Rattle.c104_workers.specs.Fabrics.{handed_of};
 
 use crate::calls::PLAN;
-use crate::fabrics::fabric_of;
+use crate::fabrics::{fabric_of, ready_of};
 use crate::ground::{Ground, Suite, is_right_on};
 use crate::growths::{Growing, Refusal, is_right, takes_none};
 use crate::nodes::{nodes_of, retire_all};
@@ -11,8 +12,9 @@ use crate::outcomes::Outcome;
 use c104_event::{Event, EventFault, Port};
 use c104_node::Node;
 use c104_switch::Reply;
-use c104_workers::{Fabric, Seat};
+use c104_workers::{Fabric, Naming, Ready, Seat};
 use std::alloc::Global;
+use std::marker::Brand;
 
 /// What is done on lent nodes.
 #[derive(Clone, Copy)]
@@ -47,20 +49,26 @@ impl Doing<'_> {
     /// On the switch and the terminal a.
     fn by_nodes(&self, alloc: Global, refusal: Refusal, nodes: &mut Vec<Node>) -> Outcome {
         match nodes.as_mut_slice() {
-            [switch, terminal, ..] => self.by_seat(alloc, refusal, switch, terminal),
+            [switch, terminal, ..] => match ready_of(alloc, self.0) {
+                Some(ready) => self.by_seat::<Brand>(alloc, refusal, ready, switch, terminal),
+                None => Outcome::Wrong,
+            },
             _ => Outcome::Wrong,
         }
     }
 
     /// Through the first of the seats of a fabric.
-    fn by_seat(
+    fn by_seat<N: Naming>(
         &self,
         alloc: Global,
         refusal: Refusal,
+        ready: Ready,
         switch: &mut Node,
         terminal: &mut Node,
-    ) -> Outcome {
-        let Some((fabric, mut seats)) = fabric_of(alloc, self.0, 0) else {
+    ) -> Outcome
+        requires { (ready.word_id ≡ N.word) × (handed_of ready.net ≡ N.handed) }
+    {
+        let Some((fabric, mut seats)) = fabric_of::<N>(alloc, ready) else {
             return Outcome::Wrong;
         };
         let found = match seats.as_mut_slice() {
@@ -72,11 +80,11 @@ impl Doing<'_> {
     }
 
     /// Through a seat.
-    fn by(
+    fn by<N: Naming>(
         &self,
         alloc: Global,
         refusal: Refusal,
-        fabric: &Fabric,
+        fabric: &Fabric<N>,
         seat: &mut Seat,
         switch: &mut Node,
         terminal: &mut Node,
@@ -95,10 +103,10 @@ impl Doing<'_> {
     }
 }
 
-fn alone(
+fn alone<N: Naming>(
     alloc: Global,
     refusal: Refusal,
-    fabric: &Fabric,
+    fabric: &Fabric<N>,
     seat: &mut Seat,
     node: &mut Node,
     event: &Event,
@@ -127,8 +135,8 @@ fn has_entry(node: &Node, seat: &Seat) -> bool {
 }
 
 /// What an event is answered on one lent node. No such event is one of two nodes.
-fn held(
-    fabric: &Fabric,
+fn held<N: Naming>(
+    fabric: &Fabric<N>,
     seat: &mut Seat,
     event: &Event,
     node: &mut Node,
@@ -142,10 +150,10 @@ fn held(
     }
 }
 
-fn pair(
+fn pair<N: Naming>(
     alloc: Global,
     refusal: Refusal,
-    fabric: &Fabric,
+    fabric: &Fabric<N>,
     seat: &mut Seat,
     switch: &mut Node,
     terminal: &mut Node,
@@ -170,8 +178,8 @@ fn pair(
 }
 
 /// What the switch is answered that grants to the terminal a.
-fn granted(
-    fabric: &Fabric,
+fn granted<N: Naming>(
+    fabric: &Fabric<N>,
     seat: &mut Seat,
     switch: &mut Node,
     terminal: &mut Node,
@@ -186,10 +194,10 @@ fn granted(
     }
 }
 
-fn not_ready(
+fn not_ready<N: Naming>(
     alloc: Global,
     refusal: Refusal,
-    fabric: &Fabric,
+    fabric: &Fabric<N>,
     seat: &mut Seat,
     node: &mut Node,
 ) -> Outcome

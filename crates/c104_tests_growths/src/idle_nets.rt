@@ -1,9 +1,10 @@
 //! Calls of networks and fabrics that take no memory, and events that aren't done, which take none: with every growth
 //! refused each answers as ever.
 ghost use Rattle.std.specs.Prelude.{◌≡◌};
+ghost use Rattle.c104_workers.specs.Fabrics.{handed_of};
 
 use crate::calls::{PLAN, do_all, drop_run};
-use crate::fabrics::fabric_of;
+use crate::fabrics::{fabric_of, ready_of};
 use crate::ground::{Ground, Suite, growths_on, is_right_on};
 use crate::growths::{Growing, Refusal, Sharing, is_none_told, takes_none};
 use crate::outcomes::Outcome;
@@ -12,8 +13,9 @@ use c104_event::{Event, EventFault, Port};
 use c104_net::Net;
 use c104_switch::Reply;
 use c104_token::{Items, Mark, Packet};
-use c104_workers::{Fabric, Seat};
+use c104_workers::{Fabric, Naming, Ready, Seat};
 use std::alloc::Global;
+use std::marker::Brand;
 use std::sync::Wait;
 use std::thread::Threads;
 
@@ -206,21 +208,30 @@ impl Sharing for Idling {
         ground: Ground<'_>,
         refusal: Refusal,
     ) -> Outcome {
-        let Some((fabric, mut seats)) = fabric_of(alloc, ground, 0) else {
-            return Outcome::Wrong;
-        };
-        refusal.begin(alloc);
-        let is_idle = match seats.as_mut_slice() {
-            [seat, ..] => is_idle(rt, &fabric, seat),
-            [] => false,
-        };
-        fabric.close(seats).retire();
-        refusal.end(alloc);
-        Outcome::done_if(is_idle)
+        match ready_of(alloc, ground) {
+            Some(ready) => idled::<Brand, R>(rt, alloc, refusal, ready),
+            None => Outcome::Wrong,
+        }
     }
 }
 
-fn is_idle<R: Wait>(rt: &R, fabric: &Fabric, seat: &mut Seat) -> bool
+fn idled<N: Naming, R: Wait>(rt: &R, alloc: Global, refusal: Refusal, ready: Ready) -> Outcome
+    requires { (ready.word_id ≡ N.word) × (handed_of ready.net ≡ N.handed) }
+{
+    let Some((fabric, mut seats)) = fabric_of::<N>(alloc, ready) else {
+        return Outcome::Wrong;
+    };
+    refusal.begin(alloc);
+    let is_idle = match seats.as_mut_slice() {
+        [seat, ..] => is_idle(rt, &fabric, seat),
+        [] => false,
+    };
+    fabric.close(seats).retire();
+    refusal.end(alloc);
+    Outcome::done_if(is_idle)
+}
+
+fn is_idle<N: Naming, R: Wait>(rt: &R, fabric: &Fabric<N>, seat: &mut Seat) -> bool
     requires { seat.old.0.word_id ≡ fabric.now.word_id }
     ensures { seat.new.0.word_id ≡ fabric.now.word_id }
 {
@@ -229,7 +240,7 @@ fn is_idle<R: Wait>(rt: &R, fabric: &Fabric, seat: &mut Seat) -> bool
     is_quiet && are_refused && seat.calls().is_empty()
 }
 
-fn are_refused_by<R: Wait>(rt: &R, fabric: &Fabric, seat: &mut Seat) -> bool
+fn are_refused_by<N: Naming, R: Wait>(rt: &R, fabric: &Fabric<N>, seat: &mut Seat) -> bool
     requires { seat.old.0.word_id ≡ fabric.now.word_id }
     ensures { seat.new.0.word_id ≡ fabric.now.word_id }
 {

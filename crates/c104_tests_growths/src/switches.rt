@@ -3,12 +3,13 @@ use crate::calls::PLAN;
 use crate::ground::{Ground, Suite, is_right_on};
 use crate::growths::{Growing, Refusal, is_right};
 use crate::outcomes::Outcome;
+use crate::without_memory::TERMS;
 use c104_interval::{Row, Select, Table};
 use c104_link::{InBuffer, OutBuffer};
 use c104_regs::Registers;
 use c104_script::FoundTable;
 use c104_switch::{Switch, SwitchStart};
-use c104_tickets::{Terms, TicketWord};
+use c104_tickets::TicketWord;
 use c104_token::NoMemory;
 use std::alloc::Global;
 
@@ -40,7 +41,7 @@ impl Growing for Making {
             Part::Credit => Outcome::of(OutBuffer::with_credit(alloc, 8)),
             Part::Start => Outcome::of(SwitchStart::new(alloc, 16)),
             Part::PlacedStart => Outcome::of(SwitchStart::placed(alloc, 16, &registers)),
-            Part::Tickets => Outcome::of(TicketWord::new(alloc, Terms { first: 7, seats: 2 })),
+            Part::Tickets => Outcome::of(TicketWord::new(alloc, TERMS)),
             Part::Found => Outcome::of(FoundTable::new(alloc, Table::reset())),
         };
         refusal.end(alloc);

@@ -1,9 +1,10 @@
 //! The loader and the debugger, over a network and over a seat of a fabric. Of the commands those that were answered
 //! before a refusal stand.
 ghost use Rattle.std.specs.Prelude.{◌≡◌};
+ghost use Rattle.c104_workers.specs.Fabrics.{handed_of};
 
 use crate::calls::{PLAN, counts};
-use crate::fabrics::{fabric_of, is_run};
+use crate::fabrics::{fabric_of, is_run, ready_of};
 use crate::ground::{Ground, Suite, growths_on, is_right_on};
 use crate::growths::{Growing, Refusal, Sharing, is_right, is_told};
 use crate::outcomes::Outcome;
@@ -11,8 +12,9 @@ use c104_control::ControlBytes;
 use c104_net::Net;
 use c104_plan::Image;
 use c104_tools::{ControlPort, load, read_link, read_table, verify, write_register};
-use c104_workers::{Fabric, FabricPort, Gathered, Seat};
+use c104_workers::{Fabric, FabricPort, Gathered, Naming, Ready, Seat};
 use std::alloc::Global;
+use std::marker::Brand;
 use std::sync::Wait;
 use std::thread::Threads;
 
@@ -51,7 +53,13 @@ impl Tool {
     }
 
     /// What a call over a seat of a fabric comes to.
-    fn over_seat<R: Wait>(self, rt: &R, fabric: &Fabric, seat: &mut Seat, image: &Image) -> Outcome
+    fn over_seat<N: Naming, R: Wait>(
+        self,
+        rt: &R,
+        fabric: &Fabric<N>,
+        seat: &mut Seat,
+        image: &Image,
+    ) -> Outcome
         requires { seat.old.0.word_id ≡ fabric.now.word_id }
         ensures { seat.new.0.word_id ≡ fabric.now.word_id }
     {
@@ -67,7 +75,7 @@ impl Tool {
 }
 
 /// What it comes to that an image is loaded through a seat.
-fn loaded<R: Wait>(rt: &R, fabric: &Fabric, seat: &mut Seat, image: &Image) -> Outcome
+fn loaded<N: Naming, R: Wait>(rt: &R, fabric: &Fabric<N>, seat: &mut Seat, image: &Image) -> Outcome
     requires { seat.old.0.word_id ≡ fabric.now.word_id }
     ensures { seat.new.0.word_id ≡ fabric.now.word_id }
 {
@@ -76,7 +84,12 @@ fn loaded<R: Wait>(rt: &R, fabric: &Fabric, seat: &mut Seat, image: &Image) -> O
 }
 
 /// The same of an image that is compared.
-fn verified<R: Wait>(rt: &R, fabric: &Fabric, seat: &mut Seat, image: &Image) -> Outcome
+fn verified<N: Naming, R: Wait>(
+    rt: &R,
+    fabric: &Fabric<N>,
+    seat: &mut Seat,
+    image: &Image,
+) -> Outcome
     requires { seat.old.0.word_id ≡ fabric.now.word_id }
     ensures { seat.new.0.word_id ≡ fabric.now.word_id }
 {
@@ -85,7 +98,7 @@ fn verified<R: Wait>(rt: &R, fabric: &Fabric, seat: &mut Seat, image: &Image) ->
 }
 
 /// The same of a register that is written.
-fn written<R: Wait>(rt: &R, fabric: &Fabric, seat: &mut Seat) -> Outcome
+fn written<N: Naming, R: Wait>(rt: &R, fabric: &Fabric<N>, seat: &mut Seat) -> Outcome
     requires { seat.old.0.word_id ≡ fabric.now.word_id }
     ensures { seat.new.0.word_id ≡ fabric.now.word_id }
 {
@@ -94,7 +107,7 @@ fn written<R: Wait>(rt: &R, fabric: &Fabric, seat: &mut Seat) -> Outcome
 }
 
 /// The same of a link's numbers.
-fn link_read<R: Wait>(rt: &R, fabric: &Fabric, seat: &mut Seat) -> Outcome
+fn link_read<N: Naming, R: Wait>(rt: &R, fabric: &Fabric<N>, seat: &mut Seat) -> Outcome
     requires { seat.old.0.word_id ≡ fabric.now.word_id }
     ensures { seat.new.0.word_id ≡ fabric.now.word_id }
 {
@@ -103,7 +116,7 @@ fn link_read<R: Wait>(rt: &R, fabric: &Fabric, seat: &mut Seat) -> Outcome
 }
 
 /// The same of a table.
-fn table_read<R: Wait>(rt: &R, fabric: &Fabric, seat: &mut Seat) -> Outcome
+fn table_read<N: Naming, R: Wait>(rt: &R, fabric: &Fabric<N>, seat: &mut Seat) -> Outcome
     requires { seat.old.0.word_id ≡ fabric.now.word_id }
     ensures { seat.new.0.word_id ≡ fabric.now.word_id }
 {
@@ -112,7 +125,7 @@ fn table_read<R: Wait>(rt: &R, fabric: &Fabric, seat: &mut Seat) -> Outcome
 }
 
 /// The same of a command.
-fn identified<R: Wait>(rt: &R, fabric: &Fabric, seat: &mut Seat) -> Outcome
+fn identified<N: Naming, R: Wait>(rt: &R, fabric: &Fabric<N>, seat: &mut Seat) -> Outcome
     requires { seat.old.0.word_id ≡ fabric.now.word_id }
     ensures { seat.new.0.word_id ≡ fabric.now.word_id }
 {
@@ -161,25 +174,41 @@ impl Sharing for UsingSeat {
         ground: Ground<'_>,
         refusal: Refusal,
     ) -> Outcome {
-        let Some((fabric, mut seats)) = fabric_of(alloc, ground, 0) else {
-            return Outcome::Wrong;
-        };
-        let found = match seats.as_mut_slice() {
-            [seat, ..] => used(rt, alloc, refusal, &fabric, seat, ground.image, self.0),
-            [] => Outcome::Wrong,
-        };
-        let gathered = fabric.close(seats);
-        let is_kept = is_run(alloc, &gathered) && has_each_command(&gathered);
-        gathered.retire();
-        if is_kept { found } else { Outcome::Wrong }
+        match ready_of(alloc, ground) {
+            Some(ready) => by_seat::<Brand, R>(rt, alloc, refusal, ready, ground.image, self.0),
+            None => Outcome::Wrong,
+        }
     }
 }
 
-fn used<R: Wait>(
+fn by_seat<N: Naming, R: Wait>(
     rt: &R,
     alloc: Global,
     refusal: Refusal,
-    fabric: &Fabric,
+    ready: Ready,
+    image: &Image,
+    tool: Tool,
+) -> Outcome
+    requires { (ready.word_id ≡ N.word) × (handed_of ready.net ≡ N.handed) }
+{
+    let Some((fabric, mut seats)) = fabric_of::<N>(alloc, ready) else {
+        return Outcome::Wrong;
+    };
+    let found = match seats.as_mut_slice() {
+        [seat, ..] => used(rt, alloc, refusal, &fabric, seat, image, tool),
+        [] => Outcome::Wrong,
+    };
+    let gathered = fabric.close(seats);
+    let is_kept = is_run(alloc, &gathered) && has_each_command(&gathered);
+    gathered.retire();
+    if is_kept { found } else { Outcome::Wrong }
+}
+
+fn used<N: Naming, R: Wait>(
+    rt: &R,
+    alloc: Global,
+    refusal: Refusal,
+    fabric: &Fabric<N>,
     seat: &mut Seat,
     image: &Image,
     tool: Tool,

@@ -13,6 +13,14 @@ use c104_switch::{Action, Reply, Switch};
 use c104_tickets::{Terms, TicketWord};
 use c104_token::Token;
 use std::alloc::Global;
+use std::marker::Brand;
+
+/// Tickets from 7 on, for two seats.
+pub const TERMS: Terms = Terms {
+    first: 7,
+    seats: 2,
+    places: 0,
+};
 
 /// What is done without memory.
 #[derive(Clone, Copy)]
@@ -176,12 +184,15 @@ fn is_seen(switch: &Switch) -> bool {
 }
 
 fn drawn(alloc: Global, refusal: Refusal) -> Outcome {
-    let Ok((word, mut first)) = TicketWord::new(alloc, Terms { first: 7, seats: 2 }) else {
+    let Ok((word, mut second)) = TicketWord::new(alloc, TERMS) else {
         return Outcome::Wrong;
     };
     refusal.begin(alloc);
-    let mut second = word.split(&mut first);
-    let drawn = [word.draw(&mut first), word.draw(&mut second)];
+    let mut first = word.split(&mut second);
+    let drawn = [
+        word.draw::<Brand>(&mut first),
+        word.draw::<Brand>(&mut second),
+    ];
     word.join(&mut second, first);
     let next = word.close(second);
     refusal.end(alloc);
