@@ -89,7 +89,7 @@ SAYS = {
     },
 }
 # Calls that take a value and give it back where they refuse, by the clause that says so.
-GIVEN_BACK = {'Fabric::new': 'handed'}
+GIVEN_BACK = {'Ready::new': 'net', 'Ready::into_fabric': 'handed'}
 # Clauses of both answers that say of an error which it is, and not what is left.
 OF_FAULTS = {('load', 'loaded')}
 # Calls that share the type of their faults with others, and are never out of memory.
