@@ -6,7 +6,7 @@ use Rattle.c104_plan.specs.declared.plans.{Shape.{Shape, TheVariants.{Cube, Hand
 use Rattle.std.proofs.Common.{List, Option, Some, [], ap, arith, length, map, refl, true, ℕ, ◌+◌, ◌<◌, ◌∷◌, ◌≡◌, ◌≤◌}
 use Rattle.std.proofs.lemmas.{List.{Elements.{All-map, All-weaker}, length-map}, Simd.map-map}
 
--- a plan of so many switches is labelled as this shape from one of them
+-- in a plan of n switches, the root of a shape that has one is one of them
 abbrev pub IsRootIn : ℕ → Shape → Type 0
 IsRootIn n Hand = ⊥
 IsRootIn n (Tree root) = root < n

@@ -24,7 +24,8 @@ pub(crate) enum Form {
     Grid(Grid),
     /// A cube of this dimension: each switch is joined to those whose number differs in one bit, by the link of that bit.
     Cube(usize),
-    /// So many leaves, and then so many spines: each leaf is joined to each spine, by the link of the other's number.
+    /// How many leaves there are, and how many spines after them: each leaf is joined to each spine, by the link of the
+    /// other's number.
     Clos(usize, usize),
 }
 
@@ -63,7 +64,7 @@ fn wired_form(plan: &Plan) -> Option<Wired> {
     None
 }
 
-/// The mesh or torus that a network is, with so many wires for each.
+/// The mesh or torus that a network is, with `span` wires for each of its own.
 fn grid_of(plan: &Plan, span: usize) -> Option<Wired> {
     let switches = plan.switches().len();
     for before in 0..switches {
@@ -81,7 +82,7 @@ fn grid_of(plan: &Plan, span: usize) -> Option<Wired> {
     None
 }
 
-/// A grid with so many wires for each.
+/// A grid with `span` wires for each of its own.
 fn grid_with(width: usize, height: usize, is_closed: bool, span: usize) -> Wired {
     Wired {
         form: Form::Grid(Grid {
@@ -93,7 +94,7 @@ fn grid_with(width: usize, height: usize, is_closed: bool, span: usize) -> Wired
     }
 }
 
-/// The cube or folded Clos network that a network is, with so many wires for each.
+/// The cube or folded Clos network that a network is, with `span` wires for each of its own.
 fn cube_or_clos(plan: &Plan, span: usize) -> Option<Wired> {
     let switches = plan.switches().len();
     for dimensions in 0..7usize {
@@ -173,7 +174,7 @@ fn begins_group(wired: Wired, switch: usize, link: usize) -> bool {
     }
 }
 
-/// Whether one number is so many times another, or that is 0.
+/// Whether a number is a multiple of another, or that is 0.
 fn is_multiple(number: usize, of: usize) -> bool {
     of == 0 || number % of == 0
 }

@@ -225,7 +225,7 @@ fn add(flows: &mut [u64], place: usize, flow: u64) {
     }
 }
 
-/// What tables come to by which so many packets go over the links.
+/// What tables come to, by the packets that go over each link with them.
 fn summed(tables: Tables<'_>, links: &[u64]) -> Load {
     let mut most = 0u64;
     let mut sum = 0u64;

@@ -202,7 +202,7 @@ pub record IsTreePlan (root : ℕ) (plan : Plan) : Type 0 where
   pub counts : total_count plan.terminals ≤ label_count
   pub unset : IsUnset plan
 
--- a root that is named is one of so many switches
+-- a root that is named is the number of one of n switches
 abbrev pub IsNamedIn : ℕ → Option ℕ → Type 0
 IsNamedIn n None = Unit {0}
 IsNamedIn n (Some root) = root < n

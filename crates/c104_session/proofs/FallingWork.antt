@@ -38,7 +38,7 @@ pub record IsRound (plan : Plan) (es : List Event) : Type 0 where
   pub of : AllByRecursion IsOfRound es
   pub finds : (net : Network Token) → net.plan ≡ plan → AllByRecursion (IsUnready plain_kind net) es → AllByRecursion (IsUnready plain_kind net) (round plan)
 
--- so many of them, one after another
+-- n rounds, one after another
 abbrev pub AreRounds : Plan → ℕ → List Event → Type 0
 AreRounds plan zero es = es ≡ []
 AreRounds plan (suc n) es = (now : List Event) × (later : List Event) × (es ≡ now ++ later) × IsRound plan now × AreRounds plan n later
@@ -170,7 +170,7 @@ module _ (routes : Routes) (plan : Plan) (is_plan : IsPlan plan) (starts : List 
     none_left : (nodes : List (Node Token)) → IsLeft 0 nodes → All IsQuietNode nodes
     none_left nodes left = search arith
 
-    -- so it stays as long as no more than so many packets were sent
+    -- so it stays as long as no more than `most` packets were sent
     abbrev left_since : ℕ → ℕ → Fact
     left_since count most sends nodes = (length sends ≡ count → IsLeft most nodes) × (count ≤ length sends)
 
