@@ -233,12 +233,21 @@ fn work_and_close<N: Naming + Send + Sync, R: Threads + Wait + Sync>(
         image,
         asked,
     );
+    Some((meeting.is_kept(), closed(alloc, fabric, workers, third)))
+}
+
+/// The fabric ends with the seats of the workers, and with that of the debugger.
+fn closed<N: Naming>(alloc: Global, fabric: Fabric<N>, workers: Workers, third: Seat) -> Gathered
+    requires first { workers.first.0.word_id ≡ fabric.word_id }
+    requires second { workers.second.0.word_id ≡ fabric.word_id }
+    requires third { third.0.word_id ≡ fabric.word_id }
+{
     let Workers { first, second } = workers;
     let mut seats = Vec::new(alloc);
     let _first = seats.push(first);
     let _second = seats.push(second);
     let _third = seats.push(third);
-    Some((meeting.is_kept(), fabric.close(seats)))
+    fabric.close(seats)
 }
 
 /// The seats of two workers.

@@ -76,10 +76,13 @@ fn are_refused<N: Naming, R: Wait>(
     requires { (ready.word_id ≡ N.word) × (handed_of ready.net ≡ N.handed) }
 {
     let (fabric, mut seats) = seated::<N>(alloc, ready)?;
-    let told = match seats.as_mut_slice() {
-        [seat, ..] => are_impossible(rt, &fabric, seat, packets),
-        [] => false,
+    let Some(mut seat) = seats.pop() else {
+        fabric.close(seats).retire();
+        return Ok(false);
     };
+    let told = are_impossible(rt, &fabric, &mut seat, packets);
+    let mut seats = Vec::new(alloc);
+    let _kept = seats.push(seat);
     fabric.close(seats).retire();
     Ok(told)
 }
@@ -150,10 +153,13 @@ fn by_switch_and_terminal<N: Naming>(
     requires { (ready.word_id ≡ N.word) × (handed_of ready.net ≡ N.handed) }
 {
     let (fabric, mut seats) = seated::<N>(alloc, ready)?;
-    let told = match seats.as_mut_slice() {
-        [seat, ..] => are_told(&fabric, seat, switch, terminal),
-        [] => false,
+    let Some(mut seat) = seats.pop() else {
+        fabric.close(seats).retire();
+        return Ok(false);
     };
+    let told = are_told(&fabric, &mut seat, switch, terminal);
+    let mut seats = Vec::new(alloc);
+    let _kept = seats.push(seat);
     let gathered = fabric.close(seats);
     let fault = audit_fault(alloc, &gathered);
     gathered.retire();
