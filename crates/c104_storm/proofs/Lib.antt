@@ -1,7 +1,14 @@
 mod ArrivalLines
 mod EndingTexts
+mod PlainPieces
+mod RoundWork
+mod SentRuns
+mod SentScripts
+mod ShownPackets
+mod ShownTexts
 mod SomeSeats
 mod SortedArrivals
 mod StormEnds
+mod StormPackets
 mod StormStatuses
 mod TeamWork

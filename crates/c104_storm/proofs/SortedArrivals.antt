@@ -1,12 +1,12 @@
 -- The packets that arrived at a terminal, sorted, and their lines.
 use Rattle.c104_net.{proofs.OriginPieces.{one_origin, piece_origins}, specs.{Deliveries.arrived_at, TracedEnds.traced_end}}
 use Rattle.c104_node.specs.{Origins.{AreSure, origins_in}, declared.{origins.Origin.Origin, traced.Traced.Traced}}
-use Rattle.{c104_plan.specs.Plans.Plan, c104_run.specs.FinishedRecords.FinishedRecord, c104_storm.specs.Arrivals.{AreAll, AreSorted}}
-use Rattle.c104_storm.specs.Arrivals.{Arrived, IsSortedOf, JoinArrivals, JoinSorted, arrived_line, arrived_of}
-use Rattle.{c104_storm.specs.declared.packets.Arrival.Arrival, c104_token.specs.{Cut.whole_pieces, Packets.packet_tokens, Tokens.is_end}}
-use Rattle.{c104_token.specs.declared.{packets.Packet.Packet, tokens.Token.Token}, std.proofs.Common.{Bool, Bor, List, [], ap, arith, cond}}
-use Rattle.std.proofs.Common.{false, flat_map, get_or, if◌then◌else◌, inl, inr, length, map, nat_lt, refl, subst, suc, sym, take, take_all}
-use Rattle.std.proofs.{Common.{true, ℕ, ◌++◌, ◌+◌, ◌<◌, ◌==◌, ◌∙◌, ◌∷◌, ◌≡◌, ◌≤◌, ◌⊎◌}, lemmas.Bool.Decides.nat_tests}
+use Rattle.{c104_plan.specs.Plans.Plan, c104_run.specs.FinishedRecords.FinishedRecord, c104_storm.proofs.PlainPieces.{cut_alike, same}}
+use Rattle.c104_storm.{proofs.PlainPieces.token_of, specs.Arrivals.{AreAll, AreSorted, Arrived, IsSortedOf, JoinArrivals, JoinSorted}}
+use Rattle.{c104_storm.specs.{Arrivals.{arrived_line, arrived_of}, declared.packets.Arrival.Arrival}, c104_token.specs.Cut.whole_pieces}
+use Rattle.{c104_token.specs.{Packets.packet_tokens, declared.{packets.Packet.Packet, tokens.Token.Token}}, std.proofs.Common.{Bool, Bor}}
+use Rattle.std.proofs.Common.{List, [], ap, arith, cond, false, flat_map, get_or, inl, inr, length, map, nat_lt, refl, subst, suc, sym}
+use Rattle.std.proofs.{Common.{take, take_all, true, ℕ, ◌++◌, ◌+◌, ◌<◌, ◌==◌, ◌∙◌, ◌∷◌, ◌≡◌, ◌≤◌, ◌⊎◌}, lemmas.Bool.Decides.nat_tests}
 use Rattle.std.proofs.lemmas.List.{Folds.flat_map-map, Sorted.IsPermutation-map, length-map, map-append, take_more}
 use Rattle.std.specs.{List.Sorted.{IsPermutation, IsSortedByKey}, Ordering.{is_lt, nat_cmp, ordering_then}, declared.cmp.Ordering.Ordering}
 use Rattle.std.specs.declared.cmp.Ordering.TheVariants.{Equal, Greater, Less}
@@ -21,27 +21,10 @@ joined_next run old text new n so_far next =
 pub joined_to : (run : FinishedRecord) (old text new : List ℕ) (n : ℕ) → old ≡ text → JoinArrivals run old n new → JoinArrivals run text n new
 joined_to run old text new n is joined = subst (λ xs. JoinArrivals run xs n new) is joined
 
--- a token alone, and one that is its own
-abbrev token_of : Traced → Token
-token_of x = x.token
-
-abbrev same : Token → Token
-same x = x
-
--- the same tokens, traced and plain, are cut into the same number of pieces
-pieces_counted : (front : List Traced) (plain : List Token) (xs : List Traced) → length (whole_pieces same plain (map token_of xs)) ≡ length (whole_pieces token_of front xs)
-pieces_counted front plain [] = refl
-pieces_counted front plain (x ∷ xs) = by_end (is_end x.token) (pieces_counted [] [] xs) (pieces_counted (front ++ x ∷ []) (plain ++ x.token ∷ []) xs)
-  where
-    by_end : (b : Bool) → length (whole_pieces same [] (map token_of xs)) ≡ length (whole_pieces token_of [] xs) → length (whole_pieces same (plain ++ x.token ∷ []) (map token_of xs)) ≡ length (whole_pieces token_of (front ++ x ∷ []) xs)
-        → length (if b then (plain ++ x.token ∷ []) ∷ whole_pieces same [] (map token_of xs) else whole_pieces same (plain ++ x.token ∷ []) (map token_of xs)) ≡ length (if b then (front ++ x ∷ []) ∷ whole_pieces token_of [] xs else whole_pieces token_of (front ++ x ∷ []) xs)
-    by_end true next on = ap suc next
-    by_end false next on = on
-
 -- the packets that arrived are as many as their origins
 pub as_many : (tokens : List Traced) (arrived : List Token) (origins : List Origin) (packets lent : List Packet) → AreSure tokens → arrived ≡ map token_of tokens → origins ≡ origins_in tokens → map packet_tokens packets ≡ whole_pieces same [] arrived → lent ≡ packets → length lent ≡ length origins
 as_many tokens arrived origins packets lent sure plain are whole same_list =
-    ap length same_list ∙ sym (length-map packets packet_tokens) ∙ ap length whole ∙ ap (λ ts. length (whole_pieces same [] ts)) plain ∙ pieces_counted [] [] tokens
+    ap length same_list ∙ sym (length-map packets packet_tokens) ∙ ap length whole ∙ ap (λ ts. length (whole_pieces same [] ts)) plain ∙ ap length (cut_alike [] tokens) ∙ length-map (whole_pieces token_of [] tokens) (map token_of)
     ∙ sym (length-map (whole_pieces token_of [] tokens) origins_in) ∙ ap length (piece_origins [] tokens tt sure) ∙ length-map (origins_in tokens) one_origin ∙ ap length (sym are)
 
 -- where a packet stands

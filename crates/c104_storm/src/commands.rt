@@ -1,6 +1,7 @@
 //! The command that lets a storm go over a description's network.
-ghost use Rattle.std.specs.Prelude.{ℕ, ◌≡◌, ◌≤◌};
-ghost use Rattle.{c104_plan.specs.PlanImage.Fits, c104_storm.specs.{Commands.{StormEnds, StormRuns}, Workers.team_of}};
+ghost use Rattle.std.specs.Prelude.{List, ℕ, ◌≡◌, ◌≤◌};
+ghost use Rattle.c104_plan.specs.PlanImage.{Fits};
+ghost use Rattle.c104_storm.specs.{Commands.{StormEnds, StormRuns}, Packets.WritesPacketsOf, Workers.team_of};
 ghost use Rattle.c104_setup.specs.declared.status.Status.TheVariants as status;
 
 use crate::storms::{MAX_WORKERS, storm_plan};
@@ -23,6 +24,7 @@ use std::thread::Threads;
 ///
 /// Reading ends at 1 MiB of a description and at 16 MiB of a script, whatever the reader. Each error of a reader or a
 /// writer is a fault at once.
+#[tactic(auto, using(crate::proofs::StormPackets::packets_of_description))]
 pub fn storm_command<R: Threads + Wait + Sync, D: Read, S: Read, W: Write, M: Messages>(
     alloc: Global,
     rt: &R,
@@ -37,6 +39,10 @@ pub fn storm_command<R: Threads + Wait + Sync, D: Read, S: Read, W: Write, M: Me
     ensures ends { StormEnds (team_of workers words) (D.remaining description.old) (S.remaining script.old) (S.remaining script.new)
         (W.contents writer.old) (W.contents writer.new) result }
     ensures of_description { result ≡ status.CannotRead 0 → script.new ≡ script.old }
+
+    // What is written behind the answers, of packets: where all is quiet, a line of each packet that was sent to a terminal,
+    // whole, and none twice, by their senders and numbers.
+    ensures packets { (text : List ℕ) → WritesPacketsOf (team_of workers words) text }
 {
     let Setup { plan, image, .. } = match read_setup(alloc, description, writer, messages) {
         Ok(setup) => setup,

@@ -3,7 +3,8 @@
 //! The network is placed, where a run's is loaded: that both come to the same network is proved of the load.
 ghost use Rattle.std.specs.Prelude.{length, map, ◌≡◌, ◌≤◌};
 ghost use Rattle.c104_plan.specs.{PlanImage.{Fits, Image as TheImage}, Plans.Plan as ThePlan};
-ghost use Rattle.c104_storm.specs.{Sends.{new_sending, send_outcome}, Storms.{StormsOn, StormsPlan}, Workers.team_of};
+ghost use Rattle.c104_storm.specs.{Packets.WritesSentPackets, Sends.{new_sending, send_outcome}, Storms.{StormsOn, StormsPlan}};
+ghost use Rattle.c104_storm.specs.Workers.{team_of};
 ghost use Rattle.{c104_stream.specs.Scripts.AnswersScript, c104_workers.specs.Fabrics.{AreSeatsOf, first_seats, handed_of, seat_view}};
 
 use crate::endings::{Sent, write_end};
@@ -30,6 +31,7 @@ pub const MAX_WORKERS: u8 = 64;
 /// the script, for its length or for one of its lines, or the storm, which isn't quiet or whose worker stopped.
 ///
 /// Where no thread can be made, the workers do their turns one after another.
+#[tactic(auto, using(crate::proofs::StormPackets::packets_written))]
 pub fn storm_plan<R: Threads + Wait + Sync, S: Read, W: Write, M: Messages>(
     alloc: Global,
     rt: &R,
@@ -43,9 +45,15 @@ pub fn storm_plan<R: Threads + Wait + Sync, S: Read, W: Write, M: Messages>(
 ) -> Result<bool, Halt>
     requires fits { Fits image.now plan.now }
     requires some { (1 ≤ workers) × (workers ≤ MAX_WORKERS) }
-    ensures { StormsPlan (team_of workers words) plan.now image.now (S.remaining script.old) (S.remaining script.new)
+    ensures storms { StormsPlan (team_of workers words) plan.now image.now (S.remaining script.old) (S.remaining script.new)
         (W.contents writer.old) (W.contents writer.new) result }
+
+    // What is written behind the answers, of packets: where all is quiet, a line of each packet that was sent to a terminal,
+    // whole, and none twice, by their senders and numbers.
+    ensures packets { WritesSentPackets (team_of workers words) plan.now image.now }
 {
+    // The proof reads here what every plan keeps.
+    let _switches = plan.switches();
     let sending = Sending::new(alloc, plan, image)?;
     storm_script(alloc, rt, workers, words, sending, script, writer, messages)
 }

@@ -1,8 +1,15 @@
-use Rattle.{c104_storm.proofs.StormEnds.nothing_stormed, c104_stream.{proofs.ScriptEnds.err_is, specs.declared.halt.Halt.Halt}}
+use Rattle.{c104_storm.proofs.{StormEnds.nothing_stormed, StormPackets.packets_written}, c104_stream.proofs.ScriptEnds.err_is}
+use Rattle.c104_stream.specs.declared.halt.Halt.{Halt}
 use Rattle.c104_storm.proofs.storms.storm_plan.Goals as goal
 
 pub returns-in_err-sending : goal.returns-in_err-sending
-returns-in_err-sending g c = rw (err_is _ Halt.NoMemory c.from_residual.ensures) (nothing_stormed _ _ _ _ _)
+returns-in_err-sending g c = record {
+  storms = rw (err_is _ Halt.NoMemory c.from_residual.ensures) (nothing_stormed _ _ _ _ _);
+  packets = packets_written _ c.args.plan.now c.args.image.now c.switches-switches.ensures.kept c.requires.fits;
+}
 
 pub returns : goal.returns
-returns g c = c.storm_script.ensures c.args.plan.now c.args.image.now c.in_ok-sending.ensures
+returns g c = record {
+  storms = c.storm_script.ensures c.args.plan.now c.args.image.now c.in_ok-sending.ensures;
+  packets = packets_written _ c.args.plan.now c.args.image.now c.switches-switches.ensures.kept c.requires.fits;
+}
