@@ -221,11 +221,14 @@ fn idled<N: Naming, R: Wait>(rt: &R, alloc: Global, refusal: Refusal, ready: Rea
     let Some((fabric, mut seats)) = fabric_of::<N>(alloc, ready) else {
         return Outcome::Wrong;
     };
-    refusal.begin(alloc);
-    let is_idle = match seats.as_mut_slice() {
-        [seat, ..] => is_idle(rt, &fabric, seat),
-        [] => false,
+    let Some(mut seat) = seats.pop() else {
+        fabric.close(seats).retire();
+        return Outcome::Wrong;
     };
+    refusal.begin(alloc);
+    let is_idle = is_idle(rt, &fabric, &mut seat);
+    seats.clear();
+    seats.push_reserved(seat);
     fabric.close(seats).retire();
     refusal.end(alloc);
     Outcome::done_if(is_idle)

@@ -194,10 +194,13 @@ fn by_seat<N: Naming, R: Wait>(
     let Some((fabric, mut seats)) = fabric_of::<N>(alloc, ready) else {
         return Outcome::Wrong;
     };
-    let found = match seats.as_mut_slice() {
-        [seat, ..] => used(rt, alloc, refusal, &fabric, seat, image, tool),
-        [] => Outcome::Wrong,
+    let Some(mut seat) = seats.pop() else {
+        fabric.close(seats).retire();
+        return Outcome::Wrong;
     };
+    let found = used(rt, alloc, refusal, &fabric, &mut seat, image, tool);
+    seats.clear();
+    seats.push_reserved(seat);
     let gathered = fabric.close(seats);
     let is_kept = is_run(alloc, &gathered) && has_each_command(&gathered);
     gathered.retire();
