@@ -2,8 +2,10 @@
 //!
 //! A trace has room for a fixed number of entries, and an event is refused where it is full. To know that, a count is
 //! enough.
-ghost use Rattle.std.specs.{Option.option_copied, Prelude.{All, [], ◌≡◌}};
-ghost use Rattle.c104_node.specs.{Nodes.node_arrived, Quiet.{IsQuietNode, node_begin}, Starts.{start_node, start_of}, TracedRecords.IsFit};
+ghost use Rattle.std.specs.{Option.option_copied, Prelude.{All, MatchResult, OnErr, [], false, is_some, length, true, ◌++◌, ◌<◌, ◌∷◌, ◌≡◌}};
+ghost use Rattle.c104_node.specs.{Acts.{IsWithinLimits, node_act, reply_outcome, wants_memory}, Nodes.node_arrived};
+ghost use Rattle.c104_node.specs.{Quiet.{IsQuietNode, node_begin}, Starts.{start_node, start_of}, Tagged.tagged_kind, TracedRecords.IsFit};
+ghost use Rattle.c104_node.specs.Traces.{kept_entry, trace_limit};
 ghost use Rattle.c104_node.specs.TracedRecords.{first_traced};
 
 use crate::acts::ActOf;
@@ -72,6 +74,57 @@ impl CountedNode {
         self.history = History::started(&self.core);
         self.entries = 0;
         self.core.begin();
+    }
+
+    /// Does an act if the node is ready for it, or answers NotReady and changes nothing, as `act` of a place. What was done
+    /// isn't counted before `note` is told of it: so an event can be numbered when it is known that it is done.
+    #[inline(always)]
+    pub fn attempt(
+        &mut self,
+        number: usize,
+        act: &ActOf<TaggedToken>,
+    ) -> Result<ReplyOf<TaggedToken>, NoMemory>
+        requires { IsWithinLimits act.now }
+        ensures acted { MatchResult result
+            (λ reply. (reply, self.new.state) ≡
+            reply_outcome (node_act tagged_kind number act.now self.old.state) self.old.state)
+            (λ _. self.new.state ≡ self.old.state) }
+        ensures memory { MatchResult result
+            (λ _. Unit {0})
+            (λ _. wants_memory act.now ≡ true) }
+        ensures refused { OnErr result (is_some (node_act tagged_kind number act.now self.old.state) ≡ true) }
+        ensures kept { (self.new.start ≡ self.old.start) × (self.new.trace ≡ self.old.trace) }
+    {
+        self.core.act(number, act)
+    }
+
+    /// The same of an act that wants no memory, as those at the ends of wires.
+    #[inline(always)]
+    pub fn attempt_light(&mut self, act: &ActOf<TaggedToken>) -> ReplyOf<TaggedToken>
+        requires short { IsWithinLimits act.now }
+        requires light { wants_memory act.now ≡ false }
+        ensures acted { (result, self.new.state) ≡
+            reply_outcome (node_act tagged_kind 0 act.now self.old.state) self.old.state }
+        ensures kept { (self.new.start ≡ self.old.start) × (self.new.trace ≡ self.old.trace) }
+    {
+        self.core.act_light(act)
+    }
+
+    /// Counts an act that was done, in the event of this stamp.
+    #[inline(always)]
+    pub fn note(
+        &mut self,
+        stamp: &Stamp,
+        act: &ActOf<TaggedToken>,
+        reply: &ReplyOf<TaggedToken>,
+    )
+        requires short { IsWithinLimits act.now }
+        requires room { length self.old.trace < trace_limit }
+        ensures { self.new ≡ record self.old {
+            trace = self.old.trace ++ kept_entry tagged_kind stamp.now act.now reply.now ∷ [] } }
+    {
+        self.history = self.history.with(stamp, act, reply);
+        self.entries += 1;
     }
 
     /// Disposes of the node, and of what is kept of it.

@@ -30,7 +30,7 @@ mod traced;
 
 pub use acts::{Act, ActOf, Entry, same_reply};
 pub use counted::CountedNode;
-pub use crossings::{Crossing, Joint};
+pub use crossings::{Crossing, Joint, can_far, can_near, far_act, near_act};
 pub use ends::End;
 pub use joint::{can_near_at, joint_from};
 pub use node::NodeOf;

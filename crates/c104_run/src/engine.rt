@@ -62,6 +62,16 @@ impl<T: TokenKind, P: Place<T>> Engine<T, P> {
         }
     }
 
+    /// The same where this many events were done.
+    pub fn resumed(wires: Wires, places: Vec<P>, count: u64) -> Self
+        requires { KnowWires wires (bases (map P.shown places.items)) }
+        ensures { result ≡ engine_of wires places.items count }
+    {
+        let mut engine = Engine::new(wires, places);
+        engine.count = count;
+        engine
+    }
+
     /// The plan of the network.
     #[inline(always)]
     pub fn plan(&self) -> &Plan

@@ -8,6 +8,7 @@ ghost use Rattle.c104_token.specs.declared.tokens.Token.{Token};
 
 mod arriving;
 mod nodes;
+mod parts;
 
 use crate::engine::Engine;
 use crate::recorded_net::RecordedNet;

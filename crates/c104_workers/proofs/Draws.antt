@@ -2,6 +2,7 @@
 use Rattle.c104_audit.specs.{Calls.{call_of, tickets_of}, declared.calls.Call.Call}
 use Rattle.{c104_event.specs.declared.events.Event.Event, c104_switch.specs.Actions.Reply, c104_tickets.proofs.Free.is_free}
 use Rattle.c104_tickets.specs.{Tickets.{AreEarlier, Each, HasTrack, IsFree, TableId, after_draw, belongs, kept_if, part_of, track_after}, declared.TheConstants.TICKET_LIMIT}
+use Rattle.c104_workers.specs.declared.seats.TheConstants.{CALL_LIMIT}
 use Rattle.c104_tickets.specs.declared.views.{Deed.Deed, Done.Done, Name.Name, Terms.Terms, Track.Track, View.View}
 use Rattle.c104_workers.specs.{Calls.{IsOwn, IsSeat, SeatView, after_call, done_call, is_own, is_seat_full, lent_after, place_track, seat_track}, LentCalls.IsFresh}
 use Rattle.c104_workers.specs.Held.{lent_deed, node_deed, pair_deed}
@@ -68,7 +69,7 @@ pair_draws ticket s near far e r there here done =
 
 -- a seat that isn't full has room for a deed more
 has_room : (s : SeatView) → is_seat_full s ≡ false → length s.calls < TICKET_LIMIT
-has_room s free = grind (arith, nat_tests, free)
+has_room s free = let few : length s.calls < CALL_LIMIT = grind (arith, nat_tests, free) in omega (arith, few)
 
 module _ (view : View) (s : SeatView) (seat : IsSeat view s.number s.calls s.lent) where
   done_room : is_seat_full s ≡ false → length seat.done < TICKET_LIMIT

@@ -1,8 +1,9 @@
 -- Seats: each keeps the calls that were done through it, in the order of their tickets.
 use Rattle.{c104_audit.specs.{Calls.{call_of, tickets_of}, declared.calls.Call.Call}, c104_event.specs.declared.events.Event.Event}
 use Rattle.{c104_event.specs.declared.faults.EventFault.EventFault, c104_node.specs.declared.stamps.Stamp.Stamp}
-use Rattle.{c104_switch.specs.Actions.Reply, c104_tickets.specs.{Tickets.{Each, TableId}, declared.TheConstants.TICKET_LIMIT}}
+use Rattle.{c104_switch.specs.Actions.Reply, c104_tickets.specs.Tickets.{Each, TableId}}
 use Rattle.c104_tickets.specs.declared.views.{Done.Done, Name.Name, Terms.Terms, Track.Track, View.View}
+use Rattle.c104_workers.specs.declared.seats.TheConstants.{CALL_LIMIT}
 use Rattle.std.specs.Prelude.{Bool, List, Option, Some, [], false, is_some, length, map, nat_le, true, ℕ, ◌++◌, ◌∷◌, ◌≡◌, ◌≤◌}
 
 -- a seat as it is seen: from which word of tickets it draws and what that was told, its number, its calls, why the last
@@ -29,7 +30,7 @@ seat_stamp ticket number = record { ticket = ticket; seat = Some number }
 
 -- whether a seat may keep no further call
 abbrev pub is_seat_full : SeatView → Bool
-is_seat_full s = nat_le TICKET_LIMIT (length s.calls)
+is_seat_full s = nat_le CALL_LIMIT (length s.calls)
 
 -- the call that a seat keeps of what was done through it
 abbrev pub done_call : Done → Call
@@ -55,7 +56,7 @@ pub record IsSeat (view : View) (number : ℕ) (calls : List Call) (lent : Bool)
   pub done : List Done
   pub tracks : view.tracks ≡ seat_track number done ∷ []
   pub called : calls ≡ map done_call done
-  pub within : length calls ≤ TICKET_LIMIT
+  pub within : length calls ≤ CALL_LIMIT
   pub own : lent ≡ false → Each IsOwn done
 
 -- two seats have the same word of tickets and the same number, and both have done calls on nodes that were lent, or neither

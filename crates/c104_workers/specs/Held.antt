@@ -35,13 +35,13 @@ crossed_or (Some c) = c.told
 
 -- what a seat does on nodes that were lent, on one of the fabric's own nodes, and on the two at the ends of a wire
 abbrev pub lent_deed : ℕ → Event → Reply → Deed
-lent_deed seat e r = record { seat = seat; near = None; far = None; event = e; reply = r }
+lent_deed seat e r = record { seat = seat; near = None; far = None; event = e; reply = r; terminal = 0; number = 0 }
 
 abbrev pub node_deed : ℕ → ℕ → Event → Reply → Deed
-node_deed seat place e r = record { seat = seat; near = Some place; far = None; event = e; reply = r }
+node_deed seat place e r = record { seat = seat; near = Some place; far = None; event = e; reply = r; terminal = 0; number = 0 }
 
 abbrev pub pair_deed : ℕ → ℕ → ℕ → Event → Reply → Deed
-pair_deed seat near far e r = record { seat = seat; near = Some near; far = Some far; event = e; reply = r }
+pair_deed seat near far e r = record { seat = seat; near = Some near; far = Some far; event = e; reply = r; terminal = 0; number = 0 }
 
 -- an event can happen, and is this act of the node at this place
 abbrev pub AsksNode : Plan → Event → ℕ → ActOf Token → Type 0

@@ -4,6 +4,16 @@ use Rattle.{c104_plan.specs.Plans.Plan, c104_run.specs.{Network.event_fault, Nod
 use Rattle.c104_workers.specs.{SeatGrowth.FaultsAs, Words.{with_word, word_of}, declared.{words.Words.Words, workers.RunFault.RunFault}}
 use Rattle.std.specs.Prelude.{All, Contains, Err, List, None, Ok, Result, Some, length, slice_index_or, take, ℕ, ◌%◌, ◌++◌, ◌<◌, ◌≡◌, ◌⊎◌}
 
+-- a part of a round, and the place of its node
+pub record PartView : Type 0 where
+  pub node : ℕ
+  pub events : List Event
+
+-- it is the part that a round has for the node at a place
+pub record IsPartOf (plan : Plan) (node : ℕ) (part : PartView) : Type 0 where
+  pub at : part.node ≡ node
+  pub events : part.events ≡ round_part plan node
+
 -- an event is in the part that a round has for a node of worker i, of n workers
 pub record IsPartEvent (plan : Plan) (n i : ℕ) (e : Event) : Type 0 where
   pub node : ℕ

@@ -16,7 +16,7 @@ use crate::naming::Naming;
 use crate::parts::{Part, Stage};
 use crate::seats::Seat;
 use c104_event::{Event, EventFault};
-use c104_node::{Entry, Node, NodeStart};
+use c104_node::{Entry, Node, NodeStart, Place};
 use c104_plan::Plan;
 use c104_run::{Asked, Wires, acts_of};
 use c104_switch::{Reply, ReplyOf};
@@ -97,6 +97,13 @@ impl<N: Naming> Fabric<N> {
         let _starts = self.starts.as_slice();
         let _before = self.before.as_slice();
         self.wires.plan()
+    }
+
+    /// The wires of the plan.
+    pub(crate) fn wires(&self) -> &Wires
+        ensures { result.now ≡ self.now.handed.plan }
+    {
+        &self.wires
     }
 
     /// How many nodes there are.
@@ -303,7 +310,7 @@ impl<N: Naming> Fabric<N> {
         }
     }
 
-    /// Lists the numbers of those events of a part's stage that its node is ready for when it is locked. For each of the
+    /// Lists the numbers of those events of a part's stage that its node may be ready for when it is locked. For each of the
     /// others the gate is asked here, and the event is over for a worker. The only error is out of memory.
     pub(crate) fn list_ready<R: Wait, G: Gate>(
         &self,
@@ -319,13 +326,13 @@ impl<N: Naming> Fabric<N> {
         if count == 0 {
             return Ok(());
         }
-        let Some(lock) = self.locks.get(part.node) else {
+        let Some(lock) = self.locks.get(part.node()) else {
             return Ok(());
         };
-        let node = lock.lock(rt);
-        part.add_ready(&self.wires, &node.node, stage, ready)?;
+        let held = lock.lock(rt);
+        part.add_ready(Place::node(&held.node), stage, ready)?;
         for _ in ready.len()..count {
-            gate.inside(worker, part.node);
+            gate.inside(worker, part.node());
         }
         Ok(())
     }

@@ -1,29 +1,44 @@
-//! The part that a round has for a node, and which of its events the node is ready for.
+//! The part that a round has for a node, and which of its events the node may be ready for.
 //!
 //! A worker asks a node once for all events of a stage, so that it takes a lock for those alone that may be done. That leaves
-//! none out: no event of a stage makes another of the same stage ready at this node.
-ghost use Rattle.std.specs.Prelude.{◌≡◌};
+//! none out: no event of a stage makes another of the same stage ready at this node. A node tells by sets of its links what may
+//! go out, so that none of the events is looked at that it isn't ready for.
+ghost use Rattle.std.specs.Prelude.{IfOk, ◌<◌, ◌≡◌};
+ghost use Rattle.{c104_run.specs.{NetParts.node_count, NodeParts.round_part}, c104_workers.specs.Working.IsPartOf};
 
 use c104_event::Event;
-use c104_node::{Node, next_claim_at, next_wanting_at};
-use c104_run::{Asked, Wires, acts_of};
-use c104_switch::LINKS;
-use c104_token::{NoMemory, Token};
+use c104_node::{NodeOf, PortPart, TerminalOf};
+use c104_run::{Wires, round_part};
+use c104_switch::{LINKS, LinkSet};
+use c104_token::{NoMemory, TokenKind};
+use std::alloc::Global;
+use std::marker::Model;
 
 /// The part that a round has for a node.
 #[derive(Drop)]
-pub(crate) struct Part {
-    pub(crate) node: usize,
-    // Stage by stage. The claims of a switch are by input and output.
-    pub(crate) events: Vec<Event>,
+pub struct Part {
+    node: usize,
+    // Stage by stage: credit and crossings by link, then turns by link or a token's arrival, and then claims by input and
+    // output.
+    events: Vec<Event>,
+    // The links that have wires: one event of each kind for each of them.
+    wired: LinkSet,
     // Where the turns begin, and the claims.
     turns: usize,
     claims: usize,
 }
 
+impl Model for Part {
+    ghost use Rattle.c104_workers.specs.Working.{PartView};
+
+    ghost Value = { PartView };
+
+    ghost view = { λ p. record { node = p.node; events = p.events.items } };
+}
+
 /// A stage of a part.
 #[derive(Clone, Copy)]
-pub(crate) enum Stage {
+pub enum Stage {
     /// What goes out over wires: credit and tokens.
     Crossings,
     /// Turns of a switch's inputs, or a token's arrival at a terminal.
@@ -33,64 +48,118 @@ pub(crate) enum Stage {
 }
 
 impl Part {
-    /// The part of the node at a place, which has these events.
-    pub(crate) fn new(node: usize, events: Vec<Event>) -> Part
-        ensures { result.events ≡ events }
+    /// The part of the node at a place. The only error is out of memory.
+    pub fn of_round(alloc: Global, wires: &Wires, node: usize) -> Result<Part, NoMemory>
+        requires { node < node_count wires.now }
+        ensures { IfOk result (λ part. IsPartOf wires.now node part) }
     {
+        let events = round_part(alloc, wires.plan(), node)?;
         let turns = count_crossings(&events);
         let claims = count_before_claims(&events);
-        Part {
+        Ok(Part {
             node,
             events,
+            wired: wires.node_links(node),
             turns,
             claims,
-        }
+        })
     }
 
-    /// Where a stage begins and ends.
-    fn range(&self, stage: Stage) -> (usize, usize) {
-        match stage {
-            Stage::Crossings => (0, self.turns),
-            Stage::Turns => (self.turns, self.claims),
-            Stage::Claims => (self.claims, self.events.len()),
-        }
+    /// The place of the node.
+    pub fn node(&self) -> usize
+        ensures { result ≡ self.now.node }
+    {
+        self.node
+    }
+
+    /// The events, in the round's order.
+    pub fn events(&self) -> &[Event]
+        ensures { result.now ≡ self.now.events }
+    {
+        self.events.as_slice()
     }
 
     /// How many events a stage has.
-    pub(crate) fn count(&self, stage: Stage) -> usize {
-        let (start, end) = self.range(stage);
+    pub fn count(&self, stage: Stage) -> usize {
+        let (start, end) = match stage {
+            Stage::Crossings => (0, self.turns),
+            Stage::Turns => (self.turns, self.claims),
+            Stage::Claims => (self.claims, self.events.len()),
+        };
         end.saturating_sub(start)
     }
 
-    /// The numbers of those events of a stage that the node is ready for join a list. The only error is out of memory.
-    pub(crate) fn add_ready(
+    /// The numbers of those events of a stage that the node may be ready for join a list. The only error is out of memory.
+    pub fn add_ready<T: TokenKind>(
         &self,
-        wires: &Wires,
-        node: &Node,
+        node: &NodeOf<T>,
+        stage: Stage,
+        ready: &mut Vec<usize>,
+    ) -> Result<(), NoMemory> {
+        match node {
+            NodeOf::Switch(_) => self.add_at_switch(node, stage, ready),
+            NodeOf::Terminal(terminal) => self.add_at_terminal(terminal, stage, ready),
+        }
+    }
+
+    /// The same of a switch.
+    fn add_at_switch<T: TokenKind>(
+        &self,
+        node: &NodeOf<T>,
         stage: Stage,
         ready: &mut Vec<usize>,
     ) -> Result<(), NoMemory> {
         match stage {
+            Stage::Crossings => {
+                self.add_links(node.ready_links(PortPart::Credit), 0, ready)?;
+                self.add_links(node.ready_links(PortPart::Cross), self.turns / 2, ready)
+            }
+            Stage::Turns => self.add_links(node.ready_links(PortPart::Turn), self.turns, ready),
             Stage::Claims => add_claims(node, self.claims, ready),
-            _ => self.add_asked(wires, node, stage, ready),
         }
     }
 
-    /// The same, by asking the node for each.
-    fn add_asked(
+    /// The same of a terminal.
+    fn add_at_terminal<T: TokenKind>(
         &self,
-        wires: &Wires,
-        node: &Node,
+        terminal: &TerminalOf<T>,
         stage: Stage,
         ready: &mut Vec<usize>,
     ) -> Result<(), NoMemory> {
-        let (start, end) = self.range(stage);
-        for number in start..end {
-            if let Some(event) = self.events.get(number)
-                && is_ready(wires, node, event)
-            {
+        match stage {
+            Stage::Crossings if self.turns > 0 => {
+                if terminal.can_credit_out() {
+                    ready.push(0)?;
+                }
+                if terminal.can_leave() {
+                    ready.push(1)?;
+                }
+            }
+            Stage::Turns if terminal.can_drain() => ready.push(self.turns)?,
+            _ => (),
+        }
+        Ok(())
+    }
+
+    /// The numbers of the events of a kind at those wired links that are in a set join a list; the first of them has this
+    /// number.
+    fn add_links(
+        &self,
+        links: LinkSet,
+        first: usize,
+        ready: &mut Vec<usize>,
+    ) -> Result<(), NoMemory> {
+        if links.next(0, self.wired).is_none() {
+            return Ok(());
+        }
+        let mut number = first;
+        let mut from = 0;
+        while let Some(link) = self.wired.next(from, self.wired) {
+            if links.has(link) {
                 ready.push(number)?;
             }
+            number = number.saturating_add(1);
+            from = link + 1;
         }
         Ok(())
     }
@@ -117,40 +186,31 @@ fn count_before_claims(events: &[Event]) -> usize {
     events.len()
 }
 
-/// Whether a node is ready for its own act of an event: that which is asked of it alone, or the one by which something goes
-/// out over a wire.
-fn is_ready(wires: &Wires, node: &Node, event: &Event) -> bool {
-    let asked: Result<Asked<'_, Token>, _> = acts_of(wires, event);
-    match asked {
-        Ok(Asked::Alone(_, act)) => node.ready(&act),
-        Ok(Asked::Joint(_, _, joint)) => node.gives(joint),
-        Ok(Asked::Send(_, _)) => true,
-        Err(_) => true,
-    }
-}
-
 /// The numbers of the claims that a switch is ready for join a list; the first claim has this number. A switch has over a
 /// thousand, and is seldom ready for any, so they are found by its inputs that want an output. The only error is out of
 /// memory.
-fn add_claims(node: &Node, first: usize, ready: &mut Vec<usize>) -> Result<(), NoMemory> {
-    let places = std::slice::from_ref(node);
+fn add_claims<T: TokenKind>(
+    node: &NodeOf<T>,
+    first: usize,
+    ready: &mut Vec<usize>,
+) -> Result<(), NoMemory> {
     let mut from = 0;
-    while let Some(input) = next_wanting_at::<Token, Node>(places, 0, from) {
-        add_claims_of(places, input, first.saturating_add(input * LINKS), ready)?;
+    while let Some(input) = node.next_wanting(from) {
+        add_claims_of(node, input, first.saturating_add(input * LINKS), ready)?;
         from = input + 1;
     }
     Ok(())
 }
 
 /// The same of the claims of an input.
-fn add_claims_of(
-    places: &[Node],
+fn add_claims_of<T: TokenKind>(
+    node: &NodeOf<T>,
     input: usize,
     first: usize,
     ready: &mut Vec<usize>,
 ) -> Result<(), NoMemory> {
     let mut from = 0;
-    while let Some(output) = next_claim_at::<Token, Node>(places, 0, input, from) {
+    while let Some(output) = node.next_claim(input, from) {
         ready.push(first.saturating_add(output))?;
         from = output + 1;
     }

@@ -15,10 +15,16 @@ use c104_audit::Call;
 use c104_event::{Event, EventFault};
 use c104_node::{Act, Joint, Node, act_pair, same_reply};
 use c104_switch::Reply;
-use c104_tickets::{Asks, Pass, TICKET_LIMIT, TicketWord};
+use c104_tickets::{Asks, Pass, TicketWord};
 use c104_token::{Items, NoMemory};
 use std::alloc::Global;
 use std::marker::Model;
+
+/// The most calls of a seat.
+pub const CALL_LIMIT: usize = 1_048_576;
+
+// Contracts name this limit: its value is a part of what they say.
+const _: () = prove!(CALL_LIMIT == 1_048_576);
 
 /// A seat of a fabric. It keeps a call of each event that was done through it, in order, at most 1,048,576.
 #[derive(Drop)]
@@ -102,7 +108,7 @@ impl Seat {
     pub(crate) fn is_full(&self) -> bool
         ensures { result ≡ is_seat_full self.now.0 }
     {
-        self.calls.len() as u64 >= TICKET_LIMIT
+        self.calls.len() >= CALL_LIMIT
     }
 
     /// Makes room for a call. The only error is out of memory.

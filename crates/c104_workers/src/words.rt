@@ -27,7 +27,7 @@ const STEP: u64 = 0x9e37_79b9_7f4a_7c15;
 impl Words {
     /// The turn of an input, with the word of a worker through whose seat this many events were done. None for an event of
     /// another kind, which has no word.
-    pub(crate) fn hand(self, worker: usize, done: usize, event: &Event) -> Option<Event>
+    pub fn hand(self, worker: usize, done: usize, event: &Event) -> Option<Event>
         ensures { MatchOption result (with_word (word_of self worker done) event.now ≡ event.now)
             (λ turn. turn ≡ with_word (word_of self worker done) event.now) }
     {

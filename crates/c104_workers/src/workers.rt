@@ -12,7 +12,6 @@ use crate::parts::{Part, Stage};
 use crate::seats::Seat;
 use crate::words::Words;
 use c104_event::{Event, EventFault};
-use c104_run::round_part;
 use c104_switch::Reply;
 use c104_token::NoMemory;
 use std::alloc::Global;
@@ -142,7 +141,7 @@ impl<R: Wait, G: Gate, N: Naming> Worker<'_, R, G, N> {
     ) -> Result<(), EventFault>
         requires word { seat.old.0.word_id ≡ self.now.fabric.now.word_id }
         requires own { All (λ part. All (IsPartEvent self.now.fabric.now.handed.plan self.now.count self.now.number)
-            part.events.items) parts.now }
+            part.events) parts.now }
         ensures worked { HasWorked self.now.fabric.now.handed.plan self.now.words self.now.count self.now.number seat.old.0 seat.new.0 }
         ensures stops { IfErr result (IsStop self.now.fabric.now.handed.plan self.now.words self.now.count self.now.number) }
     {
@@ -160,14 +159,14 @@ impl<R: Wait, G: Gate, N: Naming> Worker<'_, R, G, N> {
         ready: &mut Vec<usize>,
     ) -> Result<(), EventFault>
         requires word { seat.old.0.word_id ≡ self.now.fabric.now.word_id }
-        requires own { All (IsPartEvent self.now.fabric.now.handed.plan self.now.count self.now.number) part.now.events.items }
+        requires own { All (IsPartEvent self.now.fabric.now.handed.plan self.now.count self.now.number) part.now.events }
         ensures worked { HasWorked self.now.fabric.now.handed.plan self.now.words self.now.count self.now.number seat.old.0 seat.new.0 }
         ensures stops { IfErr result (IsStop self.now.fabric.now.handed.plan self.now.words self.now.count self.now.number) }
     {
         for stage in [Stage::Crossings, Stage::Turns, Stage::Claims] {
             self.fabric
                 .list_ready(self.rt, part, stage, ready, self.gate, self.number)?;
-            self.do_ready(seat, part.events.as_slice(), ready.as_slice())?;
+            self.do_ready(seat, part.events(), ready.as_slice())?;
         }
         Ok(())
     }
@@ -210,14 +209,12 @@ impl<R: Wait, G: Gate, N: Naming> Worker<'_, R, G, N> {
         requires some { 1 ≤ self.now.count }
         ensures { IfOk result (λ parts.
             All (λ part. All (IsPartEvent self.now.fabric.now.handed.plan self.now.count self.now.number)
-            part.events.items) parts.items) }
+            part.events) parts.items) }
     {
-        let plan = self.fabric.plan();
         let mut parts = Vec::new(alloc);
         for node in 0..self.fabric.node_count() {
             if self.owns(node) {
-                let events = round_part(alloc, plan, node)?;
-                parts.push(Part::new(node, events))?;
+                parts.push(Part::of_round(alloc, self.fabric.wires(), node)?)?;
             }
         }
         Ok(parts)

@@ -1,0 +1,133 @@
+//! One event on held nodes: on one, and on the two at the ends of a wire.
+//!
+//! Whether it is ready is told by the node's own answer. The ticket is drawn behind that, so that it is drawn only for what was
+//! done, and the act is counted last, with the ticket.
+ghost use Rattle.std.specs.Prelude.{MatchOption, None, Some, length, ◌-◌, ◌<◌, ◌≡◌};
+ghost use Rattle.c104_lean.specs.{Nodes.{AsksBoth, AsksNode}, Seats.{Follows, IsLimitOf}};
+ghost use Rattle.c104_node.specs.{Acts.{IsWithinLimits, plain_reply}, PortActs.act_limit, Tagged.tagged_kind, Traces.trace_limit};
+ghost use Rattle.c104_tickets.specs.declared.TheConstants.{TICKET_LIMIT};
+
+use crate::held::HeldNode;
+use crate::seats::CountedSeat;
+use crate::sharing::Sharing;
+use c104_event::{Event, EventFault};
+use c104_node::{
+    ActOf, CountedNode, Joint, Place, Stamp, TaggedToken, can_far, can_near, far_act, near_act,
+};
+use c104_switch::{Reply, ReplyOf};
+use c104_tickets::TicketWord;
+use c104_token::TokenKind;
+use std::marker::Brand;
+
+/// A held node does an act of its own, if it is ready and no limit refuses it.
+pub(crate) fn do_alone<N: Sharing>(
+    word: &TicketWord,
+    seat: &mut CountedSeat,
+    held: &mut HeldNode<N>,
+    number: usize,
+    act: &ActOf<TaggedToken>,
+    event: &Event,
+) -> Result<Reply, EventFault>
+    requires word { (seat.old.word_id ≡ word.now.word_id) × (word.now.word_id ≡ N.word) }
+    requires asked { AsksNode N.before.plan event.now held.old.place act.now }
+    requires number { number ≡ held.old.place - length N.before.plan.switches }
+    requires short { IsWithinLimits act.now }
+    ensures { Follows seat.old seat.new event.now result }
+{
+    if let Some(fault) = limit_of(seat, &held.node, act) {
+        if Place::node(&held.node).ready(number, act) {
+            return Err(fault);
+        }
+        return Ok(ReplyOf::NotReady);
+    }
+    let reply = held.node.attempt(number, act)?;
+    if let ReplyOf::NotReady = reply {
+        return Ok(ReplyOf::NotReady);
+    }
+    let Some(own) = held.pass.take() else {
+        unreachable!()
+    };
+    let (ticket, own) = seat.draw_alone::<Brand>(word, own, held.place, event, &reply);
+    held.pass = Some(own);
+    held.node.note(&unasked(ticket), act, &reply);
+    Ok(plain(reply))
+}
+
+/// Something crosses a wire between two held nodes, if both are ready and nothing is full.
+pub(crate) fn do_both<N: Sharing>(
+    word: &TicketWord,
+    seat: &mut CountedSeat,
+    near: &mut HeldNode<N>,
+    far: &mut HeldNode<N>,
+    joint: Joint,
+    event: &Event,
+) -> Result<Reply, EventFault>
+    requires word { (seat.old.word_id ≡ word.now.word_id) × (word.now.word_id ≡ N.word) }
+    requires asked { AsksBoth N.before.plan event.now joint near.old.place far.old.place }
+    ensures { Follows seat.old seat.new event.now result }
+{
+    if !can_near(Place::node(&near.node), joint.crossing, joint.near)
+        || !can_far(Place::node(&far.node), joint.crossing, joint.far)
+    {
+        return Ok(ReplyOf::NotReady);
+    }
+    if near.node.is_full() || far.node.is_full() || seat.is_full() {
+        return Err(EventFault::TraceFull);
+    }
+    let going = near_act(joint.crossing, joint.near);
+    let told = near.node.attempt_light(&going);
+    let coming = far_act(joint.crossing, joint.far, &told);
+    let _done = far.node.attempt_light(&coming);
+    let (Some(near_pass), Some(far_pass)) = (near.pass.take(), far.pass.take()) else {
+        unreachable!()
+    };
+    let places = (near.place, far.place);
+    let (ticket, near_pass, far_pass) =
+        seat.draw_both::<Brand>(word, near_pass, far_pass, places, event, &told);
+    near.pass = Some(near_pass);
+    far.pass = Some(far_pass);
+    near.node.note(&unasked(ticket), &going, &told);
+    far.node
+        .note(&unasked(ticket), &coming, &ReplyOf::Done);
+    Ok(plain(told))
+}
+
+/// Why an act of a node can't be done now: a limit of its lists, or that it or the seat has done as much as it may.
+fn limit_of(
+    seat: &CountedSeat,
+    node: &CountedNode,
+    act: &ActOf<TaggedToken>,
+) -> Option<EventFault>
+    requires { IsWithinLimits act.now }
+    ensures { MatchOption result
+        ((act_limit (Some node.now.state) act.now ≡ None) × (length node.now.trace < trace_limit)
+        × (length seat.now.calls < TICKET_LIMIT))
+        (IsLimitOf act.now) }
+{
+    if let Some(fault) = Place::node(node).limit(act) {
+        return Some(fault);
+    }
+    if node.is_full() || seat.is_full() {
+        return Some(EventFault::TraceFull);
+    }
+    None
+}
+
+/// The stamp of an event with this ticket, of which it isn't kept who asked for it.
+fn unasked(ticket: u64) -> Stamp
+    ensures { result ≡ record { ticket = ticket; seat = None } }
+{
+    Stamp { ticket, seat: None }
+}
+
+/// A reply as it is told, with a plain token.
+fn plain(reply: ReplyOf<TaggedToken>) -> Reply
+    ensures { result ≡ plain_reply tagged_kind reply }
+{
+    match reply {
+        ReplyOf::Done => ReplyOf::Done,
+        ReplyOf::NotReady => ReplyOf::NotReady,
+        ReplyOf::Token(token) => ReplyOf::Token(token.plain()),
+        ReplyOf::Control(bytes) => ReplyOf::Control(bytes),
+    }
+}
