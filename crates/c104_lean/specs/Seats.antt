@@ -23,12 +23,11 @@ counted_seat word_id view number stopped = record {
   lent = false;
 }
 
--- what the type of a seat keeps: its pass has the track of its number and no other, and it counts what was done, at most to
--- its limit
+-- what the type of a seat keeps: its pass has the track of its number and no other, and it counts what was done
 pub record IsCountedSeat (view : View) (number count limit : ℕ) : Type 0 where
   pub tracks : view.tracks ≡ seat_track number (first_done view.tracks) ∷ []
   pub counted : count ≡ length (first_done view.tracks)
-  pub within : count ≤ limit
+  pub within : count ≤ TICKET_LIMIT
   pub limited : limit ≤ TICKET_LIMIT
   pub own : Each IsOwn (first_done view.tracks)
 

@@ -67,9 +67,12 @@ pair_draws ticket s near far e r there here done =
     ∙ ap (λ t. place_track far (there ++ d ∷ []) ∷ t ∷ track_after d (seat_track s done) ∷ []) (track_grows d (Name.Place near) here (near_owns s near far e r))
     ∙ ap (λ t. place_track far (there ++ d ∷ []) ∷ place_track near (here ++ d ∷ []) ∷ t ∷ []) (track_grows d (Name.Seat s) done (same_number s))
 
--- a seat that isn't full has room for a deed more
+-- a seat that isn't full has room for a call more, and for a deed
+has_calls : (s : SeatView) → is_seat_full s ≡ false → length s.calls < CALL_LIMIT
+has_calls s free = grind (arith, nat_tests, free)
+
 has_room : (s : SeatView) → is_seat_full s ≡ false → length s.calls < TICKET_LIMIT
-has_room s free = let few : length s.calls < CALL_LIMIT = grind (arith, nat_tests, free) in omega (arith, few)
+has_room s free = omega (arith, has_calls s free)
 
 module _ (view : View) (s : SeatView) (seat : IsSeat view s.number s.calls s.lent) where
   done_room : is_seat_full s ≡ false → length seat.done < TICKET_LIMIT
@@ -118,7 +121,7 @@ module _ (view : View) (s : SeatView) (seat : IsSeat view s.number s.calls s.len
     done = seat.done ++ d ∷ [];
     tracks = are;
     called = grown ∙ ap (λ cs. cs ++ done_call d ∷ []) seat.called ∙ sym (map-append done_call seat.done (d ∷ []));
-    within = omega (arith, ap (λ (cs : List Call). length cs) grown, length-append s.calls (done_call d ∷ []), has_room s free);
+    within = omega (arith, ap (λ (cs : List Call). length cs) grown, length-append s.calls (done_call d ∷ []), has_calls s free);
     own = λ none. owned lent s.lent d own none seat.own;
   }
 
