@@ -1,2 +1,5 @@
 pub mod Draws
 pub mod HeldSteps
+pub mod OwnParts
+pub mod OwnActs
+pub mod SharedRuns

@@ -22,4 +22,4 @@ pub record IsSharedRun (from to : NetRecord) (seat_count : ℕ) (seats : List Se
   pub count : to.count ≡ from.count + length log
   pub seated : Each (λ d. d.deed.seat < seat_count) log
   pub applied : AreApplied from (map done_pair log) to
-  pub seats : Each (λ s. s.calls ≡ calls_in s.number log) seats
+  pub calls : Each (λ s. s.calls ≡ calls_in s.number log) seats
