@@ -1,18 +1,15 @@
 -- What the nodes of an event did of their own is what the event leaves at all places.
-use Rattle.{c104_event.specs.declared.events.Event.Event, c104_lean.specs.OwnRuns.{DoesAct, OwnAct, own, told, told_by}}
+use Rattle.c104_lean.{proofs.OwnParts.still_there, specs.OwnRuns.{DoesAct, OwnAct, own, told, told_by}}
 use Rattle.c104_node.{proofs.{Attempts.tried_done, JointEnds.has_crossed, PlaceSteps.{acts_at, shown_at}}, specs.Acts.{node_act, nodes_act}}
-use Rattle.c104_node.specs.{Acts.{plain_reply, reply_outcome}, Nodes.Node, PlaceActs.{AloneDone, HasActed, HasActedAt, JointDone}}
-use Rattle.c104_node.specs.{Places.{Shown, fulls, started_base, states}, PortActs.{Acts, act_limit, far_act, near_act}, Tagged.TaggedToken}
-use Rattle.c104_node.specs.{Tagged.tagged_kind, TracedRecords.{TracedRecord, counted_shown}, Traces.{full_at, is_trace_full, kept_entry}}
-use Rattle.c104_node.specs.{Traces.{noted, seatless, trace_limit}, declared.{acts.{ActOf.ActOf, Entry.Entry}, crossings.Crossing.Crossing}}
-use Rattle.{c104_node.specs.declared.{crossings.Joint.Joint, stamps.Stamp.Stamp}, c104_plan.specs.{Plans.Plan, declared.ports.Port.Port}}
-use Rattle.c104_run.{proofs.ActAnswers.event_done, specs.{EventActs.{event_acts, port_place}, EventsAtPlaces.{ActsDone, EventDone}}}
-use Rattle.{c104_run.specs.Network.event_fault, c104_switch.specs.{Actions.{Reply, is_ready}, declared.actions.ReplyOf.ReplyOf}}
-use Rattle.{c104_tickets.specs.declared.views.{Deed.Deed, Done.Done}, std.proofs.Common.{Bool, List, None, Ok, Option, Some, ap, arith}}
-use Rattle.std.proofs.Common.{false, get_or, if◌then◌else◌, is_some, length, map, nat_le, option_map, refl, slice_get, slice_set, subst}
-use Rattle.std.proofs.{Common.{sym, true, unwrap_or, ℕ, ◌-◌, ◌<◌, ◌||◌, ◌∙◌, ◌≡◌, ◌≢◌}, lemmas.{Bool.Decides.nat_tests, List.map-set}}
-use Rattle.std.proofs.lemmas.Option.{get_or_from_slice_get, slice_get-map, slice_get_within}
-use Rattle.c104_lean.proofs.OwnParts.still_there
+use Rattle.c104_node.specs.{Acts.{plain_reply, reply_outcome}, PlaceActs.{AloneDone, HasActed, HasActedAt, JointDone}, Places.Shown}
+use Rattle.c104_node.specs.{Places.{fulls, started_base, states}, PortActs.{Acts, act_limit, far_act, near_act}, Tagged.TaggedToken}
+use Rattle.c104_node.specs.{Tagged.tagged_kind, TracedRecords.{TracedRecord, counted_shown}, Traces.{full_at, kept_entry, noted, seatless}}
+use Rattle.{c104_node.specs.{Traces.trace_limit, declared.{acts.Entry.Entry, crossings.Joint.Joint}}, c104_plan.specs.Plans.Plan}
+use Rattle.c104_run.{proofs.ActAnswers.event_done, specs.{EventActs.event_acts, EventsAtPlaces.{ActsDone, EventDone}, Network.event_fault}}
+use Rattle.{c104_switch.specs.{Actions.{Reply, is_ready}, declared.actions.ReplyOf.ReplyOf}, c104_tickets.specs.declared.views.Done.Done}
+use Rattle.std.proofs.Common.{Bool, List, None, Ok, Option, Some, ap, arith, false, if◌then◌else◌, is_some, length, map, nat_le, option_map}
+use Rattle.std.proofs.Common.{refl, slice_get, slice_set, subst, sym, true, unwrap_or, ℕ, ◌<◌, ◌||◌, ◌∙◌, ◌≡◌, ◌≢◌}
+use Rattle.std.proofs.lemmas.{Bool.Decides.nat_tests, List.map-set, Option.{get_or_from_slice_get, slice_get-map, slice_get_within}}
 
 -- a reply is what it tells, with a plain token
 pub told_plain : (r : Reply) (t n : ℕ) → plain_reply tagged_kind (told_by r t n) ≡ r

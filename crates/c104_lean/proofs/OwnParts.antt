@@ -1,9 +1,9 @@
 -- Where each node does its own part of a log, the nodes of the first of it have done that, and each does its part of the rest.
 use Rattle.{c104_lean.specs.OwnRuns.{DoesOwn, OwnRun}, c104_node.proofs.WireEnds.{get_set_other, get_set_same}}
 use Rattle.{c104_node.specs.TracedRecords.TracedRecord, c104_plan.specs.Plans.Plan, c104_tickets.specs.Tickets.{kept_if, part_of}}
-use Rattle.{c104_tickets.specs.{Tickets.stands_at, declared.views.{Done.Done, Name.Name}}, std.proofs.Common.{List, None, Option, Some, ap}}
-use Rattle.std.proofs.Common.{arith, false, inl, inr, refl, slice_get, slice_set, subst, sym, true, ℕ, ◌∙◌, ◌∷◌, ◌≡◌, ◌≢◌}
-use Rattle.std.{proofs.lemmas.Bool.{Decides.nat_tests, cases_eq}, specs.Prelude.{Bool, if◌then◌else◌, ◌==◌}}
+use Rattle.{c104_tickets.specs.{Tickets.stands_at, declared.views.{Done.Done, Name.Name}}, std.proofs.Common.{List, None, Some, ap, arith}}
+use Rattle.std.proofs.Common.{false, inl, inr, refl, slice_get, slice_set, subst, sym, true, ℕ, ◌∙◌, ◌∷◌, ◌≡◌, ◌≢◌}
+use Rattle.std.proofs.lemmas.Bool.{Decides.nat_tests, cases_eq}
 
 -- each node does what is left of its part, from these nodes to others
 abbrev pub RunTheirs : Plan → List TracedRecord → List TracedRecord → (ℕ → List Done) → Type 0

@@ -1,28 +1,34 @@
 -- Where each node of a shared network does its own part of a log, the network goes by the log's events as if one thread had
 -- applied them.
-use Rattle.{c104_audit.proofs.NetworkRuns.same_places, c104_event.specs.declared.{events.Event.Event, faults.EventFault.EventFault}}
-use Rattle.c104_lean.proofs.{OwnActs.{alone_acted, both_acted, told_done, told_ready}, OwnParts.{DoesFirst, RunTheirs, does_first}}
-use Rattle.c104_lean.proofs.OwnParts.{far_away, far_first, far_others, lone_first, lone_others, near_first, near_others, parts}
-use Rattle.c104_lean.{proofs.OwnParts.{parts_of_far, still_there}, specs.OwnRuns.{AreApart, DoesAct, DoesOwn, IsDoneHere, far_place}}
-use Rattle.{c104_lean.specs.{OwnRuns.{near_place, own, own_act, told}, Runs.AreApplied}, c104_net.proofs.Members.element_at}
-use Rattle.c104_node.specs.{Places.bases, PortActs.{Acts, far_act, near_act}, Tagged.{TaggedToken, tagged_kind}, TracedRecords.TracedRecord}
+use Rattle.{c104_audit.proofs.NetworkRuns.same_places, c104_event.specs.declared.faults.EventFault.EventFault}
+use Rattle.c104_lean.proofs.{OwnActs.{alone_acted, both_acted, told_done, told_ready}, OwnParts.{RunTheirs, does_first, far_away}}
+use Rattle.c104_lean.proofs.OwnParts.{far_first, far_others, lone_first, lone_others, near_first, near_others, parts, parts_of_far}
+use Rattle.c104_lean.{proofs.OwnParts.still_there, specs.OwnRuns.{AreApart, DoesAct, DoesOwn, IsDoneHere, far_place, near_place, own}}
+use Rattle.{c104_lean.specs.{OwnRuns.{own_act, told}, Runs.AreApplied}, c104_net.proofs.Members.element_at, c104_node.specs.Places.bases}
+use Rattle.c104_node.specs.{PortActs.{Acts, far_act, near_act}, Tagged.{TaggedToken, tagged_kind}, TracedRecords.TracedRecord}
 use Rattle.c104_node.specs.{TracedRecords.counted_shown, Traces.{plain_act, seatless}, declared.acts.ActOf.ActOf}
-use Rattle.{c104_node.specs.declared.crossings.Crossing.Crossing, c104_plan.specs.{Plans.{IsPlan, Plan}, Wiring.peer}}
-use Rattle.{c104_plan.specs.declared.ports.Port.Port, c104_run.proofs.{ActAnswers.{acts_plain, plain_acts}, ActSteps.joint_wired}}
-use Rattle.c104_run.{proofs.{BalanceWires.peer_back, RecordSteps.ticket_left, RecordedPlaces.{GoesOn, goes_there}}, specs.Engines.engine_of}
-use Rattle.c104_run.specs.{EventActs.{event_acts, port_place}, EventsAtPlaces.EventDone, KnownWires.KnowWires, NetParts.node_count}
-use Rattle.c104_run.specs.{NetRecords.{NetRecord, is_done, ticket_after}, Network.event_fault, RecordedNets.{IsRecordedNet, places_record}}
+use Rattle.{c104_node.specs.declared.crossings.Crossing.Crossing, c104_plan.specs.{Plans.{IsPlan, Plan}, declared.ports.Port.Port}}
+use Rattle.c104_run.proofs.{ActAnswers.{acts_plain, plain_acts}, ActSteps.joint_wired, BalanceWires.peer_back, RecordSteps.ticket_left}
+use Rattle.c104_run.{proofs.RecordedPlaces.{GoesOn, goes_there}, specs.{Engines.engine_of, EventActs.{event_acts, port_place}}}
+use Rattle.c104_run.specs.{EventsAtPlaces.EventDone, KnownWires.KnowWires, NetParts.node_count, NetRecords.{NetRecord, is_done}}
+use Rattle.c104_run.specs.{NetRecords.ticket_after, Network.event_fault, RecordedNets.{IsRecordedNet, places_record}}
 use Rattle.{c104_run.specs.{RecordedPlaces.{counted_keeps, counted_reading}, RecordedRuns.record_apply}, c104_switch.specs.Actions.Reply}
 use Rattle.{c104_switch.specs.{Actions.is_ready, declared.actions.ReplyOf.ReplyOf}, c104_tickets.specs.Tickets.{AreNumbered, Each}}
-use Rattle.{c104_tickets.specs.declared.views.{Deed.Deed, Done.Done}, c104_workers.proofs.LogRuns.alone_inside as lone_inside}
-use Rattle.{c104_workers.{proofs.LogRuns.port_inside, specs.Logs.done_pair}, std.proofs.Common.{List, None, Ok, Option, Result, Some, []}}
-use Rattle.std.proofs.Common.{ap, arith, false, if◌then◌else◌, inl, inr, length, map, nat_eq, option_map, refl, slice_get, slice_set, subst}
-use Rattle.std.proofs.{Common.{suc, sym, true, ℕ, ◌+◌, ◌-◌, ◌<◌, ◌∙◌, ◌∷◌, ◌≡◌, ◌≢◌}, lemmas.{Bool.Decides.nat_tests, List.length-set}}
+use Rattle.{c104_tickets.specs.declared.views.Done.Done, c104_workers.proofs.LogRuns.{alone_inside as lone_inside, port_inside}}
+use Rattle.{c104_workers.specs.Logs.done_pair, std.proofs.Common.{List, None, Ok, Option, Result, Some, [], ap, arith, false}}
+use Rattle.std.proofs.Common.{if◌then◌else◌, inl, inr, length, map, nat_eq, option_map, refl, slice_get, slice_set, subst, suc, sym, true}
+use Rattle.std.proofs.{Common.{ℕ, ◌+◌, ◌-◌, ◌<◌, ◌∙◌, ◌∷◌, ◌≡◌, ◌≢◌}, lemmas.{Bool.Decides.nat_tests, List.length-set}}
 
-module _ (plan : Plan) (is_plan : IsPlan plan) where
+module _ (plan : Plan) where
   -- the network with its record that some nodes show
   abbrev pub net_at : List TracedRecord → ℕ → NetRecord
   net_at places count = places_record counted_reading plan places count
+
+  -- what the network comes to by a log: it is one with its record, its places know its wires, and each event was applied
+  pub record RunsBy (log : List Done) (from to : List TracedRecord) (count last : ℕ) : Type 0 where
+    pub kept : IsRecordedNet counted_reading plan to last
+    pub wired : KnowWires plan (bases (map counted_shown to))
+    pub applied : AreApplied (net_at from count) (map done_pair log) (net_at to last)
 
   -- the nodes after the first of a log was done, and each does its part of the rest
   pub record HasDone (from to : List TracedRecord) (d : Done) (rest : List Done) : Type 0 where
@@ -54,6 +60,14 @@ module _ (plan : Plan) (is_plan : IsPlan plan) where
       let differs : nat_eq (port_place plan q) (port_place plan p) ≡ false = grind (arith, nat_tests, apart) in
       ap (λ b. if b then own 0 (near_act crossing p) r else own 0 (far_act q r) ReplyOf.Done) differs
 
+  -- nothing was done
+  none_done : (from to : List TracedRecord) (count last : ℕ) → to ≡ from → last ≡ count
+      → KnowWires plan (bases (map counted_shown from)) → IsRecordedNet counted_reading plan from count → RunsBy [] from to count last
+  none_done from to count last same still wired kept =
+      subst (λ places. RunsBy [] from places count last) (sym same)
+      (subst (λ i. RunsBy [] from from count i) (sym still) (record { kept = kept; wired = wired; applied = refl }))
+
+module _ (plan : Plan) (is_plan : IsPlan plan) where
   alone_inside : (d : Done) (k : ℕ) (a : ActOf TaggedToken)
       → ◌≡◌ {A = Option (Acts TaggedToken)} (event_acts plan d.deed.event) (Some (Acts.Alone k a)) → event_fault plan d.deed.event ≡ None
       → k < node_count plan
@@ -73,7 +87,7 @@ module _ (plan : Plan) (is_plan : IsPlan plan) where
 
     alone_done : (k : ℕ) (a : ActOf TaggedToken)
         → ◌≡◌ {A = Option (Acts TaggedToken)} (event_acts plan d.deed.event) (Some (Acts.Alone k a))
-        → d.deed.near ≡ Some k → d.deed.far ≡ None → HasDone from to d rest
+        → d.deed.near ≡ Some k → d.deed.far ≡ None → HasDone plan from to d rest
     alone_done k a asked near none =
         let inside = alone_inside d k a asked possible in
         let n = element_at from k (omega (arith, inside, starts)) in
@@ -85,14 +99,14 @@ module _ (plan : Plan) (is_plan : IsPlan plan) where
           nodes = still from k first.mid starts;
           done = told_done plan d (Acts.Alone k a) (map counted_shown from) (map counted_shown (slice_set from k first.mid)) asked possible
               (alone_acted d.ticket (own (k - length plan.switches) a (told d.deed)) n.0 first.mid
-              (own_does k d n.0 first.mid (Acts.Alone k a) asked first.does) from k n.1 answered);
+              (own_does plan k d n.0 first.mid (Acts.Alone k a) asked first.does) from k n.1 answered);
           theirs = first.rest;
         }
 
     joint_done : (p q : Port) (crossing : Crossing)
         → ◌≡◌ {A = Option (Acts TaggedToken)} (event_acts plan d.deed.event) (Some (Acts.Joint p q crossing))
         → d.deed.near ≡ Some (port_place plan p) → d.deed.far ≡ Some (port_place plan q) → port_place plan p ≢ port_place plan q
-        → HasDone from to d rest
+        → HasDone plan from to d rest
     joint_done p q crossing asked near far apart =
         let i : ℕ = port_place plan p in
         let j : ℕ = port_place plan q in
@@ -116,30 +130,17 @@ module _ (plan : Plan) (is_plan : IsPlan plan) where
           done = told_done plan d (Acts.Joint p q crossing) (map counted_shown from) (map counted_shown next) asked possible
               (both_acted d.ticket i j (record { near = p; far = q; crossing = crossing }) (told d.deed) n.0 one.mid x.0 two.mid from apart
               answered n.1 x.1
-              (subst (λ o. DoesAct d.ticket o n.0 one.mid) (near_does p q crossing (told d.deed))
-              (own_does i d n.0 one.mid (Acts.Joint p q crossing) asked one.does))
-              (subst (λ o. DoesAct d.ticket o x.0 two.mid) (far_does p q crossing (told d.deed) apart)
-              (own_does j d x.0 two.mid (Acts.Joint p q crossing) asked two.does)));
+              (subst (λ o. DoesAct d.ticket o n.0 one.mid) (near_does plan p q crossing (told d.deed))
+              (own_does plan i d n.0 one.mid (Acts.Joint p q crossing) asked one.does))
+              (subst (λ o. DoesAct d.ticket o x.0 two.mid) (far_does plan p q crossing (told d.deed) apart)
+              (own_does plan j d x.0 two.mid (Acts.Joint p q crossing) asked two.does)));
           theirs = two.rest;
         }
 
     has_done : (acts : Acts TaggedToken) → event_acts plan d.deed.event ≡ Some acts → d.deed.near ≡ Some (near_place plan acts)
-        → d.deed.far ≡ far_place plan acts → AreApart plan acts → HasDone from to d rest
+        → d.deed.far ≡ far_place plan acts → AreApart plan acts → HasDone plan from to d rest
     has_done (Acts.Alone k a) asked near far apart = alone_done k a asked near far
     has_done (Acts.Joint p q crossing) asked near far apart = joint_done p q crossing asked near far apart
-
-  -- what the network comes to by a log: it is one with its record, its places know its wires, and each event was applied
-  pub record RunsBy (log : List Done) (from to : List TracedRecord) (count last : ℕ) : Type 0 where
-    pub kept : IsRecordedNet counted_reading plan to last
-    pub wired : KnowWires plan (bases (map counted_shown to))
-    pub applied : AreApplied (net_at from count) (map done_pair log) (net_at to last)
-
-  -- nothing was done
-  none_done : (from to : List TracedRecord) (count last : ℕ) → to ≡ from → last ≡ count
-      → KnowWires plan (bases (map counted_shown from)) → IsRecordedNet counted_reading plan from count → RunsBy [] from to count last
-  none_done from to count last same still wired kept =
-      subst (λ places. RunsBy [] from places count last) (sym same)
-      (subst (λ i. RunsBy [] from from count i) (sym still) (record { kept = kept; wired = wired; applied = refl }))
 
   -- one event more, and then the rest
   module _ (from : List TracedRecord) (count : ℕ) (kept : IsRecordedNet counted_reading plan from count) (d : Done)
@@ -149,7 +150,7 @@ module _ (plan : Plan) (is_plan : IsPlan plan) where
       (ready : is_ready d.deed.reply ≡ true) where
     counts : suc count ≡ ticket_after count (is_done (Ok d.deed.reply))
     counts =
-        let left = ticket_left (net_at from count) (net_at from count) is_plan refl kept.kept d.deed.event in
+        let left = ticket_left (net_at plan from count) (net_at plan from count) is_plan refl kept.kept d.deed.event in
         let more : suc count ≡ count + 1 = omega arith in
         more ∙ left ∙ ap (ticket_after count) (sym ready)
 
@@ -158,16 +159,16 @@ module _ (plan : Plan) (is_plan : IsPlan plan) where
         goes_there counted_reading true counted_keeps (λ n. refl) (engine_of plan from count) (engine_of plan next (suc count)) is_plan
         kept d.deed.event (Ok d.deed.reply) done counts
 
-    applied : ◌≡◌ {A = Result Reply EventFault × NetRecord} (Ok d.deed.reply, net_at next (suc count))
-        (record_apply (net_at from count) d.deed.event)
+    applied : ◌≡◌ {A = Result Reply EventFault × NetRecord} (Ok d.deed.reply, net_at plan next (suc count))
+        (record_apply (net_at plan from count) d.deed.event)
     applied = elim goes.answers [ inl due ↦ due | inr short ↦ absurd (cc short.0) ]
 
-    first_then : (rest : List Done) (to : List TracedRecord) (last : ℕ) → RunsBy rest next to (suc count) last
-        → RunsBy (d ∷ rest) from to count last
+    first_then : (rest : List Done) (to : List TracedRecord) (last : ℕ) → RunsBy plan rest next to (suc count) last
+        → RunsBy plan (d ∷ rest) from to count last
     first_then rest to last runs = record {
       kept = runs.kept;
       wired = runs.wired;
-      applied = (net_at next (suc count), applied, ready, runs.applied);
+      applied = (net_at plan next (suc count), applied, ready, runs.applied);
     }
 
     still_wired : KnowWires plan (bases (map counted_shown from)) → KnowWires plan (bases (map counted_shown next))
@@ -176,9 +177,9 @@ module _ (plan : Plan) (is_plan : IsPlan plan) where
   pub runs : (log : List Done) (from to : List TracedRecord) (count last : ℕ) → length from ≡ node_count plan
       → length to ≡ node_count plan → AreNumbered count log → last ≡ count + length log → Each (IsDoneHere plan) log
       → RunTheirs plan from to (parts log) → KnowWires plan (bases (map counted_shown from))
-      → IsRecordedNet counted_reading plan from count → RunsBy log from to count last
+      → IsRecordedNet counted_reading plan from count → RunsBy plan log from to count last
   runs [] from to count last starts ends numbered is here theirs wired kept =
-      none_done from to count last (same_places from to (ends ∙ sym starts) (λ k n m left right. theirs k n m left right))
+      none_done plan from to count last (same_places from to (ends ∙ sym starts) (λ k n m left right. theirs k n m left right))
       (omega (arith, is)) wired kept
   runs (d ∷ rest) from to count last starts ends numbered is here theirs wired kept =
       let first = has_done from to starts ends d rest here.0.possible here.0.ready theirs here.0.acts here.0.asked here.0.near here.0.far
