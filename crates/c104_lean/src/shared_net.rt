@@ -1,6 +1,7 @@
 //! A shared network: nodes behind locks of their own, and the word of tickets.
-ghost use Rattle.std.specs.Prelude.{◌≡◌};
-ghost use Rattle.{c104_lean.specs.{Seats.Grows, Shared.{ArePartsOf, WasShared}}, c104_plan.specs.Plans.IsPlan};
+ghost use Rattle.std.specs.Prelude.{◌<◌, ◌≡◌};
+ghost use Rattle.c104_lean.specs.{Nodes.AsksBoth, Seats.{Follows, Grows}, Shared.{ArePartsOf, WasShared}};
+ghost use Rattle.{c104_plan.specs.Plans.IsPlan};
 ghost use Rattle.c104_run.specs.{NetParts.node_count, Network.event_fault};
 ghost use Rattle.c104_workers.specs.{Calls.IsSameSeat, SeatGrowth.FaultsAs};
 
