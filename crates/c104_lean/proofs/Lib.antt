@@ -3,3 +3,4 @@ pub mod HeldSteps
 pub mod OwnParts
 pub mod OwnActs
 pub mod SharedRuns
+pub mod MadeSeats
