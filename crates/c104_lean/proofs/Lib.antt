@@ -4,3 +4,9 @@ pub mod OwnParts
 pub mod OwnActs
 pub mod SharedRuns
 pub mod MadeSeats
+pub mod TakenNodes
+pub mod TakenSeats
+pub mod LogParts
+pub mod ClosedSeats
+pub mod ClosedNodes
+pub mod ClosedRuns

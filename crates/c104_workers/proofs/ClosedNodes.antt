@@ -22,17 +22,17 @@ each_of : {X : Type 0} (P : X → Type 0) (xs : List X) → All P xs → Each P 
 each_of P [] all = tt
 each_of P (x ∷ xs) all = (All-head P x xs all, each_of P xs (All-tail P x xs all))
 
-moved : {X : Type 0} (P : X → Type 0) (xs ys : List X) → IsPermutation xs ys → Each P xs → Each P ys
+pub moved : {X : Type 0} (P : X → Type 0) (xs ys : List X) → IsPermutation xs ys → Each P xs → Each P ys
 moved P xs ys same each = each_of P ys (All-permutation P xs ys same (all_of P xs each))
 
 -- numbers that rise, from this one on
 
-abbrev Rise : ℕ → List ℕ → Type 0
+abbrev pub Rise : ℕ → List ℕ → Type 0
 Rise low [] = Unit {0}
 Rise low (x ∷ xs) = (low ≤ x) × Rise (suc x) xs
 
 -- there are no more than fit below a number
-fit : (low high : ℕ) (xs : List ℕ) → low ≤ high → Rise low xs → Each (λ x. x < high) xs → low + length xs ≤ high
+pub fit : (low high : ℕ) (xs : List ℕ) → low ≤ high → Rise low xs → Each (λ x. x < high) xs → low + length xs ≤ high
 fit low high [] le rise each = omega (arith, le)
 fit low high (x ∷ xs) le rise each = omega (arith, fit (suc x) high xs (omega (arith, each.0)) rise.1 each.1, rise.0)
 
@@ -67,7 +67,7 @@ module _ {X : Type 0} (n : X → ℕ) where
             (λ y. omega (arith, once y, count_next y (n x) (map n (z ∷ zs)))),
       )
 
-  all_rise : (xs : List X) → IsNonDecreasingBy n xs → ((y : ℕ) → count_of y (map n xs) ≤ 1) → Rise 0 (map n xs)
+  pub all_rise : (xs : List X) → IsNonDecreasingBy n xs → ((y : ℕ) → count_of y (map n xs) ≤ 1) → Rise 0 (map n xs)
   all_rise [] up once = tt
   all_rise (x ∷ xs) up once = rises 0 x xs (omega arith) up once
 

@@ -50,7 +50,7 @@ part_all P s (d ∷ log) each = by_seat (d.deed.seat == s) refl each (part_all P
     by_seat false is each rest = ((λ own. absurd (let no : ⊥ = grind (arith, nat_tests, is, own) in no)), rest each)
 
 -- the seats of a log are those that there are
-seats_inside : (terms : Terms) (count : ℕ) (log : List Done) → count ≡ terms.seats → Each (IsInside terms) log
+pub seats_inside : (terms : Terms) (count : ℕ) (log : List Done) → count ≡ terms.seats → Each (IsInside terms) log
     → Each (λ d. d.deed.seat < count) log
 seats_inside terms count [] is each = tt
 seats_inside terms count (d ∷ log) is each =

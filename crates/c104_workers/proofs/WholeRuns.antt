@@ -14,7 +14,7 @@ has_at (s ∷ seats) zero n d inside is = inl is
 has_at (s ∷ seats) (suc i) n d inside is = inr (has_at seats i n d (omega (arith, inside)) is)
 
 -- and what holds of all holds of it
-each_at : (P : SeatCalls → Type 0) (seats : List SeatCalls) (i : ℕ) (d : SeatCalls) → Each P seats → i < length seats → P (slice_index_or seats i d)
+pub each_at : {X : Type 0} (P : X → Type 0) (seats : List X) (i : ℕ) (d : X) → Each P seats → i < length seats → P (slice_index_or seats i d)
 each_at P [] i d each inside = absurd (let no : ⊥ = omega (arith, inside) in no)
 each_at P (s ∷ seats) zero d each inside = each.0
 each_at P (s ∷ seats) (suc i) d each inside = each_at P seats i d each.1 (omega (arith, inside))
