@@ -6,7 +6,7 @@ use Rattle.c104_tickets.proofs.Parts.{apart_left, apart_right, at_most_once, eac
 use Rattle.c104_tickets.specs.{Counts.{AreDistinct, count_of}, Tickets.{AreApart, Each, IsNameOf, part_of}}
 use Rattle.c104_tickets.specs.declared.views.{Done.Done, Name.Name, Terms.Terms, Track.Track}
 use Rattle.c104_workers.{proofs.{ClosedNodes.{Rise, all_rise, fit, moved}, ClosedWords.IsPart}, specs.Calls.SeatView}
-use Rattle.std.proofs.Common.{List, Some, [], ap, arith, cond, length, map, refl, reverse, slice_get, subst, suc, sym, zero, ℕ, ◌+◌, ◌<◌}
+use Rattle.std.proofs.Common.{List, Some, [], ap, arith, cond, length, map, reverse, slice_get, subst, suc, sym, zero, ℕ, ◌+◌, ◌<◌}
 use Rattle.std.proofs.{Common.{◌∙◌, ◌∷◌, ◌≡◌, ◌≢◌, ◌≤◌}, lemmas.List.{Sorted.{IsPermutation-map, IsPermutation-reverse}, length-map}}
 use Rattle.std.proofs.lemmas.List.Sorted.{IsPermutation-sym, IsPermutation-trans, sum_by-IsPermutation}
 use Rattle.std.specs.{List.Sorted.IsPermutation, Prelude.◌==◌}

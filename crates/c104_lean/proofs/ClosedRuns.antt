@@ -7,7 +7,7 @@ use Rattle.c104_node.specs.{Places.bases, TracedRecords.{TracedRecord, counted_s
 use Rattle.{c104_plan.specs.Plans.Plan, c104_run.specs.{KnownWires.KnowWires, NetParts.node_count, NetRecords.NetRecord}}
 use Rattle.c104_run.specs.{RecordedNets.{IsRecordedNet, places_record}, RecordedPlaces.counted_reading}
 use Rattle.c104_tickets.specs.{Tickets.{AreNumbered, Each}, declared.views.{Done.Done, Name.Name, Terms.Terms, Track.Track}}
-use Rattle.{c104_workers.specs.Calls.SeatView, std.proofs.Common.{List, Some, ap, arith, length, map, slice_get, subst, sym, ℕ, ◌+◌, ◌∙◌, ◌≡◌}}
+use Rattle.{c104_workers.specs.Calls.SeatView, std.proofs.Common.{List, Some, ap, arith, length, map, subst, sym, ℕ, ◌+◌, ◌∙◌, ◌≡◌}}
 
 -- nodes that are those of the network again, and what was done there is one run
 pub record IsClosedRun (before : Before) (nodes : List TracedRecord) (next seat_count : ℕ) (seats : List SeatView) : Type 0 where

@@ -1,5 +1,5 @@
 use Rattle.c104_lean.{proofs.TakenSeats.{all_taken, none_taken, one_taken, seats_before}, specs.Seats.AreSeatsOf}
-use Rattle.{c104_tickets.specs.declared.views.View.View, std.proofs.Common.{[], ap, append-nil, arith, refl, subst, sym, ◌∙◌, ◌≡◌}}
+use Rattle.{c104_tickets.specs.declared.views.View.View, std.proofs.Common.{[], ap, append-nil, arith, subst, sym, ◌∙◌, ◌≡◌}}
 use Rattle.std.proofs.lemmas.List.{nil_from_length}
 use Rattle.c104_lean.proofs.closing.gather.Goals as goal
 
