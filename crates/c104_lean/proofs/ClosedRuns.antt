@@ -1,13 +1,13 @@
 -- What the nodes and the seats of a shared network come to when its word is closed: one run of the network.
-use Rattle.c104_lean.proofs.{ClosedNodes.nodes_did, ClosedSeats.{log_own, log_seated, log_seats}, LogParts.{all_parts, have_places, part_holds}}
-use Rattle.c104_lean.proofs.{OwnParts.{RunTheirs, parts}, SharedRuns.{RunsBy, runs}}
-use Rattle.c104_lean.specs.{Closing.{HoldTracks, TellTracks}, OwnRuns.{IsDoneHere, OwnRun}, Runs.IsSharedRun, Seats.AreAllSeats}
-use Rattle.{c104_lean.specs.Shared.{Before, SharedView, WasShared, record_of}, c104_net.proofs.Members.element_at}
-use Rattle.c104_node.specs.{Places.bases, TracedRecords.{TracedRecord, counted_shown}}
-use Rattle.{c104_plan.specs.Plans.Plan, c104_run.specs.{KnownWires.KnowWires, NetParts.node_count, NetRecords.NetRecord}}
-use Rattle.c104_run.specs.{RecordedNets.{IsRecordedNet, places_record}, RecordedPlaces.counted_reading}
-use Rattle.c104_tickets.specs.{Tickets.{AreNumbered, Each}, declared.views.{Done.Done, Name.Name, Terms.Terms, Track.Track}}
-use Rattle.{c104_workers.specs.Calls.SeatView, std.proofs.Common.{List, Some, ap, arith, length, map, subst, sym, ℕ, ◌+◌, ◌∙◌, ◌≡◌}}
+use Rattle.c104_lean.proofs.{ClosedNodes.nodes_did, ClosedSeats.{log_own, log_seated, log_seats}, LogParts.{all_parts, have_places}}
+use Rattle.c104_lean.{proofs.{LogParts.part_holds, OwnParts.{RunTheirs, parts}, SharedRuns.{RunsBy, runs}}, specs.Closing.HoldTracks}
+use Rattle.c104_lean.specs.{Closing.TellTracks, OwnRuns.{IsDoneHere, OwnRun}, Runs.IsSharedRun, Seats.AreAllSeats, Shared.Before}
+use Rattle.{c104_lean.specs.Shared.{SharedView, WasShared, record_of}, c104_net.proofs.Members.element_at, c104_node.specs.Places.bases}
+use Rattle.{c104_node.specs.TracedRecords.{TracedRecord, counted_shown}, c104_plan.specs.Plans.Plan, c104_run.specs.KnownWires.KnowWires}
+use Rattle.c104_run.specs.{NetParts.node_count, NetRecords.NetRecord, RecordedNets.{IsRecordedNet, places_record}}
+use Rattle.{c104_run.specs.RecordedPlaces.counted_reading, c104_tickets.specs.{Tickets.{AreNumbered, Each}, declared.views.Done.Done}}
+use Rattle.{c104_tickets.specs.declared.views.{Name.Name, Terms.Terms, Track.Track}, c104_workers.specs.Calls.SeatView}
+use Rattle.std.proofs.Common.{List, Some, ap, arith, length, map, subst, sym, ℕ, ◌+◌, ◌∙◌, ◌≡◌}
 
 -- nodes that are those of the network again, and what was done there is one run
 pub record IsClosedRun (before : Before) (nodes : List TracedRecord) (next seat_count : ℕ) (seats : List SeatView) : Type 0 where

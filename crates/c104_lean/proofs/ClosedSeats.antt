@@ -1,11 +1,11 @@
 -- What a word that was ended tells of all seats: each has the calls of its number, and all that was done was done on the
 -- network's own nodes.
 use Rattle.c104_lean.{proofs.LogParts.{all_parts, have_seats, part_holds}, specs.{Closing.{AreSeatTracks, TellTracks}, Seats.AreAllSeats}}
-use Rattle.c104_tickets.{proofs.Parts.each_left, specs.Tickets.{Each, IsClosed, belongs, no_terms, part_of}}
-use Rattle.c104_tickets.specs.declared.views.{Done.Done, Name.Name, Terms.Terms, Track.Track}
-use Rattle.c104_workers.proofs.{ClosedWords.{IsPart, seats_inside}, LogSeats.seat_part, WholeRuns.each_at}
-use Rattle.c104_workers.specs.{Calls.{IsOwn, SeatView, done_call}, Fabrics.{first_seat, no_word}, Logs.calls_in}
-use Rattle.std.proofs.Common.{List, [], ap, arith, map, refl, subst, true, ℕ, ◌++◌, ◌<◌, ◌∙◌, ◌∷◌, ◌≡◌}
+use Rattle.c104_tickets.{proofs.Parts.each_left, specs.{Tickets.{Each, IsClosed, belongs, no_terms, part_of}, declared.views.Done.Done}}
+use Rattle.{c104_tickets.specs.declared.views.{Name.Name, Terms.Terms, Track.Track}, c104_workers.proofs.ClosedWords.{IsPart, seats_inside}}
+use Rattle.c104_workers.{proofs.{LogSeats.seat_part, WholeRuns.each_at}, specs.{Calls.{IsOwn, SeatView, done_call}, Fabrics.first_seat}}
+use Rattle.{c104_workers.specs.{Fabrics.no_word, Logs.calls_in}, std.proofs.Common.{List, [], ap, arith, map, refl, subst, true, ℕ, ◌++◌}}
+use Rattle.std.proofs.Common.{◌<◌, ◌∙◌, ◌∷◌, ◌≡◌}
 
 module _ (log : List Done) where
   -- the calls of a seat are its part of the log

@@ -1,6 +1,6 @@
 -- What holds of the parts of a log holds of all of it, where whatever was done belongs to one of them.
-use Rattle.c104_tickets.specs.{Tickets.{Each, IsInside, belongs, kept_if, part_of, stands_at}, declared.views.{Done.Done, Name.Name, Terms.Terms}}
-use Rattle.c104_workers.{proofs.ClosedWords.itself, specs.Calls.IsOwn}
+use Rattle.c104_tickets.specs.{Tickets.{Each, IsInside, belongs, kept_if, part_of, stands_at}, declared.views.{Done.Done, Name.Name}}
+use Rattle.{c104_tickets.specs.declared.views.Terms.Terms, c104_workers.{proofs.ClosedWords.itself, specs.Calls.IsOwn}}
 use Rattle.std.proofs.Common.{Bool, List, None, Option, Some, [], ap, cond, false, is_some, refl, sym, true, ℕ, ◌<◌, ◌∙◌, ◌∷◌, ◌≡◌}
 
 -- what holds of the part of a name holds of all that belongs to it

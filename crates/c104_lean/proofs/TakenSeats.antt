@@ -1,8 +1,8 @@
 -- Seats whose passes are joined, from the last one on.
-use Rattle.c104_lean.specs.{Closing.{AreSeatTracks, TellTracks}, Seats.{AreSeatsOf, first_done}}
-use Rattle.c104_tickets.specs.{Tickets.{Each, IsClosed, TableId}, declared.views.{Terms.Terms, Track.Track, View.View}}
-use Rattle.c104_workers.specs.Calls.{IsOwn, SeatView, done_call, seat_track}
-use Rattle.std.proofs.{Common.{List, [], ap, map, refl, subst, sym, ℕ, ◌++◌, ◌∙◌, ◌∷◌, ◌≡◌}, lemmas.List.append_assoc}
+use Rattle.{c104_lean.specs.{Closing.{AreSeatTracks, TellTracks}, Seats.{AreSeatsOf, first_done}}, c104_tickets.specs.Tickets.Each}
+use Rattle.c104_tickets.specs.{Tickets.{IsClosed, TableId}, declared.views.{Terms.Terms, Track.Track, View.View}}
+use Rattle.{c104_workers.specs.Calls.{IsOwn, SeatView, done_call, seat_track}, std.proofs.Common.{List, [], ap, map, refl, subst, sym, ℕ}}
+use Rattle.std.proofs.{Common.{◌++◌, ◌∙◌, ◌∷◌, ◌≡◌}, lemmas.List.append_assoc}
 
 -- what holds of each seat holds of those before the last, and of the last
 pub seats_before : (word_id : TableId) (seats : List SeatView) (s : SeatView) → AreSeatsOf word_id (seats ++ s ∷ [])

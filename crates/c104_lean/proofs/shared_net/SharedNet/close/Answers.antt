@@ -1,6 +1,6 @@
-use Rattle.c104_lean.proofs.ClosedRuns.{IsClosedRun, closed_net, closed_parts, closed_run}
-use Rattle.{c104_lean.specs.{Seats.AreAllSeats, Shared.SharedView}, c104_run.specs.NetParts.node_count}
-use Rattle.{c104_tickets.specs.declared.views.Terms.Terms, std.proofs.Common.{ap, arith, length, subst, sym, ◌≡◌}}
+use Rattle.c104_lean.{proofs.ClosedRuns.{IsClosedRun, closed_net, closed_parts, closed_run}, specs.{Seats.AreAllSeats, Shared.SharedView}}
+use Rattle.{c104_run.specs.NetParts.node_count, c104_tickets.specs.declared.views.Terms.Terms, std.proofs.Common.{ap, arith, length, subst}}
+use Rattle.std.proofs.Common.{sym, ◌≡◌}
 use Rattle.c104_lean.proofs.shared_net.SharedNet.close.Goals as goal
 
 pub of_parts-requires : goal.of_parts-requires
