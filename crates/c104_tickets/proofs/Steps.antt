@@ -3,7 +3,7 @@ use Rattle.{atomic_table.proofs.Lists.{at_set, set_else}, c104_tickets.proofs.Lo
 use Rattle.c104_tickets.proofs.Logs.{earlier_part, itself, length_kept, numbered_snoc, part_other, part_snoc, same_name, same_self}
 use Rattle.c104_tickets.specs.Tickets.{AreApart, AreEarlier, Each, HasRoom, HasTrack, IsClosed, IsFree, IsInside, IsNameOf, IsTrack}
 use Rattle.c104_tickets.specs.Tickets.{IsTrackOf, IsViewOf, IsWordOf, after_draw, after_join, after_split, behind, belongs, first_track}
-use Rattle.c104_tickets.specs.Tickets.{front, is_same, no_terms, part_of, spent, track_after}
+use Rattle.c104_tickets.specs.Tickets.{front, is_same, no_terms, part_of, spent, track_after, words_with}
 use Rattle.c104_tickets.specs.declared.TheConstants.{TICKET_LIMIT}
 use Rattle.c104_tickets.specs.declared.views.{Deed.Deed, Done.Done, Name.Name, Terms.Terms, Track.Track, View.View}
 use Rattle.std.proofs.Common.{Bool, List, [], ap, arith, cond, false, inl, inr, length, map, refl, set, subst, suc, sym, true, zero, ℕ}
@@ -117,7 +117,7 @@ module _ (terms : Terms) (words : List ℕ) (views : List View) (rule : IsWordOf
           omega (arith, ap (λ (l : List Done). length l) (part_other (Name.Seat s) rule.log e never), rule.few s)
 
   draw_keeps : (id : ℕ) (v : View) (d : Deed) → get_elem? views id ≡ some v → IsFree d v
-      → IsWordOf terms ((terms.first + length rule.log + 1) ∷ []) (set views id (after_draw v d (terms.first + length rule.log)))
+      → IsWordOf terms (words_with (terms.first + length rule.log + 1)) (set views id (after_draw v d (terms.first + length rule.log)))
   draw_keeps id v d at free =
       let e : Done = record { ticket = terms.first + length rule.log; deed = d } in
       let mine = rule.fits id v at in
@@ -126,7 +126,7 @@ module _ (terms : Terms) (words : List ℕ) (views : List View) (rule : IsWordOf
         owner = rule.owner;
         first_fits = rule.first_fits;
         seats_fit = rule.seats_fit;
-        word = ap (λ n. n ∷ []) (omega (arith, length-append rule.log (e ∷ [])));
+        word = ap words_with (omega (arith, length-append rule.log (e ∷ [])));
         numbered = numbered_snoc terms.first rule.log e rule.numbered refl;
         inside = each_append (IsInside terms) rule.log (e ∷ []) rule.inside
             ((λ name is. (has_owner IsTrack id name v.tracks mine.tracks (free.1 name is)).named), tt);
@@ -270,8 +270,8 @@ told_first told terms n (inr is) = omega (arith, ap (λ (t : Terms). t.first) is
 -- the word after a ticket was drawn, as the step writes it, and what the pass is told
 abbrev Draws : Terms → List ℕ → List View → ℕ → View → Deed → Type 0
 Draws terms words views id v d =
-    IsWordOf terms (set words 0 ((slice_index words 0 + 1) % 2 ^ 64)) (set views id (after_draw v d (slice_index words 0)))
-    × AreEarlier (slice_index words 0) v.tracks × (v.terms.first ≤ slice_index words 0)
+    IsWordOf terms (set words 16 ((slice_index words 16 + 1) % 2 ^ 64)) (set views id (after_draw v d (slice_index words 16)))
+    × AreEarlier (slice_index words 16) v.tracks × (v.terms.first ≤ slice_index words 16)
 
 pub draws : (terms : Terms) (words : List ℕ) (views : List View) → IsWordOf terms words views
     → (id : ℕ) (v : View) (d : Deed) → get_elem? views id ≡ some v → IsFree d v → Draws terms words views id v d
@@ -279,7 +279,7 @@ draws terms words views rule id v d at free =
     let next : ℕ = terms.first + length rule.log in
     let fits : (next + 1) % 2 ^ 64 ≡ next + 1 = mod-eq_of_lt (small terms words views rule) in
     subst (λ ws. Draws terms ws views id v d) (sym rule.word) (
-      subst (λ n. IsWordOf terms (n ∷ []) (set views id (after_draw v d next))) (sym fits)
+      subst (λ n. IsWordOf terms (words_with n) (set views id (after_draw v d next))) (sym fits)
           (draw_keeps terms words views rule id v d at free),
       earlier terms words views rule id v at,
       told_first v.terms terms (length rule.log) (rule.fits id v at).told,
@@ -287,12 +287,12 @@ draws terms words views rule id v d at free =
 
 -- what holds of the last word and of the pass that is handed back
 pub closes : (terms : Terms) (words : List ℕ) (views : List View) → IsWordOf terms words views
-    → (next : ℕ) → get_elem? words 0 ≡ some next → (id : ℕ) (v : View) → get_elem? views id ≡ some v → IsClosed terms next v.tracks
+    → (next : ℕ) → get_elem? words 16 ≡ some next → (id : ℕ) (v : View) → get_elem? views id ≡ some v → IsClosed terms next v.tracks
 closes terms words views rule next last id v at =
     let fit = rule.fits id v at in
     record {
       log = rule.log;
-      last = sym (some-injective _ _ (subst (λ ws. get_elem? ws 0 ≡ some next) rule.word last));
+      last = sym (some-injective _ _ (subst (λ ws. get_elem? ws 16 ≡ some next) rule.word last));
       numbered = rule.numbered;
       inside = rule.inside;
       parts = each_so (IsTrackOf terms rule.owner rule.log id) (λ t. t.done ≡ part_of t.name rule.log) v.tracks (λ t is. is.is) fit.tracks;

@@ -144,6 +144,10 @@ pub record IsViewOf (terms : Terms) (owner : Name → ℕ) (log : List Done) (i 
   pub apart : AreApart v.tracks
   pub told : (v.terms ≡ terms) ⊎ (v.terms ≡ no_terms)
 
+-- the words of a table whose word of tickets is this one: it stands apart from the first, which nothing writes
+abbrev pub words_with : ℕ → List ℕ
+words_with n = 0 ∷ 0 ∷ 0 ∷ 0 ∷ 0 ∷ 0 ∷ 0 ∷ 0 ∷ 0 ∷ 0 ∷ 0 ∷ 0 ∷ 0 ∷ 0 ∷ 0 ∷ 0 ∷ n ∷ []
+
 -- the rule of the word: it is the first ticket and as many more as were drawn, and there is one log of what was done, with
 -- these tickets in order; each track of a view is the part of the log that its name has, and no name has two
 pub record IsWordOf (terms : Terms) (words : List ℕ) (views : List View) : Type 0 where
@@ -151,7 +155,7 @@ pub record IsWordOf (terms : Terms) (words : List ℕ) (views : List View) : Typ
   pub owner : Name → ℕ
   pub first_fits : terms.first ≤ FIRST_LIMIT
   pub seats_fit : terms.seats ≤ SEAT_LIMIT
-  pub word : words ≡ (terms.first + length log) ∷ []
+  pub word : words ≡ words_with (terms.first + length log)
   pub numbered : AreNumbered terms.first log
   pub inside : Each (IsInside terms) log
   pub few : (s : ℕ) → length (part_of (Name.Seat s) log) ≤ TICKET_LIMIT

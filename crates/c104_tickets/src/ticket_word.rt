@@ -12,6 +12,10 @@ use atomic_table::{Seat, Table};
 use std::alloc::{AllocError, Global};
 use std::marker::Model;
 
+/// Which word of the table is that of tickets. The steps that draw none load the first word, which nothing writes: so these are
+/// on another line of a processor's cache.
+const WORD: usize = 16;
+
 /// The next ticket, as a word that all passes share.
 #[derive(Drop)]
 pub struct TicketWord {
@@ -27,7 +31,7 @@ impl Model for TicketWord {
 
     ghost view = { λ w. record { word_id = w.table.shared.table_id; terms = w.table.shared.key } };
 
-    ghost invariant = { λ w. (w.table.shared.table_id.words ≡ 1) × (w.table.shared.table_id.slots ≡ 0)
+    ghost invariant = { λ w. (w.table.shared.table_id.words ≡ 17) × (w.table.shared.table_id.slots ≡ 0)
         × (w.table.shared.key.first ≡ w.first) };
 }
 
@@ -59,7 +63,8 @@ impl TicketWord {
         ensures pass { IfOk result (λ made. (made.1.word_id ≡ made.0.word_id) × (made.1.view ≡ first_view terms)) }
     {
         let first = terms.first;
-        let (table, seat) = Table::of_words(alloc, &[first], &terms)?;
+        let words = [0, 0, 0, 0, 0, 0, 0, 0, 0, 0, 0, 0, 0, 0, 0, 0, first];
+        let (table, seat) = Table::of_words(alloc, &words, &terms)?;
         Ok((TicketWord { table, first }, Pass { seat }))
     }
 
@@ -91,7 +96,7 @@ impl TicketWord {
     {
         self.table
             .shared
-            .fetch_add::<Draws<A>>(&mut pass.seat, 0, 1)
+            .fetch_add::<Draws<A>>(&mut pass.seat, WORD, 1)
     }
 
     /// Takes in another pass, whose tracks come first.
@@ -111,14 +116,14 @@ impl TicketWord {
     {
         let Pass { seat } = pass;
         let closed = self.into_table().close_with(seat);
-        let next = closed.word(0);
+        let next = closed.word(WORD);
         closed.free();
         next
     }
 
     fn into_table(self) -> Table<(), View, Terms, OneLog, Global>
         ensures table { (result.shared.table_id ≡ self.word_id) × (result.shared.key ≡ self.terms) }
-        ensures counts { (result.shared.table_id.words ≡ 1) × (result.shared.table_id.slots ≡ 0) }
+        ensures counts { (result.shared.table_id.words ≡ 17) × (result.shared.table_id.slots ≡ 0) }
     {
         let TicketWord { table, first: _ } = self;
         table

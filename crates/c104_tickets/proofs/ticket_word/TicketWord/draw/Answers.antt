@@ -10,5 +10,5 @@ fetch_add-requires g c =
       omega (arith, c.self.invariant.0),
       λ s rule homes at bound.
           let step = draws c.self.inside.table.shared.key s.words s.views rule mine.id mine.me.0 g.A.Asks.deed at free in
-          (after_draw mine.me.0 g.A.Asks.deed (slice_index s.words 0), Act.keeps, tt, step.0, (refl, step.1, step.2)),
+          (after_draw mine.me.0 g.A.Asks.deed (slice_index s.words 16), Act.keeps, tt, step.0, (refl, step.1, step.2)),
     )
