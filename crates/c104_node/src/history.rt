@@ -33,6 +33,11 @@ impl Model for History {
     ghost also_owns = { λ _. ftrue };
 }
 
+// It owns nothing, so it may go to another thread, and be seen by several.
+unsafe impl Send for History {}
+
+unsafe impl Sync for History {}
+
 impl History {
     ghost use Rattle.std.specs.Prelude.{[], ◌++◌, ◌∷◌, ◌≡◌};
     ghost use Rattle.c104_node.specs.{Starts.start_of, Tagged.tagged_kind, Traces.kept_entry};
