@@ -10,3 +10,5 @@ pub mod LogParts
 pub mod ClosedSeats
 pub mod ClosedNodes
 pub mod ClosedRuns
+pub mod SeatWork
+pub mod EventNodes
