@@ -60,6 +60,7 @@ pub use over_time::{Asked, draw_over_time_command};
 pub use run_commands::{debug_command, run, run_text};
 pub use runs::run_plan;
 pub use session::{Ended, Session};
+pub use starting::start_net;
 pub use states::draw_state_command;
 pub use summary::summary_lines;
 pub use summary_text::SummaryLine;

@@ -16,7 +16,7 @@ use std::alloc::Global;
 
 /// The network of a plan, into which an image that fits it was loaded, at the start of a run. The only error is
 /// out of memory.
-pub(crate) fn start_net(alloc: Global, plan: &Plan, image: &Image) -> Result<TracedNet, NoMemory>
+pub fn start_net(alloc: Global, plan: &Plan, image: &Image) -> Result<TracedNet, NoMemory>
     requires { Fits image.now plan.now }
     ensures { IfOk result (λ net. net ≡ fresh_record (placed_network plan.now image.now)) }
 {

@@ -2,31 +2,33 @@
 use Rattle.{c104_plan.specs.{PlanImage.Image, Plans.Plan}, c104_storm.specs.{Endings.MayEnd, Sends.{new_sending, send_outcome}}}
 use Rattle.{c104_storm.specs.declared.sends.Sending.Sending, c104_stream.specs.{ScriptLines.is_long, Scripts.AnswersPrefix}}
 use Rattle.c104_stream.specs.{Scripts.{StopsAnswered, script_outcome}, Writing.{AppendsPrefix, Grew}, declared.halt.Halt.Halt}
-use Rattle.{c104_storm.specs.Workers.{AreDoneBy, Team}, c104_workers.specs.{Fabrics.{Handed, Left, handed_of}, OneRuns.IsLeft}}
+use Rattle.{c104_lean.specs.Runs.IsSharedRun, c104_run.specs.NetRecords.{IsNetRecord, NetRecord}}
+use Rattle.{c104_storm.specs.Workers.{AreDoneBy, Team}, c104_workers.specs.Calls.SeatView}
 use Rattle.std.specs.{Io.KnownBytes.Appends, Prelude.{Bool, Err, List, None, Ok, Option, Result, Some, ℕ, ◌++◌, ◌≡◌, ◌⊎◌}}
 
--- a storm by such a team may end with a text, and be refused or not, of which this was known when its workers began: what they
--- left is that of a fabric of such a network, and each of them did only events of its own nodes' parts of rounds
-pub record MayStorm (team : Team) (handed : Handed) (long faulty : Bool) (text : List ℕ) (refused : Bool) : Type 0 where
-  pub left : Left
-  pub kept : IsLeft left
-  pub handed_so : left.handed ≡ handed
-  pub done : AreDoneBy team handed.plan left.seats
+-- a storm by such a team may end with a text, and be refused or not, which its workers began with this network: they left one to
+-- which it came by one run, and each of them did only events of its own nodes' parts of rounds
+pub record MayStorm (team : Team) (net : NetRecord) (long faulty : Bool) (text : List ℕ) (refused : Bool) : Type 0 where
+  pub left : NetRecord
+  pub kept : IsNetRecord left
+  pub seats : List SeatView
+  pub one : IsSharedRun net left team.count seats
+  pub done : AreDoneBy team net.network.plan seats
   pub ends : MayEnd team left long faulty text refused
 
 -- what is written at the end of such a storm: all of such a text, or a prefix of it where the writer fails, and nothing
 -- where memory runs out
-abbrev pub StormsOn : Team → Handed → Bool → Bool → Option (List ℕ) → Option (List ℕ) → Result Bool Halt → Type 0
-StormsOn team handed long faulty held holds (Ok refused) =
-    (text : List ℕ) × MayStorm team handed long faulty text refused × Appends held holds text
-StormsOn team handed long faulty held holds (Err Halt.CannotRead) = ⊥
-StormsOn team handed long faulty held holds (Err Halt.CannotWrite) =
-    (text : List ℕ) × (refused : Bool) × MayStorm team handed long faulty text refused × AppendsPrefix held holds text
-StormsOn team handed long faulty held holds (Err Halt.NoMemory) = holds ≡ held
+abbrev pub StormsOn : Team → NetRecord → Bool → Bool → Option (List ℕ) → Option (List ℕ) → Result Bool Halt → Type 0
+StormsOn team net long faulty held holds (Ok refused) =
+    (text : List ℕ) × MayStorm team net long faulty text refused × Appends held holds text
+StormsOn team net long faulty held holds (Err Halt.CannotRead) = ⊥
+StormsOn team net long faulty held holds (Err Halt.CannotWrite) =
+    (text : List ℕ) × (refused : Bool) × MayStorm team net long faulty text refused × AppendsPrefix held holds text
+StormsOn team net long faulty held holds (Err Halt.NoMemory) = holds ≡ held
 
 -- the end of a storm over a network into which a script's packets were sent
 abbrev pub MayEndAfter : Team → Sending → Bool → List ℕ → Bool → Type 0
-MayEndAfter team sending long text refused = MayStorm team (handed_of sending.net) long sending.is_faulty text refused
+MayEndAfter team sending long text refused = MayStorm team sending.net long sending.is_faulty text refused
 
 -- what a storm over the network of a plan with an image may write in all, and be refused or not: the answers to its
 -- script's lines, and then the end of a storm over the network after them

@@ -4,11 +4,11 @@ ghost use Rattle.c104_plan.specs.PlanImage.{Fits};
 ghost use Rattle.c104_storm.specs.{Commands.{StormEnds, StormRuns}, Packets.WritesPacketsOf, Workers.team_of};
 ghost use Rattle.c104_setup.specs.declared.status.Status.TheVariants as status;
 
-use crate::storms::{MAX_WORKERS, storm_plan};
+use crate::storms::{Allowance, MAX_WORKERS, storm_plan};
+use c104_lean::Words;
 use c104_mistakes::Messages;
 use c104_plan::{Image, Plan};
 use c104_setup::{Setup, Status, read_setup};
-use c104_workers::Words;
 use std::alloc::Global;
 use std::io::{Read, Write};
 use std::sync::Wait;
@@ -30,6 +30,7 @@ pub fn storm_command<R: Threads + Wait + Sync, D: Read, S: Read, W: Write, M: Me
     rt: &R,
     workers: u8,
     words: Words,
+    allowance: Allowance,
     description: &mut D,
     script: &mut S,
     writer: &mut W,
@@ -49,7 +50,7 @@ pub fn storm_command<R: Threads + Wait + Sync, D: Read, S: Read, W: Write, M: Me
         Err(status) => return status,
     };
     storm_setup(
-        alloc, rt, workers, words, &plan, &image, script, writer, messages,
+        alloc, rt, workers, words, allowance, &plan, &image, script, writer, messages,
     )
 }
 
@@ -60,6 +61,7 @@ fn storm_setup<R: Threads + Wait + Sync, S: Read, W: Write, M: Messages>(
     rt: &R,
     workers: u8,
     words: Words,
+    allowance: Allowance,
     plan: &Plan,
     image: &Image,
     script: &mut S,
@@ -73,7 +75,7 @@ fn storm_setup<R: Threads + Wait + Sync, S: Read, W: Write, M: Messages>(
     ensures of_script { (n : ℕ) → result ≡ status.CannotRead n → n ≡ 1 }
 {
     match storm_plan(
-        alloc, rt, workers, words, plan, image, script, writer, messages,
+        alloc, rt, workers, words, allowance, plan, image, script, writer, messages,
     ) {
         Ok(false) => Status::Done,
         Ok(true) => Status::Refused,

@@ -1,17 +1,14 @@
 //! The end of a storm: what follows the answers.
-ghost use Rattle.std.specs.Prelude.{◌≡◌, ◌≢◌, ◌↔◌, All, IfOk, IsTrue, OnOk};
-ghost use Rattle.c104_workers.specs.OneRuns.{IsWhole};
+ghost use Rattle.std.specs.Prelude.{IfOk, OnOk, ◌≡◌, ◌≢◌};
 ghost use Rattle.c104_event.specs.declared.faults.EventFault.TheVariants as event_fault;
-ghost use Rattle.c104_storm.specs.{Endings.{IsEndingByNodes, IsEndingOf, IsQuietLeft, WritesEnd, is_refused}, Workers.{IsStopOf, Team}};
+ghost use Rattle.c104_storm.specs.{Endings.{IsEndingByNodes, IsEndingOf, WritesEnd, is_refused}, Workers.{IsStopOf, Team}};
 
 use crate::end_texts::end_text;
 use crate::working::Worked;
 use c104_event::EventFault;
-use c104_node::Node;
-use c104_run::Run;
+use c104_net::TracedNet;
 use c104_stream::{Halt, write_whole};
 use c104_token::NoMemory;
-use c104_workers::Gathered;
 use std::alloc::Global;
 use std::io::Write;
 
@@ -25,14 +22,14 @@ pub(crate) struct Sent {
 }
 
 /// How a storm ended.
-#[derive(Drop)]
+#[derive(Clone, Copy)]
 pub(crate) enum Ending {
     /// Tokens are left that go nowhere, or that all the turns weren't enough for.
     NotQuiet,
     /// The worker of this number stopped at an event that was refused for this.
     Stopped(usize, EventFault),
-    /// All was quiet, and this is the run that was done.
-    Quiet(Run),
+    /// All was quiet.
+    Quiet,
 }
 
 /// Writes how a storm ended whose workers ended so: that it isn't quiet, which worker stopped, or that what was done is one
@@ -40,39 +37,37 @@ pub(crate) enum Ending {
 /// so that none of it is written where memory runs out.
 pub(crate) fn write_end<W: Write>(
     alloc: Global,
-    gathered: &Gathered,
+    net: &TracedNet,
     sent: Sent,
     worked: Worked,
     writer: &mut W,
 ) -> Result<bool, Halt>
-    requires { IsWhole gathered.now }
-    ensures { (team : Team) → IsStopOf team gathered.now.handed.plan worked →
-        WritesEnd team gathered.now sent.is_long sent.is_faulty (W.contents writer.old) (W.contents writer.new) result }
+    ensures { (team : Team) → IsStopOf team net.now.network.plan worked →
+        WritesEnd team net.now sent.is_long sent.is_faulty (W.contents writer.old) (W.contents writer.new) result }
 {
-    let ending = ending_of(alloc, gathered, worked)?;
-    let text = end_text(alloc, &ending, sent.is_long)?;
+    let ending = ending_of(net, worked)?;
+    let text = end_text(alloc, net, ending, sent.is_long)?;
     write_whole(writer, text.as_slice())?;
-    Ok(is_refused(&ending, sent))
+    Ok(is_refused(ending, sent))
 }
 
 /// Whether a storm was refused that ended so: its script, for its length or for one of its lines, or the storm itself.
-fn is_refused(ending: &Ending, sent: Sent) -> bool
-    ensures { result ≡ is_refused sent.is_long sent.is_faulty ending.now }
+fn is_refused(ending: Ending, sent: Sent) -> bool
+    ensures { result ≡ is_refused sent.is_long sent.is_faulty ending }
 {
     match ending {
         Ending::NotQuiet => true,
         Ending::Stopped(_, _) => true,
-        Ending::Quiet(_) => sent.is_long || sent.is_faulty,
+        Ending::Quiet => sent.is_long || sent.is_faulty,
     }
 }
 
-/// How a storm ended whose workers ended so. The only error is out of memory, which may also be why a worker stopped.
-fn ending_of(alloc: Global, gathered: &Gathered, worked: Worked) -> Result<Ending, NoMemory>
-    requires { IsWhole gathered.now }
-    ensures { IfOk result (λ ending. IsEndingOf worked gathered.now ending) }
+/// How a storm ended whose workers ended so. The only error is out of memory, which may be why a worker stopped.
+fn ending_of(net: &TracedNet, worked: Worked) -> Result<Ending, NoMemory>
+    ensures { IfOk result (λ ending. IsEndingOf worked net.now ending) }
 {
     match worked {
-        Worked::Quiet | Worked::NotQuiet => ending_by_nodes(alloc, gathered),
+        Worked::Quiet | Worked::NotQuiet => Ok(ending_by_nodes(net)),
         Worked::Stopped(worker, fault) => {
             other_event_fault(fault)?;
             Ok(Ending::Stopped(worker, fault))
@@ -80,28 +75,15 @@ fn ending_of(alloc: Global, gathered: &Gathered, worked: Worked) -> Result<Endin
     }
 }
 
-/// How a storm ended in which no worker stopped: what the workers say of the nodes is looked at again. The only error is out
-/// of memory.
-fn ending_by_nodes(alloc: Global, gathered: &Gathered) -> Result<Ending, NoMemory>
-    requires { IsWhole gathered.now }
-    ensures { IfOk result (λ ending. IsEndingByNodes gathered.now ending) }
+/// How a storm ended in which no worker stopped: what the workers say of the nodes is looked at again.
+fn ending_by_nodes(net: &TracedNet) -> Ending
+    ensures { IsEndingByNodes net.now result }
 {
-    if !are_quiet(gathered.nodes()) {
-        return Ok(Ending::NotQuiet);
+    if net.quiet() {
+        Ending::Quiet
+    } else {
+        Ending::NotQuiet
     }
-    Ok(Ending::Quiet(gathered.run(alloc)?))
-}
-
-/// Whether no token stands at any of these nodes, and no packet is under way in any.
-fn are_quiet(nodes: &[Node]) -> bool
-    ensures { IsTrue result ↔ All IsQuietLeft nodes.now }
-{
-    for node in nodes {
-        if !node.quiet() {
-            return false;
-        }
-    }
-    true
 }
 
 /// NoMemory where that is the fault of an event.

@@ -1,12 +1,12 @@
 //! The packets that arrived in a storm, sorted: the order in which they came depends on the threads.
 ghost use Rattle.std.specs.{Global.Vec as Kept, Prelude.{IfOk, OnOk, flat_map, length, map, ◌++◌, ◌<◌, ◌≡◌}};
 ghost use Rattle.{c104_net.specs.{Deliveries.arrived_at, RunOrigins.AreOrigins, TracedEnds.traced_end}, c104_node.specs.Origins.AreSure};
+ghost use Rattle.c104_run.specs.FinishedRecords.{record_finish};
 ghost use Rattle.c104_node.specs.{Origins.origins_in, declared.{origins.Origin.Origin as TheOrigin, traced.Traced.Traced as TheTraced}};
 ghost use Rattle.c104_storm.specs.{Arrivals.{AreAll, IsSortedOf, JoinArrivals, JoinSorted, arrived_line, arrived_of}, Texts.sender_text};
 
-use c104_net::{Origin, Origins};
+use c104_net::{Origin, Origins, TracedNet};
 use c104_plan::Plan;
-use c104_run::Run;
 use c104_script::{add_name, add_number};
 use c104_token::{NoMemory, Packet, Token, cut_packets, print_packet};
 use std::alloc::Global;
@@ -21,25 +21,25 @@ pub(crate) struct Arrival<'a> {
 /// A line for each whole packet that arrived: the packet, the terminal that sent it, and its number among those that this
 /// terminal sent, from 0. They are sorted by the terminal where they arrived, by the one that sent them, and by number,
 /// and join the text. The only error is out of memory.
-pub(crate) fn add_sorted(alloc: Global, run: &Run, text: &mut Vec<u8>) -> Result<(), NoMemory>
-    ensures { OnOk result (JoinArrivals run.now text.old.items (length run.now.finished.plan.terminals) text.new.items) }
+pub(crate) fn add_sorted(alloc: Global, net: &TracedNet, text: &mut Vec<u8>) -> Result<(), NoMemory>
+    ensures { OnOk result (JoinArrivals (record_finish net.now) text.old.items (length net.now.network.plan.terminals) text.new.items) }
 {
-    let origins = run.origins(alloc)?;
-    add_terminals(alloc, run, origins.as_slice(), text)
+    let origins = net.origins(alloc)?;
+    add_terminals(alloc, net, origins.as_slice(), text)
 }
 
 /// The lines of the packets that each terminal received join the text.
 fn add_terminals(
     alloc: Global,
-    run: &Run,
+    net: &TracedNet,
     origins: &[Vec<Origin>],
     text: &mut Vec<u8>,
 ) -> Result<(), NoMemory>
-    requires { AreOrigins run.now (map (λ (list : Kept TheOrigin). list.items) origins.now) }
-    ensures { OnOk result (JoinArrivals run.now text.old.items (length run.now.finished.plan.terminals) text.new.items) }
+    requires { AreOrigins (record_finish net.now) (map (λ (list : Kept TheOrigin). list.items) origins.now) }
+    ensures { OnOk result (JoinArrivals (record_finish net.now) text.old.items (length net.now.network.plan.terminals) text.new.items) }
 {
-    for terminal in 0..run.plan().terminals().len() {
-        add_terminal(alloc, run, terminal, origins, text)?;
+    for terminal in 0..net.plan().terminals().len() {
+        add_terminal(alloc, net, terminal, origins, text)?;
     }
     Ok(())
 }
@@ -47,25 +47,25 @@ fn add_terminals(
 /// The lines of the packets that a terminal received join the text.
 fn add_terminal(
     alloc: Global,
-    run: &Run,
+    net: &TracedNet,
     terminal: usize,
     origins: &[Vec<Origin>],
     text: &mut Vec<u8>,
 ) -> Result<(), NoMemory>
-    requires origins { AreOrigins run.now (map (λ (list : Kept TheOrigin). list.items) origins.now) }
-    requires inside { terminal < length run.now.finished.plan.terminals }
-    ensures { OnOk result (JoinSorted run.now.finished.plan terminal (arrived_at (traced_end run.now) terminal)
+    requires origins { AreOrigins (record_finish net.now) (map (λ (list : Kept TheOrigin). list.items) origins.now) }
+    requires inside { terminal < length net.now.network.plan.terminals }
+    ensures { OnOk result (JoinSorted net.now.network.plan terminal (arrived_at (traced_end (record_finish net.now)) terminal)
         text.old.items text.new.items) }
 {
-    let (Some(arrived), Some(origins)) = (run.arrived(terminal), origins.get(terminal)) else {
+    let (Some(arrived), Some(origins)) = (net.arrived(alloc, terminal)?, origins.get(terminal))
+    else {
         unreachable!();
     };
-    let tokens = arrived.to_list(alloc)?;
     add_packets(
         alloc,
-        run,
+        net,
         terminal,
-        tokens.as_slice(),
+        arrived.as_slice(),
         origins.as_slice(),
         text,
     )
@@ -74,21 +74,21 @@ fn add_terminal(
 /// The lines of a terminal's whole packets join the text. The origins are those of the packets, in order of arrival.
 fn add_packets(
     alloc: Global,
-    run: &Run,
+    net: &TracedNet,
     terminal: usize,
     arrived: &[Token],
     origins: &[Origin],
     text: &mut Vec<u8>,
 ) -> Result<(), NoMemory>
-    requires arrived { arrived.now ≡ map (λ (x : TheTraced). x.token) (arrived_at (traced_end run.now) terminal) }
-    requires origins { origins.now ≡ origins_in (arrived_at (traced_end run.now) terminal) }
-    requires sure { AreSure (arrived_at (traced_end run.now) terminal) }
-    ensures { OnOk result (JoinSorted run.now.finished.plan terminal (arrived_at (traced_end run.now) terminal)
+    requires arrived { arrived.now ≡ map (λ (x : TheTraced). x.token) (arrived_at (traced_end (record_finish net.now)) terminal) }
+    requires origins { origins.now ≡ origins_in (arrived_at (traced_end (record_finish net.now)) terminal) }
+    requires sure { AreSure (arrived_at (traced_end (record_finish net.now)) terminal) }
+    ensures { OnOk result (JoinSorted net.now.network.plan terminal (arrived_at (traced_end (record_finish net.now)) terminal)
         text.old.items text.new.items) }
 {
     let (packets, _unfinished) = cut_packets(alloc, arrived)?;
     let arrivals = sorted_arrivals(alloc, packets.as_slice(), origins)?;
-    add_lines(alloc, run.plan(), terminal, arrivals.as_slice(), text)
+    add_lines(alloc, net.plan(), terminal, arrivals.as_slice(), text)
 }
 
 /// Packets with their origins, sorted by terminal and number. The only error is out of memory.

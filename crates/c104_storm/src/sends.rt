@@ -7,16 +7,17 @@ ghost use Rattle.c104_storm.specs.Sends.{begins_otherwise, event_outcome, new_se
 use crate::telling::send_message;
 use c104_event::{Event, EventFault};
 use c104_mistakes::{About, Messages};
-use c104_net::Net;
+use c104_net::TracedNet;
 use c104_plan::{Image, Plan, first_word, uncommented};
 use c104_script::{Answer, AnswersLines, LineFault, MAX_LINE, Request, read_line};
+use c104_session::start_net;
 use c104_token::NoMemory;
 use std::alloc::Global;
 
 /// A network into which a script's packets are sent. It can't be dropped: `retire` disposes of it.
 pub(crate) struct Sending {
     /// The network.
-    pub(crate) net: Net,
+    pub(crate) net: TracedNet,
     /// Whether a line was faulty so far.
     pub(crate) is_faulty: bool,
 }
@@ -27,13 +28,11 @@ impl Sending {
         requires { Fits image.now plan.now }
         ensures { IfOk result (λ sending. sending ≡ new_sending plan.now image.now) }
     {
-        match Net::placed(alloc, plan, image) {
-            Ok(net) => Ok(Sending {
-                net,
-                is_faulty: false,
-            }),
-            Err(_) => Err(NoMemory),
-        }
+        let net = start_net(alloc, plan, image)?;
+        Ok(Sending {
+            net,
+            is_faulty: false,
+        })
     }
 
     /// Disposes of the network.
@@ -96,7 +95,7 @@ fn tells_fault(answer: &Option<Answer>) -> bool
 }
 
 /// Sends the packet of a line, and gives what answers the line. The only error is out of memory.
-fn answer_send(alloc: Global, net: &mut Net, line: &[u8]) -> Result<Option<Answer>, NoMemory>
+fn answer_send(alloc: Global, net: &mut TracedNet, line: &[u8]) -> Result<Option<Answer>, NoMemory>
     ensures answered { IfOk result (λ answer. ◌≡◌ {A = Option TheAnswer × TheNet}
         (answer, net.new) (send_answer net.old line.now)) }
 {
@@ -118,7 +117,7 @@ fn answer_send(alloc: Global, net: &mut Net, line: &[u8]) -> Result<Option<Answe
 }
 
 /// Does an event, and gives what answers it. The only error is out of memory.
-fn answer_event(net: &mut Net, event: &Event) -> Result<Answer, NoMemory>
+fn answer_event(net: &mut TracedNet, event: &Event) -> Result<Answer, NoMemory>
     ensures { IfOk result (λ answer. ◌≡◌ {A = TheAnswer × TheNet}
         (answer, net.new) (event_outcome net.old event.now)) }
 {

@@ -1,21 +1,24 @@
 //! A storm, on the network of a plan.
 //!
-//! The network is placed, where a run's is loaded: that both come to the same network is proved of the load.
-ghost use Rattle.std.specs.Prelude.{length, map, ◌≡◌, ◌≤◌};
+//! Its network is loaded, as a run's is: that this comes to the network placed with the image is proved of the load.
+ghost use Rattle.std.specs.Prelude.{length, ◌≡◌, ◌≤◌};
 ghost use Rattle.c104_plan.specs.{PlanImage.{Fits, Image as TheImage}, Plans.Plan as ThePlan};
 ghost use Rattle.c104_storm.specs.{Packets.WritesSentPackets, Sends.{new_sending, send_outcome}, Storms.{StormsOn, StormsPlan}};
 ghost use Rattle.c104_storm.specs.Workers.{team_of};
-ghost use Rattle.{c104_stream.specs.Scripts.AnswersScript, c104_workers.specs.Fabrics.{AreSeatsOf, first_seats, handed_of, seat_view}};
+ghost use Rattle.{c104_lean.specs.{Seats.AreSeatsOf, Shared.record_of}, c104_stream.specs.Scripts.AnswersScript};
+ghost use Rattle.{c104_tickets.specs.declared.TheConstants.TICKET_LIMIT, c104_workers.specs.Fabrics.first_seats};
 
 use crate::endings::{Sent, write_end};
 use crate::sends::Sending;
 use crate::telling::explain_end;
 use crate::working::work;
+use c104_lean::{CountedSeat, Ready, SharedNet, Sharing, Words};
 use c104_mistakes::Messages;
 use c104_plan::{Image, Plan};
 use c104_script::answer_lines;
 use c104_stream::{Ahead, Halt};
-use c104_workers::{Fabric, Naming, Ready, Seat, Words};
+use c104_tickets::TICKET_LIMIT;
+use c104_workers::CALL_LIMIT;
 use std::alloc::Global;
 use std::io::{Read, Write};
 use std::marker::Brand;
@@ -24,6 +27,27 @@ use std::thread::Threads;
 
 /// The most workers.
 pub const MAX_WORKERS: u8 = 64;
+
+/// How many events a worker may do.
+#[derive(Clone, Copy, Debug, PartialEq, Eq)]
+pub enum Allowance {
+    /// As many as a seat of a fabric keeps calls: 1,048,576.
+    Listed,
+    /// 2⁴⁰, which no worker reaches.
+    Counted,
+}
+
+impl Allowance {
+    /// The number.
+    fn events(self) -> u64
+        ensures { result ≤ TICKET_LIMIT }
+    {
+        match self {
+            Allowance::Listed => CALL_LIMIT as u64,
+            Allowance::Counted => TICKET_LIMIT,
+        }
+    }
+}
 
 /// Lets a storm go over the network of a plan, started with an image that fits it: the lines of a script are answered as
 /// they are read, whose packets are sent; then workers, each in a thread of its own, do turns with such words until all is
@@ -37,6 +61,7 @@ pub fn storm_plan<R: Threads + Wait + Sync, S: Read, W: Write, M: Messages>(
     rt: &R,
     workers: u8,
     words: Words,
+    allowance: Allowance,
     plan: &Plan,
     image: &Image,
     script: &mut S,
@@ -55,7 +80,9 @@ pub fn storm_plan<R: Threads + Wait + Sync, S: Read, W: Write, M: Messages>(
     // The proof reads here what every plan keeps.
     let _switches = plan.switches();
     let sending = Sending::new(alloc, plan, image)?;
-    storm_script(alloc, rt, workers, words, sending, script, writer, messages)
+    storm_script(
+        alloc, rt, workers, words, allowance, sending, script, writer, messages,
+    )
 }
 
 /// The same of a network that is before the first line of the script.
@@ -64,6 +91,7 @@ fn storm_script<R: Threads + Wait + Sync, S: Read, W: Write, M: Messages>(
     rt: &R,
     workers: u8,
     words: Words,
+    allowance: Allowance,
     sending: Sending,
     script: &mut S,
     writer: &mut W,
@@ -77,7 +105,7 @@ fn storm_script<R: Threads + Wait + Sync, S: Read, W: Write, M: Messages>(
     let mut sending = sending;
     match answer_sends(alloc, &mut sending, script, writer, messages) {
         Ok(is_long) => storm_net(
-            alloc, rt, workers, words, sending, is_long, writer, messages,
+            alloc, rt, workers, words, allowance, sending, is_long, writer, messages,
         ),
         Err(halt) => {
             sending.retire();
@@ -108,18 +136,19 @@ fn storm_net<R: Threads + Wait + Sync, W: Write, M: Messages>(
     rt: &R,
     workers: u8,
     words: Words,
+    allowance: Allowance,
     sending: Sending,
     is_long: bool,
     writer: &mut W,
     messages: &mut M,
 ) -> Result<bool, Halt>
     requires some { (1 ≤ workers) × (workers ≤ MAX_WORKERS) }
-    ensures { StormsOn (team_of workers words) (handed_of sending.net) is_long sending.is_faulty
+    ensures { StormsOn (team_of workers words) sending.net is_long sending.is_faulty
         (W.contents writer.old) (W.contents writer.new) result }
 {
     let Sending { net, is_faulty } = sending;
     let sent = Sent { is_long, is_faulty };
-    match Ready::new(alloc, net, usize::from(workers)) {
+    match Ready::new(alloc, net, usize::from(workers), allowance.events()) {
         Ok(ready) => storm_ready::<Brand, R, W, M>(alloc, rt, ready, words, sent, writer, messages),
         Err((net, _)) => {
             // The number of seats is one that there may be, so that there was no memory.
@@ -129,9 +158,9 @@ fn storm_net<R: Threads + Wait + Sync, W: Write, M: Messages>(
     }
 }
 
-/// The same of a network that is ready for a fabric.
+/// The same of a network that is ready to be shared.
 #[tactic(auto, using(crate::proofs::SomeSeats::some_seats))]
-fn storm_ready<N: Naming + Send + Sync, R: Threads + Wait + Sync, W: Write, M: Messages>(
+fn storm_ready<N: Sharing + Send + Sync, R: Threads + Wait + Sync, W: Write, M: Messages>(
     alloc: Global,
     rt: &R,
     ready: Ready,
@@ -140,14 +169,14 @@ fn storm_ready<N: Naming + Send + Sync, R: Threads + Wait + Sync, W: Write, M: M
     writer: &mut W,
     messages: &mut M,
 ) -> Result<bool, Halt>
-    requires named { (ready.word_id ≡ N.word) × (handed_of ready.net ≡ N.handed) }
+    requires shared { (ready.word_id ≡ N.word) × (ready.before ≡ N.before) }
     requires some { 1 ≤ ready.terms.seats }
-    ensures { StormsOn (team_of ready.terms.seats words) (handed_of ready.net) sent.is_long sent.is_faulty
+    ensures { StormsOn (team_of ready.terms.seats words) (record_of ready.before) sent.is_long sent.is_faulty
         (W.contents writer.old) (W.contents writer.new) result }
 {
-    match ready.into_fabric::<N>(alloc) {
-        Ok((fabric, seats)) => storm_fabric(
-            alloc, rt, fabric, seats, words, sent, writer, messages,
+    match ready.into_shared::<N>(alloc) {
+        Ok((shared, seats)) => storm_shared(
+            alloc, rt, shared, seats, words, sent, writer, messages,
         ),
         Err((net, _)) => {
             net.retire();
@@ -156,33 +185,31 @@ fn storm_ready<N: Naming + Send + Sync, R: Threads + Wait + Sync, W: Write, M: M
     }
 }
 
-/// The same of a fabric, by workers that use its seats.
-fn storm_fabric<N: Naming + Send + Sync, R: Threads + Wait + Sync, W: Write, M: Messages>(
+/// The same of a shared network, by workers that use its seats.
+fn storm_shared<N: Sharing + Send + Sync, R: Threads + Wait + Sync, W: Write, M: Messages>(
     alloc: Global,
     rt: &R,
-    fabric: Fabric<N>,
-    seats: Vec<Seat>,
+    shared: SharedNet<N>,
+    seats: Vec<CountedSeat>,
     words: Words,
     sent: Sent,
     writer: &mut W,
     messages: &mut M,
 ) -> Result<bool, Halt>
     requires some { 1 ≤ length seats.items }
-    requires own { AreSeatsOf fabric.word_id seats.items }
-    requires first { map seat_view seats.items ≡ first_seats fabric.word_id fabric.terms }
-    requires count { 1 ≤ fabric.terms.seats }
-    ensures { StormsOn (team_of fabric.terms.seats words) fabric.handed sent.is_long sent.is_faulty
+    requires own { AreSeatsOf shared.word_id seats.items }
+    requires first { seats.items ≡ first_seats shared.word_id shared.terms }
+    requires count { 1 ≤ shared.terms.seats }
+    ensures { StormsOn (team_of shared.terms.seats words) (record_of shared.before) sent.is_long sent.is_faulty
         (W.contents writer.old) (W.contents writer.new) result }
 {
     let mut seats = seats;
-    let worked = work(alloc, rt, &fabric, seats.as_mut_slice(), words, messages);
-    let gathered = fabric.close(seats);
-    // The proof reads here what its type keeps.
-    let _plan = gathered.plan();
-    let written = write_end(alloc, &gathered, sent, worked, writer);
+    let worked = work(alloc, rt, &shared, seats.as_mut_slice(), words, messages);
+    let net = shared.close(seats);
+    let written = write_end(alloc, &net, sent, worked, writer);
     if written.is_ok() {
-        explain_end(alloc, &gathered, sent, worked, messages);
+        explain_end(alloc, &net, sent, worked, messages);
     }
-    gathered.retire();
+    net.retire();
     written
 }

@@ -1,16 +1,16 @@
 //! What people are told of a storm.
-ghost use Rattle.c104_workers.specs.OneRuns.{IsWhole};
-
 use crate::endings::Sent;
 use crate::working::Worked;
 use c104_event::EventFault;
 use c104_explain::{leftover_messages, standstill_message, tell_leftovers};
 use c104_mistakes::{About, Messages, fault_message, refusal_message, tell_if_long, tell_lines};
-use c104_net::{ActOf, Entry, TracedNet, replayed};
+use c104_net::TracedNet;
 use c104_plan::Plan;
 use c104_script::{Answer, LineFault};
-use c104_workers::Gathered;
 use std::alloc::Global;
+
+/// The most packets that a terminal can have sent: each has a token at least, and so many tokens may wait or have gone.
+const MOST_SENT: usize = 1_048_576;
 
 /// What is told of a line that doesn't begin with `send`.
 const NO_SEND: &str = "a line begins with `send`: in a storm workers do all the rest";
@@ -48,13 +48,11 @@ fn send_fault_message(alloc: Global, line: &[u8], fault: LineFault) -> Option<St
 /// messages and there is memory for it.
 pub(crate) fn explain_end<M: Messages>(
     alloc: Global,
-    gathered: &Gathered,
+    net: &TracedNet,
     sent: Sent,
     worked: Worked,
     messages: &mut M,
-)
-    requires { IsWhole gathered.now }
-{
+) {
     if !messages.are_wanted() {
         return;
     }
@@ -62,40 +60,29 @@ pub(crate) fn explain_end<M: Messages>(
     if let Worked::Stopped(_, fault) = worked {
         messages.tell(About::Run, stop_message(fault));
     }
-    let Some(net) = network_of(alloc, gathered) else {
-        return;
-    };
     if worked == Worked::NotQuiet && net.stands_still() {
-        tell_standstill(alloc, &net, count_sent(gathered), messages);
+        tell_standstill(alloc, net, count_sent(net), messages);
     }
-    tell_leftovers(&leftover_messages(alloc, &net), messages);
-    net.retire();
+    tell_leftovers(&leftover_messages(alloc, net), messages);
 }
 
-/// A network whose tokens tell where they came from, in which the run of a storm is done once more, whether it ended quiet or
-/// not. None out of memory.
-fn network_of(alloc: Global, gathered: &Gathered) -> Option<TracedNet>
-    requires { IsWhole gathered.now }
-{
-    let run = gathered.run(alloc).ok()?;
-    replayed(alloc, &run).ok()
-}
-
-/// How many packets were sent before the workers began.
-fn count_sent(gathered: &Gathered) -> usize {
+/// How many packets were sent.
+fn count_sent(net: &TracedNet) -> usize {
     let mut count = 0usize;
-    for node in gathered.nodes() {
-        count = count.saturating_add(count_sends(node.trace()));
+    for terminal in 0..net.plan().terminals().len() {
+        count = count.saturating_add(count_sent_by(net, terminal));
     }
     count
 }
 
-/// How many packets were sent in a trace.
-fn count_sends(trace: &[Entry]) -> usize {
-    trace
-        .iter()
-        .filter(|entry| matches!(entry.act, ActOf::Send(_)))
-        .count()
+/// How many packets a terminal has sent.
+fn count_sent_by(net: &TracedNet, terminal: usize) -> usize {
+    for number in 0..MOST_SENT {
+        if net.sent_packet(terminal, number).is_none() {
+            return number;
+        }
+    }
+    MOST_SENT
 }
 
 /// Tells who waits for whom in a network that stands still, into which a number of packets were sent.

@@ -3,11 +3,11 @@
 //! A storm in which 64 turns did nothing isn't quiet, and no further turns are done: each event of a round was asked then
 //! in the state in which all the others were, so none of them will ever be ready.
 ghost use Rattle.std.specs.Prelude.{◌≤◌, length};
-ghost use Rattle.{c104_storm.specs.Workers.{HaveWorked, IsStopOf, team_of}, c104_workers.specs.Fabrics.AreSeatsOf};
+ghost use Rattle.{c104_lean.specs.Seats.AreSeatsOf, c104_storm.specs.Workers.{HaveWorked, IsStopOf, team_of}};
 
 use c104_event::EventFault;
+use c104_lean::{CountedSeat, RunFault, SharedNet, Sharing, Words, run_workers};
 use c104_mistakes::{Messages, Work};
-use c104_workers::{Fabric, Naming, OpenGate, RunFault, Seat, Words, run_workers};
 use std::alloc::Global;
 use std::sync::Wait;
 use std::thread::Threads;
@@ -31,30 +31,30 @@ pub(crate) enum Worked {
 
 /// Lets workers do turns, each through one of these seats and with such words, until all is quiet. Where none of them does
 /// anything in 64 turns, no later turn would. What takes the messages is told how many turns are done.
-pub(crate) fn work<N: Naming + Send + Sync, R: Threads + Wait + Sync, M: Messages>(
+pub(crate) fn work<N: Sharing + Send + Sync, R: Threads + Wait + Sync, M: Messages>(
     alloc: Global,
     rt: &R,
-    fabric: &Fabric<N>,
-    seats: &mut [Seat],
+    shared: &SharedNet<N>,
+    seats: &mut [CountedSeat],
     words: Words,
     messages: &mut M,
 ) -> Worked
     requires some { 1 ≤ length seats.old }
-    requires own { AreSeatsOf fabric.now.word_id seats.old }
-    ensures own { AreSeatsOf fabric.now.word_id seats.new }
-    ensures worked { HaveWorked fabric.now.handed.plan words seats.old seats.new }
-    ensures stopped { IsStopOf (team_of (length seats.old) words) fabric.now.handed.plan result }
+    requires own { AreSeatsOf shared.now.word_id seats.old }
+    ensures own { AreSeatsOf shared.now.word_id seats.new }
+    ensures worked { HaveWorked shared.now.before.plan words seats.old seats.new }
+    ensures stopped { IsStopOf (team_of (length seats.old) words) shared.now.before.plan result }
 {
     let mut calls = 0;
     for times in 0..MOST_TIMES {
-        if fabric.quiet(rt) {
+        if shared.quiet(rt) {
             return Worked::Quiet;
         }
         messages.progress(Work::Turns, times * TURNS, MOST_TIMES * TURNS);
         let turns = u64::from(TURNS);
-        if let Err(RunFault::Event(worker, fault)) = run_workers(
-            alloc, rt, fabric, seats, &OpenGate, words, turns,
-        ) {
+        if let Err(RunFault::Event(worker, fault)) =
+            run_workers(alloc, rt, shared, seats, words, turns)
+        {
             return Worked::Stopped(worker, fault);
         }
         let done = count_calls(seats);
@@ -63,17 +63,17 @@ pub(crate) fn work<N: Naming + Send + Sync, R: Threads + Wait + Sync, M: Message
         }
         calls = done;
     }
-    if fabric.quiet(rt) {
+    if shared.quiet(rt) {
         return Worked::Quiet;
     }
     Worked::NotQuiet
 }
 
 /// How many events were done through these seats.
-fn count_calls(seats: &[Seat]) -> usize {
-    let mut count = 0usize;
+fn count_calls(seats: &[CountedSeat]) -> u64 {
+    let mut count = 0u64;
     for seat in seats {
-        count = count.saturating_add(seat.calls().len());
+        count = count.saturating_add(seat.count());
     }
     count
 }
