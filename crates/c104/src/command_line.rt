@@ -9,7 +9,7 @@ use crate::help;
 use crate::picture_words::{PictureWords, with_pictures};
 use crate::subcommands::{Row, SUBCOMMANDS, Subcommand};
 use crate::traffic_words::{SEED, TrafficWords, with_traffic};
-use c104_storm::{MAX_WORKERS, Words as HandedWords};
+use c104_storm::{Allowance, MAX_WORKERS, Words as HandedWords};
 use clap::{Arg, ArgAction, ArgMatches, Command, Error, value_parser};
 use std::alloc::{AllocError, Global};
 
@@ -61,6 +61,8 @@ pub struct Order<'a> {
     pub rows: bool,
     /// How many workers a storm is to have, 1 to 64, if that is said.
     pub workers: Option<u8>,
+    /// Whether the workers of a storm may do more than a seat of a fabric keeps calls.
+    pub lean: bool,
     /// The seed of the words by which the inputs of a storm pick random headers, if one is said.
     pub seed: Option<u64>,
     /// The traffic of which a script is to be printed.
@@ -80,6 +82,7 @@ impl<'a> Order<'a> {
         lockup: false,
         rows: false,
         workers: None,
+        lean: false,
         seed: None,
         traffic: TrafficWords::NONE,
         counts: CountWords::NONE,
@@ -102,6 +105,7 @@ impl<'a> Order<'a> {
             lockup: given.get_flag(LOCKUP),
             rows: given.get_flag(ROWS),
             workers: given.get_one(WORKERS),
+            lean: given.get_flag(LEAN),
             seed: given.get_one(SEED),
             traffic: TrafficWords::of_matches(given),
             counts: CountWords::of_matches(given),
@@ -125,6 +129,15 @@ impl<'a> Order<'a> {
         match self.workers {
             Some(count) if (1..=MAX_WORKERS).contains(&count) => count,
             _ => DEFAULT_WORKERS,
+        }
+    }
+
+    /// How many events each worker of a storm may do.
+    pub fn allowance(self) -> Allowance {
+        if self.lean {
+            Allowance::Counted
+        } else {
+            Allowance::Listed
         }
     }
 
@@ -177,10 +190,15 @@ const ROWS: &str = "rows";
 
 const ROWS_HELP: &str = "Print a description with the labels as row lines";
 
+/// The flag of a storm whose workers may do any number of events.
+const LEAN: &str = "lean";
+
 /// The option of a storm's workers.
 const WORKERS: &str = "workers";
 
 const WORKERS_HELP: &str = "How many threads carry the packets, 1 to 64, by default 2";
+
+const LEAN_HELP: &str = "Workers may do more than 1,048,576 events each";
 
 const DEFAULT_WORKERS: u8 = 2;
 
@@ -248,9 +266,10 @@ fn with_cycles<'a>(alloc: Global, named: Command<'a>) -> Result<Command<'a>, All
     named.arg(flag(alloc, ALL, ALL_HELP))?.arg(lockup)
 }
 
-/// `DESC SCRIPT [--workers N] [--seed S]`.
+/// `DESC SCRIPT [--workers N] [--lean] [--seed S]`.
 fn with_workers<'a>(alloc: Global, named: Command<'a>) -> Result<Command<'a>, AllocError> {
     let named = with_both(alloc, named)?.arg(workers_option(alloc))?;
+    let named = named.arg(flag(alloc, LEAN, LEAN_HELP))?;
     named.arg(headers_seed_option(alloc))
 }
 

@@ -32,6 +32,7 @@ pub fn storm_files<H: Threads + Wait + Sync>(
         threads,
         order.worker_count(),
         order.words(),
+        order.allowance(),
         &mut description,
         &mut script,
         &mut io::writer(rt),

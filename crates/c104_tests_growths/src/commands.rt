@@ -15,7 +15,7 @@ use c104_session::{
     draw_state_command, run, run_text, stats_command,
 };
 use c104_setup::Status;
-use c104_storm::{Words, storm_command};
+use c104_storm::{Allowance, Words, storm_command};
 use std::alloc::Global;
 use std::sync::Wait;
 use std::thread::Threads;
@@ -216,6 +216,7 @@ fn storm<R: Threads + Wait + Sync>(rt: &R, alloc: Global, page: &mut Page) -> St
         rt,
         2,
         Words::Zero,
+        Allowance::Listed,
         &mut description,
         &mut sends,
         page,

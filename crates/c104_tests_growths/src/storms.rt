@@ -8,7 +8,7 @@ use crate::outcomes::Outcome;
 use crate::written::{Page, SENDS, STORM_END, TWO_ANSWERS};
 use c104_mistakes::Silent;
 use c104_plan::{Image, Plan};
-use c104_storm::{Words, storm_plan};
+use c104_storm::{Allowance, Words, storm_plan};
 use c104_stream::Halt;
 use std::alloc::Global;
 use std::sync::Wait;
@@ -54,6 +54,7 @@ fn storm<R: Threads + Wait + Sync>(
         rt,
         2,
         Words::Zero,
+        Allowance::Listed,
         plan,
         image,
         &mut sends,
