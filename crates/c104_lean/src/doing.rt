@@ -82,22 +82,18 @@ pub(crate) fn do_both<N: Sharing>(
         unreachable!()
     };
     let places = (near.place, far.place);
-    let (ticket, near_pass, far_pass) =
-        seat.draw_both::<Brand>(word, near_pass, far_pass, places, event, &told);
+    let (ticket, near_pass, far_pass) = seat.draw_both::<Brand>(
+        word, near_pass, far_pass, places, event, &told,
+    );
     near.pass = Some(near_pass);
     far.pass = Some(far_pass);
     near.node.note(&unasked(ticket), &going, &told);
-    far.node
-        .note(&unasked(ticket), &coming, &ReplyOf::Done);
+    far.node.note(&unasked(ticket), &coming, &ReplyOf::Done);
     Ok(plain(told))
 }
 
 /// Why an act of a node can't be done now: a limit of its lists, or that it or the seat has done as much as it may.
-fn limit_of(
-    seat: &CountedSeat,
-    node: &CountedNode,
-    act: &ActOf<TaggedToken>,
-) -> Option<EventFault>
+fn limit_of(seat: &CountedSeat, node: &CountedNode, act: &ActOf<TaggedToken>) -> Option<EventFault>
     requires { IsWithinLimits act.now }
     ensures { MatchOption result
         ((act_limit (Some node.now.state) act.now ≡ None) × (length node.now.trace < trace_limit)

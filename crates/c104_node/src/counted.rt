@@ -112,16 +112,12 @@ impl CountedNode {
 
     /// Counts an act that was done, in the event of this stamp.
     #[inline(always)]
-    pub fn note(
-        &mut self,
-        stamp: &Stamp,
-        act: &ActOf<TaggedToken>,
-        reply: &ReplyOf<TaggedToken>,
-    )
+    pub fn note(&mut self, stamp: &Stamp, act: &ActOf<TaggedToken>, reply: &ReplyOf<TaggedToken>)
         requires short { IsWithinLimits act.now }
         requires room { length self.old.trace < trace_limit }
         ensures { self.new ≡ record self.old {
-            trace = self.old.trace ++ kept_entry tagged_kind stamp.now act.now reply.now ∷ [] } }
+          trace = self.old.trace ++ kept_entry tagged_kind stamp.now act.now reply.now ∷ [];
+        } }
     {
         self.history = self.history.with(stamp, act, reply);
         self.entries += 1;

@@ -52,9 +52,9 @@ pub(crate) fn work<N: Sharing + Send + Sync, R: Threads + Wait + Sync, M: Messag
         }
         messages.progress(Work::Turns, times * TURNS, MOST_TIMES * TURNS);
         let turns = u64::from(TURNS);
-        if let Err(RunFault::Event(worker, fault)) =
-            run_workers(alloc, rt, shared, seats, words, turns)
-        {
+        if let Err(RunFault::Event(worker, fault)) = run_workers(
+            alloc, rt, shared, seats, words, turns,
+        ) {
             return Worked::Stopped(worker, fault);
         }
         let done = count_calls(seats);

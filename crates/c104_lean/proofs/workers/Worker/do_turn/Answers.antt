@@ -9,9 +9,9 @@ pub loop-part-preserved : goal.loop-part-preserved
 loop-part-preserved g c =
     let own = c.args.self.now in
     elim c.if-node-self.branch [
-        then-node-self+in_ok-do_part w ↦
-            subst (HasWorked own.shared.now.before.plan own.words own.count own.number c.args.seat.now) (sym w.seat-is)
-            (worked_on _ _ _ _ _ _ _ c.loop-part.invariant w.do_part.ensures.worked)
+      | then-node-self+in_ok-do_part w ↦
+          subst (HasWorked own.shared.now.before.plan own.words own.count own.number c.args.seat.now) (sym w.seat-is)
+          (worked_on _ _ _ _ _ _ _ c.loop-part.invariant w.do_part.ensures.worked)
       | else-node-self w ↦
-            subst (HasWorked own.shared.now.before.plan own.words own.count own.number c.args.seat.now) (sym w.seat-is) c.loop-part.invariant
+          subst (HasWorked own.shared.now.before.plan own.words own.count own.number c.args.seat.now) (sym w.seat-is) c.loop-part.invariant
     ]
