@@ -165,8 +165,9 @@ def storms_of(runner, seed):
         all_arrive = due.count(b' from ') == sends.count(b'\n')
         runner.judge('a run of seed %d' % seed, None if all_arrive else 'not all packets arrive')
         for workers in RANDOM_WORKERS:
-            runner.case('seed %d by %d' % (seed, workers), due, words=['storm', path, '-', '--workers', str(workers)],
-                        data=sends)
+            words = ['storm', path, '-', '--workers', str(workers)]
+            runner.case('seed %d by %d' % (seed, workers), due, words=words, data=sends)
+            runner.case('seed %d by %d, lean' % (seed, workers), due, words=[*words, '--lean'], data=sends)
 
 
 def at_random(runner):
@@ -266,7 +267,7 @@ def usage(runner):
     """Words that a storm doesn't take."""
     for words in ([], ['a'], ['a', 'b', 'c'], ['a', 'b', '--workers'], ['a', 'b', '--workers', '0'],
                   ['a', 'b', '--workers', '65'], ['a', 'b', '--workers', 'x'], ['a', 'b', '--workers', '-1'],
-                  ['a', 'b', '--seed'], ['a', 'b', '--seed', 'x'], ['a', 'b', '--seed', str(2 ** 64)]):
+                  ['a', 'b', '--lean', 'x'], ['a', 'b', '--seed'], ['a', 'b', '--seed', 'x'], ['a', 'b', '--seed', str(2 ** 64)]):
         runner.case('usage of storm %s' % ' '.join(words), b'', 2, words=['storm', *words])
 
 
