@@ -129,9 +129,9 @@ def names_of(description):
     return named or [b't%d' % t for t in range(256)]
 
 
-def due_of(runner, path, description, sends):
+def due_of(runner, path, description, sends, rounds=ROUNDS):
     """What a storm has to print, by a run of the same packets."""
-    _, out, _ = runner.run(words=['run', path, '-'], data=sends + ROUNDS)
+    _, out, _ = runner.run(words=['run', path, '-'], data=sends + rounds)
     lines = out.splitlines(True)
     answers = lines[:sends.count(b'\n')]
     return b''.join([*answers, b'audit ok\n', *sorted_summary(description, lines[len(answers) + 1:])])
@@ -263,6 +263,19 @@ def universal(runner):
                         words=['storm', path, '-', '--workers', str(workers), '--seed', '1'], data=sends)
 
 
+def past_a_list(runner):
+    """A worker stops that has done as many events as a seat of a fabric lists, and goes on where it is lean."""
+    mesh = b'mesh 8 8 4\n'
+    with Files(mesh) as path:
+        _, sends, _ = runner.run(words=['traffic', path, '--pattern', 'uniform', '--packets', '512', '--bytes', '200',
+                                        '--seed', '1'])
+        due = due_of(runner, path, mesh, sends, b'rounds 10000\n')
+        answers = b''.join(due.splitlines(True)[:512])
+        words = ['storm', path, '-', '--workers', '1']
+        runner.case('a worker past its list', answers + b'worker 0 7 TraceFull\n', 1, words=words, data=sends)
+        runner.case('a lean worker past it', due, words=[*words, '--lean'], data=sends)
+
+
 def usage(runner):
     """Words that a storm doesn't take."""
     for words in ([], ['a'], ['a', 'b', 'c'], ['a', 'b', '--workers'], ['a', 'b', '--workers', '0'],
@@ -283,4 +296,4 @@ def files(runner):
             runner.case(name, b'', 3, b'c104: cannot read %s\n' % path.encode(), words=['storm', *words])
 
 
-PARTS = [as_a_run, at_random, by_hand, full_traces, rings, random_headers, universal, usage, files]
+PARTS = [as_a_run, at_random, by_hand, full_traces, rings, random_headers, universal, past_a_list, usage, files]

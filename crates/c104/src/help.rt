@@ -65,10 +65,10 @@ pub const STORM: &str =
 said, do all the rest: each does the parts of rounds that its switches and terminals
 have, until no token is left anywhere. The order of what they do differs from storm to
 storm, but what they did is always one run of the network. A thread does at most 1,048,576
-events, and with --lean any number. Prints `audit ok` and then
-each packet that arrived, sorted by the terminal where it arrived, the one that sent it,
-and its number there; or, with exit status 1, `not quiet` where tokens are left that go
-nowhere, or `worker` with its number and the fault at which it stopped.
+events, and with --lean any number. Prints `audit ok` and then each packet that arrived,
+sorted by the terminal where it arrived, the one that sent it, and its number there; or,
+with exit status 1, `not quiet` where tokens are left that go nowhere, or `worker` with
+its number and the fault at which it stopped.
 
 An input that puts random headers before packets takes the first each time, as in rounds;
 with --seed, one by a word of a generator, of which each thread has words of its own.
