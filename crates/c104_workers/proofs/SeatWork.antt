@@ -1,11 +1,13 @@
 -- What workers do to their seats: event by event, each of a node of their own.
 use Rattle.{c104_audit.specs.{Calls.call_of, declared.calls.Call.Call}, c104_event.specs.declared.events.Event.Event}
-use Rattle.{c104_event.specs.declared.faults.EventFault.EventFault, c104_plan.specs.Plans.Plan, c104_switch.specs.Actions.{Reply, is_ready}}
-use Rattle.{c104_tickets.specs.Tickets.TableId, c104_workers.{proofs.SeatGrowth.{same_on, same_seat, same_self}, specs.Calls.IsSameSeat}}
-use Rattle.c104_workers.specs.{Calls.SeatView, Fabrics.{AreSeatsOf, IsSeatOf}, LentCalls.IfDone, SeatGrowth.{Grew, GrewBy}}
-use Rattle.{c104_workers.specs.{Working.{HasWorked, IsOwnEvent}, declared.words.Words.Words}, std.proofs.Common.{Bool, Err, List, Ok}}
-use Rattle.std.proofs.Common.{Result, [], ap, arith, false, length, slice_index_or, subst, suc, sym, true, zero, ℕ, ◌++◌, ◌<◌, ◌∙◌, ◌∷◌}
-use Rattle.std.proofs.{Common.◌≡◌, lemmas.List.{Elements.{All-append, All-cons, All-nil}, append-nil, append_assoc}}
+use Rattle.{c104_event.specs.declared.faults.EventFault.EventFault, c104_plan.specs.Plans.Plan, c104_run.specs.NodeParts.round_part}
+use Rattle.{c104_switch.specs.Actions.{Reply, is_ready}, c104_tickets.specs.Tickets.TableId, c104_workers.proofs.SeatGrowth.same_on}
+use Rattle.c104_workers.{proofs.SeatGrowth.{same_seat, same_self}, specs.{Calls.{IsSameSeat, SeatView}, Fabrics.{AreSeatsOf, IsSeatOf}}}
+use Rattle.c104_workers.specs.{LentCalls.IfDone, SeatGrowth.{Grew, GrewBy}, Working.{HasWorked, IsOwnEvent, IsPartEvent, IsPartOf}}
+use Rattle.{c104_workers.specs.{Working.PartView, declared.words.Words.Words}, std.proofs.Common.{All, Bool, Contains, Err, List, Ok}}
+use Rattle.std.proofs.Common.{Result, [], ap, arith, false, length, slice_index_or, subst, suc, sym, true, zero, ℕ, ◌%◌, ◌++◌, ◌<◌, ◌∙◌}
+use Rattle.std.proofs.{Common.{◌∷◌, ◌≡◌}, lemmas.List.{Elements.{All-append, All-cons, All-contains_itself, All-nil, All-push}, append-nil}}
+use Rattle.std.proofs.lemmas.List.{append_assoc}
 
 -- what holds of all seats holds of each, and the other way round
 pub seat_at : (word_id : TableId) (seats : List (SeatView × ℕ)) (i : ℕ) (d : SeatView × ℕ) → AreSeatsOf word_id seats → i < length seats → IsSeatOf word_id (slice_index_or seats i d)
@@ -16,6 +18,22 @@ seat_at word_id (s ∷ seats) (suc i) d are inside = seat_at word_id seats i d a
 pub seats_all : (word_id : TableId) (seats : List (SeatView × ℕ)) → ((i : ℕ) (d : SeatView × ℕ) → i < length seats → IsSeatOf word_id (slice_index_or seats i d)) → AreSeatsOf word_id seats
 seats_all word_id [] each = tt
 seats_all word_id (s ∷ seats) each = (each 0 s (omega arith), seats_all word_id seats (λ i d inside. each (suc i) d (omega (arith, inside))))
+
+module _ (plan : Plan) (n i : ℕ) where
+  own_event : (k : ℕ) → k % n ≡ i → (e : Event) → Contains (round_part plan k) e → IsPartEvent plan n i e
+  own_event k own e part = record { node = k; own = own; part = part }
+
+  -- the events of a worker's own node are such as it does
+  own_part : (k : ℕ) (part : PartView) → IsPartOf plan k part → k % n ≡ i → All (IsPartEvent plan n i) part.events
+  own_part k part is own =
+      subst (All (IsPartEvent plan n i)) (sym is.events)
+      (λ j d inside. own_event k own (slice_index_or (round_part plan k) j d) (All-contains_itself (round_part plan k) j d inside))
+
+  -- and so are those of more such nodes
+  pub own_parts : (k : ℕ) (parts : List PartView) (part : PartView) → All (λ (p : PartView). All (IsPartEvent plan n i) p.events) parts
+      → IsPartOf plan k part → k % n ≡ i → All (λ (p : PartView). All (IsPartEvent plan n i) p.events) (parts ++ part ∷ [])
+  own_parts k parts part are is own =
+      All-push (λ (p : PartView). All (IsPartEvent plan n i) p.events) parts part are (own_part k part is own)
 
 module _ (plan : Plan) (words : Words) (n i : ℕ) where
   -- nothing was done

@@ -1,10 +1,10 @@
-use Rattle.{c104_audit.specs.Calls.call_of, c104_node.specs.Records.{NodeRecord, NodeRoom, after_act, recorded_step}}
-use Rattle.{c104_node.specs.Traces.entry_of, c104_switch.specs.Actions.is_ready}
-use Rattle.c104_tickets.specs.{Tickets.{IsFree, PassValue, after_draw, behind, front, track_after}, declared.views.View.View}
-use Rattle.c104_workers.proofs.Draws.{done_at, held_called, held_ticket, listed_so, node_draws, node_free, node_tracks, seat_back, seat_of}
-use Rattle.c104_workers.{proofs.HeldSteps.{held_grows, node_entry, node_here, same_pass}, specs.Calls.{IsSeat, SeatView, place_track, seat_stamp}}
-use Rattle.c104_workers.specs.{Held.{HeldView, node_deed, told_or}, Logs.entries_at}
-use Rattle.std.proofs.Common.{Some, [], ap, false, map, refl, subst, sym, true, ℕ, ◌++◌, ◌∙◌, ◌∷◌, ◌≡◌}
+use Rattle.{c104_audit.specs.Calls.call_of, c104_node.specs.{Records.{NodeRecord, after_act, recorded_step}, Traces.entry_of}}
+use Rattle.{c104_switch.specs.Actions.is_ready, c104_tickets.specs.Tickets.{IsFree, PassValue, after_draw, behind, front, track_after}}
+use Rattle.{c104_tickets.specs.declared.views.View.View, c104_workers.proofs.Draws.{done_at, held_called, held_ticket, listed_so}}
+use Rattle.c104_workers.proofs.{Draws.{node_draws, node_free, node_tracks, seat_back, seat_of}, HeldSteps.{held_grows, node_entry}}
+use Rattle.c104_workers.{proofs.HeldSteps.{node_here, same_pass}, specs.{Calls.{IsSeat, SeatView, place_track, seat_stamp}, Held.HeldView}}
+use Rattle.{c104_workers.specs.{Held.{node_deed, told_or}, Logs.entries_at}, std.proofs.Common.{Some, [], ap, false, map, refl, subst, sym}}
+use Rattle.std.proofs.Common.{true, ℕ, ◌++◌, ◌∙◌, ◌∷◌, ◌≡◌}
 use Rattle.c104_workers.proofs.seats.Seat.act_held.Goals as goal
 
 pub draw-ticket-requires-clause-free : goal.draw-ticket-requires-clause-free
