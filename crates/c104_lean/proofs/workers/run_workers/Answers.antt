@@ -11,8 +11,9 @@ for_each_mut-requires-clause-accepts g c κs within = λ i p inside is. (
 
 pub returns-clause-own : goal.returns-clause-own
 returns-clause-own g c = seats_all c.args.shared.now.word_id c.for_each_mut.new.s (λ i d inside.
-    let within : i < length c.args.seats.now = subst (λ n. i < n) c.for_each_mut.auto.s inside in
+    let own = c.args.shared.now in
+    let olds = c.args.seats.now in
+    let within : i < length olds = subst (λ n. i < n) c.for_each_mut.auto.s inside in
     let at = (c.for_each_mut.ensures i d within).1 in
-    seat_stays c.args.shared.now.before.plan (length c.args.seats.now) i c.args.words c.args.shared.now.word_id
-    (slice_index_or c.args.seats.now i d) at.argument.now at.after_call.now (slice_index_or c.for_each_mut.new.s i d) at.argument_is at.call.0
-    at.left (seat_at c.args.shared.now.word_id c.args.seats.now i d c.requires.own within))
+    seat_stays own.before.plan (length olds) i c.args.words own.word_id (slice_index_or olds i d) at.argument.now at.after_call.now
+    (slice_index_or c.for_each_mut.new.s i d) at.argument_is at.call.0 at.left (seat_at own.word_id olds i d c.requires.own within))

@@ -13,5 +13,6 @@ loop-part-preserved g c =
           subst (HasWorked own.shared.now.before.plan own.words own.count own.number c.args.seat.now) (sym w.seat-is)
           (worked_on _ _ _ _ _ _ _ c.loop-part.invariant w.do_part.ensures.worked)
       | else-node-self w ↦
-          subst (HasWorked own.shared.now.before.plan own.words own.count own.number c.args.seat.now) (sym w.seat-is) c.loop-part.invariant
+          subst (HasWorked own.shared.now.before.plan own.words own.count own.number c.args.seat.now) (sym w.seat-is)
+          c.loop-part.invariant
     ]
