@@ -152,6 +152,15 @@ impl<N: Sharing> SharedNet<N> {
         }
     }
 
+    /// Whether no event of a part can begin at its node when it is locked.
+    pub(crate) fn is_idle<R: Wait>(&self, rt: &R, part: &Part) -> bool {
+        let Some(lock) = self.locks.get(part.node()) else {
+            return true;
+        };
+        let held = lock.lock(rt);
+        part.is_idle(Place::node(&held.node))
+    }
+
     /// Lists the numbers of those events of a part's stage that its node may be ready for when it is locked. The only error is
     /// out of memory.
     pub(crate) fn list_ready<R: Wait>(

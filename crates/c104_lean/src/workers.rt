@@ -141,6 +141,9 @@ impl<R: Wait, N: Sharing> Worker<'_, R, N> {
         ensures worked { HasWorked self.now.shared.now.before.plan self.now.words self.now.count self.now.number seat.old seat.new }
         ensures stops { IfErr result (IsStop self.now.shared.now.before.plan self.now.words self.now.count self.now.number) }
     {
+        if self.shared.is_idle(self.rt, part) {
+            return Ok(());
+        }
         for stage in [Stage::Crossings, Stage::Turns, Stage::Claims] {
             self.shared.list_ready(self.rt, part, stage, ready)?;
             self.do_ready(seat, part.events(), ready.as_slice())?;

@@ -4,7 +4,8 @@ ghost use Rattle.c104_plan.specs.PlanImage.{Fits};
 ghost use Rattle.c104_storm.specs.{Commands.{StormEnds, StormRuns}, Packets.WritesPacketsOf, Workers.team_of};
 ghost use Rattle.c104_setup.specs.declared.status.Status.TheVariants as status;
 
-use crate::storms::{Allowance, MAX_WORKERS, storm_plan};
+use crate::allowance::Allowance;
+use crate::storms::{MAX_WORKERS, storm_plan};
 use c104_lean::Words;
 use c104_mistakes::Messages;
 use c104_plan::{Image, Plan};

@@ -7,6 +7,7 @@
 //! command of the program.
 #![tactic(auto)]
 
+mod allowance;
 mod commands;
 mod end_texts;
 mod endings;
@@ -16,6 +17,7 @@ mod storms;
 mod telling;
 mod working;
 
+pub use allowance::Allowance;
 pub use c104_lean::Words;
 pub use commands::storm_command;
-pub use storms::{Allowance, MAX_WORKERS, storm_plan};
+pub use storms::{MAX_WORKERS, storm_plan};

@@ -6,8 +6,9 @@ ghost use Rattle.c104_plan.specs.{PlanImage.{Fits, Image as TheImage}, Plans.Pla
 ghost use Rattle.c104_storm.specs.{Packets.WritesSentPackets, Sends.{new_sending, send_outcome}, Storms.{StormsOn, StormsPlan}};
 ghost use Rattle.c104_storm.specs.Workers.{team_of};
 ghost use Rattle.{c104_lean.specs.{Seats.AreSeatsOf, Shared.record_of}, c104_stream.specs.Scripts.AnswersScript};
-ghost use Rattle.{c104_tickets.specs.declared.TheConstants.TICKET_LIMIT, c104_workers.specs.Fabrics.first_seats};
+ghost use Rattle.c104_workers.specs.Fabrics.{first_seats};
 
+use crate::allowance::Allowance;
 use crate::endings::{Sent, write_end};
 use crate::sends::Sending;
 use crate::telling::explain_end;
@@ -17,8 +18,6 @@ use c104_mistakes::Messages;
 use c104_plan::{Image, Plan};
 use c104_script::answer_lines;
 use c104_stream::{Ahead, Halt};
-use c104_tickets::TICKET_LIMIT;
-use c104_workers::CALL_LIMIT;
 use std::alloc::Global;
 use std::io::{Read, Write};
 use std::marker::Brand;
@@ -27,27 +26,6 @@ use std::thread::Threads;
 
 /// The most workers.
 pub const MAX_WORKERS: u8 = 64;
-
-/// How many events a worker may do.
-#[derive(Clone, Copy, Debug, PartialEq, Eq)]
-pub enum Allowance {
-    /// As many as a seat of a fabric keeps calls: 1,048,576.
-    Listed,
-    /// 2⁴⁰, which no worker reaches.
-    Counted,
-}
-
-impl Allowance {
-    /// The number.
-    fn events(self) -> u64
-        ensures { result ≤ TICKET_LIMIT }
-    {
-        match self {
-            Allowance::Listed => CALL_LIMIT as u64,
-            Allowance::Counted => TICKET_LIMIT,
-        }
-    }
-}
 
 /// Lets a storm go over the network of a plan, started with an image that fits it: the lines of a script are answered as
 /// they are read, whose packets are sent; then workers, each in a thread of its own, do turns with such words until all is
@@ -149,7 +127,9 @@ fn storm_net<R: Threads + Wait + Sync, W: Write, M: Messages>(
     let Sending { net, is_faulty } = sending;
     let sent = Sent { is_long, is_faulty };
     match Ready::new(alloc, net, usize::from(workers), allowance.events()) {
-        Ok(ready) => storm_ready::<Brand, R, W, M>(alloc, rt, ready, words, sent, writer, messages),
+        Ok(ready) => storm_ready::<Brand, R, W, M>(
+            alloc, rt, ready, words, allowance, sent, writer, messages,
+        ),
         Err((net, _)) => {
             // The number of seats is one that there may be, so that there was no memory.
             net.retire();
@@ -165,6 +145,7 @@ fn storm_ready<N: Sharing + Send + Sync, R: Threads + Wait + Sync, W: Write, M: 
     rt: &R,
     ready: Ready,
     words: Words,
+    allowance: Allowance,
     sent: Sent,
     writer: &mut W,
     messages: &mut M,
@@ -176,7 +157,7 @@ fn storm_ready<N: Sharing + Send + Sync, R: Threads + Wait + Sync, W: Write, M: 
 {
     match ready.into_shared::<N>(alloc) {
         Ok((shared, seats)) => storm_shared(
-            alloc, rt, shared, seats, words, sent, writer, messages,
+            alloc, rt, shared, seats, words, allowance, sent, writer, messages,
         ),
         Err((net, _)) => {
             net.retire();
@@ -192,6 +173,7 @@ fn storm_shared<N: Sharing + Send + Sync, R: Threads + Wait + Sync, W: Write, M:
     shared: SharedNet<N>,
     seats: Vec<CountedSeat>,
     words: Words,
+    allowance: Allowance,
     sent: Sent,
     writer: &mut W,
     messages: &mut M,
@@ -204,7 +186,8 @@ fn storm_shared<N: Sharing + Send + Sync, R: Threads + Wait + Sync, W: Write, M:
         (W.contents writer.old) (W.contents writer.new) result }
 {
     let mut seats = seats;
-    let worked = work(alloc, rt, &shared, seats.as_mut_slice(), words, messages);
+    let list = seats.as_mut_slice();
+    let worked = work(alloc, rt, &shared, list, words, allowance, messages);
     let net = shared.close(seats);
     let written = write_end(alloc, &net, sent, worked, writer);
     if written.is_ok() {

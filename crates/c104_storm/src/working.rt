@@ -1,10 +1,11 @@
 //! The workers of a storm: turns until all is quiet.
 //!
-//! A storm in which 64 turns did nothing isn't quiet, and no further turns are done: each event of a round was asked then
-//! in the state in which all the others were, so none of them will ever be ready.
+//! A storm in which 64 turns or more did nothing isn't quiet, and no further turns are done: each event of a round was asked
+//! then in the state in which all the others were, so none of them will ever be ready.
 ghost use Rattle.std.specs.Prelude.{◌≤◌, length};
 ghost use Rattle.{c104_lean.specs.Seats.AreSeatsOf, c104_storm.specs.Workers.{HaveWorked, IsStopOf, team_of}};
 
+use crate::allowance::Allowance;
 use c104_event::EventFault;
 use c104_lean::{CountedSeat, RunFault, SharedNet, Sharing, Words, run_workers};
 use c104_mistakes::{Messages, Work};
@@ -12,10 +13,7 @@ use std::alloc::Global;
 use std::sync::Wait;
 use std::thread::Threads;
 
-/// The turns that workers do before it is asked whether all is quiet.
-const TURNS: u32 = 64;
-
-/// How often workers do these turns, at most.
+/// How often workers do turns before it is asked whether all is quiet, at most.
 const MOST_TIMES: u32 = 4_096;
 
 /// How the workers of a storm ended.
@@ -30,13 +28,14 @@ pub(crate) enum Worked {
 }
 
 /// Lets workers do turns, each through one of these seats and with such words, until all is quiet. Where none of them does
-/// anything in 64 turns, no later turn would. What takes the messages is told how many turns are done.
+/// anything in 64 turns or more, no later turn would. What takes the messages is told how many turns are done.
 pub(crate) fn work<N: Sharing + Send + Sync, R: Threads + Wait + Sync, M: Messages>(
     alloc: Global,
     rt: &R,
     shared: &SharedNet<N>,
     seats: &mut [CountedSeat],
     words: Words,
+    allowance: Allowance,
     messages: &mut M,
 ) -> Worked
     requires some { 1 ≤ length seats.old }
@@ -45,15 +44,23 @@ pub(crate) fn work<N: Sharing + Send + Sync, R: Threads + Wait + Sync, M: Messag
     ensures worked { HaveWorked shared.now.before.plan words seats.old seats.new }
     ensures stopped { IsStopOf (team_of (length seats.old) words) shared.now.before.plan result }
 {
+    let most = allowance.turns(MOST_TIMES).saturating_mul(MOST_TIMES);
+    let mut turned = 0u32;
     let mut calls = 0;
     for times in 0..MOST_TIMES {
         if shared.quiet(rt) {
             return Worked::Quiet;
         }
-        messages.progress(Work::Turns, times * TURNS, MOST_TIMES * TURNS);
-        let turns = u64::from(TURNS);
+        let turns = allowance.turns(times);
+        messages.progress(Work::Turns, turned, most);
+        turned = turned.saturating_add(turns);
         if let Err(RunFault::Event(worker, fault)) = run_workers(
-            alloc, rt, shared, seats, words, turns,
+            alloc,
+            rt,
+            shared,
+            seats,
+            words,
+            u64::from(turns),
         ) {
             return Worked::Stopped(worker, fault);
         }

@@ -79,6 +79,11 @@ impl Part {
         self.events.as_slice()
     }
 
+    /// Whether no event of the part can begin at the node.
+    pub fn is_idle<T: TokenKind>(&self, node: &NodeOf<T>) -> bool {
+        node.is_idle(self.wired)
+    }
+
     /// How many events a stage has.
     pub fn count(&self, stage: Stage) -> usize {
         let (start, end) = match stage {
