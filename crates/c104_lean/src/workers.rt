@@ -14,13 +14,17 @@ use c104_switch::Reply;
 use c104_workers::{Part, RunFault, Stage, Words};
 use std::alloc::Global;
 use std::sync::Wait;
-use std::thread::{Threads, for_each_mut};
+use std::thread::{Threads, for_each_mut, yield_now};
+
+/// After how many turns in a row that do nothing a worker does no more.
+const IDLE_TURNS: u32 = 64;
 
 /// Does turns on a shared network by workers, each in a thread of its own: worker 0 through the first of these seats, and so
 /// on. Where no thread can be made, the workers run one after another. Of n workers number i has the nodes k with
 /// k mod n = i. In a turn it does the part that a round has for each of these nodes, by their numbers: it asks the node
 /// which of these events it may be ready for, and does these in turn, the turn of an input with a word of the worker's. A worker
-/// stops at its first event that is refused; an event that isn't ready is none.
+/// stops at its first event that is refused; an event that isn't ready is none. Where 64 turns in a row do nothing, it does no
+/// more of them.
 ///
 /// There is at least one seat. What was done stays done.
 pub fn run_workers<R: Threads + Wait + Sync, N: Sharing + Send + Sync>(
@@ -99,7 +103,7 @@ impl<R: Wait, N: Sharing> Worker<'_, R, N> {
         seat.stop(end.err());
     }
 
-    /// Does turns, up to the first event that is refused.
+    /// Does turns, up to the first event that is refused, or as long as some of them do something.
     fn do_turns(&self, alloc: Global, seat: &mut CountedSeat, turns: u64) -> Result<(), EventFault>
         requires some { 1 ≤ self.now.count }
         requires word { seat.old.word_id ≡ self.now.shared.now.word_id }
@@ -107,8 +111,20 @@ impl<R: Wait, N: Sharing> Worker<'_, R, N> {
         ensures stops { IfErr result (IsStop self.now.shared.now.before.plan self.now.words self.now.count self.now.number) }
     {
         let mut ready = Vec::new(alloc);
+        let mut idle = 0;
         for _turn in 0..turns {
+            let done = seat.count();
             self.do_turn(seat, &mut ready)?;
+            if seat.count() != done {
+                idle = 0;
+                continue;
+            }
+            // What it waits for is with a worker that may not be running.
+            yield_now();
+            idle += 1;
+            if idle >= IDLE_TURNS {
+                return Ok(());
+            }
         }
         Ok(())
     }

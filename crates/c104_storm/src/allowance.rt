@@ -5,19 +5,18 @@ ghost use Rattle.c104_tickets.specs.declared.TheConstants.{TICKET_LIMIT};
 use c104_tickets::TICKET_LIMIT;
 use c104_workers::CALL_LIMIT;
 
-/// The turns that workers do before it is asked whether all is quiet, at first.
+/// The turns that workers do before it is asked whether all is quiet, where a storm is as the specification has it.
 const TURNS: u32 = 64;
 
-/// How often these are doubled, at most.
-const DOUBLINGS: u32 = 6;
+/// The turns where it isn't: threads that begin one after another are at work together for most of these.
+const MANY_TURNS: u32 = 4_096;
 
 /// How many events each worker of a storm may do.
 #[derive(Clone, Copy, Debug, PartialEq, Eq)]
 pub enum Allowance {
     /// As many as a seat of a fabric keeps calls: 1,048,576. All workers are asked after each 64 turns whether all is quiet.
     Listed,
-    /// 2⁴⁰, which no worker reaches. They are asked after 64 turns, then 128 and so on, and then after each 4,096: threads that
-    /// begin one after another are then at work together for most of the time.
+    /// 2⁴⁰, which no worker reaches. They are asked after 4,096 turns, or when none of them has anything to do.
     Counted,
 }
 
@@ -32,11 +31,11 @@ impl Allowance {
         }
     }
 
-    /// How many turns workers do before it is asked again, who were asked this many times before.
-    pub(crate) fn turns(self, times: u32) -> u32 {
+    /// How many turns workers do before it is asked again.
+    pub(crate) fn turns(self) -> u32 {
         match self {
             Allowance::Listed => TURNS,
-            Allowance::Counted => TURNS << times.min(DOUBLINGS),
+            Allowance::Counted => MANY_TURNS,
         }
     }
 }

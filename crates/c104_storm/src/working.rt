@@ -44,16 +44,17 @@ pub(crate) fn work<N: Sharing + Send + Sync, R: Threads + Wait + Sync, M: Messag
     ensures worked { HaveWorked shared.now.before.plan words seats.old seats.new }
     ensures stopped { IsStopOf (team_of (length seats.old) words) shared.now.before.plan result }
 {
-    let most = allowance.turns(MOST_TIMES).saturating_mul(MOST_TIMES);
-    let mut turned = 0u32;
+    let turns = allowance.turns();
     let mut calls = 0;
     for times in 0..MOST_TIMES {
         if shared.quiet(rt) {
             return Worked::Quiet;
         }
-        let turns = allowance.turns(times);
-        messages.progress(Work::Turns, turned, most);
-        turned = turned.saturating_add(turns);
+        messages.progress(
+            Work::Turns,
+            times.saturating_mul(turns),
+            MOST_TIMES.saturating_mul(turns),
+        );
         if let Err(RunFault::Event(worker, fault)) = run_workers(
             alloc,
             rt,
