@@ -1,26 +1,26 @@
 -- The ending of a storm is one of its team, and its text is written.
 use Rattle.c104_storm.specs.{Endings.{IsEndText, IsEnding, IsEndingByNodes, IsEndingOf, WritesEnd, is_refused}, Workers.{IsStopOf, Team}}
 use Rattle.c104_storm.specs.declared.{endings.Ending.Ending, working.Worked.Worked}
-use Rattle.{c104_stream.specs.{Writing.AppendsPrefix, declared.halt.Halt.Halt}, c104_workers.specs.Fabrics.Left, std.proofs.Common.Bool}
+use Rattle.{c104_run.specs.NetRecords.NetRecord, c104_stream.specs.{Writing.AppendsPrefix, declared.halt.Halt.Halt}, std.proofs.Common.Bool}
 use Rattle.std.{proofs.Common.{Err, List, Ok, Option, refl, subst, sym, ℕ, ◌≡◌}, specs.Io.KnownBytes.Appends}
 
 -- what the nodes say is an ending of any team
-by_nodes : (team : Team) (left : Left) (ending : Ending) → IsEndingByNodes left ending → IsEnding team left ending
-by_nodes team left Ending.NotQuiet is = is
-by_nodes team left (Ending.Stopped worker kind) is = absurd is
-by_nodes team left (Ending.Quiet run) is = is
+by_nodes : (team : Team) (net : NetRecord) (ending : Ending) → IsEndingByNodes net ending → IsEnding team net ending
+by_nodes team net Ending.NotQuiet is = is
+by_nodes team net (Ending.Stopped worker kind) is = absurd is
+by_nodes team net Ending.Quiet is = is
 
 -- where a worker stopped it is one of a team, and had its fault
-pub of_team : (team : Team) (left : Left) (worked : Worked) (ending : Ending) → IsStopOf team left.handed.plan worked → IsEndingOf worked left ending → IsEnding team left ending
-of_team team left Worked.Quiet ending stop is = by_nodes team left ending is
-of_team team left Worked.NotQuiet ending stop is = by_nodes team left ending is
-of_team team left (Worked.Stopped worker kind) ending stop is = subst (IsEnding team left) (sym is.0) (stop.0, stop.1, is.1)
+pub of_team : (team : Team) (net : NetRecord) (worked : Worked) (ending : Ending) → IsStopOf team net.network.plan worked → IsEndingOf worked net ending → IsEnding team net ending
+of_team team net Worked.Quiet ending stop is = by_nodes team net ending is
+of_team team net Worked.NotQuiet ending stop is = by_nodes team net ending is
+of_team team net (Worked.Stopped worker kind) ending stop is = subst (IsEnding team net) (sym is.0) (stop.0, stop.1, is.1)
 
-module _ (team : Team) (left : Left) (long faulty : Bool) (held holds : Option (List ℕ)) (ending : Ending) (text lent : List ℕ) where
-  pub ends_written : (refused : Bool) → IsEnding team left ending → IsEndText long ending text → lent ≡ text → refused ≡ is_refused long faulty ending → Appends held holds lent → WritesEnd team left long faulty held holds (Ok refused)
+module _ (team : Team) (net : NetRecord) (long faulty : Bool) (held holds : Option (List ℕ)) (ending : Ending) (text lent : List ℕ) where
+  pub ends_written : (refused : Bool) → IsEnding team net ending → IsEndText long net ending text → lent ≡ text → refused ≡ is_refused long faulty ending → Appends held holds lent → WritesEnd team net long faulty held holds (Ok refused)
   ends_written refused is is_text same answered wrote =
       (text, record { ending = ending; is = is; is_text = is_text; answered = answered }, subst (λ xs. Appends held holds xs) same wrote)
 
-  pub ends_unwritten : IsEnding team left ending → IsEndText long ending text → lent ≡ text → AppendsPrefix held holds lent → WritesEnd team left long faulty held holds (Err Halt.CannotWrite)
+  pub ends_unwritten : IsEnding team net ending → IsEndText long net ending text → lent ≡ text → AppendsPrefix held holds lent → WritesEnd team net long faulty held holds (Err Halt.CannotWrite)
   ends_unwritten is is_text same front =
       (text, is_refused long faulty ending, record { ending = ending; is = is; is_text = is_text; answered = refl }, subst (λ xs. AppendsPrefix held holds xs) same front)

@@ -2,7 +2,6 @@ mod ArrivalLines
 mod EndingTexts
 mod PlainPieces
 mod RoundWork
-mod SentRuns
 mod SentScripts
 mod ShownPackets
 mod ShownTexts

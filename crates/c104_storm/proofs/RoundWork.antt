@@ -1,13 +1,13 @@
 -- What workers do are events of rounds: they send nothing, and set nothing.
-use Rattle.c104_audit.specs.{AuditedRuns.{AreSeated, seat_calls}, Audits.is_number, Calls.call_of, declared.calls.Call.Call}
-use Rattle.{c104_event.specs.declared.events.Event.Event, c104_net.specs.RoundEvents.IsOfRound, c104_node.specs.declared.stamps.Stamp.Stamp}
+use Rattle.c104_audit.specs.declared.calls.Call.{Call}
+use Rattle.{c104_event.specs.declared.events.Event.Event, c104_net.specs.RoundEvents.IsOfRound}
 use Rattle.c104_plan.{proofs.RangeLists.{all_of_each, each_append}, specs.{Plans.Plan, declared.ports.Port.Port}}
 use Rattle.c104_run.specs.{EventPlaces.event_place, NodeParts.round_part, Rounds.{all_claims, all_drains, claims_of, link_numbers, round}}
 use Rattle.{c104_run.specs.Rounds.{switch_claims, turn_at, wired_ports}, c104_storm.specs.Workers.{AreDoneBy, Team}}
-use Rattle.{c104_switch.specs.Actions.Reply, c104_workers.specs.{Audited.seat_list, Words.with_word, Working.IsOwnEvent}}
-use Rattle.{c104_workers.specs.declared.{calls.SeatCalls.SeatCalls, words.Words.Words}, std.proofs.Common.{Bool, Contains, List, None}}
-use Rattle.std.proofs.Common.{Option, Some, [], ap, arith, false, flat_map, if◌then◌else◌, is_some, length, map, nat_eq, refl}
-use Rattle.std.proofs.{Common.{slice_index_or, subst, suc, sym, true, ℕ, ◌++◌, ◌<◌, ◌∙◌, ◌∷◌, ◌≡◌}, lemmas.Bool.Decides.nat_tests}
+use Rattle.{c104_tickets.specs.{Tickets.Each, declared.views.Done.Done}, c104_workers.specs.{Calls.SeatView, Logs.{call_if, calls_in}}}
+use Rattle.c104_workers.specs.{Words.with_word, Working.IsOwnEvent, declared.words.Words.Words}
+use Rattle.std.proofs.Common.{Bool, Contains, List, [], arith, false, flat_map, length, map, nat_eq, slice_index_or, subst, suc, sym, true}
+use Rattle.std.proofs.{Common.{zero, ℕ, ◌++◌, ◌<◌, ◌∷◌, ◌≡◌}, lemmas.Bool.Decides.nat_tests}
 use Rattle.std.{proofs.lemmas.List.Elements.{All-contains, All-filter, recursion_from_All}, specs.List.{AllByRecursion, range_with_len}}
 
 -- the events of a round
@@ -66,46 +66,39 @@ own_of plan words n i e own =
 abbrev AreCallsOfRound : List Call → Type 0
 AreCallsOfRound calls = AllByRecursion (λ (c : Call). IsOfRound c.event) calls
 
-list_of : (number : ℕ) (seats : List SeatCalls)
-    → ((i : ℕ) (d : SeatCalls) → i < length seats → AreCallsOfRound (slice_index_or seats i d).calls)
-    → AreCallsOfRound (seat_list number seats)
-list_of number [] each = tt
-list_of number (s ∷ seats) each =
-    by_test (nat_eq s.number number) (each 0 s (omega arith)) (list_of number seats (λ i d inside. each (suc i) d (omega (arith, inside))))
+-- what is known of the seat at a place is known of its part of the log
+part_of_log : (log : List Done) (seats : List SeatView) (i s : ℕ) → i < length seats
+    → Each (λ (x : SeatView). x.calls ≡ calls_in x.number log) seats
+    → ((d : SeatView) → ((slice_index_or seats i d).number ≡ s) × AreCallsOfRound (slice_index_or seats i d).calls)
+    → AreCallsOfRound (calls_in s log)
+part_of_log log [] i s inside calls of = absurd (let no : ⊥ = omega (arith, inside) in no)
+part_of_log log (x ∷ seats) zero s inside calls of =
+    subst (λ n. AreCallsOfRound (calls_in n log)) (of x).0 (subst AreCallsOfRound calls.0 (of x).1)
+part_of_log log (x ∷ seats) (suc i) s inside calls of = part_of_log log seats i s (omega (arith, inside)) calls.1 of
+
+-- where the part of each seat is so, and each of a log was done through one of them, all of it is
+logged_of_round : (count : ℕ) (log : List Done) → Each (λ (d : Done). d.deed.seat < count) log
+    → ((s : ℕ) → s < count → AreCallsOfRound (calls_in s log)) → AllByRecursion (λ (d : Done). IsOfRound d.deed.event) log
+logged_of_round count [] seated each = tt
+logged_of_round count (d ∷ log) seated each =
+    (first, logged_of_round count log seated.1 (λ s inside. later s (nat_eq d.deed.seat s) (each s inside)))
   where
-    by_test : (b : Bool) → AreCallsOfRound s.calls → AreCallsOfRound (seat_list number seats)
-        → AreCallsOfRound (if b then s.calls else seat_list number seats)
-    by_test true here rest = here
-    by_test false here rest = rest
+    itself : nat_eq d.deed.seat d.deed.seat ≡ true
+    itself = grind (arith, nat_tests)
 
--- the list of each seat of a team
-pub team_of_round : (team : Team) (plan : Plan) (seats : List SeatCalls) → AreDoneBy team plan seats → (number : ℕ)
-    → AreCallsOfRound (seat_list number seats)
-team_of_round team plan seats done number =
-    list_of number seats (λ i d inside.
-    recursion_from_All (λ (c : Call). IsOfRound c.event) (slice_index_or seats i d).calls
-    (λ k e within. own_of plan team.words team.count i _ ((done.each i d (omega (arith, inside, done.count))).own k e within)))
+    first : IsOfRound d.deed.event
+    first = (subst (λ b. AreCallsOfRound (call_if b d (calls_in d.deed.seat log))) itself (each d.deed.seat seated.0)).0
 
--- and where each of some events was asked for by a seat, and the calls of each seat are so, all are
-pub called_of_round : (stamps : ℕ → Stamp) (n : ℕ) (called : List (Event × Reply)) → AreSeated stamps n called
-    → ((s : ℕ) → AreCallsOfRound (seat_calls stamps s n called)) → AllByRecursion (λ (e : Event × Reply). IsOfRound e.0) called
-called_of_round stamps n [] seated each = tt
-called_of_round stamps n (e ∷ called) seated each =
-    by_seat (stamps n).seat refl seated.0
-    (called_of_round stamps (suc n) called seated.1 (λ s. later s (is_number s (stamps n).seat) (each s)))
-  where
-    calls : ℕ → Bool → List Call
-    calls s b = if b then call_of e.0 (stamps n).ticket e.1 ∷ seat_calls stamps s (suc n) called else seat_calls stamps s (suc n) called
-
-    later : (s : ℕ) (b : Bool) → AreCallsOfRound (calls s b) → AreCallsOfRound (seat_calls stamps s (suc n) called)
+    later : (s : ℕ) (b : Bool) → AreCallsOfRound (call_if b d (calls_in s log)) → AreCallsOfRound (calls_in s log)
     later s true all = all.1
     later s false all = all
 
-    by_seat : (seat : Option ℕ) → (stamps n).seat ≡ seat → is_some (stamps n).seat ≡ true
-        → AllByRecursion (λ (d : Event × Reply). IsOfRound d.0) called
-        → AllByRecursion (λ (d : Event × Reply). IsOfRound d.0) (e ∷ called)
-    by_seat None is some rest = absurd (let no : false ≡ true = sym (ap is_some is) ∙ some in cc)
-    by_seat (Some s) is some rest =
-        let itself : is_number s (Some s) ≡ true = grind (arith, nat_tests) in
-        let here : is_number s (stamps n).seat ≡ true = ap (is_number s) is ∙ itself in
-        ((subst (λ b. AreCallsOfRound (calls s b)) here (each s)).0, rest)
+-- so all that a team did are events of rounds
+pub team_of_round : (team : Team) (plan : Plan) (seats : List SeatView) (log : List Done) → AreDoneBy team plan seats
+    → Each (λ (d : Done). d.deed.seat < team.count) log → Each (λ (s : SeatView). s.calls ≡ calls_in s.number log) seats
+    → AllByRecursion (λ (d : Done). IsOfRound d.deed.event) log
+team_of_round team plan seats log done seated calls =
+    logged_of_round team.count log seated (λ s inside.
+    part_of_log log seats s s (omega (arith, inside, done.count)) calls (λ d.
+    ((done.each s d inside).number, recursion_from_All (λ (c : Call). IsOfRound c.event) (slice_index_or seats s d).calls
+    (λ k e within. own_of plan team.words team.count s _ ((done.each s d inside).own k e within)))))

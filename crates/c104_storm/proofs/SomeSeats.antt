@@ -1,7 +1,8 @@
--- A fabric has at least one seat.
-use Rattle.{c104_tickets.specs.{Tickets.TableId, declared.views.Terms.Terms}, c104_workers.specs.{Calls.SeatView, Fabrics.{first_seat, first_seats, seat_view}}}
-use Rattle.std.proofs.{Common.{List, ap, arith, length, map, ℕ, ◌≡◌, ◌≤◌}, lemmas.List.{FromFn.length-map-range_with_len, length-map}}
+-- A shared network has at least one seat.
+use Rattle.{c104_tickets.specs.{Tickets.TableId, declared.views.Terms.Terms}, c104_workers.specs.{Calls.SeatView, Fabrics.{first_seat, first_seats}}}
+use Rattle.std.proofs.{Common.{List, ap, arith, length, ℕ, ◌≡◌, ◌≤◌}, lemmas.List.FromFn.length-map-range_with_len}
 
-pub some_seats : (word_id : TableId) (terms : Terms) (seats : List (SeatView × ℕ)) → map seat_view seats ≡ first_seats word_id terms → 1 ≤ terms.seats → 1 ≤ length seats
+pub some_seats : (word_id : TableId) (terms : Terms) (seats : List SeatView) → seats ≡ first_seats word_id terms → 1 ≤ terms.seats
+    → 1 ≤ length seats
 some_seats word_id terms seats are some =
-    omega (arith, some, length-map seats seat_view, ap (λ xs. length xs) are, length-map-range_with_len (first_seat word_id terms) 0 terms.seats)
+    omega (arith, some, ap (λ xs. length xs) are, length-map-range_with_len (first_seat word_id terms) 0 terms.seats)

@@ -3,8 +3,9 @@ use Rattle.{c104_plan.specs.{PlanImage.Image, Plans.Plan}, c104_storm.specs.{End
 use Rattle.c104_storm.specs.{Storms.{MayEndAfter, MayWrite, StormsOn, StormsPlan}, declared.sends.Sending.Sending}
 use Rattle.c104_stream.proofs.{Growing.{grew_none, grew_prefix, grew_then}, Prefixes.prefix_next, ScriptEnds.nothing_answered}
 use Rattle.c104_stream.specs.{ScriptLines.is_long, Scripts.{AnswersScript, script_outcome}, Writing.Grew, declared.halt.Halt.Halt}
-use Rattle.c104_storm.specs.Workers.{AreDoneBy, Team}
-use Rattle.{c104_workers.specs.{Fabrics.{Handed, Left, handed_of}, OneRuns.IsLeft}, std.proofs.Common.{Bool, Err, List, None, Ok, Option, Result, Some, []}}
+use Rattle.{c104_lean.specs.Runs.IsSharedRun, c104_run.specs.NetRecords.{IsNetRecord, NetRecord}}
+use Rattle.{c104_storm.specs.Workers.{AreDoneBy, Team}, c104_workers.specs.Calls.SeatView}
+use Rattle.std.proofs.Common.{Bool, Err, List, None, Ok, Option, Result, Some, []}
 use Rattle.std.{proofs.{Common.{inl, inr, refl, subst, sym, ℕ, ◌++◌, ◌≡◌}, KnownBytes.Appends-trans}, specs.Io.KnownBytes.Appends}
 use Rattle.std.specs.Io.KnownBytes.{prepend_known}
 
@@ -19,12 +20,16 @@ from_reader start after None left held holds before result none answered = answe
 from_reader start after (Some rest) left held holds before result none answered =
     subst (λ xs. AnswersScript send_outcome start (Some (xs ++ rest)) left held holds after result) none answered
 
--- what is written at the end, by what was known when the workers began
-pub storms_on : (team : Team) (left : Left) (handed : Handed) (long faulty : Bool) (held holds : Option (List ℕ)) (result : Result Bool Halt) → IsLeft left → left.handed ≡ handed → AreDoneBy team handed.plan left.seats → WritesEnd team left long faulty held holds result → StormsOn team handed long faulty held holds result
-storms_on team left handed long faulty held holds (Ok refused) kept is done ends = (ends.0, record { left = left; kept = kept; handed_so = is; done = done; ends = ends.1 }, ends.2)
-storms_on team left handed long faulty held holds (Err Halt.CannotRead) kept is done ends = absurd ends
-storms_on team left handed long faulty held holds (Err Halt.CannotWrite) kept is done ends = (ends.0, ends.1, record { left = left; kept = kept; handed_so = is; done = done; ends = ends.2 }, ends.3)
-storms_on team left handed long faulty held holds (Err Halt.NoMemory) kept is done ends = ends
+-- what is written at the end, by the run that the workers did
+pub storms_on : (team : Team) (net left : NetRecord) (seats : List SeatView) (long faulty : Bool) (held holds : Option (List ℕ))
+    (result : Result Bool Halt) → IsNetRecord left → IsSharedRun net left team.count seats → AreDoneBy team net.network.plan seats
+    → WritesEnd team left long faulty held holds result → StormsOn team net long faulty held holds result
+storms_on team net left seats long faulty held holds (Ok refused) kept one done ends =
+    (ends.0, record { left = left; kept = kept; seats = seats; one = one; done = done; ends = ends.1 }, ends.2)
+storms_on team net left seats long faulty held holds (Err Halt.CannotRead) kept one done ends = absurd ends
+storms_on team net left seats long faulty held holds (Err Halt.CannotWrite) kept one done ends =
+    (ends.0, ends.1, record { left = left; kept = kept; seats = seats; one = one; done = done; ends = ends.2 }, ends.3)
+storms_on team net left seats long faulty held holds (Err Halt.NoMemory) kept one done ends = ends
 
 -- the sending by its plan
 pub from_plan : (plan : Plan) (image : Image) (all left held holds : Option (List ℕ)) (start after : Sending) (result : Result Bool Halt) → start ≡ new_sending plan image → AnswersScript send_outcome start all left held holds after result → AnswersScript send_outcome (new_sending plan image) all left held holds after result
@@ -52,7 +57,7 @@ module _ (team : Team) (plan : Plan) (image : Image) where
   }
 
   -- the script was answered, and then the storm ended
-  pub storm_ends : (all left held now holds : Option (List ℕ)) (after : Sending) (long : Bool) (result : Result Bool Halt) → AnswersScript send_outcome (new_sending plan image) all left held now after (Ok long) → StormsOn team (handed_of after.net) long after.is_faulty now holds result
+  pub storm_ends : (all left held now holds : Option (List ℕ)) (after : Sending) (long : Bool) (result : Result Bool Halt) → AnswersScript send_outcome (new_sending plan image) all left held now after (Ok long) → StormsOn team after.net long after.is_faulty now holds result
       → StormsPlan team plan image all left held holds result
   storm_ends None left held now holds after long (Ok refused) answered ends =
       (after, long, answered.written, ends.0, ends.1, Appends-trans held now holds answered.written ends.0 answered.grew ends.2)

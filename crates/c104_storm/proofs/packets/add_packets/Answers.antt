@@ -7,5 +7,5 @@ sorted_arrivals-requires c = as_many _ _ _ _ _ c.requires.sure c.requires.arrive
 pub returns : goal.returns
 returns c =
     on_ok_weaker c.add_lines.result
-    (joined_sorted c.args.run.now.finished.plan c.args.terminal _ _ _ _ _ _ _ _ _ _ c.requires.arrived c.requires.origins c.in_ok-packets.ensures.whole c.as_slice.ensures.value c.in_ok-arrivals.ensures c.as_slice-2.ensures.value c.plan.ensures)
+    (joined_sorted c.args.net.now.network.plan c.args.terminal _ _ _ _ _ _ _ _ _ _ c.requires.arrived c.requires.origins c.in_ok-packets.ensures.whole c.as_slice.ensures.value c.in_ok-arrivals.ensures c.as_slice-2.ensures.value c.plan.ensures)
     c.add_lines.ensures

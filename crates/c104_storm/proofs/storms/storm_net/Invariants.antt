@@ -1,6 +1,5 @@
-use Rattle.c104_workers.specs.Fabrics.{handed_of}
 use Rattle.c104_storm.proofs.storms.storm_net.Given as goal
 
--- the word that was just made, and the network that is handed over
+-- the word that was just made, and the network that is shared
 abbrev pub ghosts-storm_ready : goal.ghosts-storm_ready
-ghosts-storm_ready g a = record { word = a.ready.word_id; handed = handed_of a.ready.net }
+ghosts-storm_ready g a = record { word = a.ready.word_id; before = a.ready.before }

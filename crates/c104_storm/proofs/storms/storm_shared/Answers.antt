@@ -1,42 +1,31 @@
-use Rattle.c104_storm.proofs.{StormEnds.storms_on, TeamWork.{stop_of_team, team_worked, whole_of, written_back}}
-use Rattle.{c104_storm.specs.Workers.{AreDoneBy, HaveWorked, IsStopOf, Team, team_of}, c104_workers.specs.{Calls.SeatView, Fabrics.Handed}}
-use Rattle.std.proofs.Common.{List, length, refl, subst, sym, ℕ, ◌∙◌}
-use Rattle.c104_storm.proofs.storms.storm_fabric.Goals as goal
+use Rattle.{c104_lean.specs.{Seats.AreSeatsOf, Shared.record_of}, c104_storm.proofs.StormEnds.storms_on}
+use Rattle.c104_storm.proofs.TeamWork.{all_seats, applied_plan, stop_of_team, team_worked, worked_back, written_back}
+use Rattle.{c104_storm.specs.Workers.{HaveWorked, IsStopOf, Team, team_of}, c104_workers.specs.Calls.SeatView}
+use Rattle.std.proofs.Common.{List, length, subst, sym, ◌∙◌}
+use Rattle.c104_storm.proofs.storms.storm_shared.Goals as goal
 
-pub write_end-written-requires : goal.write_end-written-requires
-write_end-written-requires g c =
-    let team : Team = team_of c.args.fabric.terms.seats c.args.words in
-    let done : AreDoneBy team c.args.fabric.handed.plan c.close-gathered.result.seats =
-    team_worked _ _ _ _ _ _ c.requires.first refl
-    (subst (HaveWorked c.args.fabric.handed.plan c.args.words c.args.seats.items)
+pub close-net-requires-clause-own : goal.close-net-requires-clause-own
+close-net-requires-clause-own g c =
+    subst (AreSeatsOf c.args.shared.word_id)
     (sym (written_back c.args.seats.len c.work-worked.new.seats c.args.seats.items (c.work-worked.ensures.worked.0 ∙ c.as_mut_slice.ensures.len)))
-    (subst (λ (old : List (SeatView × ℕ)). HaveWorked c.args.fabric.handed.plan c.args.words old c.work-worked.new.seats) c.as_mut_slice.ensures.value c.work-worked.ensures.worked))
-    _ c.close-gathered.ensures.seats in
-    whole_of team c.args.fabric.handed.plan c.close-gathered.result c.close-gathered.ensures.seat_count done
+    c.work-worked.ensures.own
 
-pub explain_end-requires : goal.explain_end-requires
-explain_end-requires g c =
-    let team : Team = team_of c.args.fabric.terms.seats c.args.words in
-    let done : AreDoneBy team c.args.fabric.handed.plan c.close-gathered.result.seats =
-    team_worked _ _ _ _ _ _ c.requires.first refl
-    (subst (HaveWorked c.args.fabric.handed.plan c.args.words c.args.seats.items)
-    (sym (written_back c.args.seats.len c.work-worked.new.seats c.args.seats.items (c.work-worked.ensures.worked.0 ∙ c.as_mut_slice.ensures.len)))
-    (subst (λ (old : List (SeatView × ℕ)). HaveWorked c.args.fabric.handed.plan c.args.words old c.work-worked.new.seats) c.as_mut_slice.ensures.value c.work-worked.ensures.worked))
-    _ c.close-gathered.ensures.seats in
-    whole_of team c.args.fabric.handed.plan c.close-gathered.result c.close-gathered.ensures.seat_count done
+pub close-net-requires-clause-all : goal.close-net-requires-clause-all
+close-net-requires-clause-all g c =
+    all_seats _ _ _ _ _ _ c.requires.first
+    (worked_back c.args.shared.before.plan c.args.words c.args.seats.len c.args.seats.items _ c.work-worked.new.seats c.as_mut_slice.ensures.value
+    c.as_mut_slice.ensures.len c.work-worked.ensures.worked)
 
 pub returns : goal.returns
 returns g c =
-    let team : Team = team_of c.args.fabric.terms.seats c.args.words in
-    let done : AreDoneBy team c.args.fabric.handed.plan c.close-gathered.result.seats =
-    team_worked _ _ _ _ _ _ c.requires.first refl
-    (subst (HaveWorked c.args.fabric.handed.plan c.args.words c.args.seats.items)
-    (sym (written_back c.args.seats.len c.work-worked.new.seats c.args.seats.items (c.work-worked.ensures.worked.0 ∙ c.as_mut_slice.ensures.len)))
-    (subst (λ (old : List (SeatView × ℕ)). HaveWorked c.args.fabric.handed.plan c.args.words old c.work-worked.new.seats) c.as_mut_slice.ensures.value c.work-worked.ensures.worked))
-    _ c.close-gathered.ensures.seats in
-    let stop : IsStopOf team c.args.fabric.handed.plan c.work-worked.result =
-    stop_of_team _ _ _ _ _ _ c.requires.first
-    (subst (λ (old : List (SeatView × ℕ)). IsStopOf (team_of (length old) c.args.words) c.args.fabric.handed.plan c.work-worked.result) c.as_mut_slice.ensures.value c.work-worked.ensures.stopped) in
-    storms_on team _ _ _ _ _ _ _ c.plan-plan.ensures.left c.close-gathered.ensures.handed done
+    let team : Team = team_of c.args.shared.terms.seats c.args.words in
+    let worked =
+    worked_back c.args.shared.before.plan c.args.words c.args.seats.len c.args.seats.items _ c.work-worked.new.seats c.as_mut_slice.ensures.value
+    c.as_mut_slice.ensures.len c.work-worked.ensures.worked in
+    let stop : IsStopOf team c.args.shared.before.plan c.work-worked.result =
+    stop_of_team _ _ _ _ _ _ c.requires.first worked _
+    (subst (λ (old : List SeatView). IsStopOf (team_of (length old) c.args.words) c.args.shared.before.plan c.work-worked.result) c.as_mut_slice.ensures.value c.work-worked.ensures.stopped) in
+    storms_on team (record_of c.args.shared.before) c.close-net.result _ _ _ _ _ _ c.told_plan-plan.ensures.told c.close-net.ensures
+    (team_worked _ _ _ _ _ _ c.requires.first worked)
     (c.write_end-written.ensures team
-    (subst (λ (handed : Handed). IsStopOf team handed.plan c.work-worked.result) (sym c.close-gathered.ensures.handed) stop))
+    (subst (λ plan. IsStopOf team plan c.work-worked.result) (sym (applied_plan _ _ _ c.close-net.ensures.applied)) stop))
