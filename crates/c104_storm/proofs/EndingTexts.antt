@@ -1,8 +1,8 @@
 -- The ending of a storm is one of its team, and its text is written.
-use Rattle.c104_storm.specs.{Endings.{IsEndText, IsEnding, IsEndingByNodes, IsEndingOf, WritesEnd, is_refused}, Workers.{IsStopOf, Team}}
-use Rattle.c104_storm.specs.declared.{endings.Ending.Ending, working.Worked.Worked}
-use Rattle.{c104_run.specs.NetRecords.NetRecord, c104_stream.specs.{Writing.AppendsPrefix, declared.halt.Halt.Halt}, std.proofs.Common.Bool}
-use Rattle.std.{proofs.Common.{Err, List, Ok, Option, refl, subst, sym, ℕ, ◌≡◌}, specs.Io.KnownBytes.Appends}
+use Rattle.{c104_run.specs.NetRecords.NetRecord, c104_storm.specs.Endings.{IsEndText, IsEnding, IsEndingByNodes, IsEndingOf, WritesEnd}}
+use Rattle.c104_storm.specs.{Endings.is_refused, Workers.{IsStopOf, Team}, declared.{endings.Ending.Ending, working.Worked.Worked}}
+use Rattle.{c104_stream.specs.{Writing.AppendsPrefix, declared.halt.Halt.Halt}, std.proofs.Common.{Bool, Err, List, Ok, Option, refl}}
+use Rattle.std.{proofs.Common.{subst, sym, ℕ, ◌≡◌}, specs.Io.KnownBytes.Appends}
 
 -- what the nodes say is an ending of any team
 by_nodes : (team : Team) (net : NetRecord) (ending : Ending) → IsEndingByNodes net ending → IsEnding team net ending

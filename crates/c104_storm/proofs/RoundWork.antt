@@ -1,14 +1,13 @@
 -- What workers do are events of rounds: they send nothing, and set nothing.
-use Rattle.c104_audit.specs.declared.calls.Call.{Call}
-use Rattle.{c104_event.specs.declared.events.Event.Event, c104_net.specs.RoundEvents.IsOfRound}
+use Rattle.{c104_audit.specs.declared.calls.Call.Call, c104_event.specs.declared.events.Event.Event, c104_net.specs.RoundEvents.IsOfRound}
 use Rattle.c104_plan.{proofs.RangeLists.{all_of_each, each_append}, specs.{Plans.Plan, declared.ports.Port.Port}}
 use Rattle.c104_run.specs.{EventPlaces.event_place, NodeParts.round_part, Rounds.{all_claims, all_drains, claims_of, link_numbers, round}}
 use Rattle.{c104_run.specs.Rounds.{switch_claims, turn_at, wired_ports}, c104_storm.specs.Workers.{AreDoneBy, Team}}
 use Rattle.{c104_tickets.specs.{Tickets.Each, declared.views.Done.Done}, c104_workers.specs.{Calls.SeatView, Logs.{call_if, calls_in}}}
-use Rattle.c104_workers.specs.{Words.with_word, Working.IsOwnEvent, declared.words.Words.Words}
-use Rattle.std.proofs.Common.{Bool, Contains, List, [], arith, false, flat_map, length, map, nat_eq, slice_index_or, subst, suc, sym, true}
-use Rattle.std.proofs.{Common.{zero, ℕ, ◌++◌, ◌<◌, ◌∷◌, ◌≡◌}, lemmas.Bool.Decides.nat_tests}
-use Rattle.std.{proofs.lemmas.List.Elements.{All-contains, All-filter, recursion_from_All}, specs.List.{AllByRecursion, range_with_len}}
+use Rattle.{c104_workers.specs.{Words.with_word, Working.IsOwnEvent, declared.words.Words.Words}, std.proofs.Common.{Bool, Contains, List}}
+use Rattle.std.proofs.Common.{[], arith, false, flat_map, length, map, nat_eq, slice_index_or, subst, suc, sym, true, zero, ℕ, ◌++◌, ◌<◌}
+use Rattle.std.proofs.{Common.{◌∷◌, ◌≡◌}, lemmas.{Bool.Decides.nat_tests, List.Elements.{All-contains, All-filter, recursion_from_All}}}
+use Rattle.std.specs.List.{AllByRecursion, range_with_len}
 
 -- the events of a round
 
@@ -99,6 +98,8 @@ pub team_of_round : (team : Team) (plan : Plan) (seats : List SeatView) (log : L
     → AllByRecursion (λ (d : Done). IsOfRound d.deed.event) log
 team_of_round team plan seats log done seated calls =
     logged_of_round team.count log seated (λ s inside.
-    part_of_log log seats s s (omega (arith, inside, done.count)) calls (λ d.
-    ((done.each s d inside).number, recursion_from_All (λ (c : Call). IsOfRound c.event) (slice_index_or seats s d).calls
-    (λ k e within. own_of plan team.words team.count s _ ((done.each s d inside).own k e within)))))
+    part_of_log log seats s s (omega (arith, inside, done.count)) calls (λ d. (
+      (done.each s d inside).number,
+      recursion_from_All (λ (c : Call). IsOfRound c.event) (slice_index_or seats s d).calls
+          (λ k e within. own_of plan team.words team.count s _ ((done.each s d inside).own k e within)),
+    )))

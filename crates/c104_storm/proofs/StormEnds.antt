@@ -1,13 +1,12 @@
 -- The ends of a storm: of its answers, and of what follows them.
-use Rattle.{c104_plan.specs.{PlanImage.Image, Plans.Plan}, c104_storm.specs.{Endings.WritesEnd, Sends.{new_sending, send_outcome}}}
-use Rattle.c104_storm.specs.{Storms.{MayEndAfter, MayWrite, StormsOn, StormsPlan}, declared.sends.Sending.Sending}
-use Rattle.c104_stream.proofs.{Growing.{grew_none, grew_prefix, grew_then}, Prefixes.prefix_next, ScriptEnds.nothing_answered}
-use Rattle.c104_stream.specs.{ScriptLines.is_long, Scripts.{AnswersScript, script_outcome}, Writing.Grew, declared.halt.Halt.Halt}
-use Rattle.{c104_lean.specs.Runs.IsSharedRun, c104_run.specs.NetRecords.{IsNetRecord, NetRecord}}
-use Rattle.{c104_storm.specs.Workers.{AreDoneBy, Team}, c104_workers.specs.Calls.SeatView}
-use Rattle.std.proofs.Common.{Bool, Err, List, None, Ok, Option, Result, Some, []}
-use Rattle.std.{proofs.{Common.{inl, inr, refl, subst, sym, ℕ, ◌++◌, ◌≡◌}, KnownBytes.Appends-trans}, specs.Io.KnownBytes.Appends}
-use Rattle.std.specs.Io.KnownBytes.{prepend_known}
+use Rattle.{c104_lean.specs.Runs.IsSharedRun, c104_plan.specs.{PlanImage.Image, Plans.Plan}, c104_run.specs.NetRecords.IsNetRecord}
+use Rattle.{c104_run.specs.NetRecords.NetRecord, c104_storm.specs.{Endings.WritesEnd, Sends.{new_sending, send_outcome}}}
+use Rattle.c104_storm.specs.{Storms.{MayEndAfter, MayWrite, StormsOn, StormsPlan}, Workers.{AreDoneBy, Team}}
+use Rattle.{c104_storm.specs.declared.sends.Sending.Sending, c104_stream.proofs.Growing.{grew_none, grew_prefix, grew_then}}
+use Rattle.c104_stream.{proofs.{Prefixes.prefix_next, ScriptEnds.nothing_answered}, specs.{ScriptLines.is_long, Scripts.AnswersScript}}
+use Rattle.{c104_stream.specs.{Scripts.script_outcome, Writing.Grew, declared.halt.Halt.Halt}, c104_workers.specs.Calls.SeatView}
+use Rattle.std.proofs.Common.{Bool, Err, List, None, Ok, Option, Result, Some, [], inl, inr, refl, subst, sym, ℕ, ◌++◌, ◌≡◌}
+use Rattle.std.{proofs.KnownBytes.Appends-trans, specs.Io.KnownBytes.{Appends, prepend_known}}
 
 -- nothing was answered, and nothing was read
 pub nothing_sent : (start : Sending) (known held : Option (List ℕ)) → AnswersScript send_outcome start known known held held start (Err Halt.NoMemory)

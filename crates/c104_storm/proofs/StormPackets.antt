@@ -1,28 +1,26 @@
 -- A storm that ends where all is quiet writes all packets that its script sent.
-use Rattle.c104_check.specs.Routes.{IsAccepted, Routes, routes_of}
-use Rattle.c104_describe.specs.{PlanText.read_description, declared.faults.PlanFault.PlanFault}
-use Rattle.{c104_event.specs.declared.{events.Event.Event, faults.EventFault.EventFault}, c104_label.specs.Images.IsImageOf}
-use Rattle.c104_lean.specs.Runs.{AreApplied, IsSharedRun}
-use Rattle.c104_net.proofs.{NamedOrigins.{quiet_traced, sent_plain}, Promises.headline, RunOrigins.{IsKeptRun, ends_traced, traced}}
-use Rattle.c104_net.{proofs.StartMaps.starts_are, specs.{Deliveries.{Promise, arrived_at, sent_at}, RoundEvents.IsOfRound}}
-use Rattle.{c104_net.specs.TracedEnds.traced_end, c104_node.specs.{MappedNodes.map_node, Nodes.{Node, arrived_tokens}, Starts.start_node}}
-use Rattle.c104_node.specs.{Traced.traced_kind, Traces.{part, seatless}, declared.{starts.NodeStart.NodeStart, traced.Traced.Traced}}
-use Rattle.c104_plan.specs.{PlanImage.{Fits, Image}, Plans.{IsPlan, Plan}}
-use Rattle.c104_run.{proofs.RecordSteps.nodes_counted, specs.{Balance.AreInPlace, FinishedRecords.record_finish, NetRecords.NetRecord}}
-use Rattle.c104_run.specs.{Network.{Network, network_of, terminal_place}, QuietNets.IsQuiet, RecordedRuns.record_apply, Runs.IsDoneRun}
-use Rattle.c104_session.proofs.{PlacedNets.{placed_set, placed_starts, placed_unchanged}, PrintedRunsLaw.{image_fits, read_is_plan}}
-use Rattle.c104_session.proofs.UnchangedNets.{IsUnchangedNet, keeps_nothing, nothing, round_event}
-use Rattle.{c104_session.specs.PrintedPackets.packets_of, c104_setup.specs.Setups.ComesTo, c104_storm.proofs.RoundWork.team_of_round}
-use Rattle.c104_storm.proofs.{SentScripts.lines_leave, ShownPackets.{IsShownAt, writes_packets}, ShownTexts.{Shows, nothing_shown, shows}}
-use Rattle.c104_storm.specs.{Arrivals.JoinArrivals, Endings.{IsEndText, IsEnding}, Packets.{EndsWith, SendsWell, WritesPackets}}
-use Rattle.c104_storm.specs.{Packets.{WritesPacketsOf, WritesSentPackets, script_sent, shown_text}, Sends.{new_sending, send_outcome}}
-use Rattle.c104_storm.specs.{Storms.MayStorm, Texts.audited_line, Workers.{AreDoneBy, Team}, declared.endings.Ending.Ending}
-use Rattle.{c104_storm.specs.declared.sends.Sending.Sending, c104_stream.specs.ScriptLines.{is_long, script_lines}}
-use Rattle.{c104_stream.specs.Scripts.script_outcome, c104_switch.specs.Actions.Reply, c104_tickets.specs.declared.views.Done.Done}
-use Rattle.{c104_token.specs.declared.{packets.Packet.Packet, tokens.Token.Token}, c104_workers.specs.{Calls.SeatView, Logs.done_pair}}
-use Rattle.std.proofs.Common.{Bool, Err, List, Ok, Result, [], ap, arith, false, inl, inr, length, map, nat_lt, refl, subst, sym, true, ℕ}
-use Rattle.std.proofs.{Common.{◌++◌, ◌+◌, ◌∙◌, ◌∷◌, ◌≡◌, ◌≤◌}, lemmas.{Bool.Decides.nat_tests, List.length-map, Option.slice_get_past}}
-use Rattle.std.specs.List.{AllByRecursion}
+use Rattle.{c104_check.specs.Routes.{IsAccepted, Routes, routes_of}, c104_describe.specs.PlanText.read_description}
+use Rattle.{c104_describe.specs.declared.faults.PlanFault.PlanFault, c104_event.specs.declared.faults.EventFault.EventFault}
+use Rattle.{c104_label.specs.Images.IsImageOf, c104_lean.specs.Runs.{AreApplied, IsSharedRun}, c104_net.proofs.NamedOrigins.quiet_traced}
+use Rattle.c104_net.proofs.{NamedOrigins.sent_plain, Promises.headline, RunOrigins.{IsKeptRun, ends_traced, traced}, StartMaps.starts_are}
+use Rattle.c104_net.specs.{Deliveries.{Promise, arrived_at, sent_at}, RoundEvents.IsOfRound, TracedEnds.traced_end}
+use Rattle.c104_node.specs.{MappedNodes.map_node, Nodes.{Node, arrived_tokens}, Starts.start_node, Traced.traced_kind, Traces.part}
+use Rattle.{c104_node.specs.{Traces.seatless, declared.{starts.NodeStart.NodeStart, traced.Traced.Traced}}, c104_plan.specs.PlanImage.Fits}
+use Rattle.{c104_plan.specs.{PlanImage.Image, Plans.{IsPlan, Plan}}, c104_run.{proofs.RecordSteps.nodes_counted, specs.Balance.AreInPlace}}
+use Rattle.c104_run.specs.{FinishedRecords.record_finish, NetRecords.NetRecord, Network.{Network, network_of, terminal_place}}
+use Rattle.{c104_run.specs.{QuietNets.IsQuiet, RecordedRuns.record_apply, Runs.IsDoneRun}, c104_session.proofs.PlacedNets.placed_set}
+use Rattle.c104_session.proofs.{PlacedNets.{placed_starts, placed_unchanged}, PrintedRunsLaw.{image_fits, read_is_plan}}
+use Rattle.c104_session.{proofs.UnchangedNets.{IsUnchangedNet, keeps_nothing, nothing, round_event}, specs.PrintedPackets.packets_of}
+use Rattle.{c104_setup.specs.Setups.ComesTo, c104_storm.proofs.{RoundWork.team_of_round, SentScripts.lines_leave, ShownPackets.IsShownAt}}
+use Rattle.c104_storm.{proofs.{ShownPackets.writes_packets, ShownTexts.{Shows, nothing_shown, shows}}, specs.Arrivals.JoinArrivals}
+use Rattle.c104_storm.specs.{Endings.{IsEndText, IsEnding}, Packets.{EndsWith, SendsWell, WritesPackets, WritesPacketsOf}}
+use Rattle.c104_storm.specs.{Packets.{WritesSentPackets, script_sent, shown_text}, Sends.{new_sending, send_outcome}, Storms.MayStorm}
+use Rattle.c104_storm.specs.{Texts.audited_line, Workers.{AreDoneBy, Team}, declared.{endings.Ending.Ending, sends.Sending.Sending}}
+use Rattle.{c104_stream.specs.{ScriptLines.{is_long, script_lines}, Scripts.script_outcome}, c104_switch.specs.Actions.Reply}
+use Rattle.{c104_tickets.specs.declared.views.Done.Done, c104_token.specs.declared.packets.Packet.Packet, c104_workers.specs.Calls.SeatView}
+use Rattle.{c104_workers.specs.Logs.done_pair, std.proofs.Common.{Bool, Err, List, Ok, Result, [], ap, arith, false, inl, inr, length, map}}
+use Rattle.std.proofs.{Common.{nat_lt, refl, subst, sym, true, ℕ, ◌++◌, ◌+◌, ◌∙◌, ◌∷◌, ◌≡◌, ◌≤◌}, lemmas.Bool.Decides.nat_tests}
+use Rattle.std.{proofs.lemmas.{List.length-map, Option.slice_get_past}, specs.List.AllByRecursion}
 
 module _ (plan : Plan) (image : Image) (is_plan : IsPlan plan) (fits : Fits image plan) where
   abbrev R : Routes

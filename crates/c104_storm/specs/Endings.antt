@@ -1,11 +1,11 @@
 -- How a storm ends whose script was answered, and what it writes then.
 use Rattle.{c104_event.specs.declared.faults.EventFault.EventFault, c104_run.specs.{FinishedRecords.record_finish, NetRecords.NetRecord}}
 use Rattle.{c104_run.specs.QuietNets.IsQuiet, c104_storm.specs.{Arrivals.JoinArrivals, Texts.{audited_line, not_quiet_line, stop_line}}}
-use Rattle.{c104_storm.specs.declared.{endings.Ending.Ending, working.Worked.Worked}, c104_stream.specs.ScriptLines.script_too_long}
-use Rattle.c104_stream.specs.{Writing.AppendsPrefix, declared.halt.Halt.Halt}
-use Rattle.{c104_storm.specs.Workers.Team, c104_workers.specs.Working.IsStop}
-use Rattle.std.specs.{Io.KnownBytes.Appends, Prelude.{Bool, Err, List, Ok, Option, Result, false, length, true, ℕ}}
-use Rattle.std.specs.Prelude.{◌++◌, ◌<◌, ◌||◌, ◌≡◌, ◌≢◌}
+use Rattle.c104_storm.specs.{Workers.Team, declared.{endings.Ending.Ending, working.Worked.Worked}}
+use Rattle.c104_stream.specs.{ScriptLines.script_too_long, Writing.AppendsPrefix, declared.halt.Halt.Halt}
+use Rattle.c104_workers.specs.Working.{IsStop}
+use Rattle.std.specs.{Io.KnownBytes.Appends, Prelude.{Bool, Err, List, Ok, Option, Result, false, length, true, ℕ, ◌++◌, ◌<◌, ◌||◌, ◌≡◌}}
+use Rattle.std.specs.Prelude.{◌≢◌}
 
 -- an ending of a storm in which no worker stopped and which left this network: it isn't quiet exactly where a node isn't
 abbrev pub IsEndingByNodes : NetRecord → Ending → Type 0

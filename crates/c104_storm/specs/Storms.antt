@@ -1,9 +1,9 @@
 -- What a storm over the network of a plan writes, where its reader and its writer tell their bytes.
-use Rattle.{c104_plan.specs.{PlanImage.Image, Plans.Plan}, c104_storm.specs.{Endings.MayEnd, Sends.{new_sending, send_outcome}}}
-use Rattle.{c104_storm.specs.declared.sends.Sending.Sending, c104_stream.specs.{ScriptLines.is_long, Scripts.AnswersPrefix}}
+use Rattle.{c104_lean.specs.Runs.IsSharedRun, c104_plan.specs.{PlanImage.Image, Plans.Plan}, c104_run.specs.NetRecords.IsNetRecord}
+use Rattle.{c104_run.specs.NetRecords.NetRecord, c104_storm.specs.{Endings.MayEnd, Sends.{new_sending, send_outcome}, Workers.AreDoneBy}}
+use Rattle.{c104_storm.specs.{Workers.Team, declared.sends.Sending.Sending}, c104_stream.specs.{ScriptLines.is_long, Scripts.AnswersPrefix}}
 use Rattle.c104_stream.specs.{Scripts.{StopsAnswered, script_outcome}, Writing.{AppendsPrefix, Grew}, declared.halt.Halt.Halt}
-use Rattle.{c104_lean.specs.Runs.IsSharedRun, c104_run.specs.NetRecords.{IsNetRecord, NetRecord}}
-use Rattle.{c104_storm.specs.Workers.{AreDoneBy, Team}, c104_workers.specs.Calls.SeatView}
+use Rattle.c104_workers.specs.Calls.{SeatView}
 use Rattle.std.specs.{Io.KnownBytes.Appends, Prelude.{Bool, Err, List, None, Ok, Option, Result, Some, ℕ, ◌++◌, ◌≡◌, ◌⊎◌}}
 
 -- a storm by such a team may end with a text, and be refused or not, which its workers began with this network: they left one to

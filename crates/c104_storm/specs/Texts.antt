@@ -1,7 +1,7 @@
 -- What a storm prints at its end.
-use Rattle.{c104_event.specs.EventFaults.{event_fault_name, event_fault_number}}
-use Rattle.{c104_event.specs.declared.faults.EventFault.EventFault, c104_node.specs.declared.origins.Origin.Origin}
-use Rattle.{c104_plan.specs.{Plans.Plan, PortTexts.terminal_name}, c104_token.specs.{Text.packet_text, declared.packets.Packet.Packet}}
+use Rattle.c104_event.specs.{EventFaults.{event_fault_name, event_fault_number}, declared.faults.EventFault.EventFault}
+use Rattle.{c104_node.specs.declared.origins.Origin.Origin, c104_plan.specs.{Plans.Plan, PortTexts.terminal_name}}
+use Rattle.c104_token.specs.{Text.packet_text, declared.packets.Packet.Packet}
 use Rattle.std.specs.{Fmt.decimal, Prelude.{List, [], codes, ℕ, ◌++◌}}
 
 -- the line of a storm whose tokens go nowhere

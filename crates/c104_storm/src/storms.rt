@@ -2,10 +2,9 @@
 //!
 //! Its network is loaded, as a run's is: that this comes to the network placed with the image is proved of the load.
 ghost use Rattle.std.specs.Prelude.{length, ◌≡◌, ◌≤◌};
-ghost use Rattle.c104_plan.specs.{PlanImage.{Fits, Image as TheImage}, Plans.Plan as ThePlan};
-ghost use Rattle.c104_storm.specs.{Packets.WritesSentPackets, Sends.{new_sending, send_outcome}, Storms.{StormsOn, StormsPlan}};
-ghost use Rattle.c104_storm.specs.Workers.{team_of};
-ghost use Rattle.{c104_lean.specs.{Seats.AreSeatsOf, Shared.record_of}, c104_stream.specs.Scripts.AnswersScript};
+ghost use Rattle.{c104_lean.specs.{Seats.AreSeatsOf, Shared.record_of}, c104_plan.specs.PlanImage.{Fits, Image as TheImage}};
+ghost use Rattle.{c104_plan.specs.Plans.Plan as ThePlan, c104_storm.specs.{Packets.WritesSentPackets, Sends.{new_sending, send_outcome}}};
+ghost use Rattle.{c104_storm.specs.{Storms.{StormsOn, StormsPlan}, Workers.team_of}, c104_stream.specs.Scripts.AnswersScript};
 ghost use Rattle.c104_workers.specs.Fabrics.{first_seats};
 
 use crate::allowance::Allowance;
@@ -189,6 +188,8 @@ fn storm_shared<N: Sharing + Send + Sync, R: Threads + Wait + Sync, W: Write, M:
     let list = seats.as_mut_slice();
     let worked = work(alloc, rt, &shared, list, words, allowance, messages);
     let net = shared.close(seats);
+    // The proof reads here what every network with its record keeps.
+    let _plan = net.told_plan();
     // The proof reads here what every network with its record keeps.
     let _plan = net.told_plan();
     let written = write_end(alloc, &net, sent, worked, writer);
