@@ -1,63 +1,25 @@
 -- What workers do are events of rounds: they send nothing, and set nothing.
-use Rattle.{c104_audit.specs.declared.calls.Call.Call, c104_event.specs.declared.events.Event.Event, c104_net.specs.RoundEvents.IsOfRound}
-use Rattle.c104_plan.{proofs.RangeLists.{all_of_each, each_append}, specs.{Plans.Plan, declared.ports.Port.Port}}
-use Rattle.c104_run.specs.{EventPlaces.event_place, NodeParts.round_part, Rounds.{all_claims, all_drains, claims_of, link_numbers, round}}
-use Rattle.{c104_run.specs.Rounds.{switch_claims, turn_at, wired_ports}, c104_storm.specs.Workers.{AreDoneBy, Team}}
-use Rattle.{c104_tickets.specs.{Tickets.Each, declared.views.Done.Done}, c104_workers.specs.{Calls.SeatView, Logs.{call_if, calls_in}}}
-use Rattle.{c104_workers.specs.{Words.with_word, Working.IsOwnEvent, declared.words.Words.Words}, std.proofs.Common.{Bool, Contains, List}}
-use Rattle.std.proofs.Common.{[], arith, false, flat_map, length, map, nat_eq, slice_index_or, subst, suc, sym, true, zero, ℕ, ◌++◌, ◌<◌}
+use Rattle.{c104_audit.specs.declared.calls.Call.Call, c104_deadlock.proofs.RoundMembers.each_of_round}
+use Rattle.{c104_event.specs.declared.events.Event.Event, c104_net.specs.RoundEvents.IsOfRound, c104_plan.proofs.RangeLists.all_of_each}
+use Rattle.{c104_plan.specs.Plans.Plan, c104_run.specs.{EventPlaces.event_place, NodeParts.round_part, Rounds.round}}
+use Rattle.{c104_storm.specs.Workers.{AreDoneBy, Team}, c104_tickets.specs.{Tickets.Each, declared.views.Done.Done}}
+use Rattle.c104_workers.specs.{Calls.SeatView, Logs.{call_if, calls_in}, Words.with_word, Working.IsOwnEvent, declared.words.Words.Words}
+use Rattle.std.proofs.Common.{Bool, Contains, List, [], arith, false, length, nat_eq, slice_index_or, subst, suc, sym, true, zero, ℕ, ◌<◌}
 use Rattle.std.proofs.{Common.{◌∷◌, ◌≡◌}, lemmas.{Bool.Decides.nat_tests, List.Elements.{All-contains, All-filter, recursion_from_All}}}
-use Rattle.std.specs.List.{AllByRecursion, range_with_len}
+use Rattle.std.specs.List.{AllByRecursion}
 
--- the events of a round
-
-abbrev AreOfRound : List Event → Type 0
-AreOfRound events = AllByRecursion IsOfRound events
-
-each_of : {X : Type 0} (f : X → Event) → ((x : X) → IsOfRound (f x)) → (xs : List X) → AreOfRound (map f xs)
-each_of f of [] = tt
-each_of f of (x ∷ xs) = (of x, each_of f of xs)
-
-all_of : {X : Type 0} (f : X → List Event) → ((x : X) → AreOfRound (f x)) → (xs : List X) → AreOfRound (flat_map f xs)
-all_of f of [] = tt
-all_of f of (x ∷ xs) = each_append IsOfRound (f x) (flat_map f xs) (of x) (all_of f of xs)
-
-turn_of : (p : Port) → AreOfRound (turn_at p)
-turn_of (Port.Switch s l) = (tt, tt)
-turn_of (Port.Terminal t) = tt
-
-round_of : (plan : Plan) → AreOfRound (round plan)
-round_of plan =
-    let a : List Event = map Event.Credit (wired_ports plan) in
-    let b : List Event = map Event.Cross (wired_ports plan) in
-    let c : List Event = flat_map turn_at (wired_ports plan) in
-    let d : List Event = all_claims (length plan.switches) in
-    let e : List Event = all_drains (length plan.terminals) in
-    let ab = each_append IsOfRound a b (each_of Event.Credit (λ p. tt) (wired_ports plan))
-    (each_of Event.Cross (λ p. tt) (wired_ports plan)) in
-    let abc = each_append IsOfRound (a ++ b) c ab (all_of turn_at turn_of (wired_ports plan)) in
-    let claims : AreOfRound d = all_of switch_claims
-    (λ s. all_of (claims_of s) (λ i. each_of (Event.Claim s i) (λ o. tt) link_numbers) link_numbers)
-    (range_with_len 0 (length plan.switches)) in
-    let abcd = each_append IsOfRound ((a ++ b) ++ c) d abc claims in
-    each_append IsOfRound (((a ++ b) ++ c) ++ d) e abcd (each_of Event.Drain (λ t. tt) (range_with_len 0 (length plan.terminals)))
-
--- so those of a worker
-
+-- each event of a round is such a one, and stays so with another word
 part_of : (plan : Plan) (k : ℕ) (e : Event) → Contains (round_part plan k) e → IsOfRound e
 part_of plan k e has =
+    let all : AllByRecursion IsOfRound (round plan) =
+    each_of_round plan IsOfRound (λ p q wire. tt) (λ p q wire. tt) (λ s l q wire. tt) (λ s i o inside input output. tt) (λ t inside. tt) in
     All-contains IsOfRound (round_part plan k) e
-    (All-filter (λ x. nat_eq (event_place plan x) k) IsOfRound (round plan) (all_of_each IsOfRound (round plan) (round_of plan))) has
+    (All-filter (λ x. nat_eq (event_place plan x) k) IsOfRound (round plan) (all_of_each IsOfRound (round plan) all)) has
 
 worded_of : (w : ℕ) (e : Event) → IsOfRound e → IsOfRound (with_word w e)
-worded_of w (Event.Cross port) of = tt
-worded_of w (Event.Credit port) of = tt
-worded_of w (Event.Input switch link word) of = tt
-worded_of w (Event.Claim switch input output) of = tt
-worded_of w (Event.Control switch bytes) of = of
-worded_of w (Event.Send terminal packet) of = of
-worded_of w (Event.Drain terminal) of = tt
+worded_of w e of = search arith
 
+-- so is what a worker does
 own_of : (plan : Plan) (words : Words) (n i : ℕ) (e : Event) → IsOwnEvent plan words n i e → IsOfRound e
 own_of plan words n i e own =
     subst IsOfRound (sym own.is) (worded_of _ own.event (part_of plan own.part.node own.event own.part.part))
