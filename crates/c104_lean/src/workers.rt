@@ -111,19 +111,19 @@ impl<R: Wait, N: Sharing> Worker<'_, R, N> {
         ensures stops { IfErr result (IsStop self.now.shared.now.before.plan self.now.words self.now.count self.now.number) }
     {
         let mut ready = Vec::new(alloc);
-        let mut idle = 0;
+        let mut idle_left = IDLE_TURNS;
         for _turn in 0..turns {
+            if idle_left == 0 {
+                break;
+            }
             let done = seat.count();
             self.do_turn(seat, &mut ready)?;
-            if seat.count() != done {
-                idle = 0;
-                continue;
-            }
-            // What it waits for is with a worker that may not be running.
-            yield_now();
-            idle += 1;
-            if idle >= IDLE_TURNS {
-                return Ok(());
+            if seat.count() == done {
+                // What it waits for is with a worker that may not be running.
+                yield_now();
+                idle_left -= 1;
+            } else {
+                idle_left = IDLE_TURNS;
             }
         }
         Ok(())
