@@ -190,8 +190,6 @@ fn storm_shared<N: Sharing + Send + Sync, R: Threads + Wait + Sync, W: Write, M:
     let net = shared.close(seats);
     // The proof reads here what every network with its record keeps.
     let _plan = net.told_plan();
-    // The proof reads here what every network with its record keeps.
-    let _plan = net.told_plan();
     let written = write_end(alloc, &net, sent, worked, writer);
     if written.is_ok() {
         explain_end(alloc, &net, sent, worked, messages);
