@@ -45,7 +45,7 @@ sends_bytes routes (Event.Control s bytes) r calm = tt
 sends_bytes routes (Event.Send t p) r calm = calm.0
 sends_bytes routes (Event.Drain t) r calm = tt
 
-abbrev AreCalm : Routes → List (Event × Reply) → Type 0
+abbrev pub AreCalm : Routes → List (Event × Reply) → Type 0
 AreCalm routes events = AllByRecursion (λ (e : Event × Reply). IsCalmDone routes e.0 e.1) events
 
 unchanged_all : (routes : Routes) (events : List (Event × Reply)) → AreCalm routes events → IsUnchanged routes events
@@ -58,7 +58,7 @@ bytes_all routes (e ∷ events) each = (sends_bytes routes e.0 e.1 each.0, bytes
 
 module _ (routes : Routes) (plan : Plan) (stamps : ℕ → Stamp) (starts : List NodeStart) (nodes : List (Node Token)) (traces : List (List Entry)) (count : ℕ) (events : List (Event × Reply)) (placed : AreInPlace {A = Token} plan (map start_node starts)) (calm : All (IsCalmTrace routes) traces) (told : IsRunRecord plain_kind plan stamps (map start_node starts) nodes traces count events) where
   -- the events of a run whose nodes did nothing that changes a register
-  calm_run : AreCalm routes events
+  pub calm_run : AreCalm routes events
   calm_run = all_events (IsCalmEntry routes) plan (λ (e : Event × Reply). IsCalmDone routes e.0 e.1) (was_calm routes plan) stamps (map start_node starts) nodes traces count events placed told (λ k trace at. All-place (IsCalmTrace routes) traces k trace at calm)
 
   pub unchanged : IsUnchanged routes events

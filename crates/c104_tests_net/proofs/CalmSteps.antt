@@ -1,16 +1,16 @@
 -- A network that nobody changed stays so by each event that leaves registers as they were, and by rounds.
 use Rattle.{c104_check.specs.Routes.{Routes, routes_of, settings_in}, c104_event.specs.declared.events.Event.Event}
-use Rattle.{c104_event.specs.declared.faults.EventFault.EventFault, c104_link.proofs.MadeSteps.All-place, c104_node.specs.Nodes.Node}
-use Rattle.c104_node.specs.{PortActs.{far_act, near_act}, Starts.start_of, Traces.{Deed, entry_of, kept_of, lone_deed, noted_all, noted_at}}
-use Rattle.c104_node.specs.{Traces.{noted_in, part, seatless}, declared.{acts.{ActOf.ActOf, Entry.Entry}, crossings.Crossing.Crossing}}
-use Rattle.{c104_node.specs.declared.{stamps.Stamp.Stamp, starts.NodeStart.NodeStart}, c104_plan.proofs.RangeLists.each_append}
-use Rattle.c104_plan.specs.{PlanImage.Image, Plans.Plan, Wiring.peer, declared.{plans.Terminal.Terminal, ports.Port.Port}}
-use Rattle.{c104_regs.specs.declared.settings.Settings.Settings, c104_run.{proofs.RecordedRuns.record_plan, specs.EventActs.crossing_acts}}
-use Rattle.c104_run.specs.{EventActs.port_place, EventDeeds.{acts_deeds, event_deeds}, EventRuns.{EventsEnd, Outcome, run_events}}
-use Rattle.c104_run.specs.{EventRuns.unless_fault, NetRecords.{IsNetRecord, NetRecord, fresh_record}, Network.network_apply}
-use Rattle.c104_run.specs.{Network.{placed_network, switch_nodes, terminal_nodes}, RecordedRuns.{AnswersRecord, RecordsRounds}}
-use Rattle.c104_run.specs.{RecordedRuns.{record_apply, record_stage}, Rounds.{all_claims, all_drains, claims_of, link_numbers, round}}
-use Rattle.c104_run.specs.{Rounds.{rounds, switch_claims, turn_at, wired_ports}, Stages.{stage_full, unless_full}}
+use Rattle.{c104_event.specs.declared.faults.EventFault.EventFault, c104_link.proofs.MadeSteps.All-place}
+use Rattle.{c104_net.specs.RoundEvents.IsOfRound, c104_node.specs.{Nodes.Node, PortActs.{far_act, near_act}, Starts.start_of, Traces.Deed}}
+use Rattle.c104_node.specs.{Traces.{entry_of, kept_of, lone_deed, noted_all, noted_at, noted_in, part, seatless}, declared.acts.ActOf.ActOf}
+use Rattle.c104_node.specs.declared.{acts.Entry.Entry, crossings.Crossing.Crossing, stamps.Stamp.Stamp, starts.NodeStart.NodeStart}
+use Rattle.c104_plan.{proofs.RangeLists.each_append, specs.{PlanImage.Image, Plans.Plan, Wiring.peer, declared.plans.Terminal.Terminal}}
+use Rattle.{c104_plan.specs.declared.ports.Port.Port, c104_regs.specs.declared.settings.Settings.Settings}
+use Rattle.c104_run.{proofs.RecordedRuns.record_plan, specs.{EventActs.{crossing_acts, port_place}, EventDeeds.{acts_deeds, event_deeds}}}
+use Rattle.c104_run.specs.{EventRuns.{EventsEnd, Outcome, run_events, unless_fault}, NetRecords.{IsNetRecord, NetRecord, fresh_record}}
+use Rattle.c104_run.specs.{Network.{network_apply, placed_network, switch_nodes, terminal_nodes}, RecordedRuns.AnswersRecord}
+use Rattle.c104_run.specs.{RecordedRuns.{RecordsRounds, record_apply, record_stage}, Rounds.{all_claims, all_drains, claims_of}}
+use Rattle.c104_run.specs.{Rounds.{link_numbers, round, rounds, switch_claims, turn_at, wired_ports}, Stages.{stage_full, unless_full}}
 use Rattle.c104_switch.specs.{Actions.{Reply, is_ready}, Starts.SwitchStart, declared.actions.{ActionOf.ActionOf, ReplyOf.ReplyOf}}
 use Rattle.c104_tests_net.specs.CalmNets.{IsCalm, IsCalmAct, IsCalmDone, IsCalmEntry, IsCalmEvent, IsCalmTrace, IsNotRandom}
 use Rattle.{c104_token.specs.{Kinds.plain_kind, declared.{packets.Packet.Packet, tokens.Token.Token}}, std.proofs.Common.{All, Bool, Err}}
@@ -27,7 +27,7 @@ module _ (routes : Routes) where
       by_trace None is = all
       by_trace (Some trace) is = All-set (IsCalmTrace routes) traces k (trace ++ e ∷ []) (All-append (IsCalmEntry routes) trace (e ∷ []) (All-place (IsCalmTrace routes) traces k trace is all) (All-cons (IsCalmEntry routes) e [] one (All-nil (IsCalmEntry routes)))) all
 
-  abbrev IsCalmDeed : Deed → Type 0
+  abbrev pub IsCalmDeed : Deed → Type 0
   IsCalmDeed d = IsCalmEntry routes d.1
 
   all_noted : (ds : List Deed) (traces : List (List Entry)) → AllByRecursion IsCalmDeed ds → All (IsCalmTrace routes) traces → All (IsCalmTrace routes) (noted_all true traces ds)
@@ -67,7 +67,7 @@ module _ (routes : Routes) (plan : Plan) (stamp : Stamp) where
       by_test true = (near_calm c p r, (far_calm q r ReplyOf.Done, tt))
       by_test false = tt
 
-  event_calm : (e : Event) (r : Reply) → IsCalmDone routes e r → AllByRecursion (IsCalmDeed routes) (event_deeds plan stamp e r)
+  pub event_calm : (e : Event) (r : Reply) → IsCalmDone routes e r → AllByRecursion (IsCalmDeed routes) (event_deeds plan stamp e r)
   event_calm (Event.Cross p) r may = joint_calm Crossing.Token p r (peer plan p)
   event_calm (Event.Credit p) r may = joint_calm Crossing.Grant p r (peer plan p)
   event_calm (Event.Input s l word) r may = lone_calm s (ActOf.Step (ActionOf.Input l word)) r tt
@@ -125,39 +125,53 @@ module _ (plan : Plan) (image : Image) where
         | inr short ↦ subst (IsCalm plan image) (ap (λ (r : Outcome NetRecord). r.1) short.stands) (run_kept short.front old (first_of short.front (short.event ∷ short.rest) (subst (AllByRecursion (IsCalmEvent net_routes)) short.parts each)) calm)
       ]
 
--- the events of rounds
+-- the events of rounds are of a kind that rounds have
+of_map : {X : Type 0} (f : X → Event) (xs : List X) → ((x : X) → IsOfRound (f x)) → AllByRecursion IsOfRound (map f xs)
+of_map f [] each = tt
+of_map f (x ∷ xs) each = (each x, of_map f xs each)
+
+of_flat : {X : Type 0} (f : X → List Event) (xs : List X) → ((x : X) → AllByRecursion IsOfRound (f x)) → AllByRecursion IsOfRound (flat_map f xs)
+of_flat f [] each = tt
+of_flat f (x ∷ xs) each = each_append IsOfRound (f x) (flat_map f xs) (each x) (of_flat f xs each)
+
+turn_of : (p : Port) → AllByRecursion IsOfRound (turn_at p)
+turn_of (Port.Switch s l) = (tt, tt)
+turn_of (Port.Terminal t) = tt
+
+pub round_of : (plan : Plan) → AllByRecursion IsOfRound (round plan)
+round_of plan =
+    let ports : List Port = wired_ports plan in
+    let drains : AllByRecursion IsOfRound (all_drains (length plan.terminals)) = of_map Event.Drain (range_with_len 0 (length plan.terminals)) (λ t. tt) in
+    let claims : AllByRecursion IsOfRound (all_claims (length plan.switches)) = of_flat switch_claims (range_with_len 0 (length plan.switches)) (λ s. of_flat (claims_of s) link_numbers (λ i. of_map (Event.Claim s i) link_numbers (λ o. tt))) in
+    let turns : AllByRecursion IsOfRound (flat_map turn_at ports) = of_flat turn_at ports turn_of in
+    let credits : AllByRecursion IsOfRound (map Event.Credit ports) = of_map Event.Credit ports (λ p. tt) in
+    let crossings : AllByRecursion IsOfRound (map Event.Cross ports) = of_map Event.Cross ports (λ p. tt) in
+    let moved = each_append IsOfRound (map Event.Credit ports) (map Event.Cross ports) credits crossings in
+    let turned = each_append IsOfRound (map Event.Credit ports ++ map Event.Cross ports) (flat_map turn_at ports) moved turns in
+    let claimed = each_append IsOfRound ((map Event.Credit ports ++ map Event.Cross ports) ++ flat_map turn_at ports) (all_claims (length plan.switches)) turned claims in
+    each_append IsOfRound (((map Event.Credit ports ++ map Event.Cross ports) ++ flat_map turn_at ports) ++ all_claims (length plan.switches)) (all_drains (length plan.terminals)) claimed drains
+
+rounds_of : (plan : Plan) (n : ℕ) → AllByRecursion IsOfRound (rounds plan n)
+rounds_of plan zero = tt
+rounds_of plan (suc n) = each_append IsOfRound (round plan) (rounds plan n) (round_of plan) (rounds_of plan n)
+
+-- and so they change no network
 module _ (routes : Routes) where
-  of_map : {X : Type 0} (f : X → Event) (xs : List X) → ((x : X) → IsCalmEvent routes (f x)) → AllByRecursion (IsCalmEvent routes) (map f xs)
-  of_map f [] each = tt
-  of_map f (x ∷ xs) each = (each x, of_map f xs each)
+  pub calm_of : (e : Event) → IsOfRound e → IsCalmEvent routes e
+  calm_of (Event.Cross p) of = λ r. tt
+  calm_of (Event.Credit p) of = λ r. tt
+  calm_of (Event.Input s l word) of = λ r. tt
+  calm_of (Event.Claim s i o) of = λ r. tt
+  calm_of (Event.Control s bytes) of = absurd of
+  calm_of (Event.Send t p) of = absurd of
+  calm_of (Event.Drain t) of = λ r. tt
 
-  of_flat : {X : Type 0} (f : X → List Event) (xs : List X) → ((x : X) → AllByRecursion (IsCalmEvent routes) (f x)) → AllByRecursion (IsCalmEvent routes) (flat_map f xs)
-  of_flat f [] each = tt
-  of_flat f (x ∷ xs) each = each_append (IsCalmEvent routes) (f x) (flat_map f xs) (each x) (of_flat f xs each)
-
-  turn_calm : (p : Port) → AllByRecursion (IsCalmEvent routes) (turn_at p)
-  turn_calm (Port.Switch s l) = (λ r. tt, tt)
-  turn_calm (Port.Terminal t) = tt
-
-  round_calm : (plan : Plan) → AllByRecursion (IsCalmEvent routes) (round plan)
-  round_calm plan =
-      let ports : List Port = wired_ports plan in
-      let drains : AllByRecursion (IsCalmEvent routes) (all_drains (length plan.terminals)) = of_map Event.Drain (range_with_len 0 (length plan.terminals)) (λ t r. tt) in
-      let claims : AllByRecursion (IsCalmEvent routes) (all_claims (length plan.switches)) = of_flat switch_claims (range_with_len 0 (length plan.switches)) (λ s. of_flat (claims_of s) link_numbers (λ i. of_map (Event.Claim s i) link_numbers (λ o r. tt))) in
-      let turns : AllByRecursion (IsCalmEvent routes) (flat_map turn_at ports) = of_flat turn_at ports turn_calm in
-      let credits : AllByRecursion (IsCalmEvent routes) (map Event.Credit ports) = of_map Event.Credit ports (λ p r. tt) in
-      let crossings : AllByRecursion (IsCalmEvent routes) (map Event.Cross ports) = of_map Event.Cross ports (λ p r. tt) in
-      let moved = each_append (IsCalmEvent routes) (map Event.Credit ports) (map Event.Cross ports) credits crossings in
-      let turned = each_append (IsCalmEvent routes) (map Event.Credit ports ++ map Event.Cross ports) (flat_map turn_at ports) moved turns in
-      let claimed = each_append (IsCalmEvent routes) ((map Event.Credit ports ++ map Event.Cross ports) ++ flat_map turn_at ports) (all_claims (length plan.switches)) turned claims in
-      each_append (IsCalmEvent routes) (((map Event.Credit ports ++ map Event.Cross ports) ++ flat_map turn_at ports) ++ all_claims (length plan.switches)) (all_drains (length plan.terminals)) claimed drains
-
-  rounds_calm : (plan : Plan) (n : ℕ) → AllByRecursion (IsCalmEvent routes) (rounds plan n)
-  rounds_calm plan zero = tt
-  rounds_calm plan (suc n) = each_append (IsCalmEvent routes) (round plan) (rounds plan n) (round_calm plan) (rounds_calm plan n)
+  all_calm : (events : List Event) → AllByRecursion IsOfRound events → AllByRecursion (IsCalmEvent routes) events
+  all_calm [] each = tt
+  all_calm (e ∷ events) each = (calm_of e each.0, all_calm events each.1)
 
 pub rounds_kept : (plan : Plan) (image : Image) (old new : NetRecord) (n : ℕ) (result : Result (Unit {0}) EventFault) → RecordsRounds old n result new → IsCalm plan image old → IsCalm plan image new
-rounds_kept plan image old new n result ends calm = events_kept plan image old new (rounds old.network.plan n) result (rounds_calm (routes_of plan image) old.network.plan n) ends calm
+rounds_kept plan image old new n result ends calm = events_kept plan image old new (rounds old.network.plan n) result (all_calm (routes_of plan image) (rounds old.network.plan n) (rounds_of old.network.plan n)) ends calm
 
 -- a network that was placed
 no_switch : (cap : ℕ) (terminals : List Terminal) (k : ℕ) (s : SwitchStart) → slice_get (map (start_of {A = Token}) (terminal_nodes cap terminals)) k ≡ Some (NodeStart.Switch s) → ⊥

@@ -56,32 +56,51 @@ module _ (image : Image) (run : FinishedRecord) (lists : List (List Origin)) (ac
       promised.once t u i j x.0 y.0 x.1 y.1 d e (ap (λ (z : Origin). z.terminal) same) (ap (λ (z : Origin). z.number) same)
 
 -- the same of a network that is finished, as the lists are given back
-module _ (image : Image) (net : NetRecord) (lists : List (Kept Origin)) (accepted : IsAccepted (routes_of net.network.plan image)) (starts : AreStartsOf net.network.plan image net.starts) (calm : All (IsCalmTrace (routes_of net.network.plan image)) net.traces) (quiet : IsQuiet net.network) (kept : IsNetRecord net) (law : TellsEachRun (record_finish net)) (are : AreOrigins (record_finish net) (map (λ (l : Kept Origin). l.items) lists)) where
+module _ (image : Image) (net : NetRecord) (lists : List (Kept Origin)) (accepted : IsAccepted (routes_of net.network.plan image)) (starts : AreStartsOf net.network.plan image net.starts) (calm : All (IsCalmTrace (routes_of net.network.plan image)) net.traces) (stamps : ℕ → Stamp) (events : List (Event × Reply)) (told : IsRunRecord plain_kind net.network.plan stamps (map start_node net.starts) net.network.nodes net.traces net.count events) (law : TellsEachRun (record_finish net)) (are : AreOrigins (record_finish net) (map (λ (l : Kept Origin). l.items) lists)) where
   same_end : net.network ≡ network_of net.network.plan are.nodes
-  same_end = (same_run image (record_finish net) (map (λ (l : Kept Origin). l.items) lists) accepted starts calm law seatless kept.told.0 net.network.nodes kept.told.1 are).1
+  same_end = (same_run image (record_finish net) (map (λ (l : Kept Origin). l.items) lists) accepted starts calm law stamps events net.network.nodes told are).1
 
-  found_there : (a n t : ℕ) (p : Packet) → t < length net.network.plan.terminals → slice_get (sent_at net.network a) n ≡ Some p → has_header (routes_of net.network.plan image) p ≡ true → owner (routes_of net.network.plan image) (header_of (routes_of net.network.plan image) p) ≡ Some t → (k : ℕ) × IsListed lists t k (record { terminal = a; number = n })
-  found_there a n t p inside sent whole owned =
-      let met = are.found image accepted starts (still image (record_finish net) (map (λ (l : Kept Origin). l.items) lists) accepted starts calm law seatless kept.told.0 net.network.nodes kept.told.1 are) (subst (λ (n : Network Token). IsQuiet n) same_end quiet) a n t p (subst (λ (m : Network Token). slice_get (sent_at m a) n ≡ Some p) same_end sent) whole owned in
+  found_there : IsQuiet net.network → (a n t : ℕ) (p : Packet) → t < length net.network.plan.terminals → slice_get (sent_at net.network a) n ≡ Some p → has_header (routes_of net.network.plan image) p ≡ true → owner (routes_of net.network.plan image) (header_of (routes_of net.network.plan image) p) ≡ Some t → (k : ℕ) × IsListed lists t k (record { terminal = a; number = n })
+  found_there quiet a n t p inside sent whole owned =
+      let met = are.found image accepted starts (still image (record_finish net) (map (λ (l : Kept Origin). l.items) lists) accepted starts calm law stamps events net.network.nodes told are) (subst (λ (n : Network Token). IsQuiet n) same_end quiet) a n t p (subst (λ (m : Network Token). slice_get (sent_at m a) n ≡ Some p) same_end sent) whole owned in
       let there = listed_there lists t (origins_in (arrived_at (traced_end (record_finish net)) t)) (are.each t inside) in
       (met.0, (there.0, there.1, ap (λ os. slice_get os met.0) there.2 ∙ met.1))
 
   once_there : (t u i j : ℕ) (o : Origin) → IsListed lists t i o → IsListed lists u j o → (t ≡ u) × (i ≡ j)
   once_there t u i j o one two =
-      once_here image (record_finish net) (map (λ (l : Kept Origin). l.items) lists) accepted starts calm law seatless kept.told.0 net.network.nodes kept.told.1 are t u i j one.0.items two.0.items o
+      once_here image (record_finish net) (map (λ (l : Kept Origin). l.items) lists) accepted starts calm law stamps events net.network.nodes told are t u i j one.0.items two.0.items o
       (slice_get-map (λ (l : Kept Origin). l.items) lists t ∙ ap (option_map (λ (l : Kept Origin). l.items)) one.1) one.2
       (slice_get-map (λ (l : Kept Origin). l.items) lists u ∙ ap (option_map (λ (l : Kept Origin). l.items)) two.1) two.2
 
-  found_once : AreFoundOnce (routes_of net.network.plan image) net.network lists
-  found_once = record { found = found_there; once = once_there }
+  found_once : IsQuiet net.network → AreFoundOnce (routes_of net.network.plan image) net.network lists
+  found_once quiet = record { found = found_there quiet; once = once_there }
 
-found_lists : (plan : Plan) (image : Image) (net : NetRecord) (run : FinishedRecord) (lists : List (Kept Origin)) → IsAccepted (routes_of plan image) → IsCalm plan image net → IsQuiet net.network → IsNetRecord net → run ≡ record_finish net → TellsEachRun run → AreOrigins run (map (λ (list : Kept Origin). list.items) lists) → AreFoundOnce (routes_of plan image) net.network lists
-found_lists plan image net run lists accepted calm quiet kept is law are =
-    subst (λ p. AreFoundOnce (routes_of p image) net.network lists) calm.same_plan
-    (found_once image net lists (subst (λ p. IsAccepted (routes_of p image)) (sym calm.same_plan) accepted) (subst (λ p. AreStartsOf p image net.starts) (sym calm.same_plan) calm.starts) (subst (λ p. All (IsCalmTrace (routes_of p image)) net.traces) (sym calm.same_plan) calm.traces) quiet kept
-    (subst TellsEachRun is law) (subst (λ (r : FinishedRecord). AreOrigins r (map (λ (l : Kept Origin). l.items) lists)) is are))
+-- of a plan, and of the run that is finished
+module _ (plan : Plan) (image : Image) (net : NetRecord) (run : FinishedRecord) (lists : List (Kept Origin)) (accepted : IsAccepted (routes_of plan image)) (calm : IsCalm plan image net) (stamps : ℕ → Stamp) (events : List (Event × Reply)) (told : IsRunRecord plain_kind net.network.plan stamps (map start_node net.starts) net.network.nodes net.traces net.count events) (is : run ≡ record_finish net) (law : TellsEachRun run) (are : AreOrigins run (map (λ (list : Kept Origin). list.items) lists)) where
+  accepted_there : IsAccepted (routes_of net.network.plan image)
+  accepted_there = subst (λ p. IsAccepted (routes_of p image)) (sym calm.same_plan) accepted
+
+  started_there : AreStartsOf net.network.plan image net.starts
+  started_there = subst (λ p. AreStartsOf p image net.starts) (sym calm.same_plan) calm.starts
+
+  calm_there : All (IsCalmTrace (routes_of net.network.plan image)) net.traces
+  calm_there = subst (λ p. All (IsCalmTrace (routes_of p image)) net.traces) (sym calm.same_plan) calm.traces
+
+  law_there : TellsEachRun (record_finish net)
+  law_there = subst TellsEachRun is law
+
+  origins_there : AreOrigins (record_finish net) (map (λ (l : Kept Origin). l.items) lists)
+  origins_there = subst (λ (r : FinishedRecord). AreOrigins r (map (λ (l : Kept Origin). l.items) lists)) is are
+
+  pub found_lists : IsQuiet net.network → AreFoundOnce (routes_of plan image) net.network lists
+  found_lists quiet =
+      subst (λ p. AreFoundOnce (routes_of p image) net.network lists) calm.same_plan
+      (found_once image net lists accepted_there started_there calm_there stamps events told law_there origins_there quiet)
+
+  pub once_lists : (t u i j : ℕ) (o : Origin) → IsListed lists t i o → IsListed lists u j o → (t ≡ u) × (i ≡ j)
+  once_lists = once_there image net lists accepted_there started_there calm_there stamps events told law_there origins_there
 
 -- the same of the lists as they are given back, or of none
 pub found_result : {E : Type 0} (plan : Plan) (image : Image) (net : NetRecord) (run : FinishedRecord) (result : Result (Kept (Kept Origin)) E) → IsAccepted (routes_of plan image) → IsCalm plan image net → IsQuiet net.network → IsNetRecord net → run ≡ record_finish net → TellsEachRun run → IfOk result (λ (lists : Kept (Kept Origin)). AreOrigins run (map (λ (list : Kept Origin). list.items) lists.items)) → IfOk result (λ (lists : Kept (Kept Origin)). AreFoundOnce (routes_of plan image) net.network lists.items)
-found_result plan image net run (Ok lists) accepted calm quiet kept is law are = found_lists plan image net run lists.items accepted calm quiet kept is law are
+found_result plan image net run (Ok lists) accepted calm quiet kept is law are = found_lists plan image net run lists.items accepted calm seatless kept.told.0 kept.told.1 is law are quiet
 found_result plan image net run (Err e) accepted calm quiet kept is law are = tt

@@ -5,3 +5,5 @@ pub mod NotRandom
 pub mod DeliveredRuns
 pub mod FoundPackets
 pub mod PortCalls
+pub mod CalmSeats
+pub mod CalmLeft

@@ -1,3 +1,4 @@
 pub mod CalmNets
 pub mod DeliveredNets
 pub mod FoundPackets
+pub mod CalmFabrics

@@ -26,7 +26,7 @@ use std::alloc::Global;
 use std::test::Fail;
 
 /// A mesh of two columns and two rows, with a terminal at each switch.
-const MESH: &[u8] = b"mesh 2 2 1\n";
+pub const MESH: &[u8] = b"mesh 2 2 1\n";
 
 /// Four switches in a ring. Packets to the opposite switch go by B and C, those from A to D and back by their own wire.
 const RING: &[u8] = b"switch A\nswitch B\nswitch C\nswitch D\n\
@@ -320,7 +320,7 @@ fn stand_quiet(net: &Net, plan: &Plan, image: &Image, ranks: &Ranks) -> Result<b
 }
 
 /// Terminal 0 sends to terminals 1 and 3.
-fn send_two(alloc: Global, net: &mut Net) -> Result<(), Fail>
+pub fn send_two(alloc: Global, net: &mut Net) -> Result<(), Fail>
     ensures { (plan : ThePlan) → (image : TheImage) → IsNeverRandomized (routes_of plan image) →
         IsCalm plan image net.old → IsCalm plan image net.new }
 {

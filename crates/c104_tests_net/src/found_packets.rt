@@ -32,7 +32,7 @@ fn count_on_tree(alloc: Global, plan: &Plan, count: u32) -> Result<usize, Fail> 
 }
 
 /// How many packets a terminal received.
-fn count_at(lists: &[Vec<Origin>], terminal: usize) -> usize {
+pub fn count_at(lists: &[Vec<Origin>], terminal: usize) -> usize {
     match lists.get(terminal) {
         Some(list) => list.len(),
         None => 0,

@@ -2,10 +2,11 @@
 //! modules by what they test.
 //!
 //! `named_packets` cites the theorem about packets as a caller does, `found_packets` what it says of a network that is
-//! quiet at the end, `portals` the same where there are random headers, and `deadlock` the theorem about deadlock. What the
-//! audit answers is a contract of `audit_lists`; the modules of altered lists show that it sees each kind of change to the
-//! lists of real runs, and tells the first fault, `stopped` and `debuggers` that workers and a debugger leave one run wherever
-//! they stop.
+//! quiet at the end, `portals` the same where there are random headers, and `deadlock` the theorem about deadlock;
+//! `packets_by_threads` and `deadlock_by_threads` cite both of what worker threads did. What the audit answers is a
+//! contract of `audit_lists`; the modules of altered lists show that it sees each kind of change to the lists of real
+//! runs, and tells the first fault, `stopped` and `debuggers` that workers and a debugger leave one run wherever they
+//! stop.
 //!
 //! A crate with tests is proved twice, so the tests stand in crates of their own and the others have none. What
 //! a contract says needs no test. These show what no contract can: that a call which takes memory succeeds where
@@ -39,6 +40,8 @@ mod crossings;
 mod cycles;
 #[cfg(test)]
 mod deadlock;
+#[cfg(test)]
+mod deadlock_by_threads;
 #[cfg(test)]
 mod debuggers;
 #[cfg(test)]
@@ -77,6 +80,8 @@ mod node_parts;
 mod node_runs;
 #[cfg(test)]
 mod origins;
+#[cfg(test)]
+mod packets_by_threads;
 #[cfg(test)]
 mod plan_calls;
 #[cfg(test)]

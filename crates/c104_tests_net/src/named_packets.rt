@@ -252,7 +252,7 @@ pub fn named(
 }
 
 /// The origin at a place of a terminal's list.
-fn listed(lists: &[Vec<Origin>], terminal: usize, number: usize) -> Result<Origin, Fail>
+pub fn listed(lists: &[Vec<Origin>], terminal: usize, number: usize) -> Result<Origin, Fail>
     ensures { IfOk result (λ origin. IsListed lists.now terminal number origin) }
 {
     let Some(list) = lists.get(terminal) else {
