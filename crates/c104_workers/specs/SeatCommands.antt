@@ -1,9 +1,9 @@
 -- The control commands that were done through a seat.
 use Rattle.{c104_audit.specs.declared.calls.Call.Call, c104_event.specs.declared.{events.Event.Event, faults.EventFault.EventFault}}
 use Rattle.{c104_switch.specs.{Actions.Reply, declared.actions.ReplyOf.ReplyOf}, c104_tools.specs.{Outcomes.Given, Ports.command_asked}}
-use Rattle.{c104_tools.specs.declared.ports.Asked.Asked, c104_workers.specs.{Calls.{IsSameSeat, SeatView}, Fabrics.FabricView}}
-use Rattle.c104_workers.specs.SeatGrowth.{GrewBy}
-use Rattle.std.specs.Prelude.{Err, List, Ok, [], length, ℕ, ◌++◌, ◌<◌, ◌∷◌, ◌≡◌}
+use Rattle.{c104_tools.specs.declared.{faults.LoadFault.LoadFault, ports.Asked.Asked}, c104_workers.specs.Calls.{IsSameSeat, SeatView}}
+use Rattle.c104_workers.specs.{Fabrics.FabricView, SeatGrowth.GrewBy}
+use Rattle.std.specs.Prelude.{Err, List, MatchResult, Ok, [], length, ℕ, ◌++◌, ◌<◌, ◌∷◌, ◌≡◌}
 
 -- the command, with its reply, that a switch was asked by an event that was answered so; none of any other event
 abbrev pub told_command : Event → Reply → List Asked
@@ -29,9 +29,21 @@ abbrev pub IsOneCall : SeatView → SeatView → ℕ → List ℕ → Given → 
 IsOneCall old new switch bytes (Ok told) = GrewBy old new (Event.Control switch bytes) (ReplyOf.Control told)
 IsOneCall old new switch bytes (Err f) = new ≡ old
 
--- the same of a port to a fabric through a seat: it stays one to the same fabric
-pub record CommandCalled (fabric fabric' : FabricView) (seat seat' : SeatView) (switch : ℕ) (bytes : List ℕ) (given : Given)
+-- the same of a seat of a fabric: it stays the seat that it was, and no reply is given for such a fault alone
+pub record SeatCommanded (fabric : FabricView) (old : SeatView) (switch : ℕ) (bytes : List ℕ) (given : Given) (new : SeatView)
     : Type 0 where
-  pub fabric_same : fabric' ≡ fabric
-  pub seat_same : IsSameSeat seat seat'
-  pub called : IsOneCall seat seat' switch bytes given
+  pub same : IsSameSeat old new
+  pub called : IsOneCall old new switch bytes given
+  pub fault : MatchResult given (λ told. Unit {0}) (λ f. IsFabricUnanswered fabric switch f)
+
+-- it is the seat that it was, and its list grew
+pub record HasMoreCalls (old new : SeatView) : Type 0 where
+  pub same : IsSameSeat old new
+  pub more : List Call
+  pub listed : new.calls ≡ old.calls ++ more
+
+-- where a tool got no reply, it was for a command of a switch that the fabric has
+abbrev pub IsLeftUnanswered : FabricView → LoadFault → Type 0
+IsLeftUnanswered fabric (LoadFault.Port e) =
+    (switch : ℕ) × (switch < length fabric.handed.plan.switches) × IsFabricUnanswered fabric switch e
+IsLeftUnanswered fabric f = Unit {0}

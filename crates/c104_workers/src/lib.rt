@@ -7,7 +7,8 @@
 //!
 //! [`Fabric::apply_held`] does an event on nodes that are lent to it, and [`Fabric::apply`] takes their locks for it, the
 //! lower first. [`run_workers`] does rounds by several threads, each of which asks a [`Gate`] on its way, and hands
-//! [`Words`] to inputs. [`FabricPort`] takes control commands through a seat. [`Fabric::close`] ends a fabric and gives what
+//! [`Words`] to inputs. [`FabricPort`] takes control commands through a seat, and [`Fabric::load`] and [`Fabric::verify`]
+//! load an image so and compare it. [`Fabric::close`] ends a fabric and gives what
 //! it leaves, [`Gathered`]: the nodes, and the calls of each seat. [`Gathered::audit`] judges whether these are what one run
 //! leaves, in which the seats' calls stand and nothing else, and gives this run; [`audit_lists`] judges any [`Lists`] in the
 //! same way.
@@ -22,6 +23,7 @@ mod fabric;
 mod gates;
 mod held;
 mod lent_calls;
+mod loading;
 mod making;
 mod naming;
 mod parts;

@@ -25,7 +25,7 @@ pub struct FabricPort<'a, R: Wait, N: Naming> {
 
 impl<R: Wait, N: Naming> ControlPort for FabricPort<'_, R, N> {
     ghost use Rattle.std.specs.Prelude.{◌≡◌, None, length};
-    ghost use Rattle.c104_workers.specs.SeatCommands.{CommandCalled, IsFabricUnanswered, seat_commands};
+    ghost use Rattle.c104_workers.specs.SeatCommands.{IsFabricUnanswered, SeatCommanded, seat_commands};
 
     ghost commands = { λ p. seat_commands p.seat.now.0.calls };
 
@@ -37,8 +37,8 @@ impl<R: Wait, N: Naming> ControlPort for FabricPort<'_, R, N> {
 
     // It stays a port through the same reference, so that who lent the seat knows what became of it.
     ghost due = { λ p switch bytes given after.
-        (after.seat.ghost_name ≡ p.seat.ghost_name)
-        × CommandCalled p.fabric.now after.fabric.now p.seat.now.0 after.seat.now.0 switch bytes given };
+        (after.seat.ghost_name ≡ p.seat.ghost_name) × (after.fabric.now ≡ p.fabric.now)
+        × SeatCommanded p.fabric.now p.seat.now.0 switch bytes given after.seat.now.0 };
 
     fn switches(&self) -> usize {
         self.fabric.plan().switches().len()

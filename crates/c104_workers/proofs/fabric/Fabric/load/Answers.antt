@@ -1,0 +1,20 @@
+use Rattle.{c104_tools.specs.{Loads.load_list, Outcomes.{Outcome, any_value, nothing_made}}, c104_workers.proofs.PortRuns.left_here}
+use Rattle.c104_workers.{proofs.PortRuns.{same_or_not, tool_asked, tool_stays}, specs.{Calls.SeatView, SeatCommands.HasMoreCalls}}
+use Rattle.{c104_workers.specs.SeatCommands.SeatCommanded, std.proofs.Common.{ap, length, subst, sym, ℕ, ◌∙◌}}
+
+pub returns : Rattle.c104_workers.proofs.fabric.Fabric.load.Goals.returns
+returns g c =
+    let stays = tool_stays (λ p. p.seat.ghost_name) (λ p. p.fabric.now)
+    (λ p. p.seat.now.0) _ _ _ _ _ _ c.load.ensures.not_asked c.load.ensures.due
+    (same_or_not (length c.args.self.now.handed.plan.switches) (length c.args.image.now.settings)) in
+    let same = ap (λ (s : SeatView × ℕ). s.0) (c.seat-1.given.1 (sym stays.0)) in
+    record {
+      unfitting = c.load.ensures.unfitting;
+      not_asked = λ other. same ∙ ap (λ p. p.seat.now.0) (c.load.ensures.not_asked other);
+      asked = λ is. subst (λ s. Outcome (SeatCommanded c.args.self.now) any_value nothing_made c.args.seat.now.0
+          (load_list c.args.image.now.settings) c.load.result s) (sym same)
+          (tool_asked (λ p. p.seat.ghost_name) (λ p. p.fabric.now)
+          (λ p. p.seat.now.0) _ _ _ _ _ _ c.load.ensures.not_asked c.load.ensures.due is);
+      left = λ is. left_here (λ p. p.fabric.now) c.args.self.now _ is _ (c.load.ensures.left is);
+      grew = subst (HasMoreCalls c.args.seat.now.0) (sym same) stays.1;
+    }
