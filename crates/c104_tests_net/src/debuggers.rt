@@ -6,7 +6,7 @@ use crate::networks::{MESH, PLAN, busy_ready, fabric_of, is_run};
 use crate::plan_calls::{Maker, described};
 use c104_control::ControlBytes;
 use c104_plan::Image;
-use c104_tools::{ControlPort, load, read_link, read_table, verify, write_register};
+use c104_tools::{ControlPort, read_link, read_table, write_register};
 use c104_workers::{Fabric, FabricPort, Gate, Gathered, Naming, Ready, Seat, Words, run_workers};
 use std::alloc::Global;
 use std::marker::Brand;
@@ -136,8 +136,7 @@ fn is_loaded<N: Naming, R: Wait>(rt: &R, fabric: &Fabric<N>, seat: &mut Seat, im
     requires { seat.old.0.word_id ≡ fabric.now.word_id }
     ensures { seat.new.0.word_id ≡ fabric.now.word_id }
 {
-    let mut port = FabricPort { rt, fabric, seat };
-    load(&mut port, image).is_ok()
+    fabric.load(rt, seat, image).is_ok()
 }
 
 /// Whether the switches hold an image, by what a seat reads.
@@ -150,8 +149,7 @@ fn is_verified<N: Naming, R: Wait>(
     requires { seat.old.0.word_id ≡ fabric.now.word_id }
     ensures { seat.new.0.word_id ≡ fabric.now.word_id }
 {
-    let mut port = FabricPort { rt, fabric, seat };
-    verify(&mut port, image).is_ok()
+    fabric.verify(rt, seat, image).is_ok()
 }
 
 /// Whether a register is written through a seat: where the rows of a link begin that has no wire.

@@ -9,7 +9,7 @@ use c104_net::Net;
 use c104_plan::Image;
 use c104_switch::Reply;
 use c104_token::{Packet, Token};
-use c104_tools::{ControlPort, load, verify};
+use c104_tools::ControlPort;
 use c104_workers::{AuditFault, Fabric, FabricPort, Gathered, Naming, Ready, Seat};
 use std::alloc::Global;
 use std::marker::Brand;
@@ -319,8 +319,7 @@ fn load_by<N: Naming, R: Wait>(rt: &R, fabric: &Fabric<N>, seat: &mut Seat, imag
     requires { seat.old.0.word_id ≡ fabric.now.word_id }
     ensures { seat.new.0.word_id ≡ fabric.now.word_id }
 {
-    let mut port = FabricPort { rt, fabric, seat };
-    load(&mut port, image).is_ok()
+    fabric.load(rt, seat, image).is_ok()
 }
 
 /// Whether the switches hold an image, by what a seat reads.
@@ -328,6 +327,5 @@ fn verify_by<N: Naming, R: Wait>(rt: &R, fabric: &Fabric<N>, seat: &mut Seat, im
     requires { seat.old.0.word_id ≡ fabric.now.word_id }
     ensures { seat.new.0.word_id ≡ fabric.now.word_id }
 {
-    let mut port = FabricPort { rt, fabric, seat };
-    verify(&mut port, image).is_ok()
+    fabric.verify(rt, seat, image).is_ok()
 }
