@@ -31,8 +31,8 @@ enum Tool {
 
 /// Each tool, by its name, and a command by itself.
 const TOOLS: [(&str, Tool); 6] = [
-    ("load", Tool::Load),
-    ("verify", Tool::Verify),
+    ("load, Fabric::load", Tool::Load),
+    ("verify, Fabric::verify", Tool::Verify),
     ("write_register", Tool::Write),
     ("read_link", Tool::ReadLink),
     ("read_table", Tool::ReadTable),
@@ -79,8 +79,7 @@ fn loaded<N: Naming, R: Wait>(rt: &R, fabric: &Fabric<N>, seat: &mut Seat, image
     requires { seat.old.0.word_id ≡ fabric.now.word_id }
     ensures { seat.new.0.word_id ≡ fabric.now.word_id }
 {
-    let mut port = FabricPort { rt, fabric, seat };
-    Outcome::of(load(&mut port, image))
+    Outcome::of(fabric.load(rt, seat, image))
 }
 
 /// The same of an image that is compared.
@@ -93,8 +92,7 @@ fn verified<N: Naming, R: Wait>(
     requires { seat.old.0.word_id ≡ fabric.now.word_id }
     ensures { seat.new.0.word_id ≡ fabric.now.word_id }
 {
-    let mut port = FabricPort { rt, fabric, seat };
-    Outcome::of(verify(&mut port, image))
+    Outcome::of(fabric.verify(rt, seat, image))
 }
 
 /// The same of a register that is written.

@@ -7,6 +7,6 @@ returns g c =
     (λ p. (refl, same_self p.seat.now.0))
     (λ p q r first second.
     (second.0 ∙ first.0, same_on p.seat.now.0 q.seat.now.0 r.seat.now.0 first.1 second.1))
-    (λ p q s bytes given called. (called.0, called.1.seat_same)) _ _ _ _ _ _ _ _
+    (λ p q s bytes given called. (called.0, called.2.same)) _ _ _ _ _ _ _ _
     c.read_link.ensures.not_asked c.read_link.ensures.due in
     ap (λ (s : SeatView × ℕ). s.0.word_id) (c.seat-1.given.1 (sym kept.0)) ∙ kept.1.word_id ∙ c.requires
