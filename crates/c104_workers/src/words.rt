@@ -14,7 +14,8 @@ pub enum Words {
     /// 0 to each, as in a round: so the first random header is picked.
     Zero,
     /// Words of the generator with this seed, SplitMix64: the worker of number i, behind n events that were done through its
-    /// seat, hands the upper half of word 1,048,576 * i + n. A seat has at most that many, so no word is handed twice.
+    /// seat, hands the upper half of word 1,048,576 * i + n. A `Seat` has at most that many calls, so through such seats no
+    /// word is handed twice.
     Seeded(u64),
 }
 
