@@ -1,13 +1,11 @@
 -- Draws of tickets by a seat that has the passes of the places of an event's nodes.
-use Rattle.{c104_event.specs.declared.events.Event.Event, c104_lean.specs.{Nodes.{alone_deed, both_deed}, Seats.{IsCountedSeat, first_done}}}
-use Rattle.c104_node.specs.Tagged.{TaggedToken}
-use Rattle.c104_switch.specs.declared.actions.ReplyOf.{ReplyOf}
-use Rattle.c104_audit.specs.{Calls.tickets_of, declared.calls.Call.Call}
-use Rattle.c104_tickets.specs.{Tickets.{AreEarlier, Each, belongs, kept_if, track_after}, declared.TheConstants.TICKET_LIMIT}
-use Rattle.c104_tickets.specs.declared.views.{Deed.Deed, Done.Done, Name.Name, Track.Track, View.View}
-use Rattle.c104_workers.specs.{Calls.{IsOwn, SeatView, done_call, place_track, seat_track}, LentCalls.IsFresh}
-use Rattle.std.proofs.Common.{All, Bool, List, [], ap, arith, cond, false, length, map, refl, subst, suc, sym, true, ℕ, ◌++◌, ◌+◌, ◌<◌}
-use Rattle.std.proofs.Common.{◌==◌, ◌∙◌, ◌∷◌, ◌≡◌, ◌≤◌}
+use Rattle.{c104_audit.specs.{Calls.tickets_of, declared.calls.Call.Call}, c104_event.specs.declared.events.Event.Event}
+use Rattle.{c104_lean.specs.{Nodes.{alone_deed, both_deed}, Seats.{IsCountedSeat, first_done}}, c104_node.specs.Tagged.TaggedToken}
+use Rattle.{c104_switch.specs.declared.actions.ReplyOf.ReplyOf, c104_tickets.specs.Tickets.{AreEarlier, Each, belongs, kept_if}}
+use Rattle.c104_tickets.specs.{Tickets.track_after, declared.{TheConstants.TICKET_LIMIT, views.{Deed.Deed, Done.Done, Name.Name}}}
+use Rattle.{c104_tickets.specs.declared.views.{Track.Track, View.View}, c104_workers.specs.Calls.{IsOwn, SeatView, done_call, place_track}}
+use Rattle.{c104_workers.specs.{Calls.seat_track, LentCalls.IsFresh}, std.proofs.Common.{All, Bool, List, [], ap, arith, cond, false}}
+use Rattle.std.proofs.Common.{length, map, refl, subst, suc, sym, true, ℕ, ◌++◌, ◌+◌, ◌<◌, ◌==◌, ◌∙◌, ◌∷◌, ◌≡◌, ◌≤◌}
 use Rattle.std.proofs.lemmas.{Bool.Decides.nat_tests, List.{Elements.{All-cons, All-nil}, length-append}}
 
 same_number : (n : ℕ) → (n == n) ≡ true

@@ -1,17 +1,15 @@
 -- A held node after an act: it did what the track of its place tells.
-use Rattle.c104_event.specs.declared.events.Event.{Event}
-use Rattle.c104_lean.{proofs.Draws.done_at, specs.Nodes.{AsksBoth, AsksNode, IsHeld, alone_deed, both_deed}}
-use Rattle.c104_lean.specs.{OwnRuns.{DoesAct, DoesOwn, IsDoneHere, OwnAct, OwnRun, own, own_act, told, told_by, told_number, told_terminal}, Shared.Before}
-use Rattle.c104_node.specs.{Acts.{node_act, plain_reply, reply_outcome}, Nodes.Node, PortActs.{Acts, act_limit, far_act, near_act}}
-use Rattle.c104_node.specs.{Tagged.{TaggedToken, tagged_kind}, TracedRecords.TracedRecord, Traces.{is_trace_full, kept_entry, seatless, trace_limit}}
-use Rattle.c104_node.specs.{PortActs.IsAnswerOf, declared.{acts.{ActOf.ActOf, Entry.Entry}, crossings.{Crossing.Crossing, Joint.Joint}, stamps.Stamp.Stamp}}
-use Rattle.{c104_plan.specs.{Plans.Plan, declared.ports.Port.Port}, c104_run.specs.EventActs.{event_acts, port_place}}
-use Rattle.c104_switch.specs.{Actions.is_ready, declared.actions.ReplyOf.ReplyOf}
+use Rattle.{c104_event.specs.declared.events.Event.Event, c104_lean.{proofs.Draws.done_at, specs.Nodes.{AsksBoth, AsksNode, IsHeld}}}
+use Rattle.c104_lean.specs.{Nodes.{alone_deed, both_deed}, OwnRuns.{DoesAct, DoesOwn, IsDoneHere, OwnAct, OwnRun, own, own_act, told}}
+use Rattle.{c104_lean.specs.{OwnRuns.{told_by, told_number, told_terminal}, Seats.first_done, Shared.Before}, c104_node.specs.Acts.node_act}
+use Rattle.c104_node.specs.{Acts.{plain_reply, reply_outcome}, Nodes.Node, PortActs.{Acts, IsAnswerOf, act_limit, far_act, near_act}}
+use Rattle.c104_node.specs.{Tagged.{TaggedToken, tagged_kind}, TracedRecords.TracedRecord, Traces.{is_trace_full, kept_entry, seatless}}
+use Rattle.c104_node.specs.{Traces.trace_limit, declared.{acts.{ActOf.ActOf, Entry.Entry}, crossings.{Crossing.Crossing, Joint.Joint}}}
+use Rattle.{c104_node.specs.declared.stamps.Stamp.Stamp, c104_plan.specs.{Plans.Plan, declared.ports.Port.Port}}
+use Rattle.{c104_run.specs.EventActs.{event_acts, port_place}, c104_switch.specs.{Actions.is_ready, declared.actions.ReplyOf.ReplyOf}}
 use Rattle.c104_tickets.specs.{Tickets.{Each, PassValue, TableId}, declared.views.{Deed.Deed, Done.Done, Track.Track}}
-use Rattle.c104_lean.specs.Seats.{first_done}
-use Rattle.c104_workers.specs.Calls.{place_track}
-use Rattle.std.proofs.Common.{Bool, List, None, Option, Some, [], ap, arith, false, is_some, length, nat_eq, refl, slice_get, subst, sym, true, ℕ, ◌++◌}
-use Rattle.std.proofs.Common.{◌-◌, ◌<◌, ◌∙◌, ◌∷◌, ◌≡◌, ◌≢◌}
+use Rattle.{c104_workers.specs.Calls.place_track, std.proofs.Common.{Bool, List, None, Option, Some, [], ap, arith, false, is_some, length}}
+use Rattle.std.proofs.Common.{nat_eq, refl, slice_get, subst, sym, true, ℕ, ◌++◌, ◌-◌, ◌<◌, ◌∙◌, ◌∷◌, ◌≡◌, ◌≢◌}
 use Rattle.std.proofs.lemmas.Bool.Decides.{nat_tests}
 
 -- a node that goes on behind its part of what was done

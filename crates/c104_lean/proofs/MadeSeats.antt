@@ -1,8 +1,7 @@
 -- The seats of a shared network at first, and the nodes that are put behind locks.
 use Rattle.{c104_lean.specs.Seats.AreSeatsOf, c104_tickets.specs.{Tickets.TableId, declared.views.Terms.Terms}}
-use Rattle.c104_workers.specs.{Calls.SeatView, Fabrics.{first_seat, first_seats}}
-use Rattle.std.proofs.{Common.{List, [], ap, map, refl, reverse, subst, sym, ℕ, ◌++◌, ◌∙◌, ◌∷◌, ◌≡◌}, lemmas.List.reverse-append}
-use Rattle.std.specs.List.{range_with_len}
+use Rattle.{c104_workers.specs.{Calls.SeatView, Fabrics.{first_seat, first_seats}}, std.proofs.Common.{List, [], ap, map, refl, reverse}}
+use Rattle.std.{proofs.{Common.{subst, sym, ℕ, ◌++◌, ◌∙◌, ◌∷◌, ◌≡◌}, lemmas.List.reverse-append}, specs.List.range_with_len}
 
 -- seats with these numbers are seats of the network
 all_own : (word_id : TableId) (terms : Terms) (numbers : List ℕ) → AreSeatsOf word_id (map (first_seat word_id terms) numbers)

@@ -1,7 +1,13 @@
 -- What workers do to their seats: event by event, each of a node of their own.
-use Rattle.{c104_lean.specs.Seats.AreSeatsOf, c104_plan.specs.Plans.Plan, c104_tickets.specs.Tickets.TableId}
-use Rattle.{c104_workers.specs.{Calls.SeatView, Working.HasWorked, declared.words.Words.Words}, std.proofs.Common.{List, [], arith, length}}
-use Rattle.std.proofs.Common.{slice_index_or, subst, suc, sym, zero, ℕ, ◌<◌, ◌∙◌, ◌∷◌, ◌≡◌}
+use Rattle.{c104_audit.specs.{Calls.call_of, declared.calls.Call.Call}, c104_event.specs.declared.events.Event.Event}
+use Rattle.{c104_event.specs.declared.faults.EventFault.EventFault, c104_lean.specs.{Seats.{AreSeatsOf, Grows, HasCall}}}
+use Rattle.{c104_lean.specs.Working.{HasCalls, HasWorked, IsOwnEvent, IsPartEvent, worker_of}, c104_plan.specs.Plans.Plan}
+use Rattle.{c104_run.specs.NodeParts.round_part, c104_switch.specs.Actions.{Reply, is_ready}, c104_tickets.specs.Tickets.TableId}
+use Rattle.c104_workers.{proofs.SeatGrowth.{same_on, same_self}, specs.{Calls.{IsSameSeat, SeatView}, LentCalls.IfDone, Working.IsPartOf}}
+use Rattle.{c104_workers.specs.{Working.PartView, declared.words.Words.Words}, std.proofs.Common.{All, Bool, Err, List, Ok}}
+use Rattle.std.proofs.Common.{Result, [], ap, arith, false, length, slice_index_or, subst, suc, sym, true, zero, ℕ, ◌++◌, ◌<◌, ◌∙◌, ◌∷◌}
+use Rattle.std.proofs.{Common.◌≡◌, lemmas.List.{Elements.{All-append, All-cons, All-contains_itself, All-nil, All-weaker}, append-nil}}
+use Rattle.std.proofs.lemmas.List.{append_assoc}
 
 -- what holds of all seats holds of each, and the other way round
 pub seat_at : (word_id : TableId) (seats : List SeatView) (i : ℕ) (d : SeatView) → AreSeatsOf word_id seats → i < length seats
@@ -15,6 +21,65 @@ pub seats_all : (word_id : TableId) (seats : List SeatView)
 seats_all word_id [] each = tt
 seats_all word_id (s ∷ seats) each =
     (each 0 s (omega arith), seats_all word_id seats (λ i d inside. each (suc i) d (omega (arith, inside))))
+
+module _ (P : Event → Type 0) where
+  -- nothing was done
+  pub none_called : (s : SeatView) → HasCalls P s s
+  none_called s = record { same = same_self s; more = []; listed = sym (append-nil s.calls); own = All-nil (λ (c : Call). P c.event) }
+
+  -- first this, and then that
+  pub called_on : (s t u : SeatView) → HasCalls P s t → HasCalls P t u → HasCalls P s u
+  called_on s t u first second = record {
+    same = same_on s t u first.same second.same;
+    more = first.more ++ second.more;
+    listed = second.listed ∙ ap (λ calls. calls ++ second.more) first.listed ∙ append_assoc s.calls first.more second.more;
+    own = All-append (λ (c : Call). P c.event) first.more second.more first.own second.own;
+  }
+
+  -- one event
+  pub event_called : (s t : SeatView) (e : Event) (answer : Result Reply EventFault) → P e → Grows s t e answer → HasCalls P s t
+  event_called s t e (Ok r) own grew = by_ready (is_ready r) grew
+    where
+      by_ready : (b : Bool) → IfDone b (HasCall s t e r) (t ≡ s) → HasCalls P s t
+      by_ready true grew = record {
+        same = record {
+          word_id = ap (λ (x : SeatView). x.word_id) grew.listed;
+          terms = ap (λ (x : SeatView). x.terms) grew.listed;
+          number = ap (λ (x : SeatView). x.number) grew.listed;
+          lent = ap (λ (x : SeatView). x.lent) grew.listed;
+        };
+        more = call_of e grew.ticket r ∷ [];
+        listed = ap (λ (x : SeatView). x.calls) grew.listed;
+        own = All-cons (λ (c : Call). P c.event) (call_of e grew.ticket r) [] own (All-nil (λ (c : Call). P c.event));
+      }
+      by_ready false is = subst (HasCalls P s) (sym is) (none_called s)
+  event_called s t e (Err f) own same = subst (HasCalls P s) (sym same) (none_called s)
+
+-- what is so of the events of some calls is also so in another way
+pub calls_weaker : (P Q : Event → Type 0) → ((e : Event) → P e → Q e) → (s t : SeatView) → HasCalls P s t → HasCalls Q s t
+calls_weaker P Q so s t called = record {
+  same = called.same;
+  more = called.more;
+  listed = called.listed;
+  own = All-weaker (λ (c : Call). P c.event) (λ (c : Call). Q c.event) (λ c is. so c.event is) called.more called.own;
+}
+
+-- calls of one event are a worker's, if the event is
+pub repeated : (plan : Plan) (words : Words) (n i : ℕ) (e : Event) → IsOwnEvent plan words n i e → (s t : SeatView)
+    → HasCalls (λ x. x ≡ e) s t → HasWorked plan words n i s t
+repeated plan words n i e own s t called =
+    calls_weaker (λ x. x ≡ e) (IsOwnEvent plan words n i) (λ x is. subst (IsOwnEvent plan words n i) (sym is) own) s t called
+
+-- the events of a node's part are those of its worker
+pub own_part : (plan : Plan) (n i : ℕ) (part : PartView) → IsPartOf plan part.node part → worker_of plan n part.node ≡ i
+    → All (IsPartEvent plan n i) part.events
+own_part plan n i part is own =
+    subst (All (IsPartEvent plan n i)) (sym is.events)
+    (λ j d inside. record {
+      node = part.node;
+      own = own;
+      part = All-contains_itself (round_part plan part.node) j d inside;
+    })
 
 -- the seat of a worker stays one of the network
 pub seat_stays : (plan : Plan) (n i : ℕ) (words : Words) (word_id : TableId) (before argument left after : SeatView) → argument ≡ before

@@ -4,4 +4,5 @@ pub mod Nodes
 pub mod Seats
 pub mod Closing
 pub mod Runs
+pub mod Working
 pub mod Workers

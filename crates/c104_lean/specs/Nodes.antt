@@ -1,10 +1,10 @@
 -- A node behind its lock, with its place and the pass that has the place's track.
-use Rattle.{c104_event.specs.declared.events.Event.Event, c104_lean.specs.{OwnRuns.{IsDoneHere, OwnRun, told_number, told_terminal}, Shared.Before}}
-use Rattle.c104_node.specs.{Acts.plain_reply, PortActs.Acts, Tagged.{TaggedToken, tagged_kind}, TracedRecords.TracedRecord}
-use Rattle.c104_node.specs.declared.{acts.ActOf.ActOf, crossings.Joint.Joint}
-use Rattle.{c104_plan.specs.Plans.Plan, c104_run.specs.{EventActs.{event_acts, port_place}, Network.event_fault}}
-use Rattle.{c104_switch.specs.declared.actions.ReplyOf.ReplyOf, c104_tickets.specs.Tickets.{Each, PassValue, TableId}}
-use Rattle.{c104_tickets.specs.declared.views.{Deed.Deed, Done.Done}, c104_workers.specs.Calls.place_track}
+use Rattle.{c104_event.specs.declared.events.Event.Event, c104_lean.specs.OwnRuns.{IsDoneHere, OwnRun, told_number, told_terminal}}
+use Rattle.{c104_lean.specs.Shared.Before, c104_node.specs.{Acts.plain_reply, PortActs.Acts, Tagged.{TaggedToken, tagged_kind}}}
+use Rattle.{c104_node.specs.{TracedRecords.TracedRecord, declared.{acts.ActOf.ActOf, crossings.Joint.Joint}}, c104_plan.specs.Plans.Plan}
+use Rattle.{c104_run.specs.{EventActs.{event_acts, port_place}, Network.event_fault}, c104_switch.specs.declared.actions.ReplyOf.ReplyOf}
+use Rattle.c104_tickets.specs.{Tickets.{Each, PassValue, TableId}, declared.views.{Deed.Deed, Done.Done}}
+use Rattle.c104_workers.specs.Calls.{place_track}
 use Rattle.std.specs.Prelude.{List, None, Option, Some, [], slice_get, ℕ, ◌∷◌, ◌≡◌, ◌≢◌}
 
 -- a node behind its lock as it is seen: its place, and the node

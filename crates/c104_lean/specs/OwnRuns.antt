@@ -1,9 +1,9 @@
 -- What one node of a network does of all that is done there: act by act, over tagged tokens.
-use Rattle.c104_node.specs.{Acts.node_act, Tagged.{TaggedToken, tagged_kind}, TracedRecords.TracedRecord, Traces.{kept_entry, seatless, trace_limit}}
-use Rattle.c104_node.specs.{PortActs.{Acts, act_limit, far_act, near_act}, declared.acts.ActOf.ActOf}
+use Rattle.c104_node.specs.{Acts.node_act, PortActs.{Acts, act_limit, far_act, near_act}, Tagged.{TaggedToken, tagged_kind}}
+use Rattle.c104_node.specs.{TracedRecords.TracedRecord, Traces.{kept_entry, seatless, trace_limit}, declared.acts.ActOf.ActOf}
 use Rattle.{c104_plan.specs.Plans.Plan, c104_run.specs.{EventActs.{event_acts, port_place}, Network.event_fault}}
-use Rattle.c104_switch.specs.{Actions.{Reply, is_ready}, declared.actions.ReplyOf.ReplyOf}
-use Rattle.c104_tickets.specs.declared.views.{Deed.Deed, Done.Done}
+use Rattle.{c104_switch.specs.{Actions.{Reply, is_ready}, declared.actions.ReplyOf.ReplyOf}, c104_tickets.specs.declared.views.Deed.Deed}
+use Rattle.c104_tickets.specs.declared.views.Done.{Done}
 use Rattle.std.specs.Prelude.{List, None, Option, Some, [], if◌then◌else◌, length, nat_eq, true, ℕ, ◌++◌, ◌-◌, ◌<◌, ◌∷◌, ◌≡◌, ◌≢◌}
 
 -- what was answered, over tagged tokens: by the plain reply, and what the token tells of a packet

@@ -1,6 +1,6 @@
 -- A network whose nodes lie behind locks: what is known of it since they were put there.
-use Rattle.c104_node.specs.{Places.bases, TracedRecords.{TracedRecord, counted_shown}}
-use Rattle.{c104_plan.specs.{PlanParts.empty_plan, Plans.{IsPlan, Plan}}, c104_run.specs.{Engines.{EngineView, engine_of, engine_record}, KnownWires.KnowWires}}
+use Rattle.{c104_node.specs.{Places.bases, TracedRecords.{TracedRecord, counted_shown}}, c104_plan.specs.PlanParts.empty_plan}
+use Rattle.{c104_plan.specs.Plans.{IsPlan, Plan}, c104_run.specs.{Engines.{EngineView, engine_of, engine_record}, KnownWires.KnowWires}}
 use Rattle.c104_run.specs.{NetParts.node_count, NetRecords.NetRecord, RecordedNets.IsRecordedNet, RecordedPlaces.counted_reading}
 use Rattle.c104_tickets.specs.{Tickets.TableId, declared.{TheConstants.FIRST_LIMIT, views.Terms.Terms}}
 use Rattle.c104_workers.specs.Working.{IsPartOf, PartView}

@@ -2,14 +2,15 @@
 //!
 //! Whether it is ready is told by the node's own answer. The ticket is drawn behind that, so that it is drawn only for what was
 //! done, and the act is counted last, with the ticket.
-ghost use Rattle.std.specs.Prelude.{MatchOption, None, Some, length, ◌-◌, ◌<◌, ◌≡◌};
-ghost use Rattle.c104_lean.specs.{Nodes.{AsksBoth, AsksNode}, Seats.{Follows, IsLimitOf}};
+ghost use Rattle.std.specs.Prelude.{IfErr, MatchOption, None, Some, length, ◌-◌, ◌<◌, ◌≡◌};
+ghost use Rattle.c104_lean.specs.{Nodes.{AsksBoth, AsksNode}, Seats.{Follows, IsLimitOf}, Working.HasCalls};
 ghost use Rattle.c104_node.specs.{Acts.{IsWithinLimits, plain_reply}, PortActs.act_limit, Tagged.tagged_kind, Traces.trace_limit};
-ghost use Rattle.c104_tickets.specs.declared.TheConstants.{TICKET_LIMIT};
+ghost use Rattle.{c104_tickets.specs.declared.TheConstants.TICKET_LIMIT, c104_workers.specs.SeatGrowth.IsLaterFault};
 
 use crate::held::HeldNode;
 use crate::seats::CountedSeat;
 use crate::sharing::Sharing;
+use crate::workers::MOST_TIMES;
 use c104_event::{Event, EventFault};
 use c104_node::{
     ActOf, CountedNode, Joint, Place, Stamp, TaggedToken, can_far, can_near, far_act, near_act,
@@ -64,7 +65,8 @@ pub(crate) fn do_both<N: Sharing>(
 ) -> Result<Reply, EventFault>
     requires word { (seat.old.word_id ≡ word.now.word_id) × (word.now.word_id ≡ N.word) }
     requires asked { AsksBoth N.before.plan event.now joint near.old.place far.old.place }
-    ensures { Follows seat.old seat.new event.now result }
+    ensures follows { Follows seat.old seat.new event.now result }
+    ensures places { (near.new.place ≡ near.old.place) × (far.new.place ≡ far.old.place) }
 {
     if !can_near(Place::node(&near.node), joint.crossing, joint.near)
         || !can_far(Place::node(&far.node), joint.crossing, joint.far)
@@ -90,6 +92,29 @@ pub(crate) fn do_both<N: Sharing>(
     near.node.note(&unasked(ticket), &going, &told);
     far.node.note(&unasked(ticket), &coming, &ReplyOf::Done);
     Ok(plain(told))
+}
+
+/// The same as often as it is ready, but `MOST_TIMES` at most.
+pub(crate) fn cross_often<N: Sharing>(
+    word: &TicketWord,
+    seat: &mut CountedSeat,
+    near: &mut HeldNode<N>,
+    far: &mut HeldNode<N>,
+    joint: Joint,
+    event: &Event,
+) -> Result<(), EventFault>
+    requires word { (seat.old.word_id ≡ word.now.word_id) × (word.now.word_id ≡ N.word) }
+    requires asked { AsksBoth N.before.plan event.now joint near.old.place far.old.place }
+    ensures fault { IfErr result (IsLaterFault event.now) }
+    ensures called { HasCalls (λ e. e ≡ event.now) seat.old seat.new }
+{
+    for _time in 0..MOST_TIMES {
+        let reply = do_both(word, seat, near, far, joint, event)?;
+        if !is_done(&reply) {
+            break;
+        }
+    }
+    Ok(())
 }
 
 /// Why an act of a node can't be done now: a limit of its lists, or that it or the seat has done as much as it may.
@@ -125,5 +150,13 @@ fn plain(reply: ReplyOf<TaggedToken>) -> Reply
         ReplyOf::NotReady => ReplyOf::NotReady,
         ReplyOf::Token(token) => ReplyOf::Token(token.plain()),
         ReplyOf::Control(bytes) => ReplyOf::Control(bytes),
+    }
+}
+
+/// Whether a reply says that something was done.
+pub(crate) fn is_done(reply: &Reply) -> bool {
+    match reply {
+        ReplyOf::NotReady => false,
+        _ => true,
     }
 }

@@ -3,9 +3,8 @@
 //! The network is taken apart last, when all memory is there but for the locks: so one that is refused is given back itself. It
 //! is made in two steps, since the type of what lies behind the locks names the word of tickets, which has to be there before.
 ghost use Rattle.std.specs.{Prelude.{IfOk, MatchResult, [], length, map, ◌≡◌, ◌≤◌}, Vec.vec_capacity};
-ghost use Rattle.c104_lean.specs.{Seats.AreSeatsOf, Shared.{ArePartsOf, record_of, terms_of}};
-ghost use Rattle.{c104_run.specs.NetParts.node_count, c104_tickets.specs.Tickets.{first_view, place_tracks}};
-ghost use Rattle.c104_tickets.specs.declared.TheConstants.{FIRST_LIMIT, SEAT_LIMIT, TICKET_LIMIT};
+ghost use Rattle.{c104_lean.specs.{Seats.AreSeatsOf, Shared.{ArePartsOf, record_of, terms_of}}, c104_run.specs.NetParts.node_count};
+ghost use Rattle.c104_tickets.specs.{Tickets.{first_view, place_tracks}, declared.TheConstants.{FIRST_LIMIT, SEAT_LIMIT, TICKET_LIMIT}};
 ghost use Rattle.c104_workers.specs.Fabrics.{IsSeatCount, fabric_fault, first_seats};
 ghost use Rattle.c104_workers.specs.declared.making.FabricFault.TheVariants as fabric_fault_of;
 
@@ -40,9 +39,8 @@ pub struct Ready {
 
 impl Model for Ready {
     ghost use Rattle.std.specs.{Prelude.{[], ◌≡◌, ◌≤◌}, Vec.vec_capacity};
-    ghost use Rattle.c104_lean.specs.Shared.{ArePartsOf, SharedView, WasShared, record_of, terms_of};
-    ghost use Rattle.{c104_run.specs.Engines.engine_of, c104_tickets.specs.{Tickets.first_view, declared.TheConstants.TICKET_LIMIT}};
-    ghost use Rattle.c104_workers.specs.Fabrics.{IsSeatCount};
+    ghost use Rattle.{c104_lean.specs.Shared.{ArePartsOf, SharedView, WasShared, record_of, terms_of}, c104_run.specs.Engines.engine_of};
+    ghost use Rattle.{c104_tickets.specs.{Tickets.first_view, declared.TheConstants.TICKET_LIMIT}, c104_workers.specs.Fabrics.IsSeatCount};
 
     ghost Value = { SharedView };
 

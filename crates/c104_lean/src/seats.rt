@@ -10,6 +10,7 @@ use c104_event::{Event, EventFault};
 use c104_node::TaggedToken;
 use c104_switch::ReplyOf;
 use c104_tickets::{Asks, Pass, TicketWord};
+use crossbeam_utils::CachePadded;
 use std::marker::Model;
 
 /// A seat of a shared network. In contracts it has a call of each event that was done through it, in order; when it runs it
@@ -22,6 +23,8 @@ pub struct CountedSeat {
     limit: u64,
     // Why the last worker stopped that used the seat, if it did.
     stopped: Option<EventFault>,
+    // Another worker's seat is on other lines of a processor's cache.
+    apart: CachePadded<()>,
 }
 
 impl Model for CountedSeat {
@@ -47,6 +50,7 @@ impl CountedSeat {
             count: 0,
             limit,
             stopped: None,
+            apart: CachePadded::new(()),
         }
     }
 
@@ -159,6 +163,7 @@ impl CountedSeat {
             count: _,
             limit: _,
             stopped: _,
+            apart: _,
         } = self;
         pass
     }

@@ -1,12 +1,10 @@
 //! A shared network: nodes behind locks of their own, and the word of tickets.
-ghost use Rattle.std.specs.Prelude.{◌<◌, ◌≡◌};
-ghost use Rattle.c104_lean.specs.{Nodes.AsksBoth, Seats.{Follows, Grows}, Shared.{ArePartsOf, WasShared}};
-ghost use Rattle.{c104_plan.specs.Plans.IsPlan};
-ghost use Rattle.c104_run.specs.{NetParts.node_count, Network.event_fault};
-ghost use Rattle.c104_workers.specs.{Calls.IsSameSeat, SeatGrowth.FaultsAs};
+ghost use Rattle.std.specs.Prelude.{Err, IfErr, ◌<◌, ◌≡◌};
+ghost use Rattle.{c104_lean.specs.{Nodes.AsksBoth, Shared.{ArePartsOf, WasShared}, Working.HasCalls}, c104_plan.specs.Plans.IsPlan};
+ghost use Rattle.{c104_run.specs.{NetParts.node_count, Network.event_fault}, c104_workers.specs.SeatGrowth.{FaultsAs, IsLaterFault}};
 
 use crate::closing::Placed;
-use crate::doing::{do_alone, do_both};
+use crate::doing::{cross_often, do_alone, is_done};
 use crate::held::HeldNode;
 use crate::seats::CountedSeat;
 use crate::sharing::Sharing;
@@ -16,8 +14,7 @@ use c104_plan::Plan;
 use c104_run::{Asked, Wires, acts_of};
 use c104_switch::{Reply, ReplyOf};
 use c104_tickets::{Pass, TicketWord};
-use c104_token::NoMemory;
-use c104_workers::{Part, Stage};
+use c104_workers::Part;
 use std::marker::{Model, PhantomData};
 use std::sync::{Mutex, Wait};
 
@@ -89,96 +86,70 @@ impl<N: Sharing> SharedNet<N> {
         self.parts.as_slice()
     }
 
-    /// Does an event on its nodes, under their locks, of which the lower is taken first, if it is ready and no limit refuses
-    /// it. Where it is done, the seat has a call more. NoNode, NoLink, NotWired or TooLong where the event can't happen. A
-    /// packet that is sent is never ready.
-    pub(crate) fn do_event<R: Wait>(
+    /// The lock of a part's node.
+    pub(crate) fn lock_of(&self, part: &Part) -> Option<&Mutex<HeldNode<N>>> {
+        self.locks.get(part.node())
+    }
+
+    /// Does an event that a locked node leads, if it is ready and no limit refuses it: what crosses a wire as often as it is ready,
+    /// but 8 times at most, where nobody else has the node at the far end. For each time that it is done, the seat has a call
+    /// more. Says whether the event was done and the node may be ready for it once more. NoNode, NoLink, NotWired or TooLong where
+    /// the event can't happen. A packet that is sent is never ready.
+    pub(crate) fn do_event(
         &self,
-        rt: &R,
         seat: &mut CountedSeat,
+        held: &mut HeldNode<N>,
         event: &Event,
-    ) -> Result<Reply, EventFault>
+    ) -> Result<bool, EventFault>
         requires word { seat.old.word_id ≡ self.now.word_id }
-        ensures fault { FaultsAs (event_fault self.now.before.plan event.now) event.now result }
-        ensures grew { Grows seat.old seat.new event.now result }
-        ensures same { IsSameSeat seat.old seat.new }
+        ensures fault { IfErr result (λ f. FaultsAs (event_fault self.now.before.plan event.now) event.now (Err f)) }
+        ensures called { HasCalls (λ e. e ≡ event.now) seat.old seat.new }
     {
         // The proof reads here what every plan keeps.
         let plan = self.wires.plan();
         let asked: Asked<'_, TaggedToken> = acts_of(&self.wires, event)?;
         match asked {
             Asked::Alone(place, act) => {
-                let mut held = self.locks[place].lock(rt);
                 if held.place != place {
-                    return Ok(ReplyOf::NotReady);
+                    return Ok(false);
                 }
                 let number = place.saturating_sub(plan.switches().len());
-                do_alone(&self.word, seat, &mut held, number, &act, event)
+                let reply = do_alone(&self.word, seat, held, number, &act, event)?;
+                Ok(is_done(&reply))
             }
-            Asked::Joint(near, far, joint) => self.do_crossing(rt, seat, (near, far), joint, event),
-            Asked::Send(_, _) => Ok(ReplyOf::NotReady),
+            Asked::Joint(near, far, joint) => {
+                if held.place == near {
+                    self.do_crossings(seat, held, far, joint, event)?;
+                }
+                Ok(false)
+            }
+            Asked::Send(_, _) => Ok(false),
         }
     }
 
-    /// Does what crosses a wire between the nodes at two places.
-    fn do_crossing<R: Wait>(
+    /// Does what crosses a wire from a locked node to the one at a place, as often as it is ready, but `MOST_TIMES` at most.
+    /// Where another has that node, nothing is done.
+    fn do_crossings(
         &self,
-        rt: &R,
         seat: &mut CountedSeat,
-        places: (usize, usize),
+        near: &mut HeldNode<N>,
+        place: usize,
         joint: Joint,
         event: &Event,
-    ) -> Result<Reply, EventFault>
+    ) -> Result<(), EventFault>
         requires word { seat.old.word_id ≡ self.now.word_id }
-        requires asked { AsksBoth self.now.before.plan event.now joint places.0 places.1 }
-        requires inside { (places.0 < node_count self.now.before.plan) × (places.1 < node_count self.now.before.plan) }
-        ensures { Follows seat.old seat.new event.now result }
+        requires asked { AsksBoth self.now.before.plan event.now joint near.old.place place }
+        requires inside { place < node_count self.now.before.plan }
+        ensures fault { IfErr result (IsLaterFault event.now) }
+        ensures called { HasCalls (λ e. e ≡ event.now) seat.old seat.new }
     {
-        let (near, far) = places;
-        if near < far {
-            let mut first = self.locks[near].lock(rt);
-            let mut second = self.locks[far].lock(rt);
-            if first.place != near || second.place != far {
-                return Ok(ReplyOf::NotReady);
-            }
-            do_both(&self.word, seat, &mut first, &mut second, joint, event)
-        } else {
-            let mut first = self.locks[far].lock(rt);
-            let mut second = self.locks[near].lock(rt);
-            if first.place != far || second.place != near {
-                return Ok(ReplyOf::NotReady);
-            }
-            do_both(&self.word, seat, &mut second, &mut first, joint, event)
-        }
-    }
-
-    /// Whether no event of a part can begin at its node when it is locked.
-    pub(crate) fn is_idle<R: Wait>(&self, rt: &R, part: &Part) -> bool {
-        let Some(lock) = self.locks.get(part.node()) else {
-            return true;
-        };
-        let held = lock.lock(rt);
-        part.is_idle(Place::node(&held.node))
-    }
-
-    /// Lists the numbers of those events of a part's stage that its node may be ready for when it is locked. The only error is
-    /// out of memory.
-    pub(crate) fn list_ready<R: Wait>(
-        &self,
-        rt: &R,
-        part: &Part,
-        stage: Stage,
-        ready: &mut Vec<usize>,
-    ) -> Result<(), NoMemory> {
-        ready.clear();
-        if part.count(stage) == 0 {
-            return Ok(());
-        }
-        let Some(lock) = self.locks.get(part.node()) else {
+        let Some(mut far) = self.locks[place].try_lock() else {
             return Ok(());
         };
-        let held = lock.lock(rt);
-        part.add_ready(Place::node(&held.node), stage, ready)
+        if far.place != place {
+            return Ok(());
+        }
+        cross_often(&self.word, seat, near, &mut far, joint, event)
     }
 
     /// Whether all nodes are quiet, each when it is asked: no token stands there, and no packet is under way. It locks

@@ -2,15 +2,20 @@
 //!
 //! The fault that is answered is looked up in the seats, and is that of the lowest worker, whichever stopped first. One
 //! that is out of memory between events stops with NoMemory, as at an event.
-ghost use Rattle.std.specs.Prelude.{All, IfErr, IfSome, MatchBool, length, slice_index_or, ℕ, ◌%◌, ◌<◌, ◌≡◌, ◌≢◌, ◌≤◌};
-ghost use Rattle.c104_lean.specs.{Seats.AreSeatsOf, Workers.CountedEndsAs};
-ghost use Rattle.c104_workers.specs.{Calls.SeatView, Working.{HasWorked, IsPartEvent, IsStop}};
+//!
+//! What costs time where several threads work is memory that another one wrote last. So neighbours in the list of switches have
+//! one worker, a node is locked once for its part, and a wire's far end once for all that crosses it then.
+ghost use Rattle.std.specs.Prelude.{All, IfErr, IfOk, IfSome, MatchBool, length, slice_index_or, ℕ, ◌<◌, ◌≡◌, ◌≢◌, ◌≤◌};
+ghost use Rattle.c104_lean.specs.{Seats.AreSeatsOf, Workers.CountedEndsAs, Working.{HasWorked, IsPartEvent, IsStop, worker_of}};
+ghost use Rattle.c104_workers.specs.{Calls.SeatView};
 
+use crate::held::HeldNode;
 use crate::seats::CountedSeat;
 use crate::shared_net::SharedNet;
 use crate::sharing::Sharing;
 use c104_event::{Event, EventFault};
-use c104_switch::Reply;
+use c104_node::Place;
+use c104_token::NoMemory;
 use c104_workers::{Part, RunFault, Stage, Words};
 use std::alloc::Global;
 use std::sync::Wait;
@@ -19,12 +24,18 @@ use std::thread::{Threads, for_each_mut, yield_now};
 /// After how many turns in a row that do nothing a worker does no more.
 const IDLE_TURNS: u32 = 64;
 
+/// How often others may run between two turns that do nothing.
+const YIELDS: u32 = 16;
+
+/// How often an event is done while its node is locked, at most: an output buffer has no more tokens.
+pub(crate) const MOST_TIMES: u32 = 8;
+
 /// Does turns on a shared network by workers, each in a thread of its own: worker 0 through the first of these seats, and so
-/// on. Where no thread can be made, the workers run one after another. Of n workers number i has the nodes k with
-/// k mod n = i. In a turn it does the part that a round has for each of these nodes, by their numbers: it asks the node
-/// which of these events it may be ready for, and does these in turn, the turn of an input with a word of the worker's. A worker
-/// stops at its first event that is refused; an event that isn't ready is none. Where 64 turns in a row do nothing, it does no
-/// more of them.
+/// on. Where no thread can be made, the workers run one after another. Each has a run of switches, and the terminals at these.
+/// In a turn it does the part that a round has for each of these nodes, by their numbers, unless another has the node then:
+/// it asks the node which of these events it may be ready for, and does each of these as long as the node is ready, but 8 times
+/// at most, the turn of an input with a word of the worker's. A worker stops at its first event that is refused; an event that
+/// isn't ready is none. Where 64 turns in a row do nothing, it does no more of them.
 ///
 /// There is at least one seat. What was done stays done.
 pub fn run_workers<R: Threads + Wait + Sync, N: Sharing + Send + Sync>(
@@ -50,12 +61,11 @@ pub fn run_workers<R: Threads + Wait + Sync, N: Sharing + Send + Sync>(
         seats,
         count,
         &|number: usize, seat: &mut CountedSeat|
-            requires { (1 ≤ count) × (seat.now.word_id ≡ shared.now.word_id) }
+            requires { seat.now.word_id ≡ shared.now.word_id }
             ensures { HasWorked shared.entry.now.before.plan words count number seat.entry.now seat.exit.now
                 × IfSome seat.exit.now.stopped (IsStop shared.entry.now.before.plan words count number) }
         {
             let worker = Worker {
-                rt,
                 shared,
                 words,
                 number,
@@ -81,8 +91,7 @@ fn end_of(seats: &[CountedSeat]) -> Result<(), RunFault>
 
 /// One of several workers.
 #[derive(Drop)]
-struct Worker<'a, R: Wait, N: Sharing> {
-    rt: &'a R,
+struct Worker<'a, N: Sharing> {
     shared: &'a SharedNet<N>,
     words: Words,
     number: usize,
@@ -90,10 +99,9 @@ struct Worker<'a, R: Wait, N: Sharing> {
     count: usize,
 }
 
-impl<R: Wait, N: Sharing> Worker<'_, R, N> {
+impl<N: Sharing> Worker<'_, N> {
     /// Does turns through a seat, which keeps why the worker stopped.
     fn work(&self, alloc: Global, seat: &mut CountedSeat, turns: u64)
-        requires some { 1 ≤ self.now.count }
         requires word { seat.old.word_id ≡ self.now.shared.now.word_id }
         ensures worked { HasWorked self.now.shared.now.before.plan self.now.words self.now.count self.now.number seat.old seat.new }
         ensures stops { IfSome seat.new.stopped
@@ -105,11 +113,11 @@ impl<R: Wait, N: Sharing> Worker<'_, R, N> {
 
     /// Does turns, up to the first event that is refused, or as long as some of them do something.
     fn do_turns(&self, alloc: Global, seat: &mut CountedSeat, turns: u64) -> Result<(), EventFault>
-        requires some { 1 ≤ self.now.count }
         requires word { seat.old.word_id ≡ self.now.shared.now.word_id }
         ensures worked { HasWorked self.now.shared.now.before.plan self.now.words self.now.count self.now.number seat.old seat.new }
         ensures stops { IfErr result (IsStop self.now.shared.now.before.plan self.now.words self.now.count self.now.number) }
     {
+        let parts = self.own_parts(alloc)?;
         let mut ready = Vec::new(alloc);
         let mut idle_left = IDLE_TURNS;
         for _turn in 0..turns {
@@ -117,10 +125,10 @@ impl<R: Wait, N: Sharing> Worker<'_, R, N> {
                 break;
             }
             let done = seat.count();
-            self.do_turn(seat, &mut ready)?;
+            self.do_turn(seat, parts.as_slice(), &mut ready)?;
             if seat.count() == done {
                 // What it waits for is with a worker that may not be running.
-                yield_now();
+                let_others_run();
                 idle_left -= 1;
             } else {
                 idle_left = IDLE_TURNS;
@@ -129,23 +137,60 @@ impl<R: Wait, N: Sharing> Worker<'_, R, N> {
         Ok(())
     }
 
-    /// Does the parts of the worker's own nodes, up to the first event that is refused. The list is for the numbers of those
-    /// that a node may be ready for.
-    fn do_turn(&self, seat: &mut CountedSeat, ready: &mut Vec<usize>) -> Result<(), EventFault>
-        requires some { 1 ≤ self.now.count }
+    /// The parts of the worker's own nodes. The only error is out of memory.
+    fn own_parts(&self, alloc: Global) -> Result<Vec<&Part>, NoMemory>
+        ensures { IfOk result (λ parts.
+            All (λ part. All (IsPartEvent self.now.shared.now.before.plan self.now.count self.now.number) part.now.events)
+            parts.items) }
+    {
+        let mut own = Vec::new(alloc);
+        for part in self.shared.parts() {
+            if self.owner(part.node()) == self.number {
+                own.push(part)?;
+            }
+        }
+        Ok(own)
+    }
+
+    /// The worker that has the node at a place.
+    fn owner(&self, node: usize) -> usize
+        ensures { result ≡ worker_of self.now.shared.now.before.plan self.now.count node }
+    {
+        let plan = self.shared.plan();
+        let switches = plan.switches().len();
+        let home = if node < switches {
+            node
+        } else {
+            match plan.terminals().get(node - switches) {
+                Some(terminal) => terminal.switch,
+                None => 0,
+            }
+        };
+        home.saturating_mul(self.count) / switches.max(1)
+    }
+
+    /// Does the parts of nodes, up to the first event that is refused. The list is for the numbers of those that a node may be
+    /// ready for.
+    fn do_turn(
+        &self,
+        seat: &mut CountedSeat,
+        parts: &[&Part],
+        ready: &mut Vec<usize>,
+    ) -> Result<(), EventFault>
         requires word { seat.old.word_id ≡ self.now.shared.now.word_id }
+        requires own { All (λ part. All (IsPartEvent self.now.shared.now.before.plan self.now.count self.now.number)
+            part.now.events) parts.now }
         ensures worked { HasWorked self.now.shared.now.before.plan self.now.words self.now.count self.now.number seat.old seat.new }
         ensures stops { IfErr result (IsStop self.now.shared.now.before.plan self.now.words self.now.count self.now.number) }
     {
-        for part in self.shared.parts() {
-            if part.node() % self.count == self.number {
-                self.do_part(seat, part, ready)?;
-            }
+        for part in parts {
+            self.do_part(seat, part, ready)?;
         }
         Ok(())
     }
 
-    /// Does the part of a node, stage by stage, up to the first event that is refused.
+    /// Does the part of a node while it is locked, up to the first event that is refused. Where another has the node, nothing is
+    /// done.
     fn do_part(
         &self,
         seat: &mut CountedSeat,
@@ -157,12 +202,37 @@ impl<R: Wait, N: Sharing> Worker<'_, R, N> {
         ensures worked { HasWorked self.now.shared.now.before.plan self.now.words self.now.count self.now.number seat.old seat.new }
         ensures stops { IfErr result (IsStop self.now.shared.now.before.plan self.now.words self.now.count self.now.number) }
     {
-        if self.shared.is_idle(self.rt, part) {
+        let Some(lock) = self.shared.lock_of(part) else {
+            return Ok(());
+        };
+        let Some(mut held) = lock.try_lock() else {
+            return Ok(());
+        };
+        if part.is_idle(Place::node(&held.node)) {
             return Ok(());
         }
+        self.do_stages(seat, &mut held, part, ready)
+    }
+
+    /// The same with the locked node, stage by stage.
+    fn do_stages(
+        &self,
+        seat: &mut CountedSeat,
+        held: &mut HeldNode<N>,
+        part: &Part,
+        ready: &mut Vec<usize>,
+    ) -> Result<(), EventFault>
+        requires word { seat.old.word_id ≡ self.now.shared.now.word_id }
+        requires own { All (IsPartEvent self.now.shared.now.before.plan self.now.count self.now.number) part.now.events }
+        ensures worked { HasWorked self.now.shared.now.before.plan self.now.words self.now.count self.now.number seat.old seat.new }
+        ensures stops { IfErr result (IsStop self.now.shared.now.before.plan self.now.words self.now.count self.now.number) }
+    {
         for stage in [Stage::Crossings, Stage::Turns, Stage::Claims] {
-            self.shared.list_ready(self.rt, part, stage, ready)?;
-            self.do_ready(seat, part.events(), ready.as_slice())?;
+            ready.clear();
+            if part.count(stage) > 0 {
+                part.add_ready(Place::node(&held.node), stage, ready)?;
+                self.do_ready(seat, held, part.events(), ready.as_slice())?;
+            }
         }
         Ok(())
     }
@@ -171,6 +241,7 @@ impl<R: Wait, N: Sharing> Worker<'_, R, N> {
     fn do_ready(
         &self,
         seat: &mut CountedSeat,
+        held: &mut HeldNode<N>,
         events: &[Event],
         ready: &[usize],
     ) -> Result<(), EventFault>
@@ -183,21 +254,53 @@ impl<R: Wait, N: Sharing> Worker<'_, R, N> {
             let Some(event) = events.get(*number) else {
                 continue;
             };
-            self.do_event(seat, event)?;
+            self.do_often(seat, held, event)?;
         }
         Ok(())
     }
 
-    /// Does an event, the turn of an input with a word of the worker's.
-    fn do_event(&self, seat: &mut CountedSeat, event: &Event) -> Result<Reply, EventFault>
+    /// Does an event as long as its node is ready for it, but `MOST_TIMES` at most.
+    fn do_often(
+        &self,
+        seat: &mut CountedSeat,
+        held: &mut HeldNode<N>,
+        event: &Event,
+    ) -> Result<(), EventFault>
+        requires word { seat.old.word_id ≡ self.now.shared.now.word_id }
+        requires own { IsPartEvent self.now.shared.now.before.plan self.now.count self.now.number event.now }
+        ensures worked { HasWorked self.now.shared.now.before.plan self.now.words self.now.count self.now.number seat.old seat.new }
+        ensures stops { IfErr result (IsStop self.now.shared.now.before.plan self.now.words self.now.count self.now.number) }
+    {
+        for _time in 0..MOST_TIMES {
+            if !self.do_event(seat, held, event)? {
+                break;
+            }
+        }
+        Ok(())
+    }
+
+    /// Does an event, the turn of an input with a word of the worker's. Says whether the node may still be ready for it.
+    fn do_event(
+        &self,
+        seat: &mut CountedSeat,
+        held: &mut HeldNode<N>,
+        event: &Event,
+    ) -> Result<bool, EventFault>
         requires word { seat.old.word_id ≡ self.now.shared.now.word_id }
         requires own { IsPartEvent self.now.shared.now.before.plan self.now.count self.now.number event.now }
         ensures worked { HasWorked self.now.shared.now.before.plan self.now.words self.now.count self.now.number seat.old seat.new }
         ensures stops { IfErr result (IsStop self.now.shared.now.before.plan self.now.words self.now.count self.now.number) }
     {
         match self.words.hand(self.number, seat.count() as usize, event) {
-            Some(turn) => self.shared.do_event(self.rt, seat, &turn),
-            None => self.shared.do_event(self.rt, seat, event),
+            Some(turn) => self.shared.do_event(seat, held, &turn),
+            None => self.shared.do_event(seat, held, event),
         }
+    }
+}
+
+/// Lets other threads run for a while.
+fn let_others_run() {
+    for _time in 0..YIELDS {
+        yield_now();
     }
 }

@@ -1,7 +1,6 @@
 use Rattle.c104_lean.proofs.{Draws.{done_at, own_track}, HeldSteps.{alone_does, alone_here, does_act, held_grows, kept_track, noted_so}}
-use Rattle.c104_lean.specs.Nodes.{AsksNode, HeldView, alone_deed}
-use Rattle.{c104_tickets.specs.Tickets.PassValue, c104_workers.proofs.HeldSteps.same_pass}
-use Rattle.std.proofs.Common.{ap, length, refl, subst, sym, ◌-◌, ◌∙◌, ◌≡◌}
+use Rattle.{c104_lean.specs.Nodes.{AsksNode, HeldView, alone_deed}, c104_tickets.specs.Tickets.PassValue}
+use Rattle.{c104_workers.proofs.HeldSteps.same_pass, std.proofs.Common.{ap, length, refl, subst, sym, ◌-◌, ◌∙◌, ◌≡◌}}
 use Rattle.c104_lean.proofs.doing.do_alone.Goals as goal
 
 pub draw_alone-ticket-requires-clause-track : goal.draw_alone-ticket-requires-clause-track

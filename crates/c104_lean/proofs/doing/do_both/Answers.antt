@@ -1,10 +1,9 @@
-use Rattle.c104_lean.proofs.{Draws.{done_at, own_track}, HeldSteps.{answer_some, both_here, does_act, far_below, far_does, held_grows, kept_track}}
-use Rattle.c104_lean.proofs.HeldSteps.{made_back, near_below, near_does, not_full, noted_so, ready_made}
-use Rattle.c104_lean.specs.Nodes.{AsksBoth, HeldView, both_deed}
-use Rattle.c104_node.proofs.JointEnds.{far_done, near_answers}
-use Rattle.c104_node.specs.{Acts.{node_act, reply_outcome}, Nodes.Node, PortActs.{IsAnswerOf, far_act, near_act}, Tagged.{TaggedToken, tagged_kind}}
-use Rattle.{c104_switch.specs.declared.actions.ReplyOf.ReplyOf, c104_tickets.specs.Tickets.PassValue, c104_workers.proofs.HeldSteps.same_pass}
-use Rattle.std.proofs.Common.{Some, ap, is_some, refl, subst, sym, true, ℕ, ◌∙◌, ◌≡◌}
+use Rattle.c104_lean.proofs.{Draws.{done_at, own_track}, HeldSteps.{answer_some, both_here, does_act, far_below, far_does, held_grows}}
+use Rattle.c104_lean.{proofs.HeldSteps.{kept_track, made_back, near_below, near_does, not_full, noted_so, ready_made}, specs.Nodes.AsksBoth}
+use Rattle.{c104_lean.specs.Nodes.{HeldView, both_deed}, c104_node.{proofs.JointEnds.{far_done, near_answers}, specs.Acts.node_act}}
+use Rattle.c104_node.specs.{Acts.reply_outcome, Nodes.Node, PortActs.{IsAnswerOf, far_act, near_act}, Tagged.{TaggedToken, tagged_kind}}
+use Rattle.{c104_switch.specs.declared.actions.ReplyOf.ReplyOf, c104_tickets.specs.Tickets.PassValue}
+use Rattle.{c104_workers.proofs.HeldSteps.same_pass, std.proofs.Common.{Some, ap, is_some, refl, subst, sym, true, ℕ, ◌∙◌, ◌≡◌}}
 use Rattle.c104_lean.proofs.doing.do_both.Goals as goal
 
 pub far_act-coming-requires : goal.far_act-coming-requires

@@ -1,8 +1,7 @@
-use Rattle.{c104_lean.proofs.MadeSeats.first_own, c104_run.proofs.RoundLists.map_next}
-use Rattle.c104_tickets.specs.{Tickets.{after_split, first_track}, declared.views.View.View}
-use Rattle.c104_workers.{proofs.TakenSeats.seats_next, specs.Fabrics.first_seat}
-use Rattle.std.proofs.{Common.{[], ap, arith, length, map, ◌++◌, ◌+◌, ◌∙◌, ◌∷◌, ◌≡◌}, lemmas.List.length-append}
-use Rattle.std.specs.List.{range_with_len}
+use Rattle.{c104_lean.proofs.MadeSeats.first_own, c104_run.proofs.RoundLists.map_next, c104_tickets.specs.Tickets.after_split}
+use Rattle.{c104_tickets.specs.{Tickets.first_track, declared.views.View.View}, c104_workers.proofs.TakenSeats.seats_next}
+use Rattle.{c104_workers.specs.Fabrics.first_seat, std.proofs.Common.{[], ap, arith, length, map, ◌++◌, ◌+◌, ◌∙◌, ◌∷◌, ◌≡◌}}
+use Rattle.std.{proofs.lemmas.List.length-append, specs.List.range_with_len}
 use Rattle.c104_lean.proofs.making.fill_seats.Goals as goal
 
 pub loop-number-preserved : goal.loop-number-preserved

@@ -1,6 +1,5 @@
-use Rattle.{c104_tickets.specs.Tickets.{place_tracks, seat_tracks}, c104_workers.specs.Fabrics.first_seat}
-use Rattle.std.proofs.Common.{length, map, ◌++◌, ◌-◌, ◌≡◌}
-use Rattle.std.specs.{List.range_with_len, Vec.vec_capacity}
+use Rattle.{c104_tickets.specs.Tickets.{place_tracks, seat_tracks}, c104_workers.specs.Fabrics.first_seat, std.proofs.Common.{length, map}}
+use Rattle.std.{proofs.Common.{◌++◌, ◌-◌, ◌≡◌}, specs.{List.range_with_len, Vec.vec_capacity}}
 
 -- the seats so far, and the pass has the tracks of the others
 abbrev pub invariant-loop-number : Rattle.c104_lean.proofs.making.fill_seats.Given.invariant-loop-number

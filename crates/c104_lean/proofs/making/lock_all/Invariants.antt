@@ -1,5 +1,4 @@
-use Rattle.c104_tickets.specs.Tickets.{place_tracks}
-use Rattle.std.{proofs.Common.{drop, length, reverse, ◌+◌, ◌≡◌, ◌≤◌}, specs.Vec.vec_capacity}
+use Rattle.{c104_tickets.specs.Tickets.place_tracks, std.{proofs.Common.{drop, length, reverse, ◌+◌, ◌≡◌, ◌≤◌}, specs.Vec.vec_capacity}}
 use Rattle.c104_lean.proofs.making.lock_all.Given as goal
 
 -- each node is in one of the lists; those that are left are the network's from this place on, the last first, and the pass

@@ -3,11 +3,9 @@ use Rattle.std.proofs.Common.{slice_index_or, subst, sym, ◌<◌, ◌≡◌}
 use Rattle.c104_lean.proofs.workers.run_workers.Goals as goal
 
 pub for_each_mut-requires-clause-accepts : goal.for_each_mut-requires-clause-accepts
-for_each_mut-requires-clause-accepts g c κs within = λ i p inside is. (
-  c.requires.some,
-  subst (λ (s : SeatView). s.word_id ≡ c.args.shared.now.word_id) (sym is)
-      (seat_at c.args.shared.now.word_id c.args.seats.now i p.now c.requires.own inside),
-)
+for_each_mut-requires-clause-accepts g c κs within = λ i p inside is.
+    subst (λ (s : SeatView). s.word_id ≡ c.args.shared.now.word_id) (sym is)
+    (seat_at c.args.shared.now.word_id c.args.seats.now i p.now c.requires.own inside)
 
 pub returns-clause-own : goal.returns-clause-own
 returns-clause-own g c = seats_all c.args.shared.now.word_id c.for_each_mut.new.s (λ i d inside.

@@ -1,11 +1,8 @@
-use Rattle.c104_lean.specs.Shared.{ArePartsOf, WasShared, record_of, terms_of}
-use Rattle.{c104_plan.specs.Plans.Plan, c104_run.specs.{Engines.engine_of, NetRecords.NetRecord, RecordedNets.IsRecordedNet}}
-use Rattle.c104_run.specs.RecordedPlaces.{counted_reading}
-use Rattle.c104_tickets.specs.declared.views.Terms.{Terms}
-use Rattle.std.proofs.Common.{ap, arith, length, subst, sym, ◌+◌, ◌∙◌, ◌≡◌}
-use Rattle.c104_lean.proofs.making.Ready.new.Goals as goal
+use Rattle.{c104_lean.specs.Shared.{ArePartsOf, WasShared, record_of, terms_of}, c104_plan.specs.Plans.Plan}
+use Rattle.c104_run.specs.{Engines.engine_of, NetRecords.NetRecord, RecordedNets.IsRecordedNet, RecordedPlaces.counted_reading}
+use Rattle.{c104_tickets.specs.declared.views.Terms.Terms, std.proofs.Common.{ap, arith, length, subst, sym, ◌+◌, ◌∙◌, ◌≡◌}}
 
-pub invariant_of-result : goal.invariant_of-result
+pub invariant_of-result : Rattle.c104_lean.proofs.making.Ready.new.Goals.invariant_of-result
 invariant_of-result c =
     let wires = c.into_parts-wires.result.0 in
     let nodes = c.into_parts-wires.result.1.items in

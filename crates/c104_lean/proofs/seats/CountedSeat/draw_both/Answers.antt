@@ -1,7 +1,7 @@
-use Rattle.c104_lean.{proofs.Draws.{behind_earlier, both_draws, both_tracks, count_free, done_at, is_fresh, of_seat, seat_grows}, specs.{Nodes.both_deed, Seats.first_done}}
-use Rattle.c104_tickets.specs.{Tickets.{AreEarlier, behind, track_after}, declared.views.{Deed.Deed, Terms.Terms, View.View}}
-use Rattle.c104_workers.specs.Calls.{SeatView, place_track, seat_track}
-use Rattle.std.proofs.Common.{[], ap, is_some, map, subst, sym, ◌++◌, ◌∙◌, ◌∷◌, ◌≡◌, ◌≤◌}
+use Rattle.c104_lean.proofs.Draws.{behind_earlier, both_draws, both_tracks, count_free, done_at, is_fresh, of_seat, seat_grows}
+use Rattle.{c104_lean.specs.{Nodes.both_deed, Seats.first_done}, c104_tickets.specs.Tickets.{AreEarlier, behind, track_after}}
+use Rattle.{c104_tickets.specs.declared.views.{Deed.Deed, Terms.Terms, View.View}, c104_workers.specs.Calls.{SeatView, place_track}}
+use Rattle.{c104_workers.specs.Calls.seat_track, std.proofs.Common.{[], ap, is_some, map, subst, sym, ◌++◌, ◌∙◌, ◌∷◌, ◌≡◌, ◌≤◌}}
 use Rattle.c104_lean.proofs.seats.CountedSeat.draw_both.Goals as goal
 
 pub invariant_of-self : goal.invariant_of-self

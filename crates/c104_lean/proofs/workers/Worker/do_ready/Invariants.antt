@@ -1,4 +1,4 @@
-use Rattle.c104_workers.specs.Working.{HasWorked}
+use Rattle.c104_lean.specs.Working.{HasWorked}
 
 -- the events so far
 abbrev pub invariant-loop-number : Rattle.c104_lean.proofs.workers.Worker.do_ready.Given.invariant-loop-number

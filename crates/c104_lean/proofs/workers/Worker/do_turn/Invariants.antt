@@ -1,4 +1,4 @@
-use Rattle.c104_workers.specs.Working.{HasWorked}
+use Rattle.c104_lean.specs.Working.{HasWorked}
 
 -- the parts so far
 abbrev pub invariant-loop-part : Rattle.c104_lean.proofs.workers.Worker.do_turn.Given.invariant-loop-part

@@ -1,4 +1,4 @@
-use Rattle.c104_workers.specs.Working.{HasWorked}
+use Rattle.c104_lean.specs.Working.{HasWorked}
 
 -- the turns so far
 abbrev pub invariant-loop-turn : Rattle.c104_lean.proofs.workers.Worker.do_turns.Given.invariant-loop-turn
