@@ -41,7 +41,7 @@ of_each f each ns = All-map IsOfLinks f ns (λ i s inside. each (get_or ns i s))
 labelled_sized : (plan : Plan) (ranges : List (ℕ × ℕ)) (tables : List Table) (image : Image) → image ≡ labelled_image plan ranges tables → All IsOfLinks image.settings
 labelled_sized plan ranges tables image is = search (arith, of_each, by_label)
 
-sized_by : (plan : Plan) (image : Image) (shape : Shape) → IsImageBy shape plan image → All IsOfLinks image.settings
+pub sized_by : (plan : Plan) (image : Image) (shape : Shape) → IsImageBy shape plan image → All IsOfLinks image.settings
 sized_by plan image Hand is = subst (λ (i : Image). All IsOfLinks i.settings) (sym is) (of_each (switch_settings plan) (by_own plan) (range_with_len 0 (length plan.switches)))
 sized_by plan image (Tree root) (forest, is) = labelled_sized plan _ _ image is.is
 sized_by plan image (UpDown named) (root, of, forest, is) = search (arith, of_each, by_ports)
