@@ -1,13 +1,13 @@
 -- What the workers of a storm did, by what each did to its seat.
-use Rattle.{c104_event.specs.declared.{events.Event.Event, faults.EventFault.EventFault}, c104_lean.specs.Runs.AreApplied}
-use Rattle.{c104_lean.specs.{Seats.AreAllSeats, Workers.StoppedFirst}, c104_plan.specs.Plans.Plan, c104_run.proofs.RecordedRuns.record_plan}
-use Rattle.{c104_run.specs.NetRecords.NetRecord, c104_storm.specs.Workers.{AreDoneBy, HaveWorked, IsDoneBy, IsStopOf, Team, team_of}}
-use Rattle.{c104_storm.specs.declared.working.Worked.Worked, c104_switch.specs.Actions.Reply, c104_tickets.specs.Tickets.TableId}
-use Rattle.{c104_tickets.specs.declared.views.Terms.Terms, c104_workers.{proofs.SeatWork.worked_on, specs.Calls.SeatView}}
-use Rattle.c104_workers.specs.{Fabrics.{first_seat, first_seats}, Working.{HasWorked, IsOwnEvent, IsStop}, declared.words.Words.Words}
-use Rattle.{c104_workers.specs.declared.workers.RunFault.RunFault, std.proofs.Common.{All, IfSome, List, Option, Result, [], ap, arith}}
-use Rattle.std.proofs.Common.{drop, get_or, length, refl, slice_index_or, subst, sym, take, ℕ, ◌++◌, ◌<◌, ◌∙◌, ◌∷◌, ◌≡◌}
-use Rattle.std.proofs.{Math.Seq.take-append_seam, lemmas.List.FromFn.{get_or-map-range_with_len, length-map-range_with_len}}
+use Rattle.{c104_event.specs.declared.{events.Event.Event, faults.EventFault.EventFault}, c104_lean.proofs.SeatWork.called_on}
+use Rattle.c104_lean.specs.{Runs.AreApplied, Seats.AreAllSeats, Workers.StoppedFirst, Working.{HasWorked, IsOwnEvent, IsStop}}
+use Rattle.{c104_plan.specs.Plans.Plan, c104_run.{proofs.RecordedRuns.record_plan, specs.NetRecords.NetRecord}}
+use Rattle.c104_storm.specs.{Workers.{AreDoneBy, HaveWorked, IsDoneBy, IsStopOf, Team, team_of}, declared.working.Worked.Worked}
+use Rattle.{c104_switch.specs.Actions.Reply, c104_tickets.specs.{Tickets.TableId, declared.views.Terms.Terms}}
+use Rattle.c104_workers.specs.{Calls.SeatView, Fabrics.{first_seat, first_seats}, declared.{words.Words.Words, workers.RunFault.RunFault}}
+use Rattle.std.proofs.Common.{All, IfSome, List, Option, Result, [], ap, arith, drop, get_or, length, refl, slice_index_or, subst, sym}
+use Rattle.std.proofs.{Common.{take, ℕ, ◌++◌, ◌<◌, ◌∙◌, ◌∷◌, ◌≡◌}, Math.Seq.take-append_seam, lemmas.List.FromFn.get_or-map-range_with_len}
+use Rattle.std.proofs.lemmas.List.FromFn.{length-map-range_with_len}
 
 -- first this, and then that
 pub all_worked_on : (plan : Plan) (words : Words) (old now new : List SeatView) → HaveWorked plan words old now
@@ -16,7 +16,7 @@ pub all_worked_on : (plan : Plan) (words : Words) (old now new : List SeatView) 
     HasWorked plan words (length now) i (slice_index_or now i d) (slice_index_or new i d)) → HaveWorked plan words old new
 all_worked_on plan words old now new first same second = (
   same ∙ first.0,
-  λ i d inside. worked_on plan words (length old) i (slice_index_or old i d) (slice_index_or now i d) (slice_index_or new i d)
+  λ i d inside. called_on (IsOwnEvent plan words (length old) i) (slice_index_or old i d) (slice_index_or now i d) (slice_index_or new i d)
       (first.1 i d inside)
       (subst (λ n. HasWorked plan words n i (slice_index_or now i d) (slice_index_or new i d)) first.0
       (second i d (omega (arith, inside, first.0)))),

@@ -1,9 +1,9 @@
 -- How a storm ends whose script was answered, and what it writes then.
-use Rattle.{c104_event.specs.declared.faults.EventFault.EventFault, c104_run.specs.{FinishedRecords.record_finish, NetRecords.NetRecord}}
-use Rattle.{c104_run.specs.QuietNets.IsQuiet, c104_storm.specs.{Arrivals.JoinArrivals, Texts.{audited_line, not_quiet_line, stop_line}}}
-use Rattle.c104_storm.specs.{Workers.Team, declared.{endings.Ending.Ending, working.Worked.Worked}}
-use Rattle.c104_stream.specs.{ScriptLines.script_too_long, Writing.AppendsPrefix, declared.halt.Halt.Halt}
-use Rattle.c104_workers.specs.Working.{IsStop}
+use Rattle.{c104_event.specs.declared.faults.EventFault.EventFault, c104_lean.specs.Working.IsStop}
+use Rattle.{c104_run.specs.{FinishedRecords.record_finish, NetRecords.NetRecord, QuietNets.IsQuiet}, c104_storm.specs.Arrivals.JoinArrivals}
+use Rattle.c104_storm.specs.{Texts.{audited_line, not_quiet_line, stop_line}, Workers.Team, declared.endings.Ending.Ending}
+use Rattle.{c104_storm.specs.declared.working.Worked.Worked, c104_stream.specs.{ScriptLines.script_too_long, Writing.AppendsPrefix}}
+use Rattle.c104_stream.specs.declared.halt.Halt.{Halt}
 use Rattle.std.specs.{Io.KnownBytes.Appends, Prelude.{Bool, Err, List, Ok, Option, Result, false, length, true, ℕ, ◌++◌, ◌<◌, ◌||◌, ◌≡◌}}
 use Rattle.std.specs.Prelude.{◌≢◌}
 

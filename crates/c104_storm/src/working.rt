@@ -1,7 +1,8 @@
 //! The workers of a storm: turns until all is quiet.
 //!
 //! A storm in which 64 turns or more did nothing isn't quiet, and no further turns are done: each event of a round was asked
-//! then in the state in which all the others were, so none of them will ever be ready.
+//! then in the state in which all the others were, so none of them will ever be ready, unless its node was another worker's
+//! each time.
 ghost use Rattle.std.specs.Prelude.{◌≤◌, length};
 ghost use Rattle.{c104_lean.specs.Seats.AreSeatsOf, c104_storm.specs.Workers.{HaveWorked, IsStopOf, team_of}};
 
@@ -27,8 +28,8 @@ pub(crate) enum Worked {
     Stopped(usize, EventFault),
 }
 
-/// Lets workers do turns, each through one of these seats and with such words, until all is quiet. Where none of them does
-/// anything in 64 turns or more, no later turn would. What takes the messages is told how many turns are done.
+/// Lets workers do turns, each through one of these seats and with such words, until all is quiet, or until none of them
+/// does anything in 64 turns or more. What takes the messages is told how many turns are done.
 pub(crate) fn work<N: Sharing + Send + Sync, R: Threads + Wait + Sync, M: Messages>(
     alloc: Global,
     rt: &R,
