@@ -1,5 +1,6 @@
 mod ArrivalLines
 mod EndingTexts
+mod MovingStorms
 mod PlainPieces
 mod RoundWork
 mod SentScripts

@@ -13,7 +13,7 @@ use Rattle.c104_session.proofs.{PlacedNets.{placed_starts, placed_unchanged}, Pr
 use Rattle.c104_session.{proofs.UnchangedNets.{IsUnchangedNet, keeps_nothing, nothing, round_event}, specs.PrintedPackets.packets_of}
 use Rattle.{c104_setup.specs.Setups.ComesTo, c104_storm.proofs.{RoundWork.team_of_round, SentScripts.lines_leave, ShownPackets.IsShownAt}}
 use Rattle.c104_storm.{proofs.{ShownPackets.writes_packets, ShownTexts.{Shows, nothing_shown, shows}}, specs.Arrivals.JoinArrivals}
-use Rattle.c104_storm.specs.{Endings.{IsEndText, IsEnding}, Packets.{EndsWith, SendsWell, WritesPackets, WritesPacketsOf}}
+use Rattle.c104_storm.specs.{Endings.{IsEndText, IsEnding}, Packets.{EndsWith, MaySend, SendsWell, WritesPackets, WritesPacketsOf}}
 use Rattle.c104_storm.specs.{Packets.{WritesSentPackets, script_sent, shown_text}, Sends.{new_sending, send_outcome}, Storms.MayStorm}
 use Rattle.c104_storm.specs.{Texts.audited_line, Workers.{AreDoneBy, Team}, declared.{endings.Ending.Ending, sends.Sending.Sending}}
 use Rattle.{c104_stream.specs.{ScriptLines.{is_long, script_lines}, Scripts.script_outcome}, c104_switch.specs.Actions.Reply}
@@ -123,7 +123,8 @@ module _ (plan : Plan) (image : Image) (is_plan : IsPlan plan) (fits : Fits imag
           (subst (λ (p : Plan). text ≡ audited_line ++ shown_text p lists.shown (length plan.terminals)) ended.same_plan lists.text)
 
 module _ (team : Team) (plan : Plan) (image : Image) (script : List ℕ) (is_plan : IsPlan plan) (fits : Fits image plan)
-    (well : SendsWell plan image script) where
+    (accepted : IsAccepted (routes_of plan image))
+    (may_send : AllByRecursion (MaySend (routes_of plan image)) (script_sent plan image script)) where
   abbrev sends : List (ℕ × Packet)
   sends = script_sent plan image script
 
@@ -134,11 +135,11 @@ module _ (team : Team) (plan : Plan) (image : Image) (script : List ℕ) (is_pla
   sent_well : IsUnchangedNet (routes_of plan image) plan (placed_starts plan image is_plan fits) nothing sends sending.net
   sent_well =
       lines_leave (routes_of plan image) plan is_plan (placed_starts plan image is_plan fits) (script_lines script) 1 []
-      (new_sending plan image) well.may (placed_unchanged plan image is_plan fits (routes_of plan image) nothing tt)
+      (new_sending plan image) may_send (placed_unchanged plan image is_plan fits (routes_of plan image) nothing tt)
 
   module _ (left : NetRecord) (seats : List SeatView) (one : IsSharedRun sending.net left team.count seats)
       (done : AreDoneBy team sending.net.network.plan seats) where
-    left_well : IsUnchangedNet (routes_of plan image) plan (placed_starts plan image is_plan fits) nothing sends left
+    pub left_well : IsUnchangedNet (routes_of plan image) plan (placed_starts plan image is_plan fits) nothing sends left
     left_well =
         applied_leaves plan image is_plan fits sends one.log sending.net left
         (team_of_round team sending.net.network.plan seats one.log done one.seated one.calls) one.applied sent_well
@@ -147,7 +148,7 @@ module _ (team : Team) (plan : Plan) (image : Image) (script : List ℕ) (is_pla
         → EndsWith plan image script text
     by_ending text Ending.NotQuiet is told = inl told
     by_ending text (Ending.Stopped worker kind) is told = inr (inl (worker, kind, told))
-    by_ending text Ending.Quiet is told = inr (inr (writes plan image is_plan fits well.accepted sends left left_well is text told))
+    by_ending text Ending.Quiet is told = inr (inr (writes plan image is_plan fits accepted sends left left_well is text told))
 
   pub storm_ends_with : (long faulty refused : Bool) (text : List ℕ) → long ≡ false
       → MayStorm team sending.net long faulty text refused → EndsWith plan image script text
@@ -159,13 +160,14 @@ module _ (team : Team) (plan : Plan) (image : Image) (script : List ℕ) (is_pla
 pub packets_written : (team : Team) (plan : Plan) (image : Image) → IsPlan plan → Fits image plan → WritesSentPackets team plan image
 unfolding WritesSentPackets
 packets_written team plan image is_plan fits script text refused may well =
-    storm_ends_with team plan image script is_plan fits well (is_long script) sending_faulty refused may.end well.short may.storms
+    storm_ends_with team plan image script is_plan fits well.accepted well.may (is_long script) sending_faulty refused may.end
+    well.short may.storms
   where
     sending_faulty : Bool
     sending_faulty = (script_outcome send_outcome (new_sending plan image) script).1.is_faulty
 
 -- of a description
-comes_to : (due : Result Plan PlanFault) (plan : Plan) (image : Image) → ComesTo due (Ok (plan, image))
+pub comes_to : (due : Result Plan PlanFault) (plan : Plan) (image : Image) → ComesTo due (Ok (plan, image))
     → (due ≡ Ok plan) × IsImageOf plan image
 comes_to (Ok read) plan image is = (ap Ok (sym is.0), subst (λ p. IsImageOf p image) (sym is.0) is.1)
 comes_to (Err kind) plan image is = absurd is

@@ -1,6 +1,7 @@
 pub mod Arrivals
 pub mod Commands
 pub mod Endings
+pub mod Moving
 pub mod Packets
 pub mod Sends
 pub mod Storms

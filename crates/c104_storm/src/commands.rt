@@ -1,7 +1,7 @@
 //! The command that lets a storm go over a description's network.
 ghost use Rattle.std.specs.Prelude.{List, ℕ, ◌≡◌, ◌≤◌};
 ghost use Rattle.c104_plan.specs.PlanImage.{Fits};
-ghost use Rattle.c104_storm.specs.{Commands.{StormEnds, StormRuns}, Packets.WritesPacketsOf, Workers.team_of};
+ghost use Rattle.c104_storm.specs.{Commands.{StormEnds, StormRuns}, Moving.NeverStandsStillOf, Packets.WritesPacketsOf, Workers.team_of};
 ghost use Rattle.c104_setup.specs.declared.status.Status.TheVariants as status;
 
 use crate::allowance::Allowance;
@@ -25,7 +25,7 @@ use std::thread::Threads;
 ///
 /// Reading ends at 1 MiB of a description and at 16 MiB of a script, whatever the reader. Each error of a reader or a
 /// writer is a fault at once.
-#[tactic(auto, using(crate::proofs::StormPackets::packets_of_description))]
+#[tactic(auto, using(crate::proofs::StormPackets::packets_of_description, crate::proofs::MovingStorms::none_of_description))]
 pub fn storm_command<R: Threads + Wait + Sync, D: Read, S: Read, W: Write, M: Messages>(
     alloc: Global,
     rt: &R,
@@ -45,6 +45,10 @@ pub fn storm_command<R: Threads + Wait + Sync, D: Read, S: Read, W: Write, M: Me
     // What is written behind the answers, of packets: where all is quiet, a line of each packet that was sent to a terminal,
     // whole, and none twice, by their senders and numbers.
     ensures packets { (text : List ℕ) → WritesPacketsOf (team_of workers words) text }
+
+    // Where no channels depend on one another in a cycle, a storm never comes to a standstill: if it isn't quiet at its end, some
+    // event of a round is ready, or refused. So the turns weren't enough, or an inbox or a trace is full.
+    ensures moving { (text : List ℕ) → NeverStandsStillOf (team_of workers words) text }
 {
     let Setup { plan, image, .. } = match read_setup(alloc, description, writer, messages) {
         Ok(setup) => setup,

@@ -3,9 +3,9 @@
 //! Its network is loaded, as a run's is: that this comes to the network placed with the image is proved of the load.
 ghost use Rattle.std.specs.Prelude.{length, ◌≡◌, ◌≤◌};
 ghost use Rattle.{c104_lean.specs.{Seats.AreSeatsOf, Shared.record_of}, c104_plan.specs.PlanImage.{Fits, Image as TheImage}};
-ghost use Rattle.{c104_plan.specs.Plans.Plan as ThePlan, c104_storm.specs.{Packets.WritesSentPackets, Sends.{new_sending, send_outcome}}};
-ghost use Rattle.{c104_storm.specs.{Storms.{StormsOn, StormsPlan}, Workers.team_of}, c104_stream.specs.Scripts.AnswersScript};
-ghost use Rattle.c104_workers.specs.Fabrics.{first_seats};
+ghost use Rattle.{c104_plan.specs.Plans.Plan as ThePlan, c104_storm.specs.{Moving.NeverStandsStill, Packets.WritesSentPackets}};
+ghost use Rattle.c104_storm.specs.{Sends.{new_sending, send_outcome}, Storms.{StormsOn, StormsPlan}, Workers.team_of};
+ghost use Rattle.{c104_stream.specs.Scripts.AnswersScript, c104_workers.specs.Fabrics.first_seats};
 
 use crate::allowance::Allowance;
 use crate::endings::{Sent, write_end};
@@ -32,7 +32,7 @@ pub const MAX_WORKERS: u8 = 64;
 /// the script, for its length or for one of its lines, or the storm, which isn't quiet or whose worker stopped.
 ///
 /// Where no thread can be made, the workers do their turns one after another.
-#[tactic(auto, using(crate::proofs::StormPackets::packets_written))]
+#[tactic(auto, using(crate::proofs::StormPackets::packets_written, crate::proofs::MovingStorms::never_stands_still))]
 pub fn storm_plan<R: Threads + Wait + Sync, S: Read, W: Write, M: Messages>(
     alloc: Global,
     rt: &R,
@@ -53,9 +53,14 @@ pub fn storm_plan<R: Threads + Wait + Sync, S: Read, W: Write, M: Messages>(
     // What is written behind the answers, of packets: where all is quiet, a line of each packet that was sent to a terminal,
     // whole, and none twice, by their senders and numbers.
     ensures packets { WritesSentPackets (team_of workers words) plan.now image.now }
+
+    // Where no channels depend on one another in a cycle, a storm never comes to a standstill: if it isn't quiet at its end, some
+    // event of a round is ready, or refused. So the turns weren't enough, or an inbox or a trace is full.
+    ensures moving { NeverStandsStill (team_of workers words) plan.now image.now }
 {
-    // The proof reads here what every plan keeps.
+    // The proof reads here what every plan and every image keeps.
     let _switches = plan.switches();
+    let _settings = image.switches();
     let sending = Sending::new(alloc, plan, image)?;
     storm_script(
         alloc, rt, workers, words, allowance, sending, script, writer, messages,
