@@ -1,8 +1,8 @@
--- The rule holds of a word that begins: all tracks are empty, no two have one name, and the first pass has them.
-use Rattle.c104_tickets.proofs.{Logs.each_append, Steps.apart_append}
-use Rattle.c104_tickets.specs.Tickets.{AreApart, Each, IsTrackOf, IsViewOf, IsWordOf, first_view, place_tracks, seat_tracks, words_with}
-use Rattle.c104_tickets.specs.declared.{TheConstants.{FIRST_LIMIT, SEAT_LIMIT}, views.{Name.Name, Terms.Terms, Track.Track, View.View}}
-use Rattle.std.proofs.Common.{[], ap, arith, inl, refl, subst, suc, sym, zero, ℕ, ◌+◌, ◌<◌, ◌∷◌, ◌≡◌, ◌≢◌, ◌≤◌}
+-- The rule holds of a log that begins: all tracks are empty, no two have one name, and the first pass has them.
+use Rattle.c104_tickets.{proofs.{Logs.each_append, Steps.apart_append}, specs.Tickets.{AreApart, Each, IsLogOf, IsTrackOf, IsViewOf}}
+use Rattle.c104_tickets.specs.{Tickets.{first_view, place_tracks, seat_tracks}, declared.TheConstants.{FIRST_LIMIT, SEAT_LIMIT}}
+use Rattle.{c104_tickets.specs.declared.views.{Name.Name, Terms.Terms, Track.Track, View.View}, std.proofs.Common.{[], arith, inl, refl}}
+use Rattle.std.proofs.Common.{subst, suc, sym, zero, ℕ, ◌+◌, ◌<◌, ◌∷◌, ◌≡◌, ◌≢◌, ◌≤◌}
 use lib.ListN.{get_elem?}
 use mathlib.Core.Option.{some, some-injective, some-ne-none}
 
@@ -47,13 +47,11 @@ other_kind s zero k places = tt
 other_kind s (suc more) k places = (no_seat s k places, other_kind (suc s) more k places)
 
 pub begins : (terms : Terms) → terms.first ≤ FIRST_LIMIT → terms.seats ≤ SEAT_LIMIT
-    → IsWordOf terms (words_with terms.first) (first_view terms ∷ [])
+    → IsLogOf terms [] (first_view terms ∷ [])
 begins terms first seats = record {
-  log = [];
   owner = λ name. 0;
   first_fits = first;
   seats_fit = seats;
-  word = ap words_with (omega arith);
   numbered = tt;
   inside = tt;
   few = λ s. omega arith;

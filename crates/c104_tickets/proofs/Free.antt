@@ -1,8 +1,7 @@
 -- A pass is free for a deed if it has the track of the seat, with room, and those of the places of the nodes.
 use Rattle.c104_tickets.{proofs.Logs.equals, specs.Tickets.{HasRoom, HasTrack, IsFree, IsTrack, belongs, stands_at}}
-use Rattle.c104_tickets.specs.declared.views.{Deed.Deed, Name.Name, Track.Track, View.View}
-use Rattle.std.proofs.Common.{Bool, List, [], ap, cond, false, inl, inr, refl, subst, true, ℕ, ◌∷◌, ◌≡◌}
-use Rattle.std.{specs.Prelude.{None, Option, Some}}
+use Rattle.{c104_tickets.specs.declared.views.{Deed.Deed, Name.Name, Track.Track, View.View}, std.proofs.Common.{Bool, List, [], ap, cond}}
+use Rattle.std.{proofs.Common.{false, inl, inr, refl, subst, true, ℕ, ◌∷◌, ◌≡◌}, specs.Prelude.{None, Option, Some}}
 
 has_some : (P : Track → Type 0) (name : Name) (ts : List Track) → HasTrack P name ts → HasTrack IsTrack name ts
 has_some P name [] has = has

@@ -3,3 +3,4 @@ pub mod Free
 mod Logs
 pub mod Parts
 mod Steps
+mod Words

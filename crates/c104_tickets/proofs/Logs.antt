@@ -1,9 +1,8 @@
 -- A log and its parts: what one more deed at its end adds, how long it can be, and that its tickets come before the next.
-use Rattle.c104_tickets.specs.Tickets.{AreNumbered, Each, IsInside, belongs, is_same, kept_if, part_of}
-use Rattle.c104_tickets.specs.declared.{TheConstants.{SEAT_LIMIT, TICKET_LIMIT}, views.{Done.Done, Name.Name, Terms.Terms}}
-use Rattle.std.proofs.Common.{Bool, List, [], ap, append-nil, arith, cond, false, length, map, refl, suc, true, zero, ℕ, ◌*◌, ◌++◌}
-use Rattle.std.proofs.Common.{◌+◌, ◌<◌, ◌∙◌, ◌∷◌, ◌≡◌, ◌≤◌}
-use Rattle.std.{proofs.lemmas.Bool.Decides.nat_tests, specs.Prelude.{nat_lt, ◌==◌}}
+use Rattle.c104_tickets.specs.{Tickets.{AreNumbered, Each, IsInside, belongs, is_same, kept_if, part_of}, declared.TheConstants.SEAT_LIMIT}
+use Rattle.{c104_tickets.specs.declared.{TheConstants.TICKET_LIMIT, views.{Done.Done, Name.Name, Terms.Terms}}, std.proofs.Common.Bool}
+use Rattle.std.proofs.Common.{List, [], ap, append-nil, arith, cond, false, length, map, refl, suc, true, zero, ℕ, ◌*◌, ◌++◌, ◌+◌, ◌<◌, ◌∙◌}
+use Rattle.std.{proofs.{Common.{◌∷◌, ◌≡◌, ◌≤◌}, lemmas.Bool.Decides.nat_tests}, specs.Prelude.{nat_lt, ◌==◌}}
 
 -- what holds of each
 

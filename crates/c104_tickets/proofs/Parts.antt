@@ -1,11 +1,11 @@
--- For who closes a word: what is known of some of the tracks, of the seats that have them, and of the tickets of these seats.
-use Rattle.c104_tickets.specs.Counts.{AreDistinct, AreNoneTwice, AreOnce, count_of, one_within, seat_tickets, tickets_in}
-use Rattle.c104_tickets.specs.{Tickets.{AreApart, AreNumbered, Each, IsClosed, IsInside, kept_if, part_of}}
-use Rattle.c104_tickets.{proofs.Logs.itself, specs.declared.views.{Done.Done, Name.Name, Terms.Terms, Track.Track}}
-use Rattle.std.proofs.Common.{Bool, List, [], ap, arith, cond, false, get_or, length, map, refl, subst, suc, sym, true, zero, ℕ, ◌++◌}
-use Rattle.std.proofs.Common.{◌+◌, ◌-◌, ◌<◌, ◌∙◌, ◌∷◌, ◌≡◌, ◌≢◌, ◌≤◌}
-use Rattle.std.proofs.lemmas.{Bool.Decides.nat_tests, List.Sums.{get_or-le-sum_by, sum_by-append, sum_by-cons}}
-use Rattle.std.specs.Prelude.{Contains, nat_lt, ◌==◌}
+-- For who closes a word or a log: what is known of some of the tracks, of the seats that have them, and of the tickets of these
+-- seats.
+use Rattle.c104_tickets.{proofs.Logs.{itself, length_kept}, specs.Counts.{AreDistinct, AreNoneTwice, AreOnce, count_of, done_in}}
+use Rattle.c104_tickets.specs.{Counts.{one_within, seat_tickets, tickets_in}, Tickets.{AreApart, AreNumbered, Each, IsClosed, IsInside}}
+use Rattle.c104_tickets.specs.{Tickets.{IsNameOf, kept_if, part_of}, declared.views.{Done.Done, Name.Name, Terms.Terms, Track.Track}}
+use Rattle.std.proofs.Common.{Bool, List, [], ap, arith, cond, false, get_or, length, map, refl, subst, suc, sym, true, zero, ℕ, ◌++◌, ◌+◌}
+use Rattle.std.proofs.{Common.{◌-◌, ◌<◌, ◌∙◌, ◌∷◌, ◌≡◌, ◌≢◌, ◌≤◌}, lemmas.{Bool.Decides.nat_tests, List.Sums.get_or-le-sum_by}}
+use Rattle.std.{proofs.lemmas.List.{Sums.{sum_by-append, sum_by-cons}, length-append, length-map}, specs.Prelude.{Contains, nat_lt, ◌==◌}}
 
 -- some of the tracks
 
@@ -218,3 +218,62 @@ module _ (terms : Terms) (next : ℕ) (tracks : List Track) (closed : IsClosed t
     pub each_once : ((s : ℕ) → s < terms.seats → 1 ≤ count_of s seats) → AreOnce terms.first next (seat_tickets seats closed.log)
     each_once all = subst (λ n. AreOnce terms.first n (seat_tickets seats closed.log)) (sym closed.last)
         (once_in seats (at_most_once seats distinct) terms all terms.first closed.log closed.numbered closed.inside)
+
+-- the tracks of all seats have as much as the log
+
+no_more : (seats : List ℕ) → length (seat_tickets seats []) ≡ 0
+no_more [] = refl
+no_more (s ∷ seats) = no_more seats
+
+longer : (d : Done) (log : List Done) (seats : List ℕ)
+    → length (seat_tickets seats (d ∷ log)) ≡ length (seat_tickets seats log) + count_of d.deed.seat seats
+longer d log [] = refl
+longer d log (s ∷ seats) =
+    let rest : List Done = part_of (Name.Seat s) log in
+    let kept : List Done = kept_if (d.deed.seat == s) d rest in
+    omega (
+      arith,
+      length-append (tickets_in kept) (seat_tickets seats (d ∷ log)),
+      length-append (tickets_in rest) (seat_tickets seats log),
+      length-map kept (λ (e : Done). e.ticket),
+      length-map rest (λ (e : Done). e.ticket),
+      length_kept (d.deed.seat == s) d rest,
+      longer d log seats,
+      count_cons d.deed.seat s seats,
+    )
+
+module _ (terms : Terms) (seats : List ℕ) (once : (s : ℕ) → count_of s seats ≤ 1) (all : (s : ℕ) → s < terms.seats → 1 ≤ count_of s seats) where
+  as_long : (log : List Done) → Each (IsInside terms) log → length (seat_tickets seats log) ≡ length log
+  as_long [] inside = no_more seats
+  as_long (d ∷ log) inside =
+      let within : d.deed.seat < terms.seats = inside.0 (Name.Seat d.deed.seat) (itself d.deed.seat) in
+      omega (arith, longer d log seats, as_long log inside.1, once d.deed.seat, all d.deed.seat within)
+
+in_tracks : (log : List Done) (tracks : List Track) (seats : List ℕ) → map (λ t. t.name) tracks ≡ map Name.Seat seats
+    → Each (λ t. t.done ≡ part_of t.name log) tracks → done_in tracks ≡ length (seat_tickets seats log)
+in_tracks log [] [] are parts = refl
+in_tracks log [] (s ∷ seats) are parts = absurd (cc are)
+in_tracks log (t ∷ tracks) [] are parts = absurd (cc are)
+in_tracks log (t ∷ tracks) (s ∷ seats) are parts =
+    let own : t.done ≡ part_of (Name.Seat s) log = parts.0 ∙ ap (λ name. part_of name log) (head_seat t tracks s seats are) in
+    omega (
+      arith,
+      ap (λ (done : List Done). length done) own,
+      in_tracks log tracks seats (tail_seats t tracks s seats are) parts.1,
+      length-append (tickets_in (part_of (Name.Seat s) log)) (seat_tickets seats log),
+      length-map (part_of (Name.Seat s) log) (λ (e : Done). e.ticket),
+    )
+
+-- so where those of all seats are among the tracks, the next ticket is as far from the first
+pub all_counted : (terms : Terms) (next : ℕ) (tracks others : List Track) (seats : List ℕ) → IsClosed terms next (tracks ++ others)
+    → map (λ t. t.name) tracks ≡ map Name.Seat seats → length seats ≡ terms.seats → next ≡ terms.first + done_in tracks
+all_counted terms next tracks others seats closed are full =
+    let distinct : AreDistinct seats = distinct_seats tracks seats are (apart_left tracks others closed.apart) in
+    let named : Each (λ s. s < terms.seats) seats =
+    each_seat (IsNameOf terms) tracks seats are (each_left (λ t. IsNameOf terms t.name) tracks others closed.named) in
+    omega (
+      arith,
+      closed.last,
+      as_long terms seats (at_most_once seats distinct) (all_stand terms.seats seats distinct named full) closed.log closed.inside,
+      in_tracks closed.log tracks seats are (each_left (λ t. t.done ≡ part_of t.name closed.log) tracks others closed.parts),
+    )

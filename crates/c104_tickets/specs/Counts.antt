@@ -1,7 +1,7 @@
--- How often a number stands in a list, and the tickets of what seats did, one seat after another.
-use Rattle.c104_tickets.specs.{Tickets.{Each, part_of}, declared.views.{Done.Done, Name.Name}}
-use Rattle.std.specs.List.{count_by}
-use Rattle.std.specs.Prelude.{List, [], if◌then◌else◌, map, nat_le, nat_lt, ℕ, ◌&&◌, ◌++◌, ◌==◌, ◌∷◌, ◌≡◌, ◌≢◌, ◌≤◌}
+-- How often a number stands in a list, the tickets of what seats did, one seat after another, and how much was done in all.
+use Rattle.c104_tickets.specs.{Tickets.{Each, part_of}, declared.views.{Done.Done, Name.Name, Track.Track}}
+use Rattle.std.specs.{List.count_by, Prelude.{List, [], if◌then◌else◌, length, map, nat_le, nat_lt, ℕ, ◌&&◌, ◌++◌, ◌+◌, ◌==◌, ◌∷◌, ◌≡◌}}
+use Rattle.std.specs.Prelude.{◌≢◌, ◌≤◌}
 
 -- how often a number stands in a list
 abbrev pub count_of : ℕ → List ℕ → ℕ
@@ -31,3 +31,8 @@ tickets_in done = map (λ d. d.ticket) done
 abbrev pub seat_tickets : List ℕ → List Done → List ℕ
 seat_tickets [] log = []
 seat_tickets (s ∷ seats) log = tickets_in (part_of (Name.Seat s) log) ++ seat_tickets seats log
+
+-- how much was done of which these are the tracks
+abbrev pub done_in : List Track → ℕ
+done_in [] = 0
+done_in (track ∷ tracks) = length track.done + done_in tracks

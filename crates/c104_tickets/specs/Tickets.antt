@@ -1,13 +1,12 @@
--- A word from which tickets are drawn, as plain data: the log of all that was done, the parts of it that seats and places
--- have, what a pass knows of it, its view, how each step changes views, and the rule, which holds between any two steps and
--- says that each track is the part of one log that its name has.
+-- A word from which tickets are drawn, or a log without one, as plain data: the log of all that was done, the parts of it that
+-- seats and places have, what a pass knows of it, its view, how each step changes views, and the rule, which holds between any
+-- two steps and says that each track is the part of one log that its name has.
 pub use Rattle.atomic_table.specs.Seated.{TableId}
-use Rattle.c104_event.specs.declared.events.Event.{Event}
-use Rattle.c104_switch.specs.declared.actions.ReplyOf.{ReplyOf}
-use Rattle.c104_tickets.specs.declared.TheConstants.{FIRST_LIMIT, SEAT_LIMIT, TICKET_LIMIT}
-use Rattle.c104_tickets.specs.declared.views.{Deed.Deed, Done.Done, Name.Name, Terms.Terms, Track.Track, View.View}
-use Rattle.std.specs.Prelude.{Bool, List, None, Option, Some, [], false, if◌then◌else◌, length, map, suc, true, zero, ℕ, ◌++◌, ◌+◌}
-use Rattle.std.specs.Prelude.{◌<◌, ◌==◌, ◌∷◌, ◌≡◌, ◌≤◌, ◌≢◌, ◌⊎◌}
+use Rattle.{c104_event.specs.declared.events.Event.Event, c104_switch.specs.declared.actions.ReplyOf.ReplyOf}
+use Rattle.c104_tickets.specs.declared.{TheConstants.{FIRST_LIMIT, SEAT_LIMIT, TICKET_LIMIT}, views.{Deed.Deed, Done.Done, Name.Name}}
+use Rattle.c104_tickets.specs.declared.views.{Terms.Terms, Track.Track, View.View}
+use Rattle.std.specs.Prelude.{Bool, List, None, Option, Some, [], false, if◌then◌else◌, length, map, suc, true, zero, ℕ, ◌++◌, ◌+◌, ◌<◌}
+use Rattle.std.specs.Prelude.{◌==◌, ◌∷◌, ◌≡◌, ◌≢◌, ◌≤◌, ◌⊎◌}
 use lib.ListN.{get_elem?}
 use mathlib.Core.Option.{some}
 
@@ -148,18 +147,33 @@ pub record IsViewOf (terms : Terms) (owner : Name → ℕ) (log : List Done) (i 
 abbrev pub words_with : ℕ → List ℕ
 words_with n = 0 ∷ 0 ∷ 0 ∷ 0 ∷ 0 ∷ 0 ∷ 0 ∷ 0 ∷ 0 ∷ 0 ∷ 0 ∷ 0 ∷ 0 ∷ 0 ∷ 0 ∷ 0 ∷ n ∷ []
 
--- the rule of the word: it is the first ticket and as many more as were drawn, and there is one log of what was done, with
--- these tickets in order; each track of a view is the part of the log that its name has, and no name has two
-pub record IsWordOf (terms : Terms) (words : List ℕ) (views : List View) : Type 0 where
-  pub log : List Done
+-- the rule of a log: it is numbered by its tickets from the first on, and each track of a view is the part of it that its name
+-- has, and no name has two
+pub record IsLogOf (terms : Terms) (log : List Done) (views : List View) : Type 0 where
   pub owner : Name → ℕ
   pub first_fits : terms.first ≤ FIRST_LIMIT
   pub seats_fit : terms.seats ≤ SEAT_LIMIT
-  pub word : words ≡ words_with (terms.first + length log)
   pub numbered : AreNumbered terms.first log
   pub inside : Each (IsInside terms) log
   pub few : (s : ℕ) → length (part_of (Name.Seat s) log) ≤ TICKET_LIMIT
   pub fits : (i : ℕ) (v : View) → get_elem? views i ≡ some v → IsViewOf terms owner log i v
+
+-- the rule of a log that no word tells of
+abbrev pub HasLog : Terms → List View → Type 0
+HasLog terms views = (log : List Done) × IsLogOf terms log views
+
+-- the rule of the word: there is a log, and the word is the first ticket and as many more as were drawn
+pub record IsWordOf (terms : Terms) (words : List ℕ) (views : List View) : Type 0 where
+  pub log : List Done
+  pub logged : IsLogOf terms log views
+  pub word : words ≡ words_with (terms.first + length log)
+
+-- a deed joined the log, with some ticket: it is greater than all that the pass has
+pub record IsAppended (deed : Deed) (old new : View) : Type 0 where
+  pub ticket : ℕ
+  pub is : new ≡ after_draw old deed ticket
+  pub above : AreEarlier ticket old.tracks
+  pub first : old.terms.first ≤ ticket
 
 -- the log of a word that was ended, of which these tracks are parts
 pub record IsClosed (terms : Terms) (next : ℕ) (tracks : List Track) : Type 0 where
@@ -171,12 +185,16 @@ pub record IsClosed (terms : Terms) (next : ℕ) (tracks : List Track) : Type 0 
   pub named : Each (λ track. IsNameOf terms track.name) tracks
   pub apart : AreApart tracks
 
--- a word as contracts see it: which one it is, and what it was told
+-- the same where the next ticket isn't told
+abbrev pub IsClosedLog : Terms → List Track → Type 0
+IsClosedLog terms tracks = (next : ℕ) × IsClosed terms next tracks
+
+-- a word, or a log without one, as contracts see it: which one it is, and what it was told
 pub record WordValue : Type 0 where
   pub word_id : TableId
   pub terms : Terms
 
--- a pass as contracts see it: to which word, and what it knows
+-- a pass as contracts see it: to which of them, and what it knows
 pub record PassValue : Type 0 where
   pub word_id : TableId
   pub view : View

@@ -3,6 +3,8 @@
 //! - [`TicketWord`] is the word, which holds the next ticket, and a log of all that was done, which exists in proofs alone.
 //!   There are four kinds of atomic step on the word, and no other: it is made, a pass is split off another, a ticket is
 //!   drawn by a single addition, and two passes are joined.
+//! - [`DeedLog`] is the same log without a word, where only proofs ask for tickets: a deed joins it at a load of what nothing
+//!   writes.
 //! - [`Pass`] is what one steps with. In contracts it is what it knows, its [`View`]: the tracks of seats and of places,
 //!   each of them the part of the log that belongs to it.
 //!
@@ -11,15 +13,20 @@
 //! seat's before a draw, and split off again behind it; and whoever has a track knows all of what its name did.
 //!
 //! That there is one log, of which each track is a part, holds between any two steps, whoever takes them: it is the rule of
-//! the table to which the word belongs (`IsWordOf`). So [`TicketWord::close`] can tell it of the pass that is handed back.
+//! the table (`IsLogOf`; with its word `IsWordOf`). So [`TicketWord::close`] and [`DeedLog::close`] can tell it of the pass
+//! that is handed back.
 #![tactic(auto)]
 
+mod deed_log;
+mod passes;
 mod rule;
 mod ticket_word;
 mod views;
 
+pub use deed_log::DeedLog;
+pub use passes::Pass;
 pub use rule::Asks;
-pub use ticket_word::{Pass, TicketWord};
+pub use ticket_word::TicketWord;
 pub use views::{Deed, Done, Name, Terms, Track, View};
 
 /// The most seats of a word.

@@ -1,4 +1,4 @@
-//! The word of tickets, and the passes to it.
+//! The word of tickets.
 //!
 //! A step that changes what a pass knows is a step on the word, since views change at no other. So `split` and `join` load
 //! it once, of which nothing is told.
@@ -6,9 +6,10 @@ ghost use Rattle.std.specs.Prelude.{◌≡◌, ◌≤◌, IfOk};
 ghost use Rattle.c104_tickets.specs.declared.TheConstants.{FIRST_LIMIT, SEAT_LIMIT};
 ghost use Rattle.c104_tickets.specs.Tickets.{AreEarlier, IsClosed, IsFree, after_draw, after_join, after_split, first_track, first_view};
 
-use crate::rule::{Asks, Draws, GivesFirst, OneLog, TakesIn};
+use crate::passes::Pass;
+use crate::rule::{Asks, Draws, GivesFirst, LogWithWord, TakesIn};
 use crate::views::{Terms, View};
-use atomic_table::{Seat, Table};
+use atomic_table::Table;
 use std::alloc::{AllocError, Global};
 use std::marker::Model;
 
@@ -19,7 +20,7 @@ const WORD: usize = 16;
 /// The next ticket, as a word that all passes share.
 #[derive(Drop)]
 pub struct TicketWord {
-    table: Table<(), View, Terms, OneLog, Global>,
+    table: Table<(), View, Terms, LogWithWord, Global>,
     first: u64,
 }
 
@@ -33,23 +34,6 @@ impl Model for TicketWord {
 
     ghost invariant = { λ w. (w.table.shared.table_id.words ≡ 17) × (w.table.shared.table_id.slots ≡ 0)
         × (w.table.shared.key.first ≡ w.first) };
-}
-
-/// What one steps with: it lies with a seat, or behind a lock beside the node of a place.
-#[derive(Drop)]
-pub struct Pass {
-    seat: Seat<(), View>,
-}
-
-impl Model for Pass {
-    ghost use Rattle.std.specs.Prelude.{◌≡◌, []};
-    ghost use Rattle.c104_tickets.specs.Tickets.{PassValue};
-
-    ghost Value = { PassValue };
-
-    ghost view = { λ p. record { word_id = p.seat.table_id; view = p.seat.me.0 } };
-
-    ghost invariant = { λ p. p.seat.me.1 ≡ [] };
 }
 
 impl TicketWord {
@@ -121,7 +105,7 @@ impl TicketWord {
         next
     }
 
-    fn into_table(self) -> Table<(), View, Terms, OneLog, Global>
+    fn into_table(self) -> Table<(), View, Terms, LogWithWord, Global>
         ensures table { (result.shared.table_id ≡ self.word_id) × (result.shared.key ≡ self.terms) }
         ensures counts { (result.shared.table_id.words ≡ 17) × (result.shared.table_id.slots ≡ 0) }
     {

@@ -1,5 +1,5 @@
-use Rattle.{atomic_table.specs.Table.Act, c104_tickets.{proofs.Steps.draws, specs.Tickets.{IsFree, PassValue, WordValue, after_draw}}}
-use Rattle.{std.{proofs.Common.{ap, arith, refl, subst, sym, ◌∙◌}, specs.Prelude.slice_index}}
+use Rattle.{atomic_table.specs.Table.Act, c104_tickets.{proofs.Words.draws, specs.Tickets.{IsFree, PassValue, WordValue, after_draw}}}
+use Rattle.std.{proofs.Common.{ap, arith, refl, subst, sym, ◌∙◌}, specs.Prelude.slice_index}
 
 pub fetch_add-requires : Rattle.c104_tickets.proofs.ticket_word.TicketWord.draw.Goals.fetch_add-requires
 fetch_add-requires g c =

@@ -1,4 +1,4 @@
-use Rattle.{c104_tickets.{proofs.Steps.join_keeps, specs.Tickets.{PassValue, WordValue}}, std.proofs.Common.{ap, arith, sym, ◌∙◌}}
+use Rattle.{c104_tickets.{proofs.Words.word_joins, specs.Tickets.{PassValue, WordValue}}, std.proofs.Common.{ap, arith, sym, ◌∙◌}}
 
 pub join_seat-requires : Rattle.c104_tickets.proofs.ticket_word.TicketWord.join.Goals.join_seat-requires
 join_seat-requires c =
@@ -9,5 +9,5 @@ join_seat-requires c =
       c.other.invariant,
       omega (arith, c.self.invariant.0),
       λ s rule at differs at_other.
-          join_keeps c.self.inside.table.shared.key s.words s.views rule mine.id mine.me.0 theirs.id theirs.me.0 at at_other differs,
+          word_joins c.self.inside.table.shared.key s.words s.views rule mine.id mine.me.0 theirs.id theirs.me.0 at at_other differs,
     )
