@@ -3,10 +3,9 @@
 //! A trace has room for a fixed number of entries, and an event is refused where it is full. To know that, a count is
 //! enough.
 ghost use Rattle.std.specs.{Option.option_copied, Prelude.{All, MatchResult, OnErr, [], false, is_some, length, true, ◌++◌, ◌<◌, ◌∷◌, ◌≡◌}};
-ghost use Rattle.c104_node.specs.{Acts.{IsWithinLimits, node_act, reply_outcome, wants_memory}, Nodes.node_arrived};
-ghost use Rattle.c104_node.specs.{Quiet.{IsQuietNode, node_begin}, Starts.{start_node, start_of}, Tagged.tagged_kind, TracedRecords.IsFit};
-ghost use Rattle.c104_node.specs.Traces.{kept_entry, trace_limit};
-ghost use Rattle.c104_node.specs.TracedRecords.{first_traced};
+ghost use Rattle.c104_node.specs.{Acts.{IsWithinLimits, node_act, reply_outcome, wants_memory}, Nodes.node_arrived, Quiet.IsQuietNode};
+ghost use Rattle.c104_node.specs.{Quiet.node_begin, Starts.{start_node, start_of}, Tagged.tagged_kind, TracedRecords.{IsFit, first_traced}};
+ghost use Rattle.c104_node.specs.{Traces.{kept_entry, trace_limit}, declared.stamps.Stamp.Stamp as TheStamp};
 
 use crate::acts::ActOf;
 use crate::history::History;
@@ -120,6 +119,25 @@ impl CountedNode {
         } }
     {
         self.history = self.history.with(stamp, act, reply);
+        self.entries += 1;
+    }
+
+    /// The same of an event whose stamp only proofs know. The caller's proof picks it, by what tells of it.
+    #[inline(always)]
+    pub fn note_told<W>(
+        &mut self,
+        _teller: &W,
+        act: &ActOf<TaggedToken>,
+        reply: &ReplyOf<TaggedToken>,
+    )
+        ghost stamp: { TheStamp }
+        requires short { IsWithinLimits act.now }
+        requires room { length self.old.trace < trace_limit }
+        ensures { self.new ≡ record self.old {
+          trace = self.old.trace ++ kept_entry tagged_kind stamp act.now reply.now ∷ [];
+        } }
+    {
+        self.history = self.history.told(act, reply);
         self.entries += 1;
     }
 

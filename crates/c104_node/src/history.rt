@@ -11,7 +11,7 @@
 //! what it is. Their form is that in which the toolchain's libraries keep logs for contracts (`serde_json`,
 //! `http_server`).
 ghost use Rattle.std.specs.Prelude.{List};
-ghost use Rattle.c104_node.specs.declared.{acts.Entry.Entry as TheEntry, starts.NodeStart.NodeStart as TheStart};
+ghost use Rattle.c104_node.specs.declared.{acts.Entry.Entry as TheEntry, stamps.Stamp.Stamp as TheStamp, starts.NodeStart.NodeStart as TheStart};
 
 use crate::acts::ActOf;
 use crate::node::NodeOf;
@@ -50,18 +50,45 @@ impl History {
         History {}
     }
 
-    /// The same history with one act more, in the event of this stamp, and its reply.
+    /// The same history with one act more, and its reply. In which event it was is picked by the caller's proof.
+    #[inline(always)]
+    pub fn told(&self, _act: &ActOf<TaggedToken>, _reply: &ReplyOf<TaggedToken>) -> History
+        ghost stamp: { TheStamp }
+        ensures { (result.start ≡ self.now.start)
+            × (result.trace ≡ self.now.trace
+            ++ kept_entry tagged_kind stamp _act.now _reply.now ∷ []) }
+    {
+        History {}
+    }
+
+    /// The same of an event of which something tells, for the pick of the caller's proof.
+    #[inline(always)]
+    pub fn told_by<W>(
+        &self,
+        _teller: &W,
+        act: &ActOf<TaggedToken>,
+        reply: &ReplyOf<TaggedToken>,
+    ) -> History
+        ghost stamp: { TheStamp }
+        ensures { (result.start ≡ self.now.start)
+            × (result.trace ≡ self.now.trace
+            ++ kept_entry tagged_kind stamp act.now reply.now ∷ []) }
+    {
+        self.told(act, reply)
+    }
+
+    /// The same in the event of this stamp.
     #[inline(always)]
     pub fn with(
         &self,
-        _stamp: &Stamp,
-        _act: &ActOf<TaggedToken>,
-        _reply: &ReplyOf<TaggedToken>,
+        stamp: &Stamp,
+        act: &ActOf<TaggedToken>,
+        reply: &ReplyOf<TaggedToken>,
     ) -> History
         ensures { (result.start ≡ self.now.start)
             × (result.trace ≡ self.now.trace
-            ++ kept_entry tagged_kind _stamp.now _act.now _reply.now ∷ []) }
+            ++ kept_entry tagged_kind stamp.now act.now reply.now ∷ []) }
     {
-        History {}
+        self.told_by(stamp, act, reply)
     }
 }

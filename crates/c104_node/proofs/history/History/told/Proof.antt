@@ -1,6 +1,6 @@
 -- A history is made without code, and the proof says what it holds. Assumes `Logic`.
 use Rattle.c104_node.{proofs.Walks.{none, none_made}, specs.{Tagged.tagged_kind, Traces.kept_entry}}
-use Rattle.{c104_node.specs.contracts.history.History.with.Key.name as #self, std.proofs.Common.{List, [], refl, ◌++◌, ◌∷◌}}
+use Rattle.{c104_node.specs.contracts.history.History.told.Key.name as #self, std.proofs.Common.{List, [], refl, ◌++◌, ◌∷◌}}
 use base.Logic.{SProp, ent}
 use contract.{Monad.Fun, Running.{tables, tables_of}}
 use denote.{Builtin.RefOf, Exit.yes, RattleType.owns, Signature.{plain, types_at}, Steps.nothing, Triple.Clauses.{Clauses, Ended, closing}}
@@ -12,12 +12,11 @@ use seplogic.Ra.Ura.{Ura}
 use sound.WpLaws.{WpFn-mono}
 use types.{ByLocal.{alloc_all, free_all, look_at, pass_all, sets}, Kit.{ !, done, drop, feq_l, fjoin, fsplit, keep, move, prop, qed, raw}}
 use types.{Kit.{regoal, split, suffices, ‵, ◌$◌, ◌∵◌, ◌⊛◌}, Logic.Logic, Part.agg, Run.{enter, no_more, returns}}
-use Rattle.c104_node.proofs.history.History.with.Code as code
-use Rattle.c104_node.proofs.history.History.with.Statement as stated
+use Rattle.c104_node.proofs.history.History.told.Code as code
+use Rattle.c104_node.proofs.history.History.told.Statement as stated
 use Rattle.c104_node.specs.contracts.acts.ActOf as ActOf
 use Rattle.c104_node.specs.contracts.history.History as History
-use Rattle.c104_node.specs.contracts.history.History.with as F
-use Rattle.c104_node.specs.contracts.stamps.Stamp as Stamp
+use Rattle.c104_node.specs.contracts.history.History.told as F
 use Rattle.c104_node.specs.contracts.tagged.TaggedToken as TaggedToken
 use Rattle.c104_switch.specs.contracts.actions.ReplyOf as ReplyOf
 
@@ -28,7 +27,7 @@ abbrev ended : Ended
 ended = F.ended
 
 abbrev stayed : Stays ended.signature.params ended.kept
-stayed = (stay_dropped _ yes, (stay_dropped _ yes, (stay_dropped _ yes, (stay_dropped _ yes, tt))))
+stayed = (stay_dropped _ yes, (stay_dropped _ yes, (stay_dropped _ yes, tt)))
 
 module _ {M : Type 1} {𝓤 : Ura M} (𝓛 : Logic 𝓤) (at_mem : Memory → SProp 𝓤) (run : Routine → Fun 𝓤) where
   open 𝓛 use {H}
@@ -50,29 +49,27 @@ module _ {M : Type 1} {𝓤 : Ura M} (𝓛 : Logic 𝓤) (at_mem : Memory → SP
         let u : Val = vptr a.0.ref_ptr.0 a.0.ref_ptr.1 in
         let v : Val = vptr a.1.0.ref_ptr.0 a.1.0.ref_ptr.1 in
         let w : Val = vptr a.1.1.0.ref_ptr.0 a.1.1.0.ref_ptr.1 in
-        let x : Val = vptr a.1.1.1.0.ref_ptr.0 a.1.1.1.0.ref_ptr.1 in
-        let made : (History.the_row).Denot = record { start = a.0.now.start; trace = a.0.now.trace ++ kept_entry tagged_kind a.1.0.now a.1.1.0.now a.1.1.1.0.now ∷ [] } in
+        let made : (History.the_row).Denot = record { start = a.0.now.start; trace = a.0.now.trace ++ kept_entry tagged_kind z.1 a.1.0.now a.1.1.0.now ∷ [] } in
         qed 𝓛 ((raw toks ⊛ ‵ (owns (types_at ended.signature.params z.0.0) a vss)) ∷ raw ((held z.0.0 a).requires z.1) ∷ []) ∵
-        keep ! (0 ∷ []) $ split ! $ move ! (1 ∷ []) $ fsplit ! $ fsplit ! $ feq_l ! (λ is₀. drop ! $ fsplit ! $ fsplit ! $ feq_l ! (λ is₁. drop ! $ fsplit ! $ fsplit ! $ feq_l ! (λ is₂. drop ! $ fsplit ! $ fsplit ! $ feq_l ! (λ is₃. drop ! $ drop ! $
-        regoal ! (λ (us : List Val). prop (WpFn 𝓤 H C Λ function (us ++ (vss.1.0 ++ (vss.1.1.0 ++ (vss.1.1.1.0 ++ [])))) Post)) is₀ refl $
-        regoal ! (λ (us : List Val). prop (WpFn 𝓤 H C Λ function ((u ∷ []) ++ (us ++ (vss.1.1.0 ++ (vss.1.1.1.0 ++ [])))) Post)) is₁ refl $
-        regoal ! (λ (us : List Val). prop (WpFn 𝓤 H C Λ function ((u ∷ []) ++ ((v ∷ []) ++ (us ++ (vss.1.1.1.0 ++ [])))) Post)) is₂ refl $
-        regoal ! (λ (us : List Val). prop (WpFn 𝓤 H C Λ function ((u ∷ []) ++ ((v ∷ []) ++ ((w ∷ []) ++ (us ++ [])))) Post)) is₃ refl $
-        enter ! C Λ function (u ∷ v ∷ w ∷ x ∷ []) Post $ alloc_all ! (λ l. pass_all ! refl ((tt, tt), ((tt, tt), ((tt, tt), ((tt, tt), tt)))) $
+        keep ! (0 ∷ []) $ split ! $ move ! (1 ∷ []) $ fsplit ! $ fsplit ! $ feq_l ! (λ is₀. drop ! $ fsplit ! $ fsplit ! $ feq_l ! (λ is₁. drop ! $ fsplit ! $ fsplit ! $ feq_l ! (λ is₂. drop ! $ drop ! $
+        regoal ! (λ (us : List Val). prop (WpFn 𝓤 H C Λ function (us ++ (vss.1.0 ++ (vss.1.1.0 ++ []))) Post)) is₀ refl $
+        regoal ! (λ (us : List Val). prop (WpFn 𝓤 H C Λ function ((u ∷ []) ++ (us ++ (vss.1.1.0 ++ []))) Post)) is₁ refl $
+        regoal ! (λ (us : List Val). prop (WpFn 𝓤 H C Λ function ((u ∷ []) ++ ((v ∷ []) ++ (us ++ []))) Post)) is₂ refl $
+        enter ! C Λ function (u ∷ v ∷ w ∷ []) Post $ alloc_all ! (λ l. pass_all ! refl ((tt, tt), ((tt, tt), ((tt, tt), tt))) $
         sets ! (agg ! (no_more !)) refl (tt, tt) $
         nothing ! $ none_made ! $ fjoin ! $
         returns ! (look_at ! 0 refl) $ free_all ! refl $
-        suffices ! _ (ends_at 𝓛 ended stayed held z none made (tt, (tt, (tt, (tt, tt)))) (tt, (tt, (tt, (tt, tt))))) $ says ! (refl, refl) $
-        nothing ! $ nothing ! $ fjoin ! $ nothing ! $ fjoin ! $ nothing ! $ fjoin ! $ nothing ! $ fjoin ! $ move ! (2 ∷ 0 ∷ 1 ∷ []) $ done !)))))
+        suffices ! _ (ends_at 𝓛 ended stayed held z none made (tt, (tt, (tt, tt))) (tt, (tt, (tt, tt)))) $ says ! (refl, refl) $
+        nothing ! $ nothing ! $ fjoin ! $ nothing ! $ fjoin ! $ nothing ! $ fjoin ! $ move ! (2 ∷ 0 ∷ 1 ∷ []) $ done !))))
 
   meets : (𝓣 : Tables 𝓤 H) → Meets 𝓛 ended.signature (WpFn 𝓤 H 𝓣.C 𝓣.Λ function) (closing 𝓛 ended held)
   meets 𝓣 =
-      walk_Meets 𝓛 ended stayed (Goes-dropped 𝓛 4 (RefOf (0 ∷ []) tt (plain (λ _. History.the_row)) (λ _. tt)) yes (λ κs x f. refl), (Goes-dropped 𝓛 4 (RefOf (1 ∷ []) tt (plain (λ _. Stamp.the_row)) (λ _. tt)) yes (λ κs x f. refl), (Goes-dropped 𝓛 4 (RefOf (2 ∷ []) tt (plain (λ _. ActOf.the_row TaggedToken.the_row)) (λ _. tt)) yes (λ κs x f. refl), (Goes-dropped 𝓛 4 (RefOf (3 ∷ []) tt (plain (λ _. ReplyOf.the_row TaggedToken.the_row)) (λ _. tt)) yes (λ κs x f. refl), tt)))) held
+      walk_Meets 𝓛 ended stayed (Goes-dropped 𝓛 3 (RefOf (0 ∷ []) tt (plain (λ _. History.the_row)) (λ _. tt)) yes (λ κs x f. refl), (Goes-dropped 𝓛 3 (RefOf (1 ∷ []) tt (plain (λ _. ActOf.the_row TaggedToken.the_row)) (λ _. tt)) yes (λ κs x f. refl), (Goes-dropped 𝓛 3 (RefOf (2 ∷ []) tt (plain (λ _. ReplyOf.the_row TaggedToken.the_row)) (λ _. tt)) yes (λ κs x f. refl), tt))) held
       (WpFn 𝓤 H 𝓣.C 𝓣.Λ function) (WpFn-mono 𝓤 H 𝓛.laws 𝓣 function) (walks 𝓣.C 𝓣.Λ)
 
-pub with_spec : {M : Type 1} → stated.statement M
+pub told_spec : {M : Type 1} → stated.statement M
 unfolding tables_of
-with_spec 𝓤 𝓛 𝓜 𝓡 wired =
+told_spec 𝓤 𝓛 𝓜 𝓡 wired =
     let 𝓣 : Tables 𝓤 𝓛.H = tables_of 𝓤 𝓛.H 𝓜 (tables 𝓤 𝓛.H 𝓜 𝓡 𝓡.env) in
     entered 𝓤 𝓛.H (triple_of 𝓛 ended.signature (closing 𝓛 ended (held 𝓛 𝓜.mem 𝓡.returns))) 𝓣.C 𝓣.Λ #self function
     (code.unfolded 𝓤 𝓛.H 𝓜 𝓡 wired) (meets 𝓛 𝓜.mem 𝓡.returns 𝓣)
