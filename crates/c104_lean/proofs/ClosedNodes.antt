@@ -1,4 +1,4 @@
--- What a word that was ended tells of the nodes that were taken out: sorted by their places, each stands at its own, and did
+-- What a log that was ended tells of the nodes that were taken out: sorted by their places, each stands at its own, and did
 -- just what the log tells of it.
 use Rattle.c104_lean.specs.{Closing.{ArePlaceTracks, HoldTracks, TellTracks, node_of, place_of}, OwnRuns.{IsDoneHere, OwnRun}}
 use Rattle.{c104_lean.specs.{Shared.Before, declared.closing.Placed.Placed}, c104_node.specs.TracedRecords.TracedRecord}

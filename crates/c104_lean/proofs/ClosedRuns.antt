@@ -1,4 +1,4 @@
--- What the nodes and the seats of a shared network come to when its word is closed: one run of the network.
+-- What the nodes and the seats of a shared network come to when its log is closed: one run of the network.
 use Rattle.c104_lean.proofs.{ClosedNodes.nodes_did, ClosedSeats.{log_own, log_seated, log_seats}, LogParts.{all_parts, have_places}}
 use Rattle.c104_lean.{proofs.{LogParts.part_holds, OwnParts.{RunTheirs, parts}, SharedRuns.{RunsBy, runs}}, specs.Closing.HoldTracks}
 use Rattle.c104_lean.specs.{Closing.TellTracks, OwnRuns.{IsDoneHere, OwnRun}, Runs.IsSharedRun, Seats.AreAllSeats, Shared.Before}

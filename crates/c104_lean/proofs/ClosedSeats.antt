@@ -1,4 +1,4 @@
--- What a word that was ended tells of all seats: each has the calls of its number, and all that was done was done on the
+-- What a log that was ended tells of all seats: each has the calls of its number, and all that was done was done on the
 -- network's own nodes.
 use Rattle.c104_lean.{proofs.LogParts.{all_parts, have_seats, part_holds}, specs.{Closing.{AreSeatTracks, TellTracks}, Seats.AreAllSeats}}
 use Rattle.c104_tickets.{proofs.Parts.each_left, specs.{Tickets.{Each, IsClosed, belongs, no_terms, part_of}, declared.views.Done.Done}}

@@ -1,12 +1,14 @@
--- Draws of tickets by a seat that has the passes of the places of an event's nodes.
-use Rattle.{c104_audit.specs.{Calls.tickets_of, declared.calls.Call.Call}, c104_event.specs.declared.events.Event.Event}
-use Rattle.{c104_lean.specs.{Nodes.{alone_deed, both_deed}, Seats.{IsCountedSeat, first_done}}, c104_node.specs.Tagged.TaggedToken}
-use Rattle.{c104_switch.specs.declared.actions.ReplyOf.ReplyOf, c104_tickets.specs.Tickets.{AreEarlier, Each, belongs, kept_if}}
-use Rattle.c104_tickets.specs.{Tickets.track_after, declared.{TheConstants.TICKET_LIMIT, views.{Deed.Deed, Done.Done, Name.Name}}}
-use Rattle.{c104_tickets.specs.declared.views.{Track.Track, View.View}, c104_workers.specs.Calls.{IsOwn, SeatView, done_call, place_track}}
-use Rattle.{c104_workers.specs.{Calls.seat_track, LentCalls.IsFresh}, std.proofs.Common.{All, Bool, List, [], ap, arith, cond, false}}
-use Rattle.std.proofs.Common.{length, map, refl, subst, suc, sym, true, ℕ, ◌++◌, ◌+◌, ◌<◌, ◌==◌, ◌∙◌, ◌∷◌, ◌≡◌, ◌≤◌}
-use Rattle.std.proofs.lemmas.{Bool.Decides.nat_tests, List.{Elements.{All-cons, All-nil}, length-append}}
+-- What was done joins the log, through a seat that has the passes of the places of an event's nodes.
+use Rattle.{c104_audit.specs.{Calls.{call_of, tickets_of}, declared.calls.Call.Call}, c104_event.specs.declared.events.Event.Event}
+use Rattle.{c104_event.specs.declared.faults.EventFault.EventFault, c104_lean.specs.{Nodes.{alone_deed, both_deed}, Seats.IsCountedSeat}}
+use Rattle.{c104_lean.specs.Seats.{counted_seat, first_done, last_ticket, ticket_behind}, c104_node.specs.Tagged.TaggedToken}
+use Rattle.{c104_switch.specs.{Actions.Reply, declared.actions.ReplyOf.ReplyOf}, c104_tickets.specs.Tickets.{AreEarlier, Each, IsAppended}}
+use Rattle.c104_tickets.specs.Tickets.{TableId, after_join, after_split, behind, belongs, first_track, front, kept_if, track_after}
+use Rattle.c104_tickets.specs.declared.{TheConstants.TICKET_LIMIT, views.{Deed.Deed, Done.Done, Name.Name, Terms.Terms, Track.Track}}
+use Rattle.{c104_tickets.specs.declared.views.View.View, c104_workers.specs.Calls.{IsOwn, SeatView, after_call, done_call, place_track}}
+use Rattle.{c104_workers.specs.{Calls.seat_track, LentCalls.IsFresh}, std.proofs.Common.{All, Bool, List, Option, [], ap, arith, cond}}
+use Rattle.std.proofs.Common.{false, length, map, refl, subst, suc, sym, true, ℕ, ◌++◌, ◌+◌, ◌<◌, ◌==◌, ◌∙◌, ◌∷◌, ◌≡◌, ◌≤◌}
+use Rattle.std.proofs.lemmas.{Bool.Decides.nat_tests, List.{Elements.{All-cons, All-nil}, length-append, map-append}}
 
 same_number : (n : ℕ) → (n == n) ≡ true
 same_number n = grind (arith, nat_tests)
@@ -70,11 +72,112 @@ is_fresh ticket s done called each from = record {
   from_first = from;
 }
 
-pub behind_earlier : (ticket : ℕ) (t : Track) (after : List Track) → AreEarlier ticket (t ∷ after) → AreEarlier ticket after
-behind_earlier ticket t after earlier = earlier.1
+-- a seat's view before and after a deed of its own joined the log
+pub record HasMore (number : ℕ) (deed : Deed) (old new : View) : Type 0 where
+  pub ticket : ℕ
+  pub tracks : new.tracks ≡ seat_track number (first_done old.tracks ++ done_at ticket deed ∷ []) ∷ []
+  pub terms : new.terms ≡ old.terms
+  pub above : Each (λ (d : Done). d.ticket < ticket) (first_done old.tracks)
+  pub first : old.terms.first ≤ ticket
 
-pub of_seat : (ticket seat : ℕ) (done : List Done) → AreEarlier ticket (seat_track seat done ∷ []) → Each (λ (d : Done). d.ticket < ticket) done
-of_seat ticket seat done earlier = earlier.0
+-- a pass of a place has the same deed more
+abbrev pub GivesBack : ℕ → Deed → ℕ → View → View → Type 0
+GivesBack place deed ticket own given = given.tracks ≡ place_track place (first_done own.tracks ++ done_at ticket deed ∷ []) ∷ []
+
+-- what a seat that has the track of its number alone, and the pass of a place, come to by a deed there
+pub alone_more : (s k : ℕ) (e : Event) (r : ReplyOf TaggedToken) (deed : Deed) (old own joined after new given : View)
+    → old.tracks ≡ seat_track s (first_done old.tracks) ∷ [] → own.tracks ≡ place_track k (first_done own.tracks) ∷ []
+    → joined ≡ after_join old own → IsAppended deed joined after → new ≡ after_split after → given ≡ first_track after
+    → deed ≡ alone_deed s k e r → (more : HasMore s deed old new) × GivesBack k deed more.ticket own given
+alone_more s k e r deed old own joined after new given mine theirs both appended left right is =
+    let done : List Done = first_done old.tracks in
+    let there : List Done = first_done own.tracks in
+    let d : Done = done_at appended.ticket deed in
+    let tracks : joined.tracks ≡ node_tracks k there s done =
+    ap (λ (v : View). v.tracks) both ∙ ap (λ ts. ts ++ old.tracks) theirs ∙ ap (λ ts. place_track k there ∷ ts) mine in
+    let drawn : after.tracks ≡ node_tracks k (there ++ d ∷ []) s (done ++ d ∷ []) =
+    ap (λ (v : View). v.tracks) appended.is ∙ ap (map (track_after d)) tracks ∙ alone_draws s e r appended.ticket k there done deed is in
+    let earlier : AreEarlier appended.ticket (node_tracks k there s done) = subst (AreEarlier appended.ticket) tracks appended.above in (
+      record {
+        ticket = appended.ticket;
+        tracks = ap (λ (v : View). v.tracks) left ∙ ap behind drawn;
+        terms = ap (λ (v : View). v.terms) left ∙ ap (λ (v : View). v.terms) appended.is ∙ ap (λ (v : View). v.terms) both;
+        above = earlier.1.0;
+        first = subst (λ (t : Terms). t.first ≤ appended.ticket) (ap (λ (v : View). v.terms) both) appended.first;
+      },
+      ap (λ (v : View). v.tracks) right ∙ ap front drawn,
+    )
+
+-- the same where the seat has the passes of two places, which are split off again one after the other
+pub both_more : (s : ℕ) (places : ℕ × ℕ) (e : Event) (r : ReplyOf TaggedToken) (deed : Deed)
+    (old near far mid joined after rest new back ahead : View)
+    → old.tracks ≡ seat_track s (first_done old.tracks) ∷ [] → near.tracks ≡ place_track places.0 (first_done near.tracks) ∷ []
+    → far.tracks ≡ place_track places.1 (first_done far.tracks) ∷ [] → mid ≡ after_join old near → joined ≡ after_join mid far
+    → IsAppended deed joined after → rest ≡ after_split after → ahead ≡ first_track after → new ≡ after_split rest
+    → back ≡ first_track rest
+    → deed ≡ both_deed s places e r
+    → (more : HasMore s deed old new) × GivesBack places.0 deed more.ticket near back
+    × GivesBack places.1 deed more.ticket far ahead
+both_more s places e r deed old near far mid joined after rest new back ahead mine its theirs half both appended left right lefter
+    righter is =
+    let done : List Done = first_done old.tracks in
+    let here : List Done = first_done near.tracks in
+    let there : List Done = first_done far.tracks in
+    let d : Done = done_at appended.ticket deed in
+    let halves : mid.tracks ≡ node_tracks places.0 here s done =
+    ap (λ (v : View). v.tracks) half ∙ ap (λ ts. ts ++ old.tracks) its ∙ ap (λ ts. place_track places.0 here ∷ ts) mine in
+    let tracks : joined.tracks ≡ both_tracks places.1 there places.0 here s done =
+    ap (λ (v : View). v.tracks) both ∙ ap (λ ts. ts ++ mid.tracks) theirs ∙ ap (λ ts. place_track places.1 there ∷ ts) halves in
+    let drawn : after.tracks ≡ both_tracks places.1 (there ++ d ∷ []) places.0 (here ++ d ∷ []) s (done ++ d ∷ []) =
+    ap (λ (v : View). v.tracks) appended.is ∙ ap (map (track_after d)) tracks
+    ∙ both_draws s e r appended.ticket places there here done deed is in
+    let cut : rest.tracks ≡ node_tracks places.0 (here ++ d ∷ []) s (done ++ d ∷ []) = ap (λ (v : View). v.tracks) left ∙ ap behind drawn in
+    let terms : joined.terms ≡ old.terms = ap (λ (v : View). v.terms) both ∙ ap (λ (v : View). v.terms) half in
+    let earlier : AreEarlier appended.ticket (both_tracks places.1 there places.0 here s done) =
+    subst (AreEarlier appended.ticket) tracks appended.above in (
+      record {
+        ticket = appended.ticket;
+        tracks = ap (λ (v : View). v.tracks) lefter ∙ ap behind cut;
+        terms = ap (λ (v : View). v.terms) lefter ∙ ap (λ (v : View). v.terms) left ∙ ap (λ (v : View). v.terms) appended.is ∙ terms;
+        above = earlier.1.1.0;
+        first = subst (λ (t : Terms). t.first ≤ appended.ticket) terms appended.first;
+      },
+      ap (λ (v : View). v.tracks) righter ∙ ap front cut,
+      ap (λ (v : View). v.tracks) right ∙ ap front drawn,
+    )
+
+-- the ticket of the last call
+behind_last : (n : ℕ) (calls : List Call) (c : Call) → ticket_behind n (calls ++ c ∷ []) ≡ c.ticket
+behind_last n [] c = refl
+behind_last n (x ∷ calls) c = behind_last x.ticket calls c
+
+module _ (number : ℕ) (deed : Deed) (old new : View) (more : HasMore number deed old new) where
+  more_calls : map done_call (first_done new.tracks) ≡ map done_call (first_done old.tracks) ++ done_call (done_at more.ticket deed) ∷ []
+  more_calls =
+      ap (λ ts. map done_call (first_done ts)) more.tracks
+      ∙ map-append done_call (first_done old.tracks) (done_at more.ticket deed ∷ [])
+
+  pub last_more : last_ticket (map done_call (first_done new.tracks)) ≡ more.ticket
+  last_more = ap last_ticket more_calls ∙ behind_last 0 (map done_call (first_done old.tracks)) (done_call (done_at more.ticket deed))
+
+  -- the seat has a call more
+  pub called_more : (before after : TableId) (stopped : Option EventFault) (e : Event) (r : Reply) → after ≡ before
+      → deed.event ≡ e → deed.reply ≡ r → counted_seat after new number stopped
+      ≡ after_call false (counted_seat before old number stopped) e (last_ticket (map done_call (first_done new.tracks))) r
+  called_more before after stopped e r word event reply =
+      let seat : TableId → Terms → List Call → SeatView =
+      λ w t cs. record { word_id = w; terms = t; number = number; calls = cs; stopped = stopped; lent = false } in
+      let calls : List Call = map done_call (first_done old.tracks) in
+      ap (λ w. seat w new.terms (map done_call (first_done new.tracks))) word
+      ∙ ap (λ t. seat before t (map done_call (first_done new.tracks))) more.terms
+      ∙ ap (seat before old.terms) (more_calls ∙ ap (λ x. calls ++ call_of x more.ticket deed.reply ∷ []) event
+      ∙ ap (λ x. calls ++ call_of e more.ticket x ∷ []) reply ∙ ap (λ n. calls ++ call_of e n r ∷ []) (sym last_more))
+
+  pub fresh_more : (s : SeatView) (before : TableId) (stopped : Option EventFault) → counted_seat before old number stopped ≡ s
+      → IsFresh s (last_ticket (map done_call (first_done new.tracks)))
+  fresh_more s before stopped is =
+      subst (IsFresh s) (sym last_more) (is_fresh more.ticket s (first_done old.tracks) (sym (ap (λ (v : SeatView). v.calls) is)) more.above
+      (subst (λ (t : Terms). t.first ≤ more.ticket) (ap (λ (v : SeatView). v.terms) is) more.first))
 
 -- the seat behind a deed
 each_more : (done : List Done) (d : Done) → Each IsOwn done → IsOwn d → Each IsOwn (done ++ d ∷ [])

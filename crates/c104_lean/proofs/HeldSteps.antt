@@ -5,12 +5,11 @@ use Rattle.{c104_lean.specs.{OwnRuns.{told_by, told_number, told_terminal}, Seat
 use Rattle.c104_node.specs.{Acts.{plain_reply, reply_outcome}, Nodes.Node, PortActs.{Acts, IsAnswerOf, act_limit, far_act, near_act}}
 use Rattle.c104_node.specs.{Tagged.{TaggedToken, tagged_kind}, TracedRecords.TracedRecord, Traces.{is_trace_full, kept_entry, seatless}}
 use Rattle.c104_node.specs.{Traces.trace_limit, declared.{acts.{ActOf.ActOf, Entry.Entry}, crossings.{Crossing.Crossing, Joint.Joint}}}
-use Rattle.{c104_node.specs.declared.stamps.Stamp.Stamp, c104_plan.specs.{Plans.Plan, declared.ports.Port.Port}}
-use Rattle.{c104_run.specs.EventActs.{event_acts, port_place}, c104_switch.specs.{Actions.is_ready, declared.actions.ReplyOf.ReplyOf}}
-use Rattle.c104_tickets.specs.{Tickets.{Each, PassValue, TableId}, declared.views.{Deed.Deed, Done.Done, Track.Track}}
-use Rattle.{c104_workers.specs.Calls.place_track, std.proofs.Common.{Bool, List, None, Option, Some, [], ap, arith, false, is_some, length}}
-use Rattle.std.proofs.Common.{nat_eq, refl, slice_get, subst, sym, true, ℕ, ◌++◌, ◌-◌, ◌<◌, ◌∙◌, ◌∷◌, ◌≡◌, ◌≢◌}
-use Rattle.std.proofs.lemmas.Bool.Decides.{nat_tests}
+use Rattle.{c104_plan.specs.{Plans.Plan, declared.ports.Port.Port}, c104_run.specs.EventActs.{event_acts, port_place}}
+use Rattle.{c104_switch.specs.{Actions.is_ready, declared.actions.ReplyOf.ReplyOf}, c104_tickets.specs.Tickets.{Each, PassValue, TableId}}
+use Rattle.{c104_tickets.specs.declared.views.{Deed.Deed, Done.Done, Track.Track}, c104_workers.specs.Calls.place_track}
+use Rattle.std.proofs.Common.{Bool, List, None, Option, Some, [], ap, arith, false, is_some, length, nat_eq, refl, slice_get, subst, sym}
+use Rattle.std.proofs.{Common.{true, ℕ, ◌++◌, ◌-◌, ◌<◌, ◌∙◌, ◌∷◌, ◌≡◌, ◌≢◌}, lemmas.Bool.Decides.nat_tests}
 
 -- a node that goes on behind its part of what was done
 more_done : (plan : Plan) (k : ℕ) (from mid to : TracedRecord) (ds : List Done) (d : Done) → OwnRun plan k from ds mid
@@ -79,13 +78,12 @@ does_act ticket number a r n mid m is = record {
   noted = ap (λ (z : TracedRecord). z.trace) is.noted ∙ ap (λ es. es ++ kept_entry tagged_kind (seatless ticket) a r ∷ []) is.trace;
 }
 
--- what is counted, by a stamp and an act that are these
-pub noted_so : (ticket : ℕ) (stamp : Stamp) (a b : ActOf TaggedToken) (r : ReplyOf TaggedToken) (mid m : TracedRecord)
-    → stamp ≡ seatless ticket → b ≡ a → m ≡ record mid { trace = mid.trace ++ kept_entry tagged_kind stamp b r ∷ [] }
+-- what is counted, by an act that is this
+pub noted_so : (ticket : ℕ) (a b : ActOf TaggedToken) (r : ReplyOf TaggedToken) (mid m : TracedRecord)
+    → b ≡ a → m ≡ record mid { trace = mid.trace ++ kept_entry tagged_kind (seatless ticket) b r ∷ [] }
     → m ≡ record mid { trace = mid.trace ++ kept_entry tagged_kind (seatless ticket) a r ∷ [] }
-noted_so ticket stamp a b r mid m stamped same is =
-    is ∙ ap (λ (st : Stamp). record mid { trace = mid.trace ++ kept_entry tagged_kind st b r ∷ [] }) stamped
-    ∙ ap (λ (x : ActOf TaggedToken). record mid { trace = mid.trace ++ kept_entry tagged_kind (seatless ticket) x r ∷ [] }) same
+noted_so ticket a b r mid m same is =
+    is ∙ ap (λ (x : ActOf TaggedToken). record mid { trace = mid.trace ++ kept_entry tagged_kind (seatless ticket) x r ∷ [] }) same
 
 -- an act that is ready was made
 pub ready_made : (o : Option (ReplyOf TaggedToken × Node TaggedToken)) (old new : Node TaggedToken) (r : ReplyOf TaggedToken)
@@ -182,6 +180,6 @@ module _ (plan : Plan) (ticket s : ℕ) (e : Event) (r : ReplyOf TaggedToken) (s
     })
 
 -- the track of a pass that grew, by what the node's type keeps
-pub kept_track : (tracks : List Track) (place : ℕ) (done : List Done) (d : Done) → tracks ≡ place_track place done ∷ []
-    → place_track place (first_done tracks ++ d ∷ []) ∷ [] ≡ place_track place (done ++ d ∷ []) ∷ []
-kept_track tracks place done d is = ap (λ ds. place_track place (ds ++ d ∷ []) ∷ []) (ap first_done is)
+pub kept_track : (tracks more : List Track) (place : ℕ) (done : List Done) (d : Done) → tracks ≡ place_track place done ∷ []
+    → more ≡ place_track place (first_done tracks ++ d ∷ []) ∷ [] → more ≡ place_track place (done ++ d ∷ []) ∷ []
+kept_track tracks more place done d is grew = grew ∙ ap (λ ds. place_track place (ds ++ d ∷ []) ∷ []) (ap first_done is)

@@ -1,13 +1,12 @@
 -- What workers do to their seats: event by event, each of a node of their own.
 use Rattle.{c104_audit.specs.{Calls.call_of, declared.calls.Call.Call}, c104_event.specs.declared.events.Event.Event}
-use Rattle.{c104_event.specs.declared.faults.EventFault.EventFault, c104_lean.specs.{Seats.{AreSeatsOf, Grows, HasCall}}}
-use Rattle.{c104_lean.specs.Working.{HasCalls, HasWorked, IsOwnEvent, IsPartEvent, worker_of}, c104_plan.specs.Plans.Plan}
+use Rattle.{c104_event.specs.declared.faults.EventFault.EventFault, c104_lean.specs.{Seats.{AreSeatsOf, Grows, HasCall}, Working.HasCalls}}
+use Rattle.{c104_lean.specs.Working.{HasWorked, IsOwnEvent, IsPartEvent, worker_of}, c104_plan.specs.Plans.Plan}
 use Rattle.{c104_run.specs.NodeParts.round_part, c104_switch.specs.Actions.{Reply, is_ready}, c104_tickets.specs.Tickets.TableId}
 use Rattle.c104_workers.{proofs.SeatGrowth.{same_on, same_self}, specs.{Calls.{IsSameSeat, SeatView}, LentCalls.IfDone, Working.IsPartOf}}
-use Rattle.{c104_workers.specs.{Working.PartView, declared.words.Words.Words}, std.proofs.Common.{All, Bool, Err, List, Ok}}
-use Rattle.std.proofs.Common.{Result, [], ap, arith, false, length, slice_index_or, subst, suc, sym, true, zero, ℕ, ◌++◌, ◌<◌, ◌∙◌, ◌∷◌}
-use Rattle.std.proofs.{Common.◌≡◌, lemmas.List.{Elements.{All-append, All-cons, All-contains_itself, All-nil, All-weaker}, append-nil}}
-use Rattle.std.proofs.lemmas.List.{append_assoc}
+use Rattle.{c104_workers.specs.{Working.PartView, declared.words.Words.Words}, std.proofs.Common.{All, Bool, Err, List, Ok, Result, [], ap}}
+use Rattle.std.proofs.Common.{arith, false, length, slice_index_or, subst, suc, sym, true, zero, ℕ, ◌++◌, ◌<◌, ◌∙◌, ◌∷◌, ◌≡◌}
+use Rattle.std.proofs.lemmas.List.{Elements.{All-append, All-cons, All-contains_itself, All-nil, All-weaker}, append-nil, append_assoc}
 
 -- what holds of all seats holds of each, and the other way round
 pub seat_at : (word_id : TableId) (seats : List SeatView) (i : ℕ) (d : SeatView) → AreSeatsOf word_id seats → i < length seats

@@ -45,7 +45,7 @@ AreSeatTracks [] (s ∷ seats) = ⊥
 AreSeatTracks (track ∷ tracks) [] = ⊥
 AreSeatTracks (track ∷ tracks) (s ∷ seats) = IsSeatTrack track s × AreSeatTracks tracks seats
 
--- the word was closed with the tracks of these seats before others
+-- the log was closed with the tracks of these seats before others
 pub record TellTracks (terms : Terms) (next : ℕ) (seats : List SeatView) (others : List Track) : Type 0 where
   pub tracks : List Track
   pub are : AreSeatTracks tracks seats

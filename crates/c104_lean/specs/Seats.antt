@@ -1,7 +1,7 @@
 -- Seats that count what is done through them.
-use Rattle.{c104_event.specs.declared.{events.Event.Event, faults.EventFault.EventFault}, c104_node.specs.Tagged.TaggedToken}
-use Rattle.{c104_node.specs.declared.acts.ActOf.ActOf, c104_switch.specs.Actions.{Reply, is_ready}, c104_tickets.specs.Tickets.Each}
-use Rattle.c104_tickets.specs.{Tickets.TableId, declared.{TheConstants.TICKET_LIMIT, views.{Done.Done, Terms.Terms, Track.Track}}}
+use Rattle.{c104_audit.specs.declared.calls.Call.Call, c104_event.specs.declared.{events.Event.Event, faults.EventFault.EventFault}}
+use Rattle.{c104_node.specs.{Tagged.TaggedToken, declared.acts.ActOf.ActOf}, c104_switch.specs.Actions.{Reply, is_ready}}
+use Rattle.c104_tickets.specs.{Tickets.{Each, TableId}, declared.{TheConstants.TICKET_LIMIT, views.{Done.Done, Terms.Terms, Track.Track}}}
 use Rattle.{c104_tickets.specs.declared.views.View.View, c104_workers.specs.Calls.{IsOwn, SeatView, after_call, done_call, seat_track}}
 use Rattle.c104_workers.specs.{LentCalls.{IfDone, IsFresh}, SeatGrowth.FaultsAs}
 use Rattle.std.specs.Prelude.{Err, List, None, Ok, Option, Result, [], false, length, map, slice_index_or, ℕ, ◌<◌, ◌∷◌, ◌≡◌, ◌≤◌, ◌⊎◌}
@@ -10,6 +10,14 @@ use Rattle.std.specs.Prelude.{Err, List, None, Ok, Option, Result, [], false, le
 abbrev pub first_done : List Track → List Done
 first_done [] = []
 first_done (track ∷ rest) = track.done
+
+-- the ticket of the last of some calls, or this one where there are none
+abbrev pub ticket_behind : ℕ → List Call → ℕ
+ticket_behind n [] = n
+ticket_behind n (c ∷ calls) = ticket_behind c.ticket calls
+
+abbrev pub last_ticket : List Call → ℕ
+last_ticket calls = ticket_behind 0 calls
 
 -- a seat as it is seen: its calls are in proofs alone, since its pass tells them
 abbrev pub counted_seat : TableId → View → ℕ → Option EventFault → SeatView
@@ -30,7 +38,7 @@ pub record IsCountedSeat (view : View) (number count limit : ℕ) : Type 0 where
   pub limited : limit ≤ TICKET_LIMIT
   pub own : Each IsOwn (first_done view.tracks)
 
--- a seat has one call more, whose ticket was drawn for it
+-- a seat has one call more, whose ticket is its own
 pub record HasCall (old new : SeatView) (e : Event) (r : Reply) : Type 0 where
   pub ticket : ℕ
   pub fresh : IsFresh old ticket
@@ -57,7 +65,7 @@ pub record AreAllSeats (terms : Terms) (seats : List SeatView) : Type 0 where
   pub count : length seats ≡ terms.seats
   pub numbers : (i : ℕ) (d : SeatView) → i < terms.seats → (slice_index_or seats i d).number ≡ i
 
--- each draws from this word
+-- each has a pass to this log
 abbrev pub AreSeatsOf : TableId → List SeatView → Type 0
 AreSeatsOf word_id [] = Unit {0}
 AreSeatsOf word_id (s ∷ seats) = (s.word_id ≡ word_id) × AreSeatsOf word_id seats

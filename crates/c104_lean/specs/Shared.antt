@@ -22,13 +22,13 @@ pub record WasShared (before : Before) : Type 0 where
 abbrev pub record_of : Before → NetRecord
 record_of before = engine_record counted_reading before
 
--- a shared network as it is seen: how it stood, its word of tickets, and what that was told
+-- a shared network as it is seen: how it stood, its log, and what that was told
 pub record SharedView : Type 0 where
   pub before : Before
   pub word_id : TableId
   pub terms : Terms
 
--- what the word of tickets is told: the first ticket is how many events were done, and there is a place for each node
+-- what the log is told: the first ticket is how many events were done, and there is a place for each node
 abbrev pub terms_of : NetRecord → ℕ → Terms
 terms_of r seats = record { first = r.count; seats = seats; places = node_count r.network.plan }
 

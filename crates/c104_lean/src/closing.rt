@@ -9,7 +9,7 @@ use crate::shared_net::{Rest, SharedNet};
 use crate::sharing::Sharing;
 use c104_net::TracedNet;
 use c104_node::CountedNode;
-use c104_tickets::{Pass, TicketWord};
+use c104_tickets::{DeedLog, Pass};
 use std::sync::Mutex;
 
 /// A node that was taken out of its lock, with its place.
@@ -33,7 +33,7 @@ impl<N: Sharing> SharedNet<N> {
         let _plan = self.plan();
         let SharedNet {
             wires,
-            word,
+            log,
             rest,
             locks,
             parts: _,
@@ -44,8 +44,8 @@ impl<N: Sharing> SharedNet<N> {
             mut pass,
             sharing: _,
         } = rest.into_inner();
-        take_nodes(&word, &mut pass, locks, room, &mut nodes);
-        let next = gather(word, pass, seats);
+        take_nodes(&log, &mut pass, locks, room, &mut nodes);
+        let next = gather(log, pass, seats);
         TracedNet::of_parts(wires, nodes, next)
     }
 }
@@ -53,20 +53,20 @@ impl<N: Sharing> SharedNet<N> {
 /// The nodes come out of their locks into an empty list with room for them, in the order of their places, and their tracks
 /// into the pass. What a type keeps can't tell that a lock's node is that of the lock's place: so they are sorted.
 fn take_nodes<N: Sharing>(
-    word: &TicketWord,
+    log: &DeedLog,
     pass: &mut Pass,
     locks: Vec<Mutex<HeldNode<N>>>,
     room: Vec<Placed>,
     nodes: &mut Vec<CountedNode>,
 )
-    requires word { (pass.old.word_id ≡ word.now.word_id) × (word.now.word_id ≡ N.word) }
+    requires word { (pass.old.word_id ≡ log.now.word_id) × (log.now.word_id ≡ N.word) }
     requires empty { (room.items ≡ []) × (nodes.old.items ≡ []) }
     requires room { (length locks.items ≤ vec_capacity room) × (length locks.items ≤ vec_capacity nodes.old) }
     ensures word { pass.new.word_id ≡ pass.old.word_id }
     ensures nodes { length nodes.new.items ≡ length locks.items }
     ensures held { HoldTracks N.before nodes.new.items pass.old.view.tracks pass.new.view.tracks }
 {
-    let mut placed = take_placed(word, pass, locks, room);
+    let mut placed = take_placed(log, pass, locks, room);
     sort_placed(&mut placed);
     while let Some(Placed { place: _, node }) = placed.pop() {
         nodes.push_reserved(node);
@@ -86,12 +86,12 @@ fn sort_placed(placed: &mut Vec<Placed>)
 
 /// The nodes come out of their locks, with their places, into an empty list with room for them, and their tracks into the pass.
 fn take_placed<N: Sharing>(
-    word: &TicketWord,
+    log: &DeedLog,
     pass: &mut Pass,
     mut locks: Vec<Mutex<HeldNode<N>>>,
     mut room: Vec<Placed>,
 ) -> Vec<Placed>
-    requires word { (pass.old.word_id ≡ word.now.word_id) × (word.now.word_id ≡ N.word) }
+    requires word { (pass.old.word_id ≡ log.now.word_id) × (log.now.word_id ≡ N.word) }
     requires empty { room.items ≡ [] }
     requires room { length locks.items ≤ vec_capacity room }
     ensures word { pass.new.word_id ≡ pass.old.word_id }
@@ -100,21 +100,25 @@ fn take_placed<N: Sharing>(
 {
     while let Some(lock) = locks.pop() {
         let (place, node, own) = lock.into_inner().into_parts();
-        word.join(pass, own);
+        log.join(pass, own);
         room.push_reserved(Placed { place, node });
     }
     locks.destroy_empty();
     room
 }
 
-/// The ticket after the last, when the passes of all seats are joined.
-fn gather(word: TicketWord, mut pass: Pass, mut seats: Vec<CountedSeat>) -> u64
-    requires seats { AreSeatsOf word.word_id seats.items }
-    requires pass { pass.word_id ≡ word.word_id }
-    ensures { TellTracks word.terms result seats.items pass.view.tracks }
+/// The ticket after the last, when the passes of all seats are joined: as many behind the first as the seats did.
+fn gather(log: DeedLog, mut pass: Pass, mut seats: Vec<CountedSeat>) -> u64
+    requires seats { AreSeatsOf log.word_id seats.items }
+    requires count { length seats.items ≡ log.terms.seats }
+    requires pass { pass.word_id ≡ log.word_id }
+    ensures { TellTracks log.terms result seats.items pass.view.tracks }
 {
+    let mut next = log.first();
     while let Some(seat) = seats.pop() {
-        word.join(&mut pass, seat.into_pass());
+        next += seat.count();
+        log.join(&mut pass, seat.into_pass());
     }
-    word.close(pass)
+    log.close(pass);
+    next
 }

@@ -1,7 +1,7 @@
 //! One event on held nodes: on one, and on the two at the ends of a wire.
 //!
-//! Whether it is ready is told by the node's own answer. The ticket is drawn behind that, so that it is drawn only for what was
-//! done, and the act is counted last, with the ticket.
+//! Whether it is ready is told by the node's own answer. The event joins the log behind that, so that only what was done does, and
+//! the act is counted last: the seat tells proofs with which ticket.
 ghost use Rattle.std.specs.Prelude.{IfErr, MatchOption, None, Some, length, ◌-◌, ◌<◌, ◌≡◌};
 ghost use Rattle.c104_lean.specs.{Nodes.{AsksBoth, AsksNode}, Seats.{Follows, IsLimitOf}, Working.HasCalls};
 ghost use Rattle.c104_node.specs.{Acts.{IsWithinLimits, plain_reply}, PortActs.act_limit, Tagged.tagged_kind, Traces.trace_limit};
@@ -13,23 +13,23 @@ use crate::sharing::Sharing;
 use crate::workers::MOST_TIMES;
 use c104_event::{Event, EventFault};
 use c104_node::{
-    ActOf, CountedNode, Joint, Place, Stamp, TaggedToken, can_far, can_near, far_act, near_act,
+    ActOf, CountedNode, Joint, Place, TaggedToken, can_far, can_near, far_act, near_act,
 };
 use c104_switch::{Reply, ReplyOf};
-use c104_tickets::TicketWord;
+use c104_tickets::DeedLog;
 use c104_token::TokenKind;
 use std::marker::Brand;
 
 /// A held node does an act of its own, if it is ready and no limit refuses it.
 pub(crate) fn do_alone<N: Sharing>(
-    word: &TicketWord,
+    log: &DeedLog,
     seat: &mut CountedSeat,
     held: &mut HeldNode<N>,
     number: usize,
     act: &ActOf<TaggedToken>,
     event: &Event,
 ) -> Result<Reply, EventFault>
-    requires word { (seat.old.word_id ≡ word.now.word_id) × (word.now.word_id ≡ N.word) }
+    requires word { (seat.old.word_id ≡ log.now.word_id) × (log.now.word_id ≡ N.word) }
     requires asked { AsksNode N.before.plan event.now held.old.place act.now }
     requires number { number ≡ held.old.place - length N.before.plan.switches }
     requires short { IsWithinLimits act.now }
@@ -48,22 +48,22 @@ pub(crate) fn do_alone<N: Sharing>(
     let Some(own) = held.pass.take() else {
         unreachable!()
     };
-    let (ticket, own) = seat.draw_alone::<Brand>(word, own, held.place, event, &reply);
+    let own = seat.append_alone::<Brand>(log, own, held.place, event, &reply);
     held.pass = Some(own);
-    held.node.note(&unasked(ticket), act, &reply);
+    held.node.note(&*seat, act, &reply);
     Ok(plain(reply))
 }
 
 /// Something crosses a wire between two held nodes, if both are ready and nothing is full.
 pub(crate) fn do_both<N: Sharing>(
-    word: &TicketWord,
+    log: &DeedLog,
     seat: &mut CountedSeat,
     near: &mut HeldNode<N>,
     far: &mut HeldNode<N>,
     joint: Joint,
     event: &Event,
 ) -> Result<Reply, EventFault>
-    requires word { (seat.old.word_id ≡ word.now.word_id) × (word.now.word_id ≡ N.word) }
+    requires word { (seat.old.word_id ≡ log.now.word_id) × (log.now.word_id ≡ N.word) }
     requires asked { AsksBoth N.before.plan event.now joint near.old.place far.old.place }
     ensures follows { Follows seat.old seat.new event.now result }
     ensures places { (near.new.place ≡ near.old.place) × (far.new.place ≡ far.old.place) }
@@ -84,32 +84,32 @@ pub(crate) fn do_both<N: Sharing>(
         unreachable!()
     };
     let places = (near.place, far.place);
-    let (ticket, near_pass, far_pass) = seat.draw_both::<Brand>(
-        word, near_pass, far_pass, places, event, &told,
+    let (near_pass, far_pass) = seat.append_both::<Brand>(
+        log, near_pass, far_pass, places, event, &told,
     );
     near.pass = Some(near_pass);
     far.pass = Some(far_pass);
-    near.node.note(&unasked(ticket), &going, &told);
-    far.node.note(&unasked(ticket), &coming, &ReplyOf::Done);
+    near.node.note(&*seat, &going, &told);
+    far.node.note(&*seat, &coming, &ReplyOf::Done);
     Ok(plain(told))
 }
 
 /// The same as often as it is ready, but `MOST_TIMES` at most.
 pub(crate) fn cross_often<N: Sharing>(
-    word: &TicketWord,
+    log: &DeedLog,
     seat: &mut CountedSeat,
     near: &mut HeldNode<N>,
     far: &mut HeldNode<N>,
     joint: Joint,
     event: &Event,
 ) -> Result<(), EventFault>
-    requires word { (seat.old.word_id ≡ word.now.word_id) × (word.now.word_id ≡ N.word) }
+    requires word { (seat.old.word_id ≡ log.now.word_id) × (log.now.word_id ≡ N.word) }
     requires asked { AsksBoth N.before.plan event.now joint near.old.place far.old.place }
     ensures fault { IfErr result (IsLaterFault event.now) }
     ensures called { HasCalls (λ e. e ≡ event.now) seat.old seat.new }
 {
     for _time in 0..MOST_TIMES {
-        let reply = do_both(word, seat, near, far, joint, event)?;
+        let reply = do_both(log, seat, near, far, joint, event)?;
         if !is_done(&reply) {
             break;
         }
@@ -132,13 +132,6 @@ fn limit_of(seat: &CountedSeat, node: &CountedNode, act: &ActOf<TaggedToken>) ->
         return Some(EventFault::TraceFull);
     }
     None
-}
-
-/// The stamp of an event with this ticket, of which it isn't kept who asked for it.
-fn unasked(ticket: u64) -> Stamp
-    ensures { result ≡ record { ticket = ticket; seat = None } }
-{
-    Stamp { ticket, seat: None }
 }
 
 /// A reply as it is told, with a plain token.

@@ -1,7 +1,7 @@
 //! A shared network of a network, with its seats.
 //!
 //! The network is taken apart last, when all memory is there but for the locks: so one that is refused is given back itself. It
-//! is made in two steps, since the type of what lies behind the locks names the word of tickets, which has to be there before.
+//! is made in two steps, since the type of what lies behind the locks names the log, which has to be there before.
 ghost use Rattle.std.specs.{Prelude.{IfOk, MatchResult, [], length, map, ◌≡◌, ◌≤◌}, Vec.vec_capacity};
 ghost use Rattle.{c104_lean.specs.{Seats.AreSeatsOf, Shared.{ArePartsOf, record_of, terms_of}}, c104_run.specs.NetParts.node_count};
 ghost use Rattle.c104_tickets.specs.{Tickets.{first_view, place_tracks}, declared.TheConstants.{FIRST_LIMIT, SEAT_LIMIT, TICKET_LIMIT}};
@@ -16,14 +16,14 @@ use crate::sharing::Sharing;
 use c104_net::TracedNet;
 use c104_node::CountedNode;
 use c104_run::Wires;
-use c104_tickets::{Pass, SEAT_LIMIT, Terms, TicketWord};
+use c104_tickets::{DeedLog, Pass, SEAT_LIMIT, Terms};
 use c104_token::NoMemory as OutOfMemory;
 use c104_workers::{FabricFault, Part};
 use std::alloc::Global;
 use std::marker::{Model, PhantomData};
 use std::sync::Mutex;
 
-/// A network that may be shared, with its word of tickets, and what it will have beside the nodes.
+/// A network that may be shared, with its log, and what it will have beside the nodes.
 ///
 /// It can't be dropped, since switches hold claims.
 pub struct Ready {
@@ -31,7 +31,7 @@ pub struct Ready {
     nodes: Vec<CountedNode>,
     terms: Terms,
     limit: u64,
-    word: TicketWord,
+    log: DeedLog,
     pass: Pass,
     seats: Vec<CountedSeat>,
     parts: Vec<Part>,
@@ -46,7 +46,7 @@ impl Model for Ready {
 
     ghost view = { λ r. record {
       before = engine_of r.wires r.nodes.items r.terms.first;
-      word_id = r.word.word_id;
+      word_id = r.log.word_id;
       terms = r.terms;
     } };
 
@@ -54,7 +54,7 @@ impl Model for Ready {
         WasShared (engine_of r.wires r.nodes.items r.terms.first)
         × (r.terms ≡ terms_of (record_of (engine_of r.wires r.nodes.items r.terms.first)) r.terms.seats)
         × IsSeatCount r.terms.seats × (r.limit ≤ TICKET_LIMIT)
-        × (r.word.terms ≡ r.terms) × (r.pass.word_id ≡ r.word.word_id) × (r.pass.view ≡ first_view r.terms)
+        × (r.log.terms ≡ r.terms) × (r.pass.word_id ≡ r.log.word_id) × (r.pass.view ≡ first_view r.terms)
         × (r.seats.items ≡ []) × (r.terms.seats ≤ vec_capacity r.seats)
         × ArePartsOf r.wires r.parts.items };
 }
@@ -91,7 +91,7 @@ impl Ready {
             Err(_) => Err((net, FabricFault::NoMemory)),
             Ok(
                 Room {
-                    word,
+                    log,
                     pass,
                     seats,
                     parts,
@@ -103,7 +103,7 @@ impl Ready {
                     nodes,
                     terms,
                     limit,
-                    word,
+                    log,
                     pass,
                     seats,
                     parts,
@@ -138,7 +138,7 @@ impl Ready {
             mut nodes,
             terms,
             limit,
-            word,
+            log,
             mut pass,
             mut seats,
             parts,
@@ -148,11 +148,11 @@ impl Ready {
             let net = TracedNet::of_parts(wires, nodes, terms.first);
             return Err((net, FabricFault::NoMemory));
         };
-        fill_seats(&word, &mut pass, terms, limit, &mut seats);
-        lock_all::<N>(&word, &mut pass, &mut nodes, &mut locks);
+        fill_seats(&log, &mut pass, terms, limit, &mut seats);
+        lock_all::<N>(&log, &mut pass, &mut nodes, &mut locks);
         let shared = SharedNet {
             wires,
-            word,
+            log,
             rest: Mutex::new(Rest {
                 pass,
                 sharing: PhantomData,
@@ -188,7 +188,7 @@ fn rooms<N: Sharing>(
 
 /// What a shared network has beside its nodes and their locks.
 struct Room {
-    word: TicketWord,
+    log: DeedLog,
     pass: Pass,
     seats: Vec<CountedSeat>,
     parts: Vec<Part>,
@@ -199,16 +199,16 @@ fn room_for(alloc: Global, wires: &Wires, terms: Terms) -> Result<Room, OutOfMem
     requires first { terms.first ≤ FIRST_LIMIT }
     requires seats { terms.seats ≤ SEAT_LIMIT }
     requires places { terms.places ≡ node_count wires.now }
-    ensures word { IfOk result (λ room. room.word.terms ≡ terms) }
-    ensures pass { IfOk result (λ room. (room.pass.word_id ≡ room.word.word_id) × (room.pass.view ≡ first_view terms)) }
+    ensures word { IfOk result (λ room. room.log.terms ≡ terms) }
+    ensures pass { IfOk result (λ room. (room.pass.word_id ≡ room.log.word_id) × (room.pass.view ≡ first_view terms)) }
     ensures room { IfOk result (λ room. (room.seats.items ≡ []) × (terms.seats ≤ vec_capacity room.seats)) }
     ensures parts { IfOk result (λ room. ArePartsOf wires.now room.parts.items) }
 {
     let seats = Vec::with_capacity(alloc, terms.seats as usize)?;
     let parts = all_parts(alloc, wires, terms.places as usize)?;
-    let (word, pass) = TicketWord::new(alloc, terms)?;
+    let (log, pass) = DeedLog::new(alloc, terms)?;
     Ok(Room {
-        word,
+        log,
         pass,
         seats,
         parts,
@@ -228,36 +228,30 @@ fn all_parts(alloc: Global, wires: &Wires, count: usize) -> Result<Vec<Part>, Ou
 }
 
 /// The seats of a shared network join an empty list with room for them, each with the pass to its track.
-fn fill_seats(
-    word: &TicketWord,
-    pass: &mut Pass,
-    terms: Terms,
-    limit: u64,
-    list: &mut Vec<CountedSeat>,
-)
-    requires pass { (pass.old.word_id ≡ word.now.word_id) × (pass.old.view ≡ first_view terms) }
+fn fill_seats(log: &DeedLog, pass: &mut Pass, terms: Terms, limit: u64, list: &mut Vec<CountedSeat>)
+    requires pass { (pass.old.word_id ≡ log.now.word_id) × (pass.old.view ≡ first_view terms) }
     requires count { terms.seats ≤ SEAT_LIMIT }
     requires limited { limit ≤ TICKET_LIMIT }
     requires empty { list.old.items ≡ [] }
     requires room { terms.seats ≤ vec_capacity list.old }
     ensures pass { (pass.new.word_id ≡ pass.old.word_id) × (pass.new.view ≡ record { terms = terms; tracks = place_tracks 0 terms.places }) }
-    ensures seats { list.new.items ≡ first_seats word.now.word_id terms }
-    ensures own { AreSeatsOf word.now.word_id list.new.items }
+    ensures seats { list.new.items ≡ first_seats log.now.word_id terms }
+    ensures own { AreSeatsOf log.now.word_id list.new.items }
 {
     for number in 0..terms.seats {
-        let own = word.split(pass);
+        let own = log.split(pass);
         list.push_reserved(CountedSeat::new(own, number as u8, limit));
     }
 }
 
 /// Each node is put behind a lock of its own, with the pass to its place's track, in a list with room for it.
 fn lock_all<N: Sharing>(
-    word: &TicketWord,
+    log: &DeedLog,
     pass: &mut Pass,
     nodes: &mut Vec<CountedNode>,
     locks: &mut Vec<Mutex<HeldNode<N>>>,
 )
-    requires word { (pass.old.word_id ≡ word.now.word_id) × (word.now.word_id ≡ N.word) }
+    requires word { (pass.old.word_id ≡ log.now.word_id) × (log.now.word_id ≡ N.word) }
     requires tracks { pass.old.view.tracks ≡ place_tracks 0 (length nodes.old.items) }
     requires stood { N.before.places ≡ nodes.old.items }
     requires empty { locks.old.items ≡ [] }
@@ -269,7 +263,7 @@ fn lock_all<N: Sharing>(
 {
     nodes.reverse();
     while let Some(node) = nodes.pop() {
-        let own = word.split(pass);
+        let own = log.split(pass);
         locks.push_reserved(Mutex::new(HeldNode::new(locks.len(), node, own)));
     }
 }

@@ -1,15 +1,15 @@
 //! A seat that counts what is done through it.
 //!
-//! While a ticket is drawn, the seat has the passes of the places of the event's nodes.
+//! While an event joins the log, the seat has the passes of the places of the event's nodes.
 ghost use Rattle.std.specs.Prelude.{[], false, length, map, ◌++◌, ◌<◌, ◌∷◌, ◌≡◌, ◌≤◌};
-ghost use Rattle.{c104_lean.specs.{Nodes.{alone_deed, both_deed}, Seats.first_done}, c104_node.specs.{Acts.plain_reply, Tagged.tagged_kind}};
+ghost use Rattle.{c104_lean.specs.{Nodes.{alone_deed, both_deed}, Seats.{first_done, last_ticket}}, c104_node.specs.{Acts.plain_reply, Tagged.tagged_kind}};
 ghost use Rattle.c104_tickets.specs.{Tickets.Each, declared.TheConstants.TICKET_LIMIT};
 ghost use Rattle.c104_workers.specs.{Calls.{IsOwn, after_call, done_call, place_track, seat_track}, Fabrics.first_seat, LentCalls.IsFresh};
 
 use c104_event::{Event, EventFault};
 use c104_node::TaggedToken;
 use c104_switch::ReplyOf;
-use c104_tickets::{Asks, Pass, TicketWord};
+use c104_tickets::{Asks, DeedLog, Pass};
 use crossbeam_utils::CachePadded;
 use std::marker::Model;
 
@@ -63,7 +63,8 @@ impl CountedSeat {
 
     /// How many events were done through it.
     pub fn count(&self) -> u64
-        ensures { result ≡ length self.now.calls }
+        ensures count { result ≡ length self.now.calls }
+        ensures within { result ≤ TICKET_LIMIT }
     {
         self.count
     }
@@ -90,64 +91,66 @@ impl CountedSeat {
         self.count >= self.limit
     }
 
-    /// Draws a ticket for what was done on the node at a place, which has this pass, and gives the pass back. The caller says
-    /// in its proofs for which deed it is drawn, by the types.
-    pub(crate) fn draw_alone<A: Asks>(
+    /// Puts what was done on the node at a place, which has this pass, at the end of the log, and gives the pass back. The caller
+    /// says in its proofs which deed that is, by the types. Its ticket is that of the seat's last call.
+    pub(crate) fn append_alone<A: Asks>(
         &mut self,
-        word: &TicketWord,
+        log: &DeedLog,
         own: Pass,
         place: usize,
         event: &Event,
         reply: &ReplyOf<TaggedToken>,
-    ) -> (u64, Pass)
-        requires word { (self.old.word_id ≡ word.now.word_id) × (own.word_id ≡ word.now.word_id) }
+    ) -> Pass
+        requires word { (self.old.word_id ≡ log.now.word_id) × (own.word_id ≡ log.now.word_id) }
         requires track { own.view.tracks ≡ place_track place (first_done own.view.tracks) ∷ [] }
         requires deed { A.deed ≡ alone_deed self.old.number place event.now reply.now }
         requires free { length self.old.calls < TICKET_LIMIT }
-        ensures word { result.1.word_id ≡ word.now.word_id }
-        ensures track { result.1.view.tracks ≡ place_track place
-            (first_done own.view.tracks ++ record { ticket = result.0; deed = A.deed } ∷ []) ∷ [] }
-        ensures fresh { IsFresh self.old result.0 }
-        ensures called { self.new ≡ after_call false self.old event.now result.0 (plain_reply tagged_kind reply.now) }
+        ensures word { result.word_id ≡ log.now.word_id }
+        ensures track { result.view.tracks ≡ place_track place
+            (first_done own.view.tracks ++ record { ticket = last_ticket self.new.calls; deed = A.deed } ∷ []) ∷ [] }
+        ensures fresh { IsFresh self.old (last_ticket self.new.calls) }
+        ensures called { self.new ≡
+            after_call false self.old event.now (last_ticket self.new.calls) (plain_reply tagged_kind reply.now) }
     {
-        word.join(&mut self.pass, own);
-        let ticket = word.draw::<A>(&mut self.pass);
-        let own = word.split(&mut self.pass);
+        log.join(&mut self.pass, own);
+        log.append::<A>(&mut self.pass);
+        let own = log.split(&mut self.pass);
         self.count += 1;
-        (ticket, own)
+        own
     }
 
     /// The same for what crossed a wire between the nodes at two places.
-    pub(crate) fn draw_both<A: Asks>(
+    pub(crate) fn append_both<A: Asks>(
         &mut self,
-        word: &TicketWord,
+        log: &DeedLog,
         near: Pass,
         far: Pass,
         places: (usize, usize),
         event: &Event,
         reply: &ReplyOf<TaggedToken>,
-    ) -> (u64, Pass, Pass)
-        requires word { (self.old.word_id ≡ word.now.word_id) × (near.word_id ≡ word.now.word_id)
-            × (far.word_id ≡ word.now.word_id) }
+    ) -> (Pass, Pass)
+        requires word { (self.old.word_id ≡ log.now.word_id) × (near.word_id ≡ log.now.word_id)
+            × (far.word_id ≡ log.now.word_id) }
         requires near { near.view.tracks ≡ place_track places.0 (first_done near.view.tracks) ∷ [] }
         requires far { far.view.tracks ≡ place_track places.1 (first_done far.view.tracks) ∷ [] }
         requires deed { A.deed ≡ both_deed self.old.number places event.now reply.now }
         requires free { length self.old.calls < TICKET_LIMIT }
-        ensures word { (result.1.word_id ≡ word.now.word_id) × (result.2.word_id ≡ word.now.word_id) }
-        ensures near { result.1.view.tracks ≡ place_track places.0
-            (first_done near.view.tracks ++ record { ticket = result.0; deed = A.deed } ∷ []) ∷ [] }
-        ensures far { result.2.view.tracks ≡ place_track places.1
-            (first_done far.view.tracks ++ record { ticket = result.0; deed = A.deed } ∷ []) ∷ [] }
-        ensures fresh { IsFresh self.old result.0 }
-        ensures called { self.new ≡ after_call false self.old event.now result.0 (plain_reply tagged_kind reply.now) }
+        ensures word { (result.0.word_id ≡ log.now.word_id) × (result.1.word_id ≡ log.now.word_id) }
+        ensures near { result.0.view.tracks ≡ place_track places.0
+            (first_done near.view.tracks ++ record { ticket = last_ticket self.new.calls; deed = A.deed } ∷ []) ∷ [] }
+        ensures far { result.1.view.tracks ≡ place_track places.1
+            (first_done far.view.tracks ++ record { ticket = last_ticket self.new.calls; deed = A.deed } ∷ []) ∷ [] }
+        ensures fresh { IsFresh self.old (last_ticket self.new.calls) }
+        ensures called { self.new ≡
+            after_call false self.old event.now (last_ticket self.new.calls) (plain_reply tagged_kind reply.now) }
     {
-        word.join(&mut self.pass, near);
-        word.join(&mut self.pass, far);
-        let ticket = word.draw::<A>(&mut self.pass);
-        let far = word.split(&mut self.pass);
-        let near = word.split(&mut self.pass);
+        log.join(&mut self.pass, near);
+        log.join(&mut self.pass, far);
+        log.append::<A>(&mut self.pass);
+        let far = log.split(&mut self.pass);
+        let near = log.split(&mut self.pass);
         self.count += 1;
-        (ticket, near, far)
+        (near, far)
     }
 
     /// The pass of the seat.

@@ -1,4 +1,4 @@
-//! A shared network: nodes behind locks of their own, and the word of tickets.
+//! A shared network: nodes behind locks of their own, and the log of all that is done, which exists in proofs alone.
 ghost use Rattle.std.specs.Prelude.{Err, IfErr, ◌<◌, ◌≡◌};
 ghost use Rattle.{c104_lean.specs.{Nodes.AsksBoth, Shared.{ArePartsOf, WasShared}, Working.HasCalls}, c104_plan.specs.Plans.IsPlan};
 ghost use Rattle.{c104_run.specs.{NetParts.node_count, Network.event_fault}, c104_workers.specs.SeatGrowth.{FaultsAs, IsLaterFault}};
@@ -13,12 +13,12 @@ use c104_node::{CountedNode, Joint, Place, TaggedToken};
 use c104_plan::Plan;
 use c104_run::{Asked, Wires, acts_of};
 use c104_switch::{Reply, ReplyOf};
-use c104_tickets::{Pass, TicketWord};
+use c104_tickets::{DeedLog, Pass};
 use c104_workers::Part;
 use std::marker::{Model, PhantomData};
 use std::sync::{Mutex, Wait};
 
-/// What is left of a word's first pass, when the tracks of all seats and places were split off it.
+/// What is left of a log's first pass, when the tracks of all seats and places were split off it.
 #[derive(Drop)]
 pub(crate) struct Rest<N: Sharing> {
     pub(crate) pass: Pass,
@@ -39,7 +39,7 @@ impl<N: Sharing> Model for Rest<N> {
 /// A network whose nodes lie behind locks of their own. Events are done on them through seats.
 pub struct SharedNet<N: Sharing> {
     pub(crate) wires: Wires,
-    pub(crate) word: TicketWord,
+    pub(crate) log: DeedLog,
     // A pass can't be shared, so it lies behind a lock as well.
     pub(crate) rest: Mutex<Rest<N>>,
     // The switches in order, and then the terminals.
@@ -57,11 +57,11 @@ impl<N: Sharing> Model for SharedNet<N> {
 
     ghost Value = { SharedView };
 
-    ghost view = { λ s. record { before = N.before; word_id = s.word.word_id; terms = s.word.terms } };
+    ghost view = { λ s. record { before = N.before; word_id = s.log.word_id; terms = s.log.terms } };
 
     ghost invariant = { λ s.
-        (s.wires ≡ N.before.plan) × (s.word.word_id ≡ N.word) × (s.word.terms.first ≡ N.before.count)
-        × (s.word.terms.places ≡ node_count N.before.plan) × (vec_len s.locks ≡ node_count N.before.plan)
+        (s.wires ≡ N.before.plan) × (s.log.word_id ≡ N.word) × (s.log.terms.first ≡ N.before.count)
+        × (s.log.terms.places ≡ node_count N.before.plan) × (vec_len s.locks ≡ node_count N.before.plan)
         × (s.room.items ≡ []) × (vec_len s.locks ≤ vec_capacity s.room)
         × (s.nodes.items ≡ []) × (vec_len s.locks ≤ vec_capacity s.nodes)
         × WasShared N.before × ArePartsOf N.before.plan s.parts.items };
@@ -75,7 +75,7 @@ impl<N: Sharing> SharedNet<N> {
         ensures shared { WasShared self.now.before }
     {
         // The proof reads the rest of the network by this name.
-        let _word = &self.word;
+        let _log = &self.log;
         self.wires.plan()
     }
 
@@ -114,7 +114,7 @@ impl<N: Sharing> SharedNet<N> {
                     return Ok(false);
                 }
                 let number = place.saturating_sub(plan.switches().len());
-                let reply = do_alone(&self.word, seat, held, number, &act, event)?;
+                let reply = do_alone(&self.log, seat, held, number, &act, event)?;
                 Ok(is_done(&reply))
             }
             Asked::Joint(near, far, joint) => {
@@ -149,7 +149,7 @@ impl<N: Sharing> SharedNet<N> {
         if far.place != place {
             return Ok(());
         }
-        cross_often(&self.word, seat, near, &mut far, joint, event)
+        cross_often(&self.log, seat, near, &mut far, joint, event)
     }
 
     /// Whether all nodes are quiet, each when it is asked: no token stands there, and no packet is under way. It locks

@@ -2,9 +2,9 @@
 
 use std::marker::Brand;
 
-/// The word of tickets of a shared network, and how its nodes stood. They lie behind locks, and nothing is known of what does
+/// The log of a shared network, and how its nodes stood. They lie behind locks, and nothing is known of what does
 /// but what its type keeps: so these are a parameter of the type. It has no value: who shares a network picks [`Brand`], and says
-/// in the proofs which word and which network that is.
+/// in the proofs which log and which network that is.
 pub trait Sharing {
     ghost use Rattle.{c104_lean.specs.Shared.Before, c104_tickets.specs.Tickets.TableId};
 

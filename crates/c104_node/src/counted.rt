@@ -109,27 +109,9 @@ impl CountedNode {
         self.core.act_light(act)
     }
 
-    /// Counts an act that was done, in the event of this stamp.
+    /// Counts an act that was done. The stamp of its event only proofs know: the caller's picks it, by what tells of it.
     #[inline(always)]
-    pub fn note(&mut self, stamp: &Stamp, act: &ActOf<TaggedToken>, reply: &ReplyOf<TaggedToken>)
-        requires short { IsWithinLimits act.now }
-        requires room { length self.old.trace < trace_limit }
-        ensures { self.new ≡ record self.old {
-          trace = self.old.trace ++ kept_entry tagged_kind stamp.now act.now reply.now ∷ [];
-        } }
-    {
-        self.history = self.history.with(stamp, act, reply);
-        self.entries += 1;
-    }
-
-    /// The same of an event whose stamp only proofs know. The caller's proof picks it, by what tells of it.
-    #[inline(always)]
-    pub fn note_told<W>(
-        &mut self,
-        _teller: &W,
-        act: &ActOf<TaggedToken>,
-        reply: &ReplyOf<TaggedToken>,
-    )
+    pub fn note<W>(&mut self, _teller: &W, act: &ActOf<TaggedToken>, reply: &ReplyOf<TaggedToken>)
         ghost stamp: { TheStamp }
         requires short { IsWithinLimits act.now }
         requires room { length self.old.trace < trace_limit }

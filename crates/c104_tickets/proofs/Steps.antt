@@ -3,11 +3,10 @@ use Rattle.{atomic_table.proofs.Lists.{at_set, set_else}, c104_tickets.proofs.Lo
 use Rattle.c104_tickets.proofs.Logs.{equals, itself, length_kept, numbered_snoc, part_other, part_snoc, same_name, same_self}
 use Rattle.c104_tickets.specs.Tickets.{AreApart, AreEarlier, Each, HasRoom, HasTrack, IsAppended, IsClosed, IsFree, IsInside, IsLogOf}
 use Rattle.c104_tickets.specs.Tickets.{IsNameOf, IsTrack, IsTrackOf, IsViewOf, after_draw, after_join, after_split, behind, belongs}
-use Rattle.c104_tickets.specs.Tickets.{first_track, front, is_same, part_of, spent, track_after}
-use Rattle.c104_tickets.specs.declared.{TheConstants.TICKET_LIMIT, views.{Deed.Deed, Done.Done, Name.Name, Terms.Terms, Track.Track}}
-use Rattle.{c104_tickets.specs.declared.views.View.View, std.proofs.Common.{Bool, List, [], ap, arith, cond, false, inl, inr, length, map}}
-use Rattle.std.proofs.Common.{refl, set, subst, suc, sym, true, zero, ℕ, ⊎_elim, ◌++◌, ◌+◌, ◌<◌, ◌∙◌, ◌∷◌, ◌≡◌, ◌≢◌, ◌≤◌, ◌⊎◌}
-use Rattle.std.{proofs.lemmas.List.length-append, specs.Prelude.◌==◌}
+use Rattle.c104_tickets.specs.{Tickets.{first_track, front, is_same, part_of, spent, track_after}, declared.TheConstants.TICKET_LIMIT}
+use Rattle.c104_tickets.specs.declared.views.{Deed.Deed, Done.Done, Name.Name, Terms.Terms, Track.Track, View.View}
+use Rattle.std.proofs.Common.{Bool, List, [], ap, arith, cond, false, inl, inr, length, map, refl, set, subst, suc, sym, true, zero, ℕ}
+use Rattle.std.{proofs.{Common.{⊎_elim, ◌++◌, ◌+◌, ◌<◌, ◌∙◌, ◌∷◌, ◌≡◌, ◌≢◌, ◌≤◌, ◌⊎◌}, lemmas.List.length-append}, specs.Prelude.◌==◌}
 use lib.ListN.{get_elem?}
 use mathlib.Core.Option.{some, some-injective, some-ne-none}
 

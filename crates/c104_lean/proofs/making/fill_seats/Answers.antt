@@ -6,12 +6,12 @@ use Rattle.c104_lean.proofs.making.fill_seats.Goals as goal
 
 pub loop-number-preserved : goal.loop-number-preserved
 loop-number-preserved c =
-    let seat = first_seat c.args.word.now.word_id c.args.terms in
+    let seat = first_seat c.args.log.now.word_id c.args.terms in
     let next = seats_next c.args.terms c.loop-number.number (omega (arith, c.loop-number-test.true)) in
     let seen : c.new.result ≡ seat c.loop-number.number =
     c.new.ensures
     ∙ ap (λ t. first_seat t c.split-own.result.view.terms c.loop-number.number) (c.split-own.ensures.made.0 ∙ c.loop-number.invariant.word)
-    ∙ ap (λ (v : View). first_seat c.args.word.now.word_id v.terms c.loop-number.number) (c.split-own.ensures.made.1 ∙ ap first_track c.loop-number.invariant.view) in
+    ∙ ap (λ (v : View). first_seat c.args.log.now.word_id v.terms c.loop-number.number) (c.split-own.ensures.made.1 ∙ ap first_track c.loop-number.invariant.view) in
     let grown : c.push_reserved.new.self.items ≡ c.loop-number.list.items ++ seat c.loop-number.number ∷ [] =
     c.push_reserved.ensures.items ∙ ap (λ s. c.loop-number.list.items ++ s ∷ []) seen in
     record {
@@ -24,5 +24,5 @@ loop-number-preserved c =
 
 pub returns-clause-own : goal.returns-clause-own
 returns-clause-own c =
-    first_own c.args.word.now.word_id c.args.terms c.loop-number.list.items
-    (c.loop-number.invariant.seats ∙ ap (λ n. map (first_seat c.args.word.now.word_id c.args.terms) (range_with_len 0 n)) (omega (arith, c.loop-number-test.false, c.loop-number.auto)))
+    first_own c.args.log.now.word_id c.args.terms c.loop-number.list.items
+    (c.loop-number.invariant.seats ∙ ap (λ n. map (first_seat c.args.log.now.word_id c.args.terms) (range_with_len 0 n)) (omega (arith, c.loop-number-test.false, c.loop-number.auto)))

@@ -1,2 +1,0 @@
-abbrev pub ghost-told : Rattle.c104_node.proofs.counted.CountedNode.note_told.Given.ghost-told
-ghost-told g a = g.stamp
