@@ -21,11 +21,12 @@ use std::alloc::Global;
 use std::sync::Wait;
 use std::thread::{Threads, for_each_mut, yield_now};
 
-/// After how many turns in a row that do nothing a worker does no more.
-const IDLE_TURNS: u32 = 64;
+/// After how many turns in a row that do nothing a worker does no more. Those that go on wait for it then: so it is far more
+/// than a neighbour needs for a turn.
+const IDLE_TURNS: u32 = 512;
 
 /// How often others may run between two turns that do nothing.
-const YIELDS: u32 = 16;
+const YIELDS: u32 = 2;
 
 /// How often an event is done while its node is locked, at most: an output buffer has no more tokens.
 pub(crate) const MOST_TIMES: u32 = 8;
@@ -35,7 +36,7 @@ pub(crate) const MOST_TIMES: u32 = 8;
 /// In a turn it does the part that a round has for each of these nodes, by their numbers, unless another has the node then:
 /// it asks the node which of these events it may be ready for, and does each of these as long as the node is ready, but 8 times
 /// at most, the turn of an input with a word of the worker's. A worker stops at its first event that is refused; an event that
-/// isn't ready is none. Where 64 turns in a row do nothing, it does no more of them.
+/// isn't ready is none. Where 512 turns in a row do nothing, it does no more of them.
 ///
 /// There is at least one seat. What was done stays done.
 pub fn run_workers<R: Threads + Wait + Sync, N: Sharing + Send + Sync>(

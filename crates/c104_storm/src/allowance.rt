@@ -9,14 +9,14 @@ use c104_workers::CALL_LIMIT;
 const TURNS: u32 = 64;
 
 /// The turns where it isn't: threads that begin one after another are at work together for most of these.
-const MANY_TURNS: u32 = 1_024;
+const MANY_TURNS: u32 = 16_384;
 
 /// How many events each worker of a storm may do.
 #[derive(Clone, Copy, Debug, PartialEq, Eq)]
 pub enum Allowance {
     /// As many as a seat of a fabric keeps calls: 1,048,576. All workers are asked after each 64 turns whether all is quiet.
     Listed,
-    /// 2⁴⁰, which no worker reaches. They are asked after 1,024 turns, or when none of them has anything to do.
+    /// 2⁴⁰, which no worker reaches. They are asked after 16,384 turns, or when none of them has anything to do.
     Counted,
 }
 
