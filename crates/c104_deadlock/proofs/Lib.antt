@@ -15,7 +15,7 @@ pub mod BeginsStarted
 pub mod RecordedRounds
 pub mod WorkBounds
 pub mod FullWork
-mod UndoneRounds
+pub mod UndoneRounds
 pub mod DeadlockFree
 pub mod PlainWork
 pub mod LinkPlaces
