@@ -20,3 +20,4 @@ pub mod PortRuns
 pub mod SeatWork
 pub mod AuditedLeft
 pub mod WholeRuns
+pub mod PartNumbers

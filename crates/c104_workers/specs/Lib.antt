@@ -9,4 +9,5 @@ pub mod Closing
 pub mod SeatCommands
 pub mod Words
 pub mod Working
+pub mod Parts
 pub mod Audited

@@ -1,18 +1,44 @@
 -- Workers: threads that do the parts of rounds, each through a seat. Of n workers number i has the nodes k with k mod n ≡ i.
 use Rattle.{c104_audit.specs.declared.calls.Call.Call, c104_event.specs.declared.{events.Event.Event, faults.EventFault.EventFault}}
-use Rattle.{c104_plan.specs.Plans.Plan, c104_run.specs.{Network.event_fault, NodeParts.round_part}, c104_workers.specs.Calls.{IsSameSeat, SeatView}}
+use Rattle.{c104_node.specs.Records.has_link, c104_plan.specs.Plans.Plan, c104_run.specs.{KnownWires.is_linked_end, NetParts.node_count}}
+use Rattle.{c104_run.specs.{Network.event_fault, NodeParts.round_part}, c104_workers.specs.Calls.{IsSameSeat, SeatView}}
 use Rattle.c104_workers.specs.{SeatGrowth.FaultsAs, Words.{with_word, word_of}, declared.{words.Words.Words, workers.RunFault.RunFault}}
-use Rattle.std.specs.Prelude.{All, Contains, Err, List, None, Ok, Result, Some, length, slice_index_or, take, ℕ, ◌%◌, ◌++◌, ◌<◌, ◌≡◌, ◌⊎◌}
+use Rattle.std.specs.{List.position_or_len, Prelude.{All, Bool, Contains, Err, List, None, Ok, Result, Some, false, length, slice_index_or}}
+use Rattle.std.specs.Prelude.{take, true, ℕ, ◌%◌, ◌++◌, ◌<◌, ◌≡◌, ◌⊎◌}
 
--- a part of a round, and the place of its node
+-- a part of a round, and the place of its node; the links that have wires, as a set; and how many events come before the
+-- turns, and before the claims
 pub record PartView : Type 0 where
   pub node : ℕ
   pub events : List Event
+  pub wired : ℕ
+  pub turns : ℕ
+  pub claims : ℕ
 
--- it is the part that a round has for the node at a place
+-- whether an event crosses no wire
+abbrev pub is_at_home : Event → Bool
+is_at_home (Event.Credit p) = false
+is_at_home (Event.Cross p) = false
+is_at_home e = true
+
+-- whether an event is a claim
+abbrev pub is_claim : Event → Bool
+is_claim (Event.Claim s i o) = true
+is_claim e = false
+
+-- it is the part that a round has for the node at a place; before the turns comes all that crosses a wire
 pub record IsPartOf (plan : Plan) (node : ℕ) (part : PartView) : Type 0 where
   pub at : part.node ≡ node
   pub events : part.events ≡ round_part plan node
+  pub wired : (l : ℕ) → has_link part.wired l ≡ is_linked_end plan node l
+  pub turns : part.turns ≡ position_or_len is_at_home part.events
+  pub claims : part.claims ≡ position_or_len is_claim part.events
+
+-- it is that of the node at its place, for some plan
+pub record IsSomePart (part : PartView) : Type 0 where
+  pub plan : Plan
+  pub inside : part.node < node_count plan
+  pub is : IsPartOf plan part.node part
 
 -- an event is in the part that a round has for a node of worker i, of n workers
 pub record IsPartEvent (plan : Plan) (n i : ℕ) (e : Event) : Type 0 where

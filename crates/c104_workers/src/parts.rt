@@ -3,8 +3,13 @@
 //! A worker asks a node once for all events of a stage, so that it takes a lock for those alone that may be done. That leaves
 //! none out: no event of a stage makes another of the same stage ready at this node. A node tells by sets of its links what may
 //! go out, so that none of the events is looked at that it isn't ready for.
-ghost use Rattle.std.specs.Prelude.{IfOk, ◌<◌, ◌≡◌};
-ghost use Rattle.{c104_run.specs.{NetParts.node_count, NodeParts.round_part}, c104_workers.specs.Working.IsPartOf};
+ghost use Rattle.std.specs.List.{position_or_len};
+ghost use Rattle.std.specs.Prelude.{IfOk, OnOk, [], true, ℕ, ◌++◌, ◌<◌, ◌∷◌, ◌≡◌, ◌≤◌};
+ghost use Rattle.{c104_crossbar.specs.Groups.has_bit, c104_node.specs.Nodes.is_switch, c104_run.specs.NetParts.node_count};
+ghost use Rattle.c104_run.specs.{NodeParts.round_part, Rounds.{claims_of, switch_claims}};
+ghost use Rattle.c104_workers.specs.Parts.{IsOfKind, links_in, may_begin, numbers_in, ready_numbers, stage_count};
+ghost use Rattle.c104_workers.specs.Working.{IsPartOf, is_at_home, is_claim};
+ghost use Rattle.c104_node.specs.declared.node.NodeOf.TheVariants as node;
 
 use c104_event::Event;
 use c104_node::{NodeOf, PortPart, TerminalOf};
@@ -29,11 +34,14 @@ pub struct Part {
 }
 
 impl Model for Part {
-    ghost use Rattle.c104_workers.specs.Working.{PartView};
+    ghost use Rattle.c104_workers.specs.Working.{IsSomePart, PartView};
 
     ghost Value = { PartView };
 
-    ghost view = { λ p. record { node = p.node; events = p.events.items } };
+    ghost view = { λ p. record { node = p.node; events = p.events.items; wired = p.wired; turns = p.turns; claims = p.claims } };
+
+    ghost invariant = { λ p. IsSomePart
+        (record { node = p.node; events = p.events.items; wired = p.wired; turns = p.turns; claims = p.claims }) };
 }
 
 /// A stage of a part.
@@ -85,7 +93,9 @@ impl Part {
     }
 
     /// How many events a stage has.
-    pub fn count(&self, stage: Stage) -> usize {
+    pub fn count(&self, stage: Stage) -> usize
+        ensures { result ≡ stage_count self.now stage }
+    {
         let (start, end) = match stage {
             Stage::Crossings => (0, self.turns),
             Stage::Turns => (self.turns, self.claims),
@@ -94,13 +104,17 @@ impl Part {
         end.saturating_sub(start)
     }
 
-    /// The numbers of those events of a stage that the node may be ready for join a list. The only error is out of memory.
+    /// The numbers of those events of a stage that may begin at the node join a list, if it is a node of the part's kind. The
+    /// only error is out of memory.
     pub fn add_ready<T: TokenKind>(
         &self,
         node: &NodeOf<T>,
         stage: Stage,
         ready: &mut Vec<usize>,
-    ) -> Result<(), NoMemory> {
+    ) -> Result<(), NoMemory>
+        ensures listed { IsOfKind self.now node.now →
+            OnOk result (ready.new.items ≡ ready.old.items ++ ready_numbers T.kind node.now self.now stage) }
+    {
         match node {
             NodeOf::Switch(_) => self.add_at_switch(node, stage, ready),
             NodeOf::Terminal(terminal) => self.add_at_terminal(terminal, stage, ready),
@@ -113,7 +127,11 @@ impl Part {
         node: &NodeOf<T>,
         stage: Stage,
         ready: &mut Vec<usize>,
-    ) -> Result<(), NoMemory> {
+    ) -> Result<(), NoMemory>
+        requires { is_switch node.now ≡ true }
+        ensures listed { IsOfKind self.now node.now →
+            OnOk result (ready.new.items ≡ ready.old.items ++ ready_numbers T.kind node.now self.now stage) }
+    {
         match stage {
             Stage::Crossings => {
                 self.add_links(node.ready_links(PortPart::Credit), 0, ready)?;
@@ -130,20 +148,18 @@ impl Part {
         terminal: &TerminalOf<T>,
         stage: Stage,
         ready: &mut Vec<usize>,
-    ) -> Result<(), NoMemory> {
+    ) -> Result<(), NoMemory>
+        ensures listed { IsOfKind self.now (node.Terminal terminal.now) →
+            OnOk result (ready.new.items ≡ ready.old.items ++ ready_numbers T.kind (node.Terminal terminal.now) self.now stage) }
+    {
         match stage {
             Stage::Crossings if self.turns > 0 => {
-                if terminal.can_credit_out() {
-                    ready.push(0)?;
-                }
-                if terminal.can_leave() {
-                    ready.push(1)?;
-                }
+                add_if(ready, 0, terminal.can_credit_out())?;
+                add_if(ready, 1, terminal.can_leave())
             }
-            Stage::Turns if terminal.can_drain() => ready.push(self.turns)?,
-            _ => (),
+            Stage::Turns => add_if(ready, self.turns, terminal.can_drain()),
+            _ => Ok(()),
         }
-        Ok(())
     }
 
     /// The numbers of the events of a kind at those wired links that are in a set join a list; the first of them has this
@@ -153,38 +169,68 @@ impl Part {
         links: LinkSet,
         first: usize,
         ready: &mut Vec<usize>,
-    ) -> Result<(), NoMemory> {
+    ) -> Result<(), NoMemory>
+        requires { first ≤ 64 }
+        ensures { OnOk result (ready.new.items ≡ ready.old.items ++ numbers_in (has_bit links) first (links_in self.now.wired)) }
+    {
         if links.next(0, self.wired).is_none() {
             return Ok(());
         }
         let mut number = first;
         let mut from = 0;
         while let Some(link) = self.wired.next(from, self.wired) {
-            if links.has(link) {
-                ready.push(number)?;
-            }
-            number = number.saturating_add(1);
+            add_if(ready, number, links.has(link))?;
+            number += 1;
             from = link + 1;
         }
         Ok(())
     }
 }
 
+/// A number joins a list, where this is so. The only error is out of memory.
+fn add_if(ready: &mut Vec<usize>, number: usize, is_so: bool) -> Result<(), NoMemory>
+    ensures { OnOk result (ready.new.items ≡ ready.old.items ++ numbers_in (λ b. b) number (is_so ∷ [])) }
+{
+    if is_so {
+        ready.push(number)?;
+    }
+    Ok(())
+}
+
+/// Whether an event crosses no wire.
+fn is_at_home(event: &Event) -> bool
+    ensures { result ≡ is_at_home event.now }
+{
+    !matches!(event, Event::Credit(_) | Event::Cross(_))
+}
+
+/// Whether an event is a claim.
+fn is_claim(event: &Event) -> bool
+    ensures { result ≡ is_claim event.now }
+{
+    matches!(event, Event::Claim { .. })
+}
+
 /// How many events of a part come before all that cross no wire.
-fn count_crossings(events: &[Event]) -> usize {
+#[tactic(auto, using(crate::proofs::PartNumbers::first_here, crate::proofs::PartNumbers::none_there))]
+fn count_crossings(events: &[Event]) -> usize
+    ensures { result ≡ position_or_len is_at_home events.now }
+{
     for (number, event) in events.iter().enumerate() {
-        match event {
-            Event::Credit(_) | Event::Cross(_) => continue,
-            _ => return number,
+        if is_at_home(event) {
+            return number;
         }
     }
     events.len()
 }
 
 /// How many events of a part come before the claims.
-fn count_before_claims(events: &[Event]) -> usize {
+#[tactic(auto, using(crate::proofs::PartNumbers::first_here, crate::proofs::PartNumbers::none_there))]
+fn count_before_claims(events: &[Event]) -> usize
+    ensures { result ≡ position_or_len is_claim events.now }
+{
     for (number, event) in events.iter().enumerate() {
-        if let Event::Claim { .. } = event {
+        if is_claim(event) {
             return number;
         }
     }
@@ -198,10 +244,14 @@ fn add_claims<T: TokenKind>(
     node: &NodeOf<T>,
     first: usize,
     ready: &mut Vec<usize>,
-) -> Result<(), NoMemory> {
+) -> Result<(), NoMemory>
+    requires { first ≤ 96 }
+    ensures { (s : ℕ) → OnOk result
+        (ready.new.items ≡ ready.old.items ++ numbers_in (may_begin T.kind node.now) first (switch_claims s)) }
+{
     let mut from = 0;
     while let Some(input) = node.next_wanting(from) {
-        add_claims_of(node, input, first.saturating_add(input * LINKS), ready)?;
+        add_claims_of(node, input, first + input * LINKS, ready)?;
         from = input + 1;
     }
     Ok(())
@@ -213,10 +263,14 @@ fn add_claims_of<T: TokenKind>(
     input: usize,
     first: usize,
     ready: &mut Vec<usize>,
-) -> Result<(), NoMemory> {
+) -> Result<(), NoMemory>
+    requires { first ≤ 2048 }
+    ensures { (s : ℕ) → OnOk result
+        (ready.new.items ≡ ready.old.items ++ numbers_in (may_begin T.kind node.now) first (claims_of s input)) }
+{
     let mut from = 0;
     while let Some(output) = node.next_claim(input, from) {
-        ready.push(first.saturating_add(output))?;
+        ready.push(first + output)?;
         from = output + 1;
     }
     Ok(())
