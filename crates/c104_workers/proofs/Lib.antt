@@ -21,3 +21,4 @@ pub mod SeatWork
 pub mod AuditedLeft
 pub mod WholeRuns
 pub mod PartNumbers
+pub mod PartClaims

@@ -1,6 +1,6 @@
 -- The numbers of those of a list that pass a test, as loops find them one by one.
 use Rattle.{c104_run.specs.Rounds.link_numbers, c104_switch.specs.Claims.IsNextLink, c104_workers.specs.Parts.numbers_in}
-use Rattle.std.proofs.Common.{Bool, List, None, Option, Some, [], absurd, ap, append-nil, append_assoc}
+use Rattle.std.proofs.Common.{Bool, List, None, Option, Some, [], ap, append-nil, append_assoc}
 use Rattle.std.proofs.lemmas.List.Sums.{position_or_len_is}
 use Rattle.std.specs.List.{position_or_len}
 use Rattle.std.proofs.Common.{arith, false, filter, get_or, if◌then◌else◌, length, map, refl, suc, sym, true, zero, ℕ, ◌&&◌, ◌*◌, ◌++◌, ◌+◌, ◌-◌, ◌<◌}
@@ -191,8 +191,7 @@ links_on q t k from link b so now total next is before grown =
     joined_next so (numbers_in (λ c. c) k (b ∷ [])) (numbers_in q (k + 1) (filter t (left_links (link + 1)))) (numbers_in q k (filter t (left_links from))) total now before split grown
   where
     one_of : (c : Bool) → (c && c) ≡ false → c ≡ false
-    one_of true no = no
-    one_of false no = refl
+    one_of c isnt = search arith
 
     by_test : (c : Bool) (k : ℕ) (rest : List ℕ) → (if c then k ∷ rest else rest) ≡ numbers_in (λ d. d) k (c ∷ []) ++ rest
     by_test true k rest = refl
@@ -203,8 +202,7 @@ links_end q t k from so total inside next before =
     joined_end so (numbers_in q k (filter t (left_links from))) total before (ap (numbers_in q k) (none_left t from inside (λ l low high. one_of (t l) (last_passed (λ l. t l && t l) from next l low high))))
   where
     one_of : (c : Bool) → (c && c) ≡ false → c ≡ false
-    one_of true no = no
-    one_of false no = refl
+    one_of c isnt = search arith
 
 -- of lists of 32 each, one for each number: those of which none passes are left out
 module _ {Y : Type 0} (q : Y → Bool) (f : ℕ → List Y) (size : ℕ) (sized : (l : ℕ) → length (f l) ≡ size) where

@@ -15,7 +15,7 @@ loop-output-preserved g c =
     let output = c.in-Some.output in
     let high : output < 32 = next_high q from output c.in-Some.ensures in
     (omega (arith, high),
-    joined_next c.loop-output.ready.items (c.args.first + output ∷ []) _ _ _ _ c.loop-output.invariant.1
+    joined_next c.loop-output.ready.items ((c.args.first + output) ∷ []) _ _ _ _ c.loop-output.invariant.1
     (next_number q c.args.first from output (next_low q from output c.in-Some.ensures) high (next_passed q from output c.in-Some.ensures) (next_is q from output c.in-Some.ensures))
     c.in_ok-push.ensures.items)
 
