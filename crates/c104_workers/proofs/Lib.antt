@@ -22,3 +22,5 @@ pub mod AuditedLeft
 pub mod WholeRuns
 pub mod PartNumbers
 pub mod PartClaims
+pub mod PartShapes
+pub mod PartStages

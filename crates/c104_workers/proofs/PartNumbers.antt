@@ -177,23 +177,23 @@ no_number q k from inside none =
     ap (λ (i : ℕ). numbers_in q k (range_with_len from i)) all ∙ passed_numbers q k from (32 - from) 0 (λ l above below. none l above (omega (arith, below, inside)))
 
 -- the same as a loop finds them that looks at links one by one, and where there is no further one
-pub links_on : (q t : ℕ → Bool) (k from link : ℕ) (b : Bool) (so now total : List ℕ) → IsNextLink (λ l. t l && t l) from (Some link) → b ≡ q link → so ++ numbers_in q k (filter t (left_links from)) ≡ total → now ≡ so ++ numbers_in (λ c. c) k (b ∷ []) →
+pub links_on : (q t : ℕ → Bool) (k from link : ℕ) (b : Bool) (so now total : List ℕ) → IsNextLink (λ l. t l && t l) from (Some link) → b ≡ q link → so ++ numbers_in q k (filter t (left_links from)) ≡ total → now ≡ so ++ numbers_in (λ (c : Bool). c) k (b ∷ []) →
     now ++ numbers_in q (k + 1) (filter t (left_links (link + 1))) ≡ total
 links_on q t k from link b so now total next is before grown =
-    let both : (λ l. t l && t l) link ≡ true = next_is (λ l. t l && t l) from link next in
+    let both : (t link && t link) ≡ true = next_is (λ l. t l && t l) from link next in
     let here : t link ≡ true = search (arith, both) in
     let later : k + 1 ≡ suc k = omega arith in
-    let split : numbers_in q k (filter t (left_links from)) ≡ numbers_in (λ c. c) k (b ∷ []) ++ numbers_in q (k + 1) (filter t (left_links (link + 1))) =
+    let split : numbers_in q k (filter t (left_links from)) ≡ numbers_in (λ (c : Bool). c) k (b ∷ []) ++ numbers_in q (k + 1) (filter t (left_links (link + 1))) =
       ap (numbers_in q k) (next_left t from link (next_low (λ l. t l && t l) from link next) (next_high (λ l. t l && t l) from link next) (λ l low high. one_of (t l) (next_passed (λ l. t l && t l) from link next l low high)) here)
       ∙ ap (λ (c : Bool). if c then k ∷ numbers_in q (suc k) (filter t (left_links (link + 1))) else numbers_in q (suc k) (filter t (left_links (link + 1)))) (sym is)
       ∙ by_test b k (numbers_in q (suc k) (filter t (left_links (link + 1))))
-      ∙ ap (λ (j : ℕ). numbers_in (λ c. c) k (b ∷ []) ++ numbers_in q j (filter t (left_links (link + 1)))) (sym later) in
-    joined_next so (numbers_in (λ c. c) k (b ∷ [])) (numbers_in q (k + 1) (filter t (left_links (link + 1)))) (numbers_in q k (filter t (left_links from))) total now before split grown
+      ∙ ap (λ (j : ℕ). numbers_in (λ (c : Bool). c) k (b ∷ []) ++ numbers_in q j (filter t (left_links (link + 1)))) (sym later) in
+    joined_next so (numbers_in (λ (c : Bool). c) k (b ∷ [])) (numbers_in q (k + 1) (filter t (left_links (link + 1)))) (numbers_in q k (filter t (left_links from))) total now before split grown
   where
     one_of : (c : Bool) → (c && c) ≡ false → c ≡ false
     one_of c isnt = search arith
 
-    by_test : (c : Bool) (k : ℕ) (rest : List ℕ) → (if c then k ∷ rest else rest) ≡ numbers_in (λ d. d) k (c ∷ []) ++ rest
+    by_test : (c : Bool) (k : ℕ) (rest : List ℕ) → (if c then k ∷ rest else rest) ≡ numbers_in (λ (d : Bool). d) k (c ∷ []) ++ rest
     by_test true k rest = refl
     by_test false k rest = refl
 
