@@ -87,6 +87,14 @@ some_claim : (k : ℕ) → 0 < length (switch_claims k)
 unfolding link_numbers
 some_claim k = omega arith
 
+-- four lists in turn, and how long they are
+nested : (xs ys zs ws : List Event) → xs ++ ys ++ zs ++ ws ≡ xs ++ (ys ++ (zs ++ ws))
+nested xs ys zs ws = search (arith, append_assoc)
+
+pub size_of : (f : ℕ → Event) (ls : List ℕ) (rest : List Event) → length (map f ls ++ rest) ≡ length ls + length rest
+size_of f [] rest = omega arith
+size_of f (l ∷ ls) rest = omega (arith, size_of f ls rest)
+
 -- the part of a switch
 pub record IsSwitchPart (p : PartView) : Type 0 where
   pub events : p.events ≡ switch_list p.node (links_in p.wired)
@@ -149,6 +157,7 @@ module _ (p : PartView) (some : IsSomePart p) where
       ∙ ap (λ (es : List Event). map (credit_at p.node) links ++ es ++ flat_map (port_events Turn) (map (Port.Switch p.node) links) ++ own_events some.plan p.node) (crosses_are p.node links)
       ∙ ap (λ (es : List Event). map (credit_at p.node) links ++ map (cross_at p.node) links ++ es ++ own_events some.plan p.node) (turns_are p.node links)
       ∙ ap (λ (es : List Event). map (credit_at p.node) links ++ map (cross_at p.node) links ++ map (turn_of p.node) links ++ es) (own_are is)
+      ∙ nested (map (credit_at p.node) links) (map (cross_at p.node) links) (map (turn_of p.node) links) (switch_claims p.node)
 
   of_switch : nat_lt p.node switches ≡ true → IsSwitchPart p
   of_switch is =
@@ -162,9 +171,11 @@ module _ (p : PartView) (some : IsSomePart p) where
       let claim_end = first_claim p.node in
       let turns : p.turns ≡ length links + length links = omega (arith, some.is.turns, home, home_next, home_last) in
       let claims : p.claims ≡ length links + length links + length links = omega (arith, some.is.claims, claim, claim_next, claim_last, claim_end) in
-      let size : length p.events ≡ length links + (length links + (length links + length (switch_claims p.node))) = search (arith, events) in
+      let size = ap length events ∙ size_of (credit_at p.node) links (map (cross_at p.node) links ++ (map (turn_of p.node) links ++ switch_claims p.node)) in
+      let size_next = size_of (cross_at p.node) links (map (turn_of p.node) links ++ switch_claims p.node) in
+      let size_last = size_of (turn_of p.node) links (switch_claims p.node) in
       let few : length links ≤ 32 = few_links in
-      let more : p.claims < length p.events = omega (arith, claims, size, some_claim p.node) in
+      let more : p.claims < length p.events = omega (arith, claims, size, size_next, size_last, some_claim p.node) in
       record { events = events; turns = turns; claims = claims; few = few; more = more }
     where
       few_links : length links ≤ 32
