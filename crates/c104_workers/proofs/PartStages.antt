@@ -1,11 +1,12 @@
 -- The events of each stage of a part, and the numbers of those that may begin at its node.
 use Rattle.{c104_crossbar.specs.Groups.has_bit, c104_event.specs.declared.events.Event.Event, c104_node.specs.Acts.node_act}
-use Rattle.c104_node.specs.{Nodes.Node, PortParts.may_act, Terminals.{Terminal, terminal_credit_out, terminal_drain, terminal_leave}}
+use Rattle.c104_node.specs.{Nodes.{Node, is_switch}, PortParts.may_act, Terminals.{Terminal, terminal_credit_out, terminal_drain, terminal_leave}}
 use Rattle.c104_node.specs.declared.{acts.ActOf.ActOf, node.NodeOf.NodeOf, port_part.PortPart.TheVariants.{Credit, Cross, Turn}}
 use Rattle.{c104_plan.specs.declared.ports.Port.Port, c104_run.{proofs.RoundLists.links_passed, specs.Rounds.{link_numbers, switch_claims}}}
 use Rattle.{c104_token.specs.Kinds.Kind, c104_workers.proofs.PartNumbers.{numbers_agree, numbers_append, numbers_map}}
-use Rattle.c104_workers.{proofs.PartShapes.{IsSwitchPart, IsTerminalPart, credit_at, cross_at, size_of, switch_list, terminal_list, turn_of}, specs.Working.PartView}
-use Rattle.c104_workers.specs.{Parts.{links_in, may_begin, numbers_in, ready_numbers, stage_events}, declared.parts.Stage.Stage}
+use Rattle.c104_workers.{proofs.PartShapes.{IsSwitchPart, IsTerminalPart, credit_at, cross_at, size_of, switch_list, switch_part, terminal_list, terminal_part}, specs.Working.{IsSomePart, PartView}}
+use Rattle.c104_workers.proofs.PartShapes.{turn_of}
+use Rattle.c104_workers.specs.{Parts.{IsOfKind, links_in, may_begin, numbers_in, ready_numbers, stage_events}, declared.parts.Stage.Stage}
 use Rattle.std.proofs.Common.{Bool, Err, List, Ok, Result, [], ap, append-nil, append_assoc, arith, drop, false, filter, if◌then◌else◌, is_some, length, map, refl}
 use Rattle.std.proofs.{Common.{OnOk, subst, sym, take, true, ℕ, ◌++◌, ◌+◌, ◌-◌, ◌/◌, ◌<◌, ◌∙◌, ◌∷◌, ◌≡◌}, lemmas.List.{drop_at, length-map, take_at}}
 use Rattle.std.specs.List.{range_with_len}
@@ -157,3 +158,47 @@ module _ {A : Type 0} (kind : Kind A) (t : Terminal A) (p : PartView) (shape : I
       by_wire false first end events =
           ap (λ (k : ℕ). between p.turns k p.events) end ∙ ap (between p.turns 1) events ∙ ap (λ (k : ℕ). between k 1 (terminal_list shape.number false)) first
           ∙ one _ _ 0 drains_as ∙ ap (λ (k : ℕ). numbers_in (λ (c : Bool). c) k (is_some (terminal_drain t) ∷ [])) (sym first)
+
+-- what a call leaves, by the part that is seen
+module _ {A : Type 0} (kind : Kind A) (p : PartView) (some : IsSomePart p) {X E : Type 0} (r : Result X E) (stage : Stage) (old now : List ℕ) where
+  abbrev pub Lists : Node A → Type 0
+  Lists n = OnOk r (now ≡ old ++ ready_numbers kind n p stage)
+
+  at_stage : (n : Node A) (s : Stage) → stage ≡ s → OnOk r (now ≡ old ++ ready_numbers kind n p s) → Lists n
+  at_stage n s is lists = subst (λ (z : Stage). OnOk r (now ≡ old ++ ready_numbers kind n p z)) (sym is) lists
+
+  module _ (n : Node A) (switch : is_switch n ≡ true) (fits : IsOfKind p n) where
+    shape_of : IsSwitchPart p
+    shape_of = switch_part p some (more_of n switch fits)
+      where
+        more_of : (m : Node A) → is_switch m ≡ true → IsOfKind p m → p.claims < length p.events
+        more_of (NodeOf.Switch s) is more = more
+        more_of (NodeOf.Terminal t) is all = absurd (cc)
+
+    pub crossings_done : stage ≡ Stage.Crossings → (turns granting leaving : ℕ) → turns ≡ p.turns → ((l : ℕ) → l < 32 → has_bit granting l ≡ may_act kind Credit l n) → ((l : ℕ) → l < 32 → has_bit leaving l ≡ may_act kind Cross l n) → (mid : List ℕ) →
+        mid ≡ old ++ numbers_in (has_bit granting) 0 (links_in p.wired) → OnOk r (now ≡ mid ++ numbers_in (has_bit leaving) (turns / 2) (links_in p.wired)) → Lists n
+    crossings_done is turns granting leaving same grants leaves mid first second =
+        at_stage n Stage.Crossings is (on_ok r (λ (grown : now ≡ mid ++ numbers_in (has_bit leaving) (turns / 2) (links_in p.wired)). crossings_ready kind n p shape_of granting leaving grants leaves old mid now first
+        (grown ∙ ap (λ (k : ℕ). mid ++ numbers_in (has_bit leaving) (k / 2) (links_in p.wired)) same)) second)
+
+    pub turns_done : stage ≡ Stage.Turns → (turns turning : ℕ) → turns ≡ p.turns → ((l : ℕ) → l < 32 → has_bit turning l ≡ may_act kind Turn l n) → OnOk r (now ≡ old ++ numbers_in (has_bit turning) turns (links_in p.wired)) → Lists n
+    turns_done is turns turning same may done =
+        at_stage n Stage.Turns is (on_ok r (λ (grown : now ≡ old ++ numbers_in (has_bit turning) turns (links_in p.wired)). turns_ready kind n p shape_of turning may old now
+        (grown ∙ ap (λ (k : ℕ). old ++ numbers_in (has_bit turning) k (links_in p.wired)) same)) done)
+
+    pub claims_done : stage ≡ Stage.Claims → (claims : ℕ) → claims ≡ p.claims → OnOk r (now ≡ old ++ numbers_in (may_begin kind n) claims (switch_claims p.node)) → Lists n
+    claims_done is claims same done =
+        at_stage n Stage.Claims is (on_ok r (λ (grown : now ≡ old ++ numbers_in (may_begin kind n) claims (switch_claims p.node)). claims_ready kind n p shape_of old now
+        (grown ∙ ap (λ (k : ℕ). old ++ numbers_in (may_begin kind n) k (switch_claims p.node)) same)) done)
+
+  module _ (t : Terminal A) (fits : p.claims ≡ length p.events) where
+    pub crossings_there : stage ≡ Stage.Crossings → 0 < p.turns → (b c : Bool) → b ≡ is_some (terminal_credit_out t) → c ≡ is_some (terminal_leave t) → (mid : List ℕ) → mid ≡ old ++ numbers_in (λ (d : Bool). d) 0 (b ∷ []) →
+        OnOk r (now ≡ mid ++ numbers_in (λ (d : Bool). d) 1 (c ∷ [])) → Lists (NodeOf.Terminal t)
+    crossings_there is more b c grants leaves mid first second =
+        at_stage (NodeOf.Terminal t) Stage.Crossings is (on_ok r (λ (grown : now ≡ mid ++ numbers_in (λ (d : Bool). d) 1 (c ∷ [])). terminal_crossings kind t p (terminal_part p some fits) more old mid now
+        (first ∙ ap (λ (e : Bool). old ++ numbers_in (λ (d : Bool). d) 0 (e ∷ [])) grants) (grown ∙ ap (λ (e : Bool). mid ++ numbers_in (λ (d : Bool). d) 1 (e ∷ [])) leaves)) second)
+
+    pub turns_there : stage ≡ Stage.Turns → (turns : ℕ) → turns ≡ p.turns → (b : Bool) → b ≡ is_some (terminal_drain t) → OnOk r (now ≡ old ++ numbers_in (λ (d : Bool). d) turns (b ∷ [])) → Lists (NodeOf.Terminal t)
+    turns_there is turns same b drains done =
+        at_stage (NodeOf.Terminal t) Stage.Turns is (on_ok r (λ (grown : now ≡ old ++ numbers_in (λ (d : Bool). d) turns (b ∷ [])). terminal_turns kind t p (terminal_part p some fits) old now
+        (grown ∙ ap (λ (k : ℕ). old ++ numbers_in (λ (d : Bool). d) k (b ∷ [])) same ∙ ap (λ (e : Bool). old ++ numbers_in (λ (d : Bool). d) p.turns (e ∷ [])) drains)) done)
