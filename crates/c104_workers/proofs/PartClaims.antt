@@ -1,8 +1,9 @@
 -- The claims of a switch that its node is ready for, as a loop over the inputs finds them that want an output.
-use Rattle.{c104_event.specs.declared.events.Event.Event, c104_node.specs.Nodes.{Node, node_claim}, c104_run.specs.Rounds.{claims_of, link_numbers}}
-use Rattle.{c104_token.specs.Kinds.Kind, c104_workers.{proofs.PartNumbers.{joined_end, joined_next, left_links, next_all}, specs.Parts.{may_begin, numbers_in}}}
-use Rattle.c104_workers.proofs.PartNumbers.{none_all, numbers_map, numbers_none}
-use Rattle.std.{proofs.Common.{List, None, Option, [], ap, arith, is_some, length, refl, ℕ, ◌*◌, ◌++◌, ◌+◌, ◌<◌, ◌∙◌, ◌≡◌, ◌≤◌}, specs.List.flat_map}
+use Rattle.{c104_event.specs.declared.events.Event.Event, c104_node.specs.Nodes.{Node, node_claim}, c104_run.specs.Rounds.claims_of}
+use Rattle.{c104_run.specs.Rounds.link_numbers, c104_token.specs.Kinds.Kind, c104_workers.proofs.PartNumbers.{joined_end, joined_next}}
+use Rattle.c104_workers.{proofs.PartNumbers.{left_links, next_all, none_all, numbers_map, numbers_none}, specs.Parts.may_begin}
+use Rattle.{c104_workers.specs.Parts.numbers_in, std.proofs.Common.{List, None, Option, [], ap, arith, is_some, length, refl, ℕ, ◌*◌, ◌++◌}}
+use Rattle.std.{proofs.Common.{◌+◌, ◌<◌, ◌∙◌, ◌≡◌, ◌≤◌}, specs.List.flat_map}
 
 -- an input has a claim of each output
 pub claims_sized : (s i : ℕ) → length (claims_of s i) ≡ 32

@@ -1,10 +1,8 @@
 -- The numbers of those of a list that pass a test, as loops find them one by one.
 use Rattle.{c104_run.specs.Rounds.link_numbers, c104_switch.specs.Claims.IsNextLink, c104_workers.specs.Parts.numbers_in}
-use Rattle.std.proofs.Common.{Bool, List, None, Option, Some, [], ap, append-nil, append_assoc}
-use Rattle.std.proofs.lemmas.List.Sums.{position_or_len_is}
-use Rattle.std.specs.List.{position_or_len}
-use Rattle.std.proofs.Common.{arith, false, filter, get_or, if◌then◌else◌, length, map, refl, suc, sym, true, zero, ℕ, ◌&&◌, ◌*◌, ◌++◌, ◌+◌, ◌-◌, ◌<◌}
-use Rattle.std.{proofs.Common.{◌∙◌, ◌∷◌, ◌≡◌, ◌≤◌}, specs.List.{flat_map, range_with_len}}
+use Rattle.std.proofs.Common.{Bool, List, None, Option, Some, [], ap, append-nil, append_assoc, arith, false, filter, get_or, if◌then◌else◌}
+use Rattle.std.proofs.Common.{length, map, refl, suc, sym, true, zero, ℕ, ◌&&◌, ◌*◌, ◌++◌, ◌+◌, ◌-◌, ◌<◌, ◌∙◌, ◌∷◌, ◌≡◌, ◌≤◌}
+use Rattle.std.{proofs.lemmas.List.Sums.position_or_len_is, specs.List.{flat_map, position_or_len, range_with_len}}
 
 -- one more before those that are there
 one_more : (b : Bool) (k : ℕ) (xs ys all : List ℕ) → all ≡ xs ++ ys → (if b then k ∷ all else all) ≡ (if b then k ∷ xs else xs) ++ ys
@@ -184,10 +182,10 @@ links_on q t k from link b so now total next is before grown =
     let here : t link ≡ true = search (arith, both) in
     let later : k + 1 ≡ suc k = omega arith in
     let split : numbers_in q k (filter t (left_links from)) ≡ numbers_in (λ (c : Bool). c) k (b ∷ []) ++ numbers_in q (k + 1) (filter t (left_links (link + 1))) =
-      ap (numbers_in q k) (next_left t from link (next_low (λ l. t l && t l) from link next) (next_high (λ l. t l && t l) from link next) (λ l low high. one_of (t l) (next_passed (λ l. t l && t l) from link next l low high)) here)
-      ∙ ap (λ (c : Bool). if c then k ∷ numbers_in q (suc k) (filter t (left_links (link + 1))) else numbers_in q (suc k) (filter t (left_links (link + 1)))) (sym is)
-      ∙ by_test b k (numbers_in q (suc k) (filter t (left_links (link + 1))))
-      ∙ ap (λ (j : ℕ). numbers_in (λ (c : Bool). c) k (b ∷ []) ++ numbers_in q j (filter t (left_links (link + 1)))) (sym later) in
+    ap (numbers_in q k) (next_left t from link (next_low (λ l. t l && t l) from link next) (next_high (λ l. t l && t l) from link next) (λ l low high. one_of (t l) (next_passed (λ l. t l && t l) from link next l low high)) here)
+    ∙ ap (λ (c : Bool). if c then k ∷ numbers_in q (suc k) (filter t (left_links (link + 1))) else numbers_in q (suc k) (filter t (left_links (link + 1)))) (sym is)
+    ∙ by_test b k (numbers_in q (suc k) (filter t (left_links (link + 1))))
+    ∙ ap (λ (j : ℕ). numbers_in (λ (c : Bool). c) k (b ∷ []) ++ numbers_in q j (filter t (left_links (link + 1)))) (sym later) in
     joined_next so (numbers_in (λ (c : Bool). c) k (b ∷ [])) (numbers_in q (k + 1) (filter t (left_links (link + 1)))) (numbers_in q k (filter t (left_links from))) total now before split grown
   where
     one_of : (c : Bool) → (c && c) ≡ false → c ≡ false

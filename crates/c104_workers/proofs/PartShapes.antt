@@ -1,13 +1,13 @@
 -- What the part of a node looks like: of a switch the credit, the crossings, the turns and the claims, by its wired links; of a
 -- terminal the credit and the crossing, if it has a wire, and a token's arrival.
 use Rattle.{c104_crossbar.specs.Groups.has_bit, c104_event.specs.declared.events.Event.Event, c104_node.specs.Records.has_link}
-use Rattle.{c104_node.specs.declared.port_part.PortPart.TheVariants.{Credit, Cross, Turn}, c104_plan.specs.{Plans.Plan, declared.ports.Port.Port}}
-use Rattle.c104_run.{proofs.{NodeParts.round_part_is, RoundLists.links_passed}, specs.{KnownWires.is_linked_end, NodeParts.{events_of, node_ports, own_events}}}
-use Rattle.c104_run.specs.{RoundParts.port_events, Rounds.{is_wired, link_numbers, switch_claims, wired_links}}
-use Rattle.c104_workers.specs.{Parts.links_in, Working.{IsSomePart, PartView, is_at_home, is_claim}}
-use Rattle.std.proofs.Common.{Bool, List, [], ap, append_assoc, arith, false, filter, if◌then◌else◌, length, map, nat_lt, not, refl, suc, sym, true}
-use Rattle.std.{proofs.{Common.{zero, ℕ, ◌&&◌, ◌++◌, ◌+◌, ◌-◌, ◌<◌, ◌∙◌, ◌∷◌, ◌≡◌, ◌≤◌}, lemmas.Bool.Decides.nat_tests}, specs.List.{flat_map, position_or_len}}
-use Rattle.std.specs.List.{range_with_len}
+use Rattle.{c104_node.specs.declared.port_part.PortPart.TheVariants.{Credit, Cross, Turn}, c104_plan.specs.Plans.Plan}
+use Rattle.{c104_plan.specs.declared.ports.Port.Port, c104_run.proofs.{NodeParts.round_part_is, RoundLists.links_passed}}
+use Rattle.c104_run.specs.{KnownWires.is_linked_end, NodeParts.{events_of, node_ports, own_events}, RoundParts.port_events, Rounds.is_wired}
+use Rattle.{c104_run.specs.Rounds.{link_numbers, switch_claims, wired_links}, c104_workers.specs.{Parts.links_in, Working.IsSomePart}}
+use Rattle.{c104_workers.specs.Working.{PartView, is_at_home, is_claim}, std.proofs.Common.{Bool, List, [], ap, append_assoc, arith, false}}
+use Rattle.std.proofs.Common.{filter, if◌then◌else◌, length, map, nat_lt, not, refl, suc, sym, true, zero, ℕ, ◌&&◌, ◌++◌, ◌+◌, ◌-◌, ◌<◌}
+use Rattle.std.{proofs.{Common.{◌∙◌, ◌∷◌, ◌≡◌, ◌≤◌}, lemmas.Bool.Decides.nat_tests}, specs.List.{flat_map, position_or_len, range_with_len}}
 
 -- tests that say the same of the numbers at hand
 filter_range : (t u : ℕ → Bool) (a n : ℕ) → ((l : ℕ) → l < a + n → t l ≡ u l) → filter t (range_with_len a n) ≡ filter u (range_with_len a n)
@@ -159,7 +159,7 @@ module _ (p : PartView) (some : IsSomePart p) where
       ∙ ap (λ (es : List Event). map (credit_at p.node) links ++ map (cross_at p.node) links ++ map (turn_of p.node) links ++ es) (own_are is)
       ∙ nested (map (credit_at p.node) links) (map (cross_at p.node) links) (map (turn_of p.node) links) (switch_claims p.node)
 
-  of_switch : nat_lt p.node switches ≡ true → IsSwitchPart p
+  pub of_switch : nat_lt p.node switches ≡ true → IsSwitchPart p
   of_switch is =
       let events = switch_events is in
       let home = ap (position_or_len is_at_home) events ∙ behind is_at_home (credit_at p.node) (λ l. refl) links (map (cross_at p.node) links ++ (map (turn_of p.node) links ++ switch_claims p.node)) in
@@ -191,14 +191,14 @@ module _ (p : PartView) (some : IsSomePart p) where
   terminal_events : nat_lt p.node switches ≡ false → p.events ≡ terminal_list t (is_wired some.plan (Port.Terminal t))
   terminal_events past =
       let ports : node_ports some.plan p.node ≡ one_port =
-        ap (λ (b : Bool). if b then wired_links some.plan p.node else (if nat_lt t terminals then one_port else [])) past ∙ ap (λ (b : Bool). if b then one_port else []) (here past) in
+      ap (λ (b : Bool). if b then wired_links some.plan p.node else (if nat_lt t terminals then one_port else [])) past ∙ ap (λ (b : Bool). if b then one_port else []) (here past) in
       let own : own_events some.plan p.node ≡ Event.Drain t ∷ [] =
-        ap (λ (b : Bool). if b then switch_claims p.node else (if nat_lt t terminals then Event.Drain t ∷ [] else [])) past ∙ ap (λ (b : Bool). if b then Event.Drain t ∷ [] else []) (here past) in
+      ap (λ (b : Bool). if b then switch_claims p.node else (if nat_lt t terminals then Event.Drain t ∷ [] else [])) past ∙ ap (λ (b : Bool). if b then Event.Drain t ∷ [] else []) (here past) in
       events_are
       ∙ ap (λ (es : List Event). flat_map (port_events Credit) (node_ports some.plan p.node) ++ flat_map (port_events Cross) (node_ports some.plan p.node) ++ flat_map (port_events Turn) (node_ports some.plan p.node) ++ es) own
       ∙ one_list (is_wired some.plan (Port.Terminal t)) (node_ports some.plan p.node) ports
 
-  of_terminal : nat_lt p.node switches ≡ false → IsTerminalPart p
+  pub of_terminal : nat_lt p.node switches ≡ false → IsTerminalPart p
   of_terminal past = by_wire (is_wired some.plan (Port.Terminal t)) (terminal_events past)
     where
       by_wire : (b : Bool) → p.events ≡ terminal_list t b → IsTerminalPart p

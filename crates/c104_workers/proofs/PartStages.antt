@@ -1,15 +1,16 @@
 -- The events of each stage of a part, and the numbers of those that may begin at its node.
-use Rattle.{c104_crossbar.specs.Groups.has_bit, c104_event.specs.declared.events.Event.Event, c104_node.specs.Acts.node_act}
-use Rattle.c104_node.specs.{Nodes.{Node, is_switch}, PortParts.may_act, Terminals.{Terminal, terminal_credit_out, terminal_drain, terminal_leave}}
+use Rattle.{c104_crossbar.specs.Groups.has_bit, c104_event.specs.declared.events.Event.Event, c104_node.specs.{Acts.node_act, Nodes.Node}}
+use Rattle.c104_node.specs.{Nodes.is_switch, PortParts.may_act, Terminals.{Terminal, terminal_credit_out, terminal_drain, terminal_leave}}
 use Rattle.c104_node.specs.declared.{acts.ActOf.ActOf, node.NodeOf.NodeOf, port_part.PortPart.TheVariants.{Credit, Cross, Turn}}
-use Rattle.{c104_plan.specs.declared.ports.Port.Port, c104_run.{proofs.RoundLists.links_passed, specs.Rounds.{link_numbers, switch_claims}}}
-use Rattle.{c104_token.specs.Kinds.Kind, c104_workers.proofs.PartNumbers.{numbers_agree, numbers_append, numbers_map}}
-use Rattle.c104_workers.{proofs.PartShapes.{IsSwitchPart, IsTerminalPart, credit_at, cross_at, size_of, switch_list, switch_part, terminal_list, terminal_part}, specs.Working.{IsSomePart, PartView}}
-use Rattle.c104_workers.proofs.PartShapes.{turn_of}
-use Rattle.c104_workers.specs.{Parts.{IsOfKind, links_in, may_begin, numbers_in, ready_numbers, stage_events}, declared.parts.Stage.Stage}
-use Rattle.std.proofs.Common.{Bool, Err, List, Ok, Result, [], ap, append-nil, append_assoc, arith, drop, false, filter, if◌then◌else◌, is_some, length, map, refl}
-use Rattle.std.proofs.{Common.{OnOk, subst, sym, take, true, ℕ, ◌++◌, ◌+◌, ◌-◌, ◌/◌, ◌<◌, ◌∙◌, ◌∷◌, ◌≡◌}, lemmas.List.{drop_at, length-map, take_at}}
-use Rattle.std.specs.List.{range_with_len}
+use Rattle.{c104_plan.specs.{Plans.Plan, declared.ports.Port.Port}, c104_run.{proofs.RoundLists.links_passed, specs.NetParts.node_count}}
+use Rattle.{c104_run.specs.Rounds.{link_numbers, switch_claims}, c104_token.specs.Kinds.Kind, c104_workers.proofs.PartNumbers.numbers_agree}
+use Rattle.c104_workers.proofs.{PartNumbers.{numbers_append, numbers_map}, PartShapes.{IsSwitchPart, IsTerminalPart, credit_at, cross_at}}
+use Rattle.c104_workers.proofs.PartShapes.{of_switch, of_terminal, size_of, switch_list, switch_part, terminal_list, terminal_part, turn_of}
+use Rattle.c104_workers.specs.{Parts.{IsOfKind, links_in, may_begin, numbers_in, ready_numbers, stage_events}, Working.IsPartOf}
+use Rattle.{c104_workers.specs.{Working.{IsSomePart, PartView}, declared.parts.Stage.Stage}, std.proofs.Common.{Bool, Err, List, Ok, OnOk}}
+use Rattle.std.proofs.Common.{Result, [], ap, append-nil, append_assoc, arith, drop, false, filter, if◌then◌else◌, is_some, length, map}
+use Rattle.std.proofs.{Common.{nat_lt, refl, subst, sym, take, true, ℕ, ◌++◌, ◌+◌, ◌-◌, ◌/◌, ◌<◌, ◌∙◌, ◌∷◌, ◌≡◌}, lemmas.List.drop_at}
+use Rattle.std.{proofs.lemmas.List.{length-map, take_at}, specs.List.range_with_len}
 
 -- what holds where something was done
 pub on_ok : {X E P Q : Type 0} (r : Result X E) → (P → Q) → OnOk r P → OnOk r Q
@@ -89,11 +90,11 @@ module _ {A : Type 0} (kind : Kind A) (n : Node A) (p : PartView) (shape : IsSwi
   crossings_ready granting leaving grants leaves old mid now first second =
       let half : p.turns / 2 ≡ 0 + length credits = let size = length-map links (credit_at p.node) in omega (arith, shape.turns, size) in
       let all : ready_numbers kind n p Stage.Crossings ≡ numbers_in (has_bit granting) 0 links ++ numbers_in (has_bit leaving) (p.turns / 2) links =
-        ap (numbers_in (may_begin kind n) 0) crossing_events
-        ∙ numbers_append (may_begin kind n) 0 credits crosses
-        ∙ ap (λ (ns : List ℕ). ns ++ numbers_in (may_begin kind n) (0 + length credits) crosses) (made_as (credit_at p.node) granting grants 0)
-        ∙ ap (λ (k : ℕ). numbers_in (has_bit granting) 0 links ++ numbers_in (may_begin kind n) k crosses) (sym half)
-        ∙ ap (λ (ns : List ℕ). numbers_in (has_bit granting) 0 links ++ ns) (made_as (cross_at p.node) leaving leaves (p.turns / 2)) in
+      ap (numbers_in (may_begin kind n) 0) crossing_events
+      ∙ numbers_append (may_begin kind n) 0 credits crosses
+      ∙ ap (λ (ns : List ℕ). ns ++ numbers_in (may_begin kind n) (0 + length credits) crosses) (made_as (credit_at p.node) granting grants 0)
+      ∙ ap (λ (k : ℕ). numbers_in (has_bit granting) 0 links ++ numbers_in (may_begin kind n) k crosses) (sym half)
+      ∙ ap (λ (ns : List ℕ). numbers_in (has_bit granting) 0 links ++ ns) (made_as (cross_at p.node) leaving leaves (p.turns / 2)) in
       two_steps old (numbers_in (has_bit granting) 0 links) (numbers_in (has_bit leaving) (p.turns / 2) links) mid now first second ∙ ap (λ (ns : List ℕ). old ++ ns) (sym all)
 
   pub turns_ready : (turning : ℕ) → ((l : ℕ) → l < 32 → has_bit turning l ≡ may_act kind Turn l n) → (old now : List ℕ) → now ≡ old ++ numbers_in (has_bit turning) p.turns links → now ≡ old ++ ready_numbers kind n p Stage.Turns
@@ -138,7 +139,7 @@ module _ {A : Type 0} (kind : Kind A) (t : Terminal A) (p : PartView) (shape : I
       by_wire : (b : Bool) → p.turns ≡ (if b then 2 else 0) → p.events ≡ terminal_list shape.number b → now ≡ old ++ ready_numbers kind (NodeOf.Terminal t) p Stage.Crossings
       by_wire true is events =
           let all : ready_numbers kind (NodeOf.Terminal t) p Stage.Crossings ≡ numbers_in (λ (b : Bool). b) 0 (is_some (terminal_credit_out t) ∷ []) ++ numbers_in (λ (b : Bool). b) 1 (is_some (terminal_leave t) ∷ []) =
-            ap (λ (k : ℕ). between 0 k p.events) is ∙ ap (between 0 2) events ∙ two _ _ _ _ grants_as leaves_as in
+          ap (λ (k : ℕ). between 0 k p.events) is ∙ ap (between 0 2) events ∙ two _ _ _ _ grants_as leaves_as in
           two_steps old (numbers_in (λ (b : Bool). b) 0 (is_some (terminal_credit_out t) ∷ [])) (numbers_in (λ (b : Bool). b) 1 (is_some (terminal_leave t) ∷ [])) mid now first second ∙ ap (λ (ns : List ℕ). old ++ ns) (sym all)
       by_wire false is events = absurd (omega (arith, is, some))
 
@@ -202,3 +203,8 @@ module _ {A : Type 0} (kind : Kind A) (p : PartView) (some : IsSomePart p) {X E 
     turns_there is turns same b drains done =
         at_stage (NodeOf.Terminal t) Stage.Turns is (on_ok r (λ (grown : now ≡ old ++ numbers_in (λ (d : Bool). d) turns (b ∷ [])). terminal_turns kind t p (terminal_part p some fits) old now
         (grown ∙ ap (λ (k : ℕ). old ++ numbers_in (λ (d : Bool). d) k (b ∷ [])) same ∙ ap (λ (e : Bool). old ++ numbers_in (λ (d : Bool). d) p.turns (e ∷ [])) drains)) done)
+
+-- a node is of the kind that its part is for, if it is a switch exactly where the plan has one
+pub of_kind : {A : Type 0} (plan : Plan) (p : PartView) → p.node < node_count plan → IsPartOf plan p.node p → (n : Node A) → is_switch n ≡ nat_lt p.node (length plan.switches) → IsOfKind p n
+of_kind plan p inside is (NodeOf.Switch s) same = (of_switch p (record { plan = plan; inside = inside; is = is }) (sym same)).more
+of_kind plan p inside is (NodeOf.Terminal t) same = (of_terminal p (record { plan = plan; inside = inside; is = is }) (sym same)).all

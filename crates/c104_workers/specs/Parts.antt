@@ -1,10 +1,10 @@
 -- The events of a part that its node may begin, as their numbers in the part. An event may begin at a node where the node's
 -- own act in it is ready, whatever stands at the far end of a wire.
-use Rattle.{c104_crossbar.specs.Groups.has_bit, c104_event.specs.declared.events.Event.Event, c104_node.specs.Acts.node_act}
-use Rattle.c104_node.specs.{Nodes.{Node, node_claim}, PortActs.near_act, PortParts.may_act, declared.acts.ActOf.ActOf}
+use Rattle.{c104_crossbar.specs.Groups.has_bit, c104_event.specs.declared.events.Event.Event, c104_node.specs.{Acts.node_act, Nodes.Node}}
+use Rattle.c104_node.specs.{Nodes.node_claim, PortActs.near_act, PortParts.may_act, declared.acts.ActOf.ActOf}
 use Rattle.c104_node.specs.declared.{crossings.Crossing.TheVariants.{Grant, Token}, node.NodeOf.NodeOf, port_part.PortPart.PortPart}
-use Rattle.{c104_run.specs.Rounds.link_numbers, c104_token.specs.Kinds.Kind}
-use Rattle.c104_workers.specs.{Working.PartView, declared.parts.Stage.{Stage, TheVariants.{Claims, Crossings, Turns}}}
+use Rattle.{c104_run.specs.Rounds.link_numbers, c104_token.specs.Kinds.Kind, c104_workers.specs.Working.PartView}
+use Rattle.c104_workers.specs.declared.parts.Stage.{Stage, TheVariants.{Claims, Crossings, Turns}}
 use Rattle.std.specs.Prelude.{Bool, List, [], drop, false, filter, if◌then◌else◌, is_some, length, suc, take, ℕ, ◌-◌, ◌<◌, ◌∷◌, ◌≡◌}
 
 -- the numbers of those that pass a test, the first of all having this number

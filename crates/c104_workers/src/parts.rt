@@ -1,14 +1,13 @@
-//! The part that a round has for a node, and which of its events the node may be ready for.
+//! The part that a round has for a node, and which of its events the node may begin.
 //!
 //! A worker asks a node once for all events of a stage, so that it takes a lock for those alone that may be done. That leaves
 //! none out: no event of a stage makes another of the same stage ready at this node. A node tells by sets of its links what may
-//! go out, so that none of the events is looked at that it isn't ready for.
-ghost use Rattle.std.specs.List.{position_or_len};
-ghost use Rattle.std.specs.Prelude.{IfOk, OnOk, [], true, ℕ, ◌++◌, ◌<◌, ◌∷◌, ◌≡◌, ◌≤◌};
-ghost use Rattle.{c104_crossbar.specs.Groups.has_bit, c104_node.specs.Nodes.is_switch, c104_run.specs.NetParts.node_count};
-ghost use Rattle.c104_run.specs.{NodeParts.round_part, Rounds.{claims_of, switch_claims}};
-ghost use Rattle.c104_workers.specs.Parts.{IsOfKind, links_in, may_begin, numbers_in, ready_numbers, stage_count};
-ghost use Rattle.c104_workers.specs.Working.{IsPartOf, is_at_home, is_claim};
+//! go out, so that none of the events is looked at that it can't begin.
+ghost use Rattle.std.specs.{List.position_or_len, Prelude.{IfOk, OnOk, [], true, ℕ, ◌++◌, ◌<◌, ◌∷◌, ◌≡◌, ◌≤◌}};
+ghost use Rattle.{c104_crossbar.specs.Groups.has_bit, c104_node.specs.{Idle.IsIdleNode, Nodes.is_switch, Records.has_link}};
+ghost use Rattle.c104_run.specs.{NetParts.node_count, NodeParts.round_part, Rounds.{claims_of, switch_claims}};
+ghost use Rattle.c104_workers.specs.{Parts.{IsOfKind, links_in, may_begin, numbers_in, ready_numbers, stage_count}, Working.IsPartOf};
+ghost use Rattle.c104_workers.specs.Working.{is_at_home, is_claim};
 ghost use Rattle.c104_node.specs.declared.node.NodeOf.TheVariants as node;
 
 use c104_event::Event;
@@ -88,7 +87,9 @@ impl Part {
     }
 
     /// Whether no event of the part can begin at the node.
-    pub fn is_idle<T: TokenKind>(&self, node: &NodeOf<T>) -> bool {
+    pub fn is_idle<T: TokenKind>(&self, node: &NodeOf<T>) -> bool
+        ensures { result ≡ true → IsIdleNode T.kind (has_link self.now.wired) node.now }
+    {
         node.is_idle(self.wired)
     }
 
@@ -121,7 +122,7 @@ impl Part {
         }
     }
 
-    /// The same of a switch.
+    /// The same of a node that is a switch.
     fn add_at_switch<T: TokenKind>(
         &self,
         node: &NodeOf<T>,
@@ -188,6 +189,7 @@ impl Part {
 }
 
 /// A number joins a list, where this is so. The only error is out of memory.
+#[inline(always)]
 fn add_if(ready: &mut Vec<usize>, number: usize, is_so: bool) -> Result<(), NoMemory>
     ensures { OnOk result (ready.new.items ≡ ready.old.items ++ numbers_in (λ b. b) number (is_so ∷ [])) }
 {
@@ -238,8 +240,8 @@ fn count_before_claims(events: &[Event]) -> usize
 }
 
 /// The numbers of the claims that a switch is ready for join a list; the first claim has this number. A switch has over a
-/// thousand, and is seldom ready for any, so they are found by its inputs that want an output. The only error is out of
-/// memory.
+/// thousand, and is seldom ready for any, so they are found by its inputs that want an output. A claim is the same of each
+/// switch, whatever its number. The only error is out of memory.
 fn add_claims<T: TokenKind>(
     node: &NodeOf<T>,
     first: usize,

@@ -1,6 +1,6 @@
 use Rattle.{c104_event.specs.declared.events.Event.Event, c104_node.specs.Nodes.node_claim, c104_run.specs.Rounds.{claims_of, link_numbers}}
-use Rattle.c104_workers.{proofs.PartNumbers.{all_left, joined_end, joined_next, last_passed, left_links, next_high, next_is, next_low, next_number, next_passed}, specs.Parts.{may_begin, numbers_in}}
-use Rattle.c104_workers.proofs.PartNumbers.{no_number, numbers_map}
+use Rattle.c104_workers.proofs.PartNumbers.{all_left, joined_end, joined_next, last_passed, left_links, next_high, next_is, next_low}
+use Rattle.c104_workers.{proofs.PartNumbers.{next_number, next_passed, no_number, numbers_map}, specs.Parts.{may_begin, numbers_in}}
 use Rattle.std.proofs.Common.{Bool, List, [], ap, arith, is_some, refl, sym, ℕ, ◌++◌, ◌+◌, ◌<◌, ◌∙◌, ◌∷◌, ◌≡◌, ◌≤◌}
 use Rattle.c104_workers.proofs.parts.add_claims_of.Goals as goal
 
@@ -13,11 +13,12 @@ loop-output-preserved g c =
     let q : ℕ → Bool = λ (o : ℕ). is_some (node_claim c.args.input o c.args.node.now) in
     let from = c.loop-output.from in
     let output = c.in-Some.output in
-    let high : output < 32 = next_high q from output c.in-Some.ensures in
-    (omega (arith, high),
-    joined_next c.loop-output.ready.items ((c.args.first + output) ∷ []) _ _ _ _ c.loop-output.invariant.1
-    (next_number q c.args.first from output (next_low q from output c.in-Some.ensures) high (next_passed q from output c.in-Some.ensures) (next_is q from output c.in-Some.ensures))
-    c.in_ok-push.ensures.items)
+    let high : output < 32 = next_high q from output c.in-Some.ensures in (
+      omega (arith, high),
+      joined_next c.loop-output.ready.items ((c.args.first + output) ∷ []) _ _ _ _ c.loop-output.invariant.1
+          (next_number q c.args.first from output (next_low q from output c.in-Some.ensures) high (next_passed q from output c.in-Some.ensures) (next_is q from output c.in-Some.ensures))
+          c.in_ok-push.ensures.items,
+    )
 
 pub returns : goal.returns
 returns g c s =

@@ -1,6 +1,7 @@
 use Rattle.{c104_crossbar.specs.Groups.has_bit, c104_run.specs.Rounds.link_numbers, c104_switch.specs.Claims.IsNextLink}
-use Rattle.c104_workers.{proofs.PartNumbers.{all_left, left_links, links_end, links_on, next_high, next_low, no_links}, specs.Parts.numbers_in}
-use Rattle.std.proofs.Common.{List, None, Some, ap, append-nil, arith, filter, subst, sym, ℕ, ◌&&◌, ◌++◌, ◌+◌, ◌<◌, ◌∙◌, ◌≡◌, ◌≤◌}
+use Rattle.c104_workers.proofs.PartNumbers.{all_left, left_links, links_end, links_on, next_high, next_low, no_links}
+use Rattle.{c104_workers.specs.Parts.numbers_in, std.proofs.Common.{List, None, Some, ap, append-nil, arith, filter, subst, sym, ℕ, ◌&&◌}}
+use Rattle.std.proofs.Common.{◌++◌, ◌+◌, ◌<◌, ◌∙◌, ◌≡◌, ◌≤◌}
 use Rattle.c104_workers.proofs.parts.Part.add_links.Goals as goal
 
 pub returns-then-is_none : goal.returns-then-is_none
@@ -19,9 +20,11 @@ loop-link-preserved c =
     let wired = has_bit c.args.self.now.wired in
     let next = subst (λ (w : ℕ). IsNextLink (λ l. has_bit w l && has_bit w l) c.loop-link.from (Some c.in-Some.link)) own c.in-Some.ensures in
     let high : c.in-Some.link < 32 = next_high (λ (l : ℕ). wired l && wired l) c.loop-link.from c.in-Some.link next in
-    let low : c.loop-link.from ≤ c.in-Some.link = next_low (λ (l : ℕ). wired l && wired l) c.loop-link.from c.in-Some.link next in
-    (omega (arith, high), omega (arith, low, c.loop-link.invariant.1),
-    links_on (has_bit c.args.links) wired c.loop-link.number c.loop-link.from c.in-Some.link c.has.result c.loop-link.ready.items _ _ next c.has.ensures c.loop-link.invariant.2 c.in_ok-add_if.ensures)
+    let low : c.loop-link.from ≤ c.in-Some.link = next_low (λ (l : ℕ). wired l && wired l) c.loop-link.from c.in-Some.link next in (
+      omega (arith, high),
+      omega (arith, low, c.loop-link.invariant.1),
+      links_on (has_bit c.args.links) wired c.loop-link.number c.loop-link.from c.in-Some.link c.has.result c.loop-link.ready.items _ _ next c.has.ensures c.loop-link.invariant.2 c.in_ok-add_if.ensures,
+    )
 
 pub returns : goal.returns
 returns c =
