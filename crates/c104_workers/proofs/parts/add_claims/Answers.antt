@@ -1,5 +1,5 @@
 use Rattle.{c104_run.specs.Rounds.claims_of, c104_workers.proofs.{PartClaims.{claims_end, claims_on}, PartNumbers.all_left}}
-use Rattle.{c104_workers.specs.Parts.{may_begin, numbers_in}, std.{proofs.Common.{List, ap, arith, ℕ, ◌++◌, ◌+◌, ◌∙◌}, specs.List.flat_map}}
+use Rattle.{c104_workers.specs.Parts.{may_begin, numbers_in}, std.{proofs.Common.{List, ap, arith, ℕ, ◌++◌, ◌∙◌}, specs.List.flat_map}}
 use Rattle.c104_workers.proofs.parts.add_claims.Goals as goal
 
 pub loop-input-preserved : goal.loop-input-preserved

@@ -1,7 +1,7 @@
-use Rattle.{c104_event.specs.declared.events.Event.Event, c104_node.specs.Nodes.node_claim, c104_run.specs.Rounds.{claims_of, link_numbers}}
+use Rattle.{c104_event.specs.declared.events.Event.Event, c104_node.specs.Nodes.node_claim, c104_run.specs.Rounds.{link_numbers}}
 use Rattle.c104_workers.proofs.PartNumbers.{all_left, joined_end, joined_next, last_passed, left_links, next_high, next_is, next_low}
 use Rattle.c104_workers.{proofs.PartNumbers.{next_number, next_passed, no_number, numbers_map}, specs.Parts.{may_begin, numbers_in}}
-use Rattle.std.proofs.Common.{Bool, List, [], ap, arith, is_some, refl, sym, ℕ, ◌++◌, ◌+◌, ◌<◌, ◌∙◌, ◌∷◌, ◌≡◌, ◌≤◌}
+use Rattle.std.proofs.Common.{Bool, List, [], ap, arith, is_some, sym, ℕ, ◌++◌, ◌+◌, ◌<◌, ◌∙◌, ◌∷◌, ◌≡◌}
 use Rattle.c104_workers.proofs.parts.add_claims_of.Goals as goal
 
 pub loop-output-init : goal.loop-output-init

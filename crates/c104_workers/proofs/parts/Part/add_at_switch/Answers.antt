@@ -1,5 +1,5 @@
 use Rattle.c104_workers.proofs.{PartShapes.{few_before, few_turns}, PartStages.{claims_done, crossings_done, turns_done}}
-use Rattle.{c104_workers.specs.Working.{IsSomePart, PartView}, std.proofs.Common.{ap, arith, subst, ◌/◌, ◌≤◌}}
+use Rattle.{c104_workers.specs.Working.{IsSomePart, PartView}, std.proofs.Common.{ap, arith, subst, ◌≤◌}}
 use Rattle.c104_workers.proofs.parts.Part.add_at_switch.Goals as goal
 
 pub add_links-requires-in-Crossings : goal.add_links-requires-in-Crossings

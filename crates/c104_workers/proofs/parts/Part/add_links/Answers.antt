@@ -1,7 +1,7 @@
-use Rattle.{c104_crossbar.specs.Groups.has_bit, c104_run.specs.Rounds.link_numbers, c104_switch.specs.Claims.IsNextLink}
-use Rattle.c104_workers.proofs.PartNumbers.{all_left, left_links, links_end, links_on, next_high, next_low, no_links}
-use Rattle.{c104_workers.specs.Parts.numbers_in, std.proofs.Common.{List, None, Some, ap, append-nil, arith, filter, subst, sym, ℕ, ◌&&◌}}
-use Rattle.std.proofs.Common.{◌++◌, ◌+◌, ◌<◌, ◌∙◌, ◌≡◌, ◌≤◌}
+use Rattle.{c104_crossbar.specs.Groups.has_bit, c104_switch.specs.Claims.IsNextLink}
+use Rattle.c104_workers.proofs.PartNumbers.{all_left, links_end, links_on, next_high, next_low, no_links}
+use Rattle.{c104_workers.specs.Parts.numbers_in, std.proofs.Common.{List, None, Some, ap, append-nil, arith, filter, subst, ℕ, ◌&&◌}}
+use Rattle.std.proofs.Common.{◌++◌, ◌<◌, ◌≡◌, ◌≤◌}
 use Rattle.c104_workers.proofs.parts.Part.add_links.Goals as goal
 
 pub returns-then-is_none : goal.returns-then-is_none
