@@ -199,11 +199,21 @@ struct Parting<'a>(&'a Plan);
 
 impl Growing for Parting<'_> {
     fn call(&self, alloc: Global, refusal: Refusal) -> Outcome {
+        let Some(wires) = wires_of(alloc, self.0) else {
+            return Outcome::Wrong;
+        };
         refusal.begin(alloc);
-        let result = round_part(alloc, self.0, 0);
+        let result = round_part(alloc, &wires, 0);
         refusal.end(alloc);
+        drop_plan(wires.into_plan());
         Outcome::of(result)
     }
+}
+
+/// The wires of a plan. None if out of memory.
+fn wires_of(alloc: Global, plan: &Plan) -> Option<Wires> {
+    let plan = plan.clone().ok()?;
+    Wires::new(alloc, plan).ok()
 }
 
 /// The run of the nodes of a network that is taken apart.

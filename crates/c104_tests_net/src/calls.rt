@@ -6,6 +6,7 @@ use c104_event::{Event, EventFault};
 use c104_label::image_of;
 use c104_net::{ArrivedOf, Entry, Net, NetParts, Reason, Run, round_part};
 use c104_plan::{Image, Plan, hand_image};
+use c104_run::Wires;
 use c104_switch::Reply;
 use c104_token::{Packet, Token, parse_packet};
 use c104_tools::{ControlPort, LoadFault, load, verify, write_register};
@@ -29,7 +30,10 @@ pub fn label_image(alloc: Global, plan: &Plan) -> Result<Image, Fail> {
 
 /// The part of a node in a round.
 pub fn part_of(alloc: Global, plan: &Plan, node: usize) -> Result<Vec<Event>, Fail> {
-    Ok(round_part(alloc, plan, node)?)
+    let wires = Wires::new(alloc, plan.clone()?)?;
+    let part = round_part(alloc, &wires, node);
+    drop_plan(wires.into_plan());
+    Ok(part?)
 }
 
 /// Drops a plan. Whoever owns one hands it over here, since it is expensive to prove that one may be dropped.

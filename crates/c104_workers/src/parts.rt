@@ -60,7 +60,7 @@ impl Part {
         requires { node < node_count wires.now }
         ensures { IfOk result (λ part. IsPartOf wires.now node part) }
     {
-        let events = round_part(alloc, wires.plan(), node)?;
+        let events = round_part(alloc, wires, node)?;
         let turns = count_crossings(&events);
         let claims = count_before_claims(&events);
         Ok(Part {
