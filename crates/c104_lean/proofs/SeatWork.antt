@@ -1,12 +1,13 @@
 -- What workers do to their seats: event by event, each of a node of their own.
 use Rattle.{c104_audit.specs.{Calls.call_of, declared.calls.Call.Call}, c104_event.specs.declared.events.Event.Event}
-use Rattle.{c104_event.specs.declared.faults.EventFault.EventFault, c104_lean.specs.{Seats.{AreSeatsOf, Grows, HasCall}, Working.HasCalls}}
-use Rattle.{c104_lean.specs.Working.{HasWorked, IsOwnEvent, IsPartEvent, worker_of}, c104_plan.specs.Plans.Plan}
+use Rattle.{c104_event.specs.declared.faults.EventFault.EventFault, c104_lean.specs.{Seats.{AreSeatsOf, Grows, HasCall}, Shared.ArePartsOf}}
+use Rattle.{c104_lean.specs.Working.{HasCalls, HasWorked, IsOwnEvent, IsPartEvent, worker_of}, c104_plan.specs.Plans.Plan}
 use Rattle.{c104_run.specs.NodeParts.round_part, c104_switch.specs.Actions.{Reply, is_ready}, c104_tickets.specs.Tickets.TableId}
 use Rattle.c104_workers.{proofs.SeatGrowth.{same_on, same_self}, specs.{Calls.{IsSameSeat, SeatView}, LentCalls.IfDone, Working.IsPartOf}}
-use Rattle.{c104_workers.specs.{Working.PartView, declared.words.Words.Words}, std.proofs.Common.{All, Bool, Err, List, Ok, Result, [], ap}}
-use Rattle.std.proofs.Common.{arith, false, length, slice_index_or, subst, suc, sym, true, zero, ℕ, ◌++◌, ◌<◌, ◌∙◌, ◌∷◌, ◌≡◌}
-use Rattle.std.proofs.lemmas.List.{Elements.{All-append, All-cons, All-contains_itself, All-nil, All-weaker}, append-nil, append_assoc}
+use Rattle.{c104_workers.specs.{Working.PartView, declared.words.Words.Words}, std.proofs.Common.{All, Bool, Bor, Err, List, Ok, Result}}
+use Rattle.std.proofs.Common.{[], ap, arith, false, length, slice_index_or, subst, suc, sym, true, zero, ℕ, ◌++◌, ◌<◌, ◌∙◌, ◌∷◌, ◌≡◌}
+use Rattle.std.proofs.lemmas.List.{Elements.{All-append, All-cons, All-contains_itself, All-nil, All-push, All-weaker}, append-nil}
+use Rattle.std.proofs.lemmas.List.{append_assoc}
 
 -- what holds of all seats holds of each, and the other way round
 pub seat_at : (word_id : TableId) (seats : List SeatView) (i : ℕ) (d : SeatView) → AreSeatsOf word_id seats → i < length seats
@@ -69,6 +70,15 @@ pub repeated : (plan : Plan) (words : Words) (n i : ℕ) (e : Event) → IsOwnEv
 repeated plan words n i e own s t called =
     calls_weaker (λ x. x ≡ e) (IsOwnEvent plan words n i) (λ x is. subst (IsOwnEvent plan words n i) (sym is) own) s t called
 
+-- the part that a round has for a node is that of its own place
+pub own_place : (plan : Plan) (k : ℕ) (part : PartView) → IsPartOf plan k part → IsPartOf plan part.node part
+own_place plan k part is = subst (λ j. IsPartOf plan j part) (sym is.at) is
+
+-- each of a plan's parts is one
+pub part_at : (plan : Plan) (parts : List PartView) (k : ℕ) (part : PartView) → ArePartsOf plan parts → k < length parts
+    → part ≡ slice_index_or parts k part → IsPartOf plan part.node part
+part_at plan parts k part are inside is = subst (λ (q : PartView). IsPartOf plan q.node q) (sym is) (are k part inside)
+
 -- the events of a node's part are those of its worker
 pub own_part : (plan : Plan) (n i : ℕ) (part : PartView) → IsPartOf plan part.node part → worker_of plan n part.node ≡ i
     → All (IsPartEvent plan n i) part.events
@@ -79,6 +89,15 @@ own_part plan n i part is own =
       own = own;
       part = All-contains_itself (round_part plan part.node) j d inside;
     })
+
+-- and so are those of more such nodes, where a part's worker was asked for
+pub own_more : (plan : Plan) (n i : ℕ) (parts : List (Bor PartView)) (part : Bor PartView) (node owner : ℕ)
+    → All (λ (p : Bor PartView). All (IsPartEvent plan n i) p.now.events) parts → IsPartOf plan part.now.node part.now
+    → node ≡ part.now.node → owner ≡ worker_of plan n node → owner ≡ i
+    → All (λ (p : Bor PartView). All (IsPartEvent plan n i) p.now.events) (parts ++ part ∷ [])
+own_more plan n i parts part node owner are is at told own =
+    All-push (λ (p : Bor PartView). All (IsPartEvent plan n i) p.now.events) parts part are
+    (own_part plan n i part.now is (ap (worker_of plan n) (sym at) ∙ sym told ∙ own))
 
 -- the seat of a worker stays one of the network
 pub seat_stays : (plan : Plan) (n i : ℕ) (words : Words) (word_id : TableId) (before argument left after : SeatView) → argument ≡ before
