@@ -8,7 +8,8 @@ loop-stage-preserved g c =
     elim c.if-count-gt0.branch [
       | then-count-gt0+in_ok-add_ready+in_ok-do_ready w ↦
           rw w.seat-is
-          (called_on (IsOwnEvent own.shared.now.before.plan own.words own.count own.number) _ _ _ c.loop-stage.invariant w.do_ready.ensures.worked)
+          (called_on (IsOwnEvent own.shared.now.before.plan own.words own.count own.number) _ _ _
+          c.loop-stage.invariant w.do_ready.ensures.worked)
       | else-count-gt0 w ↦ rw w.seat-is c.loop-stage.invariant
     ]
 
