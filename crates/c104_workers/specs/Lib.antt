@@ -10,4 +10,5 @@ pub mod SeatCommands
 pub mod Words
 pub mod Working
 pub mod Parts
+pub mod Turns
 pub mod Audited

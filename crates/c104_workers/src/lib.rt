@@ -30,6 +30,7 @@ mod parts;
 mod ports;
 mod runs;
 mod seats;
+mod turns;
 mod words;
 mod workers;
 
@@ -43,5 +44,6 @@ pub use naming::Naming;
 pub use parts::{Part, Stage};
 pub use ports::FabricPort;
 pub use seats::{CALL_LIMIT, Seat};
+pub use turns::{NodePort, PartPort, Worker, do_turns};
 pub use words::Words;
 pub use workers::{RunFault, run_workers};
