@@ -20,6 +20,7 @@ pub mod PortRuns
 pub mod SeatWork
 pub mod AuditedLeft
 pub mod WholeRuns
+pub mod TurnSteps
 pub mod PartNumbers
 pub mod PartClaims
 pub mod PartShapes

@@ -4,15 +4,11 @@ use Rattle.c104_event.specs.declared.{events.Event.Event, faults.EventFault.Even
 use Rattle.c104_workers.specs.{Words.{with_word, word_of}, Working.PartView, declared.turns.Worker.Worker}
 use Rattle.c104_workers.specs.declared.parts.Stage.{Stage, TheVariants.{Claims, Crossings, Turns}}
 use Rattle.std.specs.Prelude.{Bool, Err, List, None, Ok, Option, Result, Some, [], false, if◌then◌else◌, nat_eq, slice_get, suc, true, zero}
-use Rattle.std.specs.Prelude.{ℕ, ◌++◌, ◌∷◌, ◌≡◌, ◌⊎◌}
+use Rattle.std.specs.Prelude.{ℕ, ◌∷◌, ◌≡◌, ◌⊎◌}
 
 -- what is answered for something that is done or refused
 abbrev pub End : Type 0
 End = Result (Unit {0}) EventFault
-
--- a list grew by such numbers
-abbrev pub Joins : (List ℕ → Type 0) → List ℕ → List ℕ → Type 0
-Joins P old new = (more : List ℕ) × (new ≡ old ++ more) × P more
 
 -- those that are there of a list, by their numbers
 abbrev pub with_some : Option Event → List Event → List Event

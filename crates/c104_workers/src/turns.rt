@@ -4,7 +4,7 @@
 //! of its events, or of a network that is nobody else's. The contracts tell all that it does by what the port answers.
 ghost use Rattle.std.specs.Prelude.{Bool, List, OnOk, Result, map, ℕ, ◌≡◌};
 ghost use Rattle.c104_event.specs.declared.{events.Event.Event as TheEvent, faults.EventFault.EventFault as TheFault};
-ghost use Rattle.c104_workers.specs.{Turns.{End, InTurn, Joins, Often, PartDone, StageDone, TurnsDone, events_at, handed}, Working.PartView};
+ghost use Rattle.c104_workers.specs.{Turns.{End, InTurn, Often, PartDone, StageDone, TurnsDone, events_at, handed}, Working.PartView};
 ghost use Rattle.c104_workers.specs.declared.parts.Stage.{Stage as TheStage};
 
 use crate::parts::{Part, Stage};
@@ -27,9 +27,10 @@ pub trait NodePort {
     fn count(&self) -> usize
         ensures { result ≡ done self.now };
 
-    /// The numbers of those events of a part's stage that the part's node may begin join a list. The only error is out of memory.
-    fn add_ready(&self, part: &Part, stage: Stage, ready: &mut Vec<usize>) -> Result<(), NoMemory>
-        ensures { OnOk result (Joins (lists self.now part.now stage) ready.old.items ready.new.items) };
+    /// Lists the numbers of those events of a part's stage that the part's node may begin, and nothing else. The only error is
+    /// out of memory.
+    fn list_ready(&self, part: &Part, stage: Stage, ready: &mut Vec<usize>) -> Result<(), NoMemory>
+        ensures { OnOk result (lists self.now part.now stage ready.new.items) };
 
     /// Does an event, if it is ready. Says whether it was done and may be asked for once more.
     fn apply(&mut self, event: &Event) -> Result<bool, EventFault>
@@ -97,8 +98,7 @@ impl Worker {
     ) -> Result<(), EventFault>
         ensures { StageDone P.due P.done self P.lists part.now stage port.old result port.new }
     {
-        ready.clear();
-        port.add_ready(part, stage, ready)?;
+        port.list_ready(part, stage, ready)?;
         self.do_ready(port, part.events(), ready.as_slice())
     }
 
