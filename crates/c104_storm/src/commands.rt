@@ -46,8 +46,8 @@ pub fn storm_command<R: Threads + Wait + Sync, D: Read, S: Read, W: Write, M: Me
     // whole, and none twice, by their senders and numbers.
     ensures packets { (text : List ℕ) → WritesPacketsOf (team_of workers words) text }
 
-    // Where no channels depend on one another in a cycle, a storm never comes to a standstill: if it isn't quiet at its end, some
-    // event of a round is ready, or refused. So the turns weren't enough, or an inbox or a trace is full.
+    // Where no channels depend on one another in a cycle, a storm never comes to a standstill: if it isn't quiet at its end, a round
+    // would do something, or an inbox or a trace is full.
     ensures moving { (text : List ℕ) → NeverStandsStillOf (team_of workers words) text }
 {
     let Setup { plan, image, .. } = match read_setup(alloc, description, writer, messages) {

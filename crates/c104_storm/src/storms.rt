@@ -54,8 +54,8 @@ pub fn storm_plan<R: Threads + Wait + Sync, S: Read, W: Write, M: Messages>(
     // whole, and none twice, by their senders and numbers.
     ensures packets { WritesSentPackets (team_of workers words) plan.now image.now }
 
-    // Where no channels depend on one another in a cycle, a storm never comes to a standstill: if it isn't quiet at its end, some
-    // event of a round is ready, or refused. So the turns weren't enough, or an inbox or a trace is full.
+    // Where no channels depend on one another in a cycle, a storm never comes to a standstill: if it isn't quiet at its end, a round
+    // would do something, or an inbox or a trace is full.
     ensures moving { NeverStandsStill (team_of workers words) plan.now image.now }
 {
     // The proof reads here what every plan and every image keeps.

@@ -21,13 +21,13 @@ use std::thread::{Threads, join};
 pub const PLAN: &[u8] = b"switch A\nterminal a A.0\nterminal b A.1\n\
     row A.0 1 0\nrow A.0 2 1\nrow A.1 1 0\nrow A.1 2 1\n";
 
-/// The network of the plan with the settings of its lines, ready for a fabric of so many seats.
+/// The network of the plan with the settings of its lines, ready for a fabric of this many seats.
 pub fn ready_plan(alloc: Global, seats: usize) -> Result<Ready, Fail> {
     let net = placed_network(alloc, PLAN)?;
     ready_of(alloc, net, seats)
 }
 
-/// A network, ready for a fabric of so many seats.
+/// A network, ready for a fabric of this many seats.
 pub fn ready_of(alloc: Global, net: Net, seats: usize) -> Result<Ready, Fail> {
     match Ready::new(alloc, net, seats) {
         Ok(ready) => Ok(ready),

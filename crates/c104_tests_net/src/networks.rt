@@ -58,13 +58,13 @@ fn busy_network(alloc: Global, text: &[u8]) -> Option<Net> {
     Some(net)
 }
 
-/// Such a network, ready for a fabric of so many seats.
+/// Such a network, ready for a fabric of this many seats.
 pub fn busy_ready(alloc: Global, text: &[u8], seats: usize) -> Option<Ready> {
     let net = busy_network(alloc, text)?;
     ready_of(alloc, net, seats)
 }
 
-/// A network, ready for a fabric of so many seats.
+/// A network, ready for a fabric of this many seats.
 pub fn ready_of(alloc: Global, net: Net, seats: usize) -> Option<Ready> {
     match Ready::new(alloc, net, seats) {
         Ok(ready) => Some(ready),

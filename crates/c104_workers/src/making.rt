@@ -73,7 +73,7 @@ struct Copies {
 }
 
 impl Ready {
-    /// Makes ready for a fabric of a network with so many seats, 1 to 64. SeatCount where there are to be others; else the only
+    /// Makes ready for a fabric of a network with this many seats, 1 to 64. SeatCount where there are to be others; else the only
     /// error is out of memory. Then the network is given back as it was.
     pub fn new(alloc: Global, net: Net, seats: usize) -> Result<Ready, (Net, FabricFault)>
         ensures net { MatchResult result
