@@ -74,7 +74,7 @@ unfolding NeverStandsStill
 never_stands_still team plan image is_plan fits sized script text refused may is same =
     is_moving plan image is_plan fits sized is.accepted is.acyclic (script_sent plan image script) may.storms.left was
     (λ still. not_quiet team may.storms.left (is_long script) may.storms.ends.ending may.end may.storms.ends.is may.storms.ends.is_text same
-        (stands plan image is_plan fits sized is.accepted is.acyclic (script_sent plan image script) may.storms.left was still))
+    (stands plan image is_plan fits sized is.accepted is.acyclic (script_sent plan image script) may.storms.left was still))
   where
     was : IsUnchangedNet (routes_of plan image) plan (placed_starts plan image is_plan fits) nothing (script_sent plan image script) may.storms.left
     was = left_well team plan image script is_plan fits is.accepted is.may may.storms.left may.storms.seats may.storms.one may.storms.done

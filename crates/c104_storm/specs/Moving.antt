@@ -3,10 +3,9 @@
 --     NeverStandsStill team plan image      what follows: a round would do something, or an inbox or a trace is full
 use Rattle.c104_check.specs.{ChannelDependencies.IsAcyclic, Routes.{IsAccepted, routes_of}}
 use Rattle.{c104_deadlock.specs.DeadlockFreedom.{HasFullInbox, HasFullTrace, NothingDone}, c104_describe.specs.PlanText.read_description}
-use Rattle.{c104_plan.specs.{PlanImage.Image, Plans.Plan}, c104_run.specs.NetRecords.NetRecord, c104_setup.specs.Setups.ComesTo}
-use Rattle.c104_run.specs.{Standstill.StandsStill, declared.words.Words.Words}
-use Rattle.c104_storm.specs.{Packets.{MaySend, script_sent}, Storms.MayWrite, Texts.not_quiet_line, Workers.Team}
-use Rattle.c104_token.specs.Kinds.{plain_kind}
+use Rattle.{c104_plan.specs.{PlanImage.Image, Plans.Plan}, c104_run.specs.{NetRecords.NetRecord, Standstill.StandsStill}}
+use Rattle.{c104_run.specs.declared.words.Words.Words, c104_setup.specs.Setups.ComesTo, c104_storm.specs.Packets.{MaySend, script_sent}}
+use Rattle.{c104_storm.specs.{Storms.MayWrite, Texts.not_quiet_line, Workers.Team}, c104_token.specs.Kinds.plain_kind}
 use Rattle.std.specs.{List.AllByRecursion, Prelude.{Bool, List, Ok, ℕ, ◌≡◌, ◌⊎◌}}
 
 -- the premises: the labels are accepted, no channels depend on one another in a cycle, and the script sent only what may be

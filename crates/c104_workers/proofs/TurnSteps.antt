@@ -1,11 +1,12 @@
 -- A worker's turns: what is left of them when some were done, and what all of them keep that each event keeps.
-use Rattle.c104_audit.proofs.KeptElements.{drop_all, drop_next, got}
-use Rattle.c104_event.specs.declared.{events.Event.Event, faults.EventFault.EventFault}
-use Rattle.c104_workers.specs.{Turns.{After, AfterOnce, End, InTurn, Often, PartDone, StageDone, TurnsDone, events_at, handed, with_some}}
-use Rattle.c104_workers.specs.{Working.PartView, declared.{parts.Stage.{Stage, TheVariants.{Claims, Crossings, Turns}}, turns.Worker.Worker}}
-use Rattle.std.proofs.Common.{All, Bool, Err, IfErr, List, None, Ok, Option, Result, Some, [], ap, arith, drop, false, get_or, inl, inr, map}
-use Rattle.std.proofs.Common.{if◌then◌else◌, length, nat_eq, nat_lt, refl, slice_get, slice_index_or, subst, suc, sym, true, zero, ℕ, ◌+◌, ◌-◌, ◌<◌}
-use Rattle.std.{proofs.{Common.{◌∙◌, ◌∷◌, ◌≡◌, ◌≤◌, ◌⊎◌}, lemmas.{Bool.Decides.nat_tests, List.{Elements.{All-cons, All-nil}, drop-map}, Option.slice_get_past, Result.err_from_is_err_and}}, specs.Result.{IsErr, IsErrAnd}}
+use Rattle.{c104_audit.proofs.KeptElements.{drop_all, drop_next, got}, c104_event.specs.declared.events.Event.Event}
+use Rattle.{c104_event.specs.declared.faults.EventFault.EventFault, c104_workers.specs.Turns.{After, End, InTurn, Often, PartDone}}
+use Rattle.c104_workers.specs.{Turns.{StageDone, TurnsDone, events_at, handed, with_some}, Working.PartView, declared.parts.Stage.Stage}
+use Rattle.{c104_workers.specs.declared.{parts.Stage.TheVariants.{Claims, Crossings, Turns}, turns.Worker.Worker}, std.proofs.Common.All}
+use Rattle.std.proofs.Common.{Bool, Err, IfErr, List, None, Ok, Option, Result, Some, [], ap, arith, drop, false, get_or, if◌then◌else◌}
+use Rattle.std.proofs.Common.{inl, inr, length, map, nat_eq, nat_lt, refl, slice_get, subst, suc, sym, true, zero, ℕ, ◌+◌, ◌-◌, ◌∙◌, ◌∷◌}
+use Rattle.std.proofs.{Common.{◌≡◌, ◌≤◌}, lemmas.{Bool.Decides.nat_tests, List.{Elements.{All-cons, All-nil}, drop-map}}}
+use Rattle.std.{proofs.lemmas.{Option.slice_get_past, Result.err_from_is_err_and}, specs.Result.{IsErr, IsErrAnd}}
 
 -- a fault that is passed on
 pub err_is : {X : Type 0} (result : Result X EventFault) (f : EventFault) → IsErr result × IsErrAnd result (λ e. e ≡ f) → result ≡ Err f

@@ -1,8 +1,8 @@
 -- What a worker does in its turns through a port, of which it is known what it may answer: all of it is told here, in order, so
 -- that a worker that leaves anything out does something else.
-use Rattle.c104_event.specs.declared.{events.Event.Event, faults.EventFault.EventFault}
-use Rattle.c104_workers.specs.{Words.{with_word, word_of}, Working.PartView, declared.turns.Worker.Worker}
-use Rattle.c104_workers.specs.declared.parts.Stage.{Stage, TheVariants.{Claims, Crossings, Turns}}
+use Rattle.{c104_event.specs.declared.{events.Event.Event, faults.EventFault.EventFault}, c104_workers.specs.Words.{with_word, word_of}}
+use Rattle.c104_workers.specs.{Working.PartView, declared.parts.Stage.{Stage, TheVariants.{Claims, Crossings, Turns}}}
+use Rattle.c104_workers.specs.declared.turns.Worker.{Worker}
 use Rattle.std.specs.Prelude.{Bool, Err, List, None, Ok, Option, Result, Some, [], false, if◌then◌else◌, nat_eq, slice_get, suc, true, zero}
 use Rattle.std.specs.Prelude.{ℕ, ◌∷◌, ◌≡◌, ◌⊎◌}
 

@@ -1,6 +1,5 @@
-use Rattle.c104_audit.proofs.KeptElements.{got}
-use Rattle.c104_workers.proofs.TurnSteps.{err_is, mapped_all, mapped_next, turn_ends, turn_on, turn_stops}
-use Rattle.{c104_workers.specs.{Turns.InTurn, Working.PartView}, std.proofs.Common.{Bor, arith, drop, map, ◌+◌}}
+use Rattle.{c104_audit.proofs.KeptElements.got, c104_workers.proofs.TurnSteps.{err_is, mapped_all, mapped_next, turn_ends, turn_on}}
+use Rattle.{c104_workers.{proofs.TurnSteps.turn_stops, specs.Working.PartView}, std.proofs.Common.{Bor, arith, drop, map, ◌+◌}}
 use Rattle.c104_workers.proofs.turns.do_turn.Goals as goal
 
 pub loop-part-preserved : goal.loop-part-preserved

@@ -1,7 +1,7 @@
 use Rattle.c104_workers.proofs.TurnSteps.{err_is, idle_anew, idle_less, turns_idle, turns_none, turns_on, turns_stop}
 use Rattle.{c104_workers.specs.Working.PartView, std.proofs.Common.{Bor, arith, map, sym, ◌+◌, ◌-◌, ◌∙◌}}
-use Rattle.c104_workers.proofs.turns.do_turns.Goals as goal
 use Rattle.c104_workers.proofs.turns.do_turns.Goals.{else-count-done, then-count-done}
+use Rattle.c104_workers.proofs.turns.do_turns.Goals as goal
 
 pub loop-turn-preserved : goal.loop-turn-preserved
 loop-turn-preserved g c =

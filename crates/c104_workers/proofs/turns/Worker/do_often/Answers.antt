@@ -1,5 +1,4 @@
-use Rattle.c104_workers.proofs.TurnSteps.{err_is, often_ends, often_none, often_on, often_stops}
-use Rattle.std.proofs.Common.{arith, ◌+◌, ◌-◌}
+use Rattle.{c104_workers.proofs.TurnSteps.{err_is, often_ends, often_none, often_on, often_stops}, std.proofs.Common.{arith, ◌+◌, ◌-◌}}
 use Rattle.c104_workers.proofs.turns.Worker.do_often.Goals as goal
 
 pub loop-time-preserved : goal.loop-time-preserved

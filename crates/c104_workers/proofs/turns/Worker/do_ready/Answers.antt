@@ -1,9 +1,8 @@
-use Rattle.c104_audit.proofs.KeptElements.{drop_all}
-use Rattle.c104_workers.proofs.TurnSteps.{Leads, err_is, event_next, no_event, turn_ends, turn_on, turn_skips, turn_stops}
-use Rattle.{c104_workers.specs.Turns.{InTurn, Often, events_at}, std.proofs.Common.{ap, arith, drop, slice_index_or, subst, sym, ◌+◌}}
-use Rattle.std.proofs.lemmas.Option.{slice_get-get_or}
-use Rattle.c104_workers.proofs.turns.Worker.do_ready.Goals as goal
+use Rattle.{c104_audit.proofs.KeptElements.drop_all, c104_workers.proofs.TurnSteps.{Leads, err_is, event_next, no_event, turn_ends}}
+use Rattle.{c104_workers.{proofs.TurnSteps.{turn_on, turn_skips, turn_stops}, specs.Turns.{InTurn, Often, events_at}}, std.proofs.Common.ap}
+use Rattle.std.proofs.{Common.{arith, drop, slice_index_or, subst, sym, ◌+◌}, lemmas.Option.slice_get-get_or}
 use Rattle.c104_workers.proofs.turns.Worker.do_ready.Goals.{in-Some+in_ok-do_often, in_default}
+use Rattle.c104_workers.proofs.turns.Worker.do_ready.Goals as goal
 
 pub loop-number-preserved : goal.loop-number-preserved
 loop-number-preserved g c =
