@@ -21,6 +21,7 @@ pub mod SeatWork
 pub mod AuditedLeft
 pub mod WholeRuns
 pub mod TurnSteps
+pub mod KeptTurns
 pub mod PartNumbers
 pub mod PartClaims
 pub mod PartShapes

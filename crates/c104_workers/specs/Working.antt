@@ -1,8 +1,9 @@
 -- Workers: threads that do the parts of rounds, each through a seat. Of n workers number i has the nodes k with k mod n ≡ i.
 use Rattle.{c104_audit.specs.declared.calls.Call.Call, c104_event.specs.declared.{events.Event.Event, faults.EventFault.EventFault}}
 use Rattle.{c104_node.specs.Records.has_link, c104_plan.specs.Plans.Plan, c104_run.specs.{KnownWires.is_linked_end, NetParts.node_count}}
-use Rattle.{c104_run.specs.{Network.event_fault, NodeParts.round_part}, c104_workers.specs.Calls.{IsSameSeat, SeatView}}
-use Rattle.c104_workers.specs.{SeatGrowth.FaultsAs, Words.{with_word, word_of}, declared.{words.Words.Words, workers.RunFault.RunFault}}
+use Rattle.{c104_run.specs.{Network.event_fault, NodeParts.round_part}, c104_switch.specs.Actions.{Reply, is_ready}}
+use Rattle.c104_workers.specs.{Calls.{IsSameSeat, SeatView}, SeatGrowth.{FaultsAs, Grew}, Words.{with_word, word_of}}
+use Rattle.c104_workers.specs.declared.{words.Words.Words, workers.RunFault.RunFault}
 use Rattle.std.specs.{List.position_or_len, Prelude.{All, Bool, Contains, Err, List, None, Ok, Result, Some, false, length, slice_index_or}}
 use Rattle.std.specs.Prelude.{take, true, ℕ, ◌%◌, ◌++◌, ◌<◌, ◌≡◌, ◌⊎◌}
 
@@ -53,6 +54,11 @@ pub record IsOwnEvent (plan : Plan) (words : Words) (n i : ℕ) (e : Event) : Ty
   pub part : IsPartEvent plan n i event
   pub done : ℕ
   pub is : e ≡ with_word (word_of words i done) event
+
+-- what a worker is told of an event that it asked for, and what became of its seat
+abbrev pub HasDone : Plan → SeatView → SeatView → Event → Result Bool EventFault → Type 0
+HasDone plan old new e (Ok done) = (r : Reply) × (done ≡ is_ready r) × Grew old new e (Ok r)
+HasDone plan old new e (Err f) = (new ≡ old) × FaultsAs (event_fault plan e) e (Err f)
 
 -- what worker i of n did to its seat: it is the seat that it was, and its list grew by calls of such events, or of none
 pub record HasWorked (plan : Plan) (words : Words) (n i : ℕ) (old new : SeatView) : Type 0 where

@@ -2,7 +2,8 @@
 //!
 //! The fault that is answered is looked up in the seats, and is that of the lowest worker, whichever stopped first. One
 //! that is out of memory between events stops with NoMemory, as at an event.
-ghost use Rattle.std.specs.Prelude.{All, IfErr, IfOk, IfSome, MatchBool, length, slice_index_or, ℕ, ◌%◌, ◌<◌, ◌≡◌, ◌≢◌, ◌≤◌};
+ghost use Rattle.std.specs.Prelude.{All, IfErr, IfOk, IfSome, MatchBool, length, map, slice_index_or, ℕ, ◌%◌, ◌<◌, ◌≡◌, ◌≢◌, ◌≤◌};
+ghost use Rattle.c104_switch.specs.Actions.{is_ready};
 ghost use Rattle.c104_workers.specs.{Calls.SeatView, Fabrics.AreSeatsOf, Working.{EndsAs, HasWorked, IsPartEvent, IsStop}};
 
 use crate::fabric::Fabric;
@@ -10,9 +11,10 @@ use crate::gates::Gate;
 use crate::naming::Naming;
 use crate::parts::{Part, Stage};
 use crate::seats::Seat;
+use crate::turns::{NodePort, PartPort, Worker, do_turns};
 use crate::words::Words;
 use c104_event::{Event, EventFault};
-use c104_switch::Reply;
+use c104_switch::{Reply, ReplyOf};
 use c104_token::NoMemory;
 use std::alloc::Global;
 use std::sync::Wait;
@@ -64,15 +66,18 @@ pub fn run_workers<R: Threads + Wait + Sync, G: Gate + Sync, N: Naming + Send + 
             ensures { HasWorked fabric.entry.now.handed.plan words count number seat.entry.now.0 seat.exit.now.0
                 × IfSome seat.exit.now.0.stopped (IsStop fabric.entry.now.handed.plan words count number) }
         {
-            let worker = Worker {
+            let own = FabricWorker {
                 rt,
                 fabric,
                 gate,
-                words,
-                number,
+                worker: Worker {
+                    number,
+                    words,
+                    times: 1,
+                },
                 count,
             };
-            worker.work(alloc, seat, turns);
+            own.work(alloc, seat, turns);
         },
     );
     end_of(seats)
@@ -90,125 +95,52 @@ fn end_of(seats: &[Seat]) -> Result<(), RunFault>
     Ok(())
 }
 
-/// One of several workers.
+/// One of several workers of a fabric.
 #[derive(Drop)]
-struct Worker<'a, R: Wait, G: Gate, N: Naming> {
+struct FabricWorker<'a, R: Wait, G: Gate, N: Naming> {
     rt: &'a R,
     fabric: &'a Fabric<N>,
     gate: &'a G,
-    words: Words,
-    number: usize,
+    worker: Worker,
     // How many there are.
     count: usize,
 }
 
-impl<R: Wait, G: Gate, N: Naming> Worker<'_, R, G, N> {
+impl<R: Wait, G: Gate, N: Naming> FabricWorker<'_, R, G, N> {
     /// Does turns through a seat, which keeps why the worker stopped.
     fn work(&self, alloc: Global, seat: &mut Seat, turns: u64)
         requires some { 1 ≤ self.now.count }
         requires word { seat.old.0.word_id ≡ self.now.fabric.now.word_id }
-        ensures worked { HasWorked self.now.fabric.now.handed.plan self.now.words self.now.count self.now.number seat.old.0 seat.new.0 }
+        ensures worked { HasWorked self.now.fabric.now.handed.plan self.now.worker.words self.now.count self.now.worker.number
+            seat.old.0 seat.new.0 }
         ensures stops { IfSome seat.new.0.stopped
-            (IsStop self.now.fabric.now.handed.plan self.now.words self.now.count self.now.number) }
+            (IsStop self.now.fabric.now.handed.plan self.now.worker.words self.now.count self.now.worker.number) }
     {
-        let end = self.do_turns(alloc, seat, turns);
+        let end = self.do_own_turns(alloc, seat, turns);
         seat.stop(end.err());
     }
 
     /// Does turns, up to the first event that is refused.
-    fn do_turns(&self, alloc: Global, seat: &mut Seat, turns: u64) -> Result<(), EventFault>
+    fn do_own_turns(&self, alloc: Global, seat: &mut Seat, turns: u64) -> Result<(), EventFault>
         requires some { 1 ≤ self.now.count }
         requires word { seat.old.0.word_id ≡ self.now.fabric.now.word_id }
-        ensures worked { HasWorked self.now.fabric.now.handed.plan self.now.words self.now.count self.now.number seat.old.0 seat.new.0 }
-        ensures stops { IfErr result (IsStop self.now.fabric.now.handed.plan self.now.words self.now.count self.now.number) }
+        ensures worked { HasWorked self.now.fabric.now.handed.plan self.now.worker.words self.now.count self.now.worker.number
+            seat.old.0 seat.new.0 }
+        ensures stops { IfErr result
+            (IsStop self.now.fabric.now.handed.plan self.now.worker.words self.now.count self.now.worker.number) }
     {
-        let parts = self.own_parts(alloc)?;
+        let own = self.own_parts(alloc)?;
+        let parts = lent(alloc, &own)?;
         let mut ready = Vec::new(alloc);
-        for turn in 0..turns {
-            self.gate.before(self.number, turn);
-            self.do_turn(seat, &parts, &mut ready)?;
-        }
-        Ok(())
-    }
-
-    /// Does the parts of the worker's own nodes, up to the first event that is refused. The list is for the numbers of those
-    /// that a node is ready for.
-    fn do_turn(
-        &self,
-        seat: &mut Seat,
-        parts: &[Part],
-        ready: &mut Vec<usize>,
-    ) -> Result<(), EventFault>
-        requires word { seat.old.0.word_id ≡ self.now.fabric.now.word_id }
-        requires own { All (λ part. All (IsPartEvent self.now.fabric.now.handed.plan self.now.count self.now.number)
-            part.events) parts.now }
-        ensures worked { HasWorked self.now.fabric.now.handed.plan self.now.words self.now.count self.now.number seat.old.0 seat.new.0 }
-        ensures stops { IfErr result (IsStop self.now.fabric.now.handed.plan self.now.words self.now.count self.now.number) }
-    {
-        for part in parts {
-            self.do_part(seat, part, ready)?;
-        }
-        Ok(())
-    }
-
-    /// Does the part of a node, stage by stage, up to the first event that is refused.
-    fn do_part(
-        &self,
-        seat: &mut Seat,
-        part: &Part,
-        ready: &mut Vec<usize>,
-    ) -> Result<(), EventFault>
-        requires word { seat.old.0.word_id ≡ self.now.fabric.now.word_id }
-        requires own { All (IsPartEvent self.now.fabric.now.handed.plan self.now.count self.now.number) part.now.events }
-        ensures worked { HasWorked self.now.fabric.now.handed.plan self.now.words self.now.count self.now.number seat.old.0 seat.new.0 }
-        ensures stops { IfErr result (IsStop self.now.fabric.now.handed.plan self.now.words self.now.count self.now.number) }
-    {
-        for stage in [Stage::Crossings, Stage::Turns, Stage::Claims] {
-            self.fabric
-                .list_ready(self.rt, part, stage, ready, self.gate, self.number)?;
-            self.do_ready(seat, part.events(), ready.as_slice())?;
-        }
-        Ok(())
-    }
-
-    /// Does the events of these numbers, up to the first that is refused.
-    fn do_ready(&self, seat: &mut Seat, events: &[Event], ready: &[usize]) -> Result<(), EventFault>
-        requires word { seat.old.0.word_id ≡ self.now.fabric.now.word_id }
-        requires own { All (IsPartEvent self.now.fabric.now.handed.plan self.now.count self.now.number) events.now }
-        ensures worked { HasWorked self.now.fabric.now.handed.plan self.now.words self.now.count self.now.number seat.old.0 seat.new.0 }
-        ensures stops { IfErr result (IsStop self.now.fabric.now.handed.plan self.now.words self.now.count self.now.number) }
-    {
-        for number in ready {
-            let Some(event) = events.get(*number) else {
-                continue;
-            };
-            self.do_event(seat, event)?;
-        }
-        Ok(())
-    }
-
-    /// Does an event, the turn of an input with a word of the worker's.
-    fn do_event(&self, seat: &mut Seat, event: &Event) -> Result<Reply, EventFault>
-        requires word { seat.old.0.word_id ≡ self.now.fabric.now.word_id }
-        requires own { IsPartEvent self.now.fabric.now.handed.plan self.now.count self.now.number event.now }
-        ensures worked { HasWorked self.now.fabric.now.handed.plan self.now.words self.now.count self.now.number seat.old.0 seat.new.0 }
-        ensures stops { IfErr result (IsStop self.now.fabric.now.handed.plan self.now.words self.now.count self.now.number) }
-    {
-        match self.words.hand(self.number, seat.calls().len(), event) {
-            Some(turn) => self
-                .fabric
-                .apply_by_worker(self.rt, seat, &turn, self.gate, self.number),
-            None => self
-                .fabric
-                .apply_by_worker(self.rt, seat, event, self.gate, self.number),
-        }
+        let mut port = WorkerPort { own: self, seat };
+        do_turns(&mut port, &parts, turns, u64::MAX, &mut ready)
     }
 
     /// The parts that a round has for the worker's nodes. The only error is out of memory.
     fn own_parts(&self, alloc: Global) -> Result<Vec<Part>, NoMemory>
         requires some { 1 ≤ self.now.count }
         ensures { IfOk result (λ parts.
-            All (λ part. All (IsPartEvent self.now.fabric.now.handed.plan self.now.count self.now.number)
+            All (λ part. All (IsPartEvent self.now.fabric.now.handed.plan self.now.count self.now.worker.number)
             part.events) parts.items) }
     {
         let mut parts = Vec::new(alloc);
@@ -223,8 +155,102 @@ impl<R: Wait, G: Gate, N: Naming> Worker<'_, R, G, N> {
     /// Whether a node is one of the worker's own.
     fn owns(&self, node: usize) -> bool
         requires { 1 ≤ self.now.count }
-        ensures { MatchBool result (node % self.now.count ≡ self.now.number) (node % self.now.count ≢ self.now.number) }
+        ensures { MatchBool result (node % self.now.count ≡ self.now.worker.number)
+            (node % self.now.count ≢ self.now.worker.number) }
     {
-        node % self.count == self.number
+        node % self.count == self.worker.number
+    }
+}
+
+/// These parts, to be lent. The only error is out of memory.
+fn lent<'a>(alloc: Global, parts: &'a [Part]) -> Result<Vec<&'a Part>, NoMemory>
+    ensures { IfOk result (λ lent. map (λ part. part.now) lent.items ≡ parts.now) }
+{
+    let mut lent = Vec::new(alloc);
+    for part in parts {
+        lent.push(part)?;
+    }
+    Ok(lent)
+}
+
+/// A worker with a seat of its own, as the port through which it does the parts of its nodes. Others may act on these nodes
+/// between two of its events.
+#[derive(Drop)]
+struct WorkerPort<'a, R: Wait, G: Gate, N: Naming> {
+    own: &'a FabricWorker<'a, R, G, N>,
+    seat: &'a mut Seat,
+    ghost word: { seat.now.0.word_id ≡ own.now.fabric.now.word_id },
+}
+
+impl<R: Wait, G: Gate, N: Naming> NodePort for WorkerPort<'_, R, G, N> {
+    ghost use Rattle.std.specs.Prelude.{length, ◌≡◌};
+    ghost use Rattle.c104_workers.specs.Working.{HasDone};
+
+    ghost done = { λ p. length p.seat.now.0.calls };
+
+    ghost lists = { λ p part stage numbers. Unit {0} };
+
+    // It stays a port through the same reference, so that who lent the seat knows what became of it.
+    ghost due = { λ p event answer after.
+        (after.seat.ghost_name ≡ p.seat.ghost_name) × (after.own.now ≡ p.own.now)
+        × HasDone p.own.now.fabric.now.handed.plan p.seat.now.0 after.seat.now.0 event answer };
+
+    fn count(&self) -> usize {
+        self.seat.calls().len()
+    }
+
+    fn list_ready(
+        &self,
+        part: &Part,
+        stage: Stage,
+        ready: &mut Vec<usize>,
+    ) -> Result<(), NoMemory> {
+        let own = self.own;
+        own.fabric
+            .list_ready(own.rt, part, stage, ready, own.gate, own.worker.number)
+    }
+
+    fn apply(&mut self, event: &Event) -> Result<bool, EventFault> {
+        let own = self.own;
+        let reply = own
+            .fabric
+            .apply_by_worker(own.rt, self.seat, event, own.gate, own.worker.number)?;
+        Ok(is_done(&reply))
+    }
+}
+
+/// Whether an event was done that has this reply.
+fn is_done(reply: &Reply) -> bool
+    ensures { result ≡ is_ready reply.now }
+{
+    !matches!(reply, ReplyOf::NotReady)
+}
+
+impl<R: Wait, G: Gate, N: Naming> PartPort for WorkerPort<'_, R, G, N> {
+    ghost use Rattle.std.specs.Prelude.{All, IfErr, length, ◌≡◌};
+    ghost use Rattle.c104_workers.specs.Working.{HasWorked, IsPartEvent, IsStop};
+
+    ghost done = { λ p. length p.seat.now.0.calls };
+
+    ghost due = { λ p part end after.
+        All (IsPartEvent p.own.now.fabric.now.handed.plan p.own.now.count p.own.now.worker.number) part.events →
+        (after.seat.ghost_name ≡ p.seat.ghost_name) × (after.own.now ≡ p.own.now)
+        × HasWorked p.own.now.fabric.now.handed.plan p.own.now.worker.words p.own.now.count p.own.now.worker.number
+        p.seat.now.0 after.seat.now.0
+        × IfErr end (IsStop p.own.now.fabric.now.handed.plan p.own.now.worker.words p.own.now.count p.own.now.worker.number) };
+
+    fn count(&self) -> usize {
+        self.seat.calls().len()
+    }
+
+    fn begin(&self, turn: u64) {
+        self.own.gate.before(self.own.worker.number, turn);
+    }
+
+    fn rest(&self) {}
+
+    fn do_part(&mut self, part: &Part, ready: &mut Vec<usize>) -> Result<(), EventFault> {
+        let worker = self.own.worker;
+        worker.do_part(self, part, ready)
     }
 }

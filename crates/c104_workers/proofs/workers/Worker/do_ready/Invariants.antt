@@ -1,5 +1,0 @@
-use Rattle.c104_workers.specs.Working.{HasWorked}
-
--- the events so far
-abbrev pub invariant-loop-number : Rattle.c104_workers.proofs.workers.Worker.do_ready.Given.invariant-loop-number
-invariant-loop-number g l = HasWorked l.self.fabric.now.handed.plan l.self.words l.self.count l.self.number l.initial.seat.0 l.seat.0

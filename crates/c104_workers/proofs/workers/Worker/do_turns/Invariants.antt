@@ -1,5 +1,0 @@
-use Rattle.c104_workers.specs.Working.{HasWorked}
-
--- the turns so far
-abbrev pub invariant-loop-turn : Rattle.c104_workers.proofs.workers.Worker.do_turns.Given.invariant-loop-turn
-invariant-loop-turn g l = HasWorked l.self.fabric.now.handed.plan l.self.words l.self.count l.self.number l.initial.seat.0 l.seat.0

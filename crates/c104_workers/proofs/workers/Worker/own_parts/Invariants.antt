@@ -1,5 +1,0 @@
-use Rattle.{c104_workers.specs.Working.IsPartEvent, std.proofs.Common.All}
-
--- the parts of nodes so far
-abbrev pub invariant-loop-node : Rattle.c104_workers.proofs.workers.Worker.own_parts.Given.invariant-loop-node
-invariant-loop-node g l = All (λ part. All (IsPartEvent l.self.fabric.now.handed.plan l.self.count l.self.number) part.events) l.parts.items
