@@ -12,3 +12,4 @@ pub mod ClosedNodes
 pub mod ClosedRuns
 pub mod SeatWork
 pub mod EventNodes
+pub mod PortWork

@@ -6,3 +6,4 @@ pub mod Closing
 pub mod Runs
 pub mod Working
 pub mod Workers
+pub mod Ports

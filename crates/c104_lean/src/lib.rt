@@ -15,6 +15,7 @@ mod closing;
 mod doing;
 mod held;
 mod making;
+mod ports;
 mod seats;
 mod shared_net;
 mod sharing;

@@ -9,24 +9,20 @@ ghost use Rattle.std.specs.Prelude.{All, IfErr, IfOk, IfSome, MatchBool, length,
 ghost use Rattle.c104_lean.specs.{Seats.AreSeatsOf, Workers.CountedEndsAs, Working.{HasWorked, IsPartEvent, IsStop, worker_of}};
 ghost use Rattle.c104_workers.specs.{Calls.SeatView};
 
-use crate::held::HeldNode;
+use crate::ports::SharedPort;
 use crate::seats::CountedSeat;
 use crate::shared_net::SharedNet;
 use crate::sharing::Sharing;
-use c104_event::{Event, EventFault};
-use c104_node::Place;
+use c104_event::EventFault;
 use c104_token::NoMemory;
-use c104_workers::{Part, RunFault, Stage, Words};
+use c104_workers::{Part, RunFault, Words, do_turns};
 use std::alloc::Global;
 use std::sync::Wait;
-use std::thread::{Threads, for_each_mut, yield_now};
+use std::thread::{Threads, for_each_mut};
 
 /// After how many turns in a row that do nothing a worker does no more. Those that go on wait for it then: so it is far more
 /// than a neighbour needs for a turn.
-const IDLE_TURNS: u32 = 512;
-
-/// How often others may run between two turns that do nothing.
-const YIELDS: u32 = 2;
+const IDLE_TURNS: u64 = 512;
 
 /// How often an event is done while its node is locked, at most: an output buffer has no more tokens.
 pub(crate) const MOST_TIMES: u32 = 8;
@@ -119,23 +115,20 @@ impl<N: Sharing> Worker<'_, N> {
         ensures stops { IfErr result (IsStop self.now.shared.now.before.plan self.now.words self.now.count self.now.number) }
     {
         let parts = self.own_parts(alloc)?;
+        // The proof reads by this name how the network stood.
+        let shared: &SharedNet<N> = self.shared;
+        let _log = &shared.log;
         let mut ready = Vec::new(alloc);
-        let mut idle_left = IDLE_TURNS;
-        for _turn in 0..turns {
-            if idle_left == 0 {
-                break;
-            }
-            let done = seat.count();
-            self.do_turn(seat, parts.as_slice(), &mut ready)?;
-            if seat.count() == done {
-                // What it waits for is with a worker that may not be running.
-                let_others_run();
-                idle_left -= 1;
-            } else {
-                idle_left = IDLE_TURNS;
-            }
-        }
-        Ok(())
+        let mut port = SharedPort {
+            shared,
+            seat,
+            worker: c104_workers::Worker {
+                number: self.number,
+                words: self.words,
+                times: MOST_TIMES,
+            },
+        };
+        do_turns(&mut port, parts.as_slice(), turns, IDLE_TURNS, &mut ready)
     }
 
     /// The parts of the worker's own nodes. The only error is out of memory.
@@ -168,140 +161,5 @@ impl<N: Sharing> Worker<'_, N> {
             }
         };
         home.saturating_mul(self.count) / switches.max(1)
-    }
-
-    /// Does the parts of nodes, up to the first event that is refused. The list is for the numbers of those that a node may be
-    /// ready for.
-    fn do_turn(
-        &self,
-        seat: &mut CountedSeat,
-        parts: &[&Part],
-        ready: &mut Vec<usize>,
-    ) -> Result<(), EventFault>
-        requires word { seat.old.word_id ≡ self.now.shared.now.word_id }
-        requires own { All (λ part. All (IsPartEvent self.now.shared.now.before.plan self.now.count self.now.number)
-            part.now.events) parts.now }
-        ensures worked { HasWorked self.now.shared.now.before.plan self.now.words self.now.count self.now.number seat.old seat.new }
-        ensures stops { IfErr result (IsStop self.now.shared.now.before.plan self.now.words self.now.count self.now.number) }
-    {
-        for part in parts {
-            self.do_part(seat, part, ready)?;
-        }
-        Ok(())
-    }
-
-    /// Does the part of a node while it is locked, up to the first event that is refused. Where another has the node, nothing is
-    /// done.
-    fn do_part(
-        &self,
-        seat: &mut CountedSeat,
-        part: &Part,
-        ready: &mut Vec<usize>,
-    ) -> Result<(), EventFault>
-        requires word { seat.old.word_id ≡ self.now.shared.now.word_id }
-        requires own { All (IsPartEvent self.now.shared.now.before.plan self.now.count self.now.number) part.now.events }
-        ensures worked { HasWorked self.now.shared.now.before.plan self.now.words self.now.count self.now.number seat.old seat.new }
-        ensures stops { IfErr result (IsStop self.now.shared.now.before.plan self.now.words self.now.count self.now.number) }
-    {
-        let Some(lock) = self.shared.lock_of(part) else {
-            return Ok(());
-        };
-        let Some(mut held) = lock.try_lock() else {
-            return Ok(());
-        };
-        if part.is_idle(Place::node(&held.node)) {
-            return Ok(());
-        }
-        self.do_stages(seat, &mut held, part, ready)
-    }
-
-    /// The same with the locked node, stage by stage.
-    fn do_stages(
-        &self,
-        seat: &mut CountedSeat,
-        held: &mut HeldNode<N>,
-        part: &Part,
-        ready: &mut Vec<usize>,
-    ) -> Result<(), EventFault>
-        requires word { seat.old.word_id ≡ self.now.shared.now.word_id }
-        requires own { All (IsPartEvent self.now.shared.now.before.plan self.now.count self.now.number) part.now.events }
-        ensures worked { HasWorked self.now.shared.now.before.plan self.now.words self.now.count self.now.number seat.old seat.new }
-        ensures stops { IfErr result (IsStop self.now.shared.now.before.plan self.now.words self.now.count self.now.number) }
-    {
-        for stage in [Stage::Crossings, Stage::Turns, Stage::Claims] {
-            ready.clear();
-            if part.count(stage) > 0 {
-                part.add_ready(Place::node(&held.node), stage, ready)?;
-                self.do_ready(seat, held, part.events(), ready.as_slice())?;
-            }
-        }
-        Ok(())
-    }
-
-    /// Does the events of these numbers, up to the first that is refused.
-    fn do_ready(
-        &self,
-        seat: &mut CountedSeat,
-        held: &mut HeldNode<N>,
-        events: &[Event],
-        ready: &[usize],
-    ) -> Result<(), EventFault>
-        requires word { seat.old.word_id ≡ self.now.shared.now.word_id }
-        requires own { All (IsPartEvent self.now.shared.now.before.plan self.now.count self.now.number) events.now }
-        ensures worked { HasWorked self.now.shared.now.before.plan self.now.words self.now.count self.now.number seat.old seat.new }
-        ensures stops { IfErr result (IsStop self.now.shared.now.before.plan self.now.words self.now.count self.now.number) }
-    {
-        for number in ready {
-            let Some(event) = events.get(*number) else {
-                continue;
-            };
-            self.do_often(seat, held, event)?;
-        }
-        Ok(())
-    }
-
-    /// Does an event as long as its node is ready for it, but `MOST_TIMES` at most.
-    fn do_often(
-        &self,
-        seat: &mut CountedSeat,
-        held: &mut HeldNode<N>,
-        event: &Event,
-    ) -> Result<(), EventFault>
-        requires word { seat.old.word_id ≡ self.now.shared.now.word_id }
-        requires own { IsPartEvent self.now.shared.now.before.plan self.now.count self.now.number event.now }
-        ensures worked { HasWorked self.now.shared.now.before.plan self.now.words self.now.count self.now.number seat.old seat.new }
-        ensures stops { IfErr result (IsStop self.now.shared.now.before.plan self.now.words self.now.count self.now.number) }
-    {
-        for _time in 0..MOST_TIMES {
-            if !self.do_event(seat, held, event)? {
-                break;
-            }
-        }
-        Ok(())
-    }
-
-    /// Does an event, the turn of an input with a word of the worker's. Says whether the node may still be ready for it.
-    fn do_event(
-        &self,
-        seat: &mut CountedSeat,
-        held: &mut HeldNode<N>,
-        event: &Event,
-    ) -> Result<bool, EventFault>
-        requires word { seat.old.word_id ≡ self.now.shared.now.word_id }
-        requires own { IsPartEvent self.now.shared.now.before.plan self.now.count self.now.number event.now }
-        ensures worked { HasWorked self.now.shared.now.before.plan self.now.words self.now.count self.now.number seat.old seat.new }
-        ensures stops { IfErr result (IsStop self.now.shared.now.before.plan self.now.words self.now.count self.now.number) }
-    {
-        match self.words.hand(self.number, seat.count() as usize, event) {
-            Some(turn) => self.shared.do_event(seat, held, &turn),
-            None => self.shared.do_event(seat, held, event),
-        }
-    }
-}
-
-/// Lets other threads run for a while.
-fn let_others_run() {
-    for _time in 0..YIELDS {
-        yield_now();
     }
 }
