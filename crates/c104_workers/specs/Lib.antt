@@ -11,4 +11,5 @@ pub mod Words
 pub mod Working
 pub mod Parts
 pub mod Turns
+pub mod NetTurns
 pub mod Audited

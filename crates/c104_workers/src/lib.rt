@@ -7,9 +7,10 @@
 //!
 //! [`Fabric::apply_held`] does an event on nodes that are lent to it, and [`Fabric::apply`] takes their locks for it, the
 //! lower first. [`run_workers`] does rounds by several threads, each of which asks a [`Gate`] on its way, and hands
-//! [`Words`] to inputs. [`FabricPort`] takes control commands through a seat, and [`Fabric::load`] and [`Fabric::verify`]
-//! load an image so and compare it. [`Fabric::close`] ends a fabric and gives what
-//! it leaves, [`Gathered`]: the nodes, and the calls of each seat. [`Gathered::audit`] judges whether these are what one run
+//! [`Words`] to inputs. What a worker does through any port is told exactly ([`do_turns`]), and [`NetPort`] is the port of
+//! a network that is nobody else's. [`FabricPort`] takes control commands through a seat, and [`Fabric::load`] and
+//! [`Fabric::verify`] load an image so and compare it. [`Fabric::close`] ends a fabric and gives what it leaves,
+//! [`Gathered`]: the nodes, and the calls of each seat. [`Gathered::audit`] judges whether these are what one run
 //! leaves, in which the seats' calls stand and nothing else, and gives this run; [`audit_lists`] judges any [`Lists`] in the
 //! same way.
 //!
@@ -26,6 +27,7 @@ mod lent_calls;
 mod loading;
 mod making;
 mod naming;
+mod net_port;
 mod parts;
 mod ports;
 mod runs;
@@ -41,6 +43,7 @@ pub use fabric::Fabric;
 pub use gates::{Gate, OpenGate};
 pub use making::{FabricFault, Ready};
 pub use naming::Naming;
+pub use net_port::NetPort;
 pub use parts::{Part, Stage};
 pub use ports::FabricPort;
 pub use seats::{CALL_LIMIT, Seat};
