@@ -107,4 +107,6 @@ mod tools;
 #[cfg(test)]
 mod traces;
 #[cfg(test)]
+mod turns_of_a_net;
+#[cfg(test)]
 mod workers;
