@@ -3,7 +3,7 @@ use Rattle.{c104_audit.specs.{Calls.call_of, declared.calls.Call.Call}, c104_eve
 use Rattle.{c104_event.specs.declared.faults.EventFault.EventFault, c104_lean.specs.{Seats.{AreSeatsOf, Grows, HasCall}, Shared.ArePartsOf}}
 use Rattle.{c104_lean.specs.Working.{HasCalls, HasWorked, IsOwnEvent, IsPartEvent, worker_of}, c104_plan.specs.Plans.Plan}
 use Rattle.{c104_run.specs.NodeParts.round_part, c104_switch.specs.Actions.{Reply, is_ready}, c104_tickets.specs.Tickets.TableId}
-use Rattle.c104_workers.{proofs.SeatGrowth.{same_on, same_self}, specs.{Calls.{IsSameSeat, SeatView}, LentCalls.IfDone, Working.IsPartOf}}
+use Rattle.c104_workers.{proofs.SeatGrowth.{same_on, same_self}, specs.{Calls.SeatView, LentCalls.IfDone, Working.IsPartOf}}
 use Rattle.{c104_workers.specs.{Working.PartView, declared.words.Words.Words}, std.proofs.Common.{All, Bool, Bor, Err, List, Ok, Result}}
 use Rattle.std.proofs.Common.{[], ap, arith, false, length, slice_index_or, subst, suc, sym, true, zero, ℕ, ◌++◌, ◌<◌, ◌∙◌, ◌∷◌, ◌≡◌}
 use Rattle.std.proofs.lemmas.List.{Elements.{All-append, All-cons, All-contains_itself, All-nil, All-push, All-weaker}, append-nil}
