@@ -199,20 +199,3 @@ module _ {P : Type 0} (R : P → P → Type 0) (same : (p : P) → R p p) (on : 
     part_keeps lists part so =
         in_turn_keeps (λ _. Unit {0}) (StageDone due done w lists part) (λ stage p a q _. stage_keeps lists part so stage p a q)
         (Crossings ∷ Turns ∷ Claims ∷ []) (λ k d inside. tt)
-
-  pub turns_keep : (Q : PartView → Type 0) (due : P → PartView → End → P → Type 0) (done : P → ℕ)
-      → ((part : PartView) (p : P) (a : End) (q : P) → Q part → due p part a q → Keeps p a q)
-      → (parts : List PartView) → All Q parts → (most n left : ℕ) (old : P) (end : End) (new : P)
-      → TurnsDone due done parts most n left old end new → Keeps old end new
-  turns_keep Q due done each parts so most zero left old end new (is, here) = none_keeps old new end is here
-  turns_keep Q due done each parts so most (suc n) zero old end new (is, here) = none_keeps old new end is here
-  turns_keep Q due done each parts so most (suc n) (suc left) old end new (first, mid, did, rest) =
-      by_end (λ l more. turns_keep Q due done each parts so most n l mid end new more) first
-      (in_turn_keeps Q (λ part p a q. due p part a q) each parts so old first mid did) rest
-    where
-      by_end : ((l : ℕ) → TurnsDone due done parts most n l mid end new → Keeps mid end new) → (one : End) → Keeps old one mid
-          → After one mid end new (TurnsDone due done parts most n (if nat_eq (done mid) (done old) then left else most) mid end new)
-          → Keeps old end new
-      by_end again (Ok done_so) kept more =
-          then_keeps old mid new end kept.0 (again (if nat_eq (done mid) (done old) then left else most) more)
-      by_end again (Err f) kept (is, here) = stop_keeps old mid new end f kept.0 kept.1 is here
