@@ -26,3 +26,4 @@ pub mod PartNumbers
 pub mod PartClaims
 pub mod PartShapes
 pub mod PartStages
+pub mod NetPorts
