@@ -1,6 +1,6 @@
 -- A worker's turns: what is left of them when some were done, and what all of them keep that each event keeps.
 use Rattle.{c104_audit.proofs.KeptElements.{drop_all, drop_next, got}, c104_event.specs.declared.events.Event.Event}
-use Rattle.{c104_event.specs.declared.faults.EventFault.EventFault, c104_workers.specs.Turns.{After, End, InTurn, Often, PartDone}}
+use Rattle.{c104_event.specs.declared.faults.EventFault.EventFault, c104_workers.specs.Turns.{End, InTurn, Often, PartDone}}
 use Rattle.c104_workers.specs.{Turns.{StageDone, TurnsDone, events_at, handed, with_some}, Working.PartView, declared.parts.Stage.Stage}
 use Rattle.{c104_workers.specs.declared.{parts.Stage.TheVariants.{Claims, Crossings, Turns}, turns.Worker.Worker}, std.proofs.Common.All}
 use Rattle.std.proofs.Common.{Bool, Err, IfErr, List, None, Ok, Option, Result, Some, [], ap, arith, drop, false, get_or, if◌then◌else◌}
