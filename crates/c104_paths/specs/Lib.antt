@@ -1,0 +1,13 @@
+pub mod Hops
+pub mod Distances
+pub mod Levels
+pub mod Spans
+pub mod Phases
+pub mod Pairs
+pub mod Loads
+pub mod Marks
+pub mod Rows
+pub mod Counts
+pub mod Inputs
+pub mod Comings
+pub mod Tallies
