@@ -1,0 +1,6 @@
+pub mod ListLemmas
+pub mod RowLemmas
+pub mod CutKept
+pub mod IdleLemmas
+pub mod CauseLemmas
+pub mod GroupLemmas

@@ -1,0 +1,4 @@
+pub mod Cuts
+pub mod IdleRows
+pub mod IdleCauses
+pub mod LeftGroups
