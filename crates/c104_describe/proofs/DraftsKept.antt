@@ -3,14 +3,15 @@ use Rattle.c104_describe.proofs.{FaultOrder.{made, sound}, PlanLinesKept.{IsBesi
 use Rattle.c104_describe.proofs.PlanLinesKept.{buffer_kept, clos_kept, continue_alone, continue_kept, cube_kept, delete_kept, hand_kept}
 use Rattle.c104_describe.proofs.PlanLinesKept.{header_kept, mesh_kept, random_kept, row_kept, switch_inside, switch_kept, terminal_kept}
 use Rattle.c104_describe.proofs.{PlanLinesKept.{torus_kept, wide_cube_kept, wide_mesh_kept, wire_kept}, PlanRooted.{IsRootIn, IsUnsetFor}}
-use Rattle.c104_describe.{proofs.PlanRooted.{root_in_more, rooted_kept}, specs.{LineFaults.read_plan_line, PlanDrafts.{Draft, asks_tree}}}
-use Rattle.c104_describe.specs.{PlanDrafts.{excludes_groups, finished, is_begun, is_by_hand, rooted, says_from}, PlanFaults.PlanFault}
-use Rattle.c104_describe.specs.{PlanFaults.PlanFaultKind, PlanLines.{first_word_parts, keyword_parts, labelled_shape, line_parts}}
-use Rattle.c104_describe.specs.{PlanLines.{switch_said, terminal_parts}, PlanText.{draft_after_line, empty_draft, read_plan_lines}}
-use Rattle.{c104_describe.specs.PlanWords.{Keyword, keyword_of, range_words}, c104_plan.specs.PlanParts.{has_some, has_tables}}
+use Rattle.c104_describe.{proofs.{PlanRooted.{root_in_more, rooted_kept}, SharedKept.joined_kept}, specs.LineFaults.read_plan_line}
+use Rattle.c104_describe.specs.PlanDrafts.{Draft, asks_tree, excludes_groups, finished, is_begun, is_by_hand, rooted, says_from}
+use Rattle.c104_describe.specs.{PlanFaults.{PlanFault, PlanFaultKind}, PlanLines.{base_parts, first_word_parts, keyword_parts}}
+use Rattle.c104_describe.specs.PlanLines.{labelled_shape, line_parts, names_switch, row_parts, switch_said, terminal_parts}
+use Rattle.c104_describe.specs.{PlanText.{draft_after_line, empty_draft, read_plan_lines}, PlanWords.{Keyword, keyword_of, range_words}}
+use Rattle.{c104_describe.specs.SharedTables.{SharedLines, has_shared, switches_joined}, c104_plan.specs.PlanParts.{has_some, has_tables}}
 use Rattle.c104_plan.specs.{Plans.{HasGroupsAlone, IsPlan, Plan, next_first, rows_of, total_count}, TextCut.{is_plain_line, line_words}}
-use Rattle.c104_plan.specs.{TextCut.uncommented_line, declared.plans.Shape.{Shape, TheVariants.{Hand, Tree, UpDown}}}
-use Rattle.std.proofs.Common.{Bool, Bor, Err, List, None, Ok, Option, Result, Some, [], arith, bytes_eq, codes, false, get_or}
+use Rattle.c104_plan.specs.{TextCut.uncommented_line, TextWords.dots, declared.plans.Shape.{Shape, TheVariants.{Hand, Tree, UpDown}}}
+use Rattle.std.proofs.Common.{Bool, Bor, Err, List, None, Ok, Option, Result, Some, [], ap, arith, bytes_eq, codes, false, get_or}
 use Rattle.std.proofs.Common.{if◌then◌else◌, is_some, length, not, refl, subst, sym, true, ℕ, ◌&&◌, ◌+◌, ◌<◌, ◌||◌, ◌∙◌, ◌∷◌, ◌≡◌}
 use Rattle.std.proofs.lemmas.{Bool.{Decides.nat_tests, or_from, or_parts}, List.Elements.All-nil}
 
@@ -19,11 +20,16 @@ abbrev pub IsRooted : Option Shape → Plan → Bool → Type 0
 IsRooted None plan from_said = Unit {0}
 IsRooted (Some shape) plan from_said = IsRootIn (length plan.switches) shape × (plan.shape ≡ Hand) × (from_said ≡ false) × IsUnsetFor shape plan
 
+-- a plan beside which there are lines that name a switch alone is made line by line, and no labels are asked for
+abbrev pub IsSharing : SharedLines → Plan → Option Shape → Type 0
+IsSharing shared plan labels = has_shared shared ≡ true → (plan.shape ≡ Hand) × (labels ≡ None)
+
 -- the lines so far give a plan; and unless they said where a range begins, ranges follow one another
 pub record IsDraft (draft : Draft) : Type 0 where
   pub kept : IsPlan draft.plan
   pub counted : draft.from_said ≡ false → draft.plan.shape ≡ Hand → next_first draft.plan.terminals ≡ total_count draft.plan.terminals
   pub rooted : IsRooted draft.labels draft.plan draft.from_said
+  pub sharing : IsSharing draft.shared draft.plan draft.labels
 
 -- What lines leave as it was
 
@@ -59,9 +65,20 @@ counted_next : (draft next : Draft) → IsDraft draft → next.from_said ≡ dra
     → next.from_said ≡ false → next.plan.shape ≡ Hand → next_first next.plan.terminals ≡ total_count next.plan.terminals
 counted_next draft next all from is none hand = subst (λ terminals. next_first terminals ≡ total_count terminals) (sym is.terminals) (all.counted (sym from ∙ none) (sym is.shape ∙ hand))
 
+sharing_as : (draft next : Draft) → IsDraft draft → next.shared ≡ draft.shared → next.labels ≡ draft.labels → next.plan.shape ≡ draft.plan.shape → IsSharing next.shared next.plan next.labels
+sharing_as draft next all shared labels shape some = let was = all.sharing (ap has_shared (sym shared) ∙ some) in (shape ∙ was.0, labels ∙ was.1)
+
+nothing_shared : (shared : SharedLines) (plan : Plan) (labels : Option Shape) → has_shared shared ≡ false → IsSharing shared plan labels
+nothing_shared shared plan labels none some = absurd (not_both none some)
+
 -- a line that sets nothing at a link
-beside : (draft next : Draft) → IsDraft draft → next.labels ≡ draft.labels → next.from_said ≡ draft.from_said → IsBeside draft.plan next.plan → IsDraft next
-beside draft next all root from is = search (arith, counted_next, rooted_beside)
+beside : (draft next : Draft) → IsDraft draft → next.labels ≡ draft.labels → next.from_said ≡ draft.from_said → next.shared ≡ draft.shared → IsBeside draft.plan next.plan → IsDraft next
+beside draft next all root from shared is = record {
+  kept = is.0.kept;
+  counted = counted_next draft next all from is.0;
+  rooted = search (arith, rooted_beside);
+  sharing = sharing_as draft next all shared root is.0.shape;
+}
 
 -- a line by which a link continues a group, where that goes with the labels
 rooted_grouped : (o : Option Shape) (plan next : Plan) (b : Bool) → excludes_groups o ≡ false → IsNext plan next → (HasGroupsAlone plan → HasGroupsAlone next) → IsRooted o plan b → IsRooted o next b
@@ -69,12 +86,22 @@ rooted_grouped None plan next b allowed is alone rooted = tt
 rooted_grouped (Some shape) plan next b allowed is alone rooted =
     (root_in_more _ _ shape is.more rooted.0, is.shape ∙ rooted.1, rooted.2, (alone rooted.3.0, λ closed. absurd (not_both allowed closed)))
 
-grouping : (draft next : Draft) → IsDraft draft → next.labels ≡ draft.labels → next.from_said ≡ draft.from_said → excludes_groups draft.labels ≡ false → IsNext draft.plan next.plan → (HasGroupsAlone draft.plan → HasGroupsAlone next.plan) → IsDraft next
-grouping draft next all root from allowed is alone = search (arith, counted_next, rooted_grouped)
+grouping : (draft next : Draft) → IsDraft draft → next.labels ≡ draft.labels → next.from_said ≡ draft.from_said → next.shared ≡ draft.shared → excludes_groups draft.labels ≡ false → IsNext draft.plan next.plan → (HasGroupsAlone draft.plan → HasGroupsAlone next.plan) → IsDraft next
+grouping draft next all root from shared allowed is alone = record {
+  kept = is.kept;
+  counted = counted_next draft next all from is;
+  rooted = search (arith, rooted_grouped);
+  sharing = sharing_as draft next all shared root is.shape;
+}
 
 -- a line that sets something else at a link, where no labels are asked for
-settings : (draft next : Draft) → IsDraft draft → next.labels ≡ None → next.from_said ≡ draft.from_said → IsNext draft.plan next.plan → IsDraft next
-settings draft next all none from is = search (arith, counted_next)
+settings : (draft next : Draft) → IsDraft draft → draft.plan.shape ≡ Hand → next.labels ≡ None → next.from_said ≡ draft.from_said → IsNext draft.plan next.plan → IsDraft next
+settings draft next all hand none from is = record {
+  kept = is.kept;
+  counted = counted_next draft next all from is;
+  rooted = subst (λ o. IsRooted o next.plan next.from_said) (sym none) tt;
+  sharing = λ some. (is.shape ∙ hand, none);
+}
 
 not_said : (from : Option (List ℕ)) → is_some from ≡ false → from ≡ None
 not_said from is = search arith
@@ -89,14 +116,31 @@ rooted_hosting (Some shape) plan next b from apart hosting is = (
 )
 
 hosting : (draft : Draft) (plan : Plan) (from : Option (List ℕ)) → IsDraft draft → (is_some draft.labels && is_some from) ≡ false → IsHosting from draft.plan plan → IsDraft (record draft { plan = plan; from_said = draft.from_said || is_some from })
-hosting draft plan from all apart is = search (arith, or_parts, not_said, rooted_hosting)
+hosting draft plan from all apart is = record {
+  kept = is.kept;
+  counted = λ none hand.
+      let parts = or_parts draft.from_said (is_some from) none in
+      is.counted (not_said from parts.1) (all.counted parts.0 (sym is.shape ∙ hand));
+  rooted = rooted_hosting draft.labels draft.plan plan draft.from_said from apart is all.rooted;
+  sharing = λ some. let was = all.sharing some in (is.shape ∙ was.0, was.1);
+}
 
 rooted_nowhere : (o : Option Shape) (next : Plan) (b : Bool) → is_some o ≡ false → IsRooted o next b
 rooted_nowhere None next b none = tt
 rooted_nowhere (Some shape) next b none = absurd (not_both none refl)
 
-filled : (draft : Draft) (plan : Plan) → IsDraft draft → is_some draft.labels ≡ false → IsPlan plan × is_by_hand plan.shape ≡ false → IsDraft (record draft { plan = plan })
-filled draft plan all none is = search (arith, rooted_nowhere)
+filled_counted : (draft : Draft) (plan : Plan) → is_by_hand plan.shape ≡ false → draft.from_said ≡ false → plan.shape ≡ Hand → next_first plan.terminals ≡ total_count plan.terminals
+filled_counted draft plan is said hand = absurd (not_both is (ap is_by_hand hand))
+
+filled : (draft : Draft) (plan : Plan) → IsDraft draft → (is_some draft.labels || has_shared draft.shared) ≡ false → IsPlan plan × is_by_hand plan.shape ≡ false → IsDraft (record draft { plan = plan })
+filled draft plan all none is =
+    let parts = or_parts (is_some draft.labels) (has_shared draft.shared) none in
+    record {
+      kept = is.0;
+      counted = filled_counted draft plan is.1;
+      rooted = rooted_nowhere draft.labels plan draft.from_said parts.0;
+      sharing = nothing_shared draft.shared plan draft.labels parts.1;
+    }
 
 -- Lines
 
@@ -106,7 +150,28 @@ module _ (draft : Draft) (is_plain : Bool) (all : IsDraft draft) where
 
   -- a line that sets something at a link
   setting : (next : Draft) → (not (is_by_hand draft.plan.shape) || is_some draft.labels) ≡ false → next.labels ≡ draft.labels → next.from_said ≡ draft.from_said → (draft.plan.shape ≡ Hand → IsNext draft.plan next.plan) → IsDraft next
-  setting next mixed labels from keeps = search (arith, or_parts, settings, no_root, hand_kept)
+  setting next mixed labels from keeps =
+      let parts = or_parts (not (is_by_hand draft.plan.shape)) (is_some draft.labels) mixed in
+      let hand = hand_kept draft is_plain all.kept parts.0 in
+      settings draft next all hand (labels ∙ no_root draft.labels parts.1) from (keeps hand)
+
+  -- a line that names a switch alone
+  same_plan : IsNext draft.plan draft.plan
+  same_plan = record { kept = all.kept; shape = refl; more = omega arith; terminals = refl }
+
+  base-kept : (at base : List ℕ) → Keeps Keyword.Base (at ∷ base ∷ [])
+  base-kept at base sound = by_word (names_switch (dots at)) sound
+    where
+      by_word : (is_shared : Bool) → IsSound draft.plan (record (base_parts draft at base is_shared) { is_known = true; is_plain = is_plain; is_mixed = not (is_by_hand draft.plan.shape) || is_some draft.labels }) → IsDraft (base_parts draft at base is_shared).next
+      by_word true sound = setting _ (sound PlanFaultKind.MixedStyle) refl refl (λ hand. same_plan)
+      by_word false sound = setting _ (sound PlanFaultKind.MixedStyle) refl refl (λ hand. base_kept draft is_plain all.kept at base _ hand sound)
+
+  row-kept : (at limit select : List ℕ) → Keeps Keyword.Row (at ∷ limit ∷ select ∷ [])
+  row-kept at limit select sound = by_word (names_switch (dots at)) sound
+    where
+      by_word : (is_shared : Bool) → IsSound draft.plan (record (row_parts draft at limit select is_shared) { is_known = true; is_plain = is_plain; is_mixed = not (is_by_hand draft.plan.shape) || is_some draft.labels }) → IsDraft (row_parts draft at limit select is_shared).next
+      by_word true sound = setting _ (sound PlanFaultKind.MixedStyle) refl refl (λ hand. same_plan)
+      by_word false sound = setting _ (sound PlanFaultKind.MixedStyle) refl refl (λ hand. row_kept draft is_plain all.kept at limit select _ hand sound)
 
   terminal-kept : (name at : List ℕ) (words : List (List ℕ)) → Keeps Keyword.Terminal (name ∷ at ∷ words)
   terminal-kept name at words sound =
@@ -118,12 +183,13 @@ module _ (draft : Draft) (is_plain : Bool) (all : IsDraft draft) where
       by_range (Ok range) hand apart sound = hosting draft _ range.1 all apart (terminal_kept draft is_plain all.kept name at range _ hand sound)
 
   -- what doesn't go with `label` isn't there
-  label_parts : (rest : List (List ℕ)) → (not (is_by_hand draft.plan.shape) || (draft.from_said || (has_tables draft.plan || (has_some draft.plan.continues && asks_tree rest)))) ≡ false
-      → (draft.plan.shape ≡ Hand) × (draft.from_said ≡ false) × HasGroupsAlone draft.plan × ((has_some draft.plan.continues && asks_tree rest) ≡ false)
+  label_parts : (rest : List (List ℕ)) → (not (is_by_hand draft.plan.shape) || (draft.from_said || (has_tables draft.plan || (has_shared draft.shared || (has_some draft.plan.continues && asks_tree rest))))) ≡ false
+      → (draft.plan.shape ≡ Hand) × (draft.from_said ≡ false) × HasGroupsAlone draft.plan × ((has_some draft.plan.continues && asks_tree rest) ≡ false) × (has_shared draft.shared ≡ false)
   label_parts rest mixed =
-      let parts = or_parts (not (is_by_hand draft.plan.shape)) (draft.from_said || (has_tables draft.plan || (has_some draft.plan.continues && asks_tree rest))) mixed in
-      let said = or_parts draft.from_said (has_tables draft.plan || (has_some draft.plan.continues && asks_tree rest)) parts.1 in
-      let set = or_parts (has_tables draft.plan) (has_some draft.plan.continues && asks_tree rest) said.1 in
+      let parts = or_parts (not (is_by_hand draft.plan.shape)) (draft.from_said || (has_tables draft.plan || (has_shared draft.shared || (has_some draft.plan.continues && asks_tree rest)))) mixed in
+      let said = or_parts draft.from_said (has_tables draft.plan || (has_shared draft.shared || (has_some draft.plan.continues && asks_tree rest))) parts.1 in
+      let set = or_parts (has_tables draft.plan) (has_shared draft.shared || (has_some draft.plan.continues && asks_tree rest)) said.1 in
+      let others = or_parts (has_shared draft.shared) (has_some draft.plan.continues && asks_tree rest) set.1 in
       let tables = or_parts (has_some draft.plan.bases) (has_some draft.plan.rows || has_some draft.plan.randoms) set.0 in
       let last = or_parts (has_some draft.plan.rows) (has_some draft.plan.randoms) tables.1 in
       let alone : HasGroupsAlone draft.plan = record {
@@ -131,13 +197,13 @@ module _ (draft : Draft) (is_plain : Bool) (all : IsDraft draft) where
         rows = has_none draft.plan.rows last.0;
         randoms = has_none draft.plan.randoms last.1;
       } in
-      (hand_kept draft is_plain all.kept parts.0, said.0, alone, set.1)
+      (hand_kept draft is_plain all.kept parts.0, said.0, alone, others.1, others.0)
 
   -- a line by which a link continues a group
   continue-kept : (at : List ℕ) → Keeps Keyword.Continue (at ∷ [])
   continue-kept at sound =
       let parts = or_parts (not (is_by_hand draft.plan.shape)) (excludes_groups draft.labels) (sound PlanFaultKind.MixedStyle) in
-      grouping draft _ all refl refl parts.1 (continue_kept draft is_plain all.kept at (hand_kept draft is_plain all.kept parts.0) sound) (continue_alone draft is_plain all.kept at)
+      grouping draft _ all refl refl refl parts.1 (continue_kept draft is_plain all.kept at (hand_kept draft is_plain all.kept parts.0) sound) (continue_alone draft is_plain all.kept at)
 
   label-kept : (style name : List ℕ) → Keeps Keyword.Label (style ∷ name ∷ [])
   label-kept style name sound =
@@ -148,50 +214,56 @@ module _ (draft : Draft) (is_plain : Bool) (all : IsDraft draft) where
         kept = all.kept;
         counted = all.counted;
         rooted = (root_asked style root (length draft.plan.switches) inside, parts.0, parts.1, (parts.2, λ closed. has_none draft.plan.continues (groups_asked style root (has_some draft.plan.continues) parts.3 closed)));
+        sharing = nothing_shared draft.shared draft.plan _ parts.4;
       }
 
   -- a line that names no root
   ask-kept : (style : List ℕ) → Keeps Keyword.Label (style ∷ [])
   ask-kept style sound =
       let parts = label_parts (style ∷ []) (sound PlanFaultKind.MixedStyle) in
-      record { kept = all.kept; counted = all.counted; rooted = (tt, parts.0, parts.1, (parts.2, λ closed. absurd (not_both refl closed))) }
+      record {
+        kept = all.kept;
+        counted = all.counted;
+        rooted = (tt, parts.0, parts.1, (parts.2, λ closed. absurd (not_both refl closed)));
+        sharing = nothing_shared draft.shared draft.plan _ parts.4;
+      }
 
   keyword_kept : (k : Keyword) (rest : List (List ℕ)) → Keeps k rest
-  keyword_kept Keyword.Switch (name ∷ []) sound = beside draft _ all refl refl (switch_kept draft is_plain all.kept name sound)
+  keyword_kept Keyword.Switch (name ∷ []) sound = beside draft _ all refl refl refl (switch_kept draft is_plain all.kept name sound)
   keyword_kept Keyword.Terminal (name ∷ at ∷ words) sound = terminal-kept name at words sound
-  keyword_kept Keyword.Wire (here ∷ there ∷ []) sound = beside draft _ all refl refl (wire_kept draft is_plain all.kept here there sound)
-  keyword_kept Keyword.Header (bytes ∷ []) sound = beside draft _ all refl refl (header_kept draft is_plain all.kept bytes sound)
-  keyword_kept Keyword.Buffer (size ∷ []) sound = beside draft _ all refl refl (buffer_kept draft is_plain all.kept size sound)
+  keyword_kept Keyword.Wire (here ∷ there ∷ []) sound = beside draft _ all refl refl refl (wire_kept draft is_plain all.kept here there sound)
+  keyword_kept Keyword.Header (bytes ∷ []) sound = beside draft _ all refl refl refl (header_kept draft is_plain all.kept bytes sound)
+  keyword_kept Keyword.Buffer (size ∷ []) sound = beside draft _ all refl refl refl (buffer_kept draft is_plain all.kept size sound)
   keyword_kept Keyword.Continue (at ∷ []) sound = continue-kept at sound
-  keyword_kept Keyword.Delete (name ∷ []) sound = beside draft _ all refl refl (delete_kept draft is_plain all.kept name sound)
-  keyword_kept Keyword.Base (at ∷ base ∷ []) sound = setting _ (sound PlanFaultKind.MixedStyle) refl refl (λ hand. base_kept draft is_plain all.kept at base hand sound)
-  keyword_kept Keyword.Row (at ∷ limit ∷ select ∷ []) sound = setting _ (sound PlanFaultKind.MixedStyle) refl refl (λ hand. row_kept draft is_plain all.kept at limit select hand sound)
+  keyword_kept Keyword.Delete (name ∷ []) sound = beside draft _ all refl refl refl (delete_kept draft is_plain all.kept name sound)
+  keyword_kept Keyword.Base (at ∷ base ∷ []) sound = base-kept at base sound
+  keyword_kept Keyword.Row (at ∷ limit ∷ select ∷ []) sound = row-kept at limit select sound
   keyword_kept Keyword.Random (at ∷ base ∷ range ∷ []) sound = setting _ (sound PlanFaultKind.MixedStyle) refl refl (λ hand. random_kept draft is_plain all.kept at base range hand sound)
   keyword_kept Keyword.Label (style ∷ name ∷ []) sound = label-kept style name sound
   keyword_kept Keyword.Label (style ∷ []) sound = ask-kept style sound
   keyword_kept Keyword.Mesh (width ∷ height ∷ terminals ∷ []) sound =
-      let parts = or_parts (has_some draft.plan.switches) (is_some draft.labels) (sound PlanFaultKind.MixedStyle) in
+      let parts = or_parts (has_some draft.plan.switches) (is_some draft.labels || has_shared draft.shared) (sound PlanFaultKind.MixedStyle) in
       filled draft _ all parts.1 (mesh_kept draft is_plain all.kept width height terminals (has_none draft.plan.switches parts.0) sound)
   keyword_kept Keyword.Cube (dimensions ∷ terminals ∷ []) sound =
-      let parts = or_parts (has_some draft.plan.switches) (is_some draft.labels) (sound PlanFaultKind.MixedStyle) in
+      let parts = or_parts (has_some draft.plan.switches) (is_some draft.labels || has_shared draft.shared) (sound PlanFaultKind.MixedStyle) in
       filled draft _ all parts.1 (cube_kept draft is_plain all.kept dimensions terminals (has_none draft.plan.switches parts.0) sound)
   keyword_kept Keyword.Mesh (width ∷ height ∷ terminals ∷ wires ∷ []) sound =
-      let parts = or_parts (has_some draft.plan.switches) (is_some draft.labels) (sound PlanFaultKind.MixedStyle) in
+      let parts = or_parts (has_some draft.plan.switches) (is_some draft.labels || has_shared draft.shared) (sound PlanFaultKind.MixedStyle) in
       filled draft _ all parts.1 (wide_mesh_kept draft is_plain all.kept width height terminals wires (has_none draft.plan.switches parts.0) sound)
   keyword_kept Keyword.Cube (dimensions ∷ terminals ∷ wires ∷ []) sound =
-      let parts = or_parts (has_some draft.plan.switches) (is_some draft.labels) (sound PlanFaultKind.MixedStyle) in
+      let parts = or_parts (has_some draft.plan.switches) (is_some draft.labels || has_shared draft.shared) (sound PlanFaultKind.MixedStyle) in
       filled draft _ all parts.1 (wide_cube_kept draft is_plain all.kept dimensions terminals wires (has_none draft.plan.switches parts.0) sound)
   keyword_kept Keyword.Torus (width ∷ height ∷ terminals ∷ []) sound =
-      let parts = or_parts (has_some draft.plan.switches) (is_some draft.labels) (sound PlanFaultKind.MixedStyle) in
+      let parts = or_parts (has_some draft.plan.switches) (is_some draft.labels || has_shared draft.shared) (sound PlanFaultKind.MixedStyle) in
       filled draft _ all parts.1 (torus_kept draft is_plain all.kept width height terminals (codes "1") (has_none draft.plan.switches parts.0) sound)
   keyword_kept Keyword.Torus (width ∷ height ∷ terminals ∷ wires ∷ []) sound =
-      let parts = or_parts (has_some draft.plan.switches) (is_some draft.labels) (sound PlanFaultKind.MixedStyle) in
+      let parts = or_parts (has_some draft.plan.switches) (is_some draft.labels || has_shared draft.shared) (sound PlanFaultKind.MixedStyle) in
       filled draft _ all parts.1 (torus_kept draft is_plain all.kept width height terminals wires (has_none draft.plan.switches parts.0) sound)
   keyword_kept Keyword.Clos (leaves ∷ spines ∷ terminals ∷ []) sound =
-      let parts = or_parts (has_some draft.plan.switches) (is_some draft.labels) (sound PlanFaultKind.MixedStyle) in
+      let parts = or_parts (has_some draft.plan.switches) (is_some draft.labels || has_shared draft.shared) (sound PlanFaultKind.MixedStyle) in
       filled draft _ all parts.1 (clos_kept draft is_plain all.kept leaves spines terminals (codes "1") (has_none draft.plan.switches parts.0) sound)
   keyword_kept Keyword.Clos (leaves ∷ spines ∷ terminals ∷ wires ∷ []) sound =
-      let parts = or_parts (has_some draft.plan.switches) (is_some draft.labels) (sound PlanFaultKind.MixedStyle) in
+      let parts = or_parts (has_some draft.plan.switches) (is_some draft.labels || has_shared draft.shared) (sound PlanFaultKind.MixedStyle) in
       filled draft _ all parts.1 (clos_kept draft is_plain all.kept leaves spines terminals wires (has_none draft.plan.switches parts.0) sound)
   -- too few words or too many: nothing is added
   keyword_kept k rest sound = all
@@ -232,7 +304,16 @@ finished_by None plan from_said kept counted is = kept
 finished_by (Some shape) plan from_said kept counted is = rooted_kept plan kept shape is.0 (counted is.2 is.1) is.3
 
 pub finished_kept : (draft : Draft) → IsDraft draft → IsPlan (finished draft)
-finished_kept draft all = finished_by draft.labels draft.plan draft.from_said all.kept all.counted all.rooted
+finished_kept draft all = by_lines (has_shared draft.shared) refl
+  where
+    by_lines : (some : Bool) → has_shared draft.shared ≡ some → IsPlan (rooted draft.labels (if some then switches_joined draft.shared (length draft.plan.switches) draft.plan else draft.plan))
+    by_lines false is = finished_by draft.labels draft.plan draft.from_said all.kept all.counted all.rooted
+    by_lines true is =
+        let was = all.sharing is in
+        subst (λ (o : Option Shape). IsPlan (rooted o (switches_joined draft.shared (length draft.plan.switches) draft.plan))) (sym was.1) (joined_kept draft.plan all.kept was.0 draft.shared)
+
+pub lines_kept : (n : ℕ) (list : List (List ℕ)) (draft last : Draft) → IsDraft draft → read_plan_lines n list draft ≡ Ok last → IsPlan last.plan
+lines_kept n list draft last kept is = (read_lines-draft n list draft last kept is).kept
 
 pub read_lines-kept : (n : ℕ) (list : List (List ℕ)) (draft last : Draft) → IsDraft draft → read_plan_lines n list draft ≡ Ok last → IsPlan (finished last)
 read_lines-kept n list draft last kept is = finished_kept last (read_lines-draft n list draft last kept is)

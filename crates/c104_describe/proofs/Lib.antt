@@ -9,6 +9,7 @@ pub mod FilledSteps
 pub mod ShapeJoins
 pub mod PlanRooted
 pub mod FilledKept
+pub mod SharedKept
 pub mod DraftsKept
 pub mod PlanLinesKept
 pub mod FaultOrder
@@ -25,3 +26,4 @@ mod CountedPlans
 mod PrintedTrees
 mod PrintedFills
 mod PrintedPlans
+mod PrintedShared

@@ -1,6 +1,6 @@
 -- What a line is told that says again what may be said once, or joins a switch to itself, by what was read of it.
-use Rattle.c104_describe.{proofs.PlanLinesKept.same_switch, specs.{LineFaults.keyword_line, PlanLines.{Draft, is_bad_number, is_from_to}}}
-use Rattle.c104_describe.specs.PlanLines.{is_one_dot, port_link, port_name, value_said}
+use Rattle.c104_describe.{proofs.PlanLinesKept.same_switch, specs.{LineFaults.{keyword_line, read_parts}, PlanLines.{Draft, is_bad_number}}}
+use Rattle.c104_describe.specs.PlanLines.{is_from_to, is_one_dot, own_base_parts, port_link, port_name, value_said}
 use Rattle.c104_describe.specs.declared.{faults.PlanFaultKind.TheVariants.{SelfWire, Twice}, words.Keyword.Keyword}
 use Rattle.c104_plan.specs.{Plans.{label_count, last_link, switch_number}, Ports.is_any_at, TextWords.{dots, is_name}}
 use Rattle.{c104_plan.specs.declared.{plans.{PlanBase.PlanBase, PlanRandom.PlanRandom}, ports.Port.Port}, std.proofs.Common.{Err, List}}
@@ -8,7 +8,7 @@ use Rattle.std.proofs.Common.{Some, [], arith, bytes_eq, false, refl, true, ℕ,
 
 -- a port of which all was read
 module _ (draft : Draft) (at : List ℕ) (s l : ℕ) (dot : is_one_dot (dots at) ≡ true) (good : is_bad_number (Some (port_link at)) (is_from_to 0 last_link) ≡ false) (is : value_said (port_link at) ≡ l) (named : is_name (port_name at) ≡ true) (known : switch_number draft.plan (port_name at) ≡ Some s) where
-  pub base_twice : (base : List ℕ) → is_bad_number (Some base) (is_from_to 0 0xffff) ≡ false → is_any_at (λ (b : PlanBase). b.port) draft.plan.bases (Port.Switch s l) ≡ true → keyword_line draft Keyword.Base (at ∷ base ∷ []) ≡ Err Twice
+  pub base_twice : (base : List ℕ) → is_bad_number (Some base) (is_from_to 0 0xffff) ≡ false → is_any_at (λ (b : PlanBase). b.port) draft.plan.bases (Port.Switch s l) ≡ true → read_parts draft.plan (own_base_parts draft at base) ≡ Err Twice
   base_twice base base_good said = rw (dot, good, base_good, named, known, is, said) refl
 
   pub random_twice : (base range : List ℕ) → is_bad_number (Some base) (is_from_to 0 0xffff) ≡ false → is_bad_number (Some range) (is_from_to 0 label_count) ≡ false

@@ -1,10 +1,10 @@
 -- A refusal is of the first faulty line, and a plan is of lines without a fault.
-use Rattle.c104_describe.{proofs.FaultOrder.{faultless, least_fault}, specs.LineFaults.{IsFaultless, read_plan_line}}
+use Rattle.c104_describe.{proofs.FaultOrder.{faultless, least_fault}, specs.{LineFaults.{IsFaultless, read_plan_line}, PlanDrafts.finished}}
 use Rattle.c104_describe.specs.{PlanFaults.{PlanFault, PlanFaultKind, fault_at}, PlanLines.Draft, PlanText.AreFaultless}
 use Rattle.c104_describe.specs.PlanText.{GivesPlanOrNoMemory, IsDue, IsFirstFault, draft_after_line, empty_draft, plan_of_draft}
 use Rattle.c104_describe.specs.{PlanText.{read_description, read_plan_lines}, declared.faults.PlanFaultKind.TheVariants.TooLong}
 use Rattle.{c104_plan.specs.{Plans.Plan, TextCut.{lines, most_bytes}}, std.proofs.Common.{Bool, Err, List, Ok, Result, Some, [], ap, arith}}
-use Rattle.std.proofs.Common.{if◌then◌else◌, length, nat_le, refl, slice_get, subst, suc, sym, take, zero, ℕ, ◌+◌, ◌∙◌, ◌∷◌, ◌≡◌, ◌≤◌}
+use Rattle.std.proofs.Common.{if◌then◌else◌, length, nat_le, refl, slice_get, subst, suc, sym, take, true, zero, ℕ, ◌+◌, ◌∙◌, ◌∷◌, ◌≡◌, ◌≤◌}
 use Rattle.std.{proofs.lemmas.Bool.Decides.nat_tests, specs.Result.IfErr}
 
 -- the first faulty line among some, of which the first has this number
@@ -105,3 +105,7 @@ due_by text fault short is here = search (arith, first_fault, nat_tests, fault_o
 
 pub due : (text : List ℕ) (result : Result Plan PlanFault) → GivesPlanOrNoMemory result (read_description text) → IfErr result (IsDue text)
 due text result gives = search (arith, due_by)
+
+-- the plan of lines that were all read
+pub given_plan : (text : List ℕ) (draft : Draft) → length text ≤ most_bytes → read_plan_lines 1 (lines text) empty_draft ≡ Ok draft → read_description text ≡ Ok (finished draft)
+given_plan text draft short is = let fits : nat_le (length text) most_bytes ≡ true = grind (arith, nat_tests) in rw (fits, is) refl

@@ -2,21 +2,22 @@
 use Rattle.c104_describe.proofs.{FilledKept.{cube_kept as filled_cube, hosted_kept, mesh_kept as filled_mesh}, ShapeJoins.clos_free}
 use Rattle.c104_describe.{proofs.ShapeJoins.{clos_is, parallel_is, torus_is}, specs.{LineFaults.is_fault_of, PlanDrafts.is_by_hand}}
 use Rattle.c104_describe.specs.{PlanDrafts.is_mixed, PlanFaults.PlanFaultKind, PlanLines.{Draft, LineParts, clos_parts, is_bad_number}}
-use Rattle.c104_describe.specs.PlanLines.{is_from_to, keyword_parts, names_port, number_said, port_link, port_name, port_said, select_said}
-use Rattle.c104_describe.specs.{PlanLines.{selected_link, switch_said, terminal_parts, torus_parts, value_said}, PlanWords.Keyword}
-use Rattle.{c104_describe.specs.ShapeLayouts.{clos, parallel, torus}, c104_interval.specs.declared.intervals.TheConstants.ROWS}
-use Rattle.c104_plan.proofs.{LayoutJoins.{cube_is, mesh_is}, LayoutNumbers.{power_small, times}, PlanKept.{with_base, with_buffer}}
-use Rattle.c104_plan.proofs.PlanKept.{with_continue, with_delete, with_header, with_random, with_row, with_switch, with_terminal, with_wire}
-use Rattle.c104_plan.specs.{Layouts.{cube, mesh}, PlanParts.has_some, Plans.{HasGroupsAlone, IsPlan, IsPlanSelect, IsPlanWire, Plan}}
-use Rattle.c104_plan.specs.Plans.{is_buffer_size, is_continued, is_deleted, is_linked, label_count, last_link, most_header_bytes}
-use Rattle.c104_plan.specs.{Plans.{most_terminals, next_first, rows_of, switch_number, terminal_number, total_count}, Ports.IsSwitchPort}
-use Rattle.c104_plan.specs.{Ports.is_any_at, TextWords.read_number, declared.plans.{PlanBase.PlanBase, PlanRandom.PlanRandom}}
-use Rattle.c104_plan.specs.declared.{plans.{PlanRow.PlanRow, Shape.{Shape, TheVariants.Hand}, Terminal.Terminal}, ports.Port.Port}
-use Rattle.{c104_plan.specs.declared.ports.Wire.Wire, std.proofs.Common.{Bool, List, None, Ok, Option, Some, [], ap, arith, bytes_eq}}
-use Rattle.std.proofs.Common.{codes, false, get_or, if◌then◌else◌, inl, inr, is_none, is_some, length, length-append, nat_le, nat_lt, not}
-use Rattle.std.proofs.{Common.{refl, sym, true, ℕ, ⊎_elim, ◌*◌, ◌++◌, ◌+◌, ◌<◌, ◌==◌, ◌^◌, ◌||◌, ◌∙◌, ◌∷◌, ◌≡◌, ◌≤◌}, lemmas.Bool.and_parts}
-use Rattle.std.proofs.lemmas.{Bool.{cases_Bool, eqb-false, eqb-true, leb-true, ltb-false, or_parts}, List.Quantifiers.position-Some}
-use Rattle.std.{proofs.lemmas.{Nat.pow_pos, Slice.Eq.bytes_eq-Decides}, specs.Option.{option_map_or, unwrap_or}}
+use Rattle.c104_describe.specs.PlanLines.{is_from_to, keyword_parts, names_port, number_said, own_base_parts, own_row_parts, port_link}
+use Rattle.c104_describe.specs.PlanLines.{port_name, port_said, select_said, selected_link, switch_said, terminal_parts, torus_parts}
+use Rattle.c104_describe.specs.{PlanLines.value_said, PlanWords.Keyword, ShapeLayouts.{clos, parallel, torus}, SharedTables.has_shared}
+use Rattle.{c104_interval.specs.declared.intervals.TheConstants.ROWS, c104_plan.proofs.LayoutJoins.{cube_is, mesh_is}}
+use Rattle.c104_plan.proofs.{LayoutNumbers.{power_small, times}, PlanKept.{with_base, with_buffer, with_continue, with_delete, with_header}}
+use Rattle.c104_plan.{proofs.PlanKept.{with_random, with_row, with_switch, with_terminal, with_wire}, specs.Layouts.{cube, mesh}}
+use Rattle.c104_plan.specs.{PlanParts.has_some, Plans.{HasGroupsAlone, IsPlan, IsPlanSelect, IsPlanWire, Plan, is_buffer_size}}
+use Rattle.c104_plan.specs.Plans.{is_continued, is_deleted, is_linked, label_count, last_link, most_header_bytes, most_terminals}
+use Rattle.c104_plan.specs.{Plans.{next_first, rows_of, switch_number, terminal_number, total_count}, Ports.{IsSwitchPort, is_any_at}}
+use Rattle.c104_plan.specs.{TextWords.read_number, declared.plans.{PlanBase.PlanBase, PlanRandom.PlanRandom, PlanRow.PlanRow, Shape.Shape}}
+use Rattle.c104_plan.specs.declared.{plans.{Shape.TheVariants.Hand, Terminal.Terminal}, ports.{Port.Port, Wire.Wire}}
+use Rattle.std.proofs.Common.{Bool, List, None, Ok, Option, Some, [], ap, arith, bytes_eq, codes, false, get_or, if◌then◌else◌, inl, inr}
+use Rattle.std.proofs.Common.{is_none, is_some, length, length-append, nat_le, nat_lt, not, refl, sym, true, ℕ, ⊎_elim, ◌*◌, ◌++◌, ◌+◌, ◌<◌}
+use Rattle.std.proofs.{Common.{◌==◌, ◌^◌, ◌||◌, ◌∙◌, ◌∷◌, ◌≡◌, ◌≤◌}, lemmas.Bool.{and_parts, cases_Bool, eqb-false, eqb-true, leb-true}}
+use Rattle.std.proofs.lemmas.{Bool.{ltb-false, or_parts}, List.Quantifiers.position-Some, Nat.pow_pos, Slice.Eq.bytes_eq-Decides}
+use Rattle.std.specs.Option.{option_map_or, unwrap_or}
 
 -- Conditions that hold
 
@@ -240,16 +241,16 @@ module _ (draft : Draft) (is_plain : Bool) (kept : IsPlan draft.plan) where
         same_unset plan _ refl refl refl refl,
       )
 
-  pub base_kept : (at base : List ℕ) → plan.shape ≡ Hand → IsRead Keyword.Base (at ∷ base ∷ []) → IsNext plan (after Keyword.Base (at ∷ base ∷ []))
-  base_kept at base hand sound =
+  pub base_kept : (at base : List ℕ) (mixed : Bool) → plan.shape ≡ Hand → IsSound draft.plan (record (own_base_parts draft at base) { is_known = true; is_plain = is_plain; is_mixed = mixed }) → IsNext plan (own_base_parts draft at base).next.plan
+  base_kept at base mixed hand sound =
       let numbers = or_parts _ _ (sound PlanFaultKind.BadNumber) in
       let known = (or_parts _ _ (sound PlanFaultKind.UnknownName)).0 in
       let low = (number_kept 0 0xffff base (or_parts _ _ numbers.1).0).1 in
       let b : PlanBase = record { port = port_said plan at; base = value_said base } in
       next_by _ (with_base plan kept b hand (port_kept plan at known numbers.0) (omega (arith, low)) (port_free plan at known (is_any_at (λ (b : PlanBase). b.port) plan.bases) (sound PlanFaultKind.Twice))) refl refl refl
 
-  pub row_kept : (at limit select : List ℕ) → plan.shape ≡ Hand → IsRead Keyword.Row (at ∷ limit ∷ select ∷ []) → IsNext plan (after Keyword.Row (at ∷ limit ∷ select ∷ []))
-  row_kept at limit select hand sound =
+  pub row_kept : (at limit select : List ℕ) (mixed : Bool) → plan.shape ≡ Hand → IsSound draft.plan (record (own_row_parts draft at limit select) { is_known = true; is_plain = is_plain; is_mixed = mixed }) → IsNext plan (own_row_parts draft at limit select).next.plan
+  row_kept at limit select mixed hand sound =
       let numbers = or_parts _ _ (sound PlanFaultKind.BadNumber) in
       let others = or_parts _ _ numbers.1 in
       let known = (or_parts _ _ (sound PlanFaultKind.UnknownName)).0 in
@@ -353,7 +354,7 @@ module _ (draft : Draft) (is_plain : Bool) (kept : IsPlan draft.plan) where
       )
 
   abbrev pub IsShapeRead : LineParts → Type 0
-  IsShapeRead parts = IsSound draft.plan (record parts { is_known = true; is_plain = is_plain; is_mixed = has_some plan.switches || is_some draft.labels })
+  IsShapeRead parts = IsSound draft.plan (record parts { is_known = true; is_plain = is_plain; is_mixed = has_some plan.switches || (is_some draft.labels || has_shared draft.shared) })
 
   pub torus_kept : (width height terminals wires : List ℕ) → plan.switches ≡ [] → IsShapeRead (torus_parts draft width height terminals wires) → IsFilledPlan (torus_parts draft width height terminals wires).next.plan
   torus_kept width height terminals wires none sound =

@@ -3,31 +3,35 @@ use Rattle.c104_describe.proofs.DistinctPlaces.{All-here, distinct_back, distinc
 use Rattle.c104_describe.proofs.{PlanLinesKept.same_switch, PrintedNumbers.{number-decimal, value-decimal}, PrintedPorts.cut-port}
 use Rattle.c104_describe.{proofs.PrintedPorts.{link-good, link-port, name-port, select-good, select-is}, specs.LineFaults.read_plan_words}
 use Rattle.c104_describe.specs.{PlanDrafts.{Draft, excludes_groups, is_by_hand}, PlanLines.{is_bad_number, is_from_to, is_one_dot}}
-use Rattle.c104_describe.specs.{PlanLines.{port_link, port_name, value_said}, PlanPrint.{base_words, continue_words, delete_words}}
-use Rattle.c104_describe.specs.PlanPrint.{random_words, row_words, switch_words, terminal_words, wire_words}
-use Rattle.{c104_interval.specs.declared.intervals.Select.Select, c104_plan.proofs.PortLemmas.is_port-refl}
-use Rattle.c104_plan.specs.{Distinctness.AreDistinct, PlanParts.has_some, Plans.{IsLaterPort, IsPlan, IsPlanSelect, IsPlanWire, IsRange}}
-use Rattle.c104_plan.specs.Plans.{Plan, host_port, is_deleted, is_linked, is_row_of, is_taken, label_count, last_link, linked_ports, names}
-use Rattle.c104_plan.specs.{Plans.{rows_of, switch_number, terminal_number}, PortTexts.{port_text, terminal_name}, Ports.IsSwitchPort}
-use Rattle.c104_plan.specs.{Ports.{both_ends, is_any_at, is_port}, TextWords.{dots, is_name}, declared.plans.PlanBase.PlanBase}
-use Rattle.c104_plan.specs.declared.{plans.{PlanRandom.PlanRandom, PlanRow.PlanRow, Shape.Shape, Terminal.Terminal}, ports.Port.Port}
-use Rattle.{c104_plan.specs.declared.ports.Wire.Wire, std.proofs.Common.{All, Bool, List, None, Ok, Option, Some, [], ap, append-nil}}
-use Rattle.std.proofs.Common.{append_assoc, arith, bytes_eq, cond, false, filter, get_or, length, length-append, map, nat_lt, position}
-use Rattle.std.proofs.Common.{refl, subst, sym, true, ℕ, ◌++◌, ◌+◌, ◌<◌, ◌==◌, ◌||◌, ◌∙◌, ◌∷◌, ◌≡◌, ◌≢◌, ◌≤◌}
-use Rattle.std.proofs.lemmas.{Bool.{Decides.nat_tests, or_parts}, List.{Elements.filter-append, Folds.list_any-append, get_or-append-add}}
-use Rattle.std.proofs.lemmas.{List.{get_or-map, get_or_append_left, length-map, map-append}, Option.slice_get-get_or}
-use Rattle.std.{proofs.lemmas.Slice.Eq.bytes_eq-Decides, specs.{Fmt.decimal, List.list_any, Option.{option_map_or, unwrap_or}}}
+use Rattle.c104_describe.specs.{PlanLines.{names_switch, port_link, port_name, value_said}, PlanPrint.{base_words, continue_words}}
+use Rattle.c104_describe.specs.PlanPrint.{delete_words, random_words, row_words, switch_words, terminal_words, wire_words}
+use Rattle.{c104_describe.specs.SharedTables.nothing_shared, c104_interval.specs.declared.intervals.Select.Select}
+use Rattle.c104_plan.{proofs.PortLemmas.is_port-refl, specs.{Distinctness.AreDistinct, PlanParts.has_some, Plans.{IsLaterPort, IsPlan}}}
+use Rattle.c104_plan.specs.Plans.{IsPlanSelect, IsPlanWire, IsRange, Plan, host_port, is_deleted, is_linked, is_row_of, is_taken}
+use Rattle.c104_plan.specs.Plans.{label_count, last_link, linked_ports, names, rows_of, switch_number, terminal_number}
+use Rattle.c104_plan.specs.{PortTexts.{port_text, terminal_name}, Ports.{IsSwitchPort, both_ends, is_any_at, is_port}, TextWords.dots}
+use Rattle.c104_plan.specs.{TextWords.is_name, declared.plans.{PlanBase.PlanBase, PlanRandom.PlanRandom, PlanRow.PlanRow, Shape.Shape}}
+use Rattle.{c104_plan.specs.declared.{plans.Terminal.Terminal, ports.{Port.Port, Wire.Wire}, text.Dots.Dots}, std.proofs.Common.{All, Bool}}
+use Rattle.std.proofs.Common.{List, None, Ok, Option, Some, [], ap, append-nil, append_assoc, arith, bytes_eq, cond, false, filter, get_or}
+use Rattle.std.proofs.Common.{length, length-append, map, nat_lt, position, refl, subst, sym, true, ℕ, ◌++◌, ◌+◌, ◌<◌, ◌==◌, ◌||◌, ◌∙◌, ◌∷◌}
+use Rattle.std.proofs.{Common.{◌≡◌, ◌≢◌, ◌≤◌}, lemmas.{Bool.{Decides.nat_tests, or_parts}, List.Elements.filter-append}}
+use Rattle.std.proofs.lemmas.List.{Folds.list_any-append, get_or-append-add, get_or-map, get_or_append_left, length-map, map-append}
+use Rattle.std.{proofs.lemmas.{Option.slice_get-get_or, Slice.Eq.bytes_eq-Decides}, specs.{Fmt.decimal, List.list_any}}
+use Rattle.std.specs.Option.{option_map_or, unwrap_or}
 
 pub bytes_eq-refl : (xs : List ℕ) → bytes_eq xs xs ≡ true
 bytes_eq-refl xs = (bytes_eq-Decides xs xs).1 refl
 
 -- a draft of this plan, behind the lines of the header length and of the buffer size
 abbrev pub draft_with : Bool → Option Shape → Plan → Draft
-draft_with from_said labels plan = record { plan = plan; header_said = true; buffer_said = true; from_said = from_said; labels = labels }
+draft_with from_said labels plan = record { plan = plan; shared = nothing_shared; header_said = true; buffer_said = true; from_said = from_said; labels = labels }
 
 -- one of a plan that is made line by line, whose terminals' lines say where ranges begin if there are any
 abbrev pub draft_by_hand : List Terminal → Plan → Draft
 draft_by_hand terminals plan = draft_with (has_some terminals) None plan
+
+names_none : (at : Dots) → is_one_dot at ≡ true → names_switch at ≡ false
+names_none at is = search arith
 
 has_more : {X : Type 0} (xs : List X) (x : X) → has_some (xs ++ x ∷ []) ≡ true
 has_more [] x = refl
@@ -95,6 +99,10 @@ module _ (plan : Plan) (kept : IsPlan plan) where
 
     pub port_cut : is_one_dot (dots (port_text plan (Port.Switch s l))) ≡ true
     port_cut = ap (λ word. is_one_dot (dots word)) port_printed ∙ cut-port (name_of s) l port_named is.1
+
+    -- and it names no switch alone
+    pub port_own : names_switch (dots (port_text plan (Port.Switch s l))) ≡ false
+    port_own = names_none (dots (port_text plan (Port.Switch s l))) port_cut
 
     pub port_name-is : port_name (port_text plan (Port.Switch s l)) ≡ name_of s
     port_name-is = ap port_name port_printed ∙ name-port (name_of s) l port_named is.1
@@ -229,7 +237,7 @@ module _ (plan : Plan) (kept : IsPlan plan) where
   base_line said hand done (Port.Terminal t) base is range free = absurd is
   base_line said hand done (Port.Switch s l) base is range free =
       let base_good = number-decimal 0 0xffff base (omega arith) (omega arith) (omega arith) in
-      rw (port_cut s l is, port_name-is s l is, port_link-is s l is, link_good s l is, link_is s l is, base_good, value-decimal base (omega arith), port_named s l is, port_number s l is, free, hand) refl
+      rw (port_own s l is, port_cut s l is, port_name-is s l is, port_link-is s l is, link_good s l is, link_is s l is, base_good, value-decimal base (omega arith), port_named s l is, port_number s l is, free, hand) refl
 
   pub base_step : (said : Bool) → is_by_hand plan.shape ≡ true → (done : List PlanBase) (b : PlanBase) (more : List PlanBase) → done ++ b ∷ more ≡ plan.bases
       → read_plan_words (draft_with said None (with_bases done)) true (base_words plan b) ≡ Ok (draft_with said None (with_bases (done ++ b ∷ [])))
@@ -249,7 +257,7 @@ module _ (plan : Plan) (kept : IsPlan plan) where
   row_line said hand done (Port.Switch s l) limit select is few selectable room =
       let limit_good = number-decimal 0 label_count limit (omega arith) few (omega arith) in
       let fits : nat_lt 36 (length (rows_of (Port.Switch s l) done) + 1) ≡ false = grind (arith, nat_tests) in
-      rw (port_cut s l is, port_name-is s l is, port_link-is s l is, link_good s l is, link_is s l is, limit_good, value-decimal limit (omega arith), select-good select selectable, select-is select selectable, port_named s l is, port_number s l is, fits, hand) refl
+      rw (port_own s l is, port_cut s l is, port_name-is s l is, port_link-is s l is, link_good s l is, link_is s l is, limit_good, value-decimal limit (omega arith), select-good select selectable, select-is select selectable, port_named s l is, port_number s l is, fits, hand) refl
 
   row_room : (done : List PlanRow) (r : PlanRow) (more : List PlanRow) → done ++ r ∷ more ≡ plan.rows → length (rows_of r.port done) < 36
   unfolding rows_of

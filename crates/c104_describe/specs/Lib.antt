@@ -1,5 +1,6 @@
 pub mod PlanFaults
 pub mod PlanWords
+pub mod SharedTables
 pub mod PlanDrafts
 pub mod ShapeLayouts
 pub mod PlanLines

@@ -1,17 +1,19 @@
 -- Drafts: what the lines of a description have said so far, the plan that this gives, and which further
 -- lines go with it.
-use Rattle.{c104_describe.specs.{PlanFaults.PlanFaultKind, PlanWords.{Keyword, range_words}}, c104_plan.specs.PlanParts.has_some}
-use Rattle.c104_plan.specs.{PlanParts.{has_tables, plan_of, without_first}, Plans.Plan, declared.plans.Shape.{Shape, TheVariants.Cube}}
-use Rattle.c104_plan.specs.declared.plans.{Shape.TheVariants.{Hand, Mesh, Tree, UpDown}, Terminal.Terminal}
+use Rattle.c104_describe.specs.{PlanFaults.PlanFaultKind, PlanWords.{Keyword, range_words}, SharedTables.{SharedLines, has_shared}}
+use Rattle.{c104_describe.specs.SharedTables.{lines_of, shared_out}, c104_plan.specs.PlanParts.{has_some, has_tables, plan_of}}
+use Rattle.c104_plan.specs.{PlanParts.without_first, Plans.Plan, declared.plans.Shape.{Shape, TheVariants.{Cube, Hand, Mesh, Tree, UpDown}}}
+use Rattle.c104_plan.specs.declared.plans.Terminal.{Terminal}
 use Rattle.std.specs.Prelude.{Bool, Err, List, None, Ok, Option, Result, Some, [], bytes_eq, codes, false, is_some, map, not, true, ℕ, ◌&&◌}
 use Rattle.std.specs.Prelude.{◌||◌, ◌∷◌}
 use Rattle.c104_describe.specs.declared.drafts.Draft as kept
 
 -- a plan, of which the shape is that of a whole network once a line gave one; whether lines have said its
--- header length, its buffer size, and where the range of some terminal begins; and the shape as which a line asks it
--- to be labelled, if one does
+-- header length, its buffer size, and where the range of some terminal begins; the shape as which a line asks it
+-- to be labelled, if one does; and the lines that name a switch alone, which aren't in the plan yet
 pub record Draft : Type 0 where
   pub plan : Plan
+  pub shared : SharedLines
   pub header_said : Bool
   pub buffer_said : Bool
   pub from_said : Bool
@@ -22,9 +24,9 @@ abbrev pub rooted : Option Shape → Plan → Plan
 rooted None plan = plan
 rooted (Some shape) plan = record plan { shape = shape; terminals = map without_first plan.terminals }
 
--- the plan of a draft
+-- the plan of a draft: behind its last line those that name a switch alone are written out
 abbrev pub finished : Draft → Plan
-finished draft = rooted draft.labels draft.plan
+finished draft = rooted draft.labels (shared_out draft.shared draft.plan)
 
 -- whether a plan is made line by line
 abbrev pub is_by_hand : Shape → Bool
@@ -76,11 +78,12 @@ is_mixed draft Keyword.Base rest = not (is_by_hand draft.plan.shape) || is_some 
 is_mixed draft Keyword.Row rest = not (is_by_hand draft.plan.shape) || is_some draft.labels
 is_mixed draft Keyword.Random rest = not (is_by_hand draft.plan.shape) || is_some draft.labels
 is_mixed draft Keyword.Label rest =
-    not (is_by_hand draft.plan.shape) || (draft.from_said || (has_tables draft.plan || (has_some draft.plan.continues && asks_tree rest)))
-is_mixed draft Keyword.Mesh rest = has_some draft.plan.switches || is_some draft.labels
-is_mixed draft Keyword.Cube rest = has_some draft.plan.switches || is_some draft.labels
-is_mixed draft Keyword.Torus rest = has_some draft.plan.switches || is_some draft.labels
-is_mixed draft Keyword.Clos rest = has_some draft.plan.switches || is_some draft.labels
+    not (is_by_hand draft.plan.shape)
+    || (draft.from_said || (has_tables draft.plan || (has_shared draft.shared || (has_some draft.plan.continues && asks_tree rest))))
+is_mixed draft Keyword.Mesh rest = has_some draft.plan.switches || (is_some draft.labels || has_shared draft.shared)
+is_mixed draft Keyword.Cube rest = has_some draft.plan.switches || (is_some draft.labels || has_shared draft.shared)
+is_mixed draft Keyword.Torus rest = has_some draft.plan.switches || (is_some draft.labels || has_shared draft.shared)
+is_mixed draft Keyword.Clos rest = has_some draft.plan.switches || (is_some draft.labels || has_shared draft.shared)
 is_mixed draft Keyword.Header rest = false
 is_mixed draft Keyword.Buffer rest = false
 is_mixed draft Keyword.Delete rest = false
@@ -89,6 +92,7 @@ is_mixed draft Keyword.Delete rest = false
 abbrev pub draft_of : kept.Draft → Draft
 draft_of draft = record {
   plan = plan_of draft.parts;
+  shared = lines_of draft.shared;
   header_said = draft.header_said;
   buffer_said = draft.buffer_said;
   from_said = draft.from_said;

@@ -2,9 +2,10 @@
 -- word with which lines begin. What is wrong with a line and what it adds are said of the row's parts.
 pub use Rattle.c104_describe.specs.PlanDrafts.{Draft}
 use Rattle.c104_describe.specs.{PlanDrafts.is_mixed, PlanFaults.PlanFaultKind, PlanWords.{Keyword, keyword_of, range_words}}
-use Rattle.{c104_describe.specs.ShapeLayouts.{clos, hosted_plan, parallel, torus}, c104_interval.specs.declared.intervals.Select.Select}
-use Rattle.c104_interval.specs.declared.intervals.{Select.TheVariants.{Discard, Link, Sink}, TheConstants.ROWS}
-use Rattle.c104_plan.specs.{Layouts.{Layout, cube, filled_switches, filled_terminals, filled_wires, mesh}, Plans.{Plan, is_buffer_size}}
+use Rattle.c104_describe.specs.{ShapeLayouts.{clos, hosted_plan, parallel, torus}, SharedTables.{SharedBase, SharedRow, has_shared_base}}
+use Rattle.{c104_describe.specs.SharedTables.shared_row_count, c104_interval.specs.declared.intervals.Select.{Select, TheVariants.Discard}}
+use Rattle.{c104_interval.specs.declared.intervals.{Select.TheVariants.{Link, Sink}, TheConstants.ROWS}, c104_plan.specs.Layouts.Layout}
+use Rattle.c104_plan.specs.{Layouts.{cube, filled_switches, filled_terminals, filled_wires, mesh}, Plans.{Plan, is_buffer_size}}
 use Rattle.c104_plan.specs.Plans.{is_continued, is_deleted, label_count, last_link, most_header_bytes, most_switches, most_terminals}
 use Rattle.c104_plan.specs.{Plans.{next_first, rows_of, switch_number, terminal_number}, Ports.is_any_at, TextWords.{dots, read_number}}
 use Rattle.c104_plan.specs.declared.plans.{PlanBase.PlanBase, PlanRandom.PlanRandom, PlanRow.PlanRow, Shape.{Shape, TheVariants.Cube}}
@@ -210,6 +211,63 @@ clos_parts draft leaves spines terminals wires =
       counts = (m * p, most_terminals) ∷ (n * k + p, LINKS) ∷ (m * k, LINKS) ∷ [];
     }
 
+-- whether a word has no dot: where a port may stand, it names a switch and no link of it
+abbrev pub names_switch : Dots → Bool
+names_switch Without = true
+names_switch (At at) = false
+names_switch Several = false
+
+-- `base S.l n`: the first label that the rows of that input cover
+abbrev pub own_base_parts : Draft → List ℕ → List ℕ → LineParts
+own_base_parts draft at base =
+    let plan = draft.plan in
+    let first : PlanBase = record { port = port_said plan at; base = value_said base } in
+    record (no_parts (with_plan draft (record plan { bases = plan.bases ++ first ∷ [] }))) {
+      ports = at ∷ [];
+      numbers = (Some base, is_from_to 0 0xffff) ∷ [];
+      is_said = names_port plan (is_any_at (λ (b : PlanBase). b.port) plan.bases) at;
+    }
+
+-- `base S n`: the same of the table of that switch
+abbrev pub shared_base_parts : Draft → List ℕ → List ℕ → LineParts
+shared_base_parts draft name base =
+    let first : SharedBase = record { switch = switch_said draft.plan name; base = value_said base } in
+    record (no_parts (record draft { shared = record (draft.shared) { bases = draft.shared.bases ++ first ∷ [] } })) {
+      numbers = (Some base, is_from_to 0 0xffff) ∷ [];
+      switches = name ∷ [];
+      is_said = option_map_or (has_shared_base draft.shared.bases) (switch_number draft.plan name) false;
+    }
+
+-- the one or the other, by whether the word names a switch alone
+abbrev pub base_parts : Draft → List ℕ → List ℕ → Bool → LineParts
+base_parts draft at base is_shared = if is_shared then shared_base_parts draft at base else own_base_parts draft at base
+
+-- `row S.l limit select`: the next row of that input
+abbrev pub own_row_parts : Draft → List ℕ → List ℕ → List ℕ → LineParts
+own_row_parts draft at limit select =
+    let plan = draft.plan in
+    let row : PlanRow = record { port = port_said plan at; limit = value_said limit; select = select_said select } in
+    record (no_parts (with_plan draft (record plan { rows = plan.rows ++ row ∷ [] }))) {
+      ports = at ∷ [];
+      numbers = (Some limit, is_from_to 0 label_count) ∷ (selected_link select, is_from_to 0 last_link) ∷ [];
+      counts = (row_count plan at + 1, ROWS) ∷ [];
+    }
+
+-- `row S limit select`: the next row of the table of that switch
+abbrev pub shared_row_parts : Draft → List ℕ → List ℕ → List ℕ → LineParts
+shared_row_parts draft name limit select =
+    let row : SharedRow = record { switch = switch_said draft.plan name; limit = value_said limit; select = select_said select } in
+    record (no_parts (record draft { shared = record (draft.shared) { rows = draft.shared.rows ++ row ∷ [] } })) {
+      numbers = (Some limit, is_from_to 0 label_count) ∷ (selected_link select, is_from_to 0 last_link) ∷ [];
+      switches = name ∷ [];
+      counts = (option_map_or (shared_row_count draft.shared.rows) (switch_number draft.plan name) 0 + 1, ROWS) ∷ [];
+    }
+
+-- the one or the other
+abbrev pub row_parts : Draft → List ℕ → List ℕ → List ℕ → Bool → LineParts
+row_parts draft at limit select is_shared =
+    if is_shared then shared_row_parts draft at limit select else own_row_parts draft at limit select
+
 -- a line's parts, by what its first word says and the words after it
 abbrev pub keyword_parts : Draft → Keyword → List (List ℕ) → LineParts
 -- `switch N`
@@ -256,24 +314,10 @@ keyword_parts draft Keyword.Delete (name ∷ []) =
       terminals = name ∷ [];
       is_said = option_map_or (is_deleted plan) (terminal_number plan name) false;
     }
--- `base S.l n`: the first label that the rows of that input cover
-keyword_parts draft Keyword.Base (at ∷ base ∷ []) =
-    let plan = draft.plan in
-    let first : PlanBase = record { port = port_said plan at; base = value_said base } in
-    record (no_parts (with_plan draft (record plan { bases = plan.bases ++ first ∷ [] }))) {
-      ports = at ∷ [];
-      numbers = (Some base, is_from_to 0 0xffff) ∷ [];
-      is_said = names_port plan (is_any_at (λ (b : PlanBase). b.port) plan.bases) at;
-    }
--- `row S.l limit select`: the next row of that input
-keyword_parts draft Keyword.Row (at ∷ limit ∷ select ∷ []) =
-    let plan = draft.plan in
-    let row : PlanRow = record { port = port_said plan at; limit = value_said limit; select = select_said select } in
-    record (no_parts (with_plan draft (record plan { rows = plan.rows ++ row ∷ [] }))) {
-      ports = at ∷ [];
-      numbers = (Some limit, is_from_to 0 label_count) ∷ (selected_link select, is_from_to 0 last_link) ∷ [];
-      counts = (row_count plan at + 1, ROWS) ∷ [];
-    }
+-- `base S.l n` and `base S n`
+keyword_parts draft Keyword.Base (at ∷ base ∷ []) = base_parts draft at base (names_switch (dots at))
+-- `row S.l limit select` and `row S limit select`
+keyword_parts draft Keyword.Row (at ∷ limit ∷ select ∷ []) = row_parts draft at limit select (names_switch (dots at))
 -- `random S.l base range`: packets that come in at that input get a random header, one of these
 keyword_parts draft Keyword.Random (at ∷ base ∷ range ∷ []) =
     let plan = draft.plan in

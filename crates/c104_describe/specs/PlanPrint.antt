@@ -1,9 +1,12 @@
 -- What a plan is printed as: lines of words. Words are parted by one space, and each line ends with a
 -- line feed.
-use Rattle.c104_plan.specs.{Plans.{Plan, host_port}, PortTexts.{port_text, select_text, switch_name, terminal_name}}
-use Rattle.c104_plan.specs.declared.plans.{PlanBase.PlanBase, PlanRandom.PlanRandom, PlanRow.PlanRow, Shape.{Shape, TheVariants.Cube}}
-use Rattle.c104_plan.specs.declared.{plans.{Shape.TheVariants.{Hand, Mesh, Tree, UpDown}, Terminal.Terminal}, ports.{Port.Port, Wire.Wire}}
-use Rattle.std.specs.{Fmt.decimal, Prelude.{List, None, Option, Some, [], codes, map, ℕ, ◌++◌, ◌∷◌}}
+use Rattle.{c104_describe.specs.{PlanFaults.PlanFault, PlanText.read_description}, c104_plan.specs.{PlanParts.has_some, Plans.Plan}}
+use Rattle.c104_plan.specs.{Plans.{host_port, is_base_of, is_row_of}, PortTexts.{port_text, select_text, switch_name, terminal_name}}
+use Rattle.c104_plan.specs.{Ports.is_of_switch, TextCut.most_bytes, declared.plans.{PlanBase.PlanBase, PlanRandom.PlanRandom}}
+use Rattle.c104_plan.specs.declared.plans.{PlanRow.PlanRow, Shape.{Shape, TheVariants.{Cube, Hand, Mesh, Tree, UpDown}}, Terminal.Terminal}
+use Rattle.c104_plan.specs.declared.ports.{Port.Port, Wire.Wire}
+use Rattle.std.specs.{Fmt.decimal, Prelude.{Bool, Err, List, None, Ok, Option, Result, Some, [], bytes_eq, codes, false, filter}}
+use Rattle.std.specs.Prelude.{if◌then◌else◌, length, map, nat_le, suc, zero, ℕ, ◌&&◌, ◌++◌, ◌∷◌}
 
 -- words with a space (0x20) between neighbours
 abbrev pub sentence : List (List ℕ) → List ℕ
@@ -102,6 +105,60 @@ plan_lines plan =
     ++ map (row_words plan) plan.rows
     ++ map (random_words plan) plan.randoms
 
+-- the text of a plan line by line
+abbrev pub own_text : Plan → List ℕ
+own_text plan = text_of (plan_lines plan)
+
+-- Tables of switches
+
+-- the line of the base of a switch's table
+abbrev pub shared_base_words : Plan → ℕ → PlanBase → List (List ℕ)
+shared_base_words plan switch b = codes "base" ∷ switch_name plan switch ∷ decimal b.base ∷ []
+
+-- the line of a row of a switch's table
+abbrev pub shared_row_words : Plan → ℕ → PlanRow → List (List ℕ)
+shared_row_words plan switch r = codes "row" ∷ switch_name plan switch ∷ decimal r.limit ∷ select_text r.select ∷ []
+
+-- the lines of a switch whose table is that of this input, if there is one
+abbrev pub table_lines : Plan → ℕ → Option Port → List (List (List ℕ))
+table_lines plan switch None = []
+table_lines plan switch (Some p) =
+    map (shared_base_words plan switch) (filter (is_base_of p) plan.bases) ++ map (shared_row_words plan switch) (filter (is_row_of p) plan.rows)
+
+-- the input of the first row of a switch
+abbrev pub first_input : ℕ → List PlanRow → Option Port
+first_input switch [] = None
+first_input switch (r ∷ rows) = if is_of_switch switch r.port then Some r.port else first_input switch rows
+
+-- the lines of the first n switches, as if all inputs of each had the table of one
+abbrev pub tables_lines : Plan → ℕ → List (List (List ℕ))
+tables_lines plan zero = []
+tables_lines plan (suc s) = tables_lines plan s ++ table_lines plan s (first_input s plan.rows)
+
+-- the lines of a plan of which each switch has one table
+abbrev pub shared_lines : Plan → List (List (List ℕ))
+shared_lines plan =
+    ((((header_words plan.header ∷ buffer_words plan.cap ∷ [])
+    ++ network_lines plan plan.shape)
+    ++ map (continue_words plan) plan.continues)
+    ++ map (delete_words plan) plan.deletes)
+    ++ map (random_words plan) plan.randoms
+
+-- its text
+abbrev pub shared_text : Plan → List ℕ
+shared_text plan = text_of (shared_lines plan ++ tables_lines plan (length plan.switches))
+
+-- whether the plan that was read has this text line by line: so it is the plan that has it
+abbrev pub has_text : List ℕ → Result Plan PlanFault → Bool
+has_text text (Ok plan) = bytes_eq (own_text plan) text
+has_text text (Err fault) = false
+
+-- whether each switch has one table: then the plan is read from a text with the lines of these
+unfoldable pub has_shared_tables : Plan → Bool
+has_shared_tables plan =
+    (has_some plan.rows && nat_le (length (own_text plan)) most_bytes)
+    && has_text (own_text plan) (read_description (shared_text plan))
+
 -- the text of a plan
 abbrev pub plan_text : Plan → List ℕ
-plan_text plan = text_of (plan_lines plan)
+plan_text plan = if has_shared_tables plan then shared_text plan else own_text plan

@@ -1,6 +1,6 @@
 -- Descriptions: lines in order, up to the first faulty one.
 use Rattle.c104_describe.specs.{LineFaults.{IsFaultless, IsLeastFault, read_plan_line}, PlanDrafts.{draft_of, finished}}
-use Rattle.c104_describe.specs.{PlanFaults.{PlanFault, PlanFaultKind, fault_at, no_memory}, PlanLines.Draft}
+use Rattle.c104_describe.specs.{PlanFaults.{PlanFault, PlanFaultKind, fault_at, no_memory}, PlanLines.Draft, SharedTables.nothing_shared}
 use Rattle.c104_describe.specs.declared.{drafts.Draft.Draft as Kept, faults.PlanFaultKind.TheVariants.{NoMemory, TooLong}}
 use Rattle.c104_plan.specs.{PlanParts.empty_plan, Plans.Plan, TextCut.{lines, most_bytes}}
 use Rattle.std.specs.Prelude.{Err, List, MatchResult, None, Ok, Result, Some, [], false, if◌then◌else◌, length, nat_le, slice_get, take, ℕ}
@@ -19,7 +19,14 @@ read_plan_lines line (text ∷ more) draft =
 
 -- the draft of no line
 abbrev pub empty_draft : Draft
-empty_draft = record { plan = empty_plan; header_said = false; buffer_said = false; from_said = false; labels = None }
+empty_draft = record {
+  plan = empty_plan;
+  shared = nothing_shared;
+  header_said = false;
+  buffer_said = false;
+  from_said = false;
+  labels = None;
+}
 
 -- the plan of a draft
 abbrev pub plan_of_draft : Result Draft PlanFault → Result Plan PlanFault

@@ -14,8 +14,8 @@ use std::alloc::Global;
 /// Reads the description of a network, by this emulator's own grammar.
 ///
 /// Its lines are `switch N`, `terminal N S.l [labels n] [from f]`, `wire S.l S.l`, `header n`,
-/// `buffer n`, `continue S.l`, `delete T`, `base S.l n`, `row S.l limit select`,
-/// `random S.l base range`, `label tree S`, `label up-down S`, `mesh w h p [k]`, `cube d p [k]`, `torus w h p [k]`
+/// `buffer n`, `continue S.l`, `delete T`, `base S.l n`, `row S.l limit select`, `base S n`,
+/// `row S limit select`, `random S.l base range`, `label tree S`, `label up-down S`, `mesh w h p [k]`, `cube d p [k]`, `torus w h p [k]`
 /// and `clos m s p [k]`; `#` begins a comment.
 ///
 /// TooLong at line 0 where the text has more than 1 MiB, whatever its lines say; else the first
@@ -36,7 +36,8 @@ pub fn read_description(alloc: Global, text: &[u8]) -> Result<Plan, PlanFault>
     }
     let lines = cut_lines(alloc, text)?;
     let draft = read_lines(alloc, lines.as_slice())?;
-    Ok(draft.finish())
+    let plan = draft.finish()?;
+    Ok(plan)
 }
 
 /// Reads the lines of a description, the first of which is line 1.

@@ -6,6 +6,7 @@ ghost use Rattle.std.specs.Prelude.{IfOk, map, ◌≡◌};
 ghost use Rattle.c104_describe.specs.{PlanDrafts.{asks_tree, draft_of, excludes_groups, finished, is_mixed, says_from}, PlanText.empty_draft};
 ghost use Rattle.c104_plan.specs.{PlanParts.plan_of, Plans.IsPlan};
 
+use crate::shared::{Shared, write_out};
 use crate::words::{Keyword, read_range};
 use c104_plan::{Parts, Plan, Shape};
 use std::alloc::{AllocError, Global};
@@ -14,6 +15,8 @@ use std::alloc::{AllocError, Global};
 #[derive(Drop)]
 pub(crate) struct Draft {
     pub(crate) parts: Parts,
+    /// The lines that name a switch and no link of it.
+    pub(crate) shared: Shared,
     /// Whether a line has given the length of headers.
     pub(crate) header_said: bool,
     /// Whether a line has given the size of buffers.
@@ -32,6 +35,7 @@ impl Draft {
         let parts = Parts::new(alloc)?;
         Ok(Draft {
             parts,
+            shared: Shared::new(alloc),
             header_said: false,
             buffer_said: false,
             from_said: false,
@@ -57,32 +61,37 @@ impl Draft {
                 is_filled
                     || self.from_said
                     || self.parts.has_tables()
+                    || self.shared.has_lines()
                     || (has_groups && asks_tree(rest))
             }
             Keyword::Mesh | Keyword::Cube | Keyword::Torus | Keyword::Clos => {
-                self.parts.switches.len() != 0 || self.labels.is_some()
+                self.parts.switches.len() != 0 || self.labels.is_some() || self.shared.has_lines()
             }
         }
     }
 
     /// The plan that the lines give.
-    pub(crate) fn finish(self) -> Plan
-        requires { IsPlan (finished (draft_of self)) }
-        ensures { result ≡ finished (draft_of self) }
+    pub(crate) fn finish(self) -> Result<Plan, AllocError>
+        requires lines { IsPlan (draft_of self).plan }
+        requires all { IsPlan (finished (draft_of self)) }
+        ensures { IfOk result (λ plan. plan ≡ finished (draft_of self)) }
     {
-        Plan::new(self.into_parts())
+        let parts = self.into_parts()?;
+        Ok(Plan::new(parts))
     }
 
     /// The parts of the plan that the lines give. Where it is to be labelled, terminals carry counts alone.
-    fn into_parts(self) -> Parts
-        ensures { plan_of result ≡ finished (draft_of self) }
+    fn into_parts(self) -> Result<Parts, AllocError>
+        requires { IsPlan (draft_of self).plan }
+        ensures { IfOk result (λ parts. plan_of parts ≡ finished (draft_of self)) }
     {
         let mut parts = self.parts;
+        write_out(&mut parts, &self.shared)?;
         if let Some(shape) = self.labels {
             parts.shape = shape;
             parts.terminals.forget_ranges();
         }
-        parts
+        Ok(parts)
     }
 }
 

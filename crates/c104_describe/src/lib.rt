@@ -15,7 +15,9 @@ mod forms;
 mod lines;
 mod link_lines;
 mod print;
+mod print_tables;
 mod shape_lines;
+mod shared;
 mod words;
 
 pub use c104_plan::{

@@ -1,11 +1,14 @@
 //! What a plan is printed as.
 ghost use Rattle.std.specs.{Prelude.{IfOk, Ok, OnOk, [], length, map, ◌++◌, ◌∷◌, ◌≡◌, ◌≤◌}, String.string_bytes};
 ghost use Rattle.c104_describe.specs.PlanPrint.{base_words, buffer_words, continue_words, counted_words, delete_words, header_words};
-ghost use Rattle.c104_describe.specs.PlanPrint.{label_words, labelled_lines, network_lines, plan_text, random_words, row_words};
+ghost use Rattle.c104_describe.specs.PlanPrint.{label_words, labelled_lines, has_text, network_lines, own_text, plan_text, random_words, row_words, shared_lines, shared_text};
 ghost use Rattle.c104_describe.specs.{PlanPrint.{sentence, switch_words, terminal_words, text_of, wire_words}, PlanText.read_description};
-ghost use Rattle.c104_plan.specs.{TextCut.most_bytes, declared.plans.Shape.TheVariants.Hand};
+ghost use Rattle.c104_plan.specs.{Plans.IsPlan, TextCut.most_bytes, declared.plans.Shape.TheVariants.Hand};
 
-use c104_plan::{Plan, PlanRandom, PlanRow, Shape, Terminal, select_text};
+use crate::description::read_description;
+use crate::faults::PlanFaultKind;
+use crate::print_tables::add_tables;
+use c104_plan::{MAX_DESCRIPTION, Plan, PlanRandom, PlanRow, Shape, Terminal, select_text};
 use c104_token::NoMemory;
 use std::alloc::{AllocError, Global};
 
@@ -15,25 +18,101 @@ use std::alloc::{AllocError, Global};
 /// these the `label` line where there was one. A terminal's line says how many labels its range has, and
 /// where it begins unless there is a `label` line.
 ///
+/// If the lines so give the plan again, `base` and `row` lines name a switch alone, behind all others and switch by
+/// switch: they are those of the input of its first row.
+///
 /// Of what is printed `read_description` gives that very plan, if it has at most 1 MiB.
-#[tactic(auto, using(crate::proofs::PrintedPlans::read_back))]
+#[tactic(auto, using(crate::proofs::PrintedShared::read_back))]
 pub fn print_plan(alloc: Global, plan: &Plan) -> Result<String, NoMemory>
     ensures text { IfOk result (λ text. string_bytes text ≡ plan_text plan.now) }
     ensures read_back { length (plan_text plan.now) ≤ most_bytes →
         read_description (plan_text plan.now) ≡ Ok plan.now }
 {
-    let header = plan.header();
-    let cap = plan.cap();
-    let mut text = format!(in alloc; "header {header}\nbuffer {cap}\n")?;
+    plan_text(alloc, plan)
+}
+
+/// The text of a plan.
+#[tactic(auto, unfolding(crate::specs::PlanPrint::has_shared_tables))]
+fn plan_text(alloc: Global, plan: &Plan) -> Result<String, NoMemory>
+    ensures text { IfOk result (λ text. string_bytes text ≡ plan_text plan.now) }
+    ensures kept { IsPlan plan.now }
+{
+    let has_rows = !plan.rows().is_empty();
+    let own = own_text(alloc, plan)?;
+    if !has_rows || own.len() > MAX_DESCRIPTION {
+        return Ok(own);
+    }
+    let shared = shared_text(alloc, plan)?;
+    if has_text(alloc, own.as_bytes(), shared.as_bytes())? {
+        Ok(shared)
+    } else {
+        Ok(own)
+    }
+}
+
+/// Whether the plan that a text gives has another text line by line. The only error is out of memory.
+fn has_text(alloc: Global, own: &[u8], text: &[u8]) -> Result<bool, NoMemory>
+    ensures { IfOk result (λ has. has ≡ has_text own.now (read_description text.now)) }
+{
+    match read_description(alloc, text) {
+        Ok(read) => {
+            let again = own_text(alloc, &read)?;
+            Ok(again.as_bytes() == own)
+        }
+        Err(fault) => match fault.kind {
+            PlanFaultKind::NoMemory => Err(NoMemory),
+            _ => Ok(false),
+        },
+    }
+}
+
+/// The text of a plan line by line.
+fn own_text(alloc: Global, plan: &Plan) -> Result<String, NoMemory>
+    ensures { IfOk result (λ text. string_bytes text ≡ own_text plan.now) }
+{
+    let mut text = begun_text(alloc, plan)?;
     add_parts(alloc, &mut text, plan)?;
     Ok(text)
+}
+
+/// The lines of the header length and the buffer size.
+fn begun_text(alloc: Global, plan: &Plan) -> Result<String, AllocError>
+    ensures { IfOk result (λ text. string_bytes text ≡
+        text_of (header_words plan.now.header ∷ buffer_words plan.now.cap ∷ [])) }
+{
+    let header = plan.header();
+    let cap = plan.cap();
+    format!(in alloc; "header {header}\nbuffer {cap}\n")
+}
+
+/// The text of a plan of which each switch has the table of the input of its first row.
+fn shared_text(alloc: Global, plan: &Plan) -> Result<String, NoMemory>
+    ensures { IfOk result (λ text. string_bytes text ≡ shared_text plan.now) }
+{
+    let mut text = begun_text(alloc, plan)?;
+    add_others(alloc, &mut text, plan)?;
+    add_tables(alloc, &mut text, plan)?;
+    Ok(text)
+}
+
+/// The lines behind those of the header length and the buffer size, but for those of tables, join the text.
+fn add_others(alloc: Global, text: &mut String, plan: &Plan) -> Result<(), AllocError>
+    requires { string_bytes text.old ≡
+        text_of (header_words plan.now.header ∷ buffer_words plan.now.cap ∷ []) }
+    ensures { OnOk result (string_bytes text.new ≡ text_of (shared_lines plan.now)) }
+{
+    add_network(alloc, text, plan)?;
+    add_continues(alloc, text, plan)?;
+    add_deletes(alloc, text, plan)?;
+    add_randoms(alloc, text, plan)?;
+    Ok(())
 }
 
 /// The lines behind those of the header length and the buffer size join the text.
 fn add_parts(alloc: Global, text: &mut String, plan: &Plan) -> Result<(), AllocError>
     requires { string_bytes text.old ≡
         text_of (header_words plan.now.header ∷ buffer_words plan.now.cap ∷ []) }
-    ensures { OnOk result (string_bytes text.new ≡ plan_text plan.now) }
+    ensures { OnOk result (string_bytes text.new ≡ own_text plan.now) }
 {
     add_network(alloc, text, plan)?;
     add_continues(alloc, text, plan)?;

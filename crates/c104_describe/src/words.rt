@@ -4,7 +4,7 @@
 //! first word is UnknownWord, since that is the lesser number.
 ghost use Rattle.std.specs.{Map.lookup, Prelude.{Err, IfOk, MatchResult, Ok, Some, bytes_eq, codes, false, map, option_map, true, ◌&&◌}};
 ghost use Rattle.std.specs.Prelude.{◌+◌, ◌≡◌, ◌≤◌};
-ghost use Rattle.c104_describe.specs.{LineFaults.ReadsNumber, PlanLines.{is_bad_number, is_from_to, is_one_dot, port_link, port_name}};
+ghost use Rattle.c104_describe.specs.{LineFaults.ReadsNumber, PlanLines.{is_bad_number, is_from_to, is_one_dot, names_switch, port_link, port_name}};
 ghost use Rattle.c104_describe.specs.{PlanLines.{select_said, selected_link}, PlanWords.{keyword_of, range_words}};
 ghost use Rattle.c104_plan.specs.{Plans.{label_count, last_link}, TextWords.dots};
 ghost use Rattle.c104_describe.specs.declared.faults.PlanFaultKind.TheVariants as variant;
@@ -149,6 +149,13 @@ pub(crate) fn cut_port(word: &[u8]) -> Result<PortSides<'_>, PlanFaultKind>
         name: &word[..dot],
         link: &word[dot + 1..],
     })
+}
+
+/// Whether a word has no dot: where a port may stand, it names a switch and no link of it.
+pub(crate) fn names_switch(word: &[u8]) -> bool
+    ensures { result ≡ names_switch (dots word.now) }
+{
+    matches!(find_dots(word), Dots::Without)
 }
 
 /// The number of a link, or BadNumber where no switch has such a link.

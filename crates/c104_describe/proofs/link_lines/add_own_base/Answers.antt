@@ -3,7 +3,7 @@ use Rattle.{c104_describe.specs.PlanLines.{port_name, value_said}, c104_plan.spe
 use Rattle.{c104_plan.specs.{TextWords.is_name, declared.{plans.PlanBase.PlanBase, ports.Port.Port}}, std.proofs.Common.{Some, false, inl}}
 use Rattle.std.proofs.Common.{rules, true, ◌≡◌}
 
-pub returns-then-has_base : Rattle.c104_describe.proofs.link_lines.add_base.Goals.returns-then-has_base
+pub returns-then-has_base : Rattle.c104_describe.proofs.link_lines.add_own_base.Goals.returns-then-has_base
 returns-then-has_base c =
     let draft = draft_of c.args.draft.now in
     let at = c.args.port.now in
