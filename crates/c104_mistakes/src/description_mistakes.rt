@@ -33,9 +33,10 @@ pub(crate) const CONTINUE_LINE: &str = "the line is `continue SWITCH.LINK`";
 
 pub(crate) const DELETE_LINE: &str = "the line is `delete TERMINAL`";
 
-pub(crate) const BASE_LINE: &str = "the line is `base SWITCH.LINK FIRST`";
+pub(crate) const BASE_LINE: &str = "the line is `base SWITCH.LINK FIRST` or `base SWITCH FIRST`";
 
-pub(crate) const ROW_LINE: &str = "the line is `row SWITCH.LINK LIMIT SELECT`";
+pub(crate) const ROW_LINE: &str =
+    "the line is `row SWITCH.LINK LIMIT SELECT` or `row SWITCH LIMIT SELECT`";
 
 pub(crate) const RANDOM_LINE: &str = "the line is `random SWITCH.LINK BASE RANGE`";
 
@@ -114,7 +115,7 @@ pub(crate) const LABELS: &str =
     "the labels of a terminal end at 65535 at most; without `from` they begin where those of the terminal \
      before end";
 
-pub(crate) const ROWS: &str = "an input has at most 36 rows";
+pub(crate) const ROWS: &str = "a table has at most 36 rows";
 
 pub(crate) const SIZES: &str =
     "there are at most 64 switches and 256 terminals, and 32 links at a switch";

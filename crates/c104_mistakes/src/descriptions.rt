@@ -135,7 +135,10 @@ fn ports_of<'w, 'a>(words: &'w [&'a [u8]]) -> &'w [&'a [u8]] {
 
 /// A number that is none, or out of its range.
 fn number_mistake<'a>(words: &[&'a [u8]]) -> Mistake<'a> {
-    let port = ports_of(words).iter().copied().find(|port| !has_link(port));
+    let port = ports_of(words)
+        .iter()
+        .copied()
+        .find(|port| has_dot(port) && !has_link(port));
     if port.is_some() {
         return Mistake::new(NO_LINK, port);
     }
