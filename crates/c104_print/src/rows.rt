@@ -1,5 +1,6 @@
 //! Rows of cells: as a table for people, as CSV, or as JSON.
 
+use crate::marked::{csv_text, json_text, shown_text};
 use std::alloc::{AllocError, Global};
 
 /// How rows are printed.
@@ -15,7 +16,7 @@ pub enum Format {
 
 /// Where people read the names of columns.
 #[derive(Clone, Copy)]
-pub(crate) enum Names {
+pub enum Names {
     /// Above the rows.
     Above,
     /// Beside the cells of the only row, of which each has a line.
@@ -30,7 +31,7 @@ const GAP: usize = 2;
 
 /// Rows of cells with named columns, which take their cells one by one.
 #[derive(Drop)]
-pub(crate) struct Rows {
+pub struct Rows {
     alloc: Global,
     format: Format,
     names: Names,
@@ -44,8 +45,8 @@ pub(crate) struct Rows {
 }
 
 impl Rows {
-    /// No row yet.
-    pub(crate) fn new(
+    /// No row yet. The only error of a function of rows is out of memory.
+    pub fn new(
         alloc: Global,
         format: Format,
         names: Names,
@@ -79,7 +80,7 @@ impl Rows {
     }
 
     /// A number.
-    pub(crate) fn number(&mut self, number: u64) -> Result<(), AllocError> {
+    pub fn number(&mut self, number: u64) -> Result<(), AllocError> {
         let cell = format!(in self.alloc; "{number}")?;
         self.add(cell.as_str())
     }
@@ -93,7 +94,7 @@ impl Rows {
     }
 
     /// A number of thousandths.
-    pub(crate) fn thousandths(&mut self, number: u64) -> Result<(), AllocError> {
+    pub fn thousandths(&mut self, number: u64) -> Result<(), AllocError> {
         let ones = number / 1000;
         let rest = number % 1000;
         let cell = format!(in self.alloc; "{ones}.{rest:03}")?;
@@ -101,7 +102,7 @@ impl Rows {
     }
 
     /// A number of thousandths that may not be there.
-    pub(crate) fn thousandths_if(&mut self, number: Option<u64>) -> Result<(), AllocError> {
+    pub fn thousandths_if(&mut self, number: Option<u64>) -> Result<(), AllocError> {
         match number {
             Some(number) => self.thousandths(number),
             None => self.nothing(),
@@ -109,7 +110,7 @@ impl Rows {
     }
 
     /// A name, or a word of this emulator's own. None has a character that CSV or JSON would mark.
-    pub(crate) fn word(&mut self, word: &str) -> Result<(), AllocError> {
+    pub fn word(&mut self, word: &str) -> Result<(), AllocError> {
         let mark = match self.format {
             Format::Table | Format::Csv => "",
             Format::Json => "\"",
@@ -118,8 +119,18 @@ impl Rows {
         self.add(cell.as_str())
     }
 
+    /// A text that isn't of this emulator, as the path of a file.
+    pub fn text(&mut self, text: &str) -> Result<(), AllocError> {
+        let cell = match self.format {
+            Format::Table => shown_text(self.alloc, text)?,
+            Format::Csv => csv_text(self.alloc, text)?,
+            Format::Json => json_text(self.alloc, text)?,
+        };
+        self.add(cell.as_str())
+    }
+
     /// A cell in which nothing is.
-    pub(crate) fn nothing(&mut self) -> Result<(), AllocError> {
+    pub fn nothing(&mut self) -> Result<(), AllocError> {
         let cell = match self.format {
             Format::Table => "-",
             Format::Csv => "",
@@ -129,7 +140,7 @@ impl Rows {
     }
 
     /// The text of all rows.
-    pub(crate) fn finish(self) -> Result<String, AllocError> {
+    pub fn finish(self) -> Result<String, AllocError> {
         let mut text = self.text;
         match (self.format, self.names) {
             (Format::Table, Names::Above) => {
