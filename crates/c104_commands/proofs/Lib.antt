@@ -3,3 +3,4 @@ mod ImageLines
 pub mod CycleLemmas
 mod TrafficEnds
 mod FixLemmas
+pub mod ReadTexts

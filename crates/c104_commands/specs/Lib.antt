@@ -7,4 +7,5 @@ pub mod Traffic
 pub mod Pictures
 pub mod CycleTexts
 pub mod Cycles
+pub mod Cuts
 pub mod Fixes

@@ -1,21 +1,24 @@
 //! The commands of the program's command line that take a description alone, as functions over a reader and a writer.
 //!
-//! `check_command` checks its labels, and `cycles_command` looks for a cycle of channel dependencies; `label_command` shows
-//! the labels, `label_rows_command` the same by `row` lines, `draw_command` draws the network, and `traffic_command` writes
-//! a script by which its terminals send packets. Each begins as c104_setup says, and reads no further than the limit of a
-//! description, 1 MiB.
+//! `check_command` checks its labels, `cuts_command` does so without each wire, and `cycles_command` looks for a cycle of
+//! channel dependencies; `label_command` shows the labels, `label_rows_command` the same by `row` lines, `draw_command`
+//! draws the network, and `traffic_command` writes a script by which its terminals send packets. Each begins as c104_setup
+//! says, and reads no further than the limit of a description, 1 MiB.
 //!
 //! Each of them reports what is faulty or refused to what takes `Messages`; what it writes and answers is the same
 //! whatever that does. Give `Silent` to report to nobody. Of labels people are told what `find_fix` and `find_waiting`
-//! find.
+//! find, and which rows never decide.
 #![tactic(auto)]
 
 mod advice;
 mod checks;
+mod cut_texts;
+mod cuts;
 mod cycle_texts;
 mod cycles;
 mod draws;
 mod fixes;
+mod idle_rows;
 mod images;
 mod label_rows;
 mod labels;
@@ -23,6 +26,7 @@ mod pictures;
 mod range_changes;
 mod reports;
 mod row_changes;
+mod row_lines;
 mod sameness;
 mod texts;
 mod traffic;
@@ -32,6 +36,7 @@ mod waiting;
 pub use advice::{check_advice, cycle_advice};
 pub use c104_traffic::{MAX_DATA, MAX_PACKETS, PatternName, Traffic};
 pub use checks::{check_command, refuse_labels};
+pub use cuts::cuts_command;
 pub use cycle_texts::acyclic_text;
 pub use cycles::cycles_command;
 pub use draws::draw_command;
