@@ -55,6 +55,8 @@ pub struct Order<'a> {
     pub picture: PictureWords,
     /// Whether all dependencies are listed.
     pub all: bool,
+    /// Whether labels are checked without each wire.
+    pub each_cut: bool,
     /// Whether a script is looked for that locks the network up.
     pub lockup: bool,
     /// Whether labels are shown as a description by `row` lines.
@@ -79,6 +81,7 @@ impl<'a> Order<'a> {
         script: None,
         picture: PictureWords::NONE,
         all: false,
+        each_cut: false,
         lockup: false,
         rows: false,
         workers: None,
@@ -102,6 +105,7 @@ impl<'a> Order<'a> {
             script: given.get_str(SCRIPT),
             picture: PictureWords::of_matches(given),
             all: given.get_flag(ALL),
+            each_cut: given.get_flag(EACH_CUT),
             lockup: given.get_flag(LOCKUP),
             rows: given.get_flag(ROWS),
             workers: given.get_one(WORKERS),
@@ -185,6 +189,11 @@ const LOCKUP: &str = "script";
 
 const LOCKUP_HELP: &str = "Print a script that locks the network up, if one is found";
 
+/// The option of a check without each wire.
+const EACH_CUT: &str = "each-cut";
+
+const EACH_CUT_HELP: &str = "Check them without each wire, one after the other";
+
 /// The option of labels by `row` lines.
 const ROWS: &str = "rows";
 
@@ -244,7 +253,8 @@ fn subcommand<'a>(alloc: Global, row: Row) -> Result<Command<'a>, AllocError> {
     let named = command(alloc, row.name, row.about, row.teaching);
     match row.subcommand {
         Subcommand::Run => with_files(alloc, named),
-        Subcommand::Debug | Subcommand::Check => with_description(alloc, named),
+        Subcommand::Debug => with_description(alloc, named),
+        Subcommand::Check => with_cuts(alloc, with_description(alloc, named)?),
         Subcommand::Storm => with_workers(alloc, named),
         Subcommand::Stats => with_counts(alloc, with_both(alloc, named)?),
         Subcommand::Cycles => with_cycles(alloc, with_description(alloc, named)?),
@@ -258,6 +268,11 @@ fn subcommand<'a>(alloc: Global, row: Row) -> Result<Command<'a>, AllocError> {
 fn with_files<'a>(alloc: Global, named: Command<'a>) -> Result<Command<'a>, AllocError> {
     let description = description_argument(alloc).requires_arg(SCRIPT)?;
     named.arg(description)?.arg(script_argument(alloc))
+}
+
+/// `[--each-cut]`, behind a description.
+fn with_cuts<'a>(alloc: Global, named: Command<'a>) -> Result<Command<'a>, AllocError> {
+    named.arg(flag(alloc, EACH_CUT, EACH_CUT_HELP))
 }
 
 /// `[--all | --script]`, behind a description.

@@ -22,6 +22,7 @@ Examples:
   c104 storm network.txt sends.txt    its packets carried by threads
   c104 stats network.txt events.txt   how its packets and links fared, in numbers
   c104 check network.txt              whether its packets can go astray
+  c104 check --each-cut network.txt   whether they can without one of its wires
   c104 cycles network.txt             whether they can wait for one another forever
   c104 cycles --script network.txt    a script after which they do
   c104 label network.txt              which labels and registers it gives
@@ -118,9 +119,15 @@ random header, which an input puts before a packet, has to end at an input that
 discards it, and the packet goes on from there. Prints `accepted`, or the first fault,
 with the header, the terminal that it comes from, and the inputs on its way.
 
+Under --each-cut the same is asked of the network without each wire between switches,
+whose links are taken out of their groups. Prints a line for each wire without which
+the labels are refused, `cut`, its ends and that fault, and at last how many wires may
+break; exit status 0 if all may, and else 1.
+
 On a terminal, or under --explain, standard error says where the header goes wrong
 and, where some rows or labels do, which lines of the description fix it; and of
-labels that are accepted, whether packets can wait for one another forever.";
+labels that are accepted, whether packets can wait for one another forever, and which
+rows can never decide.";
 
 /// Of `cycles`.
 pub const CYCLES: &str =

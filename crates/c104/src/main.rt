@@ -22,7 +22,7 @@ mod traffic_words;
 mod typed;
 
 pub use c104_commands::{
-    Marks, PatternName, check_command, cycles_command, draw_command, label_command,
+    Marks, PatternName, check_command, cuts_command, cycles_command, draw_command, label_command,
     label_rows_command, traffic_command,
 };
 use c104_describe::read_description;
@@ -134,7 +134,7 @@ fn do_order<H: Threads + Wait + Sync>(
         Subcommand::Debug => debug_file(rt, order.description, told),
         Subcommand::Storm => storm_files(rt, threads, order, told),
         Subcommand::Stats => count_files(rt, order, told),
-        Subcommand::Check => check_file(rt, order.description, told),
+        Subcommand::Check => check_file(rt, order, told),
         Subcommand::Cycles if order.lockup => lock_file(rt, order.description, told),
         Subcommand::Cycles => search_file(rt, order.description, order.all, told),
         Subcommand::Label => label_file(rt, order, told),
@@ -225,12 +225,16 @@ fn debug_lines(rt: &HostRuntime, description: &mut HostSource, told: &mut Told<'
     status
 }
 
-/// Checks the labels of a description's file.
-fn check_file(rt: &HostRuntime, description: &str, told: &mut Told<'_>) -> Status {
-    let Some(mut description) = open_path(rt, description, told) else {
+/// Checks the labels of a description's file, as it stands or without each wire.
+fn check_file(rt: &HostRuntime, order: Order<'_>, told: &mut Told<'_>) -> Status {
+    let Some(mut description) = open_path(rt, order.description, told) else {
         return Status::CannotRead(0);
     };
-    let status = check_command(rt.alloc(), &mut description, &mut io::writer(rt), told);
+    let status = if order.each_cut {
+        cuts_command(rt.alloc(), &mut description, &mut io::writer(rt), told)
+    } else {
+        check_command(rt.alloc(), &mut description, &mut io::writer(rt), told)
+    };
     told.note_fault(description.fault());
     status
 }
