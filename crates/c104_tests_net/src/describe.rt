@@ -45,14 +45,13 @@ fn leads(plan: &Plan, switch: usize, ends: &[Option<Port>]) -> bool {
     true
 }
 
-/// A plan is printed kind by kind, and each terminal with its labels.
+/// A plan is printed kind by kind, each terminal with its labels, and the table of a switch once.
 #[test]
 fn prints_lines(rt: HostRuntime) {
     let text = b"switch A\nterminal a A.0\nterminal b A.1\n\
         row A.0 1 0\nrow A.0 2 1\nrow A.1 1 0\nrow A.1 2 1\n";
     let expected = "header 1\nbuffer 16\nswitch A\n\
-        terminal a A.0 labels 1 from 0\nterminal b A.1 labels 1 from 1\n\
-        row A.0 1 0\nrow A.0 2 1\nrow A.1 1 0\nrow A.1 2 1\n";
+        terminal a A.0 labels 1 from 0\nterminal b A.1 labels 1 from 1\nrow A 1 0\nrow A 2 1\n";
     assert!(rt; prints(rt.alloc(), text, expected));
 }
 
@@ -62,7 +61,7 @@ fn prints_random_headers(rt: HostRuntime) {
     let text = b"switch A\nrandom A.0 300 2\nrow A.0 300 0\nrow A.0 302 discard\n\
         terminal a A.0 labels 300\nheader 2\n";
     let expected = "header 2\nbuffer 16\nswitch A\nterminal a A.0 labels 300 from 0\n\
-        row A.0 300 0\nrow A.0 302 discard\nrandom A.0 300 2\n";
+        random A.0 300 2\nrow A 300 0\nrow A 302 discard\n";
     assert!(rt; prints(rt.alloc(), text, expected));
 }
 
