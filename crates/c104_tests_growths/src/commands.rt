@@ -6,7 +6,8 @@ use crate::growths::{Growing, Refusal, Sharing, is_right, is_told};
 use crate::outcomes::Outcome;
 use crate::written::{ANSWERS, Page, SCRIPT, SENDS, STORM_END, SUMMARY, TWO_ANSWERS};
 use c104_commands::{
-    Marks, check_command, cycles_command, draw_command, label_command, label_rows_command,
+    Marks, check_command, cuts_command, cycles_command, draw_command, label_command,
+    label_rows_command,
 };
 use c104_lockup::lockup_command;
 use c104_mistakes::Silent;
@@ -119,6 +120,7 @@ impl Growing for Running {
 #[derive(Clone, Copy)]
 enum Command {
     Check,
+    Cuts,
     Cycles(bool),
     Label,
     Rows,
@@ -133,6 +135,7 @@ impl Command {
         let (mut text, mut script) = (PLAN, SCRIPT);
         match self {
             Command::Check => check_command(alloc, &mut text, page, &mut Silent),
+            Command::Cuts => cuts_command(alloc, &mut text, page, &mut Silent),
             Command::Cycles(all) => cycles_command(alloc, &mut text, all, page, &mut Silent),
             Command::Label => label_command(alloc, &mut text, page, &mut Silent),
             Command::Rows => label_rows_command(alloc, &mut text, page, &mut Silent),
@@ -235,6 +238,7 @@ fn runs(rt: HostRuntime) {
 fn commands(rt: HostRuntime) {
     for (name, command) in [
         ("check_command", Command::Check),
+        ("cuts_command", Command::Cuts),
         ("cycles_command", Command::Cycles(false)),
         ("cycles_command", Command::Cycles(true)),
         ("label_command", Command::Label),
