@@ -50,6 +50,17 @@ class Rules:
                 self.randoms[words[0]] = int(words[1]), int(words[2])
             elif kind == 'header':
                 self.headers = 256 ** int(words[0])
+        self.write_out()
+
+    def write_out(self):
+        """Lines that name a switch alone are of each of its inputs with a wire or a terminal that has no row of its own."""
+        named = [{it: kept.pop(it, None) for it in self.switches} for kept in (self.rows, self.bases)]
+        for port in [it for it in self.far if '.' in it and it not in self.rows]:
+            rows, base = (it[port.split('.')[0]] for it in named)
+            if rows:
+                self.rows[port] = rows
+            if base is not None:
+                self.bases.setdefault(port, base)
 
     def random_headers(self, port):
         base, count = self.randoms[port]

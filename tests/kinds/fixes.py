@@ -3,21 +3,56 @@
 The rows of a mesh are right but for 19, each of which sinks another terminal's packets, or gives them to a terminal that
 they aren't for. All other rows lead each of these headers the shortest way, so a fix by the nearest group gives the least
 hops that the wires allow.
+
+Other descriptions have a table of a whole switch, which an input loses with the first row of its own: of such an input all
+rows have to be told.
 """
 
+import os
 import random
 import re
 
+from case_runner import EXAMPLES
 from check_rules import Rules
+from kinds.check import A_ROWS, WIRE
 from networks import mesh, row_lines
 
-TOLD = re.compile(rb'.*: (add|replace|by): (row .*)')
+TOLD = re.compile(rb'.*: (add|replace|by): ((?:row|base) .*)')
 WRONG_ROWS = 19
 MOST_FIXES = 100
 
 # Header 0 comes to a by link 1, and by a detour over B too, which begins at a lower link.
 DETOUR = (b'switch A\nswitch B\nterminal a A.1\nwire A.0 B.0\nwire A.2 B.1\nrow B.0 1 1\nrow A.2 1 1\n'
           b'row A.0 1 1\nrow B.1 1 1\n')
+
+# The wire between A and B with the labels from 3 on, and the table of A from there on.
+FROM_THREE = (WIRE.replace(b'a A.0', b'a A.0 from 3').replace(b'b B.0', b'b B.0 from 4')
+              + b'base A 3\nrow A 4 0\nrow A 5 1\n')
+# Descriptions by tables of whole switches, what `check` prints, what is wrong, what is told of one fix, and after how many the
+# labels are accepted.
+BY_SWITCHES = {
+    'a row that is wrong': (WIRE + b'row A 1 0\nrow A 2 1\nrow B 1 1\nrow B 2 1\n',
+        'refused 7 Loop: from a header 1 walk A.0 B.1 A.1 B.1',
+        'header 1 belongs to b, but A.1 may send it by link 1 to B.1, where it has been',
+        ['add: row B.1 1 1', 'add: row B.1 2 0'], 1),
+    'a row that is missing': (WIRE + A_ROWS + b'row B 1 1\n', 'refused 6 DeadEnd: from a header 1 walk A.0 B.1',
+        'header 1 belongs to b, but B.1 selects no link for it', ['add: row B.1 1 1', 'add: row B.1 2 0'], 2),
+    'an input with a row of its own': (WIRE + A_ROWS + b'row B 1 1\nrow B 2 0\nrow B.0 1 1\n',
+        'refused 6 DeadEnd: from b header 1 walk B.0', 'header 1 belongs to b, but B.0 selects no link for it',
+        ['add: row B.0 2 0'], 1),
+    'a base': (FROM_THREE + b'base B 3\nrow B 4 1\nrow B 5 1\n', 'refused 7 Loop: from a header 4 walk A.0 B.1 A.1 B.1',
+        'header 4 belongs to b, but A.1 may send it by link 1 to B.1, where it has been',
+        ['add: base B.1 3', 'add: row B.1 4 1', 'add: row B.1 5 0'], 1),
+    'a base of its own': (FROM_THREE + b'base B 3\nbase B.1 2\nrow B 4 1\nrow B 5 1\n',
+        'refused 7 Loop: from a header 4 walk A.0 B.1 A.1 B.1',
+        'header 4 belongs to b, but A.1 may send it by link 1 to B.1, where it has been',
+        ['add: row B.1 4 1', 'add: row B.1 5 0'], 1),
+    'a base alone': (FROM_THREE + b'base B 3\n', 'refused 6 DeadEnd: from a header 4 walk A.0 B.1',
+        'header 4 belongs to b, but B.1 selects no link for it',
+        ['add: base B.1 3', 'add: row B.1 4 sink', 'add: row B.1 5 0'], 3),
+}
+# The row of examples/ring.txt that breaks its cycle, where it is one of a table of C that C.0 alone has.
+RING_BREAK = ['add: row C.0 1 2', 'add: row C.0 2 2', 'add: row C.0 3 0', 'add: row C.0 4 1']
 
 
 def selects_of(text):
@@ -118,4 +153,27 @@ def wrong_rows(runner):
             runner.judge(name, wrong_of(runner, with_wrong_rows(mesh(5, 4, 1), random.Random(seed))))
 
 
-PARTS = [nearest, wrong_rows]
+def by_switches(runner):
+    for name, (description, printed, wrong, lines, fixes) in BY_SWITCHES.items():
+        name = 'a table of a switch, ' + name
+        told = ''.join('c104: -: %s\n' % it for it in [wrong, *lines]).encode()
+        runner.case(name, printed.encode() + b'\n', 1, told, words=['check', '-', '--explain'], data=description)
+        if runner.wanted(name):
+            count = followed(runner, description)[1]
+            runner.judge(name + ', followed', None if count == fixes else 'wanted %d fixes, found %r' % (fixes, count))
+
+
+def broken_cycle(runner):
+    """The row that breaks a cycle, told of an input that has its switch's table."""
+    name = 'a table of a switch, a cycle'
+    if not runner.wanted(name):
+        return
+    with open(os.path.join(EXAMPLES, 'ring.txt'), 'rb') as file:
+        ring = file.read().replace(b'row C.0', b'row C')
+    _, _, told = runner.run(words=['check', '-', '--explain'], data=ring)
+    lines = [line.split(b': ', 2)[2].decode() for line in told.splitlines() if TOLD.fullmatch(line)]
+    runner.judge(name, None if lines == RING_BREAK else '%r' % told)
+    runner.case(name + ', followed', b'acyclic\n', 0, b'', words=['cycles', '-'], data=fixed(ring, told))
+
+
+PARTS = [nearest, wrong_rows, by_switches, broken_cycle]

@@ -181,7 +181,7 @@ LABELLED = {
 BY_ROWS = {
     'nothing': (b'', 'header 1; buffer 16'),
     'rows of one switch': (b'switch A\nterminal a A.0\nrow A.0 1 0\nrow A.0 0 sink\n', 'header 1; buffer 16; switch A;'
-        'terminal a A.0 labels 1 from 0; row A.0 1 0'),
+        'terminal a A.0 labels 1 from 0; row A 1 0'),
     'a row as after a reset before one that is not': (b'switch A\nrow A.3 0 sink\nrow A.3 5 7\nbase A.3 0\n',
         'header 1; buffer 16; switch A; row A.3 0 sink; row A.3 5 7'),
     'all that is set at links, and in another order': (b'buffer 64\nswitch A\nswitch B\nterminal b B.7 from 9\n'
@@ -192,10 +192,22 @@ BY_ROWS = {
         'row B.0 9 discard; random A.0 0 0; random A.31 65534 65536'),
     'a tree of two switches': (TWO_IN_A_TREE, 'header 1; buffer 16; switch A; switch B;'
         'terminal a A.0 labels 1 from 0; terminal b B.0 labels 2 from 1; wire A.1 B.2;'
-        'row A.0 1 0; row A.0 3 1; row A.1 1 0; row A.1 3 1; row B.0 1 2; row B.0 3 0; row B.2 1 2; row B.2 3 0'),
+        'row A 1 0; row A 3 1; row B 1 2; row B 3 0'),
     'a mesh of two switches, headers deleted at one': (b'mesh 2 1 1\ndelete t1\nbuffer 8\n', 'header 1; buffer 8; switch s0; switch s1;'
         'terminal t0 s0.4 labels 1 from 0; terminal t1 s1.4 labels 1 from 1; wire s0.2 s1.1; delete t1;'
-        'row s0.2 1 4; row s0.2 2 2; row s0.4 1 4; row s0.4 2 2; row s1.1 1 1; row s1.1 2 4; row s1.4 1 1; row s1.4 2 4'),
+        'row s0 1 4; row s0 2 2; row s1 1 1; row s1 2 4'),
+    'rows of a switch before its wires and terminals, and an input with its own': (b'switch A\nbase A 1\nrow A 3 2\nswitch B\n'
+        b'row B 2 0\nwire A.2 B.0\nrow A 2 1\nterminal a A.0\nterminal b A.1\nrow A.1 4 2\nbase A.0 0\n', 'header 1; buffer 16;'
+        'switch A; switch B; terminal a A.0 labels 1 from 0; terminal b A.1 labels 1 from 1; wire A.2 B.0; base A.2 1; row A.0 3 2;'
+        'row A.0 2 1; row A.1 4 2; row A.2 3 2; row A.2 2 1; row B.0 2 0'),
+    'a base of a switch, and rows of an input without it': (b'switch A\nbase A 4\nterminal a A.3\nterminal b A.5 labels 2\nrow A.3 5 5\n',
+        'header 1; buffer 16; switch A; terminal a A.3 labels 1 from 0; terminal b A.5 labels 2 from 1; base A.5 4; row A.3 5 5'),
+    'one table written out': (b'switch A\nterminal a A.3\nterminal b A.5\nbase A.5 7\nrow A.3 9 sink\nrow A.5 9 sink\nbase A.3 7\n'
+        b'row A.3 10 5\nrow A.5 10 5\n', 'header 1; buffer 16; switch A; terminal a A.3 labels 1 from 0;'
+        'terminal b A.5 labels 1 from 1; base A 7; row A 9 sink; row A 10 5'),
+    'the same at a link where nothing is': (b'switch A\nterminal a A.3\nterminal b A.5\nrow A.3 9 sink\nrow A.5 9 sink\nrow A.6 9 sink\n',
+        'header 1; buffer 16; switch A; terminal a A.3 labels 1 from 0; terminal b A.5 labels 1 from 1; row A.3 9 sink;'
+        'row A.5 9 sink; row A.6 9 sink'),
 }
 
 # A network that isn't labelled, by each command.
