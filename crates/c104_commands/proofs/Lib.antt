@@ -1,4 +1,5 @@
 pub mod LabelRefusals
+pub mod PathCounts
 mod ImageLines
 pub mod CycleLemmas
 mod TrafficEnds

@@ -8,4 +8,6 @@ pub mod Pictures
 pub mod CycleTexts
 pub mod Cycles
 pub mod Cuts
+pub mod PathCommands
+pub mod PathSummaries
 pub mod Fixes

@@ -1,7 +1,8 @@
 //! The commands of the program's command line that take a description alone, as functions over a reader and a writer.
 //!
 //! `check_command` checks its labels, `cuts_command` does so without each wire, and `cycles_command` looks for a cycle of
-//! channel dependencies; `label_command` shows the labels, `label_rows_command` the same by `row` lines, `draw_command`
+//! channel dependencies; `paths_command` tells over how many wires packets go, and a `Comparison` what that comes to for several
+//! descriptions; `label_command` shows the labels, `label_rows_command` the same by `row` lines, `draw_command`
 //! draws the network, and `traffic_command` writes a script by which its terminals send packets. Each begins as c104_setup
 //! says, and reads no further than the limit of a description, 1 MiB.
 //!
@@ -12,6 +13,7 @@
 
 mod advice;
 mod checks;
+mod comparisons;
 mod cut_texts;
 mod cuts;
 mod cycle_texts;
@@ -22,6 +24,9 @@ mod idle_rows;
 mod images;
 mod label_rows;
 mod labels;
+mod path_summaries;
+mod path_tables;
+mod paths;
 mod pictures;
 mod range_changes;
 mod reports;
@@ -32,10 +37,12 @@ mod texts;
 mod traffic;
 mod trials;
 mod waiting;
+mod wirings;
 
 pub use advice::{check_advice, cycle_advice};
 pub use c104_traffic::{MAX_DATA, MAX_PACKETS, PatternName, Traffic};
 pub use checks::{check_command, refuse_labels};
+pub use comparisons::Comparison;
 pub use cuts::cuts_command;
 pub use cycle_texts::acyclic_text;
 pub use cycles::cycles_command;
@@ -44,8 +51,11 @@ pub use fixes::{Fix, TriedFix, find_fix};
 pub use images::image_text;
 pub use label_rows::{label_rows_command, rows_text};
 pub use labels::label_command;
+pub use path_tables::PathTable;
+pub use paths::paths_command;
 pub use pictures::Marks;
 pub use row_changes::RowFix;
 pub use texts::check_fault_text;
 pub use traffic::traffic_command;
 pub use waiting::{Waiting, find_waiting};
+pub use wirings::{OtherWiring, same_wiring};
