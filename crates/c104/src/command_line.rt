@@ -6,6 +6,7 @@ ghost use Rattle.std.specs.Prelude.{◌≤◌};
 
 use crate::count_words::{CountWords, with_counts};
 use crate::help;
+use crate::path_words::{PathWords, with_paths};
 use crate::picture_words::{PictureWords, with_pictures};
 use crate::subcommands::{Row, SUBCOMMANDS, Subcommand};
 use crate::traffic_words::{SEED, TrafficWords, with_traffic};
@@ -71,6 +72,8 @@ pub struct Order<'a> {
     pub traffic: TrafficWords<'a>,
     /// Which counts of a run are to be printed, and how.
     pub counts: CountWords<'a>,
+    /// What of paths is to be printed, and of which descriptions.
+    pub paths: PathWords<'a>,
 }
 
 impl<'a> Order<'a> {
@@ -89,6 +92,7 @@ impl<'a> Order<'a> {
         seed: None,
         traffic: TrafficWords::NONE,
         counts: CountWords::NONE,
+        paths: PathWords::NONE,
     };
 
     /// The order of words that were matched.
@@ -113,6 +117,7 @@ impl<'a> Order<'a> {
             seed: given.get_one(SEED),
             traffic: TrafficWords::of_matches(given),
             counts: CountWords::of_matches(given),
+            paths: PathWords::of_matches(given),
         }
     }
 
@@ -174,7 +179,7 @@ const EXPLAIN_HELP: &str = "Explain on standard error what is wrong, and what wa
 the default on a terminal";
 
 /// The names of arguments, as help shows them.
-const DESCRIPTION: &str = "DESC";
+pub(crate) const DESCRIPTION: &str = "DESC";
 
 /// The same of a script, which other words are bound to.
 pub const SCRIPT: &str = "SCRIPT";
@@ -258,6 +263,7 @@ fn subcommand<'a>(alloc: Global, row: Row) -> Result<Command<'a>, AllocError> {
         Subcommand::Storm => with_workers(alloc, named),
         Subcommand::Stats => with_counts(alloc, with_both(alloc, named)?),
         Subcommand::Cycles => with_cycles(alloc, with_description(alloc, named)?),
+        Subcommand::Paths => with_paths(alloc, named),
         Subcommand::Label => { with_description(alloc, named)?.arg(flag(alloc, ROWS, ROWS_HELP)) }
         Subcommand::Draw => with_pictures(alloc, with_description(alloc, named)?),
         Subcommand::Traffic => with_traffic(alloc, with_description(alloc, named)?),

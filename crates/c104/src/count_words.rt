@@ -114,9 +114,9 @@ pub fn name_of(what: What) -> &'static str {
 /// The options of counts.
 pub(crate) const FORMAT: &str = "format";
 
-const FORMAT_HELP: &str = "How they are printed: table, csv or json; by default table";
+pub(crate) const FORMAT_HELP: &str = "How they are printed: table, csv or json; by default table";
 
-const WHAT: &str = "what";
+pub(crate) const WHAT: &str = "what";
 
 const WHAT_HELP: &str = "Which are: packets, latencies, links or rounds; by default a summary";
 

@@ -25,6 +25,7 @@ Examples:
   c104 check --each-cut network.txt   whether they can without one of its wires
   c104 cycles network.txt             whether they can wait for one another forever
   c104 cycles --script network.txt    a script after which they do
+  c104 paths network.txt              over how many wires they go, and over which most
   c104 label network.txt              which labels and registers it gives
   c104 label --rows network.txt       the same labels, as row lines
   c104 draw network.txt | dot -Tsvg   its picture
@@ -147,6 +148,31 @@ With --all each dependency comes first, on a line of its own. With --script a ne
 with a cycle is answered by a script in place of the cycle: after it no event of a round
 can be done, though tokens are left. It was run before it is printed. Where no such
 script is found, `none found` is printed, and that says nothing of the network.";
+
+/// Of `paths`.
+pub const PATHS: &str =
+    "Wires between switches are counted, whatever link of a group is taken, and those of
+terminals aren't. Without --what it prints a summary: how many pairs of a terminal and a
+label of another terminal there are; the mean and the largest number of wires on their
+longest ways; the mean and the largest stretch, which is these wires over those of a
+shortest path; the largest load of a link between switches, which is the number of pairs
+that can use it, and that link; the most rows that an input has, and that input; the
+means and largest of the ways by random headers; and how many inputs the cycle has that
+`cycles` finds, if there is one. A table has a row for each
+
+  pairs   pair: the least and the most wires, those of a shortest path, the stretch, and
+          the wires by random headers before
+  links   link with a wire: how many pairs can use it and always do, and the same of
+          terminals and their random headers
+  inputs  input: its rows that are set, those of them that decide for a header that can
+          come there, and how many labels and random headers can
+
+Of several descriptions, up to 16, it prints a table of their summaries. They must have
+the same switches, terminals and wires, in any order, or `refused OtherWiring` and the
+file are printed. Labels that check refuses are answered as by check.
+
+  c104 paths --what links --format csv network.txt > links.csv
+  c104 paths tree.txt up-down.txt     two ways to label the same network";
 
 /// Of `label`.
 pub const LABEL: &str =

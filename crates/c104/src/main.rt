@@ -3,7 +3,8 @@
 //! `main` reads the command line, opens what it names, calls the function of a command and says what that
 //! function's `Status` means: a message on standard error and an exit status. What the words of the command line ask for is
 //! in `command_line`, with the words of pictures, traffic and counts in modules of their own; the texts of help are in `help`.
-//! Commands of two files but `run` are in `pairs`, and those that count in `tables`; how files are opened in `opening`, what a
+//! Commands of two files but `run` are in `pairs`, those that count in `tables`, that of paths in `path_files`, and that which
+//! prints a script of traffic in `sending`; how files are opened in `opening`, what a
 //! path stands for in `sources`, a script that is typed in `typed`, what people are told beside the answers in `told`. The
 //! functions of the commands are those of `c104_commands`, `c104_session`, `c104_lockup` and `c104_storm`.
 #![tactic(auto)]
@@ -13,7 +14,10 @@ mod count_words;
 mod help;
 mod opening;
 mod pairs;
+mod path_files;
+mod path_words;
 mod picture_words;
+mod sending;
 mod sources;
 mod subcommands;
 mod tables;
@@ -22,8 +26,8 @@ mod traffic_words;
 mod typed;
 
 pub use c104_commands::{
-    Marks, PatternName, check_command, cuts_command, cycles_command, draw_command, label_command,
-    label_rows_command, traffic_command,
+    Comparison, Marks, PathTable, PatternName, check_command, cuts_command, cycles_command,
+    draw_command, label_command, label_rows_command, paths_command, traffic_command,
 };
 use c104_describe::read_description;
 pub use c104_lockup::lockup_command;
@@ -39,6 +43,8 @@ use clap::error::ErrorKind;
 use command_line::{Order, STANDARD_INPUT, Words};
 use opening::{HostSource, is_closed, open_both, open_path};
 use pairs::{draw_files, storm_files, time_files};
+use path_files::tell_files;
+use sending::send_file;
 use sources::Watched;
 use std::io::{Input, IsTerminal};
 use std::process::ExitCode;
@@ -48,7 +54,6 @@ use std::{env, io};
 use subcommands::Subcommand;
 use tables::count_files;
 use told::{Told, tell_of_words};
-use traffic_words::TrafficWords;
 use typed::Typed;
 
 /// The exit status of a wrong command line.
@@ -123,11 +128,11 @@ fn do_matched<H: Threads + Wait + Sync>(
 }
 
 /// Does an order, and tells what people are to be told.
-fn do_order<H: Threads + Wait + Sync>(
+fn do_order<'a, H: Threads + Wait + Sync>(
     rt: &HostRuntime,
     threads: &H,
-    order: Order<'_>,
-    told: &mut Told<'_>,
+    order: Order<'a>,
+    told: &mut Told<'a>,
 ) -> Status {
     match order.subcommand {
         Subcommand::Run => run_order(rt, order, told),
@@ -137,6 +142,7 @@ fn do_order<H: Threads + Wait + Sync>(
         Subcommand::Check => check_file(rt, order, told),
         Subcommand::Cycles if order.lockup => lock_file(rt, order.description, told),
         Subcommand::Cycles => search_file(rt, order.description, order.all, told),
+        Subcommand::Paths => tell_files(rt, order, told),
         Subcommand::Label => label_file(rt, order, told),
         Subcommand::Draw => draw_order(rt, order, told),
         Subcommand::Traffic => send_file(rt, order, told),
@@ -315,59 +321,6 @@ fn draw_file(rt: &HostRuntime, order: Order<'_>, told: &mut Told<'_>) -> Status 
         &mut io::writer(rt),
         told,
     )
-}
-
-/// Prints a script of traffic for the network of a description's file. A pattern or a load that there isn't is a wrong word.
-fn send_file(rt: &HostRuntime, order: Order<'_>, told: &mut Told<'_>) -> Status {
-    let Some(name) = asked_pattern(rt, order.traffic) else {
-        told.note_wrong_word();
-        return Status::Refused;
-    };
-    let traffic = match order.traffic.amount() {
-        Ok(traffic) => traffic,
-        Err(why) => {
-            let _ = eprintln!(rt; "error: {why}");
-            told.note_wrong_word();
-            return Status::Refused;
-        }
-    };
-    let Some(mut description) = open_path(rt, order.description, told) else {
-        return Status::CannotRead(0);
-    };
-    let status = traffic_command(
-        rt.alloc(),
-        name,
-        order.traffic.target.unwrap_or(""),
-        traffic,
-        &mut description,
-        &mut io::writer(rt),
-        told,
-    );
-    told.note_fault(description.fault());
-    status
-}
-
-/// The pattern that is asked for. A pattern that there isn't is a wrong word, which is told, and so is a hot spot without its
-/// terminal, or a terminal without a hot spot.
-fn asked_pattern(rt: &HostRuntime, words: TrafficWords<'_>) -> Option<PatternName> {
-    let Some(name) = words.pattern_name() else {
-        refuse_pattern(rt, words.pattern.unwrap_or(""));
-        return None;
-    };
-    if words.target.is_some() != matches!(name, PatternName::HotSpot(_)) {
-        let _ = rt.eprintln(
-            "error: a hot-spot wants --target T, its terminal, and no other pattern does",
-        );
-        return None;
-    }
-    Some(name)
-}
-
-/// Tells that there is no pattern of this name, and which there are.
-fn refuse_pattern(rt: &HostRuntime, word: &str) {
-    let _ = eprintln!(rt;
-        "error: the patterns are uniform, transpose, reverse, neighbour, hot-spot, all-to-all, complement, shuffle, tornado and permutation: {word}"
-    );
 }
 
 /// Whether the headers of a description's network have one byte.

@@ -17,6 +17,8 @@ pub enum Subcommand {
     Check,
     /// The search for a cycle of channel dependencies.
     Cycles,
+    /// The paths of packets, in numbers.
+    Paths,
     /// The labels of a description.
     Label,
     /// The picture of a description's network.
@@ -39,7 +41,7 @@ pub struct Row {
 }
 
 /// The subcommands, in the order of help.
-pub const SUBCOMMANDS: [Row; 9] = [
+pub const SUBCOMMANDS: [Row; 10] = [
     Row {
         subcommand: Subcommand::Run,
         name: "run",
@@ -75,6 +77,12 @@ pub const SUBCOMMANDS: [Row; 9] = [
         name: "cycles",
         about: "Looks for a cycle of channel dependencies, without which no accepted network locks up",
         teaching: help::CYCLES,
+    },
+    Row {
+        subcommand: Subcommand::Paths,
+        name: "paths",
+        about: "Prints how far packets go by the labels of a description, over which links, by which rows",
+        teaching: help::PATHS,
     },
     Row {
         subcommand: Subcommand::Label,

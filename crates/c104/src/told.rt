@@ -75,6 +75,11 @@ impl<'a> Told<'a> {
         self.fault = fault;
     }
 
+    /// Notes the path of the description that is read now, where there are several.
+    pub fn note_description(&mut self, path: &'a str) {
+        self.order.description = path;
+    }
+
     /// Notes the path of a file that can't be written, and why, where the system has a number for it.
     pub fn note_unwritten(&mut self, path: String, fault: Option<i32>) {
         self.unwritten = Some(path);

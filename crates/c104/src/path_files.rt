@@ -1,0 +1,113 @@
+//! The command of paths: of one description's file, or what those of several come to.
+
+use crate::command_line::Order;
+use crate::opening::open_path;
+use crate::pairs::format_of;
+use crate::path_words::{PathWords, table_of};
+use crate::told::Told;
+use c104_commands::{Comparison, PathTable, paths_command};
+use c104_session::Format;
+use c104_setup::Status;
+use std::io;
+
+/// Prints what is asked for of the paths of files. A format or a table that there isn't is a wrong word, and so is a table of
+/// several descriptions.
+pub fn tell_files<'a>(rt: &HostRuntime, order: Order<'a>, told: &mut Told<'a>) -> Status {
+    let words = order.paths;
+    match asked_of(words) {
+        Ok((_, format)) if words.are_several() => compare_files(rt, words, format, told),
+        Ok((table, format)) => tell_file(rt, order.description, table, format, told),
+        Err(wrong) => {
+            let _ = rt.eprintln(wrong);
+            told.note_wrong_word();
+            Status::Refused
+        }
+    }
+}
+
+/// The table that is asked for, if it is no summary, and the format; or what is wrong.
+fn asked_of(words: PathWords<'_>) -> Result<(Option<PathTable>, Format), &'static str> {
+    let Some(format) = format_of(words.format.unwrap_or("table")) else {
+        return Err(NO_NAME);
+    };
+    let Some(word) = words.what else {
+        return Ok((None, format));
+    };
+    let Some(table) = table_of(word) else {
+        return Err(NO_NAME);
+    };
+    if words.are_several() {
+        return Err("error: of several descriptions the summaries are told, and no --what");
+    }
+    Ok((Some(table), format))
+}
+
+/// What is told of words that name no format, or no table.
+const NO_NAME: &str =
+    "error: the formats are table, csv and json, and the tables pairs, links and inputs";
+
+/// Prints a table, or the summary, of the paths of a description's file.
+fn tell_file(
+    rt: &HostRuntime,
+    description: &str,
+    table: Option<PathTable>,
+    format: Format,
+    told: &mut Told<'_>,
+) -> Status {
+    let Some(mut description) = open_path(rt, description, told) else {
+        return Status::CannotRead(0);
+    };
+    let status = paths_command(
+        rt.alloc(),
+        table,
+        format,
+        &mut description,
+        &mut io::writer(rt),
+        told,
+    );
+    told.note_fault(description.fault());
+    status
+}
+
+/// Prints the summaries of several files.
+fn compare_files<'a>(
+    rt: &HostRuntime,
+    words: PathWords<'a>,
+    format: Format,
+    told: &mut Told<'a>,
+) -> Status {
+    let Ok(mut comparison) = Comparison::new(rt.alloc(), format) else {
+        return Status::NoMemory;
+    };
+    for path in words.descriptions {
+        if let Some(path) = path {
+            let status = add_file(rt, path, &mut comparison, told);
+            if status != Status::Done {
+                return status;
+            }
+        }
+    }
+    comparison.finish(&mut io::writer(rt))
+}
+
+/// Adds the summary of a file to others.
+fn add_file<'a>(
+    rt: &HostRuntime,
+    path: &'a str,
+    comparison: &mut Comparison,
+    told: &mut Told<'a>,
+) -> Status {
+    told.note_description(path);
+    let Some(mut description) = open_path(rt, path, told) else {
+        return Status::CannotRead(0);
+    };
+    let status = comparison.add_command(
+        rt.alloc(),
+        path,
+        &mut description,
+        &mut io::writer(rt),
+        told,
+    );
+    told.note_fault(description.fault());
+    status
+}
