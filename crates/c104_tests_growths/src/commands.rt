@@ -6,8 +6,8 @@ use crate::growths::{Growing, Refusal, Sharing, is_right, is_told};
 use crate::outcomes::Outcome;
 use crate::written::{ANSWERS, Page, SCRIPT, SENDS, STORM_END, SUMMARY, TWO_ANSWERS};
 use c104_commands::{
-    Marks, check_command, cuts_command, cycles_command, draw_command, label_command,
-    label_rows_command,
+    Marks, PathTable, check_command, cuts_command, cycles_command, draw_command, label_command,
+    label_rows_command, paths_command,
 };
 use c104_lockup::lockup_command;
 use c104_mistakes::Silent;
@@ -121,6 +121,7 @@ impl Growing for Running {
 enum Command {
     Check,
     Cuts,
+    Paths(Option<PathTable>),
     Cycles(bool),
     Label,
     Rows,
@@ -136,6 +137,9 @@ impl Command {
         match self {
             Command::Check => check_command(alloc, &mut text, page, &mut Silent),
             Command::Cuts => cuts_command(alloc, &mut text, page, &mut Silent),
+            Command::Paths(table) => {
+                paths_command(alloc, table, Format::Csv, &mut text, page, &mut Silent)
+            }
             Command::Cycles(all) => cycles_command(alloc, &mut text, all, page, &mut Silent),
             Command::Label => label_command(alloc, &mut text, page, &mut Silent),
             Command::Rows => label_rows_command(alloc, &mut text, page, &mut Silent),
@@ -239,6 +243,10 @@ fn commands(rt: HostRuntime) {
     for (name, command) in [
         ("check_command", Command::Check),
         ("cuts_command", Command::Cuts),
+        ("paths_command", Command::Paths(None)),
+        ("paths_command", Command::Paths(Some(PathTable::Pairs))),
+        ("paths_command", Command::Paths(Some(PathTable::Links))),
+        ("paths_command", Command::Paths(Some(PathTable::Inputs))),
         ("cycles_command", Command::Cycles(false)),
         ("cycles_command", Command::Cycles(true)),
         ("label_command", Command::Label),
