@@ -6,3 +6,7 @@ pub mod ResetRows
 pub mod PartsLaw
 pub mod ScriptBytes
 pub mod DoneScripts
+mod RowNumbers
+pub mod RegisterLists
+pub mod NamesRead
+mod ProbeLists

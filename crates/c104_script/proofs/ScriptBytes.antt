@@ -1,14 +1,14 @@
 -- What a line of a script sends is bytes, since two digits spell each.
 use Rattle.{c104_control.specs.declared.bytes.TheConstants.MAX_CONTROL_BYTES, c104_event.specs.declared.events.Event.Event}
 use Rattle.{c104_event.specs.declared.faults.EventFault.EventFault, c104_plan.specs.Checks.{require, value_or_fault, ◌>>=◌, ◌>>◌}}
-use Rattle.{c104_plan.specs.{Plans.Plan, TextCut.{is_plain_line, line_words, uncommented_line}}, c104_script.specs.HexWords.address_word}
-use Rattle.c104_script.specs.{HexWords.register_word, Script.{bytes_after, claim_line, control_line, counted_line, credit_line, cross_line}}
-use Rattle.c104_script.specs.Script.{drain_line, fair_line, input_at, input_line, link_line, most_line, most_rounds, number_word, packet_of}
-use Rattle.c104_script.specs.Script.{peek_line, place_word, poke_line, port_at, probe_line, probe_of, read_script_line, read_script_words}
-use Rattle.c104_script.specs.Script.{request_of, rounds_line, seeded_line, send_line, some_request, switch_at, table_line, terminal_at}
-use Rattle.c104_script.specs.{Script.{verb_line, verb_of}, SeedWords.seed_of, declared.{faults.LineFault.LineFault, places.Request.Request}}
-use Rattle.{c104_script.specs.declared.{probes.Probe.Probe, words.{ProbeVerb.ProbeVerb, Verb.Verb}}, c104_token.proofs.Spelling.Spelled}
-use Rattle.c104_token.{proofs.Spelling.accepted, specs.Text.{IsHexDigit, SpellBytes, SpellsByte, parse_words}}
+use Rattle.{c104_plan.specs.{Plans.Plan, TextCut.{is_plain_line, line_words, uncommented_line}}, c104_script.specs.HexWords.register_word}
+use Rattle.c104_script.specs.Script.{bytes_after, claim_line, control_line, counted_line, credit_line, cross_line, drain_line, fair_line}
+use Rattle.c104_script.specs.Script.{input_at, input_line, link_line, most_line, most_rounds, number_word, packet_of, peek_line, peek_words}
+use Rattle.c104_script.specs.Script.{place_word, poke_line, poke_words, port_at, probe_line, probe_of, read_script_line, read_script_words}
+use Rattle.c104_script.specs.Script.{register_line, request_of, rounds_line, seeded_line, send_line, some_request, switch_at, table_line}
+use Rattle.c104_script.specs.{Script.{terminal_at, value_words, verb_line, verb_of}, SeedWords.seed_of, declared.faults.LineFault.LineFault}
+use Rattle.c104_script.specs.declared.{places.Request.Request, probes.Probe.Probe, words.{ProbeVerb.ProbeVerb, Verb.Verb}}
+use Rattle.c104_token.{proofs.Spelling.{Spelled, accepted}, specs.Text.{IsHexDigit, SpellBytes, SpellsByte, parse_words}}
 use Rattle.{c104_token.specs.declared.{faults.TokenFault.TokenFault, packets.Packet.Packet}, std.proofs.Common.{All, Bool, Err, IfOk, List}}
 use Rattle.std.proofs.Common.{None, Ok, Option, Result, Some, [], ap, arith, false, if◌then◌else◌, inl, inr, length, nat_le, refl, subst}
 use Rattle.std.{proofs.{Common.{sym, true, ℕ, ◌&&◌, ◌<◌, ◌∷◌, ◌≡◌}, lemmas.List.Elements.{All-cons, All-nil}}, specs.Prelude.bytes_eq}
@@ -110,11 +110,25 @@ module _ (plan : Plan) where
   rounds_fine (word ∷ fair ∷ key ∷ behind ∷ []) = fair_fine fair _ (seeded_fine word true key behind)
   rounds_fine rest = tt
 
-  peek_fine : (place addr : List ℕ) → Fine (peek_line plan place addr)
-  peek_fine place addr = chained RequestBytes (place_word place) _ (λ at was. chained RequestBytes (address_word addr) _ (λ a is. probed (switch_at plan at) _))
+  peek_fine : (place word : List ℕ) (row : Option (List ℕ)) → Fine (peek_line plan place word row)
+  peek_fine place word row = chained RequestBytes (register_line plan place word row) _ (λ found was. probed found _)
 
-  poke_fine : (place addr value : List ℕ) → Fine (poke_line plan place addr value)
-  poke_fine place addr value = chained RequestBytes (place_word place) _ (λ at was. chained RequestBytes (address_word addr) _ (λ a is. chained RequestBytes (register_word value) _ (λ v is'. probed (switch_at plan at) _)))
+  peek_words_fine : (rest : List (List ℕ)) → Fine (peek_words plan rest)
+  peek_words_fine (place ∷ word ∷ []) = peek_fine place word None
+  peek_words_fine (place ∷ word ∷ row ∷ []) = peek_fine place word (Some row)
+  peek_words_fine rest = tt
+
+  poke_fine : (place word : List ℕ) (row : Option (List ℕ)) (value : List ℕ) → Fine (poke_line plan place word row value)
+  poke_fine place word row value = chained RequestBytes (register_line plan place word row) _ (λ found was. chained RequestBytes (register_word value) _ (λ v is. probed found _))
+
+  value_words_fine : (place word : List ℕ) (rest : List (List ℕ)) → Fine (value_words plan place word rest)
+  value_words_fine place word (value ∷ []) = poke_fine place word None value
+  value_words_fine place word (row ∷ value ∷ []) = poke_fine place word (Some row) value
+  value_words_fine place word rest = tt
+
+  poke_words_fine : (rest : List (List ℕ)) → Fine (poke_words plan rest)
+  poke_words_fine (place ∷ word ∷ rest) = value_words_fine place word rest
+  poke_words_fine rest = tt
 
   link_fine : (place : List ℕ) → Fine (link_line plan place)
   link_fine place = chained RequestBytes (place_word place) _ (λ at was. probed (input_at plan at) _)
@@ -123,8 +137,8 @@ module _ (plan : Plan) where
   table_fine place = chained RequestBytes (place_word place) _ (λ at was. probed (input_at plan at) _)
 
   probe_fine : (word : ProbeVerb) (rest : List (List ℕ)) → Fine (probe_line word plan rest)
-  probe_fine ProbeVerb.Peek (place ∷ addr ∷ []) = peek_fine place addr
-  probe_fine ProbeVerb.Poke (place ∷ addr ∷ value ∷ []) = poke_fine place addr value
+  probe_fine ProbeVerb.Peek rest = peek_words_fine rest
+  probe_fine ProbeVerb.Poke rest = poke_words_fine rest
   probe_fine ProbeVerb.Link (place ∷ []) = link_fine place
   probe_fine ProbeVerb.Table (place ∷ []) = table_fine place
   probe_fine ProbeVerb.Verify [] = tt

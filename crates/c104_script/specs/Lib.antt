@@ -1,6 +1,8 @@
 pub mod Parts
 pub mod HexWords
+pub mod RegisterWords
 pub mod Script
+pub mod RegisterNames
 pub mod SeedWords
 pub mod Findings
 pub mod Texts

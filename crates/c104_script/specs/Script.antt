@@ -7,10 +7,10 @@ use Rattle.{c104_control.specs.declared.bytes.TheConstants.MAX_CONTROL_BYTES, c1
 use Rattle.{c104_event.specs.declared.faults.EventFault.{EventFault, TheVariants.{NoLink, NoNode}}, c104_plan.specs.Checks.require}
 use Rattle.c104_plan.specs.{Checks.{value_or_fault, ◌>>=◌, ◌>>◌}, Plans.{Plan, switch_number, terminal_number}, TextCut.is_plain_line}
 use Rattle.c104_plan.specs.{TextCut.{line_words, uncommented_line}, TextWords.{dots, read_number}, declared.ports.Port.Port}
-use Rattle.{c104_plan.specs.declared.text.Dots.{Dots, TheVariants.{At, Several, Without}}, c104_script.specs.HexWords.address_word}
-use Rattle.c104_script.specs.{HexWords.register_word, SeedWords.seed_of, declared.places.Request.TheVariants.{Asked, Probed, Refused}}
-use Rattle.{c104_script.specs.declared.places.Request.TheVariants.Rounds, c104_token.specs.Text.{parse_words, spelled_byte}}
-use Rattle.c104_token.specs.declared.{faults.TokenFault.TokenFault, packets.Packet.Packet}
+use Rattle.{c104_plan.specs.declared.text.Dots.{Dots, TheVariants.{At, Several, Without}}, c104_script.specs.HexWords.register_word}
+use Rattle.c104_script.specs.{RegisterWords.{is_row_due, register_place, register_with}, SeedWords.seed_of}
+use Rattle.{c104_script.specs.declared.places.Request.TheVariants.{Asked, Probed, Refused, Rounds}, c104_token.specs.Text.parse_words}
+use Rattle.c104_token.specs.{Text.spelled_byte, declared.{faults.TokenFault.TokenFault, packets.Packet.Packet}}
 use Rattle.std.specs.{Map.lookup, Prelude.{Bool, Err, List, None, Ok, Option, Result, Some, [], bytes_eq, codes, drop, false}}
 use Rattle.std.specs.Prelude.{if◌then◌else◌, length, nat_le, take, true, ℕ, ◌&&◌, ◌++◌, ◌+◌, ◌∷◌, ◌≡◌, ◌⊎◌}
 
@@ -179,20 +179,43 @@ abbrev pub probe_of : {X : Type 0} → Result X EventFault → (X → Probe) →
 probe_of (Ok x) f = Probed (f x)
 probe_of (Err kind) f = Refused kind
 
--- `peek S ADDR`
-abbrev pub peek_line : Plan → List ℕ → List ℕ → Result Request LineFault
-peek_line plan node addr_word = do
+-- the switch and the address of the register that words stand for, or why there is none
+abbrev pub register_line : Plan → List ℕ → List ℕ → Option (List ℕ) → Result (Result (ℕ × ℕ) EventFault) LineFault
+register_line plan node word row_word = do
+  require (is_row_due word row_word) LineFault.BadShape
   place ← place_word node
-  addr ← address_word addr_word
-  Ok (probe_of (switch_at plan place) (λ s. Probe.Peek s addr))
+  register ← register_place word row_word
+  Ok (register_with (switch_number plan place.0) place.1 register)
 
--- `poke S ADDR VALUE`
-abbrev pub poke_line : Plan → List ℕ → List ℕ → List ℕ → Result Request LineFault
-poke_line plan node addr_word value_word = do
-  place ← place_word node
-  addr ← address_word addr_word
+-- `peek S ADDR`, `peek S NAME`, `peek S.l NAME` or `peek S.l NAME K`
+abbrev pub peek_line : Plan → List ℕ → List ℕ → Option (List ℕ) → Result Request LineFault
+peek_line plan node word row_word = do
+  found ← register_line plan node word row_word
+  Ok (probe_of found (λ r. Probe.Peek r.0 r.1))
+
+-- the words behind `peek`
+abbrev pub peek_words : Plan → List (List ℕ) → Result Request LineFault
+peek_words plan (node ∷ word ∷ []) = peek_line plan node word None
+peek_words plan (node ∷ word ∷ row_word ∷ []) = peek_line plan node word (Some row_word)
+peek_words plan rest = Err LineFault.BadShape
+
+-- `poke` with the same, and `VALUE` behind it
+abbrev pub poke_line : Plan → List ℕ → List ℕ → Option (List ℕ) → List ℕ → Result Request LineFault
+poke_line plan node word row_word value_word = do
+  found ← register_line plan node word row_word
   value ← register_word value_word
-  Ok (probe_of (switch_at plan place) (λ s. Probe.Poke s addr value))
+  Ok (probe_of found (λ r. Probe.Poke r.0 r.1 value))
+
+-- the words behind those for a switch and for a register
+abbrev pub value_words : Plan → List ℕ → List ℕ → List (List ℕ) → Result Request LineFault
+value_words plan node word (value_word ∷ []) = poke_line plan node word None value_word
+value_words plan node word (row_word ∷ value_word ∷ []) = poke_line plan node word (Some row_word) value_word
+value_words plan node word rest = Err LineFault.BadShape
+
+-- the words behind `poke`
+abbrev pub poke_words : Plan → List (List ℕ) → Result Request LineFault
+poke_words plan (node ∷ word ∷ rest) = value_words plan node word rest
+poke_words plan rest = Err LineFault.BadShape
 
 -- `link S.l`
 abbrev pub link_line : Plan → List ℕ → Result Request LineFault
@@ -208,8 +231,8 @@ table_line plan node = do
 
 -- a line of the debugger, by what its first word asks for and the words after it
 abbrev pub probe_line : ProbeVerb → Plan → List (List ℕ) → Result Request LineFault
-probe_line ProbeVerb.Peek plan (node ∷ addr_word ∷ []) = peek_line plan node addr_word
-probe_line ProbeVerb.Poke plan (node ∷ addr_word ∷ value_word ∷ []) = poke_line plan node addr_word value_word
+probe_line ProbeVerb.Peek plan rest = peek_words plan rest
+probe_line ProbeVerb.Poke plan rest = poke_words plan rest
 probe_line ProbeVerb.Link plan (node ∷ []) = link_line plan node
 probe_line ProbeVerb.Table plan (node ∷ []) = table_line plan node
 probe_line ProbeVerb.Verify plan [] = Ok (Probed Probe.Verify)

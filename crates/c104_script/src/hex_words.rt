@@ -1,6 +1,6 @@
-//! Words of hexadecimal digits.
+//! Words of hexadecimal digits, before which `0x` or `0X` may stand.
 ghost use Rattle.std.specs.Prelude.{IfSome, ◌<◌, ◌^◌, ◌≡◌, ◌≤◌};
-ghost use Rattle.{c104_script.specs.HexWords.{address_word, hex_number, register_word}, c104_token.specs.Text.hex_value};
+ghost use Rattle.{c104_script.specs.HexWords.{address_word, hex_number, is_prefix, register_word, unprefixed}, c104_token.specs.Text.hex_value};
 
 use crate::faults::LineFault;
 
@@ -14,7 +14,7 @@ const VALUE_DIGITS: usize = 8;
 pub(crate) fn read_address(word: &[u8]) -> Result<u16, LineFault>
     ensures { result ≡ address_word word.now }
 {
-    let Some(value) = read_hex(word, ADDRESS_DIGITS) else {
+    let Some(value) = read_hex(unprefixed(word), ADDRESS_DIGITS) else {
         return Err(LineFault::BadHex);
     };
     Ok(value as u16)
@@ -24,10 +24,31 @@ pub(crate) fn read_address(word: &[u8]) -> Result<u16, LineFault>
 pub(crate) fn read_register(word: &[u8]) -> Result<u32, LineFault>
     ensures { result ≡ register_word word.now }
 {
-    let Some(value) = read_hex(word, VALUE_DIGITS) else {
+    let Some(value) = read_hex(unprefixed(word), VALUE_DIGITS) else {
         return Err(LineFault::BadHex);
     };
     Ok(value)
+}
+
+/// The word without the `0x` or `0X` with which it begins, if it does.
+fn unprefixed(word: &[u8]) -> &[u8]
+    ensures { result.now ≡ unprefixed word.now }
+{
+    let [first, second, digits @ ..] = word else {
+        return word;
+    };
+    if is_prefix(*first, *second) {
+        digits
+    } else {
+        word
+    }
+}
+
+/// Whether these are the bytes `0x` or `0X`.
+fn is_prefix(first: u8, second: u8) -> bool
+    ensures { result ≡ is_prefix first second }
+{
+    first == b'0' && (second == b'x' || second == b'X')
 }
 
 /// The number that a word spells, in at least one digit and at most `most`. None where it is anything else.
