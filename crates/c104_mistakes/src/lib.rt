@@ -16,6 +16,7 @@ mod descriptions;
 mod forms;
 mod messages;
 mod nearest;
+mod register_names;
 mod register_ranges;
 mod script_mistakes;
 mod scripts;

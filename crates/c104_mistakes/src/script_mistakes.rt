@@ -34,9 +34,11 @@ pub(crate) const CONTROL_LINE: &str = "the line is `control SWITCH`, followed by
 pub(crate) const ROUNDS_LINE: &str =
     "the line is `rounds COUNT`, followed by an optional `fair`, and by an optional `seed NUMBER`";
 
-pub(crate) const PEEK_LINE: &str = "the line is `peek SWITCH ADDRESS`, as `peek A 0140`";
+pub(crate) const PEEK_LINE: &str =
+    "the line is `peek SWITCH ADDRESS`, as `peek A 0140`, or has a register's name, as `peek A.0 limit 0`";
 
-pub(crate) const POKE_LINE: &str = "the line is `poke SWITCH ADDRESS VALUE`, as `poke A 0140 5`";
+pub(crate) const POKE_LINE: &str =
+    "the line is `poke SWITCH ADDRESS VALUE`, as `poke A 0140 5`, or has a register's name, as `poke A.0 limit 0 5`";
 
 pub(crate) const LINK_LINE: &str = "the line is `link SWITCH.LINK`";
 
@@ -58,7 +60,10 @@ pub(crate) const NO_TOKEN: &str =
 
 pub(crate) const NO_BYTE: &str = "a byte is two hexadecimal digits, 00 to ff";
 
-pub(crate) const NO_ADDRESS: &str = "an address is 1 to 4 hexadecimal digits";
+pub(crate) const NO_ADDRESS: &str =
+    "a register is an address of 1 to 4 hexadecimal digits, or a name, as `mode`";
+
+pub(crate) const NO_ROW: &str = "the number of a row is 0 to 35";
 
 pub(crate) const NO_VALUE: &str = "a value is 1 to 8 hexadecimal digits";
 

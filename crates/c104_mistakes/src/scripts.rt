@@ -4,12 +4,13 @@ ghost use Rattle.std.specs.Prelude.{◌<◌, IfSome};
 use crate::common_mistakes::{BYTE_ORDER_MARK, NO_LINK, NOT_A_SWITCH, NOT_A_TERMINAL, WRONG_BYTE};
 use crate::forms::{DESCRIPTION_FORMS, SCRIPT_FORMS, form_of, nearest_form};
 use crate::nearest::{nearest_node, nearest_switch, nearest_terminal};
+use crate::register_names::{is_of_link, nearest_register, register_named, takes_row};
 use crate::register_ranges::range_of_word;
 use crate::script_mistakes::{
     AFTER_END, BUSY, DESCRIPTIONS_WORD, INBOX_FULL, LINE_TOO_LONG, LINK_MISSING, NO_ADDRESS,
-    NO_BYTE, NO_END, NO_INPUT, NO_NODE, NO_NUMBER, NO_PORT, NO_REGISTER, NO_ROUNDS, NO_SEED,
-    NO_TOKEN, NO_VALUE, NO_WORD, NO_WORD_ASKED, NOT_WIRED, OUTBOX_FULL, PACKET_TOO_LONG, READ_ONLY,
-    SCRIPT_BEGAN, SWITCHS_LINK, TERMINALS_LINK, TRACE_FULL,
+    NO_BYTE, NO_END, NO_INPUT, NO_NODE, NO_NUMBER, NO_PORT, NO_REGISTER, NO_ROUNDS, NO_ROW,
+    NO_SEED, NO_TOKEN, NO_VALUE, NO_WORD, NO_WORD_ASKED, NOT_WIRED, OUTBOX_FULL, PACKET_TOO_LONG,
+    READ_ONLY, SCRIPT_BEGAN, SWITCHS_LINK, TERMINALS_LINK, TRACE_FULL,
 };
 use crate::words::{
     LAST_LINK, Mistake, begins_with_mark, has_dot, is_within, link_of, name_of, names_switch,
@@ -62,7 +63,9 @@ pub fn register_message(alloc: Global, line: &[u8], fault: RegFault) -> Option<S
     let mistake = match fault {
         RegFault::NoRegister => Mistake::new(NO_REGISTER, word_at(words, 2)),
         RegFault::ReadOnly => Mistake::new(READ_ONLY, word_at(words, 2)),
-        RegFault::OutOfRange => Mistake::new(range_of_word(word_at(words, 2)), word_at(words, 3)),
+        RegFault::OutOfRange => {
+            Mistake::new(range_of_word(word_at(words, 2)), words.last().copied())
+        }
         RegFault::Busy => Mistake::new(BUSY, word_at(words, 2)),
     };
     mistake.text(alloc).ok()
@@ -123,10 +126,20 @@ fn shape_mistake<'a>(words: &[&'a [u8]]) -> Mistake<'a> {
     let Some((_, line, least, most)) = form_of(&SCRIPT_FORMS, words) else {
         return Mistake::new(NO_WORD, None);
     };
-    if least <= words.len() && words.len() <= most && !asks_rounds(words) {
+    let count = words.len();
+    if least <= count && count <= most && !asks_rounds(words) && !is_row_amiss(words, least) {
         return Mistake::new(NO_PORT, word_at(words, 1));
     }
     Mistake::new(line, None)
+}
+
+/// Whether the number of a row is missing behind a register's name, or stands behind another word. With it a line has a
+/// word more than at least.
+fn is_row_amiss(words: &[&[u8]], least: usize) -> bool {
+    match words {
+        [b"peek" | b"poke", _, name, ..] => takes_row(name) != (words.len() > least),
+        _ => false,
+    }
 }
 
 /// A number that is none, or out of its range.
@@ -138,6 +151,7 @@ fn number_mistake<'a>(words: &[&'a [u8]]) -> Mistake<'a> {
         [_, node, ..] if has_dot(node) && link_of(node).is_none() => {
             Mistake::new(NO_LINK, Some(*node))
         }
+        [b"peek" | b"poke", _, _, row, ..] => Mistake::new(NO_ROW, Some(*row)),
         [_, _, input, ..] if read_number(input).is_none() => {
             Mistake::new(NO_NUMBER, Some(*input))
         }
@@ -163,20 +177,26 @@ fn rounds_mistake<'a>(words: &[&'a [u8]]) -> Mistake<'a> {
 /// A word that isn't the hexadecimal digits that are asked for.
 fn hex_mistake<'a>(words: &[&'a [u8]]) -> Mistake<'a> {
     match words {
-        [b"peek" | b"poke", _, addr, rest @ ..] => {
-            if is_hex(addr, ADDRESS_DIGITS) {
-                Mistake::new(NO_VALUE, word_at(rest, 0))
+        [b"peek" | b"poke", _, name, ..] => {
+            if is_address(name) || register_named(name).is_some() {
+                Mistake::new(NO_VALUE, words.last().copied())
             } else {
-                Mistake::new(NO_ADDRESS, Some(*addr))
+                Mistake::new(NO_ADDRESS, Some(*name)).near(nearest_register(name))
             }
         }
         _ => byte_mistake(words),
     }
 }
 
-/// Whether a word is of hexadecimal digits, at least one and at most `most`.
-fn is_hex(word: &[u8], most: usize) -> bool {
-    !word.is_empty() && word.len() <= most && word.iter().all(|digit| digit.is_ascii_hexdigit())
+/// Whether a word is the address of a register: hexadecimal digits, before which `0x` or `0X` may stand.
+fn is_address(word: &[u8]) -> bool {
+    let digits = match word {
+        [b'0', b'x' | b'X', digits @ ..] => digits,
+        _ => word,
+    };
+    !digits.is_empty()
+        && digits.len() <= ADDRESS_DIGITS
+        && digits.iter().all(|digit| digit.is_ascii_hexdigit())
 }
 
 /// A word that is no byte.
@@ -248,7 +268,7 @@ fn link_mistake<'a>(words: &[&'a [u8]], plan: &Plan) -> Mistake<'a> {
     if names_terminal(plan, node) {
         return Mistake::new(TERMINALS_LINK, Some(*node));
     }
-    if matches!(*first, b"claim" | b"control" | b"peek" | b"poke") {
+    if matches!(*first, b"claim" | b"control" | b"peek" | b"poke") && !asks_link(words) {
         if has_dot(node) {
             return Mistake::new(SWITCHS_LINK, Some(*node));
         }
@@ -258,6 +278,14 @@ fn link_mistake<'a>(words: &[&'a [u8]], plan: &Plan) -> Mistake<'a> {
         return Mistake::new(NO_LINK, Some(*node));
     }
     Mistake::new(LINK_MISSING, Some(*node))
+}
+
+/// Whether a line names a register of a link.
+fn asks_link(words: &[&[u8]]) -> bool {
+    match words {
+        [b"peek" | b"poke", _, name, ..] => is_of_link(name),
+        _ => false,
+    }
 }
 
 /// The first number that is no link's.
