@@ -5,3 +5,5 @@ pub mod CycleLemmas
 mod TrafficEnds
 mod FixLemmas
 pub mod ReadTexts
+pub mod BootLemmas
+mod KeptNames

@@ -3,6 +3,7 @@ pub mod Checks
 pub mod ImageTexts
 pub mod Labels
 pub mod LabelRows
+pub mod LabelNames
 pub mod Traffic
 pub mod Pictures
 pub mod CycleTexts
@@ -11,3 +12,4 @@ pub mod Cuts
 pub mod PathCommands
 pub mod PathSummaries
 pub mod Fixes
+pub mod Boots

@@ -20,7 +20,7 @@ pub fn image_text(alloc: Global, plan: &Plan, image: &Image) -> Result<String, N
 }
 
 /// The lines of the terminals' labels join the text.
-fn add_ranges(
+pub(crate) fn add_ranges(
     alloc: Global,
     text: &mut String,
     plan: &Plan,

@@ -5,7 +5,7 @@ ghost use Rattle.c104_commands.specs.Pictures.{IsHeaderPicture, IsPicture, IsPla
 ghost use Rattle.{c104_draw.specs.{CycleDrawings.IsCycleDrawing, Edges.Drawing as Drawn}, c104_plan.specs.PlanImage.Fits};
 ghost use Rattle.c104_check.specs.declared.faults.CheckFault.TheVariants as check_fault;
 
-use crate::cycle_texts::cycle_text;
+use crate::cycle_texts::{acyclic_text, cycle_text};
 use crate::texts::check_fault_text;
 use c104_check::{ChannelDependency, CheckFault, RanksOrCycle, SwitchPort, check, find_cycle};
 use c104_draw::{Drawing, HeaderDrawing, draw, draw_cycle, draw_header};
@@ -22,7 +22,7 @@ pub enum Marks {
     /// The ways of a header, and where the check refuses it the walk that shows why, under a title that tells the
     /// fault. A number that is no header of the network has no owner.
     Header(u32),
-    /// A cycle of channel dependencies, if `cycles_command` finds one, under a title that tells it.
+    /// A cycle of channel dependencies, if `cycles_command` finds one, under a title that tells it, or that there is none.
     Cycle,
 }
 
@@ -134,7 +134,10 @@ fn accepted_picture(alloc: Global, plan: &Plan, image: &Image) -> Result<Picture
 {
     let found = find_cycle(alloc, plan, image)?;
     match found {
-        RanksOrCycle::Ranks(_ranks) => plain_picture(alloc, plan, image, String::new(alloc)),
+        RanksOrCycle::Ranks(_ranks) => {
+            let title = acyclic_text(alloc)?;
+            plain_picture(alloc, plan, image, title)
+        }
         RanksOrCycle::Cycle(cycle) => cycle_picture(
             alloc,
             plan,
