@@ -6,6 +6,7 @@ ghost use Rattle.std.specs.Prelude.{◌≤◌};
 
 use crate::count_words::{CountWords, with_counts};
 use crate::help;
+use crate::label_words::{LabelForm, with_labels};
 use crate::path_words::{PathWords, with_paths};
 use crate::picture_words::{PictureWords, with_pictures};
 use crate::subcommands::{Row, SUBCOMMANDS, Subcommand};
@@ -48,9 +49,11 @@ impl<'a> Words<'a> {
 pub struct Order<'a> {
     /// What is to be done.
     pub subcommand: Subcommand,
+    /// Whether a description's path is said.
+    pub is_named: bool,
     /// The description's path: `-` where none is said.
     pub description: &'a str,
-    /// The script's path, if one is said. A run without it is one of both in one text.
+    /// The script's path, if one is said. Else the script follows the description in its text.
     pub script: Option<&'a str>,
     /// What a picture shows.
     pub picture: PictureWords,
@@ -60,8 +63,8 @@ pub struct Order<'a> {
     pub each_cut: bool,
     /// Whether a script is looked for that locks the network up.
     pub lockup: bool,
-    /// Whether labels are shown as a description by `row` lines.
-    pub rows: bool,
+    /// How labels are shown.
+    pub labels: LabelForm,
     /// How many workers a storm is to have, 1 to 64, if that is said.
     pub workers: Option<u8>,
     /// Whether the workers of a storm may do more than a seat of a fabric keeps calls.
@@ -80,13 +83,14 @@ impl<'a> Order<'a> {
     /// What is asked for where no word says anything: a run of one text from standard input.
     pub const PLAIN: Order<'static> = Order {
         subcommand: Subcommand::Run,
+        is_named: false,
         description: STANDARD_INPUT,
         script: None,
         picture: PictureWords::NONE,
         all: false,
         each_cut: false,
         lockup: false,
-        rows: false,
+        labels: LabelForm::Addresses,
         workers: None,
         lean: false,
         seed: None,
@@ -105,13 +109,14 @@ impl<'a> Order<'a> {
         };
         Order {
             subcommand: row.subcommand,
+            is_named: given.get_str(DESCRIPTION).is_some(),
             description: given.get_str(DESCRIPTION).unwrap_or(STANDARD_INPUT),
             script: given.get_str(SCRIPT),
             picture: PictureWords::of_matches(given),
             all: given.get_flag(ALL),
             each_cut: given.get_flag(EACH_CUT),
             lockup: given.get_flag(LOCKUP),
-            rows: given.get_flag(ROWS),
+            labels: LabelForm::of_matches(given),
             workers: given.get_one(WORKERS),
             lean: given.get_flag(LEAN),
             seed: given.get_one(SEED),
@@ -199,11 +204,6 @@ const EACH_CUT: &str = "each-cut";
 
 const EACH_CUT_HELP: &str = "Check them without each wire, one after the other";
 
-/// The option of labels by `row` lines.
-const ROWS: &str = "rows";
-
-const ROWS_HELP: &str = "Print a description with the labels as row lines";
-
 /// The flag of a storm whose workers may do any number of events.
 const LEAN: &str = "lean";
 
@@ -220,6 +220,9 @@ const HEADERS_SEED_HELP: &str = "Where the generator begins that picks random he
 18446744073709551615; without it each input takes its first";
 
 const DESCRIPTION_HELP: &str = "The description: a file, or - for standard input";
+
+const SCRIPT_HELP: &str = "The script: a file, or - for standard input;
+by default what follows a line `script` in DESC";
 
 /// All that the program takes. The only error is out of memory.
 fn command_line<'a>(alloc: Global) -> Result<Command<'a>, AllocError> {
@@ -264,16 +267,17 @@ fn subcommand<'a>(alloc: Global, row: Row) -> Result<Command<'a>, AllocError> {
         Subcommand::Stats => with_counts(alloc, with_both(alloc, named)?),
         Subcommand::Cycles => with_cycles(alloc, with_description(alloc, named)?),
         Subcommand::Paths => with_paths(alloc, named),
-        Subcommand::Label => { with_description(alloc, named)?.arg(flag(alloc, ROWS, ROWS_HELP)) }
+        Subcommand::Label => with_labels(alloc, with_description(alloc, named)?),
         Subcommand::Draw => with_pictures(alloc, with_description(alloc, named)?),
         Subcommand::Traffic => with_traffic(alloc, with_description(alloc, named)?),
     }
 }
 
-/// `[DESC SCRIPT]`: neither of the two stands without the other.
+/// `[DESC [SCRIPT]]`.
 fn with_files<'a>(alloc: Global, named: Command<'a>) -> Result<Command<'a>, AllocError> {
-    let description = description_argument(alloc).requires_arg(SCRIPT)?;
-    named.arg(description)?.arg(script_argument(alloc))
+    named
+        .arg(description_argument(alloc))?
+        .arg(script_argument(alloc))
 }
 
 /// `[--each-cut]`, behind a description.
@@ -287,16 +291,16 @@ fn with_cycles<'a>(alloc: Global, named: Command<'a>) -> Result<Command<'a>, All
     named.arg(flag(alloc, ALL, ALL_HELP))?.arg(lockup)
 }
 
-/// `DESC SCRIPT [--workers N] [--lean] [--seed S]`.
+/// `DESC [SCRIPT] [--workers N] [--lean] [--seed S]`.
 fn with_workers<'a>(alloc: Global, named: Command<'a>) -> Result<Command<'a>, AllocError> {
     let named = with_both(alloc, named)?.arg(workers_option(alloc))?;
     let named = named.arg(flag(alloc, LEAN, LEAN_HELP))?;
     named.arg(headers_seed_option(alloc))
 }
 
-/// `DESC SCRIPT`.
+/// `DESC [SCRIPT]`.
 fn with_both<'a>(alloc: Global, named: Command<'a>) -> Result<Command<'a>, AllocError> {
-    with_description(alloc, named)?.arg(script_argument(alloc).required(true))
+    with_description(alloc, named)?.arg(script_argument(alloc))
 }
 
 /// `DESC`.
@@ -349,7 +353,7 @@ fn description_argument<'a>(alloc: Global) -> Arg<'a> {
 
 /// `SCRIPT`.
 pub fn script_argument<'a>(alloc: Global) -> Arg<'a> {
-    Arg::new(alloc, SCRIPT).help("The script: a file, or - for standard input")
+    Arg::new(alloc, SCRIPT).help(SCRIPT_HELP)
 }
 
 /// `--workers N`.

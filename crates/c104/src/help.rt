@@ -12,12 +12,13 @@ pub const PROGRAM: &str = "A run has two inputs, which are text:
   is read. At the end comes each packet that arrived: the terminal's name, the packet,
   its sender, and its number there.
 
-They are two files, or one text on standard input: the description, a line whose
-only word is `script`, and then the script. `c104` alone is `c104 run`.
+They are two files, or one text: the description, a line whose only word is `script`,
+and then the script. A command that wants no script passes it over. `c104` alone runs
+one text from standard input.
 
 Examples:
   c104 run network.txt events.txt     a description and a script from two files
-  c104 < examples/first-network.txt   both in one text
+  c104 run first-network.txt          both in one text
   c104 debug network.txt              a description from a file, and a script as you type it
   c104 storm network.txt sends.txt    its packets carried by threads
   c104 stats network.txt events.txt   how its packets and links fared, in numbers
@@ -28,6 +29,7 @@ Examples:
   c104 paths network.txt              over how many wires they go, and over which most
   c104 label network.txt              which labels and registers it gives
   c104 label --rows network.txt       the same labels, as row lines
+  c104 label --commands network.txt   as a script of control commands
   c104 draw network.txt | dot -Tsvg   its picture
   c104 traffic --help                 packets for it, as a script
 
@@ -45,13 +47,14 @@ Exit status:
   4  out of memory";
 
 /// Of `run`.
-pub const RUN: &str = "Without DESC and SCRIPT both are read from standard input as one text: the
-description, a line whose only word is `script`, and then the script.";
+pub const RUN: &str =
+    "Without SCRIPT, DESC is one text of both: the description, a line whose only word is
+`script`, and then the script. Without DESC too that text is read from standard input.";
 
 /// Of `debug`.
 pub const DEBUG: &str =
-    "The script is read from standard input, and each line is answered before the next is
-read. Where standard input and standard error are terminals, a prompt is shown, with the
+    "The script is read from standard input, behind what follows a line `script` in DESC, and
+each line is answered before the next is read. Where standard input and standard error are terminals, a prompt is shown, with the
 line's number, and standard error also answers questions: `help` lists the lines that
 there are, `show` shows the links of a switch, one link or a terminal, and `show waiting`
 which outputs the inputs hold and want; `where` shows where a packet is, by the terminal
@@ -178,11 +181,16 @@ file are printed. Labels that check refuses are answered as by check.
 pub const LABEL: &str =
     "For each terminal a line with its first label and how many it has, in decimal;
 then for each switch a line for each register whose value isn't that after a reset,
-with its address and its value in hexadecimal digits.
+with its address and its value in hexadecimal digits. With --names it has the name of
+the register instead, and behind `poke` such a line of a script sets it.
 
 With --rows it prints a description instead, of the same network, whose base, row,
 continue, delete and random lines set all that these labels do. It can be changed by
-hand, and it has no label, mesh or cube line.";
+hand, and it has no label, mesh or cube line.
+
+With --commands it prints a script of control lines that load and start the switches:
+all are reset, their registers are set, and all are started. Run on a description with
+the same switches and wires, it leaves these values in the registers.";
 
 /// Of `draw`.
 pub const DRAW: &str =
@@ -195,8 +203,8 @@ tree's root or the first switch.
 With a header, the links that it may take are bold, its owner is filled, and where
 check refuses it the walk is red and the title is the fault.
 
-With --cycles, a cycle that the command cycles finds is red, and the title is that
-cycle.
+With --cycles, a cycle that the command cycles finds is red, and the title is what
+that prints.
 
 With --state, a script is run, and its answers aren't printed: the picture shows the
 network as it then stands. Each link that a packet holds is an arrow in the packet's

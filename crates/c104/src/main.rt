@@ -2,16 +2,19 @@
 //!
 //! `main` reads the command line, opens what it names, calls the function of a command and says what that
 //! function's `Status` means: a message on standard error and an exit status. What the words of the command line ask for is
-//! in `command_line`, with the words of pictures, traffic and counts in modules of their own; the texts of help are in `help`.
-//! Commands of two files but `run` are in `pairs`, those that count in `tables`, that of paths in `path_files`, and that which
-//! prints a script of traffic in `sending`; how files are opened in `opening`, what a
+//! in `command_line`, with the words of labels, pictures, traffic and counts in modules of their own; the texts of help are in `help`.
+//! Commands of a script but `run` are in `pairs`, those that count in `tables`, `debug` in `debugging`, that of paths in
+//! `path_files`, and that which prints a script of traffic in `sending`; how files are opened in `opening`, how a text is cut
+//! into a description and a script in `texts`, what a
 //! path stands for in `sources`, a script that is typed in `typed`, what people are told beside the answers in `told`. The
 //! functions of the commands are those of `c104_commands`, `c104_session`, `c104_lockup` and `c104_storm`.
 #![tactic(auto)]
 
 mod command_line;
 mod count_words;
+mod debugging;
 mod help;
+mod label_words;
 mod opening;
 mod pairs;
 mod path_files;
@@ -21,31 +24,33 @@ mod sending;
 mod sources;
 mod subcommands;
 mod tables;
+mod texts;
 mod told;
 mod traffic_words;
 mod typed;
 
 pub use c104_commands::{
-    Comparison, Marks, PathTable, PatternName, check_command, cuts_command, cycles_command,
-    draw_command, label_command, label_rows_command, paths_command, traffic_command,
+    Comparison, Marks, PathTable, PatternName, boot_script_command, check_command, cuts_command,
+    cycles_command, draw_command, label_command, label_names_command, label_rows_command,
+    paths_command, traffic_command,
 };
 use c104_describe::read_description;
 pub use c104_lockup::lockup_command;
 use c104_mistakes::{About, Messages};
-use c104_plan::MAX_DESCRIPTION;
 pub use c104_session::{
     debug_command, draw_over_time_command, draw_state_command, run, run_text, stats_command,
 };
 pub use c104_setup::Status;
 pub use c104_storm::storm_command;
-use c104_stream::{ReadFault, read_up_to};
 use clap::error::ErrorKind;
-use command_line::{Order, STANDARD_INPUT, Words};
-use opening::{HostSource, is_closed, open_both, open_path};
+use command_line::{Order, Words};
+use debugging::debug_file;
+use label_words::LabelForm;
 use pairs::{draw_files, storm_files, time_files};
 use path_files::tell_files;
 use sending::send_file;
 use sources::Watched;
+use std::cell::Cell;
 use std::io::{Input, IsTerminal};
 use std::process::ExitCode;
 use std::sync::Wait;
@@ -53,8 +58,8 @@ use std::thread::Threads;
 use std::{env, io};
 use subcommands::Subcommand;
 use tables::count_files;
+use texts::{open_texts, read_description_of};
 use told::{Told, tell_of_words};
-use typed::Typed;
 
 /// The exit status of a wrong command line.
 const WRONG_USAGE: u8 = 2;
@@ -112,7 +117,8 @@ fn do_matched<H: Threads + Wait + Sync>(
     threads: &H,
     words: Words<'_>,
 ) -> ExitCode {
-    let mut told = Told::new(rt, words.order, words.explain);
+    let typed_from = Cell::new(None);
+    let mut told = Told::new(rt, words.order, words.explain, &typed_from);
     let status = do_order(rt, threads, words.order, &mut told);
     if told.has_wrong_word() {
         return ExitCode::from(WRONG_USAGE);
@@ -149,11 +155,12 @@ fn do_order<'a, H: Threads + Wait + Sync>(
     }
 }
 
-/// Runs two files, or one text from standard input.
-fn run_order(rt: &HostRuntime, order: Order<'_>, told: &mut Told<'_>) -> Status {
-    match order.script {
-        Some(script) => run_files(rt, order.description, script, told),
-        None => run_one_text(rt, told),
+/// Runs what is named, or one text from standard input.
+fn run_order<'a>(rt: &HostRuntime, order: Order<'a>, told: &mut Told<'a>) -> Status {
+    if order.is_named {
+        run_files(rt, order, told)
+    } else {
+        run_one_text(rt, told)
     }
 }
 
@@ -168,12 +175,13 @@ fn run_one_text(rt: &HostRuntime, told: &mut Told<'_>) -> Status {
     status
 }
 
-/// Runs two files.
-fn run_files(rt: &HostRuntime, description: &str, script: &str, told: &mut Told<'_>) -> Status {
-    let (mut description, mut script) = match open_both(rt, description, script, told) {
-        Ok(sources) => sources,
+/// Runs a description and a script, of two files or of one.
+fn run_files<'a>(rt: &HostRuntime, order: Order<'a>, told: &mut Told<'a>) -> Status {
+    let mut texts = match open_texts(rt, order, told) {
+        Ok(texts) => texts,
         Err(status) => return status,
     };
+    let (mut description, mut script) = texts.readers();
     let status = run(
         rt.alloc(),
         &mut description,
@@ -181,106 +189,62 @@ fn run_files(rt: &HostRuntime, description: &str, script: &str, told: &mut Told<
         &mut io::writer(rt),
         told,
     );
-    told.note_fault(description.fault().or(script.fault()));
-    status
-}
-
-/// Runs a description's file and a script from standard input, line by line. Where a person types it, and sees
-/// standard error, there are prompts.
-fn debug_file(rt: &HostRuntime, description: &str, told: &mut Told<'_>) -> Status {
-    if is_closed(rt, STANDARD_INPUT, told) {
-        return Status::CannotRead(1);
-    }
-    let Some(mut description) = open_path(rt, description, told) else {
-        return Status::CannotRead(0);
-    };
-    let status = if told.are_asked() {
-        debug_typed(rt, &mut description, told)
-    } else {
-        debug_lines(rt, &mut description, told)
-    };
-    if description.fault().is_some() {
-        told.note_fault(description.fault());
-    }
-    status
-}
-
-/// Runs a description and a script that a person types.
-fn debug_typed(rt: &HostRuntime, description: &mut HostSource, told: &mut Told<'_>) -> Status {
-    let mut script = Typed::new(rt, Watched::new(rt.reader()));
-    debug_command(
-        rt.alloc(),
-        description,
-        &mut script,
-        &mut io::writer(rt),
-        told,
-    )
-}
-
-/// Runs a description and a script that nobody types.
-fn debug_lines(rt: &HostRuntime, description: &mut HostSource, told: &mut Told<'_>) -> Status {
-    let mut script = Watched::new(rt.reader());
-    let status = debug_command(
-        rt.alloc(),
-        description,
-        &mut script,
-        &mut io::writer(rt),
-        told,
-    );
-    told.note_fault(script.fault());
+    told.note_fault(texts.fault());
     status
 }
 
 /// Checks the labels of a description's file, as it stands or without each wire.
 fn check_file(rt: &HostRuntime, order: Order<'_>, told: &mut Told<'_>) -> Status {
-    let Some(mut description) = open_path(rt, order.description, told) else {
-        return Status::CannotRead(0);
+    let text = match read_description_of(rt, order.description, told) {
+        Ok(text) => text,
+        Err(status) => return status,
     };
-    let status = if order.each_cut {
+    let mut description = text.as_slice();
+    if order.each_cut {
         cuts_command(rt.alloc(), &mut description, &mut io::writer(rt), told)
     } else {
         check_command(rt.alloc(), &mut description, &mut io::writer(rt), told)
-    };
-    told.note_fault(description.fault());
-    status
+    }
 }
 
 /// Looks for a cycle of channel dependencies in the network of a description's file.
 fn search_file(rt: &HostRuntime, description: &str, all: bool, told: &mut Told<'_>) -> Status {
-    let Some(mut description) = open_path(rt, description, told) else {
-        return Status::CannotRead(0);
+    let text = match read_description_of(rt, description, told) {
+        Ok(text) => text,
+        Err(status) => return status,
     };
-    let status = cycles_command(rt.alloc(), &mut description, all, &mut io::writer(rt), told);
-    told.note_fault(description.fault());
-    status
+    let mut description = text.as_slice();
+    cycles_command(rt.alloc(), &mut description, all, &mut io::writer(rt), told)
 }
 
 /// Looks for a script that locks up the network of a description's file.
 fn lock_file(rt: &HostRuntime, description: &str, told: &mut Told<'_>) -> Status {
-    let Some(mut description) = open_path(rt, description, told) else {
-        return Status::CannotRead(0);
+    let text = match read_description_of(rt, description, told) {
+        Ok(text) => text,
+        Err(status) => return status,
     };
-    let status = lockup_command(rt.alloc(), &mut description, &mut io::writer(rt), told);
-    told.note_fault(description.fault());
-    status
+    let mut description = text.as_slice();
+    lockup_command(rt.alloc(), &mut description, &mut io::writer(rt), told)
 }
 
 /// Labels the network of a description's file.
 fn label_file(rt: &HostRuntime, order: Order<'_>, told: &mut Told<'_>) -> Status {
-    let Some(mut description) = open_path(rt, order.description, told) else {
-        return Status::CannotRead(0);
+    let text = match read_description_of(rt, order.description, told) {
+        Ok(text) => text,
+        Err(status) => return status,
     };
-    let status = if order.rows {
-        label_rows_command(rt.alloc(), &mut description, &mut io::writer(rt), told)
-    } else {
-        label_command(rt.alloc(), &mut description, &mut io::writer(rt), told)
-    };
-    told.note_fault(description.fault());
-    status
+    let (alloc, mut description) = (rt.alloc(), text.as_slice());
+    let mut writer = io::writer(rt);
+    match order.labels {
+        LabelForm::Addresses => label_command(alloc, &mut description, &mut writer, told),
+        LabelForm::Names => label_names_command(alloc, &mut description, &mut writer, told),
+        LabelForm::Rows => label_rows_command(alloc, &mut description, &mut writer, told),
+        LabelForm::Commands => boot_script_command(alloc, &mut description, &mut writer, told),
+    }
 }
 
 /// Draws a network by its description, as a script leaves it, or over the rounds of one.
-fn draw_order(rt: &HostRuntime, order: Order<'_>, told: &mut Told<'_>) -> Status {
+fn draw_order<'a>(rt: &HostRuntime, order: Order<'a>, told: &mut Told<'a>) -> Status {
     if order.picture.state {
         return draw_files(rt, order, told);
     }
@@ -292,16 +256,9 @@ fn draw_order(rt: &HostRuntime, order: Order<'_>, told: &mut Told<'_>) -> Status
 
 /// Draws the network of a description's file. A header that its packets can't have is a wrong word.
 fn draw_file(rt: &HostRuntime, order: Order<'_>, told: &mut Told<'_>) -> Status {
-    let Some(mut source) = open_path(rt, order.description, told) else {
-        return Status::CannotRead(0);
-    };
-    let text = match read_up_to(rt.alloc(), MAX_DESCRIPTION, &mut source) {
+    let text = match read_description_of(rt, order.description, told) {
         Ok(text) => text,
-        Err(ReadFault::NoMemory) => return Status::NoMemory,
-        Err(ReadFault::CannotRead) => {
-            told.note_fault(source.fault());
-            return Status::CannotRead(0);
-        }
+        Err(status) => return status,
     };
     let mut text = text.as_slice();
     if let Some(header) = order.picture.header

@@ -1,7 +1,7 @@
 //! How the files that the command line names are opened.
 //!
 //! A path is opened before anything is read, the description's first, so a script that isn't there is told before a
-//! description is refused. `-` twice is one standard input: the description takes all of it, and the script is empty.
+//! description is refused.
 
 use crate::command_line::STANDARD_INPUT;
 use crate::sources::{Source, Watched};

@@ -1,8 +1,8 @@
-//! Commands of a description's file and a script's.
+//! Commands of a description and a script, of two files or of one.
 
 use crate::command_line::Order;
 use crate::count_words::CountWords;
-use crate::opening::open_both;
+use crate::texts::open_texts;
 use crate::told::Told;
 use c104_session::{Asked, Format, draw_over_time_command, draw_state_command};
 use c104_setup::Status;
@@ -11,22 +11,18 @@ use std::io;
 use std::sync::Wait;
 use std::thread::Threads;
 
-/// Lets a storm go over the network of a description's file, by the threads that a handle gives.
-pub fn storm_files<H: Threads + Wait + Sync>(
+/// Lets a storm go over the network of a description, by the threads that a handle gives.
+pub fn storm_files<'a, H: Threads + Wait + Sync>(
     rt: &HostRuntime,
     threads: &H,
-    order: Order<'_>,
-    told: &mut Told<'_>,
+    order: Order<'a>,
+    told: &mut Told<'a>,
 ) -> Status {
-    let (mut description, mut script) = match open_both(
-        rt,
-        order.description,
-        order.path(1),
-        told,
-    ) {
-        Ok(sources) => sources,
+    let mut texts = match open_texts(rt, order, told) {
+        Ok(texts) => texts,
         Err(status) => return status,
     };
+    let (mut description, mut script) = texts.readers();
     let status = storm_command(
         rt.alloc(),
         threads,
@@ -38,21 +34,17 @@ pub fn storm_files<H: Threads + Wait + Sync>(
         &mut io::writer(rt),
         told,
     );
-    told.note_fault(description.fault().or(script.fault()));
+    told.note_fault(texts.fault());
     status
 }
 
-/// Draws the network of a description's file as it stands after a script.
-pub fn draw_files(rt: &HostRuntime, order: Order<'_>, told: &mut Told<'_>) -> Status {
-    let (mut description, mut script) = match open_both(
-        rt,
-        order.description,
-        order.path(1),
-        told,
-    ) {
-        Ok(sources) => sources,
+/// Draws the network of a description as it stands after a script.
+pub fn draw_files<'a>(rt: &HostRuntime, order: Order<'a>, told: &mut Told<'a>) -> Status {
+    let mut texts = match open_texts(rt, order, told) {
+        Ok(texts) => texts,
         Err(status) => return status,
     };
+    let (mut description, mut script) = texts.readers();
     let status = draw_state_command(
         rt.alloc(),
         &mut description,
@@ -60,13 +52,13 @@ pub fn draw_files(rt: &HostRuntime, order: Order<'_>, told: &mut Told<'_>) -> St
         &mut io::writer(rt),
         told,
     );
-    told.note_fault(description.fault().or(script.fault()));
+    told.note_fault(texts.fault());
     status
 }
 
-/// Draws a run of two files over its rounds. A first round behind the last is a wrong word, and so is a format that there
+/// Draws a run over its rounds. A first round behind the last is a wrong word, and so is a format that there
 /// isn't.
-pub fn time_files(rt: &HostRuntime, order: Order<'_>, told: &mut Told<'_>) -> Status {
+pub fn time_files<'a>(rt: &HostRuntime, order: Order<'a>, told: &mut Told<'a>) -> Status {
     match asked_of(order.counts) {
         Ok(asked) => time_asked(rt, order, asked, told),
         Err(wrong) => {
@@ -77,17 +69,13 @@ pub fn time_files(rt: &HostRuntime, order: Order<'_>, told: &mut Told<'_>) -> St
     }
 }
 
-/// Draws these rounds of a run of two files.
-fn time_asked(rt: &HostRuntime, order: Order<'_>, asked: Asked, told: &mut Told<'_>) -> Status {
-    let (mut description, mut script) = match open_both(
-        rt,
-        order.description,
-        order.path(1),
-        told,
-    ) {
-        Ok(sources) => sources,
+/// Draws these rounds of a run.
+fn time_asked<'a>(rt: &HostRuntime, order: Order<'a>, asked: Asked, told: &mut Told<'a>) -> Status {
+    let mut texts = match open_texts(rt, order, told) {
+        Ok(texts) => texts,
         Err(status) => return status,
     };
+    let (mut description, mut script) = texts.readers();
     let status = draw_over_time_command(
         rt.alloc(),
         asked,
@@ -96,7 +84,7 @@ fn time_asked(rt: &HostRuntime, order: Order<'_>, asked: Asked, told: &mut Told<
         &mut io::writer(rt),
         told,
     );
-    told.note_fault(description.fault().or(script.fault()));
+    told.note_fault(texts.fault());
     status
 }
 

@@ -1,9 +1,9 @@
 //! The command of paths: of one description's file, or what those of several come to.
 
 use crate::command_line::Order;
-use crate::opening::open_path;
 use crate::pairs::format_of;
 use crate::path_words::{PathWords, table_of};
+use crate::texts::read_description_of;
 use crate::told::Told;
 use c104_commands::{Comparison, PathTable, paths_command};
 use c104_session::Format;
@@ -54,19 +54,19 @@ fn tell_file(
     format: Format,
     told: &mut Told<'_>,
 ) -> Status {
-    let Some(mut description) = open_path(rt, description, told) else {
-        return Status::CannotRead(0);
+    let text = match read_description_of(rt, description, told) {
+        Ok(text) => text,
+        Err(status) => return status,
     };
-    let status = paths_command(
+    let mut description = text.as_slice();
+    paths_command(
         rt.alloc(),
         table,
         format,
         &mut description,
         &mut io::writer(rt),
         told,
-    );
-    told.note_fault(description.fault());
-    status
+    )
 }
 
 /// Prints the summaries of several files.
@@ -98,16 +98,16 @@ fn add_file<'a>(
     told: &mut Told<'a>,
 ) -> Status {
     told.note_description(path);
-    let Some(mut description) = open_path(rt, path, told) else {
-        return Status::CannotRead(0);
+    let text = match read_description_of(rt, path, told) {
+        Ok(text) => text,
+        Err(status) => return status,
     };
-    let status = comparison.add_command(
+    let mut description = text.as_slice();
+    comparison.add_command(
         rt.alloc(),
         path,
         &mut description,
         &mut io::writer(rt),
         told,
-    );
-    told.note_fault(description.fault());
-    status
+    )
 }

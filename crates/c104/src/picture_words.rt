@@ -1,6 +1,6 @@
 //! What the command line says of a picture.
 
-use crate::command_line::{SCRIPT, add_argument, flag, script_argument, valued};
+use crate::command_line::{add_argument, flag, script_argument, valued};
 use crate::count_words::{FORMAT, FROM, TO, round_option};
 use c104_commands::Marks;
 use clap::{Arg, ArgMatches, Command, value_parser};
@@ -80,7 +80,7 @@ const FORMAT_HELP: &str =
 /// The group of what is drawn of a script.
 const DRAWN: &str = "drawn";
 
-/// `[--header N | --cycles | SCRIPT --state | SCRIPT --over-time [--from R] [--to R] [--format F]]`, behind a description.
+/// `[--header N | --cycles | [SCRIPT] --state | [SCRIPT] --over-time [--from R] [--to R] [--format F]]`, behind a description.
 pub fn with_pictures<'a>(alloc: Global, named: Command<'a>) -> Result<Command<'a>, AllocError> {
     named.args(picture_arguments(alloc)?)
 }
@@ -100,7 +100,7 @@ fn add_marks<'a>(alloc: Global, arguments: &mut Vec<Arg<'a>>) -> Result<(), Allo
     add_argument(arguments, cycles_option(alloc))
 }
 
-/// `[SCRIPT --state | SCRIPT --over-time]`: no script stands without either of the two.
+/// `[[SCRIPT] --state | [SCRIPT] --over-time]`: no script stands without either of the two.
 fn add_script<'a>(alloc: Global, arguments: &mut Vec<Arg<'a>>) -> Result<(), AllocError> {
     add_argument(arguments, script_argument(alloc).requires_arg(DRAWN))?;
     add_argument(arguments, state_option(alloc))?;
@@ -122,12 +122,12 @@ fn cycles_option<'a>(alloc: Global) -> Result<Arg<'a>, AllocError> {
     flag(alloc, CYCLES, CYCLES_HELP).conflicts_with(HEADER)
 }
 
-/// `--state`, with a script, and without what else is marked.
+/// `--state`, without what else is marked.
 fn state_option<'a>(alloc: Global) -> Result<Arg<'a>, AllocError> {
     script_option(flag(alloc, STATE, STATE_HELP))
 }
 
-/// `--over-time`, with a script, and without what else is marked.
+/// `--over-time`, without what else is marked.
 fn over_time_option<'a>(alloc: Global) -> Result<Arg<'a>, AllocError> {
     script_option(flag(alloc, OVER_TIME, OVER_TIME_HELP))?.conflicts_with(STATE)
 }
@@ -136,7 +136,6 @@ fn over_time_option<'a>(alloc: Global) -> Result<Arg<'a>, AllocError> {
 fn script_option<'a>(option: Arg<'a>) -> Result<Arg<'a>, AllocError> {
     option
         .group(DRAWN)?
-        .requires_arg(SCRIPT)?
         .conflicts_with(HEADER)?
         .conflicts_with(CYCLES)
 }

@@ -1,7 +1,7 @@
 //! The command that prints a script of traffic for a description's file.
 
 use crate::command_line::Order;
-use crate::opening::open_path;
+use crate::texts::read_description_of;
 use crate::told::Told;
 use crate::traffic_words::TrafficWords;
 use c104_commands::{PatternName, traffic_command};
@@ -22,10 +22,12 @@ pub fn send_file(rt: &HostRuntime, order: Order<'_>, told: &mut Told<'_>) -> Sta
             return Status::Refused;
         }
     };
-    let Some(mut description) = open_path(rt, order.description, told) else {
-        return Status::CannotRead(0);
+    let text = match read_description_of(rt, order.description, told) {
+        Ok(text) => text,
+        Err(status) => return status,
     };
-    let status = traffic_command(
+    let mut description = text.as_slice();
+    traffic_command(
         rt.alloc(),
         name,
         order.traffic.target.unwrap_or(""),
@@ -33,9 +35,7 @@ pub fn send_file(rt: &HostRuntime, order: Order<'_>, told: &mut Told<'_>) -> Sta
         &mut description,
         &mut io::writer(rt),
         told,
-    );
-    told.note_fault(description.fault());
-    status
+    )
 }
 
 /// The pattern that is asked for. A pattern that there isn't is a wrong word, which is told, and so is a hot spot without its

@@ -41,11 +41,13 @@ impl<F: Read + Drop, I: Read + Drop> Read for Source<F, I> {
     }
 }
 
-/// A reader, of which is kept why it failed last. At its end it isn't asked again: a terminal goes on behind the end of
-/// input that a person typed.
+/// A reader, of which is kept how much it has given, and why it failed last. At its end it isn't asked again: a terminal goes
+/// on behind the end of input that a person typed.
 #[derive(Drop)]
 pub struct Watched<R: Read + Drop> {
     reader: R,
+    // How many bytes it has given.
+    given: usize,
     ended: bool,
     // The system's number of the fault.
     fault: Option<i32>,
@@ -62,13 +64,19 @@ impl<R: Read + Drop> Model for Watched<R> {
 }
 
 impl<R: Read + Drop> Watched<R> {
-    /// A reader that hasn't failed, or ended.
+    /// A reader that hasn't given anything, failed, or ended.
     pub fn new(reader: R) -> Self {
         Watched {
             reader,
+            given: 0,
             ended: false,
             fault: None,
         }
+    }
+
+    /// How many bytes it has given.
+    pub fn given(&self) -> usize {
+        self.given
     }
 
     /// The system's number of why it failed last, where it did and the system has one.
@@ -87,6 +95,7 @@ impl<R: Read + Drop> Read for Watched<R> {
         match self.reader.read(buf) {
             Ok(count) => {
                 self.ended = count == 0 && !buf.is_empty();
+                self.given = self.given.saturating_add(count);
                 Ok(count)
             }
             Err(error) => {

@@ -1,15 +1,14 @@
-//! Counts of a run of a description's file and a script's: a table is printed, or each goes to a file of its own.
+//! Counts of a run of a description and a script: a table is printed, or each goes to a file of its own.
 //!
 //! The command of one table does the run, so the run is done again for each, which is the same each time. The description and
 //! the script are read once before, whatever they come from.
 
 use crate::command_line::Order;
 use crate::count_words::{CountWords, TableWords, name_of};
-use crate::opening::{HostSource, open_both};
 use crate::pairs::format_of;
 use crate::sources::Saved;
+use crate::texts::open_texts;
 use crate::told::Told;
-use c104_plan::MAX_DESCRIPTION;
 use c104_session::{Format, Measured, Printing, What, Window, stats_command};
 use c104_setup::{Status, read_setup};
 use c104_stream::{Halt, MAX_SCRIPT, read_up_to};
@@ -18,14 +17,14 @@ use std::io;
 
 /// The texts of a run.
 #[derive(Clone, Copy)]
-struct Texts<'a> {
+struct Run<'a> {
     description: &'a [u8],
     script: &'a [u8],
 }
 
-/// Counts a run of two files. A format or a table that there isn't is a wrong word, and so is a table that is named twice,
+/// Counts a run. A format or a table that there isn't is a wrong word, and so is a table that is named twice,
 /// several tables without files for them, or rounds that choose nothing.
-pub fn count_files(rt: &HostRuntime, order: Order<'_>, told: &mut Told<'_>) -> Status {
+pub fn count_files<'a>(rt: &HostRuntime, order: Order<'a>, told: &mut Told<'a>) -> Status {
     let counts = order.counts;
     if let TableWords::Twice(name) = counts.tables {
         let _ = eprintln!(rt; "error: --what {name} is said twice");
@@ -43,22 +42,18 @@ pub fn count_files(rt: &HostRuntime, order: Order<'_>, told: &mut Told<'_>) -> S
     }
 }
 
-/// Counts a run of two files, and prints that so.
-fn print_counts(
+/// Counts a run, and prints that so.
+fn print_counts<'a>(
     rt: &HostRuntime,
-    order: Order<'_>,
+    order: Order<'a>,
     printing: Printing,
-    told: &mut Told<'_>,
+    told: &mut Told<'a>,
 ) -> Status {
-    let (mut description, mut script) = match open_both(
-        rt,
-        order.description,
-        order.path(1),
-        told,
-    ) {
-        Ok(sources) => sources,
+    let mut texts = match open_texts(rt, order, told) {
+        Ok(texts) => texts,
         Err(status) => return status,
     };
+    let (mut description, mut script) = texts.readers();
     let status = stats_command(
         rt.alloc(),
         printing,
@@ -67,60 +62,38 @@ fn print_counts(
         &mut io::writer(rt),
         told,
     );
-    told.note_fault(description.fault().or(script.fault()));
+    told.note_fault(texts.fault());
     status
 }
 
-/// Counts a run of two files, and writes each table to a file whose path begins so.
-fn save_files(
+/// Counts a run, and writes each table to a file whose path begins so.
+fn save_files<'a>(
     rt: &HostRuntime,
-    order: Order<'_>,
+    order: Order<'a>,
     prefix: &str,
     printing: Printing,
-    told: &mut Told<'_>,
+    told: &mut Told<'a>,
 ) -> Status {
-    let (mut description, mut script) = match open_both(
-        rt,
-        order.description,
-        order.path(1),
-        told,
-    ) {
-        Ok(sources) => sources,
+    let mut texts = match open_texts(rt, order, told) {
+        Ok(texts) => texts,
         Err(status) => return status,
     };
-    let description = match read_source(rt, MAX_DESCRIPTION, 0, &mut description, told) {
-        Ok(text) => text,
-        Err(status) => return status,
-    };
-    if let Err(status) = check_network(rt, description.as_slice(), told) {
+    let (description, mut script) = texts.readers();
+    if let Err(status) = check_network(rt, description, told) {
         return status;
     }
-    let script = match read_source(rt, MAX_SCRIPT, 1, &mut script, told) {
+    let script = match read_up_to(rt.alloc(), MAX_SCRIPT, &mut script) {
         Ok(text) => text,
-        Err(status) => return status,
+        Err(fault) => {
+            told.note_fault(texts.fault());
+            return Status::of_halt(Halt::from(fault), 1);
+        }
     };
-    let texts = Texts {
-        description: description.as_slice(),
+    let run = Run {
+        description,
         script: script.as_slice(),
     };
-    save_tables(rt, order.counts, prefix, printing, texts, told)
-}
-
-/// Reads a source to its end, or up to a byte more than this. The number is that of a `Status`.
-fn read_source(
-    rt: &HostRuntime,
-    most: usize,
-    number: u8,
-    source: &mut HostSource,
-    told: &mut Told<'_>,
-) -> Result<Vec<u8>, Status> {
-    match read_up_to(rt.alloc(), most, source) {
-        Ok(text) => Ok(text),
-        Err(fault) => {
-            told.note_fault(source.fault());
-            Err(Status::of_halt(Halt::from(fault), number))
-        }
-    }
+    save_tables(rt, order.counts, prefix, printing, run, told)
 }
 
 /// Prints why a description gives no network, where it gives none, so that no file has that in place of a table. The error is
@@ -139,7 +112,7 @@ fn save_tables(
     counts: CountWords<'_>,
     prefix: &str,
     printing: Printing,
-    texts: Texts<'_>,
+    run: Run<'_>,
     told: &mut Told<'_>,
 ) -> Status {
     let mut status = Status::Done;
@@ -153,7 +126,7 @@ fn save_tables(
             ..printing
         };
         status = match path_of(rt.alloc(), prefix, printing) {
-            Ok(path) => save_table(rt, path, printing, texts, told),
+            Ok(path) => save_table(rt, path, printing, run, told),
             Err(AllocError) => Status::NoMemory,
         };
         if !matches!(status, Status::Done | Status::Refused) {
@@ -184,7 +157,7 @@ fn save_table(
     rt: &HostRuntime,
     path: String,
     printing: Printing,
-    texts: Texts<'_>,
+    run: Run<'_>,
     told: &mut Told<'_>,
 ) -> Status {
     let mut file = match Saved::create(rt, path.as_str()) {
@@ -194,10 +167,10 @@ fn save_table(
             return Status::CannotWrite;
         }
     };
-    let Texts {
+    let Run {
         mut description,
         mut script,
-    } = texts;
+    } = run;
     let status = stats_command(
         rt.alloc(),
         printing,

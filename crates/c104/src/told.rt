@@ -1,13 +1,14 @@
 //! What people are told on standard error, and where that is wanted; and pictures that they ask for.
 ghost use Rattle.std.specs.Prelude.{⊤};
 
-use crate::command_line::{EXPLAIN_WORD, Order};
+use crate::command_line::{EXPLAIN_WORD, Order, STANDARD_INPUT};
 use crate::subcommands::Subcommand;
 use c104_mistakes::{About, Messages, Work};
 use c104_setup::Status;
 use clap::Error;
 use clap::error::ErrorKind;
 use std::alloc::AllocError;
+use std::cell::Cell;
 use std::io::{IsTerminal, Write};
 use std::time::Instant;
 use std::{fs, io};
@@ -34,6 +35,10 @@ pub struct Told<'a> {
     is_watched: bool,
     // Whether a person types the script.
     is_asked: bool,
+    // How many lines of its text stand before the script.
+    lines_before: usize,
+    // How many lines of a script stand in a file, where what follows them comes from standard input.
+    typed_from: &'a Cell<Option<usize>>,
     // The system's number of the fault of what can't be read, or written.
     fault: Option<i32>,
     // The path of a file that can't be written.
@@ -47,8 +52,13 @@ pub struct Told<'a> {
 
 impl<'a> Told<'a> {
     /// What takes the messages of an order. They are wanted under `--explain`, and where standard error is a
-    /// terminal.
-    pub fn new(rt: &'a HostRuntime, order: Order<'a>, explain: bool) -> Self {
+    /// terminal. The cell is for who reads a script of which a part is typed.
+    pub fn new(
+        rt: &'a HostRuntime,
+        order: Order<'a>,
+        explain: bool,
+        typed_from: &'a Cell<Option<usize>>,
+    ) -> Self {
         let is_watched = rt.stderr().is_terminal();
         let is_typed = matches!(order.subcommand, Subcommand::Debug) && rt.stdin().is_terminal();
         Told {
@@ -57,6 +67,8 @@ impl<'a> Told<'a> {
             is_wanted: explain || is_watched,
             is_watched,
             is_asked: is_typed && is_watched,
+            lines_before: 0,
+            typed_from,
             fault: None,
             unwritten: None,
             has_wrong_word: false,
@@ -78,6 +90,18 @@ impl<'a> Told<'a> {
     /// Notes the path of the description that is read now, where there are several.
     pub fn note_description(&mut self, path: &'a str) {
         self.order.description = path;
+    }
+
+    /// Notes the path of the text in which the script stands, behind this many lines.
+    pub fn note_script(&mut self, path: &'a str, lines_before: usize) {
+        self.order.script = Some(path);
+        self.lines_before = lines_before;
+    }
+
+    /// Where it is noted how many lines of a script stand in a file, as soon as it is at its end, and what follows them comes
+    /// from standard input.
+    pub fn typed_from(&self) -> &'a Cell<Option<usize>> {
+        self.typed_from
     }
 
     /// Notes the path of a file that can't be written, and why, where the system has a number for it.
@@ -129,7 +153,6 @@ impl<'a> Told<'a> {
     fn line_of(&self, about: About, message: &str) -> Result<String, AllocError> {
         let alloc = self.rt.alloc();
         let description = self.order.path(0);
-        let script = self.order.path(1);
         match about {
             About::Run => format!(in alloc; "c104: {message}\n"),
             About::Description => format!(in alloc; "c104: {description}: {message}\n"),
@@ -138,8 +161,17 @@ impl<'a> Told<'a> {
             }
             About::Question | About::Farewell => format!(in alloc; "{message}\n"),
             About::ScriptLine(line) | About::FaultyLine(line) => {
+                let (script, line) = self.place_of(line);
                 format!(in alloc; "c104: {script}:{line}: {message}\n")
             }
+        }
+    }
+
+    /// Where a line of the script stands: the path of its text, and the line there.
+    fn place_of(&self, line: usize) -> (&'a str, usize) {
+        match self.typed_from.get() {
+            Some(lines) if line > lines => (STANDARD_INPUT, line),
+            _ => (self.order.path(1), line.saturating_add(self.lines_before)),
         }
     }
 
@@ -203,8 +235,8 @@ impl Messages for Told<'_> {
     }
 }
 
-/// Tells of files where a command is wanted, of one file where two are wanted, and of what isn't a header, where messages
-/// are wanted.
+/// Tells of files where a command is wanted, of two of which isn't said how they are drawn, and of what isn't a header, where
+/// messages are wanted.
 pub fn tell_of_words(rt: &HostRuntime, words: &[String], error: &Error) {
     let explain = words.iter().any(|word| word.as_str() == EXPLAIN_WORD);
     if !(explain || rt.stderr().is_terminal()) {
@@ -215,9 +247,12 @@ pub fn tell_of_words(rt: &HostRuntime, words: &[String], error: &Error) {
     };
     match error.kind() {
         ErrorKind::InvalidSubcommand => tell_of_command(rt, words),
-        ErrorKind::MissingRequiredArgument if !has_word(words, "traffic") => tell_of_script(
-            rt, words,
-        ),
+        ErrorKind::MissingRequiredArgument
+            if !has_word(words, "traffic") && file_at(rt, words, 2).is_some() => {
+            let _ = rt.eprintln(
+                "c104: a script is drawn as it ends, by --state, or over its rounds, by --over-time",
+            );
+        }
         ErrorKind::ValueValidation if has_word(words, "--header") => {
             let _ = rt.eprintln("c104: a header is a decimal number, 0 to 65535");
         }
@@ -242,27 +277,8 @@ fn tell_of_command(rt: &HostRuntime, words: &[String]) {
         return;
     }
     let _ = eprintln!(rt;
-        "c104: {path}: this is a file, not a command; `c104 < {path}` runs a description and a script \
-         that are one text, `c104 run {path} SCRIPT` a description and its script, and `c104 check {path}` checks a \
-         description's labels"
-    );
-}
-
-/// Tells of a file after a command that wants a second one, or of two of which isn't said how they are drawn.
-fn tell_of_script(rt: &HostRuntime, words: &[String]) {
-    let Some(path) = file_at(rt, words, 1) else {
-        return;
-    };
-    if file_at(rt, words, 2).is_some() {
-        let _ = rt.eprintln(
-            "c104: a script is drawn as it ends, by --state, or over its rounds, by --over-time",
-        );
-        return;
-    }
-    let _ = eprintln!(rt;
-        "c104: {path}: a script is wanted after it; `c104 run {path} SCRIPT` takes a description and its script \
-         from two files, `c104 run {path} -` the script from standard input, and `c104 < {path}` runs both where \
-         they are one text"
+        "c104: {path}: this is a file, not a command; `c104 run {path}` runs a description and a script \
+         that are one text, `c104 run {path} SCRIPT` those of two, and `c104 check {path}` checks the labels"
     );
 }
 
