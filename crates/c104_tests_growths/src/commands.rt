@@ -6,8 +6,8 @@ use crate::growths::{Growing, Refusal, Sharing, is_right, is_told};
 use crate::outcomes::Outcome;
 use crate::written::{ANSWERS, Page, SCRIPT, SENDS, STORM_END, SUMMARY, TWO_ANSWERS};
 use c104_commands::{
-    Marks, PathTable, check_command, cuts_command, cycles_command, draw_command, label_command,
-    label_rows_command, paths_command,
+    Marks, PathTable, boot_script_command, check_command, cuts_command, cycles_command,
+    draw_command, label_command, label_names_command, label_rows_command, paths_command,
 };
 use c104_lockup::lockup_command;
 use c104_mistakes::Silent;
@@ -125,6 +125,8 @@ enum Command {
     Cycles(bool),
     Label,
     Rows,
+    Names,
+    BootScript,
     Draw(Marks),
     State,
     OverTime(Asked),
@@ -143,6 +145,8 @@ impl Command {
             Command::Cycles(all) => cycles_command(alloc, &mut text, all, page, &mut Silent),
             Command::Label => label_command(alloc, &mut text, page, &mut Silent),
             Command::Rows => label_rows_command(alloc, &mut text, page, &mut Silent),
+            Command::Names => label_names_command(alloc, &mut text, page, &mut Silent),
+            Command::BootScript => boot_script_command(alloc, &mut text, page, &mut Silent),
             Command::Draw(marks) => draw_command(alloc, &mut text, marks, page, &mut Silent),
             Command::State => {
                 draw_state_command(alloc, &mut text, &mut script, page, &mut Silent)
@@ -251,6 +255,8 @@ fn commands(rt: HostRuntime) {
         ("cycles_command", Command::Cycles(true)),
         ("label_command", Command::Label),
         ("label_rows_command", Command::Rows),
+        ("label_names_command", Command::Names),
+        ("boot_script_command", Command::BootScript),
         ("draw_command", Command::Draw(Marks::Nothing)),
         ("draw_command", Command::Draw(Marks::Header(1))),
         ("draw_command", Command::Draw(Marks::Cycle)),

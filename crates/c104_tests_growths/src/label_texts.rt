@@ -5,7 +5,9 @@ use crate::growths::{Growing, Refusal, is_right};
 use crate::labels::REFUSED;
 use crate::outcomes::Outcome;
 use c104_check::check;
-use c104_commands::{check_advice, check_fault_text, cycle_advice, image_text, rows_text};
+use c104_commands::{
+    boot_commands, check_advice, check_fault_text, cycle_advice, image_text, rows_text,
+};
 use c104_label::{LabelFault, image_of};
 use c104_plan::Plan;
 use c104_setup::label_fault_text;
@@ -18,6 +20,8 @@ enum Text {
     Image,
     /// The plan by hand of it.
     Rows,
+    /// The control commands that load it.
+    Boot,
     /// Whether packets can wait for one another forever.
     Cycles,
 }
@@ -41,6 +45,7 @@ impl Growing for Telling<'_> {
                 Ok(None) => Outcome::Wrong,
                 found => Outcome::of(found),
             },
+            Text::Boot => Outcome::of(boot_commands(alloc, &image)),
             Text::Cycles => Outcome::of(cycle_advice(alloc, self.0, &image)),
         };
         refusal.end(alloc);
@@ -100,6 +105,7 @@ impl Suite for AcceptedTexts {
     fn is_right(&self, rt: &HostRuntime, ground: Ground<'_>) -> bool {
         is_right(rt, "image_text", &Telling(ground.plan, Text::Image))
             && is_right(rt, "rows_text", &Telling(ground.plan, Text::Rows))
+            && is_right(rt, "boot_commands", &Telling(ground.plan, Text::Boot))
             && is_right(rt, "cycle_advice", &Telling(ground.plan, Text::Cycles))
     }
 }
