@@ -254,7 +254,7 @@ ALL_REFUSED = {**REFUSED, **REFUSED_RANDOM}
 # A faulty description is answered as a run answers it.
 FAULTY = {
     'a wire to itself': (b'switch A\nwire A.0 A.1\n', '2: 8 SelfWire'),
-    'a script behind it': (PLAN + b'script\ndrain b\n', '8: 2 UnknownWord'),
+    'a line that begins with script': (PLAN + b'script of b\n', '8: 2 UnknownWord'),
     'a text that is too long': (PLAN + comments(DESCRIPTION_LIMIT - len(PLAN) + 1), '0: 1 TooLong'),
     'a fault before the labels': (PLAN + b'row A.1 256 1\nfrob\n', '9: 2 UnknownWord'),
 }

@@ -115,7 +115,7 @@ REFUSED = {
     'ranges that overlap': (b'switch A\nterminal a A.0\nterminal b A.1 from 0\n', 'refused 1 RangesOverlap: a b'),
     'a faulty description': (b'switch A\nwire A.0 A.1\n', 'description 2: 8 SelfWire'),
     'a network that is not labelled': (b'switch A\nswitch B\nlabel tree A\n', 'label 1 NotConnected'),
-    'a script behind it': (PLAN + b'script\ndrain b\n', 'description 8: 2 UnknownWord'),
+    'a line that begins with script': (PLAN + b'script of b\n', 'description 8: 2 UnknownWord'),
 }
 
 
@@ -253,7 +253,7 @@ def wrong_answer(runner, text):
     if plain[1].decode() != last + '\n' or lines != wanted:
         return 'wanted %.200r, found %.200r' % (wanted, lines)
     drawn = runner.run(words=['draw', '--cycles', '-'], data=text)
-    if drawn is None or (b'label="%s"' % last.encode() in drawn[1]) != cyclic:
+    if drawn is None or b'label="%s"' % last.encode() not in drawn[1]:
         return 'drawn %.200r' % (drawn,)
     return wrong_cycle(last, found) if cyclic else None if last == 'acyclic' else 'found %.200r' % last
 

@@ -27,6 +27,7 @@ rounds COUNT [fair] [seed NUMBER]
                             run COUNT rounds, fair ones by turns, with random headers by a seed
 peek SWITCH ADDRESS         the register's value, as `peek A 0140`; not an event
 poke SWITCH ADDRESS VALUE   set a register
+                            by name: `peek A.0 limit 0`, `poke A.0 mode 2`
 link SWITCH.LINK            the status of a link
 table SWITCH.LINK           the base and the rows of an input
 verify                      compare all writable registers with the loaded values

@@ -30,19 +30,13 @@ MOST_WORDS, MOST_OF_ALL = 1000, 40_000
 # Commands that a page may name, and how each is run where one does.
 RUN = {
     'make': 'make',
-    'make try SCRIPT=FILE': 'make try SCRIPT=examples/first-network.txt',
     'make slow': 'make slow',
     'make pages': 'make pages && test -f build/pages/PROMISES.md',
     'make check': 'make check kinds=runs',
     'make edits CRATE=c104_crossbar': 'make edits CRATE=c104_crossbar',
     'build/c104 --help': 'build/c104 --help',
-    'build/c104 run DESC SCRIPT': 'build/c104 run /dev/null /dev/null',
-    'build/c104 debug DESC': 'build/c104 debug /dev/null < /dev/null',
-    'build/c104 check DESC': "sed '/^script/,$d' mine.txt > mine-desc.txt; build/c104 check mine-desc.txt",
-    'build/c104 label DESC': 'build/c104 label /dev/null',
-    'build/c104 draw DESC': 'build/c104 draw /dev/null',
 }
-NOT_RUN = {'make test': 'it is what runs this', 'make install': 'it would be outside the copy: with PREFIX it is run',
+NOT_RUN = {'make test': 'it is what runs this', 'make try SCRIPT=FILE': 'it is `make try`, which is run', 'make install': 'it would be outside the copy: with PREFIX it is run',
            'make bench': 'it takes minutes, and times what it runs', 'make storms': 'it takes minutes',
            'make fuzz MINUTES=60': 'it takes an hour',
            **dict.fromkeys(('make page', 'make page DESC=examples/ring.txt SCRIPT=examples/ring-packets.txt'),

@@ -180,7 +180,7 @@ def marked(runner):
 
 
 def cyclic(runner):
-    """The ways to the inputs of a cycle are red, and there are none where there is no cycle."""
+    """The ways to the inputs of a cycle are red; where there is no cycle there are none, and the title says so."""
     with open(os.path.join(EXAMPLES, 'ring.txt'), 'rb') as file:
         ring = file.read()
     refused_labels = PLAN + b'continue A.2\n'
@@ -193,8 +193,9 @@ def cyclic(runner):
             runner.judge(name, compared(found, (title, red, red_ends(red), [])))
     for name, text in (('one switch', PLAN), ('a tree', TREE), ('a mesh', b'mesh 3 2 1\n')):
         if runner.wanted(name + ' without a cycle'):
-            plain, asked = (runner.run(words=words, data=text) for words in (['draw', '-'], ['draw', '--cycles', '-']))
-            runner.judge(name + ' without a cycle', compared(asked, plain))
+            picture = picture_of(runner, ['draw', '--cycles', '-'], text)
+            found = (picture.title, picture.red(), picture.bold(), picture.filled()) if picture else None
+            runner.judge(name + ' without a cycle', compared(found, ('acyclic', [], [], [])))
     runner.case('a header and a cycle', b'', 2, words=['draw', '-', '--cycles', '--header', '1'], data=PLAN)
 
 

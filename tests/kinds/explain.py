@@ -126,6 +126,10 @@ DESCRIPTIONS = [
 
 ROUNDS = 'the line is `rounds COUNT`, followed by an optional `fair`, and by an optional `seed NUMBER`'
 
+PEEK = 'the line is `peek SWITCH ADDRESS`, as `peek A 0140`, or has a register\'s name, as `peek A.0 limit 0`'
+POKE = 'the line is `poke SWITCH ADDRESS VALUE`, as `poke A 0140 5`, or has a register\'s name, as `poke A.0 limit 0 5`'
+NO_ADDRESS = 'a register is an address of 1 to 4 hexadecimal digits, or a name, as `mode`'
+
 # Lines of a script on the plan of the first run, and what is told of the last of them.
 SCRIPTS = [
     (b'x' * 16385, 'a line has at most 16384 bytes'),
@@ -154,13 +158,29 @@ SCRIPTS = [
     (b'rounds 5 fare', ROUNDS),
     (b'rounds 5 seed 7 fair', ROUNDS),
     (b'rounds 5 fair seed 7 7', ROUNDS),
-    (b'peek A', 'the line is `peek SWITCH ADDRESS`, as `peek A 0140`'),
-    (b'poke A 0140', 'the line is `poke SWITCH ADDRESS VALUE`, as `poke A 0140 5`'),
+    (b'peek A', PEEK),
+    (b'peek A.0 limit', PEEK),
+    (b'peek A.0 mode 0', PEEK),
+    (b'poke A 0140', POKE),
+    (b'poke A.0 limit 0', POKE),
+    (b'poke A.0 mode 0 0', POKE),
     (b'link', 'the line is `link SWITCH.LINK`'),
     (b'table A.0 A.1', 'the line is `table SWITCH.LINK`'),
     (b'verify A', 'the line is `verify` alone'),
-    (b'peek A 00140', 'an address is 1 to 4 hexadecimal digits: 00140'),
+    (b'peek A 00140', NO_ADDRESS + ': 00140'),
+    (b'peek A.0 random-rang', NO_ADDRESS + ': random-rang; did you mean random-range?'),
+    (b'peek A identify', NO_ADDRESS + ': identify; did you mean identity?'),
     (b'poke A 0140 x', 'a value is 1 to 8 hexadecimal digits: x'),
+    (b'poke A 0x140 0x', 'a value is 1 to 8 hexadecimal digits: 0x'),
+    (b'poke A.0 mode x', 'a value is 1 to 8 hexadecimal digits: x'),
+    (b'poke A.0 limit 0 x', 'a value is 1 to 8 hexadecimal digits: x'),
+    (b'peek A.0 limit 36', 'the number of a row is 0 to 35: 36'),
+    (b'poke A.0 select x 0', 'the number of a row is 0 to 35: x'),
+    (b'peek A.0.0 mode', 'a port has one dot, as A.0: A.0.0'),
+    (b'peek A.x mode', 'a link is 0 to 31: A.x'),
+    (b'peek A.32 limit 0', 'a link is 0 to 31: A.32'),
+    (b'poke A mode 0', 'a link is wanted here: the switch, a dot and 0 to 31, as A.0: A'),
+    (b'peek A.0 identity', 'the switch is named without a link here: A.0'),
     (b'peek A ffff', 'no register has this address: ffff'),
     (b'poke A 0000 1', 'the register tells what the switch does, and can\'t be set: 0000'),
     (b'poke A 0100 10', 'the register Mode takes 0 to f (hexadecimal): 10'),
@@ -169,6 +189,11 @@ SCRIPTS = [
     (b'poke A 013F 10000', 'the register Base takes 0 to ffff (hexadecimal): 10000'),
     (b'poke A 0140 10001', 'a register Limit takes 0 to 10000 (hexadecimal): 10001'),
     (b'poke A 0163 10001', 'a register Limit takes 0 to 10000 (hexadecimal): 10001'),
+    (b'poke A.0 sunk 0', 'the register tells what the switch does, and can\'t be set: sunk'),
+    (b'poke A.0 mode 10', 'the register Mode takes 0 to f (hexadecimal): 10'),
+    (b'poke A.0 base 10000', 'the register Base takes 0 to ffff (hexadecimal): 10000'),
+    (b'poke A.0 limit 35 10001', 'a register Limit takes 0 to 10000 (hexadecimal): 10001'),
+    (b'poke A.0 select 35 21', 'a register Select takes a link, 0 to 1f, or 20 to discard, or 40 to sink (hexadecimal): 21'),
     (b'poke A 0180 21', 'a register Select takes a link, 0 to 1f, or 20 to discard, or 40 to sink (hexadecimal): 21'),
     (b'control A 05 40 01 01 00 01 00', 'a register Limit takes 0 to 10000 (hexadecimal)'),
     (b'control A 05 00 01 10 00 00 00', 'the register Mode takes 0 to f (hexadecimal)'),
@@ -327,6 +352,12 @@ OF_NO_NETWORK = [
     'no token may come in, since none is granted; `credit` grants some',
     'credit for 64 tokens, the most, is already there',
     'the output belongs to a packet until its terminator passes',
+]
+
+# What is told of a description that isn't cut at its line `script`, as the program cuts each.
+OF_A_WHOLE_TEXT = [
+    'a description has no script here; leave out this line and what follows it, or give the whole text to `c104 run` on standard '
+    'input',
 ]
 
 # What is told at a terminal alone, where `debug` is asked.
@@ -530,9 +561,8 @@ def progress(runner):
 
 def special(runner, seen):
     told(runner, 'a file in the place of a command', ['first.txt'], {'first.txt': PLAN}, b'',
-         'c104: first.txt: this is a file, not a command; `c104 < first.txt` runs a description and a '
-         'script that are one text, `c104 run first.txt SCRIPT` a description and its script, and '
-         '`c104 check first.txt` checks a description\'s labels', seen)
+         'c104: first.txt: this is a file, not a command; `c104 run first.txt` runs a description and a script that '
+         'are one text, `c104 run first.txt SCRIPT` those of two, and `c104 check first.txt` checks the labels', seen)
     told(runner, 'two files in the place of a command', ['first.txt', 's.txt'], {'first.txt': PLAN, 's.txt': b''}, b'',
          'c104: first.txt: this is a file, not a command; `c104 run first.txt s.txt` runs a description and its script',
          seen)
@@ -540,14 +570,8 @@ def special(runner, seen):
          'c104: a header is a decimal number, 0 to 65535', seen)
     told(runner, 'a picture of two files', ['draw', 'first.txt', 's.txt'], {'first.txt': PLAN, 's.txt': b''}, b'',
          'c104: a script is drawn as it ends, by --state, or over its rounds, by --over-time', seen)
-    told(runner, 'a run of one file', ['run', 'first.txt'], {'first.txt': PLAN}, b'',
-         'c104: first.txt: a script is wanted after it; `c104 run first.txt SCRIPT` takes a description and its '
-         'script from two files, `c104 run first.txt -` the script from standard input, and `c104 < first.txt` runs '
-         'both where they are one text', seen)
-    told(runner, 'a check of a text with a script', ['check', 'first.txt'],
-         {'first.txt': PLAN + b'script\nsend a 01 eop\n'}, b'',
-         'c104: first.txt:8: a description has no script here; leave out this line and what follows it, or give the '
-         'whole text to `c104 run` on standard input', seen)
+    told(runner, 'a faulty line of one text', ['run', 'first.txt'], {'first.txt': PLAN + b'script\nsend z 01 eop\n'}, b'',
+         'c104: first.txt:9: the description defines no such name: z', seen)
 
 
 def sentences(runner, seen):
@@ -562,7 +586,7 @@ def sentences(runner, seen):
         for found in re.findall(r'=>?\s*\{?\s*"((?:[^"\\]|\\.|\\\n)*)"', code):
             sentence = re.sub(r'\\\n\s*', '', found)
             if runner.wanted('sentence'):
-                is_told = sentence in text or sentence in OF_NO_NETWORK + OF_A_TERMINAL
+                is_told = sentence in text or sentence in OF_NO_NETWORK + OF_A_WHOLE_TEXT + OF_A_TERMINAL
                 runner.judge('sentence: ' + sentence, None if is_told else 'never told')
 
 

@@ -1,7 +1,9 @@
 """Runs a program's labelling over descriptions."""
 
+import random
 
 from case_runner import CANNOT_READ, CANNOT_WRITE, DESCRIPTION_LIMIT, PACKET_LIMIT, PLAN, comments
+from random_networks import network_of
 from two_bytes import hand_mesh
 
 # A description, and what is shown of it. The registers of link l begin at 0x0100 * (l + 1): 00 is the mode, 3f
@@ -177,6 +179,24 @@ LABELLED = {
         's1 0200 00000002; s1 0240 00000001; s1 0241 00000002; s1 0280 00000000; s1 0281 00000001'),
 }
 
+# What is shown with the names of registers.
+BY_NAMES = {
+    'nothing': (b'', ''),
+    'rows of one switch': (PLAN,
+        'range a 0 1; range b 1 1;'
+        'A.0 limit 0 00000001; A.0 limit 1 00000002; A.0 select 0 00000000; A.0 select 1 00000001;'
+        'A.1 limit 0 00000001; A.1 limit 1 00000002; A.1 select 0 00000000; A.1 select 1 00000001'),
+    'all that is set at a link': (b'switch A\nterminal a A.31\ncontinue A.31\ndelete a\nbase A.31 65535\n'
+        b'row A.31 65536 31\nrow A.31 255 discard\nrandom A.31 65534 65536\nheader 2\n',
+        'range a 0 1; A.31 mode 0000000f; A.31 random-base 0000fffe; A.31 random-range 00010000; A.31 base 0000ffff;'
+        'A.31 limit 0 00010000; A.31 limit 1 000000ff; A.31 select 0 0000001f; A.31 select 1 00000020'),
+    'the last row': (b'switch A\n' + b'row A.9 0 sink\n' * 35 + b'row A.9 8 9\n',
+        'A.9 limit 35 00000008; A.9 select 35 00000009'),
+    'two switches': (b'switch B\nswitch A\nwire A.1 B.2\nrow A.0 7 1\nrow B.0 0 0\nterminal t A.0\nterminal s B.0\n'
+        b'delete t\n',
+        'range t 0 1; range s 1 1; B.0 select 0 00000000; A.0 mode 00000002; A.0 limit 0 00000007; A.0 select 0 00000001'),
+}
+
 # What is shown of a description by `row` lines.
 BY_ROWS = {
     'nothing': (b'', 'header 1; buffer 16'),
@@ -210,6 +230,33 @@ BY_ROWS = {
         'row A.5 9 sink; row A.6 9 sink'),
 }
 
+# What is printed of a description by control commands.
+BY_COMMANDS = {
+    'nothing': (b'', ''),
+    'a switch alone': (b'switch A\n', 'control A 02; control A 01'),
+    'rows of one switch': (PLAN, 'control A 02;'
+        'control A 05 40 01 01 00 00 00; control A 05 41 01 02 00 00 00; control A 05 80 01 00 00 00 00;'
+        'control A 05 81 01 01 00 00 00; control A 05 40 02 01 00 00 00; control A 05 41 02 02 00 00 00;'
+        'control A 05 80 02 00 00 00 00; control A 05 81 02 01 00 00 00; control A 01'),
+    'what is as after a reset': (b'switch A\nbase A.0 0\nrow A.0 0 sink\n', 'control A 02; control A 01'),
+    'all that is set at a link, random headers too': (b'switch A\nterminal a A.31\ncontinue A.31\ndelete a\n'
+        b'base A.31 65535\nrow A.31 65536 31\nrow A.31 255 discard\nrandom A.31 65534 65536\nheader 2\n', 'control A 02;'
+        'control A 05 00 20 0f 00 00 00; control A 05 01 20 fe ff 00 00; control A 05 02 20 00 00 01 00;'
+        'control A 05 3f 20 ff ff 00 00; control A 05 40 20 00 00 01 00; control A 05 41 20 ff 00 00 00;'
+        'control A 05 80 20 1f 00 00 00; control A 05 81 20 20 00 00 00; control A 01'),
+    'three switches, each started behind all that is set': (b'switch B\nswitch A\nswitch C\nwire A.1 B.2\nrow A.0 7 1\n'
+        b'row B.0 0 0\nterminal t A.0\ndelete t\n', 'control B 02; control A 02; control C 02;'
+        'control B 05 80 01 00 00 00 00; control A 05 00 01 02 00 00 00; control A 05 40 01 07 00 00 00;'
+        'control A 05 80 01 01 00 00 00; control B 01; control A 01; control C 01'),
+    'a mesh of two switches': (b'mesh 2 1 1\n', 'control s0 02; control s1 02;'
+        'control s0 05 40 03 01 00 00 00; control s0 05 41 03 02 00 00 00; control s0 05 80 03 04 00 00 00;'
+        'control s0 05 81 03 02 00 00 00; control s0 05 40 05 01 00 00 00; control s0 05 41 05 02 00 00 00;'
+        'control s0 05 80 05 04 00 00 00; control s0 05 81 05 02 00 00 00; control s1 05 40 02 01 00 00 00;'
+        'control s1 05 41 02 02 00 00 00; control s1 05 80 02 01 00 00 00; control s1 05 81 02 04 00 00 00;'
+        'control s1 05 40 05 01 00 00 00; control s1 05 41 05 02 00 00 00; control s1 05 80 05 01 00 00 00;'
+        'control s1 05 81 05 04 00 00 00; control s0 01; control s1 01'),
+}
+
 # A network that isn't labelled, by each command.
 UNLABELLED = {
     'a switch without a wire': (b'switch A\nswitch B\nlabel tree A\n', '1 NotConnected'),
@@ -223,7 +270,7 @@ UNLABELLED = {
 # A faulty description is answered as a run answers it.
 FAULTY = {
     'a wire to itself': (b'switch A\nwire A.0 A.1\n', '2: 8 SelfWire'),
-    'a script behind it': (PLAN + b'script\ndrain b\n', '8: 2 UnknownWord'),
+    'a line that begins with script': (PLAN + b'script of b\n', '8: 2 UnknownWord'),
     'a text that is too long': (PLAN + comments(DESCRIPTION_LIMIT - len(PLAN) + 1), '0: 1 TooLong'),
 }
 
@@ -251,6 +298,82 @@ def by_rows(runner):
             _, shown, _ = runner.run(words=['label', '--rows', '-'], data=text)
             runner.case(name + ', read again', lines_of(lines), words=['label', '-'], data=shown)
             runner.case(name + ', read again by rows', shown, words=['label', '--rows', '-'], data=shown)
+
+
+def by_names(runner):
+    for name, (text, lines) in BY_NAMES.items():
+        runner.case(name + ', by names', lines_of(lines), words=['label', '-', '--names'], data=text)
+    for name, (text, line) in UNLABELLED.items():
+        runner.case(name + ', by names', b'label %s\n' % line.encode(), 1, words=['label', '--names', '-'], data=text)
+    for name, (text, line) in FAULTY.items():
+        runner.case(name + ', by names', b'description %s\n' % line.encode(), 1, words=['label', '--names', '-'], data=text)
+    # Each line of a register, behind `poke`, sets it: after a reset they give what was loaded.
+    for name, (text, _) in {**SHOWN, **LABELLED}.items():
+        if not runner.wanted(name + ', set by names'):
+            continue
+        _, shown, _ = runner.run(words=['label', '--names', '-'], data=text)
+        lines = [b'poke ' + line for line in shown.splitlines() if not line.startswith(b'range ')]
+        switches = sorted({line.split()[1].partition(b'.')[0] for line in lines})
+        lines = [b'control %s 02' % switch for switch in switches] + lines + [b'verify']
+        answers = [b'control 82'] * len(switches) + [b'done'] * (len(lines) - len(switches) - 1) + [b'verified']
+        runner.case(name + ', set by names', b''.join(b'%d: %s\n' % it for it in enumerate(answers, 1)),
+                    data=text + b'script\n' + b'\n'.join(lines) + b'\n')
+
+
+def by_commands(runner):
+    for name, (text, lines) in BY_COMMANDS.items():
+        runner.case(name + ', by commands', lines_of(lines), words=['label', '-', '--commands'], data=text)
+    for name, (text, line) in UNLABELLED.items():
+        runner.case(name + ', by commands', b'label %s\n' % line.encode(), 1, words=['label', '--commands', '-'], data=text)
+    for name, (text, line) in FAULTY.items():
+        runner.case(name + ', by commands', b'description %s\n' % line.encode(), 1, words=['label', '--commands', '-'], data=text)
+    runner.case('by rows and by commands', b'', 2, words=['label', '--rows', '--commands', '-'], data=PLAN)
+    for name, (text, lines) in {**SHOWN, **LABELLED}.items():
+        by_commands_alone(runner, name, text, lines_of(lines))
+    chance = random.Random(7)
+    for number in range(12):
+        network = network_of(chance)
+        name = 'random network %d' % number
+        if runner.wanted(name + ', by commands alone'):
+            _, lines, _ = runner.run(words=['label', '-'], data=network.description)
+            by_commands_alone(runner, name, network.description, lines)
+
+
+def by_commands_alone(runner, name, text, lines):
+    """The commands of a description are those of its registers, which these lines show. On the network itself they leave what
+    `verify` wants, and on one with the same switches, terminals and wires but no labels all registers of its labels."""
+    if not runner.wanted(name + ', by commands alone'):
+        return
+    _, script, _ = runner.run(words=['label', '--commands', '-'], data=text)
+    _, shown, _ = runner.run(words=['label', '--rows', '-'], data=text)
+    names = [line.split()[1] for line in shown.splitlines() if line.startswith(b'switch ')]
+    values = [line.split() for line in lines.splitlines() if not line.startswith(b'range ')]
+    pokes = [b'control %s 05 %s %s %s' % (switch, address[2:], address[:2], b' '.join(
+        value[at:at + 2] for at in (6, 4, 2, 0))) for switch, address, value in values]
+    expected = [b'control %s 02' % it for it in names] + pokes + [b'control %s 01' % it for it in names]
+    runner.judge(name + ', by commands alone', None if script.splitlines() == expected else 'found %r' % script)
+    answers = [b'82'] * len(names) + [b'85'] * len(pokes) + [b'81'] * len(names)
+    answers = b''.join(b'%d: control %s\n' % it for it in enumerate(answers, 1))
+    if len(expected) <= MOST_COMMANDS:
+        runner.case(name + ', its commands verified', answers + b'%d: verified\n' % (len(expected) + 1),
+                    data=text + b'\nscript\n' + script + b'verify\n')
+    if len(names) <= MOST_PEEKED:
+        bare = b''.join(line + b'\n' for line in shown.splitlines() if line.split()[0] in (b'switch', b'terminal', b'wire'))
+        kept = {(switch, address): value for switch, address, value in values}
+        peeks = [(switch, b'0001', b'00000001') for switch in names] + [
+            (switch, b'%04x' % (256 * (link + 1) + offset), b'%08x' % after_reset)
+            for switch in names for link in range(32) for offset, after_reset in WRITABLE]
+        wanted = b''.join(b'%d: %s\n' % (number, kept.get((switch, address), reset))
+                          for number, (switch, address, reset) in enumerate(peeks, len(expected) + 1))
+        runner.case(name + ', its registers by commands alone', answers + wanted, data=bare + b'script\n' + script
+                    + b''.join(b'peek %s %s\n' % it[:2] for it in peeks))
+
+
+# The offsets of a link's registers that can be written, and their values after a reset.
+WRITABLE = [(0, 0), (1, 0), (2, 0), (0x3f, 0)] + [(0x40 + k, 0) for k in range(36)] + [(0x80 + k, 64) for k in range(36)]
+
+# The most commands of which a case has to look at each answer, and the most switches whose registers are read.
+MOST_COMMANDS, MOST_PEEKED = 20000, 8
 
 
 def labelled(runner):
@@ -345,4 +468,4 @@ def devices(runner):
                     data=b'frob\n', stdout=full)
 
 
-PARTS = [images, by_rows, labelled, runs, descriptions, devices]
+PARTS = [images, by_names, by_rows, by_commands, labelled, runs, descriptions, devices]

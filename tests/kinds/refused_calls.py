@@ -211,9 +211,13 @@ WHOLE_RUNS = [
     Run('first example', text=example('first-network.txt')),
     Run('second example', text=example('configured-by-commands.txt')),
     Run('two files', FILES, description=PLAN, script=lines_of(FIRST_RUN)),
+    Run('one file', ['run', 'desc'], description=FIRST_TEXT),
     Run('faulty description', text=PLAN + b'frob\n'),
     Run('debug', ['debug', 'desc'], description=PLAN, text=lines_of(FIRST_RUN[:5])),
+    Run('debug behind a script', ['debug', 'desc'], description=PLAN + b'script\n' + lines_of(FIRST_RUN[:3]), text=lines_of(FIRST_RUN[3:5])),
+    Run('counts of one file', ['stats', 'desc'], description=FIRST_TEXT),
     Run('check', ['check', 'desc'], description=PLAN),
+    Run('check of one file', ['check', 'desc'], description=FIRST_TEXT),
     Run('refused labels', ['check', 'desc'], description=PLAN + b'continue A.2\n'),
     Run('no cycle', ['cycles', 'desc'], description=PLAN),
     Run('a cycle', ['cycles', 'desc', '--all'], description=example('ring.txt')),
@@ -237,6 +241,7 @@ BYTE_RUNS = [
     Run('first run', text=FIRST_TEXT),
     Run('faulty line', text=SHORT),
     Run('files in bytes', FILES, description=PLAN, script=lines_of(FIRST_RUN[:5])),
+    Run('file in bytes', ['run', 'desc'], description=PLAN + b'script\n' + lines_of(FIRST_RUN[:5])),
 ]
 # Runs that tell people what is wrong.
 EXPLAINED_RUNS = [
@@ -245,7 +250,7 @@ EXPLAINED_RUNS = [
 ]
 # Runs that read nothing.
 TOLD_RUNS = [Run('help', ['--help']), Run('version', ['--version'])]
-WRONG_USAGE = Run('wrong usage', ['frob'])
+WRONG_USAGE = [Run('wrong usage', ['frob']), Run('no script', ['run', 'desc'], description=PLAN)]
 
 
 def sweep_all(runner, library):
@@ -273,7 +278,7 @@ def sweep_all(runner, library):
         it.refuse_each('alloc', it.judge_allocation)
         it.refuse_each('write', it.judge_write)
         it.same_in_single_bytes()
-    for it in wanted([WRONG_USAGE]):
+    for it in wanted(WRONG_USAGE):
         it.refuse_each('alloc', it.judge_allocation)
 
 

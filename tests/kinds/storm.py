@@ -278,7 +278,7 @@ def past_a_list(runner):
 
 def usage(runner):
     """Words that a storm doesn't take."""
-    for words in ([], ['a'], ['a', 'b', 'c'], ['a', 'b', '--workers'], ['a', 'b', '--workers', '0'],
+    for words in ([], ['a', 'b', 'c'], ['a', 'b', '--workers'], ['a', 'b', '--workers', '0'],
                   ['a', 'b', '--workers', '65'], ['a', 'b', '--workers', 'x'], ['a', 'b', '--workers', '-1'],
                   ['a', 'b', '--lean', 'x'], ['a', 'b', '--seed'], ['a', 'b', '--seed', 'x'], ['a', 'b', '--seed', str(2 ** 64)]):
         runner.case('usage of storm %s' % ' '.join(words), b'', 2, words=['storm', *words])

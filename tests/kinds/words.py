@@ -48,7 +48,7 @@ def usage(runner):
     """Words are refused with a message on standard error, and nothing else is written."""
     for words in (['run', 'a', 'b', 'c'], ['run', '--frob'], ['--frob'], ['check'], ['check', 'a', 'b'],
                   ['paths'], ['paths', *'abcdefghijklmnopq'],
-                  ['label'], ['label', 'a', 'b'], ['draw'], ['draw', 'a', 'b'], ['debug'], ['debug', 'a', 'b'], ['storm'], ['storm', 'a'], ['traffic'],
+                  ['label'], ['label', 'a', 'b'], ['draw'], ['draw', 'a', 'b'], ['debug'], ['debug', 'a', 'b'], ['storm'], ['stats'], ['traffic'],
                   ['traffic', 'a'],
                   [''], ['-'], ['frob', 'frob'], ['x' * 100000], [b'\xff']):
         name = 'usage of %.20r' % words
