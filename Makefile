@@ -1,9 +1,9 @@
-# make                        proves and builds the program, build/c104, crates side by side; once stopped,
-#                             it goes on from what it had proved
+# make try SCRIPT=FILE        runs a script in two minutes without proving anything, and the first example where none is named
+# make                        proves and builds the program, build/c104, crates side by side, in some 43 minutes on four
+#                             processors; once stopped, it goes on from what it had proved
 # make run                    builds it and runs the first example
 # make install                copies the program and its manual page below PREFIX, which is /usr/local unless
 #                             said, and below DESTDIR before it; what is built already isn't built again
-# make try SCRIPT=FILE        runs a script without proving anything, and the first example where none is named
 # make page DESC=FILE SCRIPT=FILE
 #                             writes a page that plays a run, build/run.html, for any browser: of the ring that locks up where
 #                             none is named; it needs Graphviz
