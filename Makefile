@@ -13,7 +13,8 @@
 #                             one rests on, what a refused call leaves, and the lemmas that other crates use
 # make slow                   lists the functions that took long in the last checks
 # make edits CRATE=c104_link  tries the edits of one crate that the prover must refuse
-# make test                   runs every proof, test, edit and case, from nothing; its last line is "N passed, M failed"
+# make test                   runs every proof, test, edit and case, from nothing but edits that were refused before on
+#                             this machine; its last line is "N passed, M failed"
 # make storms                 runs a thousand storms over random networks, and compares each with a plain run; no part
 #                             of the test, which runs twenty of them
 # make fuzz MINUTES=60        fuzzes the program by AFL++ for a time, with the cases as seeds; no part of the test
