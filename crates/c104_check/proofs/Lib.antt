@@ -32,3 +32,4 @@ pub mod TableRanks
 pub mod FirstCycleLemmas
 pub mod CycleWalks
 pub mod EdgeLemmas
+pub mod RanksAcyclic
