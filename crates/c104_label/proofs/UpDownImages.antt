@@ -1,14 +1,12 @@
 -- The image of a plan's tree is one by which packets go up and then down, and so is one with its ranges that was checked.
-use Rattle.c104_check.specs.{ChannelDependencies.IsAcyclic, Cycles.AreRanksOrCycle, Ranks.rank_in, Routes.{IsAccepted, Routes, routes_of}}
-use Rattle.{c104_check.specs.declared.cycles.{Ranks.Ranks, RanksOrCycle.RanksOrCycle}, c104_label.proofs.TreeAccepted.spanning_accepted}
-use Rattle.c104_label.{proofs.TreeRanks.spanning_acyclic, specs.{Forests.Forest, Images.{IsRootCause, IsRootOf, IsUpDownCause}}}
-use Rattle.c104_label.specs.{Images.{IsUpDownImage, IsUpDownMade}, TreeImages.{IsTreeImage, most_labels, total_count}}
-use Rattle.c104_label.specs.{TreeLabels.{switch_table, tree_range}, Trees.IsTreeCause, UpDownLabels.IsSound}
+use Rattle.c104_check.specs.{ChannelDependencies.IsAcyclic, Routes.{IsAccepted, routes_of}}
+use Rattle.c104_label.{proofs.{TreeAccepted.spanning_accepted, TreeRanks.spanning_acyclic}, specs.{Forests.Forest, Images.IsRootCause}}
+use Rattle.c104_label.specs.{Images.{IsRootOf, IsUpDownCause, IsUpDownImage, IsUpDownMade}, TreeImages.{IsTreeImage, most_labels}}
+use Rattle.c104_label.specs.{TreeImages.total_count, TreeLabels.{switch_table, tree_range}, Trees.IsTreeCause, UpDownLabels.IsSound}
 use Rattle.{c104_label.specs.declared.faults.LabelFault.LabelFault, c104_plan.proofs.LabelledSettings.labelled_by_port}
 use Rattle.c104_plan.specs.{LabelledImages.table_in, PlanImage.Image, Plans.{IsPlan, IsTreePlan, IsUpDownPlan, Plan}}
-use Rattle.std.proofs.Common.{IfOk, List, None, Option, Result, Some, [], arith, false, inl, inr, length, map, refl, subst, sym, ℕ, ◌<◌, ◌∙◌}
-use Rattle.std.proofs.Common.{◌∷◌}
-use Rattle.std.{proofs.Common.{◌≡◌, ◌≤◌, ◌⊎◌}, specs.List.range_with_len}
+use Rattle.std.proofs.Common.{IfOk, List, None, Option, Result, Some, [], arith, false, inl, inr, length, map, refl, subst, sym, ℕ, ◌<◌}
+use Rattle.std.{proofs.Common.{◌∙◌, ◌∷◌, ◌≡◌, ◌≤◌, ◌⊎◌}, specs.List.range_with_len}
 
 pub tree_up_down : (plan : Plan) (root : ℕ) (forest : Forest) (image : Image) → IsPlan plan → IsTreePlan root plan → total_count plan.terminals ≤ most_labels plan → IsTreeImage plan root forest image → IsUpDownImage plan root forest image
 tree_up_down plan root forest image kept is_tree few is =
@@ -72,10 +70,6 @@ root_cause plan named root LabelFault.TooManyLabels of is = (root, of, is)
 root_cause plan named root LabelFault.WrongShape of is = absurd is
 root_cause plan named root LabelFault.NoMemory of is = tt
 root_cause plan named root LabelFault.BadGroups of is = is
-
--- ranks of its inputs leave a network without a cycle
-pub ranked_acyclic : (routes : Routes) (x : RanksOrCycle) (ranks : Ranks) → AreRanksOrCycle routes x → x ≡ RanksOrCycle.Ranks ranks → IsAcyclic routes
-ranked_acyclic routes x ranks are is = let both = subst (λ y. AreRanksOrCycle routes y) is are in (rank_in ranks.by_place, both.0, both.1)
 
 -- and so what is answered
 

@@ -1,4 +1,4 @@
-use Rattle.{c104_check.specs.Routes.routes_of, c104_label.proofs.UpDownImages.ranked_acyclic}
+use Rattle.c104_check.{proofs.RanksAcyclic.ranked_acyclic, specs.Routes.routes_of}
 
 pub returns-in-Ranks : Rattle.c104_label.proofs.up_down.is_acyclic.Goals.returns-in-Ranks
 returns-in-Ranks c = λ same. record {
