@@ -1,5 +1,5 @@
 -- A list of tokens as what is left of one piece, then whole pieces, then the beginning of one that is still due.
-use Rattle.std.proofs.Common.{List, [], append-nil, append_assoc, inl, inr, refl, subst, sym, ◌++◌, ◌∷◌, ◌≡◌, ◌⊎◌}
+use Rattle.std.proofs.Common.{List, [], append-nil, append_assoc, arith, inl, inr, length, refl, subst, sym, ◌++◌, ◌∷◌, ◌≡◌, ◌≤◌, ◌⊎◌}
 
 -- start is left of the piece that is read; due is what comes of the last piece
 abbrev pub IsChannel : {A : Type 0} → (List A → Type 0) → List A → List A → List A → Type 0
@@ -31,6 +31,12 @@ module _ {A : Type 0} (P : List A → Type 0) where
   channel_begin (y ∷ ys) [] piece p e = absurd (cc)
   channel_begin (y ∷ ys) (z ∷ zs) piece p r = (r.0, channel_begin ys zs piece p r.1)
   channel_begin [] (z ∷ zs) piece p r = (r.0, r.1, channel_begin r.0 zs piece p r.2)
+
+  -- where nothing is due all of the piece that is read stands there
+  pub channel_whole : (s xs : List A) → IsChannel P s xs [] → length s ≤ length xs
+  channel_whole [] xs r = omega arith
+  channel_whole (y ∷ ys) [] r = absurd (cc)
+  channel_whole (y ∷ ys) (z ∷ zs) r = let rest = channel_whole ys zs r.1 in omega (arith, rest)
 
   -- pieces of another kind
   pub channel_map : (R : List A → Type 0) → ((l : List A) → P l → R l) → (s xs due : List A) → IsChannel P s xs due → IsChannel R s xs due
