@@ -1,14 +1,14 @@
 -- Nodes that start as their types keep, with all switches started, are started; so a finished run that stands still is
 -- quiet.
 use Rattle.c104_check.specs.{ChannelDependencies.IsAcyclic, Routes.{IsAccepted, routes_of}}
-use Rattle.{c104_deadlock.{proofs.StandingRuns.stands_quiet, specs.DeadlockFreedom.IsAcyclicRun}, c104_link.proofs.MadeSteps.All-place}
-use Rattle.{c104_link.specs.declared.TheConstants.TOKENS_OF_A_GRANT, c104_net.proofs.{RunOrigins.IsKeptRun, SureOrigins.mapped}}
-use Rattle.{c104_net.specs.Unchanged.{AreStartsOf, IsUnchanged}, c104_node.specs.Starts.{IsStartedStart, start_node}}
-use Rattle.{c104_node.specs.declared.starts.NodeStart.NodeStart, c104_plan.specs.{PlanImage.Image, Plans.{IsPlan, Plan}}}
-use Rattle.c104_run.specs.{FinishedRecords.FinishedRecord, Network.network_of, QuietNets.IsQuiet, Standstill.{IsStarted, IsStartedNode}}
-use Rattle.{c104_run.specs.Standstill.StandsStill, c104_switch.specs.{Starts.{IsLinkStart, start_input, start_output}, Switch.Input}}
-use Rattle.{c104_token.specs.{Kinds.plain_kind, declared.tokens.Token.Token}, std.proofs.Common.{All, List, map, subst, ◌∙◌, ◌≤◌}}
-use Rattle.std.proofs.lemmas.List.{length-map}
+use Rattle.c104_deadlock.{proofs.StandingRuns.{stands_blocked, stands_quiet}, specs.{BlockedInputs.IsBlocked, DeadlockFreedom.IsAcyclicRun}}
+use Rattle.{c104_link.{proofs.MadeSteps.All-place, specs.declared.TheConstants.TOKENS_OF_A_GRANT}, c104_net.proofs.RunOrigins.IsKeptRun}
+use Rattle.{c104_net.{proofs.SureOrigins.mapped, specs.Unchanged.{AreStartsOf, IsUnchanged}}, c104_node.specs.Starts.IsStartedStart}
+use Rattle.{c104_node.specs.{Starts.start_node, declared.starts.NodeStart.NodeStart}, c104_plan.specs.{PlanImage.Image, Plans.IsPlan}}
+use Rattle.{c104_plan.specs.Plans.Plan, c104_run.specs.{FinishedRecords.FinishedRecord, Network.network_of, QuietNets.IsQuiet}}
+use Rattle.{c104_run.specs.Standstill.{IsStarted, IsStartedNode, StandsStill}, c104_switch.specs.Starts.{IsLinkStart, start_input}}
+use Rattle.{c104_switch.specs.{Starts.start_output, Switch.Input}, c104_token.specs.{Kinds.plain_kind, declared.tokens.Token.Token}}
+use Rattle.std.proofs.{Common.{All, List, map, subst, ◌∙◌, ◌≤◌}, lemmas.List.length-map}
 
 module _ (A : Type 0) where
   start_is_started : (s : NodeStart) → IsStartedStart s → IsStartedNode {A = A} (start_node s)
@@ -40,3 +40,7 @@ module _ (run : FinishedRecord) (is_plan : IsPlan run.finished.plan) (kept : IsK
 
   pub run_stands : IsAccepted (routes_of run.finished.plan image) → IsAcyclic (routes_of run.finished.plan image) → AreStartsOf run.finished.plan image run.starts → All IsStartedStart run.starts → IsUnchanged (routes_of run.finished.plan image) kept.events → StandsStill plain_kind (network_of run.finished.plan kept.nodes) → IsQuiet (network_of run.finished.plan kept.nodes)
   run_stands accepted acyclic set started unchanged still = stands_quiet run.finished.plan image run.starts kept.events kept.nodes is_plan (acyclic_run accepted acyclic set started unchanged) kept.sent still
+
+  -- with cycles too: where tokens stand
+  pub run_blocked : IsAccepted (routes_of run.finished.plan image) → AreStartsOf run.finished.plan image run.starts → All IsStartedStart run.starts → IsUnchanged (routes_of run.finished.plan image) kept.events → StandsStill plain_kind (network_of run.finished.plan kept.nodes) → IsBlocked (routes_of run.finished.plan image) (network_of run.finished.plan kept.nodes)
+  run_blocked accepted set started unchanged still = stands_blocked run.finished.plan image run.starts kept.events kept.nodes is_plan accepted set (starts_are_started Token run.finished.plan run.starts started) kept.started kept.told.run unchanged kept.sent still

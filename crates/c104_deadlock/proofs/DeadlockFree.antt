@@ -4,23 +4,23 @@ use Rattle.c104_check.specs.{ChannelDependencies.IsRanking, Routes.{Routes, rout
 use Rattle.c104_deadlock.proofs.{BeginsStarted.starts_are_started, FullWork.{plain_work, random_within}, RecordedRounds.applied_plain}
 use Rattle.c104_deadlock.proofs.{RecordedRounds.{done_after, done_of, plain_run, starts_stay}, RoundsAlike.{AreRounds, fair_rounds}}
 use Rattle.c104_deadlock.proofs.{RoundsAlike.handed_rounds, RoundsEnd.{rounds_deliver, run_plain, work_map}, StandingRuns.run_steady}
-use Rattle.c104_deadlock.proofs.{StandingRuns.{stands_quiet, started_traced}, StartedRuns.run_started, UndoneRounds.undone_stands}
-use Rattle.c104_deadlock.{proofs.{WorkBounds.bound_by_tokens, WorkEvents.event_less, WorkRounds.falling}, specs.DeadlockFreedom.FairDeliver}
-use Rattle.c104_deadlock.specs.DeadlockFreedom.{HasFullInbox, HasFullTrace, HasNoDeadlock, IsAcyclicNet, IsAcyclicRun, IsAllDelivered}
-use Rattle.c104_deadlock.specs.{DeadlockFreedom.{NothingDone, RoundsDeliver}, HeaderWork.{random_ahead, random_bound, random_work}}
-use Rattle.{c104_deadlock.specs.Work.highest_rank, c104_event.specs.declared.{events.Event.Event, faults.EventFault.EventFault}}
-use Rattle.c104_net.proofs.{PacketInvariant.IsLabelled, Promises.{each, starts}, RunOrigins.still_steady, RunSteps.header_positive}
-use Rattle.c104_net.{proofs.{SentBytes.AreBytesSent, StartMaps.starts_are, TracedRuns.{token_of, traced_from}}, specs.Deliveries.Promise}
-use Rattle.{c104_net.specs.RoundEvents.IsOfRound, c104_node.specs.{MappedNodes.map_node, Quiet.IsQuietNode, Starts.start_node}}
-use Rattle.{c104_node.specs.{Traced.traced_kind, declared.traced.Traced.Traced}, c104_plan.specs.{PlanImage.Image, Plans.{IsPlan, Plan}}}
-use Rattle.c104_run.proofs.{FairRecords.fair_plain, NodeMaps.quiet_map, RecordSteps.done_made, RoundRuns.Applied, StepMaps.apply_map}
-use Rattle.c104_run.specs.{EventRuns.{EventsEnd, Outcome, StopsShort, run_events}, FairRounds.{InTurn, fair_events, in_turn}}
-use Rattle.c104_run.specs.{HandedWords.rounds_with, NetRecords.{IsNetRecord, NetRecord, is_done}, Network.{Network, network_apply}}
-use Rattle.c104_run.specs.{Network.network_of, QuietNets.IsQuiet, RecordedRuns.record_apply, Runs.IsDoneRun, Standstill.StandsStill}
-use Rattle.{c104_run.specs.{TracedRuns.map_network, declared.words.Words.Words}, c104_switch.specs.Actions.Reply}
-use Rattle.{c104_token.specs.{Kinds.plain_kind, declared.tokens.Token.Token}, std.proofs.Common.{Err, List, Ok, Result, ap, arith, get_or}}
-use Rattle.std.proofs.Common.{inl, inr, length, map, refl, subst, sym, true, ℕ, ⊎_elim, ◌*◌, ◌++◌, ◌<◌, ◌∙◌, ◌≡◌, ◌≤◌, ◌⊎◌}
-use Rattle.std.proofs.lemmas.List.Elements.{All-map}
+use Rattle.c104_deadlock.proofs.{StandingRuns.{stands_blocked, stands_quiet, started_traced}, StartedRuns.run_started}
+use Rattle.c104_deadlock.proofs.{UndoneRounds.undone_stands, WorkBounds.bound_by_tokens, WorkEvents.event_less, WorkRounds.falling}
+use Rattle.c104_deadlock.specs.{BlockedInputs.BlocksAtCycles, DeadlockFreedom.{FairDeliver, HasFullInbox, HasFullTrace, HasNoDeadlock}}
+use Rattle.c104_deadlock.specs.DeadlockFreedom.{IsAcyclicNet, IsAcyclicRun, IsAllDelivered, NothingDone, RoundsDeliver}
+use Rattle.c104_deadlock.specs.{HeaderWork.{random_ahead, random_bound, random_work}, Work.highest_rank}
+use Rattle.{c104_event.specs.declared.{events.Event.Event, faults.EventFault.EventFault}, c104_net.proofs.PacketInvariant.IsLabelled}
+use Rattle.c104_net.proofs.{Promises.{each, starts}, RunOrigins.still_steady, RunSteps.header_positive, SentBytes.AreBytesSent}
+use Rattle.c104_net.{proofs.{StartMaps.starts_are, TracedRuns.{token_of, traced_from}}, specs.{Deliveries.Promise, RoundEvents.IsOfRound}}
+use Rattle.c104_node.specs.{MappedNodes.map_node, Quiet.IsQuietNode, Starts.start_node, Traced.traced_kind, declared.traced.Traced.Traced}
+use Rattle.{c104_plan.specs.{PlanImage.Image, Plans.{IsPlan, Plan}}, c104_run.proofs.{FairRecords.fair_plain, NodeMaps.quiet_map}}
+use Rattle.c104_run.{proofs.{RecordSteps.done_made, RoundRuns.Applied, StepMaps.apply_map}, specs.EventRuns.{EventsEnd, Outcome}}
+use Rattle.c104_run.specs.{EventRuns.{StopsShort, run_events}, FairRounds.{InTurn, fair_events, in_turn}, HandedWords.rounds_with}
+use Rattle.c104_run.specs.{NetRecords.{IsNetRecord, NetRecord, is_done}, Network.{Network, network_apply, network_of}, QuietNets.IsQuiet}
+use Rattle.c104_run.specs.{RecordedRuns.record_apply, Runs.IsDoneRun, Standstill.StandsStill, TracedRuns.map_network}
+use Rattle.{c104_run.specs.declared.words.Words.Words, c104_switch.specs.Actions.Reply, c104_token.specs.Kinds.plain_kind}
+use Rattle.{c104_token.specs.declared.tokens.Token.Token, std.proofs.Common.{Err, List, Ok, Result, ap, arith, get_or, inl, inr, length}}
+use Rattle.std.proofs.{Common.{map, refl, subst, sym, true, ℕ, ⊎_elim, ◌*◌, ◌++◌, ◌<◌, ◌∙◌, ◌≡◌, ◌≤◌, ◌⊎◌}, lemmas.List.Elements.All-map}
 
 module _ (net : NetRecord) (is_plan : IsPlan net.network.plan) (kept : IsNetRecord net) (sent : AreBytesSent kept.told.0) (image : Image) (is : IsAcyclicNet image net) where
   abbrev plan : Plan
@@ -34,13 +34,13 @@ module _ (net : NetRecord) (is_plan : IsPlan net.network.plan) (kept : IsNetReco
 
   acyclic_run : IsAcyclicRun plan image net.starts events net.network.nodes
   acyclic_run = record {
-    accepted = is.accepted;
+    accepted = is.kept.accepted;
     acyclic = is.acyclic;
-    set = is.set;
-    started = starts_are_started Token plan net.starts is.started;
+    set = is.kept.set;
+    started = starts_are_started Token plan net.starts is.kept.started;
     steady = kept.started;
     run = kept.told.1.run;
-    unchanged = is.unchanged events kept.told.1;
+    unchanged = is.kept.unchanged events kept.told.1;
   }
 
   stands : StandsStill plain_kind net.network → IsQuiet net.network
@@ -58,13 +58,13 @@ module _ (net : NetRecord) (is_plan : IsPlan net.network.plan) (kept : IsNetReco
       let found = traced_from plan net.starts net.network.nodes events kept.told.1.run in
       let mid : Network Traced = network_of plan found.0 in
       let balance = run_steady traced_kind (network_of plan (map start_node net.starts)) mid events is_plan found.1.run (still_steady Token Traced plan net.starts kept.started) in
-      let started = run_started plain_kind routes (network_of plan (map start_node net.starts)) net.network events kept.told.1.run (is.unchanged events kept.told.1) acyclic_run.started in
+      let started = run_started plain_kind routes (network_of plan (map start_node net.starts)) net.network events kept.told.1.run (is.kept.unchanged events kept.told.1) acyclic_run.started in
       let same : random_work plan routes rank found.0 ≡ random_work plan routes rank net.network.nodes = sym (work_map token_of plan routes rank found.0) ∙ ap (random_work plan routes rank) found.1.plain in
       let after_traced = run_events (network_apply traced_kind) mid es in
       let both : ◌≡◌ {A = Outcome (Network Token)} (after_traced.0, map_network token_of after_traced.1) (Ok tt, after.network) = sym (run_plain mid es) ∙ ap (λ ns. run_events (network_apply plain_kind) (network_of plan ns) es) found.1.plain ∙ end in
       let told : after_traced.0 ≡ Ok tt = ap (λ (z : Outcome (Network Token)). z.0) both in
       let whole : ◌≡◌ {A = Outcome (Network Traced)} after_traced (Ok tt, after_traced.1) = ap (λ o. (o, after_traced.1)) told in
-      let delivered = rounds_deliver image (network_of plan (map start_node net.starts)) mid after_traced.1 events rank n es rounds is_plan is.accepted falls (starts_are plan image net.starts is.set) found.1.run (is.unchanged events kept.told.1) sent balance
+      let delivered = rounds_deliver image (network_of plan (map start_node net.starts)) mid after_traced.1 events rank n es rounds is_plan is.kept.accepted falls (starts_are plan image net.starts is.kept.set) found.1.run (is.kept.unchanged events kept.told.1) sent balance
       (started_traced plan net.starts net.network.nodes events is_plan kept.told.1.run found.0 found.1.plain started) (subst (λ k. k < n) (sym same) few) whole in
       let more = done_of traced_kind es mid after_traced.1 whole in (
         after_traced.1,
@@ -125,8 +125,8 @@ module _ (net : NetRecord) (is_plan : IsPlan net.network.plan) (kept : IsNetReco
       by_answer (Ok x) told ready =
           let found = traced_from plan net.starts net.network.nodes events kept.told.1.run in
           let mid : Network Traced = network_of plan found.0 in
-          let labelled : IsLabelled routes = record { accepted = is.accepted; positive = header_positive plan image } in
-          let k = each plan image is_plan labelled (map start_node net.starts) mid events found.1.run (is.unchanged events kept.told.1) sent (starts plan image is_plan labelled (map start_node net.starts) (starts_are plan image net.starts is.set)) in
+          let labelled : IsLabelled routes = record { accepted = is.kept.accepted; positive = header_positive plan image } in
+          let k = each plan image is_plan labelled (map start_node net.starts) mid events found.1.run (is.kept.unchanged events kept.told.1) sent (starts plan image is_plan labelled (map start_node net.starts) (starts_are plan image net.starts is.kept.set)) in
           let after : Network Token = (record_apply net e).1.network in
           let next : Network Traced = (network_apply traced_kind mid e).1 in
           let due : ◌≡◌ {A = Applied (Network Token)} (Ok x, after) (network_apply plain_kind net.network e) = applied_plain net e x told in
@@ -155,3 +155,9 @@ module _ (net : NetRecord) (is_plan : IsPlan net.network.plan) (kept : IsNetReco
     plain_bound = λ plain. plain_work plan routes (highest_rank plan) plain net.network.nodes;
     bounded = bound_by_tokens plan net.network.nodes;
   }
+
+-- where a network with its record stands still packets are blocked only where dependencies lead into a cycle
+pub blocks_at_cycles : (net : NetRecord) → IsPlan net.network.plan → (kept : IsNetRecord net) → AreBytesSent kept.told.0 → BlocksAtCycles net
+blocks_at_cycles net is_plan kept sent image is still =
+    stands_blocked net.network.plan image net.starts kept.told.0 net.network.nodes is_plan is.accepted is.set (starts_are_started Token net.network.plan net.starts is.started) kept.started
+    kept.told.1.run (is.unchanged kept.told.0 kept.told.1) sent still

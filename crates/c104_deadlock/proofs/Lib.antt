@@ -1,4 +1,5 @@
 pub mod StillWires
+pub mod BlockedInputs
 pub mod StillPorts
 pub mod RoundMembers
 pub mod HandedRounds

@@ -1,16 +1,20 @@
--- An accepted network that stands still is quiet: from its start, over plain tokens.
-use Rattle.{c104_check.specs.Routes.routes_of, c104_deadlock.proofs.{RoundMembers.still_of, StartedRuns.run_started, StillPorts.standstill}}
-use Rattle.{c104_deadlock.specs.DeadlockFreedom.IsAcyclicRun, c104_event.specs.declared.{events.Event.Event, faults.EventFault.EventFault}}
-use Rattle.c104_net.proofs.{RunOrigins.still_steady, SentBytes.AreBytesSent, StartMaps.starts_are, TracedRuns.{token_of, traced_from}}
-use Rattle.c104_node.specs.{MappedNodes.{map_input, map_node, map_outgoing}, Nodes.Node, Quiet.IsQuietNode, Starts.start_node}
-use Rattle.c104_node.specs.{Traced.traced_kind, declared.{node.NodeOf.NodeOf, starts.NodeStart.NodeStart, traced.Traced.Traced}}
-use Rattle.{c104_plan.specs.{PlanImage.Image, Plans.{IsPlan, Plan}}, c104_run.proofs.{BalanceEvents.applied_steady, NodeMaps.quiet_map}}
-use Rattle.c104_run.{proofs.{RoundJoins.apply_plan, StepMaps.apply_map}, specs.{Balance.IsSteady, Network.{Network, network_apply}}}
-use Rattle.c104_run.specs.{Network.network_of, QuietNets.IsQuiet, Rounds.round, Runs.IsDoneRun, Standstill.{IsStarted, IsStartedNode}}
-use Rattle.{c104_run.specs.{Standstill.{IsStill, IsUnready, StandsStill}, TracedRuns.map_network}, c104_switch.specs.Actions.Reply}
-use Rattle.{c104_token.specs.{Kinds.{Kind, plain_kind}, declared.tokens.Token.Token}, std.proofs.Common.{All, List, Ok, Result, [], ap}}
-use Rattle.std.proofs.{Common.{get_or, inl, map, option_map, refl, slice_get, subst, sym, ◌∙◌, ◌∷◌, ◌≡◌}, lemmas.List.Elements.All-map}
-use Rattle.std.proofs.lemmas.{List.{Elements.All-weaker, length-map}, Option.slice_get-map}
+-- What blocks packets in an accepted network that stands still: from its start, over plain tokens.
+use Rattle.c104_check.specs.{Routes.{IsAccepted, Routes, routes_of}, declared.ports.SwitchPort.SwitchPort}
+use Rattle.c104_deadlock.proofs.{BlockedInputs.{blocked_map, none_leads, phase_map, tokens_map}, RoundMembers.still_of}
+use Rattle.c104_deadlock.{proofs.{StartedRuns.run_started, StillPorts.standing}, specs.BlockedInputs.{HoldsTokens, IsBlocked, IsBlockedBy}}
+use Rattle.c104_deadlock.specs.{BlockedInputs.{phase_at, tokens_at}, DeadlockFreedom.IsAcyclicRun}
+use Rattle.{c104_event.specs.declared.{events.Event.Event, faults.EventFault.EventFault}, c104_net.proofs.RunOrigins.still_steady}
+use Rattle.c104_net.{proofs.{SentBytes.AreBytesSent, StartMaps.starts_are, TracedRuns.{token_of, traced_from}}, specs.Unchanged.AreStartsOf}
+use Rattle.{c104_net.specs.Unchanged.IsUnchanged, c104_node.specs.{MappedNodes.{map_input, map_node, map_outgoing}, Nodes.Node}}
+use Rattle.c104_node.specs.{Quiet.IsQuietNode, Starts.start_node, Traced.traced_kind, declared.node.NodeOf.NodeOf}
+use Rattle.{c104_node.specs.declared.{starts.NodeStart.NodeStart, traced.Traced.Traced}, c104_plan.specs.{PlanImage.Image, Plans.IsPlan}}
+use Rattle.{c104_plan.specs.Plans.Plan, c104_run.proofs.{BalanceEvents.applied_steady, NodeMaps.quiet_map, RoundJoins.apply_plan}}
+use Rattle.c104_run.{proofs.StepMaps.apply_map, specs.{Balance.IsSteady, Network.{Network, network_apply, network_of}, QuietNets.IsQuiet}}
+use Rattle.c104_run.specs.{Rounds.round, Runs.IsDoneRun, Standstill.{IsStarted, IsStartedNode, IsStill, IsUnready, StandsStill}}
+use Rattle.{c104_run.specs.TracedRuns.map_network, c104_switch.specs.{Actions.Reply, Phases.with_header}, c104_token.specs.Kinds.Kind}
+use Rattle.{c104_token.specs.{Kinds.plain_kind, declared.tokens.Token.Token}, std.proofs.Common.{All, List, Ok, Result, [], ap, get_or}}
+use Rattle.std.proofs.Common.{inl, length, map, option_map, refl, slice_get, subst, sym, ℕ, ◌<◌, ◌∙◌, ◌∷◌, ◌≡◌}
+use Rattle.std.proofs.lemmas.{List.{Elements.{All-map, All-weaker}, length-map}, Option.slice_get-map}
 
 -- a run keeps the balance of the wires
 pub run_steady : {A : Type 0} (kind : Kind A) (net ended : Network A) (events : List (Event × Reply)) → IsPlan net.plan → IsDoneRun kind net events ended → IsSteady net → IsSteady ended
@@ -46,13 +50,33 @@ module _ (plan : Plan) (starts : List NodeStart) (nodes : List (Node Token)) (ev
   quiet_plain : IsQuiet (network_of plan traced) → IsQuiet (network_of plan nodes)
   quiet_plain quiet = subst (All IsQuietNode) plain (All-map IsQuietNode (map_node token_of) traced (λ k d inside. quiet_map token_of (get_or traced k d) (quiet k d inside)))
 
--- where no event of a round can be done, no token stands anywhere and no packet is under way
+  -- what blocks packets is the same over other tokens
+  blocked_plain : (routes : Routes) → IsBlocked routes (network_of plan traced) → IsBlocked routes (network_of plan nodes)
+  blocked_plain routes is =
+      let alike : (p : SwitchPort) → length (tokens_at nodes p) ≡ length (tokens_at traced p) = λ p. ap (λ ns. length (tokens_at ns p)) (sym plain) ∙ tokens_map token_of traced p in
+      let phase : (p : SwitchPort) → with_header (map token_of) (phase_at traced p) ≡ phase_at nodes p = λ p. sym (phase_map token_of traced p) ∙ ap (λ ns. phase_at ns p) plain in
+      let back : (p : SwitchPort) → HoldsTokens nodes p → HoldsTokens traced p = λ p here. subst (λ n. 0 < n) (alike p) here in
+      let on : (p : SwitchPort) → HoldsTokens traced p → HoldsTokens nodes p = λ p here. subst (λ n. 0 < n) (sym (alike p)) here in
+      record {
+        blocked = λ p here. subst (IsBlockedBy routes (HoldsTokens nodes) p) (phase p) (blocked_map token_of routes (HoldsTokens traced) (HoldsTokens nodes) on p (phase_at traced p) (is.blocked p (back p here)));
+        leads = λ p here. is.leads p (back p here);
+        quiet = λ none. quiet_plain (is.quiet (λ p here. none p (on p here)));
+      }
+
+-- where no event of a round can be done, packets are blocked only where dependencies lead into a cycle
+pub stands_blocked : (plan : Plan) (image : Image) (starts : List NodeStart) (events : List (Event × Reply)) (nodes : List (Node Token)) → IsPlan plan → IsAccepted (routes_of plan image) → AreStartsOf plan image starts → IsStarted {A = Token} (network_of plan (map start_node starts)) → IsSteady {A = Token} (network_of plan (map start_node starts)) →
+    IsDoneRun plain_kind (network_of plan (map start_node starts)) events (network_of plan nodes) → IsUnchanged (routes_of plan image) events → AreBytesSent events → StandsStill plain_kind (network_of plan nodes) → IsBlocked (routes_of plan image) (network_of plan nodes)
+stands_blocked plan image starts events nodes is_plan accepted set first steady run unchanged sent still =
+    let found = traced_from plan starts nodes events run in
+    let balance = run_steady traced_kind (network_of plan (map start_node starts)) (network_of plan found.0) events is_plan found.1.run (still_steady Token Traced plan starts steady) in
+    let started = run_started plain_kind (routes_of plan image) (network_of plan (map start_node starts)) (network_of plan nodes) events run unchanged first in
+    blocked_plain plan starts nodes events is_plan run found.0 found.1.plain (routes_of plan image)
+    (standing image (network_of plan (map start_node starts)) (network_of plan found.0) events is_plan accepted (starts_are plan image starts set) found.1.run unchanged sent balance
+    (started_traced plan starts nodes events is_plan run found.0 found.1.plain started)
+    (still_traced plan starts nodes events is_plan run found.0 found.1.plain still))
+
+-- so where no dependencies do, no token stands anywhere and no packet is under way
 pub stands_quiet : (plan : Plan) (image : Image) (starts : List NodeStart) (events : List (Event × Reply)) (nodes : List (Node Token)) → IsPlan plan → IsAcyclicRun plan image starts events nodes → AreBytesSent events → StandsStill plain_kind (network_of plan nodes) → IsQuiet (network_of plan nodes)
 stands_quiet plan image starts events nodes is_plan is sent still =
-    let found = traced_from plan starts nodes events is.run in
-    let balance = run_steady traced_kind (network_of plan (map start_node starts)) (network_of plan found.0) events is_plan found.1.run (still_steady Token Traced plan starts is.steady) in
-    let started = run_started plain_kind (routes_of plan image) (network_of plan (map start_node starts)) (network_of plan nodes) events is.run is.unchanged is.started in
-    quiet_plain plan starts nodes events is_plan is.run found.0 found.1.plain
-    (standstill image (network_of plan (map start_node starts)) (network_of plan found.0) events is_plan is.accepted is.acyclic (starts_are plan image starts is.set) found.1.run is.unchanged sent balance
-    (started_traced plan starts nodes events is_plan is.run found.0 found.1.plain started)
-    (still_traced plan starts nodes events is_plan is.run found.0 found.1.plain still))
+    let stands = stands_blocked plan image starts events nodes is_plan is.accepted is.set is.started is.steady is.run is.unchanged sent still in
+    stands.quiet (λ p here. none_leads (routes_of plan image) is.acyclic.0 is.acyclic.1 p (stands.leads p here))

@@ -1,35 +1,24 @@
--- An accepted network that stands still holds no token, where its channels don't depend on one another in a cycle.
-use Rattle.c104_check.{proofs.RouteLemmas.own_link, specs.ChannelDependencies.{Depends, IsAcyclic, IsBeginningBy, IsRanking, MayComeBy}}
-use Rattle.c104_check.specs.{Parts.Begins, Routes.{IsAccepted, IsEntryOf, Reaches, Routes, routes_of, settings_at, to_port}, Walks.port_of}
-use Rattle.{c104_check.specs.declared.ports.SwitchPort.SwitchPort, c104_deadlock.proofs.StillWires.{arrived, claimed, drained, stuck}}
+-- In an accepted network that stands still packets are blocked only where dependencies lead into a cycle.
+use Rattle.c104_check.{proofs.RouteLemmas.own_link, specs.ChannelDependencies.{Depends, IsBeginningBy, IsRanking, MayComeBy}}
+use Rattle.c104_check.specs.{FirstCycles.LeadsOver, Parts.Begins, Routes.{IsAccepted, IsEntryOf, Reaches, Routes, routes_of, settings_at}}
+use Rattle.c104_check.specs.{Routes.to_port, Walks.port_of, declared.ports.SwitchPort.SwitchPort}
+use Rattle.c104_deadlock.proofs.{BlockedInputs.{lead_on, none_leads, phase_seen, seen_of, tokens_of}, StillWires.{arrived, claimed}}
+use Rattle.c104_deadlock.{proofs.StillWires.{drained, stuck}, specs.BlockedInputs.{HoldsTokens, IsBlocked, IsBlockedBy}}
 use Rattle.{c104_event.specs.declared.events.Event.Event, c104_net.proofs.{Channels.IsChannel, LinkEvents.world_of, NodeViews.ins}}
 use Rattle.c104_net.proofs.{NodeViews.{node_phase, outs, phases, terminal_fresh}, PacketInvariant.{Ghost, IsChosen, IsLabelled, IsPiece}}
 use Rattle.c104_net.proofs.{PacketInvariant.{IsWired, Suits, World, beside, group_at}, PlanWires.wired, Promises.{IsSettled, IsStart, each}}
-use Rattle.c104_net.proofs.{Promises.starts, RunSteps.{header_cases, header_positive}, SentBytes.AreBytesSent}
+use Rattle.c104_net.proofs.{Promises.{set_is, starts}, RunSteps.{header_cases, header_positive}, SentBytes.AreBytesSent}
 use Rattle.{c104_net.specs.Unchanged.IsUnchanged, c104_node.specs.{Nodes.{Node, is_switch}, Quiet.IsQuietNode, Traced.traced_kind}}
 use Rattle.{c104_node.specs.{Traces.part, declared.{node.NodeOf.NodeOf, traced.Traced.Traced}}, c104_plan.specs.PlanImage.Image}
 use Rattle.{c104_plan.specs.{Plans.{IsPlan, Plan}, Wiring.peer, declared.ports.Port.Port}, c104_regs.specs.Groups.continues_at}
-use Rattle.c104_run.{proofs.{BalancePlaces.switches_first, BalanceWires.{peer_back, switch_inside}}, specs.Balance.IsSteady}
-use Rattle.c104_run.specs.{Network.{Network, network_of, terminal_place}, QuietNets.IsQuiet, Runs.IsDoneRun, Standstill.IsStarted}
-use Rattle.{c104_run.specs.Standstill.IsStill, c104_switch.specs.{Actions.Reply, Switch.Input, declared.phase.Phase.Phase}}
-use Rattle.{c104_switch.specs.declared.phase.Phase.TheVariants.{Fresh, Head, Sinking, Stream, Want}, std.proofs.Common.{Bool, List, None}}
-use Rattle.std.proofs.Common.{Option, Some, [], ap, arith, false, get_or, inl, inr, length, nat_lt, refl, slice_get, subst, suc, sym, true}
-use Rattle.std.proofs.{Common.{zero, ℕ, ⊎_elim, ◌++◌, ◌+◌, ◌-◌, ◌<◌, ◌∙◌, ◌∷◌, ◌≡◌, ◌≢◌, ◌≤◌, ◌⊎◌}, lemmas.Bool.Decides.nat_tests}
-use Rattle.std.proofs.lemmas.{Bool.cases_eq, Option.slice_get-get_or}
+use Rattle.c104_run.{proofs.{BalancePlaces.switches_first, BalanceWires.peer_back}, specs.{Balance.IsSteady, Network.{Network, network_of}}}
+use Rattle.c104_run.specs.{Network.terminal_place, QuietNets.IsQuiet, Runs.IsDoneRun, Standstill.{IsStarted, IsStill}}
+use Rattle.c104_switch.specs.{Actions.Reply, Group.is_in_group, Switch.{Input, Switch}, declared.phase.Phase.{Phase, TheVariants.Fresh}}
+use Rattle.{c104_switch.specs.declared.phase.Phase.TheVariants.{Head, Sinking, Stream, Want}, std.proofs.Common.{Bool, List, None, Option}}
+use Rattle.std.proofs.Common.{Some, [], ap, arith, false, get_or, inl, inr, length, nat_lt, refl, slice_get, subst, suc, sym, true, zero, ℕ}
+use Rattle.std.proofs.{Common.{⊎_elim, ◌++◌, ◌+◌, ◌-◌, ◌<◌, ◌∙◌, ◌∷◌, ◌≡◌, ◌≢◌, ◌≤◌, ◌⊎◌}, lemmas.Bool.{Decides.nat_tests, cases_eq}}
+use Rattle.std.proofs.lemmas.Option.{slice_get-get_or}
 use Rattle.c104_plan.specs.declared.ports.Port.TheVariants as port
-
--- the sum of what a function says of the numbers below a limit, which bounds each
-total : (ℕ → ℕ) → ℕ → ℕ
-total f zero = 0
-total f (suc n) = f n + total f n
-
-below_total : (f : ℕ → ℕ) (n k : ℕ) → k < n → f k ≤ total f n
-unfolding total
-below_total f zero k h = absurd (omega (arith, h))
-below_total f (suc n) k h = ⊎_elim
-    (λ (e : k ≡ n). rw e (omega arith))
-    (λ (e : k ≢ n). let r = below_total f n k (omega (arith, h, e)) in omega (arith, r))
-    (cases_eq k n)
 
 module _ {A : Type 0} where
   stream_or_not : (ph : Phase (List A)) (o : ℕ) → (ph ≡ Stream o) ⊎ (ph ≢ Stream o)
@@ -105,24 +94,12 @@ module _ (routes : Routes) (wired : IsWired routes.peer) where
     unwired_content : (Q : Port) (content due : List Traced) → routes.peer Q ≡ None → IsChannel (IsPiece routes w.book Q) [] content due → content ≡ []
     unwired_content Q content due none run = search (arith, no_wire)
 
-module _ (plan : Plan) (image : Image) (is_plan : IsPlan plan) (labelled : IsLabelled (routes_of plan image)) (nodes : List (Node Traced)) (good : IsSettled plan image is_plan labelled nodes) (steady : IsSteady (network_of plan nodes)) (started : IsStarted (network_of plan nodes)) (still : IsStill traced_kind (network_of plan nodes))
-    (rank : SwitchPort → ℕ) (falls : IsRanking (routes_of plan image) rank) where
+module _ (plan : Plan) (image : Image) (is_plan : IsPlan plan) (labelled : IsLabelled (routes_of plan image)) (nodes : List (Node Traced)) (good : IsSettled plan image is_plan labelled nodes) (steady : IsSteady (network_of plan nodes)) (started : IsStarted (network_of plan nodes)) (still : IsStill traced_kind (network_of plan nodes)) where
   abbrev w : World
   w = world_of plan image nodes
 
   abbrev g : Ghost
   g = good.holds.0
-
-  bound : ℕ
-  bound = total (λ s. total (λ l. rank (port_of s l)) 32) (length plan.switches)
-
-  within : (s l : ℕ) (P : Port) → peer plan (port.Switch s l) ≡ Some P → rank (port_of s l) ≤ bound
-  unfolding bound
-  within s l P wire =
-      let inside = switch_inside plan is_plan s l P wire in
-      let one = below_total (λ k. rank (port_of s k)) 32 l inside.1 in
-      let all = below_total (λ j. total (λ k. rank (port_of j k)) 32) (length plan.switches) s inside.0 in
-      omega (arith, one, all)
 
   terminal_streams : (t o : ℕ) → phases plan nodes (port.Terminal t) ≡ Stream o → ⊥
   terminal_streams t o e = let f : Fresh ≡ Stream o = sym (terminal_fresh plan nodes t) ∙ e in cc
@@ -146,11 +123,11 @@ module _ (plan : Plan) (image : Image) (is_plan : IsPlan plan) (labelled : IsLab
   streams_suit : (s k o : ℕ) → phases plan nodes (port.Switch s k) ≡ Stream o → Streams s k o
   streams_suit s k o e = rw e at (good.holds.1.suits (port.Switch s k))
 
-  -- no packet is half way at an input with nothing before it: it would be so at the input before
+  -- no packet is half way at an input with nothing before it: it would be so at the input before, which began earlier
   abbrev Idle : ℕ → ℕ → Port → Type 0
   Idle s l P = peer plan (port.Switch s l) ≡ Some P → ins plan nodes (port.Switch s l) ≡ [] → good.holds.0.rest (port.Switch s l) ≡ []
 
-  idle_step : (s l : ℕ) (P : Port) → ((s' k : ℕ) (P' : Port) → rank (port_of s l) < rank (port_of s' k) → Idle s' k P') → Idle s l P
+  idle_step : (s l : ℕ) (P : Port) → ((s' k : ℕ) (P' : Port) → good.holds.0.began (port.Switch s' k) < good.holds.0.began (port.Switch s l) → Idle s' k P') → Idle s l P
   idle_step s l P before wire none = by_rest (good.holds.0.rest (port.Switch s l)) refl
     where
       gone : outs plan nodes P ≡ []
@@ -160,13 +137,13 @@ module _ (plan : Plan) (image : Image) (is_plan : IsPlan plan) (labelled : IsLab
       empty = rw (none, wire) gone
 
       -- nothing is due from a terminal, nor where nothing streams
-      from : (P : Port) → peer plan (port.Switch s l) ≡ Some P → outs plan nodes P ≡ [] → (y : Traced) (ys : List Traced) → good.holds.0.due (port.Switch s l) ≡ y ∷ ys → ⊥
-      from (port.Terminal t) wire gone y ys due = let e : [] ≡ y ∷ ys = sym (good.holds.1.free (port.Switch s l) (port.Terminal t) wire unowned) ∙ due in cc
+      from : (P : Port) → peer plan (port.Switch s l) ≡ Some P → outs plan nodes P ≡ [] → (y : Traced) (ys : List Traced) → good.holds.0.rest (port.Switch s l) ≡ y ∷ ys → good.holds.0.due (port.Switch s l) ≡ y ∷ ys → ⊥
+      from (port.Terminal t) wire gone y ys left due = let e : [] ≡ y ∷ ys = sym (good.holds.1.free (port.Switch s l) (port.Terminal t) wire unowned) ∙ due in cc
         where
           unowned : (Q : Port) (o : ℕ) → phases plan nodes Q ≡ Stream o → beside Q o ≢ port.Terminal t
           unowned (port.Switch s' j) o e = λ h. absurd (cc)
           unowned (port.Terminal u) o e = λ h. terminal_streams u o e
-      from (port.Switch s' o) wire gone y ys due = ⊎_elim
+      from (port.Switch s' o) wire gone y ys left due = ⊎_elim
           (λ (h : (k : ℕ) × (phases plan nodes (port.Switch s' k) ≡ Stream o)). streamed h.0 h.1)
           (λ (h : (k : ℕ) → phases plan nodes (port.Switch s' k) ≢ Stream o). (let e : [] ≡ y ∷ ys = sym (good.holds.1.free (port.Switch s l) (port.Switch s' o) wire (unowned h)) ∙ due in cc))
           (owner_cases s' o)
@@ -178,139 +155,194 @@ module _ (plan : Plan) (image : Image) (is_plan : IsPlan plan) (labelled : IsLab
           unowned free (port.Switch s1 j) p e = λ h. (let es : s1 ≡ s' = cc in let eo : p ≡ o = cc in free j (ap (λ z. phases plan nodes (port.Switch z j)) (sym es) ∙ e ∙ ap Stream eo))
           unowned free (port.Terminal t) p e = λ h. absurd (cc)
 
+          to_come : length ((world_of plan image nodes).content (port.Switch s l)) < length (good.holds.0.rest (port.Switch s l))
+          to_come = let none : length ((world_of plan image nodes).content (port.Switch s l)) ≡ 0 = ap length empty in let some : length (good.holds.0.rest (port.Switch s l)) ≡ suc (length ys) = ap length left in omega (arith, none, some)
+
           streamed : (k : ℕ) → phases plan nodes (port.Switch s' k) ≡ Stream o → ⊥
           streamed k e =
               let u = streams_suit s' k o e in
-              let falling = falls (port_of s' k) (port_of s l) (depends_on (routes_of plan image) (wired plan is_plan) s' k u.4 o s l u.5 u.6 back) in
+              let earlier = good.holds.1.ordered (port.Switch s' k) (port.Switch s l) o e back to_come in
               let at = chosen_wire (routes_of plan image) (wired plan is_plan) (port.Switch s' k) u.4 u.5 in
-              let read = before s' k at.0 falling at.1 (streams_on s' k o at.0 (port.Switch s l) at.1 back e gone) in
+              let read = before s' k at.0 earlier at.1 (streams_on s' k o at.0 (port.Switch s l) at.1 back e gone) in
               rw read at u.0
 
       by_rest : (r : List Traced) → good.holds.0.rest (port.Switch s l) ≡ r → good.holds.0.rest (port.Switch s l) ≡ []
       by_rest [] e = e
       by_rest (y ∷ ys) e =
           let run : IsChannel (IsPiece (routes_of plan image) (world_of plan image nodes).book (port.Switch s l)) (y ∷ ys) [] (good.holds.0.due (port.Switch s l)) = rw (e, empty) at (good.holds.1.channel (port.Switch s l)) in
-          absurd (from P wire gone y ys run)
+          absurd (from P wire gone y ys e run)
 
-  idle : (n s l : ℕ) (P : Port) → bound < rank (port_of s l) + n → Idle s l P
-  idle zero s l P h = λ wire none. absurd (let k = within s l P wire in omega (arith, h, k))
-  idle (suc n) s l P h = idle_step s l P (λ s' k P' r. idle n s' k P' (omega (arith, h, r)))
+  idle_by : (n s l : ℕ) (P : Port) → good.holds.0.began (port.Switch s l) < n → Idle s l P
+  idle_by zero s l P h = absurd (omega (arith, h))
+  idle_by (suc n) s l P h = idle_step s l P (λ s' k P' less. idle_by n s' k P' (omega (arith, h, less)))
 
-  -- no token stands at an input: the input after it would have to hold one too
-  abbrev Empty : ℕ → ℕ → Port → Type 0
-  Empty s l P = peer plan (port.Switch s l) ≡ Some P → ins plan nodes (port.Switch s l) ≡ []
+  idle : (s l : ℕ) (P : Port) → Idle s l P
+  idle s l P = idle_by (suc (good.holds.0.began (port.Switch s l))) s l P (omega arith)
 
-  empty_step : (s l : ℕ) (P : Port) → ((s' l' : ℕ) (P' : Port) → rank (port_of s' l') < rank (port_of s l) → Empty s' l' P') → Empty s l P
-  empty_step s l P after wire = ⊎_elim (λ (e : ins plan nodes (port.Switch s l) ≡ []). e)
-      (λ (h : ((b : List Traced) × (o : ℕ) × (phases plan nodes (port.Switch s l) ≡ Want b o)) ⊎ ((o : ℕ) × (phases plan nodes (port.Switch s l) ≡ Stream o) × ((T : Port) → peer plan (port.Switch s o) ≡ Some T → 8 ≤ length (outs plan nodes (port.Switch s o))))). absurd (⊎_elim
-      (λ (h : (b : List Traced) × (o : ℕ) × (phases plan nodes (port.Switch s l) ≡ Want b o)). wants h.0 h.1 h.2)
+  -- an input holds tokens
+  abbrev Holds : SwitchPort → Type 0
+  Holds p = HoldsTokens nodes p
+
+  -- the packet at an input is blocked by inputs that hold tokens, and the input depends on one of them
+  abbrev IsStuckAt : SwitchPort → Type 0
+  IsStuckAt p = IsBlockedBy (routes_of plan image) Holds p (phases plan nodes (to_port p)) × ((q : SwitchPort) × Depends (routes_of plan image) p q × Holds q)
+
+  -- nothing waits at an output that leads to a terminal, so what something waits at leads to an input that holds tokens
+  leads_on : (s o : ℕ) (R : Port) → peer plan (port.Switch s o) ≡ Some R → outs plan nodes (port.Switch s o) ≢ [] → (q : SwitchPort) × (peer plan (port.Switch s o) ≡ Some (to_port q)) × Holds q
+  leads_on s o (port.Terminal t) to_t some = absurd (some (drained traced_kind plan is_plan nodes steady started still (port.Switch s o) (port.Terminal t) to_t (arrived traced_kind plan is_plan nodes steady started still t (port.Switch s o) (peer_back plan is_plan (port.Switch s o) (port.Terminal t) to_t))))
+  leads_on s o (port.Switch s' l') to_q some = (port_of s' l', to_q, tokens_of plan nodes (port_of s' l') (λ none. some (drained traced_kind plan is_plan nodes steady started still (port.Switch s o) (port.Switch s' l') to_q none)))
+
+  -- at each link that is wanted something waits: else another input has it, and nothing left to read
+  module _ (s l : ℕ) (P : Port) (wire : peer plan (port.Switch s l) ≡ Some P) (b : List Traced) (c : ℕ) (wants : phases plan nodes (port.Switch s l) ≡ Want b c) where
+    suits_want : Suits (routes_of plan image) (world_of plan image nodes).book good.holds.0 (port.Switch s l) (Want b c)
+    suits_want = rw wants at (good.holds.1.suits (port.Switch s l))
+
+    few : length b ≤ 8
+    few = let long = suits_want.3 in ⊎_elim (λ (h : (routes_of plan image).header ≡ 1). omega (arith, h, long)) (λ (h : (routes_of plan image).header ≡ 2). omega (arith, h, long)) (header_cases plan image)
+
+    set_group : (o : ℕ) → group_at (routes_of plan image) (port.Switch s l) c o ≡ true → (S : Switch Traced) → slice_get nodes s ≡ Some (NodeOf.Switch S) → is_in_group S.settings c o ≡ true
+    set_group o group S here = ap (λ settings. is_in_group settings c o) (set_is plan image is_plan labelled nodes good.set s S here) ∙ group
+
+    taken : (o : ℕ) (R : Port) → peer plan (port.Switch s o) ≡ Some R → group_at (routes_of plan image) (port.Switch s l) c o ≡ true → outs plan nodes (port.Switch s o) ≢ []
+    taken o R to_r group = λ none. (
+        let k = claimed traced_kind plan is_plan nodes steady started still s l c o b P R wire to_r wants (set_group o group) none few in
+        let v = streams_suit s k.0 o k.1 in
+        let at = chosen_wire (routes_of plan image) (wired plan is_plan) (port.Switch s k.0) v.4 v.5 in
+        let read = idle s k.0 at.0 at.1 (streams_on s k.0 o at.0 R at.1 to_r k.1 none) in
+        rw read at v.0)
+
+    wants_stuck : IsStuckAt (port_of s l)
+    wants_stuck =
+        let u = suits_want in
+        let into : (o : ℕ) → group_at (routes_of plan image) (port.Switch s l) c o ≡ true → (q : SwitchPort) × (peer plan (port.Switch s o) ≡ Some (to_port q)) × Holds q = λ o group. (let out = u.2 o group in leads_on s o out.0 out.1 (taken o out.0 out.1 group)) in
+        let own : group_at (routes_of plan image) (port.Switch s l) c c ≡ true = own_link (continues_at (settings_at (routes_of plan image) s)) c in
+        let q = into c own in
+        (subst (IsBlockedBy (routes_of plan image) Holds (port_of s l)) (sym wants) into, (q.0, (u.4.0, (u.4.1, (c, c, u.4.2, own, q.1))), q.2))
+
+  -- so an input that holds tokens is stuck
+  stuck_at : (s l : ℕ) (P : Port) → peer plan (port.Switch s l) ≡ Some P → ins plan nodes (port.Switch s l) ≢ [] → IsStuckAt (port_of s l)
+  stuck_at s l P wire some = ⊎_elim (λ (e : ins plan nodes (port.Switch s l) ≡ []). absurd (some e))
+      (λ (h : ((b : List Traced) × (o : ℕ) × (phases plan nodes (port.Switch s l) ≡ Want b o)) ⊎ ((o : ℕ) × (phases plan nodes (port.Switch s l) ≡ Stream o) × ((T : Port) → peer plan (port.Switch s o) ≡ Some T → 8 ≤ length (outs plan nodes (port.Switch s o))))). ⊎_elim
+      (λ (h : (b : List Traced) × (o : ℕ) × (phases plan nodes (port.Switch s l) ≡ Want b o)). wants_stuck s l P wire h.0 h.1 h.2)
       (λ (h : (o : ℕ) × (phases plan nodes (port.Switch s l) ≡ Stream o) × ((T : Port) → peer plan (port.Switch s o) ≡ Some T → 8 ≤ length (outs plan nodes (port.Switch s o)))). streams h.0 h.1 h.2)
-      h))
+      h)
       (stuck traced_kind plan is_plan nodes steady started still s l P wire)
     where
-      free_out : (c o : ℕ) (T : Port) → IsChosen (routes_of plan image) (port.Switch s l) c → group_at (routes_of plan image) (port.Switch s l) c o ≡ true → peer plan (port.Switch s o) ≡ Some T → outs plan nodes (port.Switch s o) ≡ []
-      free_out c o (port.Terminal t) chosen group to_t = drained traced_kind plan is_plan nodes steady started still (port.Switch s o) (port.Terminal t) to_t (arrived traced_kind plan is_plan nodes steady started still t (port.Switch s o) (peer_back plan is_plan (port.Switch s o) (port.Terminal t) to_t))
-      free_out c o (port.Switch s' l') chosen group to_t = drained traced_kind plan is_plan nodes steady started still (port.Switch s o) (port.Switch s' l') to_t
-          (after s' l' (port.Switch s o) (falls (port_of s l) (port_of s' l') (depends_on (routes_of plan image) (wired plan is_plan) s l c o s' l' chosen group to_t)) (peer_back plan is_plan (port.Switch s o) (port.Switch s' l') to_t))
-
-      streams : (o : ℕ) → phases plan nodes (port.Switch s l) ≡ Stream o → ((T : Port) → peer plan (port.Switch s o) ≡ Some T → 8 ≤ length (outs plan nodes (port.Switch s o))) → ⊥
+      streams : (o : ℕ) → phases plan nodes (port.Switch s l) ≡ Stream o → ((T : Port) → peer plan (port.Switch s o) ≡ Some T → 8 ≤ length (outs plan nodes (port.Switch s o))) → IsStuckAt (port_of s l)
       streams o e full =
           let u = streams_suit s l o e in
-          let none = free_out u.4 o u.1 u.5 u.6 u.2 in
-          let over : 8 ≤ 0 = rw none at (full u.1 u.2) in
-          omega (arith, over)
-
-      wants : (b : List Traced) (o : ℕ) → phases plan nodes (port.Switch s l) ≡ Want b o → ⊥
-      wants b o e =
-          let u : Suits (routes_of plan image) (world_of plan image nodes).book good.holds.0 (port.Switch s l) (Want b o) = rw e at (good.holds.1.suits (port.Switch s l)) in
-          let own : group_at (routes_of plan image) (port.Switch s l) o o ≡ true = own_link (continues_at (settings_at (routes_of plan image) s)) o in
-          let out = u.2 o own in
-          let none = free_out o o out.0 u.4 own out.1 in
-          let few : length b ≤ 8 = ⊎_elim (λ (h : (routes_of plan image).header ≡ 1). omega (arith, h, u.3)) (λ (h : (routes_of plan image).header ≡ 2). omega (arith, h, u.3)) (header_cases plan image) in
-          let k = claimed traced_kind plan is_plan nodes steady started still s l o b P out.0 wire out.1 e none few in
-          let v = streams_suit s k.0 o k.1 in
-          let at = chosen_wire (routes_of plan image) (wired plan is_plan) (port.Switch s k.0) v.4 v.5 in
-          let read = idle (suc bound) s k.0 at.0 (omega arith) at.1 (streams_on s k.0 o at.0 out.0 at.1 out.1 k.1 none) in
-          rw read at v.0
-
-  empty : (n s l : ℕ) (P : Port) → rank (port_of s l) < n → Empty s l P
-  empty zero s l P h = absurd (omega (arith, h))
-  empty (suc n) s l P h = empty_step s l P (λ s' l' P' r. empty n s' l' P' (omega (arith, h, r)))
-
-  -- nothing stands at a port that has a wire
-  none_in : (Q P : Port) → peer plan Q ≡ Some P → ins plan nodes Q ≡ []
-  none_in Q P wire = search (arith, empty, arrived)
-
-  rest_read : (Q P : Port) → peer plan Q ≡ Some P → good.holds.0.rest Q ≡ []
-  rest_read (port.Switch s l) P wire = idle (suc bound) s l P (omega arith) wire (none_in (port.Switch s l) P wire)
-  rest_read (port.Terminal t) P wire = rw (terminal_fresh plan nodes t) at (good.holds.1.suits (port.Terminal t))
+          let q = leads_on s o u.1 u.2 (λ none. (let over : 8 ≤ 0 = rw none at (full u.1 u.2) in omega (arith, over))) in
+          (subst (IsBlockedBy (routes_of plan image) Holds (port_of s l)) (sym e) q, (q.0, (u.5.0, (u.5.1, (u.4, o, u.5.2, u.6, q.1))), q.2))
 
   record IsQuietPort (Q : Port) : Type 0 where
     none_in : ins plan nodes Q ≡ []
     none_out : outs plan nodes Q ≡ []
     waits : phases plan nodes Q ≡ Fresh
 
-  quiet_port : (Q : Port) → IsQuietPort Q
-  quiet_port Q = by_peer (peer plan Q) refl
+  -- nothing stands at a port without a wire
+  unwired_quiet : (Q : Port) → peer plan Q ≡ None → IsQuietPort Q
+  unwired_quiet Q e =
+      let fresh = unwired_fresh (routes_of plan image) (wired plan is_plan) (world_of plan image nodes) good.holds.0 Q (phases plan nodes Q) (good.holds.1.suits Q) e in
+      let read : good.holds.0.rest Q ≡ [] = rw fresh at (good.holds.1.suits Q) in
+      let run : IsChannel (IsPiece (routes_of plan image) (world_of plan image nodes).book Q) [] ((world_of plan image nodes).content Q) (good.holds.0.due Q) = rw read at (good.holds.1.channel Q) in
+      let none : (world_of plan image nodes).content Q ≡ [] = unwired_content (routes_of plan image) (wired plan is_plan) (world_of plan image nodes) good.holds.0 Q ((world_of plan image nodes).content Q) (good.holds.0.due Q) e run in
+      let both = parts _ (rw e at none) in
+      record { none_in = both.0; none_out = both.1; waits = fresh }
     where
       parts : (a : List Traced) → a ++ (ins plan nodes Q ++ outs plan nodes Q) ≡ [] → (ins plan nodes Q ≡ []) × (outs plan nodes Q ≡ [])
       parts a e = nothing (ins plan nodes Q) (outs plan nodes Q) (nothing a (ins plan nodes Q ++ outs plan nodes Q) e).1
 
-      by_peer : (o : Option Port) → peer plan Q ≡ o → IsQuietPort Q
-      by_peer (Some P) e = record {
-        none_in = none_in Q P e;
-        none_out = drained traced_kind plan is_plan nodes steady started still Q P e (none_in P Q (peer_back plan is_plan Q P e));
-        waits = fresh_of (routes_of plan image) (wired plan is_plan) (world_of plan image nodes) good.holds.0 Q (phases plan nodes Q) (good.holds.1.suits Q) (rest_read Q P e);
-      }
-      by_peer None e =
-          let fresh = unwired_fresh (routes_of plan image) (wired plan is_plan) (world_of plan image nodes) good.holds.0 Q (phases plan nodes Q) (good.holds.1.suits Q) e in
-          let read : good.holds.0.rest Q ≡ [] = rw fresh at (good.holds.1.suits Q) in
-          let run : IsChannel (IsPiece (routes_of plan image) (world_of plan image nodes).book Q) [] ((world_of plan image nodes).content Q) (good.holds.0.due Q) = rw read at (good.holds.1.channel Q) in
-          let none : (world_of plan image nodes).content Q ≡ [] = unwired_content (routes_of plan image) (wired plan is_plan) (world_of plan image nodes) good.holds.0 Q ((world_of plan image nodes).content Q) (good.holds.0.due Q) e run in
-          let both = parts _ (rw e at none) in
-          record { none_in = both.0; none_out = both.1; waits = fresh }
-
-  node_quiet : (k : ℕ) (n : Node Traced) → slice_get nodes k ≡ Some n → IsQuietNode n
-  node_quiet k (NodeOf.Switch S) e = (
-    λ i d inside.
-        let p = get_or S.inputs i d in
-        let is : slice_get S.inputs i ≡ Some p = slice_get-get_or S.inputs i d inside in
-        let q = quiet_port (port.Switch k i) in
-        let items : ins plan nodes (port.Switch k i) ≡ p.buffer.items = rw (e, is) refl in
-        let phase : phases plan nodes (port.Switch k i) ≡ p.phase = rw (e, is) refl in
-        (sym items ∙ q.none_in, sym phase ∙ q.waits),
-    λ i d inside.
-        let p = get_or S.outputs i d in
-        let is : slice_get S.outputs i ≡ Some p = slice_get-get_or S.outputs i d inside in
-        let q = quiet_port (port.Switch k i) in
-        let items : outs plan nodes (port.Switch k i) ≡ p.items = rw (e, is) refl in
-        sym items ∙ q.none_out,
-  )
-  node_quiet k (NodeOf.Terminal T) e = by_test (nat_lt k (length plan.switches)) refl
+  all_stuck : (p : SwitchPort) → Holds p → IsStuckAt p
+  all_stuck p here = by_peer (peer plan (to_port p)) refl
     where
-      by_test : (b : Bool) → nat_lt k (length plan.switches) ≡ b → IsQuietNode (NodeOf.Terminal T)
-      by_test true is =
-          let inside : k < length plan.switches = grind (arith, nat_tests) in
-          let f : is_switch (NodeOf.Terminal T) ≡ true = switches_first plan nodes steady.in_place k (NodeOf.Terminal T) inside e in
-          absurd (cc f)
-      by_test false is =
-          let past : length plan.switches ≤ k = grind (arith, nat_tests) in
-          let t : ℕ = k - length plan.switches in
-          let place : terminal_place plan t ≡ k = omega (arith, past) in
-          let here : slice_get nodes (terminal_place plan t) ≡ Some (NodeOf.Terminal T) = ap (slice_get nodes) place ∙ e in
-          let q = quiet_port (port.Terminal t) in
-          let i : ins plan nodes (port.Terminal t) ≡ T.input.items = rw here refl in
-          let o : outs plan nodes (port.Terminal t) ≡ T.output.items = rw here refl in
-          (sym i ∙ q.none_in, sym o ∙ q.none_out)
+      some : ins plan nodes (to_port p) ≢ []
+      some = seen_of plan nodes p here
 
-  pub all_quiet : IsQuiet (network_of plan nodes)
-  all_quiet = λ k d inside. node_quiet k (get_or nodes k d) (slice_get-get_or nodes k d inside)
+      by_peer : (o : Option Port) → peer plan (to_port p) ≡ o → IsStuckAt p
+      by_peer None e = let q = unwired_quiet (to_port p) e in absurd (some q.none_in)
+      by_peer (Some P) e = stuck_at p.switch p.link P e some
 
--- in a network that is accepted and that nobody changes, and whose channels don't depend on one another in a cycle:
--- where no event of a round can be done, no token stands anywhere, and no packet is under way
-pub standstill : (image : Image) (start ended : Network Traced) (events : List (Event × Reply)) → IsPlan start.plan → IsAccepted (routes_of start.plan image) → IsAcyclic (routes_of start.plan image) → IsStart image start → IsDoneRun traced_kind start events ended → IsUnchanged (routes_of start.plan image) events → AreBytesSent events →
-    IsSteady ended → IsStarted ended → IsStill traced_kind ended → IsQuiet ended
-standstill image start ended events is_plan accepted acyclic is_start is_run all sent steady started still =
+  all_lead : (p : SwitchPort) → Holds p → (k : ℕ) → LeadsOver (routes_of plan image) k p
+  all_lead = lead_on (routes_of plan image) Holds (λ p here. (all_stuck p here).1)
+
+  -- where no input of a switch holds tokens there are none anywhere
+  module _ (none : (p : SwitchPort) → Holds p → ⊥) where
+    -- nothing stands at a port that has a wire
+    none_in : (Q P : Port) → peer plan Q ≡ Some P → ins plan nodes Q ≡ []
+    none_in (port.Terminal t) P wire = arrived traced_kind plan is_plan nodes steady started still t P wire
+    none_in (port.Switch s l) P wire = by_items (ins plan nodes (port.Switch s l)) refl
+      where
+        by_items : (xs : List Traced) → ins plan nodes (port.Switch s l) ≡ xs → ins plan nodes (port.Switch s l) ≡ []
+        by_items [] e = e
+        by_items (x ∷ xs) e = absurd (none (port_of s l) (tokens_of plan nodes (port_of s l) (λ empty. let f : [] ≡ x ∷ xs = sym empty ∙ e in cc)))
+
+    rest_read : (Q P : Port) → peer plan Q ≡ Some P → good.holds.0.rest Q ≡ []
+    rest_read (port.Switch s l) P wire = idle s l P wire (none_in (port.Switch s l) P wire)
+    rest_read (port.Terminal t) P wire = rw (terminal_fresh plan nodes t) at (good.holds.1.suits (port.Terminal t))
+
+    quiet_port : (Q : Port) → IsQuietPort Q
+    quiet_port Q = by_peer (peer plan Q) refl
+      where
+        by_peer : (o : Option Port) → peer plan Q ≡ o → IsQuietPort Q
+        by_peer None e = unwired_quiet Q e
+        by_peer (Some P) e = record {
+          none_in = none_in Q P e;
+          none_out = drained traced_kind plan is_plan nodes steady started still Q P e (none_in P Q (peer_back plan is_plan Q P e));
+          waits = fresh_of (routes_of plan image) (wired plan is_plan) (world_of plan image nodes) good.holds.0 Q (phases plan nodes Q) (good.holds.1.suits Q) (rest_read Q P e);
+        }
+
+    node_quiet : (k : ℕ) (n : Node Traced) → slice_get nodes k ≡ Some n → IsQuietNode n
+    node_quiet k (NodeOf.Switch S) e = (
+      λ i d inside.
+          let p = get_or S.inputs i d in
+          let is : slice_get S.inputs i ≡ Some p = slice_get-get_or S.inputs i d inside in
+          let q = quiet_port (port.Switch k i) in
+          let items : ins plan nodes (port.Switch k i) ≡ p.buffer.items = rw (e, is) refl in
+          let phase : phases plan nodes (port.Switch k i) ≡ p.phase = rw (e, is) refl in
+          (sym items ∙ q.none_in, sym phase ∙ q.waits),
+      λ i d inside.
+          let p = get_or S.outputs i d in
+          let is : slice_get S.outputs i ≡ Some p = slice_get-get_or S.outputs i d inside in
+          let q = quiet_port (port.Switch k i) in
+          let items : outs plan nodes (port.Switch k i) ≡ p.items = rw (e, is) refl in
+          sym items ∙ q.none_out,
+    )
+    node_quiet k (NodeOf.Terminal T) e = by_test (nat_lt k (length plan.switches)) refl
+      where
+        by_test : (b : Bool) → nat_lt k (length plan.switches) ≡ b → IsQuietNode (NodeOf.Terminal T)
+        by_test true is =
+            let inside : k < length plan.switches = grind (arith, nat_tests) in
+            let f : is_switch (NodeOf.Terminal T) ≡ true = switches_first plan nodes steady.in_place k (NodeOf.Terminal T) inside e in
+            absurd (cc f)
+        by_test false is =
+            let past : length plan.switches ≤ k = grind (arith, nat_tests) in
+            let t : ℕ = k - length plan.switches in
+            let place : terminal_place plan t ≡ k = omega (arith, past) in
+            let here : slice_get nodes (terminal_place plan t) ≡ Some (NodeOf.Terminal T) = ap (slice_get nodes) place ∙ e in
+            let q = quiet_port (port.Terminal t) in
+            let i : ins plan nodes (port.Terminal t) ≡ T.input.items = rw here refl in
+            let o : outs plan nodes (port.Terminal t) ≡ T.output.items = rw here refl in
+            (sym i ∙ q.none_in, sym o ∙ q.none_out)
+
+    none_quiet : IsQuiet (network_of plan nodes)
+    none_quiet = λ k d inside. node_quiet k (get_or nodes k d) (slice_get-get_or nodes k d inside)
+
+  pub all_blocked : IsBlocked (routes_of plan image) (network_of plan nodes)
+  all_blocked = record {
+    blocked = λ p here. subst (IsBlockedBy (routes_of plan image) Holds p) (sym (phase_seen plan nodes p)) (all_stuck p here).0;
+    leads = all_lead;
+    quiet = none_quiet;
+  }
+
+  -- where ranks fall along the dependencies none of them leads into a cycle
+  pub all_quiet : (rank : SwitchPort → ℕ) → IsRanking (routes_of plan image) rank → IsQuiet (network_of plan nodes)
+  all_quiet rank falls = none_quiet (λ p here. none_leads (routes_of plan image) rank falls p (all_lead p here))
+
+-- in a network that is accepted and that nobody changes: where no event of a round can be done, packets are blocked only
+-- where dependencies lead into a cycle
+pub standing : (image : Image) (start ended : Network Traced) (events : List (Event × Reply)) → IsPlan start.plan → IsAccepted (routes_of start.plan image) → IsStart image start → IsDoneRun traced_kind start events ended → IsUnchanged (routes_of start.plan image) events → AreBytesSent events →
+    IsSteady ended → IsStarted ended → IsStill traced_kind ended → IsBlocked (routes_of start.plan image) ended
+standing image start ended events is_plan accepted is_start is_run all sent steady started still =
     let labelled : IsLabelled (routes_of start.plan image) = record { accepted = accepted; positive = header_positive start.plan image } in
     let k = each start.plan image is_plan labelled start.nodes ended events is_run all sent (starts start.plan image is_plan labelled start.nodes is_start) in
-    subst IsQuiet k.1 (all_quiet start.plan image is_plan labelled k.0 k.2 (subst IsSteady (sym k.1) steady) (subst IsStarted (sym k.1) started) (subst (IsStill traced_kind) (sym k.1) still) acyclic.0 acyclic.1)
+    subst (IsBlocked (routes_of start.plan image)) k.1 (all_blocked start.plan image is_plan labelled k.0 k.2 (subst IsSteady (sym k.1) steady) (subst IsStarted (sym k.1) started) (subst (IsStill traced_kind) (sym k.1) still))

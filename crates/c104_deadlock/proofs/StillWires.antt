@@ -1,18 +1,17 @@
 -- What each event of a round says that isn't ready, in a network whose switches are started.
-use Rattle.{c104_check.proofs.RouteLemmas.own_link, c104_event.specs.declared.events.Event.Event, c104_link.specs.Buffers.Incoming}
-use Rattle.{c104_link.specs.Buffers.Outgoing, c104_net.proofs.{Members.element_at, NodeViews.{ins, outs, phases}}}
-use Rattle.{c104_node.specs.{Nodes.Node, Terminals.Terminal, declared.node.NodeOf.NodeOf}, c104_plan.specs.Plans.{IsPlan, Plan}}
-use Rattle.{c104_plan.specs.{Wiring.peer, declared.ports.Port.Port}, c104_run.proofs.BalanceWires.{peer_back, switch_inside}}
-use Rattle.c104_run.proofs.{BalanceWires.terminal_inside, EventReasons.event_reason_holds, UnreadyEvents.{StandsAt, switch_there}}
-use Rattle.c104_run.{proofs.UnreadyEvents.{terminal_there, unready_answered}, specs.Balance.{IsSteady, credit_at, granted_at}}
+use Rattle.{c104_event.specs.declared.events.Event.Event, c104_link.specs.Buffers.{Incoming, Outgoing}, c104_net.proofs.Members.element_at}
+use Rattle.{c104_net.proofs.NodeViews.{ins, outs, phases}, c104_node.specs.{Nodes.Node, Terminals.Terminal, declared.node.NodeOf.NodeOf}}
+use Rattle.{c104_plan.specs.{Plans.{IsPlan, Plan}, Wiring.peer, declared.ports.Port.Port}, c104_run.proofs.BalanceWires.peer_back}
+use Rattle.c104_run.proofs.{BalanceWires.{switch_inside, terminal_inside}, EventReasons.event_reason_holds, UnreadyEvents.StandsAt}
+use Rattle.c104_run.{proofs.UnreadyEvents.{switch_there, terminal_there, unready_answered}, specs.Balance.{IsSteady, credit_at, granted_at}}
 use Rattle.c104_run.specs.{Ends.end_of, Network.{network_of, terminal_place}, ReasonMeanings.{IsCreditInReason, IsCreditOutReason}}
 use Rattle.c104_run.specs.{ReasonMeanings.{IsEnterReason, IsEventReason, IsLeaveReason, IsSaidAt}, Reasons.{is_unready, network_why}}
 use Rattle.c104_run.specs.{Standstill.{IsStarted, IsStartedSwitch, IsStill, IsUnready}, declared.reason.Reason.Reason}
-use Rattle.c104_switch.specs.{ReasonMeanings.{IsGrantReason, IsReason}, Switch.{Input, Switch}, declared.actions.ActionOf.ActionOf}
-use Rattle.c104_switch.specs.declared.{phase.Phase.TheVariants.{Stream, Want}, unready.Unready.{TheVariants.NoRoom, Unready}}
-use Rattle.{c104_token.specs.Kinds.Kind, std.proofs.Common.{IfSome, List, None, Option, Some, [], ap, arith, false, inl, inr, is_some}}
-use Rattle.std.proofs.Common.{length, refl, slice_get, subst, sym, true, ℕ, ⊎_elim, ◌+◌, ◌<◌, ◌∙◌, ◌∷◌, ◌≡◌, ◌≤◌, ◌⊎◌}
-use Rattle.std.proofs.lemmas.{Bool.true≢false, Option.slice_get_within}
+use Rattle.c104_switch.specs.{Group.is_in_group, ReasonMeanings.{IsGrantReason, IsReason}, Switch.{Input, Switch}}
+use Rattle.c104_switch.specs.declared.{actions.ActionOf.ActionOf, phase.Phase.TheVariants.{Stream, Want}}
+use Rattle.{c104_switch.specs.declared.unready.Unready.{TheVariants.NoRoom, Unready}, c104_token.specs.Kinds.Kind, std.proofs.Common.IfSome}
+use Rattle.std.proofs.Common.{List, None, Option, Some, [], ap, arith, false, inl, inr, is_some, length, refl, slice_get, subst, sym, true}
+use Rattle.std.proofs.{Common.{ℕ, ⊎_elim, ◌+◌, ◌<◌, ◌∙◌, ◌∷◌, ◌≡◌, ◌≤◌, ◌⊎◌}, lemmas.{Bool.true≢false, Option.slice_get_within}}
 
 -- what is said of a link that there is
 module _ {A : Type 0} (S : Switch A) (started : IsStartedSwitch S) where
@@ -47,8 +46,8 @@ module _ {A : Type 0} (S : Switch A) (started : IsStartedSwitch S) where
   no_turn l p is_input below u r = grind arith
 
   -- an input that wants a link with room gets it, unless another input has it
-  no_claim : (i g : ℕ) (b : List A) (p : Input A) (q : Outgoing A) → slice_get S.inputs i ≡ Some p → slice_get S.outputs g ≡ Some q → g < 32 → p.phase ≡ Want b g → q.items ≡ [] → length b ≤ 8 → (u : Unready) → IsReason S (ActionOf.Claim i g) u → (k : ℕ) × (owner : Input A) × (slice_get S.inputs k ≡ Some owner) × (owner.phase ≡ Stream g)
-  no_claim i g b p q is_input is_output below wants none few u r = search (arith, within, beyond, true≢false, own_link)
+  no_claim : (i g o : ℕ) (b : List A) (p : Input A) (q : Outgoing A) → slice_get S.inputs i ≡ Some p → slice_get S.outputs o ≡ Some q → o < 32 → p.phase ≡ Want b g → is_in_group S.settings g o ≡ true → q.items ≡ [] → length b ≤ 8 → (u : Unready) → IsReason S (ActionOf.Claim i o) u → (k : ℕ) × (owner : Input A) × (slice_get S.inputs k ≡ Some owner) × (owner.phase ≡ Stream o)
+  no_claim i g o b p q is_input is_output below wants group none few u r = search (arith, within, beyond, true≢false)
 
 module _ {A : Type 0} (kind : Kind A) (plan : Plan) (is_plan : IsPlan plan) (nodes : List (Node A)) (steady : IsSteady (network_of plan nodes)) (started : IsStarted (network_of plan nodes)) (still : IsStill kind (network_of plan nodes)) where
   -- an event that isn't ready has its reason
@@ -176,17 +175,18 @@ module _ {A : Type 0} (kind : Kind A) (plan : Plan) (is_plan : IsPlan plan) (nod
           let see : outs plan nodes (Port.Switch s o) ≡ q.0.items = rw (here, q.1) refl in
           subst (λ (xs : List A). 8 ≤ length xs) (sym see) (each q.0 q.1)
 
-  -- a link that is wanted and has nothing is another input's
-  pub claimed : (s i g : ℕ) (b : List A) (Q R : Port) → peer plan (Port.Switch s i) ≡ Some Q → peer plan (Port.Switch s g) ≡ Some R → phases plan nodes (Port.Switch s i) ≡ Want b g → outs plan nodes (Port.Switch s g) ≡ [] → length b ≤ 8 → (k : ℕ) × (phases plan nodes (Port.Switch s k) ≡ Stream g)
-  claimed s i g b Q R wired to_r wants none few =
+  -- a link of the group that is wanted that has nothing is another input's
+  pub claimed : (s i g o : ℕ) (b : List A) (Q R : Port) → peer plan (Port.Switch s i) ≡ Some Q → peer plan (Port.Switch s o) ≡ Some R → phases plan nodes (Port.Switch s i) ≡ Want b g →
+      ((S : Switch A) → slice_get nodes s ≡ Some (NodeOf.Switch S) → is_in_group S.settings g o ≡ true) → outs plan nodes (Port.Switch s o) ≡ [] → length b ≤ 8 → (k : ℕ) × (phases plan nodes (Port.Switch s k) ≡ Stream o)
+  claimed s i g o b Q R wired to_r wants group none few =
       let k = link_at s i Q wired in
-      let below : g < 32 = (switch_inside plan is_plan s g R to_r).1 in
-      let q = element_at k.switch.outputs g (omega (arith, below, k.started_is.outputs)) in
-      let see : outs plan nodes (Port.Switch s g) ≡ q.0.items = rw (k.here, q.1) refl in
+      let below : o < 32 = (switch_inside plan is_plan s o R to_r).1 in
+      let q = element_at k.switch.outputs o (omega (arith, below, k.started_is.outputs)) in
+      let see : outs plan nodes (Port.Switch s o) ≡ q.0.items = rw (k.here, q.1) refl in
       let phase : phases plan nodes (Port.Switch s i) ≡ k.input.phase = rw (k.here, k.input_is) refl in
-      let r = reason_of (Event.Claim s i g) (still.claims s i g k.inside k.below below) in
-      let found = no_claim k.switch k.started_is i g b k.input q.0 k.input_is q.1 below (sym phase ∙ wants) (sym see ∙ none) few r.0.unready (rw k.here at r.1.1) in
+      let r = reason_of (Event.Claim s i o) (still.claims s i o k.inside k.below below) in
+      let found = no_claim k.switch k.started_is i g o b k.input q.0 k.input_is q.1 below (sym phase ∙ wants) (group k.switch k.here) (sym see ∙ none) few r.0.unready (rw k.here at r.1.1) in
       (found.0, seen_phase k.switch found.0 found.1 k.here found.2 found.3)
     where
-      seen_phase : (S : Switch A) (j : ℕ) (owner : Input A) → slice_get nodes s ≡ Some (NodeOf.Switch S) → slice_get S.inputs j ≡ Some owner → owner.phase ≡ Stream g → phases plan nodes (Port.Switch s j) ≡ Stream g
+      seen_phase : (S : Switch A) (j : ℕ) (owner : Input A) → slice_get nodes s ≡ Some (NodeOf.Switch S) → slice_get S.inputs j ≡ Some owner → owner.phase ≡ Stream o → phases plan nodes (Port.Switch s j) ≡ Stream o
       seen_phase S j owner here is streams = rw (here, is) streams

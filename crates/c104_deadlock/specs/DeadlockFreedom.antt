@@ -5,8 +5,8 @@
 --     IsFreeOfDeadlock net      what follows
 --     EndsWithoutDeadlock run      the same of a finished run
 use Rattle.c104_check.specs.{ChannelDependencies.{IsAcyclic, IsNeverRandomized, IsRanking}, Routes.{IsAccepted, Routes, routes_of}}
-use Rattle.{c104_check.specs.declared.ports.SwitchPort.SwitchPort, c104_deadlock.specs.HeaderWork.{random_bound, random_work, work}}
-use Rattle.c104_deadlock.specs.{HeaderWork.work_bound, Work.{most_weight, room_held, tokens_held}}
+use Rattle.{c104_check.specs.declared.ports.SwitchPort.SwitchPort, c104_deadlock.specs.BlockedInputs.{IsAcceptedNet, IsBlocked}}
+use Rattle.c104_deadlock.specs.{HeaderWork.{random_bound, random_work, work, work_bound}, Work.{most_weight, room_held, tokens_held}}
 use Rattle.{c104_event.specs.declared.{events.Event.Event, faults.EventFault.EventFault}, c104_net.specs.Deliveries.Promise}
 use Rattle.{c104_net.specs.{RoundEvents.IsOfRound, Unchanged.{AreStartsOf, IsUnchanged}}, c104_node.specs.MappedNodes.map_node}
 use Rattle.c104_node.specs.{Nodes.Node, Starts.{IsStartedStart, start_node}, Traced.traced_kind, Traces.{is_trace_full, seatless}}
@@ -19,19 +19,11 @@ use Rattle.c104_run.specs.{Standstill.StandsStill, declared.{turns.SwitchTurns.S
 use Rattle.{c104_switch.specs.Actions.Reply, c104_token.specs.{Kinds.plain_kind, declared.tokens.Token.Token}}
 use Rattle.std.specs.Prelude.{All, Err, List, Ok, Some, false, map, slice_get, true, ℕ, ◌*◌, ◌+◌, ◌<◌, ◌≡◌, ◌≤◌, ◌⊎◌}
 
--- A network with its record whose labels the check accepts, and whose channels don't depend on one another in a cycle:
--- its run began with the image's settings and with every switch started, nobody changed the network since, and what
--- terminals sent where random headers are put before packets doesn't begin with a random header itself.
+-- An accepted network that nobody changed, and whose channels don't depend on one another in a cycle.
 pub record IsAcyclicNet (image : Image) (net : NetRecord) : Type 0 where
   pub fits : Fits image net.network.plan
-  pub accepted : IsAccepted (routes_of net.network.plan image)
   pub acyclic : IsAcyclic (routes_of net.network.plan image)
-  pub set : AreStartsOf net.network.plan image net.starts
-  pub started : All IsStartedStart net.starts
-  -- whichever events the traces tell
-  pub unchanged : (events : List (Event × Reply)) →
-      IsRunRecord plain_kind net.network.plan seatless (map start_node net.starts) net.network.nodes net.traces net.count events →
-      IsUnchanged (routes_of net.network.plan image) events
+  pub kept : IsAcceptedNet image net
 
 -- an event isn't done: it is answered with NotReady, or refused
 abbrev pub IsUndone : NetRecord → Event → Type 0
@@ -125,6 +117,11 @@ pub record EndsWithoutDeadlock (run : FinishedRecord) : Type 0 where
       IsAcyclic (routes_of run.finished.plan image) → AreStartsOf run.finished.plan image run.starts →
       All IsStartedStart run.starts → IsUnchanged (routes_of run.finished.plan image) events →
       StandsStill plain_kind (network_of run.finished.plan nodes) → IsQuiet (network_of run.finished.plan nodes)
+  -- with cycles too: which inputs hold tokens, and what blocks the packets there
+  pub stands_blocked : (image : Image) → IsAccepted (routes_of run.finished.plan image) → AreStartsOf run.finished.plan image run.starts →
+      All IsStartedStart run.starts → IsUnchanged (routes_of run.finished.plan image) events →
+      StandsStill plain_kind (network_of run.finished.plan nodes) →
+      IsBlocked (routes_of run.finished.plan image) (network_of run.finished.plan nodes)
 
 -- a run from a start, in a network whose labels the check accepts, and whose channels don't depend on one another in a
 -- cycle: at the start each switch is started and nothing stands anywhere, nobody changed the network since, and what

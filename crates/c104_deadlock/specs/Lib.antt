@@ -1,4 +1,5 @@
 pub mod Work
 pub mod HeaderWork
+pub mod BlockedInputs
 pub mod DeadlockFreedom
 pub mod FairWaits

@@ -18,7 +18,7 @@ pub trait NoDeadlock {
 }
 
 impl NoDeadlock for Net {
-    ghost use Rattle.c104_deadlock.specs.{DeadlockFreedom.IsFreeOfDeadlock, FairWaits.FairWaits};
+    ghost use Rattle.c104_deadlock.specs.{DeadlockFreedom.IsFreeOfDeadlock, FairWaits.FairWaits, BlockedInputs.BlocksAtCycles};
 
     ghost theorem = { IsFreeOfDeadlock };
 
@@ -27,11 +27,14 @@ impl NoDeadlock for Net {
     /// whose packets random headers are put sent one that begins with such a header itself: it has no deadlock, and there
     /// is a number of rounds of which more, none of them refused, deliver each packet with a whole header that has an
     /// owner, whatever words their inputs are handed, and so do as many fair rounds, whatever turns they begin with.
-    /// And of every network: in fair rounds at most 31 packets of other inputs pass an input that waits. This is a law:
-    /// whoever cites it calls this before the rounds that it is about. It changes nothing and takes no memory.
+    /// With channels that depend on one another in a cycle too: where it stands still, each input that holds tokens is blocked
+    /// by others that do, and dependencies lead from it into a cycle. And of every network: in fair rounds at most 31
+    /// packets of other inputs pass an input that waits. This is a law: it is called before the rounds that it is about. It
+    /// changes nothing and takes no memory.
     fn has_no_deadlock(&self)
         ensures free { IsFreeOfDeadlock self.now }
         ensures waits { FairWaits self.now }
+        ensures blocks { BlocksAtCycles self.now }
     {
         // The proof reads by these names what every plan, and every such network, keeps.
         let plan = self.plan();
@@ -41,7 +44,7 @@ impl NoDeadlock for Net {
 }
 
 impl NoDeadlock for TracedNet {
-    ghost use Rattle.c104_deadlock.specs.{DeadlockFreedom.IsFreeOfDeadlock, FairWaits.FairWaits};
+    ghost use Rattle.c104_deadlock.specs.{DeadlockFreedom.IsFreeOfDeadlock, FairWaits.FairWaits, BlockedInputs.BlocksAtCycles};
 
     ghost theorem = { IsFreeOfDeadlock };
 
@@ -49,6 +52,7 @@ impl NoDeadlock for TracedNet {
     fn has_no_deadlock(&self)
         ensures free { IsFreeOfDeadlock self.now }
         ensures waits { FairWaits self.now }
+        ensures blocks { BlocksAtCycles self.now }
     {
         // The proof reads by these names what every plan, and every such network, keeps.
         let plan = self.plan();
@@ -65,7 +69,8 @@ impl NoDeadlock for Run {
     /// What is so of the run's end where the labels are accepted, the channels don't depend on one another in a cycle, the
     /// run began with the image's settings and with every switch started, nobody changed the network since, and no
     /// terminal before whose packets random headers are put sent one that begins with such a header itself: if it stood
-    /// still there, it was quiet. This is a law: nothing is done.
+    /// still there, it was quiet. With such a cycle too, each input that held tokens then was blocked by others that did, and
+    /// dependencies led from it into one. This is a law: nothing is done.
     fn has_no_deadlock(&self)
         ensures { EndsWithoutDeadlock self.now }
     {

@@ -1,7 +1,8 @@
-use Rattle.c104_deadlock.{proofs.{DeadlockFree.has_no_deadlock, FairWaits.fair_waits}, specs.DeadlockFreedom.IsFreeOfDeadlock}
-use Rattle.{c104_net.proofs.{RunOrigins.traces_fit, SentBytes.{AreBytesSent, run_bytes}}, c104_node.specs.Starts.start_node}
-use Rattle.{c104_node.specs.Traces.seatless, c104_plan.specs.Plans.IsPlan, c104_run.proofs.WiredTraces.{all_recorded, traces_wired}}
-use Rattle.{c104_run.specs.NetRecords.{IsNetRecord, NetRecord, net_record}, std.proofs.Common.{map, subst}}
+use Rattle.c104_deadlock.proofs.{DeadlockFree.{blocks_at_cycles, has_no_deadlock}, FairWaits.fair_waits}
+use Rattle.{c104_deadlock.specs.{BlockedInputs.BlocksAtCycles, DeadlockFreedom.IsFreeOfDeadlock}, c104_net.proofs.RunOrigins.traces_fit}
+use Rattle.{c104_net.proofs.SentBytes.{AreBytesSent, run_bytes}, c104_node.specs.{Starts.start_node, Traces.seatless}}
+use Rattle.{c104_plan.specs.Plans.IsPlan, c104_run.{proofs.WiredTraces.{all_recorded, traces_wired}, specs.NetRecords.IsNetRecord}}
+use Rattle.{c104_run.specs.NetRecords.{NetRecord, net_record}, std.proofs.Common.{map, subst}}
 
 pub returns : Rattle.c104_deadlock.proofs.deadlock.NetNoDeadlock.has_no_deadlock.Goals.returns
 returns c =
@@ -13,4 +14,5 @@ returns c =
     record {
       free = subst IsFreeOfDeadlock c.places.ensures.shown (λ image is. has_no_deadlock net is_plan kept sent image is);
       waits = fair_waits c.args.self.now;
+      blocks = subst BlocksAtCycles c.places.ensures.shown (blocks_at_cycles net is_plan kept sent);
     }

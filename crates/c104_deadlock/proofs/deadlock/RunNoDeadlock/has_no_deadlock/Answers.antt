@@ -1,5 +1,5 @@
-use Rattle.{c104_deadlock.proofs.BeginsStarted.run_stands, c104_net.proofs.RunOrigins.{IsKeptRun, kept_run}, c104_plan.specs.Plans.IsPlan}
-use Rattle.{c104_run.specs.FinishedRecords.FinishedRecord, std.proofs.Common.subst}
+use Rattle.{c104_deadlock.proofs.BeginsStarted.{run_blocked, run_stands}, c104_net.proofs.RunOrigins.{IsKeptRun, kept_run}}
+use Rattle.{c104_plan.specs.Plans.IsPlan, c104_run.specs.FinishedRecords.FinishedRecord, std.proofs.Common.subst}
 
 pub returns : Rattle.c104_deadlock.proofs.deadlock.RunNoDeadlock.has_no_deadlock.Goals.returns
 returns c =
@@ -13,4 +13,5 @@ returns c =
       told = kept.told;
       ended = kept.ended;
       stands_quiet = λ image accepted acyclic set started unchanged still. run_stands run is_plan kept image accepted acyclic set started unchanged still;
+      stands_blocked = λ image accepted set started unchanged still. run_blocked run is_plan kept image accepted set started unchanged still;
     }

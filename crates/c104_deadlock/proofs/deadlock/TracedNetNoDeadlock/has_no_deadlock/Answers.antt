@@ -1,6 +1,7 @@
-use Rattle.c104_deadlock.{proofs.{DeadlockFree.has_no_deadlock, FairWaits.fair_waits}, specs.DeadlockFreedom.IsFreeOfDeadlock}
-use Rattle.{c104_link.proofs.MadeSteps.All-place, c104_net.proofs.{SentBytes.{AreBytesSent, run_bytes}, TracedOrigins.fit_there}}
-use Rattle.{c104_node.specs.{Starts.start_node, TracedRecords.{IsFit, TracedRecord}, Traces.seatless}, c104_plan.specs.Plans.IsPlan}
+use Rattle.c104_deadlock.proofs.{DeadlockFree.{blocks_at_cycles, has_no_deadlock}, FairWaits.fair_waits}
+use Rattle.{c104_deadlock.specs.{BlockedInputs.BlocksAtCycles, DeadlockFreedom.IsFreeOfDeadlock}, c104_link.proofs.MadeSteps.All-place}
+use Rattle.{c104_net.proofs.{SentBytes.{AreBytesSent, run_bytes}, TracedOrigins.fit_there}, c104_node.specs.Starts.start_node}
+use Rattle.{c104_node.specs.{TracedRecords.{IsFit, TracedRecord}, Traces.seatless}, c104_plan.specs.Plans.IsPlan}
 use Rattle.c104_run.specs.{NetRecords.{IsNetRecord, NetRecord}, RecordedNets.places_record, RecordedPlaces.counted_reading}
 use Rattle.std.proofs.Common.{All, List, Some, map, slice_get, subst, ℕ, ◌≡◌}
 
@@ -15,4 +16,5 @@ returns c =
     record {
       free = subst IsFreeOfDeadlock c.places.ensures.shown (λ image is. has_no_deadlock net is_plan kept sent image is);
       waits = fair_waits c.args.self.now;
+      blocks = subst BlocksAtCycles c.places.ensures.shown (blocks_at_cycles net is_plan kept sent);
     }
