@@ -28,5 +28,5 @@ pub use loading::load;
 pub use ports::{Asked, ControlPort};
 pub use reading::{LinkNumbers, read_link};
 pub use tables::read_table;
-pub use verifying::verify;
+pub use verifying::{due_value, verify};
 pub use writes::write_register;

@@ -15,7 +15,7 @@ use c104_plan::{Image, SwitchImage};
 use c104_regs::{ADDRESS_END, Address};
 
 /// What an address is to read, where it can be written, at a switch with this image.
-fn due_value(kept: &SwitchImage, addr: u16) -> Option<u32>
+pub fn due_value(kept: &SwitchImage, addr: u16) -> Option<u32>
     ensures { result ≡ due_value kept.now addr }
 {
     let address = Address::at(addr)?;
