@@ -10,3 +10,4 @@ mod RowNumbers
 pub mod RegisterLists
 pub mod NamesRead
 mod ProbeLists
+pub mod TypedWords

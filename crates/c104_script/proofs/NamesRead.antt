@@ -1,9 +1,9 @@
 -- The name of what stands at an address, behind a word for its switch, is read as that address.
 use Rattle.{c104_plan.specs.Plans.{Plan, switch_number}, c104_regs.specs.Addresses.{IsAddress, IsRegister, address_number}}
 use Rattle.{c104_regs.specs.declared.addresses.{Address.Address, Register.Register}, c104_script.proofs.RowNumbers.row_read}
-use Rattle.c104_script.specs.{RegisterNames.{IsReadAs, address_link, address_row, register_row}, RegisterWords.RegisterPlace}
-use Rattle.c104_script.specs.RegisterWords.{address_name, is_row_due, link_register_name, register_place, register_with}
-use Rattle.c104_script.specs.{Script.{place_word, register_line}, declared.register_words.RegisterPlace.TheVariants.{OfLink, OfSwitch}}
+use Rattle.c104_script.specs.{RegisterNames.IsReadAs, RegisterWords.{RegisterPlace, address_link, address_name, address_row, is_row_due}}
+use Rattle.c104_script.specs.{RegisterWords.{link_register_name, register_place, register_row, register_with}, Script.place_word}
+use Rattle.c104_script.specs.{Script.register_line, declared.register_words.RegisterPlace.TheVariants.{OfLink, OfSwitch}}
 use Rattle.std.proofs.{Common.{List, None, Ok, Option, Some, arith, nat_lt, refl, sym, true, ℕ, ◌<◌, ◌≡◌}, lemmas.Bool.Decides.nat_tests}
 use Rattle.std.specs.Fmt.{decimal}
 

@@ -1,6 +1,6 @@
 -- The number of a row, as it is printed, is read back.
-use Rattle.{c104_plan.specs.TextWords.{is_digit, read_number, value_of}, std.proofs.Common.{List, Some, ap, arith, false, fold, length}}
-use Rattle.std.proofs.{Common.{rules, true, ℕ, ◌*◌, ◌+◌, ◌-◌, ◌<◌, ◌^◌, ◌≡◌, ◌≤◌}, lemmas.{Bool.Decides.nat_tests, Fmt.decimal_nonempty}}
+use Rattle.{c104_plan.specs.TextWords.{is_digit, read_number, value_of}, std.proofs.Common.{List, Some, arith, fold, length}}
+use Rattle.std.proofs.{Common.{rules, true, ℕ, ◌*◌, ◌+◌, ◌-◌, ◌<◌, ◌≡◌, ◌≤◌}, lemmas.{Bool.Decides.nat_tests, Fmt.decimal_nonempty}}
 use Rattle.std.proofs.lemmas.{Fmt.{digits_decimal, digits_value-decimal, length-decimal-le}, Str.Parse.{IsNumeralModel, numerals_by_fold}}
 use Rattle.std.specs.{Fmt.decimal, List.list_all}
 

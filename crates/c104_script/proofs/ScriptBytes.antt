@@ -1,18 +1,20 @@
 -- What a line of a script sends is bytes, since two digits spell each.
 use Rattle.{c104_control.specs.declared.bytes.TheConstants.MAX_CONTROL_BYTES, c104_event.specs.declared.events.Event.Event}
 use Rattle.{c104_event.specs.declared.faults.EventFault.EventFault, c104_plan.specs.Checks.{require, value_or_fault, ◌>>=◌, ◌>>◌}}
-use Rattle.{c104_plan.specs.{Plans.Plan, TextCut.{is_plain_line, line_words, uncommented_line}}, c104_script.specs.HexWords.register_word}
-use Rattle.c104_script.specs.Script.{bytes_after, claim_line, control_line, counted_line, credit_line, cross_line, drain_line, fair_line}
-use Rattle.c104_script.specs.Script.{input_at, input_line, link_line, most_line, most_rounds, number_word, packet_of, peek_line, peek_words}
-use Rattle.c104_script.specs.Script.{place_word, poke_line, poke_words, port_at, probe_line, probe_of, read_script_line, read_script_words}
-use Rattle.c104_script.specs.Script.{register_line, request_of, rounds_line, seeded_line, send_line, some_request, switch_at, table_line}
-use Rattle.c104_script.specs.{Script.{terminal_at, value_words, verb_line, verb_of}, SeedWords.seed_of, declared.faults.LineFault.LineFault}
-use Rattle.c104_script.specs.declared.{places.Request.Request, probes.Probe.Probe, words.{ProbeVerb.ProbeVerb, Verb.Verb}}
-use Rattle.c104_token.{proofs.Spelling.{Spelled, accepted}, specs.Text.{IsHexDigit, SpellBytes, SpellsByte, parse_words}}
-use Rattle.{c104_token.specs.declared.{faults.TokenFault.TokenFault, packets.Packet.Packet}, std.proofs.Common.{All, Bool, Err, IfOk, List}}
-use Rattle.std.proofs.Common.{None, Ok, Option, Result, Some, [], ap, arith, false, if◌then◌else◌, inl, inr, length, nat_le, refl, subst}
-use Rattle.std.{proofs.{Common.{sym, true, ℕ, ◌&&◌, ◌<◌, ◌∷◌, ◌≡◌}, lemmas.List.Elements.{All-cons, All-nil}}, specs.Prelude.bytes_eq}
-use Rattle.std.specs.Prelude.{codes}
+use Rattle.c104_plan.specs.{PlanImage.Image, Plans.{Plan, header_values}, TextCut.{is_plain_line, line_words, uncommented_line}}
+use Rattle.{c104_plan.specs.TextWords.dots, c104_script.specs.Addressed.{Reading, first_label, header_words, is_undotted, received}}
+use Rattle.c104_script.specs.{Addressed.typed_words, HexWords.register_word, Script.{addressed_line, bytes_after, claim_line, control_line}}
+use Rattle.c104_script.specs.Script.{counted_line, credit_line, cross_line, drain_line, dump_line, fair_line, input_at, input_line}
+use Rattle.c104_script.specs.Script.{link_line, most_line, most_rounds, number_word, packet_of, peek_line, peek_words, place_word}
+use Rattle.c104_script.specs.Script.{poke_line, poke_words, port_at, probe_line, probe_of, read_script_line, read_script_words}
+use Rattle.c104_script.specs.Script.{register_line, request_of, rounds_line, seeded_line, send_line, sending_line, some_request, switch_at}
+use Rattle.c104_script.specs.{Script.{table_line, terminal_at, value_words, verb_line, verb_of, verify_line}, SeedWords.seed_of}
+use Rattle.c104_script.specs.declared.{faults.LineFault.LineFault, places.Request.Request, probes.Probe.Probe, words.ProbeVerb.ProbeVerb}
+use Rattle.{c104_script.specs.declared.words.Verb.Verb, c104_token.{proofs.Spelling.{Spelled, accepted}, specs.Text.IsHexDigit}}
+use Rattle.c104_token.specs.{Text.{SpellBytes, SpellsByte, parse_words}, declared.{faults.TokenFault.TokenFault, packets.Packet.Packet}}
+use Rattle.std.proofs.Common.{All, Bool, Err, IfOk, List, None, Ok, Option, Result, Some, [], ap, arith, false, if◌then◌else◌, inl, inr}
+use Rattle.std.proofs.{Common.{length, nat_le, nat_lt, refl, subst, sym, true, ℕ, ◌&&◌, ◌++◌, ◌<◌, ◌∷◌, ◌≡◌}, lemmas.List.Elements.All-cons}
+use Rattle.std.{proofs.lemmas.List.Elements.All-nil, specs.Prelude.{bytes_eq, codes}}
 use Rattle.c104_script.specs.declared.places.Request.TheVariants as ask
 
 -- what an event sends, if it sends something, is bytes
@@ -136,26 +138,25 @@ module _ (plan : Plan) where
   table_fine : (place : List ℕ) → Fine (table_line plan place)
   table_fine place = chained RequestBytes (place_word place) _ (λ at was. probed (input_at plan at) _)
 
+  verify_fine : (word : List ℕ) → Fine (verify_line word)
+  verify_fine word = by_word (bytes_eq word (codes "all"))
+    where
+      by_word : (b : Bool) → Fine (if b then Ok (ask.Probed Probe.VerifyAll) else Err LineFault.BadShape)
+      by_word true = tt
+      by_word false = tt
+
+  dump_fine : (place : List ℕ) → Fine (dump_line plan place)
+  dump_fine place = chained RequestBytes (place_word place) _ (λ at was. probed (switch_at plan at) _)
+
   probe_fine : (word : ProbeVerb) (rest : List (List ℕ)) → Fine (probe_line word plan rest)
   probe_fine ProbeVerb.Peek rest = peek_words_fine rest
   probe_fine ProbeVerb.Poke rest = poke_words_fine rest
   probe_fine ProbeVerb.Link (place ∷ []) = link_fine place
   probe_fine ProbeVerb.Table (place ∷ []) = table_fine place
   probe_fine ProbeVerb.Verify [] = tt
+  probe_fine ProbeVerb.Verify (word ∷ []) = verify_fine word
+  probe_fine ProbeVerb.Dump (place ∷ []) = dump_fine place
   probe_fine word rest = tt
-
-  verb_fine : (word : Verb) (rest : List (List ℕ)) → Fine (verb_line word plan rest)
-  verb_fine Verb.Send (place ∷ list) = send_fine place list
-  verb_fine Verb.Drain (place ∷ []) = drain_fine place
-  verb_fine Verb.Cross (place ∷ []) = cross_fine place
-  verb_fine Verb.Credit (place ∷ []) = credit_fine place
-  verb_fine Verb.Input (place ∷ []) = input_fine place (Ok 0)
-  verb_fine Verb.Input (place ∷ word ∷ []) = input_fine place (number_word word)
-  verb_fine Verb.Claim (place ∷ a ∷ b ∷ []) = claim_fine place a b
-  verb_fine Verb.Control (place ∷ list) = control_fine place list
-  verb_fine Verb.Rounds rest = rounds_fine rest
-  verb_fine (Verb.Probe word) rest = probe_fine word rest
-  verb_fine word rest = tt
 
   -- what a line asks sends bytes
   abbrev pub AskedBytes : Option Request → Type 0
@@ -168,14 +169,58 @@ module _ (plan : Plan) where
   some_fine (Ok it) fine = tt
   some_fine (Err kind) fine = tt
 
-  words_fine : (is_plain : Bool) (list : List (List ℕ)) → IfOk (read_script_words plan is_plain list) AskedBytes
-  words_fine is_plain [] = tt
-  words_fine is_plain (first ∷ rest) = chained AskedBytes (value_or_fault (verb_of first) LineFault.UnknownWord) _ (λ word is. checked AskedBytes is_plain LineFault.BadShape _ (some_fine (verb_line word plan rest) (verb_fine word rest)))
+  module _ (image : Image) where
+    received_fine : (found : Result ℕ EventFault) (it : Request) → RequestBytes it → RequestBytes (received found it)
+    received_fine (Ok t) it fine = fine
+    received_fine (Err kind) (ask.Refused first) fine = tt
+    received_fine (Err kind) (ask.Asked e) fine = tt
+    received_fine (Err kind) (ask.Rounds count is_fair seed) fine = tt
+    received_fine (Err kind) ask.Settle fine = tt
+    received_fine (Err kind) (ask.Probed it) fine = tt
 
-  pub line_bytes : (line : List ℕ) → IfOk (read_script_line plan line) AskedBytes
-  unfolding read_script_line
-  line_bytes line = by_test (nat_le (length line) most_line)
-    where
-      by_test : (b : Bool) → IfOk (if b then read_script_words plan (is_plain_line (uncommented_line line)) (line_words (uncommented_line line)) else Err LineFault.LineTooLong) AskedBytes
-      by_test true = words_fine (is_plain_line (uncommented_line line)) (line_words (uncommented_line line))
-      by_test false = tt
+    addressed_fine : (place : List ℕ) (list : List (List ℕ)) → Fine (addressed_line plan image place list)
+    addressed_fine place [] = send_fine place []
+    addressed_fine place (to ∷ list) =
+        checked RequestBytes (is_undotted (dots place)) LineFault.BadShape _
+        (chained RequestBytes (place_word to) _ (λ at was.
+        chained RequestBytes (send_line plan place (words_at at)) _ (λ it is.
+        checked RequestBytes (nat_lt (first_label image (terminal_at plan at)) (header_values plan.header)) LineFault.NoLabel _
+        (received_fine (terminal_at plan at) it (subst Fine is (send_fine place (words_at at)))))))
+      where
+        words_at : List ℕ × Option ℕ → List (List ℕ)
+        words_at at = header_words plan.header (first_label image (terminal_at plan at)) ++ typed_words Reading.Word list
+
+    sending_fine : (place : List ℕ) (list : List (List ℕ)) → Fine (sending_line plan image place list)
+    sending_fine place [] = send_fine place []
+    sending_fine place (first ∷ more) = by_word (bytes_eq first (codes "to"))
+      where
+        by_word : (b : Bool) → Fine (if b then addressed_line plan image place more else send_line plan place (first ∷ more))
+        by_word true = addressed_fine place more
+        by_word false = send_fine place (first ∷ more)
+
+    verb_fine : (word : Verb) (rest : List (List ℕ)) → Fine (verb_line word plan image rest)
+    verb_fine Verb.Send (place ∷ list) = sending_fine place list
+    verb_fine Verb.Drain (place ∷ []) = drain_fine place
+    verb_fine Verb.Cross (place ∷ []) = cross_fine place
+    verb_fine Verb.Credit (place ∷ []) = credit_fine place
+    verb_fine Verb.Input (place ∷ []) = input_fine place (Ok 0)
+    verb_fine Verb.Input (place ∷ word ∷ []) = input_fine place (number_word word)
+    verb_fine Verb.Claim (place ∷ a ∷ b ∷ []) = claim_fine place a b
+    verb_fine Verb.Control (place ∷ list) = control_fine place list
+    verb_fine Verb.Rounds rest = rounds_fine rest
+    verb_fine Verb.Settle [] = tt
+    verb_fine Verb.Settle (first ∷ rest) = tt
+    verb_fine (Verb.Probe word) rest = probe_fine word rest
+    verb_fine word rest = tt
+
+    words_fine : (is_plain : Bool) (list : List (List ℕ)) → IfOk (read_script_words plan image is_plain list) AskedBytes
+    words_fine is_plain [] = tt
+    words_fine is_plain (first ∷ rest) = chained AskedBytes (value_or_fault (verb_of first) LineFault.UnknownWord) _ (λ word is. checked AskedBytes is_plain LineFault.BadShape _ (some_fine (verb_line word plan image rest) (verb_fine word rest)))
+
+    pub line_bytes : (line : List ℕ) → IfOk (read_script_line plan image line) AskedBytes
+    unfolding read_script_line
+    line_bytes line = by_test (nat_le (length line) most_line)
+      where
+        by_test : (b : Bool) → IfOk (if b then read_script_words plan image (is_plain_line (uncommented_line line)) (line_words (uncommented_line line)) else Err LineFault.LineTooLong) AskedBytes
+        by_test true = words_fine (is_plain_line (uncommented_line line)) (line_words (uncommented_line line))
+        by_test false = tt

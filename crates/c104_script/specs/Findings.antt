@@ -1,10 +1,11 @@
 -- What is printed of what the debugger found.
-pub use Rattle.c104_script.specs.declared.findings.Finding.{Finding}
+pub use Rattle.c104_script.specs.declared.{findings.Finding.Finding, found_registers.FoundRegister.FoundRegister}
 use Rattle.c104_interval.specs.declared.intervals.{Row.Row, Select.{Select, TheVariants.Sink}, Table.Table}
-use Rattle.{c104_plan.specs.PortTexts.select_text, c104_regs.specs.Faults.{register_fault_name, register_fault_number}}
-use Rattle.{c104_regs.specs.declared.faults.RegFault.RegFault, c104_token.specs.Text.hex_digit}
-use Rattle.std.specs.{Fmt.decimal, List.list_all, Prelude.{Bool, List, [], codes, false, if◌then◌else◌, true, ℕ, ◌%◌, ◌&&◌, ◌++◌, ◌/◌}}
-use Rattle.std.specs.Prelude.{◌==◌, ◌∷◌}
+use Rattle.{c104_plan.specs.PortTexts.select_text, c104_regs.specs.{Addresses.address_of, Faults.register_fault_name}}
+use Rattle.c104_regs.specs.{Faults.register_fault_number, declared.{addresses.Address.Address, faults.RegFault.RegFault}}
+use Rattle.{c104_script.specs.RegisterWords.{address_link, address_name, address_row}, c104_token.specs.Text.hex_digit}
+use Rattle.std.specs.{Fmt.decimal, List.list_all, Prelude.{Bool, List, None, Option, Some, [], codes, false, flat_map, if◌then◌else◌}}
+use Rattle.std.specs.Prelude.{length, true, ℕ, ◌%◌, ◌&&◌, ◌++◌, ◌/◌, ◌==◌, ◌∷◌}
 
 -- a byte: its two hexadecimal digits
 abbrev pub byte_text : ℕ → List ℕ
@@ -64,6 +65,29 @@ difference_text switch addr value = codes "differs " ++ (switch ++ register_text
 abbrev pub refusal_text : RegFault → List ℕ
 refusal_text kind = codes "refused register " ++ fault_words (register_fault_number kind) (register_fault_name kind)
 
+-- a number behind a mark, where there is one
+abbrev pub numbered_text : ℕ → Option ℕ → List ℕ
+numbered_text mark None = []
+numbered_text mark (Some n) = mark ∷ decimal n
+
+-- the name of what stands at an address, behind that of its switch: the link, the register, and the row
+abbrev pub name_text : Option Address → List ℕ
+name_text None = []
+name_text (Some x) = numbered_text 46 (address_link x) ++ (32 ∷ (address_name x ++ numbered_text 32 (address_row x)))
+
+-- what was loaded, where a register is compared with that
+abbrev pub loaded_text : Option ℕ → List ℕ
+loaded_text None = []
+loaded_text (Some value) = codes " loaded" ++ (32 ∷ word_text value)
+
+-- the line of a register
+abbrev pub found_text : FoundRegister → List ℕ
+found_text r = 10 ∷ (r.switch ++ (name_text (address_of r.addr) ++ ((32 ∷ word_text r.value) ++ loaded_text r.loaded)))
+
+-- how many registers were found, and a line for each
+abbrev pub registers_text : List FoundRegister → List ℕ
+registers_text registers = codes "registers " ++ (decimal (length registers) ++ flat_map found_text registers)
+
 -- what was found
 abbrev pub finding_text : Finding → List ℕ
 finding_text (Finding.Value value) = word_text value
@@ -72,4 +96,5 @@ finding_text (Finding.Link input_level output_level credit granted owner sunk sh
 finding_text (Finding.Table table) = table_text table
 finding_text Finding.Verified = codes "verified"
 finding_text (Finding.Differs switch addr value) = difference_text switch addr value
+finding_text (Finding.Registers registers) = registers_text registers
 finding_text (Finding.Refused kind) = refusal_text kind

@@ -1,10 +1,12 @@
 pub mod Parts
 pub mod HexWords
 pub mod RegisterWords
+pub mod Findings
+pub mod Addressed
 pub mod Script
+pub mod TakenWords
 pub mod RegisterNames
 pub mod SeedWords
-pub mod Findings
 pub mod Texts
 pub mod Answering
 pub mod TextLines

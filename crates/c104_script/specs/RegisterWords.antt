@@ -34,6 +34,22 @@ address_name Address.DeviceId = codes "identity"
 address_name Address.Started = codes "started"
 address_name (Address.AtLink l r) = link_register_name r
 
+-- the link whose register stands at an address
+abbrev pub address_link : Address → Option ℕ
+address_link (Address.AtLink l r) = Some l
+address_link x = None
+
+-- the row that a register of a link belongs to
+abbrev pub register_row : Register → Option ℕ
+register_row (Register.Limit k) = Some k
+register_row (Register.Select k) = Some k
+register_row r = None
+
+-- the row whose register stands at an address
+abbrev pub address_row : Address → Option ℕ
+address_row (Address.AtLink l r) = register_row r
+address_row x = None
+
 -- the registers of a switch itself
 abbrev pub switch_registers : List Address
 switch_registers = Address.DeviceId ∷ Address.Started ∷ []

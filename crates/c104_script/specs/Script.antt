@@ -1,18 +1,19 @@
--- The grammar of a script: what a line asks of a network of this plan. Of all that is wrong with a
+-- The grammar of a script: what a line asks of a network of this plan, with the labels of this image. Of all that is wrong with a
 -- line the fault of the least number is answered, so conditions stand in the order of the faults'
 -- numbers; but a packet's words are read from the left, after all else.
 pub use Rattle.c104_script.specs.declared.{faults.LineFault.LineFault, places.Request.Request, probes.Probe.Probe}
 pub use Rattle.c104_script.specs.declared.words.{ProbeVerb.ProbeVerb, Verb.Verb}
 use Rattle.{c104_control.specs.declared.bytes.TheConstants.MAX_CONTROL_BYTES, c104_event.specs.declared.events.Event.Event}
 use Rattle.{c104_event.specs.declared.faults.EventFault.{EventFault, TheVariants.{NoLink, NoNode}}, c104_plan.specs.Checks.require}
-use Rattle.c104_plan.specs.{Checks.{value_or_fault, ◌>>=◌, ◌>>◌}, Plans.{Plan, switch_number, terminal_number}, TextCut.is_plain_line}
-use Rattle.c104_plan.specs.{TextCut.{line_words, uncommented_line}, TextWords.{dots, read_number}, declared.ports.Port.Port}
-use Rattle.{c104_plan.specs.declared.text.Dots.{Dots, TheVariants.{At, Several, Without}}, c104_script.specs.HexWords.register_word}
+use Rattle.c104_plan.specs.{Checks.{value_or_fault, ◌>>=◌, ◌>>◌}, PlanImage.Image, Plans.{Plan, header_values, switch_number}}
+use Rattle.c104_plan.specs.{Plans.terminal_number, TextCut.{is_plain_line, line_words, uncommented_line}, TextWords.{dots, read_number}}
+use Rattle.c104_plan.specs.declared.{ports.Port.Port, text.Dots.{Dots, TheVariants.{At, Several, Without}}}
+use Rattle.c104_script.specs.{Addressed.{Reading, first_label, header_words, is_undotted, received, typed_words}, HexWords.register_word}
 use Rattle.c104_script.specs.{RegisterWords.{is_row_due, register_place, register_with}, SeedWords.seed_of}
 use Rattle.{c104_script.specs.declared.places.Request.TheVariants.{Asked, Probed, Refused, Rounds}, c104_token.specs.Text.parse_words}
 use Rattle.c104_token.specs.{Text.spelled_byte, declared.{faults.TokenFault.TokenFault, packets.Packet.Packet}}
 use Rattle.std.specs.{Map.lookup, Prelude.{Bool, Err, List, None, Ok, Option, Result, Some, [], bytes_eq, codes, drop, false}}
-use Rattle.std.specs.Prelude.{if◌then◌else◌, length, nat_le, take, true, ℕ, ◌&&◌, ◌++◌, ◌+◌, ◌∷◌, ◌≡◌, ◌⊎◌}
+use Rattle.std.specs.Prelude.{if◌then◌else◌, length, nat_le, nat_lt, take, true, ℕ, ◌&&◌, ◌++◌, ◌+◌, ◌∷◌, ◌≡◌, ◌⊎◌}
 
 -- the number that a word spells, or that it spells none
 abbrev pub number_word : List ℕ → Result ℕ LineFault
@@ -87,12 +88,33 @@ abbrev pub packet_of : Result Packet TokenFault → Result Packet LineFault
 packet_of (Ok packet) = Ok packet
 packet_of (Err kind) = Err (packet_fault kind)
 
+-- a packet that is sent, or the refusal where no sender was found
+abbrev pub sent_by : Result ℕ EventFault → Packet → Request
+sent_by sender packet = request_of sender (λ t. Event.Send t packet)
+
 -- `send T PACKET`
 abbrev pub send_line : Plan → List ℕ → List (List ℕ) → Result Request LineFault
 send_line plan node packet_words = do
   place ← place_word node
   packet ← packet_of (parse_words packet_words)
-  Ok (request_of (terminal_at plan place) (λ t. Event.Send t packet))
+  Ok (sent_by (terminal_at plan place) packet)
+
+-- `send T to U BYTES`, by the words behind `to`: the line in which the header and all bytes are typed, if U is there and its first
+-- label is a header
+abbrev pub addressed_line : Plan → Image → List ℕ → List (List ℕ) → Result Request LineFault
+addressed_line plan image node [] = send_line plan node []
+addressed_line plan image node (receiver ∷ words) = do
+  require (is_undotted (dots node)) LineFault.BadShape
+  place ← place_word receiver
+  request ← send_line plan node (header_words plan.header (first_label image (terminal_at plan place)) ++ typed_words Reading.Word words)
+  require (nat_lt (first_label image (terminal_at plan place)) (header_values plan.header)) LineFault.NoLabel
+  Ok (received (terminal_at plan place) request)
+
+-- `send T PACKET`, or `send T to U BYTES`
+abbrev pub sending_line : Plan → Image → List ℕ → List (List ℕ) → Result Request LineFault
+sending_line plan image node [] = send_line plan node []
+sending_line plan image node (first ∷ more) =
+    if bytes_eq first (codes "to") then addressed_line plan image node more else send_line plan node (first ∷ more)
 
 -- `drain T`
 abbrev pub drain_line : Plan → List ℕ → Result Request LineFault
@@ -229,6 +251,16 @@ table_line plan node = do
   place ← place_word node
   Ok (probe_of (input_at plan place) (λ r. Probe.Table r.0 r.1))
 
+-- the word behind `verify`, which is `all`
+abbrev pub verify_line : List ℕ → Result Request LineFault
+verify_line word = if bytes_eq word (codes "all") then Ok (Probed Probe.VerifyAll) else Err LineFault.BadShape
+
+-- `dump S`
+abbrev pub dump_line : Plan → List ℕ → Result Request LineFault
+dump_line plan node = do
+  place ← place_word node
+  Ok (probe_of (switch_at plan place) Probe.Dump)
+
 -- a line of the debugger, by what its first word asks for and the words after it
 abbrev pub probe_line : ProbeVerb → Plan → List (List ℕ) → Result Request LineFault
 probe_line ProbeVerb.Peek plan rest = peek_words plan rest
@@ -236,6 +268,8 @@ probe_line ProbeVerb.Poke plan rest = poke_words plan rest
 probe_line ProbeVerb.Link plan (node ∷ []) = link_line plan node
 probe_line ProbeVerb.Table plan (node ∷ []) = table_line plan node
 probe_line ProbeVerb.Verify plan [] = Ok (Probed Probe.Verify)
+probe_line ProbeVerb.Verify plan (word ∷ []) = verify_line word
+probe_line ProbeVerb.Dump plan (node ∷ []) = dump_line plan node
 probe_line verb plan rest = Err LineFault.BadShape
 
 -- the words with which lines begin, those of the debugger last
@@ -249,11 +283,13 @@ verbs =
     ∷ (codes "claim", Verb.Claim)
     ∷ (codes "control", Verb.Control)
     ∷ (codes "rounds", Verb.Rounds)
+    ∷ (codes "settle", Verb.Settle)
     ∷ (codes "peek", Verb.Probe ProbeVerb.Peek)
     ∷ (codes "poke", Verb.Probe ProbeVerb.Poke)
     ∷ (codes "link", Verb.Probe ProbeVerb.Link)
     ∷ (codes "table", Verb.Probe ProbeVerb.Table)
     ∷ (codes "verify", Verb.Probe ProbeVerb.Verify)
+    ∷ (codes "dump", Verb.Probe ProbeVerb.Dump)
     ∷ []
 
 -- what the first word of a line asks for
@@ -261,18 +297,19 @@ abbrev pub verb_of : List ℕ → Option Verb
 verb_of word = lookup (λ known. bytes_eq known word) verbs
 
 -- a line, by what its first word asks for and the words after it
-abbrev pub verb_line : Verb → Plan → List (List ℕ) → Result Request LineFault
-verb_line Verb.Send plan (node ∷ packet_words) = send_line plan node packet_words
-verb_line Verb.Drain plan (node ∷ []) = drain_line plan node
-verb_line Verb.Cross plan (node ∷ []) = cross_line plan node
-verb_line Verb.Credit plan (node ∷ []) = credit_line plan node
-verb_line Verb.Input plan (node ∷ []) = input_line plan node (Ok 0)
-verb_line Verb.Input plan (node ∷ word ∷ []) = input_line plan node (number_word word)
-verb_line Verb.Claim plan (node ∷ input_word ∷ output_word ∷ []) = claim_line plan node input_word output_word
-verb_line Verb.Control plan (node ∷ byte_words) = control_line plan node byte_words
-verb_line Verb.Rounds plan rest = rounds_line rest
-verb_line (Verb.Probe word) plan rest = probe_line word plan rest
-verb_line verb plan rest = Err LineFault.BadShape
+abbrev pub verb_line : Verb → Plan → Image → List (List ℕ) → Result Request LineFault
+verb_line Verb.Send plan image (node ∷ packet_words) = sending_line plan image node packet_words
+verb_line Verb.Drain plan image (node ∷ []) = drain_line plan node
+verb_line Verb.Cross plan image (node ∷ []) = cross_line plan node
+verb_line Verb.Credit plan image (node ∷ []) = credit_line plan node
+verb_line Verb.Input plan image (node ∷ []) = input_line plan node (Ok 0)
+verb_line Verb.Input plan image (node ∷ word ∷ []) = input_line plan node (number_word word)
+verb_line Verb.Claim plan image (node ∷ input_word ∷ output_word ∷ []) = claim_line plan node input_word output_word
+verb_line Verb.Control plan image (node ∷ byte_words) = control_line plan node byte_words
+verb_line Verb.Rounds plan image rest = rounds_line rest
+verb_line Verb.Settle plan image [] = Ok Request.Settle
+verb_line (Verb.Probe word) plan image rest = probe_line word plan rest
+verb_line verb plan image rest = Err LineFault.BadShape
 
 -- a line with words
 abbrev pub some_request : Result Request LineFault → Result (Option Request) LineFault
@@ -280,21 +317,21 @@ some_request (Ok request) = Ok (Some request)
 some_request (Err kind) = Err kind
 
 -- a line, by its words; is_plain says that it has no byte that no line may have
-abbrev pub read_script_words : Plan → Bool → List (List ℕ) → Result (Option Request) LineFault
-read_script_words plan is_plain [] = Ok None
-read_script_words plan is_plain (first ∷ rest) = do
+abbrev pub read_script_words : Plan → Image → Bool → List (List ℕ) → Result (Option Request) LineFault
+read_script_words plan image is_plain [] = Ok None
+read_script_words plan image is_plain (first ∷ rest) = do
   verb ← value_or_fault (verb_of first) LineFault.UnknownWord
   require is_plain LineFault.BadShape
-  some_request (verb_line verb plan rest)
+  some_request (verb_line verb plan image rest)
 
 -- the most bytes of a line, its line feed left out
 abbrev pub most_line : ℕ
 most_line = 16384
 
 -- what a line asks, which is nothing where it has no words, or what is wrong with it
-unfoldable pub read_script_line : Plan → List ℕ → Result (Option Request) LineFault
-read_script_line plan line =
-    if nat_le (length line) most_line then read_script_words plan (is_plain_line (uncommented_line line)) (line_words (uncommented_line line))
+unfoldable pub read_script_line : Plan → Image → List ℕ → Result (Option Request) LineFault
+read_script_line plan image line =
+    if nat_le (length line) most_line then read_script_words plan image (is_plain_line (uncommented_line line)) (line_words (uncommented_line line))
     else Err LineFault.LineTooLong
 
 -- what is due, or out of memory

@@ -1,5 +1,5 @@
 -- What is printed: tokens, replies, refusals and faults.
-pub use Rattle.c104_script.specs.declared.answers.Answer.{Answer}
+pub use Rattle.c104_script.specs.declared.answers.{Answer.Answer, Settled.Settled}
 use Rattle.{c104_event.specs.EventFaults.{event_fault_name, event_fault_number}, c104_script.specs.Findings.{byte_text, fault_words}}
 use Rattle.c104_script.specs.{Findings.finding_text, declared.answers.Answer.TheVariants.{Faulty, Found, Refused, Replied}}
 use Rattle.{c104_script.specs.declared.faults.LineFault.LineFault, c104_switch.specs.{Actions.Reply, declared.actions.ReplyOf.ReplyOf}}
@@ -17,6 +17,7 @@ line_fault_number LineFault.NoEnd = 6
 line_fault_number LineFault.AfterEnd = 7
 line_fault_number LineFault.PacketTooLong = 8
 line_fault_number LineFault.NoMemory = 9
+line_fault_number LineFault.NoLabel = 10
 
 -- the name that is printed
 abbrev pub line_fault_name : LineFault → List ℕ
@@ -29,6 +30,7 @@ line_fault_name LineFault.NoEnd = codes "NoEnd"
 line_fault_name LineFault.AfterEnd = codes "AfterEnd"
 line_fault_name LineFault.PacketTooLong = codes "PacketTooLong"
 line_fault_name LineFault.NoMemory = codes "NoMemory"
+line_fault_name LineFault.NoLabel = codes "NoLabel"
 
 -- a token: a byte, or its terminator's word
 abbrev pub token_text : Token → List ℕ
@@ -47,10 +49,17 @@ reply_text ReplyOf.NotReady = codes "not ready"
 reply_text (ReplyOf.Token x) = codes "token " ++ token_text x
 reply_text (ReplyOf.Control bytes) = codes "control" ++ flat_map spaced_byte bytes
 
--- what an answer is printed as: a reply, what was found, or a refusal or a line's fault by its number and name
+-- what is printed of rounds that went on until the network stood still, or were as many as there may be
+abbrev pub settled_text : Settled → List ℕ
+settled_text (Settled.Done rounds) = codes "done " ++ decimal rounds
+settled_text (Settled.StandsStill rounds) = codes "stands still " ++ decimal rounds
+settled_text (Settled.Moving rounds) = codes "moving " ++ decimal rounds
+
+-- what an answer is printed as: a reply, what rounds ended with, what was found, or a refusal or a line's fault by its number and name
 abbrev pub answer_text : Answer → List ℕ
 answer_text (Replied r) = reply_text r
 answer_text (Refused kind) = codes "refused " ++ fault_words (event_fault_number kind) (event_fault_name kind)
+answer_text (Answer.Settled it) = settled_text it
 answer_text (Found it) = finding_text it
 answer_text (Faulty kind) = codes "fault " ++ fault_words (line_fault_number kind) (line_fault_name kind)
 

@@ -1,6 +1,6 @@
 //! What answers a line, and how it is printed.
 ghost use Rattle.std.specs.Prelude.{OnErr, OnOk, [], decimal, ◌++◌, ◌≡◌};
-ghost use Rattle.c104_script.specs.{Findings.{byte_text, fault_words}, Texts.{answer_line, reply_text}};
+ghost use Rattle.c104_script.specs.{Findings.{byte_text, fault_words}, Texts.{answer_line, reply_text, settled_text}};
 ghost use Rattle.c104_switch.specs.declared.actions.ReplyOf.TheVariants as reply;
 
 use crate::faults::LineFault;
@@ -18,10 +18,23 @@ pub enum Answer {
     Replied(Reply),
     /// What was asked is refused.
     Refused(EventFault),
+    /// Rounds were done until the network stood still, or as many as there may be.
+    Settled(Settled),
     /// This was found at the switches.
     Found(Finding),
     /// The line is faulty, and asks nothing.
     Faulty(LineFault),
+}
+
+/// How rounds ended that were to go on until the network stands still, and how many there were, 0 to 10,000.
+#[derive(Clone, Copy, Debug)]
+pub enum Settled {
+    /// The network stands still, with no token anywhere and no packet under way.
+    Done(u32),
+    /// The network stands still, and some token stands somewhere or some packet is under way.
+    StandsStill(u32),
+    /// A further round would do something, or be refused.
+    Moving(u32),
 }
 
 /// Adds the line that answers the line of this number to the text. The only error is out of memory, and then the
@@ -52,6 +65,7 @@ fn add_line(number: usize, answer: &Answer, text: &mut Vec<u8>) -> Result<(), No
             text.extend_from_slice(b"refused ")?;
             add_fault(fault.number(), fault.name(), text)?;
         }
+        Answer::Settled(settled) => add_settled(*settled, text)?,
         Answer::Found(finding) => add_finding(finding, text)?,
         Answer::Faulty(fault) => {
             text.extend_from_slice(b"fault ")?;
@@ -92,6 +106,25 @@ fn add_reply(reply: &Reply, text: &mut Vec<u8>) -> Result<(), NoMemory>
         Reply::Control(bytes) => add_control(bytes, text)?,
     }
     Ok(())
+}
+
+/// How rounds ended joins the text, and how many there were.
+fn add_settled(settled: Settled, text: &mut Vec<u8>) -> Result<(), NoMemory>
+    ensures { OnOk result (text.new.items ≡ text.old.items ++ settled_text settled) }
+{
+    match settled {
+        Settled::Done(rounds) => add_counted("done ", rounds, text),
+        Settled::StandsStill(rounds) => add_counted("stands still ", rounds, text),
+        Settled::Moving(rounds) => add_counted("moving ", rounds, text),
+    }
+}
+
+/// Words and a number behind them join the text.
+fn add_counted(words: &str, number: u32, text: &mut Vec<u8>) -> Result<(), NoMemory>
+    ensures { OnOk result (text.new.items ≡ text.old.items ++ (words.now ++ decimal number)) }
+{
+    text.extend_from_slice(words.as_bytes())?;
+    add_number(number as usize, text)
 }
 
 /// A token that moved joins the text.

@@ -26,7 +26,7 @@ pub enum LineFault {
     #[error("a number is 1 to 7 decimal digits, rounds are 1 to 10000, and a seed is below 2^64")]
     BadNumber = 4,
     /// A word of a packet is neither two hexadecimal digits nor a terminator, or a word of another line isn't
-    /// the hexadecimal digits that are asked for.
+    /// the hexadecimal digits that are asked for, or no number follows `length`.
     #[error("a word isn't made of the hexadecimal digits that are wanted, and is no end of a packet")]
     BadHex = 5,
     /// A packet has no terminator.
@@ -41,6 +41,9 @@ pub enum LineFault {
     /// Out of memory. It is no fault of the line, and ends the run.
     #[error("out of memory")]
     NoMemory = 9,
+    /// The first label of the receiver is no header of the network.
+    #[error("the first label of the receiver is no header of the network")]
+    NoLabel = 10,
 }
 
 impl LineFault {
@@ -65,6 +68,7 @@ impl LineFault {
             LineFault::AfterEnd => "AfterEnd",
             LineFault::PacketTooLong => "PacketTooLong",
             LineFault::NoMemory => "NoMemory",
+            LineFault::NoLabel => "NoLabel",
         }
     }
 }

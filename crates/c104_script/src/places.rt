@@ -24,6 +24,8 @@ pub enum Request {
         /// The seed of the words that their inputs are handed. Without one each is handed word 0.
         seed: Option<u64>,
     },
+    /// Rounds until the network stands still, at most 10,000.
+    Settle,
     /// What the debugger is to read or to set.
     Probed(Probe),
     /// An event of a node that isn't there or of the wrong kind, or of a link where none is wanted

@@ -1,11 +1,11 @@
 //! Lines that ask the debugger.
 ghost use Rattle.std.specs.Prelude.{◌≡◌, map, option_map};
-ghost use Rattle.c104_script.specs.Script.{link_line, peek_line, peek_words, poke_line, poke_words, probe_line, register_line};
-ghost use Rattle.c104_script.specs.Script.{table_line, value_words};
+ghost use Rattle.c104_script.specs.Script.{dump_line, link_line, peek_line, peek_words, poke_line, poke_words, probe_line};
+ghost use Rattle.c104_script.specs.Script.{register_line, table_line, value_words, verify_line};
 
 use crate::faults::LineFault;
 use crate::hex_words::read_register;
-use crate::places::{Request, find_input};
+use crate::places::{Request, find_input, find_switch};
 use crate::probes::Probe;
 use crate::register_words::{find_place, is_row_due, read_register_place};
 use crate::words::{ProbeVerb, read_place};
@@ -26,6 +26,8 @@ pub(crate) fn read_probe(
         (ProbeVerb::Link, [node]) => read_link(plan, node),
         (ProbeVerb::Table, [node]) => read_table(plan, node),
         (ProbeVerb::Verify, []) => Ok(Request::Probed(Probe::Verify)),
+        (ProbeVerb::Verify, [word]) => read_verify(word),
+        (ProbeVerb::Dump, [node]) => read_dump(plan, node),
         _ => Err(LineFault::BadShape),
     }
 }
@@ -144,6 +146,28 @@ fn read_table(plan: &Plan, node: &[u8]) -> Result<Request, LineFault>
     let place = read_place(node)?;
     Ok(match find_input(plan, place) {
         Ok((switch, link)) => Request::Probed(Probe::Table { switch, link }),
+        Err(fault) => Request::Refused(fault),
+    })
+}
+
+/// Reads the word behind `verify`, which is `all`.
+fn read_verify(word: &[u8]) -> Result<Request, LineFault>
+    ensures { result ≡ verify_line word.now }
+{
+    if word == b"all".as_slice() {
+        Ok(Request::Probed(Probe::VerifyAll))
+    } else {
+        Err(LineFault::BadShape)
+    }
+}
+
+/// Reads `dump S`.
+fn read_dump(plan: &Plan, node: &[u8]) -> Result<Request, LineFault>
+    ensures { result ≡ dump_line plan.now node.now }
+{
+    let place = read_place(node)?;
+    Ok(match find_switch(plan, place) {
+        Ok(switch) => Request::Probed(Probe::Dump { switch }),
         Err(fault) => Request::Refused(fault),
     })
 }

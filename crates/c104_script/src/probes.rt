@@ -26,4 +26,10 @@ pub enum Probe {
     },
     /// Whether each register that can be set reads as it was loaded.
     Verify,
+    /// Each register that can be set and doesn't read as it was loaded.
+    VerifyAll,
+    /// The registers of a switch that don't read as after a reset.
+    Dump {
+        switch: usize,
+    },
 }

@@ -1,8 +1,8 @@
 //! The names of registers, in the lines of a script and where registers are printed.
 ghost use Rattle.std.specs.Prelude.{Err, IfSome, is_some, ◌≡◌};
 ghost use Rattle.c104_regs.specs.Addresses.{IsAddress, address_number, address_of};
-ghost use Rattle.c104_script.specs.{HexWords.address_word, RegisterNames.{IsReadAs, address_link, address_row}};
-ghost use Rattle.c104_script.specs.{RegisterWords.{address_name, link_register_name}, declared.faults.LineFault.TheVariants.BadHex};
+ghost use Rattle.c104_script.specs.{HexWords.address_word, RegisterNames.IsReadAs, declared.faults.LineFault.TheVariants.{BadHex}};
+ghost use Rattle.c104_script.specs.RegisterWords.{address_link, address_name, address_row, link_register_name};
 
 use c104_regs::{Address, Register};
 
@@ -33,7 +33,7 @@ impl RegisterName {
     }
 
     /// The name of what stands at an address.
-    fn of(address: Address) -> Self
+    pub(crate) fn of(address: Address) -> Self
         requires { IsAddress address }
         ensures link { result.link ≡ address_link address }
         ensures name { result.name.now ≡ address_name address }

@@ -19,6 +19,7 @@ pub(crate) enum Verb {
     Claim,
     Control,
     Rounds,
+    Settle,
     Probe(ProbeVerb),
 }
 
@@ -30,10 +31,11 @@ pub(crate) enum ProbeVerb {
     Link,
     Table,
     Verify,
+    Dump,
 }
 
 /// The words with which lines begin. Those of the debugger stand last, since scripts have few of them.
-const VERBS: [(&[u8], Verb); 13] = [
+const VERBS: [(&[u8], Verb); 15] = [
     (b"send", Verb::Send),
     (b"drain", Verb::Drain),
     (b"cross", Verb::Cross),
@@ -42,11 +44,13 @@ const VERBS: [(&[u8], Verb); 13] = [
     (b"claim", Verb::Claim),
     (b"control", Verb::Control),
     (b"rounds", Verb::Rounds),
+    (b"settle", Verb::Settle),
     (b"peek", Verb::Probe(ProbeVerb::Peek)),
     (b"poke", Verb::Probe(ProbeVerb::Poke)),
     (b"link", Verb::Probe(ProbeVerb::Link)),
     (b"table", Verb::Probe(ProbeVerb::Table)),
     (b"verify", Verb::Probe(ProbeVerb::Verify)),
+    (b"dump", Verb::Probe(ProbeVerb::Dump)),
 ];
 
 /// A node or a port as a line names it.
