@@ -3,25 +3,21 @@
 pub(crate) const TOO_LONG: &str = "a description has at most 1048576 bytes";
 
 pub(crate) const SCRIPTS_WORD: &str =
-    "this is a word of scripts, and this is the description; put a line with the one word `script` before \
-     the script, or the script in a file of its own";
+    "this is a word of scripts; a line `script` begins the script, or it is a file of its own";
 
 pub(crate) const SCRIPT_BEGINS: &str =
-    "a description has no script here; leave out this line and what follows it, or give the whole text to \
-     `c104 run` on standard input";
+    "this is to be a description alone; `c104 run` takes one with its script";
 
 pub(crate) const SCRIPT_LINE: &str =
     "the line before a script has one word, `script`, and nothing after it";
 
 pub(crate) const NO_WORD: &str =
-    "a line begins with `switch`, `terminal`, `wire`, `row`, `base`, `continue`, `delete`, `random`, \
-     `header`, `buffer`, `label`, `mesh`, `cube`, `torus` or `clos`";
+    "no line of a description begins with this word; see `c104 run --help`";
 
 pub(crate) const SWITCH_LINE: &str = "the line is `switch NAME`";
 
 pub(crate) const TERMINAL_LINE: &str =
-    "the line is `terminal NAME SWITCH.LINK`, optionally followed by `labels COUNT`, `from FIRST`, or \
-     both in this order";
+    "the line is `terminal NAME SWITCH.LINK [labels COUNT] [from FIRST]`";
 
 pub(crate) const WIRE_LINE: &str = "the line is `wire SWITCH.LINK SWITCH.LINK`";
 
@@ -75,21 +71,56 @@ pub(crate) const NO_RANDOM_BASE: &str = "random headers begin at 0 to 65535";
 pub(crate) const NO_RANDOM_RANGE: &str =
     "the range of random headers is 0 to 65536, and at 0 the base alone is one";
 
-pub(crate) const MESH_SIZE: &str =
-    "a mesh has 1 to 64 columns, 1 to 64 rows, 1 to 28 terminals at each switch, and, if they are said, 2 to \
-     7 wires to each neighbour";
+/// The least and the most of each number of a line `mesh`, in order, and what is told where it is another.
+pub(crate) const MESH_NUMBERS: [(u32, u32, &str); 4] = [
+    (1, 64, "a mesh has 1 to 64 columns"),
+    (1, 64, "a mesh has 1 to 64 rows"),
+    (1, 28, "a mesh has 1 to 28 terminals at each switch"),
+    (
+        2,
+        7,
+        "a mesh has 2 to 7 wires to each neighbour, if that is said",
+    ),
+];
 
-pub(crate) const CUBE_SIZE: &str =
-    "a cube has 0 to 6 dimensions, 1 to 26 terminals at each switch, and, if they are said, 2 to 31 wires to \
-     each neighbour";
+/// The same of a line `cube`.
+pub(crate) const CUBE_NUMBERS: [(u32, u32, &str); 3] = [
+    (0, 6, "a cube has 0 to 6 dimensions"),
+    (1, 26, "a cube has 1 to 26 terminals at each switch"),
+    (
+        2,
+        31,
+        "a cube has 2 to 31 wires to each neighbour, if that is said",
+    ),
+];
 
-pub(crate) const TORUS_SIZE: &str =
-    "a torus has 1 to 64 columns, 1 to 64 rows, 1 to 24 terminals at each switch, and 1 to 3 wires in each of \
-     the two groups to a neighbour";
+/// The same of a line `torus`.
+pub(crate) const TORUS_NUMBERS: [(u32, u32, &str); 4] = [
+    (1, 64, "a torus has 1 to 64 columns"),
+    (1, 64, "a torus has 1 to 64 rows"),
+    (1, 24, "a torus has 1 to 24 terminals at each switch"),
+    (
+        1,
+        3,
+        "a torus has 1 to 3 wires in each of the two groups to a neighbour",
+    ),
+];
 
-pub(crate) const CLOS_SIZE: &str =
-    "a folded Clos network has 1 to 32 leaves, 1 to 31 spines, 1 to 31 terminals at each leaf, and 1 to 31 \
-     wires from each leaf to each spine";
+/// The same of a line `clos`.
+pub(crate) const CLOS_NUMBERS: [(u32, u32, &str); 4] = [
+    (1, 32, "a folded Clos network has 1 to 32 leaves"),
+    (1, 31, "a folded Clos network has 1 to 31 spines"),
+    (
+        1,
+        31,
+        "a folded Clos network has 1 to 31 terminals at each leaf",
+    ),
+    (
+        1,
+        31,
+        "a folded Clos network has 1 to 31 wires from each leaf to each spine",
+    ),
+];
 
 pub(crate) const NO_NAME: &str =
     "a name is a letter and then letters, digits, `_` and `-`, at most 32 in all";
@@ -112,8 +143,7 @@ pub(crate) const SWITCHES: &str = "there are at most 64 switches";
 pub(crate) const TERMINALS: &str = "there are at most 256 terminals";
 
 pub(crate) const LABELS: &str =
-    "the labels of a terminal end at 65535 at most; without `from` they begin where those of the terminal \
-     before end";
+    "labels end at 65535 at most; without `from` they begin where those of the terminal before end";
 
 pub(crate) const ROWS: &str = "a table has at most 36 rows";
 
@@ -125,7 +155,14 @@ pub(crate) const TWICE: &str = "already given by an earlier line";
 pub(crate) const RANDOM_TWICE: &str =
     "an input has one `random` line, already given by an earlier line";
 
-pub(crate) const MIXED: &str =
-    "the line doesn't go with earlier lines: `label` can't be combined with `row`, `base`, `random` or \
-     `from`, `label tree` not with `continue`, and `mesh`, `cube`, `torus` or `clos` only with \
-     `header`, `buffer` and `delete`";
+pub(crate) const MIXED_LABEL: &str =
+    "`label` goes with no `row`, `base`, `random` or `from`, and `label tree` with no `continue`";
+
+pub(crate) const MIXED_CONTINUE: &str =
+    "this goes with no earlier `label tree`, `mesh`, `cube`, `torus` or `clos`";
+
+pub(crate) const MIXED_ROW: &str =
+    "this goes with no earlier `label`, `mesh`, `cube`, `torus` or `clos`";
+
+pub(crate) const MIXED_SHAPE: &str =
+    "`mesh`, `cube`, `torus` and `clos` go with `header`, `buffer` and `delete` alone";

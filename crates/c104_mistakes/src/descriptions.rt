@@ -5,11 +5,11 @@
 
 use crate::common_mistakes::{BYTE_ORDER_MARK, NO_LINK, NOT_A_SWITCH, NOT_A_TERMINAL, WRONG_BYTE};
 use crate::description_mistakes::{
-    CLOS_SIZE, CUBE_SIZE, LABELS, MESH_SIZE, MIXED, NAME_TAKEN, NO_BASE, NO_BUFFER, NO_CONTINUING,
-    NO_COUNT, NO_FIRST, NO_HEADER, NO_LIMIT, NO_NAME, NO_PORT, NO_RANDOM_BASE, NO_RANDOM_RANGE,
-    NO_SELECT, NO_SWITCH, NO_TERMINAL, NO_WORD, RANDOM_TWICE, ROWS, SCRIPT_BEGINS, SCRIPT_LINE,
-    SCRIPTS_WORD, SELF_WIRE, SIZES, SWITCHES, TERMINAL_THERE, TERMINALS, TOO_LONG, TORUS_SIZE,
-    TWICE, WIRE_THERE,
+    CLOS_NUMBERS, CUBE_NUMBERS, LABELS, MESH_NUMBERS, MIXED_CONTINUE, MIXED_LABEL, MIXED_ROW,
+    MIXED_SHAPE, NAME_TAKEN, NO_BASE, NO_BUFFER, NO_CONTINUING, NO_COUNT, NO_FIRST, NO_HEADER,
+    NO_LIMIT, NO_NAME, NO_PORT, NO_RANDOM_BASE, NO_RANDOM_RANGE, NO_SELECT, NO_SWITCH, NO_TERMINAL,
+    NO_WORD, RANDOM_TWICE, ROWS, SCRIPT_BEGINS, SCRIPT_LINE, SCRIPTS_WORD, SELF_WIRE, SIZES,
+    SWITCHES, TERMINAL_THERE, TERMINALS, TOO_LONG, TORUS_NUMBERS, TWICE, WIRE_THERE,
 };
 use crate::forms::{DESCRIPTION_FORMS, SCRIPT_FORMS, form_of, nearest_form};
 use crate::nearest::{nearest_select_word, nearest_switch, nearest_terminal};
@@ -18,7 +18,7 @@ use crate::words::{
     names_terminal, unplain_word, word_at,
 };
 use c104_describe::{PlanFault, PlanFaultKind, read_description};
-use c104_plan::{Plan, Port, cut_lines, cut_words, is_name, uncommented};
+use c104_plan::{Plan, Port, Shape, cut_lines, cut_words, is_name, uncommented};
 use std::alloc::Global;
 
 /// The most terminals.
@@ -85,7 +85,7 @@ fn find_mistake<'a>(kind: PlanFaultKind, words: &[&'a [u8]], before: &'a Plan) -
         PlanFaultKind::LinkTaken => link_mistake(words, before),
         PlanFaultKind::TooMany => count_mistake(words, before),
         PlanFaultKind::Twice => twice_mistake(words),
-        PlanFaultKind::MixedStyle => Mistake::new(MIXED, word_at(words, 0)),
+        PlanFaultKind::MixedStyle => mixed_mistake(words, before),
     }
 }
 
@@ -149,12 +149,24 @@ fn number_mistake<'a>(words: &[&'a [u8]]) -> Mistake<'a> {
         Some(b"row") => row_mistake(words),
         Some(b"random") => random_mistake(words),
         Some(b"buffer") => Mistake::new(NO_BUFFER, word_at(words, 1)),
-        Some(b"mesh") => Mistake::new(MESH_SIZE, None),
-        Some(b"cube") => Mistake::new(CUBE_SIZE, None),
-        Some(b"torus") => Mistake::new(TORUS_SIZE, None),
-        Some(b"clos") => Mistake::new(CLOS_SIZE, None),
+        Some(b"mesh") => size_mistake(words, &MESH_NUMBERS),
+        Some(b"cube") => size_mistake(words, &CUBE_NUMBERS),
+        Some(b"torus") => size_mistake(words, &TORUS_NUMBERS),
+        Some(b"clos") => size_mistake(words, &CLOS_NUMBERS),
         _ => Mistake::new(NO_HEADER, word_at(words, 1)),
     }
+}
+
+/// The first number of a line of a whole network that isn't one of those that it may be.
+fn size_mistake<'a>(words: &[&'a [u8]], numbers: &[(u32, u32, &'static str)]) -> Mistake<'a> {
+    for (place, (least, most, sentence)) in numbers.iter().enumerate() {
+        if let Some(word) = word_at(words, place.saturating_add(1))
+            && !is_within(*least, *most, word)
+        {
+            return Mistake::new(*sentence, Some(word));
+        }
+    }
+    Mistake::new(SIZES, None)
 }
 
 /// A count or a first label that is none.
@@ -195,6 +207,19 @@ fn twice_mistake<'a>(words: &[&'a [u8]]) -> Mistake<'a> {
         Some(b"random") => Mistake::new(RANDOM_TWICE, word_at(words, 1)),
         first => Mistake::new(TWICE, first),
     }
+}
+
+/// A line that doesn't go with those before it.
+fn mixed_mistake<'a>(words: &[&'a [u8]], before: &Plan) -> Mistake<'a> {
+    let what = match words {
+        [b"label", ..] if matches!(before.shape(), Shape::Hand) => MIXED_LABEL,
+        [b"continue", ..] => MIXED_CONTINUE,
+        [b"row" | b"base" | b"random", ..] => MIXED_ROW,
+        [b"terminal", _, _, b"from", ..] => MIXED_ROW,
+        [b"terminal", _, _, b"labels", _, b"from", ..] => MIXED_ROW,
+        _ => MIXED_SHAPE,
+    };
+    Mistake::new(what, word_at(words, 0))
 }
 
 /// The word that is no name where one is wanted.

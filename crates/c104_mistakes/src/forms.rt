@@ -7,8 +7,8 @@ use crate::description_mistakes::{
 };
 use crate::nearest::Search;
 use crate::script_mistakes::{
-    CLAIM_LINE, CONTROL_LINE, CREDIT_LINE, CROSS_LINE, DRAIN_LINE, INPUT_LINE, LINK_LINE,
-    PEEK_LINE, POKE_LINE, ROUNDS_LINE, SEND_LINE, TABLE_LINE, VERIFY_LINE,
+    CLAIM_LINE, CONTROL_LINE, CREDIT_LINE, CROSS_LINE, DRAIN_LINE, DUMP_LINE, INPUT_LINE,
+    LINK_LINE, PEEK_LINE, POKE_LINE, ROUNDS_LINE, SEND_LINE, SETTLE_LINE, TABLE_LINE, VERIFY_LINE,
 };
 use crate::words::word_at;
 
@@ -38,7 +38,7 @@ pub(crate) const DESCRIPTION_FORMS: [Form; 15] = [
 ];
 
 /// The lines of a script.
-pub(crate) const SCRIPT_FORMS: [Form; 13] = [
+pub(crate) const SCRIPT_FORMS: [Form; 15] = [
     (b"send", SEND_LINE, 2, ANY),
     (b"drain", DRAIN_LINE, 2, 2),
     (b"cross", CROSS_LINE, 2, 2),
@@ -47,11 +47,13 @@ pub(crate) const SCRIPT_FORMS: [Form; 13] = [
     (b"claim", CLAIM_LINE, 4, 4),
     (b"control", CONTROL_LINE, 2, 10),
     (b"rounds", ROUNDS_LINE, 2, 5),
+    (b"settle", SETTLE_LINE, 1, 1),
     (b"peek", PEEK_LINE, 3, 4),
     (b"poke", POKE_LINE, 4, 5),
     (b"link", LINK_LINE, 2, 2),
     (b"table", TABLE_LINE, 2, 2),
-    (b"verify", VERIFY_LINE, 1, 1),
+    (b"verify", VERIFY_LINE, 1, 2),
+    (b"dump", DUMP_LINE, 2, 2),
 ];
 
 /// The form of a line of these words.

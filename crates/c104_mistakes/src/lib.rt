@@ -9,11 +9,13 @@
 //! depends on a message: it is left out where memory is short. What messages say isn't proved.
 #![tactic(auto)]
 
+mod addressed;
 mod commands;
 mod common_mistakes;
 mod description_mistakes;
 mod descriptions;
 mod forms;
+mod headers;
 mod messages;
 mod nearest;
 mod register_names;
@@ -25,6 +27,7 @@ mod words;
 pub use commands::{command_message, is_refusal};
 pub use common_mistakes::{NO_LINK, NOT_A_TERMINAL};
 pub use descriptions::description_message;
+pub use headers::{header_text, typed_header};
 pub use messages::{About, Behind, Messages, Silent, Work, tell_if_long, tell_lines};
 pub use nearest::{nearest_node, nearest_switch, nearest_terminal};
 pub use script_mistakes::{NO_NODE, NO_NUMBER, TERMINALS_LINK};

@@ -23,8 +23,6 @@ pub enum About {
     FaultyLine(usize),
     /// What was asked among the lines of a script.
     Question,
-    /// A line with which a person wants to end the script.
-    Farewell,
     /// What a run has come to at its end.
     Run,
 }
@@ -49,8 +47,7 @@ pub trait Messages {
     /// Whether anyone reads the messages. Where nobody does, none is made.
     fn are_wanted(&self) -> bool;
 
-    /// Whether a person types the script and reads the messages, who may ask `help`, `show`, `where` and `draw` among its
-    /// lines.
+    /// Whether a person types the script and reads the messages, who may ask among its lines.
     fn are_asked(&self) -> bool;
 
     /// Takes a message, without a line feed at its end.

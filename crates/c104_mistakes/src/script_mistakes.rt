@@ -3,20 +3,16 @@
 pub(crate) const LINE_TOO_LONG: &str = "a line has at most 16384 bytes";
 
 pub(crate) const DESCRIPTIONS_WORD: &str =
-    "this is a word of descriptions, and this is the script; the description ends before the line `script`";
+    "this is a word of descriptions; the description ends before the line `script`";
 
 pub(crate) const SCRIPT_BEGAN: &str = "the script has begun already";
 
-pub(crate) const NO_WORD: &str =
-    "a line begins with `send`, `drain`, `cross`, `credit`, `input`, `claim`, `control`, `rounds`, \
-     `peek`, `poke`, `link`, `table` or `verify`";
+pub(crate) const NO_WORD: &str = "no line of a script begins with this word; see `c104 run --help`";
 
-pub(crate) const NO_WORD_ASKED: &str =
-    "a line begins with `send`, `drain`, `cross`, `credit`, `input`, `claim`, `control`, `rounds`, \
-     `peek`, `poke`, `link`, `table` or `verify`; `help` lists them, and `show` shows a part of the \
-     network";
+pub(crate) const NO_WORD_ASKED: &str = "no line begins with this word; `help` lists those that do";
 
-pub(crate) const SEND_LINE: &str = "the line is `send TERMINAL PACKET`, as `send a 01 68 eop`";
+pub(crate) const SEND_LINE: &str =
+    "the line is `send TERMINAL to TERMINAL BYTES`, as `send a to b 68 eop`, or as `send a 01 68 eop`";
 
 pub(crate) const DRAIN_LINE: &str = "the line is `drain TERMINAL`";
 
@@ -34,17 +30,21 @@ pub(crate) const CONTROL_LINE: &str = "the line is `control SWITCH`, followed by
 pub(crate) const ROUNDS_LINE: &str =
     "the line is `rounds COUNT`, followed by an optional `fair`, and by an optional `seed NUMBER`";
 
+pub(crate) const SETTLE_LINE: &str = "the line is `settle` alone";
+
 pub(crate) const PEEK_LINE: &str =
-    "the line is `peek SWITCH ADDRESS`, as `peek A 0140`, or has a register's name, as `peek A.0 limit 0`";
+    "the line is `peek SWITCH ADDRESS`, as `peek A 0140`, or by name, as `peek A.0 limit 0`";
 
 pub(crate) const POKE_LINE: &str =
-    "the line is `poke SWITCH ADDRESS VALUE`, as `poke A 0140 5`, or has a register's name, as `poke A.0 limit 0 5`";
+    "the line is `poke SWITCH ADDRESS VALUE`, as `poke A 0140 5`, or by name, as `poke A.0 limit 0 5`";
 
 pub(crate) const LINK_LINE: &str = "the line is `link SWITCH.LINK`";
 
 pub(crate) const TABLE_LINE: &str = "the line is `table SWITCH.LINK`";
 
-pub(crate) const VERIFY_LINE: &str = "the line is `verify` alone";
+pub(crate) const VERIFY_LINE: &str = "the line is `verify` or `verify all`";
+
+pub(crate) const DUMP_LINE: &str = "the line is `dump SWITCH`";
 
 pub(crate) const NO_PORT: &str = "a port has one dot, as A.0";
 
@@ -58,10 +58,17 @@ pub(crate) const NO_SEED: &str = "a seed is 1 to 20 decimal digits, at most 1844
 pub(crate) const NO_TOKEN: &str =
     "a byte of a packet is two hexadecimal digits, 00 to ff, and its end is `eop` or `eom`";
 
+pub(crate) const NO_TYPED: &str =
+    "behind the receiver stand bytes, texts in quotes, `length` and a number, and `eop` or `eom`";
+
+pub(crate) const OPEN_TEXT: &str = "a text goes on up to a word that ends in a double quote";
+
+pub(crate) const NO_LABEL: &str =
+    "the first label of this terminal is 256 or more, and headers have one byte";
+
 pub(crate) const NO_BYTE: &str = "a byte is two hexadecimal digits, 00 to ff";
 
-pub(crate) const NO_ADDRESS: &str =
-    "a register is an address of 1 to 4 hexadecimal digits, or a name, as `mode`";
+pub(crate) const NO_ADDRESS: &str = "a register is a name or 1 to 4 hexadecimal digits";
 
 pub(crate) const NO_ROW: &str = "the number of a row is 0 to 35";
 
@@ -92,11 +99,9 @@ pub(crate) const NOT_WIRED: &str = "the link has neither a terminal nor a wire";
 pub(crate) const OUTBOX_FULL: &str =
     "at most 65536 tokens wait at a terminal; give them rounds before more is sent";
 
-pub(crate) const INBOX_FULL: &str =
-    "262144 tokens have arrived at a terminal, and it takes no more";
+pub(crate) const INBOX_FULL: &str = "262144 tokens have arrived at a terminal, the most it takes";
 
-pub(crate) const TRACE_FULL: &str =
-    "a switch or a terminal does at most 1048576 acts, and one that would act has done that many";
+pub(crate) const TRACE_FULL: &str = "a switch or a terminal would do more than 1048576 acts";
 
 pub(crate) const NO_REGISTER: &str = "no register has this address";
 
@@ -123,7 +128,6 @@ pub(crate) const NO_COMMAND: &str =
     "a command begins with 01 to start, 02 to reset, 03 to identify, 04 to peek or 05 to poke";
 
 pub(crate) const COMMAND_LENGTH: &str =
-    "the bytes 01, 02 and 03 stand alone; 04 is followed by an address in 2 bytes, and 05 by one and a \
-     value in 4, low byte first";
+    "01, 02 and 03 stand alone; 04 has an address of 2 bytes, and 05 a value of 4 too, low byte first";
 
 pub(crate) const STARTED: &str = "the switch is started already";

@@ -1,6 +1,7 @@
 //! What is told of a script's line that is faulty or refused, or asks for the status of a link.
 ghost use Rattle.std.specs.Prelude.{◌<◌, IfSome};
 
+use crate::addressed::{dotted_place, refused_place, typed_mistake};
 use crate::common_mistakes::{BYTE_ORDER_MARK, NO_LINK, NOT_A_SWITCH, NOT_A_TERMINAL, WRONG_BYTE};
 use crate::forms::{DESCRIPTION_FORMS, SCRIPT_FORMS, form_of, nearest_form};
 use crate::nearest::{nearest_node, nearest_switch, nearest_terminal};
@@ -8,9 +9,9 @@ use crate::register_names::{is_of_link, nearest_register, register_named, takes_
 use crate::register_ranges::range_of_word;
 use crate::script_mistakes::{
     AFTER_END, BUSY, DESCRIPTIONS_WORD, INBOX_FULL, LINE_TOO_LONG, LINK_MISSING, NO_ADDRESS,
-    NO_BYTE, NO_END, NO_INPUT, NO_NODE, NO_NUMBER, NO_PORT, NO_REGISTER, NO_ROUNDS, NO_ROW,
-    NO_SEED, NO_TOKEN, NO_VALUE, NO_WORD, NO_WORD_ASKED, NOT_WIRED, OUTBOX_FULL, PACKET_TOO_LONG,
-    READ_ONLY, SCRIPT_BEGAN, SWITCHS_LINK, TERMINALS_LINK, TRACE_FULL,
+    NO_BYTE, NO_END, NO_INPUT, NO_LABEL, NO_NODE, NO_NUMBER, NO_PORT, NO_REGISTER, NO_ROUNDS,
+    NO_ROW, NO_SEED, NO_TOKEN, NO_VALUE, NO_WORD, NO_WORD_ASKED, NOT_WIRED, OUTBOX_FULL,
+    PACKET_TOO_LONG, READ_ONLY, SCRIPT_BEGAN, SWITCHS_LINK, TERMINALS_LINK, TRACE_FULL,
 };
 use crate::words::{
     LAST_LINK, Mistake, begins_with_mark, has_dot, is_within, link_of, name_of, names_switch,
@@ -94,10 +95,15 @@ fn find_fault<'a>(fault: LineFault, words: &[&'a [u8]], is_asked: bool) -> Mista
         LineFault::UnknownWord => first_word_mistake(words, is_asked),
         LineFault::BadShape => shape_mistake(words),
         LineFault::BadNumber => number_mistake(words),
-        LineFault::BadHex => hex_mistake(words),
-        LineFault::NoEnd => Mistake::new(NO_END, words.last().copied()),
-        LineFault::AfterEnd => Mistake::new(AFTER_END, word_after_end(words)),
+        LineFault::BadHex => typed_mistake(words).unwrap_or(hex_mistake(words)),
+        LineFault::NoEnd => {
+            typed_mistake(words).unwrap_or(Mistake::new(NO_END, words.last().copied()))
+        }
+        LineFault::AfterEnd => {
+            typed_mistake(words).unwrap_or(Mistake::new(AFTER_END, word_after_end(words)))
+        }
         LineFault::PacketTooLong => Mistake::new(PACKET_TOO_LONG, None),
+        LineFault::NoLabel => Mistake::new(NO_LABEL, word_at(words, 3)),
     }
 }
 
@@ -127,10 +133,15 @@ fn shape_mistake<'a>(words: &[&'a [u8]]) -> Mistake<'a> {
         return Mistake::new(NO_WORD, None);
     };
     let count = words.len();
-    if least <= count && count <= most && !asks_rounds(words) && !is_row_amiss(words, least) {
-        return Mistake::new(NO_PORT, word_at(words, 1));
+    if least <= count && count <= most && names_place(words) && !is_row_amiss(words, least) {
+        return Mistake::new(NO_PORT, dotted_place(words));
     }
     Mistake::new(line, None)
+}
+
+/// Whether the second word of a line is to name a place.
+fn names_place(words: &[&[u8]]) -> bool {
+    !asks_rounds(words) && word_at(words, 0) != Some(b"verify".as_slice())
 }
 
 /// Whether the number of a row is missing behind a register's name, or stands behind another word. With it a line has a
@@ -151,6 +162,7 @@ fn number_mistake<'a>(words: &[&'a [u8]]) -> Mistake<'a> {
         [_, node, ..] if has_dot(node) && link_of(node).is_none() => {
             Mistake::new(NO_LINK, Some(*node))
         }
+        [b"send", _, _, receiver, ..] => Mistake::new(NO_LINK, Some(*receiver)),
         [b"peek" | b"poke", _, _, row, ..] => Mistake::new(NO_ROW, Some(*row)),
         [_, _, input, ..] if read_number(input).is_none() => {
             Mistake::new(NO_NUMBER, Some(*input))
@@ -241,22 +253,20 @@ fn find_refusal<'a>(fault: EventFault, words: &[&'a [u8]], plan: &'a Plan) -> Mi
 
 /// A name that nothing has, or that something of another kind has.
 fn node_mistake<'a>(words: &[&'a [u8]], plan: &'a Plan) -> Mistake<'a> {
-    let [first, node, ..] = words else {
+    let (Some(first), Some(node)) = (word_at(words, 0), refused_place(words, plan)) else {
         return Mistake::new(NO_NODE, None);
     };
     let name = name_of(node);
-    match *first {
+    match first {
         b"send" | b"drain" if names_switch(plan, node) => {
-            Mistake::new(NOT_A_TERMINAL, Some(*node))
+            Mistake::new(NOT_A_TERMINAL, Some(node))
         }
         b"send" | b"drain" => {
-            Mistake::new(NO_NODE, Some(*node)).near(nearest_terminal(plan, name))
+            Mistake::new(NO_NODE, Some(node)).near(nearest_terminal(plan, name))
         }
-        b"cross" | b"credit" => {
-            Mistake::new(NO_NODE, Some(*node)).near(nearest_node(plan, name))
-        }
-        _ if names_terminal(plan, node) => Mistake::new(NOT_A_SWITCH, Some(*node)),
-        _ => Mistake::new(NO_NODE, Some(*node)).near(nearest_switch(plan, name)),
+        b"cross" | b"credit" => { Mistake::new(NO_NODE, Some(node)).near(nearest_node(plan, name)) }
+        _ if names_terminal(plan, node) => Mistake::new(NOT_A_SWITCH, Some(node)),
+        _ => Mistake::new(NO_NODE, Some(node)).near(nearest_switch(plan, name)),
     }
 }
 
@@ -266,9 +276,9 @@ fn link_mistake<'a>(words: &[&'a [u8]], plan: &Plan) -> Mistake<'a> {
         return Mistake::new(NO_LINK, None);
     };
     if names_terminal(plan, node) {
-        return Mistake::new(TERMINALS_LINK, Some(*node));
+        return Mistake::new(TERMINALS_LINK, refused_place(words, plan));
     }
-    if matches!(*first, b"claim" | b"control" | b"peek" | b"poke") && !asks_link(words) {
+    if matches!(*first, b"claim" | b"control" | b"peek" | b"poke" | b"dump") && !asks_link(words) {
         if has_dot(node) {
             return Mistake::new(SWITCHS_LINK, Some(*node));
         }
