@@ -10,6 +10,7 @@
 
 mod setups;
 mod status;
+mod unreached;
 
 pub use setups::{Setup, SetupFault, label_fault_text, read_setup, refuse, set_up};
 pub use status::Status;

@@ -7,6 +7,7 @@ ghost use Rattle.c104_setup.specs.Setups.{refused_text};
 ghost use Rattle.c104_setup.specs.declared.status.Status.TheVariants as status;
 
 use crate::status::Status;
+use crate::unreached::unreached_message;
 use c104_describe::{PlanFault, PlanFaultKind, description_text, read_description};
 use c104_label::{LabelFault, RootWatch, UpDownReport, image_with_report};
 use c104_mistakes::{About, Messages, Work, description_message};
@@ -170,13 +171,27 @@ pub fn refuse<W: Write, M: Messages>(
 fn explain<M: Messages>(alloc: Global, description: &[u8], fault: SetupFault, messages: &mut M) {
     match fault {
         SetupFault::Description(fault) => explain_description(alloc, description, fault, messages),
-        SetupFault::Labels(fault) => {
-            let Ok(message) = fault.to_string(alloc) else {
-                return;
-            };
-            messages.tell(About::Description, message.as_str());
-        }
+        SetupFault::Labels(fault) => explain_labels(alloc, description, fault, messages),
     }
+}
+
+/// Tells people why a network can't be labelled, where there is memory for it.
+fn explain_labels<M: Messages>(
+    alloc: Global,
+    description: &[u8],
+    fault: LabelFault,
+    messages: &mut M,
+) {
+    if fault == LabelFault::NotConnected
+        && let Some(message) = unreached_message(alloc, description)
+    {
+        messages.tell(About::Description, message.as_str());
+        return;
+    }
+    let Ok(message) = fault.to_string(alloc) else {
+        return;
+    };
+    messages.tell(About::Description, message.as_str());
 }
 
 /// Tells people of a faulty description, where there is memory for it.
