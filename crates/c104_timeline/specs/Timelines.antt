@@ -82,3 +82,7 @@ last_round t = min t.round (few (t.active + BEYOND))
 -- the last round of the run, however few rounds are drawn
 abbrev pub timeline_closed : Timeline → ℕ → Option Origin → Timeline
 timeline_closed t place packet = record t { lanes = change_at t.lanes place (lane_closed t.round packet) }
+
+-- nothing has crossed at a place
+abbrev pub timeline_cleared : Timeline → ℕ → Timeline
+timeline_cleared t place = record t { lanes = change_at t.lanes place (λ lane. new_lane) }

@@ -134,6 +134,16 @@ impl Lane {
         Ok(())
     }
 
+    /// Nothing has crossed.
+    pub(crate) fn clear(&mut self)
+        ensures { self.new ≡ new_lane }
+    {
+        self.stretches.clear();
+        self.packets.clear();
+        self.latest = None;
+        self.token = None;
+    }
+
     /// The run is at its end, this is its last round, and this the packet whose end has yet to cross, if it is known. The only
     /// error is out of memory.
     pub(crate) fn close(&mut self, end: u32, packet: Option<Origin>) -> Result<(), NoMemory>

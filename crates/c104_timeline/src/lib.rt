@@ -6,11 +6,12 @@
 //! the name of one whose end has yet to cross is found in the network ([`Timeline::close_all`]), and one that is cut, as a
 //! switch is reset, has none ([`Timeline::cut`]).
 //!
-//! Of a picture of it [`rows_of`] lists the rows, [`bars_at`] what is drawn in the row of a wire, and [`packets_of`] the
-//! packets that are shown. `c104_print` makes the text of such a picture.
+//! [`Timeline::choose`] leaves the wires at some switches. Of a picture of it [`rows_of`] lists the rows, [`bars_at`] what is
+//! drawn in the row of a wire, and [`packets_of`] the packets that are shown. `c104_reports` makes the text of such a picture.
 #![tactic(auto)]
 
 mod bars;
+mod choosing;
 mod closing;
 mod lanes;
 mod metering;

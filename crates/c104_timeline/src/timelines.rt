@@ -2,12 +2,12 @@
 //!
 //! A `Timeline` is told what happens, in order. What it makes of each thing is one step, so that what it has in the end is
 //! what the definitions say of all that happened.
-ghost use Rattle.std.specs.Prelude.{◌≡◌, map, replicate, IfOk, OnOk};
+ghost use Rattle.std.specs.Prelude.{IfOk, OnOk, map, replicate, ◌≡◌};
+ghost use Rattle.{c104_regs.specs.declared.registers.TheConstants.LINKS, c104_timeline.specs.Lanes.{lane_settled, new_lane}};
+ghost use Rattle.c104_timeline.specs.Timelines.{lane_count, last_round, link_cut, new_timeline, place_of, port_at, timeline_begun};
+ghost use Rattle.c104_timeline.specs.Timelines.{timeline_cleared, timeline_closed, timeline_crossed, timeline_cut, timeline_ended};
+ghost use Rattle.c104_timeline.specs.Timelines.{timeline_passed, timeline_settled};
 ghost use Rattle.c104_plan.specs.declared.ports.Port.TheVariants as port;
-ghost use Rattle.c104_regs.specs.declared.registers.TheConstants.{LINKS};
-ghost use Rattle.c104_timeline.specs.Lanes.{lane_settled, new_lane};
-ghost use Rattle.c104_timeline.specs.Timelines.{last_round, lane_count, link_cut, new_timeline, place_of, port_at, timeline_begun};
-ghost use Rattle.c104_timeline.specs.Timelines.{timeline_closed, timeline_crossed, timeline_cut, timeline_ended, timeline_passed, timeline_settled};
 
 use crate::lanes::{Lane, next_round};
 use c104_node::Origin;
@@ -198,6 +198,15 @@ impl Timeline {
         match self.lanes.get_mut(place) {
             Some(lane) => lane.close(self.round, packet),
             None => Ok(()),
+        }
+    }
+
+    /// Nothing has crossed at a place.
+    pub(crate) fn clear(&mut self, place: usize)
+        ensures { self.new ≡ timeline_cleared self.old place }
+    {
+        if let Some(lane) = self.lanes.get_mut(place) {
+            lane.clear();
         }
     }
 }
