@@ -9,12 +9,13 @@ use c104_plan::{Plan, Port, header_values, select_text};
 use std::alloc::{AllocError, Global};
 
 /// The sentence on labels that are refused, by the names of the plan: what is wrong, and at which input. Of a fault with a
-/// walk it tells the step that leads wrong; without one, and where the check ran out of memory, there is no sentence. The
-/// only error is out of memory.
+/// walk it tells the step that leads wrong, and of which header, as it is typed; without one, and where the check ran out of
+/// memory, there is no sentence. The only error is out of memory.
 pub fn refusal_text(
     alloc: Global,
     plan: &Plan,
     fault: &CheckFault,
+    header: &str,
     step: Option<Misstep>,
 ) -> Result<String, AllocError> {
     match fault {
@@ -41,54 +42,46 @@ pub fn refusal_text(
         CheckFault::WrongEnd(shown)
         | CheckFault::DeadEnd(shown)
         | CheckFault::Loop(shown)
-        | CheckFault::Stray(shown) => walk_text(alloc, plan, shown, step),
+        | CheckFault::Stray(shown) => walk_text(alloc, plan, shown, header, step),
         CheckFault::NoMemory => Ok(String::new(alloc)),
     }
 }
 
-/// The lines by which a terminal has as many labels from another on. The only error is out of memory.
-pub fn label_lines(
+/// The line by which a terminal has as many labels from one on, with how many they are if that is said. The only error is out
+/// of memory.
+pub fn label_line(
     alloc: Global,
     plan: &Plan,
     terminal: usize,
+    counts: bool,
     first: u32,
 ) -> Result<String, AllocError> {
-    let mut text = String::new(alloc);
     let Some(terminal) = plan.terminals().get(terminal) else {
-        return Ok(text);
+        return Ok(String::new(alloc));
     };
     let port = plan.port_text(alloc, terminal.host_port())?;
     let name = terminal.name.as_str();
     let count = terminal.count;
-    let old = terminal.first;
-    write!(
-        text,
-        "replace: terminal {name} {port} labels {count} from {old}\n"
-    )?;
-    write!(
-        text,
-        "by: terminal {name} {port} labels {count} from {first}\n"
-    )?;
-    Ok(text)
+    if counts {
+        format!(in alloc; "terminal {name} {port} labels {count} from {first}")
+    } else {
+        format!(in alloc; "terminal {name} {port} from {first}")
+    }
 }
 
-/// The lines by which an input has rows in the place of one, or behind all others. The only error is out of memory.
+/// The lines of rows of an input, or of all of a switch, each behind a word that says what is to be done with it. The only
+/// error is out of memory.
 pub fn row_lines(
     alloc: Global,
-    plan: &Plan,
-    at: SwitchPort,
-    replaced: Option<Row>,
+    word: &str,
+    inputs: &str,
     rows: &[Row],
 ) -> Result<String, AllocError> {
-    let port = port_text(alloc, plan, at)?;
     let mut text = String::new(alloc);
-    let mut word = "add";
-    if let Some(row) = replaced {
-        add_row(alloc, &mut text, "replace", port.as_str(), row)?;
-        word = "by";
-    }
     for row in rows {
-        add_row(alloc, &mut text, word, port.as_str(), *row)?;
+        let limit = row.limit;
+        let select = select_text(alloc, row.select)?;
+        write!(text, "{word}: row {inputs} {limit} {select}\n")?;
     }
     Ok(text)
 }
@@ -97,12 +90,12 @@ pub fn row_lines(
 /// packets: then one premise more is told.
 pub fn no_cycle_text(is_randomized: bool) -> &'static str {
     if is_randomized {
-        "no cycle of channel dependencies: under rounds every packet with a whole header that a terminal owns arrives, \
-         as long as no inbox or trace is full, nothing is reset or set, and no packet behind a random header begins with a \
-         random header of the network\n"
+        "no cycle of channel dependencies: under rounds every packet with a whole header\n\
+         that a terminal owns arrives, as long as no inbox or trace is full, nothing is reset or set,\n\
+         and no packet behind a random header begins with a random header of the network\n"
     } else {
-        "no cycle of channel dependencies: under rounds every packet with a whole header that a terminal owns arrives, \
-         as long as no inbox or trace is full and nothing is reset or set\n"
+        "no cycle of channel dependencies: under rounds every packet with a whole header\n\
+         that a terminal owns arrives, as long as no inbox or trace is full and nothing is reset or set\n"
     }
 }
 
@@ -114,9 +107,7 @@ pub fn cycle_sentences(alloc: Global, line: &str, is_broken: bool) -> Result<Str
     } else {
         "no single row was found that breaks it"
     };
-    format!(in alloc;
-        "packets can wait for one another forever, though with groups of links they need not: {line}{what}\n"
-    )
+    format!(in alloc; "packets can wait for one another forever:\n{line}{what}\n")
 }
 
 /// The sentence on two terminals that have a label in common.
@@ -146,15 +137,22 @@ fn walk_text(
     alloc: Global,
     plan: &Plan,
     shown: &Shown,
+    typed: &str,
     step: Option<Misstep>,
 ) -> Result<String, AllocError> {
     let Some(step) = step else {
         return Ok(String::new(alloc));
     };
     let header = shown.header;
+    let is_random = matches!(step.kind, WalkKind::Random(_));
+    let label = if step.owner.is_some() && !is_random {
+        "label "
+    } else {
+        ""
+    };
     let due = due_text(alloc, plan, shown, step)?;
     let way = way_text(alloc, plan, shown, step)?;
-    format!(in alloc; "header {header}{due}{way}\n")
+    format!(in alloc; "header {typed} ({label}{header}){due}{way}\n")
 }
 
 /// What a header is of a terminal's packets, by the kind of its walk.
@@ -174,14 +172,14 @@ fn due_text(
         WalkKind::Random(input) => {
             let input = port_text(alloc, plan, input)?;
             format!(in alloc;
-                " is a random one, put before packets of {name} at {input}, and every way of it has to end at an input \
-                 that discards it, but "
+                " is a random one, put before packets of {name} at {input};\n\
+                 every way of it has to end at an input that discards it,\nbut "
             )
         }
         WalkKind::Behind(portal) => {
             let portal = port_text(alloc, plan, portal)?;
             format!(in alloc;
-                " belongs to {owner}, but behind a random header of {name}, which {portal} discards, "
+                " belongs to {owner}, but behind a random header of {name}, which {portal} discards,\n"
             )
         }
     }
@@ -225,19 +223,6 @@ fn way_text(
         }
     }
     Ok(text)
-}
-
-/// The line of a row joins a text, after a word that says what is to be done with it.
-fn add_row(
-    alloc: Global,
-    text: &mut String,
-    word: &str,
-    port: &str,
-    row: Row,
-) -> Result<(), AllocError> {
-    let limit = row.limit;
-    let select = select_text(alloc, row.select)?;
-    write!(text, "{word}: row {port} {limit} {select}\n")
 }
 
 /// A port of a switch.

@@ -21,10 +21,9 @@ const LEGEND: &str = "\\ndashed: as a random header, up to a diamond";
 /// The text of a picture of the network of an image for a plan, in the language of Graphviz, with a title.
 ///
 /// Each node and each edge has a line, and each name is quoted. A mesh stands on its grid, a cube on its drawn
-/// cube, and all else hangs from the root of its tree, or else from the first switch. Link numbers stand at both
-/// ends of an edge; wires that are drawn as one have theirs in the same order at both. The one number of an edge to a
-/// terminal stands at the switch, or where the terminal hangs from it, at the terminal. Where a header is drawn as a
-/// random one too, a line below the title says how. Of a labelled tree the wires are wide over which its labels lead,
+/// cube, and all else hangs from the root of its tree, or else from the first switch. There link numbers stand in the middle of an
+/// edge, where Graphviz makes room for them, and else at its ends, that of a terminal's edge at the switch; wires that are drawn as
+/// one have theirs in the same order at both. Where a header is drawn as a random one too, a line below the title says how. Of a labelled tree the wires are wide over which its labels lead,
 /// and all others are gray. The only error is out of memory.
 pub fn drawing_text(
     alloc: Global,
@@ -33,10 +32,11 @@ pub fn drawing_text(
     drawing: &Drawing,
     title: &str,
 ) -> Result<String, NoMemory> {
-    drawing_text_with(alloc, plan, image, drawing, title, "")
+    let frame = Frame::of(alloc, plan)?;
+    framed_text(alloc, plan, image, drawing, &frame, title, "")
 }
 
-/// The same with further lines behind those of the edges.
+/// The same with further lines behind those of the edges. All networks hang, so that there is room for what these lines are of.
 pub fn drawing_text_with(
     alloc: Global,
     plan: &Plan,
@@ -45,19 +45,32 @@ pub fn drawing_text_with(
     title: &str,
     lines: &str,
 ) -> Result<String, NoMemory> {
-    let frame = Frame::of(alloc, plan)?;
+    let frame = Frame::hanging(alloc, plan)?;
+    framed_text(alloc, plan, image, drawing, &frame, title, lines)
+}
+
+/// The same in a frame.
+fn framed_text(
+    alloc: Global,
+    plan: &Plan,
+    image: &Image,
+    drawing: &Drawing,
+    frame: &Frame,
+    title: &str,
+    lines: &str,
+) -> Result<String, NoMemory> {
     let mut text = String::from_str(alloc, HEAD)?;
     text.push_str(frame.layout())?;
     add_title(&mut text, drawing, title)?;
     for node in drawing.nodes() {
-        add_node(&mut text, plan, image, &frame, *node)?;
+        add_node(&mut text, plan, image, frame, *node)?;
     }
     let marked = !title.is_empty();
     for (number, wire) in drawing.wires().iter().enumerate() {
         // Each edge is drawn at its first wire.
         if drawing.edges().get(number) == Some(&number) {
             add_edge(
-                alloc, &mut text, plan, image, drawing, &frame, number, wire, marked,
+                alloc, &mut text, plan, image, drawing, frame, number, wire, marked,
             )?;
         }
     }

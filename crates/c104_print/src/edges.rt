@@ -23,7 +23,9 @@ pub(crate) fn add_edge(
     let tail = port_name(plan, wire.wire.here);
     let head = port_name(plan, wire.wire.there);
     write!(text, "  \"{tail}\" -> \"{head}\" [")?;
-    add_links(alloc, text, drawing, number, is_turned)?;
+    add_links(
+        alloc, text, plan, drawing, frame, number, wire.wire, is_turned,
+    )?;
     if is_marked(wire.onward) || is_marked(wire.back) {
         text.push_str(style(wire.onward, wire.back))?;
     } else {
@@ -41,7 +43,7 @@ pub(crate) fn add_edge(
 }
 
 /// The name of what a port belongs to.
-pub(crate) fn port_name(plan: &Plan, port: Port) -> &str {
+pub fn port_name(plan: &Plan, port: Port) -> &str {
     match port {
         Port::Switch(switch, _) => plan.switch_name(switch),
         Port::Terminal(terminal) => plan.terminal_name(terminal),
@@ -60,21 +62,32 @@ fn turned(wire: &DrawnWire) -> DrawnWire {
     }
 }
 
-/// The links of an edge at its two ends join a text. Below a switch many edges begin side by side, so the number of one to
-/// a terminal stands where it ends.
+/// The links of an edge at its two ends join a text. Below a switch many edges begin side by side, where their numbers would
+/// stand on one another: so they stand in the middle, the upper one above the other, with the names of switches that hang equally low.
 fn add_links(
     alloc: Global,
     text: &mut String,
+    plan: &Plan,
     drawing: &Drawing,
+    frame: &Frame,
     edge: usize,
+    wire: Wire,
     is_turned: bool,
 ) -> Result<(), AllocError> {
     let tail = links(alloc, drawing, edge, is_turned)?;
     let head = links(alloc, drawing, edge, !is_turned)?;
-    if is_turned && head.is_empty() {
-        return write!(text, "taillabel=\"\", headlabel=\"{tail}\"");
+    if !frame.hangs() {
+        return write!(text, "taillabel=\"{tail}\", headlabel=\"{head}\"");
     }
-    write!(text, "taillabel=\"{tail}\", headlabel=\"{head}\"")
+    if head.is_empty() {
+        return write!(text, "label=\" {tail} \"");
+    }
+    if frame.is_level(wire.here, wire.there) {
+        let here = port_name(plan, wire.here);
+        let there = port_name(plan, wire.there);
+        return write!(text, "label=\" {here}.{tail} \\n {there}.{head} \"");
+    }
+    write!(text, "label=\" {tail} \\n {head} \"")
 }
 
 /// The links of an edge at one end, in the order of its wires. That of a terminal has no number.

@@ -18,7 +18,7 @@ const CROWDED: &str = "  graph [layout=neato, inputscale=72, splines=line]
 
 /// How the nodes of a picture are placed.
 #[derive(Drop)]
-pub(crate) enum Frame {
+pub enum Frame {
     /// The switches stand on a grid. The numbers are its columns, its rows, and the terminals round each switch.
     Grid(usize, usize, usize),
     /// The switches are the corners of a cube. The number is how many terminals stand round each.
@@ -58,11 +58,17 @@ impl Frame {
         match plan.shape() {
             Shape::Mesh(columns, rows, terminals) => Ok(Frame::Grid(columns, rows, terminals)),
             Shape::Cube(_, terminals) => Ok(Frame::Cube(terminals)),
-            Shape::Tree(root) | Shape::UpDown(Some(root)) => {
-                Ok(Frame::Hanging(depths(alloc, plan, root)?))
-            }
-            Shape::UpDown(None) | Shape::Hand => Ok(Frame::Hanging(depths(alloc, plan, 0)?)),
+            Shape::Tree(_) | Shape::UpDown(_) | Shape::Hand => Frame::hanging(alloc, plan),
         }
+    }
+
+    /// A plan's switches as a tree, whatever its shape.
+    pub fn hanging(alloc: Global, plan: &Plan) -> Result<Frame, AllocError> {
+        let root = match plan.shape() {
+            Shape::Tree(root) | Shape::UpDown(Some(root)) => root,
+            _ => 0,
+        };
+        Ok(Frame::Hanging(depths(alloc, plan, root)?))
     }
 
     /// Where a switch stands. None where Graphviz is to place it.
@@ -101,7 +107,7 @@ impl Frame {
     }
 
     /// Whether a port hangs lower than another. A terminal hangs lower than its switch.
-    pub(crate) fn is_lower(&self, port: Port, other: Port) -> bool {
+    pub fn is_lower(&self, port: Port, other: Port) -> bool {
         match (port, other) {
             (Port::Terminal(_), _) => self.hangs(),
             (_, Port::Terminal(_)) => false,
@@ -110,7 +116,7 @@ impl Frame {
     }
 
     /// Whether two ports hang equally low.
-    fn is_level(&self, port: Port, other: Port) -> bool {
+    pub(crate) fn is_level(&self, port: Port, other: Port) -> bool {
         self.hangs() && !self.is_lower(port, other) && !self.is_lower(other, port)
     }
 
@@ -125,7 +131,7 @@ impl Frame {
     }
 
     /// What an edge from a port to another has for its layout.
-    pub(crate) fn edge_layout(&self, port: Port, other: Port) -> &'static str {
+    pub fn edge_layout(&self, port: Port, other: Port) -> &'static str {
         match (self, port, other) {
             (Frame::Cube(terminals), Port::Switch(_, link), Port::Switch(_, _)) => {
                 cube_edge_layout(*terminals, link)
@@ -136,7 +142,7 @@ impl Frame {
     }
 
     /// Whether the nodes hang from one another.
-    fn hangs(&self) -> bool {
+    pub(crate) fn hangs(&self) -> bool {
         matches!(self, Frame::Hanging(_))
     }
 

@@ -86,7 +86,7 @@ impl Rows {
     }
 
     /// A number that may not be there.
-    pub(crate) fn number_if(&mut self, number: Option<u32>) -> Result<(), AllocError> {
+    pub fn number_if(&mut self, number: Option<u32>) -> Result<(), AllocError> {
         match number {
             Some(number) => self.number(u64::from(number)),
             None => self.nothing(),
