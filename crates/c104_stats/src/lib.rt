@@ -5,7 +5,7 @@
 //! round. The time is the number of rounds that have begun, so what happens outside of rounds counts to the round before.
 //!
 //! A `Summary` is what they come to, and lists have what is told of each packet, latency, link or round. Of packets and latencies
-//! both have what is measured: the packets that were sent in the rounds of a `Window`. `c104_print` prints both.
+//! both have what is measured: the packets that were sent in the rounds of a `Window`. `c104_reports` prints both.
 #![tactic(auto)]
 
 mod endings;
