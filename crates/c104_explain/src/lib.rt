@@ -4,8 +4,9 @@
 //! waits for whom where nothing can move, and `leftover_messages` at the end of a run what didn't arrive. The sentences
 //! of what isn't ready are a table.
 //!
-//! A person who types a script may ask among its lines: `is_question` recognizes such a line, `about_question` tells
-//! what its message is about, and `question_message` what lines there are, or how a part of the network stands.
+//! A person who types a script may ask among its lines: `is_question` recognizes such a line, `question_in` one that stands in
+//! the comment of a line, and `question_message` tells what lines there are, or how a part of the network stands.
+//! `is_under_way` reads of such an answer whether a packet is.
 //!
 //! Nothing depends on a message: it is left out where memory is short. What messages say isn't proved.
 #![tactic(auto)]
@@ -24,6 +25,7 @@ mod standstill;
 mod waiting;
 
 pub use leftovers::{leftover_messages, tell_leftovers};
-pub use questions::{about_question, is_question, question_message};
+pub use packet_places::is_under_way;
+pub use questions::{is_question, question_in, question_message};
 pub use reasons::reason_message;
 pub use standstill::standstill_message;

@@ -22,6 +22,19 @@ const MOST_PLACES: usize = 5_000;
 /// What is told of a packet whose end is in no buffer and hasn't arrived.
 const GONE: &str = "its end is nowhere in the network: it was dropped, or cleared by a reset";
 
+/// Where a packet is that has arrived, before the terminal's name.
+const ARRIVED: &str = "it arrived at ";
+
+/// Whether the answer to `where` that begins with this line says of a packet that it is under way.
+pub fn is_under_way(line: &str) -> bool {
+    match line.split_once(": ") {
+        Some((packet, place)) => {
+            packet.starts_with("packet ") && !place.starts_with(ARRIVED) && place != GONE
+        }
+        None => false,
+    }
+}
+
 /// Where the packet of this number is that the terminal of this name sent; or what is wrong with these words.
 pub(crate) fn packet_answer(
     alloc: Global,
@@ -321,7 +334,7 @@ fn arrival_text(alloc: Global, net: &TracedNet, packet: Origin) -> Result<String
     match find_arrival(alloc, net, packet)? {
         Some(terminal) => {
             let name = net.plan().port_text(alloc, Port::Terminal(terminal))?;
-            format!(in alloc; "it arrived at {name}")
+            format!(in alloc; "{ARRIVED}{name}")
         }
         None => format!(in alloc; "{GONE}"),
     }

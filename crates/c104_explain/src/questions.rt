@@ -1,19 +1,21 @@
 //! What people ask where they type a script, and what they are told.
 ghost use Rattle.std.specs.{Option.option_map, Prelude.◌≡◌};
-ghost use Rattle.c104_explain.specs.Questions.{asks, is_question, wants_end};
+ghost use Rattle.c104_explain.specs.Questions.{asks, is_question};
 
 use crate::packet_places::packet_answer;
 use crate::shown_nodes::{switch_text, terminal_text};
 use crate::shown_ports::port_answer;
 use crate::waiting::waiting_text;
-use c104_mistakes::{About, Mistake, NO_NODE, has_dot, nearest_node};
+use c104_mistakes::{Mistake, NO_NODE, has_dot, nearest_node};
 use c104_net::TracedNet;
 use c104_plan::{cut_words, first_word, uncommented};
 use std::alloc::{AllocError, Global};
 
 /// The lines of a script, each with what it asks, and the questions.
 const HELP: &str = "\
-send TERMINAL PACKET        a packet waits to go out, as `send a 01 68 eop`
+send TERMINAL to TERMINAL BYTES
+                            a packet waits to go out, as `send a to b 68 \"hi\" length 9 eop`
+send TERMINAL PACKET        the same by all its bytes, as `send a 01 68 eop`
 drain TERMINAL              the first token that came in there arrives
 cross PORT                  the first token that waits there crosses its wire
 credit PORT                 the port grants eight more tokens to the far end
@@ -22,12 +24,14 @@ claim SWITCH INPUT OUTPUT   an input claims an output for its header
 control SWITCH BYTE ..      a switch takes a command of at most 8 bytes
 rounds COUNT [fair] [seed NUMBER]
                             run COUNT rounds, fair ones by turns, with random headers by a seed
+settle                      run rounds until another would do nothing, at most 10000
 peek SWITCH ADDRESS         the register's value, as `peek A 0140`; not an event
 poke SWITCH ADDRESS VALUE   set a register
                             by name: `peek A.0 limit 0`, `poke A.0 mode 2`
 link SWITCH.LINK            the status of a link
 table SWITCH.LINK           the base and the rows of an input
-verify                      compare all writable registers with the loaded values
+verify [all]                compare all writable registers with the loaded values, up to the first that differs, or all
+dump SWITCH                 the registers of a switch that aren't as after a reset, and its own two
 help                        lists these lines
 show SWITCH                 shows each wired link
 show SWITCH.LINK            shows a link
@@ -35,8 +39,13 @@ show TERMINAL               shows a terminal
 show waiting                shows which outputs inputs hold and want
 where TERMINAL NUMBER       shows where a packet is: NUMBER is from 0 on, of those that the terminal sent
 draw FILE                   saves a picture of the network as it stands, for Graphviz
+until TERMINAL NUMBER       runs rounds until that packet has arrived, or nothing moves, at most 10000
+read FILE                   does the lines of a file
+log FILE                    saves the lines so far, and those that come, in a new file
+restart                     ends the run, reads the description again, and begins anew
+quit                        ends the run, as Ctrl-D does
 A PORT is a terminal, or a switch with a link, as A.0. A `#` begins a comment.
-`help`, `show`, `where` and `draw` are no words of a script, and are faults there. The end of input, Ctrl-D, ends the script.";
+From `help` on these are words of the prompt alone: in a file they are faults.";
 
 /// What a line `show` is.
 const SHOW_FORM: &str =
@@ -50,14 +59,10 @@ const WHERE_FORM: &str =
 const DRAW_FORM: &str =
     "the line is `draw FILE`, as `draw now.dot`: the file's name is one word, in UTF-8";
 
-/// What a person is told who wants to end the script.
-const FAREWELL: &str = "type Ctrl-D to end the script: it ends with the input";
-
 /// What is shown of the inputs that wait, unless a node has this name.
 const WAITING: &[u8] = b"waiting";
 
-/// Whether a line is a question of people's, and none of a script: its first word is `help`, `show`, `where`, `draw`,
-/// `quit` or `exit`.
+/// Whether a line is a question of people's, and none of a script: its first word is `help`, `show`, `where` or `draw`.
 #[tactic(auto, unfolding(crate::specs::Questions::is_question))]
 pub fn is_question(line: &[u8]) -> bool
     ensures { result ≡ is_question line.now }
@@ -75,24 +80,18 @@ fn asks(word: Option<&[u8]>) -> bool
                 || word == b"show".as_slice()
                 || word == b"where".as_slice()
                 || word == b"draw".as_slice()
-                || wants_end(word)
         }
         None => false,
     }
 }
 
-/// Whether it is with this word that a person wants to end the script.
-fn wants_end(word: &[u8]) -> bool
-    ensures { result ≡ wants_end word.now }
-{
-    word == b"quit".as_slice() || word == b"exit".as_slice()
-}
-
-/// What a question of a person is about.
-pub fn about_question(line: &[u8]) -> About {
-    match first_word(uncommented(line)) {
-        Some(word) if wants_end(word) => About::Farewell,
-        _ => About::Question,
+/// The question that stands in the comment of a line of a script, behind `#> `: so what a person asks changes neither the
+/// answers nor the numbers of the lines.
+pub fn question_in(line: &[u8]) -> Option<&[u8]> {
+    let comment = line.iter().position(|byte| *byte == b'#')?;
+    match line.get(comment..)? {
+        [_, b'>', b' ', question @ ..] if is_question(question) => Some(question),
+        _ => None,
     }
 }
 
@@ -111,7 +110,6 @@ fn answer_text(alloc: Global, net: &TracedNet, words: &[&[u8]]) -> Result<String
         [b"where", name, number] => packet_answer(alloc, net, name, number),
         [b"where", ..] => Mistake::new(WHERE_FORM, None).text(alloc),
         [b"draw", ..] => Mistake::new(DRAW_FORM, None).text(alloc),
-        [b"quit" | b"exit", ..] => format!(in alloc; "{FAREWELL}"),
         _ => format!(in alloc; "{HELP}"),
     }
 }

@@ -8,24 +8,22 @@ pub(crate) fn reason_sentence(unready: Unready) -> &'static str {
         Unready::NoLink => "there is no such link",
         Unready::NotStarted => "the switch is not started; `control` with the byte 01 starts it",
         Unready::NoToken => {
-            "no token waits here; one comes by `send` from a terminal, by `cross` over a wire, by `input` or \
-             `claim` to an output"
+            "no token waits; `send` brings one, `cross` over a wire, and `input` or `claim` to an output"
         }
         Unready::NoCredit => {
-            "a token waits, and there is no credit for it; `credit` grants some at the other end of the wire"
+            "a token waits without credit; `credit` grants some at the other end of the wire"
         }
         Unready::NotGranted => "no token may come in, since none is granted; `credit` grants some",
         Unready::NoRoom => "no room to grant eight more tokens",
         Unready::CreditFull => "credit for 64 tokens, the most, is already there",
         Unready::WantsOutput(_) => {
-            "the header waits for an output; `claim` gets it one that is free, of the group of this link"
+            "the header waits for an output; `claim` gets it a free one of the group of this link"
         }
         Unready::OutputFull(_) => {
             "the output that the packet goes to is full; `cross` takes a token out of it"
         }
         Unready::WantsNothing => {
-            "the input wants no output: its packet has one, or `input` has to read a header first, or to put a random \
-             one there"
+            "the input wants no output: its packet has one, or `input` has to read or make a header first"
         }
         Unready::OutsideGroup(_) => "the header goes to another output, of the group of this link",
         Unready::Owned(_) => "the output belongs to a packet until its terminator passes",

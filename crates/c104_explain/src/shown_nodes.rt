@@ -5,7 +5,7 @@ use crate::leftovers::waiting;
 use crate::reasons::add_port;
 use crate::registers::{dropped_packets, puts_random};
 use crate::waiting::{add_line, stopped_line};
-use c104_mistakes::counted;
+use c104_mistakes::{counted, header_text};
 use c104_net::TracedNet;
 use c104_plan::{Plan, Port};
 use c104_switch::{LINKS, LinkView, Phase};
@@ -86,20 +86,21 @@ fn add_link(
     add_port(alloc, plan, ports.0, text)?;
     text.push_str(", on a wire to ")?;
     add_port(alloc, plan, ports.1, text)?;
-    add_input_side(alloc, view, puts_random, text)?;
+    add_input_side(alloc, plan, view, puts_random, text)?;
     add_output_side(alloc, view, text)
 }
 
 /// How the input side of a link stands joins the text.
 fn add_input_side(
     alloc: Global,
+    plan: &Plan,
     view: &LinkView,
     puts_random: bool,
     text: &mut String,
 ) -> Result<(), AllocError> {
     let tokens = counted(alloc, view.input_level, "token")?;
     let granted = view.granted;
-    let phase = phase_text(alloc, view, puts_random)?;
+    let phase = phase_text(alloc, plan, view, puts_random)?;
     write!(
         text,
         "\n  input: holds {tokens}, may take {granted} more, {phase}"
@@ -118,7 +119,12 @@ fn add_output_side(alloc: Global, view: &LinkView, text: &mut String) -> Result<
 }
 
 /// What an input does with its next token, which may put a random header before a packet.
-fn phase_text(alloc: Global, view: &LinkView, puts_random: bool) -> Result<String, AllocError> {
+fn phase_text(
+    alloc: Global,
+    plan: &Plan,
+    view: &LinkView,
+    puts_random: bool,
+) -> Result<String, AllocError> {
     match &view.phase {
         Phase::Fresh if puts_random => {
             format!(in alloc; "waits for a packet, before which it puts a random header")
@@ -126,7 +132,7 @@ fn phase_text(alloc: Global, view: &LinkView, puts_random: bool) -> Result<Strin
         Phase::Fresh => format!(in alloc; "waits for a packet"),
         Phase::Head(_) => format!(in alloc; "reads a header"),
         Phase::Want(header, link) => {
-            let header = header.value();
+            let header = header_text(alloc, plan, header.value())?;
             let link = *link;
             format!(in alloc; "wants an output of the group of link {link} for the header {header}")
         }

@@ -66,14 +66,17 @@ fn switch_tokens(net: &TracedNet, switch: usize) -> usize {
 
 /// How many tokens a link has: those in its buffers, and those of a header that its input reads or wants an output for.
 fn link_tokens(view: &LinkView) -> usize {
+    input_tokens(view).saturating_add(view.output_level)
+}
+
+/// How many tokens an input has: those in its buffer, and those of a header that it reads or wants an output for.
+pub(crate) fn input_tokens(view: &LinkView) -> usize {
     let header = match &view.phase {
         Phase::Head(header) => header.as_slice().len(),
         Phase::Want(header, _) => header.as_slice().len(),
         Phase::Fresh | Phase::Stream(_) | Phase::Sinking => 0,
     };
-    view.input_level
-        .saturating_add(view.output_level)
-        .saturating_add(header)
+    view.input_level.saturating_add(header)
 }
 
 /// How many tokens a terminal has to send, and how many came in there.

@@ -1,7 +1,8 @@
 //! Which inputs of a network have a packet on its way, and what each of these waits for, in words.
 
+use crate::reasons::add_port;
 use c104_event::Event;
-use c104_mistakes::counted;
+use c104_mistakes::{counted, header_text};
 use c104_net::{Reason, TracedNet};
 use c104_plan::{Plan, Port};
 use c104_switch::{LINKS, LinkView, Phase, Unready};
@@ -205,11 +206,26 @@ fn add_wish(
     let Some(state) = state_text(alloc, net, input, net.why(&claim))? else {
         return Ok(());
     };
-    let plan = net.plan();
-    let own = plan.port_text(alloc, input.beside(input.link))?;
-    let output = plan.port_text(alloc, input.beside(output))?;
-    let line = format!(in alloc; "{own} wants {output} for the header {header}, {state}")?;
+    let ports = (input.beside(input.link), input.beside(output));
+    let line = wish_line(alloc, net.plan(), ports, header, state.as_str())?;
     add_line(text, line.as_str())
+}
+
+/// The line of an input that wants an output for a header, and how that stands.
+fn wish_line(
+    alloc: Global,
+    plan: &Plan,
+    ports: (Port, Port),
+    header: u32,
+    state: &str,
+) -> Result<String, AllocError> {
+    let mut line = String::new(alloc);
+    add_port(alloc, plan, ports.0, &mut line)?;
+    line.push_str(" wants ")?;
+    add_port(alloc, plan, ports.1, &mut line)?;
+    let header = header_text(alloc, plan, header)?;
+    write!(line, " for the header {header}, {state}")?;
+    Ok(line)
 }
 
 /// How an output stands, by why an input doesn't get it. None where it isn't one that the input wants.
