@@ -16,15 +16,15 @@ use Rattle.{c104_token.specs.declared.tokens.Token.Token, std.proofs.Common.{All
 use Rattle.std.proofs.Common.{ℕ, ◌*◌, ◌++◌, ◌+◌, ◌∙◌, ◌∷◌, ◌≡◌, ◌≤◌}
 
 -- lines in two parts
-lines_parts : (front back : List (List ℕ)) (number : ℕ) (session : Session) → (later : ℕ) × ((lines_outcome line_outcome number session (front ++ back)).1 ≡ (lines_outcome line_outcome later (lines_outcome line_outcome number session front).1 back).1)
+pub lines_parts : (front back : List (List ℕ)) (number : ℕ) (session : Session) → (later : ℕ) × ((lines_outcome line_outcome number session (front ++ back)).1 ≡ (lines_outcome line_outcome later (lines_outcome line_outcome number session front).1 back).1)
 lines_parts [] back number session = (number, refl)
 lines_parts (line ∷ front) back number session = lines_parts front back (suc number) (line_outcome number session line).1
 
-first_lines : (routes : Routes) (front back : List (List ℕ)) (session : Session) → LeaveUnchanged routes session (front ++ back) → LeaveUnchanged routes session front
+pub first_lines : (routes : Routes) (front back : List (List ℕ)) (session : Session) → LeaveUnchanged routes session (front ++ back) → LeaveUnchanged routes session front
 first_lines routes [] back session all = tt
 first_lines routes (line ∷ front) back session all = (all.0, first_lines routes front back (line_answer session line).1 all.1)
 
-last_lines : (routes : Routes) (front back : List (List ℕ)) (number : ℕ) (session : Session) → LeaveUnchanged routes session (front ++ back) → LeaveUnchanged routes (lines_outcome line_outcome number session front).1 back
+pub last_lines : (routes : Routes) (front back : List (List ℕ)) (number : ℕ) (session : Session) → LeaveUnchanged routes session (front ++ back) → LeaveUnchanged routes (lines_outcome line_outcome number session front).1 back
 unfolding line_outcome
 last_lines routes [] back number session all = all
 last_lines routes (line ∷ front) back number session all = last_lines routes front back (suc number) (line_answer session line).1 all.1

@@ -6,28 +6,24 @@ use Rattle.{c104_event.specs.declared.{events.Event.Event, faults.EventFault.Eve
 use Rattle.{c104_net.specs.{RoundEvents.IsOfRound, Unchanged.MayHappen}, c104_node.specs.{Nodes.Node, Quiet.IsQuietNode}}
 use Rattle.{c104_node.specs.declared.starts.NodeStart.NodeStart, c104_plan.{proofs.RangeLists.all_of_each, specs.PlanImage.Image}}
 use Rattle.{c104_plan.specs.{Plans.{IsPlan, Plan}, declared.limits.TheConstants.MAX_SWITCHES}, c104_run.proofs.LinkOrders.orders_first}
-use Rattle.c104_run.{proofs.{RecordSteps.done_made, RoundRuns.{Applied, run_append, run_seen, undone_leaves}}, specs.EventRuns.Outcome}
-use Rattle.c104_run.specs.{EventRuns.{run_events, unless_fault}, FairRounds.{InTurn, fair_events, fair_round, fairly, first_turns, in_turn}}
-use Rattle.c104_run.specs.{HandedWords.{round_with, rounds_with, words_behind, words_of}, NetRecords.NetRecord, Network.Network}
-use Rattle.c104_run.specs.{Network.network_apply, QuietNets.IsQuiet, RecordedRuns.record_apply, Rounds.round, Standstill.IsUnready}
-use Rattle.{c104_run.specs.{Standstill.StandsStill, declared.words.Words.Words}, c104_script.specs.Script.read_script_line}
-use Rattle.{c104_script.specs.declared.{faults.LineFault.LineFault, places.Request.Request}, c104_session.proofs.QuietEvents.stays_quiet}
-use Rattle.c104_session.proofs.UnchangedNets.{Fact, IsUnchangedNet, Keeps, events_leave, keeps_nothing, nothing, of_fact, of_round}
-use Rattle.c104_session.{proofs.{UnchangedNets.round_event, UnchangedScripts.line_leaves}, specs.DeliveredRuns.{line_rounds, lines_rounds}}
-use Rattle.c104_session.specs.{DeliveredRuns.rounds_asked, PrintedPackets.{LeaveUnchanged, MayAsk, event_sends, line_sends, lines_sent}}
-use Rattle.c104_session.specs.{PrintedPackets.was_done, Shown.{answer_of_read, event_answer, line_answer, line_outcome, new_session}}
-use Rattle.{c104_session.specs.{Shown.rounds_answer, declared.session.Session.Session}, c104_stream.specs.Scripts.lines_outcome}
-use Rattle.{c104_switch.specs.{Actions.{Reply, is_ready}, declared.actions.ReplyOf.ReplyOf}, c104_token.specs.Kinds.plain_kind}
-use Rattle.{c104_token.specs.declared.{packets.Packet.Packet, tokens.Token.Token}, std.proofs.Common.{All, Bool, Err, List, Ok, Option}}
-use Rattle.std.proofs.Common.{Result, Some, [], ap, append-nil, arith, false, if◌then◌else◌, inl, inr, length, length-append, refl, subst}
-use Rattle.std.{proofs.Common.{suc, sym, true, zero, ℕ, ◌++◌, ◌+◌, ◌<◌, ◌∙◌, ◌∷◌, ◌≡◌, ◌≤◌, ◌⊎◌}, specs.List.AllByRecursion}
+use Rattle.c104_run.{proofs.RoundRuns.{Applied, run_append, run_seen, undone_leaves}, specs.EventRuns.{Outcome, run_events, unless_fault}}
+use Rattle.c104_run.specs.{FairRounds.{InTurn, fair_events, fair_round, fairly, first_turns, in_turn}, HandedWords.round_with}
+use Rattle.c104_run.specs.{HandedWords.{rounds_with, words_behind, words_of}, NetRecords.NetRecord, Network.{Network, network_apply}}
+use Rattle.c104_run.specs.{QuietNets.IsQuiet, RecordedRuns.record_apply, Rounds.round, Standstill.{IsUnready, StandsStill}}
+use Rattle.{c104_run.specs.declared.words.Words.Words, c104_script.specs.{Script.read_script_line, declared.faults.LineFault.LineFault}}
+use Rattle.{c104_script.specs.declared.places.Request.Request, c104_session.proofs.SilentLines.{KeepsSilent, both_empty, events_keep}}
+use Rattle.c104_session.proofs.{SilentLines.{keeps_quiet, line_keeps, silent_line}, UnchangedNets.{IsUnchangedNet, events_leave}}
+use Rattle.c104_session.{proofs.UnchangedNets.{keeps_nothing, nothing, of_round, round_event}, specs.DeliveredRuns.line_rounds}
+use Rattle.c104_session.specs.{DeliveredRuns.{lines_rounds, rounds_asked}, PrintedPackets.{LeaveUnchanged, MayAsk, event_sends, line_sends}}
+use Rattle.c104_session.specs.{PrintedPackets.{lines_sent, was_done}, Shown.{answer_of_read, event_answer, line_answer, line_outcome}}
+use Rattle.c104_session.specs.{Shown.{new_session, rounds_answer}, declared.session.Session.Session}
+use Rattle.{c104_stream.specs.Scripts.lines_outcome, c104_switch.specs.{Actions.{Reply, is_ready}, declared.actions.ReplyOf.ReplyOf}}
+use Rattle.{c104_token.specs.{Kinds.plain_kind, declared.{packets.Packet.Packet, tokens.Token.Token}}, std.proofs.Common.{All, Bool, Err}}
+use Rattle.std.proofs.Common.{List, Ok, Option, Result, Some, [], ap, arith, false, if◌then◌else◌, inl, inr, length, refl, subst, suc, sym}
+use Rattle.std.{proofs.Common.{true, zero, ℕ, ◌++◌, ◌+◌, ◌<◌, ◌∙◌, ◌∷◌, ◌≡◌, ◌≤◌, ◌⊎◌}, specs.List.AllByRecursion}
 
 not_ready : (r : Reply) → is_ready r ≡ false → r ≡ ReplyOf.NotReady
 not_ready r is = search arith
-
-both_empty : {X : Type 0} (xs ys : List X) → xs ++ ys ≡ [] → (xs ≡ []) × (ys ≡ [])
-both_empty [] ys is = (refl, is)
-both_empty (x ∷ xs) ys is = absurd (cc is)
 
 none_either : (b : Bool) → ◌≡◌ {A = ℕ} (if b then 0 else 0) 0
 none_either b = search arith
@@ -124,7 +120,7 @@ read_counts session asked orders = search (arith, none_either)
 
 line_counts : (session : Session) (line : List ℕ) → AreOrders session.turns → CountsRounds session (line_rounds session line) (line_answer session line).1
 unfolding line_answer
-line_counts session line orders = read_counts session (read_script_line session.net.network.plan line) orders
+line_counts session line orders = read_counts session (read_script_line session.net.network.plan session.image line) orders
 
 -- turns that are orders stay orders
 read_orders : (session : Session) (asked : Result (Option Request) LineFault) → AreOrders session.turns → AreOrders (answer_of_read session asked).1.turns
@@ -135,7 +131,7 @@ read_orders session asked orders = orders
 
 line_orders : (session : Session) (line : List ℕ) → AreOrders session.turns → AreOrders (line_answer session line).1.turns
 unfolding line_answer
-line_orders session line orders = read_orders session (read_script_line session.net.network.plan line) orders
+line_orders session line orders = read_orders session (read_script_line session.net.network.plan session.image line) orders
 
 pub lines_orders : (lines : List (List ℕ)) (number : ℕ) (session : Session) → AreOrders session.turns → AreOrders (lines_outcome line_outcome number session lines).1.turns
 unfolding line_outcome
@@ -170,31 +166,10 @@ module _ (routes : Routes) (plan : Plan) (is_plan : IsPlan plan) (starts : List 
     none_left : (nodes : List (Node Token)) → IsLeft 0 nodes → All IsQuietNode nodes
     none_left nodes left = search arith
 
-    -- so it stays as long as no more than `most` packets were sent
-    abbrev left_since : ℕ → ℕ → Fact
-    left_since count most sends nodes = (length sends ≡ count → IsLeft most nodes) × (count ≤ length sends)
-
-    keeps_left : (count most : ℕ) → Keeps routes plan starts (left_since count most)
-    keeps_left count most sends net e r next was due ready may bytes = by_sends (event_sends e) refl
-      where
-        before : count ≤ length sends
-        before = was.holds.1
-
-        kept : event_sends e ≡ [] → IsLeft most net.network.nodes → IsLeft most next.nodes
-        kept none (inl quiet) = inl (stays_quiet plain_kind net.network.plan (subst IsPlan (sym was.same_plan) is_plan) net.network.nodes was.kept.steady.in_place quiet r next routes e none may (done_made plain_kind net.network next r e due ready))
-        kept none (inr less) = inr (let more = falling.grows_none sends net e r next (of_fact routes plan starts (left_since count most) nothing sends net was tt) (due, ready) may bytes none in omega (arith, less, more))
-
-        by_sends : (new : List (ℕ × Packet)) → event_sends e ≡ new → left_since count most (sends ++ new) next.nodes
-        by_sends [] none =
-            let long : length (sends ++ []) ≡ length sends = ap (λ (s : List (ℕ × Packet)). length s) (append-nil sends) in
-            (λ same. kept none (was.holds.0 (sym long ∙ same)), omega (arith, long, before))
-        by_sends (x ∷ new) some =
-            let long : length (sends ++ x ∷ new) ≡ length sends + suc (length new) = length-append sends (x ∷ new) in
-            (λ same. absurd (let no : ⊥ = omega (arith, long, before, same) in no), omega (arith, long, before))
-
-    -- what is left of a network
-    left_of : (sends : List (ℕ × Packet)) (net : NetRecord) (most : ℕ) → Is sends net → IsLeft most net.network.nodes → IsUnchangedNet routes plan starts (left_since (length sends) most) sends net
-    left_of sends net most was left = of_fact routes plan starts nothing (left_since (length sends) most) sends net was (λ same. left, omega arith)
+    -- an event that sends nothing keeps it so
+    keeps_left : (most : ℕ) → KeepsSilent routes plan is_plan starts (IsLeft most)
+    keeps_left most sends net e r next was due ready may bytes none (inl quiet) = inl (keeps_quiet routes plan is_plan starts sends net e r next was due ready may bytes none quiet)
+    keeps_left most sends net e r next was due ready may bytes none (inr less) = inr (let more = falling.grows_none sends net e r next was (due, ready) may bytes none in omega (arith, less, more))
 
     -- events of a round leave less work, or were all unready
     abbrev Goes : NetRecord → List Event → NetRecord → Type 0
@@ -250,10 +225,8 @@ module _ (routes : Routes) (plan : Plan) (is_plan : IsPlan plan) (starts : List 
     -- as much is left after a round as before, less one
     left_after : (now : List Event) → IsRound plan now → (sends : List (ℕ × Packet)) (net mid : NetRecord) (most : ℕ) → Is sends net → run_events record_apply net now ≡ (Ok tt, mid) → IsLeft (most + 1) net.network.nodes → IsLeft most mid.network.nodes
     left_after now round_is sends net mid most was is (inl quiet) =
-        let run = events_leave routes plan is_plan starts (left_since (length sends) 0) (keeps_left (length sends) 0) sends now net round_is.of (left_of sends net 0 was (inl quiet)) in
-        let ended : NetRecord = (run_events record_apply net now).1 in
-        let came : ended ≡ mid = ap (λ (z : Outcome NetRecord). z.1) is in
-        inl (subst (λ (n : NetRecord). All IsQuietNode n.network.nodes) came (none_left ended.network.nodes (run.holds.0 refl)))
+        let came : (run_events record_apply net now).1 ≡ mid = ap (λ (z : Outcome NetRecord). z.1) is in
+        inl (subst (λ (n : NetRecord). All IsQuietNode n.network.nodes) came (events_keep routes plan is_plan starts (All IsQuietNode) (keeps_quiet routes plan is_plan starts) sends now net round_is.of was quiet))
     left_after now round_is sends net mid most was is (inr few) = by_round (one_round now round_is sends net mid was is)
       where
         by_round : (work mid.network.nodes < work net.network.nodes) ⊎ All IsQuietNode mid.network.nodes → IsLeft most mid.network.nodes
@@ -282,14 +255,13 @@ module _ (routes : Routes) (plan : Plan) (is_plan : IsPlan plan) (starts : List 
         (sym (ap (run_events record_apply net) are.2 ∙ run_append record_apply are.0 are.1 net) ∙ is)
 
     -- the same of a line that sends nothing, and of lines
-    line_left : (sends : List (ℕ × Packet)) (session : Session) (line : List ℕ) (most : ℕ) → Is sends session.net → AreOrders session.turns → MayAsk routes (read_script_line session.net.network.plan line) (line_answer session line).0 → line_sends session line ≡ [] → IsLeft (line_rounds session line + most) session.net.network.nodes → IsLeft most (line_answer session line).1.net.network.nodes
+    line_left : (sends : List (ℕ × Packet)) (session : Session) (line : List ℕ) (most : ℕ) → Is sends session.net → AreOrders session.turns → MayAsk routes (read_script_line session.net.network.plan session.image line) (line_answer session line).0 → line_sends session line ≡ [] → IsLeft (line_rounds session line + most) session.net.network.nodes → IsLeft most (line_answer session line).1.net.network.nodes
     line_left sends session line most was orders may silent left = by_count (line_counts session line orders)
       where
         by_count : CountsRounds session (line_rounds session line) (line_answer session line).1 → IsLeft most (line_answer session line).1.net.network.nodes
         by_count (inl none) =
             let fewer : IsLeft most session.net.network.nodes = left_within (line_rounds session line + most) most session.net.network.nodes (omega (arith, none)) left in
-            let held = line_leaves routes plan is_plan starts (left_since (length sends) most) (keeps_left (length sends) most) sends session (left_of sends session.net most was fewer) line may in
-            held.holds.0 (ap (λ (s : List (ℕ × Packet)). length (sends ++ s)) silent ∙ ap (λ (s : List (ℕ × Packet)). length s) (append-nil sends))
+            line_keeps routes plan is_plan starts (IsLeft most) (keeps_left most) sends session line was may silent fewer
         by_count (inr came) =
             rounds_left (line_rounds session line) came.0 (subst (λ p. AreRounds p (line_rounds session line) came.0) was.same_plan came.1)
             sends most session.net (line_answer session line).1.net was came.2 left
@@ -300,5 +272,5 @@ module _ (routes : Routes) (plan : Plan) (is_plan : IsPlan plan) (starts : List 
     lines_left (line ∷ lines) number sends session was orders all silent left =
         let next : Session = (line_answer session line).1 in
         let parts = both_empty (line_sends session line) (lines_sent next lines) silent in
-        let there : Is sends next.net = subst (λ (s : List (ℕ × Packet)). Is s next.net) (ap (λ (s : List (ℕ × Packet)). sends ++ s) parts.0 ∙ append-nil sends) (line_leaves routes plan is_plan starts nothing (keeps_nothing routes plan starts) sends session was line all.0) in
+        let there : Is sends next.net = silent_line routes plan is_plan starts sends session line was all.0 parts.0 in
         lines_left lines (suc number) sends next there (line_orders session line orders) all.1 parts.1 (line_left sends session line (lines_rounds next lines) was orders all.0 parts.0 left)

@@ -14,7 +14,7 @@ few_done before after none = (grind (arith, nat_tests, none), grind (arith, nat_
 
 module _ {M : Type 0} (sees : Sees M TaggedToken) (keeps : Keeping M) where
   -- the network of a round of which something is kept goes on as by itself
-  record_of : (words : Words) (net : NetRecord) (c : M)
+  pub record_of : (words : Words) (net : NetRecord) (c : M)
       → ◌≡◌ {A = Outcome NetRecord} ((round_kept sees keeps words (at_meter net c)).0, (round_kept sees keeps words (at_meter net c)).1.net)
       (run_events record_apply net (round_with words net.network.plan))
   record_of words net c =

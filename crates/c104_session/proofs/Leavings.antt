@@ -4,7 +4,7 @@ use Rattle.c104_run.specs.{HandedWords.{rounds_with, words_of}, NetRecords.NetRe
 use Rattle.c104_run.specs.{Network.{outcome_if_ready, outcome_within_limit}, RecordedRuns.{AnswersRecord, RecordsHanded, record_apply}}
 use Rattle.c104_run.specs.{RecordedRuns.{record_at, record_stage}, Stages.stage_after, declared.turns.SwitchTurns.SwitchTurns}
 use Rattle.{c104_run.specs.declared.words.Words.Words, c104_script.specs.declared.{faults.LineFault.LineFault, places.Request.Request}}
-use Rattle.{c104_session.specs.Leavings.{LeavesNet, LeavesRead, LeavesRounds}, c104_switch.specs.Actions.Reply}
+use Rattle.{c104_session.specs.{Leavings.{LeavesNet, LeavesRead, LeavesRounds}, Settling.rounds_to_rest}, c104_switch.specs.Actions.Reply}
 use Rattle.{c104_token.specs.{Kinds.plain_kind, declared.tokens.Token.Token}, std.proofs.Common.{Bool, Err, List, Ok, OnErr, Option}}
 use Rattle.std.proofs.{Common.{Result, Some, [], arith, false, if◌then◌else◌, refl, subst, true, ℕ, ◌≡◌}, lemmas.List.append-nil}
 
@@ -45,6 +45,7 @@ nothing_asked : (net : NetRecord) (turns : List SwitchTurns) (request : Request)
 nothing_asked net turns (Request.Asked event) = (refl, refl)
 nothing_asked net turns (Request.Rounds count false seed) = (([], rounds_with (words_of seed) net.network.plan count, refl, refl), refl)
 nothing_asked net turns (Request.Rounds count true seed) = ([], fair_events record_apply (words_of seed) net.network.plan count (in_turn net turns), refl, refl)
+nothing_asked net turns Request.Settle = (([], rounds_with Words.Zero net.network.plan (rounds_to_rest net), refl, refl), refl)
 nothing_asked net turns (Request.Probed it) = refl
 nothing_asked net turns (Request.Refused kind) = (refl, refl)
 

@@ -16,6 +16,10 @@ pub mod KeptFairLoops
 pub mod TimedScripts
 pub mod Leavings
 pub mod FairLeavings
+pub mod StillNets
+pub mod FurtherRounds
+pub mod SettledRounds
+pub mod SettledLaw
 pub mod PlanRuns
 pub mod Starts
 pub mod SentLists
@@ -26,9 +30,12 @@ pub mod UnchangedScripts
 pub mod PrintedLaw
 pub mod WorkGrowth
 pub mod QuietEvents
+pub mod SilentLines
 pub mod FallingWork
 pub mod DeliveredLaw
+pub mod SettledScripts
 mod RunRefusals
 mod ReadFaults
 pub mod PrintedRunsLaw
-mod TextRuns
+pub mod TextRuns
+mod AddressesLeft

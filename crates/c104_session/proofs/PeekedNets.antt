@@ -121,3 +121,5 @@ module _ (routes : Routes) (plan : Plan) (is_plan : IsPlan plan) (starts : List 
   probe_leaves net image (Probe.Link switch link) fine was = by_link (nat_lt link LINKS) (link_outcome_of net switch link) net (link_leaves net switch link was) was
   probe_leaves net image (Probe.Table switch link) fine was = by_link (nat_lt link LINKS) (table_outcome_of net switch link) net (table_leaves net switch link was) was
   probe_leaves net image Probe.Verify fine was = verify_leaves net image was
+  probe_leaves net image Probe.VerifyAll fine was = was
+  probe_leaves net image (Probe.Dump switch) fine was = was

@@ -7,10 +7,11 @@ use Rattle.c104_plan.specs.LabelledImages.{labelled_image, labelled_settings, la
 use Rattle.c104_plan.specs.{PlanImage.{Fits, Image, settings_of, switch_settings}, Plans.{IsPlan, Plan}, TextCut.{lines, most_bytes}}
 use Rattle.c104_plan.specs.declared.{plans.Shape.{Shape, TheVariants.{Cube, Hand, Mesh, Tree, UpDown}}, ports.Port.Port}
 use Rattle.c104_regs.specs.declared.{registers.TheConstants.LINKS, settings.Settings.Settings}
-use Rattle.c104_session.{proofs.{DeliveredLaw.delivered_law, PlacedNets.IsOfLinks, PrintedLaw.printed_law}, specs.PrintedRuns.PrintsAllOf}
-use Rattle.{c104_session.specs.PrintedRuns.PrintsPacketsOf, c104_setup.specs.Setups.ComesTo, std.proofs.Common.{All, Bool, Err, List, Ok}}
-use Rattle.std.proofs.Common.{Result, arith, false, get_or, if◌then◌else◌, length, map, nat_le, subst, sym, true, ℕ, ◌≡◌}
-use Rattle.std.{proofs.lemmas.List.{Elements.All-map, FromFn.length-map-range_with_len, length-map}, specs.List.range_with_len}
+use Rattle.c104_session.proofs.{DeliveredLaw.delivered_law, PlacedNets.IsOfLinks, PrintedLaw.printed_law, SettledScripts.settled_law}
+use Rattle.{c104_session.specs.PrintedRuns.{PrintsAllOf, PrintsPacketsOf, PrintsSettledOf}, c104_setup.specs.Setups.ComesTo}
+use Rattle.std.proofs.Common.{All, Bool, Err, List, Ok, Result, arith, false, get_or, if◌then◌else◌, length, map, nat_le, subst, sym, true}
+use Rattle.std.proofs.{Common.{ℕ, ◌≡◌}, lemmas.List.{Elements.All-map, FromFn.length-map-range_with_len, length-map}}
+use Rattle.std.specs.List.{range_with_len}
 
 -- an image with labels fits its plan
 labelled_fits : (plan : Plan) (ranges : List (ℕ × ℕ)) (tables : List Table) (image : Image) → length ranges ≡ length plan.terminals → image ≡ labelled_image plan ranges tables → Fits image plan
@@ -69,3 +70,7 @@ printed_runs description script plan image is = search (arith, comes_to, printed
 pub delivered_runs : (description script : List ℕ) → PrintsAllOf description script
 unfolding PrintsAllOf
 delivered_runs description script plan image is = search (arith, comes_to, delivered_law, read_is_plan, image_fits, sized_by)
+
+pub settled_runs : (description script : List ℕ) → PrintsSettledOf description script
+unfolding PrintsSettledOf
+settled_runs description script plan image is = search (arith, comes_to, settled_law, read_is_plan, image_fits)

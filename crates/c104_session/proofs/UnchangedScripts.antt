@@ -7,11 +7,12 @@ use Rattle.c104_run.specs.{NetRecords.{NetRecord, is_done}, RecordedRuns.record_
 use Rattle.c104_script.{proofs.ScriptBytes.{AskedBytes, line_bytes}, specs.{Script.read_script_line, declared.faults.LineFault.LineFault}}
 use Rattle.{c104_script.specs.declared.{places.Request.Request, probes.Probe.Probe}, c104_session.proofs.PeekedNets.IsNoPoke}
 use Rattle.c104_session.proofs.{PeekedNets.probe_leaves, UnchangedNets.{Fact, IsUnchangedNet, Keeps, event_leaves, events_leave, of_rounds}}
-use Rattle.c104_session.specs.{PrintedPackets.{LeaveUnchanged, MayAsk, asked_sends, line_sends, lines_sent, was_done}, Shown.answer_of_read}
-use Rattle.c104_session.specs.{Shown.{event_answer, fair_outcome, line_answer, line_outcome}, declared.session.Session.Session}
-use Rattle.{c104_stream.specs.Scripts.lines_outcome, c104_switch.specs.Actions.Reply, c104_token.specs.declared.packets.Packet.Packet}
-use Rattle.std.proofs.Common.{Bool, Err, IfOk, List, None, Ok, Option, Result, Some, [], ap, append-nil, append_assoc, arith, false}
-use Rattle.std.proofs.Common.{if◌then◌else◌, refl, subst, suc, sym, true, ℕ, ◌++◌, ◌∙◌, ◌∷◌, ◌≡◌}
+use Rattle.c104_session.specs.PrintedPackets.{LeaveUnchanged, MayAsk, asked_sends, line_sends, lines_sent, was_done}
+use Rattle.c104_session.specs.{Settling.rounds_to_rest, Shown.{answer_of_read, event_answer, fair_outcome, line_answer, line_outcome}}
+use Rattle.{c104_session.specs.declared.session.Session.Session, c104_stream.specs.Scripts.lines_outcome, c104_switch.specs.Actions.Reply}
+use Rattle.{c104_token.specs.declared.packets.Packet.Packet, std.proofs.Common.{Bool, Err, IfOk, List, None, Ok, Option, Result, Some, []}}
+use Rattle.std.proofs.Common.{ap, append-nil, append_assoc, arith, false, if◌then◌else◌, refl, subst, suc, sym, true, ℕ, ◌++◌, ◌∙◌, ◌∷◌}
+use Rattle.std.proofs.Common.{◌≡◌}
 
 done_same : (a : Result Reply EventFault) → is_done a ≡ was_done (Some (event_answer a))
 done_same a = search arith
@@ -62,12 +63,16 @@ module _ (routes : Routes) (plan : Plan) (is_plan : IsPlan plan) (starts : List 
         nothing (was_done (answer_of_read session (Ok (Some (Request.Rounds count false seed)))).0) _
         (events_leave routes plan is_plan starts fact keeps sends (rounds_with (words_of seed) session.net.network.plan count) session.net
         (of_rounds (words_of seed) session.net.network.plan count) was)
+    read_leaves (Ok (Some Request.Settle)) bytes may =
+        nothing (was_done (answer_of_read session (Ok (Some Request.Settle))).0) _
+        (events_leave routes plan is_plan starts fact keeps sends (rounds_with Words.Zero session.net.network.plan (rounds_to_rest session.net))
+        session.net (of_rounds Words.Zero session.net.network.plan (rounds_to_rest session.net)) was)
     read_leaves (Ok (Some (Request.Probed it))) bytes may = nothing (was_done (answer_of_read session (Ok (Some (Request.Probed it)))).0) _ (probe_leaves routes plan is_plan starts fact keeps sends session.net session.image it (poked it may) was)
     read_leaves (Ok (Some (Request.Refused kind))) bytes may = nothing false session.net was
     read_leaves (Err kind) bytes may = nothing false session.net was
 
     -- a line that changes nothing
-    pub line_leaves : (line : List ℕ) → MayAsk routes (read_script_line session.net.network.plan line) (line_answer session line).0 → Is (sends ++ line_sends session line) (line_answer session line).1.net
+    pub line_leaves : (line : List ℕ) → MayAsk routes (read_script_line session.net.network.plan session.image line) (line_answer session line).0 → Is (sends ++ line_sends session line) (line_answer session line).1.net
     unfolding line_answer
     line_leaves line may = search (arith, read_leaves, line_bytes)
 

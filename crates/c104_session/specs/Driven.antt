@@ -3,8 +3,9 @@ use Rattle.{c104_event.specs.declared.{events.Event.Event, faults.EventFault.Eve
 use Rattle.c104_run.specs.{FairRounds.{InTurn, fair_events, fairly, in_turn}, HandedWords.{rounds_with, words_of}, NetRecords.NetRecord}
 use Rattle.c104_run.specs.{RecordedRuns.record_apply, declared.{turns.SwitchTurns.SwitchTurns, words.Words.Words}}
 use Rattle.c104_script.specs.{Answering.shown_by, Script.read_script_line, declared.{answers.Answer.Answer, faults.LineFault.LineFault}}
-use Rattle.{c104_script.specs.declared.places.Request.Request, c104_session.specs.{Refusals.{no_refusals, refused_too}, Shown.line_answer}}
-use Rattle.{c104_session.specs.declared.{driven.Driven.Driven, session.Session.Session}, c104_switch.specs.Actions.Reply}
+use Rattle.{c104_script.specs.declared.places.Request.Request, c104_session.specs.Refusals.{no_refusals, refused_too}}
+use Rattle.c104_session.specs.{Settling.rounds_to_rest, Shown.line_answer, declared.{driven.Driven.Driven, session.Session.Session}}
+use Rattle.c104_switch.specs.Actions.{Reply}
 use Rattle.std.specs.Prelude.{Bool, Err, List, None, Ok, Option, Result, Some, false, if◌then◌else◌, true, ℕ, ◌≡◌, ◌⊎◌}
 
 -- what a driver keeps: its state after it did an event, or as many rounds whose inputs are handed words, on a network that
@@ -56,6 +57,7 @@ module _ {D : Type 0} (drives : Driving D) where
   abbrev pub request_driven : D → NetRecord → List SwitchTurns → Request → D
   request_driven driver net turns (Request.Asked event) = drives.event driver net event
   request_driven driver net turns (Request.Rounds count is_fair seed) = rounds_driven driver net turns is_fair (words_of seed) count
+  request_driven driver net turns Request.Settle = drives.rounds driver net Words.Zero (rounds_to_rest net)
   request_driven driver net turns (Request.Probed it) = driver
   request_driven driver net turns (Request.Refused kind) = driver
 
@@ -66,14 +68,15 @@ module _ {D : Type 0} (drives : Driving D) where
   read_driven driver net turns (Err kind) = driver
 
   -- the driver after a line
-  unfoldable pub line_driven : D → NetRecord → List SwitchTurns → List ℕ → D
-  line_driven driver net turns text = read_driven driver net turns (read_script_line net.network.plan text)
+  unfoldable pub line_driven : D → Session → List ℕ → D
+  line_driven driver session text =
+      read_driven driver session.net session.turns (read_script_line session.net.network.plan session.image text)
 
   -- what answers a line, and the run and the driver after it: nothing is done any more once the run is over
   abbrev pub done_answer : Driven D → List ℕ → Option Answer × Driven D
   done_answer s text =
       let r = line_answer s.session text in
-      (r.0, record { session = r.1; driver = line_driven s.driver s.session.net s.session.turns text; refusals = refused_too s.refusals r.0 })
+      (r.0, record { session = r.1; driver = line_driven s.driver s.session text; refusals = refused_too s.refusals r.0 })
 
   abbrev pub driven_answer : Driven D → List ℕ → Option Answer × Driven D
   driven_answer s text = if s.refusals.is_over then (None, s) else done_answer s text

@@ -2,7 +2,7 @@
 use Rattle.{c104_event.specs.declared.events.Event.Event, c104_run.specs.{EventRuns.run_events, FairRounds.{fair_events, fairly, in_turn}}}
 use Rattle.c104_run.specs.{HandedWords.{rounds_with, words_of}, NetRecords.NetRecord, RecordedRuns.record_apply}
 use Rattle.{c104_run.specs.declared.{turns.SwitchTurns.SwitchTurns, words.Words.Words}, c104_script.specs.Script.read_script_line}
-use Rattle.c104_script.specs.declared.{faults.LineFault.LineFault, places.Request.Request}
+use Rattle.{c104_script.specs.declared.{faults.LineFault.LineFault, places.Request.Request}, c104_session.specs.Settling.rounds_to_rest}
 use Rattle.c104_session.specs.declared.session.Session.{Session}
 use Rattle.std.specs.Prelude.{Bool, Err, List, None, Ok, Option, Result, Some, false, true, ℕ, ◌++◌, ◌≡◌}
 
@@ -29,6 +29,7 @@ LeavesSome true words net turns count left behind = LeavesFairly words net turns
 abbrev pub LeavesNet : NetRecord → List SwitchTurns → Request → NetRecord → List SwitchTurns → Type 0
 LeavesNet net turns (Request.Asked event) left behind = (left ≡ net) × (behind ≡ turns)
 LeavesNet net turns (Request.Rounds count is_fair seed) left behind = LeavesSome is_fair (words_of seed) net turns count left behind
+LeavesNet net turns Request.Settle left behind = LeavesSome false Words.Zero net turns (rounds_to_rest net) left behind
 LeavesNet net turns (Request.Probed it) left behind = behind ≡ turns
 LeavesNet net turns (Request.Refused kind) left behind = (left ≡ net) × (behind ≡ turns)
 
@@ -46,4 +47,4 @@ KeepsAllButNet session left = left ≡ record session { net = left.net; turns = 
 -- not at all
 abbrev pub LeavesLine : Session → List ℕ → Session → Type 0
 LeavesLine session line left = KeepsAllButNet session left
-    × LeavesRead session.net session.turns (read_script_line session.net.network.plan line) left.net left.turns
+    × LeavesRead session.net session.turns (read_script_line session.net.network.plan session.image line) left.net left.turns

@@ -1,11 +1,14 @@
 pub mod Lines
+pub mod FoundRegisters
 pub mod Probing
+pub mod Settling
 pub mod Shown
 pub mod Leavings
 pub mod Resets
 pub mod Refusals
 pub mod Driven
 pub mod Keepers
+pub mod FurtherRounds
 pub mod Runs
 pub mod Counted
 pub mod CountedRuns

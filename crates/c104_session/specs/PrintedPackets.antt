@@ -34,7 +34,7 @@ was_done answer = false
 -- the packet that a line sent: what it asks to be sent, where that was done
 abbrev pub line_sends : Session → List ℕ → List (ℕ × Packet)
 line_sends session line =
-    if was_done (line_answer session line).0 then asked_sends (read_script_line session.net.network.plan line) else []
+    if was_done (line_answer session line).0 then asked_sends (read_script_line session.net.network.plan session.image line) else []
 
 -- the packets that lines sent, in order
 abbrev pub lines_sent : Session → List (List ℕ) → List (ℕ × Packet)
@@ -63,7 +63,7 @@ MayAsk routes asked answer = Unit {0}
 abbrev pub LeaveUnchanged : Routes → Session → List (List ℕ) → Type 0
 LeaveUnchanged routes session [] = Unit {0}
 LeaveUnchanged routes session (line ∷ more) =
-    MayAsk routes (read_script_line session.net.network.plan line) (line_answer session line).0
+    MayAsk routes (read_script_line session.net.network.plan session.image line) (line_answer session line).0
     × LeaveUnchanged routes (line_answer session line).1 more
 
 -- the premises: the labels are accepted, and the script, which is no longer than it may be, leaves the network as it was

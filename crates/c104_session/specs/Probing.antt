@@ -3,7 +3,8 @@ use Rattle.{c104_event.specs.declared.faults.EventFault.EventFault, c104_interva
 use Rattle.{c104_plan.specs.{PlanImage.Image, Plans.Plan}, c104_regs.specs.declared.faults.RegFault.RegFault}
 use Rattle.{c104_regs.specs.declared.registers.TheConstants.LINKS, c104_run.specs.{NetRecords.NetRecord, Network.network_peek}}
 use Rattle.c104_script.specs.declared.{answers.Answer.{Answer, TheVariants.{Found, Refused, Replied}}, findings.Finding.Finding}
-use Rattle.{c104_script.specs.declared.probes.Probe.Probe, c104_switch.specs.declared.actions.ReplyOf.TheVariants.Done}
+use Rattle.{c104_script.specs.declared.probes.Probe.Probe, c104_session.specs.FoundRegisters.{differences_answer, differences_from}}
+use Rattle.{c104_session.specs.FoundRegisters.told_answer, c104_switch.specs.declared.actions.ReplyOf.TheVariants.Done}
 use Rattle.c104_tools.specs.{NetOutcomes.{net_link, net_poke, net_table, net_verify}, declared.faults.LoadFault.LoadFault}
 use Rattle.c104_tools.specs.declared.reading.LinkNumbers.{LinkNumbers}
 use Rattle.std.specs.Prelude.{Err, List, None, Ok, Option, Result, Some, if◌then◌else◌, nat_lt, slice_get, ℕ, ◌==◌}
@@ -76,3 +77,5 @@ probe_answer net image (Probe.Poke switch addr value) = tool_outcome set_answer 
 probe_answer net image (Probe.Link switch link) = link_outcome net switch link
 probe_answer net image (Probe.Table switch link) = table_outcome net switch link
 probe_answer net image Probe.Verify = tool_outcome verified_answer (net_verify net image)
+probe_answer net image Probe.VerifyAll = (differences_answer (differences_from net.network 0 image.settings), net)
+probe_answer net image (Probe.Dump switch) = (told_answer net.network switch (slice_get net.network.plan.switches switch), net)

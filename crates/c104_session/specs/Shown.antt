@@ -8,10 +8,10 @@ use Rattle.c104_run.specs.{NetRecords.fresh_record, Network.{Network, placed_net
 use Rattle.{c104_run.specs.declared.{turns.SwitchTurns.SwitchTurns, words.Words.Words}, c104_script.specs.Answering.shown_by}
 use Rattle.c104_script.specs.{Script.read_script_line, Texts.token_text, declared.answers.Answer.{Answer, TheVariants.{Faulty, Refused}}}
 use Rattle.c104_script.specs.declared.{answers.Answer.TheVariants.Replied, faults.LineFault.LineFault, places.Request.Request}
-use Rattle.c104_session.specs.{Probing.probe_answer, declared.{session.Session.Session, summary_text.SummaryLine.SummaryLine}}
-use Rattle.{c104_stream.specs.{ScriptLines.{is_long, script_too_long}, Scripts.script_outcome}, c104_switch.specs.Actions.Reply}
-use Rattle.{c104_switch.specs.declared.actions.ReplyOf.TheVariants.Done, c104_token.specs.{Cut.whole_pieces, Packets.packet_tokens}}
-use Rattle.c104_token.specs.{Text.hex_digit, declared.tokens.Token.Token}
+use Rattle.c104_session.specs.{Probing.probe_answer, Settling.{rounds_to_rest, settle_outcome}, declared.session.Session.Session}
+use Rattle.{c104_session.specs.declared.summary_text.SummaryLine.SummaryLine, c104_stream.specs.ScriptLines.{is_long, script_too_long}}
+use Rattle.{c104_stream.specs.Scripts.script_outcome, c104_switch.specs.{Actions.Reply, declared.actions.ReplyOf.TheVariants.Done}}
+use Rattle.c104_token.specs.{Cut.whole_pieces, Packets.packet_tokens, Text.hex_digit, declared.tokens.Token.Token}
 use Rattle.std.specs.Prelude.{Bool, Err, List, None, Ok, Option, Result, Some, [], codes, decimal, false, flat_map, map, option_to_list}
 use Rattle.std.specs.Prelude.{replicate, suc, true, ℕ, ◌%◌, ◌++◌, ◌/◌, ◌∷◌}
 
@@ -54,7 +54,7 @@ abbrev pub rounds_after : Session → Bool → Words → ℕ → Answer × Sessi
 rounds_after session false words count = answer_after session (rounds_outcome words session.net count)
 rounds_after session true words count = fair_after session (fair_outcome words session.net session.turns count)
 
--- the same of the debugger, whose answer is made
+-- the same where the answer is made: of the debugger, and of rounds until the network stands still
 abbrev pub probe_after : Session → Answer × NetRecord → Answer × Session
 probe_after session r = (r.0, record session { net = r.1 })
 
@@ -62,6 +62,7 @@ probe_after session r = (r.0, record session { net = r.1 })
 abbrev pub request_answer : Session → Request → Answer × Session
 request_answer session (Request.Asked event) = answer_after session (record_apply session.net event)
 request_answer session (Request.Rounds count is_fair seed) = rounds_after session is_fair (words_of seed) count
+request_answer session Request.Settle = probe_after session (settle_outcome session.net (rounds_to_rest session.net))
 request_answer session (Request.Probed it) = probe_after session (probe_answer session.net session.image it)
 request_answer session (Request.Refused kind) = (Refused kind, session)
 
@@ -74,7 +75,7 @@ answer_of_read session (Err kind) = (Some (Faulty kind), record session { faulty
 -- what answers a line, and the run after it
 unfoldable pub line_answer : Session → List ℕ → Option Answer × Session
 line_answer session text =
-    answer_of_read session (read_script_line session.net.network.plan text)
+    answer_of_read session (read_script_line session.net.network.plan session.image text)
 
 -- what a line of this number shows, and the run after it
 unfoldable pub line_outcome : ℕ → Session → List ℕ → List ℕ × Session

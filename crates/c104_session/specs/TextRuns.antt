@@ -38,6 +38,13 @@ TextEnds refuses description held holds status =
     EndsBefore description held holds status
     ⊎ ((plan : Plan) × (image : Image) × IsSetup description (Ok (plan, image)) × WritesRun (refuses plan image) held holds status)
 
+-- the lines of a script were done, where what the reader has left of it is told: the session behind the last of them, and
+-- whether the script is refused for its length or for a line
+abbrev pub IsDoneBy : Session → Known → Session → Bool → Type 0
+IsDoneBy session None after refused = ⊤
+IsDoneBy session (Some script) after refused =
+    (after ≡ (script_outcome line_outcome session script).1) × (refused ≡ (is_long script || after.faulty))
+
 -- a script is refused, or not, for its length or for one of its lines, where what the reader has left of it is told
 abbrev pub IsRefusedAfter : Session → Known → Bool → Type 0
 IsRefusedAfter session None refused = ⊤

@@ -1,6 +1,6 @@
 -- The run of a script, what crosses the wires of its network round by round, and the text that is written of that.
-use Rattle.{c104_plan.specs.{PlanImage.Image, Plans.Plan}, c104_print.specs.TimePictures.IsShorter}
-use Rattle.c104_print.specs.declared.{over_time.pictures.TheConstants.TIME_TEXT_LIMIT, rows.Format.Format}
+use Rattle.{c104_plan.specs.{PlanImage.Image, Plans.Plan}, c104_reports.specs.TimePictures.IsShorter}
+use Rattle.{c104_print.specs.declared.rows.Format.Format, c104_reports.specs.declared.over_time.pictures.TheConstants.TIME_TEXT_LIMIT}
 use Rattle.c104_session.specs.{Driven.{driven_outcome, new_driven}, Refusals.refuses, Shown.new_session, Timed.timeline_kept}
 use Rattle.{c104_session.specs.declared.{driven.Driven.Driven, over_time.Asked.Asked}, c104_stream.specs.ScriptLines.is_long}
 use Rattle.{c104_stream.specs.Scripts.script_outcome, c104_timeline.specs.{Closing.closed_all, Periods.period_of, Timelines.Timeline}}
@@ -26,7 +26,7 @@ abbrev pub IsTimedPlan : Plan → Image → Option (List ℕ) → Timeline → B
 IsTimedPlan plan image script t refused =
     IsTimedAfter (new_driven (new_session plan image) (new_timeline plan)) script t refused
 
--- the line that refuses a picture that would be too long, and says which rounds fit
+-- the line that refuses a picture that would be too large, and says which rounds fit
 abbrev pub fits_text : Option Period → List ℕ
 fits_text None = codes "\n"
 fits_text (Some p) = codes ": --from " ++ (decimal p.from ++ (codes " --to " ++ (decimal p.to ++ codes " fits\n")))

@@ -1,6 +1,6 @@
 //! A script, read and answered line by line.
 ghost use Rattle.std.specs.{Io.KnownBytes.prepend_known, Prelude.{Err, IfOk, List, ℕ, ◌≢◌}};
-ghost use Rattle.{c104_script.specs.Answering.DoesScript, c104_session.specs.{Driven.driven_outcome, Lines.AreOnlyLines}};
+ghost use Rattle.{c104_script.specs.Answering.DoesScript, c104_session.specs.{Driven.driven_outcome, Lines.AreOnlyLines, TextRuns.IsDoneBy}};
 ghost use Rattle.{c104_session.specs.Shown.line_outcome, c104_stream.specs.{ScriptLines.script_lines, Scripts.AnswersScript}};
 ghost use Rattle.c104_stream.specs.declared.halt.Halt.TheVariants as halt;
 
@@ -41,6 +41,27 @@ pub fn answer_script<S: Read, W: Write, M: Messages>(
     let answered = answer_lines(alloc, session, ahead, script, writer, &mut telling);
     telling.end(&answered);
     answered
+}
+
+/// Does the lines of a script, as `answer_script` does, but writes no answers. Says whether the script is refused: it is too
+/// long, which is told, or a line is faulty. It never fails to write.
+#[tactic(auto, using(crate::proofs::TextRuns::done_by, crate::proofs::NewScripts::done_anew), unfolding(crate::specs::Shown::line_outcome))]
+pub fn do_script<S: Read, M: Messages>(
+    alloc: Global,
+    session: &mut Session,
+    script: &mut S,
+    messages: &mut M,
+) -> Result<bool, Halt>
+    ensures done { IfOk result (λ refused. IsDoneBy session.old (S.remaining script.old) session.new refused) }
+    ensures unwritten { result ≢ Err halt.CannotWrite }
+{
+    let mut ahead = Ahead::new(alloc)?;
+    let mut telling = Telling::new(messages);
+    let done = do_lines(alloc, session, &mut ahead, script, &mut telling);
+    telling.end(&done);
+    let is_long = done?;
+    tell_if_long(is_long, telling.messages);
+    Ok(is_long || session.faulty)
 }
 
 /// Does the lines of a script by a driver, as `answer_script` does, but writes no answers. Where the script is too long, that

@@ -5,7 +5,7 @@ ghost use Rattle.c104_session.specs.AskedPictures.{asked_file, file_among};
 use crate::session::Session;
 use c104_mistakes::Messages;
 use c104_plan::{cut_words, uncommented};
-use c104_print::state_text;
+use c104_reports::state_text;
 use std::alloc::Global;
 use std::{io, str};
 

@@ -6,7 +6,7 @@ ghost use Rattle.c104_stats.specs.Counts.{counts_sent};
 ghost use Rattle.c104_event.specs.declared.faults.EventFault.TheVariants as fault;
 
 use crate::driver::Driver;
-use crate::keepers::{Keeper, do_told, keep_fair_rounds, keep_rounds};
+use crate::keepers::{Keeper, do_told, keep_fair_rounds, keep_further_round, keep_rounds};
 use crate::resets::is_reset;
 use c104_event::{Event, EventFault};
 use c104_net::{TracedNet, Turns, Watch, Words};
@@ -57,6 +57,11 @@ impl Driver for Stats {
         watch: &mut W,
     ) -> Result<(), EventFault> {
         keep_rounds(self, net, words, count, watch)
+    }
+
+    #[tactic(auto, using(crate::proofs::FurtherRounds::counted_further))]
+    fn further_round(&mut self, net: &mut TracedNet) -> Result<bool, EventFault> {
+        keep_further_round(self, net)
     }
 
     fn fair_rounds<W: Watch>(

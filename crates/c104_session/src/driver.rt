@@ -1,6 +1,7 @@
 //! Who does what the lines of a script ask of a network.
 ghost use Rattle.std.specs.Prelude.{Err, OnErr, ◌≡◌, ◌⊎◌};
 ghost use Rattle.c104_session.specs.{Driven.{DoesEvent, DoesFairly, DoesRounds}, Leavings.{LeavesFairly, LeavesRounds}};
+ghost use Rattle.c104_session.specs.FurtherRounds.{DoesFurther, DrivesFurther};
 ghost use Rattle.c104_event.specs.declared.faults.EventFault.TheVariants as fault;
 
 use c104_event::{Event, EventFault};
@@ -33,6 +34,12 @@ pub(crate) trait Driver {
         ensures due { DoesRounds words net.old count result net.new }
         ensures left { LeavesRounds words net.old count net.new }
         ensures driven { (self.new ≡ drives.rounds self.old net.old words count) ⊎ (result ≡ Err fault.NoMemory) };
+
+    /// Does a round whose inputs are handed word 0, but not where the network stands still, and tells whether it did one. Out of
+    /// memory the first of its events are done.
+    fn further_round(&mut self, net: &mut TracedNet) -> Result<bool, EventFault>
+        ensures due { DoesFurther net.old result net.new }
+        ensures driven { DrivesFurther drives self.old net.old result self.new net.new };
 
     /// Does `count` fair rounds whose inputs are handed words, from these turns on, as `TracedNet::fair_rounds` does. Out of
     /// memory the first of their events are done.
@@ -74,6 +81,16 @@ impl Driver for Plain {
         watch: &mut W,
     ) -> Result<(), EventFault> {
         net.rounds_watched(count, words, watch)
+    }
+
+    #[tactic(auto, using(crate::proofs::FurtherRounds::plain_done, crate::proofs::FurtherRounds::nothing_driven, crate::proofs::FurtherRounds::nothing_refused))]
+    fn further_round(&mut self, net: &mut TracedNet) -> Result<bool, EventFault> {
+        // The proof reads here what every plan and every such network keeps.
+        let plan = net.told_plan();
+        let _switches = plan.switches();
+        let before = net.done_count();
+        net.rounds(1)?;
+        Ok(before < net.done_count())
     }
 
     #[tactic(auto, using(crate::proofs::FairLeavings::fairly_left))]

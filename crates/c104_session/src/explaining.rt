@@ -1,8 +1,7 @@
 //! Messages about the lines of a script, and answers to what a person asks among them.
 //!
-//! Questions are answered where standard input and standard error are terminals. Through a pipe they are explained as
-//! other unknown words, since a program that sends them has mistaken what it talks to; so no script writes a file by
-//! `draw FILE`.
+//! A question stands in the comment of a line, and is answered behind that line where standard input and standard error are
+//! terminals; so it changes no answer. Elsewhere it is a comment as any other, and no script writes a file by `draw FILE`.
 
 use crate::asked_pictures::{asked_file, picture_message};
 use crate::refusals::ends_run;
@@ -10,19 +9,17 @@ use crate::session::Session;
 use crate::tally::Tally;
 use crate::telling::Telling;
 use c104_event::EventFault;
-use c104_explain::{
-    about_question, is_question, question_message, reason_message, standstill_message,
-};
+use c104_explain::{question_in, question_message, reason_message, standstill_message};
 use c104_mistakes::{
     About, Messages, command_message, fault_message, is_refusal, owner_message, refusal_message,
     register_message,
 };
-use c104_script::{Answer, Finding, LineFault, Request, read_line};
+use c104_script::{Answer, Finding, Request, Settled, read_line};
 use c104_switch::Reply;
 use std::alloc::Global;
 
-/// What is told about a line that was answered so, and what it asks where a person types it and may ask. None where there
-/// is nothing to tell, and out of memory. What was done joins the tally.
+/// What is told about a line that was answered so, or else what answers the question in its comment where a person types it.
+/// None where there is nothing to tell, and out of memory. What was done joins the tally.
 pub(crate) fn line_message<M: Messages>(
     alloc: Global,
     session: &Session,
@@ -32,15 +29,18 @@ pub(crate) fn line_message<M: Messages>(
     telling: &mut Telling<'_, M>,
 ) -> Option<(About, String)> {
     let Some(answer) = answer else {
-        return None;
+        return message_of_question(alloc, session, line, telling);
     };
     telling.tally.note_line();
     if let Answer::Faulty(fault) = answer {
-        return message_of_fault(alloc, session, number, line, *fault, telling.messages);
+        let message = fault_message(alloc, line, *fault, telling.messages.are_asked())?;
+        return Some((About::FaultyLine(number), message));
     }
     let rounds = telling.rounds();
-    let message = message_of_answer(alloc, session, line, answer, rounds, &mut telling.tally)?;
-    Some((About::ScriptLine(number), message))
+    match message_of_answer(alloc, session, line, answer, rounds, &mut telling.tally) {
+        Some(message) => Some((About::ScriptLine(number), message)),
+        None => message_of_question(alloc, session, line, telling),
+    }
 }
 
 /// What is told about the line that ends a run in this round, by what is full: that is told even where none are wanted. None
@@ -83,6 +83,10 @@ fn message_of_answer(
         Answer::Replied(Reply::Done | Reply::Control(_)) => {
             message_of_done(alloc, session, line, rounds, tally)
         }
+        Answer::Settled(Settled::StandsStill(_)) => {
+            standstill_message(alloc, &session.net, tally.sent())
+        }
+        Answer::Settled(Settled::Done(_) | Settled::Moving(_)) => None,
         Answer::Found(_) | Answer::Replied(Reply::Token(_)) | Answer::Faulty(_) => None,
     }
 }
@@ -109,7 +113,7 @@ fn refused_message(
 /// where the line asks nothing, or what it asks is ready or refused, and out of memory.
 fn unready_message(alloc: Global, session: &Session, line: &[u8]) -> Option<String> {
     let plan = session.net.plan();
-    let Ok(Some(Request::Asked(event))) = read_line(alloc, plan, line) else {
+    let Ok(Some(Request::Asked(event))) = read_line(alloc, plan, &session.image, line) else {
         return None;
     };
     let reason = session.net.why(&event)?;
@@ -125,7 +129,7 @@ fn message_of_done(
     rounds: u32,
     tally: &mut Tally,
 ) -> Option<String> {
-    match read_line(alloc, session.net.plan(), line) {
+    match read_line(alloc, session.net.plan(), &session.image, line) {
         Ok(Some(Request::Rounds { count, .. })) if rounds < count && !session.net.quiet() => {
             standstill_message(alloc, &session.net, tally.sent())
         }
@@ -141,33 +145,21 @@ fn message_of_done(
     }
 }
 
-/// What is told about a faulty line, of which a person who types it may ask. A picture that is asked for is saved.
-fn message_of_fault<M: Messages>(
+/// What answers a question in the comment of a line, where a person types it. A picture that is asked for is saved.
+fn message_of_question<M: Messages>(
     alloc: Global,
     session: &Session,
-    number: usize,
     line: &[u8],
-    fault: LineFault,
-    messages: &mut M,
+    telling: &mut Telling<'_, M>,
 ) -> Option<(About, String)> {
-    let is_asked = messages.are_asked();
-    if is_asked && is_question(line) {
-        let message = answer_of(alloc, session, line, messages)?;
-        return Some((about_question(line), message));
+    if !telling.messages.are_asked() {
+        return None;
     }
-    let message = fault_message(alloc, line, fault, is_asked)?;
-    Some((About::FaultyLine(number), message))
-}
-
-/// What answers a question. None out of memory.
-fn answer_of<M: Messages>(
-    alloc: Global,
-    session: &Session,
-    line: &[u8],
-    messages: &mut M,
-) -> Option<String> {
-    match asked_file(alloc, line) {
-        Some(file) => picture_message(alloc, session, file, messages),
-        None => question_message(alloc, &session.net, line),
-    }
+    let question = question_in(line)?;
+    telling.tally.note_line();
+    let message = match asked_file(alloc, question) {
+        Some(file) => picture_message(alloc, session, file, telling.messages)?,
+        None => question_message(alloc, &session.net, question)?,
+    };
+    Some((About::Question, message))
 }

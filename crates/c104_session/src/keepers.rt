@@ -2,9 +2,11 @@
 ghost use Rattle.std.specs.Prelude.{Err, OnErr, length, ◌≡◌, ◌⊎◌};
 ghost use Rattle.{c104_net.specs.MeteredRecords.{at_meter, record_metered}, c104_run.specs.{FairRounds.in_turn, HandedWords.words_behind}};
 ghost use Rattle.c104_session.specs.{Driven.{DoesEvent, DoesFairly, DoesRounds}, Leavings.{LeavesFairly, LeavesRounds}};
-ghost use Rattle.c104_session.specs.Keepers.{KeepsFairRound, KeepsRound, fair_rounds_kept, is_later, rounds_kept};
+ghost use Rattle.c104_session.specs.{FurtherRounds.{DoesFurther, KeepsFurther}, Keepers.{KeepsFairRound, KeepsRound, fair_rounds_kept}};
+ghost use Rattle.c104_session.specs.Keepers.{is_later, rounds_kept};
 ghost use Rattle.c104_event.specs.declared.faults.EventFault.TheVariants as fault;
 
+use crate::settling::stands_still;
 use c104_event::{Event, EventFault};
 use c104_net::{Meter, MeteredNet, TaggedToken, TracedNet, Turns, Watch, Words};
 use c104_switch::Reply;
@@ -74,6 +76,22 @@ pub(crate) fn keep_rounds<K: Keeper, W: Watch>(
         handed = words_behind(handed, net);
     }
     Ok(())
+}
+
+/// Does a round whose inputs are handed word 0, but not where the network stands still, tells whether it did one, and has this
+/// kept of it. Out of memory the first of its events are done.
+#[tactic(auto, using(crate::proofs::FurtherRounds::kept_does, crate::proofs::FurtherRounds::kept_further))]
+pub(crate) fn keep_further_round<K: Keeper>(
+    keeper: &mut K,
+    net: &mut TracedNet,
+) -> Result<bool, EventFault>
+    ensures due { DoesFurther net.old result net.new }
+    ensures kept { KeepsFurther K.sees K.keeps net.old keeper.old result net.new keeper.new }
+{
+    if stands_still(net) {
+        return Ok(false);
+    }
+    keep_round(keeper, net, Words::Zero)
 }
 
 /// Does fair rounds whose inputs are handed words, from these turns on, as `TracedNet::fair_rounds` does, and has this kept of

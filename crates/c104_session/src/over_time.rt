@@ -6,10 +6,11 @@ ghost use Rattle.c104_setup.specs.declared.status.Status.TheVariants as status;
 ghost use Rattle.c104_stream.specs.declared.halt.Halt.TheVariants as halt;
 
 use crate::text_runs::{RunText, write_run};
-use crate::timed_runs::time_plan;
+use crate::timed_runs::{TimedRun, time_plan};
 use c104_mistakes::Messages;
 use c104_plan::{Image, Plan};
-use c104_print::{Format, TimeFault, time_picture, time_table};
+use c104_print::Format;
+use c104_reports::{TimeFault, time_picture, time_table};
 use c104_setup::{Setup, Status, read_setup};
 use c104_stream::Halt;
 use c104_timeline::{Period, Timeline};
@@ -26,13 +27,16 @@ pub struct Asked {
     pub to: Option<u32>,
     /// How the table is printed; none for the picture.
     pub format: Option<Format>,
+    /// How many pixels a round of the picture is wide.
+    pub scale: u8,
 }
 
 /// Reads a description, and then reads a script and does its lines on the network, started with the image of its labels; at
-/// the end writes a picture of that over these rounds, as an SVG of at most 1 MiB. Where that is too little it writes a line
-/// in its place, which says which rounds fit, and the status is Refused. So it is where a line of the script is faulty,
+/// the end writes a picture of that over these rounds, as an SVG of at most 1 MiB and 32,767 pixels wide and high. Where that is
+/// too little it writes a line in its place, which says which rounds fit, and the status is Refused. So it is where a line of the script is faulty,
 /// which is left out, and where the script is too long, of which the lines are done that end within 16 MiB. If a format is
-/// said it writes a table in place of the picture, which has a row for each rectangle, however many those are.
+/// said it writes a table in place of the picture, which has a row for each rectangle, however many those are. Either is of the
+/// wires at these switches, of which a number that no switch has is none, or of all if none is named.
 ///
 /// It tells people of each line that is faulty, refused or not ready. What is written and how it ends are the same
 /// whatever takes the messages does.
@@ -42,6 +46,7 @@ pub struct Asked {
 pub fn draw_over_time_command<D: Read, S: Read, W: Write, M: Messages>(
     alloc: Global,
     asked: Asked,
+    switches: &[usize],
     description: &mut D,
     script: &mut S,
     writer: &mut W,
@@ -55,7 +60,9 @@ pub fn draw_over_time_command<D: Read, S: Read, W: Write, M: Messages>(
         Ok(setup) => setup,
         Err(status) => return status,
     };
-    draw_timed(alloc, asked, &plan, image, script, writer, messages)
+    draw_timed(
+        alloc, asked, switches, &plan, image, script, writer, messages,
+    )
 }
 
 /// The same of the network of a plan, with an image that fits it.
@@ -63,6 +70,7 @@ pub fn draw_over_time_command<D: Read, S: Read, W: Write, M: Messages>(
 fn draw_timed<S: Read, W: Write, M: Messages>(
     alloc: Global,
     asked: Asked,
+    switches: &[usize],
     plan: &Plan,
     image: Image,
     script: &mut S,
@@ -74,7 +82,7 @@ fn draw_timed<S: Read, W: Write, M: Messages>(
         (W.contents writer.old) (W.contents writer.new) result }
     ensures of_script { (n : ℕ) → result ≡ status.CannotRead n → n ≡ 1 }
 {
-    match timed_text(alloc, asked, plan, image, script, messages) {
+    match timed_text(alloc, asked, switches, plan, image, script, messages) {
         Ok(timed) => write_run(timed.text.as_bytes(), timed.is_refused, writer),
         Err(halt) => Status::of_halt(halt, 1),
     }
@@ -84,6 +92,7 @@ fn draw_timed<S: Read, W: Write, M: Messages>(
 fn timed_text<S: Read, M: Messages>(
     alloc: Global,
     asked: Asked,
+    switches: &[usize],
     plan: &Plan,
     image: Image,
     script: &mut S,
@@ -95,12 +104,32 @@ fn timed_text<S: Read, M: Messages>(
     ensures unwritten { result ≢ Err halt.CannotWrite }
 {
     let run = time_plan(alloc, plan, image, script, messages)?;
+    // The rounds are those of all wires, so pictures of different switches fit one another.
     let period = Period::of(&run.timeline, asked.from, asked.to);
-    let drawn = period_text(alloc, plan, &run.timeline, period, asked.format)?;
+    let is_refused = run.is_refused;
+    let drawn = chosen_text(alloc, asked, switches, plan, run, period)?;
     Ok(RunText {
         text: drawn.text,
-        is_refused: drawn.is_refused || run.is_refused,
+        is_refused: drawn.is_refused || is_refused,
     })
+}
+
+/// What is asked for of these rounds of a run, of the wires at these switches. The only error is out of memory.
+fn chosen_text(
+    alloc: Global,
+    asked: Asked,
+    switches: &[usize],
+    plan: &Plan,
+    run: TimedRun,
+    period: Period,
+) -> Result<RunText, NoMemory>
+    ensures { IfOk result (λ timed. IsPeriodText asked.format period (string_bytes timed.text) timed.is_refused) }
+{
+    let mut run = run;
+    if !switches.is_empty() {
+        run.timeline.choose(plan, switches);
+    }
+    period_text(alloc, plan, &run.timeline, period, asked)
 }
 
 /// The picture of these rounds of a run, or the line that refuses it; or the table, if a format is said. The only error is
@@ -110,12 +139,12 @@ fn period_text(
     plan: &Plan,
     timeline: &Timeline,
     period: Period,
-    format: Option<Format>,
+    asked: Asked,
 ) -> Result<RunText, NoMemory>
-    ensures { IfOk result (λ timed. IsPeriodText format period (string_bytes timed.text) timed.is_refused) }
+    ensures { IfOk result (λ timed. IsPeriodText asked.format period (string_bytes timed.text) timed.is_refused) }
 {
-    let Some(format) = format else {
-        return picture_text(alloc, plan, timeline, period);
+    let Some(format) = asked.format else {
+        return picture_text(alloc, plan, timeline, period, asked.scale);
     };
     Ok(RunText {
         text: time_table(alloc, format, plan, timeline, period)?,
@@ -129,10 +158,11 @@ fn picture_text(
     plan: &Plan,
     timeline: &Timeline,
     period: Period,
+    scale: u8,
 ) -> Result<RunText, NoMemory>
     ensures { IfOk result (λ timed. IsPictureText period (string_bytes timed.text) timed.is_refused) }
 {
-    match time_picture(alloc, plan, timeline, period) {
+    match time_picture(alloc, plan, timeline, period, scale) {
         Ok(text) => Ok(RunText {
             text,
             is_refused: false,
@@ -145,7 +175,7 @@ fn picture_text(
     }
 }
 
-/// The line that refuses a picture that would be too long, and says which rounds fit.
+/// The line that refuses a picture that would be too large, and says which rounds fit.
 fn refusal_text(alloc: Global, fits: Option<Period>) -> Result<String, AllocError>
     ensures { IfOk result (λ text. string_bytes text ≡ refusal_text fits) }
 {

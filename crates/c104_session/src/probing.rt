@@ -5,6 +5,7 @@ ghost use Rattle.c104_session.specs.Probing.{difference_answer, link_answer, lin
 ghost use Rattle.c104_session.specs.Probing.{stopped_answer, table_outcome, tool_outcome, value_answer, verified_answer};
 ghost use Rattle.c104_tools.specs.NetOutcomes.{net_poke, net_verify};
 
+use crate::found_registers::{answer_differences, answer_registers};
 use crate::tools::{link_of_net, poke_net, table_of_net, verify_net};
 use c104_event::EventFault;
 use c104_net::TracedNet;
@@ -36,6 +37,8 @@ pub(crate) fn answer_probe(
         Probe::Link { switch, link } => answer_link(net, switch, link),
         Probe::Table { switch, link } => answer_table(alloc, net, switch, link),
         Probe::Verify => answer_verify(net, image),
+        Probe::VerifyAll => answer_differences(alloc, net, image),
+        Probe::Dump { switch } => answer_registers(alloc, net, switch),
     }
 }
 

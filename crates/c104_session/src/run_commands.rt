@@ -3,7 +3,7 @@ ghost use Rattle.std.specs.{Io.KnownBytes.{IsAtEnd, prepend_known}, Prelude.{Lis
 ghost use Rattle.c104_describe.specs.{PlanText.read_description, declared.faults.PlanFault.PlanFault as ThePlanFault};
 ghost use Rattle.{c104_plan.specs.{PlanImage.Fits, Plans.Plan as ThePlan, TextCut.most_bytes}, c104_script.specs.Parts.AreOnlyParts};
 ghost use Rattle.{c104_script.specs.Parts.{StopsBeforeScript, parts}, c104_session.specs.{Lines.AreOnlyLines, PrintedRuns.PrintsAllOf}};
-ghost use Rattle.c104_session.specs.{PrintedRuns.PrintsPacketsOf, RunCommands.{RunsDescription, RunsParts, RunsText}};
+ghost use Rattle.c104_session.specs.{PrintedRuns.{PrintsPacketsOf, PrintsSettledOf}, RunCommands.{RunsDescription, RunsParts, RunsText}};
 ghost use Rattle.{c104_setup.specs.Setups.ComesTo, c104_stream.specs.ScriptLines.script_lines};
 ghost use Rattle.c104_setup.specs.declared.status.Status.TheVariants as status;
 
@@ -21,12 +21,12 @@ use std::io::{Read, Write};
 /// more: where it gives at most a line at a time, each line is answered before the next is read.
 ///
 /// It tells people of each line that is faulty, refused or not ready, and at the end of what didn't arrive. Where a
-/// person types the script, the messages also answer `help`, `show`, `where` and `draw`: what is written answers them as
-/// any unknown word. What is written and how it ends are the same whatever takes the messages does.
+/// person types the script, the messages also answer the questions in comments of its lines. What is written and how it
+/// ends are the same whatever takes the messages does.
 ///
 /// Reading ends at 1 MiB of a description and at 16 MiB of a script, whatever the reader. Each error
 /// of a reader or a writer is a fault at once.
-#[tactic(auto, using(crate::proofs::LinesLaw::lines_law, crate::proofs::PrintedRunsLaw::printed_runs, crate::proofs::PrintedRunsLaw::delivered_runs))]
+#[tactic(auto, using(crate::proofs::LinesLaw::lines_law, crate::proofs::PrintedRunsLaw::printed_runs, crate::proofs::PrintedRunsLaw::delivered_runs, crate::proofs::PrintedRunsLaw::settled_runs))]
 pub fn run<D: Read, S: Read, W: Write, M: Messages>(
     alloc: Global,
     description: &mut D,
@@ -46,10 +46,12 @@ pub fn run<D: Read, S: Read, W: Write, M: Messages>(
     // What the lines of a script are, in words.
     ensures lines { (script : List ℕ) → AreOnlyLines script (script_lines script) }
 
-    // What is printed behind the answers, of packets: lines of packets that were sent, each whole and none twice; and,
-    // with rounds enough, where channels do not depend on one another in a cycle, of all that were sent to a terminal.
+    // What is printed behind the answers, of packets: lines of packets that were sent, each whole and none twice; and of all
+    // that were sent to a terminal, with rounds enough, where channels do not depend on one another in a cycle, or where
+    // a line behind them settles and no token is left.
     ensures packets { (text script : List ℕ) → PrintsPacketsOf text script }
     ensures all { (text script : List ℕ) → PrintsAllOf text script }
+    ensures settled { (text script : List ℕ) → PrintsSettledOf text script }
 {
     let text = match read_up_to(alloc, MAX_DESCRIPTION, description) {
         Ok(text) => text,
@@ -77,6 +79,7 @@ pub fn debug_command<D: Read, S: Read, W: Write, M: Messages>(
     ensures lines { (script : List ℕ) → AreOnlyLines script (script_lines script) }
     ensures packets { (text script : List ℕ) → PrintsPacketsOf text script }
     ensures all { (text script : List ℕ) → PrintsAllOf text script }
+    ensures settled { (text script : List ℕ) → PrintsSettledOf text script }
 {
     run(alloc, description, script, writer, messages)
 }
@@ -84,7 +87,7 @@ pub fn debug_command<D: Read, S: Read, W: Write, M: Messages>(
 /// `run` of one text: its description ends at the first line whose only word is `script`, and the
 /// script follows that line. Where there is no such line the script is empty, and where it hasn't
 /// ended within 1 MiB the description is too long. Messages name the lines of the text.
-#[tactic(auto, using(c104_script::proofs::PartsLaw::parts_law, crate::proofs::LinesLaw::lines_law, crate::proofs::PrintedRunsLaw::printed_runs, crate::proofs::PrintedRunsLaw::delivered_runs))]
+#[tactic(auto, using(c104_script::proofs::PartsLaw::parts_law, crate::proofs::LinesLaw::lines_law, crate::proofs::PrintedRunsLaw::printed_runs, crate::proofs::PrintedRunsLaw::delivered_runs, crate::proofs::PrintedRunsLaw::settled_runs))]
 pub fn run_text<R: Read, W: Write, M: Messages>(
     alloc: Global,
     text: &mut R,
@@ -102,10 +105,12 @@ pub fn run_text<R: Read, W: Write, M: Messages>(
     ensures parted { (text : List ℕ) → AreOnlyParts text (parts text) }
     ensures lines { (script : List ℕ) → AreOnlyLines script (script_lines script) }
 
-    // What is printed behind the answers, of packets: lines of packets that were sent, each whole and none twice; and,
-    // with rounds enough, where channels do not depend on one another in a cycle, of all that were sent to a terminal.
+    // What is printed behind the answers, of packets: lines of packets that were sent, each whole and none twice; and of all
+    // that were sent to a terminal, with rounds enough, where channels do not depend on one another in a cycle, or where
+    // a line behind them settles and no token is left.
     ensures packets { (text : List ℕ) → PrintsPacketsOf (parts text).description (parts text).script }
     ensures all { (text : List ℕ) → PrintsAllOf (parts text).description (parts text).script }
+    ensures settled { (text : List ℕ) → PrintsSettledOf (parts text).description (parts text).script }
 {
     let Ok(mut ahead) = Ahead::new(alloc) else {
         return Status::NoMemory;

@@ -1,9 +1,11 @@
 //! A run of a network, line by line.
-ghost use Rattle.std.specs.Prelude.{Err, IfOk, OnErr, OnOk, Option, Result, ◌≡◌, ◌⊎◌};
+ghost use Rattle.std.specs.Prelude.{Err, IfOk, Ok, OnErr, OnOk, Option, Result, Some, ◌≡◌, ◌⊎◌};
 ghost use Rattle.{c104_event.specs.declared.faults.EventFault.EventFault as TheFault, c104_plan.specs.PlanImage.Fits};
 ghost use Rattle.c104_run.specs.{FairRounds.{InTurn, in_turn}, FinishedRecords.record_finish, NetRecords.NetRecord as TheNet};
 ghost use Rattle.{c104_script.specs.declared.answers.Answer.Answer as TheAnswer, c104_session.specs.Driven.{DoesEvent, line_driven}};
 ghost use Rattle.c104_session.specs.{Driven.request_driven, Leavings.{KeepsAllButNet, LeavesFairly, LeavesLine, LeavesNet, LeavesRounds}};
+ghost use Rattle.{c104_script.specs.Script.read_script_line, c104_session.specs.Settling.SettlesTo};
+ghost use Rattle.c104_script.specs.declared.places.Request.TheVariants as asked;
 ghost use Rattle.c104_session.specs.Shown.{fair_outcome, line_answer, new_session, request_answer, rounds_outcome};
 ghost use Rattle.{c104_session.specs.declared.session.Session.Session as TheSession, c104_switch.specs.Actions.Reply as TheReply};
 ghost use Rattle.c104_event.specs.declared.faults.EventFault.TheVariants as fault;
@@ -11,6 +13,7 @@ ghost use Rattle.c104_event.specs.declared.faults.EventFault.TheVariants as faul
 use crate::driver::{Driver, Plain};
 use crate::ended::EndedNet;
 use crate::probing::answer_probe;
+use crate::settling::answer_settle;
 use crate::starting::start_net;
 use c104_event::{Event, EventFault};
 use c104_net::{TracedNet, Turns, Unwatched, Watch, Words};
@@ -78,7 +81,12 @@ impl Session {
         ensures answered { IfOk result (λ answer. ◌≡◌ {A = Option TheAnswer × TheSession}
             (answer, self.new) (line_answer self.old line.now)) }
         ensures left { OnErr result (LeavesLine self.old line.now self.new) }
+        ensures settled { IfOk result (λ answer. read_script_line self.old.net.network.plan self.old.image line.now ≡ Ok (Some asked.Settle)
+            → SettlesTo self.old.net answer self.new.net) }
     {
+        // The proof reads here what every plan and every such network keeps.
+        let plan = self.net.told_plan();
+        let _switches = plan.switches();
         self.answer_driven(alloc, line, &mut Plain, &mut Unwatched)
     }
 
@@ -95,9 +103,9 @@ impl Session {
         ensures answered { IfOk result (λ answer. ◌≡◌ {A = Option TheAnswer × TheSession}
             (answer, self.new) (line_answer self.old line.now)) }
         ensures left { OnErr result (LeavesLine self.old line.now self.new) }
-        ensures driven { OnOk result (driver.new ≡ line_driven D.drives driver.old self.old.net self.old.turns line.now) }
+        ensures driven { OnOk result (driver.new ≡ line_driven D.drives driver.old self.old line.now) }
     {
-        match read_line(alloc, self.net.plan(), line) {
+        match read_line(alloc, self.net.plan(), &self.image, line) {
             Ok(None) => Ok(None),
             Ok(Some(request)) => {
                 let answer = self.answer_request(alloc, &request, driver, watch)?;
@@ -140,6 +148,7 @@ impl Session {
                 let words = Words::of(*seed);
                 do_fair_rounds(&mut self.net, &mut self.turns, words, *count, driver, watch)
             }
+            Request::Settle => return answer_settle(&mut self.net, driver, watch),
             Request::Probed(probe) => {
                 return answer_probe(alloc, &mut self.net, &self.image, *probe);
             }

@@ -5,15 +5,14 @@ ghost use Rattle.c104_session.specs.declared.session.Session.{Session as TheSess
 ghost use Rattle.c104_setup.specs.declared.status.Status.TheVariants as status;
 ghost use Rattle.c104_stream.specs.declared.halt.Halt.TheVariants as halt;
 
+use crate::answering::do_script;
 use crate::session::Session;
-use crate::telling::Telling;
 use crate::text_runs::{RunText, write_run};
-use c104_mistakes::{Messages, tell_if_long};
+use c104_mistakes::Messages;
 use c104_plan::{Image, Plan};
-use c104_print::state_text;
-use c104_script::do_lines;
+use c104_reports::state_text;
 use c104_setup::{Setup, Status, read_setup};
-use c104_stream::{Ahead, Halt};
+use c104_stream::Halt;
 use std::alloc::Global;
 use std::io::{Read, Write};
 
@@ -86,7 +85,7 @@ fn drawn_after<S: Read, M: Messages>(
 }
 
 /// The same of a network that is before the script's first line, and is left as it stands after the script.
-#[tactic(auto, using(crate::proofs::TextRuns::refused_after, crate::proofs::NewScripts::done_anew), unfolding(crate::specs::Shown::line_outcome))]
+#[tactic(auto, using(crate::proofs::TextRuns::refused_by))]
 fn drawn_of<S: Read, M: Messages>(
     alloc: Global,
     session: &mut Session,
@@ -97,15 +96,7 @@ fn drawn_of<S: Read, M: Messages>(
         IfOk result (λ drawn. IsRefusedAfter from (S.remaining script.old) drawn.is_refused) }
     ensures unwritten { result ≢ Err halt.CannotWrite }
 {
-    let mut ahead = Ahead::new(alloc)?;
-    let mut telling = Telling::new(messages);
-    let done = do_lines(alloc, session, &mut ahead, script, &mut telling);
-    telling.end(&done);
-    let is_long = done?;
-    tell_if_long(is_long, telling.messages);
+    let is_refused = do_script(alloc, session, script, messages)?;
     let text = state_text(alloc, &session.net, &session.image)?;
-    Ok(RunText {
-        text,
-        is_refused: is_long || session.faulty,
-    })
+    Ok(RunText { text, is_refused })
 }

@@ -9,14 +9,15 @@ use std::io::Write;
 
 /// What is written of a run.
 #[derive(Drop)]
-pub(crate) struct RunText {
-    pub(crate) text: String,
+pub struct RunText {
+    /// The text.
+    pub text: String,
     /// Whether the run is refused: its script, or what was asked for of it.
-    pub(crate) is_refused: bool,
+    pub is_refused: bool,
 }
 
 /// Writes the text of a run, which is refused or not.
-pub(crate) fn write_run<W: Write>(text: &[u8], is_refused: bool, writer: &mut W) -> Status
+pub fn write_run<W: Write>(text: &[u8], is_refused: bool, writer: &mut W) -> Status
     ensures written { WritesRunText text.now is_refused
         (W.contents writer.old) (W.contents writer.new) result }
     ensures of_writer { (n : ℕ) → result ≢ status.CannotRead n }

@@ -5,7 +5,7 @@ ghost use Rattle.c104_event.specs.declared.faults.EventFault.TheVariants as faul
 
 use crate::counting::was_done;
 use crate::driver::Driver;
-use crate::keepers::{Keeper, do_told, keep_fair_rounds, keep_rounds};
+use crate::keepers::{Keeper, do_told, keep_fair_rounds, keep_further_round, keep_rounds};
 use crate::resets::is_reset;
 use c104_event::{Event, EventFault};
 use c104_net::{TracedNet, Turns, Watch, Words};
@@ -53,6 +53,11 @@ impl Driver for Timeline {
         watch: &mut W,
     ) -> Result<(), EventFault> {
         keep_rounds(self, net, words, count, watch)
+    }
+
+    #[tactic(auto, using(crate::proofs::FurtherRounds::timed_further))]
+    fn further_round(&mut self, net: &mut TracedNet) -> Result<bool, EventFault> {
+        keep_further_round(self, net)
     }
 
     fn fair_rounds<W: Watch>(
