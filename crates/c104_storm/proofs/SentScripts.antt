@@ -1,19 +1,23 @@
 -- A storm's script leaves a network that nobody changed, whose terminals sent what its lines sent.
 use Rattle.{c104_check.specs.Routes.Routes, c104_event.specs.declared.{events.Event.Event, faults.EventFault.EventFault}}
 use Rattle.{c104_net.{proofs.SentBytes.SendsBytes, specs.Unchanged.MayHappen}, c104_node.specs.Traces.{noted_all, seatless}}
-use Rattle.{c104_node.specs.declared.starts.NodeStart.NodeStart, c104_plan.specs.{Checks.◌>>=◌, Plans.{IsPlan, Plan}}}
-use Rattle.{c104_plan.specs.TextCut.{is_plain_line, line_words, uncommented_line}, c104_run.proofs.RecordSteps.same_record}
-use Rattle.c104_run.{proofs.{RoundRuns.undone_left, UndoneEvents.undone_deeds}, specs.NetRecords.{NetRecord, is_done, ticket_after}}
-use Rattle.c104_run.specs.{Network.{Network, network_apply}, RecordedRuns.{record_apply, record_at, record_stage}, Stages.stage_after}
-use Rattle.{c104_run.specs.Stages.stage_full, c104_script.{proofs.ScriptBytes.{AskedBytes, line_bytes}, specs.Script.most_line}}
-use Rattle.c104_script.specs.Script.{packet_of, place_word, read_script_line, read_script_words, request_of, send_line, some_request}
+use Rattle.{c104_node.specs.declared.starts.NodeStart.NodeStart, c104_plan.specs.{Checks.{require, ◌>>=◌, ◌>>◌}, PlanImage.Image}}
+use Rattle.c104_plan.specs.{Plans.{IsPlan, Plan}, TextCut.{is_plain_line, line_words, uncommented_line}}
+use Rattle.c104_plan.specs.TextWords.{dots}
+use Rattle.c104_run.{proofs.{RecordSteps.same_record, RoundRuns.undone_left, UndoneEvents.undone_deeds}, specs.NetRecords.NetRecord}
+use Rattle.c104_run.specs.{NetRecords.{is_done, ticket_after}, Network.{Network, network_apply}, RecordedRuns.{record_apply, record_at}}
+use Rattle.{c104_run.specs.{RecordedRuns.record_stage, Stages.{stage_after, stage_full}}, c104_script.proofs.ScriptBytes.AskedBytes}
+use Rattle.c104_script.{proofs.ScriptBytes.line_bytes, specs.Script.{addressed_line, most_line, packet_of}}
+use Rattle.c104_script.specs.Addressed.{is_undotted, received}
+use Rattle.c104_script.specs.Script.{place_word, read_script_line, read_script_words, request_of, send_line, sending_line, some_request}
 use Rattle.c104_script.specs.{Script.terminal_at, declared.{faults.LineFault.LineFault, places.Request.Request}}
 use Rattle.c104_session.{proofs.UnchangedNets.{IsUnchangedNet, event_leaves, keeps_nothing, nothing}, specs.PrintedPackets.event_sends}
 use Rattle.c104_storm.specs.{Packets.{MaySend, lines_sent, read_sends}, Sends.{answer_of_read, begins_otherwise, is_another}}
 use Rattle.c104_storm.specs.{Sends.{read_send_line, send_answer, send_outcome, sending_answer}, declared.sends.Sending.Sending}
 use Rattle.{c104_stream.specs.Scripts.lines_outcome, c104_switch.specs.Actions.Reply, c104_token.specs.{Kinds.plain_kind, Text.parse_words}}
 use Rattle.{c104_token.specs.declared.{packets.Packet.Packet, tokens.Token.Token}, std.proofs.Common.{Bool, Err, IfOk, List, None, Ok}}
-use Rattle.std.proofs.Common.{Option, Result, Some, [], ap, append-nil, append_assoc, bytes_eq, codes, false, if◌then◌else◌, length, nat_le}
+use Rattle.std.proofs.Common.{Option, Result, Some, [], ap, append-nil, append_assoc, arith, bytes_eq, codes, false, if◌then◌else◌}
+use Rattle.std.proofs.Common.{length, nat_le}
 use Rattle.std.proofs.{Common.{not, refl, slice_get, subst, suc, sym, true, ℕ, ◌&&◌, ◌++◌, ◌∷◌, ◌≡◌}, lemmas.Slice.Eq.bytes_eq-Decides}
 use Rattle.std.specs.List.{AllByRecursion}
 
@@ -35,7 +39,7 @@ chained : {X Y F : Type 0} (P : Y → Type 0) (r : Result X F) (f : X → Result
 chained P (Ok x) f each = each x
 chained P (Err kind) f each = tt
 
-module _ (plan : Plan) where
+module _ (plan : Plan) (image : Image) where
   sent_to : (to : Result ℕ EventFault) (packet : Packet) → IsSending (request_of to (λ t. Event.Send t packet))
   sent_to (Ok t) packet = tt
   sent_to (Err kind) packet = tt
@@ -44,6 +48,38 @@ module _ (plan : Plan) where
   send_asks place list =
       chained IsSending (place_word place) _
       (λ at. chained IsSending (packet_of (parse_words list)) _ (λ packet. sent_to (terminal_at plan at) packet))
+
+  -- so it is where the receiver is named
+  received_sends : (found : Result ℕ EventFault) (it : Request) → IsSending it → IsSending (received found it)
+  received_sends (Ok t) it is = is
+  received_sends (Err kind) (Request.Refused first) is = tt
+  received_sends (Err kind) (Request.Asked e) is = tt
+  received_sends (Err kind) (Request.Rounds count is_fair seed) is = tt
+  received_sends (Err kind) Request.Settle is = tt
+  received_sends (Err kind) (Request.Probed it) is = tt
+
+  chained_is : {X Y F : Type 0} (P : X → Type 0) (Q : Y → Type 0) (r : Result X F) (f : X → Result Y F) → IfOk r P
+      → ((x : X) → P x → IfOk (f x) Q) → IfOk (r >>= f) Q
+  chained_is P Q (Ok x) f is each = each x is
+  chained_is P Q (Err kind) f is each = tt
+
+  checked : {Y F : Type 0} (P : Y → Type 0) (b : Bool) (kind : F) (r : Result Y F) → IfOk r P → IfOk (require b kind >> r) P
+  checked P true kind r is = is
+  checked P false kind r is = tt
+
+  addressed_asks : (place : List ℕ) (list : List (List ℕ)) → IfOk (addressed_line plan image place list) IsSending
+  addressed_asks place [] = send_asks place []
+  addressed_asks place (to ∷ list) =
+      checked IsSending (is_undotted (dots place)) LineFault.BadShape _
+      (chained IsSending (place_word to) _ (λ at. search (arith, chained_is, send_asks, checked, received_sends)))
+
+  sending_asks : (place : List ℕ) (list : List (List ℕ)) → IfOk (sending_line plan image place list) IsSending
+  sending_asks place [] = send_asks place []
+  sending_asks place (first ∷ more) = by_word (bytes_eq first (codes "to"))
+    where
+      by_word : (b : Bool) → IfOk (if b then addressed_line plan image place more else send_line plan place (first ∷ more)) IsSending
+      by_word true = addressed_asks place more
+      by_word false = send_asks place (first ∷ more)
 
   asks_send : (r : Result Request LineFault) → IfOk r IsSending → IfOk (some_request r) AsksSend
   asks_send (Ok it) is = is
@@ -56,24 +92,24 @@ module _ (plan : Plan) where
       by_test true is same = (bytes_eq-Decides first (codes "send")).0 is
       by_test false is same = absurd (cc same)
 
-  send_words : (is_plain : Bool) (rest : List (List ℕ)) → IfOk (read_script_words plan is_plain (codes "send" ∷ rest)) AsksSend
+  send_words : (is_plain : Bool) (rest : List (List ℕ)) → IfOk (read_script_words plan image is_plain (codes "send" ∷ rest)) AsksSend
   send_words true [] = tt
   send_words false rest = tt
-  send_words true (place ∷ list) = asks_send (send_line plan place list) (send_asks place list)
+  send_words true (place ∷ list) = asks_send (sending_line plan image place list) (sending_asks place list)
 
   words_send : (is_plain : Bool) (list : List (List ℕ)) → is_another (slice_get list 0) ≡ false
-      → IfOk (read_script_words plan is_plain list) AsksSend
+      → IfOk (read_script_words plan image is_plain list) AsksSend
   words_send is_plain [] other = tt
   words_send is_plain (first ∷ rest) other =
-      subst (λ (w : List ℕ). IfOk (read_script_words plan is_plain (w ∷ rest)) AsksSend) (sym (not_another first other))
+      subst (λ (w : List ℕ). IfOk (read_script_words plan image is_plain (w ∷ rest)) AsksSend) (sym (not_another first other))
       (send_words is_plain rest)
 
-  pub line_asks : (line : List ℕ) → IfOk (read_send_line plan line) (λ asked. AsksSend asked × AskedBytes plan asked)
+  pub line_asks : (line : List ℕ) → IfOk (read_send_line plan image line) (λ asked. AsksSend asked × AskedBytes plan asked)
   unfolding read_script_line
-  line_asks line = by_length (nat_le (length line) most_line) (line_bytes plan line)
+  line_asks line = by_length (nat_le (length line) most_line) (line_bytes plan image line)
     where
       words : Result (Option Request) LineFault
-      words = read_script_words plan (is_plain_line (uncommented_line line)) (line_words (uncommented_line line))
+      words = read_script_words plan image (is_plain_line (uncommented_line line)) (line_words (uncommented_line line))
 
       both : (r : Result (Option Request) LineFault) → IfOk r AsksSend → IfOk r (AskedBytes plan)
           → IfOk r (λ asked. AsksSend asked × AskedBytes plan asked)
@@ -160,16 +196,17 @@ module _ (routes : Routes) (plan : Plan) (is_plan : IsPlan plan) (starts : List 
     read_leaves (Ok None) is may = none_sent
     read_leaves (Ok (Some (Request.Asked e))) is may = sent e is.0 is.1 may
     read_leaves (Ok (Some (Request.Rounds count is_fair seed))) is may = none_sent
+    read_leaves (Ok (Some Request.Settle)) is may = none_sent
     read_leaves (Ok (Some (Request.Probed it))) is may = none_sent
     read_leaves (Ok (Some (Request.Refused kind))) is may = none_sent
     read_leaves (Err kind) is may = none_sent
 
-    line_leaves : (line : List ℕ) → AllByRecursion (MaySend routes) (read_sends net (read_send_line net.network.plan line))
-        → Is (sends ++ read_sends net (read_send_line net.network.plan line)) (send_answer net line).1
-    line_leaves line may =
-        read_leaves (read_send_line net.network.plan line)
-        (subst (λ (p : Plan). IfOk (read_send_line net.network.plan line) (λ it. AsksSend it × AskedBytes p it)) was.same_plan
-        (line_asks net.network.plan line)) may
+    line_leaves : (image : Image) (line : List ℕ) → AllByRecursion (MaySend routes) (read_sends net (read_send_line net.network.plan image line))
+        → Is (sends ++ read_sends net (read_send_line net.network.plan image line)) (send_answer net image line).1
+    line_leaves image line may =
+        read_leaves (read_send_line net.network.plan image line)
+        (subst (λ (p : Plan). IfOk (read_send_line net.network.plan image line) (λ it. AsksSend it × AskedBytes p it)) was.same_plan
+        (line_asks net.network.plan image line)) may
 
   -- lines in turn
   pub lines_leave : (lines : List (List ℕ)) (number : ℕ) (sends : List (ℕ × Packet)) (sending : Sending)
@@ -179,8 +216,8 @@ module _ (routes : Routes) (plan : Plan) (is_plan : IsPlan plan) (starts : List 
   lines_leave [] number sends sending may was = subst (λ (l : List (ℕ × Packet)). Is l sending.net) (sym (append-nil sends)) was
   lines_leave (line ∷ lines) number sends sending may was =
       let after : Sending = (sending_answer sending line).1 in
-      let here : List (ℕ × Packet) = read_sends sending.net (read_send_line sending.net.network.plan line) in
+      let here : List (ℕ × Packet) = read_sends sending.net (read_send_line sending.net.network.plan sending.image line) in
       subst (λ (l : List (ℕ × Packet)). Is l (lines_outcome send_outcome (suc number) after lines).1.net)
       (append_assoc sends here (lines_sent after lines))
       (lines_leave lines (suc number) (sends ++ here) after (back_of (MaySend routes) here (lines_sent after lines) may)
-      (line_leaves sends sending.net was line (front_of (MaySend routes) here (lines_sent after lines) may)))
+      (line_leaves sends sending.net was sending.image line (front_of (MaySend routes) here (lines_sent after lines) may)))

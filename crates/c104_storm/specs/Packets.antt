@@ -24,7 +24,7 @@ read_sends net asked = []
 abbrev pub lines_sent : Sending → List (List ℕ) → List (ℕ × Packet)
 lines_sent sending [] = []
 lines_sent sending (line ∷ more) =
-    read_sends sending.net (read_send_line sending.net.network.plan line) ++ lines_sent (sending_answer sending line).1 more
+    read_sends sending.net (read_send_line sending.net.network.plan sending.image line) ++ lines_sent (sending_answer sending line).1 more
 
 -- the packets that a script sent, each with its terminal, in order
 abbrev pub script_sent : Plan → Image → List ℕ → List (ℕ × Packet)

@@ -18,10 +18,10 @@ abbrev pub begins_otherwise : List ℕ → Bool
 begins_otherwise line = is_another (slice_get (line_words (uncommented_line line)) 0)
 
 -- what a line asks, or what is wrong with it: an unknown word where it begins otherwise, unless it is too long
-abbrev pub read_send_line : Plan → List ℕ → Result (Option Request) LineFault
-read_send_line plan line =
+abbrev pub read_send_line : Plan → Image → List ℕ → Result (Option Request) LineFault
+read_send_line plan image line =
     if nat_le (length line) most_line && begins_otherwise line then Err LineFault.UnknownWord
-    else read_script_line plan line
+    else read_script_line plan image line
 
 -- what answers an event
 abbrev pub event_answer : Result Reply EventFault → Answer
@@ -36,6 +36,7 @@ event_outcome net event = let r = record_apply net event in (event_answer r.0, r
 abbrev pub request_answer : NetRecord → Request → Answer × NetRecord
 request_answer net (Request.Asked event) = event_outcome net event
 request_answer net (Request.Rounds count is_fair seed) = (Faulty LineFault.UnknownWord, net)
+request_answer net Request.Settle = (Faulty LineFault.UnknownWord, net)
 request_answer net (Request.Probed it) = (Faulty LineFault.UnknownWord, net)
 request_answer net (Request.Refused kind) = (Refused kind, net)
 
@@ -46,8 +47,8 @@ answer_of_read net (Ok (Some request)) = let r = request_answer net request in (
 answer_of_read net (Err kind) = (Some (Faulty kind), net)
 
 -- what answers a line, and the network after it
-abbrev pub send_answer : NetRecord → List ℕ → Option Answer × NetRecord
-send_answer net line = answer_of_read net (read_send_line net.network.plan line)
+abbrev pub send_answer : NetRecord → Image → List ℕ → Option Answer × NetRecord
+send_answer net image line = answer_of_read net (read_send_line net.network.plan image line)
 
 -- whether an answer is that a line is faulty
 abbrev pub tells_fault : Option Answer → Bool
@@ -56,13 +57,13 @@ tells_fault answer = false
 
 -- the network of a plan with an image, before the first line
 abbrev pub new_sending : Plan → Image → Sending
-new_sending plan image = record { net = fresh_record (placed_network plan image); is_faulty = false }
+new_sending plan image = record { net = fresh_record (placed_network plan image); image = image; is_faulty = false }
 
 -- what answers a line, and the sending after it: its network, and whether a line was faulty so far
 unfoldable pub sending_answer : Sending → List ℕ → Option Answer × Sending
 sending_answer sending line =
-    let r = send_answer sending.net line in
-    (r.0, record { net = r.1; is_faulty = tells_fault r.0 || sending.is_faulty })
+    let r = send_answer sending.net sending.image line in
+    (r.0, record { net = r.1; image = sending.image; is_faulty = tells_fault r.0 || sending.is_faulty })
 
 -- what a line of this number shows, and the sending after it
 unfoldable pub send_outcome : ℕ → Sending → List ℕ → List ℕ × Sending

@@ -55,7 +55,7 @@ pub fn storm_command<R: Threads + Wait + Sync, D: Read, S: Read, W: Write, M: Me
         Err(status) => return status,
     };
     storm_setup(
-        alloc, rt, workers, words, allowance, &plan, &image, script, writer, messages,
+        alloc, rt, workers, words, allowance, &plan, image, script, writer, messages,
     )
 }
 
@@ -68,14 +68,14 @@ fn storm_setup<R: Threads + Wait + Sync, S: Read, W: Write, M: Messages>(
     words: Words,
     allowance: Allowance,
     plan: &Plan,
-    image: &Image,
+    image: Image,
     script: &mut S,
     writer: &mut W,
     messages: &mut M,
 ) -> Status
-    requires fits { Fits image.now plan.now }
+    requires fits { Fits image plan.now }
     requires some { (1 ≤ workers) × (workers ≤ MAX_WORKERS) }
-    ensures runs { StormRuns (team_of workers words) plan.now image.now (S.remaining script.old) (S.remaining script.new)
+    ensures runs { StormRuns (team_of workers words) plan.now image (S.remaining script.old) (S.remaining script.new)
         (W.contents writer.old) (W.contents writer.new) result }
     ensures of_script { (n : ℕ) → result ≡ status.CannotRead n → n ≡ 1 }
 {

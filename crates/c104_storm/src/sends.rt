@@ -18,26 +18,33 @@ use std::alloc::Global;
 pub(crate) struct Sending {
     /// The network.
     pub(crate) net: TracedNet,
+    /// What was loaded into its switches.
+    pub(crate) image: Image,
     /// Whether a line was faulty so far.
     pub(crate) is_faulty: bool,
 }
 
 impl Sending {
     /// The network of a plan with an image that fits it, before the first line. The only error is out of memory.
-    pub(crate) fn new(alloc: Global, plan: &Plan, image: &Image) -> Result<Self, NoMemory>
-        requires { Fits image.now plan.now }
-        ensures { IfOk result (λ sending. sending ≡ new_sending plan.now image.now) }
+    pub(crate) fn new(alloc: Global, plan: &Plan, image: Image) -> Result<Self, NoMemory>
+        requires { Fits image plan.now }
+        ensures { IfOk result (λ sending. sending ≡ new_sending plan.now image) }
     {
-        let net = start_net(alloc, plan, image)?;
+        let net = start_net(alloc, plan, &image)?;
         Ok(Sending {
             net,
+            image,
             is_faulty: false,
         })
     }
 
     /// Disposes of the network.
     pub(crate) fn retire(self) {
-        let Sending { net, is_faulty: _ } = self;
+        let Sending {
+            net,
+            image: _,
+            is_faulty: _,
+        } = self;
         net.retire();
     }
 }
@@ -59,7 +66,7 @@ impl<M: Messages> AnswersLines<M> for Sending {
         line: &[u8],
         _messages: &mut M,
     ) -> Result<Option<Answer>, NoMemory> {
-        let answer = answer_send(alloc, &mut self.net, line)?;
+        let answer = answer_send(alloc, &mut self.net, &self.image, line)?;
         let is_faulty = tells_fault(&answer);
         self.is_faulty = is_faulty || self.is_faulty;
         Ok(answer)
@@ -95,11 +102,16 @@ fn tells_fault(answer: &Option<Answer>) -> bool
 }
 
 /// Sends the packet of a line, and gives what answers the line. The only error is out of memory.
-fn answer_send(alloc: Global, net: &mut TracedNet, line: &[u8]) -> Result<Option<Answer>, NoMemory>
+fn answer_send(
+    alloc: Global,
+    net: &mut TracedNet,
+    image: &Image,
+    line: &[u8],
+) -> Result<Option<Answer>, NoMemory>
     ensures answered { IfOk result (λ answer. ◌≡◌ {A = Option TheAnswer × TheNet}
-        (answer, net.new) (send_answer net.old line.now)) }
+        (answer, net.new) (send_answer net.old image.now line.now)) }
 {
-    let request = match read_send(alloc, net.plan(), line) {
+    let request = match read_send(alloc, net.plan(), image, line) {
         Ok(request) => request,
         Err(LineFault::NoMemory) => return Err(NoMemory),
         Err(fault) => return Ok(Some(Answer::Faulty(fault))),
@@ -112,6 +124,7 @@ fn answer_send(alloc: Global, net: &mut TracedNet, line: &[u8]) -> Result<Option
         }
         Some(Request::Refused(fault)) => Ok(Some(Answer::Refused(fault))),
         Some(Request::Rounds { .. }) => Ok(Some(Answer::Faulty(LineFault::UnknownWord))),
+        Some(Request::Settle) => Ok(Some(Answer::Faulty(LineFault::UnknownWord))),
         Some(Request::Probed(_)) => Ok(Some(Answer::Faulty(LineFault::UnknownWord))),
     }
 }
@@ -128,15 +141,20 @@ fn answer_event(net: &mut TracedNet, event: &Event) -> Result<Answer, NoMemory>
     }
 }
 
-/// What a line asks of a network of this plan. A line that begins otherwise than with `send` has an unknown word.
+/// What a line asks of a network of this plan with the labels of an image. A line that begins otherwise than with `send` has an unknown word.
 /// NoMemory may come in place of any answer.
-fn read_send(alloc: Global, plan: &Plan, line: &[u8]) -> Result<Option<Request>, LineFault>
-    ensures { GivesLineOrNoMemory result (read_send_line plan.now line.now) }
+fn read_send(
+    alloc: Global,
+    plan: &Plan,
+    image: &Image,
+    line: &[u8],
+) -> Result<Option<Request>, LineFault>
+    ensures { GivesLineOrNoMemory result (read_send_line plan.now image.now line.now) }
 {
     if line.len() <= MAX_LINE && begins_otherwise(line) {
         return Err(LineFault::UnknownWord);
     }
-    read_line(alloc, plan, line)
+    read_line(alloc, plan, image, line)
 }
 
 /// Whether a line has words, and begins with another than `send`.

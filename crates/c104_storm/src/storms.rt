@@ -40,23 +40,23 @@ pub fn storm_plan<R: Threads + Wait + Sync, S: Read, W: Write, M: Messages>(
     words: Words,
     allowance: Allowance,
     plan: &Plan,
-    image: &Image,
+    image: Image,
     script: &mut S,
     writer: &mut W,
     messages: &mut M,
 ) -> Result<bool, Halt>
-    requires fits { Fits image.now plan.now }
+    requires fits { Fits image plan.now }
     requires some { (1 ≤ workers) × (workers ≤ MAX_WORKERS) }
-    ensures storms { StormsPlan (team_of workers words) plan.now image.now (S.remaining script.old) (S.remaining script.new)
+    ensures storms { StormsPlan (team_of workers words) plan.now image (S.remaining script.old) (S.remaining script.new)
         (W.contents writer.old) (W.contents writer.new) result }
 
     // What is written behind the answers, of packets: where all is quiet, a line of each packet that was sent to a terminal,
     // whole, and none twice, by their senders and numbers.
-    ensures packets { WritesSentPackets (team_of workers words) plan.now image.now }
+    ensures packets { WritesSentPackets (team_of workers words) plan.now image }
 
     // Where no channels depend on one another in a cycle, a storm never comes to a standstill: if it isn't quiet at its end, a round
     // would do something, or an inbox or a trace is full.
-    ensures moving { NeverStandsStill (team_of workers words) plan.now image.now }
+    ensures moving { NeverStandsStill (team_of workers words) plan.now image }
 {
     // The proof reads here what every plan and every image keeps.
     let _switches = plan.switches();
@@ -128,7 +128,11 @@ fn storm_net<R: Threads + Wait + Sync, W: Write, M: Messages>(
     ensures { StormsOn (team_of workers words) sending.net is_long sending.is_faulty
         (W.contents writer.old) (W.contents writer.new) result }
 {
-    let Sending { net, is_faulty } = sending;
+    let Sending {
+        net,
+        image: _,
+        is_faulty,
+    } = sending;
     let sent = Sent { is_long, is_faulty };
     match Ready::new(alloc, net, usize::from(workers), allowance.events()) {
         Ok(ready) => storm_ready::<Brand, R, W, M>(
