@@ -23,6 +23,12 @@ LabelRefusalEnds plan image held holds (Status.CannotRead n) = ⊥
 LabelRefusalEnds plan image held holds Status.CannotWrite = (text : List ℕ) × IsRefusedBy plan image text × AppendsPrefix held holds text
 LabelRefusalEnds plan image held holds Status.NoMemory = Keeps held holds
 
+-- whether the labels of a plan with an image are accepted, whatever made them, and the line that tells it
+abbrev pub TellsCheck : Plan → Image → List ℕ → Bool → Type 0
+TellsCheck plan image text false = (text ≡ accepted_text) × IsAccepted (routes_of plan image)
+TellsCheck plan image text true =
+    (why : CheckFault) × IsCause (routes_of plan image) why × (why ≢ CheckFault.NoMemory) × (text ≡ check_fault_text plan why)
+
 -- what `check` prints of a network, and whether its labels are refused
 abbrev pub PrintsCheck : Plan → Image → List ℕ → Bool → Type 0
 PrintsCheck plan image text false = (text ≡ accepted_text) × IsAccepted (routes_of plan image)

@@ -11,5 +11,4 @@ pub mod Cycles
 pub mod Cuts
 pub mod PathCommands
 pub mod PathSummaries
-pub mod Fixes
 pub mod Boots

@@ -72,8 +72,19 @@ impl Comparison {
             (W.contents writer.old) (W.contents writer.new) result }
     {
         match read_setup(alloc, description, writer, messages) {
-            Ok(setup) => self.add_setup(alloc, name, setup, writer, messages),
+            Ok(setup) => {
+                let status = self.add_setup(alloc, name, &setup, writer, messages);
+                self.keep_first(setup.plan);
+                status
+            }
             Err(status) => status,
+        }
+    }
+
+    /// Keeps a network if there is none before it.
+    fn keep_first(&mut self, plan: Plan) {
+        if self.first.is_none() {
+            self.first = Some(plan);
         }
     }
 
@@ -83,20 +94,20 @@ impl Comparison {
         &mut self,
         alloc: Global,
         name: &str,
-        setup: Setup,
+        setup: &Setup,
         writer: &mut W,
         messages: &mut M,
     ) -> Status
-        requires fits { Fits setup.image setup.plan }
-        requires accepted { is_labelled_shape setup.plan.shape ≡ true
-            → IsAccepted (routes_of setup.plan setup.image) }
-        ensures { (due : Result ThePlan ThePlanFault) → ComesTo due (Ok (setup.plan, setup.image))
+        requires fits { Fits setup.now.image setup.now.plan }
+        requires accepted { is_labelled_shape setup.now.plan.shape ≡ true
+            → IsAccepted (routes_of setup.now.plan setup.now.image) }
+        ensures { (due : Result ThePlan ThePlanFault) → ComesTo due (Ok (setup.now.plan, setup.now.image))
             → CommandEnds PrintsCompared due (W.contents writer.old) (W.contents writer.new) result }
     {
         match check(alloc, &setup.plan, &setup.image) {
             Ok(_) => self.add_accepted(alloc, name, setup, writer, messages),
             Err(CheckFault::NoMemory) => Status::NoMemory,
-            Err(fault) => refuse_labels(alloc, &setup, &fault, writer, messages),
+            Err(fault) => refuse_labels(alloc, setup, &fault, writer, messages),
         }
     }
 
@@ -106,13 +117,13 @@ impl Comparison {
         &mut self,
         alloc: Global,
         name: &str,
-        setup: Setup,
+        setup: &Setup,
         writer: &mut W,
         messages: &mut M,
     ) -> Status
-        requires fits { Fits setup.image setup.plan }
-        requires accepted { IsAccepted (routes_of setup.plan setup.image) }
-        ensures { (due : Result ThePlan ThePlanFault) → ComesTo due (Ok (setup.plan, setup.image))
+        requires fits { Fits setup.now.image setup.now.plan }
+        requires accepted { IsAccepted (routes_of setup.now.plan setup.now.image) }
+        ensures { (due : Result ThePlan ThePlanFault) → ComesTo due (Ok (setup.now.plan, setup.now.image))
             → CommandEnds PrintsCompared due (W.contents writer.old) (W.contents writer.new) result }
     {
         if let Some(first) = &self.first
@@ -127,28 +138,30 @@ impl Comparison {
     }
 
     /// Adds what the paths of a network come to.
-    fn add_row(&mut self, alloc: Global, name: &str, setup: Setup) -> Result<(), NoMemory>
-        requires fits { Fits setup.image setup.plan }
-        requires accepted { IsAccepted (routes_of setup.plan setup.image) }
+    fn add_row(&mut self, alloc: Global, name: &str, setup: &Setup) -> Result<(), NoMemory>
+        requires fits { Fits setup.now.image setup.now.plan }
+        requires accepted { IsAccepted (routes_of setup.now.plan setup.now.image) }
     {
         let summary = PathSummary::of(alloc, &setup.plan, &setup.image)?;
         self.rows.text(name)?;
         add_summary(alloc, &mut self.rows, &setup.plan, &summary)?;
-        if self.first.is_none() {
-            self.first = Some(setup.plan);
-        }
         Ok(())
     }
 
     /// Writes all rows.
     pub fn finish<W: Write>(self, writer: &mut W) -> Status {
-        let Ok(text) = self.rows.finish() else {
-            return Status::NoMemory;
-        };
-        match write_whole(writer, text.as_bytes()) {
-            Ok(()) => Status::Done,
-            Err(_) => Status::CannotWrite,
-        }
+        write_rows(self.rows, writer)
+    }
+}
+
+/// Writes these rows.
+fn write_rows<W: Write>(rows: Rows, writer: &mut W) -> Status {
+    let Ok(text) = rows.finish() else {
+        return Status::NoMemory;
+    };
+    match write_whole(writer, text.as_bytes()) {
+        Ok(()) => Status::Done,
+        Err(_) => Status::CannotWrite,
     }
 }
 

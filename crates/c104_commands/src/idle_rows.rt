@@ -6,9 +6,9 @@
 //! at no other input there. And a table made by a program might have such rows without end: only the first are told.
 ghost use Rattle.{c104_check.specs.Routes.{IsAccepted, routes_of}, c104_plan.specs.PlanImage.Fits};
 
-use crate::row_lines::{RowLine, RowLines};
 use c104_check::SwitchPort;
 use c104_cuts::{IdleCause, idle_causes};
+use c104_fixes::{RowLine, RowLines};
 use c104_interval::{ROWS, Row};
 use c104_mistakes::{About, Messages};
 use c104_plan::{Image, MAX_SWITCHES, Plan, Port, select_text};
@@ -125,7 +125,7 @@ fn is_told(rows: &[IdleRow], row: &IdleRow) -> bool {
 /// The row of a line, if it decides at none of the inputs of which the line is.
 fn idle_row(
     setup: &Setup,
-    lines: &RowLines,
+    lines: &RowLines<'_>,
     line: &RowLine,
     causes: &[Option<IdleCause>],
 ) -> Option<IdleRow> {
@@ -152,7 +152,7 @@ fn idle_row(
 /// of them.
 fn shared_cause(
     plan: &Plan,
-    lines: &RowLines,
+    lines: &RowLines<'_>,
     line: &RowLine,
     causes: &[Option<IdleCause>],
 ) -> Option<(usize, IdleCause)> {

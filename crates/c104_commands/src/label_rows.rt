@@ -70,13 +70,15 @@ fn show_rows<W: Write, M: Messages>(
 
 /// What is printed of a network, and whether that refuses its labels.
 #[derive(Drop)]
-struct Shown {
-    text: String,
-    refused: bool,
+pub struct Shown {
+    /// The text.
+    pub text: String,
+    /// Whether the labels are refused.
+    pub refused: bool,
 }
 
-/// What is printed of a network with its labels.
-fn shown_rows(alloc: Global, plan: &Plan, image: &Image) -> Result<Shown, NoMemory>
+/// What `label_rows_command` prints of a network with its labels. The only error is out of memory.
+pub fn shown_rows(alloc: Global, plan: &Plan, image: &Image) -> Result<Shown, NoMemory>
     requires { Fits image.now plan.now }
     ensures { IfOk result (λ shown. PrintsRows plan.now image.now (string_bytes shown.text) shown.refused) }
 {

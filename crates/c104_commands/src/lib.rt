@@ -8,14 +8,15 @@
 //! further than the limit of a description, 1 MiB.
 //!
 //! Each of them reports what is faulty or refused to what takes `Messages`; what it writes and answers is the same
-//! whatever that does. Give `Silent` to report to nobody. Of labels people are told what `find_fix` and `find_waiting`
-//! find, and which rows never decide.
+//! whatever that does. Give `Silent` to report to nobody. Of labels people are told what c104_fixes finds, and which rows
+//! never decide.
 #![tactic(auto)]
 
 mod advice;
 mod boot_lines;
 mod boot_scripts;
 mod boots;
+mod checked;
 mod checks;
 mod comparisons;
 mod cut_texts;
@@ -23,7 +24,6 @@ mod cuts;
 mod cycle_texts;
 mod cycles;
 mod draws;
-mod fixes;
 mod idle_rows;
 mod images;
 mod label_names;
@@ -33,37 +33,29 @@ mod path_summaries;
 mod path_tables;
 mod paths;
 mod pictures;
-mod range_changes;
 mod reports;
-mod row_changes;
-mod row_lines;
-mod sameness;
 mod texts;
 mod traffic;
-mod trials;
-mod waiting;
 mod wirings;
 
 pub use advice::{check_advice, cycle_advice};
 pub use boot_scripts::boot_script_command;
 pub use boots::{SwitchCommand, boot_commands};
 pub use c104_traffic::{MAX_DATA, MAX_PACKETS, PatternName, Traffic};
+pub use checked::checked_text;
 pub use checks::{check_command, refuse_labels};
 pub use comparisons::Comparison;
 pub use cuts::cuts_command;
 pub use cycle_texts::acyclic_text;
 pub use cycles::cycles_command;
 pub use draws::draw_command;
-pub use fixes::{Fix, TriedFix, find_fix};
 pub use images::image_text;
 pub use label_names::label_names_command;
-pub use label_rows::{label_rows_command, rows_text};
+pub use label_rows::{Shown, label_rows_command, rows_text, shown_rows};
 pub use labels::label_command;
 pub use path_tables::PathTable;
 pub use paths::paths_command;
 pub use pictures::Marks;
-pub use row_changes::RowFix;
 pub use texts::check_fault_text;
 pub use traffic::traffic_command;
-pub use waiting::{Waiting, find_waiting};
 pub use wirings::{OtherWiring, same_wiring};

@@ -1,5 +1,4 @@
-use Rattle.{c104_check.specs.Routes.routes_of, c104_commands.proofs.CycleLemmas.ranked_acyclic, std.proofs.Common.inl}
-use Rattle.std.proofs.lemmas.Result.{IfOk-weaker}
+use Rattle.{c104_check.{proofs.RanksAcyclic.ranked_acyclic, specs.Routes.routes_of}, std.proofs.{Common.inl, lemmas.Result.IfOk-weaker}}
 
 -- ranks leave no cycle
 pub returns-in_ok-title-in-Ranks : Rattle.c104_commands.proofs.pictures.accepted_picture.Goals.returns-in_ok-title-in-Ranks

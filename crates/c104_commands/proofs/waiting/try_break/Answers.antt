@@ -1,9 +1,0 @@
-use Rattle.{c104_check.specs.Routes.routes_of, c104_commands.{proofs.CycleLemmas.ranked_acyclic, specs.Fixes.LeavesAccepted}}
-use Rattle.{c104_commands.specs.declared.fixes.TriedFix.TriedFix, std.proofs.Common.{IfSome, subst}}
-
--- ranks leave no cycle
-pub returns-in-Ranks : Rattle.c104_commands.proofs.waiting.try_break.Goals.returns-in-Ranks
-returns-in-Ranks c = (
-  subst (λ o. IfSome o (λ (tried : TriedFix). LeavesAccepted c.args.plan.now tried.image)) c.in-Some.is c.in_ok-tried.ensures,
-  ranked_acyclic (routes_of c.args.plan.now c.in-Some.tried.image) _ _ c.in_ok-found.ensures.found c.in-Ranks.is,
-)
