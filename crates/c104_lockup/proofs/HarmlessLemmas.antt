@@ -9,9 +9,10 @@ use Rattle.{c104_regs.specs.declared.settings.Settings.Settings, c104_script.spe
 use Rattle.c104_script.specs.declared.{answers.Answer.{Answer, TheVariants.Replied}, faults.LineFault.LineFault, places.Request.Request}
 use Rattle.c104_session.proofs.{PlacedNets.{placed_starts, placed_unchanged}, UnchangedNets.{IsUnchangedNet, keeps_nothing, nothing}}
 use Rattle.c104_session.{proofs.UnchangedScripts.lines_leave, specs.PrintedPackets.{LeaveUnchanged, MayAsk, lines_sent}}
-use Rattle.c104_session.specs.{Shown.{line_answer, line_outcome, new_session}, declared.session.Session.Session}
+use Rattle.c104_session.specs.{Shown.{answer_of_read, line_answer, line_outcome, new_session}, declared.session.Session.Session}
 use Rattle.{c104_stream.specs.ScriptLines.{lines_within, most_script, script_lines}, c104_switch.specs.Actions.Reply}
 use Rattle.{c104_switch.specs.Headers.header_number, c104_token.specs.declared.{faults.NoMemory.NoMemory, packets.Packet.Packet}}
+use Rattle.std.proofs.Common.{None}
 use Rattle.std.proofs.Common.{All, Bool, Err, IfOk, List, Ok, Option, Result, Some, [], ap, append-nil, append_assoc, arith, cond, false}
 use Rattle.std.proofs.Common.{if◌then◌else◌, inl, inr, length, refl, slice_get, subst, suc, sym, take, true, zero, ℕ, ◌++◌, ◌==◌, ◌∙◌, ◌∷◌}
 use Rattle.std.{proofs.{Common.{◌≡◌, ◌≤◌}, lemmas.List.Elements.{All-head, All-tail}}, specs.List.{onto_first, slice_split}}
@@ -94,6 +95,21 @@ may_send plan image t s l back links x p accepted wired back_is switch at labell
 
 -- What a script leaves
 
+-- no line changes the image
+read_image : (session : Session) (asked : Result (Option Request) LineFault) → (answer_of_read session asked).1.image ≡ session.image
+read_image session (Ok None) = refl
+read_image session (Ok (Some (Request.Asked e))) = refl
+read_image session (Ok (Some (Request.Rounds count false seed))) = refl
+read_image session (Ok (Some (Request.Rounds count true seed))) = refl
+read_image session (Ok (Some Request.Settle)) = refl
+read_image session (Ok (Some (Request.Probed it))) = refl
+read_image session (Ok (Some (Request.Refused kind))) = refl
+read_image session (Err kind) = refl
+
+line_image : (session : Session) (line : List ℕ) → (line_answer session line).1.image ≡ session.image
+unfolding line_answer
+line_image session line = read_image session (read_script_line session.net.network.plan session.image line)
+
 module _ (plan : Plan) (image : Image) (is_plan : IsPlan plan) (fits : Fits image plan) where
   abbrev routes : Routes
   routes = routes_of plan image
@@ -105,22 +121,23 @@ module _ (plan : Plan) (image : Image) (is_plan : IsPlan plan) (fits : Fits imag
   IsLeft sends session = IsUnchangedNet routes plan starts nothing sends session.net
 
   abbrev IsLine : List ℕ → Type 0
-  IsLine line = IsHarmless routes (read_script_line plan line)
+  IsLine line = IsHarmless routes (read_script_line plan image line)
 
-  lines_left : (script : List (List ℕ)) (sends : List (ℕ × Packet)) (session : Session) → All IsLine script → IsLeft sends session → LeaveUnchanged routes session script
+  lines_left : (script : List (List ℕ)) (sends : List (ℕ × Packet)) (session : Session) → All IsLine script → session.image ≡ image → IsLeft sends session → LeaveUnchanged routes session script
   unfolding line_answer line_outcome
-  lines_left [] sends session all was = tt
-  lines_left (line ∷ script) sends session all was =
+  lines_left [] sends session all loaded was = tt
+  lines_left (line ∷ script) sends session all loaded was =
       let answer : Option Answer = (line_answer session line).0 in
-      let may : MayAsk routes (read_script_line session.net.network.plan line) answer =
-      subst (λ p. MayAsk routes (read_script_line p line) answer) (sym was.same_plan) (All-head IsLine line script all answer) in
+      let may : MayAsk routes (read_script_line session.net.network.plan session.image line) answer =
+      subst (λ i. MayAsk routes (read_script_line session.net.network.plan i line) answer) (sym loaded)
+      (subst (λ p. MayAsk routes (read_script_line p image line) answer) (sym was.same_plan) (All-head IsLine line script all answer)) in
       let next : IsLeft (sends ++ lines_sent session (line ∷ [])) (line_answer session line).1 =
       lines_leave routes plan is_plan starts nothing (keeps_nothing routes plan starts) (line ∷ []) 1 sends session (may, tt) was in
-      (may, lines_left script (sends ++ lines_sent session (line ∷ [])) (line_answer session line).1 (All-tail IsLine line script all) next)
+      (may, lines_left script (sends ++ lines_sent session (line ∷ [])) (line_answer session line).1 (All-tail IsLine line script all) (line_image session line ∙ loaded) next)
 
   pub harmless_leaves : (script : List ℕ) → AreHarmless plan image (script_lines script) → LeaveUnchanged routes (new_session plan image) (script_lines script)
   harmless_leaves script all =
-      lines_left (script_lines script) [] (new_session plan image) all (placed_unchanged plan image is_plan fits routes nothing tt)
+      lines_left (script_lines script) [] (new_session plan image) all refl (placed_unchanged plan image is_plan fits routes nothing tt)
 
   pub harmless_locks : (script : List ℕ) → AreHarmless plan image (script_lines script) → EndsLocked plan image script → LocksUp plan image script
   harmless_locks script all ends = record { ends = ends; unchanged = harmless_leaves script all }

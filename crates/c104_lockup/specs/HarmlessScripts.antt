@@ -11,7 +11,7 @@ abbrev pub IsHarmless : Routes → Result (Option Request) LineFault → Type 0
 IsHarmless routes asked = (answer : Option Answer) → MayAsk routes asked answer
 
 abbrev pub AreHarmless : Plan → Image → List (List ℕ) → Type 0
-AreHarmless plan image lines = All (λ (line : List ℕ). IsHarmless (routes_of plan image) (read_script_line plan line)) lines
+AreHarmless plan image lines = All (λ (line : List ℕ). IsHarmless (routes_of plan image) (read_script_line plan image line)) lines
 
 abbrev pub IsLabel : Image → ℕ → Type 0
 IsLabel image header =

@@ -58,9 +58,9 @@ fn is_harmless_line(
 ) -> Result<bool, NoMemory>
     requires { IsAccepted (routes_of plan.now image.now) }
     ensures { IfOk result (λ harmless. harmless ≡ true
-        → IsHarmless (routes_of plan.now image.now) (read_script_line plan.now line.now)) }
+        → IsHarmless (routes_of plan.now image.now) (read_script_line plan.now image.now line.now)) }
 {
-    match read_line(alloc, plan, line) {
+    match read_line(alloc, plan, image, line) {
         Ok(Some(request)) => Ok(is_harmless_request(plan, image, &request)),
         Ok(None) => Ok(true),
         Err(LineFault::NoMemory) => Err(NoMemory),
@@ -78,7 +78,7 @@ fn is_harmless_request(plan: &Plan, image: &Image, request: &Request) -> bool
             may_be_sent(plan, image, *terminal, packet)
         }
         Request::Asked(Event::Control { .. }) | Request::Probed(_) => false,
-        Request::Asked(_) | Request::Rounds { .. } | Request::Refused(_) => true,
+        Request::Asked(_) | Request::Rounds { .. } | Request::Settle | Request::Refused(_) => true,
     }
 }
 

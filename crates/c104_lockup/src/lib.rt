@@ -2,8 +2,8 @@
 //!
 //! A `Search` has the cycles of a network, and `Search::script` is the script of an attempt, by its number. In the first ones
 //! a packet comes to each input of a cycle: each holds the wire into its input and wants the next one. In the others packets
-//! are brought one by one, event by event, to inputs at which their headers can wait for one another, whichever link of a
-//! group they may take.
+//! are brought one by one, event by event, to the inputs of a cycle; and then each is given the link to the next one, where it
+//! stands behind the packet there for ever, whichever other links it might have taken.
 //!
 //! Nothing is proved of such a script but that making it is safe and ends. Whether it locks the network up is told by
 //! running it: `lockup_command` writes the first that does, and of that one it is proved.
@@ -19,9 +19,8 @@ mod portals;
 mod rings;
 mod searches;
 mod senders;
-mod sets;
+mod standings;
 mod texts;
-mod waits;
 mod ways;
 
 pub use lockups::lockup_command;

@@ -1,10 +1,12 @@
-//! Attempts event by event: packets are brought one after the other to where they are to wait, while all else rests.
+//! Attempts event by event: packets are brought one after the other to the inputs of a cycle, while all else rests; and then
+//! each is given the link to the next input.
 //!
-//! A packet has just as many tokens as the wire into its input holds, in the buffers of both ends, and so it stands
-//! nowhere else, and nothing can follow it.
+//! A packet has just as many tokens as the wire into its input holds, in the buffers of both ends, but for the room of a
+//! header: so it stands nowhere else, its output is free again, and the header that follows it fills that.
 
 use crate::attempts::OUTPUT_ROOM;
 use crate::paths::Path;
+use crate::rings::Step;
 use crate::texts::{add_send, last_rounds};
 use crate::ways::{Hop, Ways};
 use c104_plan::Plan;
@@ -15,19 +17,37 @@ use std::alloc::Global;
 /// How many tokens a grant is of.
 const GRANT: usize = 8;
 
-/// The script that brings packets to their inputs, the last way of the list first.
+/// The script that brings packets to the inputs of a cycle, the last way of the list first, and claims the links from each to
+/// the next.
 pub(crate) fn placing_script(
     alloc: Global,
     ways: &Ways<'_>,
     backward: &[Path],
+    ring: &[Step],
 ) -> Result<String, NoMemory> {
     let mut text = String::new(alloc);
     let mut passed = vec![in alloc; 0usize; ways.place_count()]?;
     for path in backward.iter().rev() {
         add_path(alloc, ways, path, &mut passed, &mut text)?;
     }
+    add_claims(alloc, ways, ring, &mut text)?;
     last_rounds(alloc, &mut text)?;
     Ok(text)
+}
+
+/// The lines join a text by which each input of a cycle claims the link to the next.
+fn add_claims(
+    alloc: Global,
+    ways: &Ways<'_>,
+    ring: &[Step],
+    text: &mut String,
+) -> Result<(), NoMemory> {
+    for step in ring {
+        if let Some(hop) = ways.hop_into(step.input, step.header, step.next) {
+            add_claim(alloc, ways.plan, hop, text)?;
+        }
+    }
+    Ok(())
 }
 
 /// The lines join a text that send a packet and bring it along its way. Beside it stands how many tokens have passed into
@@ -70,8 +90,8 @@ fn passed_at(passed: &[usize], place: usize) -> usize {
     }
 }
 
-/// How many tokens a packet has that fills the last wire of its way: what its input was granted, and what that is granted
-/// once its header is read, and what an output holds.
+/// How many tokens a packet has that fills the last wire of its way but for a header: what its input was granted, and what that
+/// is granted once its header is read, and what an output holds.
 fn tokens_of(ways: &Ways<'_>, path: &Path, passed: usize) -> usize {
     let header = ways.plan.header();
     let hops = path.hops.len();
@@ -86,7 +106,7 @@ fn tokens_of(ways: &Ways<'_>, path: &Path, passed: usize) -> usize {
     if used.saturating_add(read) >= GRANT {
         room = room.saturating_add(GRANT);
     }
-    let all = room.saturating_add(OUTPUT_ROOM);
+    let all = room.saturating_add(OUTPUT_ROOM).saturating_sub(header);
     if rides {
         all.saturating_sub(header)
     } else {

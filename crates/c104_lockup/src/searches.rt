@@ -4,30 +4,26 @@ use crate::attempts::{Timing, sendings};
 use crate::orders::backward_paths;
 use crate::placing::placing_script;
 use crate::rings::{MOST_RINGS, Step, add_rings, ring_of};
-use crate::sets::{WaitSet, wait_set};
+use crate::standings::standing_at;
 use crate::texts::script_of;
-use crate::waits::{HeaderMarks, held, waits};
-use crate::ways::{Ways, is_marked};
+use crate::ways::Ways;
 use c104_check::{ChannelDependency, DependencyEdge};
 use c104_plan::{Image, Plan};
 use c104_token::NoMemory;
 use std::alloc::Global;
 
 /// How many attempts there are: one by which all packets are sent at once, one for each cycle by which they come together,
-/// and others event by event.
-pub(crate) const MOST_ATTEMPTS: usize = 50;
+/// and one for each event by event.
+pub(crate) const MOST_ATTEMPTS: usize = 1 + 2 * MOST_RINGS;
 
 /// The first attempt event by event.
 const FIRST_PLACING: usize = 1 + MOST_RINGS;
 
-/// A network, cycles of its channel dependencies, and which headers may wait for ever at which inputs.
+/// A network, and cycles of its channel dependencies.
 #[derive(Drop)]
 pub(crate) struct Search<'a> {
     ways: Ways<'a>,
     rings: Vec<Vec<Step>>,
-    waits: Vec<HeaderMarks>,
-    // The inputs at which some header may wait.
-    starts: Vec<usize>,
 }
 
 impl<'a> Search<'a> {
@@ -42,13 +38,7 @@ impl<'a> Search<'a> {
     ) -> Result<Search<'a>, NoMemory> {
         let rings = all_rings(alloc, plan.switches().len(), cycle, edges)?;
         let ways = Ways::new(alloc, plan, image)?;
-        let waiting = find_waiting(alloc, &ways)?;
-        Ok(Search {
-            ways,
-            rings,
-            waits: waiting.waits,
-            starts: waiting.starts,
-        })
+        Ok(Search { ways, rings })
     }
 
     /// The script of an attempt, by its number from 0 up to `MOST_ATTEMPTS`; None where there is none of this number. Each
@@ -77,51 +67,23 @@ impl<'a> Search<'a> {
 
     /// The script of an attempt event by event.
     fn placing(&self, alloc: Global, number: usize) -> Result<Option<String>, NoMemory> {
-        let Some(start) = self.starts.as_slice().get(number) else {
-            return Ok(None);
-        };
-        match wait_set(alloc, &self.ways, self.waits.as_slice(), *start)? {
-            Some(mut set) => self.place_set(alloc, &mut set),
+        match self.rings.as_slice().get(number) {
+            Some(ring) => self.place_ring(alloc, ring.as_slice()),
             None => Ok(None),
         }
     }
 
-    /// The script that brings the packets of a set to their inputs.
-    fn place_set(&self, alloc: Global, set: &mut WaitSet) -> Result<Option<String>, NoMemory> {
-        match backward_paths(alloc, &self.ways, set)? {
+    /// The script that brings packets to the inputs of a cycle, and gives each the link to the next one.
+    fn place_ring(&self, alloc: Global, ring: &[Step]) -> Result<Option<String>, NoMemory> {
+        let mut standing = standing_at(alloc, self.ways.place_count(), ring)?;
+        match backward_paths(alloc, &self.ways, &mut standing)? {
             Some(paths) => {
-                let text = placing_script(alloc, &self.ways, paths.as_slice())?;
+                let text = placing_script(alloc, &self.ways, paths.as_slice(), ring)?;
                 Ok(Some(text))
             }
             None => Ok(None),
         }
     }
-}
-
-/// Which headers may wait for ever, and at which inputs some do.
-#[derive(Drop)]
-struct Waiting {
-    waits: Vec<HeaderMarks>,
-    starts: Vec<usize>,
-}
-
-/// What may wait in a network.
-fn find_waiting(alloc: Global, ways: &Ways<'_>) -> Result<Waiting, NoMemory> {
-    let waits = waits(alloc, ways)?;
-    let starts = starts(alloc, ways, waits.as_slice())?;
-    Ok(Waiting { waits, starts })
-}
-
-/// The inputs at which some header may wait, in order.
-fn starts(alloc: Global, ways: &Ways<'_>, waits: &[HeaderMarks]) -> Result<Vec<usize>, NoMemory> {
-    let held = held(alloc, ways, waits)?;
-    let mut starts = Vec::new(alloc);
-    for place in 0..ways.place_count() {
-        if is_marked(held.as_slice(), place) {
-            starts.push(place)?;
-        }
-    }
-    Ok(starts)
 }
 
 /// A cycle, and others of these dependencies.

@@ -88,61 +88,6 @@ impl<'a> Ways<'a> {
         }
     }
 
-    /// Whether a header goes on from an input over wires alone, each to an input that is marked.
-    pub(crate) fn leads_into(&self, place: usize, header: u32, marks: &[bool]) -> bool {
-        let links = self.links(place, header);
-        for link in links.first..links.end {
-            let next = self.far_input(place / LINKS, link);
-            if !is_some_marked(marks, next) {
-                return false;
-            }
-        }
-        links.first < links.end
-    }
-
-    /// How many of the inputs to which a header goes on aren't marked.
-    pub(crate) fn count_unmarked(&self, place: usize, header: u32, marks: &[bool]) -> usize {
-        let mut count = 0usize;
-        let links = self.links(place, header);
-        for link in links.first..links.end {
-            let next = self.far_input(place / LINKS, link);
-            if !is_some_marked(marks, next) {
-                count = count.saturating_add(1);
-            }
-        }
-        count
-    }
-
-    /// The inputs to which a header goes on are marked; and whether one of them wasn't.
-    pub(crate) fn mark_next(&self, place: usize, header: u32, marks: &mut Vec<bool>) -> bool {
-        let mut more = false;
-        let links = self.links(place, header);
-        for link in links.first..links.end {
-            if let Some(next) = self.far_input(place / LINKS, link)
-                && let Some(mark) = marks.get_mut(next)
-                && !*mark
-            {
-                *mark = true;
-                more = true;
-            }
-        }
-        more
-    }
-
-    /// All inputs are marked to which a header comes from those that are.
-    pub(crate) fn mark_ways(&self, header: u32, marks: &mut Vec<bool>) {
-        for _ in 0..self.far.len() {
-            let mut more = false;
-            for place in 0..self.far.len() {
-                let here = is_marked(marks.as_slice(), place);
-                more = more | (here && self.mark_next(place, header, marks));
-            }
-            if !more {
-                return;
-            }
-        }
-    }
-
     /// How many inputs there are.
     pub(crate) fn place_count(&self) -> usize {
         self.far.len()
@@ -249,6 +194,17 @@ impl<'a> Ways<'a> {
         None
     }
 
+    /// The hop by which a header goes on from an input to another.
+    pub(crate) fn hop_into(&self, place: usize, header: u32, next: usize) -> Option<Hop> {
+        let links = self.links(place, header);
+        for link in links.first..links.end {
+            if self.far_input(place / LINKS, link) == Some(next) {
+                return Some(Hop { place, link, next });
+            }
+        }
+        None
+    }
+
     /// The input that a link leads to, if it is a switch's.
     fn far_input(&self, switch: usize, link: usize) -> Option<usize> {
         number_at(self.far.as_slice(), place_of(SwitchPort { switch, link }))
@@ -300,13 +256,8 @@ pub(crate) fn number_at(table: &[Option<usize>], place: usize) -> Option<usize> 
 }
 
 /// Whether a place is marked.
-pub(crate) fn is_marked(marks: &[bool], place: usize) -> bool {
+fn is_marked(marks: &[bool], place: usize) -> bool {
     matches!(marks.get(place), Some(true))
-}
-
-/// Whether there is a place, and it is marked.
-fn is_some_marked(marks: &[bool], place: Option<usize>) -> bool {
-    matches!(place, Some(place) if is_marked(marks, place))
 }
 
 /// The lesser of two numbers, as far as they are there.

@@ -3,4 +3,4 @@ use Rattle.std.proofs.Common.{All, Bor, List, take, ℕ}
 
 -- the lines so far
 abbrev pub invariant-loop-line : Rattle.c104_lockup.proofs.harmless.are_harmless.Given.invariant-loop-line
-invariant-loop-line l = All (λ (line : Bor (List ℕ)). IsHarmless (routes_of l.plan l.image) (read_script_line l.plan line.now)) (take l.line-index l.lines)
+invariant-loop-line l = All (λ (line : Bor (List ℕ)). IsHarmless (routes_of l.plan l.image) (read_script_line l.plan l.image line.now)) (take l.line-index l.lines)
