@@ -1,0 +1,4 @@
+mod CopiedSettings
+pub mod ReadBacks
+mod SetSteps
+mod SettingsRead
