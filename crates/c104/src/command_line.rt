@@ -56,7 +56,7 @@ pub struct Order<'a> {
     /// The script's path, if one is said. Else the script follows the description in its text.
     pub script: Option<&'a str>,
     /// What a picture shows.
-    pub picture: PictureWords,
+    pub picture: PictureWords<'a>,
     /// Whether all dependencies are listed.
     pub all: bool,
     /// Whether labels are checked without each wire.
@@ -224,6 +224,8 @@ const DESCRIPTION_HELP: &str = "The description: a file, or - for standard input
 const SCRIPT_HELP: &str = "The script: a file, or - for standard input;
 by default what follows a line `script` in DESC";
 
+const REGISTERS_HELP: &str = "A script that is run first: a file, or - for standard input";
+
 /// All that the program takes. The only error is out of memory.
 fn command_line<'a>(alloc: Global) -> Result<Command<'a>, AllocError> {
     let subcommands = subcommands(alloc)?;
@@ -262,12 +264,12 @@ fn subcommand<'a>(alloc: Global, row: Row) -> Result<Command<'a>, AllocError> {
     match row.subcommand {
         Subcommand::Run => with_files(alloc, named),
         Subcommand::Debug => with_description(alloc, named),
-        Subcommand::Check => with_cuts(alloc, with_description(alloc, named)?),
+        Subcommand::Check => with_cuts(alloc, with_registers(alloc, named)?),
         Subcommand::Storm => with_workers(alloc, named),
         Subcommand::Stats => with_counts(alloc, with_both(alloc, named)?),
         Subcommand::Cycles => with_cycles(alloc, with_description(alloc, named)?),
         Subcommand::Paths => with_paths(alloc, named),
-        Subcommand::Label => with_labels(alloc, with_description(alloc, named)?),
+        Subcommand::Label => with_labels(alloc, with_registers(alloc, named)?),
         Subcommand::Draw => with_pictures(alloc, with_description(alloc, named)?),
         Subcommand::Traffic => with_traffic(alloc, with_description(alloc, named)?),
     }
@@ -282,7 +284,7 @@ fn with_files<'a>(alloc: Global, named: Command<'a>) -> Result<Command<'a>, Allo
 
 /// `[--each-cut]`, behind a description.
 fn with_cuts<'a>(alloc: Global, named: Command<'a>) -> Result<Command<'a>, AllocError> {
-    named.arg(flag(alloc, EACH_CUT, EACH_CUT_HELP))
+    named.arg(flag(alloc, EACH_CUT, EACH_CUT_HELP).conflicts_with(SCRIPT)?)
 }
 
 /// `[--all | --script]`, behind a description.
@@ -301,6 +303,12 @@ fn with_workers<'a>(alloc: Global, named: Command<'a>) -> Result<Command<'a>, Al
 /// `DESC [SCRIPT]`.
 fn with_both<'a>(alloc: Global, named: Command<'a>) -> Result<Command<'a>, AllocError> {
     with_description(alloc, named)?.arg(script_argument(alloc))
+}
+
+/// `DESC [SCRIPT]`, where the description has labels of its own.
+fn with_registers<'a>(alloc: Global, named: Command<'a>) -> Result<Command<'a>, AllocError> {
+    let script = Arg::new(alloc, SCRIPT).help(REGISTERS_HELP);
+    with_description(alloc, named)?.arg(script)
 }
 
 /// `DESC`.

@@ -120,7 +120,7 @@ pub(crate) const WHAT: &str = "what";
 
 const WHAT_HELP: &str = "Which are: packets, latencies, links or rounds; by default a summary";
 
-const OUT: &str = "out";
+pub(crate) const OUT: &str = "out";
 
 const OUT_HELP: &str = "Write each table to a file of its own, so that there may be several --what";
 

@@ -2,135 +2,97 @@
 
 use crate::command_line::STANDARD_INPUT;
 use crate::opening::{HostSource, is_closed, open_path};
-use crate::texts::{Front, read_front};
+use crate::texts::{Front, lines_before_script, read_front};
 use crate::told::Told;
 use crate::typed::Typed;
+use c104_host::Recorded;
 use c104_mistakes::Messages;
 use c104_session::debug_command;
 use c104_setup::Status;
-use std::io;
-use std::io::Read;
+use std::io::{Read, Write};
 
-/// Runs a description and a script, line by line. The script begins behind the description in its text, if there is a line
-/// `script`, and goes on in standard input. Where a person types there, and sees standard error, there are prompts.
-pub fn debug_file<'a>(rt: &HostRuntime, path: &'a str, told: &mut Told<'a>) -> Status {
+/// Runs a description and a script, line by line, and anew where a person asks for that. The script begins behind the
+/// description in its text, if there is a line `script`, and goes on in standard input. Where a person types there, and sees
+/// standard error, there are prompts.
+pub fn debug_file<'a, W: Write + Drop>(
+    rt: &HostRuntime,
+    path: &'a str,
+    output: &mut Recorded<W>,
+    told: &mut Told<'a>,
+) -> Status {
     if is_closed(rt, STANDARD_INPUT, told) {
         return Status::CannotRead(1);
     }
+    for _ in 0..u64::MAX {
+        if let Some(status) = debug_once(rt, path, output, told) {
+            return status;
+        }
+    }
+    Status::Done
+}
+
+/// Runs them once. None where they are to be run anew.
+fn debug_once<'a, W: Write + Drop>(
+    rt: &HostRuntime,
+    path: &'a str,
+    output: &mut Recorded<W>,
+    told: &mut Told<'a>,
+) -> Option<Status> {
     let Some(mut text) = open_path(rt, path, told) else {
-        return Status::CannotRead(0);
+        return Some(Status::CannotRead(0));
     };
     let front = match read_front(rt, &mut text, told) {
         Ok(front) => front,
-        Err(status) => return status,
+        Err(status) => return Some(status),
     };
     if path == STANDARD_INPUT {
-        debug_input(rt, &front, &mut text, told)
-    } else if front.has_script {
-        debug_behind(rt, path, &front, &mut text, told)
-    } else {
-        debug_alone(rt, &front, told)
+        told.note_script(path, lines_before_script(front.description.as_slice()));
+        return debug_lines(rt, &front, None, text, output, told);
     }
-}
-
-/// Runs a description and a script that are one text, from standard input.
-fn debug_input(
-    rt: &HostRuntime,
-    front: &Front,
-    text: &mut HostSource,
-    told: &mut Told<'_>,
-) -> Status {
-    told.note_script(STANDARD_INPUT, front.lines());
-    let status = debug_rest(rt, front, text, told);
-    told.note_fault(text.fault());
-    status
-}
-
-/// Runs a description and a script that are one text, of which this is left.
-fn debug_rest(
-    rt: &HostRuntime,
-    front: &Front,
-    text: &mut HostSource,
-    told: &mut Told<'_>,
-) -> Status {
-    let input = front.ahead.as_slice().chain(text);
-    let mut script = Typed::new(rt, None, input, told.are_asked(), told.typed_from());
-    debug_script(rt, front, &mut script, told)
-}
-
-/// Runs a description, the script behind it in its file, and then what standard input gives.
-fn debug_behind<'a>(
-    rt: &HostRuntime,
-    path: &'a str,
-    front: &Front,
-    file: &mut HostSource,
-    told: &mut Told<'a>,
-) -> Status {
-    let Some(mut input) = open_path(rt, STANDARD_INPUT, told) else {
-        return Status::CannotRead(1);
+    let Some(input) = open_path(rt, STANDARD_INPUT, told) else {
+        return Some(Status::CannotRead(1));
     };
-    told.note_script(path, front.lines());
-    let status = debug_both(rt, front, file, &mut input, told);
-    if input.fault().is_some() {
-        told.note_script(STANDARD_INPUT, 0);
+    if front.has_script {
+        told.note_script(path, lines_before_script(front.description.as_slice()));
     }
-    told.note_fault(file.fault().or(input.fault()));
-    status
+    debug_lines(rt, &front, Some(text), input, output, told)
 }
 
-/// Runs a description, the script behind it, of which this is left in its file, and then what standard input gives.
-fn debug_both(
+/// Runs a description and a script: what is left of their file, unless that is standard input, and what this gives then. None
+/// where they are to be run anew.
+fn debug_lines<W: Write + Drop>(
     rt: &HostRuntime,
     front: &Front,
-    file: &mut HostSource,
-    input: &mut HostSource,
+    file: Option<HostSource>,
+    input: HostSource,
+    output: &mut Recorded<W>,
     told: &mut Told<'_>,
-) -> Status {
-    let begin = front.ahead.as_slice().chain(file);
-    let input = front.ahead[..0].chain(input);
-    let mut script = Typed::new(rt, Some(begin), input, told.are_asked(), told.typed_from());
-    debug_script(rt, front, &mut script, told)
-}
-
-/// Runs a description and a script that standard input gives.
-fn debug_alone(rt: &HostRuntime, front: &Front, told: &mut Told<'_>) -> Status {
-    let Some(mut input) = open_path(rt, STANDARD_INPUT, told) else {
-        return Status::CannotRead(1);
+) -> Option<Status> {
+    let (ahead, nothing) = (front.ahead.as_slice(), &front.ahead[..0]);
+    told.typed_from().set(None);
+    let (file, input, typed_from) = match file {
+        Some(file) => (
+            Some(ahead.chain(file)),
+            nothing.chain(input),
+            Some(told.typed_from()),
+        ),
+        None => (None, ahead.chain(input), None),
     };
-    let status = debug_lines(rt, front, &mut input, told);
-    if input.fault().is_some() {
-        told.note_script(STANDARD_INPUT, 0);
-    }
-    told.note_fault(input.fault());
-    status
-}
-
-/// Runs a description and a script that is read from this.
-fn debug_lines(
-    rt: &HostRuntime,
-    front: &Front,
-    input: &mut HostSource,
-    told: &mut Told<'_>,
-) -> Status {
-    // Nothing is left of a file in which no script begins.
-    let input = front.ahead.as_slice().chain(input);
-    let mut script = Typed::new(rt, None, input, told.are_asked(), told.typed_from());
-    debug_script(rt, front, &mut script, told)
-}
-
-/// Runs a description and a script, line by line.
-fn debug_script(
-    rt: &HostRuntime,
-    front: &Front,
-    script: &mut Typed<'_, '_, '_, '_, '_, '_>,
-    told: &mut Told<'_>,
-) -> Status {
     let mut description = front.description.as_slice();
-    debug_command(
-        rt.alloc(),
-        &mut description,
-        script,
-        &mut io::writer(rt),
-        told,
-    )
+    let mut script = Typed::new(rt, description, file, input, told.are_asked(), typed_from);
+    let status = debug_command(rt.alloc(), &mut description, &mut script, output, told);
+    end_lines(&script, status, told)
+}
+
+/// How a script ends that came to this status. None where a person asked to run it anew.
+fn end_lines(script: &Typed<'_>, status: Status, told: &mut Told<'_>) -> Option<Status> {
+    told.note_fault(script.fault());
+    if script.is_behind_file() {
+        told.note_script(STANDARD_INPUT, 0);
+    }
+    match status {
+        Status::CannotRead(1) if script.lacks_memory() => Some(Status::NoMemory),
+        Status::Done | Status::Refused if script.begins_anew() => None,
+        _ => Some(status),
+    }
 }

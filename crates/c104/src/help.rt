@@ -24,6 +24,7 @@ Examples:
   c104 stats network.txt events.txt   how its packets and links fared, in numbers
   c104 check network.txt              whether its packets can go astray
   c104 check --each-cut network.txt   whether they can without one of its wires
+  c104 check network.txt boot.txt     whether they can by registers that a script sets
   c104 cycles network.txt             whether they can wait for one another forever
   c104 cycles --script network.txt    a script after which they do
   c104 paths network.txt              over how many wires they go, and over which most
@@ -49,18 +50,25 @@ Exit status:
 /// Of `run`.
 pub const RUN: &str =
     "Without SCRIPT, DESC is one text of both: the description, a line whose only word is
-`script`, and then the script. Without DESC too that text is read from standard input.";
+`script`, and then the script. Without DESC too that text is read from standard input.
+
+A line of a description begins with switch, terminal, wire, row, base, continue, delete,
+random, header, buffer, label, mesh, cube, torus or clos, and one of a script with send,
+drain, cross, credit, input, claim, control, rounds, settle, peek, poke, link, table,
+verify or dump. The manual page says what stands behind these words.";
 
 /// Of `debug`.
 pub const DEBUG: &str =
     "The script is read from standard input, behind what follows a line `script` in DESC, and
-each line is answered before the next is read. Where standard input and standard error are terminals, a prompt is shown, with the
-line's number, and standard error also answers questions: `help` lists the lines that
-there are, `show` shows the links of a switch, one link or a terminal, and `show waiting`
-which outputs the inputs hold and want; `where` shows where a packet is, by the terminal
-that sent it and its number; `draw` writes the network as it stands to a file, as
-`c104 draw --state` does. On standard output these are unknown words, as in `run`. The
-script ends with the input, Ctrl-D, or with a typed line `quit` or `exit`.
+each line is answered before the next is read. Where standard input and standard error
+are terminals, a prompt is shown, with the line's number, which has words of its own.
+`help` lists the lines that there are; `show` shows the links of a switch, one link or a
+terminal, and `show waiting` which outputs the inputs hold and want; `where` shows where a
+packet is, by the terminal that sent it and its number; `draw` writes the network as it
+stands to a file, as `c104 draw --state` does. `until` runs rounds until such a packet has
+arrived or nothing moves, at most 10,000; `read` does the lines of a file, and `log` saves
+all lines in a new one; `restart` reads DESC again and begins anew. The script ends with
+the input, Ctrl-D, or with a line `quit` or `exit`.
 
 Lines can be edited and called back under rlwrap: `rlwrap c104 debug DESC`.";
 
@@ -131,7 +139,11 @@ break; exit status 0 if all may, and else 1.
 On a terminal, or under --explain, standard error says where the header goes wrong
 and, where some rows or labels do, which lines of the description fix it; and of
 labels that are accepted, whether packets can wait for one another forever, and which
-rows can never decide.";
+rows can never decide.
+
+With a SCRIPT, this is run first, as by run, and the labels that it leaves in the
+registers are checked. Its answers aren't printed, and the exit status is 1 where a
+line of it is faulty.";
 
 /// Of `cycles`.
 pub const CYCLES: &str =
@@ -190,15 +202,20 @@ hand, and it has no label, mesh or cube line.
 
 With --commands it prints a script of control lines that load and start the switches:
 all are reset, their registers are set, and all are started. Run on a description with
-the same switches and wires, it leaves these values in the registers.";
+the same switches and wires, it leaves these values in the registers.
+
+With a SCRIPT, this is run first, as by run, and the labels that it leaves in the
+registers are shown, or printed as row lines. Its answers aren't printed, and the exit
+status is 1 where a line of it is faulty.";
 
 /// Of `draw`.
 pub const DRAW: &str =
-    "Each switch is a box, each terminal an ellipse with its labels, and link numbers
-are at both ends of a wire. Wires between links of one group are one edge, whose links
-are in the same order at both ends. Meshes and cubes have fixed positions, and select
-the Graphviz layout that preserves them. Other networks are drawn downwards from the
-tree's root or the first switch.
+    "Each switch is a box, and each terminal an ellipse with its labels. Meshes and cubes
+have fixed positions, and select the Graphviz layout that preserves them; link numbers
+are at both ends of a wire. Other networks are drawn downwards from the tree's root or
+the first switch; link numbers are in the middle of a wire, the upper switch's above the
+lower one's. Wires between links of one group are one edge, whose links are in the same
+order for both.
 
 With a header, the links that it may take are bold, its owner is filled, and where
 check refuses it the walk is red and the title is the fault.
@@ -211,18 +228,23 @@ network as it then stands. Each link that a packet holds is an arrow in the pack
 colour and pattern, named by the packet's terminal and its number there; in brackets
 behind its ports stands how many tokens wait. A dotted arrow leads along each output that
 an input wants for a header. Where the network stands still, packets that wait for one
-another in a cycle are red. The exit status is 1 where a line of the script is faulty.
+another in a cycle are red. All networks are drawn downwards here. The exit status is 1
+where a line of the script is faulty.
 
 With --over-time, a script is run, and the picture shows its rounds from left to right,
 as SVG. Below each switch are the wires at it over which something goes, a row for each
 way; a packet has its colour and pattern there from its header to its end, and is hatched
-in rounds in which it holds the wire and nothing crosses. The text has at most 1 MiB: of
-more rounds a line says which --from and --to fit, and the exit status is 1. With --format
-table, csv or json a table is printed in its place, however long: a row for each
-rectangle, with the two ends of the wire, the packet, the first and the last round, and
-whether the packet moves or holds the wire in them.
+in rounds in which it holds the wire and nothing crosses. The picture has at most 1 MiB,
+and is at most 32,767 pixels wide and high: of more rounds a line says which --from and
+--to fit, and the exit status is 1. With --format table, csv or json a table is printed
+in its place, however long: a row for each rectangle, with the two ends of the wire, the
+packet, the first and the last round, and whether the packet moves or holds the wire in
+them. With --only either is of the wires at these switches alone.
 
-  c104 draw network.txt events.txt --over-time > run.svg";
+With -o FILE the picture, or the table, goes to a file. Where it is refused the line that
+says so is printed, and the file stays as it was.
+
+  c104 draw network.txt events.txt --over-time -o run.svg";
 
 /// Of `traffic`.
 pub const TRAFFIC: &str =

@@ -1,7 +1,8 @@
 //! What the command line says of labels.
 
-use crate::command_line::flag;
-use clap::{ArgMatches, Command};
+use crate::command_line::{SCRIPT, flag};
+use c104_readback::Form;
+use clap::{Arg, ArgMatches, Command};
 use std::alloc::{AllocError, Global};
 
 /// How labels are shown.
@@ -30,6 +31,14 @@ impl LabelForm {
             LabelForm::Addresses
         }
     }
+
+    /// The same where the labels are those that a script leaves in the registers, which have no other forms.
+    pub fn read_back(self) -> Form {
+        match self {
+            LabelForm::Rows => Form::Rows,
+            LabelForm::Addresses | LabelForm::Names | LabelForm::Commands => Form::Registers,
+        }
+    }
 }
 
 /// The option of labels with the names of registers.
@@ -50,9 +59,16 @@ const COMMANDS_HELP: &str = "Print a script of control commands that load and st
 /// `[--names | --rows | --commands]`, behind a description.
 pub fn with_labels<'a>(alloc: Global, named: Command<'a>) -> Result<Command<'a>, AllocError> {
     let rows = flag(alloc, ROWS, ROWS_HELP).conflicts_with(NAMES)?;
-    let commands = flag(alloc, COMMANDS, COMMANDS_HELP).conflicts_with(NAMES)?;
     named
-        .arg(flag(alloc, NAMES, NAMES_HELP))?
+        .arg(flag(alloc, NAMES, NAMES_HELP).conflicts_with(SCRIPT)?)?
         .arg(rows)?
-        .arg(commands.conflicts_with(ROWS)?)
+        .arg(commands_flag(alloc)?)
+}
+
+/// `--commands`.
+fn commands_flag<'a>(alloc: Global) -> Result<Arg<'a>, AllocError> {
+    flag(alloc, COMMANDS, COMMANDS_HELP)
+        .conflicts_with(NAMES)?
+        .conflicts_with(ROWS)?
+        .conflicts_with(SCRIPT)
 }

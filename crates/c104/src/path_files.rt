@@ -1,22 +1,29 @@
 //! The command of paths: of one description's file, or what those of several come to.
 
 use crate::command_line::Order;
+use crate::described::{add_paths, tell_paths};
 use crate::pairs::format_of;
 use crate::path_words::{PathWords, table_of};
 use crate::texts::read_description_of;
 use crate::told::Told;
-use c104_commands::{Comparison, PathTable, paths_command};
+use c104_commands::{Comparison, PathTable};
+use c104_host::Recorded;
 use c104_session::Format;
 use c104_setup::Status;
-use std::io;
+use std::io::Write;
 
 /// Prints what is asked for of the paths of files. A format or a table that there isn't is a wrong word, and so is a table of
 /// several descriptions.
-pub fn tell_files<'a>(rt: &HostRuntime, order: Order<'a>, told: &mut Told<'a>) -> Status {
+pub fn tell_files<'a, W: Write + Drop>(
+    rt: &HostRuntime,
+    order: Order<'a>,
+    output: &mut Recorded<W>,
+    told: &mut Told<'a>,
+) -> Status {
     let words = order.paths;
     match asked_of(words) {
-        Ok((_, format)) if words.are_several() => compare_files(rt, words, format, told),
-        Ok((table, format)) => tell_file(rt, order.description, table, format, told),
+        Ok((_, format)) if words.are_several() => compare_files(rt, words, format, output, told),
+        Ok((table, format)) => tell_file(rt, order.description, table, format, output, told),
         Err(wrong) => {
             let _ = rt.eprintln(wrong);
             told.note_wrong_word();
@@ -47,33 +54,27 @@ const NO_NAME: &str =
     "error: the formats are table, csv and json, and the tables pairs, links and inputs";
 
 /// Prints a table, or the summary, of the paths of a description's file.
-fn tell_file(
+fn tell_file<W: Write + Drop>(
     rt: &HostRuntime,
     description: &str,
     table: Option<PathTable>,
     format: Format,
+    output: &mut Recorded<W>,
     told: &mut Told<'_>,
 ) -> Status {
     let text = match read_description_of(rt, description, told) {
         Ok(text) => text,
         Err(status) => return status,
     };
-    let mut description = text.as_slice();
-    paths_command(
-        rt.alloc(),
-        table,
-        format,
-        &mut description,
-        &mut io::writer(rt),
-        told,
-    )
+    tell_paths(rt.alloc(), text.as_slice(), table, format, output, told)
 }
 
 /// Prints the summaries of several files.
-fn compare_files<'a>(
+fn compare_files<'a, W: Write + Drop>(
     rt: &HostRuntime,
     words: PathWords<'a>,
     format: Format,
+    output: &mut Recorded<W>,
     told: &mut Told<'a>,
 ) -> Status {
     let Ok(mut comparison) = Comparison::new(rt.alloc(), format) else {
@@ -81,20 +82,21 @@ fn compare_files<'a>(
     };
     for path in words.descriptions {
         if let Some(path) = path {
-            let status = add_file(rt, path, &mut comparison, told);
+            let status = add_file(rt, path, &mut comparison, output, told);
             if status != Status::Done {
                 return status;
             }
         }
     }
-    comparison.finish(&mut io::writer(rt))
+    comparison.finish(output)
 }
 
 /// Adds the summary of a file to others.
-fn add_file<'a>(
+fn add_file<'a, W: Write + Drop>(
     rt: &HostRuntime,
     path: &'a str,
     comparison: &mut Comparison,
+    output: &mut Recorded<W>,
     told: &mut Told<'a>,
 ) -> Status {
     told.note_description(path);
@@ -102,12 +104,5 @@ fn add_file<'a>(
         Ok(text) => text,
         Err(status) => return status,
     };
-    let mut description = text.as_slice();
-    comparison.add_command(
-        rt.alloc(),
-        path,
-        &mut description,
-        &mut io::writer(rt),
-        told,
-    )
+    add_paths(rt.alloc(), text.as_slice(), path, comparison, output, told)
 }

@@ -1,14 +1,14 @@
 //! What the command line says of a picture.
 
-use crate::command_line::{add_argument, flag, script_argument, valued};
-use crate::count_words::{FORMAT, FROM, TO, round_option};
+use crate::command_line::{STANDARD_INPUT, add_argument, flag, script_argument, valued};
+use crate::count_words::{FORMAT, FROM, OUT, TO, round_option};
 use c104_commands::Marks;
-use clap::{Arg, ArgMatches, Command, value_parser};
+use clap::{Arg, ArgAction, ArgMatches, Command, value_parser};
 use std::alloc::{AllocError, Global};
 
 /// What the command line says of a picture.
 #[derive(Clone, Copy)]
-pub struct PictureWords {
+pub struct PictureWords<'a> {
     /// The header whose ways are marked, if one is.
     pub header: Option<u16>,
     /// Whether a cycle is marked.
@@ -17,24 +17,39 @@ pub struct PictureWords {
     pub state: bool,
     /// Whether it is of a script's run over its rounds.
     pub over_time: bool,
+    /// How many pixels a round is wide there, if it is said.
+    pub scale: Option<u8>,
+    /// The names of the switches of which it shows the wires, and nothing behind them; none where it shows all.
+    pub only: [Option<&'a str>; MOST],
+    /// The path of the file to which it goes, if it goes to one.
+    pub out: Option<&'a str>,
 }
 
-impl PictureWords {
+/// Of how many switches a picture shows the wires at most: of as many as a network has.
+const MOST: usize = 64;
+
+impl<'a> PictureWords<'a> {
     /// Nothing is said of a picture.
-    pub const NONE: PictureWords = PictureWords {
+    pub const NONE: PictureWords<'static> = PictureWords {
         header: None,
         cycles: false,
         state: false,
         over_time: false,
+        scale: None,
+        only: [None; MOST],
+        out: None,
     };
 
     /// What words that were matched say.
-    pub fn of_matches(given: &ArgMatches<'_>) -> Self {
+    pub fn of_matches(given: &ArgMatches<'a>) -> Self {
         PictureWords {
             header: given.get_one(HEADER),
             cycles: given.get_flag(CYCLES),
             state: given.get_flag(STATE),
             over_time: given.get_flag(OVER_TIME),
+            scale: given.get_one(SCALE),
+            only: names_of(given),
+            out: path_of(given),
         }
     }
 
@@ -45,6 +60,27 @@ impl PictureWords {
             None if self.cycles => Marks::Cycle,
             None => Marks::Nothing,
         }
+    }
+}
+
+/// The switches that words name.
+fn names_of<'a>(given: &ArgMatches<'a>) -> [Option<&'a str>; MOST] {
+    let mut names = [None; MOST];
+    if let Some(words) = given.get_strs(ONLY) {
+        for (place, word) in words.iter().enumerate() {
+            if let Some(name) = names.get_mut(place) {
+                *name = Some(*word);
+            }
+        }
+    }
+    names
+}
+
+/// The path of the file of a picture, unless that is standard output, which `-` is too.
+fn path_of<'a>(given: &ArgMatches<'a>) -> Option<&'a str> {
+    match given.get_str(OUT) {
+        Some(path) if path == STANDARD_INPUT => None,
+        path => path,
     }
 }
 
@@ -77,10 +113,22 @@ const TO_HELP: &str =
 const FORMAT_HELP: &str =
     "How the rounds are written: svg, or as a table: table, csv or json; by default svg";
 
+/// The option of how wide a round is.
+const SCALE: &str = "scale";
+
+const SCALE_HELP: &str = "How many pixels a round is wide, 1 to 64, by default 8";
+
+/// The option of the switches that are shown.
+const ONLY: &str = "only";
+
+const ONLY_HELP: &str = "Show the wires at this switch alone, or at several: --only A,B";
+
+const OUT_HELP: &str = "Write to a file";
+
 /// The group of what is drawn of a script.
 const DRAWN: &str = "drawn";
 
-/// `[--header N | --cycles | [SCRIPT] --state | [SCRIPT] --over-time [--from R] [--to R] [--format F]]`, behind a description.
+/// `[-o FILE] [--header N | --cycles | [SCRIPT] --state | [SCRIPT] --over-time ..]`, behind a description.
 pub fn with_pictures<'a>(alloc: Global, named: Command<'a>) -> Result<Command<'a>, AllocError> {
     named.args(picture_arguments(alloc)?)
 }
@@ -91,6 +139,8 @@ fn picture_arguments<'a>(alloc: Global) -> Result<Vec<Arg<'a>>, AllocError> {
     add_marks(alloc, &mut arguments)?;
     add_script(alloc, &mut arguments)?;
     add_rounds(alloc, &mut arguments)?;
+    add_views(alloc, &mut arguments)?;
+    add_argument(&mut arguments, Ok(out_option(alloc)))?;
     Ok(arguments)
 }
 
@@ -115,6 +165,12 @@ fn add_rounds<'a>(alloc: Global, arguments: &mut Vec<Arg<'a>>) -> Result<(), All
     )?;
     add_argument(arguments, rounds_option(round_option(alloc, TO, TO_HELP)))?;
     add_argument(arguments, format_option(alloc))
+}
+
+/// `[--scale N] [--only S ..]`, with `--over-time`.
+fn add_views<'a>(alloc: Global, arguments: &mut Vec<Arg<'a>>) -> Result<(), AllocError> {
+    add_argument(arguments, rounds_option(scale_option(alloc)))?;
+    add_argument(arguments, rounds_option(only_option(alloc)))
 }
 
 /// `--cycles`, without a header.
@@ -149,6 +205,23 @@ fn format_option<'a>(alloc: Global) -> Result<Arg<'a>, AllocError> {
 /// goes with `--state`.
 fn rounds_option<'a>(option: Arg<'a>) -> Result<Arg<'a>, AllocError> {
     option.requires_arg(OVER_TIME)?.conflicts_with(STATE)
+}
+
+/// `--scale N`.
+fn scale_option<'a>(alloc: Global) -> Arg<'a> {
+    valued(alloc, SCALE, "N", SCALE_HELP).value_parser(value_parser!(u8).range(1..=64))
+}
+
+/// `--only S`, once or more often, or with several names.
+fn only_option<'a>(alloc: Global) -> Arg<'a> {
+    valued(alloc, ONLY, "S", ONLY_HELP)
+        .value_delimiter(',')
+        .action(ArgAction::Append)
+}
+
+/// `-o FILE`.
+fn out_option<'a>(alloc: Global) -> Arg<'a> {
+    valued(alloc, OUT, "FILE", OUT_HELP).short('o')
 }
 
 /// `--header N`.

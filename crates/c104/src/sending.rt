@@ -1,15 +1,22 @@
 //! The command that prints a script of traffic for a description's file.
 
 use crate::command_line::Order;
+use crate::described::print_traffic;
 use crate::texts::read_description_of;
 use crate::told::Told;
 use crate::traffic_words::TrafficWords;
-use c104_commands::{PatternName, traffic_command};
+use c104_commands::PatternName;
+use c104_host::Recorded;
 use c104_setup::Status;
-use std::io;
+use std::io::Write;
 
 /// Prints a script of traffic for the network of a description's file. A pattern or a load that there isn't is a wrong word.
-pub fn send_file(rt: &HostRuntime, order: Order<'_>, told: &mut Told<'_>) -> Status {
+pub fn send_file<W: Write + Drop>(
+    rt: &HostRuntime,
+    order: Order<'_>,
+    output: &mut Recorded<W>,
+    told: &mut Told<'_>,
+) -> Status {
     let Some(name) = asked_pattern(rt, order.traffic) else {
         told.note_wrong_word();
         return Status::Refused;
@@ -26,14 +33,13 @@ pub fn send_file(rt: &HostRuntime, order: Order<'_>, told: &mut Told<'_>) -> Sta
         Ok(text) => text,
         Err(status) => return status,
     };
-    let mut description = text.as_slice();
-    traffic_command(
+    print_traffic(
         rt.alloc(),
+        text.as_slice(),
         name,
         order.traffic.target.unwrap_or(""),
         traffic,
-        &mut description,
-        &mut io::writer(rt),
+        output,
         told,
     )
 }

@@ -6,14 +6,16 @@
 use crate::command_line::Order;
 use crate::count_words::{CountWords, TableWords, name_of};
 use crate::pairs::format_of;
+use crate::scripted::{count_again, count_texts};
 use crate::sources::Saved;
-use crate::texts::open_texts;
+use crate::texts::{Script, open_texts};
 use crate::told::Told;
+use c104_host::Recorded;
 use c104_session::{Format, Measured, Printing, What, Window, stats_command};
 use c104_setup::{Status, read_setup};
-use c104_stream::{Halt, MAX_SCRIPT, read_up_to};
+use c104_stream::{Halt, MAX_SCRIPT, ReadFault, read_up_to};
 use std::alloc::{AllocError, Global};
-use std::io;
+use std::io::Write;
 
 /// The texts of a run.
 #[derive(Clone, Copy)]
@@ -24,7 +26,12 @@ struct Run<'a> {
 
 /// Counts a run. A format or a table that there isn't is a wrong word, and so is a table that is named twice,
 /// several tables without files for them, or rounds that choose nothing.
-pub fn count_files<'a>(rt: &HostRuntime, order: Order<'a>, told: &mut Told<'a>) -> Status {
+pub fn count_files<'a, W: Write + Drop>(
+    rt: &HostRuntime,
+    order: Order<'a>,
+    output: &mut Recorded<W>,
+    told: &mut Told<'a>,
+) -> Status {
     let counts = order.counts;
     if let TableWords::Twice(name) = counts.tables {
         let _ = eprintln!(rt; "error: --what {name} is said twice");
@@ -32,8 +39,8 @@ pub fn count_files<'a>(rt: &HostRuntime, order: Order<'a>, told: &mut Told<'a>) 
         return Status::Refused;
     }
     match (printing_of(counts), counts.out) {
-        (Ok(printing), None) => print_counts(rt, order, printing, told),
-        (Ok(printing), Some(prefix)) => save_files(rt, order, prefix, printing, told),
+        (Ok(printing), None) => print_counts(rt, order, printing, output, told),
+        (Ok(printing), Some(prefix)) => save_files(rt, order, prefix, printing, output, told),
         (Err(wrong), _) => {
             let _ = rt.eprintln(wrong);
             told.note_wrong_word();
@@ -43,49 +50,54 @@ pub fn count_files<'a>(rt: &HostRuntime, order: Order<'a>, told: &mut Told<'a>) 
 }
 
 /// Counts a run, and prints that so.
-fn print_counts<'a>(
+fn print_counts<'a, W: Write + Drop>(
     rt: &HostRuntime,
     order: Order<'a>,
     printing: Printing,
+    output: &mut Recorded<W>,
     told: &mut Told<'a>,
 ) -> Status {
     let mut texts = match open_texts(rt, order, told) {
         Ok(texts) => texts,
         Err(status) => return status,
     };
-    let (mut description, mut script) = texts.readers();
-    let status = stats_command(
-        rt.alloc(),
-        printing,
-        &mut description,
-        &mut script,
-        &mut io::writer(rt),
-        told,
-    );
-    told.note_fault(texts.fault());
+    let (alloc, mut description) = (rt.alloc(), texts.description.as_slice());
+    let status = match &mut texts.script {
+        Script::Held(text) => count_texts(alloc, printing, description, text, output, told),
+        Script::Live(lines) => stats_command(
+            alloc,
+            printing,
+            &mut description,
+            &mut lines.reader(),
+            output,
+            told,
+        ),
+    };
+    told.note_fault(texts.script.fault());
     status
 }
 
 /// Counts a run, and writes each table to a file whose path begins so.
-fn save_files<'a>(
+fn save_files<'a, W: Write + Drop>(
     rt: &HostRuntime,
     order: Order<'a>,
     prefix: &str,
     printing: Printing,
+    output: &mut Recorded<W>,
     told: &mut Told<'a>,
 ) -> Status {
     let mut texts = match open_texts(rt, order, told) {
         Ok(texts) => texts,
         Err(status) => return status,
     };
-    let (description, mut script) = texts.readers();
-    if let Err(status) = check_network(rt, description, told) {
+    let description = texts.description.as_slice();
+    if let Err(status) = check_network(rt, description, output, told) {
         return status;
     }
-    let script = match read_up_to(rt.alloc(), MAX_SCRIPT, &mut script) {
+    let script = match whole_script(rt.alloc(), &mut texts.script) {
         Ok(text) => text,
         Err(fault) => {
-            told.note_fault(texts.fault());
+            told.note_fault(texts.script.fault());
             return Status::of_halt(Halt::from(fault), 1);
         }
     };
@@ -96,11 +108,24 @@ fn save_files<'a>(
     save_tables(rt, order.counts, prefix, printing, run, told)
 }
 
+/// All of a script, or a byte more of it than it may have.
+fn whole_script(alloc: Global, script: &mut Script) -> Result<Vec<u8>, ReadFault> {
+    match script {
+        Script::Held(text) => read_up_to(alloc, MAX_SCRIPT, text),
+        Script::Live(lines) => read_up_to(alloc, MAX_SCRIPT, &mut lines.reader()),
+    }
+}
+
 /// Prints why a description gives no network, where it gives none, so that no file has that in place of a table. The error is
 /// how the command ends.
-fn check_network(rt: &HostRuntime, description: &[u8], told: &mut Told<'_>) -> Result<(), Status> {
+fn check_network<W: Write + Drop>(
+    rt: &HostRuntime,
+    description: &[u8],
+    output: &mut Recorded<W>,
+    told: &mut Told<'_>,
+) -> Result<(), Status> {
     let mut text = description;
-    match read_setup(rt.alloc(), &mut text, &mut io::writer(rt), told) {
+    match read_setup(rt.alloc(), &mut text, output, told) {
         Ok(_) => Ok(()),
         Err(status) => Err(status),
     }
@@ -161,26 +186,22 @@ fn save_table(
     told: &mut Told<'_>,
 ) -> Status {
     let mut file = match Saved::create(rt, path.as_str()) {
-        Ok(file) => file,
+        Ok(file) => Recorded::new(file),
         Err(error) => {
             told.note_unwritten(path, error.raw_os_error());
             return Status::CannotWrite;
         }
     };
-    let Run {
-        mut description,
-        mut script,
-    } = run;
-    let status = stats_command(
+    let status = count_again(
         rt.alloc(),
         printing,
-        &mut description,
-        &mut script,
+        run.description,
+        run.script,
         &mut file,
         told,
     );
     if let Status::CannotWrite = status {
-        told.note_unwritten(path, file.fault());
+        told.note_unwritten(path, file.writer().fault());
     }
     status
 }

@@ -159,7 +159,7 @@ impl<'a> Told<'a> {
             About::DescriptionLine(line) => {
                 format!(in alloc; "c104: {description}:{line}: {message}\n")
             }
-            About::Question | About::Farewell => format!(in alloc; "{message}\n"),
+            About::Question => format!(in alloc; "{message}\n"),
             About::ScriptLine(line) | About::FaultyLine(line) => {
                 let (script, line) = self.place_of(line);
                 format!(in alloc; "c104: {script}:{line}: {message}\n")

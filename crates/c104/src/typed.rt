@@ -1,124 +1,249 @@
 //! A script that comes line by line from standard input, and may be typed at a terminal.
 //!
-//! `quit` and `exit` are at the end of the input, as Ctrl-D is, and no line of the script: so the exit status is that of
-//! `run` of the lines before. A line that is sent in parts isn't recognized; it is an unknown word then. At the end of
-//! its input a reader isn't asked again, since a terminal would go on behind it. An editor of our own would need a
-//! terminal's raw mode, which no handle gives: `rlwrap` serves. Ctrl-C ends the program as it ends any other, without a
-//! summary, since no handle gives signals.
+//! A line that a person types is read whole, and its words are looked at before the script has it. A question and what
+//! is done here stand in the script as comments, behind `#> `, and `until` as `rounds`: so what was typed is a script
+//! of which `run` gives the same answers and exit status, and `log` saves that. `quit` and `exit` are at the end of the
+//! input, as Ctrl-D is, and so is `restart`. At the end of its input a reader isn't asked again, since a terminal would
+//! go on behind it. An editor of our own would need a terminal's raw mode, which no handle gives: `rlwrap` serves.
+//! Ctrl-C ends the program as it ends any other, without a summary, since no handle gives signals.
 ghost use Rattle.std.specs.Prelude.{IfOk, IfSome, None, length, ◌≤◌};
 
+use crate::logs::Log;
 use crate::opening::HostSource;
-use c104_plan::{first_word, uncommented};
+use crate::prompting::tell_of_file;
 use std::cell::Cell;
 use std::io;
-use std::io::{Chain, Read, Write};
+use std::io::{Chain, Cursor, Read, Write};
+
+/// What lines are read from: what was read of their text before, and then its source.
+pub type Lines<'a> = Chain<&'a [u8], HostSource>;
+
+/// How a person ends what is typed.
+#[derive(Clone, Copy, Debug, PartialEq, Eq)]
+pub enum Ending {
+    /// The program ends too.
+    Quit,
+    /// All begins anew.
+    Restart,
+}
 
 /// A reader of what standard input gives, line by line, maybe behind lines of a file. Where a person is asked, a prompt with the
-/// line's number comes on standard error before each line; and with a line whose first word is `quit` or `exit` what is typed is
-/// at its end, as if the input had ended before that line. Each read asks the reader once, which gives a line where it is
+/// line's number comes on standard error before each line. Each read asks the reader once, which gives a line where it is
 /// a terminal.
 #[derive(Drop)]
-pub struct Typed<'r, 'a, 'f, 'b, 'i, 'c> {
-    rt: &'r HostRuntime,
-    // The lines of a file, until it is at its end.
-    file: Option<Chain<&'a [u8], &'f mut HostSource>>,
-    input: Chain<&'b [u8], &'i mut HostSource>,
+pub struct Typed<'a> {
+    pub(crate) rt: &'a HostRuntime,
+    pub(crate) description: &'a [u8],
+    /// The lines of a file, until it is at its end.
+    pub(crate) file: Option<Lines<'a>>,
+    /// The name of that file, where a person asked for it.
+    pub(crate) asked_file: Option<String>,
+    input: Lines<'a>,
     is_asked: bool,
-    // How many lines the file has, as soon as it is at its end.
-    typed_from: &'c Cell<Option<usize>>,
+    // Where it is noted how many lines the script's own file has, as soon as it is at its end.
+    typed_from: Option<&'a Cell<Option<usize>>>,
+    // A line that was typed, as the script has it, as far as that isn't read.
+    ready: Cursor<Vec<u8>>,
+    /// What was read of the script, where a person is asked.
+    pub(crate) script: Vec<u8>,
+    pub(crate) log: Option<Log>,
+    /// Whether all can begin anew.
+    pub(crate) can_restart: bool,
     // The number of the line that comes next, or is there in part.
     line: usize,
     // Whether nothing of that line is there yet.
     begins: bool,
-    // Whether a line ended what is typed.
-    has_ended: bool,
+    /// How a line ended what is typed.
+    pub(crate) ending: Option<Ending>,
+    fault: Option<i32>,
+    lacks_memory: bool,
 }
 
-impl<'r, 'a, 'f, 'b, 'i, 'c> Typed<'r, 'a, 'f, 'b, 'i, 'c> {
-    /// A script from standard input, behind the lines of a file if there is one. In the cell it notes how many these are, as
-    /// soon as the file is at its end.
+impl<'a> Typed<'a> {
+    /// A script on the network of a description, from standard input, behind the lines of a file if there is one. In the cell
+    /// it notes how many these are, as soon as the file is at its end.
     pub fn new(
-        rt: &'r HostRuntime,
-        file: Option<Chain<&'a [u8], &'f mut HostSource>>,
-        input: Chain<&'b [u8], &'i mut HostSource>,
+        rt: &'a HostRuntime,
+        description: &'a [u8],
+        file: Option<Lines<'a>>,
+        input: Lines<'a>,
         is_asked: bool,
-        typed_from: &'c Cell<Option<usize>>,
+        typed_from: Option<&'a Cell<Option<usize>>>,
     ) -> Self {
         Typed {
             rt,
+            description,
+            can_restart: file.is_some(),
             file,
+            asked_file: None,
             input,
             is_asked,
             typed_from,
+            ready: Cursor::new(Vec::new(rt.alloc())),
+            script: Vec::new(rt.alloc()),
+            log: None,
             line: 1,
             begins: true,
-            has_ended: false,
+            ending: None,
+            fault: None,
+            lacks_memory: false,
         }
+    }
+}
+
+impl Typed<'_> {
+    /// Whether a person ended all that was typed so that it begins anew.
+    pub fn begins_anew(&self) -> bool {
+        self.ending == Some(Ending::Restart)
+    }
+
+    /// Whether it was read as far as it could be, and memory ran out.
+    pub fn lacks_memory(&self) -> bool {
+        self.lacks_memory
+    }
+
+    /// The system's number of why it couldn't be read, where it couldn't and the system has one.
+    pub fn fault(&self) -> Option<i32> {
+        self.fault
+    }
+
+    /// Whether what is left of it comes from standard input alone.
+    pub fn is_behind_file(&self) -> bool {
+        self.file.is_none()
+    }
+
+    /// The next bytes of the script.
+    fn read_script(&mut self, buf: &mut [u8]) -> io::Result<usize>
+        ensures { IfOk result (λ count. count ≤ length buf.new) }
+    {
+        let count = self.ready.read(buf)?;
+        if count > 0 {
+            return Ok(count);
+        }
+        if let Some(count) = self.read_file(buf)? {
+            return Ok(count);
+        }
+        if !self.is_asked {
+            return self.input.read(buf);
+        }
+        self.ask(buf)?;
+        self.ready.read(buf)
     }
 
     /// What the file gives, or None at its end. Where its last line has no line feed, it gets one.
     fn read_file(&mut self, buf: &mut [u8]) -> io::Result<Option<usize>>
         ensures { IfOk result (λ given. IfSome given (λ count. count ≤ length buf.new)) }
     {
-        let mut count = match &mut self.file {
-            Some(file) => file.read(buf)?,
-            None => return Ok(None),
+        let Some(file) = &mut self.file else {
+            return Ok(None);
         };
-        if count == 0
-            && let Some(first) = buf.first_mut()
-        {
-            self.file = None;
-            if self.begins {
-                self.typed_from.set(Some(self.line.saturating_sub(1)));
-                return Ok(None);
+        let count = match file.read(buf) {
+            Ok(count) => count,
+            Err(error) => {
+                self.leave_unread(error)?;
+                0
             }
-            self.typed_from.set(Some(self.line));
-            *first = b'\n';
-            count = 1;
+        };
+        if count > 0 || buf.is_empty() {
+            return Ok(Some(count));
         }
-        self.note(&buf[..count]);
-        Ok(Some(count))
+        self.leave_file();
+        match buf.first_mut() {
+            Some(first) if !self.begins => {
+                *first = b'\n';
+                Ok(Some(1))
+            }
+            _ => Ok(None),
+        }
     }
 
-    /// What standard input gives.
-    fn read_input(&mut self, buf: &mut [u8]) -> io::Result<usize>
-        ensures { IfOk result (λ count. count ≤ length buf.new) }
-    {
-        if self.is_asked && self.begins {
+    /// A file can't be read further. Where a person asked for it they are told, and it is at its end.
+    fn leave_unread(&mut self, error: io::Error) -> io::Result<()> {
+        let Some(name) = &self.asked_file else {
+            return Err(error);
+        };
+        tell_of_file(self.rt, name.as_str(), &error);
+        Ok(())
+    }
+
+    /// The file is at its end.
+    fn leave_file(&mut self) {
+        self.file = None;
+        self.asked_file = None;
+        if let Some(typed_from) = self.typed_from.take() {
+            let whole = self.line.saturating_sub(1);
+            typed_from.set(Some(if self.begins { whole } else { self.line }));
+        }
+    }
+
+    /// Asks for a line, and readies what the script has in its place.
+    fn ask(&mut self, buf: &mut [u8]) -> io::Result<()> {
+        if self.begins {
             prompt(self.rt, self.line);
         }
-        let count = self.input.read(buf)?;
-        let piece = &buf[..count];
-        if self.is_asked && self.begins && is_farewell(piece) {
-            self.has_ended = true;
-            return Ok(0);
-        }
-        if self.is_asked && count == 0 {
+        let line = self.read_line(buf)?;
+        if line.is_empty() {
+            self.ending = Some(Ending::Quit);
             // What follows stands on a line of its own.
             let _ = self.rt.stderr().write_all(b"\n");
+            return Ok(());
         }
-        self.note(piece);
-        Ok(count)
+        if let Some(line) = self.heed(line.as_slice())? {
+            self.ready = Cursor::new(line);
+        }
+        Ok(())
     }
 
-    /// Notes where a piece of the script ends.
-    fn note(&mut self, piece: &[u8]) {
+    /// A line that is typed, which may be sent in parts. It is empty at the end of the input.
+    fn read_line(&mut self, buf: &mut [u8]) -> io::Result<Vec<u8>> {
+        let mut line = Vec::new(self.rt.alloc());
+        for _ in 0..u64::MAX {
+            let count = self.input.read(buf)?;
+            let piece = &buf[..count];
+            line.extend_from_slice(piece)?;
+            if begins_behind(piece, true) {
+                return Ok(line);
+            }
+        }
+        Ok(line)
+    }
+
+    /// Notes a piece of the script that is read.
+    fn note(&mut self, piece: &[u8]) -> io::Result<()> {
         self.line = self.line.saturating_add(feeds_of(piece));
         self.begins = begins_behind(piece, self.begins);
+        if self.is_asked {
+            self.script.extend_from_slice(piece)?;
+            self.add_to_log(piece);
+        }
+        Ok(())
+    }
+
+    /// The next bytes of the script, which are noted.
+    fn read_noted(&mut self, buf: &mut [u8]) -> io::Result<usize>
+        ensures { IfOk result (λ count. count ≤ length buf.new) }
+    {
+        if self.ending.is_some() {
+            return Ok(0);
+        }
+        let count = self.read_script(buf)?;
+        self.note(&buf[..count])?;
+        Ok(count)
     }
 }
 
-impl Read for Typed<'_, '_, '_, '_, '_, '_> {
+impl Read for Typed<'_> {
     // What the readers have left doesn't say where a person ends it: that also depends on how it is cut into reads.
     ghost remaining = { λ _. None };
 
     fn read(&mut self, buf: &mut [u8]) -> io::Result<usize> {
-        if self.has_ended {
-            return Ok(0);
-        }
-        match self.read_file(buf)? {
-            Some(count) => Ok(count),
-            None => self.read_input(buf),
+        match self.read_noted(buf) {
+            Ok(count) => Ok(count),
+            Err(error) => {
+                self.fault = error.raw_os_error();
+                self.lacks_memory = error.kind() == io::ErrorKind::OutOfMemory;
+                Err(error)
+            }
         }
     }
 }
@@ -127,14 +252,6 @@ impl Read for Typed<'_, '_, '_, '_, '_, '_> {
 fn prompt(rt: &HostRuntime, line: usize) {
     if let Ok(text) = format!(in rt.alloc(); "{line}> ") {
         let _ = rt.stderr().write_all(text.as_bytes());
-    }
-}
-
-/// Whether a piece is a line with which a person wants to end the script.
-fn is_farewell(piece: &[u8]) -> bool {
-    match piece {
-        [line @ .., b'\n'] => matches!(first_word(uncommented(line)), Some(b"quit" | b"exit")),
-        _ => false,
     }
 }
 

@@ -1,0 +1,3 @@
+pub mod EndedCommands
+pub mod EndedRuns
+pub mod EndedStorms
