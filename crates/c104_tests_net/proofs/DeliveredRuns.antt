@@ -6,23 +6,17 @@ use Rattle.{c104_deadlock.specs.Work.told_work, c104_event.specs.declared.faults
 use Rattle.{c104_net.specs.Unchanged.AreStartsOf, c104_node.specs.{Starts.IsStartedStart, Traces.seatless}, c104_plan.specs.PlanImage.Fits}
 use Rattle.{c104_plan.specs.{PlanImage.Image, Plans.Plan}, c104_run.specs.{NetRecords.NetRecord, QuietNets.IsQuiet}}
 use Rattle.c104_run.specs.{RecordedRuns.RecordsHanded, Standstill.StandsStill, declared.words.Words.Words}
-use Rattle.c104_tests_net.{proofs.CalmRuns.unchanged, specs.{CalmNets.{IsCalm, IsCalmTrace}, DeliveredNets.DeliversByRanks}}
-use Rattle.{c104_tests_net.specs.DeliveredNets.DeliversWithin, c104_token.specs.Kinds.plain_kind, std.proofs.Common.{All, Err, IfOk, Ok}}
-use Rattle.std.proofs.Common.{Result, arith, subst, sym, ℕ, ◌<◌}
+use Rattle.c104_tests_net.{proofs.BlockedNets.accepted_net, specs.{CalmNets.IsCalm, DeliveredNets.{DeliversByRanks, DeliversWithin}}}
+use Rattle.{c104_token.specs.Kinds.plain_kind, std.proofs.Common.{All, Err, IfOk, Ok, Result, arith, subst, sym, ℕ, ◌<◌}}
 
 -- what such a network keeps is what the theorem asks for
 pub acyclic_net : (plan : Plan) (image : Image) (net : NetRecord) → IsCalm plan image net → Fits image plan → IsAccepted (routes_of plan image) → IsAcyclic (routes_of plan image) → All IsStartedStart net.starts → IsAcyclicNet image net
 acyclic_net plan image net calm fits accepted acyclic started =
     let back = sym calm.same_plan in
-    let set : AreStartsOf net.network.plan image net.starts = subst (λ p. AreStartsOf p image net.starts) back calm.starts in
-    let quiet : All (IsCalmTrace (routes_of net.network.plan image)) net.traces = subst (λ p. All (IsCalmTrace (routes_of p image)) net.traces) back calm.traces in
     record {
       fits = subst (Fits image) back fits;
-      accepted = subst (λ p. IsAccepted (routes_of p image)) back accepted;
       acyclic = subst (λ p. IsAcyclic (routes_of p image)) back acyclic;
-      set = set;
-      started = started;
-      unchanged = λ events told. unchanged (routes_of net.network.plan image) net.network.plan seatless net.starts net.network.nodes net.traces net.count events set.in_place quiet told;
+      kept = accepted_net plan image net calm accepted started;
     }
 
 -- where it stands still, it is quiet, also where random headers are put before packets

@@ -3,6 +3,7 @@ pub mod CalmRuns
 pub mod NamedPackets
 pub mod NotRandom
 pub mod DeliveredRuns
+pub mod BlockedNets
 pub mod FoundPackets
 pub mod PortCalls
 pub mod CalmSeats

@@ -2,7 +2,8 @@
 //! modules by what they test.
 //!
 //! `named_packets` cites the theorem about packets as a caller does, `found_packets` what it says of a network that is
-//! quiet at the end, `portals` the same where there are random headers, and `deadlock` the theorem about deadlock;
+//! quiet at the end, `portals` the same where there are random headers, `deadlock` the theorem about deadlock, and `ways_out`
+//! what that says of a network with a cycle;
 //! `packets_by_threads` and `deadlock_by_threads` cite both of what worker threads did. What the audit answers is a
 //! contract of `audit_lists`; the modules of altered lists show that it sees each kind of change to the lists of real
 //! runs, and tells the first fault, `stopped` and `debuggers` that workers and a debugger leave one run wherever they
@@ -108,5 +109,7 @@ mod tools;
 mod traces;
 #[cfg(test)]
 mod turns_of_a_net;
+#[cfg(test)]
+mod ways_out;
 #[cfg(test)]
 mod workers;
