@@ -22,13 +22,13 @@ calm_harmless routes plain (Ok (Some (Request.Asked e))) calm = event_asked rout
 calm_harmless routes plain (Ok (Some (Request.Probed probe))) calm = absurd calm
 calm_harmless routes plain asked calm = λ answer. tt
 
-pub unchanged_run : (plan : Plan) (image : Image) (script : List ℕ) → IsPlan plan → Fits image plan → IsAccepted (routes_of plan image) → IsNeverRandomized (routes_of plan image) → length script ≤ most_script → AreCalm plan (lines script) → IsUnchangedRun plan image script
+pub unchanged_run : (plan : Plan) (image : Image) (script : List ℕ) → IsPlan plan → Fits image plan → IsAccepted (routes_of plan image) → IsNeverRandomized (routes_of plan image) → length script ≤ most_script → AreCalm plan image (lines script) → IsUnchangedRun plan image script
 unchanged_run plan image script is_plan fits accepted plain short calm = record {
   accepted = accepted;
   short = grind (arith, nat_tests);
   unchanged =
       harmless_leaves plan image is_plan fits script (subst (AreHarmless plan image) (sym (all_lines script short))
-      (All-weaker (λ (line : List ℕ). IsCalm (read_script_line plan line)) (λ (line : List ℕ). IsHarmless (routes_of plan image) (read_script_line plan line)) (λ line. calm_harmless (routes_of plan image) plain (read_script_line plan line)) (lines script) calm));
+      (All-weaker (λ (line : List ℕ). IsCalm (read_script_line plan image line)) (λ (line : List ℕ). IsHarmless (routes_of plan image) (read_script_line plan image line)) (λ line. calm_harmless (routes_of plan image) plain (read_script_line plan image line)) (lines script) calm));
 }
 
 -- a plan whose own lines set the tables has one image

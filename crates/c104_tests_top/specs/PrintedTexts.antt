@@ -13,8 +13,8 @@ IsCalm (Ok (Some (Request.Probed probe))) = ⊥
 IsCalm asked = Unit {0}
 
 -- the same of each of these lines
-abbrev pub AreCalm : Plan → List (List ℕ) → Type 0
-AreCalm plan lines = All (λ (line : List ℕ). IsCalm (read_script_line plan line)) lines
+abbrev pub AreCalm : Plan → Image → List (List ℕ) → Type 0
+AreCalm plan image lines = All (λ (line : List ℕ). IsCalm (read_script_line plan image line)) lines
 
 pub record IsPrinted (description script text : List ℕ) : Type 0 where
   pub plan : Plan

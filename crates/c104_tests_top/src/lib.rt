@@ -15,6 +15,8 @@ mod commands;
 #[cfg(test)]
 mod failures;
 #[cfg(test)]
+mod held;
+#[cfg(test)]
 mod output;
 #[cfg(test)]
 mod printed;

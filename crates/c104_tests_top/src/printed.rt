@@ -72,10 +72,13 @@ fn printed_on(
     requires { read_description description.now ≡ Ok plan.now }
     ensures { IfOk result (λ text. IsPrinted description.now script.now text.items) }
 {
-    if !is_plain(plan) || !is_calm(alloc, plan, script)? {
-        return Err("random headers, labels by a shape, or a script that isn't calm".into());
+    if !is_plain(plan) {
+        return Err("random headers, or labels by a shape".into());
     }
     let image = image_of(alloc, plan)?;
+    if !is_calm(alloc, plan, &image, script)? {
+        return Err("a script that isn't calm".into());
+    }
     let text = where_calm(alloc, plan, &image, description, script)?;
     Ok(text)
 }
@@ -96,7 +99,7 @@ fn where_calm(
     requires fits { Fits image.now plan.now }
     requires plain { IsNeverRandomized (routes_of plan.now image.now) }
     requires short { length script.now ≤ most_script }
-    requires calm { AreCalm plan.now (lines script.now) }
+    requires calm { AreCalm plan.now image.now (lines script.now) }
     ensures { IfOk result (λ text. IsPrinted description.now script.now text.items) }
 {
     check(alloc, plan, image)?;
@@ -129,23 +132,23 @@ fn is_plain(plan: &Plan) -> bool
 }
 
 /// Whether a script is no longer than it may be, and each of its lines is calm.
-fn is_calm(alloc: Global, plan: &Plan, script: &[u8]) -> Result<bool, NoMemory>
+fn is_calm(alloc: Global, plan: &Plan, image: &Image, script: &[u8]) -> Result<bool, NoMemory>
     ensures short { IfOk result (λ calm. calm ≡ true → length script.now ≤ most_script) }
-    ensures calm { IfOk result (λ calm. calm ≡ true → AreCalm plan.now (lines script.now)) }
+    ensures calm { IfOk result (λ calm. calm ≡ true → AreCalm plan.now image.now (lines script.now)) }
 {
     if script.len() > MAX_SCRIPT {
         return Ok(false);
     }
     let lines = cut_lines(alloc, script)?;
-    Ok(are_calm(alloc, plan, lines.as_slice()))
+    Ok(are_calm(alloc, plan, image, lines.as_slice()))
 }
 
 /// Whether each of these lines is calm.
-fn are_calm(alloc: Global, plan: &Plan, lines: &[&[u8]]) -> bool
-    ensures { result ≡ true → AreCalm plan.now (map (λ line. line.now) lines.now) }
+fn are_calm(alloc: Global, plan: &Plan, image: &Image, lines: &[&[u8]]) -> bool
+    ensures { result ≡ true → AreCalm plan.now image.now (map (λ line. line.now) lines.now) }
 {
     for line in lines {
-        if !is_calm_line(alloc, plan, line) {
+        if !is_calm_line(alloc, plan, image, line) {
             return false;
         }
     }
@@ -153,10 +156,10 @@ fn are_calm(alloc: Global, plan: &Plan, lines: &[&[u8]]) -> bool
 }
 
 /// Whether a line is no control command, and asks the debugger for nothing.
-fn is_calm_line(alloc: Global, plan: &Plan, line: &[u8]) -> bool
-    ensures { result ≡ true → IsCalm (read_script_line plan.now line.now) }
+fn is_calm_line(alloc: Global, plan: &Plan, image: &Image, line: &[u8]) -> bool
+    ensures { result ≡ true → IsCalm (read_script_line plan.now image.now line.now) }
 {
-    match read_line(alloc, plan, line) {
+    match read_line(alloc, plan, image, line) {
         Ok(Some(request)) => is_calm_request(&request),
         Ok(None) => true,
         Err(_) => false,
@@ -169,6 +172,6 @@ fn is_calm_request(request: &Request) -> bool
 {
     match request {
         Request::Asked(Event::Control { .. }) | Request::Probed(_) => false,
-        Request::Asked(_) | Request::Rounds { .. } | Request::Refused(_) => true,
+        Request::Asked(_) | Request::Rounds { .. } | Request::Settle | Request::Refused(_) => true,
     }
 }

@@ -39,6 +39,7 @@ fn faulty_lines(rt: HostRuntime) {
         LineFault::AfterEnd,
         LineFault::PacketTooLong,
         LineFault::NoMemory,
+        LineFault::NoLabel,
     ];
     let messages = "a line has at most 16384 bytes\n\
         the first word is not one that a script has\n\
@@ -48,7 +49,8 @@ fn faulty_lines(rt: HostRuntime) {
         the packet has no end: `eop` or `eom` is wanted\n\
         a word follows the packet's end\n\
         the packet has more than 4096 bytes\n\
-        out of memory\n";
+        out of memory\n\
+        the first label of the receiver is no header of the network\n";
     assert!(rt; say(rt.alloc(), &faults, messages));
 }
 

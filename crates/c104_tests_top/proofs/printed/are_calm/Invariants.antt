@@ -3,4 +3,4 @@ use Rattle.std.proofs.Common.{ℕ}
 
 -- the lines so far are calm
 abbrev pub invariant-loop-line : Rattle.c104_tests_top.proofs.printed.are_calm.Given.invariant-loop-line
-invariant-loop-line l = All (λ (line : Bor (List ℕ)). IsCalm (read_script_line l.plan line.now)) (take l.line-index l.lines)
+invariant-loop-line l = All (λ (line : Bor (List ℕ)). IsCalm (read_script_line l.plan l.image line.now)) (take l.line-index l.lines)
