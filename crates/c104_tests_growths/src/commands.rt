@@ -11,9 +11,10 @@ use c104_commands::{
 };
 use c104_lockup::lockup_command;
 use c104_mistakes::Silent;
+use c104_readback::{Form, read_back_command};
 use c104_session::{
-    Asked, Format, Measured, Printing, What, Window, debug_command, draw_over_time_command,
-    draw_state_command, run, run_text, stats_command,
+    Asked, Format, Measured, PLAIN_SCALE, Printing, What, Window, debug_command,
+    draw_over_time_command, draw_state_command, run, run_text, stats_command,
 };
 use c104_setup::Status;
 use c104_storm::{Allowance, Words, storm_command};
@@ -31,6 +32,7 @@ const ALL_ROUNDS: Asked = Asked {
     from: None,
     to: None,
     format: None,
+    scale: PLAIN_SCALE,
 };
 
 /// The same as a table.
@@ -38,6 +40,7 @@ const ALL_AS_ROWS: Asked = Asked {
     from: None,
     to: None,
     format: Some(Format::Json),
+    scale: PLAIN_SCALE,
 };
 
 /// All packets are measured, and told of together.
@@ -76,33 +79,33 @@ const SEND: &[u8] = b"send ";
 
 /// Whence a run reads.
 #[derive(Clone, Copy)]
-enum Form {
+enum Source {
     Parts,
     Lines,
     Text,
 }
 
-impl Form {
+impl Source {
     fn run(self, alloc: Global, page: &mut Page) -> Status {
         let (mut description, mut script, mut text) = (PLAN, SCRIPT, TEXT);
         match self {
-            Form::Parts => run(alloc, &mut description, &mut script, page, &mut Silent),
-            Form::Lines => debug_command(alloc, &mut description, &mut script, page, &mut Silent),
-            Form::Text => run_text(alloc, &mut text, page, &mut Silent),
+            Source::Parts => run(alloc, &mut description, &mut script, page, &mut Silent),
+            Source::Lines => debug_command(alloc, &mut description, &mut script, page, &mut Silent),
+            Source::Text => run_text(alloc, &mut text, page, &mut Silent),
         }
     }
 
     fn answers(self) -> &'static [u8] {
         match self {
-            Form::Parts | Form::Lines => ANSWERS,
-            Form::Text => TWO_ANSWERS,
+            Source::Parts | Source::Lines => ANSWERS,
+            Source::Text => TWO_ANSWERS,
         }
     }
 }
 
 /// A run. Out of memory whole answers were written, to the first lines or to all, and no summary.
 #[derive(Drop)]
-struct Running(Form);
+struct Running(Source);
 
 impl Growing for Running {
     fn call(&self, alloc: Global, refusal: Refusal) -> Outcome {
@@ -152,7 +155,7 @@ impl Command {
                 draw_state_command(alloc, &mut text, &mut script, page, &mut Silent)
             }
             Command::OverTime(asked) => {
-                draw_over_time_command(alloc, asked, &mut text, &mut script, page, &mut Silent)
+                draw_over_time_command(alloc, asked, &[], &mut text, &mut script, page, &mut Silent)
             }
             Command::Stats(printing) => {
                 stats_command(alloc, printing, &mut text, &mut script, page, &mut Silent)
@@ -198,6 +201,30 @@ impl Growing for Locking {
     }
 }
 
+/// The labels that a script leaves in registers. Out of memory nothing was written.
+#[derive(Drop)]
+struct ReadingBack(Form);
+
+impl Growing for ReadingBack {
+    fn call(&self, alloc: Global, refusal: Refusal) -> Outcome {
+        let Some(mut page) = Page::new(alloc) else {
+            return Outcome::Wrong;
+        };
+        let (mut text, mut script) = (PLAN, SCRIPT);
+        refusal.begin(alloc);
+        let status = read_back_command(
+            alloc,
+            self.0,
+            &mut text,
+            &mut script,
+            &mut page,
+            &mut Silent,
+        );
+        refusal.end(alloc);
+        Outcome::of_status(status).if_kept(page.written().is_empty())
+    }
+}
+
 /// A storm by two workers. Out of memory answers to lines were written, and nothing of the storm.
 #[derive(Drop)]
 struct Storming;
@@ -237,9 +264,9 @@ fn storm<R: Threads + Wait + Sync>(rt: &R, alloc: Global, page: &mut Page) -> St
 
 #[test]
 fn runs(rt: HostRuntime) {
-    assert!(rt; is_right(&rt, "run", &Running(Form::Parts)));
-    assert!(rt; is_right(&rt, "debug_command", &Running(Form::Lines)));
-    assert!(rt; is_right(&rt, "run_text", &Running(Form::Text)));
+    assert!(rt; is_right(&rt, "run", &Running(Source::Parts)));
+    assert!(rt; is_right(&rt, "debug_command", &Running(Source::Lines)));
+    assert!(rt; is_right(&rt, "run_text", &Running(Source::Text)));
 }
 
 #[test]
@@ -273,6 +300,13 @@ fn commands(rt: HostRuntime) {
 #[test]
 fn lockups(rt: HostRuntime) {
     assert!(rt; is_right(&rt, "lockup_command", &Locking));
+}
+
+#[test]
+fn labels_of_registers(rt: HostRuntime) {
+    for form in [Form::Registers, Form::Rows, Form::Check] {
+        assert!(rt; is_right(&rt, "read_back_command", &ReadingBack(form)));
+    }
 }
 
 #[test]

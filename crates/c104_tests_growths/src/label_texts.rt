@@ -6,9 +6,11 @@ use crate::labels::REFUSED;
 use crate::outcomes::Outcome;
 use c104_check::check;
 use c104_commands::{
-    boot_commands, check_advice, check_fault_text, cycle_advice, image_text, rows_text,
+    boot_commands, check_advice, check_fault_text, checked_text, cycle_advice, image_text,
+    rows_text, shown_rows,
 };
 use c104_label::{LabelFault, image_of};
+use c104_mistakes::Silent;
 use c104_plan::Plan;
 use c104_setup::label_fault_text;
 use std::alloc::Global;
@@ -20,6 +22,10 @@ enum Text {
     Image,
     /// The plan by hand of it.
     Rows,
+    /// What `label --rows` prints of it.
+    Shown,
+    /// What `check` prints of it.
+    Checked,
     /// The control commands that load it.
     Boot,
     /// Whether packets can wait for one another forever.
@@ -45,6 +51,8 @@ impl Growing for Telling<'_> {
                 Ok(None) => Outcome::Wrong,
                 found => Outcome::of(found),
             },
+            Text::Shown => Outcome::of(shown_rows(alloc, self.0, &image)),
+            Text::Checked => Outcome::of(checked_text(alloc, self.0, &image, &mut Silent)),
             Text::Boot => Outcome::of(boot_commands(alloc, &image)),
             Text::Cycles => Outcome::of(cycle_advice(alloc, self.0, &image)),
         };
@@ -105,6 +113,8 @@ impl Suite for AcceptedTexts {
     fn is_right(&self, rt: &HostRuntime, ground: Ground<'_>) -> bool {
         is_right(rt, "image_text", &Telling(ground.plan, Text::Image))
             && is_right(rt, "rows_text", &Telling(ground.plan, Text::Rows))
+            && is_right(rt, "shown_rows", &Telling(ground.plan, Text::Shown))
+            && is_right(rt, "checked_text", &Telling(ground.plan, Text::Checked))
             && is_right(rt, "boot_commands", &Telling(ground.plan, Text::Boot))
             && is_right(rt, "cycle_advice", &Telling(ground.plan, Text::Cycles))
     }

@@ -6,7 +6,7 @@ use c104_event::EventFault;
 use c104_label::LabelFault;
 use c104_net::PlaceFault;
 use c104_plan::ImageFault;
-use c104_print::TimeFault;
+use c104_reports::TimeFault;
 use c104_script::LineFault;
 use c104_setup::Status;
 use c104_stream::{Halt, ReadFault};

@@ -9,20 +9,26 @@ use crate::written::{ANSWERS, Page, SCRIPT, SUMMARY};
 use c104_mistakes::Silent;
 use c104_plan::{Image, Plan};
 use c104_script::{Answer, add_answer, read_line};
-use c104_session::{Ended, EndedNet, Session, answer_script, run_plan, summary_lines};
+use c104_session::{Ended, EndedNet, Session, answer_script, do_script, run_plan, summary_lines};
 use c104_stream::{Ahead, Halt};
 use c104_switch::Reply;
 use c104_token::NoMemory;
 use std::alloc::Global;
 
+/// A line that sends a packet, by its bytes.
+const SENT: &[u8] = b"send a 01 aa bb cc dd ee ff eop";
+
+/// A line that sends a packet to a terminal.
+const TO_B: &[u8] = b"send a to b \"hello to\" length 5 ff eop";
+
 /// A line is read.
 #[derive(Drop)]
-struct ReadingLine<'a>(&'a Plan);
+struct ReadingLine<'a>(&'a Plan, &'a Image, &'static [u8]);
 
 impl Growing for ReadingLine<'_> {
     fn call(&self, alloc: Global, refusal: Refusal) -> Outcome {
         refusal.begin(alloc);
-        let result = read_line(alloc, self.0, b"send a 01 aa bb cc dd ee ff eop");
+        let result = read_line(alloc, self.0, self.1, self.2);
         refusal.end(alloc);
         match result {
             Ok(_) => Outcome::Done,
@@ -160,6 +166,24 @@ fn answer_all(
     answer_script(alloc, session, ahead, &mut script, page, &mut Silent)
 }
 
+/// A session does a script.
+#[derive(Drop)]
+struct DoingScript<'a>(&'a Plan);
+
+impl Growing for DoingScript<'_> {
+    fn call(&self, alloc: Global, refusal: Refusal) -> Outcome {
+        let Some(mut session) = session_of(alloc, self.0) else {
+            return Outcome::Wrong;
+        };
+        let mut script = SCRIPT;
+        refusal.begin(alloc);
+        let done = do_script(alloc, &mut session, &mut script, &mut Silent);
+        refusal.end(alloc);
+        session.finish().retire();
+        Outcome::of_run(done)
+    }
+}
+
 /// A script is run on a plan. Out of memory the answers to its first lines were written, or to all, and no summary.
 #[derive(Drop)]
 struct Running<'a>(&'a Plan);
@@ -256,7 +280,8 @@ struct SessionCalls;
 impl Suite for SessionCalls {
     fn is_right(&self, rt: &HostRuntime, ground: Ground<'_>) -> bool {
         let plan = ground.plan;
-        is_right(rt, "read_line", &ReadingLine(plan))
+        is_right(rt, "read_line", &ReadingLine(plan, ground.image, SENT))
+            && is_right(rt, "read_line", &ReadingLine(plan, ground.image, TO_B))
             && is_right(rt, "add_answer", &Adding)
             && is_right(rt, "Session::new", &Beginning(plan))
             && is_right(rt, "Session::answer", &Answering(plan, b"send a 01 aa eop"))
@@ -271,6 +296,7 @@ struct ScriptCalls;
 impl Suite for ScriptCalls {
     fn is_right(&self, rt: &HostRuntime, ground: Ground<'_>) -> bool {
         is_right(rt, "answer_script", &AnsweringScript(ground.plan))
+            && is_right(rt, "do_script", &DoingScript(ground.plan))
             && is_right(rt, "run_plan", &Running(ground.plan))
             && is_end_right(rt, ground.plan)
     }

@@ -7,7 +7,7 @@ use crate::traced::net_after;
 use c104_net::TracedNet;
 use c104_picture::net_state;
 use c104_plan::Image;
-use c104_print::state_text;
+use c104_reports::state_text;
 use std::alloc::Global;
 
 /// A network is listed or drawn as it stands.

@@ -1,7 +1,7 @@
 //! A storm on the network of a plan.
 ghost use Rattle.c104_plan.specs.PlanImage.{Fits};
 
-use crate::calls::PLAN;
+use crate::calls::{PLAN, label_image};
 use crate::ground::{Ground, growths_on};
 use crate::growths::{Refusal, Sharing, is_told};
 use crate::outcomes::Outcome;
@@ -29,11 +29,14 @@ impl Sharing for Storming {
         let Some(mut page) = Page::new(alloc) else {
             return Outcome::Wrong;
         };
-        if !ground.image.fits(ground.plan) {
+        let Some(image) = label_image(alloc, ground.plan) else {
+            return Outcome::Wrong;
+        };
+        if !image.fits(ground.plan) {
             return Outcome::Wrong;
         }
         refusal.begin(alloc);
-        let ended = storm(rt, alloc, ground.plan, ground.image, &mut page);
+        let ended = storm(rt, alloc, ground.plan, image, &mut page);
         refusal.end(alloc);
         page.judge(Outcome::of_run(ended), TWO_ANSWERS, STORM_END)
     }
@@ -43,10 +46,10 @@ fn storm<R: Threads + Wait + Sync>(
     rt: &R,
     alloc: Global,
     plan: &Plan,
-    image: &Image,
+    image: Image,
     page: &mut Page,
 ) -> Result<bool, Halt>
-    requires { Fits image.now plan.now }
+    requires { Fits image plan.now }
 {
     let mut sends = SENDS;
     storm_plan(

@@ -6,7 +6,8 @@ use crate::outcomes::Outcome;
 use crate::traced::net_after;
 use c104_net::{Origin, TracedNet};
 use c104_plan::Port;
-use c104_print::{Format, time_picture, time_table};
+use c104_print::Format;
+use c104_reports::{PLAIN_SCALE, time_picture, time_table};
 use c104_timeline::{Period, Timeline, bars_at, packets_of, rows_of};
 use std::alloc::Global;
 
@@ -39,7 +40,13 @@ impl Call {
             Call::Rows => Outcome::of(rows_of(alloc, net.plan(), timeline, SHOWN)),
             Call::Bars => Outcome::of(bars_at(alloc, timeline, SHOWN, Port::Terminal(0))),
             Call::Packets => Outcome::of(packets_of(alloc, timeline, SHOWN)),
-            Call::Draw => Outcome::of(time_picture(alloc, net.plan(), timeline, SHOWN)),
+            Call::Draw => Outcome::of(time_picture(
+                alloc,
+                net.plan(),
+                timeline,
+                SHOWN,
+                PLAIN_SCALE,
+            )),
             Call::Tell => Outcome::of(time_table(alloc, Format::Json, net.plan(), timeline, SHOWN)),
         }
     }
