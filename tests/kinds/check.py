@@ -278,8 +278,6 @@ NOT_MENDED = {
     'a group of two terminals',
     'a link of the group before the one selected',
     'an unwired link behind a wrong one',
-    'a loop back to the third input',
-    'rows that are right one by one',
     # What is wrong is where random headers are put or which they are; or one may be discarded at no input of its walk.
     'random headers inside',
     'random headers at a link without a wire',
@@ -413,12 +411,6 @@ def words_of(line):
     return line.split(b'#')[0].split()
 
 
-def is_meant(line, told):
-    """Whether a line of a description is the one that is told; a terminal's is told with all of its words."""
-    words = words_of(line)
-    return words == told.split() or (words[:1] == [b'terminal'] and words[:3] == told.split()[:3])
-
-
 def told_lines(errors):
     """What is told, line by line; None where a line of standard error isn't a message about the description."""
     lines = errors.splitlines()
@@ -428,26 +420,31 @@ def told_lines(errors):
     return [line[len(begin):] for line in lines]
 
 
+CHANGE = re.compile(rb'(add|by|replace line (\d+)): (.*)')
+
+
 def mended(text, advice):
-    """The description with the lines of an advice; None where they can't be followed."""
-    lines = text.splitlines()
-    place = None
+    """The description with the lines of an advice; None where they can't be followed. The lines that it numbers are those of
+    the description as it was."""
+    lines = [[line] for line in text.splitlines()]
+    added, place = [], None
     for line in advice:
-        word, _, told = line.partition(b': ')
-        if word == b'add':
-            lines.append(told)
-        elif word == b'replace':
-            places = [number for number, own in enumerate(lines) if is_meant(own, told)]
-            if not places:
-                return None
-            place = places[0]
-            del lines[place]
-        elif word == b'by' and place is not None:
-            lines.insert(place, told)
-            place += 1
-        else:
+        change = CHANGE.fullmatch(line)
+        if change is None:
             return None
-    return b'\n'.join(lines) + b'\n'
+        word, number, told = change.groups()
+        if word == b'add':
+            added.append(told)
+        elif number:
+            place = int(number) - 1
+            if place >= len(lines) or len(lines[place]) != 1 or words_of(lines[place][0]) != told.split():
+                return None
+            lines[place] = []
+        elif place is None:
+            return None
+        else:
+            lines[place].append(told)
+    return b''.join(line + b'\n' for part in [*lines, added] for line in part)
 
 
 NEVER = re.compile(rb'^c104: -:(?:\d+: row .* never decides: .*| more rows never decide)\n', re.MULTILINE)
@@ -474,8 +471,11 @@ def mend_once(runner, text):
     if lines is None:
         return 'standard error is %.120r' % told[2], None, None
     change = None
-    if lines[1:]:
-        change = mended(text, lines[1:])
+    advice = [line for line in lines if CHANGE.fullmatch(line)]
+    if lines.index(advice[0]) + len(advice) != len(lines) if advice else False:
+        return 'lines are told behind those of the advice: %r' % lines, None, None
+    if advice:
+        change = mended(text, advice)
         if change is None:
             return 'nobody can follow %r' % lines, None, None
     return None, plain[1], change

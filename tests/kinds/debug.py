@@ -16,7 +16,9 @@ SECONDS = 60
 END_OF_INPUT = b'\x04'
 UNKNOWN = 'fault 2 UnknownWord'
 
-HELP = b'''send TERMINAL PACKET        a packet waits to go out, as `send a 01 68 eop`
+HELP = b'''send TERMINAL to TERMINAL BYTES
+                            a packet waits to go out, as `send a to b 68 "hi" length 9 eop`
+send TERMINAL PACKET        the same by all its bytes, as `send a 01 68 eop`
 drain TERMINAL              the first token that came in there arrives
 cross PORT                  the first token that waits there crosses its wire
 credit PORT                 the port grants eight more tokens to the far end
@@ -25,12 +27,14 @@ claim SWITCH INPUT OUTPUT   an input claims an output for its header
 control SWITCH BYTE ..      a switch takes a command of at most 8 bytes
 rounds COUNT [fair] [seed NUMBER]
                             run COUNT rounds, fair ones by turns, with random headers by a seed
+settle                      run rounds until another would do nothing, at most 10000
 peek SWITCH ADDRESS         the register's value, as `peek A 0140`; not an event
 poke SWITCH ADDRESS VALUE   set a register
                             by name: `peek A.0 limit 0`, `poke A.0 mode 2`
 link SWITCH.LINK            the status of a link
 table SWITCH.LINK           the base and the rows of an input
-verify                      compare all writable registers with the loaded values
+verify [all]                compare all writable registers with the loaded values, up to the first that differs, or all
+dump SWITCH                 the registers of a switch that aren't as after a reset, and its own two
 help                        lists these lines
 show SWITCH                 shows each wired link
 show SWITCH.LINK            shows a link
@@ -38,8 +42,13 @@ show TERMINAL               shows a terminal
 show waiting                shows which outputs inputs hold and want
 where TERMINAL NUMBER       shows where a packet is: NUMBER is from 0 on, of those that the terminal sent
 draw FILE                   saves a picture of the network as it stands, for Graphviz
+until TERMINAL NUMBER       runs rounds until that packet has arrived, or nothing moves, at most 10000
+read FILE                   does the lines of a file
+log FILE                    saves the lines so far, and those that come, in a new file
+restart                     ends the run, reads the description again, and begins anew
+quit                        ends the run, as Ctrl-D does
 A PORT is a terminal, or a switch with a link, as A.0. A `#` begins a comment.
-`help`, `show`, `where` and `draw` are no words of a script, and are faults there. The end of input, Ctrl-D, ends the script.
+From `help` on these are words of the prompt alone: in a file they are faults.
 '''
 
 
@@ -67,72 +76,75 @@ def terminal(name, other, *counts):
             % (name, other, wait(waiting), credit, wait(came_in), granted, arrived))
 
 
-FAREWELL = b'type Ctrl-D to end the script: it ends with the input\n'
+UNTIL_FORM = b'the line is `until TERMINAL NUMBER`, as `until a 0` of the first packet that `a` sent\n'
+READ_FORM = b"the line is `read FILE`: the file's name is one word, in UTF-8\n"
+LOG_FORM = b"the line is `log FILE`: the file's name is one word, in UTF-8\n"
 DRAW_FORM = b'the line is `draw FILE`, as `draw now.dot`: the file\'s name is one word, in UTF-8\n'
 IDLE = b'waits for a packet'
 FREE = b'no input owns it'
 
 # The first run with questions among its lines: each line, its answer if it has one, and what it is told.
 TYPED = [
-    ('help', UNKNOWN, HELP),
-    ('where a 0', UNKNOWN, b'a has sent no packet\n'),
+    ('help', None, HELP),
+    ('where a 0', None, b'a has sent no packet\n'),
     *[(*line, b'') for line in FIRST_RUN[:1]],
-    ('where a 0', UNKNOWN, b'packet 0 of a: 3 tokens wait at a to go out\n'),
+    ('where a 0', None, b'packet 0 of a: 3 tokens wait at a to go out\n'),
     *[(*line, b'') for line in FIRST_RUN[1:3]],
-    ('where a 0  # sent in part', UNKNOWN, b'packet 0 of a: 2 tokens wait at a to go out\n1 token at input A.0\n'),
+    ('where a 0  # sent in part', None, b'packet 0 of a: 2 tokens wait at a to go out\n1 token at input A.0\n'),
     *[(*line, b'') for line in FIRST_RUN[3:5]],
-    ('where a 0', UNKNOWN, b'packet 0 of a: 3 tokens at input A.0\n'),
-    ('show A', UNKNOWN, link(b'A.0', b'a', (3, 5, IDLE), (0, 0, FREE)) + link(b'A.1', b'b', (0, 0, IDLE), (0, 0, FREE))),
-    ('show A.1', UNKNOWN, link(b'A.1', b'b', (0, 0, IDLE), (0, 0, FREE))),
-    ('show a  # the sender', UNKNOWN, terminal(b'a', b'A.0', 0, 5, 0, 0, 0)),
+    ('where a 0', None, b'packet 0 of a: 3 tokens at input A.0\n'),
+    ('show A', None, link(b'A.0', b'a', (3, 5, IDLE), (0, 0, FREE)) + link(b'A.1', b'b', (0, 0, IDLE), (0, 0, FREE))),
+    ('show A.1', None, link(b'A.1', b'b', (0, 0, IDLE), (0, 0, FREE))),
+    ('show a  # the sender', None, terminal(b'a', b'A.0', 0, 5, 0, 0, 0)),
     (*FIRST_RUN[5], b''),
-    ('show A', UNKNOWN, link(b'A.0', b'a', (2, 5, b'wants an output of the group of link 1 for the header 1'), (0, 0, FREE))
+    ('show A', None, link(b'A.0', b'a', (2, 5, b'wants an output of the group of link 1 for the header 01 (label 1 of b)'), (0, 0, FREE))
         + link(b'A.1', b'b', (0, 0, IDLE), (0, 0, FREE))),
-    ('show waiting', UNKNOWN, b'A.0 wants A.1 for the header 1, and it is free\n'),
-    ('where a 0', UNKNOWN, b'packet 0 of a: 3 tokens at input A.0, which wants an output for its header\n'),
+    ('show waiting', None, b'A.0 wants A.1 for the header 01 (label 1 of b), and it is free\n'),
+    ('where a 0', None, b'packet 0 of a: 3 tokens at input A.0, which wants an output for its header\n'),
     *[(*line, b'') for line in FIRST_RUN[6:9]],
-    ('\thelp me', UNKNOWN, HELP),
+    ('\thelp me', None, HELP),
     (*FIRST_RUN[9], b''),
-    ('show A', UNKNOWN, link(b'A.0', b'a', (1, 5, b'streams its packet to output 1'), (0, 0, FREE))
+    ('show A', None, link(b'A.0', b'a', (1, 5, b'streams its packet to output 1'), (0, 0, FREE))
         + link(b'A.1', b'b', (0, 0, IDLE), (1, 7, b'input 0 owns it'))),
-    ('show waiting  # for what', UNKNOWN, b'A.0 holds A.1, which leads to b\n'),
-    ('where a 0', UNKNOWN, b'packet 0 of a: 1 token at input A.0\n1 token at output A.1, which leads to b\n'
+    ('show waiting  # for what', None, b'A.0 holds A.1, which leads to b\n'),
+    ('where a 0', None, b'packet 0 of a: 1 token at input A.0\n1 token at output A.1, which leads to b\n'
         b'1 token came in at b and waits to arrive\n'),
     *[(*line, b'') for line in FIRST_RUN[10:15]],
-    ('show b', UNKNOWN, terminal(b'b', b'A.1', 0, 0, 1, 5, 2)),
-    ('where a 0', UNKNOWN, b'packet 0 of a: 1 token came in at b and waits to arrive\n2 tokens arrived at b\n'),
+    ('show b', None, terminal(b'b', b'A.1', 0, 0, 1, 5, 2)),
+    ('where a 0', None, b'packet 0 of a: 1 token came in at b and waits to arrive\n2 tokens arrived at b\n'),
     (*FIRST_RUN[15], b''),
-    ('where a 0', UNKNOWN, b'packet 0 of a: it arrived at b\n'),
+    ('where a 0', None, b'packet 0 of a: it arrived at b\n'),
     ('send a 09 eop', 'done', b''),
     ('rounds 1', 'done', b''),
-    ('where a 1', UNKNOWN, b'packet 1 of a: 1 token waits at a to go out\n0 tokens at input A.0, which drops it\n'),
+    ('where a 1', None, b'packet 1 of a: 1 token waits at a to go out\n0 tokens at input A.0, which drops it\n'),
     ('rounds 1', 'done', b''),
-    ('where a 1', UNKNOWN, b'packet 1 of a: its end is nowhere in the network: it was dropped, or cleared by a reset\n'),
-    ('where a 2', UNKNOWN, b'a has sent only 2 packets\n'),
-    ('where b 0', UNKNOWN, b'b has sent no packet\n'),
-    ('where', UNKNOWN, b'the line is `where TERMINAL NUMBER`, as `where a 0` of the first packet that `a` sent\n'),
-    ('where a', UNKNOWN, b'the line is `where TERMINAL NUMBER`, as `where a 0` of the first packet that `a` sent\n'),
-    ('where a first', UNKNOWN, b'a number is 1 to 7 decimal digits: first\n'),
-    ('where A 0', UNKNOWN, b'this is a switch, and a terminal is wanted: A\n'),
-    ('where a.0 0', UNKNOWN, b'a terminal is named without a link: a.0\n'),
-    ('where zz 0', UNKNOWN, b'the description defines no such name: zz\n'),
-    ('show waiting', UNKNOWN, b'no input holds an output, and none wants one\n'),
-    ('show', UNKNOWN, b'the line is `show SWITCH`, `show SWITCH.LINK`, `show TERMINAL` or `show waiting`\n'),
-    ('show B', UNKNOWN, b'the description defines no such name: B; did you mean b?\n'),
-    ('show A.5', UNKNOWN, b'the link has neither a terminal nor a wire\n'),
-    ('show A.32', UNKNOWN, b'a link is 0 to 31: A.32\n'),
-    ('show b.0', UNKNOWN, b'a terminal is named without a link: b.0\n'),
-    ('show B.0', UNKNOWN, b'the description defines no such name: B.0\n'),
-    ('draw', UNKNOWN, DRAW_FORM),
-    ('draw now.dot then.dot', UNKNOWN, DRAW_FORM),
-    ('draw .', UNKNOWN, b'.: Is a directory (os error 21)\n'),
-    ('draw none/such  # a file', UNKNOWN, b'none/such: No such file or directory (os error 2)\n'),
-    ('draw /dev/full', UNKNOWN, b'/dev/full: No space left on device (os error 28)\n'),
+    ('where a 1', None, b'packet 1 of a: its end is nowhere in the network: it was dropped, or cleared by a reset\n'),
+    ('where a 2', None, b'a has sent only 2 packets\n'),
+    ('where b 0', None, b'b has sent no packet\n'),
+    ('where', None, b'the line is `where TERMINAL NUMBER`, as `where a 0` of the first packet that `a` sent\n'),
+    ('where a', None, b'the line is `where TERMINAL NUMBER`, as `where a 0` of the first packet that `a` sent\n'),
+    ('where a first', None, b'a number is 1 to 7 decimal digits: first\n'),
+    ('where A 0', None, b'this is a switch, and a terminal is wanted: A\n'),
+    ('where a.0 0', None, b'a terminal is named without a link: a.0\n'),
+    ('where zz 0', None, b'the description defines no such name: zz\n'),
+    ('show waiting', None, b'no input holds an output, and none wants one\n'),
+    ('show', None, b'the line is `show SWITCH`, `show SWITCH.LINK`, `show TERMINAL` or `show waiting`\n'),
+    ('show B', None, b'the description defines no such name: B; did you mean b?\n'),
+    ('show A.5', None, b'the link has neither a terminal nor a wire\n'),
+    ('show A.32', None, b'a link is 0 to 31: A.32\n'),
+    ('show b.0', None, b'a terminal is named without a link: b.0\n'),
+    ('show B.0', None, b'the description defines no such name: B.0\n'),
+    ('draw', None, DRAW_FORM),
+    ('draw now.dot then.dot', None, DRAW_FORM),
+    ('draw .', None, b'.: Is a directory (os error 21)\n'),
+    ('draw none/such  # a file', None, b'none/such: No such file or directory (os error 2)\n'),
+    ('draw /dev/full', None, b'/dev/full: No space left on device (os error 28)\n'),
     # Ctrl-D within a line sends its first part
-    ('qu\x04it', UNKNOWN, FAREWELL),
-    ('frob', UNKNOWN, b'c104: -:61: a line begins with `send`, `drain`, `cross`, `credit`, `input`, `claim`, `control`, '
-        b'`rounds`, `peek`, `poke`, `link`, `table` or `verify`; `help` lists them, and `show` shows a part of the '
-        b'network: frob\n'),
+    ('wh\x04ere b 0', None, b'b has sent no packet\n'),
+    ('until', None, UNTIL_FORM),
+    ('until a 0', None, b'packet 0 of a: it arrived at b\n'),
+    ('restart now', None, b'the line is `restart`\n'),
+    ('frob', UNKNOWN, b'c104: -:64: no line begins with this word; `help` lists those that do: frob\n'),
     ('', None, b''),
 ]
 
@@ -307,11 +319,11 @@ def what_waits(runner):
                      b'input A.0', b'claim A 0 1', b'input A.2', b'show waiting'):
             asked.send(line + b'\n')
             told = asked.read(asked.errors, b'> ')
-        wanted = b'A.0 holds A.1, which leads to b\nA.2 wants A.1 for the header 1, and A.0 holds it\n'
+        wanted = b'A.0 holds A.1, which leads to b\nA.2 wants A.1 for the header 01 (label 1 of b), and A.0 holds it\n'
         asked.send(END_OF_INPUT)
         found = asked.read(asked.output, None)
         wrong = None if told.startswith(wanted) and found else 'wanted %r, found %r' % (wanted, told)
-        runner.judge(name, wrong or (None if asked.end() == 1 else 'exit status'))
+        runner.judge(name, wrong or (None if asked.end() == 0 else 'exit status'))
 
 
 # Headers of two bytes, and the link of b puts the random header 300 before packets.
@@ -335,7 +347,7 @@ def reads_and_drops(runner):
                      b'input A.0', b'input A.1', *[b'input A.2'] * 2, b'show A'):
             asked.send(line + b'\n')
             told = asked.read(asked.errors, b'> ')
-        wants = b'wants an output of the group of link 0 for the header 300'
+        wants = b'wants an output of the group of link 0 for the header 2c 01 (300)'
         wanted = (link(b'A.0', b'a', (1, 6, b'reads a header'), (0, 0, FREE))
                   + link(b'A.1', b'b', (1, 7, wants), (0, 0, FREE))
                   + link(b'A.2', b'c', (0, 6, b'drops its packet'), (0, 0, FREE)))
@@ -343,12 +355,12 @@ def reads_and_drops(runner):
         for line in (b'input A.0', b'show waiting'):
             asked.send(line + b'\n')
             told = asked.read(asked.errors, b'> ')
-        wanted = (b'A.0 wants A.1 for the header 256, and it is free\nA.1 wants A.0 for the header 300, and it is free\n'
+        wanted = (b'A.0 wants A.1 for the header 00 01 (label 256 of b), and it is free\nA.1 wants A.0 for the header 2c 01 (300), and it is free\n'
                   b'A.2 drops its packet, and waits for the next token from c\n')
         wrong = wrong or (None if told.startswith(wanted) else 'wanted %r, found %r' % (wanted, told))
         asked.send(END_OF_INPUT)
         asked.read(asked.output, None)
-        runner.judge(name, wrong or (None if asked.end() == 1 else 'exit status'))
+        runner.judge(name, wrong or (None if asked.end() == 0 else 'exit status'))
 
 
 # What is typed, and what the questions among it are told, where packets wait in one another's way.
@@ -400,7 +412,7 @@ def where_packets_are(runner):
                     wrong = wrong or 'line %d: wanted %r, found %r' % (number, whole, told)
             asked.send(END_OF_INPUT)
             asked.read(asked.output, None)
-            runner.judge(name, wrong or (None if asked.end() == 1 else 'exit status'))
+            runner.judge(name, wrong or (None if asked.end() == 0 else 'exit status'))
 
 
 def a_node_of_that_name(runner):
@@ -418,7 +430,7 @@ def a_node_of_that_name(runner):
         told = asked.read(asked.errors, b'2> ')
         asked.send(END_OF_INPUT)
         wanted = b'no link of this switch has a wire\n2> '
-        runner.judge(name, None if told == wanted and asked.end() == 1 else 'found %r' % told)
+        runner.judge(name, None if told == wanted and asked.end() == 0 else 'found %r' % told)
 
 
 def pictures(runner):
@@ -458,13 +470,133 @@ def drawn_pictures(runner, path, saved):
             return 'after %r: wanted %r, found %r, told %r' % (line, wanted, found, told)
     asked.send(END_OF_INPUT)
     asked.read(asked.output, None)
-    return None if asked.end() == 1 else 'exit status'
+    return None if asked.end() == 0 else 'exit status'
 
 
-def questions_as_faults(runner):
-    """What is typed gives the same bytes and exit status as a run of it."""
-    for name, script, status in [('questions alone', b'help\nshow A\nshow z\n', 1), ('no questions', b'send a 01 68 eop\n', 0)]:
-        judge_typed(runner, name, script, END_OF_INPUT, status)
+def questions_are_no_lines(runner):
+    """What is typed gives the same bytes and exit status as a run of it without the questions."""
+    asks = b'help\nshow A\nshow z\nwhere a 0\n'
+    for name, script, typed, status in [('questions alone', b'', asks, 0), ('no questions', b'send a 01 68 eop\n', b'', 0),
+                                        ('questions behind a fault', b'frob\n', asks, 1)]:
+        judge_typed(runner, name, script, typed + END_OF_INPUT, status)
+
+
+# Lines that are typed, with what is answered, what is told, and how many lines they make.
+AT_THE_PROMPT = [
+    (b'until a 0', b'', b'a has sent no packet\n', 1),
+    (b'until zz 0', b'', b'the description defines no such name: zz\n', 1),
+    (b'until A 0', b'', b'this is a switch, and a terminal is wanted: A\n', 1),
+    (b'until a first', b'', b'a number is 1 to 7 decimal digits: first\n', 1),
+    (b'until a 0 1', b'', UNTIL_FORM, 1),
+    (b'send a 01 68 eop', b'6: done\n', b'', 1),
+    # The header comes to the output in the first round, and each further token takes one.
+    (b'until a 0  # at last', b'7: done\n', b'rounds 4\npacket 0 of a: it arrived at b\n', 1),
+    (b'until a 0', b'', b'packet 0 of a: it arrived at b\n', 1),
+    (b'log %(log)s', b'', b'', 1),
+    (b'log %(log)s', b'', b'%(log)s: File exists (os error 17)\n', 1),
+    (b'log', b'', LOG_FORM, 1),
+    (b'log none/such', b'', b'none/such: No such file or directory (os error 2)\n', 1),
+    (b'read %(log)s', b'', b'%(log)s: this is the log, which would grow as it is read\n', 1),
+    (b'read', b'', READ_FORM, 1),
+    (b'read one two', b'', READ_FORM, 1),
+    (b'read \xff', b'', READ_FORM, 1),
+    (b'read none/such', b'', b'none/such: No such file or directory (os error 2)\n', 1),
+    (b'read .', b'', b'.: Is a directory (os error 21)\n', 1),
+    # Of a file whose last line has no line feed. The words of the prompt are faults there.
+    (b'read %(more)s', b'20: done\n21: fault 2 UnknownWord\n22: done\n', None, 4),
+    (b'until a 1', b'23: done\n', b'rounds 3\npacket 1 of a: it arrived at b\n', 1),
+    # A packet that an input drops never arrives.
+    (b'send a 09 eop', b'24: done\n', b'', 1),
+    (b'until a 2', b'25: done\n', b'rounds 2\npacket 2 of a: its end is nowhere in the network: it was dropped, or cleared '
+        b'by a reset\n', 1),
+    (b'frob', b'26: fault 2 UnknownWord\n', None, 1),
+]
+
+# What a file has that is read among them, and what arrives of all lines.
+MORE = b'send a 01 69 eop\nwhere a 0\nrounds 1'
+ARRIVED = b'b: 01 68 eop from a 0\nb: 01 69 eop from a 1\n'
+
+
+def words_of_the_prompt(runner):
+    """`until`, `log` and `read` are done at the prompt. The lines that are saved are a script of the same answers, packets and
+    exit status."""
+    name = 'words of the prompt'
+    if not runner.wanted(name):
+        return
+    with tempfile.TemporaryDirectory() as folder:
+        path = network(folder)
+        names = {name.encode(): os.path.join(folder, name).encode() for name in ('log', 'more')}
+        with open(names[b'more'], 'wb') as file:
+            file.write(MORE)
+        asked = asked_by_person(runner.program + ['debug', path], False)
+        wrong, answers = answered(asked, [(line % names, answer, told and told % names, count)
+                                          for line, answer, told, count in AT_THE_PROMPT])
+        asked.send(b'quit\n')
+        wrong = wrong or difference((asked.end(), asked.read(asked.output, None), b''), ARRIVED, 1, None)
+        again = runner.run(words=['run', path, names[b'log'].decode()])
+        runner.judge(name, wrong or difference(again, answers + ARRIVED, 1, b''))
+
+
+def answered(asked, lines):
+    """What is wrong with lines that are typed, or None, and all that was answered."""
+    answers, number = b'', 1
+    asked.read(asked.errors, b'1> ')
+    for line, answer, told, count in lines:
+        asked.send(line + b'\n')
+        number += count
+        prompt = b'%d> ' % number
+        found = asked.read(asked.errors, prompt)
+        there = asked.read(asked.output, answer) if answer else b''
+        answers += answer
+        if there != answer or (told is not None and found != told + prompt):
+            return '%r: wanted %r and %r, found %r and %r' % (line, answer, told, there, found), answers
+    return None, answers
+
+
+def standing_still(runner):
+    """`until` ends where nothing moves, and it is told what waits."""
+    name = 'until nothing moves'
+    if not runner.wanted(name):
+        return
+    with tempfile.TemporaryDirectory() as folder:
+        asked = asked_by_person(runner.program + ['debug', network(folder)], False)
+        # A switch that was reset takes no token.
+        wrong, _ = answered(asked, [(b'send a 01 eop', b'1: done\n', b'', 1), (b'control A 02', b'2: control 82\n', b'', 1)])
+        asked.send(b'until a 0\n')
+        told = asked.read(asked.errors, b'4> ')
+        asked.send(END_OF_INPUT)
+        if not told.startswith(b'rounds ') or b'c104: -:3: stands still: 2 tokens wait' not in told:
+            wrong = wrong or 'found %r' % told
+        runner.judge(name, wrong or (None if asked.end() == 0 else 'exit status'))
+
+
+def restarted(runner):
+    """`restart` ends the run with its summary, and begins anew with what the description's file has then. Where that came
+    from standard input it can't."""
+    name = 'restart'
+    if runner.wanted(name):
+        with tempfile.TemporaryDirectory() as folder:
+            path = network(folder)
+            asked = asked_by_person(runner.program + ['debug', path], False)
+            wrong, _ = answered(asked, [(b'send a 01 68 eop', b'1: done\n', b'', 1), (b'rounds 9', b'2: done\n', b'', 1),
+                                        (b'frob', b'3: fault 2 UnknownWord\n', None, 1)])
+            with open(path, 'ab') as file:
+                file.write(b'script\nsend a 01 69 eop\n')
+            asked.send(b'restart\n')
+            told = asked.read(asked.errors, b'2> ')
+            found = asked.read(asked.output, b'1: done\n')
+            if told != b'2> ' or found != b'b: 01 68 eop from a 0\n1: done\n':
+                wrong = wrong or 'found %r and %r' % (told, found)
+            asked.send(b'until a 0\nquit\n')
+            runner.judge(name, wrong or difference((asked.end(), asked.read(asked.output, None), b''),
+                                                   b'2: done\nb: 01 69 eop from a 0\n', 0, None))
+    name = 'restart of what was typed'
+    if runner.wanted(name):
+        asked = asked_by_person(runner.program + ['debug', '-'], False)
+        asked.send(b'switch A\nscript\n')
+        wrong, _ = answered(asked, [(b'restart', b'', b"the description came from standard input, so it can't be read again\n", 1)])
+        asked.send(END_OF_INPUT)
+        runner.judge(name, wrong or (None if asked.end() == 0 else 'exit status'))
 
 
 def ended_by_a_word(runner):
@@ -484,8 +616,8 @@ def ended_by_a_word(runner):
 
 
 def judge_typed(runner, name, script, end, status):
-    """Whether a script that is typed, and what ends it, give the bytes and the exit status of a run of the script, and this
-    status."""
+    """Whether a script that is typed, and what is behind it up to its end, give the bytes and the exit status of a run of the
+    script, and this status."""
     if not runner.wanted(name):
         return
     with tempfile.TemporaryDirectory() as folder:
@@ -515,5 +647,5 @@ def awaited(runner):
 
 
 PARTS = [through_a_pipe, no_questions, same_as_run, at_a_terminal, what_waits, reads_and_drops,
-         where_packets_are, a_node_of_that_name, pictures, questions_as_faults, ended_by_a_word,
-         awaited]
+         where_packets_are, a_node_of_that_name, pictures, questions_are_no_lines, words_of_the_prompt,
+         standing_still, restarted, ended_by_a_word, awaited]

@@ -8,9 +8,13 @@ import os
 import re
 
 from case_runner import CANNOT_READ, CANNOT_WRITE, EXAMPLES, PLAN
+from kinds.saved import Room, shadow
+from kinds.stats import FIRST
 
 NODE = re.compile(r'  "([\w-]+)" \[(.*)\]')
 EDGE = re.compile(r'  "([\w-]+)" -> "([\w-]+)" \[taillabel="([\d,]*)", headlabel="([\d,]*)"(.*)\]')
+# An edge whose numbers stand in the middle.
+MIDDLE = re.compile(r'  "([\w-]+)" -> "([\w-]+)" \[label=" (?:([\w-]+)\.)?([\d,]+) (?:\\n (?:([\w-]+)\.)?([\d,]+) )?"(.*)\]')
 PLACE = re.compile(r'pos="(\d+),(\d+)!"')
 TITLE = re.compile(r'  label="(.*)"')
 
@@ -32,6 +36,9 @@ TREE = (b'switch A\nswitch B\nswitch C\nwire B.0 A.1\nwire A.2 C.5\nterminal a A
 # A switch with nine terminals.
 CROWD = b'switch A\n' + b''.join(b'terminal t%d A.%d\n' % (it, it) for it in range(9)) + b'label tree A\n'
 
+# Ten wires between two switches.
+FAN = (b'switch A\nswitch B\nterminal a A.0\nterminal b B.0\n' + b''.join(b'wire A.%d B.%d\n' % (it, 31 - it) for it in range(1, 11)))
+
 # From A depth first: C hangs from B, so the wire from A to C carries nothing, nor does the second one from A to B.
 RING = (b'switch A\nswitch B\nswitch C\nwire A.1 B.1\nwire A.2 C.2\nwire B.2 C.1\nwire A.4 B.4\nterminal a A.0\n'
     b'terminal c C.0\nlabel tree A\n')
@@ -47,18 +54,20 @@ class Picture:
 
     def __init__(self, text):
         lines = text.decode().split('\n')
-        self.nodes, self.edges, self.title = [], [], None
+        self.nodes, self.edges, self.middle, self.title = [], [], [], None
         for line in lines:
             if EDGE.fullmatch(line):
                 self.edges.append(EDGE.fullmatch(line).groups())
+            elif MIDDLE.fullmatch(line):
+                tail, head, upper, behind, lower, before, style = MIDDLE.fullmatch(line).groups()
+                # switches that hang equally low are named
+                assert (upper, lower) == ((tail, head) if 'constraint=false' in style else (None, None)), line
+                self.edges.append((tail, head, behind, before or '', style))
+                self.middle.append(line)
             elif NODE.fullmatch(line):
                 self.nodes.append(NODE.fullmatch(line).groups())
             elif TITLE.fullmatch(line):
                 self.title = TITLE.fullmatch(line)[1]
-        # a link's number that stands at a terminal is the switch's
-        switches = {name for name, attributes in self.nodes if 'shape=box' in attributes}
-        self.at_terminals = [it for it in self.edges if it[3] and it[1] not in switches]
-        self.edges = [(*it[:2], it[3], it[2], it[4]) if it in self.at_terminals else it for it in self.edges]
 
     def wires(self):
         """Each wire, as its two ends in order."""
@@ -216,12 +225,14 @@ def edges(runner):
 
 
 def numbers(runner):
-    """The numbers of links stand apart: at a terminal that hangs from its switch, and else at the switch."""
-    for name, text, at_terminals in (('numbers below a crowded switch', CROWD, 9), ('numbers below one switch', PLAN, 2),
-                                     ('numbers of a mesh', b'mesh 2 2 1\n', 0), ('numbers of a cube', b'cube 2 1\n', 0)):
+    """The numbers of links stand apart: in the middle of an edge where switches hang, and else at its ends."""
+    for name, text, count in (('numbers below a crowded switch', CROWD, 9), ('numbers below one switch', PLAN, 2),
+                              ('numbers of a ring', RING, 6), ('numbers of a fan', FAN, 12),
+                              ('numbers of a mesh', b'mesh 2 2 1\n', 0), ('numbers of a cube', b'cube 2 1\n', 0)):
         if runner.wanted(name):
             picture = picture_of(runner, ['draw', '-'], text)
-            runner.judge(name, compared(len(picture.at_terminals) if picture else None, at_terminals))
+            runner.judge(name, compared((len(picture.middle), len(picture.edges) - count) if picture else None,
+                                        (count, {'mesh': 8, 'cube': 8}.get(text[:4].decode(), 0))))
     near, far = 'labeldistance=3.5, labelangle=%d', 'labeldistance=%s, labelangle=%d'
     for name, text, layouts in (
             ('a cube with few terminals', b'cube 6 1\n', [near % -12, *[near % 12] * 4, far % ('4.5', 7)]),
@@ -279,6 +290,47 @@ def refused(runner):
         runner.case('a header %s' % word, b'', 2, words=['draw', '-', '--header=' + word], data=PLAN)
 
 
+# Pictures that are written to a file, by their words.
+FORMS = ((), ('--header', '1'), ('--cycles',), ('events', '--state'), ('events', '--over-time'), ('events', '--over-time', '--format', 'csv'))
+
+
+def files(runner):
+    """With `-o` what else is printed goes to a file, and what stands in the place of a picture is printed."""
+    for words in FORMS:
+        for option in (('-o', 'made'), ('--out', 'made'), ('-o-',)):
+            name = ' '.join(['to a file', *words, *option])
+            if runner.wanted(name):
+                with Room(PLAN, FIRST) as room:
+                    due = runner.run(words=['draw', 'network', *words], folder=room.room.name)[1]
+                    shadow(room, 'made', b'x' * 10000)
+                    found = runner.run(words=['draw', 'network', *words, *option], folder=room.room.name), room.made()
+                printed = (b'', {'made': due}) if 'made' in option else (due, {'made': b'x' * 10000})
+                runner.judge(name, compared(found, ((0, printed[0], b''), printed[1])))
+    wide = b'send a 01 eop\nrounds 5000\nsend a 01 eop\n' + b'rounds 9\n'
+    for name, words, description, script, out, status in (
+            ('a faulty description', (), b'switch A\nwire A.0 A.1\n', b'', b'description 2: 8 SelfWire\n', 1),
+            ('a network that is not labelled', ('events', '--state'), b'switch A\nswitch B\nlabel tree A\n', b'', b'label 1 NotConnected\n', 1),
+            ('too wide', ('events', '--over-time'), PLAN, wide, b'draw 1 TooLarge: --from 1 --to 4083 fits\n', 1),
+            ('no such switch', ('events', '--over-time', '--only', 'Z'), PLAN, b'', b'draw 2 NoSwitch: Z\n', 1),
+            ('no script', ('none', '--state'), PLAN, b'', b'', 3), ('no command', ('--header', 'x'), PLAN, b'', b'', 2)):
+        if runner.wanted(name + ', to a file'):
+            with Room(description, script) as room:
+                shadow(room, 'made', b'before')
+                found = runner.run(words=['draw', 'network', *words, '-o', 'made'], folder=room.room.name), room.made()
+            runner.judge(name + ', to a file', compared((found[0][:2], found[1]), ((status, out), {'made': b'before'})))
+    if runner.wanted('a faulty line, to a file'):
+        with Room(PLAN, FIRST + b'frob\n') as room:
+            found = runner.run(words=['draw', 'network', 'events', '--state', '-o', 'made'], folder=room.room.name), room.made()
+        runner.judge('a faulty line, to a file', compared((found[0], list(found[1])), ((1, b'', b''), ['made'])))
+    for name, path, why in (('a folder that is not there', 'none/made', b'No such file or directory (os error 2)'),
+                            ('a full device', '/dev/full', b'No space left on device (os error 28)')):
+        if runner.wanted(name):
+            told = b'c104: cannot write %s\n' % path.encode()
+            runner.case(name, b'', 3, told, words=['draw', '-', '-o', path], data=PLAN)
+            runner.case(name + ', explained', b'', 3, told + b'c104: %s: %s\n' % (path.encode(), why),
+                        words=['--explain', 'draw', '-', '-o', path], data=PLAN)
+
+
 def devices(runner):
     runner.case('no such file', b'', 3, b'c104: cannot read none/such\n', words=['draw', 'none/such'])
     with open('/proc/self/mem', 'rb') as unreadable:
@@ -287,4 +339,4 @@ def devices(runner):
         runner.case('a writer that fails', None, 3, CANNOT_WRITE, words=['draw', '-'], data=PLAN, stdout=full)
 
 
-PARTS = [drawn, marked, cyclic, edges, numbers, trees, places, refused, devices]
+PARTS = [drawn, marked, cyclic, edges, numbers, trees, places, refused, files, devices]

@@ -1,5 +1,6 @@
 """Runs rounds, plain and fair, with seeds and without, and the same events line by line, as docs/FORMATS.md says which these
-are: they bring the same tokens to the same terminals, and leave the same credit, levels and owners at every link.
+are: they bring the same tokens to the same terminals, and leave the same credit, levels and owners at every link. So does `settle`,
+and as many rounds as it counts.
 """
 
 import os
@@ -106,12 +107,33 @@ def alike(runner, name, description, sends, count, is_fair, seed):
         runner.judge(name, None if good else '%r leaves other links, or brings others: %.300r' % (line, (all_told[-links:], arrived)))
 
 
+def settled(runner, name, description, sends):
+    """What `settle` does is what as many rounds do, and no number less than its own will do."""
+    if not runner.wanted(name):
+        return
+    with Files(description) as path:
+        ports = Ports(runner.run(words=['label', path, '--rows'])[1])
+        status = text_of('link %s.%d' % it for it in ports.inputs())
+        answers, arrived = answers_of(runner, path, sends + b'settle\n' + status)
+        sent = sends.count(b'\n')
+        ending, count = answers[sent].rsplit(' ', 1)
+        count = int(count)
+        wrong = None if count else 'no round'
+        for less in range(min(count, 2)):
+            rounds = b'rounds %d\n' % (count - less) if count > less else b''
+            told, due = answers_of(runner, path, sends + rounds + b'settle\n' + status)
+            if (told[-len(status.splitlines()) - 1:], due) != (['%s %d' % (ending, less), *answers[sent + 1:]], arrived):
+                wrong = '%r, and behind %r %.300r' % (answers[sent], rounds, told)
+        runner.judge(name, wrong)
+
+
 def random_rounds(runner):
     for seed in SEEDS:
         chance = chance_of(seed)
         network = network_of(chance)
         with Files(network.description) as path:
             sends = packets_of(chance, network, labels_of(runner, path))
+        settled(runner, 'seed %d, until nothing is done' % seed, network.description, sends)
         count = chance.randint(4, 12)
         for is_fair in (False, True):
             alike(runner, 'seed %d, %s' % (seed, 'fair' if is_fair else 'plain'), network.description, sends, count, is_fair, None)

@@ -24,48 +24,48 @@ CLOCK = os.path.join(TESTS, 'later_clock.c')
 TWO = b'switch A\nswitch B\n'
 PAIR = b'switch A\nterminal a A.0\n'
 
+NO_DESCRIPTIONS_WORD = 'no line of a description begins with this word; see `c104 run --help`'
+MIXED_LABEL = '`label` goes with no `row`, `base`, `random` or `from`, and `label tree` with no `continue`: label'
+MIXED_ROW = 'this goes with no earlier `label`, `mesh`, `cube`, `torus` or `clos`: '
+MIXED_CONTINUE = 'this goes with no earlier `label tree`, `mesh`, `cube`, `torus` or `clos`: continue'
+MIXED_SHAPE = '`mesh`, `cube`, `torus` and `clos` go with `header`, `buffer` and `delete` alone: '
+
 # A description, the line of its message, and what is told.
 DESCRIPTIONS = [
     (b'# ' + b'x' * 1048576, None, 'a description has at most 1048576 bytes'),
     (b'\xef\xbb\xbfswitch A\n', 1, 'the text begins with a byte order mark; save it without one'),
-    (PLAN + b'send a 01 eop\n', 8, 'this is a word of scripts, and this is the description; put a line with the one '
-        'word `script` before the script, or the script in a file of its own: send'),
+    (PLAN + b'send a 01 eop\n', 8, 'this is a word of scripts; a line `script` begins the script, or it is a file of its own: send'),
     (b'script now\n', 1, 'the line before a script has one word, `script`, and nothing after it: now'),
-    (b'switch A\nterminl a A.0\n', 2, 'a line begins with `switch`, `terminal`, `wire`, `row`, `base`, `continue`, '
-        '`delete`, `random`, `header`, `buffer`, `label`, `mesh`, `cube`, `torus` or `clos`: terminl; did you mean terminal?'),
-    (b'switch A\nfrobnicate tree A\n', 2, 'a line begins with `switch`, `terminal`, `wire`, `row`, `base`, '
-        '`continue`, `delete`, `random`, `header`, `buffer`, `label`, `mesh`, `cube`, `torus` or `clos`: frobnicate'),
-    (PAIR + b'randm A.0 2 1\n', 3, 'a line begins with `switch`, `terminal`, `wire`, `row`, `base`, `continue`, '
-        '`delete`, `random`, `header`, `buffer`, `label`, `mesh`, `cube`, `torus` or `clos`: randm; did you mean random?'),
+    (b'switch A\nterminl a A.0\n', 2, NO_DESCRIPTIONS_WORD + ': terminl; did you mean terminal?'),
+    (b'switch A\nfrobnicate tree A\n', 2, NO_DESCRIPTIONS_WORD + ': frobnicate'),
+    (PAIR + b'randm A.0 2 1\n', 3, NO_DESCRIPTIONS_WORD + ': randm; did you mean random?'),
     (b'switch A\nlabel A\n', 2, 'the line is `label tree SWITCH`, `label up-down SWITCH` or `label up-down`'),
     (b'mesh 2 2\n', 1, 'the line is `mesh COLUMNS ROWS TERMINALS [WIRES]`'),
     (b'cube 1\n', 1, 'the line is `cube DIMENSIONS TERMINALS [WIRES]`'),
     (b'torus 2 2\n', 1, 'the line is `torus COLUMNS ROWS TERMINALS [WIRES]`'),
     (b'clos 1\n', 1, 'the line is `clos LEAVES SPINES TERMINALS [WIRES]`'),
-    (b'mesh 0 2 1\n', 1, 'a mesh has 1 to 64 columns, 1 to 64 rows, 1 to 28 terminals at each switch, and, if they '
-        'are said, 2 to 7 wires to each neighbour'),
-    (b'cube 7 1\n', 1, 'a cube has 0 to 6 dimensions, 1 to 26 terminals at each switch, and, if they are said, 2 to 31 '
-        'wires to each neighbour'),
-    (b'torus 2 2 25\n', 1, 'a torus has 1 to 64 columns, 1 to 64 rows, 1 to 24 terminals at each switch, and 1 to 3 wires '
-        'in each of the two groups to a neighbour'),
-    (b'clos 2 2 32\n', 1, 'a folded Clos network has 1 to 32 leaves, 1 to 31 spines, 1 to 31 terminals at each leaf, and '
-        '1 to 31 wires from each leaf to each spine'),
+    (b'mesh 0 2 1\n', 1, 'a mesh has 1 to 64 columns: 0'),
+    (b'cube 7 1\n', 1, 'a cube has 0 to 6 dimensions: 7'),
+    (b'torus 2 2 25\n', 1, 'a torus has 1 to 24 terminals at each switch: 25'),
+    (b'clos 2 2 32\n', 1, 'a folded Clos network has 1 to 31 terminals at each leaf: 32'),
     (b'mesh 64 64 1\n', 1, 'there are at most 64 switches and 256 terminals, and 32 links at a switch'),
     (b'switch A\nlabel tree B\n', 2, 'no earlier line defines a switch of this name: B'),
-    (b'switch A\nrow A.0 1 0\nlabel tree A\n', 3, 'the line doesn\'t go with earlier lines: `label` can\'t be combined '
-        'with `row`, `base`, `random` or `from`, `label tree` not with `continue`, and `mesh`, `cube`, `torus` or `clos` only '
-        'with `header`, `buffer` and `delete`: label'),
-    (b'mesh 2 1 1\nrandom s0.4 2 1\n', 2, 'the line doesn\'t go with earlier lines: `label` can\'t be combined with `row`, '
-        '`base`, `random` or `from`, `label tree` not with `continue`, and `mesh`, `cube`, `torus` or `clos` only '
-        'with `header`, `buffer` and '
-        '`delete`: random'),
+    (b'switch A\nrow A.0 1 0\nlabel tree A\n', 3, MIXED_LABEL),
+    (b'switch A\ncontinue A.1\nlabel tree A\n', 3, MIXED_LABEL),
+    (b'switch A\nlabel tree A\ncontinue A.1\n', 3, MIXED_CONTINUE),
+    (b'mesh 2 1 1\ncontinue s0.1\n', 2, MIXED_CONTINUE),
+    (b'mesh 2 1 1\nrandom s0.4 2 1\n', 2, MIXED_ROW + 'random'),
+    (b'switch A\nlabel up-down\nbase A 3\n', 3, MIXED_ROW + 'base'),
+    (b'switch A\nlabel up-down\nterminal a A.0 from 3\n', 3, MIXED_ROW + 'terminal'),
+    (b'torus 2 2 1\nterminal a s0.9\n', 2, MIXED_SHAPE + 'terminal'),
+    (b'clos 2 2 1\nswitch A\n', 2, MIXED_SHAPE + 'switch'),
+    (b'clos 2 2 1\nlabel up-down\n', 2, MIXED_SHAPE + 'label'),
+    (b'switch A\ncube 1 1\n', 2, MIXED_SHAPE + 'cube'),
     (b'switch \xc3\x84\n', 1,
         'outside of a comment a byte is printable ASCII, a space, a tab or a carriage return: ??'),
     (b'switch A B\n', 1, 'the line is `switch NAME`'),
-    (b'switch A\nterminal a\n', 2, 'the line is `terminal NAME SWITCH.LINK`, optionally followed by '
-        '`labels COUNT`, `from FIRST`, or both in this order'),
-    (b'switch A\nterminal a A.0 label 2\n', 2, 'the line is `terminal NAME SWITCH.LINK`, optionally followed by '
-        '`labels COUNT`, `from FIRST`, or both in this order'),
+    (b'switch A\nterminal a\n', 2, 'the line is `terminal NAME SWITCH.LINK [labels COUNT] [from FIRST]`'),
+    (b'switch A\nterminal a A.0 label 2\n', 2, 'the line is `terminal NAME SWITCH.LINK [labels COUNT] [from FIRST]`'),
     (b'wire A.0\n', 1, 'the line is `wire SWITCH.LINK SWITCH.LINK`'),
     (b'header\n', 1, 'the line is `header 1` or `header 2`'),
     (b'buffer 8 8\n', 1, 'the line is `buffer SIZE`'),
@@ -114,8 +114,8 @@ DESCRIPTIONS = [
     (b''.join(b'switch S%d\n' % k for k in range(9))
         + b''.join(b'terminal t%d S%d.%d\n' % (k, k // 32, k % 32) for k in range(257)), 266,
         'there are at most 256 terminals: t256'),
-    (b'switch A\nterminal a A.0 from 65535\nterminal b A.1\n', 3, 'the labels of a terminal end at 65535 at most; '
-        'without `from` they begin where those of the terminal before end: b'),
+    (b'switch A\nterminal a A.0 from 65535\nterminal b A.1\n', 3, 'labels end at 65535 at most; without `from` '
+        'they begin where those of the terminal before end: b'),
     (b'switch A\n' + b'row A.0 1 0\n' * 37, 38, 'a table has at most 36 rows: A.0'),
     (b'switch A\n' + b'row A 1 0\n' * 37, 38, 'a table has at most 36 rows: A'),
     (b'header 1\nheader 1\n', 2, 'already given by an earlier line: header'),
@@ -126,25 +126,23 @@ DESCRIPTIONS = [
 
 ROUNDS = 'the line is `rounds COUNT`, followed by an optional `fair`, and by an optional `seed NUMBER`'
 
-PEEK = 'the line is `peek SWITCH ADDRESS`, as `peek A 0140`, or has a register\'s name, as `peek A.0 limit 0`'
-POKE = 'the line is `poke SWITCH ADDRESS VALUE`, as `poke A 0140 5`, or has a register\'s name, as `poke A.0 limit 0 5`'
-NO_ADDRESS = 'a register is an address of 1 to 4 hexadecimal digits, or a name, as `mode`'
+PEEK = 'the line is `peek SWITCH ADDRESS`, as `peek A 0140`, or by name, as `peek A.0 limit 0`'
+POKE = 'the line is `poke SWITCH ADDRESS VALUE`, as `poke A 0140 5`, or by name, as `poke A.0 limit 0 5`'
+NO_ADDRESS = 'a register is a name or 1 to 4 hexadecimal digits'
+NO_SCRIPTS_WORD = 'no line of a script begins with this word; see `c104 run --help`'
+DESCRIPTIONS_WORD = 'this is a word of descriptions; the description ends before the line `script`'
 
 # Lines of a script on the plan of the first run, and what is told of the last of them.
 SCRIPTS = [
     (b'x' * 16385, 'a line has at most 16384 bytes'),
     (b'\xef\xbb\xbfdrain b', 'the text begins with a byte order mark; save it without one'),
-    (b'switch B', 'this is a word of descriptions, and this is the script; the description ends before the line '
-        '`script`: switch'),
-    (b'random A.0 2 1', 'this is a word of descriptions, and this is the script; the description ends before the line '
-        '`script`: random'),
+    (b'switch B', DESCRIPTIONS_WORD + ': switch'),
+    (b'random A.0 2 1', DESCRIPTIONS_WORD + ': random'),
     (b'script', 'the script has begun already: script'),
-    (b'round 20', 'a line begins with `send`, `drain`, `cross`, `credit`, `input`, `claim`, `control`, `rounds`, '
-        '`peek`, `poke`, `link`, `table` or `verify`: round; did you mean rounds?'),
-    (b'frob', 'a line begins with `send`, `drain`, `cross`, `credit`, `input`, `claim`, `control`, `rounds`, `peek`, '
-        '`poke`, `link`, `table` or `verify`: frob'),
+    (b'round 20', NO_SCRIPTS_WORD + ': round; did you mean rounds?'),
+    (b'frob', NO_SCRIPTS_WORD + ': frob'),
     (b'drain b\x1b[1m', 'outside of a comment a byte is printable ASCII, a space, a tab or a carriage return: b?[1m'),
-    (b'send', 'the line is `send TERMINAL PACKET`, as `send a 01 68 eop`'),
+    (b'send', 'the line is `send TERMINAL to TERMINAL BYTES`, as `send a to b 68 eop`, or as `send a 01 68 eop`'),
     (b'drain', 'the line is `drain TERMINAL`'),
     (b'\ndrain', 'the line is `drain TERMINAL`'),
     (b'cross a b', 'the line is `cross TERMINAL` or `cross SWITCH.LINK`'),
@@ -158,6 +156,7 @@ SCRIPTS = [
     (b'rounds 5 fare', ROUNDS),
     (b'rounds 5 seed 7 fair', ROUNDS),
     (b'rounds 5 fair seed 7 7', ROUNDS),
+    (b'settle 5', 'the line is `settle` alone'),
     (b'peek A', PEEK),
     (b'peek A.0 limit', PEEK),
     (b'peek A.0 mode 0', PEEK),
@@ -166,7 +165,12 @@ SCRIPTS = [
     (b'poke A.0 mode 0 0', POKE),
     (b'link', 'the line is `link SWITCH.LINK`'),
     (b'table A.0 A.1', 'the line is `table SWITCH.LINK`'),
-    (b'verify A', 'the line is `verify` alone'),
+    (b'verify A', 'the line is `verify` or `verify all`'),
+    (b'verify all A', 'the line is `verify` or `verify all`'),
+    (b'dump', 'the line is `dump SWITCH`'),
+    (b'dump A.0.0', 'a port has one dot, as A.0: A.0.0'),
+    (b'dump A.0', 'the switch is named without a link here: A.0'),
+    (b'dump a', 'this is a terminal, and a switch is wanted: a'),
     (b'peek A 00140', NO_ADDRESS + ': 00140'),
     (b'peek A.0 random-rang', NO_ADDRESS + ': random-rang; did you mean random-range?'),
     (b'peek A identify', NO_ADDRESS + ': identify; did you mean identity?'),
@@ -198,8 +202,7 @@ SCRIPTS = [
     (b'control A 05 40 01 01 00 01 00', 'a register Limit takes 0 to 10000 (hexadecimal)'),
     (b'control A 05 00 01 10 00 00 00', 'the register Mode takes 0 to f (hexadecimal)'),
     (b'control A 06', 'a command begins with 01 to start, 02 to reset, 03 to identify, 04 to peek or 05 to poke'),
-    (b'control A', 'the bytes 01, 02 and 03 stand alone; 04 is followed by an address in 2 bytes, and 05 by one and a '
-        'value in 4, low byte first'),
+    (b'control A', '01, 02 and 03 stand alone; 04 has an address of 2 bytes, and 05 a value of 4 too, low byte first'),
     (b'control A 01', 'the switch is started already'),
     (b'control A 04 ff ff', 'no register has this address'),
     (b'control A 05 00 00 01 00 00 00', 'the register tells what the switch does, and can\'t be set'),
@@ -225,7 +228,23 @@ SCRIPTS = [
     (b'send a 01 aa', 'a packet ends with `eop` or `eom`: aa'),
     (b'send a 01 eop aa', 'a packet ends at its first `eop` or `eom`, and a line sends one packet: aa'),
     (b'send a' + b' 01' * 4097 + b' eop', 'a packet has at most 4096 bytes'),
-    (b'verify\n' * 432, 'a switch or a terminal does at most 1048576 acts, and one that would act has done that many; this is told once'),
+    (b'send a to b "hi" length 7 x "hi" eop', 'behind the receiver stand bytes, texts in quotes, '
+        '`length` and a number, and `eop` or `eom`: x'),
+    (b'send a to b 68 "hi you eop', 'a text goes on up to a word that ends in a double quote: "hi'),
+    (b'send a to b.0.1 "hi', 'a port has one dot, as A.0: b.0.1'),
+    (b'send a to b length 4 length 12345678 eop', 'a number is 1 to 7 decimal digits: 12345678'),
+    (b'send a to b length', 'a packet ends with `eop` or `eom`: length'),
+    (b'send a to b "it eop is" eop aa', 'a packet ends at its first `eop` or `eom`, and a line sends one packet: aa'),
+    (b'send a to b length 4096 eop', 'a packet has at most 4096 bytes'),
+    (b'send a to b.x length x', 'a link is 0 to 31: b.x'),
+    (b'send a to b 68', 'a packet ends with `eop` or `eom`: 68'),
+    (b'send a to b eop 68', 'a packet ends at its first `eop` or `eom`, and a line sends one packet: 68'),
+    (b'send a to z eop', 'the description defines no such name: z'),
+    (b'send z to b eop', 'the description defines no such name: z'),
+    (b'send a to A eop', 'this is a switch, and a terminal is wanted: A'),
+    (b'send a to b.0 eop', 'a terminal is named without a link: b.0'),
+    (b'send a.0 to b eop', 'a terminal is named without a link: a.0'),
+    (b'verify\n' * 432, 'a switch or a terminal would do more than 1048576 acts; this is told once'),
     (b'send z 01 eop', 'the description defines no such name: z'),
     (b'send a 05 eop\nrounds 9\ndrain c', 'the description defines no such name: c'),
     (b'send B 01 eop', 'the description defines no such name: B; did you mean b?'),
@@ -239,7 +258,7 @@ SCRIPTS = [
     ((b'send a' + b' 01' * 4000 + b' eop\n') * 16 + b'send a' + b' 01' * 4000 + b' eop',
         'at most 65536 tokens wait at a terminal; give them rounds before more is sent: a'),
     ((b'send a' + b' 01' * 4000 + b' eop\nrounds 5000\n') * 66,
-        '262144 tokens have arrived at a terminal, and it takes no more; this is told once'),
+        '262144 tokens have arrived at a terminal, the most it takes; this is told once'),
 ]
 
 # Three switches in a row, with buffers of eight tokens, and two terminals that send by one output.
@@ -254,8 +273,7 @@ row A.0 2 1
 row A.2 2 1
 row B.0 2 1
 '''
-NO_TOKEN = ('no token waits here; one comes by `send` from a terminal, by `cross` over a wire, by `input` or `claim` '
-            'to an output')
+NO_TOKEN = 'no token waits; `send` brings one, `cross` over a wire, and `input` or `claim` to an output'
 
 # A script on that row, line by line, with why a line isn't ready.
 UNREADY = [
@@ -263,22 +281,18 @@ UNREADY = [
     (b'cross A.1', 'A.1: ' + NO_TOKEN),
     (b'input A.0', 'A.0: ' + NO_TOKEN),
     (b'drain c', 'c: ' + NO_TOKEN),
-    (b'claim A 0 1', 'A.0: the input wants no output: its packet has one, or `input` has to read a header first, or to '
-        'put a random one there'),
+    (b'claim A 0 1', 'A.0: the input wants no output: its packet has one, or `input` has to read or make a header first'),
     (b'send a 01 02 03 04 05 06 07 eop', None),
-    (b'cross a', 'a: a token waits, and there is no credit for it; `credit` grants some at the other end of the '
-        'wire: A.0'),
+    (b'cross a', 'a: a token waits without credit; `credit` grants some at the other end of the wire: A.0'),
     (b'credit A.0', None),
     (b'credit A.0', 'A.0: no room to grant eight more tokens'),
     *[(b'cross a', None)] * 8,
     (b'input A.0', None),
-    (b'input A.0', 'A.0: the header waits for an output; `claim` gets it one that is free, of the group of this '
-        'link: A.1'),
+    (b'input A.0', 'A.0: the header waits for an output; `claim` gets it a free one of the group of this link: A.1'),
     (b'claim A 0 2', 'A.0: the header goes to another output, of the group of this link: A.1'),
     (b'claim A 0 1', None),
     *[(b'input A.0', None)] * 7,
-    (b'cross A.1', 'A.1: a token waits, and there is no credit for it; `credit` grants some at the other end of the '
-        'wire: B.0'),
+    (b'cross A.1', 'A.1: a token waits without credit; `credit` grants some at the other end of the wire: B.0'),
     (b'send b 01 eop', None),
     (b'credit A.2', None),
     *[(b'cross b', None)] * 2,
@@ -308,7 +322,7 @@ LEFTOVERS = [
     (b'send a 01 aa eop\nsend b 00 eop\n', ['3 tokens wait at a; ' + BY_CREDIT % 'them',
         '2 tokens wait at b; ' + BY_CREDIT % 'them']),
     (b'send a 01 aa eop\ncredit A.0\ncross a\ncross a\ncross a\ninput A.0\n',
-        ['2 tokens wait at input A.0; `claim` or more `rounds` move them on']),
+        ['3 tokens wait at input A.0; `claim` or more `rounds` move them on']),
     (b'send a 01 aa eop\ncredit A.0\ncross a\ncross a\ncross a\ninput A.0\nclaim A 0 1\ncredit b\ncross A.1\n'
         b'input A.0\n', ['1 token waits at input A.0; `input` or more `rounds` move it on',
         '1 token waits at output A.1; `cross` or more `rounds` move it on',
@@ -337,6 +351,9 @@ STANDSTILLS = [
     (b'send a 01 02 eop\nrounds 1\n', None),
     (b'control B 02\nsend a 01 02 eop\nrounds 20\n', 'stands still: 3 tokens wait'),
     (b'control B 02\nsend a 01 02 eop\nrounds 20\nrounds 1\n', 'stands still: 3 tokens wait'),
+    (b'send a 01 02 eop\nsettle\n', None),
+    (b'control B 02\nsend a 01 02 eop\nsettle\n', 'stands still: 3 tokens wait'),
+    (b'control B 02\nsend a 01 02 eop\nrounds 20\nsettle\n', 'stands still: 3 tokens wait'),
 ]
 
 # A packet that goes round in a ring of two switches for ever.
@@ -356,14 +373,12 @@ OF_NO_NETWORK = [
 
 # What is told of a description that isn't cut at its line `script`, as the program cuts each.
 OF_A_WHOLE_TEXT = [
-    'a description has no script here; leave out this line and what follows it, or give the whole text to `c104 run` on standard '
-    'input',
+    'this is to be a description alone; `c104 run` takes one with its script',
 ]
 
 # What is told at a terminal alone, where `debug` is asked.
 OF_A_TERMINAL = [
-    'a line begins with `send`, `drain`, `cross`, `credit`, `input`, `claim`, `control`, `rounds`, `peek`, `poke`, `link`, '
-    '`table` or `verify`; `help` lists them, and `show` shows a part of the network',
+    'no line begins with this word; `help` lists those that do',
 ]
 
 
@@ -530,7 +545,8 @@ def standstills(runner, seen):
         wanted = ['c104: -:6: stands still: 100 tokens wait in 4 packets']
         for before, switch, after, header in zip('DABC', 'ABCD', 'BCDA', (1, 2, 3, 0), strict=True):
             wanted.append('c104: -:6: %s.0 holds %s.1, which leads to %s.2 and is full' % (switch, switch, after))
-            wanted.append('c104: -:6: %s.2 wants %s.1 for the header %d, and %s.0 holds it' % (switch, switch, header, switch))
+            wanted.append('c104: -:6: %s.2 wants %s.1 for the header %02x (label %d of %s), and %s.0 holds it'
+                          % (switch, switch, header, header, 'abcd'[header], switch))
         runner.judge('standstill of a ring: all of it', None if found == wanted else '%r' % found)
 
 
@@ -560,6 +576,9 @@ def progress(runner):
 
 
 def special(runner, seen):
+    told(runner, 'a receiver whose label is no header', ['run', 'd.txt', '-'],
+         {'d.txt': b'switch A\nterminal a A.0\nterminal b A.1 from 256\n'}, b'send a to b eop\n',
+         'c104: -:1: the first label of this terminal is 256 or more, and headers have one byte: b', seen)
     told(runner, 'a file in the place of a command', ['first.txt'], {'first.txt': PLAN}, b'',
          'c104: first.txt: this is a file, not a command; `c104 run first.txt` runs a description and a script that '
          'are one text, `c104 run first.txt SCRIPT` those of two, and `c104 check first.txt` checks the labels', seen)

@@ -66,6 +66,15 @@ def faults_line_by_line(runner):
     script_case(runner, 'faults line by line', lines, status=1)
 
 
+def many_rounds(runner):
+    """Three packets of as many tokens as may be, of which one crosses to the switch in each round, and to b in each behind the first."""
+    packet = b'01' + b' 5a' * (PACKET_LIMIT - 1) + b' eop'
+    tokens = 3 * (PACKET_LIMIT + 1)
+    lines = [(b'send a ' + packet, 'done')] * 3
+    lines += [(b'settle', 'moving 10000'), (b'settle', 'done %d' % (tokens + 1 - 10000)), (b'settle', 'done 0')]
+    script_case(runner, 'more rounds than settle does', lines, b''.join(b'b: %s from a %d\n' % (packet, k) for k in range(3)))
+
+
 def long_packets(runner):
     full = b' 5a' * PACKET_LIMIT
     lines = [
@@ -222,5 +231,5 @@ def fair_rounds(runner):
     runner.case('fair rounds', answers + arrived, 0, data=switch + b'terminal d A.3\nscript\n' + sends + b'rounds 1802 fair\n')
 
 
-PARTS = [long_lines, faults_line_by_line, long_packets, full_outbox,
+PARTS = [long_lines, faults_line_by_line, many_rounds, long_packets, full_outbox,
          full_trace, last_entry, rounds_at_rest, script_lengths, full_inbox]

@@ -3,8 +3,8 @@
 That a script locks its network up is told by running it: each of its events is ready, its packets begin with labels of
 terminals, and at its end the network stands still. Whether a network has a cycle is found by the definition, as in the
 kind `cycles`. That a script has to be found is known of rings round which all packets go one way, as their functions say:
-so no search passes that finds none. Of other networks with a cycle it is known of none by itself, but most have to be
-locked up.
+so no search passes that finds none. Of other networks with a cycle it is known of none by itself, but each of them can be
+locked up: an input that was given one link of a group waits there behind another packet.
 """
 
 import os
@@ -19,8 +19,6 @@ STANDS_STILL = re.compile(rb'^c104: -:\d+: stands still: ', re.MULTILINE)
 NOT_DONE = re.compile(rb'^\d+: (?:not ready|refused|fault)\b.*', re.MULTILINE)
 NONE_FOUND, ACYCLIC = b'none found\n', b'acyclic\n'
 SETTINGS = (8, 16, 24, 64)
-# Of the networks of which nothing is known but that they have a cycle, at least this part has to be locked up.
-MOST = 0.75
 
 
 def ring_lines(chance, size, width, hosts):
@@ -43,6 +41,25 @@ def one_way(chance, size, width, hosts):
     for s in range(size):
         selects = [label % hosts if label // hosts == s else ahead for label in range(size * hosts)]
         lines += [line for link in inputs for line in row_lines('s%d.%d' % (s, link), selects)]
+    return text_of(['header 2'] * chance.randrange(2) + lines)
+
+
+def with_ways_out(chance, size, hosts):
+    """A ring like that whose every group has another link too, to a hub that is joined to all switches: from there packets go
+    on to their terminals. So no header waits at an input of the ring as long as its link to the hub is free. But it may
+    have been given the other link, and stand behind the end of a packet that stands there."""
+    ring, hub = chance.sample((hosts, hosts + 1), 2)
+    back, owned = hosts + 2, range(size * hosts)
+    lines = ['buffer %d' % chance.choice(SETTINGS), 'switch hub', *('switch s%d' % s for s in range(size))]
+    lines += ['terminal t%d s%d.%d' % (s * hosts + h, s, h) for s in range(size) for h in range(hosts)]
+    lines += ['wire s%d.%d s%d.%d' % (s, ring, (s + 1) % size, back) for s in range(size)]
+    lines += ['wire s%d.%d hub.%d' % (s, hub, s) for s in range(size)]
+    lines += ['continue s%d.%d' % (s, hosts + 1) for s in range(size)]
+    for s in range(size):
+        selects = [label % hosts if label // hosts == s else hosts for label in owned]
+        lines += [line for link in (*range(hosts), back) for line in row_lines('s%d.%d' % (s, link), selects)]
+        own = [label % hosts if label // hosts == s else 'sink' for label in owned]
+        lines += row_lines('s%d.%d' % (s, hub), own) + row_lines('hub.%d' % s, [label // hosts for label in owned])
     return text_of(['header 2'] * chance.randrange(2) + lines)
 
 
@@ -101,6 +118,9 @@ def rings():
     for seed in range(10):
         chance = chance_of(seed)
         yield 'a ring of groups, %d' % seed, one_way(chance, chance.randint(3, 6), chance.randint(2, 4), chance.randint(1, 2))
+    for seed in range(10):
+        chance = chance_of(seed)
+        yield 'a ring with ways out, %d' % seed, with_ways_out(chance, chance.randint(3, 7), chance.randint(1, 3))
     for seed in range(6):
         chance = chance_of(seed)
         yield 'a ring of portals, %d' % seed, by_portals(chance, chance.randint(3, 7), 1)
@@ -166,12 +186,12 @@ def lock_up(runner):
 
 
 def may_lock_up(runner):
-    """Some have a cycle and some have none, and of the first most are locked up."""
+    """Some have a cycle and some have none, and the first are locked up."""
     found = [judge(runner, name, text, False) for name, text in others()]
-    name = 'most are locked up'
+    name = 'all with a cycle are locked up'
     if runner.wanted(name) and not runner.names:
         cyclic = [it for it in found if it is not None]
-        is_right = 0 < len(cyclic) < len(found) and sum(cyclic) >= MOST * len(cyclic)
+        is_right = 0 < len(cyclic) < len(found) and all(cyclic)
         runner.judge(name, None if is_right else '%d of %d with a cycle, of %d' % (sum(cyclic), len(cyclic), len(found)))
 
 

@@ -89,6 +89,13 @@ DRAWN = {
         b'control A 01\nsend a 01 cc eop\nrounds 9\n', ['--to', '8'], 1, 8,
         ['A', ('a to A.0', ('a 0', A_0, 1, 3), ('a 1', A_1, 4, 6)), ('A.1 to b', ('?', UNNAMED, 2, 2), ('a 1', A_1, 5, 7))]),
     'a reset behind the end of a packet': (PLAN, FIRST + b'control A 02\nrounds 9\n', ['--to', '9'], 1, 9, FIRST_ROWS),
+    # What a sends isn't at B, and the rounds are those of all wires.
+    'the wires at one switch': (STUCK, STUCK_PACKET, ['--only', 'B', '--to', '25'], 1, 25,
+        ['A', ('A.1 to B.1', ('a 0', A_0, 2, 17), ('a 0', A_IDLE, 18, 25))]),
+    'the wires at two switches': (STUCK, STUCK_PACKET, ['--only', 'B,A', '--to', '25'], 1, 25,
+        ['A', ('a to A.0', ('a 0', A_0, 1, 24)), ('A.1 to B.1', ('a 0', A_0, 2, 17), ('a 0', A_IDLE, 18, 25))]),
+    'two switches, one by one': (PLAN + b'switch Z\n', FIRST, ['--only', 'Z', '--only', 'A'], 1, 9, FIRST_ROWS),
+    'a switch without wires': (PLAN + b'switch Z\n', FIRST, ['--only', 'Z'], 1, 9, []),
     'a packet of another terminal': (PLAN, b'send b 00 eop\nrounds 9\n', ['--to', '3'], 1, 3,
         ['A', ('A.0 to a', ('b 0', B_0, 2, 3)), ('b to A.1', ('b 0', B_0, 1, 2))]),
 }
@@ -114,7 +121,7 @@ def example(name):
         return file.read()
 
 
-def rows_of(picture):
+def rows_of(picture, cell=CELL):
     """The rows, and what stands in each: the packet, its fill, and the first and the last round."""
     title = TITLE.fullmatch(next(picture.iter(SVG + 'text')).text)
     first, last = int(title[1]), int(title[2])
@@ -123,8 +130,8 @@ def rows_of(picture):
     for group in picture.findall(SVG + 'g'):
         packet = group.find(SVG + 'title').text
         for rect in group.findall(SVG + 'rect'):
-            begin = int(rect.get('x')) // CELL + first
-            width = int(rect.get('width')) // CELL
+            begin = int(rect.get('x')) // cell + first
+            width = int(rect.get('width')) // cell
             rows[(int(rect.get('y')) - 2) // ROW][1].append((packet, rect.get('fill'), begin, begin + width - 1))
     assert sorted(rows) == list(range(FIRST_ROW, FIRST_ROW + len(rows))), 'rows are in order'
     return first, last, [(name, *drawn) if drawn else name for _, (name, drawn) in sorted(rows.items())]
@@ -190,6 +197,29 @@ def cells_of(picture):
                 state = 'holds' if fill.endswith('-idle)') else 'moves'
                 found.append('%s %s %d %d %s' % (row[0].replace(' to ', ' '), name, first, last, state))
     return found
+
+
+# How wide a round is, how wide the picture, and the numbers above it: each with its place, 80 pixels or more behind the one before.
+SCALES = {
+    '1': (1, 88 + 1007 + 8, [(number * 80, 1 + number * 80) for number in range(13)]),
+    '3': (3, 88 + 3021 + 8, [(number * 90, 1 + number * 30) for number in range(34)]),
+    '8': (8, 88 + 8056 + 8, [(number * 160, 1 + number * 20) for number in range(51)]),
+}
+
+
+def scaled(runner):
+    """Rounds are as wide as is asked, whatever else is drawn: here 1,007 of them."""
+    script = b'send a 01 eop\nrounds 1000\nsend a 01 eop\nrounds 9\n'
+    due = (1, 1007, ['A', ('a to A.0', ('a 0', A_0, 1, 2), ('a 1', A_1, 1001, 1002)),
+                     ('A.1 to b', ('a 0', A_0, 2, 3), ('a 1', A_1, 1002, 1003))])
+    for scale, (cell, width, ticks) in SCALES.items():
+        name = 'a scale of %s' % scale
+        if runner.wanted(name):
+            status, _, picture = pictured(runner, PLAN, script, ['--scale', scale, '--to', '1007'])
+            numbers = [(int(it.get('x')), int(it.text)) for it in picture.findall(SVG + 'text') if it.get('y') == '24']
+            found = (status, rows_of(picture, cell), int(picture.get('width')), numbers, cut_texts(picture))
+            runner.judge(name, None if found == (0, due, width, ticks, []) else 'found %s' % (found,))
+    runner.case('a scale of a table', b'', 2, words=['draw', '/dev/null', '-', '--over-time', '--scale', '4', '--format', 'csv'], data=b'')
 
 
 def tabled(runner):
@@ -272,16 +302,57 @@ def large(runner):
         return
     # Each packet is a group in each of two rows, of more than 80 bytes.
     script = b'send a 01 eop\nrounds 2\n' * 9000
-    status, out, _ = pictured(runner, PLAN, script)
+    # so narrow that its length is what is too large
+    scale = ['--scale', '1']
+    status, out, _ = pictured(runner, PLAN, script, scale)
     told = FITS.fullmatch(out)
     if status != 1 or not told:
         runner.judge(name, 'found %d %.200r' % (status, out))
         return
     start, end = (int(it) for it in told.groups())
-    fits = pictured(runner, PLAN, script, ['--from', str(start), '--to', str(end)])
-    more = pictured(runner, PLAN, script, ['--from', str(start), '--to', str(end + 1)])
-    good = fits[0] == 0 and len(fits[1]) <= MIB and more[0] == 1 and more[1] == out
+    fits = pictured(runner, PLAN, script, [*scale, '--from', str(start), '--to', str(end)])
+    more = pictured(runner, PLAN, script, [*scale, '--from', str(start), '--to', str(end + 1)])
+    good = fits[0] == 0 and MIB - 1000 < len(fits[1]) <= MIB and more[0] == 1 and more[1] == out
     runner.judge(name, None if good else 'found %d of %d bytes, %d %.200r' % (fits[0], len(fits[1]), more[0], more[1]))
+
+
+# How wide a round is, and the last of the rounds from 1 on that fit in 32,767 pixels, of which 96 stand beside them.
+WIDEST = {8: 4083, 20: 1633, 64: 510}
+
+
+def wide(runner):
+    """What is told to fit is at most 32,767 pixels wide, as Cairo draws it, and one round more isn't."""
+    script = b'send a 01 eop\nrounds 5000\nsend a 01 eop\nrounds 9\n'
+    for scale, last in WIDEST.items():
+        name = 'a picture that is too wide at %d' % scale
+        if not runner.wanted(name):
+            continue
+        refusal = b'draw 1 TooLarge: --from 1 --to %d fits\n' % last
+        words = ['--scale', str(scale), '--to']
+        refused = [pictured(runner, PLAN, script, [*words, str(to)])[:2] for to in (last + 1, 5000)]
+        status, _, picture = pictured(runner, PLAN, script, [*words, str(last)])
+        found = (refused, status, picture is not None and int(picture.get('width')))
+        runner.judge(name, None if found == ([(1, refusal)] * 2, 0, 96 + scale * last) else 'found %s' % (found,))
+    if runner.wanted('all rounds at a smaller scale'):
+        status, _, picture = pictured(runner, PLAN, script, ['--scale', '4'])
+        found = (status, picture is not None and picture.get('width'))
+        runner.judge('all rounds at a smaller scale', None if found == (0, str(96 + 4 * 5008)) else 'found %s' % (found,))
+
+
+def unknown(runner):
+    """A name that no switch has is told, the first of several; a faulty description comes first."""
+    for name, words, told in (('no such switch', ['Z'], b'Z'), ('a terminal', ['a'], b'a'), ('one of two switches', ['A,z'], b'z')):
+        if runner.wanted(name):
+            found = pictured(runner, PLAN, FIRST, ['--only', *words])[:2]
+            runner.judge(name, None if found == (1, b'draw 2 NoSwitch: %s\n' % told) else 'found %s' % (found,))
+    if runner.wanted('no such switch, explained'):
+        with Files(PLAN) as path:
+            found = runner.run(words=['--explain', 'draw', path, '-', '--over-time', '--only', 'Z'], data=FIRST)
+        due = (1, b'draw 2 NoSwitch: Z\n', b'c104: %s: no switch has the name Z\n' % path.encode())
+        runner.judge('no such switch, explained', None if found == due else 'found %s' % (found,))
+    if runner.wanted('no such switch of no network'):
+        found = pictured(runner, b'switch A\nwire A.0 A.1\n', FIRST, ['--only', 'Z'])[:2]
+        runner.judge('no such switch of no network', None if found == (1, b'description 2: 8 SelfWire\n') else 'found %s' % (found,))
 
 
 def too_large_at_once(runner):
@@ -317,6 +388,9 @@ def words(runner):
                         ('rounds alone', ['--from', '1']), ('rounds of a state', ['-', '--state', '--to', '1']),
                         ('no number', ['-', '--over-time', '--from', 'x']), ('a round that is too large', ['-', '--over-time', '--to', str(LAST + 1)]),
                         ('no such format', ['-', '--over-time', '--format', 'xml']),
+                        ('a scale alone', ['--scale', '4']), ('a scale of a state', ['-', '--state', '--scale', '4']),
+                        ('no scale', ['-', '--over-time', '--scale', '0']), ('a scale that is too large', ['-', '--over-time', '--scale', '65']),
+                        ('a switch alone', ['--only', 'A']), ('a switch of a state', ['-', '--state', '--only', 'A']),
                         ('a format alone', ['--format', 'csv']), ('a format of a state', ['-', '--state', '--format', 'csv']), ('a first round behind the last',
                         ['-', '--over-time', '--from', '2', '--to', '1'])):
         runner.case(name, b'', 2, words=['draw', '/dev/null', *given])
@@ -330,4 +404,4 @@ def devices(runner):
                     stdout=full)
 
 
-PARTS = [drawn, tabled, pictures, blocked, ring, ring_later, large, too_large_at_once, refused, words, devices]
+PARTS = [drawn, scaled, tabled, pictures, blocked, ring, ring_later, large, wide, unknown, too_large_at_once, refused, words, devices]

@@ -222,6 +222,7 @@ WHOLE_RUNS = [
     Run('no cycle', ['cycles', 'desc'], description=PLAN),
     Run('a cycle', ['cycles', 'desc', '--all'], description=example('ring.txt')),
     Run('draw', ['draw', 'desc', '--header', '1'], description=PLAN),
+    Run('draw of a switch', ['draw', 'desc', '--over-time', '--only', 'A'], description=FIRST_TEXT),
     Run('traffic', ['traffic', 'desc', '--pattern', 'uniform', '--packets', '9', '--bytes', '2', '--seed', '1', '--load', '9'],
         description=PLAN),
     Run('no traffic', ['traffic', 'desc', '--pattern', 'hot-spot', '--target', 'c', '--packets', '1', '--bytes', '0', '--seed',

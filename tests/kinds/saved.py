@@ -17,8 +17,7 @@ FIRST_VALUES = SUMMARIES['the first run'][2]
 TWO = ('--what', 'packets', '--what', 'links')
 # The packet is sent in round 3 of six.
 APART_LINKS = ('A.0 0 0.000 0 0 0', 'A.1 5 0.833 2 3 1', 'a 5 0.833 2 3 3', 'b 0 0.000 0 0 0')
-FROB = (b'c104: events:1: a line begins with `send`, `drain`, `cross`, `credit`, `input`, `claim`, `control`, `rounds`, `peek`, `poke`, '
-        b'`link`, `table` or `verify`: frob\n')
+FROB = b'c104: events:1: no line of a script begins with this word; see `c104 run --help`: frob\n'
 NO_FOLDER = b'c104: none/run-packets.txt: No such file or directory (os error 2)\n'
 
 

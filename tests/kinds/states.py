@@ -10,8 +10,8 @@ import tempfile
 
 from case_runner import CANNOT_WRITE, EXAMPLES, FIRST_RUN, PLAN, SCRIPT_LIMIT, comments, lines_of
 
-ARROW = re.compile(r'  "([\w-]+)" -> "([\w.-]+)" \[dir=forward, label="([^"]*)"(, arrowhead=onormal, style=dotted)?, '
-                   r'color="([^"]*)"(?:, style=(\w+))?, penwidth=(\d)\]')
+ARROW = re.compile(r'  "([\w-]+)" -> "([\w.-]+)" \[dir=(forward|back), label=" ([^"]*) "(, arrow(?:head|tail)=onormal, style=dotted)?, '
+                   r'color="([^"]*)"(?:, style=(\w+))?, penwidth=(\d)(?:, constraint=false)?\]')
 TITLE = re.compile(r'  label="(.*)"')
 GREY = ', color=gray60'
 CALM = r'in brackets: tokens that wait\ndotted: an output that is wanted'
@@ -58,9 +58,14 @@ DRAWN = {
 
 
 def arrows_of(text):
-    """The arrows of a state, in order."""
-    found = [it.groups() for it in map(ARROW.fullmatch, text.decode().split('\n')) if it]
-    return [(*it[:3], (it[4], 'dotted' if it[3] else it[5], it[6])) for it in found]
+    """The arrows of a state, in order, each from where it begins."""
+    found = []
+    for it in filter(None, map(ARROW.fullmatch, text.decode().split('\n'))):
+        tail, head, way, label, dotted, color, style, width = it.groups()
+        ends = (tail, head) if way == 'forward' else (head, tail)
+        assert dotted in (None, ', arrow%s=onormal, style=dotted' % ('head' if way == 'forward' else 'tail')), it[0]
+        found.append((*ends, label.replace(r' \n ', r'\n'), (color, 'dotted' if dotted else style, width)))
+    return found
 
 
 def title_of(text):

@@ -53,8 +53,7 @@ easternmost    2         0.285     1         2         2
 # A `table` asks 73 acts and a `peek` one, so A has two left of all that it may do. In round 1 it grants at both links, and in
 # round 2 it would again.
 NEARLY_FULL = b'peek A 7fff\npeek A 0000\n' + b'table A.0\n' * 14364
-ENDS = (b'c104: -:14368: a switch or a terminal does at most 1048576 acts, and one that would act has done that many; so the run ends '
-        b'here, in round 2\n')
+ENDS = (b'c104: -:14368: a switch or a terminal would do more than 1048576 acts; so the run ends here, in round 2\n')
 SEEDS = range(5)
 WHATS = ('packets', 'latencies', 'links', 'rounds')
 
@@ -80,6 +79,11 @@ BY_HAND = {
     'no latency, since no packet arrives': (STUCK, FIRST, 'latencies', ()),
     'its rounds': (PLAN, FIRST, 'rounds',
         ('0 3 0 0 0 0', '1 2 1 1 0 1', '2 1 1 2 1 1', '3 0 1 2 1 0', '4 0 0 1 1 0', '9 0 0 0 0 0')),
+    'its rounds up to the last in which anything is done': (PLAN, b'send a 01 68 eop\nsettle\n', 'rounds',
+        ('0 3 0 0 0 0', '1 2 1 1 0 1', '2 1 1 2 1 1', '3 0 1 2 1 0', '4 0 0 1 1 0')),
+    'a packet behind the rounds of another': (PLAN, b'send a 01 68 eop\nsettle\nsettle\nsend a 01 eop\nsettle\n', 'packets',
+        ('a 0 b 2 2 0 1 4 4 0 arrived', 'a 1 b 1 2 4 5 7 3 0 arrived')),
+    'rounds up to a standstill': (STUCK, b'send a 01 68 eop\nsettle\n', 'packets', ('a 0 - 2 1 0 1 - - 0 unfinished',)),
     'events between rounds count to the round before': (PLAN,
         b'send a 01 68 eop\nrounds 1\ncross a\nsend a 01 eop\nrounds 1\n', 'packets',
         ('a 0 - 2 1 0 1 - - 0 unfinished', 'a 1 - 1 0 1 - - - 0 unfinished')),
@@ -376,6 +380,8 @@ def ended(runner):
     """A run ends with the first line that is refused since a trace is full."""
     script = b'send c eop\n' + NEARLY_FULL + b'rounds 20\nsend a 01 eop\nrounds 4\nfrob\n'
     with Files(PLAN) as path:
+        runner.case('rounds until nothing is done, up to a full trace', table_text(ROUNDS, ['0 0 0 0 0 0', '1 0 0 0 0 0', '2 0 0 0 0 0']), 1, ENDS,
+                    words=words_of(path, 'rounds'), data=script.replace(b'rounds 20', b'settle'))
         runner.case('rounds up to a full trace', table_text(ROUNDS, ['0 0 0 0 0 0', '1 0 0 0 0 0', '2 0 0 0 0 0']), 1, ENDS,
                     words=words_of(path, 'rounds'), data=script)
         runner.case('lines that are refused', summary_text('1 0 0 0 0 3 - - - - - - - - - 0.000 0.000 0.000 - - - - - -'), 1, ENDS,

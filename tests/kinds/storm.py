@@ -50,10 +50,12 @@ CALM = {
 # A description, a script, what is printed, the exit status, and what `--explain` tells.
 BY_HAND = {
     'other lines than sends': (PLAN, b'drain b\n\nsend a 01 68 eop\nrounds 5\npeek A 0\n# send b 00 eop\nsend z 01 eop\n'
-        b'send A 01 eop\nsend a.0 01 eop\nsend a 01\nsend\nfrob\nsend b 00 69 eom\n',
+        b'send A 01 eop\nsend a.0 01 eop\nsend a 01\nsend\nfrob\nsend b 00 69 eom\nsettle\n',
         b'1: fault 2 UnknownWord\n3: done\n4: fault 2 UnknownWord\n5: fault 2 UnknownWord\n7: refused 1 NoNode\n'
         b'8: refused 1 NoNode\n9: refused 2 NoLink\n10: fault 6 NoEnd\n11: fault 3 BadShape\n12: fault 2 UnknownWord\n'
-        b'13: done\naudit ok\na: 00 69 eom from b 0\nb: 01 68 eop from a 0\n', 1, None),
+        b'13: done\n14: fault 2 UnknownWord\naudit ok\na: 00 69 eom from b 0\nb: 01 68 eop from a 0\n', 1, None),
+    'packets to terminals': (b'mesh 3 2 1\n', b'send t0 to t5 "x" 79 eop\nsend t5 to t0 length 2 eom\nsend t1 to b eop\n',
+        b'1: done\n2: done\n3: refused 1 NoNode\naudit ok\nt0: 00 00 00 eom from t5 0\nt5: 05 78 79 eop from t0 0\n', 0, None),
     'refused sends alone': (PLAN, b'send z 01 eop\n', b'1: refused 1 NoNode\naudit ok\n', 0, None),
     'a line too long': (PLAN, b'drain b' + b' ' * 16384 + b'\n', b'1: fault 1 LineTooLong\naudit ok\n', 1, None),
     'an unknown word told': (PLAN, b'drain b\n', b'1: fault 2 UnknownWord\naudit ok\n', 1,

@@ -13,15 +13,19 @@ from kinds.debug import END_OF_INPUT, asked_by_person
 from kinds.explain import STANDS, run_on_terminal, with_a_later_clock
 from kinds.storm import STUCK, Files
 
-RANDOM_AT_A = ('header %d is a random one, put before packets of a at A.0, and every way of it has to end at an input that '
-    'discards it, but ')
+def random_at_a(header, but):
+    return ['header %02x (%d) is a random one, put before packets of a at A.0;' % (header, header),
+            'every way of it has to end at an input that discards it,', 'but ' + but]
+
+# How long a line that is told of labels, of a run or of what is asked may be.
+COLUMNS = 120
 
 # A description, what `check` prints, and what it tells.
 CHECKS = {
     'a label of two terminals': (b'switch A\nterminal a A.0 labels 2\nterminal b A.1 from 1\n', 'refused 1 RangesOverlap: a b',
-        ['label 1 belongs to a and to b', 'replace: terminal b A.1 labels 1 from 1', 'by: terminal b A.1 labels 1 from 2']),
+        ['label 1 belongs to a and to b', 'replace line 3: terminal b A.1 from 1', 'by: terminal b A.1 from 2']),
     'a label that is no header': (b'switch A\nterminal a A.0\nterminal b A.1 labels 2 from 255\n', 'refused 2 LabelTooLarge: b',
-        ['label 256 of b is no header: headers are 0 to 255', 'replace: terminal b A.1 labels 2 from 255',
+        ['label 256 of b is no header: headers are 0 to 255', 'replace line 3: terminal b A.1 labels 2 from 255',
          'by: terminal b A.1 labels 2 from 1']),
     'labels for which no others are free': (b'header 2\nswitch A\nterminal a A.0 labels 40000\nterminal b A.1 labels 40000 from 9\n',
         'refused 1 RangesOverlap: a b', ['label 9 belongs to a and to b']),
@@ -30,42 +34,44 @@ CHECKS = {
     'random headers at a link without a terminal': (PLAN + b'random A.31 2 1\n', 'refused 10 RandomInside: A.31',
         ['no terminal is on A.31, but random headers are put before packets there']),
     'a wrong terminal': (PLAN.replace(b'row A.1 1 0', b'row A.1 1 1'), 'refused 5 WrongEnd: from b header 0 walk A.1',
-        ['header 0 belongs to a, but A.1 may send it by link 1 to b', 'replace: row A.1 1 1', 'by: row A.1 1 0']),
+        ['header 00 (label 0) belongs to a, but A.1 may send it by link 1 to b', 'replace line 6: row A.1 1 1', 'by: row A.1 1 0']),
     'a link without a wire': (b'switch A\nterminal a A.0\nrow A.0 1 1\n', 'refused 6 DeadEnd: from a header 0 walk A.0',
-        ['header 0 belongs to a, but A.0 may send it by link 1, which has no wire', 'replace: row A.0 1 1', 'by: row A.0 1 0']),
+        ['header 00 (label 0) belongs to a, but A.0 may send it by link 1, which has no wire', 'replace line 3: row A.0 1 1',
+         'by: row A.0 1 0']),
     'a loop': (WIRE + A_ROWS + b'row B.1 2 1\nrow B.0 1 1\nrow B.0 2 0\n', 'refused 7 Loop: from a header 1 walk A.0 B.1 A.1 B.1',
-        ['header 1 belongs to b, but A.1 may send it by link 1 to B.1, where it has been', 'replace: row B.1 2 1',
-         'by: row B.1 1 1', 'by: row B.1 2 0']),
+        ['header 01 (label 1) belongs to b, but A.1 may send it by link 1 to B.1, where it has been',
+         'replace line 10: row B.1 2 1', 'by: row B.1 2 0']),
     'a row that stands between others': (PLAN.replace(b'row A.0 2 1', b'row A.0 9 1'), 'refused 8 Stray: from a header 2 walk A.0',
-        ['header 2 belongs to no terminal, but A.0 may send it by link 1 to b', 'replace: row A.0 9 1', 'by: row A.0 2 1',
-         'by: row A.0 9 sink']),
+        ['header 02 (2) belongs to no terminal, but A.0 may send it by link 1 to b', 'replace line 5: row A.0 9 1',
+         'by: row A.0 2 1', 'by: row A.0 9 sink']),
     'a header of nobody that goes on': (WIRE + b'row A.0 1 0\nrow A.0 3 1\nrow A.1 1 0\n' + B_ROWS,
         'refused 8 Stray: from a header 2 walk A.0',
-        ['header 2 belongs to no terminal, but A.0 may send it by link 1 to B.1', 'replace: row A.0 3 1', 'by: row A.0 2 1',
-         'by: row A.0 3 sink']),
+        ['header 02 (2) belongs to no terminal, but A.0 may send it by link 1 to B.1', 'replace line 7: row A.0 3 1',
+         'by: row A.0 2 1', 'by: row A.0 3 sink']),
     'an input that has no room': (PLAN.replace(b'row A.0 1 0\nrow A.0 2 1\n', b'row A.0 2 1\n' + b'row A.0 2 sink\n' * 35),
-        'refused 5 WrongEnd: from a header 0 walk A.0', ['header 0 belongs to a, but A.0 may send it by link 1 to b']),
+        'refused 5 WrongEnd: from a header 0 walk A.0', ['header 00 (label 0) belongs to a, but A.0 may send it by link 1 to b']),
     'a portal that leads to the wrong terminal': (OVER_A_WIRE.replace(b'row B.1 1 1\n', b''),
         'refused 5 WrongEnd: from a header 0 walk B.1',
-        ['header 0 belongs to a, but behind a random header of a, which B.1 discards, B.1 may send it by link 0 to b',
-         'replace: row B.1 2 0', 'by: row B.1 1 1', 'by: row B.1 2 0']),
+        ['header 00 (label 0) belongs to a, but behind a random header of a, which B.1 discards,',
+         'B.1 may send it by link 0 to b', 'replace line 16: row B.1 2 0', 'by: row B.1 1 1', 'by: row B.1 2 0']),
     'a portal that lets a header of nobody go on': (OVER_A_WIRE.replace(b'row B.1 11 sink', b'row B.1 11 0'),
         'refused 8 Stray: from a header 2 walk B.1',
-        ['header 2 belongs to no terminal, but behind a random header of a, which B.1 discards, B.1 may send it by link 0 to b',
-         'replace: row B.1 11 0', 'by: row B.1 10 sink', 'by: row B.1 11 0']),
+        ['header 02 (2) belongs to no terminal, but behind a random header of a, which B.1 discards,',
+         'B.1 may send it by link 0 to b', 'replace line 18: row B.1 11 0', 'by: row B.1 10 sink', 'by: row B.1 11 0']),
     'a random header that comes to a terminal': (PLAN + b'random A.0 1 1\n', 'refused 5 WrongEnd: from a header 1 walk A.0',
-        [RANDOM_AT_A % 1 + 'A.0 may send it by link 1 to terminal b, which takes packets']),
+        random_at_a(1, 'A.0 may send it by link 1 to terminal b, which takes packets')),
     'a random header that is sunk': (PLAN + b'random A.0 2 1\nrow A.0 3 sink\n', 'refused 6 DeadEnd: from a header 2 walk A.0',
-        [RANDOM_AT_A % 2 + 'A.0 neither discards it nor selects a link for it', 'replace: row A.0 3 sink', 'by: row A.0 3 discard']),
+        [*random_at_a(2, 'A.0 neither discards it nor selects a link for it'), 'replace line 9: row A.0 3 sink',
+         'by: row A.0 3 discard']),
     'a cycle that no row breaks': (ROUND, 'accepted',
-        ['packets can wait for one another forever, though with groups of links they need not: cycle B.2(3) C.2(3) D.2(1) A.2(2)',
+        ['packets can wait for one another forever:', 'cycle B.2(3) C.2(3) D.2(1) A.2(2)',
          'no single row was found that breaks it',
          "31: row D.0 4 1 never decides: its limit isn't above 4, that of the row before",
          "34: row D.2 4 1 never decides: its limit isn't above 4, that of the row before"]),
-    'no cycle': (WIRE + A_ROWS + B_ROWS, 'accepted', ['no cycle of channel dependencies: under rounds every packet with a whole '
-        'header that a terminal owns arrives, as long as no inbox or trace is full and nothing is reset or set']),
+    'no cycle': (WIRE + A_ROWS + B_ROWS, 'accepted', ['no cycle of channel dependencies: under rounds every packet with a whole header',
+        'that a terminal owns arrives, as long as no inbox or trace is full and nothing is reset or set']),
     'a switch without a way': (b'switch A\nswitch B\nlabel tree A\n', 'label 1 NotConnected',
-        ['wires do not lead from the root to each switch']),
+        ['wires do not lead from the root to each switch: none lead from A to B']),
     'more labels than headers': (b'switch A\nterminal a A.0 labels 257\nlabel tree A\n', 'label 2 TooManyLabels',
         ['there are more labels than headers']),
 }
@@ -109,24 +115,24 @@ RUNS = {
         ['stands still: 0 tokens wait', 'B.1 reads a header, and waits for the next token from A.1'], []),
     'an input that has the first byte of a header': (b'header 2\n' + OVER_A + b'row B.1 4 sink\n',
         CUT.replace(b'02 eop\nrounds 2', b'02 00 eop\nrounds 3'),
-        ['stands still: 1 token waits', 'B.1 reads a header, and waits for the next token from A.1'], []),
+        ['stands still: 1 token waits', 'B.1 reads a header, and waits for the next token from A.1'],
+        ['1 token waits at input B.1; more of its header has to come']),
     'an input that drops a packet without an end': (OVER_A + b'row B.1 4 sink\n', CUT,
         ['stands still: 0 tokens wait', 'B.1 drops its packet, and waits for the next token from A.1'],
         ['input B.1 has dropped 1 packet, since no row covers their header, or a row sinks it']),
     'a header that goes back by its own link': (PLAN, BACK, [],
-        ['1 token waits at input A.1; output A.1 belongs to A.0\'s packet until its terminator passes',
+        ['2 tokens wait at input A.1; output A.1 belongs to A.0\'s packet until its terminator passes',
          '1 token waits at output A.1; `credit` and `cross` or more `rounds` move it on',
          '2 tokens wait at a; `cross` or more `rounds` move them on']),
     'packets that are dropped behind a random header': (PLAN + b'random A.0 2 1\n', b'send a 01 eop\nsend a 00 eop\nrounds 9\n', [],
-        ['input A.0 has dropped 2 packets, since no row covers the random header that it put before them, or their own after it, '
-         'or a row sinks one of these']),
+        ['input A.0 has dropped 2 packets, since a row sinks their random header or their own, or no row covers it']),
     'a switch that is not started': (STANDS, b'control B 02\nsend a 01 02 eop\nrounds 20\n',
         ['stands still: 3 tokens wait', 'B is not started; `control B 01` starts it'],
         ['3 tokens wait at output A.1; B.1: the switch is not started; `control` with the byte 01 starts it']),
     'an output that has no room': (PLAN, b'poke A 0181 7\nsend a 01 aa aa aa aa aa aa eop\nsend a 01 eop\nrounds 20\n',
-        ['stands still: 10 tokens wait in 2 packets', 'A.0 wants A.7 for the header 1, which has no room for it',
+        ['stands still: 10 tokens wait in 2 packets', 'A.0 wants A.7 for the header 01 (label 1 of b), which has no room for it',
          'A.7, which has no wire, holds 8 tokens'],
-        ['1 token waits at input A.0; A.7: the output has no room for the header; `cross` takes a token out of it',
+        ['2 tokens wait at input A.0; A.7: the output has no room for the header; `cross` takes a token out of it',
          '8 tokens wait at output A.7; no wire leads on from there']),
     'an output that has no wire': (PLAN, b'poke A 0181 7\nsend a 01' + b' aa' * 9 + b' eop\nrounds 20\n',
         ['stands still: 11 tokens wait in 1 packet', 'A.0 holds A.7, which has no wire and is full'],
@@ -209,14 +215,13 @@ def runs(runner):
 # run of which something is counted or drawn ends at the first of these.
 FULL = b'rounds 3\n' + b'verify\n' * 433
 BEHIND = b'send a 01 eop\nrounds 9\n'
-WHY = 'a switch or a terminal does at most 1048576 acts, and one that would act has done that many; '
+WHY = 'a switch or a terminal would do more than 1048576 acts; '
 ENDS = text_of('-:433: ', [WHY + 'so the run ends here, in round 3'])
 
 # One that fills an inbox: by 64 packets of 4,096 tokens, each of which has arrived within 4,200 rounds. The first token of the
 # next packet crosses two wires in the second round.
 FULL_INBOX = (b'send a 01' + b' 55' * 4094 + b' eop\nrounds 4200\n') * 64 + b'send a 01 eop\nrounds 9\n'
-INBOX_ENDS = text_of('-:130: ', ['262144 tokens have arrived at a terminal, and it takes no more; so the run ends here, '
-                                 'in round 268802'])
+INBOX_ENDS = text_of('-:130: ', ['262144 tokens have arrived at a terminal, the most it takes; so the run ends here, in round 268802'])
 
 
 def full(runner):
@@ -281,4 +286,13 @@ def questions(runner):
                 runner.judge('questions on ' + name, wrong_of_typed(runner, path, lines))
 
 
-PARTS = [checks, idle_rows, runs, full, storm_progress, root_progress, questions]
+def columns(runner):
+    """None of the lines of these tables is longer than a screen is wide."""
+    texts = [text_about(told) for _, _, told in CHECKS.values()] + [text_about(told) for _, told in IDLE.values()]
+    texts += [text_of('-:99: ', last) + text_of('', left) for _, _, last, left in RUNS.values()]
+    texts += [told or b'' for _, lines in TYPED.values() for _, told in lines]
+    long = [line for text in texts for line in text.splitlines() if len(line) > COLUMNS]
+    runner.judge('columns', '%r' % long if long else None)
+
+
+PARTS = [checks, idle_rows, runs, full, storm_progress, root_progress, questions, columns]

@@ -46,9 +46,9 @@ TOLD = [
 
 def usage(runner):
     """Words are refused with a message on standard error, and nothing else is written."""
-    for words in (['run', 'a', 'b', 'c'], ['run', '--frob'], ['--frob'], ['check'], ['check', 'a', 'b'],
+    for words in (['run', 'a', 'b', 'c'], ['run', '--frob'], ['--frob'], ['check'], ['check', 'a', 'b', 'c'],
                   ['paths'], ['paths', *'abcdefghijklmnopq'],
-                  ['label'], ['label', 'a', 'b'], ['draw'], ['draw', 'a', 'b'], ['debug'], ['debug', 'a', 'b'], ['storm'], ['stats'], ['traffic'],
+                  ['label'], ['label', 'a', 'b', 'c'], ['draw'], ['draw', 'a', 'b'], ['debug'], ['debug', 'a', 'b'], ['storm'], ['stats'], ['traffic'],
                   ['traffic', 'a'],
                   [''], ['-'], ['frob', 'frob'], ['x' * 100000], [b'\xff']):
         name = 'usage of %.20r' % words
