@@ -1,5 +1,5 @@
 # make try SCRIPT=FILE        runs a script in two minutes without proving anything, and the first example where none is named
-# make                        proves and builds the program, build/c104, crates side by side, in some 43 minutes on four
+# make                        proves and builds the program, build/c104, crates side by side, in one to two hours on four
 #                             processors; once stopped, it goes on from what it had proved
 # make run                    builds it and runs the first example
 # make install                copies the program and its manual page below PREFIX, which is /usr/local unless
