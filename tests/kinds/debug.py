@@ -9,6 +9,7 @@ import select
 import subprocess
 import tempfile
 import termios
+import tty
 
 from case_runner import FIRST_RUN, PLAN, RECEIVED, answers_of, difference, lines_of
 
@@ -599,6 +600,20 @@ def restarted(runner):
         runner.judge(name, wrong or (None if asked.end() == 0 else 'exit status'))
 
 
+def several_at_once(runner):
+    """Lines that come in one read, as a program types them, are taken one by one, behind `restart` too."""
+    name = 'several lines at once'
+    if not runner.wanted(name):
+        return
+    with tempfile.TemporaryDirectory() as folder:
+        asked = asked_by_person(runner.program + ['debug', network(folder)], False)
+        tty.setraw(asked.input)
+        asked.read(asked.errors, b'1> ')
+        asked.send(b'send a 01 68 eop\nuntil a 0\nrestart\nsend a 01 69 eop\nrounds 9\nquit\n')
+        answers = b'1: done\n2: done\nb: 01 %d eop from a 0\n'
+        runner.judge(name, difference((asked.end(), asked.read(asked.output, None), b''), answers % 68 + answers % 69, 0, None))
+
+
 def ended_by_a_word(runner):
     """A line `quit` or `exit` ends what is typed: what stands before it is the script, and nothing behind it is read. In a
     file and through a pipe these are unknown words."""
@@ -648,4 +663,4 @@ def awaited(runner):
 
 PARTS = [through_a_pipe, no_questions, same_as_run, at_a_terminal, what_waits, reads_and_drops,
          where_packets_are, a_node_of_that_name, pictures, questions_are_no_lines, words_of_the_prompt,
-         standing_still, restarted, ended_by_a_word, awaited]
+         standing_still, restarted, several_at_once, ended_by_a_word, awaited]

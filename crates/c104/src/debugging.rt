@@ -9,7 +9,8 @@ use c104_host::Recorded;
 use c104_mistakes::Messages;
 use c104_session::debug_command;
 use c104_setup::Status;
-use std::io::{Read, Write};
+use std::io::{BufReader, Read, Write};
+use std::mem;
 
 /// Runs a description and a script, line by line, and anew where a person asks for that. The script begins behind the
 /// description in its text, if there is a line `script`, and goes on in standard input. Where a person types there, and sees
@@ -23,18 +24,23 @@ pub fn debug_file<'a, W: Write + Drop>(
     if is_closed(rt, STANDARD_INPUT, told) {
         return Status::CannotRead(1);
     }
+    let mut ahead = Vec::new(rt.alloc());
     for _ in 0..u64::MAX {
-        if let Some(status) = debug_once(rt, path, output, told) {
+        let before = mem::replace(&mut ahead, Vec::new(rt.alloc()));
+        if let Some(status) = debug_once(rt, path, before.as_slice(), &mut ahead, output, told) {
             return status;
         }
     }
     Status::Done
 }
 
-/// Runs them once. None where they are to be run anew.
+/// Runs them once, with what was read ahead of standard input before. None where they are to be run anew, with what was read
+/// ahead of it now.
 fn debug_once<'a, W: Write + Drop>(
     rt: &HostRuntime,
     path: &'a str,
+    before: &[u8],
+    ahead: &mut Vec<u8>,
     output: &mut Recorded<W>,
     told: &mut Told<'a>,
 ) -> Option<Status> {
@@ -47,7 +53,7 @@ fn debug_once<'a, W: Write + Drop>(
     };
     if path == STANDARD_INPUT {
         told.note_script(path, lines_before_script(front.description.as_slice()));
-        return debug_lines(rt, &front, None, text, output, told);
+        return debug_lines(rt, &front, None, text, before, ahead, output, told);
     }
     let Some(input) = open_path(rt, STANDARD_INPUT, told) else {
         return Some(Status::CannotRead(1));
@@ -55,44 +61,55 @@ fn debug_once<'a, W: Write + Drop>(
     if front.has_script {
         told.note_script(path, lines_before_script(front.description.as_slice()));
     }
-    debug_lines(rt, &front, Some(text), input, output, told)
+    debug_lines(rt, &front, Some(text), input, before, ahead, output, told)
 }
 
-/// Runs a description and a script: what is left of their file, unless that is standard input, and what this gives then. None
-/// where they are to be run anew.
+/// Runs a description and a script: what is left of their file, unless that is standard input, and what this gives then,
+/// behind what was read ahead of it. None where they are to be run anew.
 fn debug_lines<W: Write + Drop>(
     rt: &HostRuntime,
     front: &Front,
     file: Option<HostSource>,
     input: HostSource,
+    before: &[u8],
+    ahead: &mut Vec<u8>,
     output: &mut Recorded<W>,
     told: &mut Told<'_>,
 ) -> Option<Status> {
-    let (ahead, nothing) = (front.ahead.as_slice(), &front.ahead[..0]);
+    let begin = front.ahead.as_slice();
     told.typed_from().set(None);
-    let (file, input, typed_from) = match file {
-        Some(file) => (
-            Some(ahead.chain(file)),
-            nothing.chain(input),
-            Some(told.typed_from()),
-        ),
-        None => (None, ahead.chain(input), None),
+    let (file, first, typed_from) = match file {
+        Some(file) => (Some(begin.chain(file)), before, Some(told.typed_from())),
+        None => (None, begin, None),
+    };
+    let Ok(input) = BufReader::new(rt.alloc(), first.chain(input)) else {
+        return Some(Status::NoMemory);
     };
     let mut description = front.description.as_slice();
     let mut script = Typed::new(rt, description, file, input, told.are_asked(), typed_from);
     let status = debug_command(rt.alloc(), &mut description, &mut script, output, told);
-    end_lines(&script, status, told)
+    end_lines(&script, status, ahead, told)
 }
 
-/// How a script ends that came to this status. None where a person asked to run it anew.
-fn end_lines(script: &Typed<'_>, status: Status, told: &mut Told<'_>) -> Option<Status> {
+/// How a script ends that came to this status. None where a person asked to run it anew, with what was read ahead.
+fn end_lines(
+    script: &Typed<'_>,
+    status: Status,
+    ahead: &mut Vec<u8>,
+    told: &mut Told<'_>,
+) -> Option<Status> {
     told.note_fault(script.fault());
     if script.is_behind_file() {
         told.note_script(STANDARD_INPUT, 0);
     }
     match status {
         Status::CannotRead(1) if script.lacks_memory() => Some(Status::NoMemory),
-        Status::Done | Status::Refused if script.begins_anew() => None,
+        Status::Done | Status::Refused if script.begins_anew() => {
+            match ahead.extend_from_slice(script.read_ahead()) {
+                Ok(()) => None,
+                Err(_) => Some(Status::NoMemory),
+            }
+        }
         _ => Some(status),
     }
 }

@@ -13,7 +13,7 @@ use crate::opening::HostSource;
 use crate::prompting::tell_of_file;
 use std::cell::Cell;
 use std::io;
-use std::io::{Chain, Cursor, Read, Write};
+use std::io::{BufRead, BufReader, Chain, Cursor, Read, Write};
 
 /// What lines are read from: what was read of their text before, and then its source.
 pub type Lines<'a> = Chain<&'a [u8], HostSource>;
@@ -28,8 +28,8 @@ pub enum Ending {
 }
 
 /// A reader of what standard input gives, line by line, maybe behind lines of a file. Where a person is asked, a prompt with the
-/// line's number comes on standard error before each line. Each read asks the reader once, which gives a line where it is
-/// a terminal.
+/// line's number comes on standard error before each line. A terminal mostly gives a line at a time, but several where they
+/// are pasted, or typed by a program.
 #[derive(Drop)]
 pub struct Typed<'a> {
     pub(crate) rt: &'a HostRuntime,
@@ -38,7 +38,7 @@ pub struct Typed<'a> {
     pub(crate) file: Option<Lines<'a>>,
     /// The name of that file, where a person asked for it.
     pub(crate) asked_file: Option<String>,
-    input: Lines<'a>,
+    input: BufReader<Lines<'a>>,
     is_asked: bool,
     // Where it is noted how many lines the script's own file has, as soon as it is at its end.
     typed_from: Option<&'a Cell<Option<usize>>>,
@@ -66,7 +66,7 @@ impl<'a> Typed<'a> {
         rt: &'a HostRuntime,
         description: &'a [u8],
         file: Option<Lines<'a>>,
-        input: Lines<'a>,
+        input: BufReader<Lines<'a>>,
         is_asked: bool,
         typed_from: Option<&'a Cell<Option<usize>>>,
     ) -> Self {
@@ -95,6 +95,11 @@ impl Typed<'_> {
     /// Whether a person ended all that was typed so that it begins anew.
     pub fn begins_anew(&self) -> bool {
         self.ending == Some(Ending::Restart)
+    }
+
+    /// What is read already of what is typed next.
+    pub fn read_ahead(&self) -> &[u8] {
+        self.input.buffer()
     }
 
     /// Whether it was read as far as it could be, and memory ran out.
@@ -126,7 +131,7 @@ impl Typed<'_> {
         if !self.is_asked {
             return self.input.read(buf);
         }
-        self.ask(buf)?;
+        self.ask()?;
         self.ready.read(buf)
     }
 
@@ -177,11 +182,12 @@ impl Typed<'_> {
     }
 
     /// Asks for a line, and readies what the script has in its place.
-    fn ask(&mut self, buf: &mut [u8]) -> io::Result<()> {
+    fn ask(&mut self) -> io::Result<()> {
         if self.begins {
             prompt(self.rt, self.line);
         }
-        let line = self.read_line(buf)?;
+        let mut line = Vec::new(self.rt.alloc());
+        self.input.read_until(b'\n', &mut line)?;
         if line.is_empty() {
             self.ending = Some(Ending::Quit);
             // What follows stands on a line of its own.
@@ -192,20 +198,6 @@ impl Typed<'_> {
             self.ready = Cursor::new(line);
         }
         Ok(())
-    }
-
-    /// A line that is typed, which may be sent in parts. It is empty at the end of the input.
-    fn read_line(&mut self, buf: &mut [u8]) -> io::Result<Vec<u8>> {
-        let mut line = Vec::new(self.rt.alloc());
-        for _ in 0..u64::MAX {
-            let count = self.input.read(buf)?;
-            let piece = &buf[..count];
-            line.extend_from_slice(piece)?;
-            if begins_behind(piece, true) {
-                return Ok(line);
-            }
-        }
-        Ok(line)
     }
 
     /// Notes a piece of the script that is read.
