@@ -28,7 +28,7 @@ placed a n m (t ∷ ts) [] x ys e =
 placed a n m [] (y ∷ b) x ys e = absurd (cc)
 placed a n m (t ∷ ts) (y ∷ b) x ys e = let r = placed a n (suc m) ts b x ys (cc) in (r.0, r.1, omega (arith, r.2))
 
--- the first that is left where so many are dropped
+-- the first that is left where the first k are dropped
 placed_drop : (a n m k : ℕ) (ts : List Token) (x : Traced) (ys : List Traced) →
     x ∷ ys ≡ drop k (sent_from traced_kind a n m ts) → IsPlaced x (m + k)
 placed_drop a n m zero ts x ys e = placed a n m ts [] x ys e

@@ -1,8 +1,8 @@
 -- How many rounds are enough where all tokens wait to go out at terminals: a sum over the packets that wait, as if they went one after
 -- another.
 --     IsWaiting node      nothing stands at a node but what waits to go out at a terminal
---     rounds_alone plan routes rank nodes      one for each token, one for each packet, and for each byte of a packet's header one more than
---         the rank of the input where it enters
+--     rounds_alone plan routes rank nodes      one for each token, one for each packet, and for each byte of a packet's header one
+--         more than the rank of the input where it enters
 --     DeliversInRounds net      what is so of every network with its record
 use Rattle.c104_check.specs.{ChannelDependencies.{IsNeverRandomized, IsRanking}, Routes.{Routes, routes_of}}
 use Rattle.{c104_check.specs.declared.ports.SwitchPort.SwitchPort, c104_deadlock.specs.DeadlockFreedom.{FairDeliver, IsAcyclicNet}}
@@ -35,11 +35,11 @@ module _ (plan : Plan) (routes : Routes) (rank : SwitchPort → ℕ) where
   rounds_alone nodes = sum_at node_alone 0 nodes
 
 -- an accepted network that nobody changed, that puts no random headers before packets, and whose channels don't depend on one
--- another in a cycle: where all its tokens wait to go out at terminals, so many rounds deliver all, by any ranks that fall along
--- the dependencies, and so do as many fair rounds
+-- another in a cycle: where all its tokens wait to go out at terminals, that number of rounds delivers all, by any ranks that
+-- fall along the dependencies, and as many fair rounds do so too
 abbrev pub DeliversInRounds : NetRecord → Type 0
 DeliversInRounds net =
-    (image : Image) → IsAcyclicNet image net → IsNeverRandomized (routes_of net.network.plan image) → All IsWaiting net.network.nodes →
-    (rank : SwitchPort → ℕ) → IsRanking (routes_of net.network.plan image) rank → (n : ℕ) →
+    (image : Image) → IsAcyclicNet image net → IsNeverRandomized (routes_of net.network.plan image) →
+    All IsWaiting net.network.nodes → (rank : SwitchPort → ℕ) → IsRanking (routes_of net.network.plan image) rank → (n : ℕ) →
     rounds_alone net.network.plan (routes_of net.network.plan image) rank net.network.nodes ≤ n →
     RoundsDeliver (routes_of net.network.plan image) net n × FairDeliver (routes_of net.network.plan image) net n
