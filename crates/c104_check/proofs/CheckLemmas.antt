@@ -67,7 +67,7 @@ module _ (routes : Routes) (net : IsNetwork routes) where
         ]
       ]
 
-  -- so of an accepted network no cause is told but want of memory
+  -- so of an accepted network no cause is told but `NoMemory`
   pub accepted_cause : IsAccepted routes → (why : CheckFault) → IsCause routes why → why ≡ CheckFault.NoMemory
   accepted_cause are (CheckFault.RangesOverlap t u) pair = absurd (no_pair are t u pair.in_order pair.meet)
   accepted_cause are (CheckFault.LabelTooLarge t) large = absurd (no_large are t large.1.0)

@@ -3,7 +3,7 @@
 --     IsToldOf routes size p x k cause      this is why row k of input p is idle, or it isn't
 --     AreCauses routes size causes      so it is with all rows
 -- A table is often written once for all inputs of a switch, though few headers come to each of them, and none comes back to
--- where it came from. So a row counts as idle for want of headers only if the same row decides at no input of its switch.
+-- where it came from. So "no header comes" is told of a row only if the same row decides at no input of its switch.
 -- And one that sinks headers is for those that should never come.
 use Rattle.c104_check.specs.{Routes.{Routes, link_settings, place, port_at}, Trails.IsInput, declared.ports.SwitchPort.SwitchPort}
 use Rattle.{c104_cuts.specs.{IdleRows.{Decides, IsIdle}, declared.causes.IdleCause.IdleCause}, c104_interval.specs.Selection.limit_before}

@@ -3,7 +3,7 @@ use Rattle.c104_host.specs.{Ends.is_whole, Texts.Held, declared.held.TextEnd.Tex
 use Rattle.std.specs.{Io.KnownBytes.{Consumes, IsAtEnd}, Prelude.{IfSome, List, None, Option, [], length, true, ℕ, ◌++◌, ◌+◌, ◌<◌, ◌≡◌}}
 use Rattle.std.specs.Prelude.{◌≤◌, ◌⊎◌}
 
--- a reader was asked once for a piece of at most so many bytes: it gave some, or none where the text ended
+-- a reader was asked once for a piece of at most `room` bytes: it gave some, or none where the text ended
 pub record TakesPiece (room : ℕ) (old new : Option (List ℕ)) (before after : List ℕ) (end : Option TextEnd) : Type 0 where
   pub piece : List ℕ
   pub gave : Consumes old new piece

@@ -131,7 +131,7 @@ fn fill<R: Read>(
     Ok(TextEnd::Whole)
 }
 
-/// How many bytes are asked for at once behind so many, where one more than `most` may come.
+/// How many bytes are asked for at once behind the first `count`, where one more than `most` may come.
 fn room_for(most: usize, count: usize) -> usize
     requires { count ≤ most }
     ensures some { 0 < result }

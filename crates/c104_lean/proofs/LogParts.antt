@@ -15,7 +15,7 @@ part_holds P name (d ∷ log) each = by_name (belongs name d.deed) refl each (pa
     by_name true is each rest = ((λ own. each.0), rest each.1)
     by_name false is each rest = ((λ own. (let no : false ≡ true = sym is ∙ own in absurd (cc no))), rest each)
 
--- what was done belongs to one of so many names
+-- what was done belongs to one of the first `count` names
 pub record HasName (names : ℕ → Name) (count : ℕ) (d : Done) : Type 0 where
   pub number : ℕ
   pub below : number < count

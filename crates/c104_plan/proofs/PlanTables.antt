@@ -10,7 +10,7 @@ use Rattle.std.proofs.lemmas.List.{Elements.{All-head, All-map, All-replicate, A
 use Rattle.std.{proofs.lemmas.List.{Sums.sum_by-take-le, get_or_past, length-map, length-replicate, map-append, take_all}, specs.List.find}
 use Rattle.std.specs.List.{list_any}
 
--- those of the first so many rows that are of this input
+-- of the first `i` rows, those that are of this input
 abbrev pub so_far : Port → List PlanRow → ℕ → List Row
 so_far p rows i = map table_row (filter (is_row_of p) (take i rows))
 

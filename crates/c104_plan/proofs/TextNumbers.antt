@@ -1,4 +1,4 @@
--- The value of so many digits is small.
+-- The value of a few digits is small.
 use Rattle.std.proofs.{Common.{arith, ℕ, ◌<◌, ◌^◌, ◌≤◌}, Math.Nat.pow-le-pow_right}
 
 pub below_most : (value digits most : ℕ) → value < 10 ^ digits → digits ≤ most → value < 10 ^ most

@@ -6,7 +6,7 @@ use Rattle.{c104_regs.specs.declared.settings.Settings.Settings, std.proofs.Comm
 use Rattle.std.proofs.Common.{drop-cons, get_or, inl, inr, length, refl, slice_get, slice_set, suc, sym, ℕ, ◌+◌, ◌<◌, ◌∙◌, ◌∷◌, ◌≡◌, ◌≢◌}
 use Rattle.std.proofs.{Common.◌≤◌, Math.ListN.drop_of_length-le, lemmas.List.length-set}
 
--- what is set but for want of memory is what is due
+-- what is set where memory does not run out is what is due
 pub done_set : (old after : Image) (switch a v : ℕ) (answer : Result (Unit {0}) ImageFault) → AnswersDue old (image_set old switch a v) answer after → answer ≢ Err ImageFault.NoMemory
     → after.settings ≡ (image_set old switch a v).1.settings
 done_set old after switch a v answer (inl is) unless = ap (λ (x : Result (Unit {0}) ImageFault × Image). x.1.settings) is

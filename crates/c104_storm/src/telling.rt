@@ -9,7 +9,7 @@ use c104_plan::Plan;
 use c104_script::{Answer, LineFault};
 use std::alloc::Global;
 
-/// The most packets that a terminal can have sent: each has a token at least, and so many tokens may wait or have gone.
+/// The most packets that a terminal can have sent: each has a token at least, and this many tokens may wait or have gone.
 const MOST_SENT: usize = 1_048_576;
 
 /// What is told of a line that doesn't begin with `send`.

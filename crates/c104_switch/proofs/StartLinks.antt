@@ -59,7 +59,7 @@ module _ {A : Type 0} where
   pub start_kept : (s : Switch A) → IsSound s → IsSwitchStart (switch_start s)
   start_kept s sound = search (arith, length_starts, starts_kept)
 
-  -- so many of them, and one more
+  -- `i` of them, and one more
   pub starts_next : (ps : List (Input A)) (qs : List (Outgoing A)) (i : ℕ) (p : Input A) (q : Outgoing A) → slice_get ps i ≡ Some p → slice_get qs i ≡ Some q → take (i + 1) (link_starts ps qs) ≡ take i (link_starts ps qs) ++ link_start p q ∷ []
   starts_next [] qs i p q input output = cc
   starts_next (x ∷ ps) [] i p q input output = cc

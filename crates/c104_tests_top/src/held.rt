@@ -26,7 +26,7 @@ fn given(text: &mut HeldText) -> Option<usize> {
     text.read(&mut piece).ok()
 }
 
-/// Whether a text that its reader gives whole is held, gives so many bytes, and then fails each time.
+/// Whether a text that its reader gives whole is held, gives `count` bytes, and then fails each time.
 fn fails_behind(alloc: Global, text: &[u8], count: usize) -> bool {
     let Ok(held) = hold(alloc, 16, &mut Broken { text }) else {
         return false;

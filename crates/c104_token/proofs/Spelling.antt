@@ -112,7 +112,7 @@ text_accepted text packet is =
 pub text_complete : (text : List ℕ) (packet : Packet) → IsPacketText text packet → parse_packet text ≡ Ok packet
 text_complete text packet is = ap (λ list. packet_from_words (map word_of list) []) is.cut ∙ complete is.spelling packet.bytes [] packet.mark is.bytes is.short
 
--- the same of a result that may be want of memory
+-- the same of a result that may be `NoMemory`
 pub gives_accepted : (text : List ℕ) (result : Result Packet TokenFault) → GivesPacketOrNoMemory result (parse_packet text) → IfOk result (λ packet. IsPacketText text packet)
 gives_accepted text (Err fault) gives = tt
 gives_accepted text (Ok packet) (inl is) = text_accepted text packet (sym is)

@@ -17,7 +17,7 @@ unfinished_piece plain prefix (x ∷ xs) =
     if is_end (plain x) then unfinished_piece plain [] xs
     else unfinished_piece plain (prefix ++ x ∷ []) xs
 
--- the tokens of a list are cut into these packets, and so many at its end are left
+-- the tokens of a list are cut into these packets, and `left` of them stay at its end
 pub record IsCut (list : List Token) (packets : List Packet) (left : ℕ) : Type 0 where
   -- the packets are the whole pieces, in order
   pub whole : map packet_tokens packets ≡ whole_pieces (λ x. x) [] list

@@ -59,7 +59,7 @@ module _ {P : Type 0} (due : P → Event → Result Bool EventFault → P → Ty
     PartDone old end new = InTurn StageDone (Crossings ∷ Turns ∷ Claims ∷ []) old end new
 
 module _ {P : Type 0} (due : P → PartView → End → P → Type 0) (done : P → ℕ) (parts : List PartView) (most : ℕ) where
-  -- this many turns are done, in each of which the parts are; but no more of them where so many in a row did nothing, of which
+  -- this many turns are done, in each of which the parts are; but no more of them where `most` in a row did nothing, of which
   -- this many are left
   abbrev pub TurnsDone : ℕ → ℕ → P → End → P → Type 0
   TurnsDone zero left old end new = (end ≡ Ok tt) × (new ≡ old)

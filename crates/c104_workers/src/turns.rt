@@ -143,7 +143,7 @@ impl Worker {
 }
 
 /// Does this many turns through a port, in each of them these parts in order, up to the first event that is refused; but no more
-/// where so many turns in a row did nothing. The list is for the numbers of events.
+/// where that many in a row did nothing. The list is for the numbers of events.
 pub fn do_turns<P: PartPort>(
     port: &mut P,
     parts: &[&Part],

@@ -1,6 +1,6 @@
 use Rattle.{c104_switch.specs.Starts.start_input, std.{proofs.Common.{length, map, take, ◌≡◌, ◌≤◌}, specs.Vec.vec_capacity}}
 
--- so many inputs were made, and there is room for the others
+-- this many inputs were made, and there is room for the others
 abbrev pub invariant-loop-link : Rattle.c104_switch.proofs.inputs.InputsOf.from_start.Given.invariant-loop-link
 invariant-loop-link g l = record {
   made : l.list.items ≡ map start_input (take l.link-index l.links);
