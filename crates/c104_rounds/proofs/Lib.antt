@@ -20,4 +20,5 @@ pub mod WeightEnds
 pub mod StagedRounds
 pub mod WaitingNodes
 pub mod RoundsEnd
+pub mod SentPackets
 pub mod DeliveringNets

@@ -4,13 +4,13 @@ use Rattle.{c104_deadlock.specs.Work.level, c104_event.specs.declared.{events.Ev
 use Rattle.c104_net.proofs.{NodeViews.{ins, outs, phases, terminal_fresh}, PacketInvariant.IsLabelled, Promises.promised}
 use Rattle.{c104_net.specs.Deliveries.Promise, c104_node.specs.{Nodes.Node, Traced.traced_kind, declared.traced.Traced.Traced}}
 use Rattle.{c104_plan.specs.{PlanImage.Image, Plans.{IsPlan, Plan}, Wiring.peer, declared.ports.Port.Port}, c104_rounds.proofs.Falls.total}
-use Rattle.c104_rounds.proofs.{InStep.{IsInStep, good_new, in_step_new, round_of, stands}, Rounds.{round_less, round_no_more}}
-use Rattle.c104_rounds.proofs.{StagedRounds.AreStaged, Walks.{IsGood, walk_of}, WeightEnds.{nothing_weighs, some_weighs}}
-use Rattle.c104_rounds.proofs.{WeightSums.{none_weighs, ports_none}, Weights.{IsInside, ins_weight, outs_weight}, Wires.busy_wire}
-use Rattle.{c104_rounds.proofs.Wires.fresh_cases, c104_run.proofs.BalanceWires.{peer_back, switch_inside, terminal_inside}}
-use Rattle.c104_run.{proofs.RoundRuns.run_append, specs.{EventRuns.{Outcome, run_events, unless_fault}, Network.{Network, network_apply}}}
-use Rattle.{c104_run.specs.{Network.network_of, QuietNets.IsQuiet}, c104_switch.specs.declared.phase.Phase.TheVariants.Fresh}
-use Rattle.std.proofs.Common.{Err, List, Ok, Result, Some, [], ap, arith, refl, subst, suc, sym, zero, ℕ, ⊎_elim, ◌++◌, ◌∙◌, ◌≡◌, ◌≢◌, ◌≤◌}
+use Rattle.c104_rounds.proofs.{InStep.{IsInStep, in_step_new, round_of, stands}, Rounds.{round_less, round_no_more}, StagedRounds.AreStaged}
+use Rattle.c104_rounds.proofs.{Walks.{IsGood, walk_of}, WeightEnds.{nothing_weighs, some_weighs}, WeightSums.{none_weighs, ports_none}}
+use Rattle.c104_rounds.proofs.{Weights.{IsInside, ins_weight, outs_weight}, Wires.{busy_wire, fresh_cases}}
+use Rattle.c104_run.{proofs.{BalanceWires.{peer_back, switch_inside, terminal_inside}, RoundRuns.run_append}, specs.EventRuns.Outcome}
+use Rattle.c104_run.specs.{EventRuns.{run_events, unless_fault}, Network.{Network, network_apply, network_of}, QuietNets.IsQuiet}
+use Rattle.{c104_switch.specs.declared.phase.Phase.TheVariants.Fresh, std.proofs.Common.{Err, List, Ok, Result, Some, [], ap, arith, refl}}
+use Rattle.std.proofs.Common.{subst, suc, sym, zero, ℕ, ⊎_elim, ◌++◌, ◌+◌, ◌∙◌, ◌≡◌, ◌≢◌, ◌≤◌}
 
 module _ (plan : Plan) (image : Image) (is_plan : IsPlan plan) (labelled : IsLabelled (routes_of plan image)) (plain : IsNeverRandomized (routes_of plan image)) (rank : SwitchPort → ℕ) (falls : IsRanking (routes_of plan image) rank) where
   abbrev weighs : List (Node Traced) → ℕ
@@ -56,11 +56,12 @@ module _ (plan : Plan) (image : Image) (is_plan : IsPlan plan) (labelled : IsLab
     pub step : IsInStep plan image is_plan labelled plain rank falls nodes
     pub few : weighs nodes ≤ limit
 
-  abbrev Ends : ℕ → Type 0
-  Ends n = (es : List Event) (nodes : List (Node Traced)) (ended : Network Traced) → AreStaged plan image is_plan labelled plain rank falls n es → Good nodes → InStep nodes → weighs nodes ≤ n → Run (network_of plan nodes) es ended → IsBelow 0 ended
+  -- what n rounds leave of nodes that weigh no more than n and a rest
+  abbrev Leave : ℕ → ℕ → Type 0
+  Leave n rest = (es : List Event) (nodes : List (Node Traced)) (ended : Network Traced) → AreStaged plan image is_plan labelled plain rank falls n es → Good nodes → InStep nodes → weighs nodes ≤ n + rest → Run (network_of plan nodes) es ended → IsBelow rest ended
 
-  one_more : (n : ℕ) → Ends n → Ends (suc n)
-  one_more n later es nodes ended rounds good step few is =
+  one_more : (n rest : ℕ) → Leave n rest → Leave (suc n) rest
+  one_more n rest later es nodes ended rounds good step few is =
       by_first (run_events (network_apply traced_kind) (network_of plan nodes) now).0 (run_events (network_apply traced_kind) (network_of plan nodes) now).1 refl
       (sym (ap (run_events (network_apply traced_kind) (network_of plan nodes)) rounds.2 ∙ run_append (network_apply traced_kind) now next (network_of plan nodes)) ∙ is)
     where
@@ -71,29 +72,30 @@ module _ (plan : Plan) (image : Image) (is_plan : IsPlan plan) (labelled : IsLab
       next = rounds.1
 
       by_first : (answer : Result (Unit {0}) EventFault) (mid : Network Traced) → ◌≡◌ {A = Outcome (Network Traced)} (run_events (network_apply traced_kind) (network_of plan nodes) now) (answer, mid) →
-          ◌≡◌ {A = Outcome (Network Traced)} (unless_fault answer mid (λ net. run_events (network_apply traced_kind) net next)) (Ok tt, ended) → IsBelow 0 ended
-      by_first (Err f) mid first rest = let told : ◌≡◌ {A = Result (Unit {0}) EventFault} (Err f) (Ok tt) = ap (λ (z : Outcome (Network Traced)). z.0) rest in absurd (cc)
-      by_first (Ok u) mid first rest =
+          ◌≡◌ {A = Outcome (Network Traced)} (unless_fault answer mid (λ net. run_events (network_apply traced_kind) net next)) (Ok tt, ended) → IsBelow rest ended
+      by_first (Err f) mid first then = let told : ◌≡◌ {A = Result (Unit {0}) EventFault} (Err f) (Ok tt) = ap (λ (z : Outcome (Network Traced)). z.0) then in absurd (cc)
+      by_first (Ok u) mid first then =
           let w = walk_of plan image is_plan labelled now nodes mid rounds.3 good first in
           let r = round_of plan image is_plan labelled plain rank falls now rounds.4 nodes w.end w.walks in
           let step_new = in_step_new plan image is_plan labelled plain rank falls now rounds.4 nodes w.end r good step in
-          later next w.end ended rounds.5 w.good step_new (fewer w.end r (weighs nodes) refl) (subst (λ net. Run net next ended) (sym w.is) rest)
+          later next w.end ended rounds.5 w.good step_new (fewer w.end r (weighs nodes) refl) (subst (λ net. Run net next ended) (sym w.is) then)
         where
-          fewer : (end : List (Node Traced)) (r : Rattle.c104_rounds.proofs.InStep.IsRound plan image is_plan labelled plain rank falls now rounds.4 nodes end) (k : ℕ) → weighs nodes ≡ k → weighs end ≤ n
+          fewer : (end : List (Node Traced)) (r : Rattle.c104_rounds.proofs.InStep.IsRound plan image is_plan labelled plain rank falls now rounds.4 nodes end) (k : ℕ) → weighs nodes ≡ k → weighs end ≤ n + rest
           fewer end r zero e = let no_more = round_no_more plan image is_plan labelled plain rank falls now rounds.4 nodes end r good step in omega (arith, no_more, e)
           fewer end r (suc k) e =
               let before = some_weighs plan image is_plan labelled (level plan rank) nodes good.settled (omega (arith, e)) step.filled in
               let less = round_less plan image is_plan labelled plain rank falls now rounds.4 nodes end r good step before.0 before.1 before.2 before.3 in
               omega (arith, less, few)
 
-  ends : (n : ℕ) → Ends n
-  ends zero = λ es nodes ended rounds good step few is. record { nodes = nodes; is = ap (λ (z : Outcome (Network Traced)). z.1) (sym (ap (run_events (network_apply traced_kind) (network_of plan nodes)) rounds) ∙ is); good = good; step = step; few = few }
-  ends (suc n) = one_more n (ends n)
+  -- n rounds take n of what a network in step weighs, or all of it
+  pub rounds_leave : (n rest : ℕ) (es : List Event) (nodes : List (Node Traced)) (ended : Network Traced) → AreStaged plan image is_plan labelled plain rank falls n es → Good nodes → InStep nodes → weighs nodes ≤ n + rest → Run (network_of plan nodes) es ended → IsBelow rest ended
+  rounds_leave zero rest = λ es nodes ended rounds good step few is. record { nodes = nodes; is = ap (λ (z : Outcome (Network Traced)). z.1) (sym (ap (run_events (network_apply traced_kind) (network_of plan nodes)) rounds) ∙ is); good = good; step = step; few = omega (arith, few) }
+  rounds_leave (suc n) rest = one_more n rest (rounds_leave n rest)
 
   -- as many rounds as it weighs leave a network in step quiet, with all promises kept
   pub rounds_end : (n : ℕ) (es : List Event) (nodes : List (Node Traced)) (ended : Network Traced) → AreStaged plan image is_plan labelled plain rank falls n es → Good nodes → InStep nodes → weighs nodes ≤ n → Run (network_of plan nodes) es ended → IsQuiet ended × Promise (routes_of plan image) ended
   rounds_end n es nodes ended rounds good step few is =
-      let k = ends n es nodes ended rounds good step few is in
+      let k = rounds_leave n 0 es nodes ended rounds good step (omega (arith, few)) is in
       let low = k.few in
       let none : weighs k.nodes ≡ 0 = omega (arith, low) in
       (subst IsQuiet k.is (is_quiet k.nodes k.good k.step none), subst (Promise (routes_of plan image)) k.is (promised plan image is_plan labelled k.nodes k.good.settled))

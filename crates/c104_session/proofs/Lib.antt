@@ -33,6 +33,8 @@ pub mod QuietEvents
 pub mod SilentLines
 pub mod FallingWork
 pub mod DeliveredLaw
+pub mod PacedScripts
+pub mod PacedLaw
 pub mod SettledScripts
 mod RunRefusals
 mod ReadFaults

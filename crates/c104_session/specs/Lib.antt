@@ -17,6 +17,7 @@ pub mod TimedRuns
 pub mod AskedPictures
 pub mod PrintedPackets
 pub mod DeliveredRuns
+pub mod PacedRuns
 pub mod RunCommands
 pub mod PrintedRuns
 pub mod TextRuns
