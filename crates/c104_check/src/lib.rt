@@ -41,7 +41,7 @@ pub use acceptance::{Accepted, check};
 pub use cycles::{ChannelDependency, Cycle, Ranks, RanksOrCycle, find_cycle};
 pub use edges::{DependencyEdge, channel_dependencies};
 pub use faults::{CheckFault, Shown};
-pub use links::first_randomized;
+pub use links::{first_randomized, header_length};
 pub use mends::{Mend, find_mend};
 pub use missteps::{Misstep, find_misstep};
 pub use ports::SwitchPort;

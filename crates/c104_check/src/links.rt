@@ -1,5 +1,5 @@
 //! The tests of links.
-ghost use Rattle.std.specs.Prelude.{IfOk, MatchOption};
+ghost use Rattle.std.specs.Prelude.{IfOk, MatchOption, ◌≡◌};
 ghost use Rattle.c104_check.specs.{ChannelDependencies.IsNeverRandomized, Checks.IsFirstLink, Routes.{IsRandomized, routes_of}};
 ghost use Rattle.c104_plan.specs.PlanImage.{Fits};
 
@@ -23,6 +23,16 @@ pub fn first_randomized(
 {
     let routes = Routes::new(alloc, plan, image)?;
     Ok(routes.first_randomized())
+}
+
+/// How many bytes the headers have in the network of an image for a plan, which it fits: as many as at the first link that
+/// is wired, by switch and then by link; and 1 where none is. It fails only when out of memory.
+pub fn header_length(alloc: Global, plan: &Plan, image: &Image) -> Result<usize, NoMemory>
+    requires { Fits image.now plan.now }
+    ensures { IfOk result (λ bytes. bytes ≡ (routes_of plan.now image.now).header) }
+{
+    let routes = Routes::new(alloc, plan, image)?;
+    Ok(routes.header_bytes())
 }
 
 impl<'a> Routes<'a> {
