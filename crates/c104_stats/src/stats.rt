@@ -108,7 +108,7 @@ impl Stats {
     }
 
     /// The packets of each terminal.
-    pub(crate) fn senders(&self) -> &[Sender]
+    pub fn senders(&self) -> &[Sender]
         ensures { result.now ≡ self.now.senders }
     {
         self.senders.as_slice()
