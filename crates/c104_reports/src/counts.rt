@@ -28,6 +28,8 @@ pub struct Outcome {
     pub refused: u64,
     /// The last round in which something was done, of a network that stands still with tokens in it.
     pub still: Option<u32>,
+    /// How many rounds are enough for its packets, where that is known.
+    pub enough: Option<u64>,
 }
 
 /// Which packets are measured.

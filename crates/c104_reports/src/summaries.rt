@@ -7,7 +7,7 @@ use c104_stats::{Endings, Latencies, MAX_BATCHES, Stats, Summary, Top, Window};
 use c104_token::NoMemory;
 use std::alloc::{AllocError, Global};
 
-const COLUMNS: [&str; 24] = [
+const COLUMNS: [&str; 25] = [
     "rounds",
     "sent",
     "arrived",
@@ -32,6 +32,7 @@ const COLUMNS: [&str; 24] = [
     "second_share",
     "third",
     "third_share",
+    "rounds_enough",
 ];
 
 const BATCH_COLUMNS: [&str; 16] = [
@@ -67,6 +68,10 @@ pub(crate) fn summary_text(
     add_rates(&mut row, summary)?;
     row.thousandths(summary.token_rate())?;
     add_top(alloc, &mut row, plan, summary)?;
+    match outcome.enough {
+        Some(rounds) => row.number(rounds)?,
+        None => row.nothing()?,
+    }
     row.finish()
 }
 

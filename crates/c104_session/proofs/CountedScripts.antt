@@ -2,7 +2,7 @@
 use Rattle.{c104_plan.specs.{PlanImage.Image, Plans.Plan}, c104_script.specs.Answering.DoesScript, c104_session.specs.Counted.counts_kept}
 use Rattle.c104_session.specs.{CountedRuns.{IsCountedAfter, IsCountedOn, IsCountedPlan, IsRefusedCount}, Driven.driven_outcome}
 use Rattle.c104_session.specs.{Refusals.refuses, declared.{counted_runs.CountedRun.CountedRun, driven.Driven.Driven}}
-use Rattle.{c104_stats.specs.{Counts.Counts, declared.stats.What.What}, std.proofs.Common.{Bool, List, Option, arith, refl, ℕ, ◌||◌, ◌≡◌}}
+use Rattle.{c104_stats.specs.{Counts.Counts, declared.stats.What.What}, std.proofs.Common.{Bool, List, None, Option, Some, arith, refl, ℕ, ◌||◌, ◌≡◌}}
 
 -- a script that was done
 module _ (driven after : Driven Counts) (long : Bool) (run : CountedRun) where
@@ -16,3 +16,10 @@ pub counted_refused : (what : Option What) (plan : Plan) (image : Image) (script
     (run : CountedRun) → IsCountedPlan what plan image script run → IsRefusedCount what script plan image text run.is_refused
 unfolding IsRefusedCount
 counted_refused what plan image script text run counted = (run, counted, refl)
+
+-- how many rounds are enough is told beside what is counted
+pub counted_also : (driven : Driven Counts) (all : Option (List ℕ)) (run : CountedRun) (enough : Option ℕ) → IsCountedAfter driven all run
+    → IsCountedAfter driven all (record run { enough = enough })
+counted_also driven None run enough counted = tt
+counted_also driven (Some script) run enough counted =
+    (record { counts = counted.0.counts; refused = counted.0.refused; still = counted.0.still; round = counted.0.round }, counted.1)

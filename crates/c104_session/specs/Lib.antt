@@ -18,6 +18,7 @@ pub mod AskedPictures
 pub mod PrintedPackets
 pub mod DeliveredRuns
 pub mod PacedRuns
+pub mod EnoughRounds
 pub mod RunCommands
 pub mod PrintedRuns
 pub mod TextRuns

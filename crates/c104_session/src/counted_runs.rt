@@ -1,11 +1,13 @@
 //! A script, run on the network of a plan, and what is counted of that.
-ghost use Rattle.std.specs.Prelude.{Err, IfOk, IfSome, IsSome, IsTrue, ◌↔◌, ◌≡◌, ◌≢◌};
+ghost use Rattle.std.specs.Prelude.{Err, IfOk, IfSome, IsSome, IsTrue, None, ◌↔◌, ◌≡◌, ◌≢◌};
 ghost use Rattle.{c104_plan.specs.PlanImage.Fits, c104_run.specs.Standstill.IsDeadlocked, c104_session.specs.CountedRuns.IsCountedAfter};
-ghost use Rattle.{c104_session.specs.{CountedRuns.{IsCountedOn, IsCountedPlan}, Refusals.refuses}, c104_token.specs.Kinds.plain_kind};
+ghost use Rattle.{c104_check.specs.Routes.routes_of, c104_session.specs.{CountedRuns.{IsCountedOn, IsCountedPlan}, Refusals.refuses}};
+ghost use Rattle.{c104_session.specs.EnoughRounds.IsEnoughFor, c104_token.specs.Kinds.plain_kind};
 ghost use Rattle.c104_stream.specs.declared.halt.Halt.TheVariants as halt;
 
 use crate::answering::drive_script;
 use crate::driven::Driven;
+use crate::enough::{rounds_enough, ways_of};
 use crate::refusals::Refusals;
 use crate::runs::leftovers_of;
 use crate::session::Session;
@@ -71,6 +73,9 @@ pub struct CountedRun {
     pub is_refused: bool,
     /// What is told of a network that stands still with tokens in it.
     pub still: Option<Still>,
+    /// How many rounds deliver all packets of the run, where the last one is followed by rounds alone: in an accepted network
+    /// without a cycle of channel dependencies and without random headers. None of other networks, and beside a table.
+    pub enough: Option<u64>,
     /// What is to be told of what didn't arrive.
     leftovers: Option<Vec<String>>,
 }
@@ -86,6 +91,7 @@ impl CountedRun {
 /// table, or the summary. Of a script that is too long the lines that end within 16 MiB are done, and behind a line that is
 /// refused since a trace or an inbox is full nothing is done. Messages are those of `run_plan`, but for what didn't arrive,
 /// and that the run ended so is told even where none are wanted. It never fails to write.
+#[tactic(auto, using(crate::proofs::CountedScripts::counted_also))]
 pub fn count_plan<S: Read, M: Messages>(
     alloc: Global,
     plan: &Plan,
@@ -97,6 +103,31 @@ pub fn count_plan<S: Read, M: Messages>(
     requires { Fits image plan.now }
     ensures run { IfOk result (λ run. IsCountedPlan what plan.now image
         (S.remaining script.old) run) }
+    ensures enough { IfOk result (IsEnoughFor what plan.now (routes_of plan.now image)) }
+    ensures unwritten { result ≢ Err halt.CannotWrite }
+{
+    let ways = match what {
+        Some(_) => None,
+        None => ways_of(alloc, plan, &image)?,
+    };
+    let mut run = count_packets(alloc, plan, image, what, script, messages)?;
+    run.enough = rounds_enough(plan, &ways, &run.stats);
+    Ok(run)
+}
+
+/// The same, but for how many rounds are enough.
+fn count_packets<S: Read, M: Messages>(
+    alloc: Global,
+    plan: &Plan,
+    image: Image,
+    what: Option<What>,
+    script: &mut S,
+    messages: &mut M,
+) -> Result<CountedRun, Halt>
+    requires { Fits image plan.now }
+    ensures run { IfOk result (λ run. IsCountedPlan what plan.now image
+        (S.remaining script.old) run) }
+    ensures none { IfOk result (λ run. run.enough ≡ None) }
     ensures unwritten { result ≢ Err halt.CannotWrite }
 {
     let stats = Stats::new(alloc, plan, what)?;
@@ -115,6 +146,7 @@ fn count_driven<S: Read, M: Messages>(
 ) -> Result<CountedRun, Halt>
     ensures run { IfOk result (λ run. IsCountedAfter driven
         (S.remaining script.old) run) }
+    ensures none { IfOk result (λ run. run.enough ≡ None) }
     ensures unwritten { result ≢ Err halt.CannotWrite }
 {
     let mut driven = driven;
@@ -143,6 +175,7 @@ fn counted_run<M: Messages>(
 ) -> CountedRun
     ensures run { IsCountedOn session.now.net stats refusals result }
     ensures is_refused { result.is_refused ≡ refuses refusals is_long session.now }
+    ensures none { result.enough ≡ None }
 {
     let mut stats = stats;
     stats.end_at(&session.net);
@@ -153,6 +186,7 @@ fn counted_run<M: Messages>(
         refused: refusals.lines,
         is_refused: refusals.refuse(is_long, session),
         still,
+        enough: None,
         leftovers,
     }
 }

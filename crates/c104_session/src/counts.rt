@@ -117,5 +117,6 @@ fn outcome_of(run: &CountedRun) -> Outcome {
     Outcome {
         refused: run.refused,
         still: run.still.as_ref().map(|still| still.round),
+        enough: run.enough,
     }
 }

@@ -30,6 +30,7 @@ mod counts;
 mod driven;
 mod driver;
 mod ended;
+mod enough;
 mod explaining;
 mod found_registers;
 mod keepers;
