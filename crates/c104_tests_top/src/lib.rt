@@ -9,6 +9,8 @@
 #[cfg(test)]
 mod advice;
 #[cfg(test)]
+mod alone;
+#[cfg(test)]
 mod calls;
 #[cfg(test)]
 mod commands;

@@ -60,7 +60,7 @@ fn printed(alloc: Global, description: &[u8], script: &[u8]) -> Result<Vec<u8>, 
 }
 
 /// Drops a plan. A function of its own, so that all that a plan owns is dropped in one place.
-fn drop_plan(_plan: Plan) {}
+pub fn drop_plan(_plan: Plan) {}
 
 /// The same, where this plan was described.
 fn printed_on(
