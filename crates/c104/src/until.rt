@@ -3,13 +3,11 @@ ghost use Rattle.std.specs.Prelude.{None};
 
 use c104_explain::is_under_way;
 use c104_mistakes::{About, Messages, Work};
+use c104_script::MAX_ROUNDS;
 use c104_session::run;
 use std::cell::Cell;
 use std::io;
 use std::io::Read;
-
-/// The most rounds that are tried, and that a line asks for.
-const MOST_ROUNDS: u32 = 10_000;
 
 /// What was told of the packet, or of a round, since a line was read.
 #[derive(Clone, Copy, Debug, PartialEq, Eq)]
@@ -45,7 +43,7 @@ impl<'a> Rounds<'a> {
                 self.question
             };
         }
-        if seen != Seen::UnderWay || self.done >= MOST_ROUNDS {
+        if seen != Seen::UnderWay || self.done >= MAX_ROUNDS {
             return b"";
         }
         self.done = self.done.saturating_add(1);
