@@ -50,7 +50,7 @@ module _ (net : NetRecord) (is_plan : IsPlan net.network.plan) (kept : IsNetReco
   nothing_done words none = ⊎_elim (λ (still : StandsStill plain_kind net.network). inl (stands still)) (λ (full : HasFullInbox net ⊎ HasFullTrace net). inr full) (undone_stands net is_plan words none)
 
   -- the run so far over tokens that tell where they came from
-  abbrev Ended : NetRecord → Type 0
+  abbrev pub Ended : NetRecord → Type 0
   Ended after = (last : Network Traced) × (map_network token_of last ≡ after.network) × (more : List (Event × Reply)) × IsDoneRun traced_kind (network_of plan (map start_node net.starts)) more last × IsQuiet last × Promise routes last
 
   ended_so : (rank : SwitchPort → ℕ) → IsRanking routes rank → (n : ℕ) (es : List Event) → AreRounds plan n es → random_work plan routes rank net.network.nodes < n → (after : NetRecord) → ◌≡◌ {A = Outcome (Network Token)} (run_events (network_apply plain_kind) net.network es) (Ok tt, after.network) → Ended after
@@ -75,7 +75,7 @@ module _ (net : NetRecord) (is_plan : IsPlan net.network.plan) (kept : IsNetReco
         delivered.1,
       )
 
-  delivered_so : (after : NetRecord) → after.network.plan ≡ plan → after.starts ≡ net.starts → Ended after → IsAllDelivered routes after
+  pub delivered_so : (after : NetRecord) → after.network.plan ≡ plan → after.starts ≡ net.starts → Ended after → IsAllDelivered routes after
   delivered_so after same_plan same_starts e =
       let last : Network Traced = e.0 in
       let plans : last.plan ≡ after.network.plan = ap (λ (n : Network Token). n.plan) e.1 in

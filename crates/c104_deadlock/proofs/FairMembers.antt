@@ -32,12 +32,12 @@ module _ (turns : List SwitchTurns) where
   abbrev IsTurn : ℕ → ℕ → ℕ → Type 0
   IsTurn s i o = IsIn i (turns_of turns s).inputs × IsIn o (turns_of turns s).outputs
 
-  each_fair : (P : Event → Type 0) (switches : ℕ) → ((s i o : ℕ) → s < switches → IsTurn s i o → P (Event.Claim s i o)) → AllByRecursion P (fair_claims turns switches)
+  pub each_fair : (P : Event → Type 0) (switches : ℕ) → ((s i o : ℕ) → s < switches → IsTurn s i o → P (Event.Claim s i o)) → AllByRecursion P (fair_claims turns switches)
   each_fair P switches of_claim = each_flat P (λ s. switch_turns s (turns_of turns s)) 0 switches (λ s inside.
       each_listed P (λ i. output_turns s i (turns_of turns s).outputs) (turns_of turns s).inputs (λ i input.
       each_listed P (λ o. Event.Claim s i o ∷ []) (turns_of turns s).outputs (λ o output. (of_claim s i o (omega (arith, inside)) (input, output), tt))))
 
-  claim_in : (switches s i o : ℕ) → s < switches → IsTurn s i o → IsIn (Event.Claim s i o) (fair_claims turns switches)
+  pub claim_in : (switches s i o : ℕ) → s < switches → IsTurn s i o → IsIn (Event.Claim s i o) (fair_claims turns switches)
   claim_in switches s i o inside turn =
       in_flat (λ s. switch_turns s (turns_of turns s)) s (Event.Claim s i o) (range_with_len 0 switches) (in_range 0 switches s (omega arith) (omega (arith, inside)))
       (in_flat (λ i. output_turns s i (turns_of turns s).outputs) i (Event.Claim s i o) (turns_of turns s).inputs turn.0
@@ -54,10 +54,10 @@ module _ (turns : List SwitchTurns) where
 
   -- where the turns are orders no claim is missing
   module _ (orders : AreOrders turns) where
-    is_turn : (s i o : ℕ) → i < 32 → o < 32 → IsTurn s i o
+    pub is_turn : (s i o : ℕ) → i < 32 → o < 32 → IsTurn s i o
     is_turn s i o input output = (in_order i (turns_of turns s).inputs ((orders s).0.all i input), in_order o (turns_of turns s).outputs ((orders s).1.all o output))
 
-    of_link : (xs : List ℕ) (x : ℕ) → All (λ l. l < 32) xs → IsIn x xs → x < 32
+    pub of_link : (xs : List ℕ) (x : ℕ) → All (λ l. l < 32) xs → IsIn x xs → x < 32
     of_link xs x below h = All-contains (λ l. l < 32) xs x below (contained x xs h)
 
     module _ {A : Type 0} (kind : Kind A) (net : Network A) (words : Words) where

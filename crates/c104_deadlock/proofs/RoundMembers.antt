@@ -10,11 +10,11 @@ use Rattle.{c104_token.specs.Kinds.Kind, std.proofs.Common.{List, Some, [], ap, 
 use Rattle.std.proofs.{Common.{ℕ, ◌++◌, ◌<◌, ◌∷◌, ◌≡◌}, lemmas.{Grind.flat_map-append, List.Elements.All-contains}}
 use Rattle.std.specs.List.{AllByRecursion, flat_map, range_with_len}
 
-in_links : (l : ℕ) → l < 32 → IsIn l link_numbers
+pub in_links : (l : ℕ) → l < 32 → IsIn l link_numbers
 in_links l below = subst (IsIn l) (links_passed 32 refl) (in_range 0 32 l (omega arith) (omega (arith, below)))
 
 module _ (plan : Plan) (is_plan : IsPlan plan) where
-  wired_in : (p q : Port) → peer plan p ≡ Some q → IsIn p (wired_ports plan)
+  pub wired_in : (p q : Port) → peer plan p ≡ Some q → IsIn p (wired_ports plan)
   wired_in (Port.Switch s l) q wire =
       let inside = switch_inside plan is_plan s l q wire in
       let link : IsIn (Port.Switch s l) (wired_links plan s) = in_filter (is_wired plan) (Port.Switch s l) (map (Port.Switch s) link_numbers) (in_map (Port.Switch s) l link_numbers (in_links l inside.1)) (ap is_some wire) in

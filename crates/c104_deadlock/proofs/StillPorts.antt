@@ -28,7 +28,7 @@ module _ {A : Type 0} where
   phase_of inputs k = part Fresh (λ (p : Input A). p.phase) (slice_get inputs k)
 
   -- some input streams to an output, or none does
-  streaming : (inputs : List (Input A)) (o : ℕ) → ((k : ℕ) × (phase_of inputs k ≡ Stream o)) ⊎ ((k : ℕ) → phase_of inputs k ≢ Stream o)
+  pub streaming : (inputs : List (Input A)) (o : ℕ) → ((k : ℕ) × (phase_of inputs k ≡ Stream o)) ⊎ ((k : ℕ) → phase_of inputs k ≢ Stream o)
   streaming [] o = inr (λ k e. absurd (cc))
   streaming (p ∷ inputs) o = ⊎_elim (λ (e : p.phase ≡ Stream o). inl (0, e)) (λ (n : p.phase ≢ Stream o). rest n (streaming inputs o)) (stream_or_not p.phase o)
     where
@@ -40,7 +40,7 @@ module _ {A : Type 0} where
           none zero = n
           none (suc k) = h k
 
-nothing : {X : Type 0} (xs ys : List X) → xs ++ ys ≡ [] → (xs ≡ []) × (ys ≡ [])
+pub nothing : {X : Type 0} (xs ys : List X) → xs ++ ys ≡ [] → (xs ≡ []) × (ys ≡ [])
 nothing [] ys e = (refl, e)
 nothing (x ∷ xs) ys e = absurd (cc)
 
@@ -67,7 +67,7 @@ module _ (routes : Routes) (wired : IsWired routes.peer) where
   arrived_wire : (h : ℕ) (p : SwitchPort) → MayComeBy routes h p → HasWire p
   arrived_wire h p (x, m, begins, reaches) = reached_wire h m x p (beginning_wire h x begins) reaches
 
-  chosen_wire : (Q : Port) (l : ℕ) → IsChosen routes Q l → (P : Port) × (routes.peer Q ≡ Some P)
+  pub chosen_wire : (Q : Port) (l : ℕ) → IsChosen routes Q l → (P : Port) × (routes.peer Q ≡ Some P)
   chosen_wire (port.Switch s i) l c = arrived_wire c.0 (port_of s i) c.1
   chosen_wire (port.Terminal t) l c = absurd c
 
@@ -83,7 +83,7 @@ module _ (routes : Routes) (wired : IsWired routes.peer) where
     no_wire : {X : Type 0} (Q : Port) → routes.peer Q ≡ None → (P : Port) × (routes.peer Q ≡ Some P) → X
     no_wire Q none h = let e : None ≡ Some h.0 = sym none ∙ h.1 in absurd (cc)
 
-    unwired_fresh : (Q : Port) (ph : Phase (List Traced)) → Suits routes w.book g Q ph → routes.peer Q ≡ None → ph ≡ Fresh
+    pub unwired_fresh : (Q : Port) (ph : Phase (List Traced)) → Suits routes w.book g Q ph → routes.peer Q ≡ None → ph ≡ Fresh
     unwired_fresh Q Fresh u none = refl
     unwired_fresh Q (Head b) u none = no_wire Q none u.3.wire
     unwired_fresh Q (Want b l) u none = no_wire Q none (chosen_wire Q l u.4)
@@ -91,7 +91,7 @@ module _ (routes : Routes) (wired : IsWired routes.peer) where
     unwired_fresh Q Sinking u none = no_wire Q none (u.2, u.3)
 
     -- and nothing stands before it
-    unwired_content : (Q : Port) (content due : List Traced) → routes.peer Q ≡ None → IsChannel (IsPiece routes w.book Q) [] content due → content ≡ []
+    pub unwired_content : (Q : Port) (content due : List Traced) → routes.peer Q ≡ None → IsChannel (IsPiece routes w.book Q) [] content due → content ≡ []
     unwired_content Q content due none run = search (arith, no_wire)
 
 module _ (plan : Plan) (image : Image) (is_plan : IsPlan plan) (labelled : IsLabelled (routes_of plan image)) (nodes : List (Node Traced)) (good : IsSettled plan image is_plan labelled nodes) (steady : IsSteady (network_of plan nodes)) (started : IsStarted (network_of plan nodes)) (still : IsStill traced_kind (network_of plan nodes)) where

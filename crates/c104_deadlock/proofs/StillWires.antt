@@ -19,10 +19,10 @@ module _ {A : Type 0} (S : Switch A) (started : IsStartedSwitch S) where
     within : length S.inputs ≤ l → ⊥
     within h = omega (arith, h, slice_get_within S.inputs l p is_input)
 
-    no_grant : (u : Unready) → IsReason S (ActionOf.CreditOut l) u → p.buffer.cap < length p.buffer.items + p.buffer.granted + 8
+    pub no_grant : (u : Unready) → IsReason S (ActionOf.CreditOut l) u → p.buffer.cap < length p.buffer.items + p.buffer.granted + 8
     no_grant u r = search (arith, within, true≢false)
 
-    no_entry : (x : A) (u : Unready) → IsReason S (ActionOf.Enter l x) u → p.buffer.granted ≡ 0
+    pub no_entry : (x : A) (u : Unready) → IsReason S (ActionOf.Enter l x) u → p.buffer.granted ≡ 0
     no_entry x u r = search (arith, within)
 
   module _ (l : ℕ) (q : Outgoing A) (is_output : slice_get S.outputs l ≡ Some q) where
@@ -32,7 +32,7 @@ module _ {A : Type 0} (S : Switch A) (started : IsStartedSwitch S) where
     no_credit : (u : Unready) → IsReason S (ActionOf.CreditIn l) u → 64 < q.credit + 8
     no_credit u r = search (arith, beyond)
 
-    no_leave : (u : Unready) → IsReason S (ActionOf.Leave l) u → 0 < q.credit → q.items ≡ []
+    pub no_leave : (u : Unready) → IsReason S (ActionOf.Leave l) u → 0 < q.credit → q.items ≡ []
     no_leave u r some = search (arith, beyond)
 
   -- an input that takes no turn
@@ -46,7 +46,7 @@ module _ {A : Type 0} (S : Switch A) (started : IsStartedSwitch S) where
   no_turn l p is_input below u r = grind arith
 
   -- an input that wants a link with room gets it, unless another input has it
-  no_claim : (i g o : ℕ) (b : List A) (p : Input A) (q : Outgoing A) → slice_get S.inputs i ≡ Some p → slice_get S.outputs o ≡ Some q → o < 32 → p.phase ≡ Want b g → is_in_group S.settings g o ≡ true → q.items ≡ [] → length b ≤ 8 → (u : Unready) → IsReason S (ActionOf.Claim i o) u → (k : ℕ) × (owner : Input A) × (slice_get S.inputs k ≡ Some owner) × (owner.phase ≡ Stream o)
+  pub no_claim : (i g o : ℕ) (b : List A) (p : Input A) (q : Outgoing A) → slice_get S.inputs i ≡ Some p → slice_get S.outputs o ≡ Some q → o < 32 → p.phase ≡ Want b g → is_in_group S.settings g o ≡ true → q.items ≡ [] → length b ≤ 8 → (u : Unready) → IsReason S (ActionOf.Claim i o) u → (k : ℕ) × (owner : Input A) × (slice_get S.inputs k ≡ Some owner) × (owner.phase ≡ Stream o)
   no_claim i g o b p q is_input is_output below wants group none few u r = search (arith, within, beyond, true≢false)
 
 module _ {A : Type 0} (kind : Kind A) (plan : Plan) (is_plan : IsPlan plan) (nodes : List (Node A)) (steady : IsSteady (network_of plan nodes)) (started : IsStarted (network_of plan nodes)) (still : IsStill kind (network_of plan nodes)) where

@@ -19,13 +19,13 @@ use Rattle.{c104_switch.specs.declared.phase.Phase.TheVariants.{Stream, Want}, s
 use Rattle.std.proofs.Common.{Result, Some, [], ap, arith, false, inl, inr, length, refl, slice_get, subst, suc, sym, true, zero, ℕ, ⊎_elim}
 use Rattle.std.{proofs.{Common.{◌*◌, ◌+◌, ◌<◌, ◌∙◌, ◌∷◌, ◌≡◌, ◌≤◌, ◌⊎◌}, lemmas.Bool.cases_Bool}, specs.List.AllByRecursion}
 
-may_happen : (routes : Routes) (e : Event) (r : Reply) → IsOfRound e → MayHappen routes e r
+pub may_happen : (routes : Routes) (e : Event) (r : Reply) → IsOfRound e → MayHappen routes e r
 may_happen routes e r of = grind arith
 
-sends_none : (e : Event) → IsOfRound e → SendsBytes e
+pub sends_none : (e : Event) → IsOfRound e → SendsBytes e
 sends_none e of = search arith
 
-not_ready : (r : Reply) → is_ready r ≡ false → r ≡ ReplyOf.NotReady
+pub not_ready : (r : Reply) → is_ready r ≡ false → r ≡ ReplyOf.NotReady
 not_ready r is = search arith
 
 module _ (plan : Plan) (image : Image) (is_plan : IsPlan plan) (labelled : IsLabelled (routes_of plan image)) (rank : SwitchPort → ℕ) (falls : IsRanking (routes_of plan image) rank) where

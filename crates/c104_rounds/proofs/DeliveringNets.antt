@@ -2,23 +2,22 @@
 -- a network with its record keeps.
 use Rattle.c104_check.specs.{ChannelDependencies.{IsNeverRandomized, IsRanking}, Routes.{Routes, routes_of}}
 use Rattle.{c104_check.specs.declared.ports.SwitchPort.SwitchPort, c104_deadlock.proofs.BeginsStarted.starts_are_started}
-use Rattle.c104_deadlock.proofs.{RecordedRounds.{done_after, done_of, plain_run, starts_stay}, RoundsEnd.run_plain, StandingRuns.run_steady}
-use Rattle.c104_deadlock.{proofs.{StandingRuns.started_traced, StartedRuns.run_started}, specs.DeadlockFreedom.{FairDeliver, IsAcyclicNet}}
-use Rattle.c104_deadlock.specs.{DeadlockFreedom.{IsAcyclicRun, IsAllDelivered, RoundsDeliver}, Work.level}
+use Rattle.c104_deadlock.proofs.{DeadlockFree.{Ended, delivered_so}, RecordedRounds.{done_after, done_of, plain_run, starts_stay}}
+use Rattle.c104_deadlock.proofs.{RoundsEnd.run_plain, StandingRuns.{run_steady, started_traced}, StartedRuns.run_started}
+use Rattle.c104_deadlock.specs.{DeadlockFreedom.{FairDeliver, IsAcyclicNet, IsAllDelivered, RoundsDeliver}, Work.level}
 use Rattle.{c104_event.specs.declared.events.Event.Event, c104_net.proofs.{PacketInvariant.IsLabelled, Promises.{IsSettled, each, starts}}}
 use Rattle.c104_net.proofs.{RunOrigins.still_steady, RunSteps.header_positive, SentBytes.AreBytesSent, StartMaps.starts_are}
-use Rattle.{c104_net.{proofs.TracedRuns.{token_of, traced_from}, specs.Deliveries.Promise}, c104_node.specs.MappedNodes.map_node}
-use Rattle.c104_node.specs.{Nodes.Node, Quiet.IsQuietNode, Starts.start_node, Traced.traced_kind, declared.traced.Traced.Traced}
-use Rattle.{c104_plan.specs.{PlanImage.Image, Plans.{IsPlan, Plan}, declared.ports.Port.Port}, c104_rounds.proofs.Falls.total}
-use Rattle.c104_rounds.proofs.{InStep.IsInStep, RoundsEnd.rounds_end, StagedRounds.{AreStaged, fair_stages, handed_stages}}
-use Rattle.c104_rounds.proofs.{WaitingNodes.{all_fresh, alone_counted, none_come, none_wait}, Walks.IsGood, WeightEnds.start_weighs}
-use Rattle.{c104_rounds.specs.PacketsAlone.{DeliversInRounds, IsWaiting, rounds_alone}, c104_run.proofs.FairRecords.fair_plain}
-use Rattle.c104_run.{proofs.NodeMaps.quiet_map, specs.{EventRuns.{EventsEnd, Outcome, StopsShort, run_events}, FairRounds.InTurn}}
-use Rattle.c104_run.specs.{FairRounds.{fair_events, in_turn}, HandedWords.rounds_with, NetRecords.{IsNetRecord, NetRecord}, Network.Network}
-use Rattle.c104_run.specs.{Network.{network_apply, network_of}, QuietNets.IsQuiet, RecordedRuns.record_apply, Runs.IsDoneRun}
+use Rattle.{c104_net.proofs.TracedRuns.{token_of, traced_from}, c104_node.specs.{MappedNodes.map_node, Nodes.Node, Starts.start_node}}
+use Rattle.{c104_node.specs.{Traced.traced_kind, declared.traced.Traced.Traced}, c104_plan.specs.{PlanImage.Image, Plans.{IsPlan, Plan}}}
+use Rattle.{c104_plan.specs.declared.ports.Port.Port, c104_rounds.proofs.{Falls.total, InStep.IsInStep, RoundsEnd.rounds_end}}
+use Rattle.c104_rounds.proofs.{StagedRounds.{AreStaged, fair_stages, handed_stages}, WaitingNodes.{all_fresh, alone_counted, none_come}}
+use Rattle.c104_rounds.{proofs.{WaitingNodes.none_wait, Walks.IsGood, WeightEnds.start_weighs}, specs.PacketsAlone.DeliversInRounds}
+use Rattle.{c104_rounds.specs.PacketsAlone.{IsWaiting, rounds_alone}, c104_run.{proofs.FairRecords.fair_plain, specs.EventRuns.EventsEnd}}
+use Rattle.c104_run.specs.{EventRuns.{Outcome, StopsShort, run_events}, FairRounds.{InTurn, fair_events, in_turn}, HandedWords.rounds_with}
+use Rattle.c104_run.specs.{NetRecords.{IsNetRecord, NetRecord}, Network.{Network, network_apply, network_of}, RecordedRuns.record_apply}
 use Rattle.{c104_run.specs.TracedRuns.map_network, c104_switch.specs.{Actions.Reply, declared.phase.Phase.TheVariants.{Fresh, Stream}}}
-use Rattle.{c104_token.specs.{Kinds.plain_kind, declared.tokens.Token.Token}, std.proofs.Common.{All, List, Ok, ap, arith, get_or, map}}
-use Rattle.std.proofs.{Common.{subst, sym, ℕ, ⊎_elim, ◌++◌, ◌∙◌, ◌≡◌, ◌≤◌}, lemmas.List.Elements.All-map}
+use Rattle.{c104_token.specs.{Kinds.plain_kind, declared.tokens.Token.Token}, std.proofs.Common.{All, List, Ok, ap, arith, map, subst, sym}}
+use Rattle.std.proofs.Common.{ℕ, ⊎_elim, ◌++◌, ◌∙◌, ◌≡◌, ◌≤◌}
 
 module _ (net : NetRecord) (is_plan : IsPlan net.network.plan) (kept : IsNetRecord net) (sent : AreBytesSent kept.told.0) (image : Image) (is : IsAcyclicNet image net) (plain : IsNeverRandomized (routes_of net.network.plan image)) (waiting : All IsWaiting net.network.nodes) where
   abbrev plan : Plan
@@ -32,21 +31,6 @@ module _ (net : NetRecord) (is_plan : IsPlan net.network.plan) (kept : IsNetReco
 
   labelled : IsLabelled (routes_of net.network.plan image)
   labelled = record { accepted = is.kept.accepted; positive = header_positive net.network.plan image }
-
-  acyclic_run : IsAcyclicRun plan image net.starts events net.network.nodes
-  acyclic_run = record {
-    accepted = is.kept.accepted;
-    acyclic = is.acyclic;
-    set = is.kept.set;
-    started = starts_are_started Token plan net.starts is.kept.started;
-    steady = kept.started;
-    run = kept.told.1.run;
-    unchanged = is.kept.unchanged events kept.told.1;
-  }
-
-  -- the run so far over tokens that tell where they came from
-  abbrev Ended : NetRecord → Type 0
-  Ended after = (last : Network Traced) × (map_network token_of last ≡ after.network) × (more : List (Event × Reply)) × IsDoneRun traced_kind (network_of plan (map start_node net.starts)) more last × IsQuiet last × Promise routes last
 
   module _ (rank : SwitchPort → ℕ) (falls : IsRanking (routes_of net.network.plan image) rank) where
     -- where all wait, the network is in step, and weighs no more than its packets alone
@@ -63,12 +47,12 @@ module _ (net : NetRecord) (is_plan : IsPlan net.network.plan) (kept : IsNetReco
           let b = alone_counted plan nodes net.network.nodes here waiting settled.placed routes rank in
           omega (arith, a, b)
 
-    ended_so : (n : ℕ) (es : List Event) → AreStaged plan image is_plan labelled plain rank falls n es → rounds_alone plan routes rank net.network.nodes ≤ n → (after : NetRecord) → ◌≡◌ {A = Outcome (Network Token)} (run_events (network_apply plain_kind) net.network es) (Ok tt, after.network) → Ended after
+    ended_so : (n : ℕ) (es : List Event) → AreStaged plan image is_plan labelled plain rank falls n es → rounds_alone plan routes rank net.network.nodes ≤ n → (after : NetRecord) → ◌≡◌ {A = Outcome (Network Token)} (run_events (network_apply plain_kind) net.network es) (Ok tt, after.network) → Ended net is_plan kept sent image is after
     ended_so n es rounds few after end =
         let found = traced_from plan net.starts net.network.nodes events kept.told.1.run in
         let mid : Network Traced = network_of plan found.0 in
         let balance = run_steady traced_kind (network_of plan (map start_node net.starts)) mid events is_plan found.1.run (still_steady Token Traced plan net.starts kept.started) in
-        let started = run_started plain_kind routes (network_of plan (map start_node net.starts)) net.network events kept.told.1.run (is.kept.unchanged events kept.told.1) acyclic_run.started in
+        let started = run_started plain_kind routes (network_of plan (map start_node net.starts)) net.network events kept.told.1.run (is.kept.unchanged events kept.told.1) (starts_are_started Token plan net.starts is.kept.started) in
         let started_mid = started_traced plan net.starts net.network.nodes events is_plan kept.told.1.run found.0 found.1.plain started in
         let k = each plan image is_plan labelled (map start_node net.starts) mid events found.1.run (is.kept.unchanged events kept.told.1) sent (starts plan image is_plan labelled (map start_node net.starts) (starts_are plan image net.starts is.kept.set)) in
         let same : k.0 ≡ found.0 = ap (λ (n : Network Traced). n.nodes) k.1 in
@@ -89,27 +73,11 @@ module _ (net : NetRecord) (is_plan : IsPlan net.network.plan) (kept : IsNetReco
           delivered.1,
         )
 
-    delivered_so : (after : NetRecord) → after.network.plan ≡ plan → after.starts ≡ net.starts → Ended after → IsAllDelivered routes after
-    delivered_so after same_plan same_starts e =
-        let last : Network Traced = e.0 in
-        let plans : last.plan ≡ after.network.plan = ap (λ (n : Network Token). n.plan) e.1 in
-        let whole : last ≡ network_of after.network.plan last.nodes = ap (λ p. network_of p last.nodes) plans in
-        let nodes_are : map (map_node token_of) last.nodes ≡ after.network.nodes = ap (λ (n : Network Token). n.nodes) e.1 in
-        let start : network_of {A = Traced} plan (map start_node net.starts) ≡ network_of after.network.plan (map start_node after.starts) = ap (λ p. network_of p (map start_node net.starts)) (sym same_plan) ∙ ap (λ ss. network_of after.network.plan (map start_node ss)) (sym same_starts) in
-        record {
-          quiet = subst IsQuiet e.1 (All-map IsQuietNode (map_node token_of) last.nodes (λ k d inside. quiet_map token_of (get_or last.nodes k d) (e.4 k d inside)));
-          events = e.2;
-          traced = last.nodes;
-          run = subst (λ n. IsDoneRun traced_kind n e.2 (network_of after.network.plan last.nodes)) start (subst (λ n. IsDoneRun traced_kind (network_of plan (map start_node net.starts)) e.2 n) whole e.3);
-          plain = nodes_are;
-          promise = subst (Promise routes) whole e.5;
-        }
-
     ends_so : (n : ℕ) → rounds_alone plan routes rank net.network.nodes ≤ n → (es : List Event) → AreStaged plan image is_plan labelled plain rank falls n es → (after : NetRecord) → EventsEnd record_apply net es (Ok tt) after → IsAllDelivered routes after
     ends_so n few es rounds after ends =
         let stay = starts_stay net after es (Ok tt) ends in
         ⊎_elim
-        (λ (due : ◌≡◌ {A = Outcome NetRecord} (Ok tt, after) (run_events record_apply net es)). delivered_so after stay.0 stay.1 (ended_so n es rounds few after (plain_run es net after (sym due))))
+        (λ (due : ◌≡◌ {A = Outcome NetRecord} (Ok tt, after) (run_events record_apply net es)). delivered_so net is_plan kept sent image is after stay.0 stay.1 (ended_so n es rounds few after (plain_run es net after (sym due))))
         (λ (short : StopsShort record_apply net es (Ok tt) after). let no = short.refused in absurd (cc))
         ends
 

@@ -1,18 +1,18 @@
 -- The place, within its packet, of the token that stands first before an input, where no random headers are put before
 -- packets.
 use Rattle.c104_check.specs.{ChannelDependencies.IsNeverRandomized, Parts.IsReachedAsRandom, Routes.{Routes, is_in_group, routes_of}}
-use Rattle.{c104_check.specs.declared.ports.SwitchPort.SwitchPort, c104_net.proofs.{Channels.IsChannel, HeaderReads.cut_zero}}
-use Rattle.c104_net.proofs.{LinkEvents.world_of, NodeViews.{node_phase, phases, terminal_fresh}, PacketInvariant.{ComesBehind, Ghost}}
-use Rattle.c104_net.proofs.PacketInvariant.{IsHeld, IsInner, IsLabelled, IsPiece, IsReading, IsWired, MayComeOwn, MayLeave, MayReadOwn}
-use Rattle.c104_net.proofs.{PacketInvariant.{Suits, World, beside, bytes_then_end, kept_by}, PlanWires.wired, Promises.IsSettled}
-use Rattle.{c104_net.specs.Deliveries.{cut_at, deletes}, c104_node.specs.{Nodes.Node, Terminals.{sent_from, sent_tokens}}}
-use Rattle.c104_node.specs.{Traced.{sent_token, traced_kind}, Traces.part, declared.{node.NodeOf.NodeOf, traced.Source.Source}}
-use Rattle.{c104_node.specs.declared.traced.Traced.Traced, c104_plan.specs.{PlanImage.Image, Plans.{IsPlan, Plan}, Wiring.peer}}
-use Rattle.{c104_plan.specs.declared.ports.Port.Port, c104_rounds.proofs.ViewRecords.HasHeld, c104_switch.specs.Switch.Input}
+use Rattle.{c104_check.specs.declared.ports.SwitchPort.SwitchPort, c104_deadlock.proofs.StillPorts.streaming}
+use Rattle.c104_net.proofs.{Channels.IsChannel, HeaderReads.cut_zero, LinkEvents.world_of, NodeViews.{node_phase, phases, terminal_fresh}}
+use Rattle.c104_net.proofs.PacketInvariant.{ComesBehind, Ghost, IsHeld, IsInner, IsLabelled, IsPiece, IsReading, IsWired, MayComeOwn}
+use Rattle.c104_net.proofs.{PacketInvariant.{MayLeave, MayReadOwn, Suits, World, beside, bytes_then_end, kept_by}, PlanWires.wired}
+use Rattle.{c104_net.{proofs.Promises.IsSettled, specs.Deliveries.{cut_at, deletes}}, c104_node.specs.{Nodes.Node, Terminals.sent_from}}
+use Rattle.c104_node.specs.{Terminals.sent_tokens, Traced.{sent_token, traced_kind}, Traces.part, declared.node.NodeOf.NodeOf}
+use Rattle.{c104_node.specs.declared.traced.{Source.Source, Traced.Traced}, c104_plan.specs.{PlanImage.Image, Plans.{IsPlan, Plan}}}
+use Rattle.{c104_plan.specs.{Wiring.peer, declared.ports.Port.Port}, c104_rounds.proofs.ViewRecords.HasHeld}
 use Rattle.c104_switch.specs.declared.phase.Phase.{Phase, TheVariants.{Fresh, Head, Sinking, Stream, Want}}
 use Rattle.{c104_token.specs.{Packets.packet_tokens, declared.{packets.Packet.Packet, tokens.Token.Token}}, std.proofs.Common.{Bool, List}}
-use Rattle.std.proofs.Common.{Option, Some, [], ap, arith, drop, false, inl, inr, length, refl, slice_get, suc, sym, true, zero, ℕ, ⊎_elim}
-use Rattle.std.proofs.{Common.{◌++◌, ◌+◌, ◌<◌, ◌∙◌, ◌∷◌, ◌≡◌, ◌≢◌, ◌⊎◌}, lemmas.Bool.cases_eq}
+use Rattle.std.proofs.Common.{Option, Some, [], ap, arith, drop, false, inr, length, refl, slice_get, suc, sym, true, zero, ℕ, ⊎_elim, ◌++◌}
+use Rattle.std.proofs.Common.{◌+◌, ◌<◌, ◌∙◌, ◌∷◌, ◌≡◌, ◌≢◌, ◌⊎◌}
 
 -- a token's place in its packet
 abbrev IsPlaced : Traced → ℕ → Type 0
@@ -47,32 +47,6 @@ first_left P r x c d t run = search arith
 some_left : (r : List Traced) → bytes_then_end r → (y : Traced) × (ys : List Traced) × (r ≡ y ∷ ys)
 some_left [] t = absurd t
 some_left (y ∷ ys) t = (y, ys, refl)
-
-module _ {A : Type 0} where
-  stream_or_not : (ph : Phase (List A)) (o : ℕ) → (ph ≡ Stream o) ⊎ (ph ≢ Stream o)
-  stream_or_not ph o = search (arith, cases_eq)
-
-  abbrev phase_of : List (Input A) → ℕ → Phase (List A)
-  phase_of inputs k = part Fresh (λ (p : Input A). p.phase) (slice_get inputs k)
-
-  -- some input streams to an output, or none does
-  abbrev IsOwned : List (Input A) → ℕ → Type 0
-  IsOwned inputs o = ((k : ℕ) × (phase_of inputs k ≡ Stream o)) ⊎ ((k : ℕ) → phase_of inputs k ≢ Stream o)
-
-  streaming : (inputs : List (Input A)) (o : ℕ) → IsOwned inputs o
-  streaming [] o = inr (λ k e. absurd (cc))
-  streaming (p ∷ inputs) o = ⊎_elim
-      (λ (e : p.phase ≡ Stream o). inl (0, e))
-      (λ (n : p.phase ≢ Stream o). rest n (streaming inputs o))
-      (stream_or_not p.phase o)
-    where
-      rest : p.phase ≢ Stream o → IsOwned inputs o → IsOwned (p ∷ inputs) o
-      rest n (inl h) = inl (suc h.0, h.1)
-      rest n (inr h) = inr none
-        where
-          none : (k : ℕ) → phase_of (p ∷ inputs) k ≢ Stream o
-          none zero = n
-          none (suc k) = h k
 
 module _ (routes : Routes) (labelled : IsLabelled routes) (wired : IsWired routes.peer) (w : World) (g : Ghost) (inv : IsHeld routes w g) where
   -- an input that is in a packet has some of it left to read

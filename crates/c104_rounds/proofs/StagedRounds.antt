@@ -4,21 +4,19 @@
 --     AreStaged n es      these events are n such rounds, one after another
 --     handed_stages, fair_stages      so are those that hand words, and fair ones
 use Rattle.c104_check.specs.{ChannelDependencies.{IsNeverRandomized, IsRanking}, Routes.routes_of, declared.ports.SwitchPort.SwitchPort}
-use Rattle.c104_deadlock.proofs.{FairOrders.orders_kept, RoundMembers.{each_claim, each_drain, each_front, each_worded}}
-use Rattle.c104_deadlock.{proofs.RoundsAlike.{of_fair_round, of_round}, specs.{DeadlockFreedom.AreOrders, Work.level}}
-use Rattle.{c104_event.specs.declared.events.Event.Event, c104_net.proofs.{JointKeeps.IsOfRound, Members.{IsIn, contained, in_filter}}}
-use Rattle.c104_net.proofs.{Members.{in_flat, in_left, in_map, in_range, in_right}, PacketInvariant.IsLabelled}
-use Rattle.c104_plan.{proofs.RangeLists.{each_append, each_flat}, specs.{PlanImage.Image, Plans.{IsPlan, Plan}, Wiring.peer}}
+use Rattle.c104_deadlock.proofs.{FairMembers.{claim_in, each_fair, is_turn, of_link}, FairOrders.orders_kept, RoundMembers.each_claim}
+use Rattle.c104_deadlock.proofs.{RoundMembers.{each_drain, each_front, each_worded, in_links, wired_in}, RoundsAlike.of_fair_round}
+use Rattle.c104_deadlock.{proofs.RoundsAlike.of_round, specs.{DeadlockFreedom.AreOrders, Work.level}}
+use Rattle.{c104_event.specs.declared.events.Event.Event, c104_net.proofs.{JointKeeps.IsOfRound, Members.{IsIn, in_flat, in_map, in_range}}}
+use Rattle.{c104_net.proofs.PacketInvariant.IsLabelled, c104_plan.specs.{PlanImage.Image, Plans.{IsPlan, Plan}, Wiring.peer}}
 use Rattle.{c104_plan.specs.declared.ports.Port.Port, c104_rounds.proofs.{ArrivedTokens.{IsCreditEvent, IsCrossEvent}, Claims.IsClaimEvent}}
-use Rattle.{c104_rounds.proofs.{Drains.IsDrainEvent, InStep.IsStaged, Turns.IsTurnEvent}, c104_run.proofs.BalanceWires.switch_inside}
-use Rattle.c104_run.{proofs.{BalanceWires.terminal_inside, RoundLists.links_passed, RoundRuns.Applied}, specs.EventRuns.run_events}
-use Rattle.c104_run.specs.FairRounds.{InTurn, fair_claims, fair_events, fair_round, fairly, output_turns, switch_turns, turns_of}
+use Rattle.{c104_rounds.proofs.{Drains.IsDrainEvent, InStep.IsStaged, Turns.IsTurnEvent}, c104_run.proofs.RoundRuns.Applied}
+use Rattle.c104_run.specs.{EventRuns.run_events, FairRounds.{InTurn, fair_claims, fair_events, fair_round, fairly, turns_of}}
 use Rattle.c104_run.specs.{HandedWords.{all_worded, round_with, rounds_with, word_at, worded, words_behind}, Rounds.all_claims}
-use Rattle.c104_run.specs.Rounds.{all_drains, claims_of, is_wired, link_numbers, switch_claims, turn_at, wired_links, wired_ports}
-use Rattle.{c104_run.specs.{Rounds.wired_terminals, declared.{turns.SwitchTurns.SwitchTurns, words.Words.Words}}, std.proofs.Common.All}
-use Rattle.std.proofs.Common.{List, Some, [], ap, append_assoc, arith, get_or, inl, inr, is_some, length, map, refl, subst, suc, sym, zero}
-use Rattle.std.{proofs.{Common.{ℕ, ◌++◌, ◌<◌, ◌∙◌, ◌∷◌, ◌≡◌}, lemmas.List.{Elements.All-contains, map-append}}, specs.List.AllByRecursion}
-use Rattle.std.specs.{List.{flat_map, range_with_len}, Prelude.Contains}
+use Rattle.c104_run.specs.Rounds.{all_drains, claims_of, link_numbers, switch_claims, turn_at, wired_ports}
+use Rattle.{c104_run.specs.declared.{turns.SwitchTurns.SwitchTurns, words.Words.Words}, std.proofs.Common.{List, Some, [], ap}}
+use Rattle.std.proofs.{Common.{append_assoc, arith, inl, length, map, refl, suc, zero, ℕ, ◌++◌, ◌<◌, ◌∙◌, ◌∷◌, ◌≡◌}, lemmas.List.map-append}
+use Rattle.std.specs.List.{AllByRecursion, flat_map, range_with_len}
 
 -- five lists one after another, from the left or from the right
 five : (a b c d e : List Event) → a ++ b ++ c ++ d ++ e ≡ a ++ (b ++ (c ++ (d ++ e)))
@@ -41,9 +39,6 @@ each_first : (P : Event → Type 0) (xs ys : List Event) → AllByRecursion P (x
 each_first P [] ys all = tt
 each_first P (x ∷ xs) ys all = (all.0, each_first P xs ys all.1)
 
-in_links : (l : ℕ) → l < 32 → IsIn l link_numbers
-in_links l below = subst (IsIn l) (links_passed 32 refl) (in_range 0 32 l (omega arith) (omega (arith, below)))
-
 module _ (plan : Plan) where
   abbrev IsWired : Port → Type 0
   IsWired p = (q : Port) × (peer plan p ≡ Some q)
@@ -64,59 +59,6 @@ module _ (plan : Plan) where
       let c : List Event = flat_map turn_at (wired_ports plan) in
       let front : AllByRecursion CreditWired (a ++ b ++ c) = each_front plan CreditWired (λ p q wire. (q, wire)) (λ p q wire. tt) (λ s l q wire. tt) in
       from_credits (wired_ports plan) (each_first CreditWired a b (each_first CreditWired (a ++ b) c front))
-
-module _ (plan : Plan) (is_plan : IsPlan plan) where
-  wired_in : (p q : Port) → peer plan p ≡ Some q → IsIn p (wired_ports plan)
-  wired_in (Port.Switch s l) q wire =
-      let inside = switch_inside plan is_plan s l q wire in
-      let link : IsIn (Port.Switch s l) (wired_links plan s) =
-      in_filter (is_wired plan) (Port.Switch s l) (map (Port.Switch s) link_numbers)
-      (in_map (Port.Switch s) l link_numbers (in_links l inside.1)) (ap is_some wire) in
-      in_left (Port.Switch s l) (flat_map (wired_links plan) (range_with_len 0 (length plan.switches))) (wired_terminals plan)
-      (in_flat (wired_links plan) s (Port.Switch s l) (range_with_len 0 (length plan.switches))
-      (in_range 0 (length plan.switches) s (omega arith) (omega (arith, inside.0))) link)
-  wired_in (Port.Terminal t) q wire =
-      in_right (Port.Terminal t) (flat_map (wired_links plan) (range_with_len 0 (length plan.switches))) (wired_terminals plan)
-      (in_filter (is_wired plan) (Port.Terminal t) (map Port.Terminal (range_with_len 0 (length plan.terminals)))
-      (in_map Port.Terminal t (range_with_len 0 (length plan.terminals))
-      (in_range 0 (length plan.terminals) t (omega arith) (omega (arith, terminal_inside plan is_plan t q wire)))) (ap is_some wire))
-
--- the claims by turns
-in_order : (x : ℕ) (xs : List ℕ) → Contains xs x → IsIn x xs
-in_order x [] has = absurd (omega (arith, has.1))
-in_order x (y ∷ ys) has = at (in_order x ys) has.0 has.1 has.2
-  where
-    at : (Contains ys x → IsIn x ys) → (k : ℕ) → k < length (y ∷ ys) → get_or (y ∷ ys) k x ≡ x → IsIn x (y ∷ ys)
-    at later zero inside is = inl (sym is)
-    at later (suc k) inside is = inr (later (k, omega (arith, inside), is))
-
-of_link : (xs : List ℕ) (x : ℕ) → All (λ l. l < 32) xs → IsIn x xs → x < 32
-of_link xs x below h = All-contains (λ l. l < 32) xs x below (contained x xs h)
-
-each_listed : (P : Event → Type 0) (f : ℕ → List Event) (xs : List ℕ) →
-    ((x : ℕ) → IsIn x xs → AllByRecursion P (f x)) → AllByRecursion P (flat_map f xs)
-each_listed P f [] each = tt
-each_listed P f (x ∷ xs) each = each_append P (f x) (flat_map f xs) (each x (inl refl)) (each_listed P f xs (λ y h. each y (inr h)))
-
-module _ (turns : List SwitchTurns) (orders : AreOrders turns) where
-  each_fair : (P : Event → Type 0) (switches : ℕ) →
-      ((s i o : ℕ) → s < switches → i < 32 → o < 32 → P (Event.Claim s i o)) → AllByRecursion P (fair_claims turns switches)
-  each_fair P switches of_claim = each_flat P (λ s. switch_turns s (turns_of turns s)) 0 switches (λ s inside.
-      each_listed P (λ i. output_turns s i (turns_of turns s).outputs) (turns_of turns s).inputs (λ i input.
-      each_listed P (λ o. Event.Claim s i o ∷ []) (turns_of turns s).outputs (λ o output. (
-        of_claim s i o (omega (arith, inside)) (of_link (turns_of turns s).inputs i (orders s).0.below input)
-            (of_link (turns_of turns s).outputs o (orders s).1.below output),
-        tt,
-      ))))
-
-  fair_in : (switches s i o : ℕ) → s < switches → i < 32 → o < 32 → IsIn (Event.Claim s i o) (fair_claims turns switches)
-  fair_in switches s i o inside input output =
-      in_flat (λ s. switch_turns s (turns_of turns s)) s (Event.Claim s i o) (range_with_len 0 switches)
-      (in_range 0 switches s (omega arith) (omega (arith, inside)))
-      (in_flat (λ i. output_turns s i (turns_of turns s).outputs) i (Event.Claim s i o) (turns_of turns s).inputs
-      (in_order i (turns_of turns s).inputs ((orders s).0.all i input))
-      (in_flat (λ o. Event.Claim s i o ∷ []) o (Event.Claim s i o) (turns_of turns s).outputs
-      (in_order o (turns_of turns s).outputs ((orders s).1.all o output)) (inl refl)))
 
 module _ (plan : Plan) (image : Image) (is_plan : IsPlan plan) (labelled : IsLabelled (routes_of plan image))
     (plain : IsNeverRandomized (routes_of plan image)) (rank : SwitchPort → ℕ) (falls : IsRanking (routes_of plan image) rank) where
@@ -228,9 +170,17 @@ module _ (plan : Plan) (image : Image) (is_plan : IsPlan plan) (labelled : IsLab
         staged_by (fair_round words turns plan) claims drains
         (ap (λ z. z ++ claims ++ drains) (three_worded words credits crosses turns_at)
         ∙ five (all_worded words credits) (all_worded words crosses) (all_worded words turns_at) claims drains)
-        (each_fair turns orders Claims (length plan.switches) (λ s i o inside input output. (s, i, o, inside, input, output, refl)))
+        (each_fair turns Claims (length plan.switches) (λ s i o inside turn. (
+          s,
+          i,
+          o,
+          inside,
+          of_link turns orders (turns_of turns s).inputs i (orders s).0.below turn.0,
+          of_link turns orders (turns_of turns s).outputs o (orders s).1.below turn.1,
+          refl,
+        )))
         (each_drain plan Drains (λ t inside. (t, inside, refl)))
-        (fair_in turns orders (length plan.switches)) drain_among
+        (λ s i o inside input output. claim_in turns (length plan.switches) s i o inside (is_turn turns orders s i o input output)) drain_among
 
   -- n rounds, one after another
   abbrev pub AreStaged : ℕ → List Event → Type 0

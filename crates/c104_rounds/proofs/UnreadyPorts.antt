@@ -1,4 +1,5 @@
 -- What an event of a round that is answered with NotReady says of its ports, in a traced network that is steady and started.
+use Rattle.c104_deadlock.proofs.StillWires.{IsStuck, no_claim as owned, no_entry, no_grant, no_leave}
 use Rattle.{c104_event.specs.declared.events.Event.Event, c104_link.specs.Buffers.{Incoming, Outgoing}, c104_net.proofs.Members.element_at}
 use Rattle.{c104_net.proofs.NodeViews.{ins, outs, phases}, c104_node.specs.{Nodes.Node, Terminals.Terminal, Traced.traced_kind}}
 use Rattle.{c104_node.specs.declared.{node.NodeOf.NodeOf, traced.Traced.Traced}, c104_plan.specs.{Plans.{IsPlan, Plan}, Wiring.peer}}
@@ -11,45 +12,12 @@ use Rattle.{c104_run.specs.declared.reason.Reason.Reason, c104_switch.specs.{Gro
 use Rattle.c104_switch.specs.{Switch.{Input, Switch}, declared.{actions.ActionOf.ActionOf, phase.Phase.TheVariants.{Stream, Want}}}
 use Rattle.{c104_switch.specs.declared.unready.Unready.{TheVariants.NoRoom, Unready}, std.proofs.Common.{IfSome, List, None, Option, Some}}
 use Rattle.std.proofs.Common.{[], ap, arith, false, inl, inr, is_some, length, refl, slice_get, subst, sym, true, ℕ, ⊎_elim, ◌+◌, ◌<◌, ◌∙◌}
-use Rattle.std.proofs.{Common.{◌∷◌, ◌≡◌, ◌≤◌, ◌⊎◌}, lemmas.{Bool.true≢false, Option.slice_get_within}}
+use Rattle.std.proofs.{Common.{◌∷◌, ◌≡◌, ◌≤◌, ◌⊎◌}, lemmas.Bool.true≢false}
 
--- what is said of a link that there is
-module _ {A : Type 0} (S : Switch A) (started : IsStartedSwitch S) where
-  module _ (l : ℕ) (p : Input A) (is_input : slice_get S.inputs l ≡ Some p) where
-    within : length S.inputs ≤ l → ⊥
-    within h = omega (arith, h, slice_get_within S.inputs l p is_input)
-
-    no_grant : (u : Unready) → IsReason S (ActionOf.CreditOut l) u → p.buffer.cap < length p.buffer.items + p.buffer.granted + 8
-    no_grant u r = search (arith, within, true≢false)
-
-    no_entry : (x : A) (u : Unready) → IsReason S (ActionOf.Enter l x) u → p.buffer.granted ≡ 0
-    no_entry x u r = search (arith, within)
-
-  module _ (l : ℕ) (q : Outgoing A) (is_output : slice_get S.outputs l ≡ Some q) where
-    beyond : length S.outputs ≤ l → ⊥
-    beyond h = omega (arith, h, slice_get_within S.outputs l q is_output)
-
-    full_credit : (u : Unready) → IsReason S (ActionOf.CreditIn l) u → 64 < q.credit + 8
-    full_credit u r = search (arith, beyond)
-
-    no_leave : (u : Unready) → IsReason S (ActionOf.Leave l) u → 0 < q.credit → q.items ≡ []
-    no_leave u r some = search (arith, beyond)
-
-  -- an input that takes no turn
-  abbrev pub IsStuck : ℕ → Input A → Type 0
-  IsStuck l p =
-      (p.buffer.items ≡ [])
-      ⊎ (((b : List A) × (g : ℕ) × (p.phase ≡ Want b g))
-      ⊎ ((o : ℕ) × (p.phase ≡ Stream o) × ((q : Outgoing A) → slice_get S.outputs o ≡ Some q → 8 ≤ length q.items)))
-
-  stuck : (l w : ℕ) (p : Input A) (is_input : slice_get S.inputs l ≡ Some p) → l < 32 → (u : Unready) → IsReason S (ActionOf.Input l w) u → IsStuck l p
-  stuck l w p is_input below u r = grind arith
-
-  -- an input that wants a link with room gets it, unless another input has it
-  owned : (i g o : ℕ) (b : List A) (p : Input A) (q : Outgoing A) → slice_get S.inputs i ≡ Some p → slice_get S.outputs o ≡ Some q → o < 32 →
-      p.phase ≡ Want b g → is_in_group S.settings g o ≡ true → q.items ≡ [] → length b ≤ 8 → (u : Unready) → IsReason S (ActionOf.Claim i o) u →
-      (k : ℕ) × (owner : Input A) × (slice_get S.inputs k ≡ Some owner) × (owner.phase ≡ Stream o)
-  owned i g o b p q is_input is_output below wants group none few u r = search (arith, within, beyond, true≢false)
+-- an input that takes no turn
+stuck : {A : Type 0} (S : Switch A) (started : IsStartedSwitch S) (l w : ℕ) (p : Input A) (is_input : slice_get S.inputs l ≡ Some p) → l < 32 →
+    (u : Unready) → IsReason S (ActionOf.Input l w) u → IsStuck S started l p
+stuck S started l w p is_input below u r = grind arith
 
 module _ (plan : Plan) (is_plan : IsPlan plan) (nodes : List (Node Traced)) (steady : IsSteady (network_of plan nodes))
     (started : IsStarted (network_of plan nodes)) where

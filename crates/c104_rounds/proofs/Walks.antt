@@ -1,23 +1,14 @@
 -- Runs of events of rounds, each of which is done or isn't ready: what all keep, and what one of them brings about.
-use Rattle.{c104_check.specs.Routes.{Routes, routes_of}, c104_deadlock.proofs.WorkEvents.event_started}
-use Rattle.{c104_event.specs.declared.{events.Event.Event, faults.EventFault.EventFault}, c104_net.proofs.JointKeeps.IsOfRound}
-use Rattle.c104_net.proofs.{Members.IsIn, PacketInvariant.IsLabelled, Promises.{IsSettled, one}, RunSteps.done_step_is}
-use Rattle.{c104_net.{proofs.SentBytes.SendsBytes, specs.Unchanged.MayHappen}, c104_node.specs.{Nodes.Node, Traced.traced_kind}}
-use Rattle.{c104_node.specs.declared.traced.Traced.Traced, c104_plan.specs.{PlanImage.Image, Plans.{IsPlan, Plan}}}
-use Rattle.{c104_rounds.proofs.ViewRecords.Does, c104_run.proofs.{BalanceEvents.applied_steady, RoundRuns.undone_leaves}}
-use Rattle.c104_run.specs.{Balance.IsSteady, EventRuns.{Outcome, run_events, unless_fault}, Network.{Network, network_apply, network_of}}
-use Rattle.{c104_run.specs.Standstill.{IsStarted, IsUnready}, c104_switch.specs.Actions.{Reply, is_ready}}
-use Rattle.{c104_switch.specs.declared.actions.ReplyOf.ReplyOf, std.proofs.Common.{Bool, Err, List, Ok, Result, Some, [], ap, arith, false}}
-use Rattle.std.{proofs.Common.{inl, inr, refl, subst, sym, true, ◌++◌, ◌∙◌, ◌∷◌, ◌≡◌, ◌⊎◌}, specs.List.AllByRecursion}
-
-may_happen : (routes : Routes) (e : Event) (r : Reply) → IsOfRound e → MayHappen routes e r
-may_happen routes e r of = grind arith
-
-sends_none : (e : Event) → IsOfRound e → SendsBytes e
-sends_none e of = search arith
-
-not_ready : (r : Reply) → is_ready r ≡ false → r ≡ ReplyOf.NotReady
-not_ready r is = search arith
+use Rattle.{c104_check.specs.Routes.routes_of, c104_deadlock.proofs.{WorkEvents.event_started, WorkRounds.{may_happen, not_ready}}}
+use Rattle.{c104_deadlock.proofs.WorkRounds.sends_none, c104_event.specs.declared.{events.Event.Event, faults.EventFault.EventFault}}
+use Rattle.c104_net.proofs.{JointKeeps.IsOfRound, Members.IsIn, PacketInvariant.IsLabelled, Promises.{IsSettled, one}}
+use Rattle.{c104_net.proofs.RunSteps.done_step_is, c104_node.specs.{Nodes.Node, Traced.traced_kind, declared.traced.Traced.Traced}}
+use Rattle.{c104_plan.specs.{PlanImage.Image, Plans.{IsPlan, Plan}}, c104_rounds.proofs.ViewRecords.Does}
+use Rattle.c104_run.{proofs.{BalanceEvents.applied_steady, RoundRuns.undone_leaves}, specs.{Balance.IsSteady, EventRuns.Outcome}}
+use Rattle.c104_run.specs.{EventRuns.{run_events, unless_fault}, Network.{Network, network_apply, network_of}, Standstill.IsStarted}
+use Rattle.{c104_run.specs.Standstill.IsUnready, c104_switch.specs.Actions.{Reply, is_ready}, std.proofs.Common.{Bool, Err, List, Ok}}
+use Rattle.std.proofs.Common.{Result, Some, [], ap, false, inl, inr, refl, subst, sym, true, ◌++◌, ◌∙◌, ◌∷◌, ◌≡◌, ◌⊎◌}
+use Rattle.std.specs.List.{AllByRecursion}
 
 module _ (plan : Plan) (image : Image) (is_plan : IsPlan plan) (labelled : IsLabelled (routes_of plan image)) where
   -- nodes at which what a run keeps is so

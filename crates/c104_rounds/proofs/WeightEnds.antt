@@ -1,24 +1,19 @@
 -- The ends of a run, by its weight: where nothing weighs anything the network is quiet, where something does some token can move, and what
 -- waits at terminals weighs no more than its length and a header for each packet.
 pub use Rattle.c104_rounds.proofs.WeightSums.{ends}
-use Rattle.{c104_check.specs.Routes.routes_of, c104_net.proofs.{Channels.IsChannel, HeaderReads.cut_zero, LinkEvents.world_of}}
-use Rattle.c104_net.proofs.{NodeViews.{ins, outs, phases, terminal_fresh}, PacketInvariant.{ComesBehind, IsInner, IsLabelled, IsPiece}}
-use Rattle.{c104_net.proofs.{PacketInvariant.MayComeOwn, PlanWires.wired, Promises.IsSettled}, c104_node.specs.Nodes.{Node, is_switch}}
-use Rattle.c104_node.specs.{Quiet.IsQuietNode, Terminals.sent_tokens, Traced.traced_kind, declared.node.NodeOf.NodeOf}
-use Rattle.{c104_node.specs.declared.traced.Traced.Traced, c104_plan.{proofs.Wires.wiring, specs.{PlanImage.Image, Plans.{IsPlan, Plan}}}}
-use Rattle.{c104_plan.specs.{Wiring.peer, declared.ports.Port.Port}, c104_rounds.proofs.WeightSums.{ends_one, none_weighs, pieces_weigh}}
-use Rattle.c104_rounds.proofs.{WeightSums.{ports_none, ports_some, ports_terminals, ports_zeros, sent_weighs}, Weights.IsInside}
-use Rattle.c104_rounds.proofs.Weights.{ins_weight, outs_weight, phase_weight, ports_sum, sum_to, tokens_weight, weight}
-use Rattle.{c104_rounds.proofs.Wires.{unwired_content, unwired_fresh}, c104_run.proofs.BalancePlaces.switches_first}
-use Rattle.c104_run.{proofs.BalanceWires.peer_back, specs.{Network.{network_of, terminal_place}, QuietNets.IsQuiet}}
-use Rattle.{c104_switch.specs.declared.phase.Phase.TheVariants.{Fresh, Stream}, c104_token.specs.Packets.packet_tokens}
-use Rattle.std.proofs.Common.{Bool, List, None, Option, Some, [], ap, arith, drop, false, get_or, inl, inr, length, nat_lt, refl, slice_get}
-use Rattle.std.proofs.{Common.{sym, true, ℕ, ⊎_elim, ◌*◌, ◌++◌, ◌+◌, ◌-◌, ◌<◌, ◌∙◌, ◌∷◌, ◌≡◌, ◌≢◌, ◌≤◌}, lemmas.Bool.Decides.nat_tests}
-use Rattle.std.proofs.lemmas.{Bool.cases_eq, Option.{slice_get-get_or, slice_get_cases}}
-
-nothing : {X : Type 0} (xs ys : List X) → xs ++ ys ≡ [] → (xs ≡ []) × (ys ≡ [])
-nothing [] ys e = (refl, e)
-nothing (x ∷ xs) ys e = absurd (cc)
+use Rattle.{c104_check.specs.Routes.routes_of, c104_deadlock.proofs.StillPorts.{nothing, unwired_content, unwired_fresh}}
+use Rattle.c104_net.proofs.{Channels.IsChannel, HeaderReads.cut_zero, LinkEvents.world_of, NodeViews.{ins, outs, phases, terminal_fresh}}
+use Rattle.c104_net.proofs.{PacketInvariant.{ComesBehind, IsInner, IsLabelled, IsPiece, MayComeOwn}, PlanWires.wired, Promises.IsSettled}
+use Rattle.c104_node.specs.{Nodes.{Node, is_switch}, Quiet.IsQuietNode, Terminals.sent_tokens, Traced.traced_kind}
+use Rattle.{c104_node.specs.declared.{node.NodeOf.NodeOf, traced.Traced.Traced}, c104_plan.{proofs.Wires.wiring, specs.PlanImage.Image}}
+use Rattle.{c104_plan.specs.{Plans.{IsPlan, Plan}, Wiring.peer, declared.ports.Port.Port}, c104_rounds.proofs.WeightSums.ends_one}
+use Rattle.c104_rounds.proofs.WeightSums.{none_weighs, pieces_weigh, ports_none, ports_some, ports_terminals, ports_zeros, sent_weighs}
+use Rattle.c104_rounds.proofs.Weights.{IsInside, ins_weight, outs_weight, phase_weight, ports_sum, sum_to, tokens_weight, weight}
+use Rattle.c104_run.{proofs.{BalancePlaces.switches_first, BalanceWires.peer_back}, specs.Network.{network_of, terminal_place}}
+use Rattle.{c104_run.specs.QuietNets.IsQuiet, c104_switch.specs.declared.phase.Phase.TheVariants.{Fresh, Stream}}
+use Rattle.{c104_token.specs.Packets.packet_tokens, std.proofs.Common.{Bool, List, None, Option, Some, [], ap, arith, drop, false, get_or}}
+use Rattle.std.proofs.Common.{inl, inr, length, nat_lt, refl, slice_get, sym, true, ℕ, ⊎_elim, ◌*◌, ◌++◌, ◌+◌, ◌-◌, ◌<◌, ◌∙◌, ◌≡◌, ◌≢◌, ◌≤◌}
+use Rattle.std.proofs.lemmas.{Bool.{Decides.nat_tests, cases_eq}, Option.{slice_get-get_or, slice_get_cases}}
 
 some_left : {X : Type 0} (xs ys : List X) → xs ≢ [] → xs ++ ys ≢ []
 some_left xs ys some = λ e. some (nothing xs ys e).0
