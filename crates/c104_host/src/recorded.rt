@@ -7,8 +7,8 @@ use std::io::Write;
 use std::marker::Model;
 
 /// A writer, and what it took, which proofs alone can read: it costs nothing when it runs. Each write asks the writer once.
-/// Contracts see the bytes that it took: of each write that it answered by a count that many, the first, and of one that it
-/// answered by an error none.
+/// Contracts see the bytes that it took: of each write that it answered by a count its first bytes, that many, and of one that
+/// it answered by an error none.
 #[derive(Drop)]
 pub struct Recorded<W: Write + Drop> {
     writer: W,

@@ -26,7 +26,7 @@ pub enum Answer {
     Faulty(LineFault),
 }
 
-/// How rounds ended that were to go on until the network stands still, and how many there were, 0 to 10,000.
+/// How rounds ended that were to go on until the network stands still, and how many there were.
 #[derive(Clone, Copy, Debug)]
 pub enum Settled {
     /// The network stands still, with no token anywhere and no packet under way.

@@ -24,7 +24,7 @@ pub enum Request {
         /// The seed of the words that their inputs are handed. Without one each is handed word 0.
         seed: Option<u64>,
     },
-    /// Rounds until the network stands still, at most 10,000.
+    /// Rounds until the network stands still, up to a limit.
     Settle,
     /// What the debugger is to read or to set.
     Probed(Probe),
