@@ -1,10 +1,13 @@
 -- How many rounds are enough for the packets that are counted of a run, as they go one after another.
---     IsEnoughFor what plan routes run      what is told of that
-use Rattle.c104_check.specs.{ChannelDependencies.{IsAcyclic, IsNeverRandomized, IsRanking}, Routes.{IsAccepted, Routes}}
-use Rattle.{c104_check.specs.declared.ports.SwitchPort.SwitchPort, c104_deadlock.specs.Work.level, c104_plan.specs.{Plans.Plan, Wiring.peer}}
-use Rattle.{c104_check.specs.Ranks.rank_in, c104_plan.specs.declared.ports.Port.Port, c104_session.specs.declared.{counted_runs.CountedRun.CountedRun, enough.Ways.Ways}}
-use Rattle.c104_stats.specs.{Counts.Counts, Numbers.told, Packets.PacketRow, declared.stats.What.What}
-use Rattle.std.specs.Prelude.{List, None, Option, Some, [], suc, ℕ, ◌*◌, ◌+◌, ◌∷◌, ◌≡◌}
+--     IsEnoughFor what plan routes run      what is told of that, by the counts
+--     IsEnoughForScript what plan image script run      the same, by the packets that a script sends
+use Rattle.c104_check.specs.{ChannelDependencies.{IsAcyclic, IsNeverRandomized, IsRanking}, Ranks.rank_in, Routes.{IsAccepted, Routes}}
+use Rattle.{c104_check.specs.{Routes.routes_of, declared.ports.SwitchPort.SwitchPort}, c104_deadlock.specs.Work.level}
+use Rattle.c104_plan.specs.{PlanImage.Image, Plans.Plan, Wiring.peer, declared.ports.Port.Port}
+use Rattle.c104_session.specs.{CountedRuns.counted_script, Driven.new_driven, PacedRuns.sends_alone, PrintedPackets.script_sent}
+use Rattle.c104_session.specs.{Shown.new_session, declared.{counted_runs.CountedRun.CountedRun, enough.Ways.Ways}}
+use Rattle.c104_stats.specs.{Counts.{Counts, new_counts}, Numbers.told, declared.{packets.PacketRow.PacketRow, stats.What.What}}
+use Rattle.std.specs.Prelude.{IfSome, List, None, Option, Some, [], false, suc, ℕ, ⊤, ◌*◌, ◌+◌, ◌∷◌, ◌≡◌}
 
 -- what is counted for each packet of a terminal, beside its tokens: one, and for each byte of a header one more than the rank of the
 -- input that the terminal's wire leads to
@@ -28,11 +31,11 @@ pub record AreFalling (routes : Routes) (rank : SwitchPort → ℕ) : Type 0 whe
   pub plain : IsNeverRandomized routes
   pub falls : IsRanking routes rank
 
--- there are none
+-- there are no such ranks
 abbrev pub HasNoRanks : Routes → Type 0
 HasNoRanks routes = IsAccepted routes → IsNeverRandomized routes → IsAcyclic routes → ⊥
 
--- by what packets are counted in a network, where it is one
+-- how packets are counted in a network, if it is such a one
 abbrev pub AreWaysOf : Routes → Option Ways → Type 0
 AreWaysOf routes None = HasNoRanks routes
 AreWaysOf routes (Some ways) = (ways.header ≡ routes.header) × AreFalling routes (rank_in ways.ranks.by_place)
@@ -52,3 +55,17 @@ IsEnough plan routes c (Some n) =
 abbrev pub IsEnoughFor : Option What → Plan → Routes → CountedRun → Type 0
 IsEnoughFor None plan routes run = IsEnough plan routes run.stats run.enough
 IsEnoughFor (Some what) plan routes run = run.enough ≡ None
+
+-- the number of a script, by some such ranks: what is counted for the packets that it sends, as if they went one after another, or the
+-- largest number that is told
+abbrev pub IsEnoughOf : Plan → Image → List ℕ → ℕ → Type 0
+IsEnoughOf plan image script n =
+    (rank : SwitchPort → ℕ) × AreFalling (routes_of plan image) rank
+    × (n ≡ told (sends_alone plan (routes_of plan image) rank (script_sent plan image script)))
+
+-- it is told of a run that didn't end since a trace or an inbox was full: behind that nothing is done any more
+abbrev pub IsEnoughForScript : Option What → Plan → Image → Option (List ℕ) → CountedRun → Type 0
+IsEnoughForScript what plan image None run = ⊤
+IsEnoughForScript what plan image (Some script) run =
+    (counted_script (new_driven (new_session plan image) (new_counts plan what)) script).refusals.is_over ≡ false
+    → IfSome run.enough (IsEnoughOf plan image script)

@@ -2,7 +2,7 @@
 ghost use Rattle.std.specs.Prelude.{Err, IfOk, IfSome, IsSome, IsTrue, None, ◌↔◌, ◌≡◌, ◌≢◌};
 ghost use Rattle.{c104_plan.specs.PlanImage.Fits, c104_run.specs.Standstill.IsDeadlocked, c104_session.specs.CountedRuns.IsCountedAfter};
 ghost use Rattle.{c104_check.specs.Routes.routes_of, c104_session.specs.{CountedRuns.{IsCountedOn, IsCountedPlan}, Refusals.refuses}};
-ghost use Rattle.{c104_session.specs.EnoughRounds.IsEnoughFor, c104_token.specs.Kinds.plain_kind};
+ghost use Rattle.{c104_session.specs.EnoughRounds.{IsEnoughFor, IsEnoughForScript}, c104_token.specs.Kinds.plain_kind};
 ghost use Rattle.c104_stream.specs.declared.halt.Halt.TheVariants as halt;
 
 use crate::answering::drive_script;
@@ -73,8 +73,9 @@ pub struct CountedRun {
     pub is_refused: bool,
     /// What is told of a network that stands still with tokens in it.
     pub still: Option<Still>,
-    /// How many rounds deliver all packets of the run, where the last one is followed by rounds alone: in an accepted network
-    /// without a cycle of channel dependencies and without random headers. None of other networks, and beside a table.
+    /// How many rounds behind the last packet are enough for all of the run, where its lines keep pace (`KeepPace`): in an
+    /// accepted network without a cycle of channel dependencies and without random headers. None of other networks, and
+    /// beside a table.
     pub enough: Option<u64>,
     /// What is to be told of what didn't arrive.
     leftovers: Option<Vec<String>>,
@@ -91,8 +92,28 @@ impl CountedRun {
 /// table, or the summary. Of a script that is too long the lines that end within 16 MiB are done, and behind a line that is
 /// refused since a trace or an inbox is full nothing is done. Messages are those of `run_plan`, but for what didn't arrive,
 /// and that the run ended so is told even where none are wanted. It never fails to write.
-#[tactic(auto, using(crate::proofs::CountedScripts::counted_also))]
 pub fn count_plan<S: Read, M: Messages>(
+    alloc: Global,
+    plan: &Plan,
+    image: Image,
+    what: Option<What>,
+    script: &mut S,
+    messages: &mut M,
+) -> Result<CountedRun, Halt>
+    requires { Fits image plan.now }
+    ensures run { IfOk result (λ run. IsCountedPlan what plan.now image
+        (S.remaining script.old) run) }
+    ensures enough { IfOk result (IsEnoughFor what plan.now (routes_of plan.now image)) }
+    ensures counted { IfOk result (IsEnoughForScript what plan.now image
+        (S.remaining script.old)) }
+    ensures unwritten { result ≢ Err halt.CannotWrite }
+{
+    count_all(alloc, plan, image, what, script, messages)
+}
+
+/// The same, but of how many rounds are enough it says what follows from the counts alone; `count_plan` says it of the script.
+#[tactic(auto, using(crate::proofs::CountedScripts::counted_also))]
+fn count_all<S: Read, M: Messages>(
     alloc: Global,
     plan: &Plan,
     image: Image,

@@ -23,13 +23,9 @@ pub(crate) struct Ways {
     ranks: Ranks,
 }
 
-/// By what the packets of an accepted network that puts no random headers before packets are counted, where its channels
-/// don't depend on one another in a cycle. None where it isn't such a network. The only error is out of memory.
-pub(crate) fn ways_of(
-    alloc: Global,
-    plan: &Plan,
-    image: &Image,
-) -> Result<Option<Ways>, NoMemory>
+/// By what packets are counted: of an accepted network that puts no random headers before packets, and whose channels don't
+/// depend on one another in a cycle. None of another. The only error is out of memory.
+pub(crate) fn ways_of(alloc: Global, plan: &Plan, image: &Image) -> Result<Option<Ways>, NoMemory>
     requires { Fits image.now plan.now }
     ensures { IfOk result (λ ways. AreWaysOf (routes_of plan.now image.now) ways) }
 {
@@ -40,9 +36,9 @@ pub(crate) fn ways_of(
     }
 }
 
-/// How many rounds deliver all packets that are counted, where no line changes the network and the last packet is followed by
-/// rounds alone: for each packet one for each of its tokens, one, and for each byte of a header one more than the rank of the
-/// input where it enters. None where there are no such ways.
+/// How many rounds behind the last packet are enough for all that are counted, where the lines keep pace (`KeepPace`): for
+/// each packet its tokens and one, and for each byte of a header one more than the rank of the input where it enters. None
+/// where there are no such ways.
 pub(crate) fn rounds_enough(plan: &Plan, ways: &Option<Ways>, stats: &Stats) -> Option<u64>
     ensures { result ≡ enough_by plan.now ways.now stats.now }
 {
@@ -83,7 +79,7 @@ fn is_accepted(alloc: Global, plan: &Plan, image: &Image) -> Result<bool, NoMemo
     }
 }
 
-/// The same for the packets of all terminals, whose headers have this many bytes.
+/// What is counted for the packets of all terminals, whose headers have this many bytes.
 fn all_alone(plan: &Plan, header: u64, ranks: &Ranks, stats: &Stats) -> u64
     ensures { result ≡ senders_alone plan.now header (rank_in ranks.now.by_place) 0 0 stats.now.senders }
 {
