@@ -41,7 +41,7 @@ module _ (net : NetRecord) where
       ap (λ o. (o, (network_apply plain_kind net.network e).1)) is
       ∙ ap (λ (n : Network Token). (Ok ReplyOf.NotReady, n)) (undone_left plain_kind net.network e (ap is_done is))
 
-  event_passes : (e : Event) → Unready e → record_apply net e ≡ (Ok ReplyOf.NotReady, net)
+  pub event_passes : (e : Event) → Unready e → record_apply net e ≡ (Ok ReplyOf.NotReady, net)
   event_passes e is =
       elim (unready_stage plain_kind true (record_stage net) e (idle e is)) [
         | inl due ↦ ap (λ (z : Applied (Stage Token)). (z.0, record_at net.starts z.1)) (sym due)

@@ -36,8 +36,14 @@ pub mod DeliveredLaw
 pub mod PacedScripts
 pub mod PacedLaw
 pub mod SettledScripts
+pub mod SettlingEnds
 mod RunRefusals
 mod ReadFaults
 pub mod PrintedRunsLaw
 pub mod TextRuns
 mod AddressesLeft
+pub mod RowBytes
+pub mod KeptMeters
+pub mod KeptPlans
+pub mod EnoughSums
+pub mod EnoughPackets

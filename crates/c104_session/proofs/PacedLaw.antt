@@ -92,7 +92,7 @@ module _ (plan : Plan) (image : Image) (script : List ℕ) (is_plan : IsPlan pla
   good = record {
     settled = starts plan image is_plan labelled traced started;
     started = started_traced plan placed (map (start_node {A = Token}) placed) [] is_plan refl traced (starts_same token_of placed)
-    (placed_started plan image is_plan fits sized);
+        (placed_started plan image is_plan fits sized);
     steady = still_steady Token Traced plan placed (placed_steady plan image is_plan fits);
   }
 
@@ -167,9 +167,11 @@ module _ (plan : Plan) (image : Image) (script : List ℕ) (is_plan : IsPlan pla
       let end : (lines_outcome line_outcome parts.0 mid ends.back).1 ≡ script_end plan image script =
       sym parts.1 ∙ ap (λ ls. (lines_outcome line_outcome 1 first ls).1) (sym ends.lines) in
       let last = lines_pace plan image is_plan labelled plain rank falls ends.back parts.0 mid 0 (lines_orders ends.front 1 first (first_orders plan image))
-      (last_paces ends.front ends.back 1 first all_pace) (last_lines (routes_of plan image) ends.front ends.back 1 first all_unchanged)
-      (there.0, within plan image is_plan labelled plain rank falls (0 + alone (lines_sent first ends.front)) (0 + lines_rounds mid ends.back)
-      mid.net.network.nodes (omega (arith, part)) there.1) in
+      (last_paces ends.front ends.back 1 first all_pace) (last_lines (routes_of plan image) ends.front ends.back 1 first all_unchanged) (
+        there.0,
+        within plan image is_plan labelled plain rank falls (0 + alone (lines_sent first ends.front)) (0 + lines_rounds mid ends.back)
+            mid.net.network.nodes (omega (arith, part)) there.1,
+      ) in
       let none : alone (lines_sent mid ends.back) ≡ 0 = ap alone ends.silent in
       let nodes : List (Node Token) = (lines_outcome line_outcome parts.0 mid ends.back).1.net.network.nodes in
       subst (λ (s : Session). IsQuiet s.net.network) end

@@ -71,8 +71,7 @@ module _ (plan : Plan) (image : Image) (is_plan : IsPlan plan) (labelled : IsLab
       let done : Does plan is.traced (Event.Send t p) next.nodes = (r, done_made traced_kind mid (network_of plan next.nodes) r (Event.Send t p) (ap (λ (m : Network Traced). (Ok r, m)) (sym whole) ∙ answered) ready) in
       let end : network_of plan (map (map_node token_of) next.nodes) ≡ after = ap (map_network token_of) (sym whole) ∙ ap (λ (z : Applied (Network Token)). z.1) both in
       let few = is.few in
-      let more = sent_weight plan image is_plan labelled plain rank falls is.traced next.nodes is.good is.step t p may bytes done in
-      (
+      let more = sent_weight plan image is_plan labelled plain rank falls is.traced next.nodes is.good is.step t p may bytes done in (
         sym (ap (λ (m : Network Token). m.plan) end),
         record {
           traced = next.nodes;

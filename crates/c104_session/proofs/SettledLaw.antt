@@ -4,9 +4,9 @@ use Rattle.{c104_deadlock.proofs.RecordedRounds.starts_stay, c104_event.specs.de
 use Rattle.{c104_plan.specs.Plans.{IsPlan, Plan}, c104_run.proofs.{RecordedRuns.{record_kept, record_plan}, RoundRuns.ends_keep}}
 use Rattle.c104_run.{proofs.RoundRuns.{run_append, run_from}, specs.{EventRuns.{Outcome, run_events, unless_fault}, HandedWords.round_with}}
 use Rattle.c104_run.specs.{HandedWords.rounds_with, NetRecords.{IsNetRecord, NetRecord}, RecordedRuns.record_apply}
-use Rattle.{c104_run.specs.declared.words.Words.Words, c104_script.specs.Script.{most_rounds, read_script_line}}
+use Rattle.{c104_run.specs.declared.words.Words.Words, c104_script.specs.Script.read_script_line}
 use Rattle.c104_script.specs.declared.{answers.{Answer.Answer, Settled.Settled}, places.Request.Request}
-use Rattle.c104_session.proofs.{FurtherRounds.{few_left, still_run, unchanged_still}, SettledRounds.{most_is, moving_left}}
+use Rattle.c104_session.proofs.{FurtherRounds.{few_left, still_run, unchanged_still}, SettledRounds.moving_left}
 use Rattle.c104_session.{proofs.StillNets.{quiet_where, still_where}, specs.Settling.{ChangesNothing, IsAfterRounds, SettlesTo}}
 use Rattle.c104_session.specs.Settling.{after_round, after_rounds, is_quiet, is_still, rest_within, rounds_at_most, rounds_to_rest}
 use Rattle.c104_session.specs.{Settling.{settle_answer, settle_outcome, settled_at}, Shown.{answer_of_read, line_answer}}
@@ -15,13 +15,13 @@ use Rattle.std.proofs.Common.{arith, false, if◌then◌else◌, inl, nat_lt, re
 use Rattle.std.proofs.lemmas.Bool.Decides.{nat_tests}
 
 -- what the type of a network keeps
-abbrev Kept : NetRecord → Type 0
+abbrev pub Kept : NetRecord → Type 0
 Kept net = IsPlan net.network.plan × IsNetRecord net
 
 event_keeps : (net : NetRecord) (e : Event) → Kept net → Kept (record_apply net e).1
 event_keeps net e is = (subst IsPlan (sym (record_plan net e)) is.0, record_kept net e is.0 is.1)
 
-run_keeps : (net after : NetRecord) (events : List Event) → run_events record_apply net events ≡ (Ok tt, after) → Kept net
+pub run_keeps : (net after : NetRecord) (events : List Event) → run_events record_apply net events ≡ (Ok tt, after) → Kept net
     → Kept after
 run_keeps net after events run is = ends_keep record_apply Kept event_keeps net after events (Ok tt) is (inl (sym run))
 
@@ -29,13 +29,13 @@ changes : (net : NetRecord) → Kept net → is_still net.network ≡ false → 
 changes net kept is none = cc (sym (unchanged_still net (few_left net kept.0 kept.1) none) ∙ is)
 
 -- the first of some rounds is done, or refused
-first_done : (net next : NetRecord) (n : ℕ) → after_round net ≡ (Ok tt, next) → after_rounds net (suc n) ≡ after_rounds next n
+pub first_done : (net next : NetRecord) (n : ℕ) → after_round net ≡ (Ok tt, next) → after_rounds net (suc n) ≡ after_rounds next n
 first_done net next n run =
     run_from record_apply net next (round_with Words.Zero net.network.plan) (rounds_with Words.Zero net.network.plan n) run
     ∙ ap (λ (p : Plan). run_events record_apply next (rounds_with Words.Zero p n))
     (sym (starts_stay net next (round_with Words.Zero net.network.plan) (Ok tt) (inl (sym run))).0)
 
-first_refused : (net after : NetRecord) (n : ℕ) (f : EventFault) → after_round net ≡ (Err f, after)
+pub first_refused : (net after : NetRecord) (n : ℕ) (f : EventFault) → after_round net ≡ (Err f, after)
     → after_rounds net (suc n) ≡ (Err f, after)
 first_refused net after n f run =
     run_append record_apply (round_with Words.Zero net.network.plan) (rounds_with Words.Zero net.network.plan n) net
@@ -43,7 +43,7 @@ first_refused net after n f run =
     run_events record_apply next (rounds_with Words.Zero net.network.plan n))) run
 
 -- each of n rounds changes something
-abbrev Moved : NetRecord → ℕ → Type 0
+abbrev pub Moved : NetRecord → ℕ → Type 0
 Moved net n = (i : ℕ) → i < n → ChangesNothing (after_rounds net i).1 → ⊥
 
 none_moved : (net : NetRecord) → Moved net 0
@@ -128,7 +128,7 @@ module _ (old new : NetRecord) (n : ℕ) (after : IsAfterRounds old n new) (kept
   abbrev at_rest : Settled
   at_rest = if is_quiet new.network then Settled.Done n else Settled.StandsStill n
 
-  ended : n ≤ most_rounds → (n < most_rounds → is_still new.network ≡ true)
+  ended : n ≤ rounds_at_most old → (n < rounds_at_most old → is_still new.network ≡ true)
       → SettlesTo old (Some (Answer.Settled (settled_at n new.network))) new
   ended below rests = by_still (is_still new.network) refl
     where
@@ -141,27 +141,27 @@ module _ (old new : NetRecord) (n : ℕ) (after : IsAfterRounds old n new) (kept
       by_still : (b : Bool) → is_still new.network ≡ b
           → SettlesTo old (Some (Answer.Settled (if◌then◌else◌ {A = Settled} b at_rest (Settled.Moving n)))) new
       by_still true is = by_quiet is (is_quiet new.network) refl
-      by_still false is = (after, is_most n most_rounds below (λ less. cc (sym (rests less) ∙ is)), changes new kept is)
+      by_still false is = (after, is_most n (rounds_at_most old) below (λ less. cc (sym (rests less) ∙ is)), changes new kept is)
 
 module _ (net : NetRecord) (kept : Kept net) where
   abbrev n : ℕ
   n = rounds_to_rest net
 
-  below : n ≤ most_rounds
-  below = subst (λ m. n ≤ m) most_is (rest_below rounds_at_most net)
+  below : n ≤ rounds_at_most net
+  below = rest_below (rounds_at_most net) net
 
-  by_end : (o : Outcome NetRecord) → after_rounds net n ≡ o → Came rounds_at_most n net o → SettlesTo net (Some (settle_answer n o)) o.1
+  by_end : (o : Outcome NetRecord) → after_rounds net n ≡ o → Came (rounds_at_most net) n net o
+      → SettlesTo net (Some (settle_answer n o)) o.1
   by_end (Ok u, new) run came =
       ended net new n (record { most = below; rounds = run; least = came.0 })
-      (run_keeps net new (rounds_with Words.Zero net.network.plan n) run kept) below
-      (λ less. came.1 (subst (λ m. n < m) (sym most_is) less))
+      (run_keeps net new (rounds_with Words.Zero net.network.plan n) run kept) below came.1
   by_end (Err f, new) run came =
-      let few : came.0 < most_rounds = subst (λ m. came.0 < m) most_is came.2 in
-      let most : came.0 ≤ most_rounds = omega (arith, few) in
+      let few : came.0 < rounds_at_most net = came.2 in
+      let most : came.0 ≤ rounds_at_most net = omega (arith, few) in
       (came.0, came.1, few, record { most = most; rounds = came.3; least = came.4 }, came.5)
 
   pub settles_to : SettlesTo net (Some (settle_outcome net n).0) (settle_outcome net n).1
-  settles_to = by_end (after_rounds net n) refl (all_came rounds_at_most net kept)
+  settles_to = by_end (after_rounds net n) refl (all_came (rounds_at_most net) net kept)
 
 -- so is what an answer of a session says
 pub line_settles : (session after : Session) (line : List ℕ) (answer : Option Answer)

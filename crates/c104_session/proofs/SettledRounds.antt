@@ -1,18 +1,34 @@
 -- Rounds that go on until a network stands still: how many are done so far, and how they end.
-use Rattle.{c104_deadlock.proofs.RecordedRounds.starts_stay, c104_event.specs.declared.{events.Event.Event, faults.EventFault.EventFault}}
+use Rattle.c104_deadlock.{proofs.RecordedRounds.starts_stay, specs.{HeaderWork.work_bound, Work.{largest_work, told_work}}}
+use Rattle.c104_event.specs.declared.{events.Event.Event, faults.EventFault.EventFault}
 use Rattle.{c104_plan.specs.Plans.Plan, c104_run.proofs.{RoundRuns.{run_append, run_from}, WordedRounds.{words_from, words_taken}}}
 use Rattle.c104_run.specs.{EventRuns.{Outcome, run_events, unless_fault}, HandedWords.{round_with, rounds_with, words_after, words_behind}}
 use Rattle.c104_run.specs.{NetRecords.NetRecord, RecordedRuns.record_apply, declared.words.Words.Words}
 use Rattle.c104_script.specs.{Script.most_rounds, declared.answers.{Answer.Answer, Settled.Settled}}
 use Rattle.c104_session.{proofs.{Leavings.rounds_left, RoundLeavings.later_left}, specs.{Driven.Driving, FurtherRounds.DoesFurther}}
 use Rattle.c104_session.specs.{FurtherRounds.{DrivesFurther, Settles}, Leavings.LeavesRounds, Settling.{after_round, after_rounds}}
-use Rattle.c104_session.specs.Settling.{is_still, rest_within, rounds_at_most, rounds_to_rest, settle_answer, settle_outcome, settled_at}
-use Rattle.std.proofs.Common.{Err, List, Ok, Result, ap, arith, false, if◌then◌else◌, inl, inr, length, refl, subst, suc, sym, true, zero}
-use Rattle.std.proofs.Common.{ℕ, ◌++◌, ◌+◌, ◌-◌, ◌<◌, ◌∙◌, ◌≡◌, ◌≤◌, ◌⊎◌}
+use Rattle.c104_session.specs.Settling.{is_still, largest_count, rest_within, rounds_at_most, rounds_to_rest, settle_answer}
+use Rattle.c104_session.specs.Settling.{settle_outcome, settled_at}
+use Rattle.std.proofs.Common.{Err, List, Ok, Result, ap, arith, false, if◌then◌else◌, inl, inr, length, max, min, refl, subst, suc, sym}
+use Rattle.std.proofs.Common.{true, zero, ℕ, ◌++◌, ◌+◌, ◌-◌, ◌<◌, ◌∙◌, ◌≡◌, ◌≤◌, ◌⊎◌}
 
-pub most_is : rounds_at_most ≡ most_rounds
+-- there are some rounds at most
+some_left : (work : ℕ) → 0 < min largest_count (max most_rounds (work + 1))
+some_left work = omega arith
+
+some_rounds : (net : NetRecord) → 0 < rounds_at_most net
 unfolding rounds_at_most
-most_is = refl
+some_rounds net = some_left (work_bound net.network.plan net.network.nodes)
+
+-- they follow from the work that is told
+most_of : (work told enough : ℕ) → told ≡ told_work work → enough ≡ min (told + 1) largest_work
+    → min (max enough most_rounds) largest_count ≡ min largest_count (max most_rounds (work + 1))
+most_of work told enough is more = omega (arith, is, more)
+
+pub most_told : (net : NetRecord) (told enough : ℕ) → told ≡ told_work (work_bound net.network.plan net.network.nodes)
+    → enough ≡ min (told + 1) largest_work → min (max enough most_rounds) largest_count ≡ rounds_at_most net
+unfolding rounds_at_most
+most_told net told enough is more = most_of (work_bound net.network.plan net.network.nodes) told enough is more
 
 -- word 0 is behind word 0
 pub zero_words : (switches i : ℕ) → words_after Words.Zero switches i ≡ Words.Zero
@@ -31,7 +47,7 @@ moving_left n net is = ap (λ b. if◌then◌else◌ {A = ℕ} b 0 (suc (rest_wi
 module _ {D : Type 0} (drives : Driving D) where
   -- i rounds are done, by a driver too
   pub record Settling (start : NetRecord) (begun : D) (i : ℕ) (net : NetRecord) (d : D) : Type 0 where
-    pub most : i ≤ most_rounds
+    pub most : i ≤ rounds_at_most start
     pub run : after_rounds start i ≡ (Ok tt, net)
     pub same : net.network.plan ≡ start.network.plan
     pub rest : (n : ℕ) → rest_within (i + n) start ≡ i + rest_within n net
@@ -52,7 +68,7 @@ module _ {D : Type 0} (drives : Driving D) where
   }
 
   module _ (start : NetRecord) (begun : D) (i : ℕ) (net after : NetRecord) (d e : D) (so : Settling start begun i net d)
-      (further : i < most_rounds) where
+      (further : i < rounds_at_most start) where
     abbrev plan : Plan
     plan = start.network.plan
 
@@ -66,10 +82,10 @@ module _ {D : Type 0} (drives : Driving D) where
         ∙ ap (λ (p : Plan). run_events record_apply net (round_with Words.Zero p)) (sym so.same) ∙ is
 
     abbrev left : ℕ
-    left = rounds_at_most - suc i
+    left = rounds_at_most start - suc i
 
-    left_is : rounds_at_most ≡ i + suc left
-    left_is = let less : i < rounds_at_most = subst (λ m. i < m) (sym most_is) further in omega (arith, less)
+    left_is : rounds_at_most start ≡ i + suc left
+    left_is = omega (arith, further)
 
     left_after : rounds_to_rest start ≡ i + rest_within (suc left) net
     left_after = ap (λ m. rest_within m start) left_is ∙ so.rest (suc left)
@@ -155,16 +171,16 @@ module _ {D : Type 0} (drives : Driving D) where
 
   -- as many rounds are done as there may be
   module _ (start : NetRecord) (begun : D) (i : ℕ) (net : NetRecord) (d : D) (so : Settling start begun i net d)
-      (past : most_rounds ≤ i) where
-    all_done : most_rounds ≡ i
+      (past : rounds_at_most start ≤ i) where
+    all_done : rounds_at_most start ≡ i
     all_done = let most = so.most in omega (arith, most, past)
 
     all_count : i ≡ rounds_to_rest start
     all_count =
         let none : i + 0 ≡ i = omega arith in
-        sym (ap (λ m. rest_within m start) (most_is ∙ all_done ∙ sym none) ∙ so.rest 0 ∙ none)
+        sym (ap (λ m. rest_within m start) (all_done ∙ sym none) ∙ so.rest 0 ∙ none)
 
-    pub most_settles : Settles start (Ok most_rounds) net
+    pub most_settles : Settles start (Ok (rounds_at_most start)) net
     most_settles = (
       all_done ∙ all_count,
       ap (after_rounds start) all_done ∙ so.run,
@@ -175,7 +191,7 @@ module _ {D : Type 0} (drives : Driving D) where
     most_drives = by_some so.driven
       where
         by_some : (i ≡ 0) ⊎ (drives.rounds begun start Words.Zero i ≡ d) → d ≡ drives.rounds begun start Words.Zero (rounds_to_rest start)
-        by_some (inl none) = absurd (omega (arith, none, past))
+        by_some (inl none) = let some = some_rounds start in absurd (omega (arith, none, past, some))
         by_some (inr is) = sym is ∙ ap (drives.rounds begun start Words.Zero) all_count
 
 -- what answers them

@@ -53,7 +53,7 @@ nothing sends nodes = Unit {0}
 pub keeps_nothing : (routes : Routes) (plan : Plan) (starts : List NodeStart) → Keeps routes plan starts nothing
 keeps_nothing routes plan starts sends net e r next was due ready may bytes = tt
 
-unchanged_on : (routes : Routes) (events : List (Event × Reply)) (e : Event) (r : Reply) → IsUnchanged routes events → MayHappen routes e r → IsUnchanged routes (events ++ (e, r) ∷ [])
+pub unchanged_on : (routes : Routes) (events : List (Event × Reply)) (e : Event) (r : Reply) → IsUnchanged routes events → MayHappen routes e r → IsUnchanged routes (events ++ (e, r) ∷ [])
 unchanged_on routes [] e r all may = (may, tt)
 unchanged_on routes (d ∷ events) e r all may = (all.0, unchanged_on routes events e r all.1 may)
 

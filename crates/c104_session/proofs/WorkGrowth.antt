@@ -99,7 +99,7 @@ module _ (plan : Plan) (image : Image) (is_plan : IsPlan plan) (accepted : IsAcc
 
   -- an event of a round leaves less
   module _ (nodes : List (Node Token)) (events : List (Event × Reply)) (run : IsDoneRun plain_kind (network_of plan (map start_node first)) events (network_of plan nodes)) (unchanged : IsUnchanged routes events) (bytes : AreBytesSent events) where
-    round_less : (e : Event) (x : Reply) (after : Network Token) → IsOfRound e → ◌≡◌ {A = Applied (Network Token)} (Ok x, after) (network_apply plain_kind (network_of plan nodes) e) → is_ready x ≡ true → random_work plan routes rank after.nodes < random_work plan routes rank nodes
+    pub round_less : (e : Event) (x : Reply) (after : Network Token) → IsOfRound e → ◌≡◌ {A = Applied (Network Token)} (Ok x, after) (network_apply plain_kind (network_of plan nodes) e) → is_ready x ≡ true → random_work plan routes rank after.nodes < random_work plan routes rank nodes
     round_less e x after of due ready =
         let found = traced_from plan first nodes events run in
         let mid : Network Traced = network_of plan found.0 in

@@ -44,8 +44,8 @@ sends_weight weight [] = 0
 sends_weight weight (s ∷ sends) = (length s.1.bytes + 1) * weight + sends_weight weight sends
 
 -- more rounds than this are enough: the room that all buffers may grant at the start, and the weight of what a script sends
-abbrev pub rounds_enough : Plan → Image → List ℕ → ℕ
-rounds_enough plan image script =
+abbrev pub rounds_by_work : Plan → Image → List ℕ → ℕ
+rounds_by_work plan image script =
     random_bound {A = Token} plan (routes_of plan image) (placed_network plan image).nodes
     + sends_weight (token_weight plan (routes_of plan image)) (script_sent plan image script)
 
@@ -60,7 +60,7 @@ pub record EndsWithRounds (plan : Plan) (image : Image) (script : List ℕ) : Ty
   pub back : List (List ℕ)
   pub lines : script_lines script ≡ front ++ back
   pub silent : lines_sent (session_after plan image front) back ≡ []
-  pub enough : rounds_enough plan image script < lines_rounds (session_after plan image front) back
+  pub enough : rounds_by_work plan image script < lines_rounds (session_after plan image front) back
 
 -- a script ends settled: behind the last packet that it sends a line asks to settle, and is answered that no token is left
 -- anywhere; whatever else its lines ask, and however that is answered

@@ -1,9 +1,9 @@
 -- A round that is done unless the network stands still, what such rounds come to, and what is kept of them.
 use Rattle.{c104_event.specs.declared.faults.EventFault.EventFault, c104_net.specs.MeteredRecords.at_meter}
 use Rattle.{c104_node.specs.declared.tagged.TaggedToken.TaggedToken, c104_run.specs.{Meters.Sees, NetRecords.NetRecord}}
-use Rattle.{c104_run.specs.declared.words.Words.Words, c104_script.specs.Script.most_rounds, c104_session.specs.Driven.Driving}
+use Rattle.{c104_run.specs.declared.words.Words.Words, c104_session.specs.Driven.Driving}
 use Rattle.c104_session.specs.{Keepers.{Keeping, rounds_kept}, Leavings.LeavesRounds, Settling.{after_round, after_rounds, is_still}}
-use Rattle.c104_session.specs.Settling.{rounds_to_rest}
+use Rattle.c104_session.specs.Settling.{rounds_at_most, rounds_to_rest}
 use Rattle.std.specs.Prelude.{Bool, Err, Ok, Result, false, suc, true, ℕ, ◌<◌, ◌≡◌, ◌⊎◌}
 
 -- a round was done, but not where the network stands still; or a fault stopped it, or there is no memory after some of its events
@@ -17,7 +17,7 @@ DoesFurther net (Err f) after =
 -- what rounds come to that were to go on until the network stands still: how many there were, or a fault, or no memory
 abbrev pub Settles : NetRecord → Result ℕ EventFault → NetRecord → Type 0
 Settles net (Ok n) after =
-    (n ≡ rounds_to_rest net) × (after_rounds net n ≡ (Ok tt, after)) × (n < most_rounds → is_still after.network ≡ true)
+    (n ≡ rounds_to_rest net) × (after_rounds net n ≡ (Ok tt, after)) × (n < rounds_at_most net → is_still after.network ≡ true)
 Settles net (Err f) after =
     (after_rounds net (rounds_to_rest net) ≡ (Err f, after))
     ⊎ ((f ≡ EventFault.NoMemory) × LeavesRounds Words.Zero net (rounds_to_rest net) after)

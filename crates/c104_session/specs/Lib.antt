@@ -2,6 +2,7 @@ pub mod Lines
 pub mod FoundRegisters
 pub mod Probing
 pub mod Settling
+pub mod SettlingEnds
 pub mod Shown
 pub mod Leavings
 pub mod Resets

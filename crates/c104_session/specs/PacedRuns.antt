@@ -21,7 +21,8 @@ sends_alone plan routes rank (s ∷ sends) =
     ((length s.1.bytes + 1) + (routes.header * level plan rank (peer plan (Port.Terminal s.0)) + 1))
     + sends_alone plan routes rank sends
 
--- what a line asks keeps packets together: a packet to send, or rounds, that are done, or nothing that changes the network
+-- what a line asks keeps packets together: a packet to send, or rounds, that are done; or it asks nothing of the network, as it has no
+-- words, is faulty, or names nothing that is there
 abbrev pub Paces : Result (Option Request) LineFault → Option Answer → Type 0
 Paces (Ok (Some (Request.Asked (Event.Send t p)))) answer = was_done answer ≡ true
 Paces (Ok (Some (Request.Asked e))) answer = ⊥

@@ -1,15 +1,29 @@
 -- Rounds until a network stands still: after how many it does, and what answers that.
 --     SettlesTo net answer after      what the answer says of the network before and after, in words of networks
 --     settle_outcome net n      the answer and the network after n rounds, as they are computed
+--     rounds_at_most net      the most rounds that are done: more than the bound of the work that is left, if that can be counted
 --     rounds_to_rest net      the number of rounds that are done
-use Rattle.{c104_link.specs.Buffers.Outgoing, c104_node.specs.{Nodes.Node, Quiet.is_fresh, declared.node.NodeOf.NodeOf}}
+use Rattle.{c104_deadlock.specs.HeaderWork.work_bound, c104_link.specs.Buffers.Outgoing, c104_node.specs.{Nodes.Node, Quiet.is_fresh}}
+use Rattle.c104_node.specs.declared.node.NodeOf.{NodeOf}
 use Rattle.c104_run.specs.{EventRuns.{Outcome, run_events}, HandedWords.{round_with, rounds_with}, NetRecords.NetRecord, Network.Network}
 use Rattle.c104_run.specs.{Network.network_apply, QuietNets.IsQuiet, Reasons.is_unready, RecordedRuns.record_apply, Rounds.round}
 use Rattle.{c104_run.specs.{Standstill.{IsDeadlocked, StandsStill}, declared.words.Words.Words}, c104_script.specs.Script.most_rounds}
 use Rattle.{c104_script.specs.declared.answers.{Answer.Answer, Settled.Settled}, c104_switch.specs.Switch.{Input, Switch}}
 use Rattle.c104_token.specs.{Kinds.plain_kind, declared.tokens.Token.Token}
-use Rattle.std.specs.{List.list_all, Prelude.{Bool, Err, List, Ok, Option, Some, [], false, if◌then◌else◌, suc, true, zero, ℕ, ◌&&◌, ◌<◌}}
-use Rattle.std.specs.Prelude.{◌∷◌, ◌≡◌, ◌≤◌}
+use Rattle.std.specs.{List.list_all, Prelude.{Bool, Err, List, Ok, Option, Some, [], false, if◌then◌else◌, max, min, suc, true, zero}}
+use Rattle.std.specs.Prelude.{ℕ, ◌&&◌, ◌+◌, ◌<◌, ◌∷◌, ◌≡◌, ◌≤◌}
+
+-- How many rounds there may be
+
+-- the largest count of rounds
+abbrev pub largest_count : ℕ
+largest_count = 4294967295
+
+-- the most rounds that are done, as a name, since nothing is to count up to it: as many as a line may ask for, or more than
+-- the work that is left, which is enough where channels don't depend on one another in a cycle; but no more than are counted,
+-- which no network does, since its traces are full before
+unfoldable pub rounds_at_most : NetRecord → ℕ
+rounds_at_most net = min largest_count (max most_rounds (work_bound net.network.plan net.network.nodes + 1))
 
 -- What the answer says
 
@@ -26,7 +40,7 @@ ChangesNothing net = after_round net ≡ (Ok tt, net)
 
 -- n rounds are done, each of which changed something: there is no lesser number of rounds after which one changes nothing
 pub record IsAfterRounds (old : NetRecord) (n : ℕ) (new : NetRecord) : Type 0 where
-  pub most : n ≤ most_rounds
+  pub most : n ≤ rounds_at_most old
   pub rounds : after_rounds old n ≡ (Ok tt, new)
   pub least : (i : ℕ) → i < n → ChangesNothing (after_rounds old i).1 → ⊥
 
@@ -38,9 +52,9 @@ SettlesTo old (Some (Answer.Settled (Settled.Done n))) new =
 SettlesTo old (Some (Answer.Settled (Settled.StandsStill n))) new =
     IsAfterRounds old n new × ChangesNothing new × IsDeadlocked plain_kind new.network
 SettlesTo old (Some (Answer.Settled (Settled.Moving n))) new =
-    IsAfterRounds old n new × (n ≡ most_rounds) × (ChangesNothing new → ⊥)
+    IsAfterRounds old n new × (n ≡ rounds_at_most old) × (ChangesNothing new → ⊥)
 SettlesTo old (Some (Answer.Refused kind)) new =
-    (n : ℕ) × (mid : NetRecord) × (n < most_rounds) × IsAfterRounds old n mid × (after_round mid ≡ (Err kind, new))
+    (n : ℕ) × (mid : NetRecord) × (n < rounds_at_most old) × IsAfterRounds old n mid × (after_round mid ≡ (Err kind, new))
 SettlesTo old answer new = ⊥
 
 -- How it is computed
@@ -75,12 +89,8 @@ abbrev pub rest_within : ℕ → NetRecord → ℕ
 rest_within zero net = 0
 rest_within (suc n) net = if is_still net.network then 0 else suc (rest_within n (after_round net).1)
 
--- the most rounds that are done, as a name, since nothing is to count up to it
-unfoldable pub rounds_at_most : ℕ
-rounds_at_most = most_rounds
-
 abbrev pub rounds_to_rest : NetRecord → ℕ
-rounds_to_rest net = rest_within rounds_at_most net
+rounds_to_rest net = rest_within (rounds_at_most net) net
 
 -- how n rounds ended that left a network so
 abbrev pub settled_at : ℕ → Network Token → Settled

@@ -2,8 +2,9 @@
 ghost use Rattle.std.specs.{Io.KnownBytes.{IsAtEnd, prepend_known}, Prelude.{List, Ok, Result, length, ℕ, ◌≡◌, ◌≤◌}};
 ghost use Rattle.c104_describe.specs.{PlanText.read_description, declared.faults.PlanFault.PlanFault as ThePlanFault};
 ghost use Rattle.{c104_plan.specs.{PlanImage.Fits, Plans.Plan as ThePlan, TextCut.most_bytes}, c104_script.specs.Parts.AreOnlyParts};
-ghost use Rattle.{c104_script.specs.Parts.{StopsBeforeScript, parts}, c104_session.specs.{Lines.AreOnlyLines, PrintedRuns.{PrintsAllOf, PrintsPacedOf}}};
-ghost use Rattle.c104_session.specs.{PrintedRuns.{PrintsPacketsOf, PrintsSettledOf}, RunCommands.{RunsDescription, RunsParts, RunsText}};
+ghost use Rattle.{c104_script.specs.Parts.{StopsBeforeScript, parts}, c104_session.specs.Lines.AreOnlyLines};
+ghost use Rattle.c104_session.specs.PrintedRuns.{PrintsAllOf, PrintsPacedOf, PrintsPacketsOf, PrintsSettledOf};
+ghost use Rattle.c104_session.specs.RunCommands.{RunsDescription, RunsParts, RunsText};
 ghost use Rattle.{c104_setup.specs.Setups.ComesTo, c104_stream.specs.ScriptLines.script_lines};
 ghost use Rattle.c104_setup.specs.declared.status.Status.TheVariants as status;
 

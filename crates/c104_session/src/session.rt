@@ -4,7 +4,7 @@ ghost use Rattle.{c104_event.specs.declared.faults.EventFault.EventFault as TheF
 ghost use Rattle.c104_run.specs.{FairRounds.{InTurn, in_turn}, FinishedRecords.record_finish, NetRecords.NetRecord as TheNet};
 ghost use Rattle.{c104_script.specs.declared.answers.Answer.Answer as TheAnswer, c104_session.specs.Driven.{DoesEvent, line_driven}};
 ghost use Rattle.c104_session.specs.{Driven.request_driven, Leavings.{KeepsAllButNet, LeavesFairly, LeavesLine, LeavesNet, LeavesRounds}};
-ghost use Rattle.{c104_script.specs.Script.read_script_line, c104_session.specs.Settling.SettlesTo};
+ghost use Rattle.{c104_script.specs.Script.read_script_line, c104_session.specs.{Settling.SettlesTo, SettlingEnds.AlwaysSettles}};
 ghost use Rattle.c104_script.specs.declared.places.Request.TheVariants as asked;
 ghost use Rattle.c104_session.specs.Shown.{fair_outcome, line_answer, new_session, request_answer, rounds_outcome};
 ghost use Rattle.{c104_session.specs.declared.session.Session.Session as TheSession, c104_switch.specs.Actions.Reply as TheReply};
@@ -13,7 +13,7 @@ ghost use Rattle.c104_event.specs.declared.faults.EventFault.TheVariants as faul
 use crate::driver::{Driver, Plain};
 use crate::ended::EndedNet;
 use crate::probing::answer_probe;
-use crate::settling::answer_settle;
+use crate::settling::{answer_settle, rounds_end};
 use crate::starting::start_net;
 use c104_event::{Event, EventFault};
 use c104_net::{TracedNet, Turns, Unwatched, Watch, Words};
@@ -77,16 +77,22 @@ impl Session {
 
     /// Does what a line asks. None where it asks nothing. The only error is out of memory: then
     /// only the network and its turns may have changed; an event isn't done, and rounds may be done in part.
+    ///
+    /// A `settle` is never answered `moving` where the labels are accepted, nobody changed the network, its channels don't depend
+    /// on one another in a cycle and no random headers are put before packets.
     pub fn answer(&mut self, alloc: Global, line: &[u8]) -> Result<Option<Answer>, NoMemory>
         ensures answered { IfOk result (λ answer. ◌≡◌ {A = Option TheAnswer × TheSession}
             (answer, self.new) (line_answer self.old line.now)) }
         ensures left { OnErr result (LeavesLine self.old line.now self.new) }
         ensures settled { IfOk result (λ answer. read_script_line self.old.net.network.plan self.old.image line.now ≡ Ok (Some asked.Settle)
             → SettlesTo self.old.net answer self.new.net) }
+        ensures ends { IfOk result (λ answer. read_script_line self.old.net.network.plan self.old.image line.now ≡ Ok (Some asked.Settle)
+            → AlwaysSettles self.old.net answer) }
     {
         // The proof reads here what every plan and every such network keeps.
         let plan = self.net.told_plan();
         let _switches = plan.switches();
+        rounds_end(&self.net);
         self.answer_driven(alloc, line, &mut Plain, &mut Unwatched)
     }
 
