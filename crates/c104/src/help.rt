@@ -98,8 +98,10 @@ anything was done; how many packets were sent, arrived, are unfinished and are l
 many lines were refused; the round after which the network stands still with tokens in
 it, if it does; latencies, in rounds, from the least to the largest, their mean and
 their standard deviation, and the mean from the first token on; how many tokens were
-sent and arrived for each round and terminal; how many crossed wires in a round; and the
-three links over which tokens crossed in most rounds. A table has a row for each
+sent and arrived for each round and terminal; how many crossed wires in a round; the
+three links over which tokens crossed in most rounds; and how many rounds behind the last
+packet are enough, if the script only sends and does rounds: where check accepts the
+labels, cycles finds none and no random headers are put. A table has a row for each
 
   packets    that was sent: where it arrived and when, and for how long it held links and moved nothing
   latencies  that packets had: how many of them
