@@ -28,7 +28,7 @@ claim SWITCH INPUT OUTPUT   an input claims an output for its header
 control SWITCH BYTE ..      a switch takes a command of at most 8 bytes
 rounds COUNT [fair] [seed NUMBER]
                             run COUNT rounds, fair ones by turns, with random headers by a seed
-settle                      run rounds until another would do nothing, at most 10000
+settle                      run rounds until another would do nothing
 peek SWITCH ADDRESS         the register's value, as `peek A 0140`; not an event
 poke SWITCH ADDRESS VALUE   set a register
                             by name: `peek A.0 limit 0`, `poke A.0 mode 2`

@@ -1,6 +1,8 @@
 """Runs a program over scripts that are too large or too many for folders."""
 
-from case_runner import (ARRIVED_LIMIT, FIRST_RUN, LINE_LIMIT, OUTBOX_LIMIT, PACKET_LIMIT, PLAN, RECEIVED, SCRIPT_LIMIT,
+import os
+
+from case_runner import (ARRIVED_LIMIT, EXAMPLES, FIRST_RUN, LINE_LIMIT, OUTBOX_LIMIT, PACKET_LIMIT, PLAN, RECEIVED, SCRIPT_LIMIT,
     SCRIPT_TOO_LONG, TRACE_LIMIT, answers_of, comments, lines_of, padded)
 
 
@@ -71,8 +73,18 @@ def many_rounds(runner):
     packet = b'01' + b' 5a' * (PACKET_LIMIT - 1) + b' eop'
     tokens = 3 * (PACKET_LIMIT + 1)
     lines = [(b'send a ' + packet, 'done')] * 3
-    lines += [(b'settle', 'moving 10000'), (b'settle', 'done %d' % (tokens + 1 - 10000)), (b'settle', 'done 0')]
-    script_case(runner, 'more rounds than settle does', lines, b''.join(b'b: %s from a %d\n' % (packet, k) for k in range(3)))
+    lines += [(b'settle', 'done %d' % (tokens + 1)), (b'settle', 'done 0')]
+    script_case(runner, 'more rounds than a line may ask for', lines, b''.join(b'b: %s from a %d\n' % (packet, k) for k in range(3)))
+
+
+def rounds_without_end(runner):
+    """Packets that go round for ever: then `settle` stops at one round more than the bound of the work that is left. By two
+    switches each of the 24 tokens weighs 8 * (32 * 2 + 1) + 4 where it waits to leave its terminal, and 66 inputs have room for
+    16 tokens each."""
+    with open(os.path.join(EXAMPLES, 'labels-that-loop.txt'), 'rb') as file:
+        script = file.read() + b'script\n' + b'send a 01 eop\n' * 12 + b'settle\n'
+    sent = b''.join(b'%d: done\n' % number for number in range(1, 13))
+    runner.case('rounds without end', sent + b'13: moving %d\n' % (24 * (8 * 65 + 4) + 66 * 16 + 1), 0, data=script)
 
 
 def long_packets(runner):
@@ -231,5 +243,5 @@ def fair_rounds(runner):
     runner.case('fair rounds', answers + arrived, 0, data=switch + b'terminal d A.3\nscript\n' + sends + b'rounds 1802 fair\n')
 
 
-PARTS = [long_lines, faults_line_by_line, many_rounds, long_packets, full_outbox,
-         full_trace, last_entry, rounds_at_rest, script_lengths, full_inbox]
+PARTS = [long_lines, faults_line_by_line, many_rounds, rounds_without_end, long_packets, full_outbox,
+         full_trace, last_entry, rounds_at_rest, script_lengths, full_inbox, fair_rounds]

@@ -2,7 +2,7 @@
 
 The numbers are worked out by hand, round by round, from docs/FORMATS.md. What programs read is read by Python's own readers
 of CSV and of JSON, and has to be what the table for people says. Of each run the tables are read once more, by conservation.py:
-no token and no packet is lost in them.
+no token and no packet is lost in them. How many rounds are enough is found by enough.py.
 """
 
 import csv
@@ -14,6 +14,7 @@ import tempfile
 
 from case_runner import CANNOT_WRITE, EXAMPLE_FILES, EXAMPLES, PLAN, SCRIPT_LIMIT, SCRIPT_LINE, comments
 from conservation import wrong_of
+from enough import enough_of
 from random_networks import chance_of, network_of, packets_of
 
 # In rounds 1 to 3 a's tokens cross to A.0, in 2 to 4 from A.1 to b, and each arrives in the round in which it crosses. 5 is
@@ -64,7 +65,7 @@ ROUNDS = ('round', 'waiting', 'inside', 'moved', 'arrived', 'held')
 COLUMNS = {'packets': PACKETS, 'latencies': LATENCIES, 'links': LINKS, 'rounds': ROUNDS}
 SUMMARY = ('rounds', 'sent', 'arrived', 'unfinished', 'lost', 'refused', 'still', 'latency_least', 'latency_median', 'latency_95',
            'latency_99', 'latency_most', 'latency_mean', 'latency_deviation', 'network_mean', 'offered', 'accepted',
-           'tokens_a_round', 'busiest', 'busiest_share', 'second', 'second_share', 'third', 'third_share')
+           'tokens_a_round', 'busiest', 'busiest_share', 'second', 'second_share', 'third', 'third_share', 'rounds_enough')
 # What stands for people, and in CSV, where there is nothing: in JSON it is null.
 NOTHING = {'table': '-', 'csv': ''}
 
@@ -111,8 +112,8 @@ BY_HAND = {
 
 # Of four tokens three cross before the first round.
 BEFORE = b'send a 01 aa bb eop\ncredit A.0\n' + b'cross a\n' * 3
-# A description, a script, and the values of its summary.
-SUMMARIES = {
+# A description, a script, and the values of its summary but for the last.
+COUNTED = {
     'the first run': (PLAN, FIRST,
         '4 1 1 0 0 0 - 4 4 4 4 4 4.000 0.000 3.000 0.375 0.375 1.500 A.1 0.750 a 0.750 - -'),
     'the first run, with a packet behind it': (PLAN, FIRST + b'send b 00 eop\n',
@@ -138,12 +139,21 @@ SUMMARIES = {
     'an empty network': (b'', b'', '0 0 0 0 0 0 - - - - - - - - - 0.000 0.000 0.000 - - - - - -'),
 }
 
+
+def with_enough(description, script, values):
+    """The values of a summary with the last: how many rounds are enough."""
+    enough = enough_of(description, script)
+    return '%s %s' % (values, '-' if enough is None else enough)
+
+
+SUMMARIES = {name: (*it[:2], with_enough(*it)) for name, it in COUNTED.items()}
+
 # Of runs that a Reset cuts, how many tokens are gone. 01 has come to b, and 68 is cleared. The terminator that comes behind it
 # waits in A, or once A is started is dropped there as a packet without a header.
 GONE = {'a Reset ends how long links were held': 1, 'a packet behind a Reset': 2}
 
 # The same of STUCK, in which a packet never ends.
-STUCK_VALUES = '3 1 0 1 0 0 3 - - - - - - - - 0.500 0.000 1.000 a 1.000 - - - -'
+STUCK_VALUES = with_enough(STUCK, FIRST, '3 1 0 1 0 0 3 - - - - - - - - 0.500 0.000 1.000 a 1.000 - - - -')
 STILL = b'stands still after round 3\nA.7, which has no wire, holds 3 tokens\n'
 
 WRONG = (['--format', 'xml'], ['--format'], ['--what', 'switches'], ['--what'], ['--format', 'csv', '--format', 'json'], ['third'],
@@ -384,7 +394,7 @@ def ended(runner):
                     words=words_of(path, 'rounds'), data=script.replace(b'rounds 20', b'settle'))
         runner.case('rounds up to a full trace', table_text(ROUNDS, ['0 0 0 0 0 0', '1 0 0 0 0 0', '2 0 0 0 0 0']), 1, ENDS,
                     words=words_of(path, 'rounds'), data=script)
-        runner.case('lines that are refused', summary_text('1 0 0 0 0 3 - - - - - - - - - 0.000 0.000 0.000 - - - - - -'), 1, ENDS,
+        runner.case('lines that are refused', summary_text('1 0 0 0 0 3 - - - - - - - - - 0.000 0.000 0.000 - - - - - - 0'), 1, ENDS,
                     words=words_of(path), data=script)
 
 

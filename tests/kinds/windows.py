@@ -15,7 +15,7 @@ from random_networks import chance_of, network_of, packets_of
 BATCH = SUMMARY[1:5] + SUMMARY[7:17]
 
 # Words for a window of the run of APART, and what of the summary is of it: all but the run's length at the front, and the tokens
-# in a round and the links behind.
+# in a round, the links and how many rounds are enough behind: 3 + 3 for the first packet and 2 + 3 for the other.
 WINDOWS = {
     'the packet sent in round 3': ('--from 1 --to 3', '1 1 0 0 0 - 3 3 3 3 3 3.000 0.000 2.000 0.333 0.000'),
     'the same, with both ends on it': ('--from 3 --to 3', '1 1 0 0 0 - 3 3 3 3 3 3.000 0.000 2.000 1.000 0.000'),
@@ -36,7 +36,7 @@ def windows(runner):
             window = window.split()
             bounds = dict(zip(window[::2], map(int, window[1::2])))
             sent = [it for it in of_packets if bounds.get('--from', 0) <= int(it) <= bounds.get('--to', 9)]
-            due = csv_text(SUMMARY, ['6 %s 1.666 A.1 0.833 a 0.833 - -' % values])
+            due = csv_text(SUMMARY, ['6 %s 1.666 A.1 0.833 a 0.833 - - 11' % values])
             runner.case('window of ' + name, due, words=words_of(path, form='csv', window=window), data=APART)
             runner.case('packets of ' + name, table_text(PACKETS, [of_packets[it] for it in sent]),
                         words=words_of(path, 'packets', window=window), data=APART)
