@@ -52,7 +52,7 @@ BY_HAND = {
 
 
 def lines_of(count, is_fair=False):
-    """Lines that do so many rounds."""
+    """Lines that do this many rounds."""
     return ''.join(line + '\n' for line in rounds(0, count, None, is_fair)).encode()
 
 
@@ -104,7 +104,7 @@ def all_arrive(runner):
 
 
 def random(runner, seed):
-    """Over a random network the number is the one that is found by its rows, and so many rounds print each packet."""
+    """Over a random network the number is the one that is found by its rows, and as many rounds print each packet."""
     name = 'random network %d' % seed
     if not runner.wanted(name):
         return
