@@ -1,5 +1,0 @@
-use Rattle.{c104_picture.specs.States.wishes_of, std.{proofs.Common.◌≡◌, specs.List.{flat_map, range_with_len}}}
-
--- what the inputs so far want
-abbrev pub invariant-loop-place : Rattle.c104_picture.proofs.states.wishes.Given.invariant-loop-place
-invariant-loop-place l = l.list.items ≡ flat_map (wishes_of l.net l.still) (range_with_len 0 l.place)

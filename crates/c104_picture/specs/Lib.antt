@@ -1,4 +1,0 @@
-pub mod Senders
-pub mod Holders
-pub mod Waits
-pub mod States

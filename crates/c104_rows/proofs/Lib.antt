@@ -1,0 +1,5 @@
+pub mod TakenCounts
+pub mod NumberSteps
+pub mod StillNets
+mod WiredSteps
+mod Searches

@@ -1,4 +1,0 @@
-pub mod TakenCounts
-pub mod NumberSteps
-mod WiredSteps
-pub mod LatencyRows

@@ -1,5 +1,0 @@
-use Rattle.{c104_stats.specs.{Numbers.each_number, Sights.behind_found}, std.proofs.Common.◌≡◌}
-
--- those so far
-abbrev pub invariant-loop-number : Rattle.c104_stats.proofs.finding.find_behind.Given.invariant-loop-number
-invariant-loop-number l = l.stats ≡ each_number (behind_found l.terminal l.gone) l.number l.initial.stats

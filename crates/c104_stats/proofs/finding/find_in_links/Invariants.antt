@@ -1,7 +1,0 @@
-use Rattle.{c104_run.specs.NetViews.network_link_view, c104_stats.specs.{Numbers.each_number, Sights.link_found}}
-use Rattle.{c104_token.specs.Kinds.plain_kind, std.proofs.Common.◌≡◌}
-
--- those so far
-abbrev pub invariant-loop-link : Rattle.c104_stats.proofs.finding.find_in_links.Given.invariant-loop-link
-invariant-loop-link l =
-    l.stats ≡ each_number (λ k. link_found l.net (network_link_view plain_kind l.net.network l.switch k) l.switch k) l.link l.initial.stats

@@ -1,5 +1,0 @@
-use Rattle.{c104_stats.specs.Latencies.latencies, std.proofs.Common.{drop, ◌++◌, ◌≡◌}}
-
--- the packets so far and those that are left are all
-abbrev pub invariant-loop-packet : Rattle.c104_stats.proofs.latencies.arrived_latencies.Given.invariant-loop-packet
-invariant-loop-packet l = l.list.items ++ latencies (drop l.packet-index l.packets) ≡ latencies l.packets

@@ -1,7 +1,0 @@
-use Rattle.{c104_run.specs.NetViews.network_terminal_view, c104_stats.specs.{Numbers.each_number, Sights.terminal_levels}}
-use Rattle.std.proofs.Common.{◌≡◌}
-
--- those so far
-abbrev pub invariant-loop-terminal : Rattle.c104_stats.proofs.sights.add_terminals.Given.invariant-loop-terminal
-invariant-loop-terminal l =
-    l.levels ≡ each_number (λ t. terminal_levels (network_terminal_view l.net.network t)) l.terminal l.initial.levels
