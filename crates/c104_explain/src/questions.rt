@@ -38,7 +38,6 @@ show SWITCH.LINK            shows a link
 show TERMINAL               shows a terminal
 show waiting                shows which outputs inputs hold and want
 where TERMINAL NUMBER       shows where a packet is: NUMBER is from 0 on, of those that the terminal sent
-draw FILE                   saves a picture of the network as it stands, for Graphviz
 until TERMINAL NUMBER       runs rounds until that packet has arrived, or nothing moves, at most 10000
 read FILE                   does the lines of a file
 log FILE                    saves the lines so far, and those that come, in a new file
@@ -55,14 +54,10 @@ const SHOW_FORM: &str =
 const WHERE_FORM: &str =
     "the line is `where TERMINAL NUMBER`, as `where a 0` of the first packet that `a` sent";
 
-/// What a line `draw` is.
-const DRAW_FORM: &str =
-    "the line is `draw FILE`, as `draw now.dot`: the file's name is one word, in UTF-8";
-
 /// What is shown of the inputs that wait, unless a node has this name.
 const WAITING: &[u8] = b"waiting";
 
-/// Whether a line is a question of people's, and none of a script: its first word is `help`, `show`, `where` or `draw`.
+/// Whether a line is a question of people's, and none of a script: its first word is `help`, `show` or `where`.
 #[tactic(auto, unfolding(crate::specs::Questions::is_question))]
 pub fn is_question(line: &[u8]) -> bool
     ensures { result ≡ is_question line.now }
@@ -76,10 +71,7 @@ fn asks(word: Option<&[u8]>) -> bool
 {
     match word {
         Some(word) => {
-            word == b"help".as_slice()
-                || word == b"show".as_slice()
-                || word == b"where".as_slice()
-                || word == b"draw".as_slice()
+            word == b"help".as_slice() || word == b"show".as_slice() || word == b"where".as_slice()
         }
         None => false,
     }
@@ -95,8 +87,7 @@ pub fn question_in(line: &[u8]) -> Option<&[u8]> {
     }
 }
 
-/// What answers a question about a network, which may have several lines. Of `draw` it is what that line is, as for one
-/// that names no file. None when out of memory.
+/// What answers a question about a network, which may have several lines. None when out of memory.
 pub fn question_message(alloc: Global, net: &TracedNet, line: &[u8]) -> Option<String> {
     let words = cut_words(alloc, uncommented(line)).ok()?;
     answer_text(alloc, net, words.as_slice()).ok()
@@ -109,7 +100,6 @@ fn answer_text(alloc: Global, net: &TracedNet, words: &[&[u8]]) -> Result<String
         [b"show", ..] => Mistake::new(SHOW_FORM, None).text(alloc),
         [b"where", name, number] => packet_answer(alloc, net, name, number),
         [b"where", ..] => Mistake::new(WHERE_FORM, None).text(alloc),
-        [b"draw", ..] => Mistake::new(DRAW_FORM, None).text(alloc),
         _ => format!(in alloc; "{HELP}"),
     }
 }
