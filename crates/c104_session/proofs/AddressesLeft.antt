@@ -1,6 +1,6 @@
 -- What is found at the addresses of a switch that are left: at the next one, and at the rest.
-use Rattle.{c104_session.specs.FoundRegisters.addresses_from, c104_tools.proofs.Rests.{numbers_next, numbers_none}}
-use Rattle.std.{proofs.Common.{List, [], ap, append-nil, append_assoc, sym, ℕ, ◌++◌, ◌+◌, ◌<◌, ◌∙◌, ◌∷◌, ◌≡◌, ◌≤◌}, specs.List.flat_map}
+use Rattle.{c104_session.specs.FoundRegisters.addresses_from, c104_tools.proofs.Rests.{numbers_next, numbers_none}, std.proofs.Common.List}
+use Rattle.std.{proofs.Common.{[], ap, append-nil, append_assoc, sym, ℕ, ◌++◌, ◌+◌, ◌<◌, ◌∙◌, ◌∷◌, ◌≡◌, ◌≤◌}, specs.List.flat_map}
 
 addresses_next : (a : ℕ) → a < 8448 → addresses_from a ≡ a ∷ addresses_from (a + 1)
 unfolding addresses_from

@@ -2,21 +2,21 @@
 -- did anything is told by the count of events.
 use Rattle.{c104_event.specs.declared.{events.Event.Event, faults.EventFault.EventFault}, c104_net.specs.MeteredRecords.MeteredRecord}
 use Rattle.{c104_net.specs.MeteredRecords.at_meter, c104_node.specs.declared.tagged.TaggedToken.TaggedToken}
-use Rattle.{c104_plan.{proofs.RangeLists.all_of_each, specs.Plans.IsPlan}, c104_run.proofs.IdleRounds.{Passes, none_done, passes_run}}
-use Rattle.c104_run.proofs.{IdleRounds.records_count, RecordSteps.ticket_left, RoundRuns.{Applied, undone_left}, StageSteps.unready_stage}
-use Rattle.c104_run.{proofs.WordedRounds.zero_round, specs.{EventRuns.{EventsEnd, Outcome, run_events}, HandedWords.round_with}}
-use Rattle.c104_run.specs.{HandedWords.rounds_with, Meters.Sees, NetRecords.{IsNetRecord, NetRecord, is_done, largest_ticket, ticket_after}}
-use Rattle.c104_run.specs.{Network.{Network, network_apply}, RecordedRuns.{record_apply, record_at, record_stage}, Rounds.round}
-use Rattle.c104_run.specs.{Stages.{Stage, stage_full}, Standstill.IsUnready, declared.words.Words.Words}
-use Rattle.c104_session.proofs.{KeptRounds.{few_done, record_of}, Leavings.rounds_left, StillNets.{each_still, still_where}}
-use Rattle.c104_session.specs.{Counted.{counts_keep, counts_kept}, Driven.keeps_nothing, FurtherRounds.{DoesFurther, DrivesFurther}}
+use Rattle.{c104_plan.{proofs.RangeLists.all_of_each, specs.Plans.IsPlan}, c104_rows.proofs.StillNets.{each_still, still_where}}
+use Rattle.c104_rows.specs.{Recording.recording, Standing.is_still, declared.recording.RunRecord.RunRecord}
+use Rattle.c104_run.proofs.{IdleRounds.{Passes, none_done, passes_run, records_count}, RecordSteps.ticket_left, RoundRuns.Applied}
+use Rattle.c104_run.{proofs.{RoundRuns.undone_left, StageSteps.unready_stage, WordedRounds.zero_round}, specs.EventRuns.EventsEnd}
+use Rattle.c104_run.specs.{EventRuns.{Outcome, run_events}, HandedWords.{round_with, rounds_with}, Meters.Sees, NetRecords.IsNetRecord}
+use Rattle.c104_run.specs.{NetRecords.{NetRecord, is_done, largest_ticket, ticket_after}, Network.{Network, network_apply}}
+use Rattle.c104_run.specs.{RecordedRuns.{record_apply, record_at, record_stage}, Rounds.round, Stages.{Stage, stage_full}}
+use Rattle.{c104_run.specs.{Standstill.IsUnready, declared.words.Words.Words}, c104_session.proofs.KeptRounds.{few_done, record_of}}
+use Rattle.c104_session.{proofs.Leavings.rounds_left, specs.{Driven.keeps_nothing, FurtherRounds.{DoesFurther, DrivesFurther}}}
 use Rattle.c104_session.specs.{FurtherRounds.KeepsFurther, Keepers.{Keeping, KeepsRound, kept_on, round_kept, rounds_kept}}
-use Rattle.c104_session.specs.{Leavings.LeavesRounds, Settling.{ChangesNothing, after_round, is_still}, Timed.timeline_keeps}
-use Rattle.{c104_session.specs.Timed.timeline_kept, c104_stats.specs.{Counts.Counts, Metering.counting}}
-use Rattle.{c104_switch.specs.declared.actions.ReplyOf.ReplyOf, c104_timeline.specs.{Metering.watching, Timelines.Timeline}}
-use Rattle.{c104_token.specs.{Kinds.plain_kind, declared.tokens.Token.Token}, std.proofs.Common.{Bool, Err, List, Ok, Result, [], ap}}
-use Rattle.std.proofs.Common.{append-nil, arith, false, if◌then◌else◌, inl, inr, nat_lt, refl, subst, suc, sym, true, ℕ, ◌&&◌, ◌++◌, ◌+◌}
-use Rattle.std.{proofs.{Common.{◌<◌, ◌∙◌, ◌∷◌, ◌≡◌, ◌≤◌, ◌⊎◌}, lemmas.Bool.Decides.nat_tests}, specs.List.AllByRecursion}
+use Rattle.c104_session.specs.{Leavings.LeavesRounds, Recorded.{record_keeps, record_kept}, Settling.{ChangesNothing, after_round}}
+use Rattle.{c104_switch.specs.declared.actions.ReplyOf.ReplyOf, c104_token.specs.{Kinds.plain_kind, declared.tokens.Token.Token}}
+use Rattle.std.proofs.Common.{Bool, Err, List, Ok, Result, [], ap, append-nil, arith, false, if◌then◌else◌, inl, inr, nat_lt, refl, subst}
+use Rattle.std.proofs.{Common.{suc, sym, true, ℕ, ◌&&◌, ◌++◌, ◌+◌, ◌<◌, ◌∙◌, ◌∷◌, ◌≡◌, ◌≤◌, ◌⊎◌}, lemmas.Bool.Decides.nat_tests}
+use Rattle.std.specs.List.{AllByRecursion}
 
 -- what is due, where no trace is full
 open_due : (test : Bool) (net : Network Token) (due : Applied (Network Token))
@@ -208,15 +208,9 @@ module _ {M : Type 0} (sees : Sees M TaggedToken) (keeps : Keeping M) (net after
       inl (λ n. ap (λ (o : Outcome (MeteredRecord M)). kept_on sees keeps n (rounds_kept sees keeps Words.Zero n) net o) is)
   kept_further (Err f) (inr short) = inr short.0
 
--- so do the counts of a run, and its timeline
-pub counted_further : (net after : NetRecord) (c d : Counts) (result : Result Bool EventFault)
-    → KeepsFurther counting counts_keep net c result after d → DrivesFurther counts_kept c net result d after
-counted_further net after c d (Ok true) kept = kept
-counted_further net after c d (Ok false) kept = (refl, kept)
-counted_further net after c d (Err f) kept = kept
-
-pub timed_further : (net after : NetRecord) (c d : Timeline) (result : Result Bool EventFault)
-    → KeepsFurther watching timeline_keeps net c result after d → DrivesFurther timeline_kept c net result d after
-timed_further net after c d (Ok true) kept = kept
-timed_further net after c d (Ok false) kept = (refl, kept)
-timed_further net after c d (Err f) kept = kept
+-- so does what is kept of a run for its tables
+pub recorded_further : (net after : NetRecord) (r s : RunRecord) (result : Result Bool EventFault)
+    → KeepsFurther recording record_keeps net r result after s → DrivesFurther record_kept r net result s after
+recorded_further net after r s (Ok true) kept = kept
+recorded_further net after r s (Ok false) kept = (refl, kept)
+recorded_further net after r s (Err f) kept = kept

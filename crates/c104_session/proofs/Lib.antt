@@ -5,18 +5,17 @@ pub mod TerminalLines
 pub mod LinesLaw
 pub mod DrivenLines
 pub mod ToldEvents
-pub mod CountedEvents
+pub mod RecordedEvents
 pub mod RoundLeavings
 pub mod NewScripts
-pub mod CountedScripts
+pub mod RowScripts
 pub mod KeptRounds
 pub mod KeptLoops
 pub mod KeptFairRounds
 pub mod KeptFairLoops
-pub mod TimedScripts
 pub mod Leavings
 pub mod FairLeavings
-pub mod StillNets
+pub mod QuietNets
 pub mod FurtherRounds
 pub mod SettledRounds
 pub mod SettledLaw
@@ -33,8 +32,6 @@ pub mod QuietEvents
 pub mod SilentLines
 pub mod FallingWork
 pub mod DeliveredLaw
-pub mod PacedScripts
-pub mod PacedLaw
 pub mod SettledScripts
 pub mod SettlingEnds
 mod RunRefusals
@@ -42,8 +39,3 @@ mod ReadFaults
 pub mod PrintedRunsLaw
 pub mod TextRuns
 mod AddressesLeft
-pub mod RowBytes
-pub mod KeptMeters
-pub mod KeptPlans
-pub mod EnoughSums
-pub mod EnoughPackets

@@ -7,8 +7,8 @@ use Rattle.c104_plan.specs.LabelledImages.{labelled_image, labelled_settings, la
 use Rattle.c104_plan.specs.{PlanImage.{Fits, Image, settings_of, switch_settings}, Plans.{IsPlan, Plan}, TextCut.{lines, most_bytes}}
 use Rattle.c104_plan.specs.declared.{plans.Shape.{Shape, TheVariants.{Cube, Hand, Mesh, Tree, UpDown}}, ports.Port.Port}
 use Rattle.c104_regs.specs.declared.{registers.TheConstants.LINKS, settings.Settings.Settings}
-use Rattle.c104_session.proofs.{DeliveredLaw.delivered_law, PacedLaw.paced_law, PlacedNets.IsOfLinks, PrintedLaw.printed_law, SettledScripts.settled_law}
-use Rattle.{c104_session.specs.PrintedRuns.{PrintsAllOf, PrintsPacedOf, PrintsPacketsOf, PrintsSettledOf}, c104_setup.specs.Setups.ComesTo}
+use Rattle.c104_session.proofs.{DeliveredLaw.delivered_law, PlacedNets.IsOfLinks, PrintedLaw.printed_law, SettledScripts.settled_law}
+use Rattle.{c104_session.specs.PrintedRuns.{PrintsAllOf, PrintsPacketsOf, PrintsSettledOf}, c104_setup.specs.Setups.ComesTo}
 use Rattle.std.proofs.Common.{All, Bool, Err, List, Ok, Result, arith, false, get_or, if◌then◌else◌, length, map, nat_le, subst, sym, true}
 use Rattle.std.proofs.{Common.{ℕ, ◌≡◌}, lemmas.List.{Elements.All-map, FromFn.length-map-range_with_len, length-map}}
 use Rattle.std.specs.List.{range_with_len}
@@ -74,9 +74,3 @@ delivered_runs description script plan image is = search (arith, comes_to, deliv
 pub settled_runs : (description script : List ℕ) → PrintsSettledOf description script
 unfolding PrintsSettledOf
 settled_runs description script plan image is = search (arith, comes_to, settled_law, read_is_plan, image_fits)
-
-pub paced_runs : (description script : List ℕ) → PrintsPacedOf description script
-unfolding PrintsPacedOf
-paced_runs description script plan image comes =
-    let k = comes_to (read_description description) plan image comes in
-    λ is plain rank falls ends. paced_law plan image script (read_is_plan description plan k.0) (image_fits plan image k.1) (sized_by plan image plan.shape k.1) is plain rank falls ends

@@ -1,18 +1,17 @@
 -- What an answer to `settle` says is so: the rounds that it counts are done, each of them changed something, and the network is
 -- left as the answer tells.
 use Rattle.{c104_deadlock.proofs.RecordedRounds.starts_stay, c104_event.specs.declared.{events.Event.Event, faults.EventFault.EventFault}}
-use Rattle.{c104_plan.specs.Plans.{IsPlan, Plan}, c104_run.proofs.{RecordedRuns.{record_kept, record_plan}, RoundRuns.ends_keep}}
-use Rattle.c104_run.{proofs.RoundRuns.{run_append, run_from}, specs.{EventRuns.{Outcome, run_events, unless_fault}, HandedWords.round_with}}
-use Rattle.c104_run.specs.{HandedWords.rounds_with, NetRecords.{IsNetRecord, NetRecord}, RecordedRuns.record_apply}
-use Rattle.{c104_run.specs.declared.words.Words.Words, c104_script.specs.Script.read_script_line}
+use Rattle.{c104_plan.specs.Plans.{IsPlan, Plan}, c104_rows.{proofs.StillNets.still_where, specs.Standing.is_still}}
+use Rattle.c104_run.{proofs.{RecordedRuns.{record_kept, record_plan}, RoundRuns.{ends_keep, run_append, run_from}}, specs.EventRuns.Outcome}
+use Rattle.c104_run.specs.{EventRuns.{run_events, unless_fault}, HandedWords.{round_with, rounds_with}, NetRecords.{IsNetRecord, NetRecord}}
+use Rattle.{c104_run.specs.{RecordedRuns.record_apply, declared.words.Words.Words}, c104_script.specs.Script.read_script_line}
 use Rattle.c104_script.specs.declared.{answers.{Answer.Answer, Settled.Settled}, places.Request.Request}
-use Rattle.c104_session.proofs.{FurtherRounds.{few_left, still_run, unchanged_still}, SettledRounds.moving_left}
-use Rattle.c104_session.{proofs.StillNets.{quiet_where, still_where}, specs.Settling.{ChangesNothing, IsAfterRounds, SettlesTo}}
-use Rattle.c104_session.specs.Settling.{after_round, after_rounds, is_quiet, is_still, rest_within, rounds_at_most, rounds_to_rest}
-use Rattle.c104_session.specs.{Settling.{settle_answer, settle_outcome, settled_at}, Shown.{answer_of_read, line_answer}}
-use Rattle.{c104_session.specs.declared.session.Session.Session, std.proofs.Common.{Bool, Err, IfOk, List, Ok, Option, Result, Some, ap}}
-use Rattle.std.proofs.Common.{arith, false, if◌then◌else◌, inl, nat_lt, refl, subst, suc, sym, true, zero, ℕ, ◌<◌, ◌∙◌, ◌≡◌, ◌≤◌}
-use Rattle.std.proofs.lemmas.Bool.Decides.{nat_tests}
+use Rattle.c104_session.proofs.{FurtherRounds.{few_left, still_run, unchanged_still}, QuietNets.quiet_where, SettledRounds.moving_left}
+use Rattle.c104_session.specs.Settling.{ChangesNothing, IsAfterRounds, SettlesTo, after_round, after_rounds, is_quiet, rest_within}
+use Rattle.c104_session.specs.{Settling.{rounds_at_most, rounds_to_rest, settle_answer, settle_outcome, settled_at}, Shown.answer_of_read}
+use Rattle.{c104_session.specs.{Shown.line_answer, declared.session.Session.Session}, std.proofs.Common.{Bool, Err, IfOk, List, Ok, Option}}
+use Rattle.std.proofs.Common.{Result, Some, ap, arith, false, if◌then◌else◌, inl, nat_lt, refl, subst, suc, sym, true, zero, ℕ, ◌<◌, ◌∙◌}
+use Rattle.std.proofs.{Common.{◌≡◌, ◌≤◌}, lemmas.Bool.Decides.nat_tests}
 
 -- what the type of a network keeps
 abbrev pub Kept : NetRecord → Type 0

@@ -1,30 +1,28 @@
 -- Rounds until a network stands still are fewer than there may be, where the labels are accepted, nobody changed the network,
 -- its channels don't depend on one another in a cycle and no random headers are put before packets: each of them leaves less
 -- work, so there are no more than there is work; and an entry in a trace, so there are no more than there may be entries.
-use Rattle.c104_check.specs.ChannelDependencies.{IsNeverRandomized, IsRanking}
-use Rattle.c104_check.specs.{Routes.{IsAccepted, Routes, routes_of}, declared.ports.SwitchPort.SwitchPort}
-use Rattle.c104_deadlock.proofs.{FullWork.{plain_work, random_within}, RecordedRounds.{applied_plain, done_after}}
-use Rattle.c104_deadlock.specs.{DeadlockFreedom.IsAcyclicNet, HeaderWork.{random_bound, random_work, work_bound}, Work.highest_rank}
-use Rattle.{c104_event.specs.declared.{events.Event.Event, faults.EventFault.EventFault}, c104_net.proofs.SentBytes.{AreBytesSent, SendsBytes}}
-use Rattle.c104_net.specs.{RoundEvents.IsOfRound, Unchanged.{AreStartsOf, IsUnchanged, MayHappen}}
-use Rattle.c104_node.specs.{Nodes.Node, Starts.start_node, Traces.seatless, declared.starts.NodeStart.NodeStart}
+use Rattle.c104_check.specs.{ChannelDependencies.{IsNeverRandomized, IsRanking}, Routes.{IsAccepted, Routes, routes_of}}
+use Rattle.{c104_check.specs.declared.ports.SwitchPort.SwitchPort, c104_deadlock.proofs.FullWork.{plain_work, random_within}}
+use Rattle.c104_deadlock.{proofs.RecordedRounds.{applied_plain, done_after}, specs.{DeadlockFreedom.IsAcyclicNet, HeaderWork.random_bound}}
+use Rattle.{c104_deadlock.specs.{HeaderWork.{random_work, work_bound}, Work.highest_rank}, c104_event.specs.declared.events.Event.Event}
+use Rattle.{c104_event.specs.declared.faults.EventFault.EventFault, c104_net.proofs.SentBytes.{AreBytesSent, SendsBytes}}
+use Rattle.{c104_net.specs.{RoundEvents.IsOfRound, Unchanged.{AreStartsOf, IsUnchanged, MayHappen}}, c104_node.specs.Nodes.Node}
+use Rattle.c104_node.specs.{Starts.start_node, Traces.seatless, declared.starts.NodeStart.NodeStart}
 use Rattle.c104_plan.{proofs.RangeLists.each_append, specs.{PlanImage.Image, Plans.{IsPlan, Plan}}}
 use Rattle.c104_run.proofs.{EntryCounts.{lengths_same, total_below}, RecordSteps.nodes_counted, RecordedRuns.record_plan, RoundRuns.Applied}
-use Rattle.c104_run.specs.{EventRuns.{Outcome, run_events, unless_fault}, HandedWords.{round_with, rounds_with}}
-use Rattle.c104_run.specs.{NetRecords.{IsNetRecord, NetRecord, total_entries}, Network.{Network, network_apply, network_of}}
-use Rattle.c104_run.specs.{RecordedRuns.record_apply, Runs.{IsDoneRun, at_node, run_deeds}, Standstill.IsUnready, declared.words.Words.Words}
+use Rattle.c104_run.specs.{EventRuns.{Outcome, run_events, unless_fault}, HandedWords.{round_with, rounds_with}, NetRecords.IsNetRecord}
+use Rattle.c104_run.specs.{NetRecords.{NetRecord, total_entries}, Network.{Network, network_apply, network_of}, RecordedRuns.record_apply}
+use Rattle.c104_run.specs.{Runs.{IsDoneRun, at_node, run_deeds}, Standstill.IsUnready, declared.words.Words.Words}
 use Rattle.c104_script.specs.{Script.{most_rounds, read_script_line}, declared.answers.{Answer.Answer, Settled.Settled}}
-use Rattle.c104_script.specs.declared.places.Request.{Request}
-use Rattle.c104_session.proofs.FurtherRounds.{event_passes, few_left, idle_still}
-use Rattle.c104_session.proofs.SettledLaw.{Kept, Moved, first_done, first_refused, line_settles, run_keeps}
-use Rattle.c104_session.proofs.{UnchangedNets.{of_round, unchanged_on}, WorkGrowth.round_less}
-use Rattle.c104_session.specs.Settling.{ChangesNothing, IsAfterRounds, SettlesTo, after_round, after_rounds, largest_count, rounds_at_most}
-use Rattle.c104_session.specs.{SettlingEnds.{AlwaysSettles, RoundsEnd}, Shown.line_answer, declared.session.Session.Session}
-use Rattle.c104_switch.specs.{Actions.{Reply, is_ready}, declared.actions.ReplyOf.ReplyOf}
-use Rattle.c104_token.specs.{Kinds.plain_kind, declared.tokens.Token.Token}
-use Rattle.std.proofs.Common.{Bool, Err, IfOk, List, Ok, Option, Result, Some, [], ap, arith, false, inl, inr, length, map, max, min}
-use Rattle.std.proofs.Common.{nat_lt, refl, subst, suc, sym, true, zero, ℕ, ◌*◌, ◌++◌, ◌+◌, ◌<◌, ◌∙◌, ◌∷◌, ◌≡◌, ◌≤◌, ◌⊎◌}
-use Rattle.std.{proofs.lemmas.Bool.Decides.nat_tests, specs.List.AllByRecursion}
+use Rattle.{c104_script.specs.declared.places.Request.Request, c104_session.proofs.FurtherRounds.{event_passes, few_left, idle_still}}
+use Rattle.c104_session.proofs.{SettledLaw.{Kept, Moved, first_done, first_refused, line_settles, run_keeps}, UnchangedNets.of_round}
+use Rattle.c104_session.{proofs.{UnchangedNets.unchanged_on, WorkGrowth.round_less}, specs.Settling.{ChangesNothing, IsAfterRounds}}
+use Rattle.c104_session.specs.{Settling.{SettlesTo, after_round, after_rounds, largest_count, rounds_at_most}, SettlingEnds.AlwaysSettles}
+use Rattle.c104_session.specs.{SettlingEnds.RoundsEnd, Shown.line_answer, declared.session.Session.Session}
+use Rattle.{c104_switch.specs.{Actions.{Reply, is_ready}, declared.actions.ReplyOf.ReplyOf}, c104_token.specs.Kinds.plain_kind}
+use Rattle.{c104_token.specs.declared.tokens.Token.Token, std.proofs.Common.{Bool, Err, IfOk, List, Ok, Option, Result, Some, [], ap}}
+use Rattle.std.proofs.Common.{arith, false, inl, inr, length, map, max, min, nat_lt, refl, subst, suc, sym, true, zero, ℕ, ◌*◌, ◌++◌, ◌+◌}
+use Rattle.std.{proofs.{Common.{◌<◌, ◌∙◌, ◌∷◌, ◌≡◌, ◌≤◌, ◌⊎◌}, lemmas.Bool.Decides.nat_tests}, specs.List.AllByRecursion}
 
 may_happen : (routes : Routes) (e : Event) (r : Reply) → IsOfRound e → MayHappen routes e r
 may_happen routes e r of = search arith

@@ -1,6 +1,6 @@
 -- How a command ends that writes one text of a script's run: where nothing is written, and whether the script is refused.
 use Rattle.{c104_plan.specs.{PlanImage.Image, Plans.Plan}, c104_script.specs.Answering.DoesScript, c104_session.specs.Shown.line_outcome}
-use Rattle.c104_session.specs.{TextRuns.{IsDoneBy, IsRefusedAfter, IsUnwritten, TextEnds, WritesRun}, declared.session.Session.Session}
+use Rattle.c104_session.specs.{TextRuns.{IsDoneBy, IsUnwritten, TextEnds, WritesRun}, declared.session.Session.Session}
 use Rattle.{c104_setup.specs.{Endings.IsSetup, Statuses.halt_status, declared.status.Status.Status}, c104_stream.specs.Scripts.Known}
 use Rattle.{c104_stream.specs.declared.halt.Halt.Halt, std.proofs.Common.{Bool, Err, List, Ok, Result, arith, inl, subst, sym, ℕ, ◌||◌}}
 use Rattle.std.proofs.{Common.{◌≡◌, ◌≢◌}, KnownBytes.Keeps-refl}
@@ -22,7 +22,3 @@ text_ends refuses description held now holds plan image status setup same writes
 pub done_by : (session after : Session) (script : Known) (long refused : Bool) → DoesScript line_outcome session script after long
     → refused ≡ (long || after.faulty) → IsDoneBy session script after refused
 done_by session after script long refused done told = search arith
-
-pub refused_by : (session after : Session) (script : Known) (refused : Bool) → IsDoneBy session script after refused
-    → IsRefusedAfter session script refused
-refused_by session after script refused done = search arith

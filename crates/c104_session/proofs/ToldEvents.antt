@@ -2,9 +2,8 @@
 use Rattle.{c104_event.specs.declared.{events.Event.Event, faults.EventFault.EventFault}, c104_net.specs.MeteredRecords.MeteredRecord}
 use Rattle.{c104_net.specs.MeteredRecords.{at_meter, record_metered}, c104_node.specs.declared.tagged.TaggedToken.TaggedToken}
 use Rattle.c104_run.specs.{EventRuns.Answers, Meters.Sees, NetRecords.{NetRecord, is_done}, RecordedRuns.{AnswersRecord, record_apply}}
-use Rattle.{c104_session.{proofs.Leavings.event_kept, specs.{Driven.DoesEvent, Timed.told_event}}, c104_switch.specs.Actions.Reply}
-use Rattle.{c104_timeline.specs.{Metering.watching, Timelines.{Timeline, timeline_ended}}, std.proofs.Common.{Bool, Err, OnErr, Result}}
-use Rattle.std.proofs.Common.{arith, ◌≡◌, ◌⊎◌}
+use Rattle.{c104_session.{proofs.Leavings.event_kept, specs.Driven.DoesEvent}, c104_switch.specs.Actions.Reply, std.proofs.Common.Bool}
+use Rattle.std.proofs.Common.{Err, OnErr, Result, arith, ◌≡◌, ◌⊎◌}
 
 module _ (net : NetRecord) (e : Event) (answer : Result Reply EventFault) (after : NetRecord) where
   pub asked_due : AnswersRecord net e answer after → DoesEvent net e answer after
@@ -15,12 +14,6 @@ module _ (net : NetRecord) (e : Event) (answer : Result Reply EventFault) (after
       → (m ≡ due) ⊎ (answer ≡ Err EventFault.NoMemory) → n ≡ f m (is_done answer)
       → (n ≡ f due (is_done (record_apply net e).0)) ⊎ (answer ≡ Err EventFault.NoMemory)
   done_so f due m n does told is = search arith
-
-  -- of a timeline that is told whether it was done
-  pub timed_told : (t u v : Timeline) → DoesEvent net e answer after
-      → (u ≡ (record_metered watching (at_meter net t) e).1.meter) ⊎ (answer ≡ Err EventFault.NoMemory)
-      → v ≡ timeline_ended u (is_done answer) → (v ≡ told_event t net e) ⊎ (answer ≡ Err EventFault.NoMemory)
-  timed_told t u v = done_so timeline_ended (record_metered watching (at_meter net t) e).1.meter u v
 
 module _ {M : Type 0} (sees : Sees M TaggedToken) (net : NetRecord) (e : Event) (answer : Result Reply EventFault) (after : NetRecord)
     (m n : M) (told : Answers (record_metered sees) (at_meter net m) e answer (at_meter after n)) where

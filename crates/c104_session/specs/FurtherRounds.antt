@@ -1,9 +1,9 @@
 -- A round that is done unless the network stands still, what such rounds come to, and what is kept of them.
 use Rattle.{c104_event.specs.declared.faults.EventFault.EventFault, c104_net.specs.MeteredRecords.at_meter}
-use Rattle.{c104_node.specs.declared.tagged.TaggedToken.TaggedToken, c104_run.specs.{Meters.Sees, NetRecords.NetRecord}}
-use Rattle.{c104_run.specs.declared.words.Words.Words, c104_session.specs.Driven.Driving}
-use Rattle.c104_session.specs.{Keepers.{Keeping, rounds_kept}, Leavings.LeavesRounds, Settling.{after_round, after_rounds, is_still}}
-use Rattle.c104_session.specs.Settling.{rounds_at_most, rounds_to_rest}
+use Rattle.{c104_node.specs.declared.tagged.TaggedToken.TaggedToken, c104_rows.specs.Standing.is_still, c104_run.specs.Meters.Sees}
+use Rattle.{c104_run.specs.{NetRecords.NetRecord, declared.words.Words.Words}, c104_session.specs.{Driven.Driving, Keepers.Keeping}}
+use Rattle.c104_session.specs.{Keepers.rounds_kept, Leavings.LeavesRounds, Settling.{after_round, after_rounds, rounds_at_most}}
+use Rattle.c104_session.specs.Settling.{rounds_to_rest}
 use Rattle.std.specs.Prelude.{Bool, Err, Ok, Result, false, suc, true, ℕ, ◌<◌, ◌≡◌, ◌⊎◌}
 
 -- a round was done, but not where the network stands still; or a fault stopped it, or there is no memory after some of its events

@@ -11,15 +11,10 @@ pub mod Driven
 pub mod Keepers
 pub mod FurtherRounds
 pub mod Runs
-pub mod Counted
-pub mod CountedRuns
-pub mod Timed
-pub mod TimedRuns
-pub mod AskedPictures
+pub mod Recorded
+pub mod RowRuns
 pub mod PrintedPackets
 pub mod DeliveredRuns
-pub mod PacedRuns
-pub mod EnoughRounds
 pub mod RunCommands
 pub mod PrintedRuns
 pub mod TextRuns

@@ -1,6 +1,6 @@
 -- What a run of texts prints of packets: the theorems about packets and about deadlock, of the text that is written.
 use Rattle.{c104_describe.specs.PlanText.read_description, c104_plan.specs.{PlanImage.Image, Plans.Plan}}
-use Rattle.c104_session.specs.{DeliveredRuns.{PrintsAllSent, PrintsAllSettled}, PacedRuns.PrintsAllInPace, PrintedPackets.PrintsSentPackets}
+use Rattle.c104_session.specs.{DeliveredRuns.{PrintsAllSent, PrintsAllSettled}, PrintedPackets.PrintsSentPackets}
 use Rattle.c104_setup.specs.Setups.{ComesTo}
 use Rattle.std.specs.Prelude.{List, Ok, ℕ}
 
@@ -21,8 +21,3 @@ PrintsAllOf description script = (plan : Plan) (image : Image) → ComesTo (read
 unfoldable pub PrintsSettledOf : List ℕ → List ℕ → Type 0
 PrintsSettledOf description script = (plan : Plan) (image : Image) → ComesTo (read_description description) (Ok (plan, image)) →
     PrintsAllSettled plan image script
-
--- or the script keeps packets together, and ends with as many rounds as are counted for its packets
-unfoldable pub PrintsPacedOf : List ℕ → List ℕ → Type 0
-PrintsPacedOf description script = (plan : Plan) (image : Image) → ComesTo (read_description description) (Ok (plan, image)) →
-    PrintsAllInPace plan image script

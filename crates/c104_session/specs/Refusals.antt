@@ -1,8 +1,8 @@
 -- What is refused of a script's lines, where each is counted, and where the run ends for that.
 pub use Rattle.c104_session.specs.declared.refusals.Refusals.{Refusals}
-use Rattle.{c104_event.specs.declared.faults.EventFault.EventFault, c104_script.specs.declared.answers.Answer.{Answer, TheVariants.Found}}
-use Rattle.c104_script.specs.declared.{answers.Answer.TheVariants.Refused, findings.Finding.Finding}
-use Rattle.{c104_session.specs.declared.session.Session.Session, c104_stats.specs.Numbers.told}
+use Rattle.{c104_event.specs.declared.faults.EventFault.EventFault, c104_rows.specs.Numbers.told}
+use Rattle.c104_script.specs.declared.{answers.Answer.{Answer, TheVariants.{Found, Refused}}, findings.Finding.Finding}
+use Rattle.c104_session.specs.declared.session.Session.{Session}
 use Rattle.std.specs.Prelude.{Bool, Option, Some, false, true, ◌+◌, ◌||◌}
 
 -- whether the run ends with a line that is refused so: since a trace or an inbox is full

@@ -4,14 +4,13 @@
 --     rounds_at_most net      the most rounds that are done: more than the bound of the work that is left, if that can be counted
 --     rounds_to_rest net      the number of rounds that are done
 use Rattle.{c104_deadlock.specs.HeaderWork.work_bound, c104_link.specs.Buffers.Outgoing, c104_node.specs.{Nodes.Node, Quiet.is_fresh}}
-use Rattle.c104_node.specs.declared.node.NodeOf.{NodeOf}
-use Rattle.c104_run.specs.{EventRuns.{Outcome, run_events}, HandedWords.{round_with, rounds_with}, NetRecords.NetRecord, Network.Network}
-use Rattle.c104_run.specs.{Network.network_apply, QuietNets.IsQuiet, Reasons.is_unready, RecordedRuns.record_apply, Rounds.round}
-use Rattle.{c104_run.specs.{Standstill.{IsDeadlocked, StandsStill}, declared.words.Words.Words}, c104_script.specs.Script.most_rounds}
-use Rattle.{c104_script.specs.declared.answers.{Answer.Answer, Settled.Settled}, c104_switch.specs.Switch.{Input, Switch}}
-use Rattle.c104_token.specs.{Kinds.plain_kind, declared.tokens.Token.Token}
-use Rattle.std.specs.{List.list_all, Prelude.{Bool, Err, List, Ok, Option, Some, [], false, if◌then◌else◌, max, min, suc, true, zero}}
-use Rattle.std.specs.Prelude.{ℕ, ◌&&◌, ◌+◌, ◌<◌, ◌∷◌, ◌≡◌, ◌≤◌}
+use Rattle.{c104_node.specs.declared.node.NodeOf.NodeOf, c104_rows.specs.Standing.is_still, c104_run.specs.EventRuns.{Outcome, run_events}}
+use Rattle.c104_run.specs.{HandedWords.{round_with, rounds_with}, NetRecords.NetRecord, Network.Network, QuietNets.IsQuiet}
+use Rattle.c104_run.specs.{RecordedRuns.record_apply, Standstill.{IsDeadlocked, StandsStill}, declared.words.Words.Words}
+use Rattle.{c104_script.specs.{Script.most_rounds, declared.answers.{Answer.Answer, Settled.Settled}}, c104_switch.specs.Switch.Input}
+use Rattle.{c104_switch.specs.Switch.Switch, c104_token.specs.{Kinds.plain_kind, declared.tokens.Token.Token}}
+use Rattle.std.specs.{List.list_all, Prelude.{Bool, Err, List, Ok, Option, Some, [], false, if◌then◌else◌, max, min, suc, true, zero, ℕ}}
+use Rattle.std.specs.Prelude.{◌&&◌, ◌+◌, ◌<◌, ◌∷◌, ◌≡◌, ◌≤◌}
 
 -- How many rounds there may be
 
@@ -58,10 +57,6 @@ SettlesTo old (Some (Answer.Refused kind)) new =
 SettlesTo old answer new = ⊥
 
 -- How it is computed
-
--- whether a network stands still: whether each event of a round is answered with NotReady
-unfoldable pub is_still : Network Token → Bool
-is_still net = list_all (λ e. is_unready (network_apply plain_kind net e).0) (round net.plan)
 
 -- whether no token is among some
 abbrev pub has_none : List Token → Bool

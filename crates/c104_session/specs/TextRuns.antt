@@ -2,10 +2,9 @@
 -- then, where its readers and its writer tell their bytes. It is one relation for all such commands: which texts may be written,
 -- and whether a command that writes one tells that it is refused, is a relation of its own, `refuses plan image text refused`.
 --     TextEnds refuses description held holds status      of the description that a reader has left
-use Rattle.{c104_plan.specs.{PlanImage.Image, Plans.Plan}, c104_session.specs.Shown.{line_outcome, new_session}}
-use Rattle.{c104_session.specs.declared.session.Session.Session, c104_setup.specs.Endings.{EndsBefore, IsSetup}}
-use Rattle.{c104_setup.specs.declared.status.Status.Status, c104_stream.specs.{ScriptLines.is_long, Scripts.{Known, script_outcome}}}
-use Rattle.c104_stream.specs.Writing.{AppendsPrefix}
+use Rattle.{c104_plan.specs.{PlanImage.Image, Plans.Plan}, c104_session.specs.{Shown.line_outcome, declared.session.Session.Session}}
+use Rattle.{c104_setup.specs.{Endings.{EndsBefore, IsSetup}, declared.status.Status.Status}, c104_stream.specs.ScriptLines.is_long}
+use Rattle.c104_stream.specs.{Scripts.{Known, script_outcome}, Writing.AppendsPrefix}
 use Rattle.std.specs.{Io.KnownBytes.{Appends, Keeps}, Prelude.{Bool, List, None, Ok, Some, false, true, ℕ, ⊤, ◌||◌, ◌≡◌, ◌⊎◌}}
 
 -- the text is written, and the status tells whether the run is refused; or a prefix of it where the writer failed
@@ -44,13 +43,3 @@ abbrev pub IsDoneBy : Session → Known → Session → Bool → Type 0
 IsDoneBy session None after refused = ⊤
 IsDoneBy session (Some script) after refused =
     (after ≡ (script_outcome line_outcome session script).1) × (refused ≡ (is_long script || after.faulty))
-
--- a script is refused, or not, for its length or for one of its lines, where what the reader has left of it is told
-abbrev pub IsRefusedAfter : Session → Known → Bool → Type 0
-IsRefusedAfter session None refused = ⊤
-IsRefusedAfter session (Some script) refused =
-    refused ≡ (is_long script || (script_outcome line_outcome session script).1.faulty)
-
--- the same on the network of a plan with an image, whatever text is written of it
-abbrev pub IsRefusedOn : Known → Plan → Image → List ℕ → Bool → Type 0
-IsRefusedOn script plan image text refused = IsRefusedAfter (new_session plan image) script refused

@@ -1,9 +1,8 @@
 //! Messages about the lines of a script, and answers to what a person asks among them.
 //!
 //! A question stands in the comment of a line, and is answered behind that line where standard input and standard error are
-//! terminals; so it changes no answer. Elsewhere it is a comment as any other, and no script writes a file by `draw FILE`.
+//! terminals; so it changes no answer. Elsewhere it is a comment as any other.
 
-use crate::asked_pictures::{asked_file, picture_message};
 use crate::refusals::ends_run;
 use crate::session::Session;
 use crate::tally::Tally;
@@ -145,7 +144,7 @@ fn message_of_done(
     }
 }
 
-/// What answers a question in the comment of a line, where a person types it. A picture that is asked for is saved.
+/// What answers a question in the comment of a line, where a person types it.
 fn message_of_question<M: Messages>(
     alloc: Global,
     session: &Session,
@@ -157,9 +156,6 @@ fn message_of_question<M: Messages>(
     }
     let question = question_in(line)?;
     telling.tally.note_line();
-    let message = match asked_file(alloc, question) {
-        Some(file) => picture_message(alloc, session, file, telling.messages)?,
-        None => question_message(alloc, &session.net, question)?,
-    };
+    let message = question_message(alloc, &session.net, question)?;
     Some((About::Question, message))
 }

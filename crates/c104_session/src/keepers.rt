@@ -6,9 +6,9 @@ ghost use Rattle.c104_session.specs.{FurtherRounds.{DoesFurther, KeepsFurther}, 
 ghost use Rattle.c104_session.specs.Keepers.{is_later, rounds_kept};
 ghost use Rattle.c104_event.specs.declared.faults.EventFault.TheVariants as fault;
 
-use crate::settling::stands_still;
 use c104_event::{Event, EventFault};
 use c104_net::{Meter, MeteredNet, TaggedToken, TracedNet, Turns, Watch, Words};
+use c104_rows::stands_still;
 use c104_switch::Reply;
 use c104_token::NoMemory;
 

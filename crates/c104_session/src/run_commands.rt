@@ -2,9 +2,8 @@
 ghost use Rattle.std.specs.{Io.KnownBytes.{IsAtEnd, prepend_known}, Prelude.{List, Ok, Result, length, ℕ, ◌≡◌, ◌≤◌}};
 ghost use Rattle.c104_describe.specs.{PlanText.read_description, declared.faults.PlanFault.PlanFault as ThePlanFault};
 ghost use Rattle.{c104_plan.specs.{PlanImage.Fits, Plans.Plan as ThePlan, TextCut.most_bytes}, c104_script.specs.Parts.AreOnlyParts};
-ghost use Rattle.{c104_script.specs.Parts.{StopsBeforeScript, parts}, c104_session.specs.Lines.AreOnlyLines};
-ghost use Rattle.c104_session.specs.PrintedRuns.{PrintsAllOf, PrintsPacedOf, PrintsPacketsOf, PrintsSettledOf};
-ghost use Rattle.c104_session.specs.RunCommands.{RunsDescription, RunsParts, RunsText};
+ghost use Rattle.{c104_script.specs.Parts.{StopsBeforeScript, parts}, c104_session.specs.{Lines.AreOnlyLines, PrintedRuns.PrintsAllOf}};
+ghost use Rattle.c104_session.specs.{PrintedRuns.{PrintsPacketsOf, PrintsSettledOf}, RunCommands.{RunsDescription, RunsParts, RunsText}};
 ghost use Rattle.{c104_setup.specs.Setups.ComesTo, c104_stream.specs.ScriptLines.script_lines};
 ghost use Rattle.c104_setup.specs.declared.status.Status.TheVariants as status;
 
@@ -27,7 +26,7 @@ use std::io::{Read, Write};
 ///
 /// Reading ends at 1 MiB of a description and at 16 MiB of a script, whatever the reader. Each error
 /// of a reader or a writer is a fault at once.
-#[tactic(auto, using(crate::proofs::LinesLaw::lines_law, crate::proofs::PrintedRunsLaw::printed_runs, crate::proofs::PrintedRunsLaw::delivered_runs, crate::proofs::PrintedRunsLaw::settled_runs, crate::proofs::PrintedRunsLaw::paced_runs))]
+#[tactic(auto, using(crate::proofs::LinesLaw::lines_law, crate::proofs::PrintedRunsLaw::printed_runs, crate::proofs::PrintedRunsLaw::delivered_runs, crate::proofs::PrintedRunsLaw::settled_runs))]
 pub fn run<D: Read, S: Read, W: Write, M: Messages>(
     alloc: Global,
     description: &mut D,
@@ -52,7 +51,6 @@ pub fn run<D: Read, S: Read, W: Write, M: Messages>(
     // a line behind them settles and no token is left.
     ensures packets { (text script : List ℕ) → PrintsPacketsOf text script }
     ensures all { (text script : List ℕ) → PrintsAllOf text script }
-    ensures paced { (text script : List ℕ) → PrintsPacedOf text script }
     ensures settled { (text script : List ℕ) → PrintsSettledOf text script }
 {
     let text = match read_up_to(alloc, MAX_DESCRIPTION, description) {
@@ -81,7 +79,6 @@ pub fn debug_command<D: Read, S: Read, W: Write, M: Messages>(
     ensures lines { (script : List ℕ) → AreOnlyLines script (script_lines script) }
     ensures packets { (text script : List ℕ) → PrintsPacketsOf text script }
     ensures all { (text script : List ℕ) → PrintsAllOf text script }
-    ensures paced { (text script : List ℕ) → PrintsPacedOf text script }
     ensures settled { (text script : List ℕ) → PrintsSettledOf text script }
 {
     run(alloc, description, script, writer, messages)
@@ -90,7 +87,7 @@ pub fn debug_command<D: Read, S: Read, W: Write, M: Messages>(
 /// `run` of one text: its description ends at the first line whose only word is `script`, and the
 /// script follows that line. Where there is no such line the script is empty, and where it hasn't
 /// ended within 1 MiB the description is too long. Messages name the lines of the text.
-#[tactic(auto, using(c104_script::proofs::PartsLaw::parts_law, crate::proofs::LinesLaw::lines_law, crate::proofs::PrintedRunsLaw::printed_runs, crate::proofs::PrintedRunsLaw::delivered_runs, crate::proofs::PrintedRunsLaw::settled_runs, crate::proofs::PrintedRunsLaw::paced_runs))]
+#[tactic(auto, using(c104_script::proofs::PartsLaw::parts_law, crate::proofs::LinesLaw::lines_law, crate::proofs::PrintedRunsLaw::printed_runs, crate::proofs::PrintedRunsLaw::delivered_runs, crate::proofs::PrintedRunsLaw::settled_runs))]
 pub fn run_text<R: Read, W: Write, M: Messages>(
     alloc: Global,
     text: &mut R,
@@ -113,7 +110,6 @@ pub fn run_text<R: Read, W: Write, M: Messages>(
     // a line behind them settles and no token is left.
     ensures packets { (text : List ℕ) → PrintsPacketsOf (parts text).description (parts text).script }
     ensures all { (text : List ℕ) → PrintsAllOf (parts text).description (parts text).script }
-    ensures paced { (text : List ℕ) → PrintsPacedOf (parts text).description (parts text).script }
     ensures settled { (text : List ℕ) → PrintsSettledOf (parts text).description (parts text).script }
 {
     let Ok(mut ahead) = Ahead::new(alloc) else {

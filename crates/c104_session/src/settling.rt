@@ -1,9 +1,9 @@
 //! Rounds until a network stands still.
 ghost use Rattle.std.specs.Prelude.{All, Err, IfOk, OnErr, OnOk, true, ◌<◌, ◌≡◌, ◌⊎◌};
+ghost use Rattle.{c104_node.specs.TracedRecords.{IsFit, TracedRecord}, c104_rows.specs.Standing.is_still};
 ghost use Rattle.{c104_run.specs.NetRecords.NetRecord as TheNet, c104_script.specs.declared.answers.Answer.Answer as TheAnswer};
-ghost use Rattle.c104_session.specs.{FurtherRounds.Settles, Leavings.LeavesRounds, Settling.{is_quiet, is_still, rounds_at_most}};
-ghost use Rattle.c104_session.specs.{Settling.{rounds_to_rest, settle_outcome, settled_at}, SettlingEnds.RoundsEnd};
-ghost use Rattle.c104_node.specs.TracedRecords.{IsFit, TracedRecord};
+ghost use Rattle.c104_session.specs.{FurtherRounds.Settles, Leavings.LeavesRounds, Settling.{is_quiet, rounds_at_most, rounds_to_rest}};
+ghost use Rattle.c104_session.specs.{Settling.{settle_outcome, settled_at}, SettlingEnds.RoundsEnd};
 ghost use Rattle.c104_event.specs.declared.faults.EventFault.TheVariants as fault;
 ghost use Rattle.c104_run.specs.declared.words.Words.TheVariants as words;
 
@@ -12,6 +12,7 @@ use c104_deadlock::LeftWork;
 use c104_event::EventFault;
 use c104_net::{TracedNet, Watch};
 use c104_node::CountedNode;
+use c104_rows::stands_still;
 use c104_script::{Answer, MAX_ROUNDS, Settled};
 use c104_token::NoMemory;
 
@@ -103,13 +104,6 @@ fn read_counts(nodes: &[CountedNode])
     for node in nodes {
         let _arrived = node.arrived();
     }
-}
-
-/// Whether a network stands still.
-pub(crate) fn stands_still(net: &TracedNet) -> bool
-    ensures { result ≡ is_still net.now.network }
-{
-    net.stands_still()
 }
 
 /// Whether a network is quiet.

@@ -1,6 +1,6 @@
 use Rattle.{c104_run.specs.Network.network_peek, c104_script.specs.declared.found_registers.FoundRegister.FoundRegister}
-use Rattle.c104_session.{proofs.AddressesLeft.{joined_end, joined_on}, specs.FoundRegisters.difference}
-use Rattle.{c104_tools.specs.Loads.due_value, std.proofs.Common.{List, ap, arith, ℕ, ◌∙◌}}
+use Rattle.{c104_session.{proofs.AddressesLeft.{joined_end, joined_on}, specs.FoundRegisters.difference}, c104_tools.specs.Loads.due_value}
+use Rattle.std.proofs.Common.{List, ap, arith, ℕ, ◌∙◌}
 use Rattle.c104_session.proofs.found_registers.add_named.Goals as goal
 
 pub loop-addr-preserved : goal.loop-addr-preserved

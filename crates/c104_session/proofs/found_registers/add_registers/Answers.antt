@@ -1,6 +1,5 @@
 use Rattle.{c104_run.specs.Network.network_peek, c104_script.specs.declared.found_registers.FoundRegister.FoundRegister}
-use Rattle.c104_session.{proofs.AddressesLeft.{joined_end, joined_on}, specs.FoundRegisters.told}
-use Rattle.std.proofs.Common.{List, ap, arith, ℕ}
+use Rattle.{c104_session.{proofs.AddressesLeft.{joined_end, joined_on}, specs.FoundRegisters.told}, std.proofs.Common.{List, ap, arith, ℕ}}
 use Rattle.c104_session.proofs.found_registers.add_registers.Goals as goal
 
 pub loop-addr-preserved : goal.loop-addr-preserved

@@ -1,4 +1,0 @@
-use Rattle.c104_session.proofs.StillNets.{told_still}
-
-pub returns : Rattle.c104_session.proofs.settling.stands_still.Goals.returns
-returns c = told_still c.args.net.now.network c.stands_still.result c.stands_still.ensures
