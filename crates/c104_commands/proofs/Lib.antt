@@ -1,7 +1,12 @@
 pub mod LabelRefusals
-pub mod PathCounts
 mod ImageLines
-mod TrafficEnds
 pub mod ReadTexts
 pub mod BootLemmas
 mod KeptNames
+mod ListLemmas
+mod RowLemmas
+pub mod WithoutKept
+mod GroupLemmas
+pub mod CommentLines
+mod HeaderLemmas
+mod LeftLemmas

@@ -6,6 +6,7 @@
 ghost use Rattle.{c104_check.specs.Routes.{IsAccepted, routes_of}, c104_plan.specs.PlanImage.Fits};
 
 use crate::cycle_texts::cycle_text;
+use crate::sentences::{cycle_sentences, label_line, no_cycle_text, refusal_text, row_lines};
 use c104_check::{
     ChannelDependency, CheckFault, Misstep, RanksOrCycle, SwitchPort, find_cycle, find_misstep,
 };
@@ -13,7 +14,6 @@ use c104_fixes::{Fix, RowChange, RowFix, RowLines, TriedFix, Waiting, find_fix_o
 use c104_interval::Row;
 use c104_mistakes::typed_header;
 use c104_plan::{Image, Plan, Port};
-use c104_print::{cycle_sentences, label_line, no_cycle_text, refusal_text, row_lines};
 use c104_token::NoMemory;
 use std::alloc::{AllocError, Global};
 

@@ -67,7 +67,7 @@ fn tell_waiting<M: Messages>(alloc: Global, plan: &Plan, image: &Image, messages
 }
 
 /// Tells people where a header goes wrong, where there is memory for it.
-fn tell_refusal<M: Messages>(
+pub(crate) fn tell_refusal<M: Messages>(
     alloc: Global,
     plan: &Plan,
     image: &Image,

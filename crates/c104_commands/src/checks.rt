@@ -8,7 +8,6 @@ ghost use Rattle.c104_setup.specs.{Endings.{CommandEnds, CommandRuns}, Setups.Co
 ghost use Rattle.c104_check.specs.declared.faults.CheckFault.TheVariants as check_fault;
 
 use crate::advice::{refusal_advice, waiting_advice};
-use crate::idle_rows::tell_of_idle_rows;
 use crate::texts::check_fault_text;
 use c104_check::{CheckFault, check};
 use c104_mistakes::{About, Messages, tell_lines};
@@ -22,8 +21,8 @@ use std::io::{Read, Write};
 /// description.
 ///
 /// Reading ends at 1 MiB, whatever the reader. Each error of the reader or the writer is a fault at once. People are
-/// told why the description or its labels are refused, and which rows never decide; what is written and how it ends are the
-/// same whatever takes the messages does.
+/// told why the description or its labels are refused; what is written and how it ends are the same whatever takes the
+/// messages does.
 pub fn check_command<D: Read, W: Write, M: Messages>(
     alloc: Global,
     description: &mut D,
@@ -97,7 +96,6 @@ fn accept_labels<W: Write, M: Messages>(
     };
     if messages.are_wanted() {
         tell_of_cycles(alloc, description, setup, messages);
-        tell_of_idle_rows(alloc, description, setup, messages);
     }
     Status::Done
 }
@@ -116,7 +114,7 @@ fn tell_of_cycles<M: Messages>(alloc: Global, description: &[u8], setup: &Setup,
 
 /// Tells why the labels of a network are refused, which ends any command that checks them: first it writes that, and then it
 /// tells people of it. Out of memory nothing is written.
-pub fn refuse_labels<W: Write, M: Messages>(
+pub(crate) fn refuse_labels<W: Write, M: Messages>(
     alloc: Global,
     setup: &Setup,
     fault: &CheckFault,

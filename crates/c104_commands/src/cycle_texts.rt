@@ -8,7 +8,7 @@ use c104_plan::Plan;
 use std::alloc::{AllocError, Global};
 
 /// The line of a network without a cycle. The only error is out of memory.
-pub fn acyclic_text(alloc: Global) -> Result<String, AllocError>
+pub(crate) fn acyclic_text(alloc: Global) -> Result<String, AllocError>
     ensures { IfOk result (λ text. string_bytes text ≡ acyclic_text) }
 {
     format!(in alloc; "acyclic\n")

@@ -1,12 +1,12 @@
 //! The labelling of a description by `row` lines.
-ghost use Rattle.std.specs.{Prelude.{IfOk, IfSome, IsTrue, Ok, Result, is_some, ◌↔◌, ◌≡◌}, String.string_bytes};
-ghost use Rattle.{c104_commands.specs.LabelRows.{IsReadBack, PrintsRows, unsayable_text}, c104_describe.specs.PlanPrint.plan_text};
-ghost use Rattle.{c104_describe.specs.declared.faults.PlanFault.PlanFault as ThePlanFault, c104_plan.specs.PlanImage.{Fits, hand_image}};
-ghost use Rattle.{c104_plan.specs.{Plans.Plan as ThePlan, RowPlans.row_plan}, c104_setup.specs.Endings.{CommandEnds, CommandRuns}};
-ghost use Rattle.c104_setup.specs.Setups.{ComesTo};
+ghost use Rattle.std.specs.{Prelude.{IfOk, Ok, Result, ◌≡◌}, String.string_bytes};
+ghost use Rattle.{c104_commands.specs.LabelRows.{PrintsRows, unsayable_text}, c104_plan.specs.{PlanImage.Fits, Plans.Plan as ThePlan}};
+ghost use Rattle.c104_describe.specs.declared.faults.PlanFault.{PlanFault as ThePlanFault};
+ghost use Rattle.c104_setup.specs.{Endings.{CommandEnds, CommandRuns}, Setups.ComesTo};
 
 use crate::reports::tell_labels;
-use c104_describe::print_plan;
+use crate::shape_lines::shaped_text;
+use c104_label::UpDownReport;
 use c104_mistakes::{About, Messages};
 use c104_plan::{Image, Plan};
 use c104_setup::{Setup, Status, read_setup};
@@ -16,12 +16,12 @@ use std::alloc::{AllocError, Global};
 use std::io::{Read, Write};
 
 /// What people are told of labels that `row` lines can't say.
-const UNSAYABLE: &str = "these labels can't be said by row lines";
+pub(crate) const UNSAYABLE: &str = "these labels can't be said by row lines";
 
-/// Reads a description and labels its network; writes a description of the same network whose `base`, `row`, `continue`,
-/// `delete` and `random` lines set all that the labels do, or that such lines can't say them, or why the network isn't
-/// labelled, or the first fault of the description. Read again, what is written has the same labels and the same
-/// registers, if it has at most 1 MiB.
+/// Reads a description and labels its network; writes a line of its shape, a comment, and a description of the same network
+/// whose `base`, `row`, `continue`, `delete` and `random` lines set all that the labels do, or that such lines can't say
+/// them, or why the network isn't labelled, or the first fault of the description. Read again, what is written has the same
+/// labels and the same registers, if it has at most 1 MiB.
 ///
 /// Reading ends at 1 MiB, whatever the reader. Each error of the reader or the writer is a fault at once. People are
 /// told why the description or its labels are refused, and which labels up and down were made; what is written and how it
@@ -53,7 +53,7 @@ fn show_rows<W: Write, M: Messages>(
     ensures { (due : Result ThePlan ThePlanFault) → ComesTo due (Ok (setup.now.plan, setup.now.image))
         → CommandEnds PrintsRows due (W.contents writer.old) (W.contents writer.new) result }
 {
-    let Ok(shown) = shown_rows(alloc, &setup.plan, &setup.image) else {
+    let Ok(shown) = shown_rows(alloc, &setup.plan, &setup.image, setup.report) else {
         return Status::NoMemory;
     };
     let Ok(()) = write_whole(writer, shown.text.as_bytes()) else {
@@ -77,43 +77,33 @@ pub struct Shown {
     pub refused: bool,
 }
 
-/// What `label_rows_command` prints of a network with its labels. The only error is out of memory.
-pub fn shown_rows(alloc: Global, plan: &Plan, image: &Image) -> Result<Shown, NoMemory>
+/// What `label_rows_command` prints of a network with its labels, by the root from which they were made, if it is told. The
+/// only error is out of memory.
+pub fn shown_rows(
+    alloc: Global,
+    plan: &Plan,
+    image: &Image,
+    report: Option<UpDownReport>,
+) -> Result<Shown, NoMemory>
     requires { Fits image.now plan.now }
     ensures { IfOk result (λ shown. PrintsRows plan.now image.now (string_bytes shown.text) shown.refused) }
 {
-    match rows_text(alloc, plan, image)? {
-        Some(text) => Ok(Shown {
-            text,
-            refused: false,
-        }),
-        None => {
-            let text = unsayable_text(alloc)?;
-            Ok(Shown {
-                text,
-                refused: true,
-            })
-        }
-    }
-}
-
-/// The description by `row` lines that has an image, over a plan's network; none where such lines give another image. The
-/// only error is out of memory.
-pub fn rows_text(alloc: Global, plan: &Plan, image: &Image) -> Result<Option<String>, NoMemory>
-    requires { Fits image.now plan.now }
-    ensures made { IfOk result (λ made. IsTrue (is_some made) ↔ (hand_image (row_plan plan.now image.now) ≡ image.now)) }
-    ensures text { IfOk result (λ made. IfSome made (λ text. string_bytes text ≡ plan_text (row_plan plan.now image.now))) }
-    ensures read_back { IfOk result (λ made. IfSome made (λ _. IsReadBack plan.now image.now)) }
-{
     let Some(rows) = image.row_plan(alloc, plan)? else {
-        return Ok(None);
+        let text = unsayable_text(alloc)?;
+        return Ok(Shown {
+            text,
+            refused: true,
+        });
     };
-    let text = print_plan(alloc, &rows)?;
-    Ok(Some(text))
+    let text = shaped_text(alloc, plan, report, &rows)?;
+    Ok(Shown {
+        text,
+        refused: false,
+    })
 }
 
 /// The line where `row` lines can't say the labels.
-fn unsayable_text(alloc: Global) -> Result<String, AllocError>
+pub(crate) fn unsayable_text(alloc: Global) -> Result<String, AllocError>
     ensures { IfOk result (λ text. string_bytes text ≡ unsayable_text) }
 {
     format!(in alloc; "rows 1 NotSayable\n")
