@@ -1,5 +1,0 @@
-use Rattle.std.proofs.Common.{take, ◌≡◌}
-
--- the switches so far are there
-abbrev pub invariant-loop-name : Rattle.c104_cuts.proofs.lists.copy_switches.Given.invariant-loop-name
-invariant-loop-name l = l.switches ≡ take l.name-index l.name-items

@@ -1,4 +1,0 @@
-pub mod Cuts
-pub mod IdleRows
-pub mod IdleCauses
-pub mod LeftGroups

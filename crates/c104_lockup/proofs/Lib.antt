@@ -1,2 +1,0 @@
-mod LockupLemmas
-pub mod HarmlessLemmas

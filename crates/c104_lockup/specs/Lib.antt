@@ -1,2 +1,0 @@
-pub mod HarmlessScripts
-pub mod Lockups

@@ -1,9 +1,0 @@
-mod Permutations
-mod Squares
-mod Numbered
-mod Joining
-mod Senders
-mod SendLines
-mod Turns
-mod Rounds
-mod Directions
