@@ -3,9 +3,9 @@ use Rattle.c104_node.{proofs.WireEnds.{get_set_other, get_set_same}, specs.{Node
 use Rattle.c104_plan.specs.{ImageEdits.{image_set_range, is_range}, PlanImage.Image, Plans.IsRange}
 use Rattle.{c104_plan.specs.declared.image_faults.ImageFault.ImageFault, c104_regs.specs.{KeptValues.kept_values, Registers.IsRegisterBank}}
 use Rattle.c104_regs.specs.{Registers.{RegisterBank, placed_bank, reset_bank}, declared.settings.Settings.Settings}
-use Rattle.{c104_switch.specs.Switch.Switch, c104_token.specs.declared.tokens.Token.Token, std.proofs.Common.{Bool, List, Result}}
-use Rattle.std.proofs.Common.{Some, [], ap, arith, false, get_or, inl, inr, length, map, nat_lt, refl, slice_get, slice_set, suc, sym, true}
-use Rattle.std.proofs.{Common.{zero, ℕ, ◌+◌, ◌<◌, ◌∙◌, ◌∷◌, ◌≡◌, ◌≢◌, ◌≤◌}, lemmas.{Bool.{Decides.nat_tests, cases_eq}, List.length-map}}
+use Rattle.{c104_switch.specs.Switch.Switch, c104_token.specs.declared.tokens.Token.Token, std.proofs.Common.{Bool, List, Result, Some, []}}
+use Rattle.std.proofs.Common.{ap, arith, false, get_or, inl, inr, length, map, nat_lt, refl, slice_get, slice_set, suc, sym, true, zero, ℕ}
+use Rattle.std.proofs.{Common.{◌+◌, ◌<◌, ◌∙◌, ◌∷◌, ◌≡◌, ◌≢◌, ◌≤◌}, lemmas.{Bool.{Decides.nat_tests, cases_eq}, List.length-map}}
 use Rattle.std.proofs.lemmas.{List.length-set, Option.{slice_get-get_or, slice_get_past, slice_get_within}}
 
 -- the switches before number n have their registers

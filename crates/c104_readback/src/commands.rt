@@ -7,6 +7,7 @@ ghost use Rattle.c104_stream.specs.declared.halt.Halt.TheVariants as halt;
 
 use crate::forms::Form;
 use crate::registers::{blank_image, copy_registers};
+use c104_label::UpDownReport;
 use c104_mistakes::Messages;
 use c104_plan::{Image, Plan};
 use c104_session::{RunText, Session, do_script, write_run};
@@ -38,11 +39,15 @@ pub fn read_back_command<D: Read, S: Read, W: Write, M: Messages>(
         (W.contents writer.old) (W.contents writer.new) result }
     ensures of_description { result ≡ status.CannotRead 0 → script.new ≡ script.old }
 {
-    let Setup { plan, image, .. } = match read_setup(alloc, description, writer, messages) {
+    let Setup {
+        plan,
+        image,
+        report,
+    } = match read_setup(alloc, description, writer, messages) {
         Ok(setup) => setup,
         Err(status) => return status,
     };
-    print_after(alloc, form, &plan, image, script, writer, messages)
+    print_after(alloc, form, &plan, image, report, script, writer, messages)
 }
 
 /// The same of the network of a plan, with an image that fits it.
@@ -52,6 +57,7 @@ fn print_after<S: Read, W: Write, M: Messages>(
     form: Form,
     plan: &Plan,
     image: Image,
+    report: Option<UpDownReport>,
     script: &mut S,
     writer: &mut W,
     messages: &mut M,
@@ -61,7 +67,7 @@ fn print_after<S: Read, W: Write, M: Messages>(
         (W.contents writer.old) (W.contents writer.new) result }
     ensures of_script { (n : ℕ) → result ≡ status.CannotRead n → n ≡ 1 }
 {
-    match text_after(alloc, form, plan, image, script, messages) {
+    match text_after(alloc, form, plan, image, report, script, messages) {
         Ok(printed) => write_run(printed.text.as_bytes(), printed.is_refused, writer),
         Err(halt) => Status::of_halt(halt, 1),
     }
@@ -73,6 +79,7 @@ fn text_after<S: Read, M: Messages>(
     form: Form,
     plan: &Plan,
     image: Image,
+    report: Option<UpDownReport>,
     script: &mut S,
     messages: &mut M,
 ) -> Result<RunText, Halt>
@@ -83,7 +90,16 @@ fn text_after<S: Read, M: Messages>(
 {
     let mut left = blank_image(alloc, plan, &image)?;
     let mut session = Session::new(alloc, plan, image)?;
-    let printed = text_of(alloc, form, plan, &mut session, &mut left, script, messages);
+    let printed = text_of(
+        alloc,
+        form,
+        plan,
+        report,
+        &mut session,
+        &mut left,
+        script,
+        messages,
+    );
     session.finish().retire();
     printed
 }
@@ -95,6 +111,7 @@ fn text_of<S: Read, M: Messages>(
     alloc: Global,
     form: Form,
     plan: &Plan,
+    report: Option<UpDownReport>,
     session: &mut Session,
     left: &mut Image,
     script: &mut S,
@@ -109,7 +126,7 @@ fn text_of<S: Read, M: Messages>(
 {
     let is_refused = do_script(alloc, session, script, messages)?;
     copy_registers(alloc, &session.net, left)?;
-    let printed = form.text(alloc, plan, left, messages)?;
+    let printed = form.text(alloc, plan, left, report, messages)?;
     Ok(RunText {
         text: printed.text,
         is_refused: is_refused || printed.is_refused,

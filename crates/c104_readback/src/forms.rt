@@ -3,6 +3,7 @@ ghost use Rattle.std.specs.{Prelude.IfOk, String.string_bytes};
 ghost use Rattle.{c104_plan.specs.PlanImage.Fits, c104_readback.specs.ReadBacks.prints_form};
 
 use c104_commands::{checked_text, image_text, shown_rows};
+use c104_label::UpDownReport;
 use c104_mistakes::Messages;
 use c104_plan::{Image, Plan};
 use c104_session::RunText;
@@ -21,12 +22,14 @@ pub enum Form {
 }
 
 impl Form {
-    /// What is printed of a plan with an image, and whether that refuses it.
+    /// What is printed of a plan with an image, by the root from which its labels were made, if it is told, and whether that
+    /// refuses it.
     pub(crate) fn text<M: Messages>(
         self,
         alloc: Global,
         plan: &Plan,
         image: &Image,
+        report: Option<UpDownReport>,
         messages: &mut M,
     ) -> Result<RunText, NoMemory>
         requires { Fits image.now plan.now }
@@ -41,7 +44,7 @@ impl Form {
                 })
             }
             Form::Rows => {
-                let shown = shown_rows(alloc, plan, image)?;
+                let shown = shown_rows(alloc, plan, image, report)?;
                 Ok(RunText {
                     text: shown.text,
                     is_refused: shown.refused,

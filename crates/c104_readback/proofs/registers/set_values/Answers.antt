@@ -1,5 +1,4 @@
-use Rattle.{c104_readback.proofs.SetSteps.{left_next, left_none, set_count, set_others}}
-use Rattle.std.proofs.Common.{arith, get_or, ◌∙◌}
+use Rattle.{c104_readback.proofs.SetSteps.{left_next, left_none, set_count, set_others}, std.proofs.Common.{arith, get_or, ◌∙◌}}
 use Rattle.c104_readback.proofs.registers.set_values.Goals as goal
 
 pub loop-value-preserved : goal.loop-value-preserved
