@@ -4,13 +4,11 @@
 //! here. Out of memory in `clap` ends the program with status 4, though `clap` counts it among the errors of usage.
 ghost use Rattle.std.specs.Prelude.{◌≤◌};
 
-use crate::count_words::{CountWords, with_counts};
+use crate::header_words::{HEADER, with_header};
 use crate::help;
-use crate::label_words::{LabelForm, with_labels};
-use crate::path_words::{PathWords, with_paths};
-use crate::picture_words::{PictureWords, with_pictures};
+use crate::label_words::{LabelForm, WithoutWords, with_labels};
+use crate::row_words::{RowWords, with_rows};
 use crate::subcommands::{Row, SUBCOMMANDS, Subcommand};
-use crate::traffic_words::{SEED, TrafficWords, with_traffic};
 use c104_storm::{Allowance, MAX_WORKERS, Words as HandedWords};
 use clap::{Arg, ArgAction, ArgMatches, Command, Error, value_parser};
 use std::alloc::{AllocError, Global};
@@ -18,7 +16,7 @@ use std::alloc::{AllocError, Global};
 /// The path of standard input.
 pub const STANDARD_INPUT: &str = "-";
 
-const VERSION: &str = "0.5.0";
+const VERSION: &str = "0.6.0";
 
 const ABOUT: &str = "Emulates networks of IMS C104 packet routing switches, event by event";
 
@@ -55,28 +53,22 @@ pub struct Order<'a> {
     pub description: &'a str,
     /// The script's path, if one is said. Else the script follows the description in its text.
     pub script: Option<&'a str>,
-    /// What a picture shows.
-    pub picture: PictureWords<'a>,
     /// Whether all dependencies are listed.
     pub all: bool,
-    /// Whether labels are checked without each wire.
-    pub each_cut: bool,
-    /// Whether a script is looked for that locks the network up.
-    pub lockup: bool,
+    /// The header of which is told where it may come, if one is said.
+    pub header: Option<u16>,
     /// How labels are shown.
     pub labels: LabelForm,
+    /// At which ports wires are left out.
+    pub without: WithoutWords<'a>,
     /// How many workers a storm is to have, 1 to 64, if that is said.
     pub workers: Option<u8>,
     /// Whether the workers of a storm may do more than a seat of a fabric keeps calls.
     pub lean: bool,
     /// The seed of the words by which the inputs of a storm pick random headers, if one is said.
     pub seed: Option<u64>,
-    /// The traffic of which a script is to be printed.
-    pub traffic: TrafficWords<'a>,
-    /// Which counts of a run are to be printed, and how.
-    pub counts: CountWords<'a>,
-    /// What of paths is to be printed, and of which descriptions.
-    pub paths: PathWords<'a>,
+    /// Which rows of a run are to be printed, or saved.
+    pub rows: RowWords<'a>,
 }
 
 impl<'a> Order<'a> {
@@ -86,17 +78,14 @@ impl<'a> Order<'a> {
         is_named: false,
         description: STANDARD_INPUT,
         script: None,
-        picture: PictureWords::NONE,
         all: false,
-        each_cut: false,
-        lockup: false,
+        header: None,
         labels: LabelForm::Addresses,
+        without: WithoutWords::NONE,
         workers: None,
         lean: false,
         seed: None,
-        traffic: TrafficWords::NONE,
-        counts: CountWords::NONE,
-        paths: PathWords::NONE,
+        rows: RowWords::NONE,
     };
 
     /// The order of words that were matched.
@@ -112,17 +101,14 @@ impl<'a> Order<'a> {
             is_named: given.get_str(DESCRIPTION).is_some(),
             description: given.get_str(DESCRIPTION).unwrap_or(STANDARD_INPUT),
             script: given.get_str(SCRIPT),
-            picture: PictureWords::of_matches(given),
             all: given.get_flag(ALL),
-            each_cut: given.get_flag(EACH_CUT),
-            lockup: given.get_flag(LOCKUP),
+            header: given.get_one(HEADER),
             labels: LabelForm::of_matches(given),
+            without: WithoutWords::of_matches(given),
             workers: given.get_one(WORKERS),
             lean: given.get_flag(LEAN),
             seed: given.get_one(SEED),
-            traffic: TrafficWords::of_matches(given),
-            counts: CountWords::of_matches(given),
-            paths: PathWords::of_matches(given),
+            rows: RowWords::of_matches(given),
         }
     }
 
@@ -184,7 +170,7 @@ const EXPLAIN_HELP: &str = "Explain on standard error what is wrong, and what wa
 the default on a terminal";
 
 /// The names of arguments, as help shows them.
-pub(crate) const DESCRIPTION: &str = "DESC";
+const DESCRIPTION: &str = "DESC";
 
 /// The same of a script, which other words are bound to.
 pub const SCRIPT: &str = "SCRIPT";
@@ -193,16 +179,6 @@ pub const SCRIPT: &str = "SCRIPT";
 const ALL: &str = "all";
 
 const ALL_HELP: &str = "List each dependency first";
-
-/// The option of a script that locks the network up.
-const LOCKUP: &str = "script";
-
-const LOCKUP_HELP: &str = "Print a script that locks the network up, if one is found";
-
-/// The option of a check without each wire.
-const EACH_CUT: &str = "each-cut";
-
-const EACH_CUT_HELP: &str = "Check them without each wire, one after the other";
 
 /// The flag of a storm whose workers may do any number of events.
 const LEAN: &str = "lean";
@@ -213,6 +189,9 @@ const WORKERS: &str = "workers";
 const WORKERS_HELP: &str = "How many threads carry the packets, 1 to 64, by default 2";
 
 const LEAN_HELP: &str = "Workers may do more than 1,048,576 events each";
+
+/// The option of the seed of random headers.
+const SEED: &str = "seed";
 
 const DEFAULT_WORKERS: u8 = 2;
 
@@ -264,14 +243,11 @@ fn subcommand<'a>(alloc: Global, row: Row) -> Result<Command<'a>, AllocError> {
     match row.subcommand {
         Subcommand::Run => with_files(alloc, named),
         Subcommand::Debug => with_description(alloc, named),
-        Subcommand::Check => with_cuts(alloc, with_registers(alloc, named)?),
+        Subcommand::Check => with_header(alloc, with_registers(alloc, named)?),
         Subcommand::Storm => with_workers(alloc, named),
-        Subcommand::Stats => with_counts(alloc, with_both(alloc, named)?),
+        Subcommand::Rows => with_rows(alloc, with_both(alloc, named)?),
         Subcommand::Cycles => with_cycles(alloc, with_description(alloc, named)?),
-        Subcommand::Paths => with_paths(alloc, named),
         Subcommand::Label => with_labels(alloc, with_registers(alloc, named)?),
-        Subcommand::Draw => with_pictures(alloc, with_description(alloc, named)?),
-        Subcommand::Traffic => with_traffic(alloc, with_description(alloc, named)?),
     }
 }
 
@@ -282,15 +258,9 @@ fn with_files<'a>(alloc: Global, named: Command<'a>) -> Result<Command<'a>, Allo
         .arg(script_argument(alloc))
 }
 
-/// `[--each-cut]`, behind a description.
-fn with_cuts<'a>(alloc: Global, named: Command<'a>) -> Result<Command<'a>, AllocError> {
-    named.arg(flag(alloc, EACH_CUT, EACH_CUT_HELP).conflicts_with(SCRIPT)?)
-}
-
-/// `[--all | --script]`, behind a description.
+/// `[--all]`, behind a description.
 fn with_cycles<'a>(alloc: Global, named: Command<'a>) -> Result<Command<'a>, AllocError> {
-    let lockup = flag(alloc, LOCKUP, LOCKUP_HELP).conflicts_with(ALL)?;
-    named.arg(flag(alloc, ALL, ALL_HELP))?.arg(lockup)
+    named.arg(flag(alloc, ALL, ALL_HELP))
 }
 
 /// `DESC [SCRIPT] [--workers N] [--lean] [--seed S]`.
@@ -360,7 +330,7 @@ fn description_argument<'a>(alloc: Global) -> Arg<'a> {
 }
 
 /// `SCRIPT`.
-pub fn script_argument<'a>(alloc: Global) -> Arg<'a> {
+fn script_argument<'a>(alloc: Global) -> Arg<'a> {
     Arg::new(alloc, SCRIPT).help(SCRIPT_HELP)
 }
 

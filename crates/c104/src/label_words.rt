@@ -1,8 +1,8 @@
 //! What the command line says of labels.
 
-use crate::command_line::{SCRIPT, flag};
+use crate::command_line::{SCRIPT, flag, valued};
 use c104_readback::Form;
-use clap::{Arg, ArgMatches, Command};
+use clap::{Arg, ArgAction, ArgMatches, Command};
 use std::alloc::{AllocError, Global};
 
 /// How labels are shown.
@@ -41,13 +41,68 @@ impl LabelForm {
     }
 }
 
+/// The ports at which wires are left out of a network.
+#[derive(Clone, Copy)]
+pub struct WithoutWords<'a> {
+    /// The first ones, and nothing behind them.
+    ports: [Option<&'a str>; MOST],
+    /// How many are said.
+    count: usize,
+}
+
+/// At how many ports wires are left out at most.
+const MOST: usize = 64;
+
+impl<'a> WithoutWords<'a> {
+    /// No wire is.
+    pub const NONE: WithoutWords<'static> = WithoutWords {
+        ports: [None; MOST],
+        count: 0,
+    };
+
+    /// What words that were matched name.
+    pub fn of_matches(given: &ArgMatches<'a>) -> Self {
+        let mut without = WithoutWords::NONE;
+        if let Some(words) = given.get_strs(WITHOUT) {
+            without.count = words.len();
+            for (place, word) in words.iter().enumerate() {
+                if let Some(port) = without.ports.get_mut(place) {
+                    *port = Some(*word);
+                }
+            }
+        }
+        without
+    }
+
+    /// Whether any is.
+    pub fn is_said(self) -> bool {
+        self.count > 0
+    }
+
+    /// Whether more are than can be.
+    pub fn are_many(self) -> bool {
+        self.count > MOST
+    }
+
+    /// The ports, in their order. The only error is out of memory.
+    pub fn ports(self, alloc: Global) -> Result<Vec<&'a str>, AllocError> {
+        let mut ports = Vec::new(alloc);
+        for port in self.ports {
+            if let Some(port) = port {
+                ports.push(port)?;
+            }
+        }
+        Ok(ports)
+    }
+}
+
 /// The option of labels with the names of registers.
 const NAMES: &str = "names";
 
 const NAMES_HELP: &str = "Print the names of registers in place of their addresses";
 
-/// The option of labels by `row` lines.
-const ROWS: &str = "rows";
+/// The option of labels by `row` lines, and of a table of a header's.
+pub(crate) const ROWS: &str = "rows";
 
 const ROWS_HELP: &str = "Print a description with the labels as row lines";
 
@@ -56,13 +111,27 @@ const COMMANDS: &str = "commands";
 
 const COMMANDS_HELP: &str = "Print a script of control commands that load and start the switches";
 
-/// `[--names | --rows | --commands]`, behind a description.
+/// The option of a wire that is left out.
+const WITHOUT: &str = "without";
+
+const WITHOUT_HELP: &str = "Leave out the wire at this port, as at A.0, once or more often";
+
+/// `[--names | --rows [--without P ..] | --commands]`, behind a description.
 pub fn with_labels<'a>(alloc: Global, named: Command<'a>) -> Result<Command<'a>, AllocError> {
     let rows = flag(alloc, ROWS, ROWS_HELP).conflicts_with(NAMES)?;
     named
         .arg(flag(alloc, NAMES, NAMES_HELP).conflicts_with(SCRIPT)?)?
         .arg(rows)?
+        .arg(without_option(alloc)?)?
         .arg(commands_flag(alloc)?)
+}
+
+/// `--without P`, once or more often, with `--rows`.
+fn without_option<'a>(alloc: Global) -> Result<Arg<'a>, AllocError> {
+    valued(alloc, WITHOUT, "P", WITHOUT_HELP)
+        .action(ArgAction::Append)
+        .requires_arg(ROWS)?
+        .conflicts_with(SCRIPT)
 }
 
 /// `--commands`.

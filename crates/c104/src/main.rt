@@ -3,42 +3,35 @@
 //! `main` reads the command line, opens what it names, calls the function of a command and says what that function's
 //! `Status` means: a message on standard error and an exit status (`ends`). What the functions of commands write to
 //! standard output is said in `described`, of a description, and in `scripted`, of a description and a script in a
-//! file. What the words of the command line ask for is in `command_line`, with the words of labels, pictures, traffic
-//! and counts in modules of their own; the texts of help are in `help`. Commands of a script but `run` are in `pairs`,
-//! those that count in `tables`, `debug` in `debugging`, that of paths in `path_files`, and that which prints a script
-//! of traffic in `sending`; how files are opened in `opening`, how a text is cut into a description and a script in
-//! `texts` and `parting`, what a path stands for in `sources`, where a picture goes in `canvas`, of which switches it
-//! shows the wires in `chosen`, and what people are told beside the answers in `told`. A script that is typed is read
-//! in `typed`; what the prompt does itself is in `prompting`, and of that the file of lines in `logs`, and rounds up to
-//! a packet's arrival in `until`. The functions of the commands are those of `c104_commands`, `c104_session`,
-//! `c104_lockup`, `c104_readback` and `c104_storm`.
+//! file. What the words of the command line ask for is in `command_line`, with the words of labels, of a header and of
+//! rows in modules of their own; the texts of help are in `help`, and which commands went, and where to, in `gone`. Commands
+//! of a script but `run` are in `pairs`, that of rows in `row_files`, and `debug` in `debugging`; how files are opened in
+//! `opening`, how a text is cut into a description and a script in `texts` and `parting`, what a path stands for in
+//! `sources`, and what people are told beside the answers in `told`. A script that is typed is read in `typed`; what the
+//! prompt does itself is in `prompting`, and of that the file of lines in `logs`, and rounds up to a packet's arrival in
+//! `until`. The functions of the commands are those of `c104_commands`, `c104_session`, `c104_readback` and `c104_storm`.
 #![tactic(auto)]
 
-mod canvas;
-mod chosen;
 mod command_line;
-mod count_words;
 mod debugging;
 mod described;
 mod ends;
+mod gone;
+mod header_words;
 mod help;
 mod label_words;
 mod logs;
 mod opening;
 mod pairs;
 mod parting;
-mod path_files;
-mod path_words;
-mod picture_words;
 mod prompting;
+mod row_files;
+mod row_words;
 mod scripted;
-mod sending;
 mod sources;
 mod subcommands;
-mod tables;
 mod texts;
 mod told;
-mod traffic_words;
 mod typed;
 mod until;
 
@@ -48,17 +41,18 @@ use c104_mistakes::{About, Messages};
 use c104_readback::Form;
 use c104_session::{run, run_text};
 use c104_setup::Status;
-use canvas::Canvas;
 use clap::error::ErrorKind;
 use command_line::{Order, Words};
 use debugging::debug_file;
-use described::{check_cuts, check_text, draw_text, find_cycles, find_lockup, show_labels};
+use described::{check_text, find_cycles, list_header, show_labels, show_left};
 use ends::End;
-use pairs::{draw_files, read_back_files, storm_files, time_files};
-use path_files::tell_files;
+use gone::gone_of;
+use label_words::WithoutWords;
+use pairs::{read_back_files, storm_files};
+use row_files::row_files;
 use scripted::run_texts;
-use sending::send_file;
 use sources::Watched;
+use std::alloc::Global;
 use std::cell::Cell;
 use std::io::{Input, IsTerminal, Write};
 use std::process::ExitCode;
@@ -66,7 +60,6 @@ use std::sync::Wait;
 use std::thread::Threads;
 use std::{env, io};
 use subcommands::Subcommand;
-use tables::count_files;
 use texts::{Script, Texts, open_texts, read_description_of};
 use told::{Told, tell_of_words};
 
@@ -106,6 +99,12 @@ fn do_words<H: Threads + Wait + Sync>(rt: &HostRuntime, threads: &H, words: &[St
     if error.kind() == ErrorKind::OutOfMemory {
         return finish(rt, Status::NoMemory, None);
     }
+    if let Some(gone) = gone_of(words)
+        && error.use_stderr()
+    {
+        tell_of_tool(rt, gone);
+        return End::WrongUsage;
+    }
     let shown = error.print(rt);
     if error.use_stderr() {
         tell_of_words(rt, words, &error);
@@ -116,6 +115,15 @@ fn do_words<H: Threads + Wait + Sync>(rt: &HostRuntime, threads: &H, words: &[St
         Err(_) => Status::CannotWrite,
     };
     finish(rt, status, None)
+}
+
+/// Tells which tool does now what a command, or an option of it, did.
+fn tell_of_tool(rt: &HostRuntime, gone: (&str, &str, &str)) {
+    let (name, option, tool) = gone;
+    let _ = match option {
+        "" => eprintln!(rt; "error: `c104 {name}` is `{tool}` now"),
+        _ => eprintln!(rt; "error: `c104 {name} {option}` is `{tool}` now"),
+    };
 }
 
 /// Does what the words ask for that were matched.
@@ -149,13 +157,10 @@ fn do_order<'a, H: Threads + Wait + Sync, W: Write + Drop>(
         Subcommand::Run => run_order(rt, order, output, told),
         Subcommand::Debug => debug_file(rt, order.description, output, told),
         Subcommand::Storm => storm_files(rt, threads, order, output, told),
-        Subcommand::Stats => count_files(rt, order, output, told),
+        Subcommand::Rows => row_files(rt, order, output, told),
         Subcommand::Check => check_order(rt, order, output, told),
         Subcommand::Cycles => search_file(rt, order, output, told),
-        Subcommand::Paths => tell_files(rt, order, output, told),
         Subcommand::Label => label_order(rt, order, output, told),
-        Subcommand::Draw => draw_order(rt, order, output, told),
-        Subcommand::Traffic => send_file(rt, order, output, told),
     }
 }
 
@@ -237,7 +242,7 @@ fn label_order<'a, W: Write + Drop>(
     }
 }
 
-/// Checks the labels of a description's file, as it stands or without each wire.
+/// Checks the labels of a description's file, or lists where a header may come.
 fn check_file<W: Write + Drop>(
     rt: &HostRuntime,
     order: Order<'_>,
@@ -248,14 +253,31 @@ fn check_file<W: Write + Drop>(
         Ok(text) => text,
         Err(status) => return status,
     };
-    if order.each_cut {
-        check_cuts(rt.alloc(), text.as_slice(), output, told)
-    } else {
-        check_text(rt.alloc(), text.as_slice(), output, told)
+    match order.header {
+        Some(header) => header_text(rt, text.as_slice(), header, output, told),
+        None => check_text(rt.alloc(), text.as_slice(), output, told),
     }
 }
 
-/// Looks for a cycle of channel dependencies in the network of a description's file, or for a script that locks it up.
+/// Lists where a header may come in the network of a description. One that its packets can't have is a wrong word.
+fn header_text<W: Write + Drop>(
+    rt: &HostRuntime,
+    description: &[u8],
+    header: u16,
+    output: &mut Recorded<W>,
+    told: &mut Told<'_>,
+) -> Status {
+    if header > LAST_SHORT_HEADER && has_short_headers(rt, description) {
+        let _ = eprintln!(rt;
+            "error: the headers of this network have one byte, 0 to 255: {header}"
+        );
+        told.note_wrong_word();
+        return Status::Refused;
+    }
+    list_header(rt.alloc(), description, u32::from(header), output, told)
+}
+
+/// Looks for a cycle of channel dependencies in the network of a description's file.
 fn search_file<W: Write + Drop>(
     rt: &HostRuntime,
     order: Order<'_>,
@@ -266,68 +288,44 @@ fn search_file<W: Write + Drop>(
         Ok(text) => text,
         Err(status) => return status,
     };
-    if order.lockup {
-        find_lockup(rt.alloc(), text.as_slice(), output, told)
-    } else {
-        find_cycles(rt.alloc(), text.as_slice(), order.all, output, told)
-    }
+    find_cycles(rt.alloc(), text.as_slice(), order.all, output, told)
 }
 
-/// Labels the network of a description's file.
+/// Labels the network of a description's file, or what is left of it without some wires.
 fn label_file<W: Write + Drop>(
     rt: &HostRuntime,
     order: Order<'_>,
     output: &mut Recorded<W>,
     told: &mut Told<'_>,
 ) -> Status {
-    let text = match read_description_of(rt, order.description, told) {
-        Ok(text) => text,
-        Err(status) => return status,
-    };
-    show_labels(rt.alloc(), text.as_slice(), order.labels, output, told)
-}
-
-/// Draws a network by its description, as a script leaves it, or over the rounds of one.
-fn draw_order<'a, W: Write + Drop>(
-    rt: &HostRuntime,
-    order: Order<'a>,
-    output: &mut Recorded<W>,
-    told: &mut Told<'a>,
-) -> Status {
-    if order.picture.state {
-        return draw_files(rt, order, output, told);
-    }
-    if order.picture.over_time {
-        return time_files(rt, order, output, told);
-    }
-    draw_file(rt, order, output, told)
-}
-
-/// Draws the network of a description's file. A header that its packets can't have is a wrong word.
-fn draw_file<W: Write + Drop>(
-    rt: &HostRuntime,
-    order: Order<'_>,
-    output: &mut Recorded<W>,
-    told: &mut Told<'_>,
-) -> Status {
-    let text = match read_description_of(rt, order.description, told) {
-        Ok(text) => text,
-        Err(status) => return status,
-    };
-    let text = text.as_slice();
-    if let Some(header) = order.picture.header
-        && header > LAST_SHORT_HEADER
-        && has_short_headers(rt, text)
-    {
-        let _ = eprintln!(rt;
-            "error: the headers of this network have one byte, 0 to 255: {header}"
-        );
+    if order.without.are_many() {
+        let _ = rt.eprintln("error: at most 64 --without");
         told.note_wrong_word();
         return Status::Refused;
     }
-    let mut picture = Recorded::new(Canvas::new(rt, order.picture.out, output));
-    let status = draw_text(rt.alloc(), text, order.picture.marks(), &mut picture, told);
-    picture.writer().close(status, told)
+    let text = match read_description_of(rt, order.description, told) {
+        Ok(text) => text,
+        Err(status) => return status,
+    };
+    if order.without.is_said() {
+        left_text(rt.alloc(), text.as_slice(), order.without, output, told)
+    } else {
+        show_labels(rt.alloc(), text.as_slice(), order.labels, output, told)
+    }
+}
+
+/// Shows the labels of what is left of the network of a description.
+fn left_text<W: Write + Drop>(
+    alloc: Global,
+    description: &[u8],
+    without: WithoutWords<'_>,
+    output: &mut Recorded<W>,
+    told: &mut Told<'_>,
+) -> Status {
+    match without.ports(alloc) {
+        Ok(ports) => show_left(alloc, description, ports.as_slice(), output, told),
+        Err(_) => Status::NoMemory,
+    }
 }
 
 /// Whether the headers of a description's network have one byte.

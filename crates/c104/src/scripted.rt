@@ -1,16 +1,13 @@
 //! The commands of a description and a script that are read: of each is said with what status it ends, and what standard
 //! output took by then.
-ghost use Rattle.c104.specs.{Scripted.ScriptEnds, Shown.{shows_run, shows_storm, shows_text}};
-ghost use Rattle.c104_session.specs.{CountedRuns.IsRefusedCount, TextRuns.IsRefusedOn, TimedRuns.IsRefusedTime};
-ghost use Rattle.{c104_readback.specs.ReadBacks.ReadsBack, c104_storm.specs.Workers.team_of};
-ghost use Rattle.std.specs.Prelude.{Some, [], ◌≤◌};
+ghost use Rattle.std.specs.Prelude.{Some, [], ◌∷◌, ◌≤◌};
+ghost use Rattle.{c104.specs.{Scripted.ScriptEnds, Shown.{shows_run, shows_storm, shows_text}}, c104_readback.specs.ReadBacks.ReadsBack};
+ghost use Rattle.{c104_rows.specs.Tables.wanted_of, c104_session.specs.RowRuns.IsRefusedRows, c104_storm.specs.Workers.team_of};
 
 use c104_host::{HeldText, Recorded};
 use c104_mistakes::Messages;
 use c104_readback::{Form, read_back_command};
-use c104_session::{
-    Asked, Printing, draw_over_time_command, draw_state_command, run, stats_command,
-};
+use c104_session::{Table, rows_command, run};
 use c104_setup::Status;
 use c104_storm::{Allowance, MAX_WORKERS, Words, storm_command};
 use std::alloc::Global;
@@ -63,58 +60,29 @@ pub fn storm_texts<R: Threads + Wait + Sync, W: Write + Drop, M: Messages>(
     )
 }
 
-/// Counts the run of the script.
+/// Prints the rows of the script's run.
 #[tactic(auto, using(crate::proofs::EndedRuns::text_ended))]
-pub fn count_texts<W: Write + Drop, M: Messages>(
+pub fn rows_texts<W: Write + Drop, M: Messages>(
     alloc: Global,
-    printing: Printing,
+    table: Table,
+    each: bool,
     mut description: &[u8],
     script: &mut HeldText,
     output: &mut Recorded<W>,
     messages: &mut M,
 ) -> Status
-    ensures { ScriptEnds (shows_text (IsRefusedCount printing.what (Some script.old.left))) description.now script.new.left
-        output.old output.new result }
+    ensures { ScriptEnds (shows_text (IsRefusedRows (wanted_of each (table ∷ [])) (Some script.old.left))) description.now
+        script.new.left output.old output.new result }
 {
-    stats_command(alloc, printing, &mut description, script, output, messages)
-}
-
-/// The same of a script that is a slice, of which more than one run is counted.
-#[tactic(auto, using(crate::proofs::EndedRuns::text_ended))]
-pub fn count_again<W: Write + Drop, M: Messages>(
-    alloc: Global,
-    printing: Printing,
-    mut description: &[u8],
-    mut script: &[u8],
-    output: &mut Recorded<W>,
-    messages: &mut M,
-) -> Status
-    ensures { ScriptEnds (shows_text (IsRefusedCount printing.what (Some script.now))) description.now []
-        output.old output.new result }
-{
-    stats_command(
+    rows_command(
         alloc,
-        printing,
+        table,
+        each,
         &mut description,
-        &mut script,
+        script,
         output,
         messages,
     )
-}
-
-/// Draws the network as the script leaves it.
-#[tactic(auto, using(crate::proofs::EndedRuns::text_ended))]
-pub fn draw_state<W: Write + Drop, M: Messages>(
-    alloc: Global,
-    mut description: &[u8],
-    script: &mut HeldText,
-    output: &mut Recorded<W>,
-    messages: &mut M,
-) -> Status
-    ensures { ScriptEnds (shows_text (IsRefusedOn (Some script.old.left))) description.now script.new.left
-        output.old output.new result }
-{
-    draw_state_command(alloc, &mut description, script, output, messages)
 }
 
 /// Prints the labels that the script leaves in the registers.
@@ -131,29 +99,4 @@ pub fn read_back_texts<W: Write + Drop, M: Messages>(
         output.old output.new result }
 {
     read_back_command(alloc, form, &mut description, script, output, messages)
-}
-
-/// Draws the run of the script over its rounds.
-#[tactic(auto, using(crate::proofs::EndedRuns::text_ended))]
-pub fn draw_over_time<W: Write + Drop, M: Messages>(
-    alloc: Global,
-    asked: Asked,
-    switches: &[usize],
-    mut description: &[u8],
-    script: &mut HeldText,
-    output: &mut Recorded<W>,
-    messages: &mut M,
-) -> Status
-    ensures { ScriptEnds (shows_text (IsRefusedTime asked (Some script.old.left))) description.now script.new.left
-        output.old output.new result }
-{
-    draw_over_time_command(
-        alloc,
-        asked,
-        switches,
-        &mut description,
-        script,
-        output,
-        messages,
-    )
 }

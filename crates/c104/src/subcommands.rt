@@ -11,20 +11,14 @@ pub enum Subcommand {
     Debug,
     /// A storm: a script's packets, carried by worker threads.
     Storm,
-    /// The counts of a run.
-    Stats,
+    /// The rows of a run.
+    Rows,
     /// A check of a description's labels.
     Check,
     /// The search for a cycle of channel dependencies.
     Cycles,
-    /// The paths of packets, in numbers.
-    Paths,
     /// The labels of a description.
     Label,
-    /// The picture of a description's network.
-    Draw,
-    /// A script of packets for the terminals of a description's network.
-    Traffic,
 }
 
 /// A row of the table.
@@ -41,7 +35,7 @@ pub struct Row {
 }
 
 /// The subcommands, in the order of help.
-pub const SUBCOMMANDS: [Row; 10] = [
+pub const SUBCOMMANDS: [Row; 7] = [
     Row {
         subcommand: Subcommand::Run,
         name: "run",
@@ -61,10 +55,10 @@ pub const SUBCOMMANDS: [Row; 10] = [
         teaching: help::STORM,
     },
     Row {
-        subcommand: Subcommand::Stats,
-        name: "stats",
-        about: "Runs a script, and prints how its packets, links and rounds fared, in numbers",
-        teaching: help::STATS,
+        subcommand: Subcommand::Rows,
+        name: "rows",
+        about: "Runs a script, and prints what its packets, links and rounds did, as rows for programs",
+        teaching: help::ROWS,
     },
     Row {
         subcommand: Subcommand::Check,
@@ -79,27 +73,9 @@ pub const SUBCOMMANDS: [Row; 10] = [
         teaching: help::CYCLES,
     },
     Row {
-        subcommand: Subcommand::Paths,
-        name: "paths",
-        about: "Prints how far packets go by the labels of a description, over which links, by which rows",
-        teaching: help::PATHS,
-    },
-    Row {
         subcommand: Subcommand::Label,
         name: "label",
         about: "Shows the labels of a description, and the register values they produce",
         teaching: help::LABEL,
-    },
-    Row {
-        subcommand: Subcommand::Draw,
-        name: "draw",
-        about: "Draws the network of a description, as text for Graphviz",
-        teaching: help::DRAW,
-    },
-    Row {
-        subcommand: Subcommand::Traffic,
-        name: "traffic",
-        about: "Prints a script by which the terminals of a description send packets in a pattern",
-        teaching: help::TRAFFIC,
     },
 ];

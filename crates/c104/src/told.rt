@@ -1,7 +1,8 @@
-//! What people are told on standard error, and where that is wanted; and pictures that they ask for.
+//! What people are told on standard error, and where that is wanted.
 ghost use Rattle.std.specs.Prelude.{⊤};
 
 use crate::command_line::{EXPLAIN_WORD, Order, STANDARD_INPUT};
+use crate::gone::has_word;
 use crate::subcommands::Subcommand;
 use c104_mistakes::{About, Messages, Work};
 use c104_setup::Status;
@@ -45,8 +46,6 @@ pub struct Told<'a> {
     unwritten: Option<String>,
     // Whether a word of the command line turned out to be wrong.
     has_wrong_word: bool,
-    // Whether a run is done again of which all was told. Then it is told how far its work is, and nothing else.
-    is_again: bool,
     going: Option<Going>,
 }
 
@@ -72,7 +71,6 @@ impl<'a> Told<'a> {
             fault: None,
             unwritten: None,
             has_wrong_word: false,
-            is_again: false,
             going: None,
         }
     }
@@ -85,11 +83,6 @@ impl<'a> Told<'a> {
     /// Notes why something can't be read, where the system has a number for it.
     pub fn note_fault(&mut self, fault: Option<i32>) {
         self.fault = fault;
-    }
-
-    /// Notes the path of the description that is read now, where there are several.
-    pub fn note_description(&mut self, path: &'a str) {
-        self.order.description = path;
     }
 
     /// Notes the path of the text in which the script stands, behind this many lines.
@@ -108,11 +101,6 @@ impl<'a> Told<'a> {
     pub fn note_unwritten(&mut self, path: String, fault: Option<i32>) {
         self.unwritten = Some(path);
         self.fault = fault;
-    }
-
-    /// Notes that all is told of a run, so that nothing is told twice where it is done again.
-    pub fn note_told(&mut self) {
-        self.is_again = true;
     }
 
     /// Notes that a word of the command line doesn't go with the description.
@@ -198,11 +186,11 @@ fn begun(rt: &HostRuntime, work: Work) -> Option<Going> {
 }
 
 impl Messages for Told<'_> {
-    // No contract can say what a file takes.
+    // Nothing is saved.
     ghost saves = { λ old file picture new. ⊤ };
 
     fn are_wanted(&self) -> bool {
-        self.is_wanted && !self.is_again
+        self.is_wanted
     }
 
     fn are_asked(&self) -> bool {
@@ -210,9 +198,7 @@ impl Messages for Told<'_> {
     }
 
     fn tell(&mut self, about: About, message: &str) {
-        if !self.is_again {
-            self.show(about, message);
-        }
+        self.show(about, message);
     }
 
     fn progress(&mut self, work: Work, done: u32, count: u32) {
@@ -230,13 +216,12 @@ impl Messages for Told<'_> {
         }
     }
 
-    fn save(&mut self, file: &str, picture: &str) -> io::Result<()> {
-        fs::write(self.rt, file, picture.as_bytes())
+    fn save(&mut self, _file: &str, _picture: &str) -> io::Result<()> {
+        Err(io::Error::from(io::ErrorKind::Unsupported))
     }
 }
 
-/// Tells of files where a command is wanted, of two of which isn't said how they are drawn, and of what isn't a header, where
-/// messages are wanted.
+/// Tells of files where a command is wanted, and of what isn't a header, where messages are wanted.
 pub fn tell_of_words(rt: &HostRuntime, words: &[String], error: &Error) {
     let explain = words.iter().any(|word| word.as_str() == EXPLAIN_WORD);
     if !(explain || rt.stderr().is_terminal()) {
@@ -247,22 +232,11 @@ pub fn tell_of_words(rt: &HostRuntime, words: &[String], error: &Error) {
     };
     match error.kind() {
         ErrorKind::InvalidSubcommand => tell_of_command(rt, words),
-        ErrorKind::MissingRequiredArgument
-            if !has_word(words, "traffic") && file_at(rt, words, 2).is_some() => {
-            let _ = rt.eprintln(
-                "c104: a script is drawn as it ends, by --state, or over its rounds, by --over-time",
-            );
-        }
         ErrorKind::ValueValidation if has_word(words, "--header") => {
             let _ = rt.eprintln("c104: a header is a decimal number, 0 to 65535");
         }
         _ => {}
     }
-}
-
-/// Whether a word is among these.
-fn has_word(words: &[String], wanted: &str) -> bool {
-    words.iter().any(|word| word.as_str() == wanted)
 }
 
 /// Tells of one file, or of two, where a command is wanted.
