@@ -1,15 +1,15 @@
 -- A script that is calm has the premises of the theorem about packets, where no link puts random headers.
 use Rattle.c104_check.specs.{ChannelDependencies.IsNeverRandomized, Routes.{IsAccepted, Routes, routes_of}}
 use Rattle.{c104_describe.specs.PlanText.read_description, c104_event.specs.declared.events.Event.Event, c104_label.specs.Images.IsImageBy}
-use Rattle.{c104_label.specs.Images.IsImageOf, c104_lockup.proofs.HarmlessLemmas.{all_lines, event_asked, harmless_leaves}}
-use Rattle.{c104_lockup.specs.HarmlessScripts.{AreHarmless, IsHarmless}, c104_net.specs.Unchanged.MayHappen, c104_plan.specs.PlanImage.Fits}
-use Rattle.c104_plan.specs.{PlanImage.Image, Plans.{IsPlan, Plan}, TextCut.lines, declared.plans.Shape.{Shape, TheVariants.Hand}}
+use Rattle.{c104_label.specs.Images.IsImageOf, c104_net.specs.Unchanged.MayHappen, c104_plan.specs.{PlanImage.{Fits, Image}, Plans.IsPlan}}
+use Rattle.c104_plan.specs.{Plans.Plan, TextCut.lines, declared.plans.Shape.{Shape, TheVariants.Hand}}
 use Rattle.c104_script.specs.{Script.read_script_line, declared.{faults.LineFault.LineFault, places.Request.Request}}
 use Rattle.c104_session.specs.{PrintedPackets.IsUnchangedRun, PrintedRuns.PrintsPacketsOf, RunCommands.{DescriptionEnds, setup_output}}
 use Rattle.c104_setup.specs.{Setups.{ComesTo, SetupResult}, declared.status.Status.TheVariants.Done}
-use Rattle.{c104_stream.specs.ScriptLines.most_script, c104_switch.specs.Actions.Reply, c104_tests_top.specs.PrintedTexts.{AreCalm, IsCalm}}
-use Rattle.{c104_tests_top.specs.PrintedTexts.IsPrinted, std.proofs.Common.{Err, List, None, Ok, Option, Result, Some, [], ap, arith}}
-use Rattle.std.proofs.{Common.{false, length, refl, subst, sym, ℕ, ◌∙◌, ◌≡◌, ◌≤◌}, lemmas.Bool.Decides.nat_tests}
+use Rattle.{c104_stream.specs.ScriptLines.most_script, c104_switch.specs.Actions.Reply, c104_tests_top.proofs.HarmlessLines.all_lines}
+use Rattle.c104_tests_top.{proofs.HarmlessLines.{event_asked, harmless_leaves}, specs.HarmlessScripts.{AreHarmless, IsHarmless}}
+use Rattle.{c104_tests_top.specs.PrintedTexts.{AreCalm, IsCalm, IsPrinted}, std.proofs.Common.{Err, List, None, Ok, Option, Result, Some}}
+use Rattle.std.proofs.{Common.{[], ap, arith, false, length, refl, subst, sym, ℕ, ◌∙◌, ◌≡◌, ◌≤◌}, lemmas.Bool.Decides.nat_tests}
 use Rattle.std.proofs.lemmas.List.Elements.{All-weaker}
 
 event_may : (routes : Routes) → IsNeverRandomized routes → (e : Event) (r : Reply) → IsCalm (Ok (Some (Request.Asked e))) → MayHappen routes e r

@@ -1,1 +1,2 @@
+mod HarmlessLines
 mod CalmRuns

@@ -1,1 +1,2 @@
+pub mod HarmlessScripts
 pub mod PrintedTexts

@@ -9,8 +9,6 @@
 #[cfg(test)]
 mod advice;
 #[cfg(test)]
-mod alone;
-#[cfg(test)]
 mod calls;
 #[cfg(test)]
 mod commands;
