@@ -6,16 +6,12 @@ use crate::growths::{Growing, Refusal, Sharing, is_right, is_told};
 use crate::outcomes::Outcome;
 use crate::written::{ANSWERS, Page, SCRIPT, SENDS, STORM_END, SUMMARY, TWO_ANSWERS};
 use c104_commands::{
-    Marks, PathTable, boot_script_command, check_command, cuts_command, cycles_command,
-    draw_command, label_command, label_names_command, label_rows_command, paths_command,
+    boot_script_command, check_command, cycles_command, header_rows_command, label_command,
+    label_names_command, label_rows_command, rows_without_command,
 };
-use c104_lockup::lockup_command;
 use c104_mistakes::Silent;
 use c104_readback::{Form, read_back_command};
-use c104_session::{
-    Asked, Format, Measured, PLAIN_SCALE, Printing, What, Window, debug_command,
-    draw_over_time_command, draw_state_command, run, run_text, stats_command,
-};
+use c104_session::{Table, debug_command, rows_command, run, run_text};
 use c104_setup::Status;
 use c104_storm::{Allowance, Words, storm_command};
 use std::alloc::Global;
@@ -27,55 +23,10 @@ const TEXT: &[u8] =
     b"switch A\nterminal a A.0\nterminal b A.1\nrow A.0 2 1\nscript\nsend a 01 aa eop\n\
     rounds 9\n";
 
-/// No rounds are asked for.
-const ALL_ROUNDS: Asked = Asked {
-    from: None,
-    to: None,
-    format: None,
-    scale: PLAIN_SCALE,
-};
-
-/// The same as a table.
-const ALL_AS_ROWS: Asked = Asked {
-    from: None,
-    to: None,
-    format: Some(Format::Json),
-    scale: PLAIN_SCALE,
-};
-
-/// All packets are measured, and told of together.
-const ALL_PACKETS: Measured = Measured {
-    window: Window {
-        from: 0,
-        to: u32::MAX,
-    },
-    batches: None,
-};
-
-/// Links are counted.
-const LINKS_AS_ROWS: Printing = Printing {
-    what: Some(What::Links),
-    format: Format::Csv,
-    measured: ALL_PACKETS,
-};
-
-/// What all comes to is counted.
-const SUMMARY_AS_TABLE: Printing = Printing {
-    what: None,
-    format: Format::Table,
-    measured: ALL_PACKETS,
-};
-
-/// Two switches that lock up: before each packet of a terminal its input puts the random header of the other switch, from
-/// where the packet goes by its own label, and both may have to come back over the one wire.
-const CYCLIC: &[u8] =
-    b"switch A\nswitch B\nterminal a A.0\nterminal b B.0\nwire A.1 B.1\nbuffer 8\n\
-    random A.0 3 1\nrandom B.0 2 1\nrow A.0 1 0\nrow A.0 2 1\nrow A.0 3 discard\nrow A.0 4 1\n\
-    row A.1 1 0\nrow A.1 2 1\nrow A.1 3 discard\nrow B.0 1 1\nrow B.0 2 0\nrow B.0 3 1\nrow B.0 4 discard\n\
-    row B.1 1 1\nrow B.1 2 0\nrow B.1 3 sink\nrow B.1 4 discard\n";
-
-/// How a script that locks it up begins.
-const SEND: &[u8] = b"send ";
+/// Two switches with a terminal each, and two wires between them of which either will do.
+const TWO_WIRES: &[u8] = b"switch A\nswitch B\nterminal a A.0\nterminal b B.0\n\
+    wire A.1 B.1\nwire A.2 B.2\ncontinue A.2\ncontinue B.2\n\
+    row A 1 0\nrow A 2 1\nrow B 1 1\nrow B 2 0\n";
 
 /// Whence a run reads.
 #[derive(Clone, Copy)]
@@ -119,46 +70,44 @@ impl Growing for Running {
     }
 }
 
-/// A command over the description of the first run.
+/// A command over the description of the first run, or over two switches.
 #[derive(Clone, Copy)]
 enum Command {
     Check,
-    Cuts,
-    Paths(Option<PathTable>),
+    Header,
     Cycles(bool),
     Label,
     Rows,
+    Without,
     Names,
     BootScript,
-    Draw(Marks),
-    State,
-    OverTime(Asked),
-    Stats(Printing),
+    Table(Table),
 }
 
 impl Command {
     fn run(self, alloc: Global, page: &mut Page) -> Status {
-        let (mut text, mut script) = (PLAN, SCRIPT);
+        let (mut text, mut script, mut wired) = (PLAN, SCRIPT, TWO_WIRES);
         match self {
             Command::Check => check_command(alloc, &mut text, page, &mut Silent),
-            Command::Cuts => cuts_command(alloc, &mut text, page, &mut Silent),
-            Command::Paths(table) => {
-                paths_command(alloc, table, Format::Csv, &mut text, page, &mut Silent)
-            }
+            Command::Header => header_rows_command(alloc, 1, &mut wired, page, &mut Silent),
             Command::Cycles(all) => cycles_command(alloc, &mut text, all, page, &mut Silent),
             Command::Label => label_command(alloc, &mut text, page, &mut Silent),
             Command::Rows => label_rows_command(alloc, &mut text, page, &mut Silent),
+            Command::Without => {
+                rows_without_command(alloc, &["A.1"], &mut wired, page, &mut Silent)
+            }
             Command::Names => label_names_command(alloc, &mut text, page, &mut Silent),
             Command::BootScript => boot_script_command(alloc, &mut text, page, &mut Silent),
-            Command::Draw(marks) => draw_command(alloc, &mut text, marks, page, &mut Silent),
-            Command::State => {
-                draw_state_command(alloc, &mut text, &mut script, page, &mut Silent)
-            }
-            Command::OverTime(asked) => {
-                draw_over_time_command(alloc, asked, &[], &mut text, &mut script, page, &mut Silent)
-            }
-            Command::Stats(printing) => {
-                stats_command(alloc, printing, &mut text, &mut script, page, &mut Silent)
+            Command::Table(table) => {
+                rows_command(
+                    alloc,
+                    table,
+                    true,
+                    &mut text,
+                    &mut script,
+                    page,
+                    &mut Silent,
+                )
             }
         }
     }
@@ -177,27 +126,6 @@ impl Growing for Commanding {
         let status = self.0.run(alloc, &mut page);
         refusal.end(alloc);
         Outcome::of_status(status).if_kept(page.written().is_empty())
-    }
-}
-
-/// A script is looked for that locks up a network, and found. Out of memory nothing was written.
-#[derive(Drop)]
-struct Locking;
-
-impl Growing for Locking {
-    fn call(&self, alloc: Global, refusal: Refusal) -> Outcome {
-        let Some(mut page) = Page::new(alloc) else {
-            return Outcome::Wrong;
-        };
-        let mut text = CYCLIC;
-        refusal.begin(alloc);
-        let status = lockup_command(alloc, &mut text, &mut page, &mut Silent);
-        refusal.end(alloc);
-        match status {
-            Status::Refused => Outcome::done_if(page.written().starts_with(SEND)),
-            Status::NoMemory => Outcome::NoMemory.if_kept(page.written().is_empty()),
-            _ => Outcome::Wrong,
-        }
     }
 }
 
@@ -273,33 +201,20 @@ fn runs(rt: HostRuntime) {
 fn commands(rt: HostRuntime) {
     for (name, command) in [
         ("check_command", Command::Check),
-        ("cuts_command", Command::Cuts),
-        ("paths_command", Command::Paths(None)),
-        ("paths_command", Command::Paths(Some(PathTable::Pairs))),
-        ("paths_command", Command::Paths(Some(PathTable::Links))),
-        ("paths_command", Command::Paths(Some(PathTable::Inputs))),
+        ("header_rows_command", Command::Header),
         ("cycles_command", Command::Cycles(false)),
         ("cycles_command", Command::Cycles(true)),
         ("label_command", Command::Label),
         ("label_rows_command", Command::Rows),
+        ("rows_without_command", Command::Without),
         ("label_names_command", Command::Names),
         ("boot_script_command", Command::BootScript),
-        ("draw_command", Command::Draw(Marks::Nothing)),
-        ("draw_command", Command::Draw(Marks::Header(1))),
-        ("draw_command", Command::Draw(Marks::Cycle)),
-        ("draw_state_command", Command::State),
-        ("draw_over_time_command", Command::OverTime(ALL_ROUNDS)),
-        ("draw_over_time_command", Command::OverTime(ALL_AS_ROWS)),
-        ("stats_command", Command::Stats(LINKS_AS_ROWS)),
-        ("stats_command", Command::Stats(SUMMARY_AS_TABLE)),
+        ("rows_command", Command::Table(Table::Links)),
+        ("rows_command", Command::Table(Table::Holds)),
+        ("rows_command", Command::Table(Table::Ways)),
     ] {
         assert!(rt; is_right(&rt, name, &Commanding(command)));
     }
-}
-
-#[test]
-fn lockups(rt: HostRuntime) {
-    assert!(rt; is_right(&rt, "lockup_command", &Locking));
 }
 
 #[test]

@@ -1,5 +1,5 @@
 //! The texts that commands print of labels, and what people are told of them.
-use crate::calls::PLAN;
+use crate::calls::{MESH, PLAN};
 use crate::ground::{Ground, Suite, is_right_on};
 use crate::growths::{Growing, Refusal, is_right};
 use crate::labels::REFUSED;
@@ -7,7 +7,7 @@ use crate::outcomes::Outcome;
 use c104_check::check;
 use c104_commands::{
     boot_commands, check_advice, check_fault_text, checked_text, cycle_advice, image_text,
-    rows_text, shown_rows,
+    plan_without, shown_rows,
 };
 use c104_label::{LabelFault, image_of};
 use c104_mistakes::Silent;
@@ -20,8 +20,6 @@ use std::alloc::Global;
 enum Text {
     /// The image.
     Image,
-    /// The plan by hand of it.
-    Rows,
     /// What `label --rows` prints of it.
     Shown,
     /// What `check` prints of it.
@@ -47,11 +45,7 @@ impl Growing for Telling<'_> {
         refusal.begin(alloc);
         let found = match self.1 {
             Text::Image => Outcome::of(image_text(alloc, self.0, &image)),
-            Text::Rows => match rows_text(alloc, self.0, &image) {
-                Ok(None) => Outcome::Wrong,
-                found => Outcome::of(found),
-            },
-            Text::Shown => Outcome::of(shown_rows(alloc, self.0, &image)),
+            Text::Shown => Outcome::of(shown_rows(alloc, self.0, &image, None)),
             Text::Checked => Outcome::of(checked_text(alloc, self.0, &image, &mut Silent)),
             Text::Boot => Outcome::of(boot_commands(alloc, &image)),
             Text::Cycles => Outcome::of(cycle_advice(alloc, self.0, &image)),
@@ -92,6 +86,22 @@ impl Growing for Refusing<'_> {
     }
 }
 
+/// The plan without the first of its wires is made.
+#[derive(Drop)]
+struct Cutting<'a>(&'a Plan);
+
+impl Growing for Cutting<'_> {
+    fn call(&self, alloc: Global, refusal: Refusal) -> Outcome {
+        if self.0.wires().is_empty() {
+            return Outcome::Wrong;
+        }
+        refusal.begin(alloc);
+        let left = plan_without(alloc, self.0, 0);
+        refusal.end(alloc);
+        Outcome::of(left)
+    }
+}
+
 /// A fault of a labeller is told.
 #[derive(Drop)]
 struct TellingFault;
@@ -112,7 +122,6 @@ struct AcceptedTexts;
 impl Suite for AcceptedTexts {
     fn is_right(&self, rt: &HostRuntime, ground: Ground<'_>) -> bool {
         is_right(rt, "image_text", &Telling(ground.plan, Text::Image))
-            && is_right(rt, "rows_text", &Telling(ground.plan, Text::Rows))
             && is_right(rt, "shown_rows", &Telling(ground.plan, Text::Shown))
             && is_right(rt, "checked_text", &Telling(ground.plan, Text::Checked))
             && is_right(rt, "boot_commands", &Telling(ground.plan, Text::Boot))
@@ -134,9 +143,20 @@ impl Suite for RefusedTexts {
     }
 }
 
+/// Plans without wires.
+#[derive(Drop)]
+struct CutPlans;
+
+impl Suite for CutPlans {
+    fn is_right(&self, rt: &HostRuntime, ground: Ground<'_>) -> bool {
+        is_right(rt, "plan_without", &Cutting(ground.plan))
+    }
+}
+
 #[test]
 fn label_texts(rt: HostRuntime) {
     assert!(rt; is_right_on(&rt, PLAN, &AcceptedTexts));
     assert!(rt; is_right_on(&rt, REFUSED, &RefusedTexts));
+    assert!(rt; is_right_on(&rt, MESH, &CutPlans));
     assert!(rt; is_right(&rt, "label_fault_text", &TellingFault));
 }

@@ -40,8 +40,6 @@ mod outcomes;
 #[cfg(test)]
 mod packets;
 #[cfg(test)]
-mod pictures;
-#[cfg(test)]
 mod plan_lists;
 #[cfg(test)]
 mod plans;
@@ -65,8 +63,6 @@ mod timelines;
 mod tools;
 #[cfg(test)]
 mod traced;
-#[cfg(test)]
-mod traffic;
 #[cfg(test)]
 mod without_memory;
 #[cfg(test)]

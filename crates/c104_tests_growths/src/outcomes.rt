@@ -6,7 +6,6 @@ use c104_event::EventFault;
 use c104_label::LabelFault;
 use c104_net::PlaceFault;
 use c104_plan::ImageFault;
-use c104_reports::TimeFault;
 use c104_script::LineFault;
 use c104_setup::Status;
 use c104_stream::{Halt, ReadFault};
@@ -165,12 +164,6 @@ impl Fault for RunFault {
         match self {
             RunFault::Event(_, fault) => fault.is_no_memory(),
         }
-    }
-}
-
-impl Fault for TimeFault {
-    fn is_no_memory(&self) -> bool {
-        *self == TimeFault::NoMemory
     }
 }
 

@@ -1,4 +1,4 @@
-//! Pictures of runs over their rounds.
+//! What crosses wires, round by round.
 use crate::calls::PLAN;
 use crate::ground::{Ground, Suite, is_right_on};
 use crate::growths::{Growing, Refusal, is_right};
@@ -6,9 +6,7 @@ use crate::outcomes::Outcome;
 use crate::traced::net_after;
 use c104_net::{Origin, TracedNet};
 use c104_plan::Port;
-use c104_print::Format;
-use c104_reports::{PLAIN_SCALE, time_picture, time_table};
-use c104_timeline::{Period, Timeline, bars_at, packets_of, rows_of};
+use c104_rows::{Timeline, bars_at, shown_ports};
 use std::alloc::Global;
 
 /// What is asked of a timeline.
@@ -19,35 +17,23 @@ enum Call {
     Cut,
     Begin,
     Close,
-    Rows,
+    Ports,
     Bars,
-    Packets,
-    Draw,
-    Tell,
 }
 
-/// The rounds that are shown.
-const SHOWN: Period = Period { from: 0, to: 9 };
+/// The last round that is shown.
+const LAST: u32 = 9;
 
 impl Call {
     fn of(self, alloc: Global, net: &TracedNet, timeline: &mut Timeline) -> Outcome {
         match self {
-            Call::New => Outcome::of(Timeline::new(alloc, net.plan())),
+            Call::New => Outcome::of(Timeline::new(alloc, net.plan(), true)),
             Call::Settle => Outcome::of(timeline.settle(Port::Terminal(0))),
             Call::Cut => Outcome::of(timeline.cut(0)),
             Call::Begin => Outcome::of(timeline.begin_round()),
             Call::Close => Outcome::of(timeline.close_all(net)),
-            Call::Rows => Outcome::of(rows_of(alloc, net.plan(), timeline, SHOWN)),
-            Call::Bars => Outcome::of(bars_at(alloc, timeline, SHOWN, Port::Terminal(0))),
-            Call::Packets => Outcome::of(packets_of(alloc, timeline, SHOWN)),
-            Call::Draw => Outcome::of(time_picture(
-                alloc,
-                net.plan(),
-                timeline,
-                SHOWN,
-                PLAIN_SCALE,
-            )),
-            Call::Tell => Outcome::of(time_table(alloc, Format::Json, net.plan(), timeline, SHOWN)),
+            Call::Ports => Outcome::of(shown_ports(alloc, net.plan(), timeline, LAST)),
+            Call::Bars => Outcome::of(bars_at(alloc, timeline, LAST, Port::Terminal(0))),
         }
     }
 }
@@ -62,7 +48,7 @@ struct Timing<'a> {
 
 impl Timing<'_> {
     fn timeline(&self, alloc: Global) -> Option<Timeline> {
-        let mut timeline = Timeline::new(alloc, self.net.plan()).ok()?;
+        let mut timeline = Timeline::new(alloc, self.net.plan(), true).ok()?;
         timeline.cross(
             Port::Terminal(0),
             Some(Origin {
@@ -109,11 +95,8 @@ impl Suite for TimelineCalls {
             ("Timeline::cut", Call::Cut),
             ("Timeline::begin_round", Call::Begin),
             ("Timeline::close_all", Call::Close),
-            ("rows_of", Call::Rows),
+            ("shown_ports", Call::Ports),
             ("bars_at", Call::Bars),
-            ("packets_of", Call::Packets),
-            ("time_picture", Call::Draw),
-            ("time_table", Call::Tell),
         ] {
             let timing = Timing { net: &net, call };
             is_right_so_far = is_right_so_far && is_right(rt, name, &timing);
