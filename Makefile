@@ -2,11 +2,11 @@
 # make                        proves and builds the program, build/c104, crates side by side, in one to two hours on four
 #                             processors; once stopped, it goes on from what it had proved
 # make run                    builds it and runs the first example
-# make install                copies the program and its manual page below PREFIX, which is /usr/local unless
-#                             said, and below DESTDIR before it; what is built already isn't built again
+# make install                copies the program, its manual page, and the tools that ask it below PREFIX, which is /usr/local
+#                             unless said, and below DESTDIR before it; what is built already isn't built again
 # make page DESC=FILE SCRIPT=FILE
 #                             writes a page that plays a run, build/run.html, for any browser: of the ring that locks up where
-#                             none is named; it needs Graphviz
+#                             none is named
 # make check                  proves what has changed, over kept work, and runs the cases over the program, or those of
 #                             some kinds, as kinds=runs
 # make pages                  writes what the crates say of themselves into build/pages: each contract, each definition that
@@ -42,8 +42,10 @@ install:
 	@[ -f $(program) ] || $(MAKE) --no-print-directory all
 	@$(MAKE) --no-print-directory --question all \
 	    || echo 'sources are newer than $(program), which is installed as it stands'
-	install -d '$(installed)/bin' '$(installed)/share/man/man1'
+	install -d '$(installed)/bin' '$(installed)/share/man/man1' '$(installed)/share/c104/python/c104'
 	install -m 755 $(program) '$(installed)/bin/c104'
+	install -m 755 $(wildcard bin/c104-*) '$(installed)/bin'
+	install -m 644 $(wildcard python/c104/*.*) '$(installed)/share/c104/python/c104'
 	install -m 644 docs/c104.1 '$(installed)/share/man/man1/c104.1'
 
 try: SCRIPT = $(example)
@@ -55,9 +57,7 @@ page: SCRIPT = $(if $(filter examples/ring.txt,$(DESC)),examples/ring-packets.tx
 page: PAGE = build/run.html
 page: $(program)
 	@mkdir -p '$(dir $(PAGE))'
-	@C104=$(abspath $(program)) examples/page/page '$(DESC)' $(if $(SCRIPT),'$(SCRIPT)') > '$(PAGE).part' \
-	    || { rm -f '$(PAGE).part'; exit 1; }
-	@mv '$(PAGE).part' '$(PAGE)'
+	@C104=$(abspath $(program)) bin/c104-page '$(DESC)' $(if $(SCRIPT),'$(SCRIPT)') -o '$(PAGE)'
 	@echo 'open $(PAGE) in a browser'
 
 check:
