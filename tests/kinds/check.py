@@ -54,25 +54,7 @@ def rows_of(switch, inputs, links):
     return b''.join(b'row %s.%d %d %d\n' % (switch, k, header + 1, link) for k in inputs for header, link in enumerate(links))
 
 
-
-THREE = b'switch A\nswitch B\nswitch C\nterminal a A.0\nterminal b B.0\nterminal c C.0\n'
 TWO_WIRES = (WIRE + b'wire A.2 B.2\n' + rows_of(b'A', range(3), [0, 1]) + rows_of(b'B', range(3), [1, 0]))
-
-# A description, and what is told of it without each of its wires.
-CUT = {
-    'a ring, by the shortest ways': (THREE + b'wire A.1 B.2\nwire B.1 C.2\nwire C.1 A.2\n' + rows_of(b'A', range(3), [0, 1, 2])
-        + rows_of(b'B', range(3), [2, 0, 1]) + rows_of(b'C', range(3), [1, 2, 0]),
-        ['cut A.1 B.2: refused 6 DeadEnd: from a header 1 walk A.0', 'cut B.1 C.2: refused 6 DeadEnd: from b header 2 walk B.0',
-         'cut C.1 A.2: refused 6 DeadEnd: from a header 2 walk A.0', '3 of 3 wires may not break']),
-    'a row of three': (THREE + b'wire A.1 B.1\nwire B.2 C.1\n' + rows_of(b'A', range(2), [0, 1, 1])
-        + rows_of(b'B', range(3), [1, 0, 2]) + rows_of(b'C', range(2), [1, 1, 0]),
-        ['cut A.1 B.1: refused 6 DeadEnd: from a header 1 walk A.0', 'cut B.2 C.1: refused 6 DeadEnd: from a header 2 walk A.0 B.1',
-         '2 of 2 wires may not break']),
-    'a pair, two wires in a group': (TWO_WIRES + b'continue A.2\ncontinue B.2\n', ['all 2 wires may break']),
-    'a pair, two wires of which one is taken': (TWO_WIRES,
-        ['cut A.1 B.1: refused 6 DeadEnd: from a header 1 walk A.0', '1 of 2 wires may not break']),
-    'one switch alone': (PLAN, ['all 0 wires may break']),
-}
 
 # A description whose labels are accepted.
 ACCEPTED = {
@@ -447,12 +429,9 @@ def mended(text, advice):
     return b''.join(line + b'\n' for part in [*lines, added] for line in part)
 
 
-NEVER = re.compile(rb'^c104: -:(?:\d+: row .* never decides: .*| more rows never decide)\n', re.MULTILINE)
-
-
 def is_of_cycles(errors):
-    """Whether what is told of labels that are accepted is about cycles of channel dependencies, and of rows that never decide."""
-    lines = told_lines(NEVER.sub(b'', errors))
+    """Whether what is told of labels that are accepted is about cycles of channel dependencies."""
+    lines = told_lines(errors)
     return lines is not None and lines[0].startswith((b'no cycle of channel dependencies', b'packets can wait',
                                                       b'random headers are put before packets'))
 
@@ -512,14 +491,6 @@ def wrong_advice(runner, name, text):
     return 'more than %d faults, one behind the other' % MOST_MENDS
 
 
-def cuts(runner):
-    for name, (text, lines) in CUT.items():
-        runner.case(name, ''.join(it + '\n' for it in lines).encode(), int(lines[-1][:4] != 'all '),
-                    words=['check', '--each-cut', '-'], data=text)
-    for name, (text, line) in list(ALL_REFUSED.items())[:3]:
-        runner.case('cut, ' + name, b'refused %s\n' % line.encode(), 1, words=['check', '--each-cut', '-'], data=text)
-
-
 def descriptions(runner):
     for name, (text, line) in FAULTY.items():
         runner.case(name, b'description %s\n' % line.encode(), 1, words=['check', '-'], data=text)
@@ -549,4 +520,4 @@ def devices(runner):
                     data=PLAN + b'continue A.2\n', stdout=full)
 
 
-PARTS = [labels, cuts, by_rules, examples, mends, descriptions, large_networks, devices]
+PARTS = [labels, by_rules, examples, mends, descriptions, large_networks, devices]

@@ -253,9 +253,6 @@ def wrong_answer(runner, text):
     wanted = ['%s(%d) %s' % (port, found[port, other], other) for port, other in Network(text).in_order(found)]
     if plain[1].decode() != last + '\n' or lines != wanted:
         return 'wanted %.200r, found %.200r' % (wanted, lines)
-    drawn = runner.run(words=['draw', '--cycles', '-'], data=text)
-    if drawn is None or b'label="%s"' % last.encode() not in drawn[1]:
-        return 'drawn %.200r' % (drawn,)
     return wrong_cycle(last, found) if cyclic else None if last == 'acyclic' else 'found %.200r' % last
 
 
@@ -265,17 +262,8 @@ def by_hand(runner):
     for name, (text, lines) in ALL_BY_HAND.items():
         runner.case('all of ' + name, '\n'.join(lines).encode() + b'\n', 0, b'', words=['cycles', '-', '--all'], data=text)
     for name, (text, lines) in CYCLES_BY_HAND.items():
-        cycle_by_hand(runner, name, text, lines)
-
-
-def cycle_by_hand(runner, name, text, lines):
-    """A description with a cycle, which is the same with all dependencies and in the title of a picture."""
-    line = lines[-1].encode()
-    runner.case(name, line + b'\n', 1, b'', words=['cycles', '-'], data=text)
-    runner.case('all of ' + name, '\n'.join(lines).encode() + b'\n', 1, b'', words=['cycles', '--all', '-'], data=text)
-    if runner.wanted(name + ', drawn'):
-        picture = runner.run(words=['draw', '--cycles', '-'], data=text)
-        runner.judge(name + ', drawn', None if picture and b'label="%s"' % line in picture[1] else '%.300r' % (picture,))
+        runner.case(name, lines[-1].encode() + b'\n', 1, b'', words=['cycles', '-'], data=text)
+        runner.case('all of ' + name, '\n'.join(lines).encode() + b'\n', 1, b'', words=['cycles', '--all', '-'], data=text)
 
 
 def without_spelling(told):

@@ -42,7 +42,6 @@ show SWITCH.LINK            shows a link
 show TERMINAL               shows a terminal
 show waiting                shows which outputs inputs hold and want
 where TERMINAL NUMBER       shows where a packet is: NUMBER is from 0 on, of those that the terminal sent
-draw FILE                   saves a picture of the network as it stands, for Graphviz
 until TERMINAL NUMBER       runs rounds until that packet has arrived, or nothing moves, at most 10000
 read FILE                   does the lines of a file
 log FILE                    saves the lines so far, and those that come, in a new file
@@ -80,7 +79,6 @@ def terminal(name, other, *counts):
 UNTIL_FORM = b'the line is `until TERMINAL NUMBER`, as `until a 0` of the first packet that `a` sent\n'
 READ_FORM = b"the line is `read FILE`: the file's name is one word, in UTF-8\n"
 LOG_FORM = b"the line is `log FILE`: the file's name is one word, in UTF-8\n"
-DRAW_FORM = b'the line is `draw FILE`, as `draw now.dot`: the file\'s name is one word, in UTF-8\n'
 IDLE = b'waits for a packet'
 FREE = b'no input owns it'
 
@@ -135,17 +133,12 @@ TYPED = [
     ('show A.32', None, b'a link is 0 to 31: A.32\n'),
     ('show b.0', None, b'a terminal is named without a link: b.0\n'),
     ('show B.0', None, b'the description defines no such name: B.0\n'),
-    ('draw', None, DRAW_FORM),
-    ('draw now.dot then.dot', None, DRAW_FORM),
-    ('draw .', None, b'.: Is a directory (os error 21)\n'),
-    ('draw none/such  # a file', None, b'none/such: No such file or directory (os error 2)\n'),
-    ('draw /dev/full', None, b'/dev/full: No space left on device (os error 28)\n'),
     # Ctrl-D within a line sends its first part
     ('wh\x04ere b 0', None, b'b has sent no packet\n'),
     ('until', None, UNTIL_FORM),
     ('until a 0', None, b'packet 0 of a: it arrived at b\n'),
     ('restart now', None, b'the line is `restart`\n'),
-    ('frob', UNKNOWN, b'c104: -:64: no line begins with this word; `help` lists those that do: frob\n'),
+    ('frob', UNKNOWN, b'c104: -:59: no line begins with this word; `help` lists those that do: frob\n'),
     ('', None, b''),
 ]
 
@@ -434,46 +427,6 @@ def a_node_of_that_name(runner):
         runner.judge(name, None if told == wanted and asked.end() == 0 else 'found %r' % told)
 
 
-def pictures(runner):
-    """`draw` saves the picture that `draw --state` prints of the lines so far, in place of what the file held. Through a
-    pipe it saves nothing."""
-    name = 'pictures at a terminal'
-    if runner.wanted(name):
-        with tempfile.TemporaryDirectory() as folder:
-            wrong = drawn_pictures(runner, network(folder), os.path.join(folder, 'now.dot'))
-            runner.judge(name, wrong)
-    for name, words in [('a picture through a pipe', []), ('a picture through a pipe, explained', ['--explain'])]:
-        if runner.wanted(name):
-            with tempfile.TemporaryDirectory() as folder:
-                path = network(folder)
-                found = runner.run(words=[*words, 'debug', path], data=b'draw %s/now.dot\n' % folder.encode())
-                wrong = difference((*found[:2], b''), answers_of([('', UNKNOWN)]), 1, b'')
-                runner.judge(name, wrong or (None if os.listdir(folder) == [os.path.basename(path)] else 'it is saved'))
-
-
-def drawn_pictures(runner, path, saved):
-    """What is wrong of pictures that are saved in a file among the lines of the first run, or None."""
-    asked, typed, number = asked_by_person(runner.program + ['debug', path], False), b'', 1
-    asked.read(asked.errors, b'1> ')
-    with open(saved, 'wb') as file:
-        file.write(b'x' * 65536)
-    for line, _ in [('', None), *FIRST_RUN]:
-        for sent in (line.encode(), b'draw ' + saved.encode()):
-            asked.send(sent + b'\n')
-            number += 1
-            told = asked.read(asked.errors, b'%d> ' % number)
-        typed += line.encode() + b'\n'
-        with open(saved, 'rb') as file:
-            found = file.read()
-        wanted = runner.run(words=['draw', path, '-', '--state'], data=typed)[1]
-        said = b'%s: a picture of %d bytes, for `dot -Tsvg`\n%d> ' % (saved.encode(), len(wanted), number)
-        if (told, found) != (said, wanted):
-            return 'after %r: wanted %r, found %r, told %r' % (line, wanted, found, told)
-    asked.send(END_OF_INPUT)
-    asked.read(asked.output, None)
-    return None if asked.end() == 0 else 'exit status'
-
-
 def questions_are_no_lines(runner):
     """What is typed gives the same bytes and exit status as a run of it without the questions."""
     asks = b'help\nshow A\nshow z\nwhere a 0\n'
@@ -662,5 +615,5 @@ def awaited(runner):
 
 
 PARTS = [through_a_pipe, no_questions, same_as_run, at_a_terminal, what_waits, reads_and_drops,
-         where_packets_are, a_node_of_that_name, pictures, questions_are_no_lines, words_of_the_prompt,
+         where_packets_are, a_node_of_that_name, questions_are_no_lines, words_of_the_prompt,
          standing_still, restarted, several_at_once, ended_by_a_word, awaited]

@@ -7,8 +7,8 @@ A command of this repository that a page only names has to be one that is run he
 and files that pages name have to be there, and README.md and all pages together are no longer than they may be.
 
 All is run in a copy of the repository with this program as what was built there, and the pages but README.md
-with what `make install` installed. What has been proved already is not proved again: in the place of `rt` stands
-one that answers so.
+with what `make install` installed. The tools of bin, which are on PATH, ask this program. What has been proved already
+is not proved again: in the place of `rt` stands one that answers so.
 """
 
 import glob
@@ -39,8 +39,7 @@ RUN = {
 NOT_RUN = {'make test': 'it is what runs this', 'make try SCRIPT=FILE': 'it is `make try`, which is run', 'make install': 'it would be outside the copy: with PREFIX it is run',
            'make bench': 'it takes minutes, and times what it runs', 'make storms': 'it takes minutes',
            'make fuzz MINUTES=60': 'it takes an hour',
-           **dict.fromkeys(('make page', 'make page DESC=examples/ring.txt SCRIPT=examples/ring-packets.txt'),
-                           'it wants Graphviz, and `played` runs it')}
+           **dict.fromkeys(('make page', 'make page DESC=examples/ring.txt SCRIPT=examples/ring-packets.txt'), '`played` runs it')}
 NAMED = re.compile(r'`((?:make|build/c104)(?: [^`]*)?)`|^    ((?:make|build/c104)(?: \S+)*)(?:  |$)', re.MULTILINE)
 # A path of the repository in a page's text.
 PATH = re.compile(r'`((?:docs|examples|tests|crates)/[\w./]*\w|Makefile|README\.md)`')
@@ -151,14 +150,16 @@ class Reader:
         left_out = shutil.ignore_patterns('.git', 'out', 'build', '__pycache__')
         shutil.copytree(TOP, self.top, ignore=left_out)
         os.makedirs(os.path.join(self.top, 'crates', 'c104', 'out'))
-        shutil.copy(runner.program[0], os.path.join(self.top, 'crates', 'c104', 'out', 'c104'))
+        program = os.path.join(self.top, 'crates', 'c104', 'out', 'c104')
+        shutil.copy(runner.program[0], program)
         tools = os.path.join(place, 'tools')
         for folder in (self.home, tools):
             os.mkdir(folder)
         self.write_stand_in(os.path.join(tools, 'rt'))
-        path = [tools, os.path.join(self.home, '.local', 'bin'), os.path.dirname(sys.executable), os.environ['PATH']]
-        left = {name: value for name, value in os.environ.items() if not name.startswith('MAKE') and name != 'MFLAGS'}
-        self.variables = {**left, 'HOME': self.home, 'PATH': ':'.join(path)}
+        path = [tools, os.path.join(self.home, '.local', 'bin'), os.path.join(self.top, 'bin'), os.path.dirname(sys.executable),
+                os.environ['PATH']]
+        left = {name: value for name, value in os.environ.items() if not name.startswith('MAKE') and name not in ('MFLAGS', 'C104')}
+        self.variables = {**left, 'HOME': self.home, 'PATH': ':'.join(path), 'C104': program}
 
     def write_stand_in(self, path):
         rt = os.path.realpath(shutil.which('rt') or sys.exit('there is no command rt: the Rattle toolchain is wanted'))
@@ -185,7 +186,7 @@ class Reader:
     def install_otherwise(self):
         """Below DESTDIR, and where sources are newer than what was built: nothing is proved for it."""
         for lines in (['$ make install DESTDIR=$HOME/stage PREFIX=/usr', '$ $HOME/stage/usr/bin/c104 --version',
-                       '$ test -f $HOME/stage/usr/share/man/man1/c104.1'],
+                       '$ test -f $HOME/stage/usr/share/man/man1/c104.1', '$ $HOME/stage/usr/bin/c104-cuts --help'],
                       ['$ touch crates.txt', '$ make install PREFIX=$HOME/again',
                        'sources are newer than build/c104, which is installed as it stands', '...',
                        '$ cmp build/c104 $HOME/again/bin/c104']):

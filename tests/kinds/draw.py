@@ -1,4 +1,4 @@
-"""Runs a program's drawing over descriptions.
+"""Runs `c104-draw` over descriptions.
 
 A picture is read as a list of nodes and a list of edges, each a line, and compared with what the network has. Every byte of
 one, with all that nodes, edges and a title may have, is held by the cases that are folders.
@@ -6,10 +6,14 @@ one, with all that nodes, edges and a title may have, is held by the cases that 
 
 import os
 import re
+import xml.etree.ElementTree as xml
 
 from case_runner import CANNOT_READ, CANNOT_WRITE, EXAMPLES, PLAN
 from kinds.saved import Room, shadow
 from kinds.stats import FIRST
+
+TOOL = 'c104-draw'
+SVG = '{http://www.w3.org/2000/svg}'
 
 NODE = re.compile(r'  "([\w-]+)" \[(.*)\]')
 EDGE = re.compile(r'  "([\w-]+)" -> "([\w-]+)" \[taillabel="([\d,]*)", headlabel="([\d,]*)"(.*)\]')
@@ -175,7 +179,7 @@ def compared(found, wanted):
 def drawn(runner):
     for name, (text, (names, wires)) in DRAWN.items():
         if runner.wanted(name):
-            picture = picture_of(runner, ['draw', '-'], text)
+            picture = picture_of(runner, ['-'], text)
             found = ([it for it, _ in picture.nodes], picture.wires()) if picture else None
             runner.judge(name, compared(found, (names, wires)))
 
@@ -183,7 +187,7 @@ def drawn(runner):
 def marked(runner):
     for name, (text, header, bold, filled, title, red) in MARKED.items():
         if runner.wanted(name):
-            picture = picture_of(runner, ['draw', '-', '--header', str(header)], text)
+            picture = picture_of(runner, ['-', '--header', str(header)], text)
             found = (picture.bold(), picture.filled(), picture.title, picture.red()) if picture else None
             runner.judge(name + ', marked', compared(found, (bold, filled, title, red)))
 
@@ -197,15 +201,15 @@ def cyclic(runner):
             ('a ring with a cycle', ring, 'cycle B.2(2) C.2(3) D.2(0) A.2(1)', ['A.2', 'B.2', 'C.2', 'D.2']),
             ('refused labels with a cycle', refused_labels, 'refused 6 DeadEnd: from a header 1 walk A.0', [])):
         if runner.wanted(name):
-            picture = picture_of(runner, ['draw', '-', '--cycles'], text)
+            picture = picture_of(runner, ['-', '--cycles'], text)
             found = (picture.title, picture.red(), picture.bold(), picture.filled()) if picture else None
             runner.judge(name, compared(found, (title, red, red_ends(red), [])))
     for name, text in (('one switch', PLAN), ('a tree', TREE), ('a mesh', b'mesh 3 2 1\n')):
         if runner.wanted(name + ' without a cycle'):
-            picture = picture_of(runner, ['draw', '--cycles', '-'], text)
+            picture = picture_of(runner, ['--cycles', '-'], text)
             found = (picture.title, picture.red(), picture.bold(), picture.filled()) if picture else None
             runner.judge(name + ' without a cycle', compared(found, ('acyclic', [], [], [])))
-    runner.case('a header and a cycle', b'', 2, words=['draw', '-', '--cycles', '--header', '1'], data=PLAN)
+    runner.case('a header and a cycle', b'', 2, words=['-', '--cycles', '--header', '1'], data=PLAN)
 
 
 def red_ends(red):
@@ -218,7 +222,7 @@ def edges(runner):
     """Wires of one group are one edge, whose links stand in the same order at both ends."""
     name = 'edges of a group'
     if runner.wanted(name):
-        picture = picture_of(runner, ['draw', '-'], GROUP)
+        picture = picture_of(runner, ['-'], GROUP)
         found = [it[:4] for it in picture.edges] if picture else None
         runner.judge(name, compared(found, [('A', 'a', '0', ''), ('B', 'b', '0', ''), ('A', 'B', '1,2', '4,5'),
                                             ('A', 'B', '3', '7')]))
@@ -230,7 +234,7 @@ def numbers(runner):
                               ('numbers of a ring', RING, 6), ('numbers of a fan', FAN, 12),
                               ('numbers of a mesh', b'mesh 2 2 1\n', 0), ('numbers of a cube', b'cube 2 1\n', 0)):
         if runner.wanted(name):
-            picture = picture_of(runner, ['draw', '-'], text)
+            picture = picture_of(runner, ['-'], text)
             runner.judge(name, compared((len(picture.middle), len(picture.edges) - count) if picture else None,
                                         (count, {'mesh': 8, 'cube': 8}.get(text[:4].decode(), 0))))
     near, far = 'labeldistance=3.5, labelangle=%d', 'labeldistance=%s, labelangle=%d'
@@ -239,7 +243,7 @@ def numbers(runner):
             ('a cube with more terminals', b'cube 4 4\n', [*[near % 12] * 3, far % ('5', 12)]),
             ('a cube with many terminals', b'cube 1 9\n', ['']), ('a mesh with few', b'mesh 2 1 1\n', [''])):
         if runner.wanted('numbers of ' + name):
-            picture = picture_of(runner, ['draw', '-'], text)
+            picture = picture_of(runner, ['-'], text)
             found = sorted({(it[2], it[4].strip(', ')) for it in picture.edges if it[2] and it[3]}) if picture else None
             runner.judge('numbers of ' + name, compared([it[1] for it in found or []], layouts))
 
@@ -247,8 +251,8 @@ def numbers(runner):
 def trees(runner):
     """The wires over which the labels of a tree lead are wide, and all others gray."""
     for name, words, plain, wide in (
-            ('wires of a tree', ['draw', '-'], 'color=gray50', 'penwidth=2'),
-            ('wires of a tree that are not marked', ['draw', '-', '--header', '9'], 'color=gray60',
+            ('wires of a tree', ['-'], 'color=gray50', 'penwidth=2'),
+            ('wires of a tree that are not marked', ['-', '--header', '9'], 'color=gray60',
              'penwidth=2, color=gray60')):
         if runner.wanted(name):
             picture = picture_of(runner, words, RING)
@@ -263,16 +267,16 @@ def places(runner):
     for text in (b'mesh 4 4 2\n', b'mesh 3 2 9\n', b'mesh 1 1 28\n', b'cube 3 1\n', b'cube 5 2\n', b'cube 6 4\n'):
         name = 'places of %s' % text.decode().strip()
         if runner.wanted(name):
-            picture = picture_of(runner, ['draw', '-'], text)
+            picture = picture_of(runner, ['-'], text)
             places = picture.places() if picture else {}
             is_whole = picture and len(places) == len(picture.nodes) and len(set(places.values())) == len(places)
             runner.judge(name, None if is_whole else 'found %s' % places)
     if runner.wanted('corners'):
-        picture = picture_of(runner, ['draw', '-'], b'cube 6 1\n')
+        picture = picture_of(runner, ['-'], b'cube 6 1\n')
         places = picture.places() if picture else {}
         runner.judge('corners', compared({name: places.get(name) for name in CORNERS}, CORNERS))
     if runner.wanted('a grid'):
-        picture = picture_of(runner, ['draw', '-'], b'mesh 3 2 1\n')
+        picture = picture_of(runner, ['-'], b'mesh 3 2 1\n')
         places = picture.places() if picture else {}
         first = {it: places.get('s%d' % it, (0, 0)) for it in range(6)}
         is_grid = (len({first[it][0] for it in (0, 3)}) == 1 and len({first[it][1] for it in (0, 1, 2)}) == 1
@@ -281,13 +285,13 @@ def places(runner):
 
 
 def refused(runner):
-    for words in (['draw', '-'], ['draw', '-', '--header', '0']):
+    for words in (['-'], ['-', '--header', '0']):
         runner.case('a faulty description', b'description 2: 8 SelfWire\n', 1, words=words,
                     data=b'switch A\nwire A.0 A.1\n')
         runner.case('a network that is not labelled', b'label 1 NotConnected\n', 1, words=words,
                     data=b'switch A\nswitch B\nlabel tree A\n')
     for word in ('-1', '65536', 'b', ''):
-        runner.case('a header %s' % word, b'', 2, words=['draw', '-', '--header=' + word], data=PLAN)
+        runner.case('a header %s' % word, b'', 2, words=['-', '--header=' + word], data=PLAN)
 
 
 # Pictures that are written to a file, by their words.
@@ -301,9 +305,9 @@ def files(runner):
             name = ' '.join(['to a file', *words, *option])
             if runner.wanted(name):
                 with Room(PLAN, FIRST) as room:
-                    due = runner.run(words=['draw', 'network', *words], folder=room.room.name)[1]
+                    due = runner.run(words=['network', *words], folder=room.room.name)[1]
                     shadow(room, 'made', b'x' * 10000)
-                    found = runner.run(words=['draw', 'network', *words, *option], folder=room.room.name), room.made()
+                    found = runner.run(words=['network', *words, *option], folder=room.room.name), room.made()
                 printed = (b'', {'made': due}) if 'made' in option else (due, {'made': b'x' * 10000})
                 runner.judge(name, compared(found, ((0, printed[0], b''), printed[1])))
     wide = b'send a 01 eop\nrounds 5000\nsend a 01 eop\n' + b'rounds 9\n'
@@ -316,27 +320,54 @@ def files(runner):
         if runner.wanted(name + ', to a file'):
             with Room(description, script) as room:
                 shadow(room, 'made', b'before')
-                found = runner.run(words=['draw', 'network', *words, '-o', 'made'], folder=room.room.name), room.made()
+                found = runner.run(words=['network', *words, '-o', 'made'], folder=room.room.name), room.made()
             runner.judge(name + ', to a file', compared((found[0][:2], found[1]), ((status, out), {'made': b'before'})))
     if runner.wanted('a faulty line, to a file'):
         with Room(PLAN, FIRST + b'frob\n') as room:
-            found = runner.run(words=['draw', 'network', 'events', '--state', '-o', 'made'], folder=room.room.name), room.made()
+            found = runner.run(words=['network', 'events', '--state', '-o', 'made'], folder=room.room.name), room.made()
         runner.judge('a faulty line, to a file', compared((found[0], list(found[1])), ((1, b'', b''), ['made'])))
     for name, path, why in (('a folder that is not there', 'none/made', b'No such file or directory (os error 2)'),
                             ('a full device', '/dev/full', b'No space left on device (os error 28)')):
         if runner.wanted(name):
             told = b'c104: cannot write %s\n' % path.encode()
-            runner.case(name, b'', 3, told, words=['draw', '-', '-o', path], data=PLAN)
+            runner.case(name, b'', 3, told, words=['-', '-o', path], data=PLAN)
             runner.case(name + ', explained', b'', 3, told + b'c104: %s: %s\n' % (path.encode(), why),
-                        words=['--explain', 'draw', '-', '-o', path], data=PLAN)
+                        words=['--explain', '-', '-o', path], data=PLAN)
+
+
+def placed(runner):
+    """A picture at fixed places has each node once, at a place of its own, and each wire; so has one of loads."""
+    for name, (text, (names, wires)) in DRAWN.items():
+        if not names or not runner.wanted(name + ', at fixed places'):
+            continue
+        with Room(text, b'') as room:
+            found = runner.run(words=['network', '-o', 'made.svg'], folder=room.room.name)
+            picture = xml.fromstring(room.made().get('made.svg', b'<svg/>').decode())
+        texts = [it for it in picture.iter(SVG + 'text') if it.text in names]
+        places = {(it.get('x'), it.get('y')) for it in texts}
+        drawn = [it.get('id') for it in picture.iter(SVG + 'path') if it.get('id')]
+        due = ((0, b'', b''), sorted(names), len(names), len(wires))
+        runner.judge(name + ', at fixed places',
+                     compared((found, sorted(it.text for it in texts), len(places), len(set(drawn))), due))
+    if runner.wanted('loads'):
+        with Room(b'mesh 2 2 1\n', b'') as room:
+            found = runner.run(words=['network', '--load', '-o', 'made.svg'], folder=room.room.name)
+            titles = [it.text for it in xml.fromstring(room.made()['made.svg'].decode()).iter(SVG + 'title')]
+        # twelve pairs: three to each terminal, and eight of them cross a column and eight a row, two on each link
+        counts = {key: int(value) for key, value in (it.split(': ') for it in titles)}
+        sums = [sum(count for port, count in counts.items() if port.endswith(ends)) for ends in (('.4',), ('.0', '.3'), ('.1', '.2'))]
+        runner.judge('loads', compared((found, sums), ((0, b'', b''), [12, 8, 8])))
+    for name, words in (('a load of nothing', ['--load', '--header', '1']), ('a largest load alone', ['--most', '3']),
+                        ('a state after no script', ['--at', '3']), ('loads by Graphviz', ['--load', '--layout', 'dot'])):
+        runner.case(name, b'', 2, words=['-', *words], data=PLAN)
 
 
 def devices(runner):
-    runner.case('no such file', b'', 3, b'c104: cannot read none/such\n', words=['draw', 'none/such'])
+    runner.case('no such file', b'', 3, b'c104: cannot read none/such\n', words=['none/such'])
     with open('/proc/self/mem', 'rb') as unreadable:
-        runner.case('a reader that fails', b'', 3, CANNOT_READ, words=['draw', '-'], stdin=unreadable)
+        runner.case('a reader that fails', b'', 3, CANNOT_READ, words=['-'], stdin=unreadable)
     with open('/dev/full', 'wb') as full:
-        runner.case('a writer that fails', None, 3, CANNOT_WRITE, words=['draw', '-'], data=PLAN, stdout=full)
+        runner.case('a writer that fails', None, 3, CANNOT_WRITE, words=['-'], data=PLAN, stdout=full)
 
 
-PARTS = [drawn, marked, cyclic, edges, numbers, trees, places, refused, files, devices]
+PARTS = [drawn, marked, cyclic, edges, numbers, trees, places, refused, files, placed, devices]

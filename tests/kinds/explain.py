@@ -585,10 +585,8 @@ def special(runner, seen):
     told(runner, 'two files in the place of a command', ['first.txt', 's.txt'], {'first.txt': PLAN, 's.txt': b''}, b'',
          'c104: first.txt: this is a file, not a command; `c104 run first.txt s.txt` runs a description and its script',
          seen)
-    told(runner, 'a header in hexadecimal digits', ['draw', 'first.txt', '--header', '0x1'], {'first.txt': PLAN}, b'',
+    told(runner, 'a header in hexadecimal digits', ['check', 'first.txt', '--header', '0x1', '--rows'], {'first.txt': PLAN}, b'',
          'c104: a header is a decimal number, 0 to 65535', seen)
-    told(runner, 'a picture of two files', ['draw', 'first.txt', 's.txt'], {'first.txt': PLAN, 's.txt': b''}, b'',
-         'c104: a script is drawn as it ends, by --state, or over its rounds, by --over-time', seen)
     told(runner, 'a faulty line of one text', ['run', 'first.txt'], {'first.txt': PLAN + b'script\nsend z 01 eop\n'}, b'',
          'c104: first.txt:9: the description defines no such name: z', seen)
 

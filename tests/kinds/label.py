@@ -285,9 +285,15 @@ def images(runner):
         runner.case(name, lines_of(lines), words=['label', '-'], data=text)
 
 
+def shape_line(text):
+    """The line of a description's shape, a comment, which stands before its rows."""
+    shapes = [words[words[0] == b'label':] for words in map(bytes.split, text.splitlines()) if words[:1] in ([b'mesh'], [b'cube'], [b'label'])]
+    return b'# shape %s\n' % b' '.join(shapes[0] if shapes else [b'hand'])
+
+
 def by_rows(runner):
     for name, (text, lines) in BY_ROWS.items():
-        runner.case(name + ', by rows', lines_of(lines), words=['label', '-', '--rows'], data=text)
+        runner.case(name + ', by rows', shape_line(text) + lines_of(lines), words=['label', '-', '--rows'], data=text)
     for name, (text, line) in UNLABELLED.items():
         runner.case(name + ', by rows', b'label %s\n' % line.encode(), 1, words=['label', '--rows', '-'], data=text)
     for name, (text, line) in FAULTY.items():
@@ -297,7 +303,28 @@ def by_rows(runner):
         if runner.wanted(name + ', read again'):
             _, shown, _ = runner.run(words=['label', '--rows', '-'], data=text)
             runner.case(name + ', read again', lines_of(lines), words=['label', '-'], data=shown)
-            runner.case(name + ', read again by rows', shown, words=['label', '--rows', '-'], data=shown)
+            by_hand = shape_line(shown) + shown.partition(b'\n')[2]
+            runner.case(name + ', read again by rows', by_hand, words=['label', '--rows', '-'], data=shown)
+
+
+# Two wires, which are a group at A, and a row that selects it; what is left of it without the first, by either end, or without both.
+GROUPED = (b'switch A\nswitch B\nterminal a A.0\nterminal b B.0\nwire A.1 B.1\nwire A.2 B.2\ncontinue A.2\n'
+    b'row A.0 1 0\nrow A.0 2 1\nrow A.2 1 0\nrow B.0 1 2\nrow B.0 2 0\nrow B.1 2 0\nrow B.2 2 0\n')
+LEFT = ('header 1; buffer 16; switch A; switch B; terminal a A.0 labels 1 from 0; terminal b B.0 labels 1 from 1;%s'
+    'row A.0 1 0; row A.0 2 2; row A.2 1 0; row B.0 1 2; row B.0 2 0; row B.1 2 0; row B.2 2 0')
+WITHOUT = {'A.1': 'wire A.2 B.2;', 'B.1': 'wire A.2 B.2;', 'A.1 B.2': ''}
+
+
+def without_wires(runner):
+    for ports, wires in WITHOUT.items():
+        words = [word for port in ports.split() for word in ('--without', port)]
+        runner.case('without %s' % ports, b'# shape hand\n' + lines_of(LEFT % wires), 0, b'', words=['label', '--rows', *words, '-'],
+                    data=GROUPED)
+    runner.case('a mesh without a wire, as by hand', b'refused 6 DeadEnd: from t0 header 1 walk s0.4\n', 1, words=['check', '-'],
+                data=runner.run(words=['label', '-', '--rows', '--without', 's0.2'], data=b'mesh 2 1 1\n')[1])
+    for port in ('A.0', 'A.9', 'A.32', 'C.1', 'a', 'A'):
+        runner.case('no wire at ' + port, b'rows 2 NoWire: %s\n' % port.encode(), 1, b'c104: -: no wire between switches is at this port\n',
+                    words=['label', '--rows', '--without', port, '-'], data=GROUPED)
 
 
 def by_names(runner):
@@ -468,4 +495,4 @@ def devices(runner):
                     data=b'frob\n', stdout=full)
 
 
-PARTS = [images, by_names, by_rows, by_commands, labelled, runs, descriptions, devices]
+PARTS = [images, by_names, by_rows, without_wires, by_commands, labelled, runs, descriptions, devices]

@@ -1,4 +1,4 @@
-"""Runs the scripts that a program prints of networks that lock up, over networks that seeds give.
+"""Runs the scripts that `c104-lockup` prints of networks that lock up, over networks that seeds give.
 
 That a script locks its network up is told by running it: each of its events is ready, its packets begin with labels of
 terminals, and at its end the network stands still. Whether a network has a cycle is found by the definition, as in the
@@ -11,10 +11,12 @@ import os
 import re
 import tempfile
 
-from kinds.cycles import Network, has_cycle, random_ring
+from case_runner import Runner
+from kinds.cycles import REFUSED, Network, has_cycle, random_ring
 from networks import row_lines, text_of
 from random_networks import chance_of, network_of
 
+TOOL = 'c104-lockup'
 STANDS_STILL = re.compile(rb'^c104: -:\d+: stands still: ', re.MULTILINE)
 NOT_DONE = re.compile(rb'^\d+: (?:not ready|refused|fault)\b.*', re.MULTILINE)
 NONE_FOUND, ACYCLIC = b'none found\n', b'acyclic\n'
@@ -139,6 +141,11 @@ def others():
         yield 'a network by trees, %d' % seed, by_trees(seed)
 
 
+def core(runner):
+    """A runner of the program that the tool asks."""
+    return Runner([os.environ['C104']], runner.kind)
+
+
 def wrong_script(runner, text, script):
     """What is wrong with a script that is to lock a network up, or None."""
     labels = {label for _, owned in Network(text).terminals for label in owned}
@@ -151,7 +158,7 @@ def wrong_script(runner, text, script):
         path = os.path.join(folder, 'network')
         with open(path, 'wb') as file:
             file.write(text)
-        found = runner.run(words=['--explain', 'run', path, '-'], data=script)
+        found = core(runner).run(words=['--explain', 'run', path, '-'], data=script)
     if found is None:
         return 'no end'
     status, out, told = found
@@ -166,7 +173,7 @@ def judge(runner, name, text, is_known):
     if not runner.wanted(name):
         return None
     is_cyclic = has_cycle(Network(text).dependencies())
-    found = runner.run(words=['cycles', '--script', '-'], data=text)
+    found = runner.run(words=['-'], data=text)
     wrong, is_locked = None, False
     if found is None or found[0] != int(is_cyclic) or found[2]:
         wrong = 'wanted status %d, found %.300r' % (is_cyclic, found)
@@ -199,8 +206,21 @@ def have_no_cycle(runner):
     """The labels of a mesh, a tree and a cube have none."""
     for seed in range(6):
         network = network_of(chance_of(seed))
-        runner.case('a network that labels itself, %d' % seed, ACYCLIC, 0, b'', words=['cycles', '-', '--script'],
-                    data=network.description)
+        runner.case('a network that labels itself, %d' % seed, ACYCLIC, 0, b'', words=['-'], data=network.description)
 
 
-PARTS = [lock_up, may_lock_up, have_no_cycle]
+def refused(runner):
+    """What is refused is told as by `cycles`, and explained; wrong usage in one line."""
+    for name, (text, line) in list(REFUSED.items())[:3]:
+        runner.case('refused, ' + name, line.encode() + b'\n', 1, b'', words=['-'], data=text)
+        told = core(runner).run(words=['--explain', 'cycles', '-'], data=text)[2] if runner.wanted('explained, ' + name) else None
+        runner.case('explained, ' + name, line.encode() + b'\n', 1, told, words=['-', '--explain'], data=text)
+    runner.case('a file that is not there', b'', 3, b'c104: cannot read none/such\n', words=['none/such'])
+    for words in ([], ['-', '-'], ['-', '--frob']):
+        if runner.wanted('usage of c104-lockup %s' % ' '.join(words)):
+            found = runner.run(words=words, data=b'')
+            is_told = found[:2] == (2, b'') and found[2].startswith(b'c104-lockup: ') and found[2].count(b'\n') == 1
+            runner.judge('usage of c104-lockup %s' % ' '.join(words), None if is_told else '%.300r' % (found,))
+
+
+PARTS = [lock_up, may_lock_up, have_no_cycle, refused]

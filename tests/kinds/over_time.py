@@ -1,4 +1,4 @@
-"""Runs a program's drawing of runs over their rounds.
+"""Runs `c104-draw` over the rounds of runs.
 
 A picture is read by Python's reader of XML: its rows with the rectangles in them, as rounds, and its list of packets. What
 they are is worked out by hand, round by round, from docs/FORMATS.md. Every byte of a picture is held by the cases that are
@@ -15,6 +15,8 @@ import xml.etree.ElementTree as xml
 from case_runner import CANNOT_WRITE, EXAMPLES, MIB, PLAN, SCRIPT_LIMIT, SCRIPT_LINE, TOP, comments
 from kinds.states import LINE
 from kinds.stats import FIRST, Files, csv_text, json_text, table_text
+
+TOOL = 'c104-draw'
 
 SVG = '{http://www.w3.org/2000/svg}'
 TITLE = re.compile(r'rounds (\d+) to (\d+); hatched: a packet holds the wire, and nothing crosses')
@@ -165,7 +167,7 @@ def unknown_fills(picture):
 def pictured(runner, description, script, words=()):
     """The status, what is printed, and the picture."""
     with Files(description) as path:
-        status, out, _ = runner.run(words=['draw', path, '-', '--over-time', *words], data=script)
+        status, out, _ = runner.run(words=[path, '-', '--over-time', *words], data=script)
     return status, out, xml.fromstring(out.decode()) if out.startswith(b'<svg') else None
 
 
@@ -219,7 +221,7 @@ def scaled(runner):
             numbers = [(int(it.get('x')), int(it.text)) for it in picture.findall(SVG + 'text') if it.get('y') == '24']
             found = (status, rows_of(picture, cell), int(picture.get('width')), numbers, cut_texts(picture))
             runner.judge(name, None if found == (0, due, width, ticks, []) else 'found %s' % (found,))
-    runner.case('a scale of a table', b'', 2, words=['draw', '/dev/null', '-', '--over-time', '--scale', '4', '--format', 'csv'], data=b'')
+    runner.case('a scale of a table', b'', 2, words=['/dev/null', '-', '--over-time', '--scale', '4', '--format', 'csv'], data=b'')
 
 
 def tabled(runner):
@@ -347,7 +349,7 @@ def unknown(runner):
             runner.judge(name, None if found == (1, b'draw 2 NoSwitch: %s\n' % told) else 'found %s' % (found,))
     if runner.wanted('no such switch, explained'):
         with Files(PLAN) as path:
-            found = runner.run(words=['--explain', 'draw', path, '-', '--over-time', '--only', 'Z'], data=FIRST)
+            found = runner.run(words=['--explain', path, '-', '--over-time', '--only', 'Z'], data=FIRST)
         due = (1, b'draw 2 NoSwitch: Z\n', b'c104: %s: no switch has the name Z\n' % path.encode())
         runner.judge('no such switch, explained', None if found == due else 'found %s' % (found,))
     if runner.wanted('no such switch of no network'):
@@ -393,14 +395,14 @@ def words(runner):
                         ('a switch alone', ['--only', 'A']), ('a switch of a state', ['-', '--state', '--only', 'A']),
                         ('a format alone', ['--format', 'csv']), ('a format of a state', ['-', '--state', '--format', 'csv']), ('a first round behind the last',
                         ['-', '--over-time', '--from', '2', '--to', '1'])):
-        runner.case(name, b'', 2, words=['draw', '/dev/null', *given])
+        runner.case(name, b'', 2, words=['/dev/null', *given])
 
 
 def devices(runner):
-    runner.case('no such script', b'', 3, b'c104: cannot read none/such\n', words=['draw', '/dev/null', 'none/such', '--over-time'])
-    runner.case('no such description', b'', 3, b'c104: cannot read none/such\n', words=['draw', 'none/such', '-', '--over-time'])
+    runner.case('no such script', b'', 3, b'c104: cannot read none/such\n', words=['/dev/null', 'none/such', '--over-time'])
+    runner.case('no such description', b'', 3, b'c104: cannot read none/such\n', words=['none/such', '-', '--over-time'])
     with open('/dev/full', 'wb') as full:
-        runner.case('a writer that fails', None, 3, CANNOT_WRITE, words=['draw', '/dev/null', '-', '--over-time'], data=b'',
+        runner.case('a writer that fails', None, 3, CANNOT_WRITE, words=['/dev/null', '-', '--over-time'], data=b'',
                     stdout=full)
 
 

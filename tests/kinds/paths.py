@@ -1,20 +1,22 @@
-"""Runs a program's command `paths` over descriptions: its three tables, its summary, and summaries side by side.
+"""Runs `c104-paths` over descriptions: its tables, its summary, and summaries side by side; and which rows never decide, and why.
 
-Some tables were counted by hand. Others are counted here over all ways of each header, by the definitions of
-crates/c104_paths/specs and by no code of the program's: networks of all kinds whose labels are accepted, those that label
-themselves by the rows that `label --rows` gives them.
+Some tables were counted by hand. Others are counted by path_counts.py over all ways of each header: networks of all kinds whose
+labels are accepted, those that label themselves by the rows that `label --rows` gives them.
 """
 
-import fractions
+import csv
+import io
 import json
 import os
 import tempfile
 
 from case_runner import CANNOT_READ, CANNOT_WRITE, PLAN
-from check_rules import LINKS, Rules
+from check_rules import Rules
 from kinds import check, cycles
 from networks import chain, mesh
+from path_counts import Ways, tables_of
 from random_networks import chance_of, network_of
+from tools import tool_parts
 from two_bytes import hand_mesh
 
 TABLES = {
@@ -24,7 +26,7 @@ TABLES = {
 }
 SUMMARY = ['pairs', 'mean_hops', 'largest_hops', 'mean_stretch', 'largest_stretch', 'largest_load', 'load_link', 'most_rows',
            'rows_input', 'random_mean', 'random_largest', 'random_load', 'random_link', 'cycle']
-MANY_RANDOM = 30
+MANY_RANDOM = 12
 MOST_SEEDS = 400
 MOST_LABELS = 2000
 
@@ -90,173 +92,6 @@ SUMMARIES = {
 }
 
 
-class Ways:
-    """All ways of headers in a description whose labels are accepted."""
-
-    def __init__(self, text):
-        self.rules = Rules(text)
-        self.ports = ['%s.%d' % (switch, link) for switch in self.rules.switches for link in LINKS]
-        self.labels = sorted(label for _, _, labels in self.rules.terminals for label in labels)
-
-    def next_links(self, port, header):
-        select = self.rules.select(port, header)
-        return None if select in ('sink', 'discard') else self.rules.group(port, select)
-
-    def lengths(self, port, header, known):
-        """Over how many wires between switches a header may go on from an input to where it leaves them or is discarded."""
-        if port not in known:
-            lengths = set()
-            for link in self.next_links(port, header) or ():
-                other = self.rules.far[link]
-                lengths |= {it + 1 for it in self.lengths(other, header, known)} if '.' in other else {0}
-            known[port] = lengths or {0}
-        return known[port]
-
-    def uses(self, port, header, known):
-        """The links that some way from an input takes, and those that all take."""
-        if port not in known:
-            ways = []
-            for link in self.next_links(port, header) or ():
-                other = self.rules.far[link]
-                can, always = self.uses(other, header, known) if '.' in other else (set(), set())
-                ways.append((can | {link}, always | {link}))
-            known[port] = (set().union(*(it for it, _ in ways)), set.intersection(*(it for _, it in ways)) if ways else set())
-        return known[port]
-
-    def met(self, ports, header):
-        """The inputs to which a header may come from some."""
-        met, left = set(), list(ports)
-        while left:
-            port = left.pop()
-            if port not in met:
-                met.add(port)
-                others = (self.rules.far[link] for link in self.next_links(port, header) or ())
-                left += [it for it in others if '.' in it]
-        return met
-
-    def randoms(self, port):
-        return self.rules.random_headers(port) if port in self.rules.randoms else []
-
-    def begins(self, port):
-        """Where own headers of the terminal at an input begin."""
-        if port not in self.rules.randoms:
-            return {port}
-        met = {(it, header) for header in self.randoms(port) for it in self.met([port], header)}
-        return {it for it, header in met if self.rules.select(it, header) == 'discard'}
-
-    def distances(self, switch):
-        """How many wires each switch is from one."""
-        far, level, wires = {}, {switch}, 0
-        while level:
-            far.update((it, wires) for it in level)
-            ends = {self.rules.far.get('%s.%d' % (it, link), '') for it in level for link in LINKS}
-            level, wires = {it.split('.')[0] for it in ends if '.' in it} - far.keys(), wires + 1
-        return far
-
-    def pairs(self):
-        """Of each label and each other terminal: both, the label's owner, the lengths of its ways and the distance."""
-        found = []
-        for label in self.labels:
-            known = {}
-            owner, home = next((name, port) for name, port, labels in self.rules.terminals if label in labels)
-            far = self.distances(home.split('.')[0])
-            for name, port, _ in self.rules.terminals:
-                if name != owner:
-                    lengths = set().union(*(self.lengths(it, label, known) for it in self.begins(port)))
-                    found.append((name, label, owner, lengths, far[port.split('.')[0]]))
-        return found
-
-    def phases(self):
-        """By terminal, the lengths of its ways by random headers."""
-        return {name: set().union(*(self.lengths(port, header, {}) for header in self.randoms(port)))
-                for name, port, _ in self.rules.terminals}
-
-    def loads(self):
-        """By link, how many pairs can use it and always do, and the same by random headers."""
-        counts = {port: [0, 0, 0, 0] for port in self.ports}
-        for label in self.labels:
-            known = {}
-            for _, port, labels in self.rules.terminals:
-                if label not in labels:
-                    uses = [self.uses(it, label, known) for it in self.begins(port)]
-                    self.add(counts, 0, set().union(*(can for can, _ in uses)), set.intersection(*(it for _, it in uses)))
-        for _, port, _ in self.rules.terminals:
-            for header in self.randoms(port):
-                self.add(counts, 2, *self.uses(port, header, {}))
-        return counts
-
-    @staticmethod
-    def add(counts, place, can, always):
-        for link in can:
-            counts[link][place] += 1
-        for link in always:
-            counts[link][place + 1] += 1
-
-    def inputs(self):
-        """By input, the rows that are set, those that can decide, and the labels and random headers that come there."""
-        begins = set().union(*(self.begins(port) for _, port, _ in self.rules.terminals))
-        entries = {}
-        for _, port, _ in self.rules.terminals:
-            for header in self.randoms(port):
-                entries.setdefault(header, set()).add(port)
-        own = {label: self.met(begins, label) for label in self.labels}
-        random = {header: self.met(ports, header) for header, ports in entries.items()}
-        found = {}
-        for port in self.ports:
-            labels = {it for it, met in own.items() if port in met}
-            randoms = {it for it, met in random.items() if port in met}
-            rows = self.rules.rows.get(port, [])
-            deciding = {self.first(port, header) for header in labels | randoms} - {None}
-            found[port] = [sum(row != (0, 'sink') for row in rows), len(deciding), len(labels), len(randoms)]
-        return found
-
-    def first(self, port, header):
-        """The first row of an input that covers a header."""
-        low = self.rules.bases.get(port, 0)
-        for number, (limit, _) in enumerate(self.rules.rows.get(port, [])):
-            if low <= header < limit:
-                return number
-            low = limit
-        return None
-
-
-def thousandths(number):
-    """A fraction with three digits behind the point, rounded down."""
-    return '' if number is None else '%d.%03d' % divmod(int(number * 1000), 1000)
-
-
-def mean(numbers):
-    numbers = list(numbers)
-    return fractions.Fraction(sum(numbers), len(numbers)) if numbers else None
-
-
-def largest(counts):
-    """The largest count and the first link that has it."""
-    most = max(counts.values(), default=0)
-    return [str(most), next(it for it, count in counts.items() if count == most)] if most else ['0', '']
-
-
-def tables_of(ways):
-    """The rows of each table, and those of the summary."""
-    pairs, phases, loads, inputs = ways.pairs(), ways.phases(), ways.loads(), ways.inputs()
-    stretches = [fractions.Fraction(max(lengths), far) for _, _, _, lengths, far in pairs if far]
-    far_of = ways.rules.far
-    inside = {it for it in ways.ports if '.' in far_of.get(it, '')}
-    hops, random = [max(it[3]) for it in pairs], [max(it) for it in phases.values() if it]
-    rows = {
-        'pairs': [[name, label, owner, min(lengths), max(lengths), far, thousandths(
-            fractions.Fraction(max(lengths), far) if far else None), *((min(phases[name]), max(phases[name])) if phases[name]
-            else ('', ''))] for name, label, owner, lengths, far in pairs],
-        'links': [[it, far_of[it], *loads[it]] for it in ways.ports if it in far_of],
-        'inputs': [[it, *inputs[it]] for it in ways.ports if it in far_of or inputs[it][0]],
-    }
-    load, random_load = (largest({it: counts[place] for it, counts in loads.items() if it in inside}) for place in (0, 2))
-    summary = [len(pairs), thousandths(mean(hops)), max(hops, default=''), thousandths(mean(stretches)),
-               thousandths(max(stretches, default=None)), *load, *largest({it: counts[0] for it, counts in inputs.items()}),
-               thousandths(mean(random)), max(random, default=''), *(random_load if random else ('', ''))]
-    return rows, [str(it) for it in summary]
-
-
 def csv_of(names, rows):
     return ''.join(','.join(map(str, it)) + '\r\n' for it in [names, *rows]).encode()
 
@@ -265,11 +100,11 @@ def by_hand(runner):
     for name, (text, tables) in BY_HAND.items():
         for table, rows in tables.items():
             wanted = csv_of([TABLES[table]], [[it] for it in rows])
-            runner.case('%s of %s' % (table, name), wanted, 0, b'', words=['paths', '-', '--what', table, '--format', 'csv'],
+            runner.case('%s of %s' % (table, name), wanted, 0, b'', words=['-', '--what', table, '--format', 'csv'],
                         data=text)
     for name, (text, cells) in SUMMARIES.items():
         wanted = ''.join('%-19s%s\n' % it for it in zip(SUMMARY, cells)).encode()
-        runner.case('summary of %s' % name, wanted, 0, b'', words=['paths', '-'], data=text)
+        runner.case('summary of %s' % name, wanted, 0, b'', words=['-'], data=text)
 
 
 def forms(runner):
@@ -277,11 +112,11 @@ def forms(runner):
     wanted = (b'sender    label     receiver  least     most      distance  stretch   random_least  random_most\n'
               b'b         0         a         1         1         1         1.000     -             -\n'
               b'a         1         b         0         1         1         1.000     0             1\n')
-    runner.case('a table for people', wanted, 0, b'', words=['paths', '--what', 'pairs', '-'], data=check.OVER_A_WIRE)
+    runner.case('a table for people', wanted, 0, b'', words=['--what', 'pairs', '-'], data=check.OVER_A_WIRE)
     wanted = [{'port': 'A.0', 'set': 2, 'deciding': 2, 'labels': 2, 'random': 0},
               {'port': 'A.1', 'set': 2, 'deciding': 2, 'labels': 2, 'random': 0}]
     text = '[\n%s\n]\n' % ',\n'.join(map(json.dumps, wanted))
-    runner.case('JSON', text.encode(), 0, b'', words=['paths', '-', '--what', 'inputs', '--format', 'json'], data=PLAN)
+    runner.case('JSON', text.encode(), 0, b'', words=['-', '--what', 'inputs', '--format', 'json'], data=PLAN)
 
 
 def by_definition(runner):
@@ -301,7 +136,7 @@ def by_definition(runner):
     whole.update({'network %d' % seed: network_of(chance_of(seed)).description for seed in range(MANY_RANDOM)})
     for name, text in whole.items():
         if any(runner.wanted(case_of(name, it)) for it in (*TABLES, 'summary')):
-            done = runner.run(words=['label', '--rows', '-'], data=text)
+            done = runner.runner.run(words=['label', '--rows', '-'], data=text)
             texts[name] = done[1] if done and done[0] == 0 else b''
             judge_tables(runner, name, text, texts.pop(name))
     for name, text in texts.items():
@@ -319,9 +154,9 @@ def judge_tables(runner, name, text, rows_text):
     rows, summary = tables_of(Ways(rows_text))
     for table, names in TABLES.items():
         runner.case(case_of(name, table), csv_of([names], rows[table]), 0, b'',
-                    words=['paths', '--what', table, '--format', 'csv', '-'], data=text)
+                    words=['--what', table, '--format', 'csv', '-'], data=text)
     if runner.wanted(case_of(name, 'summary')):
-        found, cycle = (runner.run(words=words, data=text) for words in (['paths', '--format', 'csv', '-'], ['cycles', '-']))
+        found, cycle = runner.run(words=['--format', 'csv', '-'], data=text), runner.runner.run(words=['cycles', '-'], data=text)
         told = cycle[1].decode().split() if cycle else []
         length = str(len(told) - 1) if told[:1] == ['cycle'] else ''
         wanted = csv_of(SUMMARY, [[*summary, length]])
@@ -329,21 +164,35 @@ def judge_tables(runner, name, text, rows_text):
         runner.judge(case_of(name, 'summary'), wrong)
 
 
+# Words that aren't taken, each told in one line.
+WRONG_USAGE = {
+    'no description': [],
+    'a table that there is not': ['-', '--what', 'rounds'],
+    'a format that there is not': ['-', '--format', 'svg'],
+    'a table of several': ['-', '-', '--what', 'links'],
+    'a table beside other wirings': ['-', '--any-wiring', '--what', 'links'],
+    'more than are compared': list('abcdefghijklmnopq'),
+    'traffic for no table': ['-', '--demand', 'matrix.csv'],
+    'a table without its traffic': ['-', '--what', 'demand'],
+    'an option that there is not': ['-', '--frob'],
+}
+
+
 def refused(runner):
-    """What `check` refuses, `paths` refuses in the same words."""
+    """What `check` refuses, `c104-paths` refuses in the same words."""
     for name, (text, line) in cycles.REFUSED.items():
-        for words in (['paths', '-'], ['paths', '-', '--what', 'links'], ['paths', '-', '-']):
+        for words in (['-'], ['-', '--what', 'links'], ['-', '-']):
             runner.case('refused, %s' % name, line.encode() + b'\n', 1, b'', words=words, data=text)
         if runner.wanted('explained, ' + name):
-            told = [runner.run(words=['--explain', word, '-'], data=text) for word in ('check', 'paths')]
+            told = [it.run(words=['--explain', *words, '-'], data=text) for it, words in ((runner.runner, ['check']), (runner, []))]
             is_same = cycles.without_spelling(told[0]) == cycles.without_spelling(told[1])
             runner.judge('explained, ' + name, None if is_same else '%.300r' % (told,))
-    for name, words in {'a table that there is not': ['--what', 'rounds'], 'a format that there is not': ['--format', 'svg']}.items():
-        runner.case(name, b'', 2, b'error: the formats are table, csv and json, and the tables pairs, links and inputs\n',
-                    words=['paths', '-', *words], data=PLAN)
-    runner.case('a table of several', b'', 2, b'error: of several descriptions the summaries are told, and no --what\n',
-                words=['paths', '-', '-', '--what', 'links'], data=PLAN)
-    runner.case('a file that is not there', b'', 3, b'c104: cannot read no-file\n', words=['paths', 'no-file'])
+    for name, words in WRONG_USAGE.items():
+        if runner.wanted(name):
+            found = runner.run(words=words, data=PLAN)
+            is_told = found and found[:2] == (2, b'') and found[2].startswith(b'c104-paths: ') and found[2].count(b'\n') == 1
+            runner.judge(name, None if is_told else '%.300r' % (found,))
+    runner.case('a file that is not there', b'', 3, b'c104: cannot read no-file\n', words=['no-file'])
 
 
 # A network that labels itself; what is compared with it, and what is told of that.
@@ -373,22 +222,77 @@ def several(runner):
             ['A.1', '2', 'A.0'], ['B.1', '2', 'B.0']))
         rows = [['wire.txt', *wire], ['turned.txt', *other], ['"a, ""b"".txt"', *wire]]
         runner.case('several', csv_of(['file', *SUMMARY], rows), 0, b'', folder=folder,
-                    words=['paths', '--format', 'csv', 'wire.txt', 'turned.txt', 'a, "b".txt'])
+                    words=['--format', 'csv', 'wire.txt', 'turned.txt', 'a, "b".txt'])
         for number, (name, (_, why)) in enumerate(OTHERS.items()):
             path = '%d.txt' % number
             told = 'c104: %s: %s\n' % (path, why)
             runner.case(name, b'refused OtherWiring: %s\n' % path.encode(), 1, told.encode(), folder=folder,
-                        words=['--explain', 'paths', 'wire.txt', path])
+                        words=['--explain', 'wire.txt', path])
         runner.case('a second file that is not there', b'', 3, b'c104: cannot read none.txt\n', folder=folder,
-                    words=['paths', 'wire.txt', 'none.txt'])
+                    words=['wire.txt', 'none.txt'])
 
 
 def devices(runner):
     with open('/dev/full', 'wb') as full:
-        runner.case('an output that fails', None, 3, CANNOT_WRITE, words=['paths', '-'], data=PLAN, stdout=full)
-    folder = os.open('/', os.O_RDONLY)
-    runner.case('an input that fails', b'', 3, CANNOT_READ, words=['paths', '-'], stdin=folder)
-    os.close(folder)
+        runner.case('an output that fails', None, 3, CANNOT_WRITE, words=['-'], data=PLAN, stdout=full)
+    with open('/proc/self/mem', 'rb') as unreadable:
+        runner.case('an input that fails', b'', 3, CANNOT_READ, words=['-'], stdin=unreadable)
 
 
-PARTS = [by_hand, forms, by_definition, refused, several, devices]
+# A description, and its rows that never decide, by line. What a labeller makes has no line.
+LEFT = '%d: row A.%d %d 0 never decides: no header that is left to it comes to A.%d'
+OR_ANOTHER = ', or to another input of A with this row'
+IDLE = {
+    'a limit that is the one before': (PLAN + b'row A.1 2 sink\n',
+        ["8: row A.1 2 sink never decides: its limit isn't above 2, that of the row before"]),
+    'a limit that is the base': (b'switch A\nterminal a A.0 from 7\n# from 7\nbase A.0 7\n\nrow A.0 7 sink\nrow A.0 8 0\n',
+        ["6: row A.0 7 sink never decides: its limit isn't above 7, the base"]),
+    'rows before that have all headers': (PLAN + b'row A.0 0 sink\nrow A.0 2 discard # again\n',
+        ["8: row A.0 0 sink never decides: its limit isn't above 2, that of the row before",
+         '9: row A.0 2 discard never decides: rows before it have all its headers']),
+    'headers past the last': (PLAN + b'row A.0 256 sink\nrow A.0 300 sink\n',
+        ['9: row A.0 300 sink never decides: no header is 256 or above']),
+    'an input that nothing comes to': (PLAN + b'row A.5 256 0\n', [LEFT % (8, 5, 256, 5)]),
+    'two inputs to which no such header comes': (check.TWO_WIRES + b'row A.2 9 0\nrow A.1 9 0\n',
+        [LEFT % (20, 1, 9, 1) + OR_ANOTHER, LEFT % (19, 2, 9, 2) + OR_ANOTHER]),
+    'a row of a switch': (check.TWO_SWITCHES + b'wire A.1 B.1\nwire A.2 B.2\nrow A.0 1 0\nrow A.0 2 1\nrow A 1 0\nrow A 2 1\nrow A 9 0\n'
+        + check.rows_of(b'B', range(3), [1, 0]), [LEFT % (11, link, 9, link) + OR_ANOTHER for link in (1, 2)]),
+    'a cycle': (cycles.ROUND,
+        ["31: row D.0 4 1 never decides: its limit isn't above 4, that of the row before",
+         "34: row D.2 4 1 never decides: its limit isn't above 4, that of the row before"]),
+    'a row that decides at another input': (WIRE, []),
+    'a row that sinks what should never come': (check.TWO_WIRES + b'row A.2 9 sink\n', []),
+    'a random header': (PLAN + b'random A.0 2 1\nrow A.0 3 discard\n', []),
+    'a whole network': (b'mesh 2 2 1\n', []),
+    'labels of a tree': (check.WIRE + b'label tree A\n', []),
+    'many': (PLAN + b''.join(b'row A.%d %d 0\n' % (k, k) for k in range(2, 23)), [LEFT % (6 + k, k, k, k) for k in range(2, 23)]),
+}
+NAMES = {'its limit': 'Empty', 'no header is': 'PastLast', 'rows before': 'Covered', 'no header that': 'NeverMet'}
+
+
+def idle_lines(table):
+    """The rows of a table that never decide, as lines, in whose words the name has to be that of the table."""
+    lines = []
+    for row in csv.DictReader(io.StringIO(table.decode())):
+        name = next((name for begin, name in NAMES.items() if row['why'].startswith(begin)), '')
+        said = '%(line)s: row %(port)s %(limit)s %(select)s never decides: %(why)s' % row
+        if row['idle'] or row['why']:
+            lines.append(said if row['idle'] == name else '%(idle)s: %(why)s' % row)
+    return lines
+
+
+def idle_rows(runner):
+    """Rows that never decide what becomes of a header."""
+    for name, (text, wanted) in IDLE.items():
+        if runner.wanted('rows that never decide: ' + name):
+            found = runner.run(words=['--what', 'rows', '--format', 'csv', '-'], data=text)
+            is_due = found and found[0] == 0 and found[2] == b'' and idle_lines(found[1]) == wanted
+            runner.judge('rows that never decide: ' + name, None if is_due else 'found %r' % (found and idle_lines(found[1]),))
+    wanted = ['A.0,0,4,0,1,0,1,1,0,,', 'A.0,1,5,1,2,1,1,1,0,,', 'A.1,0,6,0,1,0,1,1,0,,', 'A.1,1,7,1,2,1,1,1,0,,',
+              'A.5,0,8,0,9,0,9,0,0,NeverMet,no header that is left to it comes to A.5']
+    names = 'port,row,line,first,limit,select,headers,labels,random,idle,why'
+    runner.case('rows', csv_of([names], [[it] for it in wanted]), 0, b'', words=['--what', 'rows', '--format', 'csv', '-'],
+                data=PLAN + b'row A.5 9 0\n')
+
+
+PARTS = tool_parts('paths', [by_hand, forms, by_definition, idle_rows, refused, several, devices])

@@ -1,8 +1,8 @@
-"""Runs the page that plays a run, of examples/page, and the waves of one.
+"""Runs `c104-page`, whose page plays a run, and the waves of `c104-draw`.
 
 What the page shows is compared with the program's own rows and registers, and with what is known by hand of the ring that
-locks. It is tried in Debian's chromium, by keys, and the waves by GTKWave's tools. Where one of these, Graphviz or make isn't
-there, a line says what is skipped; what the page is given is compared all the same.
+locks. It is tried in Debian's chromium, by keys, and the waves by GTKWave's tools. Where one of these or make isn't there, a line
+says what is skipped; what the page is given is compared all the same.
 """
 
 import csv
@@ -19,10 +19,9 @@ from case_runner import EXAMPLES, SECONDS, TOP
 from kinds.states import LINE
 from page_checks import ASKED, RING_LINKS, by_round
 
-PAGE, WAVES = (os.path.join(EXAMPLES, 'page', it) for it in ('page', 'waves'))
+PAGE, DRAW = (os.path.join(TOP, 'bin', it) for it in ('c104-page', 'c104-draw'))
 # b's packet holds the link from B to C, and a's waits for it, up to the round in which the end of b's has left.
 BLOCKED = (b'send b 02 ' + b'01 ' * 31 + b'eop\nrounds 2\nsend a 02 ' + b'01 ' * 31 + b'eop\nrounds 90\n')
-STUB = '#!/bin/sh\ncat > /dev/null; echo "<svg></svg>"\n'
 RING_WANTS = {'d 0/A.2/A.1', 'a 0/B.2/B.1', 'b 0/C.2/C.1', 'c 0/D.2/D.1'}
 
 
@@ -47,20 +46,25 @@ class Played:
             with open(path, 'wb') as file:
                 file.write(text)
         self.script, self.page = script, os.path.join(folder, name + '.html')
-        self.rows = json.loads(self.told('draw', '--over-time', '--format', 'json'))
+        # the last row tells the last round that is shown
+        self.rows = self.table('holds')[:-1]
         self.last = max(it['last'] for it in self.rows)
 
-    def told(self, command, *words):
-        return self.runner.run(words=[command, *self.paths, *words])[1]
+    def table(self, what):
+        """The rows of a table of the program, without the packet's number on its way."""
+        text = self.runner.run(words=['rows', *self.paths, '--what', what])[1].decode()
+        return [{name: None if cell == '' else int(cell) if cell.isdigit() else cell for name, cell in row.items() if name != 'packet'}
+                for row in csv.DictReader(io.StringIO(text))]
 
-    def write(self, folder=None):
-        """Writes the page, with the commands of a folder before others, and returns what is wrong, or None."""
+    def asked(self, tool, *words):
+        """What a tool prints of the run, and what is wrong, or None."""
         variables = {**os.environ, 'C104': self.runner.program[0]}
-        if folder:
-            variables['PATH'] = folder + ':' + variables['PATH']
-        with open(self.page, 'wb') as file:
-            done = subprocess.run([PAGE, *self.paths], env=variables, stdout=file, stderr=subprocess.PIPE, timeout=SECONDS)
-        return 'status %d: %s' % (done.returncode, done.stderr.decode()) if done.returncode else None
+        done = subprocess.run([tool, *self.paths, *words], env=variables, capture_output=True, timeout=SECONDS)
+        return done.stdout, 'status %d: %s' % (done.returncode, done.stderr.decode()) if done.returncode else None
+
+    def write(self, *words):
+        """Writes the page, and returns what is wrong, or None."""
+        return self.asked(PAGE, '-o', self.page, *words)[1]
 
     def data(self):
         with open(self.page, encoding='utf-8') as file:
@@ -94,7 +98,7 @@ def wrong_data(played):
     data, last = played.data(), played.last
     if data['bars'] != [list(it.values()) for it in played.rows]:
         return 'the rows are %s' % data['bars']
-    if data['packets'] != json.loads(played.told('stats', '--what', 'packets', '--format', 'json')):
+    if data['packets'] != played.table('packets'):
         return 'the packets are %s' % data['packets']
     due = played.levels()
     found = {port: by_round(data['waits'].get(port, []), last) for port in due}
@@ -135,7 +139,7 @@ def wrong_wants(played):
     return None if rows == [[4, 1], [33, 0]] else 'wanted in %s' % rows
 
 
-# What is asked of what a page is given, without Graphviz and without a browser.
+# What is asked of what a page is given, without a browser.
 GIVEN = {'what is given of the ring': ('ring', wrong_data), 'what is given of the mesh': ('mesh', wrong_data),
          'what is given of the line': ('line', wrong_data), 'the lock of the ring': ('ring', wrong_lock),
          'what is wanted for a time': ('line', wrong_wants)}
@@ -144,12 +148,8 @@ GIVEN = {'what is given of the ring': ('ring', wrong_data), 'what is given of th
 def given(runner):
     asked = {name: it for name, it in GIVEN.items() if runner.wanted(name)}
     with tempfile.TemporaryDirectory() as folder:
-        dot = os.path.join(folder, 'dot')
-        with open(dot, 'w') as file:
-            file.write(STUB)
-        os.chmod(dot, 0o755)
         pages = {run: Played(runner, folder, run, *runs()[run]) for run in {run for run, _ in asked.values()}}
-        wrong = {run: played.write(folder) for run, played in pages.items()}
+        wrong = {run: played.write() for run, played in pages.items()}
         for name, (run, ask) in asked.items():
             runner.judge(name, wrong[run] or ask(pages[run]))
 
@@ -165,7 +165,7 @@ def skips(runner, what, *commands):
 def browsed(runner):
     """The pages in a browser. Where it fails, all that is left to ask fails by that."""
     asked = [(name, what) for name in runs() for what in ASKED if runner.wanted('%s in a browser: %s' % (name, what))]
-    if not asked or skips(runner, 'pages in a browser', 'dot', *[] if browser.program() else ['chromium']):
+    if not asked or skips(runner, 'pages in a browser', *[] if browser.program() else ['chromium']):
         return
     left = iter(asked)
     with tempfile.TemporaryDirectory() as folder:
@@ -197,7 +197,7 @@ def ask_all(runner, tab, folder, asked):
 def made(runner):
     """`make page` writes the page of a run, and says where."""
     name = 'make page'
-    if not runner.wanted(name) or skips(runner, name, 'dot', 'make'):
+    if not runner.wanted(name) or skips(runner, name, 'make'):
         return
     with tempfile.TemporaryDirectory() as folder:
         played = Played(runner, folder, 'ring', *runs()['ring'])
@@ -253,22 +253,20 @@ def waved(runner):
             continue
         with tempfile.TemporaryDirectory() as folder:
             played = Played(runner, folder, 'run', *run)
-            table = played.told('draw', '--over-time', '--format', 'csv')
-            runner.judge(name, wrong_waves(folder, table))
+            runner.judge(name, wrong_waves(folder, played))
 
 
-def wrong_waves(folder, table):
+def wrong_waves(folder, played):
     vcd, fst, again = (os.path.join(folder, it) for it in ('run.vcd', 'run.fst', 'again.vcd'))
-    with open(vcd, 'wb') as file:
-        done = subprocess.run([WAVES], input=table, stdout=file, stderr=subprocess.PIPE, timeout=SECONDS)
+    wrong = played.asked(DRAW, '--over-time', '--format', 'vcd', '-o', vcd)[1]
     for words in (['vcd2fst', '-v', vcd, '-f', fst], ['fst2vcd', '-f', fst, '-o', again]):
-        if not done.returncode:
+        if not wrong:
             done = subprocess.run(words, capture_output=True, timeout=SECONDS)
-    if done.returncode:
-        return 'status %d: %s' % (done.returncode, done.stderr.decode())
-    rows = csv.DictReader(io.StringIO(table.decode()))
-    due = sorted((it['port'], '%s_%s' % (it['sender'], it['number']) if it['sender'] else '?', int(it['first']), int(it['last']),
-                  it['state'] == 'moves') for it in rows)
+            wrong = 'status %d: %s' % (done.returncode, done.stderr.decode()) if done.returncode else None
+    if wrong:
+        return wrong
+    due = sorted((it['port'], '%s_%s' % (it['sender'], it['number']) if it['sender'] else '?', it['first'], it['last'],
+                  it['state'] == 'moves') for it in played.rows)
     with open(again) as file:
         found = rows_of_waves(file.read())
     return None if found == due else 'wanted %s, found %s' % (due, found)

@@ -12,6 +12,7 @@ RANGES = 'range a 0 1; range b 1 1;'
 SECOND = 'A 0240 00000001; A 0241 00000002; A 0280 00000000; A 0281 00000001'
 TERMINALS = 'header 1; buffer 16; switch A; terminal a A.0 labels 1 from 0; terminal b A.1 labels 1 from 1;'
 TWO = b'mesh 2 1 1\n'
+SHAPE = b'# shape hand\n'
 
 # A description and a script, what each form prints after it, and whether that is refused.
 AFTER = {
@@ -64,7 +65,8 @@ def after(runner):
         for name, (description, script, forms) in AFTER.items():
             saved(folder, description)
             for form, lines, status in forms:
-                runner.case('%s, %s' % (name, ' '.join(form) or 'registers'), lines_of(lines), status, b'',
+                shape = SHAPE if lines.startswith('header') else b''
+                runner.case('%s, %s' % (name, ' '.join(form) or 'registers'), shape + lines_of(lines), status, b'',
                             words=words_of(form, folder), data=script)
 
 
@@ -91,7 +93,8 @@ def same(runner, name, text, lines):
     with tempfile.TemporaryDirectory() as folder:
         saved(folder, b''.join(line + b'\n' for line in shown.splitlines() if line.split()[0] in KEPT))
         runner.case(name + ', read again', lines, 0, words=words_of([], folder), data=script)
-        runner.case(name + ', read again by rows', shown, 0, words=words_of(['--rows'], folder), data=script)
+        by_hand = SHAPE + shown.partition(b'\n')[2]
+        runner.case(name + ', read again by rows', by_hand, 0, words=words_of(['--rows'], folder), data=script)
         runner.case(name + ', checked again', verdict, status, words=words_of(['check'], folder), data=script)
 
 
@@ -101,10 +104,9 @@ def words(runner):
         path = os.path.join(folder, 'net.txt')
         write(folder, 'both', PLAN + b'script\npoke A 0140 2\n')
         write(folder, 'empty', b'')
-        runner.case('without each wire', b'', 2, words=['check', '--each-cut', path, '-'])
         runner.case('as commands', b'', 2, words=['label', '--commands', path, '-'])
         runner.case('with names', b'', 2, words=['label', '--names', path, '-'])
-        runner.case('of one text', lines_of(TERMINALS + 'row A.0 2 0; row A.0 2 1; row A.1 1 0; row A.1 2 1'), 0, b'',
+        runner.case('of one text', SHAPE + lines_of(TERMINALS + 'row A.0 2 0; row A.0 2 1; row A.1 1 0; row A.1 2 1'), 0, b'',
                     words=['label', '--rows', '-', '-'], data=PLAN + b'script\npoke A 0140 2\n')
         runner.case('a script behind a description that is not its script', b'accepted\n', 0, b'', words=['check', 'both', 'empty'],
                     folder=folder)

@@ -1,4 +1,4 @@
-"""Runs a program's `stats` over descriptions and scripts, for how many rounds are enough, and `run` with as many.
+"""Runs `c104-stats` over descriptions and scripts, for how many rounds are enough, and `run` with as many.
 
 Some numbers are counted by hand, and all are found by enough.py, of random networks by the rows that `label --rows` gives
 them. So many rounds behind the last packet print each packet.
@@ -15,6 +15,7 @@ from kinds.stats import Files, labels_of, words_of
 from networks import chain, mesh
 from random_networks import chance_of, network_of, packets_of
 from sends import rounds
+from tools import Tool
 from two_bytes import hand_mesh
 
 SEEDS = range(8)
@@ -58,7 +59,7 @@ def lines_of(count, is_fair=False):
 
 def told(runner, path, script):
     """How many rounds are enough, as the summary tells it."""
-    return records(runner.run(words=words_of(path, form='csv'), data=script)[1])[0].get('rounds_enough')
+    return records(Tool(runner, 'stats').run(words=words_of(path, form='csv'), data=script)[1])[0].get('rounds_enough')
 
 
 def judge_number(runner, name, description, script, due):

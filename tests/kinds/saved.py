@@ -1,4 +1,4 @@
-"""Runs a program's `stats` with `--out`: each table goes to a file of its own, and nothing else but faults is told or made.
+"""Runs `c104-stats` with `--out`: each table goes to a file of its own, and nothing else but faults is told or made.
 
 The tables are those that kinds/stats.py works out by hand.
 """
@@ -9,6 +9,7 @@ import tempfile
 from case_runner import PLAN, SCRIPT_LIMIT, comments
 from kinds.stats import (APART, BY_HAND, ENDS, FIRST, LATENCIES, LINKS, NEARLY_FULL, PACKETS, ROUNDS, STILL, STUCK, SUMMARIES, SUMMARY,
                          csv_text, json_text, summary_text, table_text)
+from tools import tool_parts
 
 ROWS = {it: BY_HAND[name][3] for it, name in (('packets', 'the packet of the first run'), ('links', 'its links'),
                                               ('latencies', 'its latency'), ('rounds', 'its rounds'))}
@@ -18,7 +19,6 @@ TWO = ('--what', 'packets', '--what', 'links')
 # The packet is sent in round 3 of six.
 APART_LINKS = ('A.0 0 0.000 0 0 0', 'A.1 5 0.833 2 3 1', 'a 5 0.833 2 3 3', 'b 0 0.000 0 0 0')
 FROB = b'c104: events:1: no line of a script begins with this word; see `c104 run --help`: frob\n'
-NO_FOLDER = b'c104: none/run-packets.txt: No such file or directory (os error 2)\n'
 
 
 def cannot_write(path):
@@ -61,7 +61,7 @@ def case(runner, name, words, files, out=b'', status=0, errors=b'', description=
         return
     with Room(description, script) as room:
         before(room)
-        found = runner.run(words=['stats', *paths, *words], data=data, folder=room.room.name)
+        found = runner.run(words=[*paths, *words], data=data, folder=room.room.name)
         made = room.made()
     wrong = None if found == (status, out, errors) else '%.400r' % (found,)
     runner.judge(name, wrong or (None if made == files else 'made %.400r' % made))
@@ -131,13 +131,10 @@ def faults(runner):
     """Files that can't be made or written, and what is refused before any is."""
     words = ('--what', 'packets', '--what', 'links', '--out')
     case(runner, 'a folder that is not there', (*words, 'none/run'), {}, status=3, errors=cannot_write('none/run-packets.txt'))
-    case(runner, 'a folder that is not there, explained', (*words, 'none/run', '--explain'), {}, status=3,
-         errors=cannot_write('none/run-packets.txt') + NO_FOLDER)
     case(runner, 'a file that is a folder', (*words, 'run'), {'run-packets.txt': table_text(PACKETS, ROWS['packets'])}, status=3,
          errors=cannot_write('run-links.txt'), before=lambda room: os.mkdir(room.path('run-links.txt')))
     if os.path.exists('/dev/full'):
-        case(runner, 'a file that is full', (*words, 'run', '--explain'), {}, status=3,
-             errors=cannot_write('run-packets.txt') + b'c104: run-packets.txt: No space left on device (os error 28)\n',
+        case(runner, 'a file that is full', (*words, 'run'), {}, status=3, errors=cannot_write('run-packets.txt'),
              before=lambda room: os.symlink('/dev/full', room.path('run-packets.txt')))
     case(runner, 'a faulty description', (*words, 'run'), {}, out=b'description 2: 8 SelfWire\n', status=1,
          description=b'switch A\nwire A.0 A.1\n')
@@ -146,4 +143,4 @@ def faults(runner):
     case(runner, 'a script that is a folder', (*words, 'run'), {}, status=3, errors=b'c104: cannot read .\n', paths=('network', '.'))
 
 
-PARTS = [tables, inputs, told, faults]
+PARTS = tool_parts('stats', [tables, inputs, told, faults])

@@ -1,4 +1,4 @@
-"""Runs a program's drawing of networks as they stand after a script.
+"""Runs `c104-draw` over networks as they stand after a script.
 
 Of a picture the arrows are read that show the state, each a line, and compared with what is known by hand. Every byte of
 one is held by the cases that are folders.
@@ -9,6 +9,8 @@ import re
 import tempfile
 
 from case_runner import CANNOT_WRITE, EXAMPLES, FIRST_RUN, PLAN, SCRIPT_LIMIT, comments, lines_of
+
+TOOL = 'c104-draw'
 
 ARROW = re.compile(r'  "([\w-]+)" -> "([\w.-]+)" \[dir=(forward|back), label=" ([^"]*) "(, arrow(?:head|tail)=onormal, style=dotted)?, '
                    r'color="([^"]*)"(?:, style=(\w+))?, penwidth=(\d)(?:, constraint=false)?\]')
@@ -82,7 +84,7 @@ def drawn_after(runner, description, script, before=(), **fields):
     with tempfile.NamedTemporaryFile() as file:
         file.write(description)
         file.flush()
-        return runner.run(words=[*before, 'draw', file.name, '-', '--state'], data=script, **fields)
+        return runner.run(words=[*before, file.name, '-', '--state'], data=script, **fields)
 
 
 def drawn(runner):
@@ -96,7 +98,7 @@ def plain(runner):
     """But for its arrows, its title and that its edges are grey a picture is the network's own."""
     name = 'nothing but the network'
     if runner.wanted(name):
-        own = runner.run(words=['draw', '-'], data=PLAN)[1].decode().split('\n')
+        own = runner.run(words=['-'], data=PLAN)[1].decode().split('\n')
         found = drawn_after(runner, PLAN, SENT)[1].decode().split('\n')
         left = [it.replace(GREY, '') for it in found if not ARROW.fullmatch(it) and not TITLE.fullmatch(it)]
         runner.judge(name, compared(left, own))
@@ -166,17 +168,17 @@ def refused(runner):
 def words(runner):
     for name, given in (('no script', ['--state']), ('no state', ['-']), ('a header too', ['-', '--state', '--header', '1']),
                         ('a cycle too', ['-', '--state', '--cycles'])):
-        runner.case(name, b'', 2, words=['draw', '/dev/null', *given])
+        runner.case(name, b'', 2, words=['/dev/null', *given])
 
 
 def devices(runner):
-    runner.case('no such script', b'', 3, b'c104: cannot read none/such\n', words=['draw', '/dev/null', 'none/such', '--state'])
-    runner.case('no such description', b'', 3, b'c104: cannot read none/such\n', words=['draw', 'none/such', '-', '--state'])
+    runner.case('no such script', b'', 3, b'c104: cannot read none/such\n', words=['/dev/null', 'none/such', '--state'])
+    runner.case('no such description', b'', 3, b'c104: cannot read none/such\n', words=['none/such', '-', '--state'])
     with open('/proc/self/mem', 'rb') as unreadable:
-        runner.case('a script that fails', b'', 3, b'c104: cannot read -\n', words=['draw', '/dev/null', '-', '--state'],
+        runner.case('a script that fails', b'', 3, b'c104: cannot read -\n', words=['/dev/null', '-', '--state'],
                     stdin=unreadable)
     with open('/dev/full', 'wb') as full:
-        runner.case('a writer that fails', None, 3, CANNOT_WRITE, words=['draw', '/dev/null', '-', '--state'], data=b'',
+        runner.case('a writer that fails', None, 3, CANNOT_WRITE, words=['/dev/null', '-', '--state'], data=b'',
                     stdout=full)
 
 

@@ -1,4 +1,4 @@
-"""Runs a program's `stats` over descriptions and scripts, and what it prints.
+"""Runs `c104-stats` over descriptions and scripts, and what it prints.
 
 The numbers are worked out by hand, round by round, from docs/FORMATS.md. What programs read is read by Python's own readers
 of CSV and of JSON, and has to be what the table for people says. Of each run the tables are read once more, by conservation.py:
@@ -16,6 +16,7 @@ from case_runner import CANNOT_WRITE, EXAMPLE_FILES, EXAMPLES, PLAN, SCRIPT_LIMI
 from conservation import wrong_of
 from enough import enough_of
 from random_networks import chance_of, network_of, packets_of
+from tools import Tool, tool_parts
 
 # In rounds 1 to 3 a's tokens cross to A.0, in 2 to 4 from A.1 to b, and each arrives in the round in which it crosses. 5 is
 # the first round in which nothing is done.
@@ -179,7 +180,7 @@ class Files:
 
 
 def words_of(path, what=None, form=None, window=()):
-    return ['stats', path, '-', *(['--what', what] if what else []), *(['--format', form] if form else []), *window]
+    return [path, '-', *(['--what', what] if what else []), *(['--format', form] if form else []), *window]
 
 
 def cells_of(rows):
@@ -315,14 +316,14 @@ def random(runner, seed):
     name = 'random network %d' % seed
     if not runner.wanted(name):
         return
-    chance = chance_of(seed)
+    tool, chance = Tool(runner, 'stats'), chance_of(seed)
     network = network_of(chance)
     with Files(network.description) as path:
         script = packets_of(chance, network, labels_of(runner, path)) + b'rounds 3000\n'
         wrong = None
         tables = {}
         for what in WHATS:
-            found = {form: rows_of(runner.run(words=words_of(path, what, form), data=script)[1], form)
+            found = {form: rows_of(tool.run(words=words_of(path, what, form), data=script)[1], form)
                      for form in ('csv', 'json')}
             if not same(found['csv'], thousandths(found['json'])):
                 wrong = '%s: csv and json differ' % what
@@ -331,7 +332,7 @@ def random(runner, seed):
         arrived = len(re.findall(rb' from \S+ \d+$', out, re.MULTILINE))
         if arrived != sum(row[-1] == 'arrived' for row in tables['packets']):
             wrong = 'other packets arrived'
-        wrong = wrong or wrong_of(lambda what: runner.run(words=words_of(path, what, 'csv'), data=script)[1],
+        wrong = wrong or wrong_of(lambda what: tool.run(words=words_of(path, what, 'csv'), data=script)[1],
                                   network.description, script)
         runner.judge(name, wrong)
 
@@ -366,15 +367,15 @@ def conserved(runner):
 def usage(runner):
     with Files(PLAN) as path:
         for words in WRONG:
-            runner.case('usage of stats %s' % ' '.join(words), b'', 2, words=['stats', path, '-', *words], data=b'')
-        runner.case('usage of stats without a script', b'', 2, words=['stats', path], data=b'')
+            runner.case('usage of stats %s' % ' '.join(words), b'', 2, words=[path, '-', *words], data=b'')
+        runner.case('usage of stats without a script', b'', 2, words=[path], data=b'')
 
 
 def failures(runner):
     """Faults of what is read and written, and what is refused."""
     with Files(PLAN) as path:
-        runner.case('no script', b'', 3, b'c104: cannot read none\n', words=['stats', path, 'none'])
-        runner.case('no description', b'', 3, b'c104: cannot read none\n', words=['stats', 'none', '-'], data=b'')
+        runner.case('no script', b'', 3, b'c104: cannot read none\n', words=[path, 'none'])
+        runner.case('no description', b'', 3, b'c104: cannot read none\n', words=['none', '-'], data=b'')
         runner.case('a faulty line', table_text(PACKETS, ['a 0 - 1 0 0 - - - 0 unfinished']), 1,
                     words=words_of(path, 'packets'), data=b'frob\nsend a 01 eop\n')
         runner.case('a script too long', table_text(PACKETS, ['a 0 - 1 0 0 - - - 0 unfinished']), 1,
@@ -398,4 +399,4 @@ def ended(runner):
                     words=words_of(path), data=script)
 
 
-PARTS = [by_hand, summaries, wide, held, standing, randoms, conserved, usage, failures, ended]
+PARTS = [randoms, *tool_parts('stats', [by_hand, summaries, wide, held, standing, conserved, usage, failures, ended])]

@@ -9,6 +9,7 @@ import tempfile
 
 from case_runner import EXAMPLES, PLAN, SCRIPT_LIMIT, comments
 from random_networks import chance_of, network_of, packets_of
+from tools import Tool
 
 WORKERS = (1, 2, 3, 8, 64)
 # The workers on random networks, and the seeds of those that are tried here: tests/storms tries more.
@@ -269,8 +270,8 @@ def past_a_list(runner):
     """A worker stops that has done as many events as a seat of a fabric lists, and goes on where it is lean."""
     mesh = b'mesh 8 8 4\n'
     with Files(mesh) as path:
-        _, sends, _ = runner.run(words=['traffic', path, '--pattern', 'uniform', '--packets', '512', '--bytes', '200',
-                                        '--seed', '1'])
+        _, sends, _ = Tool(runner, 'traffic').run(words=[path, '--pattern', 'uniform', '--packets', '512', '--bytes', '200',
+                                                         '--seed', '1'])
         due = due_of(runner, path, mesh, sends, b'rounds 10000\n')
         answers = b''.join(due.splitlines(True)[:512])
         words = ['storm', path, '-', '--workers', '1']

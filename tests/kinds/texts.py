@@ -15,14 +15,12 @@ from case_runner import (CANNOT_READ, DESCRIPTION_LIMIT, DESCRIPTION_TOO_LONG, E
     RECEIVED, SCRIPT_LINE, SECONDS, answers_of, comments, difference, lines_of)
 from kinds.streams import failing_after
 
-SENT = ('--pattern', 'uniform', '--packets', '3', '--bytes', '1', '--seed', '1')
 # Commands of a description alone: the words before its path, and those behind it.
-ALONE = [(('check',), ()), (('check', '--each-cut'), ()), (('cycles',), ('--all',)), (('cycles', '--script'), ()), (('paths',), ()),
-         (('paths', '--what', 'links'), ()), (('label',), ()), (('label', '--rows'), ()), (('draw',), ()), (('draw', '--header', '1'), ()),
-         (('traffic',), SENT)]
+ALONE = [(('check',), ()), (('check', '--header', '1'), ('--rows',)), (('cycles',), ('--all',)), (('label',), ()), (('label', '--rows'), ())]
+TABLES = ('packets', 'links', 'rounds', 'run', 'holds', 'ways', 'wishes')
 # Commands of a script: the words before the paths, and those behind them.
-SCRIPTED = [(('run',), ()), (('stats',), ()), (('stats', '--what', 'packets'), ('--format', 'csv')), (('draw',), ('--state',)),
-            (('draw',), ('--over-time',)), (('draw', '--over-time'), ('--format', 'csv'))]
+SCRIPTED = [(('run',), ()), *((('rows', '--what', it), ()) for it in TABLES),
+            (('rows',), ('--what', 'ways', '--each'))]
 # What `check` says of the examples, none of which but these is refused.
 REFUSED = {'configured-by-commands.txt': b'refused 6 DeadEnd: from a header 0 walk A.0\n',
            'label-without-a-way.txt': b'refused 6 DeadEnd: from a header 2 walk A.0 B.2\n',
@@ -84,7 +82,7 @@ def descriptions(runner):
                 same(runner, '%s of %s' % (' '.join(first), name), [*first, 'text', *last], [*first, 'desc', *last], folder)
     with Folder(text=PLAN + b' script\t# of b\nfrob \xff\n' + b'x' * 100000) as folder:
         runner.case('a script that is not read', b'accepted\n', 0, b'', words=['check', 'text'], folder=folder)
-        runner.case('a script that is not read, of paths', None, 0, b'', words=['paths', 'text', 'text'], folder=folder)
+        runner.case('a script that is not read, of cycles', b'acyclic\n', 0, b'', words=['cycles', 'text'], folder=folder)
     with Folder(text=PLAN + b'script of b\n') as folder:
         runner.case('a line that begins with script', b'description 8: 2 UnknownWord\n', 1, b'', words=['check', 'text'], folder=folder)
     with failing_after(PLAN + b'script\ndrain b\n') as file:
@@ -116,14 +114,17 @@ def scripts(runner):
         runner.case('run of an empty script', b'', 0, b'', words=['run', 'end'], folder=folder)
         runner.case('storm', CARRIED, 0, b'', words=['storm', 'sends'], folder=folder)
         runner.case('storm of standard input', CARRIED, 0, b'', words=['storm', '-', '--workers', '3'], data=PLAN + b'script\n' + SENDS)
-        runner.case('tables in files', b'', 0, b'', words=['stats', 'sends', '--out', 'run'], folder=folder)
-        runner.case('tables in files, as printed', read(folder, 'run-summary.txt'), words=['stats', 'sends'], folder=folder)
+        runner.case('tables in files', b'', 0, b'', words=['rows', 'sends', '--out', 'run'], folder=folder)
+        for table in TABLES:
+            if runner.wanted('%s in a file, as printed' % table):
+                runner.case('%s in a file, as printed' % table, read(folder, 'run-%s.csv' % table), words=['rows', 'sends', '--what', table],
+                            folder=folder)
 
 
 def wanted_scripts(runner):
     """Without the line, and a script, it is wrong usage: nothing is run."""
     with Folder(desc=PLAN, faulty=b'frob\n', empty=b'') as folder:
-        for words in (['run'], ['storm'], ['stats'], ['stats', '--out', 'tables'], ['draw', '--state'], ['draw', '--over-time']):
+        for words in (['run'], ['storm'], ['rows', '--what', 'run'], ['rows', '--out', 'tables']):
             for path, data in (('desc', b''), ('faulty', b''), ('empty', b''), ('-', PLAN)):
                 runner.case('%s without a script: %s' % (' '.join(words), path), b'', 2, wanting(path), words=[*words, path],
                             data=data, folder=folder)

@@ -7,7 +7,7 @@ the sentences that are put together of parts: of labels, of what didn't arrive, 
 import tempfile
 
 from case_runner import PLAN, TOP
-from kinds.check import A_ROWS, B_ROWS, OVER_A_WIRE, TWO_WIRES, WIRE
+from kinds.check import A_ROWS, B_ROWS, OVER_A_WIRE, WIRE
 from kinds.cycles import ROUND
 from kinds.debug import END_OF_INPUT, asked_by_person
 from kinds.explain import STANDS, run_on_terminal, with_a_later_clock
@@ -65,42 +65,13 @@ CHECKS = {
          'by: row A.0 3 discard']),
     'a cycle that no row breaks': (ROUND, 'accepted',
         ['packets can wait for one another forever:', 'cycle B.2(3) C.2(3) D.2(1) A.2(2)',
-         'no single row was found that breaks it',
-         "31: row D.0 4 1 never decides: its limit isn't above 4, that of the row before",
-         "34: row D.2 4 1 never decides: its limit isn't above 4, that of the row before"]),
+         'no single row was found that breaks it']),
     'no cycle': (WIRE + A_ROWS + B_ROWS, 'accepted', ['no cycle of channel dependencies: under rounds every packet with a whole header',
         'that a terminal owns arrives, as long as no inbox or trace is full and nothing is reset or set']),
     'a switch without a way': (b'switch A\nswitch B\nlabel tree A\n', 'label 1 NotConnected',
         ['wires do not lead from the root to each switch: none lead from A to B']),
     'more labels than headers': (b'switch A\nterminal a A.0 labels 257\nlabel tree A\n', 'label 2 TooManyLabels',
         ['there are more labels than headers']),
-}
-
-# A description, and what is told of rows that never decide, by line.
-LEFT = '%d: row A.%d %d 0 never decides: no header that is left to it comes to A.%d'
-IDLE = {
-    'a limit that is the one before': (PLAN + b'row A.1 2 sink\n',
-        ["8: row A.1 2 sink never decides: its limit isn't above 2, that of the row before"]),
-    'a limit that is the base': (b'switch A\nterminal a A.0 from 7\n# from 7\nbase A.0 7\n\nrow A.0 7 sink\nrow A.0 8 0\n',
-        ["6: row A.0 7 sink never decides: its limit isn't above 7, the base"]),
-    'rows before that have all headers': (PLAN + b'row A.0 0 sink\nrow A.0 2 discard # again\n',
-        ["8: row A.0 0 sink never decides: its limit isn't above 2, that of the row before",
-         '9: row A.0 2 discard never decides: rows before it have all its headers']),
-    'headers past the last': (PLAN + b'row A.0 256 sink\nrow A.0 300 sink\n',
-        ['9: row A.0 300 sink never decides: no header is 256 or above']),
-    'an input that nothing comes to': (PLAN + b'row A.5 256 0\n', [LEFT % (8, 5, 256, 5)]),
-    'two inputs to which no such header comes': (TWO_WIRES + b'row A.2 9 0\nrow A.1 9 0\n',
-        [LEFT % (19, 2, 9, 2) + ', or to another input of A with this row']),
-    'a row that decides at another input': (WIRE + A_ROWS + B_ROWS, []),
-    'a row that sinks what should never come': (TWO_WIRES + b'row A.2 9 sink\n', []),
-    'a random header': (PLAN + b'random A.0 2 1\nrow A.0 3 discard\n', []),
-    'a whole network': (b'mesh 2 2 1\n', []),
-    'labels of a tree': (WIRE + b'label tree A\n', []),
-    'labels that are refused': (PLAN.replace(b'row A.1 1 0', b'row A.1 1 1') + b'row A.5 256 0\n', []),
-    'as many as are told': (PLAN + b''.join(b'row A.%d %d 0\n' % (k, k) for k in range(2, 22)),
-        [LEFT % (6 + k, k, k, k) for k in range(2, 22)]),
-    'more than are told': (PLAN + b''.join(b'row A.%d %d 0\n' % (k, k) for k in range(2, 23)),
-        [LEFT % (6 + k, k, k, k) for k in range(2, 22)] + ['more rows never decide']),
 }
 
 # a's packet holds the link to b, and one that comes in there wants to go back by it.
@@ -185,23 +156,14 @@ def text_of(begin, lines):
 
 
 def text_about(lines):
-    """Lines that are told of a description on standard input, each of which may begin with the number of a line."""
-    return text_of('-:', (it if it[0].isdigit() else ' ' + it for it in lines))
+    """Lines that are told of a description on standard input."""
+    return text_of('-: ', lines)
 
 
 def checks(runner):
     for name, (description, printed, told) in CHECKS.items():
         runner.case('check of ' + name, printed.encode() + b'\n', 0 if printed == 'accepted' else 1, text_about(told),
                     words=['--explain', 'check', '-'], data=description)
-
-
-def idle_rows(runner):
-    """What is told beside whether packets can wait for one another, or why labels are refused."""
-    for name, (description, told) in IDLE.items():
-        if runner.wanted('rows: ' + name):
-            found = runner.run(words=['--explain', 'check', '-'], data=description)
-            lines = [line for line in found[2].splitlines(True) if b' never decide' in line]
-            runner.judge('rows: ' + name, None if b''.join(lines) == text_about(told) else '%r' % (found,))
 
 
 def runs(runner):
@@ -212,7 +174,7 @@ def runs(runner):
 
 
 # A script that fills a switch's trace in round 3: a `verify` asks 2,432 acts of 1,048,576, so the last two are refused, and a
-# run of which something is counted or drawn ends at the first of these.
+# run of which rows are printed ends at the first of these.
 FULL = b'rounds 3\n' + b'verify\n' * 433
 BEHIND = b'send a 01 eop\nrounds 9\n'
 WHY = 'a switch or a terminal would do more than 1048576 acts; '
@@ -229,13 +191,13 @@ def full(runner):
         told = text_of('-:433: ', [WHY + 'this is told once'])
         runner.case('full trace, told once', None, 0, told, words=['--explain', 'run', path, '-'], data=FULL)
         for name, words in (
-            ('counted', ['stats', path, '-']),
-            ('counted in rows', ['stats', path, '-', '--what', 'rounds', '--format', 'csv']),
-            ('drawn', ['draw', path, '-', '--over-time']),
-            ('drawn and explained', ['--explain', 'draw', path, '-', '--over-time']),
+            ('in rows', ['rows', path, '-', '--what', 'links']),
+            ('in rows of rounds', ['rows', path, '-', '--what', 'holds']),
+            ('in rows of all states', ['rows', path, '-', '--what', 'ways', '--each']),
+            ('in rows and explained', ['--explain', 'rows', path, '-', '--what', 'run']),
         ):
             runner.case('full trace, %s' % name, None, 1, ENDS, words=words, data=FULL + BEHIND)
-        runner.case('full inbox, counted', None, 1, INBOX_ENDS, words=['stats', path, '-'], data=FULL_INBOX)
+        runner.case('full inbox, in rows', None, 1, INBOX_ENDS, words=['rows', path, '-', '--what', 'run'], data=FULL_INBOX)
 
 
 def storm_progress(runner):
@@ -288,11 +250,11 @@ def questions(runner):
 
 def columns(runner):
     """None of the lines of these tables is longer than a screen is wide."""
-    texts = [text_about(told) for _, _, told in CHECKS.values()] + [text_about(told) for _, told in IDLE.values()]
+    texts = [text_about(told) for _, _, told in CHECKS.values()]
     texts += [text_of('-:99: ', last) + text_of('', left) for _, _, last, left in RUNS.values()]
     texts += [told or b'' for _, lines in TYPED.values() for _, told in lines]
     long = [line for text in texts for line in text.splitlines() if len(line) > COLUMNS]
     runner.judge('columns', '%r' % long if long else None)
 
 
-PARTS = [checks, idle_rows, runs, full, storm_progress, root_progress, questions, columns]
+PARTS = [checks, runs, full, storm_progress, root_progress, questions, columns]

@@ -1,4 +1,4 @@
-"""Runs a program's `traffic` over descriptions, and what it prints.
+"""Runs `c104-traffic` over descriptions, and what it prints.
 
 Each script is worked out by hand from docs/FORMATS.md: the first words of SplitMix64 from the seed 1234567 are those of
 its reference, 6457827717110365317, 3203168211198807973, 9817491932198370423, 4593380528125082431 and
@@ -14,6 +14,7 @@ import re
 
 from case_runner import CANNOT_WRITE, PLAN
 from sends import script
+from tools import Tool, tool_parts
 
 SQUARE = b'mesh 2 2 1\n'
 LINE = b'mesh 3 1 1\n'
@@ -179,7 +180,7 @@ WRONG = (words_of(pattern='frob'), words_of(pattern=None), words_of(packets=None
 
 def scripts(runner):
     for name, (description, words, script) in SCRIPTS.items():
-        runner.case(name, script, words=['traffic', '-', *words], data=description, errors=b'')
+        runner.case(name, script, words=['-', *words], data=description, errors=b'')
 
 
 def worked_out(runner):
@@ -212,22 +213,22 @@ def any_script(source):
             words.append('--fair')
     text = script(count, pattern, packets, size, seed, header=header, **said)
     words = ['--pattern', pattern, '--packets', str(packets), '--bytes', str(size), '--seed', str(seed), *words]
-    return {'expected': text or b'traffic 4 NoTarget\n', 'status': 0 if text else 1, 'words': ['traffic', '-', *words],
+    return {'expected': text or b'traffic 4 NoTarget\n', 'status': 0 if text else 1, 'words': ['-', *words],
             'data': b'header %d\nmesh %d 1 1\n' % (header, count)}
 
 
 def refused(runner):
     for name, (description, words, line, told) in REFUSED.items():
-        runner.case(name, line, 1, words=['traffic', '-', *words], data=description)
+        runner.case(name, line, 1, words=['-', *words], data=description)
         if told is not None:
-            runner.case(name + ': told', line, 1, b'c104: -: %s\n' % told, words=['--explain', 'traffic', '-', *words],
+            runner.case(name + ': told', line, 1, b'c104: -: %s\n' % told, words=['--explain', '-', *words],
                         data=description)
 
 
 def usage(runner):
     for words in WRONG:
-        runner.case('usage of traffic %s' % ' '.join(words), b'', 2, words=['traffic', '-', *words], data=PLAN)
-    runner.case('usage of traffic without a description', b'', 2, words=['traffic', *words_of()])
+        runner.case('usage of traffic %s' % ' '.join(words), b'', 2, words=['-', *words], data=PLAN)
+    runner.case('usage of traffic without a description', b'', 2, words=words_of())
 
 
 def limits(runner):
@@ -241,7 +242,7 @@ def limits(runner):
 def judge(runner, name, description, words, is_good):
     if not runner.wanted(name):
         return
-    found = runner.run(words=['traffic', '-', *words], data=description)
+    found = runner.run(words=['-', *words], data=description)
     good = found is not None and found[0] == 0 and is_good(found[1])
     runner.judge(name, None if good else '%.200r' % (found,))
 
@@ -251,7 +252,7 @@ def arrivals(runner):
     name = 'all packets arrive'
     if not runner.wanted(name):
         return
-    _, sends, _ = runner.run(words=['traffic', '-', *words_of(pattern='uniform', packets='200', bytes='5', load='20')],
+    _, sends, _ = Tool(runner, 'traffic').run(words=['-', *words_of(pattern='uniform', packets='200', bytes='5', load='20')],
                              data=SQUARE)
     found = runner.run(data=SQUARE + b'script\n' + sends + b'rounds 1000\n')
     answers = sends.count(b'\n') + 1
@@ -262,13 +263,13 @@ def arrivals(runner):
 
 def failures(runner):
     """A description that can't be read, and an output that can't be written."""
-    runner.case('no description', b'', 3, b'c104: cannot read none\n', words=['traffic', 'none', *words_of()])
+    runner.case('no description', b'', 3, b'c104: cannot read none\n', words=['none', *words_of()])
     with open(os.devnull, 'rb') as folder:
-        runner.case('nothing on standard input', b'traffic 4 NoTarget\n', 1, words=['traffic', '-', *words_of()], stdin=folder)
+        runner.case('nothing on standard input', b'traffic 4 NoTarget\n', 1, words=['-', *words_of()], stdin=folder)
     if os.path.exists('/dev/full'):
         with open('/dev/full', 'wb') as full:
-            runner.case('an output that is full', None, 3, CANNOT_WRITE, words=['traffic', '-', *words_of()], data=PLAN,
+            runner.case('an output that is full', None, 3, CANNOT_WRITE, words=['-', *words_of()], data=PLAN,
                         stdout=full)
 
 
-PARTS = [scripts, worked_out, refused, usage, limits, arrivals, failures]
+PARTS = [*tool_parts('traffic', [scripts, worked_out, refused, usage, limits, failures]), arrivals]

@@ -1,4 +1,4 @@
-"""Runs a program's `stats` of windows, whose packets alone are measured, and of their batches.
+"""Runs `c104-stats` of windows, whose packets alone are measured, and of their batches.
 
 The numbers of one run are worked out by hand. In runs over random networks each number is worked out again, by conservation.py,
 from the rows of the whole run.
@@ -10,6 +10,7 @@ from case_runner import PLAN
 from conservation import MEASURED, measured_of, records, terminals_of
 from kinds.stats import APART, LATENCIES, PACKETS, SEEDS, SUMMARY, Files, csv_text, labels_of, table_text, words_of
 from random_networks import chance_of, network_of, packets_of
+from tools import Tool, tool_parts
 
 # What is told of a batch, behind its rounds.
 BATCH = SUMMARY[1:5] + SUMMARY[7:17]
@@ -86,13 +87,13 @@ def random_windows(runner, seed):
     name = 'windows of random network %d' % seed
     if not runner.wanted(name):
         return
-    chance = chance_of(seed)
+    tool, chance = Tool(runner, 'stats'), chance_of(seed)
     network = network_of(chance)
     with Files(network.description) as path:
         script = apart(chance, packets_of(chance, network, labels_of(runner, path))) + b'rounds %d\n' % chance.choice((9, 3000))
 
         def run(what, words=()):
-            return records(runner.run(words=words_of(path, what, 'csv', words), data=script)[1])
+            return records(tool.run(words=words_of(path, what, 'csv', words), data=script)[1])
         packets, terminals, length = run('packets'), terminals_of(run('links')), run(None)[0]['rounds']
         wrong = None
         for _ in range(4):
@@ -108,4 +109,4 @@ def randoms(runner):
         random_windows(runner, seed)
 
 
-PARTS = [windows, randoms]
+PARTS = [*tool_parts('stats', [windows]), randoms]
