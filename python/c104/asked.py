@@ -23,7 +23,7 @@ def halves(text: str) -> tuple[str, str | None]:
 
 
 def first_rounds(script: str, count: int) -> str | None:
-    """The lines of a script up to so many rounds, the last of them cut to fit; what comes behind the last round is left out. None
+    """The lines of a script up to `count` rounds, the last line cut to fit; what comes behind the last round is left out. None
     if a line `settle` comes before, since how many rounds that does isn't known."""
     found: list[str] = []
     for line in script.split("\n"):
@@ -64,7 +64,7 @@ class Asked:
         return len(self.sources) > 1 or self.script is not None
 
     def cut(self, count: int) -> bool:
-        """Leaves of the script what comes up to so many rounds, if it is known which lines that are."""
+        """Leaves of the script what comes up to `count` rounds, if it is known which lines that are."""
         rest = first_rounds(self.script or "", count)
         if rest is not None and self.has_script:
             self.sources = [self.description, Description(self.sources[-1].path, rest)]

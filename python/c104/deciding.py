@@ -29,8 +29,8 @@ class InputUse:
 
 @dataclass(frozen=True)
 class RowUse:
-    """A row of an input: it covers the headers from `first` up to, but not including, `limit`, and decides for so many, of
-    which so many can come as labels and as random headers.
+    """A row of an input: it covers the headers from `first` up to, but not including, `limit`, and decides for
+    `headers` of them, of which `labels` can come as labels and `random` as random headers.
 
     `idle` names why it can never decide, if it can't: `Empty`, its limit isn't above where it begins; `PastLast`, it begins past
     the last header; `Covered`, rows before it have all its headers; or `NeverMet`, it sinks nothing, and none of the headers

@@ -109,7 +109,7 @@ class Carried:
         self.always[uses.always] += load
 
     def add_even(self, even: Loads, load: Fraction = Fraction(1)) -> None:
-        """Adds what crosses links on average, so many times."""
+        """Adds what crosses links on average, `load` times."""
         for port, part in even.items():
             self.even[port] += part * load
 

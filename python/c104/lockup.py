@@ -85,7 +85,7 @@ def shortest_ring(start: Port, edges: dict[Port, list[Step]], net: Network) -> l
 
 
 def send_line(net: Network, sender: Sender, count: int) -> str:
-    """The `send` line of a packet of so many bytes: its header, and zeros."""
+    """The `send` line of a packet of this number of bytes: its header, and zeros."""
     header = [sender.label >> 8 * place & 255 for place in range(net.header_bytes)]
     data = header + [0] * (count - len(header))
     return f"send {sender.terminal.name} {' '.join(f'{byte:02x}' for byte in data)} eop"

@@ -32,7 +32,7 @@ MOST_ROUNDS, MOST_READINGS = 10_000, 300_000
 ROOM = ('  graph [nodesep=0.8, ranksep=1.1, inputscale=45, sep="+14", esep="+10"]\n'
         "  node [width=0.8, height=0.6]\n  edge [len=2.1]\n")
 OPEN = "  graph [layout=neato, overlap=scale]\n"
-#: Terminals nearer to their switch than NEAR points are moved out, to so many times that.
+#: Terminals nearer to their switch than NEAR points are moved out, to this multiple of their distance.
 NEAR, OUT = 60, 1.75
 #: How much larger a layout is than in a picture that doesn't play, how much farther terminals stand from their switch, and
 #: half the size of a node, in pixels.

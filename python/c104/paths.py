@@ -103,7 +103,7 @@ def summary(program: Program, description: Description, ways: Ways) -> list[Cell
 
 
 def hop_cells(counts: Counter[tuple[int, int]]) -> list[Cell]:
-    """What pairs come to, of which so many have these wires and distances."""
+    """What pairs come to: how many of them have these wires and distances."""
     total = sum(counts.values())
     apart = {key: count for key, count in counts.items() if key[1]}
     stretches = sum(Fraction(most * count, far) for (most, far), count in apart.items())

@@ -76,7 +76,7 @@ class Load:
         return cls(Fraction(in_a_round), of_tokens=True)
 
     def packet_rate(self, tokens: int) -> Fraction:
-        """How many packets of so many tokens each terminal sends in a round."""
+        """How many packets of this number of tokens each terminal sends in a round."""
         return self.amount / tokens if self.of_tokens else self.amount
 
 
@@ -101,7 +101,7 @@ class Traffic:
 
 
 Pattern = Callable[[int, Traffic, int, int, int], int]
-"""To which terminal, by number, the sender of this number sends, among so many terminals. The turn is how many packets each
+"""To which terminal, by number, the sender of this number sends, among a number of terminals. The turn is how many packets each
 sender sent before, and the word is one of the generator for this packet. A sender whose target in turn 0 by word 0 is itself
 doesn't send at all, unless terminals may be their own targets. What a network must have a pattern may say by TrafficError."""
 

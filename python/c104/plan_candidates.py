@@ -35,7 +35,7 @@ KEPT = 2
 LEAST_LOAD = 0.001
 """At which load candidates are run at least, in tokens a round and terminal."""
 TOLL = 4.0
-"""What a turn costs that isn't preferred where a rule is kept strictly: as much as so many wires of the busiest channel."""
+"""What a turn costs that isn't preferred where a rule is kept strictly: as much as this number of wires of the busiest channel."""
 
 
 @dataclass(frozen=True)

@@ -103,8 +103,8 @@ def all_to_all_rounds(program: Program, description: Source, net: Network, paylo
 def accepted(
     program: Program, description: Source, net: Network, load: float, first: int = 1000, last: int = 5000, seed: int = 1
 ) -> float:
-    """How many tokens a round and terminal arrive from one round to another, where each terminal sends so many to others by
-    chance, in packets of 15 bytes behind the header, in fair rounds."""
+    """How many tokens a round and terminal arrive from one round to another, where each terminal sends `load` tokens a round
+    to others by chance, in packets of 15 bytes behind the header, in fair rounds."""
     uniform = Traffic("uniform", bytes=15, seed=seed, load=Load.tokens(f"{load:.6f}"), is_bernoulli=True, is_fair=True)
     schedule = Schedule.of(net, uniform)
     # somewhat more than are sent up to the last round

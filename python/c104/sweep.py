@@ -154,7 +154,7 @@ def narrow(lab: Lab, points: Sequence[tuple[str, str]], precision: float, seeds:
 
 
 def is_wide(rows: Sequence[PointRow], wanted: int, precision: float) -> bool:
-    """Whether a further run is wanted: so many runs are there, all packets arrive, and the interval is too wide."""
+    """Whether a further run is wanted: `wanted` runs are there, all packets arrive, and the interval is too wide."""
     found = interval_of(rows)
     if len(rows) < wanted or word_of(rows) in CROSSED or found is None:
         return False

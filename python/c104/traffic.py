@@ -92,7 +92,7 @@ class Schedule:
 
 
 def checked(target: int, count: int) -> int:
-    """The number of a terminal among so many, as a pattern gave it."""
+    """The number of a terminal among all, as a pattern gave it."""
     if not 0 <= target < count:
         raise TrafficError(f"traffic 6 WrongTarget: {target}", f"the pattern sends to a terminal that isn't one of {count}")
     return target
@@ -142,7 +142,7 @@ def script_lines(schedule: Schedule, until: int | None = None) -> Iterator[str]:
 
 
 def packet_lines(schedule: Schedule, packets: int) -> Iterator[str]:
-    """The lines of a script of so many packets. It ends with the last one."""
+    """The lines of a script of this number of packets. It ends with the last one."""
     sent = 0
     for line in script_lines(schedule):
         yield line

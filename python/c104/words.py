@@ -91,7 +91,7 @@ def number(least: int, most: int) -> Callable[[str], int]:
 
 
 def decimal(most: int, places: int) -> Callable[[str], Fraction]:
-    """What reads a word as a number above 0 with so many digits behind its point, at most."""
+    """What reads a word as a number above 0 with at most `places` digits behind its point."""
 
     def read(word: str) -> Fraction:
         if not re.fullmatch(rf"[0-9]{{1,20}}(\.[0-9]{{1,{places}}})?", word) or not 0 < Fraction(word) <= most:

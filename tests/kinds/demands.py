@@ -34,7 +34,10 @@ FAULTS = {
     'a load that is too large': (NAMES + b'a,b,1e999999999\n', 'demand 2: a load is a number, 0 or more: 1e999999999'),
 }
 # A whole network, the fewest wires between halves of its terminals, and how many terminals these have.
-HALVES = {'mesh 4 4 1': (4, 8), 'cube 3 2': (4, 8), 'torus 4 4 1': (16, 8), 'clos 4 3 2': (6, 4), 'mesh 2 2 2 3': (6, 4), 'mesh 1 1 2': (0, 0)}
+HALVES = {
+    'mesh 4 4 1': (4, 8), 'cube 3 2': (4, 8), 'torus 4 4 1': (16, 8),
+    'clos 4 3 2': (6, 4), 'mesh 2 2 2 3': (6, 4), 'mesh 1 1 2': (0, 0),
+}
 WIRING = ['switches', 'terminals', 'wires', 'bisection', 'bisection_exact', 'uniform_rate']
 
 
@@ -80,7 +83,10 @@ def other_wires(runner):
         write(folder, 'wire.txt', WIRE)
         write(folder, 'plan.txt', PLAN)
         cells = {name: ['' if it == '-' else it for it in SUMMARIES[name][1]] for name in ('one wire', 'one switch')}
-        rows = [['wire.txt', 2, 2, 1, 1, 'yes', '1.000', *cells['one wire']], ['plan.txt', 1, 2, 0, 0, 'yes', '1.000', *cells['one switch']]]
+        rows = [
+            ['wire.txt', 2, 2, 1, 1, 'yes', '1.000', *cells['one wire']],
+            ['plan.txt', 1, 2, 0, 0, 'yes', '1.000', *cells['one switch']],
+        ]
         for name, count in (('networks with other wires', 2), ('a network beside none', 1)):
             runner.case(name, csv_of(['file', *WIRING, *SUMMARY], rows[:count]), 0, b'', folder=folder,
                         words=['--any-wiring', '--format', 'csv', *(it[0] for it in rows[:count])])

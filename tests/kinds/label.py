@@ -287,7 +287,8 @@ def images(runner):
 
 def shape_line(text):
     """The line of a description's shape, a comment, which stands before its rows."""
-    shapes = [words[words[0] == b'label':] for words in map(bytes.split, text.splitlines()) if words[:1] in ([b'mesh'], [b'cube'], [b'label'])]
+    named = ([b'mesh'], [b'cube'], [b'label'])
+    shapes = [words[words[0] == b'label':] for words in map(bytes.split, text.splitlines()) if words[:1] in named]
     return b'# shape %s\n' % b' '.join(shapes[0] if shapes else [b'hand'])
 
 

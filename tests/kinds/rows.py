@@ -70,7 +70,8 @@ def of_each_round(runner):
     found = runner.run(words=['rows', '-', '--what', 'ways', '--each'], data=text)
     rows = found and found[1].split(b'\r\n')
     first = [b'round,' + HEADS['ways'], b'0,a,A.0,1,a,0,0,2,1']
-    runner.judge('each round, by hand', None if rows and rows[:2] == first and rows[-2].endswith(b',0,,,0,0,0') else 'found %.300r' % (found,))
+    is_right = rows and rows[:2] == first and rows[-2].endswith(b',0,,,0,0,0')
+    runner.judge('each round, by hand', None if is_right else 'found %.300r' % (found,))
 
 
 def rows_in(text):

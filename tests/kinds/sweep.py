@@ -37,7 +37,8 @@ def rows_by_name(text):
 
 def script_of(runner):
     """The rounds of a point line by line, as far as terminals send, and those that bring home what is on its way."""
-    words = ['--pattern', 'uniform', '--packets', '6000', '--bytes', '15', '--process', 'bernoulli', '--seed', SEED, '--tokens', LOAD, '--fair']
+    words = ['--pattern', 'uniform', '--packets', '6000', '--bytes', '15', '--process', 'bernoulli']
+    words += ['--seed', SEED, '--tokens', LOAD, '--fair']
     _, script, _ = Tool(runner, 'traffic').run(words=[MESH, *words])
     lines = re.sub(rb'rounds (\d+) fair', lambda it: b'\n'.join([b'rounds 1 fair'] * int(it[1])), script).split(b'\n')
     ends = [number for number, line in enumerate(lines) if line == b'rounds 1 fair']

@@ -16,7 +16,10 @@ from case_runner import (CANNOT_READ, DESCRIPTION_LIMIT, DESCRIPTION_TOO_LONG, E
 from kinds.streams import failing_after
 
 # Commands of a description alone: the words before its path, and those behind it.
-ALONE = [(('check',), ()), (('check', '--header', '1'), ('--rows',)), (('cycles',), ('--all',)), (('label',), ()), (('label', '--rows'), ())]
+ALONE = [
+    (('check',), ()), (('check', '--header', '1'), ('--rows',)), (('cycles',), ('--all',)),
+    (('label',), ()), (('label', '--rows'), ()),
+]
 TABLES = ('packets', 'links', 'rounds', 'run', 'holds', 'ways', 'wishes')
 # Commands of a script: the words before the paths, and those behind them.
 SCRIPTED = [(('run',), ()), *((('rows', '--what', it), ()) for it in TABLES),
@@ -117,8 +120,8 @@ def scripts(runner):
         runner.case('tables in files', b'', 0, b'', words=['rows', 'sends', '--out', 'run'], folder=folder)
         for table in TABLES:
             if runner.wanted('%s in a file, as printed' % table):
-                runner.case('%s in a file, as printed' % table, read(folder, 'run-%s.csv' % table), words=['rows', 'sends', '--what', table],
-                            folder=folder)
+                printed = read(folder, 'run-%s.csv' % table)
+                runner.case('%s in a file, as printed' % table, printed, words=['rows', 'sends', '--what', table], folder=folder)
 
 
 def wanted_scripts(runner):

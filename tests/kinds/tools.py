@@ -16,7 +16,10 @@ from tools import Tool
 RING, PACKETS = os.path.join(EXAMPLES, 'ring.txt'), os.path.join(EXAMPLES, 'ring-packets.txt')
 SENT = ('--pattern', 'uniform', '--packets', '100000', '--bytes', '1', '--seed', '1')
 # Each tool, and the words that follow the description.
-TOOLS = {'stats': (PACKETS,), 'traffic': SENT, 'paths': (), 'cuts': (), 'lockup': (), 'draw': (), 'page': (PACKETS,), 'sweep': (), 'plan': ()}
+TOOLS = {
+    'stats': (PACKETS,), 'traffic': SENT, 'paths': (), 'cuts': (), 'lockup': (), 'draw': (),
+    'page': (PACKETS,), 'sweep': (), 'plan': (),
+}
 SCRIPTED = ('stats', 'page')
 # Programs in place of c104: one that knows neither `rows` nor a shape, and one that is ended.
 OLDER = '''#!/bin/sh
