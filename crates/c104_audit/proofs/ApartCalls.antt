@@ -1,9 +1,9 @@
 -- Lists of calls whose tickets rise, and whether a ticket stands in both.
-use Rattle.c104_audit.{proofs.{KeptElements.drop_next, Merging.{each_in, in_each}}, specs.{Audits.HaveOtherTickets, Leads.AreRising}}
-use Rattle.{c104_audit.specs.{Leads.list_at, Tests.{IsNotBelow, StandsFirst}, declared.calls.Call.Call}, c104_net.proofs.Members.IsIn}
-use Rattle.{c104_net.proofs.Members.in_right, c104_plan.proofs.RangeLists.each_append, std.proofs.Common.{List, Some, [], ap, append_assoc}}
-use Rattle.std.proofs.Common.{arith, drop, inl, inr, slice_get, subst, sym, unwrap_or, ℕ, ◌++◌, ◌+◌, ◌<◌, ◌↔◌, ◌∙◌, ◌∷◌, ◌≡◌, ◌≢◌, ◌⊎◌}
-use Rattle.std.{proofs.lemmas.Bool.Decides.nat_tests, specs.List.AllByRecursion}
+use Rattle.c104_audit.{proofs.Merging.{each_in, in_each}, specs.{Audits.HaveOtherTickets, Leads.{AreRising, list_at}, Tests.IsNotBelow}}
+use Rattle.{c104_audit.specs.Tests.StandsFirst, c104_event.specs.declared.calls.Call.Call, c104_net.proofs.Members.{IsIn, in_right}}
+use Rattle.{c104_plan.proofs.RangeLists.each_append, c104_run.proofs.KeptElements.drop_next, std.proofs.Common.{List, Some, [], ap}}
+use Rattle.std.proofs.Common.{append_assoc, arith, drop, inl, inr, slice_get, subst, sym, unwrap_or, ℕ, ◌++◌, ◌+◌, ◌<◌, ◌↔◌, ◌∙◌, ◌∷◌, ◌≡◌}
+use Rattle.std.{proofs.{Common.{◌≢◌, ◌⊎◌}, lemmas.Bool.Decides.nat_tests}, specs.List.AllByRecursion}
 
 in_either : (x : Call) (xs ys : List Call) → IsIn x (xs ++ ys) → IsIn x xs ⊎ IsIn x ys
 in_either x [] ys has = inr has

@@ -10,7 +10,7 @@ use Rattle.c104_audit.proofs.TracedLeads.{from_unseated, in_unseated, is_unseate
 use Rattle.c104_audit.{proofs.TracedLeads.{runs_same, seated_is, unseated_is, unseated_rise}, specs.AuditedRuns.{AreGathered, AreUnseated}}
 use Rattle.c104_audit.specs.{AuditedRuns.{IsAuditedRun, WereBefore, event_alone}, Audits.{IsAudited, called_by, carries, is_leading}}
 use Rattle.c104_audit.specs.{Audits.{is_number, leading_entries, lists_events, unseated}, Leads.{AreRising, Lead, list_at, merged_leads}}
-use Rattle.{c104_audit.specs.declared.{calls.Call.Call, lists.Lists.Lists}, c104_event.specs.declared.events.Event.Event}
+use Rattle.{c104_audit.specs.declared.lists.Lists.Lists, c104_event.specs.declared.{calls.Call.Call, events.Event.Event}}
 use Rattle.c104_net.{proofs.{Members.{IsIn, in_filter}, SureOrigins.mapped, ToldEvents.events_told}, specs.ToldEvents.told_events}
 use Rattle.c104_node.{proofs.Waiting.get_before, specs.{Nodes.Node, Records.{NodeRecord, NodeRoom, node_start, node_state, node_trace}}}
 use Rattle.c104_node.specs.{Starts.start_node, Traces.{Deed, part, seatless}, declared.{acts.Entry.Entry, stamps.Stamp.Stamp}}

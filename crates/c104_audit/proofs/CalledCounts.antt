@@ -1,12 +1,13 @@
 -- How many of each seat's calls the entries tell that lead, as a loop counts them.
 use Rattle.c104_audit.proofs.{CalledLeads.{IsMet, Left, call_found, call_there, met_here, met_over, told_call}, EqualWalks.equal_answer}
-use Rattle.c104_audit.proofs.{EqualWalks.{equal_fails, equal_next, equal_over}, KeptElements.{drop_all, place_inside}}
-use Rattle.c104_audit.specs.{Audits.{carries, is_number, lists_leads}, Leads.list_at, Tests.{AreCounts, AreLeads, AreTold, IsTold}}
-use Rattle.c104_audit.specs.{Tests.{TellsNext, calls_told, lead_in, lead_seat}, declared.{calls.Call.Call, lists.Lists.Lists}}
+use Rattle.c104_audit.{proofs.EqualWalks.{equal_fails, equal_next, equal_over}, specs.Audits.{carries, is_number, lists_leads}}
+use Rattle.c104_audit.specs.{Leads.list_at, Tests.{AreCounts, AreLeads, AreTold, IsTold, TellsNext, calls_told, lead_in, lead_seat}}
+use Rattle.{c104_audit.specs.declared.lists.Lists.Lists, c104_event.specs.declared.calls.Call.Call}
 use Rattle.{c104_net.specs.declared.leading.Lead.Lead as Leading, c104_node.proofs.WireEnds.{get_set_other, get_set_same}}
-use Rattle.{c104_node.specs.declared.acts.Entry.Entry, std.proofs.Common.{IsTrue, List, None, Option, Some, ap, arith, false, get_or}}
-use Rattle.std.proofs.Common.{length, map, nat_eq, nat_le, slice_get, slice_set, subst, sym, true, ℕ, ◌+◌, ◌<◌, ◌↔◌, ◌∙◌, ◌≡◌, ◌≤◌}
-use Rattle.std.proofs.lemmas.{Bool.Decides.nat_tests, Option.{slice_get-get_or, slice_get_within}}
+use Rattle.{c104_node.specs.declared.acts.Entry.Entry, c104_run.proofs.KeptElements.{drop_all, place_inside}, std.proofs.Common.IsTrue}
+use Rattle.std.proofs.Common.{List, None, Option, Some, ap, arith, false, get_or, length, map, nat_eq, nat_le, slice_get, slice_set, subst}
+use Rattle.std.proofs.{Common.{sym, true, ℕ, ◌+◌, ◌<◌, ◌↔◌, ◌∙◌, ◌≡◌, ◌≤◌}, lemmas.{Bool.Decides.nat_tests, Option.slice_get-get_or}}
+use Rattle.std.proofs.lemmas.Option.{slice_get_within}
 
 other_number : (s : ℕ) (o : Option ℕ) → (o ≡ Some s → ⊥) → is_number s o ≡ false
 other_number s o other = search (arith, nat_tests)

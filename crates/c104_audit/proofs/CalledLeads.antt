@@ -1,13 +1,14 @@
 -- What entries tell that lead: the calls of a seat, and all events, as loops go through them.
-use Rattle.c104_audit.{proofs.{KeptElements.given_here, MergedLists.leaders}, specs.Audits.{carries, entry_event, is_leading, led_by}}
-use Rattle.c104_audit.specs.{Audits.{led_call, led_event, lists_leads, told_reply}, Calls.call_of, Leads.{Lead, list_at}, Tests.AreLeads}
-use Rattle.c104_audit.specs.{Tests.{IsNextCall, calls_told, entry_or, lead_in}, declared.{calls.Call.Call, lists.Lists.Lists}}
+use Rattle.c104_audit.{proofs.MergedLists.leaders, specs.Audits.{carries, entry_event, is_leading, led_by, led_call, led_event}}
+use Rattle.c104_audit.specs.{Audits.{lists_leads, told_reply}, Leads.{Lead, list_at}, Tests.{AreLeads, IsNextCall, calls_told, entry_or}}
+use Rattle.{c104_audit.specs.{Tests.lead_in, declared.lists.Lists.Lists}, c104_event.specs.{Calls.call_of, declared.calls.Call.Call}}
 use Rattle.{c104_event.specs.declared.events.Event.Event, c104_net.{proofs.Members.IsIn, specs.Replays.entry_event as told_entry}}
 use Rattle.c104_net.specs.{Replays.{event_or, lead_event}, ToldEvents.told_event, declared.leading.Lead.Lead as Leading}
 use Rattle.{c104_node.specs.declared.acts.{ActOf.ActOf, Entry.Entry}, c104_plan.specs.declared.ports.Wire.Wire}
-use Rattle.{c104_run.specs.EventActs.act_event, c104_token.specs.declared.tokens.Token.Token, std.proofs.Common.{List, Option, Some, []}}
-use Rattle.std.proofs.Common.{ap, append_assoc, arith, drop, false, if◌then◌else◌, inl, inr, is_some, map, refl, slice_get, subst, suc, sym}
-use Rattle.std.{proofs.Common.{true, zero, ℕ, ◌++◌, ◌+◌, ◌∙◌, ◌∷◌, ◌≡◌}, specs.Option.{option_map, option_to_list}}
+use Rattle.{c104_run.{proofs.KeptElements.given_here, specs.EventActs.act_event}, c104_token.specs.declared.tokens.Token.Token}
+use Rattle.std.proofs.Common.{List, Option, Some, [], ap, append_assoc, arith, drop, false, if◌then◌else◌, inl, inr, is_some, map, refl}
+use Rattle.std.{proofs.Common.{slice_get, subst, suc, sym, true, zero, ℕ, ◌++◌, ◌+◌, ◌∙◌, ◌∷◌, ◌≡◌}, specs.Option.option_map}
+use Rattle.std.specs.Option.{option_to_list}
 
 -- the event of an entry that leads is that of its act
 record IsNamed (S : ℕ) (ws : List Wire) (k : ℕ) (a : ActOf Token) : Type 0 where

@@ -1,9 +1,9 @@
 -- What is found of each seat is that it is called so.
 use Rattle.c104_audit.{proofs.FirstFailures.{below_all, first_both, first_same}, specs.{Audits.IsCalled, Firsts.{IsFirst, lower_of}}}
 use Rattle.c104_audit.specs.{Leads.list_at, Tests.{AreCalledBelow, CarryAtAllEnds, HasNoStray, IsApart, IsToldAt, is_other}}
-use Rattle.{c104_audit.specs.declared.{calls.Call.Call, lists.Lists.Lists}, std.proofs.Common.{Bool, IsTrue, List, None, Option, Some, []}}
-use Rattle.std.proofs.Common.{ap, arith, false, length, nat_eq, nat_lt, not, refl, slice_get, subst, sym, true, unwrap_or, ℕ, ◌<◌, ◌↔◌, ◌∙◌}
-use Rattle.std.proofs.{Common.{◌≡◌, ◌≤◌}, lemmas.{Bool.Decides.nat_tests, Option.slice_get_cases}}
+use Rattle.{c104_audit.specs.declared.lists.Lists.Lists, c104_event.specs.declared.calls.Call.Call, std.proofs.Common.{Bool, IsTrue, List}}
+use Rattle.std.proofs.Common.{None, Option, Some, [], ap, arith, false, length, nat_eq, nat_lt, not, refl, slice_get, subst, sym, true}
+use Rattle.std.proofs.{Common.{unwrap_or, ℕ, ◌<◌, ◌↔◌, ◌∙◌, ◌≡◌, ◌≤◌}, lemmas.{Bool.Decides.nat_tests, Option.slice_get_cases}}
 
 -- there is nothing past the end of a list
 pub past_end : {X : Type 0} (xs : List X) (i : ℕ) → length xs ≤ i → slice_get xs i ≡ None

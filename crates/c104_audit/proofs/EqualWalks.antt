@@ -1,5 +1,5 @@
 -- A walk that compares what it meets with a list, one by one.
-use Rattle.{c104_audit.proofs.KeptElements.{drop_all, drop_next}, std.proofs.Common.{Bool, IsTrue, List, Some, [], ap, arith, drop, false}}
+use Rattle.{c104_run.proofs.KeptElements.{drop_all, drop_next}, std.proofs.Common.{Bool, IsTrue, List, Some, [], ap, arith, drop, false}}
 use Rattle.std.proofs.Common.{length, nat_le, refl, slice_get, subst, suc, sym, true, zero, ℕ, ◌+◌, ◌<◌, ◌↔◌, ◌∙◌, ◌∷◌, ◌≡◌, ◌≤◌}
 use Rattle.std.proofs.lemmas.Bool.Decides.{nat_tests}
 

@@ -1,7 +1,7 @@
 -- The entries that lead, as they are gathered.
-use Rattle.c104_audit.{proofs.KeptElements.drop_next, specs.{Leads.{Lead, leads_at, leads_from}, Tests.lead_in}}
-use Rattle.{c104_net.specs.declared.leading.Lead.Lead as Leading, c104_node.specs.declared.acts.Entry.Entry, std.proofs.Common.{Bool, List}}
-use Rattle.std.proofs.Common.{Some, [], append_assoc, arith, drop, false, map, refl, slice_get, true, ℕ, ◌++◌, ◌+◌, ◌∷◌, ◌≡◌}
+use Rattle.{c104_audit.specs.{Leads.{Lead, leads_at, leads_from}, Tests.lead_in}, c104_net.specs.declared.leading.Lead.Lead as Leading}
+use Rattle.{c104_node.specs.declared.acts.Entry.Entry, c104_run.proofs.KeptElements.drop_next, std.proofs.Common.{Bool, List, Some, []}}
+use Rattle.std.proofs.Common.{append_assoc, arith, drop, false, map, refl, slice_get, true, ℕ, ◌++◌, ◌+◌, ◌∷◌, ◌≡◌}
 use Rattle.std.proofs.lemmas.List.{map-append}
 
 module _ (leads : ℕ → Entry → Bool) where

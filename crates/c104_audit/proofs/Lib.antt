@@ -12,7 +12,6 @@ pub mod GatheredNodes
 pub mod TracedLeads
 pub mod AuditedRuns
 pub mod FirstFailures
-pub mod KeptElements
 pub mod RisingTickets
 pub mod ListedCalls
 pub mod WiredLinks

@@ -1,7 +1,8 @@
 -- Whether the tickets of calls rise from the first on, as a loop tells it.
-use Rattle.c104_audit.{proofs.Merging.{each_in, in_each}, specs.{Tests.{IsListed, is_later, listed_after}, declared.calls.Call.Call}}
-use Rattle.std.proofs.Common.{Bool, IsTrue, List, None, Option, Some, [], arith, false, nat_le, nat_lt, refl, sym, true, ℕ, ◌&&◌, ◌<◌, ◌↔◌}
-use Rattle.std.{proofs.{Common.{◌∙◌, ◌∷◌, ◌≡◌}, lemmas.Bool.{Decides.nat_tests, and_parts}}, specs.List.AllByRecursion}
+use Rattle.c104_audit.{proofs.Merging.{each_in, in_each}, specs.Tests.{IsListed, is_later, listed_after}}
+use Rattle.{c104_event.specs.declared.calls.Call.Call, std.proofs.Common.{Bool, IsTrue, List, None, Option, Some, [], arith, false, nat_le}}
+use Rattle.std.proofs.{Common.{nat_lt, refl, sym, true, ℕ, ◌&&◌, ◌<◌, ◌↔◌, ◌∙◌, ◌∷◌, ◌≡◌}, lemmas.Bool.{Decides.nat_tests, and_parts}}
+use Rattle.std.specs.List.{AllByRecursion}
 
 later_calls : (first t : ℕ) (cs : List Call) → listed_after first (Some t) cs ≡ true → AllByRecursion (λ (c : Call). t < c.ticket) cs
 later_calls first t [] is = tt

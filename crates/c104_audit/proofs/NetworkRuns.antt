@@ -8,21 +8,14 @@ use Rattle.c104_node.{proofs.WireEnds.get_set_same, specs.{Acts.{node_act, plain
 use Rattle.c104_node.specs.{PortActs.{acts_limit, far_act, near_act}, Records.{IsNodeRun, MayAct}, Traces.entry_of}
 use Rattle.{c104_node.specs.declared.{acts.{ActOf.ActOf, Entry.Entry}, crossings.Crossing.Crossing}, c104_plan.specs.Plans.{IsPlan, Plan}}
 use Rattle.{c104_plan.specs.{Wiring.peer, declared.ports.Port.Port}, c104_run.proofs.BalancePlaces.still_in_place}
-use Rattle.c104_run.proofs.{BalanceWires.{nodes_apart, peer_back, switch_inside, terminal_inside}, RecordSteps.nodes_counted}
-use Rattle.c104_run.specs.{Balance.AreInPlace, EventActs.{crossing_event, event_acts, port_place}, Network.{Network, event_fault}}
-use Rattle.c104_run.specs.{Network.{event_limit, network_apply, network_of, network_step, wired_fault}, Runs.IsDoneRun}
-use Rattle.{c104_switch.specs.{Actions.{Reply, is_ready}, declared.actions.ReplyOf.ReplyOf}, c104_token.specs.Kinds.plain_kind}
-use Rattle.{c104_token.specs.declared.tokens.Token.Token, std.proofs.Common.{Bool, List, None, Ok, Option, Result, Some, [], ap, arith}}
-use Rattle.std.proofs.Common.{if◌then◌else◌, inl, inr, length, map, nat_eq, refl, slice_get, slice_set, subst, suc, sym, true, ℕ, ◌++◌, ◌+◌}
-use Rattle.std.proofs.{Common.{◌<◌, ◌∙◌, ◌∷◌, ◌≡◌, ◌≢◌, ◌⊎◌}, lemmas.{Bool.{Decides.nat_tests, cases_eq}, List.length-set}}
-use Rattle.std.specs.List.{AllByRecursion}
-
--- lists of one length with the same things at each place are the same
-pub same_places : {X : Type 0} (xs ys : List X) → length ys ≡ length xs → ((k : ℕ) (x y : X) → slice_get xs k ≡ Some x → slice_get ys k ≡ Some y → y ≡ x) → ys ≡ xs
-same_places [] [] long same = refl
-same_places [] (y ∷ ys) long same = absurd (let no : ⊥ = omega (arith, long) in no)
-same_places (x ∷ xs) [] long same = absurd (let no : ⊥ = omega (arith, long) in no)
-same_places (x ∷ xs) (y ∷ ys) long same = ap (λ z. z ∷ ys) (same 0 x y refl refl) ∙ ap (λ zs. x ∷ zs) (same_places xs ys (omega (arith, long)) (λ k a b left right. same (suc k) a b left right))
+use Rattle.c104_run.proofs.{BalanceWires.{nodes_apart, peer_back, switch_inside, terminal_inside}, KeptElements.same_places}
+use Rattle.c104_run.{proofs.RecordSteps.nodes_counted, specs.{Balance.AreInPlace, EventActs.{crossing_event, event_acts, port_place}}}
+use Rattle.c104_run.specs.Network.{Network, event_fault, event_limit, network_apply, network_of, network_step, wired_fault}
+use Rattle.{c104_run.specs.Runs.IsDoneRun, c104_switch.specs.{Actions.{Reply, is_ready}, declared.actions.ReplyOf.ReplyOf}}
+use Rattle.{c104_token.specs.{Kinds.plain_kind, declared.tokens.Token.Token}, std.proofs.Common.{Bool, List, None, Ok, Option, Result}}
+use Rattle.std.proofs.Common.{Some, [], ap, arith, if◌then◌else◌, inl, inr, length, map, nat_eq, refl, slice_get, slice_set, subst, sym}
+use Rattle.std.proofs.{Common.{true, ℕ, ◌++◌, ◌+◌, ◌<◌, ◌∙◌, ◌∷◌, ◌≡◌, ◌≢◌, ◌⊎◌}, lemmas.Bool.{Decides.nat_tests, cases_eq}}
+use Rattle.std.{proofs.lemmas.List.length-set, specs.List.AllByRecursion}
 
 -- the parts of a list at its places
 at_here : {X : Type 0} (k j : ℕ) (x : X) (ds : List (ℕ × X)) → j ≡ k → at_place k ((j, x) ∷ ds) ≡ x ∷ at_place k ds

@@ -1,10 +1,11 @@
 -- The first seat past all lists that entries carry which lead.
-use Rattle.c104_audit.proofs.{CalledLeads.leads_named, FirstFailures.{first_both, first_same}, KeptElements.drop_all, Merging.in_each}
-use Rattle.c104_audit.specs.{Audits.{carries, is_number, led_call, led_event, lists_leads}, Firsts.{IsFirst, lower_of}, Leads.Lead}
-use Rattle.c104_audit.specs.{Tests.{HasNoStray, calls_told, lead_in, past_seat, strays}, declared.lists.Lists.Lists}
-use Rattle.{c104_net.specs.declared.leading.Lead.Lead as Leading, c104_node.specs.declared.acts.Entry.Entry, std.proofs.Common.List}
-use Rattle.std.proofs.Common.{Option, [], ap, arith, drop, false, if◌then◌else◌, is_some, length, map, refl, subst, sym, true, ℕ, ◌++◌, ◌∷◌}
-use Rattle.std.{proofs.{Common.{◌≡◌, ◌≤◌}, lemmas.Bool.Decides.nat_tests}, specs.{List.AllByRecursion, Option.option_to_list}}
+use Rattle.c104_audit.{proofs.{CalledLeads.leads_named, FirstFailures.{first_both, first_same}, Merging.in_each}, specs.Audits.carries}
+use Rattle.c104_audit.specs.{Audits.{is_number, led_call, led_event, lists_leads}, Firsts.{IsFirst, lower_of}, Leads.Lead, Tests.HasNoStray}
+use Rattle.c104_audit.specs.{Tests.{calls_told, lead_in, past_seat, strays}, declared.lists.Lists.Lists}
+use Rattle.{c104_net.specs.declared.leading.Lead.Lead as Leading, c104_node.specs.declared.acts.Entry.Entry}
+use Rattle.{c104_run.proofs.KeptElements.drop_all, std.proofs.Common.{List, Option, [], ap, arith, drop, false, if◌then◌else◌, is_some}}
+use Rattle.std.proofs.{Common.{length, map, refl, subst, sym, true, ℕ, ◌++◌, ◌∷◌, ◌≡◌, ◌≤◌}, lemmas.Bool.Decides.nat_tests}
+use Rattle.std.specs.{List.AllByRecursion, Option.option_to_list}
 
 past_first : (count : ℕ) (o : Option ℕ) → IsFirst (λ s. count ≤ s → is_number s o ≡ false) (past_seat count o)
 past_first count o = search (arith, nat_tests)

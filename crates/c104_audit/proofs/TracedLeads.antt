@@ -1,8 +1,8 @@
 -- What entries that lead tell, as events and as calls.
 use Rattle.c104_audit.proofs.{AuditRuns.{IsSure, lead_event, lead_pair, stamp_of}, EntryEvents.plan_event, KeptLeads.{revalued, sort_map}}
 use Rattle.c104_audit.{proofs.Merging.{each_in, from_filter, in_each}, specs.AuditedRuns.{AreSeated, AreUnseated, seat_calls}}
-use Rattle.c104_audit.specs.{Audits.{called_by, carries, is_leading, led_by, told_reply, unseated}, Calls.call_of, Leads.{AreRising, Lead}}
-use Rattle.c104_audit.specs.{Leads.{leads_at, leads_from, list_at, merged_leads}, declared.calls.Call.Call}
+use Rattle.c104_audit.specs.{Audits.{called_by, carries, is_leading, led_by, told_reply, unseated}, Leads.{AreRising, Lead, leads_at}}
+use Rattle.{c104_audit.specs.Leads.{leads_from, list_at, merged_leads}, c104_event.specs.{Calls.call_of, declared.calls.Call.Call}}
 use Rattle.{c104_event.specs.declared.{events.Event.Event, faults.EventFault.EventFault}, c104_net.proofs.Members.{IsIn, in_filter}}
 use Rattle.c104_net.{proofs.Members.in_right, specs.{Leading.{led_events, told_first}, Merges.by_ticket, ToldEvents.{told_by, told_event}}}
 use Rattle.{c104_net.specs.ToldEvents.told_events, c104_node.specs.{Acts.{done_by, node_act}, Nodes.Node, Traces.{Deed, seatless}}}

@@ -1,10 +1,10 @@
 -- What an audit tells of nodes that were gathered after a run by many seats: there is one run of their network, which
 -- begins with all that was done before, and in which then the seats' calls stand and nothing else.
-use Rattle.c104_audit.specs.{Audits.{is_number, lists_events}, Calls.call_of, Leads.list_at, declared.{calls.Call.Call, lists.Lists.Lists}}
-use Rattle.{c104_audit.specs.declared.lists.NodeShape.NodeShape, c104_event.specs.declared.events.Event.Event}
-use Rattle.{c104_net.specs.ToldEvents.told_events, c104_node.specs.{Nodes.{Node, is_switch}, Records.{IsRecorded, NodeRecord, NodeRoom}}}
-use Rattle.c104_node.specs.{Records.{has_link, node_start, node_state, node_trace}, Starts.start_node, Traces.seatless}
-use Rattle.{c104_node.specs.declared.{stamps.Stamp.Stamp, starts.NodeStart.NodeStart}, c104_plan.specs.{Plans.Plan, Wiring.wires}}
+use Rattle.c104_audit.specs.{Audits.{is_number, lists_events}, Leads.list_at, declared.lists.{Lists.Lists, NodeShape.NodeShape}}
+use Rattle.{c104_event.specs.{Calls.call_of, declared.{calls.Call.Call, events.Event.Event}}, c104_net.specs.ToldEvents.told_events}
+use Rattle.c104_node.specs.{Nodes.{Node, is_switch}, Records.{IsRecorded, NodeRecord, NodeRoom, has_link, node_start, node_state}}
+use Rattle.c104_node.specs.{Records.node_trace, Starts.start_node, Traces.seatless, declared.stamps.Stamp.Stamp}
+use Rattle.{c104_node.specs.declared.starts.NodeStart.NodeStart, c104_plan.specs.{Plans.Plan, Wiring.wires}}
 use Rattle.c104_run.specs.{FinishedRecords.FinishedRecord, NetParts.node_count, NodeRuns.{nodes_run, starting_nodes}, Rounds.link_numbers}
 use Rattle.{c104_run.specs.Runs.IsRunRecord, c104_switch.specs.{Actions.Reply, Starts.IsSwitchStart}, c104_token.specs.Kinds.plain_kind}
 use Rattle.c104_token.specs.declared.tokens.Token.{Token}

@@ -4,8 +4,8 @@
 --     AgreeAtEnds   the entries at the two ends of a wire agree one by one
 --     IsCalled      a seat's list is what the entries tell that carry its number
 --     IsAsBefore    a node's start and its entries without a seat are those that it had before the seats were made
-use Rattle.c104_audit.specs.{Calls.call_of, Leads.{AreRising, Lead, list_at, merged_leads}, declared.calls.Call.Call}
-use Rattle.c104_audit.specs.declared.{carried.Carried.Carried, lists.{Lists.Lists, NodeShape.NodeShape}}
+use Rattle.c104_audit.specs.{Leads.{AreRising, Lead, list_at, merged_leads}, declared.{carried.Carried.Carried, lists.Lists.Lists}}
+use Rattle.{c104_audit.specs.declared.lists.NodeShape.NodeShape, c104_event.specs.{Calls.call_of, declared.calls.Call.Call}}
 use Rattle.{c104_event.specs.declared.events.Event.Event, c104_node.specs.{ActLinks.{act_link, on_links}, declared.acts.ActOf.ActOf}}
 use Rattle.{c104_node.specs.declared.{acts.Entry.Entry, ends.End.End}, c104_plan.specs.{Ports.other_end, declared.ports.Port.Port}}
 use Rattle.{c104_plan.specs.declared.ports.Wire.Wire, c104_regs.specs.declared.registers.TheConstants.LINKS}

@@ -1,4 +1,3 @@
-pub mod Calls
 pub mod Leads
 pub mod Audits
 pub mod AuditFaults

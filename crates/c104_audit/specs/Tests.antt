@@ -1,9 +1,9 @@
 -- The tests of an audit, as loops make them.
 use Rattle.c104_audit.specs.{AuditFaults.Everywhere, Audits.{AreHalves, CarryAtEnds, HaveOtherTickets, IsCalled, called_by, is_link_wired}}
 use Rattle.c104_audit.specs.{Audits.{lists_leads, passes_at, told_reply}, Firsts.lower_of, Leads.{AreRising, Lead, list_at}}
-use Rattle.{c104_audit.specs.declared.{calls.Call.Call, lists.Lists.Lists}, c104_net.specs.declared.leading.Lead.Lead as Leading}
-use Rattle.{c104_node.specs.declared.{acts.{ActOf.ActOf, Entry.Entry}, ends.End.End}, c104_run.specs.EventActs.act_event}
-use Rattle.c104_switch.specs.declared.actions.ReplyOf.{ReplyOf}
+use Rattle.{c104_audit.specs.declared.lists.Lists.Lists, c104_event.specs.declared.calls.Call.Call}
+use Rattle.{c104_net.specs.declared.leading.Lead.Lead as Leading, c104_node.specs.declared.{acts.{ActOf.ActOf, Entry.Entry}, ends.End.End}}
+use Rattle.{c104_run.specs.EventActs.act_event, c104_switch.specs.declared.actions.ReplyOf.ReplyOf}
 use Rattle.std.specs.{List.AllByRecursion, Prelude.{Bool, List, None, Option, Some, [], drop, filter, if◌then◌else◌, length, map, nat_eq}}
 use Rattle.std.specs.Prelude.{nat_le, nat_lt, not, slice_get, true, ℕ, ◌&&◌, ◌++◌, ◌+◌, ◌<◌, ◌↔◌, ◌∷◌, ◌≡◌, ◌≤◌}
 

@@ -3,10 +3,9 @@ ghost use Rattle.std.specs.Prelude.{IfOk, IsTrue, MatchOption, None, Some, lengt
 ghost use Rattle.c104_audit.specs.{Audits.told_reply, Tests.{AreCounts, AreLeads, AreTold, IsCallOf, IsNextCall, TellsNext, lead_in}};
 ghost use Rattle.{c104_audit.specs.Tests.lead_seat, c104_run.specs.{AskedActs.ask_held, EventActs.act_event, LeadActs.{LeadsIn, act_number}}};
 
-use crate::calls::Call;
 use crate::lists::Lists;
 use crate::sameness::{is_same_act, is_same_action, is_same_reply};
-use c104_event::{Event, Port};
+use c104_event::{Call, Event, Port};
 use c104_net::Lead;
 use c104_node::{Act, Crossing, Entry};
 use c104_run::{Ask, ask_of};

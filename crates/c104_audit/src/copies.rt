@@ -2,8 +2,7 @@
 ghost use Rattle.std.specs.Prelude.{IfOk, ◌≡◌};
 ghost use Rattle.{c104_net.specs.Replays.event_or, c104_run.specs.EventActs.act_event};
 
-use crate::calls::Call;
-use c104_event::Event;
+use c104_event::{Call, Event};
 use c104_node::{Act, same_reply};
 use c104_run::{Ask, act_event, ask_of, crossing_event};
 use c104_token::NoMemory;

@@ -7,7 +7,6 @@
 mod audits;
 mod befores;
 mod called;
-mod calls;
 mod carried;
 mod copies;
 mod end_seats;
@@ -26,7 +25,7 @@ mod tickets;
 mod wired;
 
 pub use audits::audit_lists;
-pub use calls::Call;
+pub use c104_event::Call;
 pub use carried::Carried;
 pub use copies::{copy_calls, copy_event};
 pub use faults::AuditFault;

@@ -3,7 +3,7 @@
 //! Starts are kept as they are, and wired links as 32 marks: two starts are equal where the values are, and a node tells
 //! its links one by one.
 
-use crate::calls::Call;
+use c104_event::Call;
 use c104_node::{Entry, NodeStart};
 use c104_plan::Wire;
 use c104_token::Items;

@@ -7,11 +7,11 @@ ghost use Rattle.c104_audit.specs.{AuditFaults.Everywhere, Audits.{AgreeAtEnds, 
 ghost use Rattle.c104_audit.specs.Tests.{AreCounts, AreLeads, CarryAtAllEnds, HasNoStray, IsToldAt, is_other, lead_seat, past_seat};
 
 use crate::called::{seated_entry, told_counts};
-use crate::calls::Call;
 use crate::end_seats::first_odd;
 use crate::firsts::lower;
 use crate::lists::Lists;
 use crate::tickets::{is_apart, is_listed};
+use c104_event::Call;
 use c104_net::Lead;
 use c104_token::NoMemory;
 use std::alloc::Global;

@@ -1,10 +1,11 @@
 //! Whether the tickets of seats' lists rise, and stand in one list alone.
-ghost use Rattle.std.specs.Prelude.{IsTrue, None, drop, length, nat_le, ◌&&◌, ◌<◌, ◌↔◌, ◌≡◌};
 ghost use Rattle.c104_audit.specs.{Audits.HaveOtherTickets, Leads.AreRising, Tests.{AreApart, AreCalledBelow, IsApart, IsListed}};
-ghost use Rattle.c104_audit.specs.{Tests.{IsRisingAt, Skips, StandsFirst, is_later, listed_after}, declared.calls.Call.Call as TheCall};
+ghost use Rattle.c104_audit.specs.Tests.{IsRisingAt, Skips, StandsFirst, is_later, listed_after};
+ghost use Rattle.c104_event.specs.declared.calls.Call.{Call as TheCall};
+ghost use Rattle.std.specs.Prelude.{IsTrue, None, drop, length, nat_le, ◌&&◌, ◌<◌, ◌↔◌, ◌≡◌};
 
-use crate::calls::Call;
 use crate::lists::Lists;
+use c104_event::Call;
 
 /// Whether a ticket is later than another, if there is another, and not below the first.
 fn is_next_ticket(first: u64, last: Option<u64>, ticket: u64) -> bool

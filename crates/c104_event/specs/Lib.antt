@@ -1,1 +1,2 @@
 pub mod EventFaults
+pub mod Calls

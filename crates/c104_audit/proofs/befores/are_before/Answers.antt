@@ -1,5 +1,5 @@
-use Rattle.c104_audit.proofs.{EqualWalks.{equal_answer, equal_fails, equal_next, equal_over}, KeptElements.{drop_all, got, kept_here}}
-use Rattle.{c104_audit.{proofs.KeptElements.{passed_here, place_inside}, specs.Audits.unseated}, c104_node.specs.declared.acts.Entry.Entry}
+use Rattle.c104_audit.{proofs.EqualWalks.{equal_answer, equal_fails, equal_next, equal_over}, specs.Audits.unseated}
+use Rattle.{c104_node.specs.declared.acts.Entry.Entry, c104_run.proofs.KeptElements.{drop_all, got, kept_here, passed_here, place_inside}}
 use Rattle.std.proofs.Common.{Bool, IsTrue, Some, ap, drop, false, is_some, length, not, slice_get, subst, sym, true, ◌+◌, ◌↔◌, ◌∙◌, ◌≡◌}
 use Rattle.std.proofs.Common.{◌≤◌}
 use Rattle.c104_audit.proofs.befores.are_before.Goals.{else-not-has_seat, then-not-has_seat+else-not-stands_at}

@@ -1,5 +1,5 @@
-use Rattle.{c104_audit.proofs.{ApartCalls.list_lent, CalledCounts.{count_there, counts_over}, KeptElements.got}, std.proofs.Common.None}
-use Rattle.std.proofs.{Common.{Some, arith, get_or, subst, sym, ◌<◌, ◌∙◌, ◌≡◌}, lemmas.Option.slice_get-get_or}
+use Rattle.{c104_audit.proofs.{ApartCalls.list_lent, CalledCounts.{count_there, counts_over}}, c104_run.proofs.KeptElements.got}
+use Rattle.std.proofs.{Common.{None, Some, arith, get_or, subst, sym, ◌<◌, ◌∙◌, ◌≡◌}, lemmas.Option.slice_get-get_or}
 use Rattle.c104_audit.proofs.called.count_call.Goals as goal
 
 pub returns-then-seat-counts-clause-told : goal.returns-then-seat-counts-clause-told

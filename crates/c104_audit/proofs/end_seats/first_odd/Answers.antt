@@ -1,5 +1,5 @@
-use Rattle.c104_audit.{proofs.{EndSeats.{wire_next, wires_end}, KeptElements.read_there}, specs.{Firsts.IsFirst, Tests.CarryAtEndsTo}}
-use Rattle.std.proofs.Common.{length, subst, sym, ◌+◌, ◌≤◌}
+use Rattle.c104_audit.{proofs.EndSeats.{wire_next, wires_end}, specs.{Firsts.IsFirst, Tests.CarryAtEndsTo}}
+use Rattle.{c104_run.proofs.KeptElements.read_there, std.proofs.Common.{length, subst, sym, ◌+◌, ◌≤◌}}
 use Rattle.c104_audit.proofs.end_seats.first_odd.Goals as goal
 
 pub loop-number-preserved : goal.loop-number-preserved

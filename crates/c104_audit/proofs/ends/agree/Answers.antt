@@ -1,6 +1,6 @@
-use Rattle.c104_audit.proofs.{HalvesAgree.{agree_next, agree_over, no_half}, KeptElements.{got, kept_here, passed_here}}
-use Rattle.{c104_audit.specs.{Audits.{AgreeOneByOne, passes_at}, Tests.passing}, std.proofs.Common.{Some, drop, slice_get, subst, sym, ◌+◌}}
-use Rattle.std.proofs.Common.{◌↔◌, ◌∙◌, ◌≡◌}
+use Rattle.c104_audit.{proofs.HalvesAgree.{agree_next, agree_over, no_half}, specs.{Audits.{AgreeOneByOne, passes_at}, Tests.passing}}
+use Rattle.{c104_run.proofs.KeptElements.{got, kept_here, passed_here}, std.proofs.Common.{Some, drop, slice_get, subst, sym, ◌+◌, ◌↔◌}}
+use Rattle.std.proofs.Common.{◌∙◌, ◌≡◌}
 use Rattle.c104_audit.proofs.ends.agree.Goals.{else-passes, then-passes+in-Some}
 use Rattle.c104_audit.proofs.ends.agree.Goals as goal
 

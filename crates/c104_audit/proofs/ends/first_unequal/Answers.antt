@@ -1,6 +1,7 @@
-use Rattle.c104_audit.proofs.{FirstFailures.{below_all, below_next, fails_by, none_there, only_there}, KeptElements.read_there}
-use Rattle.c104_audit.specs.{Audits.{AgreeAtEnds, AgreeOneByOne, passing_at}, declared.lists.Lists.Lists}
-use Rattle.{c104_plan.specs.declared.ports.{Port.Port, Wire.Wire}, std.proofs.Common.{arith, get_or, length, subst, ◌≤◌}}
+use Rattle.c104_audit.{proofs.FirstFailures.{below_all, below_next, fails_by, none_there, only_there}, specs.Audits.AgreeAtEnds}
+use Rattle.{c104_audit.specs.{Audits.{AgreeOneByOne, passing_at}, declared.lists.Lists.Lists}, c104_plan.specs.declared.ports.Port.Port}
+use Rattle.{c104_plan.specs.declared.ports.Wire.Wire, c104_run.proofs.KeptElements.read_there, std.proofs.Common.{arith, get_or, length}}
+use Rattle.std.proofs.Common.{subst, ◌≤◌}
 use Rattle.c104_audit.proofs.ends.first_unequal.Goals as goal
 
 abbrev Agrees : Lists → Wire → Type 0

@@ -1,4 +1,4 @@
-use Rattle.{c104_audit.{proofs.KeptElements.{got, kept_found}, specs.Audits.passes_at}, std.proofs.Common.{sym, ◌∙◌}}
+use Rattle.{c104_audit.specs.Audits.passes_at, c104_run.proofs.KeptElements.{got, kept_found}, std.proofs.Common.{sym, ◌∙◌}}
 
 pub returns-then-passes : Rattle.c104_audit.proofs.ends.next_passing.Goals.returns-then-passes
 returns-then-passes c =

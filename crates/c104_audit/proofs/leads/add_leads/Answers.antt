@@ -1,5 +1,6 @@
-use Rattle.c104_audit.{proofs.{GatheredLeads.{add_on, pass_on}, KeptElements.got}, specs.Audits.is_leading}
-use Rattle.{c104_net.specs.declared.leading.Lead.Lead as Leading, std.proofs.Common.{Global, Vec, ap, sym, ◌∙◌}}
+use Rattle.c104_audit.{proofs.GatheredLeads.{add_on, pass_on}, specs.Audits.is_leading}
+use Rattle.{c104_net.specs.declared.leading.Lead.Lead as Leading, c104_run.proofs.KeptElements.got, std.proofs.Common.{Global, Vec, ap}}
+use Rattle.std.proofs.Common.{sym, ◌∙◌}
 use Rattle.c104_audit.proofs.leads.add_leads.Goals.{else-is_leading, then-is_leading+in_ok-push}
 
 pub loop-at-preserved : Rattle.c104_audit.proofs.leads.add_leads.Goals.loop-at-preserved

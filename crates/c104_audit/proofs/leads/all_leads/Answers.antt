@@ -1,5 +1,5 @@
-use Rattle.{c104_audit.{proofs.{GatheredLeads.trace_on, KeptElements.got}, specs.Audits.is_leading}, std.proofs.Common.{get_or, length}}
-use Rattle.std.proofs.Common.{subst, ◌<◌, ◌≡◌}
+use Rattle.{c104_audit.{proofs.GatheredLeads.trace_on, specs.Audits.is_leading}, c104_run.proofs.KeptElements.got, std.proofs.Common.get_or}
+use Rattle.std.proofs.Common.{length, subst, ◌<◌, ◌≡◌}
 
 pub loop-place-preserved : Rattle.c104_audit.proofs.leads.all_leads.Goals.loop-place-preserved
 loop-place-preserved c = trace_on (is_leading c.args.lists.now.switches c.args.lists.now.wires) c.args.lists.now.traces c.loop-place.place c.index-traces-place.result c.as_slice.result.now c.loop-place.leads.items c.add_leads.new.leads.items _

@@ -1,6 +1,6 @@
 use Rattle.c104_audit.proofs.{ApartCalls.list_lent, CalledSeats.none_past, FirstFailures.{below_all, below_next, fails_by}}
-use Rattle.{c104_audit.{proofs.KeptElements.got, specs.{Audits.IsOrdered, Leads.AreRising}}, c104_node.specs.declared.acts.Entry.Entry}
-use Rattle.std.proofs.Common.{List, Some, arith, get_or, length, slice_get, subst, sym, ◌<◌, ◌≡◌, ◌≤◌}
+use Rattle.{c104_audit.specs.{Audits.IsOrdered, Leads.AreRising}, c104_node.specs.declared.acts.Entry.Entry}
+use Rattle.{c104_run.proofs.KeptElements.got, std.proofs.Common.{List, Some, arith, get_or, length, slice_get, subst, sym, ◌<◌, ◌≡◌, ◌≤◌}}
 use Rattle.c104_audit.proofs.orders.first_unordered.Goals as goal
 
 abbrev Rises : List Entry → Type 0

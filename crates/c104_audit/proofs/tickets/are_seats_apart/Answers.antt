@@ -1,5 +1,5 @@
-use Rattle.c104_audit.{proofs.{ApartCalls.{apart_by, list_lent}, KeptElements.got}, specs.Leads.{AreRising, list_at}}
-use Rattle.{c104_audit.specs.declared.calls.Call.Call, std.proofs.Common.{IsTrue, get_or, subst, ◌≡◌}}
+use Rattle.c104_audit.{proofs.ApartCalls.{apart_by, list_lent}, specs.Leads.{AreRising, list_at}}
+use Rattle.{c104_event.specs.declared.calls.Call.Call, c104_run.proofs.KeptElements.got, std.proofs.Common.{IsTrue, get_or, subst, ◌≡◌}}
 use Rattle.c104_audit.proofs.tickets.are_seats_apart.Goals as goal
 
 pub are_apart-requires-clause-calls : goal.are_apart-requires-clause-calls

@@ -1,5 +1,5 @@
-use Rattle.c104_audit.proofs.{FirstFailures.{below_all, below_next, fails_by, none_there, only_there}, KeptElements.got}
-use Rattle.{c104_audit.specs.Audits.{HasShape, IsShaped}, std.proofs.Common.{arith, get_or, length, subst, ◌<◌, ◌≡◌, ◌≤◌}}
+use Rattle.c104_audit.{proofs.FirstFailures.{below_all, below_next, fails_by, none_there, only_there}, specs.Audits.{HasShape, IsShaped}}
+use Rattle.{c104_run.proofs.KeptElements.got, std.proofs.Common.{arith, get_or, length, subst, ◌<◌, ◌≡◌, ◌≤◌}}
 use Rattle.c104_audit.proofs.wired.first_misshapen.Goals as goal
 
 pub returns-then-not-is_shaped : goal.returns-then-not-is_shaped

@@ -1,5 +1,5 @@
-use Rattle.{c104_audit.{proofs.{KeptElements.got, WiredLinks.kept_wired}, specs.declared.lists.NodeShape.NodeShape}, std.proofs.Common.ap}
-use Rattle.std.proofs.Common.{get_or, subst, sym, ◌∙◌, ◌≡◌}
+use Rattle.{c104_audit.{proofs.WiredLinks.kept_wired, specs.declared.lists.NodeShape.NodeShape}, c104_run.proofs.KeptElements.got}
+use Rattle.std.proofs.Common.{ap, get_or, subst, sym, ◌∙◌, ◌≡◌}
 
 pub returns : Rattle.c104_audit.proofs.wired.is_wired.Goals.returns
 returns c =

@@ -1,5 +1,5 @@
 -- Calls: what a seat keeps of each event that was done through it.
-use Rattle.{c104_audit.specs.declared.calls.Call.Call, c104_event.specs.declared.events.Event.Event, c104_switch.specs.Actions.Reply}
+use Rattle.{c104_event.specs.declared.{calls.Call.Call, events.Event.Event}, c104_switch.specs.Actions.Reply}
 use Rattle.std.specs.Prelude.{List, map, ℕ}
 
 -- the tickets of calls, in order
