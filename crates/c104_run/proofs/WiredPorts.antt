@@ -1,9 +1,9 @@
 -- The wired ports of a plan: they have wires, and the sets of links have those of the switches.
-use Rattle.{c104_crossbar.specs.Groups.has_bit, c104_plan.{proofs.Wires.wiring, specs.{Plans.{IsPlan, Plan}, Wiring.peer}}}
-use Rattle.{c104_plan.specs.declared.ports.Port.Port, c104_run.proofs.{IdleEvents.wired_inside, NoFaults.{past_link, past_node}}}
-use Rattle.{c104_run.specs.{LinkedSets.AreLinked, Network.wired_fault, Rounds.is_wired}, std.proofs.Common.{List, None, Option, Some, []}}
-use Rattle.std.proofs.{Common.{arith, is_some, refl, true, ℕ, ◌++◌, ◌+◌, ◌<◌, ◌∷◌, ◌≡◌}, lemmas.{Bool.cases_eq, List.get_or-append_right}}
-use Rattle.std.{proofs.lemmas.List.{get_or_append_left, length-append}, specs.Option.option_map}
+use Rattle.{c104_crossbar.specs.Groups.has_bit, c104_event.specs.declared.faults.EventFault.EventFault, c104_plan.proofs.Wires.wiring}
+use Rattle.{c104_plan.specs.{Plans.{IsPlan, Plan}, Wiring.peer, declared.ports.Port.Port}, c104_run.proofs.IdleEvents.wired_inside}
+use Rattle.c104_run.{proofs.NoFaults.{past_link, past_node}, specs.{LinkedSets.AreLinked, Network.wired_fault, Rounds.is_wired}}
+use Rattle.std.proofs.Common.{Bool, List, None, Option, Some, [], arith, false, is_some, refl, sym, true, ℕ, ◌++◌, ◌+◌, ◌<◌, ◌∙◌, ◌∷◌, ◌≡◌}
+use Rattle.std.{proofs.lemmas.{Bool.cases_eq, List.{get_or-append_right, get_or_append_left, length-append}}, specs.Option.option_map}
 
 module _ (plan : Plan) (is_plan : IsPlan plan) where
   pub has_wire : (p : Port) → is_wired plan p ≡ true → wired_fault plan p ≡ None
@@ -12,6 +12,14 @@ module _ (plan : Plan) (is_plan : IsPlan plan) where
       by_peer : (other : Option Port) → peer plan p ≡ other → is_some other ≡ true → wired_fault plan p ≡ None
       by_peer None is wired = absurd (cc wired)
       by_peer (Some q) is wired = wired_inside plan p q ((wiring plan is_plan).inside p q is) is
+
+  -- a port at which nothing can happen has none
+  pub no_wire : (p : Port) (f : EventFault) → wired_fault plan p ≡ Some f → is_wired plan p ≡ false
+  no_wire p f fault = by_test (is_wired plan p) refl
+    where
+      by_test : (b : Bool) → is_wired plan p ≡ b → is_wired plan p ≡ false
+      by_test true is = absurd (let no : None ≡ Some f = sym (has_wire p is) ∙ fault in cc no)
+      by_test false is = is
 
 -- and what can happen at a port is at one that has a wire
 pub wire_there : (plan : Plan) (p : Port) → wired_fault plan p ≡ None → is_wired plan p ≡ true

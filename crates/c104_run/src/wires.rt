@@ -124,6 +124,16 @@ impl Wires {
         self.linked[switch]
     }
 
+    /// Whether a port has a wire. One that the plan doesn't have has none.
+    #[tactic(auto, using(crate::proofs::WiredPorts::wire_there, crate::proofs::WiredPorts::no_wire))]
+    pub fn is_wired(&self, port: Port) -> bool
+        ensures { result ≡ is_wired self.now port }
+    {
+        // The proof reads here what every plan keeps.
+        let _plan = self.plan();
+        self.ends(port).is_ok()
+    }
+
     /// Whether a terminal has a wire.
     #[inline(always)]
     pub fn is_linked(&self, terminal: usize) -> bool

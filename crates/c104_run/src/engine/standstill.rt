@@ -79,7 +79,7 @@ impl<T: TokenKind, P: Place<T>> Engine<T, P> {
         ensures { result ≡ have_reasons (engine_network P.shown self.now)
             (wired_events self.now.plan part port) }
     {
-        if self.plan().peer(port).is_none() {
+        if !self.wires.is_wired(port) {
             return true;
         }
         match part {
