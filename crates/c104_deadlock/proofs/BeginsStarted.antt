@@ -1,7 +1,7 @@
 -- Nodes that start as their types keep, with all switches started, are started; so a finished run that stands still is
 -- quiet.
-use Rattle.c104_check.specs.{ChannelDependencies.IsAcyclic, Routes.{IsAccepted, routes_of}}
-use Rattle.c104_deadlock.{proofs.StandingRuns.{stands_blocked, stands_quiet}, specs.{BlockedInputs.IsBlocked, DeadlockFreedom.IsAcyclicRun}}
+use Rattle.{c104_check.specs.{ChannelDependencies.IsAcyclic, Routes.{IsAccepted, routes_of}}, c104_deadlock.proofs.AcyclicRuns.IsAcyclicRun}
+use Rattle.c104_deadlock.{proofs.StandingRuns.{stands_blocked, stands_quiet}, specs.BlockedInputs.IsBlocked}
 use Rattle.{c104_link.{proofs.MadeSteps.All-place, specs.declared.TheConstants.TOKENS_OF_A_GRANT}, c104_net.proofs.RunOrigins.IsKeptRun}
 use Rattle.{c104_net.{proofs.SureOrigins.mapped, specs.Unchanged.{AreStartsOf, IsUnchanged}}, c104_node.specs.Starts.IsStartedStart}
 use Rattle.{c104_node.specs.{Starts.start_node, declared.starts.NodeStart.NodeStart}, c104_plan.specs.{PlanImage.Image, Plans.IsPlan}}

@@ -1,17 +1,17 @@
 -- A network that is accepted, that nobody changed and whose channels don't depend on one another in a cycle has no
 -- deadlock: from what the type of a network with its record keeps.
 use Rattle.c104_check.specs.{ChannelDependencies.IsRanking, Routes.{Routes, routes_of}, declared.ports.SwitchPort.SwitchPort}
-use Rattle.c104_deadlock.proofs.{BeginsStarted.starts_are_started, FullWork.{plain_work, random_within}, RecordedRounds.applied_plain}
-use Rattle.c104_deadlock.proofs.{RecordedRounds.{done_after, done_of, plain_run, starts_stay}, RoundsAlike.{AreRounds, fair_rounds}}
-use Rattle.c104_deadlock.proofs.{RoundsAlike.handed_rounds, RoundsEnd.{rounds_deliver, run_plain, work_map}, StandingRuns.run_steady}
-use Rattle.c104_deadlock.proofs.{StandingRuns.{stands_blocked, stands_quiet, started_traced}, StartedRuns.run_started}
+use Rattle.c104_deadlock.proofs.{AcyclicRuns.IsAcyclicRun, BeginsStarted.starts_are_started, FullWork.{plain_work, random_within}}
+use Rattle.c104_deadlock.proofs.{RecordedRounds.{applied_plain, done_after, done_of, plain_run, starts_stay}, RoundsAlike.AreRounds}
+use Rattle.c104_deadlock.proofs.{RoundsAlike.{fair_rounds, handed_rounds}, RoundsEnd.{rounds_deliver, run_plain, work_map}}
+use Rattle.c104_deadlock.proofs.{StandingRuns.{run_steady, stands_blocked, stands_quiet, started_traced}, StartedRuns.run_started}
 use Rattle.c104_deadlock.proofs.{UndoneRounds.undone_stands, WorkBounds.bound_by_tokens, WorkEvents.event_less, WorkRounds.falling}
 use Rattle.c104_deadlock.specs.{BlockedInputs.BlocksAtCycles, DeadlockFreedom.{FairDeliver, HasFullInbox, HasFullTrace, HasNoDeadlock}}
-use Rattle.c104_deadlock.specs.DeadlockFreedom.{IsAcyclicNet, IsAcyclicRun, IsAllDelivered, NothingDone, RoundsDeliver}
-use Rattle.c104_deadlock.specs.{HeaderWork.{random_ahead, random_bound, random_work}, Work.highest_rank}
-use Rattle.{c104_event.specs.declared.{events.Event.Event, faults.EventFault.EventFault}, c104_net.proofs.PacketInvariant.IsLabelled}
-use Rattle.c104_net.proofs.{Promises.{each, starts}, RunOrigins.still_steady, RunSteps.header_positive, SentBytes.AreBytesSent}
-use Rattle.c104_net.{proofs.{StartMaps.starts_are, TracedRuns.{token_of, traced_from}}, specs.{Deliveries.Promise, RoundEvents.IsOfRound}}
+use Rattle.c104_deadlock.specs.{DeadlockFreedom.{IsAcyclicNet, IsAllDelivered, NothingDone, RoundsDeliver}, HeaderWork.random_ahead}
+use Rattle.{c104_deadlock.specs.{HeaderWork.{random_bound, random_work}, Work.highest_rank}, c104_event.specs.declared.events.Event.Event}
+use Rattle.{c104_event.specs.declared.faults.EventFault.EventFault, c104_net.proofs.{PacketInvariant.IsLabelled, Promises.{each, starts}}}
+use Rattle.c104_net.proofs.{RunOrigins.still_steady, RunSteps.header_positive, SentBytes.AreBytesSent, StartMaps.starts_are}
+use Rattle.c104_net.{proofs.TracedRuns.{token_of, traced_from}, specs.{Deliveries.Promise, RoundEvents.IsOfRound}}
 use Rattle.c104_node.specs.{MappedNodes.map_node, Quiet.IsQuietNode, Starts.start_node, Traced.traced_kind, declared.traced.Traced.Traced}
 use Rattle.{c104_plan.specs.{PlanImage.Image, Plans.{IsPlan, Plan}}, c104_run.proofs.{FairRecords.fair_plain, NodeMaps.quiet_map}}
 use Rattle.c104_run.{proofs.{RecordSteps.done_made, RoundRuns.Applied, StepMaps.apply_map}, specs.EventRuns.{EventsEnd, Outcome}}

@@ -1,3 +1,5 @@
+pub mod StillEvents
+pub mod AcyclicRuns
 pub mod StillWires
 pub mod BlockedInputs
 pub mod StillPorts

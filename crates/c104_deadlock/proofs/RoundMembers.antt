@@ -1,14 +1,14 @@
 -- Which events a round has, and what holds of them all.
-use Rattle.{c104_event.specs.declared.events.Event.Event, c104_net.proofs.Members.{IsIn, contained, in_filter, in_flat, in_left, in_map}}
-use Rattle.{c104_net.proofs.Members.{in_range, in_right}, c104_plan.proofs.RangeLists.{each_append, each_flat, each_range}}
-use Rattle.{c104_plan.specs.{Plans.{IsPlan, Plan}, Wiring.peer, declared.ports.Port.Port}, c104_run.proofs.BalanceWires.switch_inside}
-use Rattle.c104_run.proofs.{BalanceWires.terminal_inside, PartRuns.{single, singles}, RoundLists.links_passed}
-use Rattle.c104_run.specs.{HandedWords.{all_worded, round_with, word_at, worded}, Network.Network, Rounds.{all_claims, all_drains}}
-use Rattle.c104_run.specs.Rounds.{claims_of, is_wired, link_numbers, round, switch_claims, turn_at, wired_links, wired_ports}
-use Rattle.c104_run.specs.{Rounds.wired_terminals, Standstill.{IsStill, IsUnready, StandsStill}, declared.words.Words.Words}
-use Rattle.{c104_token.specs.Kinds.Kind, std.proofs.Common.{List, Some, [], ap, arith, filter, inl, is_some, length, map, refl, subst, sym}}
-use Rattle.std.proofs.{Common.{ℕ, ◌++◌, ◌<◌, ◌∷◌, ◌≡◌}, lemmas.{Grind.flat_map-append, List.Elements.All-contains}}
-use Rattle.std.specs.List.{AllByRecursion, flat_map, range_with_len}
+use Rattle.{c104_deadlock.proofs.StillEvents.IsStill, c104_event.specs.declared.events.Event.Event, c104_net.proofs.Members.IsIn}
+use Rattle.c104_net.proofs.Members.{contained, in_filter, in_flat, in_left, in_map, in_range, in_right}
+use Rattle.c104_plan.{proofs.RangeLists.{each_append, each_flat, each_range}, specs.{Plans.{IsPlan, Plan}, Wiring.peer}}
+use Rattle.{c104_plan.specs.declared.ports.Port.Port, c104_run.proofs.{BalanceWires.{switch_inside, terminal_inside}, PartRuns.single}}
+use Rattle.c104_run.{proofs.{PartRuns.singles, RoundLists.links_passed}, specs.HandedWords.{all_worded, round_with, word_at, worded}}
+use Rattle.c104_run.specs.{Network.Network, Rounds.{all_claims, all_drains, claims_of, is_wired, link_numbers, round, switch_claims}}
+use Rattle.c104_run.specs.{Rounds.{turn_at, wired_links, wired_ports, wired_terminals}, Standstill.{IsUnready, StandsStill}}
+use Rattle.{c104_run.specs.declared.words.Words.Words, c104_token.specs.Kinds.Kind, std.proofs.Common.{List, Some, [], ap, arith, filter}}
+use Rattle.std.proofs.{Common.{inl, is_some, length, map, refl, subst, sym, ℕ, ◌++◌, ◌<◌, ◌∷◌, ◌≡◌}, lemmas.Grind.flat_map-append}
+use Rattle.std.{proofs.lemmas.List.Elements.All-contains, specs.List.{AllByRecursion, flat_map, range_with_len}}
 
 pub in_links : (l : ℕ) → l < 32 → IsIn l link_numbers
 in_links l below = subst (IsIn l) (links_passed 32 refl) (in_range 0 32 l (omega arith) (omega (arith, below)))

@@ -1,8 +1,8 @@
 -- What blocks packets in an accepted network that stands still: from its start, over plain tokens.
 use Rattle.c104_check.specs.{Routes.{IsAccepted, Routes, routes_of}, declared.ports.SwitchPort.SwitchPort}
-use Rattle.c104_deadlock.proofs.{BlockedInputs.{blocked_map, none_leads, phase_map, tokens_map}, RoundMembers.still_of}
-use Rattle.c104_deadlock.{proofs.{StartedRuns.run_started, StillPorts.standing}, specs.BlockedInputs.{HoldsTokens, IsBlocked, IsBlockedBy}}
-use Rattle.c104_deadlock.specs.{BlockedInputs.{phase_at, tokens_at}, DeadlockFreedom.IsAcyclicRun}
+use Rattle.c104_deadlock.proofs.{AcyclicRuns.IsAcyclicRun, BlockedInputs.{blocked_map, none_leads, phase_map, tokens_map}}
+use Rattle.c104_deadlock.proofs.{RoundMembers.still_of, StartedRuns.run_started, StillEvents.IsStill, StillPorts.standing}
+use Rattle.c104_deadlock.specs.BlockedInputs.{HoldsTokens, IsBlocked, IsBlockedBy, phase_at, tokens_at}
 use Rattle.{c104_event.specs.declared.{events.Event.Event, faults.EventFault.EventFault}, c104_net.proofs.RunOrigins.still_steady}
 use Rattle.c104_net.{proofs.{SentBytes.AreBytesSent, StartMaps.starts_are, TracedRuns.{token_of, traced_from}}, specs.Unchanged.AreStartsOf}
 use Rattle.{c104_net.specs.Unchanged.IsUnchanged, c104_node.specs.{MappedNodes.{map_input, map_node, map_outgoing}, Nodes.Node}}
@@ -10,7 +10,7 @@ use Rattle.c104_node.specs.{Quiet.IsQuietNode, Starts.start_node, Traced.traced_
 use Rattle.{c104_node.specs.declared.{starts.NodeStart.NodeStart, traced.Traced.Traced}, c104_plan.specs.{PlanImage.Image, Plans.IsPlan}}
 use Rattle.{c104_plan.specs.Plans.Plan, c104_run.proofs.{BalanceEvents.applied_steady, NodeMaps.quiet_map, RoundJoins.apply_plan}}
 use Rattle.c104_run.{proofs.StepMaps.apply_map, specs.{Balance.IsSteady, Network.{Network, network_apply, network_of}, QuietNets.IsQuiet}}
-use Rattle.c104_run.specs.{Rounds.round, Runs.IsDoneRun, Standstill.{IsStarted, IsStartedNode, IsStill, IsUnready, StandsStill}}
+use Rattle.c104_run.specs.{Rounds.round, Runs.IsDoneRun, Standstill.{IsStarted, IsStartedNode, IsUnready, StandsStill}}
 use Rattle.{c104_run.specs.TracedRuns.map_network, c104_switch.specs.{Actions.Reply, Phases.with_header}, c104_token.specs.Kinds.Kind}
 use Rattle.{c104_token.specs.{Kinds.plain_kind, declared.tokens.Token.Token}, std.proofs.Common.{All, List, Ok, Result, [], ap, get_or}}
 use Rattle.std.proofs.Common.{inl, length, map, option_map, refl, slice_get, subst, sym, ℕ, ◌<◌, ◌∙◌, ◌∷◌, ◌≡◌}

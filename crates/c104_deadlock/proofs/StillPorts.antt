@@ -2,8 +2,8 @@
 use Rattle.c104_check.{proofs.RouteLemmas.own_link, specs.ChannelDependencies.{Depends, IsBeginningBy, IsRanking, MayComeBy}}
 use Rattle.c104_check.specs.{FirstCycles.LeadsOver, Parts.Begins, Routes.{IsAccepted, IsEntryOf, Reaches, Routes, routes_of, settings_at}}
 use Rattle.c104_check.specs.{Routes.to_port, Walks.port_of, declared.ports.SwitchPort.SwitchPort}
-use Rattle.c104_deadlock.proofs.{BlockedInputs.{lead_on, none_leads, phase_seen, seen_of, tokens_of}, StillWires.{arrived, claimed}}
-use Rattle.c104_deadlock.{proofs.StillWires.{drained, stuck}, specs.BlockedInputs.{HoldsTokens, IsBlocked, IsBlockedBy}}
+use Rattle.c104_deadlock.proofs.{BlockedInputs.{lead_on, none_leads, phase_seen, seen_of, tokens_of}, StillEvents.IsStill}
+use Rattle.c104_deadlock.{proofs.StillWires.{arrived, claimed, drained, stuck}, specs.BlockedInputs.{HoldsTokens, IsBlocked, IsBlockedBy}}
 use Rattle.{c104_event.specs.declared.events.Event.Event, c104_net.proofs.{Channels.IsChannel, LinkEvents.world_of, NodeViews.ins}}
 use Rattle.c104_net.proofs.{NodeViews.{node_phase, outs, phases, terminal_fresh}, PacketInvariant.{Ghost, IsChosen, IsLabelled, IsPiece}}
 use Rattle.c104_net.proofs.{PacketInvariant.{IsWired, Suits, World, beside, group_at}, PlanWires.wired, Promises.{IsSettled, IsStart, each}}
@@ -12,7 +12,7 @@ use Rattle.{c104_net.specs.Unchanged.IsUnchanged, c104_node.specs.{Nodes.{Node, 
 use Rattle.{c104_node.specs.{Traces.part, declared.{node.NodeOf.NodeOf, traced.Traced.Traced}}, c104_plan.specs.PlanImage.Image}
 use Rattle.{c104_plan.specs.{Plans.{IsPlan, Plan}, Wiring.peer, declared.ports.Port.Port}, c104_regs.specs.Groups.continues_at}
 use Rattle.c104_run.{proofs.{BalancePlaces.switches_first, BalanceWires.peer_back}, specs.{Balance.IsSteady, Network.{Network, network_of}}}
-use Rattle.c104_run.specs.{Network.terminal_place, QuietNets.IsQuiet, Runs.IsDoneRun, Standstill.{IsStarted, IsStill}}
+use Rattle.c104_run.specs.{Network.terminal_place, QuietNets.IsQuiet, Runs.IsDoneRun, Standstill.IsStarted}
 use Rattle.c104_switch.specs.{Actions.Reply, Group.is_in_group, Switch.{Input, Switch}, declared.phase.Phase.{Phase, TheVariants.Fresh}}
 use Rattle.{c104_switch.specs.declared.phase.Phase.TheVariants.{Head, Sinking, Stream, Want}, std.proofs.Common.{Bool, List, None, Option}}
 use Rattle.std.proofs.Common.{Some, [], ap, arith, false, get_or, inl, inr, length, nat_lt, refl, slice_get, subst, suc, sym, true, zero, ℕ}

@@ -1,12 +1,13 @@
 -- What each event of a round says that isn't ready, in a network whose switches are started.
-use Rattle.{c104_event.specs.declared.events.Event.Event, c104_link.specs.Buffers.{Incoming, Outgoing}, c104_net.proofs.Members.element_at}
-use Rattle.{c104_net.proofs.NodeViews.{ins, outs, phases}, c104_node.specs.{Nodes.Node, Terminals.Terminal, declared.node.NodeOf.NodeOf}}
-use Rattle.{c104_plan.specs.{Plans.{IsPlan, Plan}, Wiring.peer, declared.ports.Port.Port}, c104_run.proofs.BalanceWires.peer_back}
-use Rattle.c104_run.proofs.{BalanceWires.{switch_inside, terminal_inside}, EventReasons.event_reason_holds, UnreadyEvents.StandsAt}
-use Rattle.c104_run.{proofs.UnreadyEvents.{switch_there, terminal_there, unready_answered}, specs.Balance.{IsSteady, credit_at, granted_at}}
+use Rattle.{c104_deadlock.proofs.StillEvents.IsStill, c104_event.specs.declared.events.Event.Event, c104_link.specs.Buffers.Incoming}
+use Rattle.{c104_link.specs.Buffers.Outgoing, c104_net.proofs.{Members.element_at, NodeViews.{ins, outs, phases}}}
+use Rattle.{c104_node.specs.{Nodes.Node, Terminals.Terminal, declared.node.NodeOf.NodeOf}, c104_plan.specs.Plans.{IsPlan, Plan}}
+use Rattle.{c104_plan.specs.{Wiring.peer, declared.ports.Port.Port}, c104_run.proofs.BalanceWires.{peer_back, switch_inside}}
+use Rattle.c104_run.proofs.{BalanceWires.terminal_inside, EventReasons.event_reason_holds, UnreadyEvents.{StandsAt, switch_there}}
+use Rattle.c104_run.{proofs.UnreadyEvents.{terminal_there, unready_answered}, specs.Balance.{IsSteady, credit_at, granted_at}}
 use Rattle.c104_run.specs.{Ends.end_of, Network.{network_of, terminal_place}, ReasonMeanings.{IsCreditInReason, IsCreditOutReason}}
 use Rattle.c104_run.specs.{ReasonMeanings.{IsEnterReason, IsEventReason, IsLeaveReason, IsSaidAt}, Reasons.{is_unready, network_why}}
-use Rattle.c104_run.specs.{Standstill.{IsStarted, IsStartedSwitch, IsStill, IsUnready}, declared.reason.Reason.Reason}
+use Rattle.c104_run.specs.{Standstill.{IsStarted, IsStartedSwitch, IsUnready}, declared.reason.Reason.Reason}
 use Rattle.c104_switch.specs.{Group.is_in_group, ReasonMeanings.{IsGrantReason, IsReason}, Switch.{Input, Switch}}
 use Rattle.c104_switch.specs.declared.{actions.ActionOf.ActionOf, phase.Phase.TheVariants.{Stream, Want}}
 use Rattle.{c104_switch.specs.declared.unready.Unready.{TheVariants.NoRoom, Unready}, c104_token.specs.Kinds.Kind, std.proofs.Common.IfSome}

@@ -9,13 +9,12 @@ use Rattle.{c104_check.specs.declared.ports.SwitchPort.SwitchPort, c104_deadlock
 use Rattle.c104_deadlock.specs.{HeaderWork.{random_bound, random_work, work, work_bound}, Work.{most_weight, room_held, tokens_held}}
 use Rattle.{c104_event.specs.declared.{events.Event.Event, faults.EventFault.EventFault}, c104_net.specs.Deliveries.Promise}
 use Rattle.{c104_net.specs.{RoundEvents.IsOfRound, Unchanged.{AreStartsOf, IsUnchanged}}, c104_node.specs.MappedNodes.map_node}
-use Rattle.c104_node.specs.{Nodes.Node, Starts.{IsStartedStart, start_node}, Traced.traced_kind, Traces.{is_trace_full, seatless}}
-use Rattle.c104_node.specs.declared.{acts.Entry.Entry, stamps.Stamp.Stamp, starts.NodeStart.NodeStart, traced.Traced.Traced}
-use Rattle.{c104_plan.specs.{PlanImage.{Fits, Image}, Plans.Plan}, c104_run.specs.{Balance.IsSteady, FairRounds.turns_of}}
-use Rattle.c104_run.specs.{Finished.network_finish, FinishedRecords.FinishedRecord, HandedWords.round_with, LinkOrders.IsOrder}
-use Rattle.c104_run.specs.{NetRecords.{NetRecord, is_done}, Network.network_of, QuietNets.IsQuiet, RecordedRuns.RecordsFairly}
-use Rattle.c104_run.specs.{RecordedRuns.{RecordsHanded, record_apply}, Runs.{IsDoneRun, IsRunRecord}, Standstill.{IsDeadlocked, IsStarted}}
-use Rattle.c104_run.specs.{Standstill.StandsStill, declared.{turns.SwitchTurns.SwitchTurns, words.Words.Words}}
+use Rattle.c104_node.specs.{Nodes.Node, Starts.{IsStartedStart, start_node}, Traced.traced_kind, Traces.is_trace_full}
+use Rattle.{c104_node.specs.declared.{acts.Entry.Entry, stamps.Stamp.Stamp, traced.Traced.Traced}, c104_plan.specs.PlanImage.{Fits, Image}}
+use Rattle.c104_run.specs.{FairRounds.turns_of, Finished.network_finish, FinishedRecords.FinishedRecord, HandedWords.round_with}
+use Rattle.c104_run.specs.{LinkOrders.IsOrder, NetRecords.{NetRecord, is_done}, Network.network_of, QuietNets.IsQuiet}
+use Rattle.c104_run.specs.{RecordedRuns.{RecordsFairly, RecordsHanded, record_apply}, Runs.{IsDoneRun, IsRunRecord}}
+use Rattle.c104_run.specs.{Standstill.{IsDeadlocked, StandsStill}, declared.{turns.SwitchTurns.SwitchTurns, words.Words.Words}}
 use Rattle.{c104_switch.specs.Actions.Reply, c104_token.specs.{Kinds.plain_kind, declared.tokens.Token.Token}}
 use Rattle.std.specs.Prelude.{All, Err, List, Ok, Some, false, map, slice_get, true, ℕ, ◌*◌, ◌+◌, ◌<◌, ◌≡◌, ◌≤◌, ◌⊎◌}
 
@@ -122,16 +121,3 @@ pub record EndsWithoutDeadlock (run : FinishedRecord) : Type 0 where
       All IsStartedStart run.starts → IsUnchanged (routes_of run.finished.plan image) events →
       StandsStill plain_kind (network_of run.finished.plan nodes) →
       IsBlocked (routes_of run.finished.plan image) (network_of run.finished.plan nodes)
-
--- a run from a start, in a network whose labels the check accepts, and whose channels don't depend on one another in a
--- cycle: at the start each switch is started and nothing stands anywhere, nobody changed the network since, and what
--- terminals sent where random headers are put before packets doesn't begin with a random header itself
-pub record IsAcyclicRun (plan : Plan) (image : Image) (starts : List NodeStart) (events : List (Event × Reply))
-    (nodes : List (Node Token)) : Type 0 where
-  pub accepted : IsAccepted (routes_of plan image)
-  pub acyclic : IsAcyclic (routes_of plan image)
-  pub set : AreStartsOf plan image starts
-  pub started : IsStarted {A = Token} (network_of plan (map start_node starts))
-  pub steady : IsSteady {A = Token} (network_of plan (map start_node starts))
-  pub run : IsDoneRun plain_kind (network_of plan (map start_node starts)) events (network_of plan nodes)
-  pub unchanged : IsUnchanged (routes_of plan image) events

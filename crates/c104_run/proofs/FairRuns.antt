@@ -1,10 +1,10 @@
 -- Fair rounds in turn: each goes on by the turns that those before it left, and one that does nothing ends them.
 use Rattle.{c104_event.specs.declared.{events.Event.Event, faults.EventFault.EventFault}, c104_plan.specs.Plans.Plan}
 use Rattle.c104_run.proofs.{HandedWords.worded_again, IdleRounds.{CountsEvents, Passes, none_done, passes_run, passes_worded}}
-use Rattle.c104_run.{proofs.{RoundRuns.{Applied, run_append, run_from}, WordedRounds.{flat_kept, joined}}, specs.EventRuns.EventsEnd}
-use Rattle.c104_run.specs.{EventRuns.{Outcome, run_events, unless_fault}, FairRounds.{InTurn, SwitchTurns, fair_claims, fair_events}}
-use Rattle.c104_run.specs.{FairRounds.{fair_round, fairly, in_turn, output_turns, switch_turns, turned_if, turns_of}, HandedWords.Words}
-use Rattle.c104_run.specs.{HandedWords.{all_worded, worded, words_after, words_behind}, NetRecords.{is_done, largest_ticket}}
+use Rattle.c104_run.proofs.{LaterWords.words_after, RoundRuns.{Applied, run_append, run_from}, WordedRounds.{flat_kept, joined}}
+use Rattle.c104_run.specs.{EventRuns.{EventsEnd, Outcome, run_events, unless_fault}, FairRounds.{InTurn, SwitchTurns, fair_claims}}
+use Rattle.c104_run.specs.FairRounds.{fair_events, fair_round, fairly, in_turn, output_turns, switch_turns, turned_if, turns_of}
+use Rattle.c104_run.specs.{HandedWords.{Words, all_worded, worded, words_behind}, NetRecords.{is_done, largest_ticket}}
 use Rattle.{c104_switch.specs.declared.actions.ReplyOf.ReplyOf, std.proofs.Common.{Err, List, Ok, [], ap, append-nil, append_assoc, arith}}
 use Rattle.std.proofs.Common.{false, inl, inr, length, map, refl, subst, suc, sym, zero, ℕ, ◌++◌, ◌+◌, ◌-◌, ◌<◌, ◌∙◌, ◌∷◌, ◌≡◌, ◌≤◌}
 use Rattle.std.specs.List.{range_with_len}

@@ -1,13 +1,13 @@
 -- A run of events of which none was done: each is answered with NotReady where the run began, and so is each event of a round
 -- with any other words. That none was done is told by the count of events, which each that is done makes larger.
 use Rattle.{c104_event.specs.declared.{events.Event.Event, faults.EventFault.EventFault}, c104_plan.specs.Plans.Plan}
-use Rattle.c104_run.proofs.{HandedWords.{event_word, worded_again}, RoundRuns.{Applied, ends_keep, run_from, undone_left}}
-use Rattle.c104_run.{proofs.{StageSteps.unready_stage, UndoneEvents.undone_deeds, WordedRounds.words_from}, specs.EventRuns.EventsEnd}
-use Rattle.c104_run.specs.{EventRuns.{Outcome, run_events, unless_fault}, HandedWords.{Words, all_worded, round_with, rounds_with, worded}}
-use Rattle.c104_run.specs.{HandedWords.{words_after, words_behind}, Meters.{Metered, Sees, metered_apply}, NetRecords.{NetRecord, is_done}}
-use Rattle.c104_run.specs.{NetRecords.{largest_ticket, ticket_after}, Network.network_apply, RecordedRuns.{record_apply, record_at}}
-use Rattle.{c104_run.specs.{RecordedRuns.record_stage, Rounds.round, Stages.{Stage, stage_apply}}, c104_switch.specs.Actions.Reply}
-use Rattle.{c104_switch.specs.{Actions.is_ready, declared.actions.ReplyOf.ReplyOf}, c104_token.specs.Kinds.{Kind, plain_kind}}
+use Rattle.c104_run.proofs.{HandedWords.{event_word, worded_again}, LaterWords.words_after, RoundRuns.{Applied, ends_keep, run_from}}
+use Rattle.c104_run.proofs.{RoundRuns.undone_left, StageSteps.unready_stage, UndoneEvents.undone_deeds, WordedRounds.words_from}
+use Rattle.c104_run.specs.{EventRuns.{EventsEnd, Outcome, run_events, unless_fault}, HandedWords.{Words, all_worded, round_with}}
+use Rattle.c104_run.specs.{HandedWords.{rounds_with, worded, words_behind}, Meters.{Metered, Sees, metered_apply}, NetRecords.NetRecord}
+use Rattle.c104_run.specs.{NetRecords.{is_done, largest_ticket, ticket_after}, Network.network_apply, RecordedRuns.record_apply}
+use Rattle.c104_run.specs.{RecordedRuns.{record_at, record_stage}, Rounds.round, Stages.{Stage, stage_apply}}
+use Rattle.{c104_switch.specs.{Actions.{Reply, is_ready}, declared.actions.ReplyOf.ReplyOf}, c104_token.specs.Kinds.{Kind, plain_kind}}
 use Rattle.std.proofs.Common.{Bool, Err, List, Ok, Result, [], ap, arith, false, inl, inr, length, refl, subst, suc, sym, true, zero, ℕ}
 use Rattle.std.proofs.Common.{◌++◌, ◌+◌, ◌-◌, ◌<◌, ◌∙◌, ◌∷◌, ◌≡◌, ◌≤◌}
 

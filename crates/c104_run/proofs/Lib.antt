@@ -1,3 +1,5 @@
+pub mod LaterWords
+pub mod KeptElements
 pub mod ActSteps
 pub mod ActAnswers
 pub mod ActAttempts

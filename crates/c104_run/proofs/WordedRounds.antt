@@ -1,13 +1,13 @@
 -- A round whose inputs are handed words, as it is walked; and rounds of them.
 use Rattle.c104_event.specs.declared.{events.Event.Event, faults.EventFault.EventFault}
 use Rattle.{c104_node.specs.declared.port_part.PortPart.TheVariants.{Credit, Cross, Turn}, c104_plan.specs.Plans.Plan}
-use Rattle.{c104_plan.specs.declared.ports.Port.Port, c104_run.proofs.PortWalks.{ports_walked, round_walked, turns_walked}}
-use Rattle.c104_run.{proofs.RoundRuns.{Applied, run_append, run_from}, specs.EventRuns.{EventsEnd, Outcome, run_events, unless_fault}}
-use Rattle.c104_run.specs.HandedWords.{Words, all_worded, round_with, rounds_with, walked_with, worded, words_after, words_behind}
-use Rattle.c104_run.specs.RoundParts.{claim_walk, drain_walk, input_walk, output_walk, port_events, switch_walk, terminal_walk}
-use Rattle.{c104_run.specs.Rounds.{link_numbers, round, rounds, turn_at, wired_ports}, std.proofs.Common.{Err, List, Ok, [], ap}}
-use Rattle.std.proofs.Common.{append-nil, append_assoc, arith, inl, inr, length, refl, suc, sym, zero, ℕ, ◌++◌, ◌+◌, ◌-◌, ◌<◌, ◌∙◌, ◌∷◌}
-use Rattle.std.{proofs.{Common.◌≡◌, lemmas.List.map-append}, specs.List.{flat_map, range_with_len}}
+use Rattle.{c104_plan.specs.declared.ports.Port.Port, c104_run.proofs.{LaterWords.words_after, PortWalks.{ports_walked, round_walked}}}
+use Rattle.c104_run.{proofs.{PortWalks.turns_walked, RoundRuns.{Applied, run_append, run_from}}, specs.EventRuns.{EventsEnd, Outcome}}
+use Rattle.c104_run.specs.{EventRuns.{run_events, unless_fault}, HandedWords.{Words, all_worded, round_with, rounds_with, walked_with}}
+use Rattle.c104_run.specs.{HandedWords.{worded, words_behind}, RoundParts.{claim_walk, drain_walk, input_walk, output_walk, port_events}}
+use Rattle.c104_run.specs.{RoundParts.{switch_walk, terminal_walk}, Rounds.{link_numbers, round, rounds, turn_at, wired_ports}}
+use Rattle.std.proofs.Common.{Err, List, Ok, [], ap, append-nil, append_assoc, arith, inl, inr, length, refl, suc, sym, zero, ℕ, ◌++◌, ◌+◌}
+use Rattle.std.{proofs.{Common.{◌-◌, ◌<◌, ◌∙◌, ◌∷◌, ◌≡◌}, lemmas.List.map-append}, specs.List.{flat_map, range_with_len}}
 
 module _ (words : Words) where
   -- events of parts that hand none

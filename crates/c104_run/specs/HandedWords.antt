@@ -24,11 +24,6 @@ abbrev pub words_behind : Words → ℕ → Words
 words_behind Words.Zero switches = Words.Zero
 words_behind (Words.Seeded seed) switches = Words.Seeded (state_behind seed (switches * SHARE % 2 ^ 64))
 
--- the words of a round behind n others
-abbrev pub words_after : Words → ℕ → ℕ → Words
-words_after words switches zero = words
-words_after words switches (suc n) = words_after (words_behind words switches) switches n
-
 -- an event with its word: the turn of an input alone has one
 abbrev pub worded : Words → Event → Event
 worded words (Event.Cross p) = Event.Cross p

@@ -2,13 +2,11 @@
 --     StandsStill kind net      no event of a round can be done
 --     IsDeadlocked kind net      it stands still, and isn't quiet
 --     IsStartedStart      where a node starts, with every switch started
---     IsAcyclicRun      a run in an accepted network that nobody changed, without a cycle of channel dependencies
 use Rattle.{c104_event.specs.declared.events.Event.Event, c104_link.specs.declared.TheConstants.TOKENS_OF_A_GRANT}
-use Rattle.{c104_node.specs.{Nodes.Node, declared.node.NodeOf.NodeOf}, c104_plan.specs.{Wiring.peer, declared.ports.Port.Port}}
-use Rattle.{c104_regs.specs.declared.registers.TheConstants.LINKS, c104_run.specs.{Network.{Network, network_apply}, QuietNets.IsQuiet}}
-use Rattle.{c104_run.specs.{Reasons.network_why, Rounds.round}, c104_switch.specs.Switch.{Input, Switch}}
-use Rattle.{c104_switch.specs.declared.actions.ReplyOf.ReplyOf, c104_token.specs.Kinds.Kind}
-use Rattle.std.specs.{List.list_all, Prelude.{All, Bool, List, Ok, Some, is_some, length, slice_get, true, ℕ, ◌<◌, ◌≡◌, ◌≤◌}}
+use Rattle.{c104_node.specs.{Nodes.Node, declared.node.NodeOf.NodeOf}, c104_regs.specs.declared.registers.TheConstants.LINKS}
+use Rattle.c104_run.specs.{Network.{Network, network_apply}, QuietNets.IsQuiet, Reasons.network_why, Rounds.round}
+use Rattle.{c104_switch.specs.{Switch.{Input, Switch}, declared.actions.ReplyOf.ReplyOf}, c104_token.specs.Kinds.Kind}
+use Rattle.std.specs.{List.list_all, Prelude.{All, Bool, List, Ok, Some, is_some, length, slice_get, true, ℕ, ◌≡◌, ◌≤◌}}
 
 -- an event is answered with NotReady
 abbrev pub IsUnready : {A : Type 0} → Kind A → Network A → Event → Type 0
@@ -29,14 +27,6 @@ has_reason net e = is_some (network_why net e)
 -- the same of each of some events
 abbrev pub have_reasons : {A : Type 0} → Network A → List Event → Bool
 have_reasons net es = list_all (has_reason net) es
-
--- the same, event by event
-pub record IsStill {A : Type 0} (kind : Kind A) (net : Network A) : Type 0 where
-  pub credits : (p q : Port) → peer net.plan p ≡ Some q → IsUnready kind net (Event.Credit p)
-  pub crosses : (p q : Port) → peer net.plan p ≡ Some q → IsUnready kind net (Event.Cross p)
-  pub inputs : (s l : ℕ) (q : Port) → peer net.plan (Port.Switch s l) ≡ Some q → IsUnready kind net (Event.Input s l 0)
-  pub claims : (s i o : ℕ) → s < length net.plan.switches → i < LINKS → o < LINKS → IsUnready kind net (Event.Claim s i o)
-  pub drains : (t : ℕ) → t < length net.plan.terminals → IsUnready kind net (Event.Drain t)
 
 -- a switch that is started, with its links, and with buffers that have room for a grant
 pub record IsStartedSwitch {A : Type 0} (s : Switch A) : Type 0 where

@@ -1,6 +1,6 @@
 -- A script that ends with rounds enough leaves an acyclic network quiet, so that all that was sent is printed.
 use Rattle.c104_check.specs.{ChannelDependencies.IsAcyclic, Routes.{Routes, routes_of}, declared.ports.SwitchPort.SwitchPort}
-use Rattle.c104_deadlock.{proofs.{FullWork.random_within, StandingRuns.stands_quiet}, specs.DeadlockFreedom.IsAcyclicRun}
+use Rattle.c104_deadlock.proofs.{AcyclicRuns.IsAcyclicRun, FullWork.random_within, StandingRuns.stands_quiet}
 use Rattle.{c104_deadlock.specs.HeaderWork.{random_bound, random_work}, c104_net.specs.Unchanged.AreStartsOf, c104_node.specs.Nodes.Node}
 use Rattle.{c104_node.specs.declared.starts.NodeStart.NodeStart, c104_plan.specs.{PlanImage.{Fits, Image}, Plans.{IsPlan, Plan}}}
 use Rattle.c104_run.specs.{NetRecords.NetRecord, Network.{network_of, placed_network}, QuietNets.IsQuiet, Standstill.StandsStill}

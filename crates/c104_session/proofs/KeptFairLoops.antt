@@ -2,8 +2,8 @@
 use Rattle.{c104_deadlock.proofs.RecordedRounds.starts_stay, c104_event.specs.declared.{events.Event.Event, faults.EventFault.EventFault}}
 use Rattle.c104_net.specs.MeteredRecords.{MeteredRecord, at_meter, record_metered}
 use Rattle.{c104_node.specs.declared.tagged.TaggedToken.TaggedToken, c104_run.proofs.{FairRecords.fair_plain, FairRuns.fair_from}}
-use Rattle.c104_run.{proofs.RoundRuns.{run_from, run_seen}, specs.{EventRuns.{EventsEnd, Outcome, run_events}, FairRounds.InTurn}}
-use Rattle.c104_run.specs.{FairRounds.{fair_events, fair_round, fairly, in_turn}, HandedWords.{words_after, words_behind}, Meters.Sees}
+use Rattle.c104_run.{proofs.{LaterWords.words_after, RoundRuns.{run_from, run_seen}}, specs.EventRuns.{EventsEnd, Outcome, run_events}}
+use Rattle.c104_run.specs.{FairRounds.{InTurn, fair_events, fair_round, fairly, in_turn}, HandedWords.words_behind, Meters.Sees}
 use Rattle.c104_run.specs.{NetRecords.NetRecord, RecordedRuns.record_apply, RoundParts.PartEnds, declared.turns.SwitchTurns.SwitchTurns}
 use Rattle.{c104_run.specs.declared.words.Words.Words, c104_session.proofs.{FairLeavings.fairly_left, KeptFairRounds.FairGoing}}
 use Rattle.c104_session.proofs.KeptFairRounds.{fair_fault_counts, fair_fault_ends, fair_idle_counts, fair_idle_ends, fair_runs}

@@ -1,13 +1,13 @@
 -- Fair rounds of which something is kept, one by one, as `KeptRounds` tells of others.
 use Rattle.{c104_event.specs.declared.faults.EventFault.EventFault, c104_net.specs.MeteredRecords.{MeteredRecord, at_meter, record_metered}}
 use Rattle.{c104_node.specs.declared.tagged.TaggedToken.TaggedToken, c104_plan.specs.Plans.Plan, c104_run.proofs.FairRuns.fair_idle}
-use Rattle.c104_run.proofs.{FairRuns.{fair_refused, fair_taken}, IdleRounds.records_count, RoundRuns.run_seen, WordedRounds.words_next}
-use Rattle.c104_run.specs.{EventRuns.{EventsEnd, Outcome, run_events}, FairRounds.{InTurn, fair_events, fair_round, fairly, in_turn}}
-use Rattle.c104_run.specs.{HandedWords.{words_after, words_behind}, Meters.Sees, NetRecords.NetRecord, RecordedRuns.record_apply}
-use Rattle.{c104_run.specs.declared.{turns.SwitchTurns.SwitchTurns, words.Words.Words}, c104_session.proofs.KeptRounds.few_done}
-use Rattle.{c104_session.specs.Keepers.{Keeping, KeepsFairRound, fair_round_kept, fair_rounds_kept, kept_fairly}, std.proofs.Common.Bool}
-use Rattle.std.proofs.Common.{Err, List, Ok, Result, ap, arith, false, if◌then◌else◌, inl, length, refl, suc, sym, true, ℕ, ◌+◌, ◌-◌, ◌<◌}
-use Rattle.std.proofs.Common.{◌∙◌, ◌≡◌}
+use Rattle.c104_run.proofs.{FairRuns.{fair_refused, fair_taken}, IdleRounds.records_count, LaterWords.words_after, RoundRuns.run_seen}
+use Rattle.c104_run.{proofs.WordedRounds.words_next, specs.{EventRuns.{EventsEnd, Outcome, run_events}, FairRounds.{InTurn, fair_events}}}
+use Rattle.c104_run.specs.{FairRounds.{fair_round, fairly, in_turn}, HandedWords.words_behind, Meters.Sees, NetRecords.NetRecord}
+use Rattle.c104_run.specs.{RecordedRuns.record_apply, declared.{turns.SwitchTurns.SwitchTurns, words.Words.Words}}
+use Rattle.c104_session.{proofs.KeptRounds.few_done, specs.Keepers.{Keeping, KeepsFairRound, fair_round_kept, fair_rounds_kept}}
+use Rattle.{c104_session.specs.Keepers.kept_fairly, std.proofs.Common.{Bool, Err, List, Ok, Result, ap, arith, false, if◌then◌else◌, inl}}
+use Rattle.std.proofs.Common.{length, refl, suc, sym, true, ℕ, ◌+◌, ◌-◌, ◌<◌, ◌∙◌, ◌≡◌}
 
 module _ {M : Type 0} (sees : Sees M TaggedToken) (keeps : Keeping M) where
   -- the network of a round of which something is kept goes on as by itself, and so do its turns

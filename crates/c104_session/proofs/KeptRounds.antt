@@ -1,11 +1,12 @@
 -- Rounds of which something is kept, one by one: what is kept of them, and how the network goes on beside that.
 use Rattle.{c104_event.specs.declared.faults.EventFault.EventFault, c104_net.specs.MeteredRecords.{MeteredRecord, at_meter, record_metered}}
 use Rattle.{c104_node.specs.declared.tagged.TaggedToken.TaggedToken, c104_plan.specs.Plans.Plan, c104_run.proofs.IdleRounds.records_count}
-use Rattle.c104_run.proofs.{IdleRounds.words_idle, RoundRuns.run_seen, WordedRounds.{words_next, words_refused, words_taken}}
-use Rattle.c104_run.specs.{EventRuns.{EventsEnd, Outcome, run_events}, HandedWords.{round_with, rounds_with, words_after, words_behind}}
-use Rattle.c104_run.specs.{Meters.Sees, NetRecords.{NetRecord, largest_ticket}, RecordedRuns.record_apply, declared.words.Words.Words}
-use Rattle.{c104_session.specs.Keepers.{Keeping, KeepsRound, is_later, kept_on, round_kept, rounds_kept}, std.proofs.Common.{Bool, Err, Ok}}
-use Rattle.std.proofs.Common.{Result, ap, arith, false, if◌then◌else◌, inl, length, refl, suc, sym, true, ℕ, ◌+◌, ◌-◌, ◌<◌, ◌∙◌, ◌≡◌, ◌≤◌}
+use Rattle.c104_run.proofs.{IdleRounds.words_idle, LaterWords.words_after, RoundRuns.run_seen, WordedRounds.{words_next, words_refused}}
+use Rattle.c104_run.{proofs.WordedRounds.words_taken, specs.{EventRuns.{EventsEnd, Outcome, run_events}, HandedWords.round_with}}
+use Rattle.c104_run.specs.{HandedWords.{rounds_with, words_behind}, Meters.Sees, NetRecords.{NetRecord, largest_ticket}}
+use Rattle.{c104_run.specs.{RecordedRuns.record_apply, declared.words.Words.Words}, c104_session.specs.Keepers.{Keeping, KeepsRound}}
+use Rattle.{c104_session.specs.Keepers.{is_later, kept_on, round_kept, rounds_kept}, std.proofs.Common.{Bool, Err, Ok, Result, ap, arith}}
+use Rattle.std.proofs.Common.{false, if◌then◌else◌, inl, length, refl, suc, sym, true, ℕ, ◌+◌, ◌-◌, ◌<◌, ◌∙◌, ◌≡◌, ◌≤◌}
 use Rattle.std.proofs.lemmas.Bool.Decides.{nat_tests}
 
 -- no more events were done than before

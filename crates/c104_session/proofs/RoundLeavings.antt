@@ -1,7 +1,7 @@
 -- What is left of rounds that are done one by one, where one of them stopped after some of its events.
-use Rattle.{c104_event.specs.declared.events.Event.Event, c104_plan.specs.Plans.Plan, c104_run.proofs.RoundRuns.run_from}
-use Rattle.c104_run.{proofs.WordedRounds.words_from, specs.{EventRuns.{Outcome, run_events}, HandedWords.{round_with, rounds_with}}}
-use Rattle.c104_run.specs.{HandedWords.{words_after, words_behind}, NetRecords.NetRecord, RecordedRuns.record_apply}
+use Rattle.{c104_event.specs.declared.events.Event.Event, c104_plan.specs.Plans.Plan, c104_run.proofs.LaterWords.words_after}
+use Rattle.c104_run.{proofs.{RoundRuns.run_from, WordedRounds.words_from}, specs.{EventRuns.{Outcome, run_events}, HandedWords.round_with}}
+use Rattle.c104_run.specs.{HandedWords.{rounds_with, words_behind}, NetRecords.NetRecord, RecordedRuns.record_apply}
 use Rattle.{c104_run.specs.declared.words.Words.Words, c104_session.specs.Leavings.LeavesRounds, std.proofs.Common.{List, Ok, ap}}
 use Rattle.std.proofs.Common.{append-nil, append_assoc, arith, length, suc, sym, ℕ, ◌++◌, ◌-◌, ◌<◌, ◌∙◌, ◌≡◌}
 

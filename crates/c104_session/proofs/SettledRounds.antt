@@ -1,15 +1,16 @@
 -- Rounds that go on until a network stands still: how many are done so far, and how they end.
 use Rattle.c104_deadlock.{proofs.RecordedRounds.starts_stay, specs.{HeaderWork.work_bound, Work.{largest_work, told_work}}}
 use Rattle.{c104_event.specs.declared.{events.Event.Event, faults.EventFault.EventFault}, c104_plan.specs.Plans.Plan}
-use Rattle.{c104_rows.specs.Standing.is_still, c104_run.proofs.{RoundRuns.{run_append, run_from}, WordedRounds.{words_from, words_taken}}}
-use Rattle.c104_run.specs.{EventRuns.{Outcome, run_events, unless_fault}, HandedWords.{round_with, rounds_with, words_after, words_behind}}
-use Rattle.c104_run.specs.{NetRecords.NetRecord, RecordedRuns.record_apply, declared.words.Words.Words}
-use Rattle.c104_script.specs.{Script.most_rounds, declared.answers.{Answer.Answer, Settled.Settled}}
-use Rattle.c104_session.{proofs.{Leavings.rounds_left, RoundLeavings.later_left}, specs.{Driven.Driving, FurtherRounds.DoesFurther}}
-use Rattle.c104_session.specs.{FurtherRounds.{DrivesFurther, Settles}, Leavings.LeavesRounds, Settling.{after_round, after_rounds}}
-use Rattle.c104_session.specs.Settling.{largest_count, rest_within, rounds_at_most, rounds_to_rest, settle_answer, settle_outcome}
-use Rattle.{c104_session.specs.Settling.settled_at, std.proofs.Common.{Err, List, Ok, Result, ap, arith, false, if◌then◌else◌, inl, inr}}
-use Rattle.std.proofs.Common.{length, max, min, refl, subst, suc, sym, true, zero, ℕ, ◌++◌, ◌+◌, ◌-◌, ◌<◌, ◌∙◌, ◌≡◌, ◌≤◌, ◌⊎◌}
+use Rattle.{c104_rows.specs.Standing.is_still, c104_run.proofs.{LaterWords.words_after, RoundRuns.{run_append, run_from}}}
+use Rattle.c104_run.{proofs.WordedRounds.{words_from, words_taken}, specs.EventRuns.{Outcome, run_events, unless_fault}}
+use Rattle.c104_run.specs.{HandedWords.{round_with, rounds_with, words_behind}, NetRecords.NetRecord, RecordedRuns.record_apply}
+use Rattle.{c104_run.specs.declared.words.Words.Words, c104_script.specs.{Script.most_rounds, declared.answers.Answer.Answer}}
+use Rattle.{c104_script.specs.declared.answers.Settled.Settled, c104_session.proofs.{Leavings.rounds_left, RoundLeavings.later_left}}
+use Rattle.c104_session.specs.{Driven.Driving, FurtherRounds.{DoesFurther, DrivesFurther, Settles}, Leavings.LeavesRounds}
+use Rattle.c104_session.specs.Settling.{after_round, after_rounds, largest_count, rest_within, rounds_at_most, rounds_to_rest}
+use Rattle.{c104_session.specs.Settling.{settle_answer, settle_outcome, settled_at}, std.proofs.Common.{Err, List, Ok, Result, ap, arith}}
+use Rattle.std.proofs.Common.{false, if◌then◌else◌, inl, inr, length, max, min, refl, subst, suc, sym, true, zero, ℕ, ◌++◌, ◌+◌, ◌-◌, ◌<◌}
+use Rattle.std.proofs.Common.{◌∙◌, ◌≡◌, ◌≤◌, ◌⊎◌}
 
 -- there are some rounds at most
 some_left : (work : ℕ) → 0 < min largest_count (max most_rounds (work + 1))

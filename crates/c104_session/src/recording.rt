@@ -1,6 +1,7 @@
 //! A driver that keeps for tables what it does.
 ghost use Rattle.std.specs.Prelude.{Err, OnErr, OnOk, ℕ, ◌&&◌, ◌≡◌, ◌⊎◌};
-ghost use Rattle.{c104_rows.specs.Counts.{Counts as TheCounts, counts_sent}, c104_run.specs.{NetRecords.is_done, RecordedRuns.record_apply}};
+ghost use Rattle.{c104_rows.specs.Counts.{Counts as TheCounts, counts_sent}, c104_run.specs.NetRecords.is_done};
+ghost use Rattle.c104_run.specs.RecordedRuns.{record_apply};
 ghost use Rattle.c104_session.specs.{Driven.DoesEvent, Recorded.{before_command, before_event, cut_if, event_record, noted_event}};
 ghost use Rattle.c104_session.specs.{Recorded.{record_cut, record_sent, record_told, sent_if}, Resets.is_reset};
 ghost use Rattle.c104_event.specs.declared.faults.EventFault.TheVariants as fault;

@@ -1,3 +1,4 @@
+pub mod SeatTickets
 mod Begins
 pub mod Free
 mod Logs

@@ -1,11 +1,12 @@
 -- For who closes a word or a log: what is known of some of the tracks, of the seats that have them, and of the tickets of these
 -- seats.
-use Rattle.c104_tickets.{proofs.Logs.{itself, length_kept}, specs.Counts.{AreDistinct, AreNoneTwice, AreOnce, count_of, done_in}}
-use Rattle.c104_tickets.specs.{Counts.{one_within, seat_tickets, tickets_in}, Tickets.{AreApart, AreNumbered, Each, IsClosed, IsInside}}
-use Rattle.c104_tickets.specs.{Tickets.{IsNameOf, kept_if, part_of}, declared.views.{Done.Done, Name.Name, Terms.Terms, Track.Track}}
-use Rattle.std.proofs.Common.{Bool, List, [], ap, arith, cond, false, get_or, length, map, refl, subst, suc, sym, true, zero, ℕ, ◌++◌, ◌+◌}
-use Rattle.std.proofs.{Common.{◌-◌, ◌<◌, ◌∙◌, ◌∷◌, ◌≡◌, ◌≢◌, ◌≤◌}, lemmas.{Bool.Decides.nat_tests, List.Sums.get_or-le-sum_by}}
-use Rattle.std.{proofs.lemmas.List.{Sums.{sum_by-append, sum_by-cons}, length-append, length-map}, specs.Prelude.{Contains, nat_lt, ◌==◌}}
+use Rattle.c104_tickets.proofs.{Logs.{itself, length_kept}, SeatTickets.{AreDistinct, done_in, seat_tickets, tickets_in}}
+use Rattle.c104_tickets.specs.{Counts.{AreNoneTwice, AreOnce, count_of, one_within}, Tickets.{AreApart, AreNumbered, Each, IsClosed}}
+use Rattle.c104_tickets.specs.{Tickets.{IsInside, IsNameOf, kept_if, part_of}, declared.views.{Done.Done, Name.Name, Terms.Terms}}
+use Rattle.{c104_tickets.specs.declared.views.Track.Track, std.proofs.Common.{Bool, List, [], ap, arith, cond, false, get_or, length, map}}
+use Rattle.std.proofs.Common.{refl, subst, suc, sym, true, zero, ℕ, ◌++◌, ◌+◌, ◌-◌, ◌<◌, ◌∙◌, ◌∷◌, ◌≡◌, ◌≢◌, ◌≤◌}
+use Rattle.std.proofs.lemmas.{Bool.Decides.nat_tests, List.{Sums.{get_or-le-sum_by, sum_by-append, sum_by-cons}, length-append, length-map}}
+use Rattle.std.specs.Prelude.{Contains, nat_lt, ◌==◌}
 
 -- some of the tracks
 

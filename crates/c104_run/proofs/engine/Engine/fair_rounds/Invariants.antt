@@ -1,5 +1,5 @@
-use Rattle.{c104_node.specs.Places.states, c104_run.specs.{Engines.engine_at, EventRuns.run_events, FairRounds.{fair_events, fairly}}}
-use Rattle.c104_run.specs.{FairRounds.in_turn, HandedWords.words_after, Meters.metered_apply, NotedSwitches.{AreSo, GrantsNone}}
+use Rattle.{c104_node.specs.Places.states, c104_run.{proofs.LaterWords.words_after, specs.{Engines.engine_at, EventRuns.run_events}}}
+use Rattle.c104_run.specs.{FairRounds.{fair_events, fairly, in_turn}, Meters.metered_apply, NotedSwitches.{AreSo, GrantsNone}}
 use Rattle.std.proofs.Common.{Ok, length, map, ◌≡◌}
 
 -- the rounds so far are done without a fault, their words are handed on, and what they noted of grants holds

@@ -1,5 +1,6 @@
-use Rattle.{c104_node.specs.Places.states, c104_run.specs.{Engines.engine_at, EventRuns.run_events, HandedWords.{rounds_with, words_after}}}
-use Rattle.{c104_run.specs.{Meters.metered_apply, NotedSwitches.{AreSo, GrantsNone}}, std.proofs.Common.{Ok, length, map, ◌≡◌}}
+use Rattle.{c104_node.specs.Places.states, c104_run.{proofs.LaterWords.words_after, specs.{Engines.engine_at, EventRuns.run_events}}}
+use Rattle.{c104_run.specs.{HandedWords.rounds_with, Meters.metered_apply, NotedSwitches.{AreSo, GrantsNone}}, std.proofs.Common.Ok}
+use Rattle.std.proofs.Common.{length, map, ◌≡◌}
 
 -- the rounds so far are done without a fault, their words are handed on, and what they noted of grants holds
 abbrev pub invariant-loop-round : Rattle.c104_run.proofs.engine.Engine.rounds.Given.invariant-loop-round
