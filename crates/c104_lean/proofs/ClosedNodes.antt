@@ -2,13 +2,13 @@
 -- just what the log tells of it.
 use Rattle.c104_lean.specs.{Closing.{ArePlaceTracks, HoldTracks, TellTracks, node_of, place_of}, OwnRuns.{IsDoneHere, OwnRun}}
 use Rattle.{c104_lean.specs.{Shared.Before, declared.closing.Placed.Placed}, c104_node.specs.TracedRecords.TracedRecord}
-use Rattle.c104_tickets.{proofs.Parts.{apart_left, apart_right, at_most_once, each_left, each_right}, specs.Counts.{AreDistinct, count_of}}
-use Rattle.c104_tickets.specs.{Tickets.{AreApart, Each, IsNameOf, part_of}, declared.views.{Done.Done, Name.Name, Terms.Terms, Track.Track}}
-use Rattle.c104_workers.{proofs.{ClosedNodes.{Rise, all_rise, fit, moved}, ClosedWords.IsPart}, specs.Calls.SeatView}
-use Rattle.std.proofs.Common.{List, Some, [], ap, arith, cond, length, map, reverse, slice_get, subst, suc, sym, zero, ℕ, ◌+◌, ◌<◌, ◌∙◌}
-use Rattle.std.proofs.{Common.{◌∷◌, ◌≡◌, ◌≢◌, ◌≤◌}, lemmas.List.Sorted.{IsPermutation-map, IsPermutation-reverse, IsPermutation-sym}}
-use Rattle.std.{proofs.lemmas.List.{Sorted.{IsPermutation-trans, sum_by-IsPermutation}, length-map}, specs.List.Sorted.IsPermutation}
-use Rattle.std.specs.Prelude.{◌==◌}
+use Rattle.c104_tickets.proofs.{Parts.{apart_left, apart_right, at_most_once, each_left, each_right}, SeatTickets.AreDistinct}
+use Rattle.c104_tickets.specs.{Counts.count_of, Tickets.{AreApart, Each, IsNameOf, part_of}, declared.views.{Done.Done, Name.Name}}
+use Rattle.{c104_tickets.specs.declared.views.{Terms.Terms, Track.Track}, c104_turns.proofs.RisingPlaces.{Rise, all_rise, fit, moved}}
+use Rattle.{c104_turns.{proofs.SeatParts.IsPart, specs.Calls.SeatView}, std.proofs.Common.{List, Some, [], ap, arith, cond, length, map}}
+use Rattle.std.proofs.Common.{reverse, slice_get, subst, suc, sym, zero, ℕ, ◌+◌, ◌<◌, ◌∙◌, ◌∷◌, ◌≡◌, ◌≢◌, ◌≤◌}
+use Rattle.std.proofs.lemmas.List.Sorted.{IsPermutation-map, IsPermutation-reverse, IsPermutation-sym, IsPermutation-trans}
+use Rattle.std.{proofs.lemmas.List.{Sorted.sum_by-IsPermutation, length-map}, specs.{List.Sorted.IsPermutation, Prelude.◌==◌}}
 
 -- the node at a place did just its part of a log, from where it stood
 pub record DidOwn (before : Before) (log : List Done) (k : ℕ) (n : TracedRecord) : Type 0 where

@@ -6,7 +6,7 @@ use Rattle.{c104_lean.specs.Shared.{SharedView, WasShared, record_of}, c104_net.
 use Rattle.{c104_node.specs.TracedRecords.{TracedRecord, counted_shown}, c104_plan.specs.Plans.Plan, c104_run.specs.KnownWires.KnowWires}
 use Rattle.c104_run.specs.{NetParts.node_count, NetRecords.NetRecord, RecordedNets.{IsRecordedNet, places_record}}
 use Rattle.{c104_run.specs.RecordedPlaces.counted_reading, c104_tickets.specs.{Tickets.{AreNumbered, Each}, declared.views.Done.Done}}
-use Rattle.{c104_tickets.specs.declared.views.{Name.Name, Terms.Terms, Track.Track}, c104_workers.specs.Calls.SeatView}
+use Rattle.{c104_tickets.specs.declared.views.{Name.Name, Terms.Terms, Track.Track}, c104_turns.specs.Calls.SeatView}
 use Rattle.std.proofs.Common.{List, Some, ap, arith, length, map, subst, sym, ℕ, ◌+◌, ◌∙◌, ◌≡◌}
 
 -- nodes that are those of the network again, and what was done there is one run

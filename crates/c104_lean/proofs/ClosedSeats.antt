@@ -2,9 +2,9 @@
 -- network's own nodes.
 use Rattle.c104_lean.{proofs.LogParts.{all_parts, have_seats, part_holds}, specs.{Closing.{AreSeatTracks, TellTracks}, Seats.AreAllSeats}}
 use Rattle.c104_tickets.{proofs.Parts.each_left, specs.{Tickets.{Each, IsClosed, belongs, no_terms, part_of}, declared.views.Done.Done}}
-use Rattle.{c104_tickets.specs.declared.views.{Name.Name, Terms.Terms, Track.Track}, c104_workers.proofs.ClosedWords.{IsPart, seats_inside}}
-use Rattle.c104_workers.{proofs.{LogSeats.seat_part, WholeRuns.each_at}, specs.{Calls.{IsOwn, SeatView, done_call}, Fabrics.first_seat}}
-use Rattle.{c104_workers.specs.{Fabrics.no_word, Logs.calls_in}, std.proofs.Common.{List, [], ap, arith, map, refl, subst, true, ℕ, ◌++◌}}
+use Rattle.{c104_tickets.specs.declared.views.{Name.Name, Terms.Terms, Track.Track}, c104_turns.proofs.SeatParts.{IsPart, each_at}}
+use Rattle.c104_turns.{proofs.SeatParts.{seat_part, seats_inside}, specs.{Calls.{IsOwn, SeatView, done_call}, FirstSeats.first_seat}}
+use Rattle.{c104_turns.specs.{FirstSeats.no_word, Logs.calls_in}, std.proofs.Common.{List, [], ap, arith, map, refl, subst, true, ℕ, ◌++◌}}
 use Rattle.std.proofs.Common.{◌<◌, ◌∙◌, ◌∷◌, ◌≡◌}
 
 module _ (log : List Done) where

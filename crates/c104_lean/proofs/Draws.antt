@@ -1,14 +1,13 @@
 -- What was done joins the log, through a seat that has the passes of the places of an event's nodes.
-use Rattle.{c104_audit.specs.{Calls.{call_of, tickets_of}, declared.calls.Call.Call}, c104_event.specs.declared.events.Event.Event}
-use Rattle.{c104_event.specs.declared.faults.EventFault.EventFault, c104_lean.specs.{Nodes.{alone_deed, both_deed}, Seats.IsCountedSeat}}
-use Rattle.{c104_lean.specs.Seats.{counted_seat, first_done, last_ticket, ticket_behind}, c104_node.specs.Tagged.TaggedToken}
-use Rattle.{c104_switch.specs.{Actions.Reply, declared.actions.ReplyOf.ReplyOf}, c104_tickets.specs.Tickets.{AreEarlier, Each, IsAppended}}
-use Rattle.c104_tickets.specs.Tickets.{TableId, after_join, after_split, behind, belongs, first_track, front, kept_if, track_after}
-use Rattle.c104_tickets.specs.declared.{TheConstants.TICKET_LIMIT, views.{Deed.Deed, Done.Done, Name.Name, Terms.Terms, Track.Track}}
-use Rattle.{c104_tickets.specs.declared.views.View.View, c104_workers.specs.Calls.{IsOwn, SeatView, after_call, done_call, place_track}}
-use Rattle.{c104_workers.specs.{Calls.seat_track, LentCalls.IsFresh}, std.proofs.Common.{All, Bool, List, Option, [], ap, arith, cond}}
-use Rattle.std.proofs.Common.{false, length, map, refl, subst, suc, sym, true, ℕ, ◌++◌, ◌+◌, ◌<◌, ◌==◌, ◌∙◌, ◌∷◌, ◌≡◌, ◌≤◌}
-use Rattle.std.proofs.lemmas.{Bool.Decides.nat_tests, List.{Elements.{All-cons, All-nil}, length-append, map-append}}
+use Rattle.c104_event.specs.{Calls.{call_of, tickets_of}, declared.{calls.Call.Call, events.Event.Event, faults.EventFault.EventFault}}
+use Rattle.c104_lean.specs.{Nodes.{alone_deed, both_deed}, Seats.{IsCountedSeat, counted_seat, first_done, last_ticket, ticket_behind}}
+use Rattle.{c104_node.specs.Tagged.TaggedToken, c104_switch.specs.{Actions.Reply, declared.actions.ReplyOf.ReplyOf}}
+use Rattle.c104_tickets.specs.Tickets.{AreEarlier, Each, IsAppended, TableId, after_join, after_split, behind, belongs, first_track, front}
+use Rattle.c104_tickets.specs.{Tickets.{kept_if, track_after}, declared.{TheConstants.TICKET_LIMIT, views.{Deed.Deed, Done.Done}}}
+use Rattle.{c104_tickets.specs.declared.views.{Name.Name, Terms.Terms, Track.Track, View.View}, c104_turns.specs.Calls.{IsFresh, IsOwn}}
+use Rattle.{c104_turns.specs.Calls.{SeatView, after_call, done_call, place_track, seat_track}, std.proofs.Common.{All, Bool, List, Option}}
+use Rattle.std.proofs.Common.{[], ap, arith, cond, false, length, map, refl, subst, suc, sym, true, ℕ, ◌++◌, ◌+◌, ◌<◌, ◌==◌, ◌∙◌, ◌∷◌, ◌≡◌}
+use Rattle.std.proofs.{Common.◌≤◌, lemmas.{Bool.Decides.nat_tests, List.{Elements.{All-cons, All-nil}, length-append, map-append}}}
 
 same_number : (n : ℕ) → (n == n) ≡ true
 same_number n = grind (arith, nat_tests)

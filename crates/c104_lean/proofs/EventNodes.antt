@@ -1,7 +1,7 @@
 -- The nodes of an event that can happen are the network's.
 use Rattle.{c104_node.specs.{Tagged.TaggedToken, declared.crossings.Joint.Joint}, c104_plan.specs.Plans.{IsPlan, Plan}}
 use Rattle.c104_run.{proofs.BalanceWires.peer_back, specs.{AskedActs.AreEnds, NetParts.node_count, declared.asked.Asked.Asked}}
-use Rattle.{c104_workers.proofs.LogRuns.port_inside, std.proofs.Common.{subst, sym, ℕ, ◌<◌}}
+use Rattle.{c104_turns.proofs.LogRuns.port_inside, std.proofs.Common.{subst, sym, ℕ, ◌<◌}}
 
 -- what crosses a wire crosses between two of them
 pub both_inside : (plan : Plan) → IsPlan plan → (near far : ℕ) (joint : Joint) → AreEnds {A = TaggedToken} plan (Asked.Joint near far joint)

@@ -7,7 +7,7 @@ use Rattle.c104_node.specs.{Tagged.{TaggedToken, tagged_kind}, TracedRecords.Tra
 use Rattle.c104_node.specs.{Traces.trace_limit, declared.{acts.{ActOf.ActOf, Entry.Entry}, crossings.{Crossing.Crossing, Joint.Joint}}}
 use Rattle.{c104_plan.specs.{Plans.Plan, declared.ports.Port.Port}, c104_run.specs.EventActs.{event_acts, port_place}}
 use Rattle.{c104_switch.specs.{Actions.is_ready, declared.actions.ReplyOf.ReplyOf}, c104_tickets.specs.Tickets.{Each, PassValue, TableId}}
-use Rattle.{c104_tickets.specs.declared.views.{Deed.Deed, Done.Done, Track.Track}, c104_workers.specs.Calls.place_track}
+use Rattle.{c104_tickets.specs.declared.views.{Deed.Deed, Done.Done, Track.Track}, c104_turns.specs.Calls.place_track}
 use Rattle.std.proofs.Common.{Bool, List, None, Option, Some, [], ap, arith, false, is_some, length, nat_eq, refl, slice_get, subst, sym}
 use Rattle.std.proofs.{Common.{true, ℕ, ◌++◌, ◌-◌, ◌<◌, ◌∙◌, ◌∷◌, ◌≡◌, ◌≢◌}, lemmas.Bool.Decides.nat_tests}
 

@@ -1,7 +1,7 @@
 -- What holds of the parts of a log holds of all of it, where whatever was done belongs to one of them.
 use Rattle.c104_tickets.specs.{Tickets.{Each, IsInside, belongs, kept_if, part_of, stands_at}, declared.views.{Done.Done, Name.Name}}
-use Rattle.{c104_tickets.specs.declared.views.Terms.Terms, c104_workers.{proofs.ClosedWords.itself, specs.Calls.IsOwn}}
-use Rattle.std.proofs.Common.{Bool, List, None, Option, Some, [], ap, cond, false, is_some, refl, sym, true, ℕ, ◌<◌, ◌∙◌, ◌∷◌, ◌≡◌}
+use Rattle.{c104_tickets.specs.declared.views.Terms.Terms, c104_turns.{proofs.SeatParts.itself, specs.Calls.IsOwn}, std.proofs.Common.Bool}
+use Rattle.std.proofs.Common.{List, None, Option, Some, [], ap, cond, false, is_some, refl, sym, true, ℕ, ◌<◌, ◌∙◌, ◌∷◌, ◌≡◌}
 
 -- what holds of the part of a name holds of all that belongs to it
 pub part_holds : (P : Done → Type 0) (name : Name) (log : List Done) → Each P (part_of name log)

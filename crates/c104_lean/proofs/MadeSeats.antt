@@ -1,6 +1,6 @@
 -- The seats of a shared network at first, and the nodes that are put behind locks.
 use Rattle.{c104_lean.specs.Seats.AreSeatsOf, c104_tickets.specs.{Tickets.TableId, declared.views.Terms.Terms}}
-use Rattle.{c104_workers.specs.{Calls.SeatView, Fabrics.{first_seat, first_seats}}, std.proofs.Common.{List, [], ap, map, refl, reverse}}
+use Rattle.{c104_turns.specs.{Calls.SeatView, FirstSeats.{first_seat, first_seats}}, std.proofs.Common.{List, [], ap, map, refl, reverse}}
 use Rattle.std.{proofs.{Common.{subst, sym, ℕ, ◌++◌, ◌∙◌, ◌∷◌, ◌≡◌}, lemmas.List.reverse-append}, specs.List.range_with_len}
 
 -- seats with these numbers are seats of the network

@@ -2,8 +2,8 @@
 use Rattle.{c104_event.specs.declared.{events.Event.Event, faults.EventFault.EventFault}, c104_lean.proofs.SeatWork.called_on}
 use Rattle.c104_lean.{proofs.SeatWork.{none_called, repeated}, specs.{Ports.{DidEvent, DidPart, HasDone}, Working.{HasWorked, IsOwnEvent}}}
 use Rattle.{c104_lean.specs.Working.{IsPartEvent, IsStop}, c104_plan.specs.Plans.Plan, c104_run.specs.Network.event_fault}
-use Rattle.c104_workers.{proofs.TurnSteps.part_keeps, specs.{Calls.SeatView, SeatGrowth.FaultsAs, Turns.{After, End, InTurn, PartDone}}}
-use Rattle.c104_workers.specs.{Turns.{TurnsDone, handed}, Working.PartView, declared.{parts.Stage.Stage, turns.Worker.Worker}}
+use Rattle.c104_turns.{proofs.TurnSteps.part_keeps, specs.{Calls.SeatView, SeatGrowth.FaultsAs, Turns.{After, End, InTurn, PartDone}}}
+use Rattle.c104_turns.specs.{Turns.{TurnsDone, handed}, Working.PartView, declared.{parts.Stage.Stage, turns.Worker.Worker}}
 use Rattle.std.proofs.Common.{All, Bool, Bor, Err, IfErr, List, Ok, Result, [], arith, if◌then◌else◌, inl, inr, length, map, nat_eq, refl}
 use Rattle.std.proofs.{Common.{subst, suc, sym, zero, ℕ, ◌∙◌, ◌∷◌, ◌≡◌}, lemmas.List.Elements.All-map}
 

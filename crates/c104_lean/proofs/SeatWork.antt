@@ -1,11 +1,11 @@
 -- What workers do to their seats: event by event, each of a node of their own.
-use Rattle.{c104_audit.specs.{Calls.call_of, declared.calls.Call.Call}, c104_event.specs.declared.events.Event.Event}
-use Rattle.{c104_event.specs.declared.faults.EventFault.EventFault, c104_lean.specs.{Seats.{AreSeatsOf, Grows, HasCall}, Shared.ArePartsOf}}
-use Rattle.{c104_lean.specs.Working.{HasCalls, HasWorked, IsOwnEvent, IsPartEvent, worker_of}, c104_plan.specs.Plans.Plan}
-use Rattle.{c104_run.specs.NodeParts.round_part, c104_switch.specs.Actions.{Reply, is_ready}, c104_tickets.specs.Tickets.TableId}
-use Rattle.c104_workers.{proofs.SeatGrowth.{same_on, same_self}, specs.{Calls.SeatView, LentCalls.IfDone, Working.IsPartOf}}
-use Rattle.{c104_workers.specs.{Working.PartView, declared.words.Words.Words}, std.proofs.Common.{All, Bool, Bor, Err, List, Ok, Result}}
-use Rattle.std.proofs.Common.{[], ap, arith, false, length, slice_index_or, subst, suc, sym, true, zero, ℕ, ◌++◌, ◌<◌, ◌∙◌, ◌∷◌, ◌≡◌}
+use Rattle.c104_event.specs.{Calls.call_of, declared.{calls.Call.Call, events.Event.Event, faults.EventFault.EventFault}}
+use Rattle.c104_lean.specs.{Seats.{AreSeatsOf, Grows, HasCall}, Shared.ArePartsOf, Working.{HasCalls, HasWorked, IsOwnEvent, IsPartEvent}}
+use Rattle.{c104_lean.specs.Working.worker_of, c104_plan.specs.Plans.Plan, c104_run.specs.NodeParts.round_part}
+use Rattle.{c104_switch.specs.Actions.{Reply, is_ready}, c104_tickets.specs.Tickets.TableId, c104_turns.proofs.SameSeats.same_on}
+use Rattle.c104_turns.{proofs.SameSeats.same_self, specs.{Calls.{IfDone, SeatView}, Working.{IsPartOf, PartView}}}
+use Rattle.{c104_turns.specs.declared.words.Words.Words, std.proofs.Common.{All, Bool, Bor, Err, List, Ok, Result, [], ap, arith, false}}
+use Rattle.std.proofs.Common.{length, slice_index_or, subst, suc, sym, true, zero, ℕ, ◌++◌, ◌<◌, ◌∙◌, ◌∷◌, ◌≡◌}
 use Rattle.std.proofs.lemmas.List.{Elements.{All-append, All-cons, All-contains_itself, All-nil, All-push, All-weaker}, append-nil}
 use Rattle.std.proofs.lemmas.List.{append_assoc}
 

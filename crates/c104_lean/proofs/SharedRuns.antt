@@ -1,23 +1,23 @@
 -- Where each node of a shared network does its own part of a log, the network goes by the log's events as if one thread had
 -- applied them.
-use Rattle.{c104_audit.proofs.NetworkRuns.same_places, c104_event.specs.declared.faults.EventFault.EventFault}
-use Rattle.c104_lean.proofs.{OwnActs.{alone_acted, both_acted, told_done, told_ready}, OwnParts.{RunTheirs, does_first, far_away}}
-use Rattle.c104_lean.proofs.OwnParts.{far_first, far_others, lone_first, lone_others, near_first, near_others, parts, parts_of_far}
-use Rattle.c104_lean.{proofs.OwnParts.still_there, specs.OwnRuns.{AreApart, DoesAct, DoesOwn, IsDoneHere, far_place, near_place, own}}
-use Rattle.{c104_lean.specs.{OwnRuns.{own_act, told}, Runs.AreApplied}, c104_net.proofs.Members.element_at, c104_node.specs.Places.bases}
-use Rattle.c104_node.specs.{PortActs.{Acts, far_act, near_act}, Tagged.{TaggedToken, tagged_kind}, TracedRecords.TracedRecord}
-use Rattle.c104_node.specs.{TracedRecords.counted_shown, Traces.{plain_act, seatless}, declared.acts.ActOf.ActOf}
-use Rattle.{c104_node.specs.declared.crossings.Crossing.Crossing, c104_plan.specs.{Plans.{IsPlan, Plan}, declared.ports.Port.Port}}
-use Rattle.c104_run.proofs.{ActAnswers.{acts_plain, plain_acts}, ActSteps.joint_wired, BalanceWires.peer_back, RecordSteps.ticket_left}
-use Rattle.c104_run.{proofs.RecordedPlaces.{GoesOn, goes_there}, specs.{Engines.engine_of, EventActs.{event_acts, port_place}}}
-use Rattle.c104_run.specs.{EventsAtPlaces.EventDone, KnownWires.KnowWires, NetParts.node_count, NetRecords.{NetRecord, is_done}}
-use Rattle.c104_run.specs.{NetRecords.ticket_after, Network.event_fault, RecordedNets.{IsRecordedNet, places_record}}
-use Rattle.{c104_run.specs.{RecordedPlaces.{counted_keeps, counted_reading}, RecordedRuns.record_apply}, c104_switch.specs.Actions.Reply}
-use Rattle.{c104_switch.specs.{Actions.is_ready, declared.actions.ReplyOf.ReplyOf}, c104_tickets.specs.Tickets.{AreNumbered, Each}}
-use Rattle.{c104_tickets.specs.declared.views.Done.Done, c104_workers.proofs.LogRuns.{alone_inside as lone_inside, port_inside}}
-use Rattle.{c104_workers.specs.Logs.done_pair, std.proofs.Common.{List, None, Ok, Option, Result, Some, [], ap, arith, false}}
-use Rattle.std.proofs.Common.{if◌then◌else◌, inl, inr, length, map, nat_eq, option_map, refl, slice_get, slice_set, subst, suc, sym, true}
-use Rattle.std.proofs.{Common.{ℕ, ◌+◌, ◌-◌, ◌<◌, ◌∙◌, ◌∷◌, ◌≡◌, ◌≢◌}, lemmas.{Bool.Decides.nat_tests, List.length-set}}
+use Rattle.{c104_event.specs.declared.faults.EventFault.EventFault, c104_lean.proofs.OwnActs.{alone_acted, both_acted, told_done}}
+use Rattle.c104_lean.proofs.{OwnActs.told_ready, OwnParts.{RunTheirs, does_first, far_away, far_first, far_others, lone_first, lone_others}}
+use Rattle.c104_lean.{proofs.OwnParts.{near_first, near_others, parts, parts_of_far, still_there}, specs.OwnRuns.{AreApart, DoesAct}}
+use Rattle.c104_lean.specs.{OwnRuns.{DoesOwn, IsDoneHere, far_place, near_place, own, own_act, told}, Runs.AreApplied}
+use Rattle.{c104_net.proofs.Members.element_at, c104_node.specs.{Places.bases, PortActs.{Acts, far_act, near_act}, Tagged.TaggedToken}}
+use Rattle.c104_node.specs.{Tagged.tagged_kind, TracedRecords.{TracedRecord, counted_shown}, Traces.{plain_act, seatless}}
+use Rattle.{c104_node.specs.declared.{acts.ActOf.ActOf, crossings.Crossing.Crossing}, c104_plan.specs.Plans.{IsPlan, Plan}}
+use Rattle.{c104_plan.specs.declared.ports.Port.Port, c104_run.proofs.{ActAnswers.{acts_plain, plain_acts}, ActSteps.joint_wired}}
+use Rattle.c104_run.proofs.{BalanceWires.peer_back, KeptElements.same_places, RecordSteps.ticket_left, RecordedPlaces.{GoesOn, goes_there}}
+use Rattle.c104_run.specs.{Engines.engine_of, EventActs.{event_acts, port_place}, EventsAtPlaces.EventDone, KnownWires.KnowWires}
+use Rattle.c104_run.specs.{NetParts.node_count, NetRecords.{NetRecord, is_done, ticket_after}, Network.event_fault}
+use Rattle.c104_run.specs.{RecordedNets.{IsRecordedNet, places_record}, RecordedPlaces.{counted_keeps, counted_reading}}
+use Rattle.{c104_run.specs.RecordedRuns.record_apply, c104_switch.specs.{Actions.{Reply, is_ready}, declared.actions.ReplyOf.ReplyOf}}
+use Rattle.c104_tickets.specs.{Tickets.{AreNumbered, Each}, declared.views.Done.Done}
+use Rattle.{c104_turns.{proofs.LogRuns.{alone_inside as lone_inside, port_inside}, specs.Logs.done_pair}, std.proofs.Common.{List, None}}
+use Rattle.std.proofs.Common.{Ok, Option, Result, Some, [], ap, arith, false, if◌then◌else◌, inl, inr, length, map, nat_eq, option_map}
+use Rattle.std.proofs.Common.{refl, slice_get, slice_set, subst, suc, sym, true, ℕ, ◌+◌, ◌-◌, ◌<◌, ◌∙◌, ◌∷◌, ◌≡◌, ◌≢◌}
+use Rattle.std.proofs.lemmas.{Bool.Decides.nat_tests, List.length-set}
 
 module _ (plan : Plan) where
   -- the network with its record that some nodes show

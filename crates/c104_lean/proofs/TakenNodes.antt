@@ -1,7 +1,7 @@
 -- Nodes that are taken out of their locks, from the last one on.
 use Rattle.c104_lean.specs.{Closing.{ArePlaceTracks, PlaceTracks, node_of}, Nodes.IsHeld, Shared.Before, declared.closing.Placed.Placed}
 use Rattle.{c104_node.specs.TracedRecords.TracedRecord, c104_tickets.specs.{Tickets.{PassValue, TableId}, declared.views.Track.Track}}
-use Rattle.{c104_workers.specs.Calls.place_track, std.proofs.Common.{List, Some, [], ap, map, refl, reverse, subst, sym, ℕ, ◌++◌, ◌∙◌, ◌∷◌}}
+use Rattle.{c104_turns.specs.Calls.place_track, std.proofs.Common.{List, Some, [], ap, map, refl, reverse, subst, sym, ℕ, ◌++◌, ◌∙◌, ◌∷◌}}
 use Rattle.std.proofs.{Common.◌≡◌, lemmas.List.reverse-append}
 
 pub none_placed : (before : Before) (room : List Placed) (old : List Track) → room ≡ [] → PlaceTracks before room old old

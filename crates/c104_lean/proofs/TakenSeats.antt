@@ -1,10 +1,10 @@
 -- Seats whose passes are joined, from the last one on.
-use Rattle.{c104_audit.specs.declared.calls.Call.Call, c104_lean.specs.{Closing.{AreSeatTracks, TellTracks}, Seats.AreSeatsOf}}
-use Rattle.{c104_lean.specs.Seats.first_done, c104_tickets.{proofs.Parts.all_counted, specs.{Counts.done_in, Tickets.{Each, IsClosed}}}}
-use Rattle.c104_tickets.specs.{Tickets.{IsClosedLog, TableId}, declared.{TheConstants.TICKET_LIMIT, views.{Name.Name, Terms.Terms}}}
-use Rattle.{c104_tickets.specs.declared.views.{Track.Track, View.View}, c104_workers.specs.Calls.{IsOwn, SeatView, done_call, seat_track}}
-use Rattle.std.proofs.Common.{List, [], ap, arith, length, map, refl, subst, sym, ℕ, ◌*◌, ◌++◌, ◌+◌, ◌∙◌, ◌∷◌, ◌≡◌, ◌≤◌}
-use Rattle.std.proofs.lemmas.List.{append_assoc, length-map}
+use Rattle.{c104_event.specs.declared.calls.Call.Call, c104_lean.specs.{Closing.{AreSeatTracks, TellTracks}, Seats.AreSeatsOf}}
+use Rattle.{c104_lean.specs.Seats.first_done, c104_tickets.{proofs.{Parts.all_counted, SeatTickets.done_in}, specs.Tickets.Each}}
+use Rattle.c104_tickets.specs.{Tickets.{IsClosed, IsClosedLog, TableId}, declared.{TheConstants.TICKET_LIMIT, views.Name.Name}}
+use Rattle.{c104_tickets.specs.declared.views.{Terms.Terms, Track.Track, View.View}, c104_turns.specs.Calls.{IsOwn, SeatView, done_call}}
+use Rattle.{c104_turns.specs.Calls.seat_track, std.proofs.Common.{List, [], ap, arith, length, map, refl, subst, sym, ℕ, ◌*◌, ◌++◌, ◌+◌}}
+use Rattle.std.proofs.{Common.{◌∙◌, ◌∷◌, ◌≡◌, ◌≤◌}, lemmas.List.{append_assoc, length-map}}
 
 -- what holds of each seat holds of those before the last, and of the last
 pub seats_before : (word_id : TableId) (seats : List SeatView) (s : SeatView) → AreSeatsOf word_id (seats ++ s ∷ [])

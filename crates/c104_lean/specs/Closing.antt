@@ -1,7 +1,7 @@
 -- The tracks of nodes and seats that were taken out of a shared network, and what they tell of the nodes and the seats.
 use Rattle.c104_lean.specs.{OwnRuns.{IsDoneHere, OwnRun}, Shared.Before, declared.closing.Placed.Placed}
 use Rattle.{c104_node.specs.TracedRecords.TracedRecord, c104_tickets.specs.{Tickets.{Each, IsClosed}, declared.views.Name.Name}}
-use Rattle.{c104_tickets.specs.declared.views.{Terms.Terms, Track.Track}, c104_workers.specs.Calls.{IsOwn, SeatView, done_call}}
+use Rattle.{c104_tickets.specs.declared.views.{Terms.Terms, Track.Track}, c104_turns.specs.Calls.{IsOwn, SeatView, done_call}}
 use Rattle.std.specs.{List.Sorted.{IsNonDecreasingBy, IsPermutation}, Prelude.{List, Some, [], map, reverse, slice_get, ℕ, ◌++◌, ◌∷◌, ◌≡◌}}
 
 -- a node that was taken out, and its place

@@ -4,7 +4,7 @@ use Rattle.{c104_lean.specs.Shared.Before, c104_node.specs.{Acts.plain_reply, Po
 use Rattle.{c104_node.specs.{TracedRecords.TracedRecord, declared.{acts.ActOf.ActOf, crossings.Joint.Joint}}, c104_plan.specs.Plans.Plan}
 use Rattle.{c104_run.specs.{EventActs.{event_acts, port_place}, Network.event_fault}, c104_switch.specs.declared.actions.ReplyOf.ReplyOf}
 use Rattle.c104_tickets.specs.{Tickets.{Each, PassValue, TableId}, declared.views.{Deed.Deed, Done.Done}}
-use Rattle.c104_workers.specs.Calls.{place_track}
+use Rattle.c104_turns.specs.Calls.{place_track}
 use Rattle.std.specs.Prelude.{List, None, Option, Some, [], slice_get, ℕ, ◌∷◌, ◌≡◌, ◌≢◌}
 
 -- a node behind its lock as it is seen: its place, and the node

@@ -1,9 +1,9 @@
 -- Ports of a shared network: what a worker does through them, of a node that it has locked and of each of its nodes.
 use Rattle.{c104_event.specs.declared.{events.Event.Event, faults.EventFault.EventFault}, c104_lean.specs.Nodes.HeldView}
 use Rattle.{c104_lean.specs.Working.{HasCalls, HasWorked, IsPartEvent, IsStop}, c104_node.specs.Tagged.tagged_kind}
-use Rattle.{c104_plan.specs.Plans.Plan, c104_run.specs.Network.event_fault, c104_workers.specs.{Calls.SeatView, Parts.IsOfKind}}
-use Rattle.c104_workers.specs.{Parts.ready_numbers, SeatGrowth.FaultsAs, Turns.End, Working.PartView, declared.parts.Stage.Stage}
-use Rattle.c104_workers.specs.declared.turns.Worker.{Worker}
+use Rattle.{c104_plan.specs.Plans.Plan, c104_run.specs.Network.event_fault, c104_turns.specs.{Calls.SeatView, Parts.IsOfKind}}
+use Rattle.c104_turns.specs.{Parts.ready_numbers, SeatGrowth.FaultsAs, Turns.End, Working.PartView, declared.parts.Stage.Stage}
+use Rattle.c104_turns.specs.declared.turns.Worker.{Worker}
 use Rattle.std.specs.Prelude.{All, Bool, Err, IfErr, List, Result, ℕ, ◌≡◌}
 
 -- what is listed for a stage of a part: the events that a node may begin, if it is of the part's kind

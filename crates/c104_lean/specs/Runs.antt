@@ -1,7 +1,7 @@
 -- All that was done on a shared network is one run.
 use Rattle.{c104_event.specs.declared.{events.Event.Event, faults.EventFault.EventFault}, c104_run.specs.NetRecords.NetRecord}
 use Rattle.{c104_run.specs.RecordedRuns.record_apply, c104_switch.specs.Actions.{Reply, is_ready}, c104_tickets.specs.Tickets.AreNumbered}
-use Rattle.{c104_tickets.specs.{Tickets.Each, declared.views.Done.Done}, c104_workers.specs.{Calls.SeatView, Logs.{calls_in, done_pair}}}
+use Rattle.{c104_tickets.specs.{Tickets.Each, declared.views.Done.Done}, c104_turns.specs.{Calls.SeatView, Logs.{calls_in, done_pair}}}
 use Rattle.std.specs.Prelude.{List, Ok, Result, [], length, map, true, ℕ, ◌+◌, ◌<◌, ◌∷◌, ◌≡◌}
 
 -- one event after another is applied to a network with its record: each was done, and answered so

@@ -1,9 +1,9 @@
 -- Seats that count what is done through them.
-use Rattle.{c104_audit.specs.declared.calls.Call.Call, c104_event.specs.declared.{events.Event.Event, faults.EventFault.EventFault}}
+use Rattle.c104_event.specs.declared.{calls.Call.Call, events.Event.Event, faults.EventFault.EventFault}
 use Rattle.{c104_node.specs.{Tagged.TaggedToken, declared.acts.ActOf.ActOf}, c104_switch.specs.Actions.{Reply, is_ready}}
 use Rattle.c104_tickets.specs.{Tickets.{Each, TableId}, declared.{TheConstants.TICKET_LIMIT, views.{Done.Done, Terms.Terms, Track.Track}}}
-use Rattle.{c104_tickets.specs.declared.views.View.View, c104_workers.specs.Calls.{IsOwn, SeatView, after_call, done_call, seat_track}}
-use Rattle.c104_workers.specs.{LentCalls.{IfDone, IsFresh}, SeatGrowth.FaultsAs}
+use Rattle.{c104_tickets.specs.declared.views.View.View, c104_turns.specs.Calls.{IfDone, IsFresh, IsOwn, SeatView, after_call, done_call}}
+use Rattle.c104_turns.specs.{Calls.seat_track, SeatGrowth.FaultsAs}
 use Rattle.std.specs.Prelude.{Err, List, None, Ok, Option, Result, [], false, length, map, slice_index_or, ℕ, ◌<◌, ◌∷◌, ◌≡◌, ◌≤◌, ◌⊎◌}
 
 -- what was done of the first of some tracks

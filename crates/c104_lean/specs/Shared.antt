@@ -2,8 +2,8 @@
 use Rattle.{c104_node.specs.{Places.bases, TracedRecords.{TracedRecord, counted_shown}}, c104_plan.specs.PlanParts.empty_plan}
 use Rattle.{c104_plan.specs.Plans.{IsPlan, Plan}, c104_run.specs.{Engines.{EngineView, engine_of, engine_record}, KnownWires.KnowWires}}
 use Rattle.c104_run.specs.{NetParts.node_count, NetRecords.NetRecord, RecordedNets.IsRecordedNet, RecordedPlaces.counted_reading}
-use Rattle.c104_tickets.specs.{Tickets.TableId, declared.{TheConstants.FIRST_LIMIT, views.Terms.Terms}}
-use Rattle.c104_workers.specs.Working.{IsPartOf, PartView}
+use Rattle.{c104_tickets.specs.{Tickets.TableId, declared.{TheConstants.FIRST_LIMIT, views.Terms.Terms}}, c104_turns.specs.Working.IsPartOf}
+use Rattle.c104_turns.specs.Working.{PartView}
 use Rattle.std.specs.Prelude.{All, List, [], length, map, ℕ, ◌≡◌, ◌≤◌}
 
 -- the nodes of a network as they stood, with what they had done, its plan, and how many events had been done

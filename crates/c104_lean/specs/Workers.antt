@@ -1,5 +1,5 @@
 -- How workers end, each of which uses a seat.
-use Rattle.{c104_event.specs.declared.faults.EventFault.EventFault, c104_workers.specs.{Calls.SeatView, declared.workers.RunFault.RunFault}}
+use Rattle.{c104_event.specs.declared.faults.EventFault.EventFault, c104_turns.specs.{Calls.SeatView, declared.faults.RunFault.RunFault}}
 use Rattle.std.specs.Prelude.{All, Err, List, None, Ok, Result, Some, length, slice_index_or, take, ℕ, ◌<◌, ◌≡◌}
 
 -- the worker of a seat did all its turns

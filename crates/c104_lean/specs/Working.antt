@@ -1,8 +1,8 @@
 -- What workers do to their seats. Of n workers each has a run of switches, and the terminals at these: so what crosses a wire
 -- seldom goes from a node of one worker to that of another.
-use Rattle.{c104_audit.specs.declared.calls.Call.Call, c104_event.specs.declared.{events.Event.Event, faults.EventFault.EventFault}}
-use Rattle.{c104_plan.specs.{Plans.Plan, declared.plans.Terminal.Terminal}, c104_run.specs.{Network.event_fault, NodeParts.round_part}}
-use Rattle.c104_workers.specs.{Calls.{IsSameSeat, SeatView}, SeatGrowth.FaultsAs, Words.{with_word, word_of}, declared.words.Words.Words}
+use Rattle.{c104_event.specs.declared.{calls.Call.Call, events.Event.Event, faults.EventFault.EventFault}, c104_plan.specs.Plans.Plan}
+use Rattle.{c104_plan.specs.declared.plans.Terminal.Terminal, c104_run.specs.{Network.event_fault, NodeParts.round_part}}
+use Rattle.c104_turns.specs.{Calls.{IsSameSeat, SeatView}, SeatGrowth.FaultsAs, Words.{with_word, word_of}, declared.words.Words.Words}
 use Rattle.std.specs.Prelude.{All, Contains, Err, List, None, Option, Some, if◌then◌else◌, length, max, min, nat_lt, slice_get, ℕ, ◌*◌}
 use Rattle.std.specs.Prelude.{◌++◌, ◌-◌, ◌/◌, ◌≡◌, ◌⊎◌}
 

@@ -2,10 +2,10 @@
 //!
 //! Whether it is ready is told by the node's own answer. The event joins the log behind that, so that only what was done does, and
 //! the act is counted last: the seat tells proofs with which ticket.
-ghost use Rattle.std.specs.Prelude.{IfErr, MatchOption, None, Some, length, ◌-◌, ◌<◌, ◌≡◌};
 ghost use Rattle.c104_lean.specs.{Nodes.{AsksBoth, AsksNode}, Seats.{Follows, IsLimitOf}, Working.HasCalls};
 ghost use Rattle.c104_node.specs.{Acts.{IsWithinLimits, plain_reply}, PortActs.act_limit, Tagged.tagged_kind, Traces.trace_limit};
-ghost use Rattle.{c104_tickets.specs.declared.TheConstants.TICKET_LIMIT, c104_workers.specs.SeatGrowth.IsLaterFault};
+ghost use Rattle.{c104_tickets.specs.declared.TheConstants.TICKET_LIMIT, c104_turns.specs.SeatGrowth.IsLaterFault};
+ghost use Rattle.std.specs.Prelude.{IfErr, MatchOption, None, Some, length, ◌-◌, ◌<◌, ◌≡◌};
 
 use crate::held::HeldNode;
 use crate::seats::CountedSeat;

@@ -2,8 +2,8 @@
 //!
 //! Beside it lie its place, and the pass with the place's track of the log. So whoever has the lock knows all that the node
 //! did, and no event of the node can be done without it.
+ghost use Rattle.{c104_lean.specs.Nodes.IsHeld, c104_turns.specs.Calls.place_track};
 ghost use Rattle.std.specs.Prelude.{Some, [], slice_get, ◌∷◌, ◌≡◌};
-ghost use Rattle.{c104_lean.specs.Nodes.IsHeld, c104_workers.specs.Calls.place_track};
 
 use crate::sharing::Sharing;
 use c104_node::CountedNode;

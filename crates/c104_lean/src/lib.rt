@@ -22,7 +22,7 @@ mod sharing;
 mod workers;
 
 pub use c104_net::TracedNet;
-pub use c104_workers::{FabricFault, RunFault, Words};
+pub use c104_turns::{FabricFault, RunFault, Words};
 pub use making::Ready;
 pub use seats::CountedSeat;
 pub use shared_net::SharedNet;

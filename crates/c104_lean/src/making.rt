@@ -2,11 +2,11 @@
 //!
 //! The network is taken apart last, when all memory is there but for the locks: so one that is refused is given back itself. It
 //! is made in two steps, since the type of what lies behind the locks names the log, which has to be there before.
-ghost use Rattle.std.specs.{Prelude.{IfOk, MatchResult, [], length, map, ◌≡◌, ◌≤◌}, Vec.vec_capacity};
 ghost use Rattle.{c104_lean.specs.{Seats.AreSeatsOf, Shared.{ArePartsOf, record_of, terms_of}}, c104_run.specs.NetParts.node_count};
 ghost use Rattle.c104_tickets.specs.{Tickets.{first_view, place_tracks}, declared.TheConstants.{FIRST_LIMIT, SEAT_LIMIT, TICKET_LIMIT}};
-ghost use Rattle.c104_workers.specs.Fabrics.{IsSeatCount, fabric_fault, first_seats};
-ghost use Rattle.c104_workers.specs.declared.making.FabricFault.TheVariants as fabric_fault_of;
+ghost use Rattle.c104_turns.specs.FirstSeats.{IsSeatCount, fabric_fault, first_seats};
+ghost use Rattle.std.specs.{Prelude.{IfOk, MatchResult, [], length, map, ◌≡◌, ◌≤◌}, Vec.vec_capacity};
+ghost use Rattle.c104_turns.specs.declared.faults.FabricFault.TheVariants as fabric_fault_of;
 
 use crate::closing::Placed;
 use crate::held::HeldNode;
@@ -18,7 +18,7 @@ use c104_node::CountedNode;
 use c104_run::Wires;
 use c104_tickets::{DeedLog, Pass, SEAT_LIMIT, Terms};
 use c104_token::NoMemory as OutOfMemory;
-use c104_workers::{FabricFault, Part};
+use c104_turns::{FabricFault, Part};
 use std::alloc::Global;
 use std::marker::{Model, PhantomData};
 use std::sync::Mutex;
@@ -38,9 +38,9 @@ pub struct Ready {
 }
 
 impl Model for Ready {
-    ghost use Rattle.std.specs.{Prelude.{[], ◌≡◌, ◌≤◌}, Vec.vec_capacity};
     ghost use Rattle.{c104_lean.specs.Shared.{ArePartsOf, SharedView, WasShared, record_of, terms_of}, c104_run.specs.Engines.engine_of};
-    ghost use Rattle.{c104_tickets.specs.{Tickets.first_view, declared.TheConstants.TICKET_LIMIT}, c104_workers.specs.Fabrics.IsSeatCount};
+    ghost use Rattle.{c104_tickets.specs.{Tickets.first_view, declared.TheConstants.TICKET_LIMIT}, c104_turns.specs.FirstSeats.IsSeatCount};
+    ghost use Rattle.std.specs.{Prelude.{[], ◌≡◌, ◌≤◌}, Vec.vec_capacity};
 
     ghost Value = { SharedView };
 

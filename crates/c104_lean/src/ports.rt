@@ -9,7 +9,7 @@ use crate::sharing::Sharing;
 use c104_event::{Event, EventFault};
 use c104_node::Place;
 use c104_token::NoMemory;
-use c104_workers::{NodePort, Part, PartPort, Stage, Worker};
+use c104_turns::{NodePort, Part, PartPort, Stage, Worker};
 use std::thread::yield_now;
 
 /// How often others may run between two turns that do nothing.

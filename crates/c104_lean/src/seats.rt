@@ -1,10 +1,10 @@
 //! A seat that counts what is done through it.
 //!
 //! While an event joins the log, the seat has the passes of the places of the event's nodes.
+ghost use Rattle.{c104_lean.specs.{Nodes.{alone_deed, both_deed}, Seats.{first_done, last_ticket}}, c104_node.specs.Acts.plain_reply};
+ghost use Rattle.{c104_node.specs.Tagged.tagged_kind, c104_tickets.specs.{Tickets.Each, declared.TheConstants.TICKET_LIMIT}};
+ghost use Rattle.c104_turns.specs.{Calls.{IsFresh, IsOwn, after_call, done_call, place_track, seat_track}, FirstSeats.first_seat};
 ghost use Rattle.std.specs.Prelude.{[], false, length, map, ◌++◌, ◌<◌, ◌∷◌, ◌≡◌, ◌≤◌};
-ghost use Rattle.{c104_lean.specs.{Nodes.{alone_deed, both_deed}, Seats.{first_done, last_ticket}}, c104_node.specs.{Acts.plain_reply, Tagged.tagged_kind}};
-ghost use Rattle.c104_tickets.specs.{Tickets.Each, declared.TheConstants.TICKET_LIMIT};
-ghost use Rattle.c104_workers.specs.{Calls.{IsOwn, after_call, done_call, place_track, seat_track}, Fabrics.first_seat, LentCalls.IsFresh};
 
 use c104_event::{Event, EventFault};
 use c104_node::TaggedToken;
@@ -28,7 +28,7 @@ pub struct CountedSeat {
 }
 
 impl Model for CountedSeat {
-    ghost use Rattle.{c104_lean.specs.Seats.{IsCountedSeat, counted_seat}, c104_workers.specs.Calls.SeatView};
+    ghost use Rattle.{c104_lean.specs.Seats.{IsCountedSeat, counted_seat}, c104_turns.specs.Calls.SeatView};
 
     ghost Value = { SeatView };
 

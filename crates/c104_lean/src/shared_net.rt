@@ -1,7 +1,7 @@
 //! A shared network: nodes behind locks of their own, and the log of all that is done, which exists in proofs alone.
-ghost use Rattle.std.specs.Prelude.{Err, IfErr, ◌<◌, ◌≡◌};
 ghost use Rattle.{c104_lean.specs.{Nodes.AsksBoth, Shared.{ArePartsOf, WasShared}, Working.HasCalls}, c104_plan.specs.Plans.IsPlan};
-ghost use Rattle.{c104_run.specs.{NetParts.node_count, Network.event_fault}, c104_workers.specs.SeatGrowth.{FaultsAs, IsLaterFault}};
+ghost use Rattle.{c104_run.specs.{NetParts.node_count, Network.event_fault}, c104_turns.specs.SeatGrowth.{FaultsAs, IsLaterFault}};
+ghost use Rattle.std.specs.Prelude.{Err, IfErr, ◌<◌, ◌≡◌};
 
 use crate::closing::Placed;
 use crate::doing::{cross_often, do_alone, is_done};
@@ -14,7 +14,7 @@ use c104_plan::Plan;
 use c104_run::{Asked, Wires, acts_of};
 use c104_switch::{Reply, ReplyOf};
 use c104_tickets::{DeedLog, Pass};
-use c104_workers::Part;
+use c104_turns::Part;
 use std::marker::{Model, PhantomData};
 use std::sync::{Mutex, Wait};
 

@@ -14,7 +14,7 @@ pub trait Sharing {
 }
 
 impl Sharing for Brand {
-    ghost use Rattle.{c104_lean.specs.Shared.nothing_shared, c104_workers.specs.Fabrics.no_word};
+    ghost use Rattle.{c104_lean.specs.Shared.nothing_shared, c104_turns.specs.FirstSeats.no_word};
 
     ghost word = { no_word };
 

@@ -5,9 +5,9 @@
 //!
 //! What costs time where several threads work is memory that another one wrote last. So neighbours in the list of switches have
 //! one worker, a node is locked once for its part, and a wire's far end once for all that crosses it then.
-ghost use Rattle.std.specs.Prelude.{All, IfErr, IfOk, IfSome, MatchBool, length, slice_index_or, ℕ, ◌<◌, ◌≡◌, ◌≢◌, ◌≤◌};
 ghost use Rattle.c104_lean.specs.{Seats.AreSeatsOf, Workers.CountedEndsAs, Working.{HasWorked, IsPartEvent, IsStop, worker_of}};
-ghost use Rattle.c104_workers.specs.{Calls.SeatView};
+ghost use Rattle.c104_turns.specs.Calls.{SeatView};
+ghost use Rattle.std.specs.Prelude.{All, IfErr, IfOk, IfSome, MatchBool, length, slice_index_or, ℕ, ◌<◌, ◌≡◌, ◌≢◌, ◌≤◌};
 
 use crate::ports::SharedPort;
 use crate::seats::CountedSeat;
@@ -15,7 +15,7 @@ use crate::shared_net::SharedNet;
 use crate::sharing::Sharing;
 use c104_event::EventFault;
 use c104_token::NoMemory;
-use c104_workers::{Part, RunFault, Words, do_turns};
+use c104_turns::{Part, RunFault, Words, do_turns};
 use std::alloc::Global;
 use std::sync::Wait;
 use std::thread::{Threads, for_each_mut};
@@ -122,7 +122,7 @@ impl<N: Sharing> Worker<'_, N> {
         let mut port = SharedPort {
             shared,
             seat,
-            worker: c104_workers::Worker {
+            worker: c104_turns::Worker {
                 number: self.number,
                 words: self.words,
                 times: MOST_TIMES,

@@ -1,6 +1,6 @@
 -- A storm that says that it isn't quiet left a network that doesn't stand still, if no channels depend on one another in a cycle.
 use Rattle.c104_check.specs.{ChannelDependencies.IsAcyclic, Routes.{IsAccepted, Routes, routes_of}}
-use Rattle.c104_deadlock.{proofs.{StandingRuns.stands_quiet, UndoneRounds.undone_stands}, specs.DeadlockFreedom.IsAcyclicRun}
+use Rattle.c104_deadlock.proofs.{AcyclicRuns.IsAcyclicRun, StandingRuns.stands_quiet, UndoneRounds.undone_stands}
 use Rattle.{c104_describe.specs.PlanText.read_description, c104_node.specs.declared.starts.NodeStart.NodeStart}
 use Rattle.{c104_plan.specs.{PlanImage.{AreSettings, Fits, Image}, Plans.{IsPlan, Plan}}, c104_run.specs.FinishedRecords.record_finish}
 use Rattle.c104_run.specs.{NetRecords.NetRecord, Network.network_of, QuietNets.IsQuiet, Standstill.StandsStill}

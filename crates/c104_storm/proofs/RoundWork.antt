@@ -1,12 +1,12 @@
 -- What workers do are events of rounds: they send nothing, and set nothing.
-use Rattle.{c104_audit.specs.declared.calls.Call.Call, c104_deadlock.proofs.RoundMembers.each_of_round}
-use Rattle.{c104_event.specs.declared.events.Event.Event, c104_lean.specs.Working.IsOwnEvent, c104_net.specs.RoundEvents.IsOfRound}
-use Rattle.{c104_plan.{proofs.RangeLists.all_of_each, specs.Plans.Plan}, c104_run.specs.{EventPlaces.event_place, NodeParts.round_part}}
-use Rattle.{c104_run.specs.Rounds.round, c104_storm.specs.Workers.{AreDoneBy, Team}, c104_tickets.specs.Tickets.Each}
-use Rattle.{c104_tickets.specs.declared.views.Done.Done, c104_workers.specs.{Calls.SeatView, Logs.{call_if, calls_in}, Words.with_word}}
-use Rattle.{c104_workers.specs.declared.words.Words.Words, std.proofs.Common.{Bool, Contains, List, [], arith, false, length, nat_eq}}
-use Rattle.std.proofs.{Common.{slice_index_or, subst, suc, sym, true, zero, ℕ, ◌<◌, ◌∷◌, ◌≡◌}, lemmas.Bool.Decides.nat_tests}
-use Rattle.std.{proofs.lemmas.List.Elements.{All-contains, All-filter, recursion_from_All}, specs.List.AllByRecursion}
+use Rattle.{c104_deadlock.proofs.RoundMembers.each_of_round, c104_event.specs.declared.{calls.Call.Call, events.Event.Event}}
+use Rattle.{c104_lean.specs.Working.IsOwnEvent, c104_net.specs.RoundEvents.IsOfRound, c104_plan.proofs.RangeLists.all_of_each}
+use Rattle.{c104_plan.specs.Plans.Plan, c104_run.specs.{EventPlaces.event_place, NodeParts.round_part, Rounds.round}}
+use Rattle.{c104_storm.specs.Workers.{AreDoneBy, Team}, c104_tickets.specs.{Tickets.Each, declared.views.Done.Done}}
+use Rattle.c104_turns.specs.{Calls.SeatView, Logs.{call_if, calls_in}, Words.with_word, declared.words.Words.Words}
+use Rattle.std.proofs.Common.{Bool, Contains, List, [], arith, false, length, nat_eq, slice_index_or, subst, suc, sym, true, zero, ℕ, ◌<◌}
+use Rattle.std.proofs.{Common.{◌∷◌, ◌≡◌}, lemmas.{Bool.Decides.nat_tests, List.Elements.{All-contains, All-filter, recursion_from_All}}}
+use Rattle.std.specs.List.{AllByRecursion}
 
 -- each event of a round is such a one, and stays so with another word
 part_of : (plan : Plan) (k : ℕ) (e : Event) → Contains (round_part plan k) e → IsOfRound e

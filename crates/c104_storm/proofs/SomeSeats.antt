@@ -1,6 +1,6 @@
 -- A shared network has at least one seat.
-use Rattle.{c104_tickets.specs.{Tickets.TableId, declared.views.Terms.Terms}, c104_workers.specs.{Calls.SeatView, Fabrics.first_seat}}
-use Rattle.{c104_workers.specs.Fabrics.first_seats, std.proofs.Common.{List, ap, arith, length, ◌≡◌, ◌≤◌}}
+use Rattle.{c104_tickets.specs.{Tickets.TableId, declared.views.Terms.Terms}, c104_turns.specs.{Calls.SeatView, FirstSeats.first_seat}}
+use Rattle.{c104_turns.specs.FirstSeats.first_seats, std.proofs.Common.{List, ap, arith, length, ◌≡◌, ◌≤◌}}
 use Rattle.std.proofs.lemmas.List.FromFn.{length-map-range_with_len}
 
 pub some_seats : (word_id : TableId) (terms : Terms) (seats : List SeatView) → seats ≡ first_seats word_id terms → 1 ≤ terms.seats

@@ -4,7 +4,7 @@ use Rattle.{c104_run.specs.NetRecords.NetRecord, c104_storm.specs.{Endings.Write
 use Rattle.c104_storm.specs.{Storms.{MayEndAfter, MayWrite, StormsOn, StormsPlan}, Workers.{AreDoneBy, Team}}
 use Rattle.{c104_storm.specs.declared.sends.Sending.Sending, c104_stream.proofs.Growing.{grew_none, grew_prefix, grew_then}}
 use Rattle.c104_stream.{proofs.{Prefixes.prefix_next, ScriptEnds.nothing_answered}, specs.{ScriptLines.is_long, Scripts.AnswersScript}}
-use Rattle.{c104_stream.specs.{Scripts.script_outcome, Writing.Grew, declared.halt.Halt.Halt}, c104_workers.specs.Calls.SeatView}
+use Rattle.{c104_stream.specs.{Scripts.script_outcome, Writing.Grew, declared.halt.Halt.Halt}, c104_turns.specs.Calls.SeatView}
 use Rattle.std.proofs.Common.{Bool, Err, List, None, Ok, Option, Result, Some, [], inl, inr, refl, subst, sym, ℕ, ◌++◌, ◌≡◌}
 use Rattle.std.{proofs.KnownBytes.Appends-trans, specs.Io.KnownBytes.{Appends, prepend_known}}
 

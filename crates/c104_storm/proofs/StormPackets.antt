@@ -17,8 +17,8 @@ use Rattle.c104_storm.specs.{Endings.{IsEndText, IsEnding}, Packets.{EndsWith, M
 use Rattle.c104_storm.specs.{Packets.{WritesSentPackets, script_sent, shown_text}, Sends.{new_sending, send_outcome}, Storms.MayStorm}
 use Rattle.c104_storm.specs.{Texts.audited_line, Workers.{AreDoneBy, Team}, declared.{endings.Ending.Ending, sends.Sending.Sending}}
 use Rattle.{c104_stream.specs.{ScriptLines.{is_long, script_lines}, Scripts.script_outcome}, c104_switch.specs.Actions.Reply}
-use Rattle.{c104_tickets.specs.declared.views.Done.Done, c104_token.specs.declared.packets.Packet.Packet, c104_workers.specs.Calls.SeatView}
-use Rattle.{c104_workers.specs.Logs.done_pair, std.proofs.Common.{Bool, Err, List, Ok, Result, [], ap, arith, false, inl, inr, length, map}}
+use Rattle.{c104_tickets.specs.declared.views.Done.Done, c104_token.specs.declared.packets.Packet.Packet, c104_turns.specs.Calls.SeatView}
+use Rattle.{c104_turns.specs.Logs.done_pair, std.proofs.Common.{Bool, Err, List, Ok, Result, [], ap, arith, false, inl, inr, length, map}}
 use Rattle.std.proofs.{Common.{nat_lt, refl, subst, sym, true, ℕ, ◌++◌, ◌+◌, ◌∙◌, ◌∷◌, ◌≡◌, ◌≤◌}, lemmas.Bool.Decides.nat_tests}
 use Rattle.std.{proofs.lemmas.{List.length-map, Option.slice_get_past}, specs.List.AllByRecursion}
 

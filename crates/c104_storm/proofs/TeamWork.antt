@@ -4,7 +4,7 @@ use Rattle.c104_lean.specs.{Runs.AreApplied, Seats.AreAllSeats, Workers.StoppedF
 use Rattle.{c104_plan.specs.Plans.Plan, c104_run.{proofs.RecordedRuns.record_plan, specs.NetRecords.NetRecord}}
 use Rattle.c104_storm.specs.{Workers.{AreDoneBy, HaveWorked, IsDoneBy, IsStopOf, Team, team_of}, declared.working.Worked.Worked}
 use Rattle.{c104_switch.specs.Actions.Reply, c104_tickets.specs.{Tickets.TableId, declared.views.Terms.Terms}}
-use Rattle.c104_workers.specs.{Calls.SeatView, Fabrics.{first_seat, first_seats}, declared.{words.Words.Words, workers.RunFault.RunFault}}
+use Rattle.c104_turns.specs.{Calls.SeatView, FirstSeats.{first_seat, first_seats}, declared.{faults.RunFault.RunFault, words.Words.Words}}
 use Rattle.std.proofs.Common.{All, IfSome, List, Option, Result, [], ap, arith, drop, get_or, length, refl, slice_index_or, subst, sym}
 use Rattle.std.proofs.{Common.{take, ℕ, ◌++◌, ◌<◌, ◌∙◌, ◌∷◌, ◌≡◌}, Math.Seq.take-append_seam, lemmas.List.FromFn.get_or-map-range_with_len}
 use Rattle.std.proofs.lemmas.List.FromFn.{length-map-range_with_len}

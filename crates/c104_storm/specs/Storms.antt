@@ -3,7 +3,7 @@ use Rattle.{c104_lean.specs.Runs.IsSharedRun, c104_plan.specs.{PlanImage.Image, 
 use Rattle.{c104_run.specs.NetRecords.NetRecord, c104_storm.specs.{Endings.MayEnd, Sends.{new_sending, send_outcome}, Workers.AreDoneBy}}
 use Rattle.{c104_storm.specs.{Workers.Team, declared.sends.Sending.Sending}, c104_stream.specs.{ScriptLines.is_long, Scripts.AnswersPrefix}}
 use Rattle.c104_stream.specs.{Scripts.{StopsAnswered, script_outcome}, Writing.{AppendsPrefix, Grew}, declared.halt.Halt.Halt}
-use Rattle.c104_workers.specs.Calls.{SeatView}
+use Rattle.c104_turns.specs.Calls.{SeatView}
 use Rattle.std.specs.{Io.KnownBytes.Appends, Prelude.{Bool, Err, List, None, Ok, Option, Result, Some, ℕ, ◌++◌, ◌≡◌, ◌⊎◌}}
 
 -- a storm by such a team may end with a text, and be refused or not, which its workers began with this network: they left one to

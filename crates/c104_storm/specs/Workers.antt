@@ -1,6 +1,6 @@
 -- The workers of a storm: how many there are, and what they did.
 use Rattle.{c104_lean.specs.Working.{HasWorked, IsOwnEvent, IsStop}, c104_plan.specs.Plans.Plan}
-use Rattle.{c104_storm.specs.declared.working.Worked.Worked, c104_workers.specs.{Calls.SeatView, declared.words.Words.Words}}
+use Rattle.{c104_storm.specs.declared.working.Worked.Worked, c104_turns.specs.{Calls.SeatView, declared.words.Words.Words}}
 use Rattle.std.specs.Prelude.{All, List, length, slice_index_or, ℕ, ◌<◌, ◌≡◌}
 
 -- how many workers a storm has, and by which words they do turns

@@ -3,7 +3,9 @@ ghost use Rattle.std.specs.Prelude.{◌≤◌};
 ghost use Rattle.c104_tickets.specs.declared.TheConstants.{TICKET_LIMIT};
 
 use c104_tickets::TICKET_LIMIT;
-use c104_workers::CALL_LIMIT;
+
+/// How many events a worker may do where a storm is as the specification has it: as many as a seat of a fabric keeps calls.
+const LISTED: u64 = 1_048_576;
 
 /// The turns that workers do before it is asked whether all is quiet, where a storm is as the specification has it.
 const TURNS: u32 = 64;
@@ -26,7 +28,7 @@ impl Allowance {
         ensures { result ≤ TICKET_LIMIT }
     {
         match self {
-            Allowance::Listed => CALL_LIMIT as u64,
+            Allowance::Listed => LISTED,
             Allowance::Counted => TICKET_LIMIT,
         }
     }

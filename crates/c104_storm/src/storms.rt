@@ -1,11 +1,11 @@
 //! A storm, on the network of a plan.
 //!
 //! Its network is loaded, as a run's is: that this comes to the network placed with the image is proved of the load.
-ghost use Rattle.std.specs.Prelude.{length, ◌≡◌, ◌≤◌};
 ghost use Rattle.{c104_lean.specs.{Seats.AreSeatsOf, Shared.record_of}, c104_plan.specs.PlanImage.{Fits, Image as TheImage}};
 ghost use Rattle.{c104_plan.specs.Plans.Plan as ThePlan, c104_storm.specs.{Moving.NeverStandsStill, Packets.WritesSentPackets}};
 ghost use Rattle.c104_storm.specs.{Sends.{new_sending, send_outcome}, Storms.{StormsOn, StormsPlan}, Workers.team_of};
-ghost use Rattle.{c104_stream.specs.Scripts.AnswersScript, c104_workers.specs.Fabrics.first_seats};
+ghost use Rattle.{c104_stream.specs.Scripts.AnswersScript, c104_turns.specs.FirstSeats.first_seats};
+ghost use Rattle.std.specs.Prelude.{length, ◌≡◌, ◌≤◌};
 
 use crate::allowance::Allowance;
 use crate::endings::{Sent, write_end};

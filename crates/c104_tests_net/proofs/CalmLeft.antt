@@ -1,8 +1,8 @@
 -- What a fabric left whose network nobody changed: its nodes are those of such a network, with the run of the seats' calls. So
 -- the theorems hold of that run.
-use Rattle.c104_audit.specs.{AuditedRuns.{AreSeated, IsAuditedRun, seat_calls}, Audits.is_number, Calls.call_of, Leads.list_at}
-use Rattle.{c104_audit.specs.declared.calls.Call.Call, c104_check.specs.{ChannelDependencies.IsAcyclic, Routes.{IsAccepted, Routes}}}
-use Rattle.{c104_check.specs.Routes.routes_of, c104_deadlock.specs.DeadlockFreedom.EndsWithoutDeadlock}
+use Rattle.c104_audit.specs.{AuditedRuns.{AreSeated, IsAuditedRun, seat_calls}, Audits.is_number, Leads.list_at}
+use Rattle.c104_check.specs.{ChannelDependencies.IsAcyclic, Routes.{IsAccepted, Routes, routes_of}}
+use Rattle.{c104_deadlock.specs.DeadlockFreedom.EndsWithoutDeadlock, c104_event.specs.{Calls.call_of, declared.calls.Call.Call}}
 use Rattle.{c104_event.specs.declared.events.Event.Event, c104_link.proofs.MadeSteps.All-place, c104_net.specs.RunOrigins.AreOrigins}
 use Rattle.{c104_net.specs.{ToldRuns.TellsEachRun, Unchanged.{AreStartsOf, IsUnchanged}}, c104_node.specs.{Nodes.Node, Records.node_start}}
 use Rattle.c104_node.specs.{Records.node_state, Starts.{IsStartedStart, start_node}, Traces.{Deed, seatless}, declared.acts.Entry.Entry}

@@ -1,14 +1,15 @@
 -- What workers do through seats: their calls are of events that rounds have, which change no network.
-use Rattle.{c104_audit.specs.declared.calls.Call.Call, c104_event.specs.declared.events.Event.Event, c104_net.specs.RoundEvents.IsOfRound}
+use Rattle.{c104_event.specs.declared.{calls.Call.Call, events.Event.Event}, c104_net.specs.RoundEvents.IsOfRound}
 use Rattle.{c104_plan.specs.Plans.Plan, c104_run.specs.{EventPlaces.event_place, NodeParts.round_part, Rounds.round}}
 use Rattle.c104_tests_net.{proofs.CalmSteps.round_of, specs.CalmFabrics.{HasDoneRounds, HaveDoneRounds, IsLeftByWorkers, IsRoundCall}}
-use Rattle.{c104_tickets.specs.{Tickets.TableId, declared.views.Terms.Terms}, c104_workers.specs.{Calls.SeatView, Fabrics.{Handed, Left}}}
-use Rattle.c104_workers.specs.{Fabrics.{calls_of, first_seat, first_seats, seat_view}, Words.with_word, Working.{HasWorked, IsOwnEvent}}
-use Rattle.{c104_workers.specs.{Working.IsPartEvent, declared.{calls.SeatCalls.SeatCalls, words.Words.Words}}, std.proofs.Common.All}
-use Rattle.std.proofs.Common.{List, [], ap, arith, drop, false, get_or, length, map, nat_eq, refl, slice_index_or, subst, sym, take, ℕ}
-use Rattle.std.proofs.{Common.{◌++◌, ◌<◌, ◌∙◌, ◌≡◌}, Math.Seq.take-append_seam, lemmas.List.Elements.{All-append, All-contains, All-filter}}
-use Rattle.std.proofs.lemmas.List.{Elements.{All-from_recursion, All-nil, All-weaker}, FromFn.get_or-map-range_with_len}
-use Rattle.std.proofs.lemmas.List.{FromFn.length-map-range_with_len, append-nil, append_assoc, get_or-map, length-map}
+use Rattle.{c104_tickets.specs.{Tickets.TableId, declared.views.Terms.Terms}, c104_turns.specs.{Calls.SeatView, FirstSeats.first_seat}}
+use Rattle.c104_turns.specs.{FirstSeats.first_seats, Words.with_word, Working.{HasWorked, IsOwnEvent, IsPartEvent}}
+use Rattle.{c104_turns.specs.declared.words.Words.Words, c104_workers.specs.Fabrics.{Handed, Left, calls_of, seat_view}}
+use Rattle.{c104_workers.specs.declared.calls.SeatCalls.SeatCalls, std.proofs.Common.{All, List, [], ap, arith, drop, false, get_or}}
+use Rattle.std.proofs.Common.{length, map, nat_eq, refl, slice_index_or, subst, sym, take, ℕ, ◌++◌, ◌<◌, ◌∙◌, ◌≡◌}
+use Rattle.std.proofs.{Math.Seq.take-append_seam, lemmas.List.Elements.{All-append, All-contains, All-filter, All-from_recursion, All-nil}}
+use Rattle.std.proofs.lemmas.List.{Elements.All-weaker, FromFn.{get_or-map-range_with_len, length-map-range_with_len}, append-nil}
+use Rattle.std.proofs.lemmas.List.{append_assoc, get_or-map, length-map}
 
 -- an event of a round with another word
 with_of : (w : ℕ) (e : Event) → IsOfRound e → IsOfRound (with_word w e)

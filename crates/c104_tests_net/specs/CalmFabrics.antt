@@ -3,13 +3,13 @@
 --     IsCalmLeft plan image left      what a fabric left whose network nobody changed, before or through a seat
 --     AreLeftOrigins routes left lists      the lists are the origins of what arrived in the run of the seats' calls
 --     StandsQuiet left      where the nodes stand still, they are quiet
-use Rattle.{c104_audit.specs.declared.calls.Call.Call, c104_check.specs.Routes.{Routes, routes_of}, c104_net.specs.RoundEvents.IsOfRound}
+use Rattle.{c104_check.specs.Routes.{Routes, routes_of}, c104_event.specs.declared.calls.Call.Call, c104_net.specs.RoundEvents.IsOfRound}
 use Rattle.{c104_node.specs.{Records.node_state, declared.origins.Origin.Origin}, c104_plan.specs.{PlanImage.Image, Plans.Plan}}
 use Rattle.c104_run.specs.{FinishedRecords.FinishedRecord, NetRecords.NetRecord, Network.{Network, network_of}, QuietNets.IsQuiet}
 use Rattle.{c104_run.specs.Standstill.StandsStill, c104_tests_net.specs.CalmNets.{IsCalm, IsCalmDone, IsListed, IsNamed}}
 use Rattle.{c104_tests_net.specs.FoundPackets.AreFoundOnce, c104_token.specs.{Kinds.plain_kind, declared.tokens.Token.Token}}
-use Rattle.c104_workers.specs.{Audited.TellsSeats, Calls.{IsSameSeat, SeatView}, Fabrics.{Handed, Left, handed_of}, OneRuns.IsWhole}
-use Rattle.c104_workers.specs.declared.calls.SeatCalls.{SeatCalls}
+use Rattle.{c104_turns.specs.Calls.{IsSameSeat, SeatView}, c104_workers.specs.{Audited.TellsSeats, Fabrics.{Handed, Left, handed_of}}}
+use Rattle.c104_workers.specs.{OneRuns.IsWhole, declared.calls.SeatCalls.SeatCalls}
 use Rattle.std.specs.{Global.Vec as Kept, Prelude.{All, List, length, map, slice_index_or, ℕ, ◌++◌, ◌<◌, ◌≡◌}}
 
 -- a call of an event that left registers as they were, and sent what any terminal may send

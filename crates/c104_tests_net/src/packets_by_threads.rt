@@ -4,11 +4,11 @@
 //! So where the labels are accepted all premises of the theorem hold of the run that the seats' calls tell, which
 //! `Gathered::run` gives, as of a run of one thread; and the contract of `Run::origins` says of a received packet which
 //! one it is.
-ghost use Rattle.std.specs.Prelude.{IfOk, length, map, ◌≡◌, ◌≤◌};
 ghost use Rattle.{c104_check.specs.{ChannelDependencies.IsNeverRandomized, Routes.{IsAccepted, routes_of}}, c104_plan.specs.PlanImage.Fits};
 ghost use Rattle.c104_tests_net.specs.CalmFabrics.{AreLeftOrigins, HaveDoneRounds, IsCalmLeft, IsLeftByWorkers, IsNamedBySeats};
-ghost use Rattle.{c104_tests_net.specs.CalmNets.{IsCalm, IsNamedByCheck}, c104_workers.specs.Fabrics.{AreSeatsOf, first_seats, handed_of}};
-ghost use Rattle.c104_workers.specs.{Fabrics.seat_view, OneRuns.IsWhole};
+ghost use Rattle.{c104_tests_net.specs.CalmNets.{IsCalm, IsNamedByCheck}, c104_turns.specs.FirstSeats.first_seats};
+ghost use Rattle.c104_workers.specs.{Fabrics.{AreSeatsOf, handed_of, seat_view}, OneRuns.IsWhole};
+ghost use Rattle.std.specs.Prelude.{IfOk, length, map, ◌≡◌, ◌≤◌};
 
 use crate::calls::{drop_plan, drop_run, plan_of};
 use crate::deadlock::{MESH, send_two};

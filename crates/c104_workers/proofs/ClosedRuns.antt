@@ -1,8 +1,8 @@
 -- What a fabric leaves when its word is closed is one run.
 use Rattle.{c104_node.specs.Records.{NodeRecord, NodeRoom}, c104_plan.specs.Plans.IsPlan, c104_run.specs.NetParts.node_count}
-use Rattle.c104_tickets.specs.{Tickets.AreNumbered, declared.views.{Done.Done, Terms.Terms, Track.Track}}
+use Rattle.{c104_tickets.specs.{Tickets.AreNumbered, declared.views.{Done.Done, Terms.Terms, Track.Track}}, c104_turns.specs.Calls.SeatView}
 use Rattle.c104_workers.proofs.{ClosedNodes.nodes_did, ClosedWords.{log_seated, log_seats}, LogRecords.{all_inside, log_is}}
-use Rattle.c104_workers.specs.{Calls.SeatView, Closing.{HoldTracks, TellTracks}, Fabrics.{Handed, WasHanded, calls_of}, OneRuns.IsLeft}
+use Rattle.c104_workers.specs.{Closing.{HoldTracks, TellTracks}, Fabrics.{Handed, WasHanded, calls_of}, OneRuns.IsLeft}
 use Rattle.{c104_workers.specs.declared.calls.SeatCalls.SeatCalls, std.proofs.Common.{List, ap, length, map, subst, sym, ℕ, ◌+◌, ◌∙◌, ◌≡◌}}
 
 -- the nodes and the seats that were taken out tell one run

@@ -1,15 +1,12 @@
 -- What a word that was ended tells of the seats and the nodes whose tracks were taken in.
-use Rattle.{c104_audit.specs.{Calls.tickets_of, declared.calls.Call.Call}, c104_tickets.proofs.Parts.{all_stand, apart_left}}
-use Rattle.c104_tickets.proofs.Parts.{distinct_seats, each_left, each_once, each_right, each_seat, few_stand, none_twice}
-use Rattle.c104_tickets.specs.{Counts.{AreDistinct, AreNoneTwice, AreOnce, seat_tickets, tickets_in}, Tickets.{Each, IsClosed, IsInside}}
-use Rattle.c104_tickets.specs.{Tickets.{IsNameOf, kept_if, part_of}, declared.views.{Done.Done, Name.Name, Terms.Terms, Track.Track}}
-use Rattle.c104_workers.specs.{Calls.{IsOwn, SeatView, done_call}, Closing.{AreSeatTracks, TellTracks}, Fabrics.{all_tickets, calls_of}}
-use Rattle.{c104_workers.specs.{Logs.{call_if, calls_in}, OneRuns.IsSeatOfLog}, std.proofs.Common.{Bool, List, [], ap, arith, false}}
-use Rattle.std.proofs.Common.{length, map, refl, subst, sym, true, ℕ, ◌++◌, ◌<◌, ◌==◌, ◌∙◌, ◌∷◌, ◌≡◌, ◌≤◌}
+use Rattle.{c104_event.specs.Calls.tickets_of, c104_tickets.proofs.Parts.{all_stand, apart_left, distinct_seats, each_left, each_once}}
+use Rattle.c104_tickets.proofs.{Parts.{each_right, each_seat, few_stand, none_twice}, SeatTickets.{AreDistinct, seat_tickets, tickets_in}}
+use Rattle.c104_tickets.specs.{Counts.{AreNoneTwice, AreOnce}, Tickets.{Each, IsClosed, IsNameOf, kept_if, part_of}}
+use Rattle.{c104_tickets.specs.declared.views.{Done.Done, Name.Name, Terms.Terms, Track.Track}, c104_turns.proofs.SeatParts.IsPart}
+use Rattle.c104_turns.{proofs.SeatParts.{seat_part, seats_inside}, specs.Calls.{IsOwn, SeatView, done_call}}
+use Rattle.c104_workers.specs.{Closing.{AreSeatTracks, TellTracks}, Fabrics.{all_tickets, calls_of}, OneRuns.IsSeatOfLog}
+use Rattle.std.proofs.Common.{Bool, List, [], ap, arith, false, length, map, refl, subst, sym, true, ℕ, ◌++◌, ◌<◌, ◌==◌, ◌∙◌, ◌∷◌, ◌≡◌, ◌≤◌}
 use Rattle.std.proofs.lemmas.{Bool.Decides.nat_tests, List.length-map}
-
-pub itself : (n : ℕ) → (n == n) ≡ true
-itself n = grind (arith, nat_tests)
 
 -- the numbers of seats, and the names of their tracks
 abbrev pub numbers_of : List (SeatView × ℕ) → List ℕ
@@ -29,15 +26,6 @@ calls_tickets : (done : List Done) → tickets_of (map done_call done) ≡ ticke
 calls_tickets [] = refl
 calls_tickets (d ∷ done) = ap (λ ts. d.ticket ∷ ts) (calls_tickets done)
 
-calls_kept : (b : Bool) (d : Done) (rest : List Done) (calls : List Call) → map done_call rest ≡ calls
-    → map done_call (kept_if b d rest) ≡ call_if b d calls
-calls_kept true d rest calls is = ap (λ cs. done_call d ∷ cs) is
-calls_kept false d rest calls is = is
-
-part_calls : (s : ℕ) (log : List Done) → map done_call (part_of (Name.Seat s) log) ≡ calls_in s log
-part_calls s [] = refl
-part_calls s (d ∷ log) = calls_kept (d.deed.seat == s) d (part_of (Name.Seat s) log) (calls_in s log) (part_calls s log)
-
 -- what holds of a seat's part holds of all that it did
 part_all : (P : Done → Type 0) (s : ℕ) (log : List Done) → Each P (part_of (Name.Seat s) log) → Each (λ d. d.deed.seat ≡ s → P d) log
 part_all P s [] each = tt
@@ -49,19 +37,8 @@ part_all P s (d ∷ log) each = by_seat (d.deed.seat == s) refl each (part_all P
     by_seat true is each rest = ((λ own. each.0), rest each.1)
     by_seat false is each rest = ((λ own. absurd (let no : ⊥ = grind (arith, nat_tests, is, own) in no)), rest each)
 
--- the seats of a log are those that there are
-pub seats_inside : (terms : Terms) (count : ℕ) (log : List Done) → count ≡ terms.seats → Each (IsInside terms) log
-    → Each (λ d. d.deed.seat < count) log
-seats_inside terms count [] is each = tt
-seats_inside terms count (d ∷ log) is each =
-    (subst (λ n. d.deed.seat < n) (sym is) (each.0 (Name.Seat d.deed.seat) (itself d.deed.seat)), seats_inside terms count log is each.1)
-
 module _ (log : List Done) where
-  -- a track is a part of the log
-  abbrev pub IsPart : Track → Type 0
-  IsPart track = track.done ≡ part_of track.name log
-
-  tickets_are : (tracks : List Track) (seats : List (SeatView × ℕ)) → AreSeatTracks tracks seats → Each IsPart tracks
+  tickets_are : (tracks : List Track) (seats : List (SeatView × ℕ)) → AreSeatTracks tracks seats → Each (IsPart log) tracks
       → all_tickets seats ≡ seat_tickets (numbers_of seats) log
   tickets_are [] [] are parts = refl
   tickets_are [] (s ∷ seats) are parts = absurd are
@@ -72,7 +49,7 @@ module _ (log : List Done) where
       ∙ ap (λ ts. tickets_in (part_of (Name.Seat s.0.number) log) ++ ts) (tickets_are tracks seats are.1 parts.1)
 
   -- the calls of each seat are its part of the log
-  pub seats_of_log : (tracks : List Track) (seats : List (SeatView × ℕ)) → AreSeatTracks tracks seats → Each IsPart tracks
+  pub seats_of_log : (tracks : List Track) (seats : List (SeatView × ℕ)) → AreSeatTracks tracks seats → Each (IsPart log) tracks
       → Each (IsSeatOfLog log) (map calls_of seats)
   seats_of_log [] [] are parts = tt
   seats_of_log [] (s ∷ seats) are parts = absurd are
@@ -80,7 +57,7 @@ module _ (log : List Done) where
   seats_of_log (t ∷ tracks) (s ∷ seats) are parts =
       let own : t.done ≡ part_of (Name.Seat s.0.number) log = parts.0 ∙ ap (λ name. part_of name log) are.0.name in (
         record {
-          calls = are.0.calls ∙ ap (map done_call) own ∙ part_calls s.0.number log;
+          calls = are.0.calls ∙ ap (map done_call) own ∙ seat_part s.0.number log;
           own = λ none. part_all IsOwn s.0.number log (subst (Each IsOwn) own (are.0.own none));
         },
         seats_of_log tracks seats are.1 parts.1,

@@ -1,15 +1,13 @@
 -- What a draw does to the tracks that take part in it: those of a seat, of a node, and of two nodes.
-use Rattle.c104_audit.specs.{Calls.{call_of, tickets_of}, declared.calls.Call.Call}
-use Rattle.{c104_event.specs.declared.events.Event.Event, c104_switch.specs.Actions.Reply, c104_tickets.proofs.Free.is_free}
-use Rattle.c104_tickets.specs.{Tickets.{AreEarlier, Each, HasTrack, IsFree, TableId, after_draw, belongs, kept_if, part_of, track_after}, declared.TheConstants.TICKET_LIMIT}
-use Rattle.c104_workers.specs.declared.seats.TheConstants.{CALL_LIMIT}
-use Rattle.c104_tickets.specs.declared.views.{Deed.Deed, Done.Done, Name.Name, Terms.Terms, Track.Track, View.View}
-use Rattle.c104_workers.specs.{Calls.{IsOwn, IsSeat, SeatView, after_call, done_call, is_own, is_seat_full, lent_after, place_track, seat_track}, LentCalls.IsFresh}
-use Rattle.c104_workers.specs.Held.{lent_deed, node_deed, pair_deed}
-use Rattle.std.proofs.Common.{All, Bool, List, [], ap, arith, cond, false, inl, inr, length, map, refl, subst, suc, sym, true, ℕ, ◌++◌, ◌+◌, ◌<◌}
-use Rattle.std.proofs.Common.{◌==◌, ◌∙◌, ◌∷◌, ◌≡◌, ◌≢◌, ◌≤◌}
-use Rattle.std.proofs.lemmas.{Bool.Decides.nat_tests, List.{Elements.{All-cons, All-nil}, length-append, map-append}}
-use Rattle.std.specs.Prelude.{None, Option, Some, if◌then◌else◌, nat_le}
+use Rattle.{c104_event.specs.{Calls.{call_of, tickets_of}, declared.{calls.Call.Call, events.Event.Event}}, c104_switch.specs.Actions.Reply}
+use Rattle.c104_tickets.{proofs.Free.is_free, specs.Tickets.{AreEarlier, Each, HasTrack, IsFree, TableId, after_draw, belongs, kept_if}}
+use Rattle.c104_tickets.specs.{Tickets.{part_of, track_after}, declared.{TheConstants.TICKET_LIMIT, views.{Deed.Deed, Done.Done}}}
+use Rattle.{c104_tickets.specs.declared.views.{Name.Name, Terms.Terms, Track.Track, View.View}, c104_turns.specs.Calls.{IsFresh, IsOwn}}
+use Rattle.c104_turns.specs.Calls.{SeatView, after_call, done_call, is_own, lent_after, place_track, seat_track}
+use Rattle.c104_workers.specs.{Held.{lent_deed, node_deed, pair_deed}, Seats.{IsSeat, is_seat_full}, declared.seats.TheConstants.CALL_LIMIT}
+use Rattle.std.proofs.Common.{All, Bool, List, [], ap, arith, cond, false, inl, inr, length, map, refl, subst, suc, sym, true, ℕ, ◌++◌, ◌+◌}
+use Rattle.std.proofs.{Common.{◌<◌, ◌==◌, ◌∙◌, ◌∷◌, ◌≡◌, ◌≢◌, ◌≤◌}, lemmas.{Bool.Decides.nat_tests, List.Elements.{All-cons, All-nil}}}
+use Rattle.std.{proofs.lemmas.List.{length-append, map-append}, specs.Prelude.{None, Option, Some, if◌then◌else◌, nat_le}}
 
 pub same_number : (n : ℕ) → (n == n) ≡ true
 same_number n = grind (arith, nat_tests)

@@ -6,9 +6,10 @@ use Rattle.c104_node.specs.{PortActs.near_act, Records.{Crossed, NodeRecord, cro
 use Rattle.{c104_node.specs.declared.{acts.ActOf.ActOf, crossings.Crossing.Crossing, node.NodeOf.NodeOf}, c104_plan.specs.Plans.Plan}
 use Rattle.{c104_plan.specs.{Wiring.peer, declared.ports.Port.Port}, c104_run.specs.EventActs.{crossing_acts, event_acts}}
 use Rattle.{c104_switch.specs.{Actions.Reply, declared.actions.{ActionOf.ActionOf, ReplyOf.ReplyOf}}, c104_token.specs.Kinds.plain_kind}
-use Rattle.{c104_token.specs.declared.tokens.Token.Token, c104_workers.proofs.EventPlaces.{no_crossing, same_act}}
-use Rattle.c104_workers.specs.{LentCalls.joint_of, SeatGrowth.{IsCommandReply, IsDoneReply, IsLaterFault, IsReplyTo, IsTokenReply}}
-use Rattle.std.{proofs.Common.{Bool, List, None, Option, Some, ap, false, refl, subst, sym, true, ℕ, ◌∙◌, ◌≡◌}, specs.Prelude.if◌then◌else◌}
+use Rattle.{c104_token.specs.declared.tokens.Token.Token, c104_turns.specs.SeatGrowth.{IsCommandReply, IsDoneReply, IsLaterFault}}
+use Rattle.{c104_turns.specs.SeatGrowth.{IsReplyTo, IsTokenReply}, c104_workers.proofs.EventPlaces.{no_crossing, same_act}}
+use Rattle.{c104_workers.specs.LentCalls.joint_of, std.proofs.Common.{Bool, List, None, Option, Some, ap, false, refl, subst, sym, true, ℕ}}
+use Rattle.std.{proofs.Common.{◌∙◌, ◌≡◌}, specs.Prelude.if◌then◌else◌}
 
 -- what is answered and left is one pair
 first_same : (x y : Reply) (s m : Node Token) → ◌≡◌ {A = Option (Reply × Node Token)} (Some (x, s)) (Some (y, m)) → x ≡ y

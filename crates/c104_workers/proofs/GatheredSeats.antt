@@ -1,10 +1,10 @@
 -- Seats that are taken in from the last one on.
 use Rattle.c104_tickets.specs.{Tickets.{IsClosed, TableId}, declared.views.{Terms.Terms, Track.Track, View.View}}
-use Rattle.c104_workers.{proofs.ClosedWords.few_seats, specs.{Calls.{IsSeat, SeatView, seat_track}, Closing.{AreSeatTracks, TellTracks}}}
-use Rattle.c104_workers.specs.Fabrics.{AreSeatsOf, IsSeatOf, calls_of, first_seat, first_seats, seat_view}
-use Rattle.{c104_workers.specs.declared.calls.SeatCalls.SeatCalls, std.proofs.Common.{List, [], ap, arith, length, map, refl, reverse}}
-use Rattle.std.proofs.{Common.{subst, sym, ℕ, ◌++◌, ◌∙◌, ◌∷◌, ◌≡◌, ◌≤◌}, lemmas.List.{append_assoc, length-map, length-reverse}}
-use Rattle.std.{proofs.lemmas.List.reverse-append, specs.List.range_with_len}
+use Rattle.c104_turns.specs.{Calls.{SeatView, seat_track}, FirstSeats.{first_seat, first_seats}}
+use Rattle.c104_workers.{proofs.ClosedWords.few_seats, specs.{Closing.{AreSeatTracks, TellTracks}, Fabrics.{AreSeatsOf, IsSeatOf}}}
+use Rattle.{c104_workers.specs.{Fabrics.{calls_of, seat_view}, Seats.IsSeat, declared.calls.SeatCalls.SeatCalls}, std.proofs.Common.List}
+use Rattle.std.proofs.Common.{[], ap, arith, length, map, refl, reverse, subst, sym, ℕ, ◌++◌, ◌∙◌, ◌∷◌, ◌≡◌, ◌≤◌}
+use Rattle.std.{proofs.lemmas.List.{append_assoc, length-map, length-reverse, reverse-append}, specs.List.range_with_len}
 
 -- what holds of each seat holds of those before the last, and of the last
 pub seats_before : (word_id : TableId) (seats : List (SeatView × ℕ)) (s : SeatView × ℕ) → AreSeatsOf word_id (seats ++ s ∷ [])

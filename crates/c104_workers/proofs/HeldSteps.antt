@@ -1,23 +1,17 @@
 -- A node behind its lock after an act: it did what the track of its place tells.
-use Rattle.c104_audit.specs.Leads.{list_at}
-use Rattle.{c104_event.specs.declared.events.Event.Event, c104_node.specs.{PortActs.{Acts, far_act, near_act}, Records.NodeRecord}}
-use Rattle.c104_node.specs.{Traces.entry_of, declared.{acts.{ActOf.ActOf, Entry.Entry}, crossings.{Crossing.Crossing, Joint.Joint}}}
-use Rattle.{c104_plan.specs.{Plans.Plan, declared.ports.Port.Port}, c104_run.specs.{EventActs.{event_acts, port_place}, Runs.at_node}}
-use Rattle.{c104_switch.specs.{Actions.{Reply, is_ready}, declared.actions.ReplyOf.ReplyOf}, c104_token.specs.declared.tokens.Token.Token}
-use Rattle.c104_tickets.specs.{Tickets.{Each, PassValue, TableId}, declared.views.Done.Done}
-use Rattle.c104_workers.proofs.{Draws.done_at, LogEntries.{alone_entries, at_other, at_same, entries_append, joint_deeds}}
-use Rattle.c104_workers.specs.{Calls.place_track, Fabrics.Handed, Logs.{IsDoneHere, done_stamp, entries_at, entries_of}}
-use Rattle.c104_workers.specs.Held.{AsksNode, AsksPair, IsHeld, node_deed, pair_deed}
-use Rattle.std.proofs.Common.{List, Option, Some, [], ap, append_assoc, refl, subst, sym, true, ℕ, ◌++◌, ◌∙◌, ◌∷◌, ◌≡◌, ◌≢◌}
-use Rattle.std.proofs.lemmas.List.{append-nil}
+use Rattle.{c104_audit.specs.Leads.list_at, c104_event.specs.declared.events.Event.Event, c104_node.specs.PortActs.{Acts, far_act}}
+use Rattle.c104_node.specs.{PortActs.near_act, Records.NodeRecord, Traces.entry_of, declared.acts.{ActOf.ActOf, Entry.Entry}}
+use Rattle.{c104_node.specs.declared.crossings.Joint.Joint, c104_plan.specs.Plans.Plan, c104_run.specs.{EventActs.port_place, Runs.at_node}}
+use Rattle.{c104_switch.specs.{Actions.{Reply, is_ready}, declared.actions.ReplyOf.ReplyOf}, c104_tickets.specs.Tickets.{Each, PassValue}}
+use Rattle.{c104_tickets.specs.{Tickets.TableId, declared.views.Done.Done}, c104_token.specs.declared.tokens.Token.Token}
+use Rattle.c104_turns.{proofs.LogEntries.{alone_entries, at_other, at_same, entries_append, joint_deeds}, specs.Calls.place_track}
+use Rattle.{c104_turns.specs.Logs.{IsDoneHere, done_stamp, entries_at, entries_of}, c104_workers.proofs.Draws.done_at}
+use Rattle.{c104_workers.specs.{Fabrics.Handed, Held.{AsksNode, AsksPair, IsHeld, node_deed, pair_deed}}, std.proofs.Common.{List, Option}}
+use Rattle.std.proofs.{Common.{Some, [], ap, append_assoc, refl, sym, true, ℕ, ◌++◌, ◌∙◌, ◌∷◌, ◌≡◌}, lemmas.List.append-nil}
 
 here_more : (plan : Plan) (done : List Done) (d : Done) → Each (IsDoneHere plan) done → IsDoneHere plan d → Each (IsDoneHere plan) (done ++ d ∷ [])
 here_more plan [] d each here = (here, tt)
 here_more plan (x ∷ done) d each here = (each.0, here_more plan done d each.1 here)
-
--- the same pass, if there is one
-pub same_pass : (p q : PassValue) → Some p ≡ Some q → p ≡ q
-same_pass p q is = cc
 
 module _ (word_id : TableId) (handed : Handed) (place : ℕ) (n : NodeRecord) (pass : Option PassValue) (held : IsHeld word_id handed place n pass) where
   -- the node has an entry more, which is what the place keeps of what was done

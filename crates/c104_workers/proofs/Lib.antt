@@ -1,11 +1,8 @@
 pub mod EventPlaces
 pub mod EventReplies
 pub mod SeatGrowth
-pub mod TakenSeats
 pub mod Draws
-pub mod LogEntries
 pub mod HeldSteps
-pub mod LogRuns
 pub mod LogStamps
 pub mod LogRecords
 pub mod LogSeats
@@ -20,10 +17,4 @@ pub mod PortRuns
 pub mod SeatWork
 pub mod AuditedLeft
 pub mod WholeRuns
-pub mod TurnSteps
-pub mod KeptTurns
-pub mod PartNumbers
-pub mod PartClaims
-pub mod PartShapes
-pub mod PartStages
 pub mod NetPorts

@@ -13,14 +13,14 @@ use Rattle.c104_run.{proofs.{BalanceWires.switch_inside, NoFaults.node_there}, s
 use Rattle.c104_run.specs.{EventActs.{event_acts, port_place}, EventDeeds.event_deeds, FinishedRecords.FinishedRecord, Network.event_fault}
 use Rattle.c104_run.specs.{Network.{network_of, node_fault}, NodeRuns.{TellRun, nodes_run, starting_nodes}, Runs.{IsRunRecord, at_node}}
 use Rattle.{c104_run.specs.Runs.run_deeds, c104_switch.specs.Actions.Reply, c104_tickets.specs.{Tickets.Each, declared.views.Done.Done}}
-use Rattle.{c104_token.specs.{Kinds.plain_kind, declared.tokens.Token.Token}, c104_workers.proofs.LogEntries.{alone_deeds, joint_deeds}}
-use Rattle.c104_workers.proofs.{LogRecords.{each_append, run_can}, LogRuns.CanBeDone, LogSeats.{HasNumber, all_own, before_unseated}}
-use Rattle.c104_workers.proofs.{LogSeats.{list_is, lists_have, log_calls, log_seated, none_or_has}, LogStamps.{log_stamped, stamps_before}}
-use Rattle.c104_workers.specs.{Audited.{TellsSeats, lists_of}, Calls.IsOwn, Fabrics.{Handed, Left, WasHanded}, Logs.calls_in}
-use Rattle.{c104_workers.specs.{Logs.{done_pair, log_stamps, own_of}, OneRuns.{IsLogOf, IsOneRun}}, std.proofs.Common.{Bool, List, None, Option, Some, [], ap, arith}}
-use Rattle.std.proofs.Common.{false, if◌then◌else◌, inl, inr, is_some, length, map, nat_eq, nat_lt, option_map, refl, slice_get, subst, suc}
-use Rattle.std.proofs.{Common.{sym, true, unwrap_or, ℕ, ◌++◌, ◌+◌, ◌-◌, ◌∙◌, ◌∷◌, ◌≡◌}, lemmas.{Bool.Decides.nat_tests, List.length-map}}
-use Rattle.std.specs.{List.AllByRecursion, Option.option_to_list, Prelude.◌&&◌}
+use Rattle.{c104_token.specs.{Kinds.plain_kind, declared.tokens.Token.Token}, c104_turns.proofs.LogEntries.{alone_deeds, joint_deeds}}
+use Rattle.c104_turns.{proofs.LogRuns.CanBeDone, specs.{Calls.IsOwn, Logs.{calls_in, done_pair, log_stamps, own_of}}}
+use Rattle.c104_workers.proofs.{LogRecords.{each_append, run_can}, LogSeats.{HasNumber, all_own, before_unseated, list_is, lists_have}}
+use Rattle.c104_workers.proofs.{LogSeats.{log_calls, log_seated, none_or_has}, LogStamps.{log_stamped, stamps_before}}
+use Rattle.c104_workers.specs.{Audited.{TellsSeats, lists_of}, Fabrics.{Handed, Left, WasHanded}, OneRuns.{IsLogOf, IsOneRun}}
+use Rattle.std.proofs.Common.{Bool, List, None, Option, Some, [], ap, arith, false, if◌then◌else◌, inl, inr, is_some, length, map, nat_eq}
+use Rattle.std.proofs.Common.{nat_lt, option_map, refl, slice_get, subst, suc, sym, true, unwrap_or, ℕ, ◌++◌, ◌+◌, ◌-◌, ◌∙◌, ◌∷◌, ◌≡◌}
+use Rattle.std.{proofs.lemmas.{Bool.Decides.nat_tests, List.length-map}, specs.{List.AllByRecursion, Option.option_to_list, Prelude.◌&&◌}}
 
 module _ (handed : Handed) (was : WasHanded handed) (nodes : List (NodeRecord × NodeRoom)) (log : List Done)
     (of_log : IsLogOf handed nodes log) where

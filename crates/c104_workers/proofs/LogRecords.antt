@@ -10,12 +10,12 @@ use Rattle.c104_run.specs.{Network.{event_fault, network_apply, network_of, told
 use Rattle.{c104_run.specs.Runs.{IsRunRecord, at_node, run_deeds}, c104_switch.specs.Actions.Reply, c104_tickets.specs.Tickets.AreNumbered}
 use Rattle.c104_tickets.specs.{Tickets.{Each, IsInside, belongs, kept_if, part_of, stands_at}, declared.views.{Done.Done, Name.Name}}
 use Rattle.{c104_tickets.specs.declared.views.Terms.Terms, c104_token.specs.{Kinds.plain_kind, declared.tokens.Token.Token}}
-use Rattle.c104_workers.proofs.{LogEntries.{IsOwnAt, at_append, log_entries}, LogRuns.{CanBeDone, RunTheirs, events_run}}
-use Rattle.c104_workers.{proofs.LogStamps.{log_stamped, order_all, own_late, run_append, same_deeds, stamps_before}, specs.Calls.is_own}
-use Rattle.c104_workers.specs.{Fabrics.{Handed, WasHanded, handed_of}, Logs.{IsDoneHere, done_pair, entries_of, kept_own, log_stamps}}
-use Rattle.{c104_workers.specs.{Logs.own_of, OneRuns.IsLogOf}, std.proofs.Common.{Bool, List, None, Ok, Option, Result, Some, [], ap}}
-use Rattle.std.proofs.Common.{arith, false, is_some, length, length-append, map, option_map, refl, slice_get, subst, suc, sym, true}
-use Rattle.std.proofs.{Common.{unwrap_or, ℕ, ◌++◌, ◌+◌, ◌<◌, ◌∙◌, ◌∷◌, ◌≡◌}, lemmas.{Bool.Decides.nat_tests, List.length-map}}
+use Rattle.c104_turns.proofs.{LogEntries.{IsOwnAt, at_append, log_entries}, LogRuns.{CanBeDone, RunTheirs, events_run}}
+use Rattle.c104_turns.specs.{Calls.is_own, Logs.{IsDoneHere, done_pair, entries_of, kept_own, log_stamps, own_of}}
+use Rattle.c104_workers.{proofs.LogStamps.{log_stamped, order_all, own_late, run_append, same_deeds, stamps_before}, specs.Fabrics.Handed}
+use Rattle.{c104_workers.specs.{Fabrics.{WasHanded, handed_of}, OneRuns.IsLogOf}, std.proofs.Common.{Bool, List, None, Ok, Option, Result}}
+use Rattle.std.proofs.Common.{Some, [], ap, arith, false, is_some, length, length-append, map, option_map, refl, slice_get, subst, suc, sym}
+use Rattle.std.proofs.{Common.{true, unwrap_or, ℕ, ◌++◌, ◌+◌, ◌<◌, ◌∙◌, ◌∷◌, ◌≡◌}, lemmas.{Bool.Decides.nat_tests, List.length-map}}
 use Rattle.std.proofs.lemmas.Option.{slice_get-map, slice_get_within}
 
 -- what holds of each, in other words

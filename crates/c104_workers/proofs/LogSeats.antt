@@ -1,28 +1,18 @@
 -- The lists of seats of which one log tells all that was done: each has the calls of its number, and the run's events behind what
 -- had been done before are theirs.
-use Rattle.c104_audit.specs.{AuditedRuns.{AreSeated, AreUnseated, seat_calls}, Audits.is_number, Calls.call_of, Leads.list_at}
-use Rattle.{c104_event.specs.declared.events.Event.Event, c104_node.specs.{Traces.seatless, declared.stamps.Stamp.Stamp}}
-use Rattle.{c104_switch.specs.Actions.Reply, c104_tickets.specs.{Tickets.{Each, kept_if, part_of}, declared.views.{Done.Done, Name.Name}}}
-use Rattle.c104_workers.{proofs.LogEntries.AreStamped, specs.{Audited.{past_seats, seat_list}, Calls.{IsOwn, done_call}, Logs.{call_if, calls_in}}}
-use Rattle.{c104_workers.specs.{Logs.{done_pair, kept_own, own_of}, OneRuns.IsSeatOfLog, declared.calls.SeatCalls.SeatCalls}, std.proofs.Common.{Bool, List}}
-use Rattle.std.proofs.Common.{Some, [], ap, arith, false, if◌then◌else◌, inl, inr, is_some, length, map, nat_eq, nat_lt, refl, subst, suc}
-use Rattle.std.proofs.{Common.{sym, true, zero, ℕ, ◌+◌, ◌<◌, ◌∙◌, ◌∷◌, ◌≡◌, ◌≤◌, ◌⊎◌}, lemmas.Bool.Decides.nat_tests}
-use Rattle.std.specs.List.{range_with_len}
+use Rattle.c104_audit.specs.{AuditedRuns.{AreSeated, AreUnseated, seat_calls}, Audits.is_number, Leads.list_at}
+use Rattle.{c104_event.specs.{Calls.call_of, declared.events.Event.Event}, c104_node.specs.{Traces.seatless, declared.stamps.Stamp.Stamp}}
+use Rattle.{c104_switch.specs.Actions.Reply, c104_tickets.specs.{Tickets.Each, declared.views.Done.Done}}
+use Rattle.c104_turns.{proofs.LogEntries.AreStamped, specs.{Calls.{IsOwn, done_call}, Logs.{call_if, calls_in, done_pair, kept_own}}}
+use Rattle.{c104_turns.specs.Logs.own_of, c104_workers.specs.{Audited.{past_seats, seat_list}, OneRuns.IsSeatOfLog}}
+use Rattle.{c104_workers.specs.declared.calls.SeatCalls.SeatCalls, std.proofs.Common.{Bool, List, Some, [], ap, arith, false}}
+use Rattle.std.proofs.Common.{if◌then◌else◌, inl, inr, is_some, length, map, nat_eq, nat_lt, refl, subst, suc, sym, true, zero, ℕ, ◌+◌, ◌<◌}
+use Rattle.std.{proofs.{Common.{◌∙◌, ◌∷◌, ◌≡◌, ◌≤◌, ◌⊎◌}, lemmas.Bool.Decides.nat_tests}, specs.List.range_with_len}
 
 -- a seat of this number is among these
 abbrev pub HasNumber : ℕ → List SeatCalls → Type 0
 HasNumber number [] = ⊥
 HasNumber number (s ∷ seats) = (s.number ≡ number) ⊎ HasNumber number seats
-
--- the calls of a seat are those of its part
-pub seat_part : (s : ℕ) (log : List Done) → map done_call (part_of (Name.Seat s) log) ≡ calls_in s log
-seat_part s [] = refl
-seat_part s (d ∷ ds) = by_test (nat_eq d.deed.seat s) (seat_part s ds)
-  where
-    by_test : (b : Bool) → map done_call (part_of (Name.Seat s) ds) ≡ calls_in s ds
-        → map done_call (kept_if b d (part_of (Name.Seat s) ds)) ≡ call_if b d (calls_in s ds)
-    by_test true rest = ap (λ cs. done_call d ∷ cs) rest
-    by_test false rest = rest
 
 -- where a seat did something, there is such a seat
 pub none_or_has : (s : ℕ) (seats : List SeatCalls) (ds : List Done) → Each (λ (d : Done). HasNumber d.deed.seat seats) ds

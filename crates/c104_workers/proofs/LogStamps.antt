@@ -3,8 +3,8 @@
 use Rattle.{c104_event.specs.declared.events.Event.Event, c104_node.specs.{Traces.{Deed as Kept, seatless}, declared.stamps.Stamp.Stamp}}
 use Rattle.{c104_plan.specs.Plans.Plan, c104_run.specs.{EventDeeds.event_deeds, EventPlaces.event_place, Runs.{AreBehind, AreInOrder}}}
 use Rattle.{c104_run.specs.Runs.run_deeds, c104_switch.specs.Actions.Reply, c104_tickets.specs.Tickets.AreNumbered}
-use Rattle.{c104_tickets.specs.declared.views.Done.Done, c104_workers.{proofs.LogEntries.AreStamped, specs.{Calls.is_own, Logs.done_pair}}}
-use Rattle.{c104_workers.specs.Logs.{done_stamp, kept_own, log_stamps, own_of, stamp_or}, std.proofs.Common.{Bool, List, Some, [], ap}}
+use Rattle.{c104_tickets.specs.declared.views.Done.Done, c104_turns.{proofs.LogEntries.AreStamped, specs.{Calls.is_own, Logs.done_pair}}}
+use Rattle.{c104_turns.specs.Logs.{done_stamp, kept_own, log_stamps, own_of, stamp_or}, std.proofs.Common.{Bool, List, Some, [], ap}}
 use Rattle.std.proofs.Common.{append_assoc, arith, false, inl, length, map, nat_lt, refl, slice_get, subst, suc, sym, true, ℕ, ◌++◌, ◌+◌}
 use Rattle.std.{proofs.{Common.{◌-◌, ◌<◌, ◌∙◌, ◌∷◌, ◌≡◌, ◌≤◌}, lemmas.Bool.Decides.nat_tests}, specs.Prelude.if◌then◌else◌}
 

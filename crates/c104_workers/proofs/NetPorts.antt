@@ -2,9 +2,10 @@
 use Rattle.c104_node.specs.{Nodes.Node, Starts.start_node, Traces.seatless, declared.acts.Entry.Entry}
 use Rattle.c104_run.{proofs.{EntryCounts.lengths_same, RecordSteps.nodes_counted}, specs.NetRecords.{IsNetRecord, NetRecord}}
 use Rattle.{c104_run.specs.Runs.{at_node, run_deeds}, c104_token.specs.{Kinds.plain_kind, declared.tokens.Token.Token}}
-use Rattle.c104_workers.specs.{NetTurns.NetLists, Parts.{IsOfKind, ready_numbers}, Working.PartView, declared.parts.Stage.Stage}
-use Rattle.std.{proofs.Common.{List, None, Option, Some, [], arith, get_or, length, map, refl, slice_get, subst, sym, ℕ, ◌<◌, ◌∙◌, ◌≡◌}}
-use Rattle.std.{proofs.lemmas.Option.{slice_get-get_or, slice_get_within}, specs.Prelude.MatchOption}
+use Rattle.c104_turns.specs.{Parts.{IsOfKind, ready_numbers}, Working.PartView, declared.parts.Stage.Stage}
+use Rattle.{c104_workers.specs.NetTurns.NetLists, std.proofs.Common.{List, None, Option, Some, [], arith, get_or, length, map, refl}}
+use Rattle.std.proofs.{Common.{slice_get, subst, sym, ℕ, ◌<◌, ◌∙◌, ◌≡◌}, lemmas.Option.{slice_get-get_or, slice_get_within}}
+use Rattle.std.specs.Prelude.{MatchOption}
 
 module _ (r : NetRecord) (told : IsNetRecord r) where
   -- there is a trace for each node

@@ -1,7 +1,7 @@
 -- The commands of a seat grow by the one that a call is of.
-use Rattle.{c104_audit.specs.{Calls.call_of, declared.calls.Call.Call}, c104_event.specs.declared.events.Event.Event}
+use Rattle.c104_event.specs.{Calls.call_of, declared.{calls.Call.Call, events.Event.Event}}
 use Rattle.{c104_switch.specs.declared.actions.ReplyOf.ReplyOf, c104_tools.specs.{Outcomes.Given, Ports.command_asked}}
-use Rattle.c104_workers.specs.{Calls.SeatView, SeatCommands.{IsOneCall, seat_commands, told_command}, SeatGrowth.GrewBy}
+use Rattle.{c104_turns.specs.{Calls.SeatView, SeatGrowth.GrewBy}, c104_workers.specs.SeatCommands.{IsOneCall, seat_commands, told_command}}
 use Rattle.std.proofs.{Common.{Err, List, Ok, [], ap, sym, ℕ, ◌++◌, ◌∙◌, ◌∷◌, ◌≡◌}, lemmas.List.{append-nil, append_assoc}}
 use Rattle.std.specs.Prelude.{MatchResult}
 

@@ -1,12 +1,12 @@
 -- Tools that ask commands of switches through a port to a fabric, one after the other: they ask them through the port's seat,
 -- which stays the seat that it was.
-use Rattle.{c104_audit.specs.Calls.call_of, c104_event.specs.declared.{events.Event.Event, faults.EventFault.EventFault}}
+use Rattle.c104_event.specs.{Calls.call_of, declared.{events.Event.Event, faults.EventFault.EventFault}}
 use Rattle.{c104_switch.specs.declared.actions.ReplyOf.ReplyOf, c104_tools.specs.{Loaded.IsLeftBySwitch, Outcomes.{ComesTo, Given, GoesOn}}}
 use Rattle.c104_tools.specs.{Outcomes.{Judge, Outcome, step_result}, Steps.Step, declared.faults.LoadFault.LoadFault}
-use Rattle.c104_workers.{proofs.SeatGrowth.{same_on, same_self}, specs.{Calls.SeatView, Fabrics.FabricView, SeatCommands.HasMoreCalls}}
-use Rattle.{c104_workers.specs.SeatCommands.{IsFabricUnanswered, IsLeftUnanswered, SeatCommanded}, std.proofs.Common.{Bool, Err, IfErr}}
-use Rattle.std.proofs.Common.{List, Ok, Result, [], ap, false, inl, inr, length, nat_eq, refl, subst, sym, true, ℕ, ◌++◌, ◌<◌, ◌∙◌, ◌∷◌}
-use Rattle.std.proofs.{Common.{◌≡◌, ◌≢◌, ◌⊎◌}, lemmas.{Bool.Decides.nat_tests, List.{append-nil, append_assoc}}}
+use Rattle.{c104_turns.{proofs.SameSeats.{same_on, same_self}, specs.Calls.SeatView}, c104_workers.specs.Fabrics.FabricView}
+use Rattle.{c104_workers.specs.SeatCommands.{HasMoreCalls, IsFabricUnanswered, IsLeftUnanswered, SeatCommanded}, std.proofs.Common.Bool}
+use Rattle.std.proofs.Common.{Err, IfErr, List, Ok, Result, [], ap, false, inl, inr, length, nat_eq, refl, subst, sym, true, ℕ, ◌++◌, ◌<◌}
+use Rattle.std.proofs.{Common.{◌∙◌, ◌∷◌, ◌≡◌, ◌≢◌, ◌⊎◌}, lemmas.{Bool.Decides.nat_tests, List.{append-nil, append_assoc}}}
 use native.Mathlib.Omega.{arith}
 
 -- what is seen of a port is asked the same, as long as it stays what each command keeps of it

@@ -3,12 +3,12 @@
 use Rattle.{c104_event.specs.declared.{events.Event.Event, faults.EventFault.EventFault}, c104_node.specs.PortActs.{Acts, act_limit}}
 use Rattle.c104_node.specs.{Records.{NodeRecord, fault_first, is_full, pair_step, recorded_limit, recorded_step}, declared.acts.ActOf.ActOf}
 use Rattle.{c104_node.specs.declared.crossings.Crossing.Crossing, c104_plan.specs.{Plans.Plan, declared.ports.Port.Port}}
-use Rattle.{c104_run.specs.EventActs.{event_acts, port_place}, c104_switch.specs.Actions.{Reply, is_ready}}
-use Rattle.{c104_token.specs.declared.tokens.Token.Token, c104_workers.proofs.EventReplies.{AreLater, act_later, alone_suits, pair_suits}}
-use Rattle.c104_workers.specs.{Calls.{IsSameSeat, SeatView, is_seat_full}, LentCalls.{CallsNode, CallsOne, CallsPair, CallsPairBy}}
-use Rattle.c104_workers.specs.LentCalls.{CallsTwo, IfDone, IsRefusal, NodeActed, PairActed, SameNode, SamePair, joint_of, node_limit}
-use Rattle.{c104_workers.specs.{LentCalls.pair_limit, SeatGrowth.{FaultsAs, Follows, Grew, GrewBy, IsLaterFault}}, std.proofs.Common.{Bool, Err}}
-use Rattle.std.proofs.Common.{None, Ok, Option, Result, Some, ap, false, nat_lt, refl, subst, sym, true, ℕ, ◌||◌, ◌∙◌, ◌≡◌}
+use Rattle.{c104_run.specs.EventActs.event_acts, c104_switch.specs.Actions.{Reply, is_ready}, c104_token.specs.declared.tokens.Token.Token}
+use Rattle.c104_turns.specs.{Calls.{IfDone, IsSameSeat, SeatView}, SeatGrowth.{Follows, Grew, GrewBy, IsLaterFault}}
+use Rattle.c104_workers.{proofs.EventReplies.{AreLater, act_later, alone_suits, pair_suits}, specs.LentCalls.{CallsNode, CallsPair}}
+use Rattle.c104_workers.specs.LentCalls.{IsRefusal, NodeActed, PairActed, SameNode, SamePair, joint_of, node_limit, pair_limit}
+use Rattle.{c104_workers.specs.Seats.is_seat_full, std.proofs.Common.{Bool, Err, None, Ok, Option, Result, Some, ap, false, subst, sym}}
+use Rattle.std.proofs.Common.{true, ℕ, ◌||◌, ◌≡◌}
 
 -- that a list is full is a fault of any event
 full_later : (e : Event) (b : Bool) → AreLater e (fault_first None b)
@@ -78,16 +78,4 @@ same_seat old new e (Err f) same = record {
   terms = ap (λ (s : SeatView). s.terms) same;
   number = ap (λ (s : SeatView). s.number) same;
   lent = ap (λ (s : SeatView). s.lent) same;
-}
-
--- a seat is the same as itself, and as one that is the same as that
-pub same_self : (s : SeatView) → IsSameSeat s s
-same_self s = record { word_id = refl; terms = refl; number = refl; lent = refl }
-
-pub same_on : (s t u : SeatView) → IsSameSeat s t → IsSameSeat t u → IsSameSeat s u
-same_on s t u first second = record {
-  word_id = second.word_id ∙ first.word_id;
-  terms = second.terms ∙ first.terms;
-  number = second.number ∙ first.number;
-  lent = second.lent ∙ first.lent;
 }

@@ -1,11 +1,11 @@
 -- What workers do to their seats: event by event, each of a node of their own.
-use Rattle.{c104_audit.specs.{Calls.call_of, declared.calls.Call.Call}, c104_event.specs.declared.events.Event.Event}
-use Rattle.{c104_event.specs.declared.faults.EventFault.EventFault, c104_plan.specs.Plans.Plan, c104_run.specs.Network.event_fault}
-use Rattle.{c104_run.specs.NodeParts.round_part, c104_switch.specs.Actions.{Reply, is_ready}, c104_tickets.specs.Tickets.TableId}
-use Rattle.c104_workers.{proofs.{KeptTurns.{a_part, all_turns}, SeatGrowth.{same_on, same_seat, same_self}}, specs.Calls.IsSameSeat}
-use Rattle.c104_workers.specs.{Calls.SeatView, Fabrics.{AreSeatsOf, IsSeatOf}, LentCalls.IfDone, SeatGrowth.{FaultsAs, Grew, GrewBy}}
-use Rattle.c104_workers.specs.{Turns.{End, PartDone, TurnsDone, handed}, Working.{HasDone, HasWorked, IsOwnEvent, IsPartEvent, IsPartOf}}
-use Rattle.c104_workers.specs.{Working.{IsStop, PartView}, declared.{parts.Stage.Stage, turns.Worker.Worker, words.Words.Words}}
+use Rattle.c104_event.specs.{Calls.call_of, declared.{calls.Call.Call, events.Event.Event, faults.EventFault.EventFault}}
+use Rattle.{c104_plan.specs.Plans.Plan, c104_run.specs.{Network.event_fault, NodeParts.round_part}, c104_switch.specs.Actions.Reply}
+use Rattle.{c104_switch.specs.Actions.is_ready, c104_tickets.specs.Tickets.TableId, c104_turns.proofs.KeptTurns.{a_part, all_turns}}
+use Rattle.c104_turns.{proofs.SameSeats.{same_on, same_self}, specs.{Calls.{IfDone, IsSameSeat, SeatView}, SeatGrowth.{FaultsAs, Grew}}}
+use Rattle.c104_turns.specs.{SeatGrowth.GrewBy, Turns.{End, PartDone, TurnsDone, handed}, Working.{HasDone, HasWorked, IsOwnEvent}}
+use Rattle.c104_turns.specs.{Working.{IsPartEvent, IsPartOf, IsStop, PartView}, declared.{parts.Stage.Stage, turns.Worker.Worker}}
+use Rattle.{c104_turns.specs.declared.words.Words.Words, c104_workers.{proofs.SeatGrowth.same_seat, specs.Fabrics.{AreSeatsOf, IsSeatOf}}}
 use Rattle.std.proofs.Common.{All, Bool, Contains, Err, IfErr, List, Ok, Result, [], ap, arith, false, inl, inr, length, refl}
 use Rattle.std.proofs.Common.{slice_index_or, subst, suc, sym, true, zero, ℕ, ◌%◌, ◌++◌, ◌<◌, ◌∙◌, ◌∷◌, ◌≡◌}
 use Rattle.std.proofs.lemmas.List.{Elements.{All-append, All-cons, All-contains_itself, All-nil, All-push}, append-nil, append_assoc}

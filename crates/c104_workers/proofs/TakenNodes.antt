@@ -1,8 +1,8 @@
 -- Nodes that are taken out of their locks, from the last one on.
 use Rattle.{c104_node.specs.Records.{IsRecorded, NodeRecord, NodeRoom}, c104_tickets.specs.Tickets.{PassValue, TableId}}
-use Rattle.{c104_tickets.specs.declared.views.Track.Track, c104_workers.specs.{Calls.place_track, Closing.{ArePlaceTracks, PlaceTracks}}}
-use Rattle.{c104_workers.specs.{Closing.node_of, Fabrics.Handed, Held.IsHeld, declared.closing.Placed.Placed}, std.proofs.Common.List}
-use Rattle.std.proofs.{Common.{Some, [], ap, map, refl, reverse, subst, sym, ℕ, ◌++◌, ◌∙◌, ◌∷◌, ◌≡◌}, lemmas.List.reverse-append}
+use Rattle.{c104_tickets.specs.declared.views.Track.Track, c104_turns.specs.Calls.place_track, c104_workers.specs.Closing.ArePlaceTracks}
+use Rattle.c104_workers.specs.{Closing.{PlaceTracks, node_of}, Fabrics.Handed, Held.IsHeld, declared.closing.Placed.Placed}
+use Rattle.std.proofs.{Common.{List, Some, [], ap, map, refl, reverse, subst, sym, ℕ, ◌++◌, ◌∙◌, ◌∷◌, ◌≡◌}, lemmas.List.reverse-append}
 
 pub none_placed : (handed : Handed) (room : List Placed) (old : List Track) → room ≡ [] → PlaceTracks handed room old old
 none_placed handed room old empty =

@@ -1,23 +1,16 @@
 -- What all seats of a fabric leave, through which nothing was done on nodes that were lent: one run, that of their calls.
 use Rattle.{c104_plan.specs.Plans.{IsPlan, Plan}, c104_run.specs.{FinishedRecords.FinishedRecord, NodeRuns.{TellRun, nodes_run}}}
-use Rattle.c104_tickets.specs.{Tickets.Each, declared.views.Done.Done}
-use Rattle.c104_workers.proofs.{LogAudits.{log_audited, log_tells}, LogSeats.{HasNumber, all_own}}
-use Rattle.c104_workers.specs.{Audited.TellsSeats, Calls.IsOwn, Fabrics.Left, OneRuns.{IsLeft, IsSeatOfLog, IsWhole}}
-use Rattle.{c104_workers.specs.declared.calls.SeatCalls.SeatCalls, std.proofs.Common.{List, [], ap, arith, false, inl, inr, length, refl}}
-use Rattle.std.proofs.Common.{slice_index_or, subst, suc, sym, zero, ℕ, ◌+◌, ◌<◌, ◌∙◌, ◌∷◌, ◌≡◌}
-use Rattle.c104_workers.specs.Logs.{own_of}
+use Rattle.{c104_tickets.specs.{Tickets.Each, declared.views.Done.Done}, c104_turns.{proofs.SeatParts.each_at, specs.Calls.IsOwn}}
+use Rattle.{c104_turns.specs.Logs.own_of, c104_workers.proofs.{LogAudits.{log_audited, log_tells}, LogSeats.{HasNumber, all_own}}}
+use Rattle.c104_workers.specs.{Audited.TellsSeats, Fabrics.Left, OneRuns.{IsLeft, IsSeatOfLog, IsWhole}, declared.calls.SeatCalls.SeatCalls}
+use Rattle.std.proofs.Common.{List, [], ap, arith, false, inl, inr, length, refl, slice_index_or, subst, suc, sym, zero, ℕ, ◌+◌, ◌<◌, ◌∙◌}
+use Rattle.std.proofs.Common.{◌∷◌, ◌≡◌}
 
 -- a seat that stands at a place is one of them
 has_at : (seats : List SeatCalls) (i n : ℕ) (d : SeatCalls) → i < length seats → (slice_index_or seats i d).number ≡ n → HasNumber n seats
 has_at [] i n d inside is = absurd (let no : ⊥ = omega (arith, inside) in no)
 has_at (s ∷ seats) zero n d inside is = inl is
 has_at (s ∷ seats) (suc i) n d inside is = inr (has_at seats i n d (omega (arith, inside)) is)
-
--- and what holds of all holds of it
-pub each_at : {X : Type 0} (P : X → Type 0) (seats : List X) (i : ℕ) (d : X) → Each P seats → i < length seats → P (slice_index_or seats i d)
-each_at P [] i d each inside = absurd (let no : ⊥ = omega (arith, inside) in no)
-each_at P (s ∷ seats) zero d each inside = each.0
-each_at P (s ∷ seats) (suc i) d each inside = each_at P seats i d each.1 (omega (arith, inside))
 
 -- what holds of each seat's part holds of all that was done
 parts_all : (P : Done → Type 0) (count : ℕ) (log : List Done) → Each (λ (d : Done). d.deed.seat < count) log → ((s : ℕ) → s < count → Each (λ (d : Done). d.deed.seat ≡ s → P d) log) → Each P log

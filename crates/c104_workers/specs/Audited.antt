@@ -1,8 +1,8 @@
 -- What a fabric leaves, as lists that an audit judges; and the run that it tells where they are those of one run.
-use Rattle.c104_audit.specs.{AuditedRuns.{IsAuditedRun, WereBefore, node_shape}, declared.{calls.Call.Call, lists.Lists.Lists}}
-use Rattle.{c104_event.specs.declared.events.Event.Event, c104_node.specs.Records.node_trace, c104_plan.specs.Wiring.wires}
-use Rattle.{c104_run.specs.FinishedRecords.FinishedRecord, c104_switch.specs.Actions.Reply, c104_workers.specs.Fabrics.Left}
-use Rattle.c104_workers.specs.declared.calls.SeatCalls.{SeatCalls}
+use Rattle.c104_audit.specs.{AuditedRuns.{IsAuditedRun, WereBefore, node_shape}, declared.lists.Lists.Lists}
+use Rattle.{c104_event.specs.declared.{calls.Call.Call, events.Event.Event}, c104_node.specs.Records.node_trace}
+use Rattle.{c104_plan.specs.Wiring.wires, c104_run.specs.FinishedRecords.FinishedRecord, c104_switch.specs.Actions.Reply}
+use Rattle.c104_workers.specs.{Fabrics.Left, declared.calls.SeatCalls.SeatCalls}
 use Rattle.std.specs.{List.range_with_len, Prelude.{List, [], if◌then◌else◌, length, map, max, nat_eq, ℕ, ◌+◌, ◌∷◌}}
 
 -- the calls of the first of some seats that has a number; none, if none has it

@@ -1,7 +1,8 @@
 -- The tracks of nodes and seats that were taken out of a fabric, and what they tell of the nodes and the seats.
 use Rattle.{c104_audit.specs.Leads.list_at, c104_node.specs.Records.{IsRecorded, NodeRecord, NodeRoom}, c104_tickets.specs.Tickets.Each}
-use Rattle.{c104_tickets.specs.{Tickets.IsClosed, declared.views.{Name.Name, Terms.Terms, Track.Track}}, c104_workers.specs.Calls.IsOwn}
-use Rattle.c104_workers.specs.{Calls.{SeatView, done_call}, Fabrics.Handed, Logs.{IsDoneHere, entries_of}, declared.closing.Placed.Placed}
+use Rattle.{c104_tickets.specs.{Tickets.IsClosed, declared.views.{Name.Name, Terms.Terms, Track.Track}}, c104_turns.specs.Calls.IsOwn}
+use Rattle.{c104_turns.specs.{Calls.{SeatView, done_call}, Logs.{IsDoneHere, entries_of}}, c104_workers.specs.Fabrics.Handed}
+use Rattle.c104_workers.specs.declared.closing.Placed.{Placed}
 use Rattle.std.specs.{List.Sorted.{IsNonDecreasingBy, IsPermutation}, Prelude.{List, Some, [], false, map, reverse, slice_get, ℕ, ◌++◌}}
 use Rattle.std.specs.Prelude.{◌∷◌, ◌≡◌}
 

@@ -1,11 +1,10 @@
 -- Fabrics: the plan, the word of tickets, and what the nodes had done when the fabric was made; and what a fabric leaves.
-use Rattle.{c104_audit.specs.Calls.tickets_of, c104_node.specs.{Records.{NodeRecord, NodeRoom}, declared.acts.Entry.Entry}}
-use Rattle.{c104_node.specs.declared.starts.NodeStart.NodeStart, c104_plan.specs.Plans.Plan, c104_run.specs.NetParts.node_count}
-use Rattle.{c104_plan.specs.PlanParts.empty_plan, c104_run.specs.NetRecords.{IsNetRecord, NetRecord}, c104_tickets.specs.Tickets.TableId}
-use Rattle.{c104_tickets.specs.declared.{TheConstants.SEAT_LIMIT, views.Terms.Terms}, c104_workers.specs.Calls.SeatView}
-use Rattle.c104_workers.specs.declared.{calls.SeatCalls.SeatCalls, making.FabricFault.FabricFault}
-use Rattle.std.specs.{List.range_with_len, Prelude.{List, None, [], false, if◌then◌else◌, length, map, nat_le, ℕ, ◌&&◌, ◌++◌, ◌∷◌}}
-use Rattle.std.specs.Prelude.{◌≡◌, ◌≤◌}
+use Rattle.{c104_event.specs.Calls.tickets_of, c104_node.specs.{Records.{NodeRecord, NodeRoom}, declared.acts.Entry.Entry}}
+use Rattle.{c104_node.specs.declared.starts.NodeStart.NodeStart, c104_plan.specs.{PlanParts.empty_plan, Plans.Plan}}
+use Rattle.{c104_run.specs.{NetParts.node_count, NetRecords.{IsNetRecord, NetRecord}}, c104_tickets.specs.Tickets.TableId}
+use Rattle.{c104_tickets.specs.declared.views.Terms.Terms, c104_turns.specs.Calls.SeatView}
+use Rattle.c104_workers.specs.declared.calls.SeatCalls.{SeatCalls}
+use Rattle.std.specs.Prelude.{List, [], ℕ, ◌++◌, ◌∷◌, ◌≡◌}
 
 -- what is known of the network of a fabric: its plan, how many events it had done, where its nodes started, and what they
 -- had done since
@@ -46,21 +45,9 @@ pub record ReadyView : Type 0 where
 abbrev pub terms_of : NetRecord → ℕ → Terms
 terms_of r seats = record { first = r.count; seats = seats; places = node_count r.network.plan }
 
--- a word of tickets and a network that no fabric has
-abbrev pub no_word : TableId
-no_word = record { words = 0; slots = 0; views_name = 0; atom = 0; block = 0; offset = 0; slot_names = [] }
-
+-- a network that no fabric has
 abbrev pub nothing_handed : Handed
 nothing_handed = record { plan = empty_plan; count = 0; starts = []; before = [] }
-
--- a seat of a fabric at first, with no call yet
-abbrev pub first_seat : TableId → Terms → ℕ → SeatView
-first_seat word_id terms number =
-    record { word_id = word_id; terms = terms; number = number; calls = []; stopped = None; lent = false }
-
--- the seats of a fabric at first, by their numbers from 0 on
-abbrev pub first_seats : TableId → Terms → List SeatView
-first_seats word_id terms = map (first_seat word_id terms) (range_with_len 0 terms.seats)
 
 abbrev pub seat_view : SeatView × ℕ → SeatView
 seat_view s = s.0
@@ -82,13 +69,6 @@ all_tickets (s ∷ seats) = tickets_of s.0.calls ++ all_tickets seats
 -- what a seat leaves
 abbrev pub calls_of : SeatView × ℕ → SeatCalls
 calls_of s = record { number = s.0.number; calls = s.0.calls; lent = s.0.lent }
-
--- whether a fabric may have this number of seats, and why there is none
-abbrev pub IsSeatCount : ℕ → Type 0
-IsSeatCount seats = (1 ≤ seats) × (seats ≤ SEAT_LIMIT)
-
-abbrev pub fabric_fault : ℕ → FabricFault
-fabric_fault seats = if nat_le 1 seats && nat_le seats SEAT_LIMIT then FabricFault.NoMemory else FabricFault.SeatCount
 
 -- what a fabric leaves
 pub record Left : Type 0 where

@@ -2,9 +2,9 @@
 use Rattle.{c104_audit.specs.Leads.list_at, c104_event.specs.declared.events.Event.Event, c104_node.specs.{Nodes.Node, PortActs.Acts}}
 use Rattle.c104_node.specs.{Records.{Crossed, NodeRecord, NodeRoom}, declared.{acts.ActOf.ActOf, crossings.Joint.Joint}}
 use Rattle.{c104_plan.specs.Plans.Plan, c104_run.specs.{EventActs.{event_acts, port_place}, Network.event_fault}}
-use Rattle.{c104_switch.specs.{Actions.Reply, declared.actions.ReplyOf.ReplyOf}, c104_token.specs.declared.tokens.Token.Token}
-use Rattle.c104_tickets.specs.{Tickets.{Each, PassValue, TableId}, declared.views.{Deed.Deed, Done.Done}}
-use Rattle.c104_workers.specs.{Calls.place_track, Fabrics.Handed, Logs.{IsDoneHere, entries_of}}
+use Rattle.{c104_switch.specs.{Actions.Reply, declared.actions.ReplyOf.ReplyOf}, c104_tickets.specs.Tickets.{Each, PassValue, TableId}}
+use Rattle.{c104_tickets.specs.declared.views.{Deed.Deed, Done.Done}, c104_token.specs.declared.tokens.Token.Token}
+use Rattle.{c104_turns.specs.{Calls.place_track, Logs.{IsDoneHere, entries_of}}, c104_workers.specs.Fabrics.Handed}
 use Rattle.std.specs.Prelude.{List, None, Option, Some, [], slice_get, ℕ, ◌++◌, ◌∷◌, ◌≡◌, ◌≢◌}
 
 -- a node behind its lock as it is seen: its place, and the node

@@ -1,19 +1,14 @@
 -- What one call does to the nodes that are lent to it: one, or the two at the ends of a wire.
-use Rattle.{c104_audit.specs.Calls.tickets_of, c104_event.specs.declared.{events.Event.Event, faults.EventFault.EventFault}}
-use Rattle.c104_node.specs.{PortActs.{Acts, far_act, near_act}, Records.{HasRoomFor, NodeRecord, NodeRoom, after_act, crossed, fault_first, is_full}}
+use Rattle.{c104_event.specs.declared.{events.Event.Event, faults.EventFault.EventFault}, c104_node.specs.PortActs.{Acts, far_act}}
+use Rattle.c104_node.specs.{PortActs.near_act, Records.{HasRoomFor, NodeRecord, NodeRoom, after_act, crossed, fault_first, is_full}}
 use Rattle.c104_node.specs.{Records.{pair_step, recorded_limit, recorded_step}, declared.{acts.ActOf.ActOf, crossings.Crossing.Crossing}}
 use Rattle.{c104_node.specs.declared.crossings.Joint.Joint, c104_plan.specs.{Plans.Plan, declared.ports.Port.Port}}
 use Rattle.{c104_run.specs.{EventActs.{event_acts, port_place}, declared.asked.Asked.Asked}, c104_switch.specs.Actions.{Reply, is_ready}}
 use Rattle.{c104_switch.specs.declared.actions.ReplyOf.ReplyOf, c104_token.specs.declared.{packets.Packet.Packet, tokens.Token.Token}}
-use Rattle.c104_workers.specs.Calls.{SeatView, after_call, is_seat_full, seat_stamp}
-use Rattle.std.{proofs.Common.{inl, inr}, specs.Prelude.{All, Bool, Err, None, Ok, Option, Result, Some, false, if◌then◌else◌, is_some}}
-use Rattle.std.specs.Prelude.{nat_lt, option_map, true, ℕ, ◌<◌, ◌||◌, ◌≡◌, ◌≤◌, ◌⊎◌}
+use Rattle.{c104_turns.specs.Calls.{IfDone, IsFresh, SeatView, after_call, seat_stamp}, c104_workers.specs.Seats.is_seat_full}
+use Rattle.std.{proofs.Common.{inl, inr}, specs.Prelude.{Bool, Err, None, Ok, Option, Result, Some, false, if◌then◌else◌, is_some, nat_lt}}
+use Rattle.std.specs.Prelude.{option_map, true, ℕ, ◌<◌, ◌||◌, ◌≡◌, ◌⊎◌}
 use denote.MutBor.{MutBor}
-
--- the ticket of a call: it is above all that the seat drew before, and no network before the fabric had it
-pub record IsFresh (s : SeatView) (ticket : ℕ) : Type 0 where
-  pub above : All (λ t. t < ticket) (tickets_of s.calls)
-  pub from_first : s.terms.first ≤ ticket
 
 -- one node acted, which was lent or is the fabric's own: the seat has the call, and the node's trace its entry, both with one ticket
 pub record NodeActed (lent : Bool) (old new : SeatView) (n m : NodeRecord) (e : Event) (a : ActOf Token) (r : Reply) : Type 0 where
@@ -55,11 +50,6 @@ pair_limit s near far = fault_first None (is_full near || (is_full far || is_sea
 abbrev pub IsRefusal : Option EventFault → EventFault → Type 0
 IsRefusal (Some g) f = f ≡ g
 IsRefusal None f = f ≡ EventFault.NoMemory
-
--- one thing where a call was done, another where it wasn't
-abbrev pub IfDone : Bool → Type 0 → Type 0 → Type 0
-IfDone true P Q = P
-IfDone false P Q = Q
 
 -- a call of an act on a node. It is not ready exactly where the act isn't, and refused exactly for the first limit there
 -- is, or when out of memory; then nothing changed. Else it was done.

@@ -1,15 +1,9 @@
-pub mod Calls
-pub mod Logs
+pub mod Seats
 pub mod LentCalls
-pub mod SeatGrowth
 pub mod Fabrics
 pub mod OneRuns
 pub mod Held
 pub mod Closing
 pub mod SeatCommands
-pub mod Words
-pub mod Working
-pub mod Parts
-pub mod Turns
 pub mod NetTurns
 pub mod Audited

@@ -2,8 +2,9 @@
 -- all, but for when memory runs out.
 use Rattle.{c104_event.specs.declared.{events.Event.Event, faults.EventFault.EventFault}, c104_node.specs.Nodes.Node}
 use Rattle.{c104_run.specs.{NetRecords.NetRecord, RecordedRuns.AnswersRecord}, c104_switch.specs.Actions.{Reply, is_ready}}
-use Rattle.{c104_token.specs.{Kinds.plain_kind, declared.tokens.Token.Token}, c104_workers.specs.Parts.{IsOfKind, ready_numbers}}
-use Rattle.c104_workers.specs.{Turns.{End, PartDone}, Working.PartView, declared.{net_port.NetPort.NetPort, parts.Stage.Stage}}
+use Rattle.{c104_token.specs.{Kinds.plain_kind, declared.tokens.Token.Token}, c104_turns.specs.{Parts.{IsOfKind, ready_numbers}, Turns.End}}
+use Rattle.c104_turns.specs.{Turns.PartDone, Working.PartView, declared.parts.Stage.Stage}
+use Rattle.c104_workers.specs.declared.net_port.NetPort.{NetPort}
 use Rattle.std.specs.Prelude.{Bool, Err, List, MatchOption, Ok, Result, [], slice_get, ℕ, ◌≡◌}
 
 -- what is told of an answer: whether the event was done, or its fault

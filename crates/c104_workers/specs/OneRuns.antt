@@ -3,8 +3,8 @@ use Rattle.{c104_event.specs.declared.events.Event.Event, c104_node.specs.{Nodes
 use Rattle.{c104_node.specs.{Records.{node_state, node_trace}, Starts.start_node, Traces.seatless}, c104_run.specs.NetParts.node_count}
 use Rattle.{c104_run.specs.{NodeRuns.starting_nodes, Runs.IsRunRecord}, c104_switch.specs.Actions.Reply}
 use Rattle.{c104_tickets.specs.{Tickets.{AreNumbered, Each}, declared.views.Done.Done}, c104_token.specs.Kinds.plain_kind}
-use Rattle.{c104_token.specs.declared.tokens.Token.Token, c104_workers.specs.{Calls.IsOwn, Fabrics.{Handed, Left, WasHanded}}}
-use Rattle.c104_workers.specs.{Logs.{calls_in, done_pair, log_stamps, own_of}, declared.calls.SeatCalls.SeatCalls}
+use Rattle.{c104_token.specs.declared.tokens.Token.Token, c104_turns.specs.{Calls.IsOwn, Logs.{calls_in, done_pair, log_stamps, own_of}}}
+use Rattle.c104_workers.specs.{Fabrics.{Handed, Left, WasHanded}, declared.calls.SeatCalls.SeatCalls}
 use Rattle.std.specs.Prelude.{List, false, length, map, slice_index_or, ℕ, ◌++◌, ◌+◌, ◌<◌, ◌≡◌}
 
 -- nodes that started so and have these traces did their parts of a log, behind what they had done before: of the run that

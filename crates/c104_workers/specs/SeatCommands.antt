@@ -1,8 +1,8 @@
 -- The control commands that were done through a seat.
-use Rattle.{c104_audit.specs.declared.calls.Call.Call, c104_event.specs.declared.{events.Event.Event, faults.EventFault.EventFault}}
-use Rattle.{c104_switch.specs.{Actions.Reply, declared.actions.ReplyOf.ReplyOf}, c104_tools.specs.{Outcomes.Given, Ports.command_asked}}
-use Rattle.{c104_tools.specs.declared.{faults.LoadFault.LoadFault, ports.Asked.Asked}, c104_workers.specs.Calls.{IsSameSeat, SeatView}}
-use Rattle.c104_workers.specs.{Fabrics.FabricView, SeatGrowth.GrewBy}
+use Rattle.{c104_event.specs.declared.{calls.Call.Call, events.Event.Event, faults.EventFault.EventFault}, c104_switch.specs.Actions.Reply}
+use Rattle.{c104_switch.specs.declared.actions.ReplyOf.ReplyOf, c104_tools.specs.{Outcomes.Given, Ports.command_asked}}
+use Rattle.{c104_tools.specs.declared.{faults.LoadFault.LoadFault, ports.Asked.Asked}, c104_turns.specs.Calls.{IsSameSeat, SeatView}}
+use Rattle.{c104_turns.specs.SeatGrowth.GrewBy, c104_workers.specs.Fabrics.FabricView}
 use Rattle.std.specs.Prelude.{Err, List, MatchResult, Ok, [], length, ℕ, ◌++◌, ◌<◌, ◌∷◌, ◌≡◌}
 
 -- the command, with its reply, that a switch was asked by an event that was answered so; none of any other event

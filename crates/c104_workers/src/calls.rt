@@ -1,6 +1,6 @@
 //! What a seat leaves.
 
-use c104_audit::Call;
+use c104_event::Call;
 use c104_token::Items;
 
 /// What a seat leaves: its number, its calls in the order in which they were done, and whether one of them was done on nodes

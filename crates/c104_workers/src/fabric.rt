@@ -1,9 +1,9 @@
 //! A fabric: nodes behind locks of their own, and the word of tickets.
-ghost use Rattle.std.specs.Prelude.{IfOk, MatchResult, None, Some, ◌<◌, ◌≡◌};
 ghost use Rattle.{c104_node.specs.PortActs.Acts, c104_plan.specs.Plans.IsPlan, c104_run.specs.{EventActs.event_acts, NetParts.node_count}};
 ghost use Rattle.{c104_run.specs.Network.event_fault, c104_token.specs.declared.tokens.Token.Token as TheToken};
-ghost use Rattle.c104_workers.specs.{Calls.IsSameSeat, Fabrics.WasHanded, LentCalls.{AreBelow, AreLentFor, CallsLent, CallsOne, CallsTwo}};
-ghost use Rattle.c104_workers.specs.{LentCalls.{asked_places, event_places}, SeatGrowth.{FaultsAs, Follows, Grew}};
+ghost use Rattle.{c104_turns.specs.{Calls.IsSameSeat, SeatGrowth.{FaultsAs, Follows, Grew}}, c104_workers.specs.Fabrics.WasHanded};
+ghost use Rattle.c104_workers.specs.LentCalls.{AreBelow, AreLentFor, CallsLent, CallsOne, CallsTwo, asked_places, event_places};
+ghost use Rattle.std.specs.Prelude.{IfOk, MatchResult, None, Some, ◌<◌, ◌≡◌};
 
 use crate::calls::SeatCalls;
 use crate::closing::Placed;
@@ -13,7 +13,6 @@ use crate::lent_calls::{
     call_held, call_held_pair, call_held_send, call_node, call_pair, call_send,
 };
 use crate::naming::Naming;
-use crate::parts::{Part, Stage};
 use crate::seats::Seat;
 use c104_event::{Event, EventFault};
 use c104_node::{Entry, Node, NodeStart, Place};
@@ -22,6 +21,7 @@ use c104_run::{Asked, Wires, acts_of};
 use c104_switch::{Reply, ReplyOf};
 use c104_tickets::{Pass, TicketWord};
 use c104_token::{Items, NoMemory, Token};
+use c104_turns::{Part, Stage};
 use std::marker::{Model, PhantomData};
 use std::sync::{Mutex, Wait};
 

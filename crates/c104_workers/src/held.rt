@@ -2,9 +2,8 @@
 //!
 //! Beside it lie its place, and the pass with the place's track of the log. So whoever has the lock knows all that the node
 //! did, and no event of the node can be done without it.
+ghost use Rattle.{c104_audit.specs.Leads.list_at, c104_turns.specs.Calls.place_track, c104_workers.specs.Held.IsHeld};
 ghost use Rattle.std.specs.Prelude.{Some, [], slice_get, ◌∷◌, ◌≡◌};
-ghost use Rattle.c104_audit.specs.Leads.{list_at};
-ghost use Rattle.c104_workers.specs.{Calls.place_track, Held.IsHeld};
 
 use crate::naming::Naming;
 use c104_node::Node;

@@ -28,25 +28,22 @@ mod loading;
 mod making;
 mod naming;
 mod net_port;
-mod parts;
 mod ports;
 mod runs;
 mod seats;
-mod turns;
-mod words;
 mod workers;
 
 pub use c104_audit::{AuditFault, Call, Lists, NodeShape, audit_lists};
+pub use c104_turns::{
+    FabricFault, NodePort, Part, PartPort, RunFault, Stage, Words, Worker, do_turns,
+};
 pub use calls::SeatCalls;
 pub use closing::Gathered;
 pub use fabric::Fabric;
 pub use gates::{Gate, OpenGate};
-pub use making::{FabricFault, Ready};
+pub use making::Ready;
 pub use naming::Naming;
 pub use net_port::NetPort;
-pub use parts::{Part, Stage};
 pub use ports::FabricPort;
 pub use seats::{CALL_LIMIT, Seat};
-pub use turns::{NodePort, PartPort, Worker, do_turns};
-pub use words::Words;
-pub use workers::{RunFault, run_workers};
+pub use workers::run_workers;

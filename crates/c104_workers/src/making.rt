@@ -3,11 +3,12 @@
 //! The network is taken apart last, when all memory is there: so one that is refused is given back itself. A copy of
 //! where its nodes started, and of what they had done, stays with the fabric. It is made in two steps, since the type of
 //! what lies behind the locks names the word of tickets, which has to be there before.
-ghost use Rattle.std.specs.{Prelude.{IfOk, MatchResult, [], length, map, ◌++◌, ◌≡◌, ◌≤◌}, Vec.vec_capacity};
 ghost use Rattle.{c104_node.specs.Records.{node_start, node_trace}, c104_run.specs.NetParts.node_count};
 ghost use Rattle.c104_tickets.specs.{Tickets.{first_view, place_tracks, seat_tracks}, declared.TheConstants.{FIRST_LIMIT, SEAT_LIMIT}};
-ghost use Rattle.c104_workers.specs.Fabrics.{AreSeatsOf, IsSeatCount, fabric_fault, first_seats, handed_of, seat_view, terms_of};
-ghost use Rattle.c104_workers.specs.declared.making.FabricFault.TheVariants as fabric_fault_of;
+ghost use Rattle.{c104_turns.specs.FirstSeats.{IsSeatCount, fabric_fault, first_seats}, c104_workers.specs.Fabrics.{AreSeatsOf, handed_of}};
+ghost use Rattle.c104_workers.specs.Fabrics.{seat_view, terms_of};
+ghost use Rattle.std.specs.{Prelude.{IfOk, MatchResult, [], length, map, ◌++◌, ◌≡◌, ◌≤◌}, Vec.vec_capacity};
+ghost use Rattle.c104_turns.specs.declared.faults.FabricFault.TheVariants as fabric_fault_of;
 
 use crate::calls::SeatCalls;
 use crate::closing::Placed;
@@ -19,21 +20,10 @@ use c104_node::{Entry, Node, NodeStart};
 use c104_run::Net;
 use c104_tickets::{Pass, SEAT_LIMIT, Terms, TicketWord};
 use c104_token::{Items, NoMemory as OutOfMemory};
+use c104_turns::FabricFault;
 use std::alloc::Global;
 use std::marker::{Model, PhantomData};
 use std::sync::Mutex;
-use thiserror::Error;
-
-/// Why there is no fabric.
-#[derive(Clone, Copy, Debug, PartialEq, Eq, Error)]
-pub enum FabricFault {
-    /// There are no seats, or more than 64.
-    #[error("a fabric has 1 to 64 seats")]
-    SeatCount = 1,
-    /// Out of memory.
-    #[error("out of memory")]
-    NoMemory = 2,
-}
 
 /// A network of which a fabric may be made, with its word of tickets, and what the fabric will have beside the nodes.
 ///
@@ -49,9 +39,9 @@ pub struct Ready {
 }
 
 impl Model for Ready {
+    ghost use Rattle.{c104_tickets.specs.Tickets.first_view, c104_turns.specs.FirstSeats.IsSeatCount, c104_workers.specs.Fabrics.ReadyView};
+    ghost use Rattle.c104_workers.specs.Fabrics.{terms_of};
     ghost use Rattle.std.specs.{Prelude.{[], ◌≡◌, ◌≤◌}, Vec.vec_capacity};
-    ghost use Rattle.c104_tickets.specs.Tickets.{first_view};
-    ghost use Rattle.c104_workers.specs.Fabrics.{IsSeatCount, ReadyView, terms_of};
 
     ghost Value = { ReadyView };
 

@@ -15,7 +15,7 @@ pub trait Naming {
 }
 
 impl Naming for Brand {
-    ghost use Rattle.c104_workers.specs.Fabrics.{no_word, nothing_handed};
+    ghost use Rattle.{c104_turns.specs.FirstSeats.no_word, c104_workers.specs.Fabrics.nothing_handed};
 
     ghost word = { no_word };
 

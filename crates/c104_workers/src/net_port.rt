@@ -1,11 +1,10 @@
 //! A network that is nobody else's, as a port for a worker.
-use crate::parts::{Part, Stage};
-use crate::turns::{NodePort, PartPort, Worker};
 use c104_event::{Event, EventFault};
 use c104_net::Net;
 use c104_node::Place;
 use c104_switch::ReplyOf;
 use c104_token::NoMemory;
+use c104_turns::{NodePort, Part, PartPort, Stage, Worker};
 
 /// A network whose nodes' parts a worker does. An event is done as by the network itself, so a worker does exactly the parts.
 #[derive(Drop)]

@@ -1,6 +1,6 @@
 //! A fabric takes control commands through a seat.
+ghost use Rattle.{c104_turns.specs.Calls.IsSameSeat, c104_workers.specs.SeatCommands.{IsFabricUnanswered, IsOneCall}};
 ghost use Rattle.std.specs.Prelude.{MatchResult, ◌≡◌};
-ghost use Rattle.c104_workers.specs.{Calls.IsSameSeat, SeatCommands.{IsFabricUnanswered, IsOneCall}};
 
 use crate::fabric::Fabric;
 use crate::naming::Naming;

@@ -2,17 +2,17 @@
 //!
 //! A full list of a seat is TraceFull, as a full trace is: an event that is ready has both to be kept in. A worker's seat
 //! keeps why it stopped, since threads of std's forks hand back what they wrote, and no result.
+ghost use Rattle.{c104_event.specs.Calls.call_of, c104_node.specs.{Acts.IsWithinLimits, Records.{HasRoomFor, is_full, pair_step}}};
+ghost use Rattle.{c104_node.specs.Records.{recorded_limit, recorded_step}, c104_switch.specs.Actions.is_ready};
+ghost use Rattle.{c104_turns.specs.{Calls.seat_track, FirstSeats.first_seat}, c104_workers.specs.Held.{AsksNode, AsksPair, crossed_or}};
+ghost use Rattle.c104_workers.specs.{Held.{lent_deed, node_deed, pair_deed, told_or}, LentCalls.{NodeActed, PairActed}, Seats.IsSeat};
+ghost use Rattle.c104_workers.specs.Seats.{is_seat_full};
 ghost use Rattle.std.specs.{Prelude.{None, OnOk, [], false, is_some, length, true, ◌++◌, ◌<◌, ◌∷◌, ◌≡◌}, Vec.vec_capacity};
-ghost use Rattle.{c104_audit.specs.Calls.call_of, c104_node.specs.{Acts.IsWithinLimits, Records.{HasRoomFor, is_full}}};
-ghost use Rattle.{c104_node.specs.Records.{pair_step, recorded_limit, recorded_step}, c104_switch.specs.Actions.is_ready};
-ghost use Rattle.c104_workers.specs.{Calls.{IsSeat, is_seat_full, seat_track}, Fabrics.first_seat, Held.{AsksNode, AsksPair, crossed_or, lent_deed}};
-ghost use Rattle.c104_workers.specs.{Held.{node_deed, pair_deed, told_or}, LentCalls.{NodeActed, PairActed}};
 
 use crate::calls::SeatCalls;
 use crate::held::Held;
 use crate::naming::Naming;
-use c104_audit::Call;
-use c104_event::{Event, EventFault};
+use c104_event::{Call, Event, EventFault};
 use c104_node::{Act, Joint, Node, act_pair, same_reply};
 use c104_switch::Reply;
 use c104_tickets::{Asks, Pass, TicketWord};
@@ -39,8 +39,8 @@ pub struct Seat {
 }
 
 impl Model for Seat {
+    ghost use Rattle.{c104_turns.specs.Calls.SeatView, c104_workers.specs.Seats.IsSeat};
     ghost use Rattle.std.specs.{Prelude.{vec_len, ℕ, ◌-◌}, Vec.vec_capacity};
-    ghost use Rattle.c104_workers.specs.Calls.{IsSeat, SeatView};
 
     // What is seen, and for how many further calls there is room.
     ghost Value = { SeatView × ℕ };

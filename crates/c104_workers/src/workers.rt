@@ -2,33 +2,21 @@
 //!
 //! The fault that is answered is looked up in the seats, and is that of the lowest worker, whichever stopped first. One
 //! that is out of memory between events stops with NoMemory, as at an event.
+ghost use Rattle.{c104_switch.specs.Actions.is_ready, c104_turns.specs.{Calls.SeatView, Working.{EndsAs, HasWorked, IsPartEvent, IsStop}}};
+ghost use Rattle.c104_workers.specs.Fabrics.{AreSeatsOf};
 ghost use Rattle.std.specs.Prelude.{All, IfErr, IfOk, IfSome, MatchBool, length, map, slice_index_or, ℕ, ◌%◌, ◌<◌, ◌≡◌, ◌≢◌, ◌≤◌};
-ghost use Rattle.c104_switch.specs.Actions.{is_ready};
-ghost use Rattle.c104_workers.specs.{Calls.SeatView, Fabrics.AreSeatsOf, Working.{EndsAs, HasWorked, IsPartEvent, IsStop}};
 
 use crate::fabric::Fabric;
 use crate::gates::Gate;
 use crate::naming::Naming;
-use crate::parts::{Part, Stage};
 use crate::seats::Seat;
-use crate::turns::{NodePort, PartPort, Worker, do_turns};
-use crate::words::Words;
 use c104_event::{Event, EventFault};
 use c104_switch::{Reply, ReplyOf};
 use c104_token::NoMemory;
+use c104_turns::{NodePort, Part, PartPort, RunFault, Stage, Words, Worker, do_turns};
 use std::alloc::Global;
 use std::sync::Wait;
 use std::thread::{Threads, for_each_mut};
-use thiserror::Error;
-
-/// Why workers didn't do all their turns.
-#[derive(Clone, Copy, Debug, PartialEq, Eq, Error)]
-pub enum RunFault {
-    /// The worker of this number stopped at an event that was refused for this, or out of memory between events. It is
-    /// the lowest of those that stopped.
-    #[error("worker {0} stopped: {1}")]
-    Event(usize, EventFault),
-}
 
 /// Does turns on a fabric by workers, each in a thread of its own: worker 0 through the first of these seats, and so on.
 /// Where no thread can be made, the workers run one after another. Of n workers number i has the nodes k with
@@ -183,8 +171,8 @@ struct WorkerPort<'a, R: Wait, G: Gate, N: Naming> {
 }
 
 impl<R: Wait, G: Gate, N: Naming> NodePort for WorkerPort<'_, R, G, N> {
+    ghost use Rattle.c104_turns.specs.Working.{HasDone};
     ghost use Rattle.std.specs.Prelude.{length, ◌≡◌};
-    ghost use Rattle.c104_workers.specs.Working.{HasDone};
 
     ghost done = { λ p. length p.seat.now.0.calls };
 
@@ -227,8 +215,8 @@ fn is_done(reply: &Reply) -> bool
 }
 
 impl<R: Wait, G: Gate, N: Naming> PartPort for WorkerPort<'_, R, G, N> {
+    ghost use Rattle.c104_turns.specs.Working.{HasWorked, IsPartEvent, IsStop};
     ghost use Rattle.std.specs.Prelude.{All, IfErr, length, ◌≡◌};
-    ghost use Rattle.c104_workers.specs.Working.{HasWorked, IsPartEvent, IsStop};
 
     ghost done = { λ p. length p.seat.now.0.calls };
 

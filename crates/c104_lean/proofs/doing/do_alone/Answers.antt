@@ -1,6 +1,6 @@
 use Rattle.c104_lean.proofs.{Draws.{done_at, own_track}, HeldSteps.{alone_does, alone_here, does_act, held_grows, kept_track}}
 use Rattle.{c104_lean.specs.{Nodes.{AsksNode, HeldView, alone_deed}, Seats.last_ticket}, c104_tickets.specs.Tickets.PassValue}
-use Rattle.{c104_workers.proofs.HeldSteps.same_pass, std.proofs.Common.{ap, length, refl, subst, sym, ℕ, ◌-◌, ◌∙◌, ◌≡◌}}
+use Rattle.{c104_turns.proofs.SeatParts.same_pass, std.proofs.Common.{ap, length, refl, subst, sym, ℕ, ◌-◌, ◌∙◌, ◌≡◌}}
 use Rattle.c104_lean.proofs.doing.do_alone.Goals as goal
 
 pub append_alone-own-requires-clause-track : goal.append_alone-own-requires-clause-track

@@ -3,7 +3,7 @@ use Rattle.c104_lean.{proofs.HeldSteps.{kept_track, made_back, near_below, near_
 use Rattle.{c104_lean.specs.{Nodes.{HeldView, both_deed}, Seats.last_ticket}, c104_node.proofs.JointEnds.{far_done, near_answers}}
 use Rattle.c104_node.specs.{Acts.{node_act, reply_outcome}, Nodes.Node, PortActs.{IsAnswerOf, far_act, near_act}, Tagged.TaggedToken}
 use Rattle.{c104_node.specs.Tagged.tagged_kind, c104_switch.specs.declared.actions.ReplyOf.ReplyOf, c104_tickets.specs.Tickets.PassValue}
-use Rattle.{c104_workers.proofs.HeldSteps.same_pass, std.proofs.Common.{Some, ap, is_some, refl, subst, sym, true, ℕ, ◌∙◌, ◌≡◌}}
+use Rattle.{c104_turns.proofs.SeatParts.same_pass, std.proofs.Common.{Some, ap, is_some, refl, subst, sym, true, ℕ, ◌∙◌, ◌≡◌}}
 use Rattle.c104_lean.proofs.doing.do_both.Goals as goal
 
 pub far_act-coming-requires : goal.far_act-coming-requires

@@ -1,4 +1,4 @@
-use Rattle.{c104_lean.{proofs.SeatWork.own_place, specs.Shared.ArePartsOf}, c104_workers.specs.Working.{IsPartOf, PartView}}
+use Rattle.{c104_lean.{proofs.SeatWork.own_place, specs.Shared.ArePartsOf}, c104_turns.specs.Working.{IsPartOf, PartView}}
 use Rattle.std.proofs.{Common.{subst, sym}, lemmas.List.Elements.All-push}
 
 pub loop-node-preserved : Rattle.c104_lean.proofs.making.all_parts.Goals.loop-node-preserved

@@ -1,6 +1,6 @@
 use Rattle.{c104_lean.proofs.MadeSeats.first_own, c104_run.proofs.RoundLists.map_next, c104_tickets.specs.Tickets.after_split}
-use Rattle.{c104_tickets.specs.{Tickets.first_track, declared.views.View.View}, c104_workers.proofs.TakenSeats.seats_next}
-use Rattle.{c104_workers.specs.Fabrics.first_seat, std.proofs.Common.{[], ap, arith, length, map, ◌++◌, ◌+◌, ◌∙◌, ◌∷◌, ◌≡◌}}
+use Rattle.{c104_tickets.specs.{Tickets.first_track, declared.views.View.View}, c104_turns.proofs.TakenSeats.seats_next}
+use Rattle.{c104_turns.specs.FirstSeats.first_seat, std.proofs.Common.{[], ap, arith, length, map, ◌++◌, ◌+◌, ◌∙◌, ◌∷◌, ◌≡◌}}
 use Rattle.std.{proofs.lemmas.List.length-append, specs.List.range_with_len}
 use Rattle.c104_lean.proofs.making.fill_seats.Goals as goal
 

@@ -1,4 +1,4 @@
-use Rattle.{c104_tickets.specs.Tickets.{place_tracks, seat_tracks}, c104_workers.specs.Fabrics.first_seat, std.proofs.Common.{length, map}}
+use Rattle.{c104_tickets.specs.Tickets.{place_tracks, seat_tracks}, c104_turns.specs.FirstSeats.first_seat, std.proofs.Common.{length, map}}
 use Rattle.std.{proofs.Common.{◌++◌, ◌-◌, ◌≡◌}, specs.{List.range_with_len, Vec.vec_capacity}}
 
 -- the seats so far, and the pass has the tracks of the others

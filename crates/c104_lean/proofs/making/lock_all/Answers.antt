@@ -1,6 +1,6 @@
 use Rattle.{c104_lean.proofs.MadeSeats.last_first, c104_tickets.specs.{Tickets.{behind, place_tracks}, declared.views.View.View}}
-use Rattle.{c104_workers.proofs.TakenSeats.behind_first, std.proofs.Common.{ap, arith, drop, length, reverse, slice_get, suc, sym, ◌+◌}}
-use Rattle.std.proofs.{Common.{◌∙◌, ◌≡◌}, lemmas.List.length-append}
+use Rattle.{c104_turns.proofs.TakenSeats.behind_first, std.proofs.Common.{ap, arith, drop, length, reverse, slice_get, suc, sym, ◌+◌, ◌∙◌}}
+use Rattle.std.proofs.{Common.◌≡◌, lemmas.List.length-append}
 use Rattle.c104_lean.proofs.making.lock_all.Goals as goal
 
 pub new-requires-clause-stood : goal.new-requires-clause-stood

@@ -1,4 +1,4 @@
-use Rattle.{c104_lean.{proofs.PortWork.{part_done, part_same}, specs.Ports.{HasDone, MayList}}, c104_workers.specs.Calls.SeatView}
+use Rattle.{c104_lean.{proofs.PortWork.{part_done, part_same}, specs.Ports.{HasDone, MayList}}, c104_turns.specs.Calls.SeatView}
 use Rattle.std.proofs.Common.{ap, subst, sym, ◌∙◌}
 
 pub returns : Rattle.c104_lean.proofs.ports.do_held.Goals.returns

@@ -1,4 +1,4 @@
-use Rattle.{c104_lean.proofs.SeatWork.{seat_at, seat_stays, seats_all}, c104_workers.specs.Calls.SeatView, std.proofs.Common.length}
+use Rattle.{c104_lean.proofs.SeatWork.{seat_at, seat_stays, seats_all}, c104_turns.specs.Calls.SeatView, std.proofs.Common.length}
 use Rattle.std.proofs.Common.{slice_index_or, subst, sym, ◌<◌, ◌≡◌}
 use Rattle.c104_lean.proofs.workers.run_workers.Goals as goal
 

@@ -1,6 +1,6 @@
 use Rattle.{c104_lean.specs.{Seats.AreSeatsOf, Shared.record_of}, c104_storm.proofs.{StormEnds.storms_on, TeamWork.all_seats}}
 use Rattle.c104_storm.{proofs.TeamWork.{applied_plan, stop_of_team, team_worked, worked_back, written_back}, specs.Workers.{IsStopOf, Team}}
-use Rattle.{c104_storm.specs.Workers.team_of, c104_workers.specs.Calls.SeatView, std.proofs.Common.{List, length, subst, sym, ◌∙◌}}
+use Rattle.{c104_storm.specs.Workers.team_of, c104_turns.specs.Calls.SeatView, std.proofs.Common.{List, length, subst, sym, ◌∙◌}}
 use Rattle.c104_storm.proofs.storms.storm_shared.Goals as goal
 
 pub close-net-requires-clause-own : goal.close-net-requires-clause-own

@@ -1,5 +1,5 @@
-use Rattle.{c104_tests_growths.proofs.PortCalls.switch_keeps, c104_workers.{proofs.SeatGrowth.{same_on, same_self}, specs.Calls.IsSameSeat}}
-use Rattle.{c104_workers.specs.Calls.SeatView, std.proofs.Common.{ap, refl, sym, ℕ, ◌∙◌, ◌≡◌}}
+use Rattle.{c104_tests_growths.proofs.PortCalls.switch_keeps, c104_turns.{proofs.SameSeats.{same_on, same_self}, specs.Calls.IsSameSeat}}
+use Rattle.{c104_turns.specs.Calls.SeatView, std.proofs.Common.{ap, refl, sym, ℕ, ◌∙◌, ◌≡◌}}
 
 pub returns : Rattle.c104_tests_growths.proofs.tools.written.Goals.returns
 returns g c =

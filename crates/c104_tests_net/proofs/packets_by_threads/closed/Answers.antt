@@ -1,5 +1,5 @@
 use Rattle.c104_tests_net.{proofs.CalmSeats.{left_by_workers, written_back}, specs.CalmFabrics.HaveDoneRounds}
-use Rattle.{c104_workers.specs.Calls.SeatView, std.proofs.Common.{List, subst, sym, ℕ, ◌∙◌}}
+use Rattle.{c104_turns.specs.Calls.SeatView, std.proofs.Common.{List, subst, sym, ℕ, ◌∙◌}}
 
 pub returns : Rattle.c104_tests_net.proofs.packets_by_threads.closed.Goals.returns
 returns g c =

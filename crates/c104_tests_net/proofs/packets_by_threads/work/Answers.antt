@@ -1,4 +1,4 @@
-use Rattle.{c104_tests_net.proofs.CalmSeats.all_done, c104_workers.specs.declared.words.Words.Words, std.proofs.Common.arith}
+use Rattle.{c104_tests_net.proofs.CalmSeats.all_done, c104_turns.specs.declared.words.Words.Words, std.proofs.Common.arith}
 
 pub loop-times-preserved : Rattle.c104_tests_net.proofs.packets_by_threads.work.Goals.loop-times-preserved
 loop-times-preserved g c = (

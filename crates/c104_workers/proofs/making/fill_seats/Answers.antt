@@ -1,7 +1,7 @@
 use Rattle.{c104_run.proofs.RoundLists.map_next, c104_tickets.specs.{Tickets.{after_split, first_track}, declared.views.View.View}}
-use Rattle.c104_workers.{proofs.{GatheredSeats.first_own, TakenSeats.seats_next}, specs.Fabrics.{first_seat, seat_view}}
-use Rattle.std.specs.List.{range_with_len}
-use Rattle.std.proofs.{Common.{[], ap, arith, length, map, ◌++◌, ◌+◌, ◌∙◌, ◌∷◌, ◌≡◌}, lemmas.List.{length-append, map-append}}
+use Rattle.{c104_turns.{proofs.TakenSeats.seats_next, specs.FirstSeats.first_seat}, c104_workers.proofs.GatheredSeats.first_own}
+use Rattle.{c104_workers.specs.Fabrics.seat_view, std.proofs.Common.{[], ap, arith, length, map, ◌++◌, ◌+◌, ◌∙◌, ◌∷◌, ◌≡◌}}
+use Rattle.std.{proofs.lemmas.List.{length-append, map-append}, specs.List.range_with_len}
 use Rattle.c104_workers.proofs.making.fill_seats.Goals as goal
 
 pub loop-number-preserved : goal.loop-number-preserved

@@ -1,6 +1,6 @@
-use Rattle.{c104_tickets.specs.Tickets.{place_tracks, seat_tracks}, c104_workers.specs.Fabrics.{first_seat, seat_view}}
-use Rattle.std.proofs.Common.{length, map, ◌++◌, ◌-◌, ◌≡◌}
-use Rattle.std.specs.{List.range_with_len, Vec.vec_capacity}
+use Rattle.{c104_tickets.specs.Tickets.{place_tracks, seat_tracks}, c104_turns.specs.FirstSeats.first_seat}
+use Rattle.{c104_workers.specs.Fabrics.seat_view, std.{proofs.Common.{length, map, ◌++◌, ◌-◌, ◌≡◌}, specs.List.range_with_len}}
+use Rattle.std.specs.Vec.{vec_capacity}
 
 -- the seats so far, and the pass has the tracks of the others
 abbrev pub invariant-loop-number : Rattle.c104_workers.proofs.making.fill_seats.Given.invariant-loop-number

@@ -1,7 +1,6 @@
 use Rattle.{c104_node.specs.Records.{node_start, node_trace}, c104_tickets.specs.{Tickets.{behind, place_tracks}, declared.views.View.View}}
-use Rattle.c104_workers.proofs.TakenSeats.{behind_first, last_first}
-use Rattle.std.proofs.Common.{[], ap, arith, drop, length, map, reverse, slice_get, suc, sym, unwrap_or, ◌+◌, ◌∙◌, ◌∷◌, ◌≡◌}
-use Rattle.std.proofs.lemmas.List.{length-append}
+use Rattle.{c104_turns.proofs.TakenSeats.{behind_first, last_first}, std.proofs.Common.{[], ap, arith, drop, length, map, reverse}}
+use Rattle.std.proofs.{Common.{slice_get, suc, sym, unwrap_or, ◌+◌, ◌∙◌, ◌∷◌, ◌≡◌}, lemmas.List.length-append}
 use Rattle.c104_workers.proofs.making.lock_all.Goals as goal
 
 pub new-requires-clause-start : goal.new-requires-clause-start

@@ -1,7 +1,7 @@
 use Rattle.c104_lean.proofs.Draws.{GivesBack, both_more, called_more, count_free, done_at, fresh_more, last_more, seat_grows}
 use Rattle.{c104_lean.specs.{Nodes.both_deed, Seats.{counted_seat, first_done, last_ticket}}, c104_node.specs.Acts.plain_reply}
-use Rattle.{c104_node.specs.Tagged.tagged_kind, c104_tickets.specs.declared.views.Deed.Deed, c104_workers.specs.Calls.SeatView}
-use Rattle.{c104_workers.specs.Calls.{after_call, done_call}, std.proofs.Common.{ap, false, is_some, map, subst, sym, ◌∙◌, ◌≡◌}}
+use Rattle.{c104_node.specs.Tagged.tagged_kind, c104_tickets.specs.declared.views.Deed.Deed, c104_turns.specs.Calls.{SeatView, after_call}}
+use Rattle.{c104_turns.specs.Calls.done_call, std.proofs.Common.{ap, false, is_some, map, subst, sym, ◌∙◌, ◌≡◌}}
 use Rattle.c104_lean.proofs.seats.CountedSeat.append_both.Goals as goal
 
 pub invariant_of-self : goal.invariant_of-self

@@ -1,5 +1,5 @@
 use Rattle.c104_lean.{proofs.PortWork.{own_events, turns_done}, specs.{Shared.SharedView, Working.{HasWorked, IsStop}}}
-use Rattle.{c104_plan.specs.Plans.Plan, c104_workers.specs.Calls.SeatView, std.proofs.Common.{IfErr, ap, subst, sym}}
+use Rattle.{c104_plan.specs.Plans.Plan, c104_turns.specs.Calls.SeatView, std.proofs.Common.{IfErr, ap, subst, sym}}
 use Rattle.c104_lean.proofs.workers.Worker.do_turns.Given.{Over}
 use Rattle.c104_lean.proofs.workers.Worker.do_turns.Goals as goal
 

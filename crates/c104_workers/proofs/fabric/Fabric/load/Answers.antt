@@ -1,6 +1,6 @@
-use Rattle.{c104_tools.specs.{Loads.load_list, Outcomes.{Outcome, any_value, nothing_made}}, c104_workers.proofs.PortRuns.left_here}
-use Rattle.c104_workers.{proofs.PortRuns.{same_or_not, tool_asked, tool_stays}, specs.{Calls.SeatView, SeatCommands.HasMoreCalls}}
-use Rattle.{c104_workers.specs.SeatCommands.SeatCommanded, std.proofs.Common.{ap, length, subst, sym, ℕ, ◌∙◌}}
+use Rattle.{c104_tools.specs.{Loads.load_list, Outcomes.{Outcome, any_value, nothing_made}}, c104_turns.specs.Calls.SeatView}
+use Rattle.c104_workers.{proofs.PortRuns.{left_here, same_or_not, tool_asked, tool_stays}, specs.SeatCommands.{HasMoreCalls, SeatCommanded}}
+use Rattle.std.proofs.Common.{ap, length, subst, sym, ℕ, ◌∙◌}
 
 pub returns : Rattle.c104_workers.proofs.fabric.Fabric.load.Goals.returns
 returns g c =

@@ -1,6 +1,6 @@
-use Rattle.c104_tools.specs.{Loads.verify_list, Outcomes.{Outcome, due_value_only, nothing_made}}
-use Rattle.c104_workers.{proofs.PortRuns.{same_or_not, tool_asked, tool_stays}, specs.{Calls.SeatView, SeatCommands.HasMoreCalls}}
-use Rattle.{c104_workers.specs.SeatCommands.SeatCommanded, std.proofs.Common.{ap, length, subst, sym, ℕ, ◌∙◌}}
+use Rattle.{c104_tools.specs.{Loads.verify_list, Outcomes.{Outcome, due_value_only, nothing_made}}, c104_turns.specs.Calls.SeatView}
+use Rattle.c104_workers.{proofs.PortRuns.{same_or_not, tool_asked, tool_stays}, specs.SeatCommands.{HasMoreCalls, SeatCommanded}}
+use Rattle.std.proofs.Common.{ap, length, subst, sym, ℕ, ◌∙◌}
 
 pub returns : Rattle.c104_workers.proofs.fabric.Fabric.verify.Goals.returns
 returns g c =

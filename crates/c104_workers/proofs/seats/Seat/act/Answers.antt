@@ -1,5 +1,5 @@
-use Rattle.{c104_audit.specs.Calls.call_of, c104_node.specs.Records.{after_act, recorded_step}}
-use Rattle.{c104_tickets.specs.{Tickets.{IsFree, after_draw}, declared.views.View.View}, c104_workers.specs.Calls.{SeatView, seat_stamp}}
+use Rattle.{c104_event.specs.Calls.call_of, c104_node.specs.Records.{after_act, recorded_step}, c104_tickets.specs.Tickets.IsFree}
+use Rattle.{c104_tickets.specs.{Tickets.after_draw, declared.views.View.View}, c104_turns.specs.Calls.{SeatView, seat_stamp}}
 use Rattle.c104_workers.{proofs.Draws.{lent_called, lent_free, lent_ticket, listed_so, seat_back, seat_of}, specs.Held.told_or}
 use Rattle.std.proofs.Common.{[], ap, subst, sym, true, ℕ, ◌++◌, ◌∙◌, ◌∷◌}
 use Rattle.c104_workers.proofs.seats.Seat.act.Goals as goal

@@ -1,10 +1,10 @@
-use Rattle.{c104_audit.specs.Calls.call_of, c104_node.specs.{Records.{NodeRecord, after_act, recorded_step}, Traces.entry_of}}
+use Rattle.{c104_event.specs.Calls.call_of, c104_node.specs.{Records.{NodeRecord, after_act, recorded_step}, Traces.entry_of}}
 use Rattle.{c104_switch.specs.Actions.is_ready, c104_tickets.specs.Tickets.{IsFree, PassValue, after_draw, behind, front, track_after}}
-use Rattle.{c104_tickets.specs.declared.views.View.View, c104_workers.proofs.Draws.{done_at, held_called, held_ticket, listed_so}}
+use Rattle.{c104_tickets.specs.declared.views.View.View, c104_turns.{proofs.SeatParts.same_pass, specs.Calls.{SeatView, place_track}}}
+use Rattle.{c104_turns.specs.{Calls.seat_stamp, Logs.entries_at}, c104_workers.proofs.Draws.{done_at, held_called, held_ticket, listed_so}}
 use Rattle.c104_workers.proofs.{Draws.{node_draws, node_free, node_tracks, seat_back, seat_of}, HeldSteps.{held_grows, node_entry}}
-use Rattle.c104_workers.{proofs.HeldSteps.{node_here, same_pass}, specs.{Calls.{IsSeat, SeatView, place_track, seat_stamp}, Held.HeldView}}
-use Rattle.{c104_workers.specs.{Held.{node_deed, told_or}, Logs.entries_at}, std.proofs.Common.{Some, [], ap, false, map, refl, subst, sym}}
-use Rattle.std.proofs.Common.{true, ℕ, ◌++◌, ◌∙◌, ◌∷◌, ◌≡◌}
+use Rattle.{c104_workers.{proofs.HeldSteps.node_here, specs.{Held.{HeldView, node_deed, told_or}, Seats.IsSeat}}, std.proofs.Common.Some}
+use Rattle.std.proofs.Common.{[], ap, false, map, refl, subst, sym, true, ℕ, ◌++◌, ◌∙◌, ◌∷◌, ◌≡◌}
 use Rattle.c104_workers.proofs.seats.Seat.act_held.Goals as goal
 
 pub draw-ticket-requires-clause-free : goal.draw-ticket-requires-clause-free

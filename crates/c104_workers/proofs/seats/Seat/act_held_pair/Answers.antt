@@ -1,10 +1,11 @@
-use Rattle.{c104_audit.specs.Calls.call_of, c104_node.specs.{PortActs.{far_act, near_act}, Records.{NodeRecord, after_act, crossed, pair_step}}}
-use Rattle.{c104_node.specs.Traces.entry_of, c104_switch.specs.{Actions.is_ready, declared.actions.ReplyOf.ReplyOf}}
+use Rattle.{c104_event.specs.Calls.call_of, c104_node.specs.{PortActs.{far_act, near_act}, Records.{NodeRecord, after_act, crossed}}}
+use Rattle.{c104_node.specs.{Records.pair_step, Traces.entry_of}, c104_switch.specs.{Actions.is_ready, declared.actions.ReplyOf.ReplyOf}}
 use Rattle.c104_tickets.specs.{Tickets.{IsFree, PassValue, after_draw, behind, front, track_after}, declared.views.View.View}
+use Rattle.c104_turns.{proofs.SeatParts.same_pass, specs.{Calls.{SeatView, place_track, seat_stamp}, Logs.entries_at}}
 use Rattle.c104_workers.proofs.Draws.{done_at, held_called, held_ticket, listed_so, pair_draws, pair_free, pair_tracks, seat_back, seat_of}
-use Rattle.c104_workers.proofs.HeldSteps.{far_entry, held_grows, near_entry, pair_here, same_pass}
-use Rattle.c104_workers.specs.{Calls.{IsSeat, SeatView, place_track, seat_stamp}, Held.{HeldView, crossed_or, pair_deed}, Logs.entries_at}
-use Rattle.std.proofs.Common.{Some, [], ap, append_assoc, false, map, refl, subst, sym, true, ℕ, ◌++◌, ◌∙◌, ◌∷◌, ◌≡◌}
+use Rattle.c104_workers.{proofs.HeldSteps.{far_entry, held_grows, near_entry, pair_here}, specs.Held.{HeldView, crossed_or, pair_deed}}
+use Rattle.{c104_workers.specs.Seats.IsSeat, std.proofs.Common.{Some, [], ap, append_assoc, false, map, refl, subst, sym, true, ℕ, ◌++◌}}
+use Rattle.std.proofs.Common.{◌∙◌, ◌∷◌, ◌≡◌}
 use Rattle.c104_workers.proofs.seats.Seat.act_held_pair.Goals as goal
 
 pub draw-ticket-requires-clause-free : goal.draw-ticket-requires-clause-free

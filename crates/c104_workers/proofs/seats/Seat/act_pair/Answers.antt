@@ -1,7 +1,8 @@
-use Rattle.{c104_audit.specs.Calls.call_of, c104_node.specs.{PortActs.{far_act, near_act}, Records.{after_act, pair_step}}}
-use Rattle.{c104_switch.specs.declared.actions.ReplyOf.ReplyOf, c104_tickets.specs.{Tickets.{IsFree, after_draw}, declared.views.View.View}, c104_workers.specs.Calls.{SeatView, seat_stamp}}
-use Rattle.c104_workers.{proofs.Draws.{lent_called, lent_free, lent_ticket, listed_so, seat_back, seat_of}, specs.Held.crossed_or}
-use Rattle.std.proofs.Common.{[], ap, subst, sym, true, ℕ, ◌++◌, ◌∙◌, ◌∷◌}
+use Rattle.{c104_event.specs.Calls.call_of, c104_node.specs.{PortActs.{far_act, near_act}, Records.{after_act, pair_step}}}
+use Rattle.{c104_switch.specs.declared.actions.ReplyOf.ReplyOf, c104_tickets.specs.{Tickets.{IsFree, after_draw}, declared.views.View.View}}
+use Rattle.{c104_turns.specs.Calls.{SeatView, seat_stamp}, c104_workers.proofs.Draws.{lent_called, lent_free, lent_ticket, listed_so}}
+use Rattle.{c104_workers.{proofs.Draws.{seat_back, seat_of}, specs.Held.crossed_or}, std.proofs.Common.{[], ap, subst, sym, true, ℕ, ◌++◌}}
+use Rattle.std.proofs.Common.{◌∙◌, ◌∷◌}
 use Rattle.c104_workers.proofs.seats.Seat.act_pair.Goals as goal
 
 pub draw-ticket-requires-clause-free : goal.draw-ticket-requires-clause-free

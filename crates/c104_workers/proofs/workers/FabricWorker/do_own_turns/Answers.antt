@@ -1,4 +1,4 @@
-use Rattle.c104_workers.{proofs.SeatWork.turns_done, specs.{Calls.SeatView, Working.{HasWorked, IsPartEvent, PartView}}}
+use Rattle.{c104_turns.specs.{Calls.SeatView, Working.{HasWorked, IsPartEvent, PartView}}, c104_workers.proofs.SeatWork.turns_done}
 use Rattle.std.proofs.Common.{All, Bor, ap, length, map, subst, sym, ℕ, ◌-◌, ◌^◌, ◌∙◌, ◌≡◌}
 use Rattle.c104_workers.proofs.workers.FabricWorker.do_own_turns.Goals as goal
 

@@ -1,4 +1,4 @@
-use Rattle.{c104_workers.{proofs.SeatWork.own_parts, specs.Working.IsPartOf}, std.proofs.Common.subst}
+use Rattle.{c104_turns.specs.Working.IsPartOf, c104_workers.proofs.SeatWork.own_parts, std.proofs.Common.subst}
 use Rattle.c104_workers.proofs.workers.FabricWorker.own_parts.Goals.{else-owns, then-owns+in_ok-of_round+in_ok-push}
 
 pub loop-node-preserved : Rattle.c104_workers.proofs.workers.FabricWorker.own_parts.Goals.loop-node-preserved

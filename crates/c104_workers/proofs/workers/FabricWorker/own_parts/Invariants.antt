@@ -1,4 +1,4 @@
-use Rattle.{c104_workers.specs.Working.IsPartEvent, std.proofs.Common.All}
+use Rattle.{c104_turns.specs.Working.IsPartEvent, std.proofs.Common.All}
 
 -- the parts of nodes so far
 abbrev pub invariant-loop-node : Rattle.c104_workers.proofs.workers.FabricWorker.own_parts.Given.invariant-loop-node

@@ -1,0 +1,12 @@
+pub mod TakenSeats
+pub mod SameSeats
+pub mod SeatParts
+pub mod RisingPlaces
+pub mod LogEntries
+pub mod LogRuns
+pub mod TurnSteps
+pub mod KeptTurns
+pub mod PartNumbers
+pub mod PartClaims
+pub mod PartShapes
+pub mod PartStages
