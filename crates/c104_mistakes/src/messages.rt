@@ -1,10 +1,7 @@
-//! Where messages for people go, and the pictures that they ask for.
+//! Where messages for people go.
 //!
 //! A message is made in memory of its own, and left out where there is none. What is kept of the answers is written
 //! before it, so on a terminal it is behind its answer.
-ghost use Rattle.std.specs.Prelude.{ℕ, List, OnOk};
-
-use std::io;
 
 /// What is told of a script that is longer than it may be.
 const TOO_LONG: &str =
@@ -39,11 +36,8 @@ pub enum Work {
 }
 
 /// What takes messages for people. Nothing is promised of it, and no contract of what calls it speaks of messages: one
-/// that is lost is lost. Contracts speak of the pictures that it takes.
+/// that is lost is lost.
 pub trait Messages {
-    /// What it is before and after it has saved a text as a file of a name.
-    ghost saves: { Self → List ℕ → List ℕ → Self → Type 0 };
-
     /// Whether anyone reads the messages. Where nobody does, none is made.
     fn are_wanted(&self) -> bool;
 
@@ -55,11 +49,6 @@ pub trait Messages {
 
     /// Takes how much of some work is done so far, of this count. It is called again and again while the work goes on.
     fn progress(&mut self, work: Work, done: u32, count: u32);
-
-    /// Saves a picture that a person asks for as a file of this name, in place of one that is there. The error says why it
-    /// isn't saved, and then a part of it may be there.
-    fn save(&mut self, file: &str, picture: &str) -> io::Result<()>
-        ensures { OnOk result (saves self.old file.now picture.now self.new) };
 }
 
 /// Nobody reads the messages.
@@ -67,8 +56,6 @@ pub trait Messages {
 pub struct Silent;
 
 impl Messages for Silent {
-    ghost saves = { λ old file picture new. ⊥ };
-
     #[inline]
     fn are_wanted(&self) -> bool {
         false
@@ -84,10 +71,6 @@ impl Messages for Silent {
 
     #[inline]
     fn progress(&mut self, _work: Work, _done: u32, _count: u32) {}
-
-    fn save(&mut self, _file: &str, _picture: &str) -> io::Result<()> {
-        Err(io::Error::from(io::ErrorKind::Unsupported))
-    }
 }
 
 /// The messages of a script that follows other lines of the same text: its lines are told by their numbers in
@@ -111,8 +94,6 @@ impl<'a, M: Messages> Behind<'a, M> {
 }
 
 impl<M: Messages> Messages for Behind<'_, M> {
-    ghost saves = { λ old file picture new. M.saves old.messages.now file picture new.messages.now };
-
     #[inline]
     fn are_wanted(&self) -> bool {
         self.messages.are_wanted()
@@ -138,10 +119,6 @@ impl<M: Messages> Messages for Behind<'_, M> {
             Work::Turns | Work::Roots => work,
         };
         self.messages.progress(work, done, count);
-    }
-
-    fn save(&mut self, file: &str, picture: &str) -> io::Result<()> {
-        self.messages.save(file, picture)
     }
 }
 
