@@ -5,17 +5,17 @@
 //!
 //! An input that discards one header is a portal for all others: so a row that discards a random header is told only where
 //! the labels are accepted with it, and the random headers of the terminal that follow are discarded with it.
-ghost use Rattle.std.specs.Prelude.{IfOk, IfSome, ◌<◌};
+ghost use Rattle.std.specs.Prelude.{IfOk, IfSome};
 ghost use Rattle.{c104_fixes.specs.Fixes.{IsMended, LeavesAccepted}, c104_plan.specs.PlanImage.Fits};
 
+use crate::header_ranges::{end_of_randoms, free_first, next_label, next_random};
 use crate::joint_fixes::joint_rows;
-use crate::range_changes::free_first;
 use crate::row_changes::{Change, RowFix, row_fix};
 use crate::row_lines::RowLines;
 use crate::trials::{are_accepted, fixed_image, is_mended, most_trials};
-use c104_check::{CheckFault, Mend, Shown, SwitchPort, WalkKind, find_mend};
+use c104_check::{CheckFault, Mend, Shown, WalkKind, find_mend};
 use c104_interval::Select;
-use c104_plan::{Image, LABELS, Plan, PlanRandom, header_values};
+use c104_plan::{Image, Plan};
 use c104_token::NoMemory;
 use std::alloc::Global;
 
@@ -43,20 +43,7 @@ pub struct TriedFix {
 /// for, or can't be found, by rows of some of them; for a random header it is a row that discards it at an input of its
 /// walk, if the labels are accepted with that row; where the ranges of two terminals overlap or a label is no header it is
 /// another range. None is told where nothing of the kind is found, or where an input would have more than 36 rows. It fails
-/// only when out of memory.
-pub fn find_fix(
-    alloc: Global,
-    plan: &Plan,
-    image: &Image,
-    fault: &CheckFault,
-) -> Result<Option<TriedFix>, NoMemory>
-    requires { Fits image.now plan.now }
-    ensures { IfOk result (λ found. IfSome found (λ tried. IsMended plan.now fault.now tried.image)) }
-{
-    find_fix_of(alloc, None, plan, image, fault)
-}
-
-/// The same; where the lines of the description are known, the rows are for these.
+/// only when out of memory. Where the lines of the description are known, the rows are for these.
 pub fn find_fix_of(
     alloc: Global,
     lines: Option<&RowLines<'_>>,
@@ -68,28 +55,17 @@ pub fn find_fix_of(
     ensures { IfOk result (λ found. IfSome found (λ tried. IsMended plan.now fault.now tried.image)) }
 {
     match fault {
-        CheckFault::RangesOverlap(_, terminal) => find_labels(alloc, plan, fault, *terminal),
-        CheckFault::LabelTooLarge(terminal) => find_labels(alloc, plan, fault, *terminal),
-        CheckFault::WrongEnd(shown) => find_rows(alloc, lines, plan, image, fault, shown),
-        CheckFault::DeadEnd(shown) => find_rows(alloc, lines, plan, image, fault, shown),
-        CheckFault::Loop(shown) => find_rows(alloc, lines, plan, image, fault, shown),
-        CheckFault::Stray(shown) => find_rows(alloc, lines, plan, image, fault, shown),
+        CheckFault::RangesOverlap(_, terminal) | CheckFault::LabelTooLarge(terminal) => {
+            match free_first(plan, *terminal) {
+                Some(first) => try_fix(alloc, plan, fault, Fix::Labels(*terminal, first)),
+                None => Ok(None),
+            }
+        }
+        CheckFault::WrongEnd(shown)
+        | CheckFault::DeadEnd(shown)
+        | CheckFault::Loop(shown)
+        | CheckFault::Stray(shown) => find_rows(alloc, lines, plan, image, fault, shown),
         _ => Ok(None),
-    }
-}
-
-/// The same by other labels of a terminal.
-fn find_labels(
-    alloc: Global,
-    plan: &Plan,
-    fault: &CheckFault,
-    terminal: usize,
-) -> Result<Option<TriedFix>, NoMemory>
-    ensures { IfOk result (λ found. IfSome found (λ tried. IsMended plan.now fault.now tried.image)) }
-{
-    match free_first(plan, terminal) {
-        Some(first) => try_fix(alloc, plan, fault, Fix::Labels(terminal, first)),
-        None => Ok(None),
     }
 }
 
@@ -184,43 +160,26 @@ fn find_discarding(alloc: Global, plan: &Plan, shown: &Shown) -> Result<Option<T
     ensures { IfOk result (λ found. IfSome found (λ tried. LeavesAccepted plan.now tried.image)) }
 {
     let walk = shown.walk.as_slice();
-    let header = shown.header;
-    let end = end_of_randoms(plan, shown.entry, header);
+    let first = shown.header;
+    let alone = first.saturating_add(1);
+    let all = end_of_randoms(plan, shown.entry, first);
     for followers in 0..most_trials(plan).min(walk.len()) {
         let at = walk[walk.len() - 1 - followers];
-        let alone = try_discarding(alloc, plan, at, header, header.saturating_add(1))?;
-        if alone.is_some() {
-            return Ok(alone);
-        }
-        let all = try_discarding(alloc, plan, at, header, end)?;
-        if all.is_some() {
-            return Ok(all);
+        for end in [alone, all] {
+            let select = Select::Discard;
+            let change = Change {
+                at,
+                first,
+                end,
+                select,
+            };
+            let tried = try_change(alloc, plan, change)?;
+            if tried.is_some() {
+                return Ok(tried);
+            }
         }
     }
     Ok(None)
-}
-
-/// Rows by which headers are discarded at an input, if the labels are accepted with them.
-fn try_discarding(
-    alloc: Global,
-    plan: &Plan,
-    at: SwitchPort,
-    first: u32,
-    end: u32,
-) -> Result<Option<TriedFix>, NoMemory>
-    ensures { IfOk result (λ found. IfSome found (λ tried. LeavesAccepted plan.now tried.image)) }
-{
-    let select = Select::Discard;
-    try_change(
-        alloc,
-        plan,
-        Change {
-            at,
-            first,
-            end,
-            select,
-        },
-    )
 }
 
 /// Rows by which headers select something else at an input, if the labels are accepted with them.
@@ -243,53 +202,4 @@ pub(crate) fn try_change(
     } else {
         Ok(None)
     }
-}
-
-/// The first label above a header that begins a range; where none does, the first number that is no label.
-fn next_label(plan: &Plan, header: u32) -> u32 {
-    let mut next = LABELS;
-    for terminal in plan.terminals() {
-        if header < terminal.first {
-            next = next.min(terminal.first);
-        }
-    }
-    next
-}
-
-/// The first header above a header with which the random ones of an input begin; where none does, the first number
-/// that is no label.
-fn next_random(plan: &Plan, header: u32) -> u32 {
-    let headers = header_values(plan.header());
-    let mut next = LABELS;
-    for random in plan.randoms() {
-        let first = random.base % headers;
-        if header < first {
-            next = next.min(first);
-        }
-    }
-    next
-}
-
-/// The first number past a header that is no random header of a terminal, or a label with which a range begins.
-fn end_of_randoms(plan: &Plan, terminal: usize, header: u32) -> u32 {
-    let mut end = header.saturating_add(1);
-    let Some(terminal) = plan.terminals().get(terminal) else {
-        return end;
-    };
-    for random in plan.randoms() {
-        if random.port.is_same(terminal.host_port()) {
-            end = end.max(end_of_random(*random, header_values(plan.header()), header));
-        }
-    }
-    end.min(next_label(plan, header))
-}
-
-/// The first number past a random header that is no random header of the input, with `headers` headers in all.
-fn end_of_random(random: PlanRandom, headers: u32, header: u32) -> u32
-    requires { 0 < headers }
-{
-    let before = headers - random.base % headers;
-    let place = header.saturating_add(before) % headers;
-    let left = random.range.max(1).saturating_sub(place);
-    header.saturating_add(left).min(headers)
 }

@@ -1,10 +1,11 @@
 //! Headers that nothing in a description tells apart. Nothing is proved of it but that it is safe and ends.
 
+use crate::network::set_at;
 use c104_plan::{LABELS, Plan, header_values};
 use std::alloc::{AllocError, Global};
 
 /// Headers next to one another that no row, base or range of labels tells apart.
-#[derive(Clone, Copy, Debug)]
+#[derive(Clone, Copy)]
 pub(crate) struct HeaderClass {
     /// The first of them.
     pub(crate) first: u32,
@@ -34,23 +35,17 @@ pub(crate) fn header_classes(alloc: Global, plan: &Plan) -> Result<Vec<HeaderCla
 fn class_begins(alloc: Global, plan: &Plan) -> Result<Vec<bool>, AllocError> {
     let mut begins = vec![in alloc; false; LABELS as usize]?;
     for base in plan.bases() {
-        mark(&mut begins, base.base);
+        set_at(&mut begins, base.base as usize);
     }
     for row in plan.rows() {
-        mark(&mut begins, row.limit);
+        set_at(&mut begins, row.limit as usize);
     }
     for terminal in plan.terminals() {
-        mark(&mut begins, terminal.first);
-        mark(&mut begins, terminal.first.saturating_add(terminal.count));
+        let end = terminal.first.saturating_add(terminal.count);
+        set_at(&mut begins, terminal.first as usize);
+        set_at(&mut begins, end as usize);
     }
     Ok(begins)
-}
-
-/// A class may begin with a number.
-fn mark(begins: &mut Vec<bool>, header: u32) {
-    if let Some(begin) = begins.get_mut(header as usize) {
-        *begin = true;
-    }
 }
 
 /// The class from a header on up to another.

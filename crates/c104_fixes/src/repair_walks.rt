@@ -1,25 +1,10 @@
 //! The ways of headers through a network that is repaired. Nothing is proved of it but that it is safe and ends.
 
-use crate::repair_wires::place_of;
+use crate::network::{End, Group, beside, set_at};
 use crate::repairs::{Manner, Repair};
-use c104_check::SwitchPort;
 use c104_interval::Select;
-use c104_plan::Port;
 use c104_regs::LINKS;
-use std::alloc::{AllocError, Global};
-
-/// What is known of an input, for one class of headers.
-#[derive(Clone, Copy, Debug, PartialEq, Eq)]
-enum Mark {
-    /// Nothing yet.
-    New,
-    /// It is being walked on from.
-    Open,
-    /// From it they come to their owner.
-    Good,
-    /// From it they may not.
-    Bad,
-}
+use std::alloc::AllocError;
 
 /// From where the headers of a class come to their owner.
 #[derive(Drop)]
@@ -28,23 +13,18 @@ pub(crate) struct Walk {
     owner: usize,
     /// The owner's switch.
     home: usize,
-    /// What is known of the input at each place.
-    marks: Vec<Mark>,
-    /// The places of the inputs that are being walked on from.
-    open: Vec<usize>,
-    /// Those of all inputs to which the headers come, once others are followed too.
-    reached: Vec<usize>,
+    /// Whether they come to their owner by all ways from the input at each place.
+    is_good: Vec<bool>,
+    /// The places of the inputs to which they come.
+    pub(crate) reached: Vec<usize>,
 }
 
 impl Walk {
-    /// The ways of a class from where it comes in.
-    pub(crate) fn new(
-        alloc: Global,
-        repair: &Repair<'_>,
-        class: usize,
-        owner: usize,
-    ) -> Result<Self, AllocError> {
-        let home = match repair.plan.terminals().get(owner) {
+    /// The ways of a class.
+    pub(crate) fn new(repair: &Repair<'_>, class: usize, owner: usize) -> Result<Self, AllocError> {
+        let network = repair.network;
+        let alloc = network.alloc;
+        let home = match network.plan.terminals().get(owner) {
             Some(terminal) => terminal.switch,
             None => 0,
         };
@@ -52,203 +32,80 @@ impl Walk {
             class,
             owner,
             home,
-            marks: vec![in alloc; Mark::New; repair.wires.places()]?,
-            open: Vec::new(alloc),
+            is_good: vec![in alloc; false; network.places]?,
             reached: Vec::new(alloc),
         };
-        walk.follow_all(repair, repair.wires.entries.as_slice())?;
+        walk.find_good(repair);
+        walk.reached = walk.met(repair, false)?;
         Ok(walk)
     }
 
-    /// Marks the inputs to which the headers don't come.
-    pub(crate) fn follow_others(&mut self, repair: &Repair<'_>) -> Result<(), AllocError> {
-        for place in repair.wires.wired.as_slice() {
-            if self.mark(*place) != Mark::New {
-                self.reached.push(*place)?;
+    /// Finds from where they come to their owner: by links to it, and by those to inputs from where they do.
+    fn find_good(&mut self, repair: &Repair<'_>) {
+        // Most ways run up and then down through the numbers of the switches, or down and then up.
+        for round in 0..repair.network.wired.len() {
+            if !self.add_good(repair, round % 2 == 1) {
+                return;
             }
         }
-        self.follow_all(repair, repair.wires.wired.as_slice())
     }
 
-    /// Whether all headers of it come to their owner.
-    pub(crate) fn is_right(&self, repair: &Repair<'_>) -> bool {
-        repair
-            .wires
-            .entries
-            .iter()
-            .all(|place| self.is_good(*place))
-    }
-
-    /// Marks inputs, and all that come behind them.
-    fn follow_all(&mut self, repair: &Repair<'_>, places: &[usize]) -> Result<(), AllocError> {
-        for place in places {
-            self.follow(repair, *place)?;
-        }
-        Ok(())
-    }
-
-    /// Marks an input, and all that come behind it.
-    fn follow(&mut self, repair: &Repair<'_>, place: usize) -> Result<(), AllocError> {
-        self.enter(place)?;
-        for _ in 0..repair.wires.places().saturating_mul(2) {
-            let Some(last) = self.open.as_slice().last().copied() else {
-                return Ok(());
+    /// Inputs from where they come to their owner by those from which they do join these; whether there are more.
+    fn add_good(&mut self, repair: &Repair<'_>, is_upwards: bool) -> bool {
+        let wired = repair.network.wired.as_slice();
+        let mut has_more = false;
+        for index in 0..wired.len() {
+            let place = if is_upwards {
+                wired[index]
+            } else {
+                wired[wired.len() - 1 - index]
             };
-            match self.new_behind(repair, last) {
-                Some(next) => self.enter(next)?,
-                None => self.leave(repair, last),
+            if !self.is_good(place) && self.leads(repair.ends(self.class, place)) {
+                set_at(&mut self.is_good, place);
+                has_more = true;
             }
         }
-        Ok(())
+        has_more
     }
 
-    /// An input is walked on from, if nothing is known of it.
-    fn enter(&mut self, place: usize) -> Result<(), AllocError> {
-        if self.mark(place) == Mark::New {
-            self.set_mark(place, Mark::Open);
-            self.open.push(place)?;
-        }
-        Ok(())
+    /// Whether they come to their owner from an input.
+    fn is_good(&self, place: usize) -> bool {
+        self.is_good.get(place) == Some(&true)
     }
 
-    /// All that come behind an input are known.
-    fn leave(&mut self, repair: &Repair<'_>, place: usize) {
-        let mark = if self.leads(repair, place) {
-            Mark::Good
-        } else {
-            Mark::Bad
-        };
-        self.set_mark(place, mark);
-        self.open.pop();
+    /// Whether all of these links lead on to their owner.
+    pub(crate) fn leads(&self, ends: &[End]) -> bool {
+        ends.iter().all(|end| match end {
+            End::Nowhere => false,
+            End::Terminal(terminal) => *terminal == self.owner,
+            End::Input(place) => self.is_good(*place),
+        })
     }
 
-    /// What is known of an input.
-    fn mark(&self, place: usize) -> Mark {
-        match self.marks.get(place) {
-            Some(mark) => *mark,
-            None => Mark::Bad,
-        }
-    }
-
-    /// This is known of an input.
-    fn set_mark(&mut self, place: usize, to: Mark) {
-        if let Some(mark) = self.marks.get_mut(place) {
-            *mark = to;
-        }
-    }
-
-    /// Whether the headers come to their owner from an input that is known.
-    pub(crate) fn is_good(&self, place: usize) -> bool {
-        self.mark(place) == Mark::Good
-    }
-
-    /// An input of which nothing is known, to which they may come from another next.
-    fn new_behind(&self, repair: &Repair<'_>, place: usize) -> Option<usize> {
-        let group = repair.selected(self.class, place)?;
-        for link in group.0..group.1.saturating_add(1) {
-            if let Some(next) = repair.wires.next_beside(place, link)
-                && self.mark(next) == Mark::New
-            {
-                return Some(next);
-            }
-        }
-        None
-    }
-
-    /// Whether all links that they select at an input lead on to their owner.
-    fn leads(&self, repair: &Repair<'_>, place: usize) -> bool {
-        let Some(group) = repair.selected(self.class, place) else {
-            return false;
-        };
-        for link in group.0..group.1.saturating_add(1) {
-            if !self.leads_by(repair, place, link) {
-                return false;
-            }
-        }
-        true
-    }
-
-    /// Whether a link of the switch of an input leads on to their owner.
-    fn leads_by(&self, repair: &Repair<'_>, place: usize, link: usize) -> bool {
-        match repair.wires.peer_beside(place, link) {
-            Some(Port::Terminal(terminal)) => terminal == self.owner,
-            Some(Port::Switch(switch, link)) => {
-                self.is_good(place_of(SwitchPort { switch, link }))
-            }
-            None => false,
-        }
-    }
-
-    /// The inputs that send them wrong, as the repair's manner has it, in the order in which they are met; they go on from none
-    /// of these.
-    pub(crate) fn wrong(
-        &self,
-        alloc: Global,
-        repair: &Repair<'_>,
-    ) -> Result<Vec<usize>, AllocError> {
-        let met = self.met(alloc, repair)?;
-        let mut wrong = Vec::new(alloc);
-        for place in met.as_slice() {
-            if self.is_wrong(repair, *place) {
-                wrong.push(*place)?;
-            }
-        }
-        Ok(wrong)
-    }
-
-    /// A vote for each input from which they go round without coming nearer to their owner.
-    pub(crate) fn vote(&self, repair: &Repair<'_>, votes: &mut Vec<usize>) {
-        for place in self.reached.as_slice() {
-            if !self.is_good(*place)
-                && self.is_away(repair, *place)
-                && let Some(count) = votes.get_mut(*place)
-            {
-                *count = count.saturating_add(1);
-            }
-        }
-    }
-
-    /// Whether they come to an input, go round from there, and aren't sent nearer to their owner.
-    pub(crate) fn goes_round(&self, repair: &Repair<'_>, place: usize) -> bool {
-        !self.is_good(place)
-            && self.is_away(repair, place)
-            && self.reached.iter().any(|other| *other == place)
-    }
-
-    /// The inputs to which they come if they go on from none that sends them wrong, in the order in which they are met.
-    fn met(&self, alloc: Global, repair: &Repair<'_>) -> Result<Vec<usize>, AllocError> {
-        let mut is_met = vec![in alloc; false; repair.wires.places()]?;
-        let mut met = Vec::new(alloc);
-        add_met(&mut met, &mut is_met, repair.wires.entries.as_slice())?;
-        for index in 0..repair.wires.places() {
-            let Some(place) = met.as_slice().get(index).copied() else {
-                return Ok(met);
-            };
-            if !self.is_wrong(repair, place) {
-                let next = self.next(alloc, repair, place)?;
-                add_met(&mut met, &mut is_met, next.as_slice())?;
-            }
-        }
+    /// The inputs that send them wrong, as the repair's manner has it, and to which they come though they go on from none of
+    /// these.
+    pub(crate) fn wrong(&self, repair: &Repair<'_>) -> Result<Vec<usize>, AllocError> {
+        let mut met = self.met(repair, true)?;
+        met.retain(|place| self.is_wrong(repair, *place));
         Ok(met)
     }
 
-    /// The places of the inputs to which they may come from one next.
-    fn next(
-        &self,
-        alloc: Global,
-        repair: &Repair<'_>,
-        place: usize,
-    ) -> Result<Vec<usize>, AllocError> {
-        let mut next = Vec::new(alloc);
-        let Some(group) = repair.selected(self.class, place) else {
-            return Ok(next);
-        };
-        for link in group.0..group.1.saturating_add(1) {
-            if let Some(input) = repair.wires.next_beside(place, link) {
-                next.push(input)?;
+    /// The inputs to which they come; where they stop at those that send them wrong, no others.
+    fn met(&self, repair: &Repair<'_>, stops: bool) -> Result<Vec<usize>, AllocError> {
+        let alloc = repair.network.alloc;
+        let places = repair.network.places;
+        let mut is_met = vec![in alloc; false; places]?;
+        let mut met = Vec::new(alloc);
+        add_met(&mut met, &mut is_met, repair.network.entries.as_slice())?;
+        for index in 0..places {
+            let Some(place) = met.as_slice().get(index).copied() else {
+                return Ok(met);
+            };
+            if !stops || !self.is_wrong(repair, place) {
+                add_met(&mut met, &mut is_met, repair.ends(self.class, place))?;
             }
         }
-        Ok(next)
+        Ok(met)
     }
 
     /// Whether an input sends them wrong.
@@ -260,38 +117,40 @@ impl Walk {
 
     /// Whether they stop at an input, or come from there to a wrong end.
     fn stops(&self, repair: &Repair<'_>, place: usize) -> bool {
-        let Some(group) = repair.selected(self.class, place) else {
-            return true;
-        };
-        for link in group.0..group.1.saturating_add(1) {
-            match repair.wires.peer_beside(place, link) {
-                Some(Port::Switch(_, _)) => {}
-                Some(Port::Terminal(terminal)) if terminal == self.owner => {}
-                _ => return true,
-            }
-        }
-        false
+        repair.ends(self.class, place).iter().any(|end| match end {
+            End::Nowhere => true,
+            End::Terminal(terminal) => *terminal != self.owner,
+            End::Input(_) => false,
+        })
     }
 
     /// Whether an input may send them to a switch that isn't nearer to their owner.
     fn is_away(&self, repair: &Repair<'_>, place: usize) -> bool {
-        let Some(group) = repair.selected(self.class, place) else {
-            return false;
-        };
-        let here = self.far(repair, place / LINKS);
-        for link in group.0..group.1.saturating_add(1) {
-            if let Some(Port::Switch(switch, _)) = repair.wires.peer_beside(place, link)
-                && self.far(repair, switch) >= here
-            {
-                return true;
-            }
-        }
-        false
+        let here = self.distance(repair, place);
+        repair.ends(self.class, place).iter().any(
+            |end| matches!(end, End::Input(next) if self.distance(repair, *next) >= here),
+        )
     }
 
-    /// How far a switch is from their owner's.
-    fn far(&self, repair: &Repair<'_>, switch: usize) -> usize {
-        repair.wires.distance(self.home, switch)
+    /// Whether they go round from an input, and aren't sent nearer to their owner.
+    pub(crate) fn goes_round(&self, repair: &Repair<'_>, place: usize) -> bool {
+        !self.is_good(place) && self.is_away(repair, place)
+    }
+
+    /// A vote for each input to which they come and from which they go round.
+    pub(crate) fn vote(&self, repair: &Repair<'_>, votes: &mut Vec<usize>) {
+        for place in self.reached.as_slice() {
+            if self.goes_round(repair, *place)
+                && let Some(count) = votes.get_mut(*place)
+            {
+                *count = count.saturating_add(1);
+            }
+        }
+    }
+
+    /// How many wires the switch of an input is away from their owner's.
+    fn distance(&self, repair: &Repair<'_>, place: usize) -> usize {
+        repair.network.distance(self.home, place / LINKS)
     }
 
     /// The nearest way from an input: by the first link of a group. Of several that are as near it is one that headers next to
@@ -300,31 +159,43 @@ impl Walk {
         let mut best = None;
         let mut least = usize::MAX;
         for link in 0..LINKS {
-            let group = repair.wires.group_beside(place, link);
-            if group.0 == link
-                && let Some(length) = self.length_by(repair, place, group)
+            let first = beside(place, link);
+            let group = repair.network.group(first);
+            if group.first == first
+                && let Some(cost) = self.cost(repair, place, group)
+                && cost < least
             {
-                let cost = self.cost(repair, place, group, length);
-                if cost < least {
-                    least = cost;
-                    best = Some(Select::Link(link as u8));
-                }
+                least = cost;
+                best = Some(Select::Link(link as u8));
             }
         }
         best
     }
 
-    /// How far it is to their owner by a group of a switch, from the most distant of its links. None where one doesn't lead
-    /// there.
-    fn length_by(&self, repair: &Repair<'_>, place: usize, group: (usize, usize)) -> Option<usize> {
+    /// How little the way by a group of the switch of an input is wanted. None where a link of it doesn't lead to their owner.
+    fn cost(&self, repair: &Repair<'_>, place: usize, group: Group) -> Option<usize> {
+        let network = repair.network;
+        let ends = network.ends_of(group);
+        let mut cost = self.length(repair, ends)?.saturating_mul(2);
+        if !repair.is_beside(self.class, place, group) {
+            cost = cost.saturating_add(1);
+        }
+        if repair.manner == Manner::Kept && !self.are_kept(repair, ends) {
+            cost = cost.saturating_add(network.places.saturating_mul(2));
+        }
+        Some(cost)
+    }
+
+    /// How far it is to their owner by links, from the most distant of these. None where one doesn't lead there.
+    fn length(&self, repair: &Repair<'_>, ends: &[End]) -> Option<usize> {
         let mut length = 0;
-        for link in group.0..group.1.saturating_add(1) {
-            let own = match repair.wires.peer_beside(place, link)? {
-                Port::Terminal(terminal) if terminal == self.owner => 0,
-                Port::Terminal(_) => return None,
-                Port::Switch(switch, _) => self.far(repair, switch).saturating_add(1),
+        for end in ends {
+            let own = match end {
+                End::Terminal(terminal) if *terminal == self.owner => 0,
+                End::Input(next) => self.distance(repair, *next).saturating_add(1),
+                _ => return None,
             };
-            if own > repair.wires.switches() {
+            if own > repair.network.switches {
                 return None;
             }
             length = length.max(own);
@@ -332,30 +203,12 @@ impl Walk {
         Some(length)
     }
 
-    /// How little a way by a group of this length is wanted.
-    fn cost(
-        &self,
-        repair: &Repair<'_>,
-        place: usize,
-        group: (usize, usize),
-        length: usize,
-    ) -> usize {
-        let mut cost = length.saturating_mul(2);
-        if !repair.is_beside(self.class, place, group) {
-            cost = cost.saturating_add(1);
-        }
-        if repair.manner == Manner::Kept && !self.is_kept(repair, place, group) {
-            cost = cost.saturating_add(repair.wires.places().saturating_mul(2));
-        }
-        cost
-    }
-
-    /// Whether a group leads on to inputs without rows, or only to those from which they come to their owner.
-    fn is_kept(&self, repair: &Repair<'_>, place: usize, group: (usize, usize)) -> bool {
-        for link in group.0..group.1.saturating_add(1) {
-            if let Some(next) = repair.wires.next_beside(place, link)
-                && !self.is_good(next)
-                && repair.wires.has_rows.get(next) == Some(&true)
+    /// Whether none of these links leads to an input with rows from which they don't come to their owner.
+    fn are_kept(&self, repair: &Repair<'_>, ends: &[End]) -> bool {
+        for end in ends {
+            if let End::Input(next) = end
+                && !self.is_good(*next)
+                && repair.network.has_rows.get(*next) == Some(&true)
             {
                 return false;
             }
@@ -364,14 +217,11 @@ impl Walk {
     }
 }
 
-/// Inputs join those that are met, if they aren't there.
-fn add_met(
-    met: &mut Vec<usize>,
-    is_met: &mut Vec<bool>,
-    places: &[usize],
-) -> Result<(), AllocError> {
-    for place in places {
-        if let Some(is_there) = is_met.get_mut(*place)
+/// Inputs to which links lead join those that are met, if they aren't there.
+fn add_met(met: &mut Vec<usize>, is_met: &mut Vec<bool>, ends: &[End]) -> Result<(), AllocError> {
+    for end in ends {
+        if let End::Input(place) = end
+            && let Some(is_there) = is_met.get_mut(*place)
             && !*is_there
         {
             *is_there = true;

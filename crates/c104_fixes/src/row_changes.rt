@@ -6,17 +6,6 @@ use c104_interval::{ROWS, Row, Select};
 use c104_plan::{Plan, Port};
 use std::alloc::{AllocError, Global};
 
-/// Headers that are to select something else at an input.
-#[derive(Clone, Copy, Debug)]
-pub(crate) struct Change {
-    pub(crate) at: SwitchPort,
-    /// The first of them.
-    pub(crate) first: u32,
-    /// The first number past them.
-    pub(crate) end: u32,
-    pub(crate) select: Select,
-}
-
 /// Rows of an input in the place of one, or behind all.
 #[derive(Drop)]
 pub struct RowChange {
@@ -41,13 +30,215 @@ pub struct RowFix {
     pub changes: Vec<RowChange>,
 }
 
-/// Which row of an input is the first to cover a header.
-#[derive(Clone, Copy, Debug)]
-pub(crate) struct Covering {
-    /// Its number; where none does, how many rows there are.
-    pub(crate) number: usize,
-    /// Where its interval begins; where none does, where that of a further row would.
-    pub(crate) low: u32,
+/// Headers next to one another, all of which the same row of an input is the first to cover.
+#[derive(Clone, Copy)]
+pub(crate) struct Covered {
+    /// The number of the row; where none covers them, how many rows there are.
+    pub(crate) row: usize,
+    /// The first of the headers.
+    pub(crate) first: u32,
+    /// The first number past them.
+    pub(crate) end: u32,
+    /// What they are to select, if it matters.
+    pub(crate) select: Option<Select>,
+}
+
+/// The rows of an input, as a plan has them.
+#[derive(Drop)]
+pub(crate) struct InputRows {
+    alloc: Global,
+    at: SwitchPort,
+    /// In order.
+    pub(crate) rows: Vec<Row>,
+    /// Where the interval of the first begins.
+    base: u32,
+}
+
+impl InputRows {
+    /// Those of an input.
+    pub(crate) fn read(alloc: Global, plan: &Plan, at: SwitchPort) -> Result<Self, AllocError> {
+        let port = Port::Switch(at.switch, at.link);
+        let mut rows = Vec::new(alloc);
+        for row in plan.rows() {
+            if row.port.is_same(port) {
+                rows.push(Row {
+                    limit: row.limit,
+                    select: row.select,
+                })?;
+            }
+        }
+        let base = base_of(plan, port);
+        Ok(InputRows {
+            alloc,
+            at,
+            rows,
+            base,
+        })
+    }
+
+    /// The number of the first row that covers a header, and where its interval begins; where none does, how many rows there
+    /// are, and where the interval of a further one would begin.
+    pub(crate) fn covering(&self, header: u32) -> (usize, u32) {
+        let mut low = self.base;
+        for (number, row) in self.rows.iter().enumerate() {
+            if low <= header && header < row.limit {
+                return (number, low);
+            }
+            low = row.limit;
+        }
+        (self.rows.len(), low)
+    }
+
+    /// Rows by which headers select what they are to at all inputs with these links, and all others what they select now. None
+    /// where these have no room for them.
+    pub(crate) fn fix(
+        &self,
+        links: Vec<usize>,
+        headers: &[Covered],
+    ) -> Result<Option<RowFix>, AllocError> {
+        let changes = self.changes(headers)?;
+        let rows = self.changed(changes.as_slice())?;
+        if rows.len() > ROWS {
+            return Ok(None);
+        }
+        Ok(Some(RowFix {
+            at: self.at,
+            rows,
+            is_shared: links.len() > 1,
+            links,
+            changes,
+        }))
+    }
+
+    /// Which rows change for headers to select what they are to.
+    fn changes(&self, headers: &[Covered]) -> Result<Vec<RowChange>, AllocError> {
+        let mut changes = Vec::new(self.alloc);
+        for number in 0..self.rows.len().saturating_add(1) {
+            if let Some(change) = self.change(number, headers)? {
+                add_joined(&mut changes, change)?;
+            }
+        }
+        Ok(changes)
+    }
+
+    /// What the row of a number gives way to, or behind all what is put there. None where the headers that it covers stay as
+    /// they are.
+    fn change(&self, number: usize, headers: &[Covered]) -> Result<Option<RowChange>, AllocError> {
+        let row = self.rows.get(number).copied();
+        let usual = match row {
+            Some(row) => row.select,
+            None => Select::Sink,
+        };
+        let mut changed_end = None;
+        for own in headers {
+            if own.row == number && matches!(own.select, Some(select) if select != usual) {
+                changed_end = Some(own.end);
+            }
+        }
+        let Some(changed_end) = changed_end else {
+            return Ok(None);
+        };
+        let limit = match row {
+            Some(row) => row.limit,
+            None => changed_end,
+        };
+        let mut by = rows_for(self.alloc, number, headers, usual, limit)?;
+        // Behind all rows headers are sunk in any case.
+        if row.is_none() && matches!(by.as_slice().last(), Some(last) if last.select == usual) {
+            by.pop();
+        }
+        let replaced = row.map(|row| (number, row));
+        Ok(Some(RowChange { replaced, by }))
+    }
+
+    /// All of them, with these changes.
+    fn changed(&self, changes: &[RowChange]) -> Result<Vec<Row>, AllocError> {
+        let mut rows = Vec::new(self.alloc);
+        for (number, row) in self.rows.iter().enumerate() {
+            let change = changes.iter().find(
+                |change| matches!(change.replaced, Some((own, _)) if own == number),
+            );
+            match change {
+                Some(change) => rows.extend_from_slice(change.by.as_slice())?,
+                None => rows.push(*row)?,
+            }
+        }
+        if let Some(change) = changes.last()
+            && change.replaced.is_none()
+        {
+            rows.extend_from_slice(change.by.as_slice())?;
+        }
+        Ok(rows)
+    }
+}
+
+/// Rows for the headers that one row covers, where the last ends below a limit: in one those that select the same. Where any
+/// select will do, it is that of the headers next to them, and the usual one at once.
+fn rows_for(
+    alloc: Global,
+    number: usize,
+    headers: &[Covered],
+    usual: Select,
+    limit: u32,
+) -> Result<Vec<Row>, AllocError> {
+    let mut rows = Vec::new(alloc);
+    let mut last = None;
+    let mut gap = None;
+    for own in headers {
+        if own.row != number {
+            continue;
+        }
+        let Some(select) = own.select else {
+            gap = gap.or(Some(own.first));
+            continue;
+        };
+        if let Some(last) = last
+            && last != select
+        {
+            let limit = match gap {
+                Some(gap) if select == usual => gap,
+                _ => own.first,
+            };
+            rows.push(Row {
+                limit,
+                select: last,
+            })?;
+        }
+        last = Some(select);
+        gap = None;
+    }
+    if let Some(select) = last {
+        rows.push(Row { limit, select })?;
+    }
+    Ok(rows)
+}
+
+/// A change joins others. Where the last of them is of the row before, and ends with the select with which this begins, the row
+/// before goes.
+fn add_joined(changes: &mut Vec<RowChange>, change: RowChange) -> Result<(), AllocError> {
+    if let Some(last) = changes.as_mut_slice().last_mut()
+        && let (Some((number, row)), Some((next, next_row))) = (last.replaced, change.replaced)
+        && let Some(end) = last.by.as_slice().last().copied()
+        && let Some(begin) = change.by.as_slice().first().copied()
+        && number.saturating_add(1) == next
+        && row.limit <= next_row.limit
+        && end.select == begin.select
+    {
+        last.by.pop();
+    }
+    changes.push(change)?;
+    Ok(())
+}
+
+/// Headers that are to select something else at an input.
+#[derive(Clone, Copy)]
+pub(crate) struct Change {
+    pub(crate) at: SwitchPort,
+    /// The first of them.
+    pub(crate) first: u32,
+    /// The first number past them.
+    pub(crate) end: u32,
+    pub(crate) select: Select,
 }
 
 /// Other rows of an input by which headers select there what they are to, and all others what they select now; where a
@@ -57,25 +248,43 @@ pub(crate) fn row_fix(
     plan: &Plan,
     change: Change,
 ) -> Result<Option<RowFix>, AllocError> {
-    let old = rows_at(alloc, plan, change.at)?;
-    let covering = find_covering(old.as_slice(), base_of(plan, change.at), change.first);
-    let replaced = old.get(covering.number).copied();
-    let by = match replaced {
-        Some(row) => replacing(alloc, change, covering.low, row)?,
-        None => behind(alloc, change, covering.low)?,
+    let old = InputRows::read(alloc, plan, change.at)?;
+    let headers = headers_of(alloc, &old, change)?;
+    let links = vec![in alloc; change.at.link; 1]?;
+    old.fix(links, headers.as_slice())
+}
+
+/// The headers of a change, and those below and above them that the same row covers.
+fn headers_of(alloc: Global, old: &InputRows, change: Change) -> Result<Vec<Covered>, AllocError> {
+    let (row, low) = old.covering(change.first);
+    let (usual, limit) = match old.rows.get(row) {
+        Some(row) => (row.select, row.limit),
+        None => (Select::Sink, change.end),
     };
-    let rows = with_rows(alloc, old.as_slice(), covering.number, by.as_slice())?;
-    if rows.len() > ROWS {
-        return Ok(None);
+    let own = Covered {
+        row,
+        first: change.first,
+        end: change.end,
+        select: Some(change.select),
+    };
+    let usual = Some(usual);
+    let mut headers = Vec::new(alloc);
+    if low != change.first {
+        headers.push(Covered {
+            first: low,
+            select: usual,
+            ..own
+        })?;
     }
-    let replaced = replaced.map(|row| (covering.number, row));
-    Ok(Some(RowFix {
-        at: change.at,
-        rows,
-        links: vec![in alloc; change.at.link; 1]?,
-        is_shared: false,
-        changes: vec![in alloc; RowChange { replaced, by }]?,
-    }))
+    headers.push(own)?;
+    if change.end < limit {
+        headers.push(Covered {
+            first: change.end,
+            select: usual,
+            ..own
+        })?;
+    }
+    Ok(headers)
 }
 
 /// The row of an input that is the first to cover a header.
@@ -85,97 +294,16 @@ pub(crate) fn row_over(
     at: SwitchPort,
     header: u32,
 ) -> Result<Option<Row>, AllocError> {
-    let rows = rows_at(alloc, plan, at)?;
-    let covering = find_covering(rows.as_slice(), base_of(plan, at), header);
-    Ok(rows.get(covering.number).copied())
-}
-
-/// The rows of an input, in order.
-pub(crate) fn rows_at(alloc: Global, plan: &Plan, at: SwitchPort) -> Result<Vec<Row>, AllocError> {
-    let port = Port::Switch(at.switch, at.link);
-    let mut rows = Vec::new(alloc);
-    for row in plan.rows() {
-        if row.port.is_same(port) {
-            rows.push(Row {
-                limit: row.limit,
-                select: row.select,
-            })?;
-        }
-    }
-    Ok(rows)
+    let old = InputRows::read(alloc, plan, at)?;
+    Ok(old.rows.get(old.covering(header).0).copied())
 }
 
 /// Where the first interval of an input's table begins.
-pub(crate) fn base_of(plan: &Plan, at: SwitchPort) -> u32 {
-    let port = Port::Switch(at.switch, at.link);
+fn base_of(plan: &Plan, port: Port) -> u32 {
     for base in plan.bases() {
         if base.port.is_same(port) {
             return base.base;
         }
     }
     0
-}
-
-/// The first of these rows that covers a header, where the first interval begins at `base`.
-pub(crate) fn find_covering(rows: &[Row], base: u32, header: u32) -> Covering {
-    let mut low = base;
-    for (number, row) in rows.iter().enumerate() {
-        if low <= header && header < row.limit {
-            return Covering { number, low };
-        }
-        low = row.limit;
-    }
-    Covering {
-        number: rows.len(),
-        low,
-    }
-}
-
-/// What a row, whose interval begins at `low`, gives way to: rows for the headers that it covers below those of a change,
-/// for these, and for those above them.
-fn replacing(alloc: Global, change: Change, low: u32, row: Row) -> Result<Vec<Row>, AllocError> {
-    let mut rows = Vec::new(alloc);
-    if low < change.first {
-        rows.push(Row {
-            limit: change.first,
-            select: row.select,
-        })?;
-    }
-    let end = change.end.min(row.limit);
-    rows.push(Row {
-        limit: end,
-        select: change.select,
-    })?;
-    if end < row.limit {
-        rows.push(row)?;
-    }
-    Ok(rows)
-}
-
-/// Rows behind others, none of which covers the first header of a change.
-fn behind(alloc: Global, change: Change, low: u32) -> Result<Vec<Row>, AllocError> {
-    let mut rows = Vec::new(alloc);
-    if low != change.first {
-        rows.push(Row {
-            limit: change.first,
-            select: Select::Sink,
-        })?;
-    }
-    rows.push(Row {
-        limit: change.end,
-        select: change.select,
-    })?;
-    Ok(rows)
-}
-
-/// These rows with others in the place of the one of this number, or behind all.
-fn with_rows(
-    alloc: Global,
-    old: &[Row],
-    number: usize,
-    by: &[Row],
-) -> Result<Vec<Row>, AllocError> {
-    let before = old.iter().take(number);
-    let after = old.iter().skip(number.saturating_add(1));
-    before.chain(by.iter()).chain(after).copied().collect(alloc)
 }

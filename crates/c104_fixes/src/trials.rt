@@ -93,25 +93,20 @@ fn set_all(image: &mut Image, fixes: &[RowFix]) -> Result<(), ImageFault> {
 
 /// Sets all rows of an input; behind the last it has none.
 fn set_rows(image: &mut Image, at: SwitchPort, rows: &[Row]) -> Result<(), ImageFault> {
+    if at.link >= LINKS {
+        return Err(ImageFault::NoNode);
+    }
     for number in 0..ROWS {
         let row = match rows.get(number) {
             Some(row) => *row,
             None => Row::RESET,
         };
-        set_row(image, at, number, row)?;
+        let limit_at = Address::AtLink(at.link, Register::Limit(number)).number();
+        let select_at = Address::AtLink(at.link, Register::Select(number)).number();
+        image.set(at.switch, limit_at, row.limit)?;
+        image.set(at.switch, select_at, number_of(row.select))?;
     }
     Ok(())
-}
-
-/// Sets the row of this number.
-fn set_row(image: &mut Image, at: SwitchPort, number: usize, row: Row) -> Result<(), ImageFault> {
-    if number >= ROWS || at.link >= LINKS {
-        return Err(ImageFault::NoNode);
-    }
-    let limit_at = Address::AtLink(at.link, Register::Limit(number)).number();
-    let select_at = Address::AtLink(at.link, Register::Select(number)).number();
-    image.set(at.switch, limit_at, row.limit)?;
-    image.set(at.switch, select_at, number_of(row.select))
 }
 
 /// What the register of a select reads.

@@ -18,7 +18,7 @@ use c104_interval::Select;
 use c104_plan::{Image, Plan, Port};
 use c104_regs::LINKS;
 use c104_token::NoMemory;
-use std::alloc::Global;
+use std::alloc::{AllocError, Global};
 
 /// Whether packets can wait for one another forever.
 #[derive(Drop)]
@@ -51,8 +51,7 @@ pub fn find_waiting(alloc: Global, plan: &Plan, image: &Image) -> Result<Waiting
 }
 
 /// Rows by which one header of a cycle selects another link at one input, so that the labels are accepted and there is
-/// no cycle: at an input of the cycle, or at one that depends on it. None where no change that was tried does it. The
-/// edges are all dependencies of the network.
+/// no cycle. None where no change that was tried does it. The edges are all dependencies of the network.
 fn find_break(
     alloc: Global,
     plan: &Plan,
@@ -61,9 +60,9 @@ fn find_break(
 ) -> Result<Option<TriedFix>, NoMemory>
     ensures { IfOk result (λ found. IfSome found (λ tried. LeavesNoCycle plan.now tried.image)) }
 {
-    let mut left = most_trials(plan);
-    for dependency in cycle {
-        let fix = break_before(alloc, plan, *dependency, edges, &mut left)?;
+    let changes = changes_of(alloc, plan, cycle, edges)?;
+    for change in changes.as_slice() {
+        let fix = try_break(alloc, plan, *change)?;
         if fix.is_some() {
             return Ok(fix);
         }
@@ -71,65 +70,59 @@ fn find_break(
     Ok(None)
 }
 
-/// The same for the header of one dependency. At most `left` more changes are tried.
-fn break_before(
+/// The changes to be tried: of the header of each dependency, at the inputs that depend on its input, and there.
+fn changes_of(
     alloc: Global,
     plan: &Plan,
-    dependency: ChannelDependency,
+    cycle: &[ChannelDependency],
     edges: &[DependencyEdge],
-    left: &mut usize,
-) -> Result<Option<TriedFix>, NoMemory>
-    ensures { IfOk result (λ found. IfSome found (λ tried. LeavesNoCycle plan.now tried.image)) }
-{
-    for edge in edges {
-        if edge.next == dependency.input {
-            let fix = break_at(alloc, plan, dependency.header, edge.input, left)?;
-            if fix.is_some() {
-                return Ok(fix);
+) -> Result<Vec<Change>, AllocError> {
+    let mut changes = Vec::new(alloc);
+    for dependency in cycle {
+        for edge in edges {
+            if edge.next == dependency.input {
+                add_changes(alloc, plan, dependency.header, edge.input, &mut changes)?;
             }
         }
+        add_changes(
+            alloc,
+            plan,
+            dependency.header,
+            dependency.input,
+            &mut changes,
+        )?;
     }
-    break_at(alloc, plan, dependency.header, dependency.input, left)
+    Ok(changes)
 }
 
-/// The same at one input.
-fn break_at(
+/// The changes by which a header selects another link at an input, that leads to another switch, join these, unless they are as
+/// many as are tried.
+fn add_changes(
     alloc: Global,
     plan: &Plan,
     header: u32,
     at: SwitchPort,
-    left: &mut usize,
-) -> Result<Option<TriedFix>, NoMemory>
-    ensures { IfOk result (λ found. IfSome found (λ tried. LeavesNoCycle plan.now tried.image)) }
-{
+    changes: &mut Vec<Change>,
+) -> Result<(), AllocError> {
     let Some(row) = row_over(alloc, plan, at, header)? else {
-        return Ok(None);
+        return Ok(());
     };
     for link in 0..LINKS {
         let select = Select::Link(link as u8);
-        if *left > 0 && row.select != select && leads_on(plan, at.switch, link) {
-            *left -= 1;
-            let change = Change {
+        let peer = plan.peer(Port::Switch(at.switch, link));
+        if row.select != select
+            && matches!(peer, Some(Port::Switch(_, _)))
+            && changes.len() < most_trials(plan)
+        {
+            changes.push(Change {
                 at,
                 first: header,
                 end: header.saturating_add(1),
                 select,
-            };
-            let fix = try_break(alloc, plan, change)?;
-            if fix.is_some() {
-                return Ok(fix);
-            }
+            })?;
         }
     }
-    Ok(None)
-}
-
-/// Whether a link leads to another switch.
-fn leads_on(plan: &Plan, switch: usize, link: usize) -> bool {
-    matches!(
-        plan.peer(Port::Switch(switch, link)),
-        Some(Port::Switch(_, _))
-    )
+    Ok(())
 }
 
 /// Rows by which headers select something else at an input, if labels are accepted with them, and the network has no
