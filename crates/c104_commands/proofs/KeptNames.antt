@@ -1,5 +1,5 @@
 -- The values that an image keeps are those of registers.
-use Rattle.{c104_commands.specs.LabelNames.IsOfRegister, c104_regs.specs.{Addresses.address_of, KeptValues.{IsKept, IsMapOf, kept_values}}}
+use Rattle.{c104_commands.specs.ImageTexts.IsOfRegister, c104_regs.specs.{Addresses.address_of, KeptValues.{IsKept, IsMapOf, kept_values}}}
 use Rattle.{c104_regs.specs.{Registers.{bank_peek, placed_bank}, declared.settings.Settings.Settings}, std.proofs.Common.{All, Bool}}
 use Rattle.std.proofs.Common.{IsSome, List, None, Ok, Option, Some, arith, get_or, length, option_map, refl, sym, ℕ, ◌<◌, ◌≡◌}
 use Rattle.std.proofs.lemmas.List.Elements.{Contains-get_or}

@@ -1,8 +1,8 @@
 -- What `label` prints: the ranges and the registers of an image, by the names of a plan.
-use Rattle.{c104_plan.specs.{PlanImage.Image, Plans.Plan, PortTexts.{switch_name, terminal_name}}, c104_regs.specs.KeptValues.kept_values}
-use Rattle.c104_regs.specs.declared.settings.Settings.{Settings}
-use Rattle.std.specs.{Fmt.{decimal, digits}, List.range_with_len, Prelude.{List, None, Option, Some, [], codes, false, flat_map, length}}
-use Rattle.std.specs.Prelude.{replicate, slice_get, ℕ, ◌++◌, ◌-◌}
+use Rattle.{c104_plan.specs.{PlanImage.Image, Plans.Plan, PortTexts.{switch_name, terminal_name}}, c104_regs.specs.Addresses.address_of}
+use Rattle.c104_regs.specs.{KeptValues.kept_values, declared.settings.Settings.Settings}
+use Rattle.std.specs.{Fmt.{decimal, digits}, List.range_with_len, Prelude.{Bool, IsSome, List, None, Option, Some, [], codes, false}}
+use Rattle.std.specs.Prelude.{flat_map, length, replicate, slice_get, ℕ, ◌++◌, ◌-◌, ◌≡◌}
 
 -- a number in lower-case hexadecimal, padded in front with zeros (0x30) to at least a given number of digits
 unfoldable pub hex_text : ℕ → ℕ → List ℕ
@@ -38,3 +38,14 @@ switch_lines plan image switches =
 abbrev pub image_text : Plan → Image → List ℕ
 image_text plan image =
     range_lines plan image (length plan.terminals) ++ switch_lines plan image (length plan.switches)
+
+-- what it prints, which isn't refused
+abbrev pub PrintsLabels : Plan → Image → List ℕ → Bool → Type 0
+PrintsLabels plan image text refused = (text ≡ image_text plan image) × (refused ≡ false)
+
+-- and what `label --names` does, the same lines with the names of registers: one stands at the address of a value
+abbrev pub PrintsNames : Plan → Image → List ℕ → Bool → Type 0
+PrintsNames plan image text refused = refused ≡ false
+
+abbrev pub IsOfRegister : ℕ × ℕ → Type 0
+IsOfRegister value = IsSome (address_of value.0)

@@ -1,10 +1,8 @@
 pub mod CheckTexts
 pub mod Checks
 pub mod ImageTexts
-pub mod Labels
 pub mod ShapeLines
 pub mod LabelRows
-pub mod LabelNames
 pub mod WithoutWires
 pub mod LeftGroups
 pub mod LeftRows

@@ -1,7 +1,8 @@
 //! By which links of a description's network a header may leave.
 ghost use Rattle.std.specs.{Prelude.{IfOk, MatchOption, OnOk, Ok, Result, [], filter, is_some, ◌++◌, ◌∷◌, ◌≡◌}, String.string_bytes};
 ghost use Rattle.c104_check.specs.{Parts.{IsNeverRefused, TellsFirst}, Reach.routes_for, Routes.{port_at, routes_of}};
-ghost use Rattle.c104_commands.specs.HeaderRows.{AreRowsOf, IsHeaderRow, IsTableOf, PrintsHeader, digit, fault_line, is_met_by, row_text, table_text};
+ghost use Rattle.c104_commands.specs.HeaderRows.{AreRowsOf, IsHeaderRow, IsTableOf, PrintsHeader, digit, fault_line, is_met_by, row_text};
+ghost use Rattle.c104_commands.specs.HeaderRows.{table_text};
 ghost use Rattle.{c104_describe.specs.declared.faults.PlanFault.PlanFault as ThePlanFault, c104_plan.specs.PlanImage.Fits};
 ghost use Rattle.{c104_plan.specs.Plans.Plan as ThePlan, c104_setup.specs.{Endings.{CommandEnds, CommandRuns}, Setups.ComesTo}};
 

@@ -1,8 +1,8 @@
 //! The labelling of a description, with the names of registers.
+ghost use Rattle.c104_commands.specs.ImageTexts.{IsOfRegister, PrintsNames};
+ghost use Rattle.{c104_describe.specs.declared.faults.PlanFault.PlanFault as ThePlanFault, c104_plan.specs.Plans.Plan as ThePlan};
+ghost use Rattle.{c104_script.specs.RegisterNames.IsReadAs, c104_setup.specs.{Endings.{CommandEnds, CommandRuns}, Setups.ComesTo}};
 ghost use Rattle.std.specs.Prelude.{All, Ok, Result, ◌≡◌};
-ghost use Rattle.{c104_commands.specs.LabelNames.{IsOfRegister, PrintsNames}, c104_describe.specs.declared.faults.PlanFault.PlanFault as ThePlanFault};
-ghost use Rattle.{c104_plan.specs.Plans.Plan as ThePlan, c104_script.specs.RegisterNames.IsReadAs};
-ghost use Rattle.c104_setup.specs.{Endings.{CommandEnds, CommandRuns}, Setups.ComesTo};
 
 use crate::images::add_ranges;
 use crate::reports::tell_labels;

@@ -1,7 +1,7 @@
 //! The labelling of a description.
-ghost use Rattle.std.specs.Prelude.{Ok, Result};
-ghost use Rattle.{c104_commands.specs.Labels.PrintsLabels, c104_describe.specs.declared.faults.PlanFault.PlanFault as ThePlanFault};
+ghost use Rattle.{c104_commands.specs.ImageTexts.PrintsLabels, c104_describe.specs.declared.faults.PlanFault.PlanFault as ThePlanFault};
 ghost use Rattle.{c104_plan.specs.Plans.Plan as ThePlan, c104_setup.specs.{Endings.{CommandEnds, CommandRuns}, Setups.ComesTo}};
+ghost use Rattle.std.specs.Prelude.{Ok, Result};
 
 use crate::images::image_text;
 use crate::reports::tell_labels;

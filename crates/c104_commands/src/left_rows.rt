@@ -164,10 +164,7 @@ fn plan_past(alloc: Global, plan: &Plan, port: &str) -> Result<Option<Plan>, NoM
     ensures { IfOk result (λ left. IsPast plan.now port.now left) }
 {
     match wire_at(alloc, plan, port)? {
-        Some(number) => {
-            let left = plan_without(alloc, plan, number)?;
-            Ok(Some(left))
-        }
+        Some(number) => plan_without(alloc, plan, number).map(Some),
         None => Ok(None),
     }
 }

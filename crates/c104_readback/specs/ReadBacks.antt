@@ -1,11 +1,12 @@
 -- The labels that a script leaves in the registers of a network, and what is printed of them.
 --     HasRegisters net left      the image has the registers of the network's switches
 --     ReadsBack form script plan image text refused
-use Rattle.{c104_commands.specs.{Checks.TellsCheck, LabelRows.PrintsRows, Labels.PrintsLabels}, c104_node.specs.declared.node.NodeOf.NodeOf}
-use Rattle.{c104_plan.specs.{PlanImage.Image, Plans.Plan}, c104_readback.specs.declared.forms.Form.Form}
-use Rattle.{c104_regs.specs.Registers.reset_bank, c104_run.specs.Network.Network, c104_session.specs.Shown.{line_outcome, new_session}}
-use Rattle.{c104_session.specs.declared.session.Session.Session, c104_stream.specs.{ScriptLines.is_long, Scripts.{Known, script_outcome}}}
-use Rattle.{c104_switch.specs.Switch.Switch, c104_token.specs.declared.tokens.Token.Token}
+use Rattle.c104_commands.specs.{Checks.TellsCheck, ImageTexts.PrintsLabels, LabelRows.PrintsRows}
+use Rattle.{c104_node.specs.declared.node.NodeOf.NodeOf, c104_plan.specs.{PlanImage.Image, Plans.Plan}}
+use Rattle.{c104_readback.specs.declared.forms.Form.Form, c104_regs.specs.Registers.reset_bank, c104_run.specs.Network.Network}
+use Rattle.{c104_session.specs.{Shown.{line_outcome, new_session}, declared.session.Session.Session}, c104_stream.specs.ScriptLines.is_long}
+use Rattle.{c104_stream.specs.Scripts.{Known, script_outcome}, c104_switch.specs.Switch.Switch}
+use Rattle.c104_token.specs.declared.tokens.Token.{Token}
 use Rattle.std.specs.Prelude.{Bool, List, None, Some, length, slice_get, ℕ, ⊤, ◌<◌, ◌||◌, ◌≡◌}
 
 -- the terminals have the same labels in two images
