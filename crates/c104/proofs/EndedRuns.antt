@@ -1,5 +1,5 @@
 -- How a command of a description and a script ends is said of bytes that are told, and so of standard output.
-use Rattle.c104.{proofs.EndedCommands.front_taken, specs.{Scripted.{PrintsOn, ScriptEnds, Shown}, Shown.{AnswersFront, AnswersRead}}}
+use Rattle.c104.{proofs.EndedCommands.front_taken, specs.{Scripted.{PrintsOn, ReaderEnds, ScriptEnds, Shown}, Shown.{AnswersFront, AnswersRead}}}
 use Rattle.{c104.specs.Shown.{shows_run, shows_text}, c104_describe.specs.PlanText.read_description, c104_plan.specs.PlanImage.Image}
 use Rattle.{c104_plan.specs.Plans.Plan, c104_session.specs.RunCommands.{FailsInScript, RunsParts, StopsInScript, setup_output}}
 use Rattle.c104_session.specs.{Shown.{line_outcome, new_session, run_output}, TextRuns.{TextEnds, WritesRun}}
@@ -120,3 +120,20 @@ pub text_ended : (refuses : Plan → Image → List ℕ → Bool → Type 0) (de
 text_ended refuses description left taken takes status (inl before) = none_ended (shows_text refuses) description left taken takes status before
 text_ended refuses description left taken takes status (inr ends) =
     text_written refuses description left taken takes ends.0 ends.1 status ends.2 ends.3
+
+-- a run ended so, by what the script's reader tells
+pub run_read : (description taken takes : List ℕ) (script left : Option (List ℕ)) (status : Status)
+    → RunsParts (Some description) script left (Some taken) (Some takes) status → ReaderEnds shows_run description script left taken takes status
+run_read description taken takes None left status ends = tt
+run_read description taken takes (Some script) None status ends = tt
+run_read description taken takes (Some script) (Some left) status ends = run_ended description script left taken takes status ends
+
+-- a command ended so that writes a text of a run, by what the script's reader tells
+pub text_read : (refuses : Option (List ℕ) → Plan → Image → List ℕ → Bool → Type 0) (description taken takes : List ℕ)
+    (script left : Option (List ℕ)) (status : Status)
+    → TextEnds (refuses script) (Some description) (Some taken) (Some takes) status
+    → ReaderEnds (λ text. shows_text (refuses (Some text))) description script left taken takes status
+text_read refuses description taken takes None left status ends = tt
+text_read refuses description taken takes (Some script) None status ends = tt
+text_read refuses description taken takes (Some script) (Some left) status ends =
+    text_ended (refuses (Some script)) description left taken takes status ends

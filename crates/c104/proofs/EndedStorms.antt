@@ -1,9 +1,9 @@
 -- How a storm of a description and a script ends is said of bytes that are told, and so of standard output.
-use Rattle.c104.{proofs.{EndedCommands.front_taken, EndedRuns.{answers_front, answers_read, none_ended}}, specs.Scripted.ScriptEnds}
+use Rattle.c104.{proofs.{EndedCommands.front_taken, EndedRuns.{answers_front, answers_read, none_ended}}, specs.Scripted.{ReaderEnds, ScriptEnds}}
 use Rattle.{c104.specs.Shown.shows_storm, c104_describe.specs.PlanText.read_description, c104_plan.specs.{PlanImage.Image, Plans.Plan}}
 use Rattle.{c104_setup.specs.{Setups.ComesTo, declared.status.Status.Status}, c104_storm.specs.Commands.{StormEnds, StormRuns}}
 use Rattle.{c104_storm.specs.{Sends.{new_sending, send_outcome}, Workers.Team}, c104_stream.specs.Scripts.script_outcome}
-use Rattle.std.proofs.Common.{List, Ok, Some, false, inl, inr, refl, ℕ}
+use Rattle.std.proofs.Common.{List, None, Ok, Option, Some, false, inl, inr, refl, ℕ}
 
 -- a storm over a network ended so
 storm_runs : (team : Team) (description script left taken takes : List ℕ) (plan : Plan) (image : Image) (status : Status)
@@ -31,3 +31,12 @@ storm_ended team description script left taken takes status (inl before) =
     none_ended (shows_storm team script) description left taken takes status before
 storm_ended team description script left taken takes status (inr ends) =
     storm_runs team description script left taken takes ends.0 ends.1 status ends.2 ends.3
+
+-- a storm ended so, by what the script's reader tells
+pub storm_read : (team : Team) (description taken takes : List ℕ) (script left : Option (List ℕ)) (status : Status)
+    → StormEnds team (Some description) script left (Some taken) (Some takes) status
+    → ReaderEnds (shows_storm team) description script left taken takes status
+storm_read team description taken takes None left status ends = tt
+storm_read team description taken takes (Some script) None status ends = tt
+storm_read team description taken takes (Some script) (Some left) status ends =
+    storm_ended team description script left taken takes status ends

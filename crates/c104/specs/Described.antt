@@ -1,10 +1,11 @@
 -- How a command of a description ends, and what standard output took by then. It is one relation for all such commands: what
 -- a command prints of a network, and whether it refuses that, is a relation of its own, `prints plan image text refused`.
 --     DescriptionEnds prints description taken takes status      of a description that was read; taken before, and takes after it
-use Rattle.{c104.specs.{Taking.TookFront, declared.label_words.LabelForm.LabelForm}, c104_commands.specs.Boots.PrintsCommands}
-use Rattle.c104_commands.specs.{LabelNames.PrintsNames, LabelRows.PrintsRows, Labels.PrintsLabels}
-use Rattle.{c104_describe.specs.PlanText.read_description, c104_plan.specs.{PlanImage.Image, Plans.Plan}}
-use Rattle.c104_setup.specs.{Endings.CommandPrints, Setups.{ComesTo, SetupResult}, declared.status.Status.Status}
+use Rattle.{c104.specs.{Taking.TookFront, declared.described.DescriptionTask.DescriptionTask}, c104_commands.specs.Boots.PrintsCommands}
+use Rattle.c104_commands.specs.{Checks.PrintsCheck, Cycles.PrintsCycles, HeaderRows.PrintsHeader, ImageTexts.{PrintsLabels, PrintsNames}}
+use Rattle.{c104_commands.specs.LabelRows.PrintsRows, c104_describe.specs.PlanText.read_description, c104_plan.specs.PlanImage.Image}
+use Rattle.{c104_plan.specs.Plans.Plan, c104_setup.specs.{Endings.CommandPrints, Setups.{ComesTo, SetupResult}}}
+use Rattle.c104_setup.specs.declared.status.Status.{Status}
 use Rattle.std.specs.Prelude.{Bool, List, false, true, ℕ, ◌++◌, ◌≡◌}
 
 -- what was printed: the line that tells why the description gives no network, or else what the command prints of the network
@@ -22,9 +23,12 @@ DescriptionEnds prints description taken takes Status.CannotWrite =
     × (text : List ℕ) × (refused : Bool) × CommandPrints prints setup text refused × TookFront taken takes text
 DescriptionEnds prints description taken takes Status.NoMemory = takes ≡ taken
 
--- what `label` prints, in the form that is asked for
-abbrev pub PrintsForm : LabelForm → Plan → Image → List ℕ → Bool → Type 0
-PrintsForm LabelForm.Addresses = PrintsLabels
-PrintsForm LabelForm.Names = PrintsNames
-PrintsForm LabelForm.Rows = PrintsRows
-PrintsForm LabelForm.Commands = PrintsCommands
+-- what is printed of the network, by what is asked for
+abbrev pub PrintsTask : DescriptionTask → Plan → Image → List ℕ → Bool → Type 0
+PrintsTask DescriptionTask.Check = PrintsCheck
+PrintsTask (DescriptionTask.Header header) = PrintsHeader header
+PrintsTask (DescriptionTask.Cycles all) = PrintsCycles all
+PrintsTask DescriptionTask.Labels = PrintsLabels
+PrintsTask DescriptionTask.LabelNames = PrintsNames
+PrintsTask DescriptionTask.LabelRows = PrintsRows
+PrintsTask DescriptionTask.BootScript = PrintsCommands

@@ -8,7 +8,7 @@ use std::process::ExitCode;
 const WRONG_USAGE: u8 = 2;
 
 /// How the program ends.
-#[derive(Clone, Copy, Debug, PartialEq, Eq)]
+#[derive(Clone, Copy)]
 pub enum End {
     /// So a command ended, or help was shown. A script that a person ends by `quit` ends as one that comes to its end.
     Command(Status),
@@ -19,8 +19,8 @@ pub enum End {
 impl End {
     ghost use Rattle.c104.specs.Ends.{end_status};
 
-    /// The program's exit status: 0 where all was done, 1 where something was refused, 2 for wrong usage, 3 where something
-    /// can't be read or written, and 4 out of memory.
+    /// The program's exit status: 0 where all was done, 1 where something was refused, 2 for wrong usage, 3 where
+    /// something can't be read or written, and 4 out of memory.
     pub fn exit_code(self) -> ExitCode
         ensures { exit_status result ≡ end_status self }
     {

@@ -2,31 +2,32 @@
 //!
 //! `main` reads the command line, opens what it names, calls the function of a command and says what that function's
 //! `Status` means: a message on standard error and an exit status (`ends`). What the functions of commands write to
-//! standard output is said in `described`, of a description, and in `scripted`, of a description and a script in a
-//! file. What the words of the command line ask for is in `command_line`, with the words of labels, of a header and of
-//! rows in modules of their own; the texts of help are in `help`, and which commands went, and where to, in `gone`. Commands
-//! of a script but `run` are in `pairs`, that of rows in `row_files`, and `debug` in `debugging`; how files are opened in
-//! `opening`, how a text is cut into a description and a script in `texts` and `parting`, what a path stands for in
-//! `sources`, and what people are told beside the answers in `told`. A script that is typed is read in `typed`; what the
-//! prompt does itself is in `prompting`, and of that the file of lines in `logs`, and rounds up to a packet's arrival in
-//! `until`. The functions of the commands are those of `c104_commands`, `c104_session`, `c104_readback` and `c104_storm`.
+//! standard output is said in `described`, of a description, and in `scripted`, of a description and a script; their
+//! files are opened in `description_files` and `script_files`, and where rows are saved in `row_files`.
+//!
+//! What the words of the command line ask for is in `command_line`, with the words of labels and of rows in modules of
+//! their own; which subcommands there are in `subcommands`, what they take in `arguments`, and the texts of help in
+//! `help`. What is told of wrong words is in `usage`, and what people are told beside the answers in `told`.
+//!
+//! How files are opened is in `opening`, how a text is cut into a description and a script in `texts`, and what is read
+//! in `sources`. The command `debug` is in `debugging`, and a script that is typed is read in `typed`; what the prompt
+//! does itself is in `prompting`, and of that rounds up to a packet's arrival in `until`. The functions of the commands
+//! are those of `c104_commands`, `c104_session`, `c104_readback` and `c104_storm`.
 #![tactic(auto)]
 
+mod arguments;
 mod command_line;
 mod debugging;
 mod described;
+mod description_files;
 mod ends;
-mod gone;
-mod header_words;
 mod help;
 mod label_words;
-mod logs;
 mod opening;
-mod pairs;
-mod parting;
 mod prompting;
 mod row_files;
 mod row_words;
+mod script_files;
 mod scripted;
 mod sources;
 mod subcommands;
@@ -34,37 +35,29 @@ mod texts;
 mod told;
 mod typed;
 mod until;
+mod usage;
 
-use c104_describe::read_description;
 use c104_host::Recorded;
 use c104_mistakes::{About, Messages};
-use c104_readback::Form;
-use c104_session::{run, run_text};
+use c104_session::run_text;
 use c104_setup::Status;
+use clap::Error;
 use clap::error::ErrorKind;
-use command_line::{Order, Words};
+use command_line::{Order, Task, Words, WrongWords};
 use debugging::debug_file;
-use described::{check_text, find_cycles, list_header, show_labels, show_left};
+use description_files::{describe_file, describe_left_of_file};
 use ends::End;
-use gone::gone_of;
-use label_words::WithoutWords;
-use pairs::{read_back_files, storm_files};
-use row_files::row_files;
-use scripted::run_texts;
+use row_files::save_rows;
+use script_files::do_script;
 use sources::Watched;
-use std::alloc::Global;
 use std::cell::Cell;
 use std::io::{Input, IsTerminal, Write};
 use std::process::ExitCode;
 use std::sync::Wait;
 use std::thread::Threads;
 use std::{env, io};
-use subcommands::Subcommand;
-use texts::{Script, Texts, open_texts, read_description_of};
-use told::{Told, tell_of_words};
-
-/// The last header of one byte.
-const LAST_SHORT_HEADER: u16 = 255;
+use told::Told;
+use usage::{tell_of_error, tell_of_gone};
 
 /// What is told where a person may not know that a text is awaited.
 const AWAITED: &str =
@@ -90,24 +83,29 @@ fn command_words(rt: &HostRuntime) -> io::Result<Vec<String>> {
     Ok(words)
 }
 
-/// Does what the words ask for, or says what is wrong with them. Help and the version are no fault.
+/// Does what the words ask for, of which the first is the program's name.
 fn do_words<H: Threads + Wait + Sync>(rt: &HostRuntime, threads: &H, words: &[String]) -> End {
-    let error = match Words::read(rt.alloc(), words) {
-        Ok(words) => return do_matched(rt, threads, words),
-        Err(error) => error,
-    };
+    match Words::read(rt.alloc(), words) {
+        Ok(words) => do_matched(rt, threads, words),
+        Err(error) => end_unmatched(rt, words, &error),
+    }
+}
+
+/// Says what is wrong with the words, or shows what they ask for: help and the version are no fault.
+fn end_unmatched(rt: &HostRuntime, words: &[String], error: &Error) -> End {
     if error.kind() == ErrorKind::OutOfMemory {
         return finish(rt, Status::NoMemory, None);
     }
-    if let Some(gone) = gone_of(words)
-        && error.use_stderr()
-    {
-        tell_of_tool(rt, gone);
+    let given = match words {
+        [_, given @ ..] => given,
+        [] => words,
+    };
+    if error.use_stderr() && tell_of_gone(rt, given) {
         return End::WrongUsage;
     }
     let shown = error.print(rt);
     if error.use_stderr() {
-        tell_of_words(rt, words, &error);
+        tell_of_error(rt, given, error);
         return End::WrongUsage;
     }
     let status = match shown {
@@ -117,28 +115,19 @@ fn do_words<H: Threads + Wait + Sync>(rt: &HostRuntime, threads: &H, words: &[St
     finish(rt, status, None)
 }
 
-/// Tells which tool does now what a command, or an option of it, did.
-fn tell_of_tool(rt: &HostRuntime, gone: (&str, &str, &str)) {
-    let (name, option, tool) = gone;
-    let _ = match option {
-        "" => eprintln!(rt; "error: `c104 {name}` is `{tool}` now"),
-        _ => eprintln!(rt; "error: `c104 {name} {option}` is `{tool}` now"),
-    };
-}
-
 /// Does what the words ask for that were matched.
 fn do_matched<H: Threads + Wait + Sync>(rt: &HostRuntime, threads: &H, words: Words<'_>) -> End {
     let typed_from = Cell::new(None);
     let mut told = Told::new(rt, words.order, words.explain, &typed_from);
     let mut output = Recorded::new(io::writer(rt));
     let status = do_order(rt, threads, words.order, &mut output, &mut told);
-    if told.has_wrong_word() {
+    if told.has_wrong_word {
         return End::WrongUsage;
     }
     let path = told.failed_path(status);
     let end = finish(rt, status, path);
     if let Some(path) = path
-        && let Some(fault) = told.fault()
+        && let Some(fault) = told.told_fault()
     {
         let _ = eprintln!(rt; "c104: {path}: {fault}");
     }
@@ -153,187 +142,40 @@ fn do_order<'a, H: Threads + Wait + Sync, W: Write + Drop>(
     output: &mut Recorded<W>,
     told: &mut Told<'a>,
 ) -> Status {
-    match order.subcommand {
-        Subcommand::Run => run_order(rt, order, output, told),
-        Subcommand::Debug => debug_file(rt, order.description, output, told),
-        Subcommand::Storm => storm_files(rt, threads, order, output, told),
-        Subcommand::Rows => row_files(rt, order, output, told),
-        Subcommand::Check => check_order(rt, order, output, told),
-        Subcommand::Cycles => search_file(rt, order, output, told),
-        Subcommand::Label => label_order(rt, order, output, told),
+    let path = order.description;
+    match order.task {
+        Task::Input => run_input(rt, output, told),
+        Task::Debug => debug_file(rt, path, output, told),
+        Task::Describe(task) => describe_file(rt, path, task, output, told),
+        Task::Left => describe_left_of_file(rt, path, order.ports, output, told),
+        Task::Script(task) => do_script(rt, threads, order, task, output, told),
+        Task::Save(saving) => save_rows(rt, order, saving, output, told),
+        Task::Refuse(wrong) => refuse(rt, wrong, told),
     }
 }
 
-/// Runs what is named, or one text from standard input.
-fn run_order<'a, W: Write + Drop>(
-    rt: &HostRuntime,
-    order: Order<'a>,
-    output: &mut Recorded<W>,
-    told: &mut Told<'a>,
-) -> Status {
-    if order.is_named {
-        run_files(rt, order, output, told)
-    } else {
-        run_one_text(rt, output, told)
-    }
+/// Says what is wrong with words that were matched.
+fn refuse(rt: &HostRuntime, wrong: WrongWords, told: &mut Told<'_>) -> Status {
+    let _ = match wrong {
+        WrongWords::Told(message) => eprintln!(rt; "error: {message}"),
+        WrongWords::Twice(table) => eprintln!(rt; "error: --what {table} is said twice"),
+    };
+    told.wrong_word()
 }
 
 /// Runs one text from standard input.
-fn run_one_text<W: Write + Drop>(
+fn run_input<W: Write + Drop>(
     rt: &HostRuntime,
     output: &mut Recorded<W>,
     told: &mut Told<'_>,
 ) -> Status {
-    if told.is_watched() && rt.stdin().is_terminal() {
+    if told.is_watched && rt.stdin().is_terminal() {
         told.tell(About::Run, AWAITED);
     }
     let mut text = Watched::new(rt.reader());
     let status = run_text(rt.alloc(), &mut text, output, told);
-    told.note_fault(text.fault());
+    told.fault = text.fault();
     status
-}
-
-/// Runs a description and a script, of two files or of one.
-fn run_files<'a, W: Write + Drop>(
-    rt: &HostRuntime,
-    order: Order<'a>,
-    output: &mut Recorded<W>,
-    told: &mut Told<'a>,
-) -> Status {
-    let Texts {
-        description,
-        mut script,
-    } = match open_texts(rt, order, told) {
-        Ok(texts) => texts,
-        Err(status) => return status,
-    };
-    let (alloc, mut description) = (rt.alloc(), description.as_slice());
-    let status = match &mut script {
-        Script::Held(text) => run_texts(alloc, description, text, output, told),
-        Script::Live(lines) => run(alloc, &mut description, &mut lines.reader(), output, told),
-    };
-    told.note_fault(script.fault());
-    status
-}
-
-/// Checks the labels of a description's file, or those that a script leaves in the registers of its network.
-fn check_order<'a, W: Write + Drop>(
-    rt: &HostRuntime,
-    order: Order<'a>,
-    output: &mut Recorded<W>,
-    told: &mut Told<'a>,
-) -> Status {
-    match order.script {
-        Some(_) => read_back_files(rt, Form::Check, order, output, told),
-        None => check_file(rt, order, output, told),
-    }
-}
-
-/// Labels the network of a description's file, or shows the labels that a script leaves in its registers.
-fn label_order<'a, W: Write + Drop>(
-    rt: &HostRuntime,
-    order: Order<'a>,
-    output: &mut Recorded<W>,
-    told: &mut Told<'a>,
-) -> Status {
-    match order.script {
-        Some(_) => read_back_files(rt, order.labels.read_back(), order, output, told),
-        None => label_file(rt, order, output, told),
-    }
-}
-
-/// Checks the labels of a description's file, or lists where a header may come.
-fn check_file<W: Write + Drop>(
-    rt: &HostRuntime,
-    order: Order<'_>,
-    output: &mut Recorded<W>,
-    told: &mut Told<'_>,
-) -> Status {
-    let text = match read_description_of(rt, order.description, told) {
-        Ok(text) => text,
-        Err(status) => return status,
-    };
-    match order.header {
-        Some(header) => header_text(rt, text.as_slice(), header, output, told),
-        None => check_text(rt.alloc(), text.as_slice(), output, told),
-    }
-}
-
-/// Lists where a header may come in the network of a description. One that its packets can't have is a wrong word.
-fn header_text<W: Write + Drop>(
-    rt: &HostRuntime,
-    description: &[u8],
-    header: u16,
-    output: &mut Recorded<W>,
-    told: &mut Told<'_>,
-) -> Status {
-    if header > LAST_SHORT_HEADER && has_short_headers(rt, description) {
-        let _ = eprintln!(rt;
-            "error: the headers of this network have one byte, 0 to 255: {header}"
-        );
-        told.note_wrong_word();
-        return Status::Refused;
-    }
-    list_header(rt.alloc(), description, u32::from(header), output, told)
-}
-
-/// Looks for a cycle of channel dependencies in the network of a description's file.
-fn search_file<W: Write + Drop>(
-    rt: &HostRuntime,
-    order: Order<'_>,
-    output: &mut Recorded<W>,
-    told: &mut Told<'_>,
-) -> Status {
-    let text = match read_description_of(rt, order.description, told) {
-        Ok(text) => text,
-        Err(status) => return status,
-    };
-    find_cycles(rt.alloc(), text.as_slice(), order.all, output, told)
-}
-
-/// Labels the network of a description's file, or what is left of it without some wires.
-fn label_file<W: Write + Drop>(
-    rt: &HostRuntime,
-    order: Order<'_>,
-    output: &mut Recorded<W>,
-    told: &mut Told<'_>,
-) -> Status {
-    if order.without.are_many() {
-        let _ = rt.eprintln("error: at most 64 --without");
-        told.note_wrong_word();
-        return Status::Refused;
-    }
-    let text = match read_description_of(rt, order.description, told) {
-        Ok(text) => text,
-        Err(status) => return status,
-    };
-    if order.without.is_said() {
-        left_text(rt.alloc(), text.as_slice(), order.without, output, told)
-    } else {
-        show_labels(rt.alloc(), text.as_slice(), order.labels, output, told)
-    }
-}
-
-/// Shows the labels of what is left of the network of a description.
-fn left_text<W: Write + Drop>(
-    alloc: Global,
-    description: &[u8],
-    without: WithoutWords<'_>,
-    output: &mut Recorded<W>,
-    told: &mut Told<'_>,
-) -> Status {
-    match without.ports(alloc) {
-        Ok(ports) => show_left(alloc, description, ports.as_slice(), output, told),
-        Err(_) => Status::NoMemory,
-    }
-}
-
-/// Whether the headers of a description's network have one byte.
-fn has_short_headers(rt: &HostRuntime, description: &[u8]) -> bool {
-    match read_description(rt.alloc(), description) {
-        Ok(plan) => plan.header() == 1,
-        Err(_) => false,
-    }
 }
 
 /// Says on standard error what failed, and of which file, and gives the end of the program.

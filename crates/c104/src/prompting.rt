@@ -1,6 +1,5 @@
 //! What a person types at the prompt beside the lines of a script, and what is done of it before the script has it.
 
-use crate::logs::Log;
 use crate::sources::{Source, Watched};
 use crate::typed::{Ending, Typed};
 use crate::until::rounds_until;
@@ -8,7 +7,8 @@ use c104_explain::is_question;
 use c104_plan::{cut_words, uncommented};
 use std::alloc::AllocError;
 use std::fmt::Display;
-use std::io::Read;
+use std::fs::File;
+use std::io::{Read, Write};
 use std::{fs, io, str};
 
 /// What a line `restart` is.
@@ -30,6 +30,23 @@ const NO_RESTART: &str = "the description came from standard input, so it can't 
 /// What is told where a person asks for the lines that are saved.
 const IS_LOG: &str = "this is the log, which would grow as it is read";
 
+/// A file in which the lines of a script are saved as they come.
+#[derive(Drop)]
+pub(crate) struct Log {
+    name: String,
+    file: File,
+}
+
+impl Log {
+    /// Makes a file of this name, which has these lines. There is none of that name before.
+    fn new(rt: &HostRuntime, name: &str, lines: &[u8]) -> io::Result<Self> {
+        let name = String::from_str(rt.alloc(), name)?;
+        let mut file = File::create_new(rt, name.as_str())?;
+        file.write_all(lines)?;
+        Ok(Log { name, file })
+    }
+}
+
 /// What a typed line asks of the prompt.
 enum Word<'a> {
     Quit,
@@ -44,8 +61,8 @@ enum Word<'a> {
 }
 
 impl Typed<'_> {
-    /// Does what a typed line asks of the prompt, and gives what the script has in its place. None where the line ends what
-    /// is typed.
+    /// Does what a typed line asks of the prompt, and gives what the script has in its place. None where the line ends
+    /// what is typed.
     pub(crate) fn heed(&mut self, line: &[u8]) -> io::Result<Option<Vec<u8>>> {
         let asked = without_feed(line);
         let Ok(words) = cut_words(self.rt.alloc(), uncommented(asked)) else {
@@ -61,28 +78,34 @@ impl Typed<'_> {
                 return Ok(None);
             }
             Word::Until(name, number) => return self.do_until(name, number).map(Some),
-            Word::Other if !is_question(asked) => return self.line_behind("", line).map(Some),
+            Word::Other if !is_question(asked) => return self.joined(&[line]).map(Some),
             Word::Other => {}
-            Word::Restart => tell(self.rt, NO_RESTART),
+            Word::Restart => self.tell(NO_RESTART),
             Word::Read(name) => self.begin_file(name),
             Word::Log(name) => self.begin_log(name),
-            Word::Wrong(form) => tell(self.rt, form),
+            Word::Wrong(form) => self.tell(form),
         }
-        self.line_behind("#> ", line).map(Some)
+        self.joined(&[b"#> ", line]).map(Some)
     }
 
-    /// A line behind this text.
-    fn line_behind(&self, text: &str, line: &[u8]) -> io::Result<Vec<u8>> {
-        let mut whole = Vec::new(self.rt.alloc());
-        whole.extend_from_slice(text.as_bytes())?;
-        whole.extend_from_slice(line)?;
-        Ok(whole)
+    /// A line of these parts.
+    fn joined(&self, parts: &[&[u8]]) -> io::Result<Vec<u8>> {
+        let mut line = Vec::new(self.rt.alloc());
+        for part in parts {
+            line.extend_from_slice(part)?;
+        }
+        Ok(line)
+    }
+
+    /// Tells a person a line on standard error. Where that can't be shown it is lost.
+    fn tell(&self, message: &str) {
+        let _ = eprintln!(self.rt; "{message}");
     }
 
     /// The line by which the script does rounds until the packet of this number that the terminal of this name sent has
     /// arrived, or nothing moves, and that asks where the packet is.
     fn do_until(&self, name: &[u8], number: &[u8]) -> io::Result<Vec<u8>> {
-        let question = self.question_of(name, number)?;
+        let question = self.joined(&[b"#> where ", name, b" ", number, b"\n"])?;
         let script = self.script.as_slice();
         let rounds = rounds_until(self.rt, self.description, script, question.as_slice());
         if rounds == 0 {
@@ -90,22 +113,13 @@ impl Typed<'_> {
         }
         let _ = eprintln!(self.rt; "rounds {rounds}");
         let rounds = format!(in self.rt.alloc(); "rounds {rounds} ")?;
-        self.line_behind(rounds.as_str(), question.as_slice())
-    }
-
-    /// The line that asks where a packet is, and does nothing.
-    fn question_of(&self, name: &[u8], number: &[u8]) -> io::Result<Vec<u8>> {
-        let mut line = self.line_behind("#> where ", name)?;
-        line.push(b' ')?;
-        line.extend_from_slice(number)?;
-        line.push(b'\n')?;
-        Ok(line)
+        self.joined(&[rounds.as_bytes(), question.as_slice()])
     }
 
     /// The lines of a file come next, if it can be opened and they aren't saved there.
     fn begin_file(&mut self, name: &str) {
         if let Some(log) = &self.log
-            && log.name() == name
+            && log.name.as_str() == name
         {
             tell_of_file(self.rt, name, IS_LOG);
             return;
@@ -136,9 +150,9 @@ impl Typed<'_> {
     /// Saves what comes next, where that is wanted. Where it can't be, that is told once.
     pub(crate) fn add_to_log(&mut self, piece: &[u8]) {
         if let Some(log) = &mut self.log
-            && let Err(error) = log.add(piece)
+            && let Err(error) = log.file.write_all(piece)
         {
-            tell_of_file(self.rt, log.name(), &error);
+            tell_of_file(self.rt, log.name.as_str(), &error);
             self.log = None;
         }
     }
@@ -178,11 +192,6 @@ fn file_among<'a>(words: &[&'a [u8]]) -> Option<&'a str> {
         [_, file] => str::from_utf8(*file).ok(),
         _ => None,
     }
-}
-
-/// Tells a person a line on standard error. Where that can't be shown it is lost.
-fn tell(rt: &HostRuntime, message: &str) {
-    let _ = eprintln!(rt; "{message}");
 }
 
 /// Tells what is wrong with a file.

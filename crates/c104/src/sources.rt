@@ -1,33 +1,19 @@
-//! What a path of the command line stands for: a file that is read, or standard input; and files that are written.
+//! What is read: the files that the command line names, and standard input.
 //!
-//! A file that is read and standard input are one type, so each command of them is compiled once.
+//! One of two readers is a reader too, so each command of them is called once, whatever it reads.
 ghost use Rattle.c104.specs.Sources.{source_remaining};
 
-use crate::command_line::STANDARD_INPUT;
-use std::fs::File;
-use std::io::{Input, Read, Write};
+use std::io;
+use std::io::Read;
 use std::marker::Model;
-use std::rt::Files;
-use std::{fs, io};
 
-/// An open file, or standard input. Each read asks it once, whatever it answers.
+/// What is read of a file, or of standard input. Each read asks it once, whatever it answers.
 #[derive(Drop)]
 pub enum Source<F: Read + Drop, I: Read + Drop> {
     /// A file.
     File(F),
     /// Standard input.
     Input(I),
-}
-
-impl<F: Read + Drop, I: Read + Drop> Source<F, I> {
-    /// Opens a path, of which nothing is read yet. `-` is standard input.
-    pub fn open<R: Files<File = F> + Input<Reader = I>>(rt: &R, path: &str) -> io::Result<Self> {
-        if path == STANDARD_INPUT {
-            return Ok(Source::Input(rt.reader()));
-        }
-        let file = fs::open(rt, path)?;
-        Ok(Source::File(file))
-    }
 }
 
 impl<F: Read + Drop, I: Read + Drop> Read for Source<F, I> {
@@ -41,8 +27,8 @@ impl<F: Read + Drop, I: Read + Drop> Read for Source<F, I> {
     }
 }
 
-/// A reader, of which is kept how much it has given, and why it failed last. At its end it isn't asked again: a terminal goes
-/// on behind the end of input that a person typed.
+/// A reader, of which is kept how much it has given, and why it failed last. At its end it isn't asked again: a
+/// terminal goes on behind the end of input that a person typed.
 #[derive(Drop)]
 pub struct Watched<R: Read + Drop> {
     reader: R,
@@ -103,42 +89,5 @@ impl<R: Read + Drop> Read for Watched<R> {
                 Err(error)
             }
         }
-    }
-}
-
-/// A file that is written, of which is kept why that failed last.
-#[derive(Drop)]
-pub struct Saved {
-    file: File,
-    // The system's number of the fault.
-    fault: Option<i32>,
-}
-
-impl Saved {
-    /// Makes the file of a path, or empties it.
-    pub fn create(rt: &HostRuntime, path: &str) -> io::Result<Self> {
-        let file = fs::create(rt, path)?;
-        Ok(Saved { file, fault: None })
-    }
-
-    /// The system's number of why it failed last, where it did and the system has one.
-    pub fn fault(&self) -> Option<i32> {
-        self.fault
-    }
-}
-
-impl Write for Saved {
-    fn write(&mut self, buf: &[u8]) -> io::Result<usize> {
-        match self.file.write(buf) {
-            Ok(count) => Ok(count),
-            Err(error) => {
-                self.fault = error.raw_os_error();
-                Err(error)
-            }
-        }
-    }
-
-    fn flush(&mut self) -> io::Result<()> {
-        self.file.flush()
     }
 }

@@ -1,6 +1,12 @@
-//! The table of subcommands: of each what it asks for, its name and its help.
+//! The table of subcommands: of each what it asks for, what it takes, its name and its help.
 
+use crate::arguments::{
+    ALL, COMMANDS, DESCRIPTION, EACH, FIRST_SCRIPT, HEADER, HEADER_ROWS, LEAN, NAMES,
+    OPTIONAL_DESCRIPTION, OUT, ROWS, SCRIPT, SEED, WHAT, WITHOUT, WORKERS, listed,
+};
 use crate::help;
+use clap::Arg;
+use std::alloc::{AllocError, Global};
 
 /// What a subcommand asks for.
 #[derive(Clone, Copy)]
@@ -19,6 +25,28 @@ pub enum Subcommand {
     Cycles,
     /// The labels of a description.
     Label,
+}
+
+impl Subcommand {
+    /// What it takes, in the order of help. The only error is out of memory.
+    pub fn arguments<'a>(self, alloc: Global) -> Result<Vec<Arg<'a>>, AllocError> {
+        match self {
+            Subcommand::Run => listed(alloc, &[OPTIONAL_DESCRIPTION, SCRIPT]),
+            Subcommand::Debug => listed(alloc, &[DESCRIPTION]),
+            Subcommand::Storm => listed(alloc, &[DESCRIPTION, SCRIPT, WORKERS, LEAN, SEED]),
+            Subcommand::Rows => listed(alloc, &[DESCRIPTION, SCRIPT, WHAT, OUT, EACH]),
+            Subcommand::Check => {
+                listed(alloc, &[DESCRIPTION, FIRST_SCRIPT, HEADER, HEADER_ROWS])
+            }
+            Subcommand::Cycles => listed(alloc, &[DESCRIPTION, ALL]),
+            Subcommand::Label => {
+                listed(
+                    alloc,
+                    &[DESCRIPTION, FIRST_SCRIPT, NAMES, ROWS, WITHOUT, COMMANDS],
+                )
+            }
+        }
+    }
 }
 
 /// A row of the table.

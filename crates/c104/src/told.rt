@@ -1,18 +1,13 @@
 //! What people are told on standard error, and where that is wanted.
-ghost use Rattle.std.specs.Prelude.{⊤};
 
-use crate::command_line::{EXPLAIN_WORD, Order, STANDARD_INPUT};
-use crate::gone::has_word;
-use crate::subcommands::Subcommand;
+use crate::command_line::{Order, STANDARD_INPUT, Task};
 use c104_mistakes::{About, Messages, Work};
 use c104_setup::Status;
-use clap::Error;
-use clap::error::ErrorKind;
 use std::alloc::AllocError;
 use std::cell::Cell;
+use std::io;
 use std::io::{IsTerminal, Write};
 use std::time::Instant;
-use std::{fs, io};
 
 /// Seconds that work goes on before it is told how far it is, and between two times.
 const SECONDS_BETWEEN: u64 = 1;
@@ -30,22 +25,23 @@ struct Going {
 #[derive(Drop)]
 pub struct Told<'a> {
     rt: &'a HostRuntime,
-    order: Order<'a>,
+    // The paths of the description, and of the text in which the script stands, behind this many lines.
+    description: &'a str,
+    script: &'a str,
+    lines_before: usize,
     is_wanted: bool,
-    // Whether it is told how far work is: standard error is a terminal.
-    is_watched: bool,
     // Whether a person types the script.
     is_asked: bool,
-    // How many lines of its text stand before the script.
-    lines_before: usize,
-    // How many lines of a script stand in a file, where what follows them comes from standard input.
-    typed_from: &'a Cell<Option<usize>>,
-    // The system's number of the fault of what can't be read, or written.
-    fault: Option<i32>,
+    /// Whether it is told how far work is: standard error is a terminal.
+    pub is_watched: bool,
+    /// How many lines of a script stand in a file, where what follows them comes from standard input.
+    pub typed_from: &'a Cell<Option<usize>>,
+    /// The system's number of the fault of what can't be read, or written, where it has one.
+    pub fault: Option<i32>,
+    /// Whether a word of the command line turned out to be wrong.
+    pub has_wrong_word: bool,
     // The path of a file that can't be written.
     unwritten: Option<String>,
-    // Whether a word of the command line turned out to be wrong.
-    has_wrong_word: bool,
     going: Option<Going>,
 }
 
@@ -59,71 +55,54 @@ impl<'a> Told<'a> {
         typed_from: &'a Cell<Option<usize>>,
     ) -> Self {
         let is_watched = rt.stderr().is_terminal();
-        let is_typed = matches!(order.subcommand, Subcommand::Debug) && rt.stdin().is_terminal();
+        let is_typed = matches!(order.task, Task::Debug) && rt.stdin().is_terminal();
         Told {
             rt,
-            order,
-            is_wanted: explain || is_watched,
-            is_watched,
-            is_asked: is_typed && is_watched,
+            description: order.description,
+            script: order.script.unwrap_or(STANDARD_INPUT),
             lines_before: 0,
+            is_wanted: explain || is_watched,
+            is_asked: is_typed && is_watched,
+            is_watched,
             typed_from,
             fault: None,
-            unwritten: None,
             has_wrong_word: false,
+            unwritten: None,
             going: None,
         }
     }
 
-    /// Whether standard error is a terminal.
-    pub fn is_watched(&self) -> bool {
-        self.is_watched
-    }
-
-    /// Notes why something can't be read, where the system has a number for it.
-    pub fn note_fault(&mut self, fault: Option<i32>) {
-        self.fault = fault;
-    }
-
     /// Notes the path of the text in which the script stands, behind this many lines.
     pub fn note_script(&mut self, path: &'a str, lines_before: usize) {
-        self.order.script = Some(path);
+        self.script = path;
         self.lines_before = lines_before;
     }
 
-    /// Where it is noted how many lines of a script stand in a file, as soon as it is at its end, and what follows them comes
-    /// from standard input.
-    pub fn typed_from(&self) -> &'a Cell<Option<usize>> {
-        self.typed_from
-    }
-
-    /// Notes the path of a file that can't be written, and why, where the system has a number for it.
-    pub fn note_unwritten(&mut self, path: String, fault: Option<i32>) {
+    /// Notes the path of a file that can't be written, and why. So its command ends.
+    pub fn unwritten(&mut self, path: String, error: &io::Error) -> Status {
         self.unwritten = Some(path);
-        self.fault = fault;
+        self.fault = error.raw_os_error();
+        Status::CannotWrite
     }
 
-    /// Notes that a word of the command line doesn't go with the description.
-    pub fn note_wrong_word(&mut self) {
+    /// Notes that a word of the command line is wrong, which was told. So its command ends.
+    pub fn wrong_word(&mut self) -> Status {
         self.has_wrong_word = true;
-    }
-
-    /// Whether a word of the command line was noted as wrong.
-    pub fn has_wrong_word(&self) -> bool {
-        self.has_wrong_word
+        Status::Refused
     }
 
     /// The path of what can't be read or written, where a command that ends so was stopped by one.
     pub fn failed_path(&self, status: Status) -> Option<&str> {
         match (status, &self.unwritten) {
-            (Status::CannotRead(number), _) => Some(self.order.path(number)),
+            (Status::CannotRead(0), _) => Some(self.description),
+            (Status::CannotRead(_), _) => Some(self.script),
             (Status::CannotWrite, Some(path)) => Some(path.as_str()),
             _ => None,
         }
     }
 
     /// Why something couldn't be read or written, as the system names it, where people are told.
-    pub fn fault(&self) -> Option<io::Error> {
+    pub fn told_fault(&self) -> Option<io::Error> {
         match self.fault {
             Some(code) if self.is_wanted => Some(io::Error::from_raw_os_error(code)),
             _ => None,
@@ -140,7 +119,7 @@ impl<'a> Told<'a> {
     /// The line of a message. The only error is out of memory.
     fn line_of(&self, about: About, message: &str) -> Result<String, AllocError> {
         let alloc = self.rt.alloc();
-        let description = self.order.path(0);
+        let description = self.description;
         match about {
             About::Run => format!(in alloc; "c104: {message}\n"),
             About::Description => format!(in alloc; "c104: {description}: {message}\n"),
@@ -159,12 +138,12 @@ impl<'a> Told<'a> {
     fn place_of(&self, line: usize) -> (&'a str, usize) {
         match self.typed_from.get() {
             Some(lines) if line > lines => (STANDARD_INPUT, line),
-            _ => (self.order.path(1), line.saturating_add(self.lines_before)),
+            _ => (self.script, line.saturating_add(self.lines_before)),
         }
     }
 
-    /// Whether work has gone on for long since it was told of. Where it is other work than before, it begins now; where there
-    /// is no clock, it is never long.
+    /// Whether work has gone on for long since it was told of. Where it is other work than before, it begins now; where
+    /// there is no clock, it is never long.
     fn is_long(&mut self, work: Work) -> bool {
         if let Some(going) = &self.going
             && going.work == work
@@ -186,9 +165,6 @@ fn begun(rt: &HostRuntime, work: Work) -> Option<Going> {
 }
 
 impl Messages for Told<'_> {
-    // Nothing is saved.
-    ghost saves = { λ old file picture new. ⊤ };
-
     fn are_wanted(&self) -> bool {
         self.is_wanted
     }
@@ -215,58 +191,4 @@ impl Messages for Told<'_> {
             self.show(about, message.as_str());
         }
     }
-
-    fn save(&mut self, _file: &str, _picture: &str) -> io::Result<()> {
-        Err(io::Error::from(io::ErrorKind::Unsupported))
-    }
-}
-
-/// Tells of files where a command is wanted, and of what isn't a header, where messages are wanted.
-pub fn tell_of_words(rt: &HostRuntime, words: &[String], error: &Error) {
-    let explain = words.iter().any(|word| word.as_str() == EXPLAIN_WORD);
-    if !(explain || rt.stderr().is_terminal()) {
-        return;
-    }
-    let [_, words @ ..] = words else {
-        return;
-    };
-    match error.kind() {
-        ErrorKind::InvalidSubcommand => tell_of_command(rt, words),
-        ErrorKind::ValueValidation if has_word(words, "--header") => {
-            let _ = rt.eprintln("c104: a header is a decimal number, 0 to 65535");
-        }
-        _ => {}
-    }
-}
-
-/// Tells of one file, or of two, where a command is wanted.
-fn tell_of_command(rt: &HostRuntime, words: &[String]) {
-    let Some(path) = file_at(rt, words, 0) else {
-        return;
-    };
-    if let Some(script) = file_at(rt, words, 1) {
-        let _ = eprintln!(rt;
-            "c104: {path}: this is a file, not a command; `c104 run {path} {script}` runs a description and its script"
-        );
-        return;
-    }
-    let _ = eprintln!(rt;
-        "c104: {path}: this is a file, not a command; `c104 run {path}` runs a description and a script \
-         that are one text, `c104 run {path} SCRIPT` those of two, and `c104 check {path}` checks the labels"
-    );
-}
-
-/// The word of this number, from 0, of those that are no option, if it is a file's path.
-fn file_at<'a>(rt: &HostRuntime, words: &'a [String], number: usize) -> Option<&'a str> {
-    let mut left = number;
-    for word in words {
-        if word.as_str().starts_with('-') {
-            continue;
-        }
-        if left == 0 {
-            return fs::open(rt, word.as_str()).ok().map(|_| word.as_str());
-        }
-        left -= 1;
-    }
-    None
 }

@@ -8,9 +8,9 @@
 //! Ctrl-C ends the program as it ends any other, without a summary, since no handle gives signals.
 ghost use Rattle.std.specs.Prelude.{IfOk, IfSome, None, length, ◌≤◌};
 
-use crate::logs::Log;
 use crate::opening::HostSource;
-use crate::prompting::tell_of_file;
+use crate::prompting::{Log, tell_of_file};
+use crate::texts::feeds_of;
 use std::cell::Cell;
 use std::io;
 use std::io::{BufRead, BufReader, Chain, Cursor, Read, Write};
@@ -19,7 +19,7 @@ use std::io::{BufRead, BufReader, Chain, Cursor, Read, Write};
 pub type Lines<'a> = Chain<&'a [u8], HostSource>;
 
 /// How a person ends what is typed.
-#[derive(Clone, Copy, Debug, PartialEq, Eq)]
+#[derive(Clone, Copy)]
 pub enum Ending {
     /// The program ends too.
     Quit,
@@ -27,9 +27,9 @@ pub enum Ending {
     Restart,
 }
 
-/// A reader of what standard input gives, line by line, maybe behind lines of a file. Where a person is asked, a prompt with the
-/// line's number comes on standard error before each line. A terminal mostly gives a line at a time, but several where they
-/// are pasted, or typed by a program.
+/// A reader of what standard input gives, line by line, maybe behind lines of a file. Where a person is asked, a prompt
+/// with the line's number comes on standard error before each line. A terminal mostly gives a line at a time, but
+/// several where they are pasted, or typed by a program.
 #[derive(Drop)]
 pub struct Typed<'a> {
     pub(crate) rt: &'a HostRuntime,
@@ -38,7 +38,7 @@ pub struct Typed<'a> {
     pub(crate) file: Option<Lines<'a>>,
     /// The name of that file, where a person asked for it.
     pub(crate) asked_file: Option<String>,
-    input: BufReader<Lines<'a>>,
+    pub(crate) input: BufReader<Lines<'a>>,
     is_asked: bool,
     // Where it is noted how many lines the script's own file has, as soon as it is at its end.
     typed_from: Option<&'a Cell<Option<usize>>>,
@@ -55,13 +55,15 @@ pub struct Typed<'a> {
     begins: bool,
     /// How a line ended what is typed.
     pub(crate) ending: Option<Ending>,
-    fault: Option<i32>,
-    lacks_memory: bool,
+    /// The system's number of why it couldn't be read, where it couldn't and the system has one.
+    pub(crate) fault: Option<i32>,
+    /// Whether it was read as far as it could be, and memory ran out.
+    pub(crate) lacks_memory: bool,
 }
 
 impl<'a> Typed<'a> {
-    /// A script on the network of a description, from standard input, behind the lines of a file if there is one. In the cell
-    /// it notes how many these are, as soon as the file is at its end.
+    /// A script on the network of a description, from standard input, behind the lines of a file if there is one. In
+    /// the cell it notes how many these are, as soon as the file is at its end.
     pub fn new(
         rt: &'a HostRuntime,
         description: &'a [u8],
@@ -92,31 +94,6 @@ impl<'a> Typed<'a> {
 }
 
 impl Typed<'_> {
-    /// Whether a person ended all that was typed so that it begins anew.
-    pub fn begins_anew(&self) -> bool {
-        self.ending == Some(Ending::Restart)
-    }
-
-    /// What is read already of what is typed next.
-    pub fn read_ahead(&self) -> &[u8] {
-        self.input.buffer()
-    }
-
-    /// Whether it was read as far as it could be, and memory ran out.
-    pub fn lacks_memory(&self) -> bool {
-        self.lacks_memory
-    }
-
-    /// The system's number of why it couldn't be read, where it couldn't and the system has one.
-    pub fn fault(&self) -> Option<i32> {
-        self.fault
-    }
-
-    /// Whether what is left of it comes from standard input alone.
-    pub fn is_behind_file(&self) -> bool {
-        self.file.is_none()
-    }
-
     /// The next bytes of the script.
     fn read_script(&mut self, buf: &mut [u8]) -> io::Result<usize>
         ensures { IfOk result (λ count. count ≤ length buf.new) }
@@ -245,11 +222,6 @@ fn prompt(rt: &HostRuntime, line: usize) {
     if let Ok(text) = format!(in rt.alloc(); "{line}> ") {
         let _ = rt.stderr().write_all(text.as_bytes());
     }
-}
-
-/// How many lines end in a piece.
-fn feeds_of(piece: &[u8]) -> usize {
-    piece.iter().filter(|byte| **byte == b'\n').count()
 }
 
 /// Whether a line begins behind a piece: where the piece is empty, as it was before.

@@ -10,7 +10,7 @@ use std::io;
 use std::io::Read;
 
 /// What was told of the packet, or of a round, since a line was read.
-#[derive(Clone, Copy, Debug, PartialEq, Eq)]
+#[derive(Clone, Copy)]
 enum Seen {
     Nothing,
     /// The packet is under way.
@@ -19,8 +19,8 @@ enum Seen {
     Over,
 }
 
-/// The lines of a script, and behind them rounds, one by one, as long as a question before each is answered so that a packet
-/// is under way.
+/// The lines of a script, and behind them rounds, one by one, as long as a question before each is answered so that a
+/// packet is under way.
 #[derive(Drop)]
 struct Rounds<'a> {
     script: &'a [u8],
@@ -37,13 +37,12 @@ impl<'a> Rounds<'a> {
         let (seen, asks) = (self.seen.replace(Seen::Nothing), self.asks);
         self.asks = !asks;
         if asks {
-            return if self.done > 0 && seen == Seen::Over {
-                b""
-            } else {
-                self.question
+            return match seen {
+                Seen::Over if self.done > 0 => b"",
+                _ => self.question,
             };
         }
-        if seen != Seen::UnderWay || self.done >= MAX_ROUNDS {
+        if !matches!(seen, Seen::UnderWay) || self.done >= MAX_ROUNDS {
             return b"";
         }
         self.done = self.done.saturating_add(1);
@@ -71,8 +70,6 @@ struct Watcher<'a> {
 }
 
 impl Messages for Watcher<'_> {
-    ghost saves = { λ old file picture new. ⊥ };
-
     fn are_wanted(&self) -> bool {
         true
     }
@@ -84,7 +81,7 @@ impl Messages for Watcher<'_> {
     fn tell(&mut self, about: About, message: &str) {
         match about {
             // The first line of an answer.
-            About::Question if self.seen.get() == Seen::Nothing => {
+            About::Question if matches!(self.seen.get(), Seen::Nothing) => {
                 let is_under_way = is_under_way(message);
                 self.seen.set(if is_under_way {
                     Seen::UnderWay
@@ -99,14 +96,11 @@ impl Messages for Watcher<'_> {
     }
 
     fn progress(&mut self, _work: Work, _done: u32, _count: u32) {}
-
-    fn save(&mut self, _file: &str, _picture: &str) -> io::Result<()> {
-        Err(io::Error::from(io::ErrorKind::Unsupported))
-    }
 }
 
-/// How many rounds are done behind a script, on the network of a description, until the packet of a question has arrived or is
-/// gone, or nothing moves. The question is a line that asks where the packet is. It is 0 where the packet isn't under way.
+/// How many rounds are done behind a script, on the network of a description, until the packet of a question has
+/// arrived or is gone, or nothing moves. The question is a line that asks where the packet is. It is 0 where the packet
+/// isn't under way.
 pub fn rounds_until(
     rt: &HostRuntime,
     mut description: &[u8],
