@@ -23,6 +23,7 @@ import sys
 from collections.abc import Callable, Iterable, Iterator, Mapping, Sequence
 from contextlib import contextmanager
 from dataclasses import dataclass, replace
+from functools import cache
 from pathlib import Path
 from tempfile import TemporaryDirectory
 
@@ -170,15 +171,12 @@ class Program:
 
     @classmethod
     def find(cls, is_explaining: bool = False) -> Program:
-        """The one that the environment's C104 names, else `build/c104` of the tree of this package, else that of PATH."""
-        named = os.environ.get("C104")
-        if named:
-            return cls(named, is_explaining)
-        built = Path(__file__).resolve().parents[2] / "build" / "c104"
-        found = str(built) if built.is_file() else shutil.which("c104")
-        if found is None:
+        """The one that the environment's C104 names, else `build/c104` of this package's tree, or `build/fast/c104` where
+        that is missing or older than its sources, or the one beside an installed tool, else that of PATH."""
+        named = os.environ.get("C104") or _nearest()
+        if named is None:
             raise fault("not found: set C104 to its path, or put it on PATH")
-        return cls(found, is_explaining)
+        return cls(named, is_explaining)
 
     @contextmanager
     def command(self, words: Iterable[str | Source]) -> Iterator[tuple[list[str], dict[str, str]]]:
@@ -284,6 +282,31 @@ class Program:
     def run_rows(self, description: Source, script: Source, what: str) -> str:
         """One table of a run."""
         return self.tables([description, script], what).texts[what]
+
+
+@cache
+def _nearest() -> str | None:
+    """The program that is found where none is named. It is looked for once, and told of once where it is unproved."""
+    top = Path(__file__).resolve().parents[2]
+    proved, fast = top / "build" / "c104", top / "build" / "fast" / "c104"
+    if fast.is_file() and (not proved.is_file() or _is_outdated(proved, fast)):
+        _tell(f"c104: asks {fast}, which is unproved: build/c104 is missing or older than its sources\n")
+        return str(fast)
+    if top.parts[-2:] == ("share", "c104"):  # installed
+        proved = top.parents[1] / "bin" / "c104"
+    return str(proved) if proved.is_file() else shutil.which("c104")
+
+
+def _is_outdated(proved: Path, fast: Path) -> bool:
+    """Whether a source is newer than the proved program. They are looked through only where the fast one was built later."""
+    built, top = proved.stat().st_mtime, proved.parents[1]
+    if fast.stat().st_mtime <= built:
+        return False
+    for folder, folders, files in os.walk(top / "crates"):
+        folders[:] = [it for it in folders if it != "out"]
+        if any(os.lstat(os.path.join(folder, it)).st_mtime > built for it in files):
+            return True
+    return os.stat(top / "crates.txt").st_mtime > built
 
 
 def decoded(text: bytes) -> str:

@@ -58,7 +58,8 @@ def _epilog(examples: Sequence[str], refused: str) -> str:
     return "\n".join([
         *shown, "Exit status:", "  0  done", f"  1  {refused}", "  2  the command line is wrong",
         "  3  a file can't be read or written, or `c104` can't be run", "  4  out of memory", "",
-        "The program `c104` is the one that the environment's C104 names, else build/c104 of this tree, else that of PATH."])
+        "The program `c104` is the one that the environment's C104 names, else build/c104 of this tree, or",
+        "build/fast/c104 where that is missing or older than its sources, else that of PATH."])
 
 
 def add_description(parser: argparse.ArgumentParser) -> None:
