@@ -1,12 +1,15 @@
-# make try SCRIPT=FILE        runs a script in two minutes without proving anything, and the first example where none is named
+# make fast                   builds the program in minutes without proving anything, build/fast/c104: it checks itself at
+#                             each step, and is some three times slower than the proved one
 # make                        proves and builds the program, build/c104, crates side by side, in one to two hours on four
 #                             processors; once stopped, it goes on from what it had proved
 # make run                    builds it and runs the first example
 # make install                copies the program, its manual page, and the tools that ask it below PREFIX, which is /usr/local
 #                             unless said, and below DESTDIR before it; what is built already isn't built again
+# make dist                   packs the proved program, its tools and pages for machines without the toolchain, into
+#                             build/c104-VERSION.tar.gz
 # make page DESC=FILE SCRIPT=FILE
 #                             writes a page that plays a run, build/run.html, for any browser: of the ring that locks up where
-#                             none is named
+#                             none is named; by the fast program where build/c104 is missing or older than its sources
 # make check                  proves what has changed, over kept work, and runs the cases over the program, or those of
 #                             some kinds, as kinds=runs
 # make pages                  writes what the crates say of themselves into build/pages: each contract, each definition that
@@ -22,18 +25,24 @@
 #                             and over a long script, and its check over large descriptions; no part of the test
 
 program := build/c104
+fast := build/fast/c104
 example := examples/first-network.txt
 sources := $(shell find crates crates.txt -path '*/out' -prune -o -type f -print)
 
 PREFIX ?= /usr/local
 installed := $(DESTDIR)$(PREFIX)
 
-.PHONY: all run install try page pages check slow edits test storms fuzz bench
+.PHONY: all fast run install dist page pages check slow edits test storms fuzz bench
 
 all: $(program)
 
 $(program): $(sources)
 	@tests/build_program $@
+
+fast: $(fast)
+
+$(fast): $(sources)
+	@tests/build_fast $@
 
 run: $(program)
 	$(program) < $(example)
@@ -48,16 +57,18 @@ install:
 	install -m 644 $(wildcard python/c104/*.*) '$(installed)/share/c104/python/c104'
 	install -m 644 docs/c104.1 '$(installed)/share/man/man1/c104.1'
 
-try: SCRIPT = $(example)
-try:
-	@tests/try_script '$(SCRIPT)'
+dist:
+	@$(MAKE) --no-print-directory --question all \
+	    || { echo '$(program) is missing or older than its sources, so it is not packed: run make first'; exit 1; }
+	@tests/write_dist $(program) build
 
 page: DESC = examples/ring.txt
 page: SCRIPT = $(if $(filter examples/ring.txt,$(DESC)),examples/ring-packets.txt)
 page: PAGE = build/run.html
-page: $(program)
+page:
+	@[ -n "$$C104" ] || $(MAKE) --no-print-directory --question all || $(MAKE) --silent fast
 	@mkdir -p '$(dir $(PAGE))'
-	@C104=$(abspath $(program)) bin/c104-page '$(DESC)' $(if $(SCRIPT),'$(SCRIPT)') -o '$(PAGE)'
+	@bin/c104-page '$(DESC)' $(if $(SCRIPT),'$(SCRIPT)') -o '$(PAGE)'
 	@echo 'open $(PAGE) in a browser'
 
 check:
