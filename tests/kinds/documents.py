@@ -8,7 +8,7 @@ and files that pages name have to be there, and README.md and all pages together
 
 All is run in a copy of the repository with this program as what was built there, and the pages but README.md
 with what `make install` installed. The tools of bin, which are on PATH, ask this program. What has been proved already
-is not proved again: in the place of `rt` stands one that answers so.
+is not proved again: in the place of `rt` stands one that answers so. `make fast` is run, unless this is what it made.
 """
 
 import glob
@@ -23,20 +23,22 @@ from case_runner import TOP
 
 README, MANUAL = 'README.md', 'docs/c104.1'
 PAGES = [README, *sorted('docs/' + os.path.basename(it) for it in glob.glob(os.path.join(TOP, 'docs', '*.md')))]
-SECONDS = 600
+SECONDS = 1800
 # Of README.md, and of all pages together.
 MOST_WORDS, MOST_OF_ALL = 1000, 40_000
 
 # Commands that a page may name, and how each is run where one does.
 RUN = {
     'make': 'make',
+    'make dist': 'make dist && tar tzf build/c104-*.tar.gz',
     'make slow': 'make slow',
     'make pages': 'make pages && test -f build/pages/PROMISES.md',
     'make check': 'make check kinds=runs',
     'make edits CRATE=c104_crossbar': 'make edits CRATE=c104_crossbar',
     'build/c104 --help': 'build/c104 --help',
 }
-NOT_RUN = {'make test': 'it is what runs this', 'make try SCRIPT=FILE': 'it is `make try`, which is run', 'make install': 'it would be outside the copy: with PREFIX it is run',
+NOT_RUN = {'make test': 'it is what runs this', 'make fast': '`README.md` has a block that runs it',
+           'make install': 'it would be outside the copy: with PREFIX it is run',
            'make bench': 'it takes minutes, and times what it runs', 'make storms': 'it takes minutes',
            'make fuzz MINUTES=60': 'it takes an hour',
            **dict.fromkeys(('make page', 'make page DESC=examples/ring.txt SCRIPT=examples/ring-packets.txt'), '`played` runs it')}
@@ -128,8 +130,11 @@ def run_block(block, folder, variables):
     """What is wrong with what a block of commands prints, or None. They are run by one shell."""
     commands = block.commands()
     script = ''.join('%s\nstatus=$?; echo "%s$status"; (exit "$status")\n' % (command, MARK) for command, _ in commands)
-    done = subprocess.run(['sh', '-c', script], cwd=folder, env=variables, stdin=subprocess.DEVNULL,
-                          stdout=subprocess.PIPE, stderr=subprocess.STDOUT, errors='replace', timeout=SECONDS)
+    try:
+        done = subprocess.run(['sh', '-c', script], cwd=folder, env=variables, stdin=subprocess.DEVNULL,
+                              stdout=subprocess.PIPE, stderr=subprocess.STDOUT, errors='replace', timeout=SECONDS)
+    except subprocess.TimeoutExpired:
+        return 'no end after %d seconds' % SECONDS
     parts = re.split(re.escape(MARK) + r'(\d+)\n', done.stdout)
     for number, (command, shown) in enumerate(commands):
         if 2 * number + 1 >= len(parts):
@@ -152,6 +157,10 @@ class Reader:
         os.makedirs(os.path.join(self.top, 'crates', 'c104', 'out'))
         program = os.path.join(self.top, 'crates', 'c104', 'out', 'c104')
         shutil.copy(runner.program[0], program)
+        fast = os.path.dirname(runner.program[0])
+        if os.path.exists(os.path.join(fast, 'UNPROVED')):
+            # newer than its sources here, so that make leaves it
+            shutil.copytree(fast, os.path.join(self.top, 'build', 'fast'), copy_function=shutil.copy)
         tools = os.path.join(place, 'tools')
         for folder in (self.home, tools):
             os.mkdir(folder)
@@ -184,13 +193,15 @@ class Reader:
         self.runner.judge('`%s`' % command, run_block(block, self.top, self.variables))
 
     def install_otherwise(self):
-        """Below DESTDIR, and where sources are newer than what was built: nothing is proved for it."""
+        """Below DESTDIR, and where sources are newer than what was built: nothing is proved for it, or packed."""
         for lines in (['$ make install DESTDIR=$HOME/stage PREFIX=/usr', '$ $HOME/stage/usr/bin/c104 --version',
                        '$ test -f $HOME/stage/usr/share/man/man1/c104.1', '$ $HOME/stage/usr/bin/c104-cuts --help'],
                       ['$ touch crates.txt', '$ make install PREFIX=$HOME/again',
                        'sources are newer than build/c104, which is installed as it stands', '...',
-                       '$ cmp build/c104 $HOME/again/bin/c104']):
-            self.runner.judge(lines[-1], run_block(Block('', 0, None, lines), self.top, self.variables))
+                       '$ cmp build/c104 $HOME/again/bin/c104'],
+                      ['$ touch crates.txt', '$ make dist',
+                       'build/c104 is missing or older than its sources, so it is not packed: run make first', '...']):
+            self.runner.judge(lines[1], run_block(Block('', 0, None, lines), self.top, self.variables))
 
     def follow(self):
         self.run_command('make')

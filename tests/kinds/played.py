@@ -201,10 +201,11 @@ def made(runner):
         return
     with tempfile.TemporaryDirectory() as folder:
         played = Played(runner, folder, 'ring', *runs()['ring'])
-        program, page = runner.program[0], os.path.join(folder, 'made.html')
-        words = ['make', '--no-print-directory', '--old-file=' + program, 'page', 'program=' + program, 'PAGE=' + page,
-                 'DESC=' + played.paths[0], 'SCRIPT=' + played.paths[1]]
+        page = os.path.join(folder, 'made.html')
+        description, script = played.paths
+        words = ['make', '--no-print-directory', 'page', 'PAGE=' + page, 'DESC=' + description, 'SCRIPT=' + script]
         left = {name: value for name, value in os.environ.items() if not name.startswith('MAKE') and name != 'MFLAGS'}
+        left['C104'] = runner.program[0]
         done = subprocess.run(words, cwd=TOP, env=left, capture_output=True, text=True, timeout=SECONDS)
         wrong = played.write()
         same = not done.returncode and not wrong and open(page, 'rb').read() == open(played.page, 'rb').read()

@@ -1,14 +1,16 @@
-"""Runs each tool of bin over what goes wrong outside of it: the program, what is read, and what is written.
+"""Runs each tool of bin over what goes wrong outside of it: the program, what is read, and what is written; and one over
+the places where programs may be.
 
 Each fault is told in one line on standard error, with the status that the program has for such faults, and no tool ends by a
 trace of Python's.
 """
 
 import os
+import shutil
 import subprocess
 import tempfile
 
-from case_runner import EXAMPLES, PLAN
+from case_runner import EXAMPLES, PLAN, TOP
 from kinds.stats import FIRST
 from kinds.saved import Room
 from tools import Tool
@@ -29,6 +31,20 @@ label) printf 'header 1\\nbuffer 16\\nswitch A\\n' ;;
 esac
 '''
 ENDED = '#!/bin/sh\nkill -9 $$\n'
+# A program that says where it is, and places that have files: the programs that there are, and sources, each with its
+# time. Then which program is asked, and whether it is told that it isn't proved.
+PLACED = '#!/bin/sh\necho "asked $0" >&2\nexit 3\n'
+PROVED, FAST, SOURCE, KEPT = 'build/c104', 'build/fast/c104', 'crates/c104_a/src/lib.rt', 'crates/c104_a/out/log'
+PLACES = {
+    'nothing is built': ({'crates.txt': 1}, 'path/c104', False),
+    'the fast one is': ({FAST: 2, 'crates.txt': 1}, FAST, True),
+    'the proved one is': ({PROVED: 2, 'crates.txt': 1}, PROVED, False),
+    'both are, the proved one last': ({FAST: 1, PROVED: 2, SOURCE: 3, 'crates.txt': 1}, PROVED, False),
+    'both are, of the same sources': ({PROVED: 2, FAST: 4, SOURCE: 1, KEPT: 3, 'crates.txt': 1}, PROVED, False),
+    'both are, and a source is between': ({PROVED: 1, FAST: 3, SOURCE: 2, 'crates.txt': 1}, FAST, True),
+    'both are, and the crates changed': ({PROVED: 1, FAST: 3, SOURCE: 1, 'crates.txt': 2}, FAST, True),
+    'it is installed': ({'bin/c104': 1}, 'bin/c104', False),
+}
 
 
 def asked(word, program, words, **fields):
@@ -104,4 +120,27 @@ def outputs(runner):
                 judge(runner, word + ': an output that is full', (done.returncode, b'', done.stderr.splitlines(True)[-1]), b'cannot write')
 
 
-PARTS = [programs, inputs, outputs]
+def places(runner):
+    """Which program is asked where none is named."""
+    for name, (files, due, is_told) in PLACES.items():
+        with tempfile.TemporaryDirectory() as folder:
+            top = os.path.realpath(folder)
+            shutil.copytree(os.path.join(TOP, 'bin'), os.path.join(top, 'bin'))
+            python = 'share/c104/python' if 'bin/c104' in files else 'python'
+            shutil.copytree(os.path.join(TOP, 'python', 'c104'), os.path.join(top, python, 'c104'))
+            for path, time in {**files, 'path/c104': 1}.items():
+                place = os.path.join(top, path)
+                os.makedirs(os.path.dirname(place), exist_ok=True)
+                with open(place, 'w') as file:
+                    file.write(PLACED)
+                os.chmod(place, 0o755)
+                os.utime(place, (time, time))
+            told = 'c104: asks %s/%s, which is unproved: build/c104 is missing or older than its sources\n' % (top, FAST)
+            variables = {**os.environ, 'C104': '', 'PATH': '%s/path:%s' % (top, os.environ['PATH'])}
+            words = [os.path.join(top, 'bin', 'c104-paths'), RING]
+            found = subprocess.run(words, env=variables, capture_output=True, text=True, check=False).stderr
+            wanted = told * is_told + 'asked %s/%s\n' % (top, due)
+            runner.judge('a program where ' + name, None if found == wanted else 'wanted %r, found %r' % (wanted, found))
+
+
+PARTS = [programs, inputs, outputs, places]
