@@ -230,13 +230,13 @@ HEADS = {
 Each definition that a public contract rests on, by crate, lowest first, and by file of the crate's `specs/`, with the
 comment that stands above it there, and in brackets those of its parts. One without a comment stands beside the one
 above it, and a comment such as "the same of all" goes on from the line above. Definitions that private contracts alone
-cite are not here. `docs/WORDS.md` has by hand those that a reader meets first.
+cite are not here. `docs/proof/WORDS.md` has by hand those that a reader meets first.
 """,
     PROMISES: """# All contracts
 
 Each public type, function and constant, by crate: the first sentence of its comment, and its contract by clauses, each
 with its name, if it has one, and the definitions of this repository that it cites. A clause that cites none speaks of
-plain values alone. What no contract says stands in `docs/WORDS.md`.
+plain values alone. What no contract says stands in `docs/proof/WORDS.md`.
 
 - **Ensures** stands before what the call promises, and **Requires** before what its caller has to see to.
 - **Ghost** stands before what a type or a trait is in contracts: its *Value*, that plain value as which

@@ -6,8 +6,8 @@
 
 The rank of an input is 1 if it depends on no other, else one more than the highest of those on which it depends. Each packet
 counts its tokens and one, and for each byte of a header one more than the rank of the input that its sender's wire leads to. That
-the sum is enough is proved of the program, of scripts that only send and do rounds (`docs/DEADLOCK.md`); that it is computed as
-this theorem has it isn't.
+the sum is enough is proved of the program, of scripts that only send and do rounds (`docs/proof/DEADLOCK.md`); that it is
+computed as this theorem has it isn't.
 """
 
 from __future__ import annotations

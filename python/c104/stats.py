@@ -1,4 +1,4 @@
-"""`c104-stats`: how the packets, links and rounds of a run fared, in numbers; `docs/FORMATS.md`, Counts, says what each means.
+"""`c104-stats`: how the packets, links and rounds of a run fared, in numbers; its `--help` says what each means.
 
 In a script or a notebook:
 

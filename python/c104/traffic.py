@@ -1,4 +1,4 @@
-"""`c104-traffic`: scripts in which the terminals of a network send packets in a pattern; `docs/FORMATS.md`, Traffic, says which.
+"""`c104-traffic`: scripts in which the terminals of a network send packets in a pattern; its `--help` says which.
 
 In a script or a notebook:
 

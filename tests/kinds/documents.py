@@ -22,7 +22,7 @@ import tempfile
 from case_runner import TOP
 
 README, MANUAL = 'README.md', 'docs/c104.1'
-PAGES = [README, *sorted('docs/' + os.path.basename(it) for it in glob.glob(os.path.join(TOP, 'docs', '*.md')))]
+PAGES = [README, *sorted(os.path.relpath(it, TOP) for it in glob.glob(os.path.join(TOP, 'docs', '**', '*.md'), recursive=True))]
 SECONDS = 1800
 # Of README.md, and of all pages together.
 MOST_WORDS, MOST_OF_ALL = 1000, 40_000
