@@ -158,7 +158,8 @@ def tables_of(ways):
     stretches = [fractions.Fraction(max(lengths), far) for _, _, _, lengths, far in pairs if far]
     far_of = ways.rules.far
     inside = {it for it in ways.ports if '.' in far_of.get(it, '')}
-    hops, random = [max(it[3]) for it in pairs], [max(it) for it in phases.values() if it]
+    hops = [max(it[3]) for it in pairs]
+    random = [max(ways.lengths(port, header, {})) for _, port, _ in ways.rules.terminals for header in ways.randoms(port)]
     rows = {
         'pairs': [[name, label, owner, min(lengths), max(lengths), far, thousandths(
             fractions.Fraction(max(lengths), far) if far else None), *((min(phases[name]), max(phases[name])) if phases[name]
@@ -168,6 +169,7 @@ def tables_of(ways):
     }
     load, random_load = (largest({it: counts[place] for it, counts in loads.items() if it in inside}) for place in (0, 2))
     summary = [len(pairs), thousandths(mean(hops)), max(hops, default=''), thousandths(mean(stretches)),
-               thousandths(max(stretches, default=None)), *load, *largest({it: counts[0] for it, counts in inputs.items()}),
+               thousandths(max(stretches, default=None)), *load,
+               *largest({it: counts[0] for it, counts in inputs.items() if it in far_of}),
                thousandths(mean(random)), max(random, default=''), *(random_load if random else ('', ''))]
     return rows, [str(it) for it in summary]

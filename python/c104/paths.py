@@ -42,25 +42,40 @@ MOST_FILES = 16
 PAGE = """\
 Prints how far packets go by the labels of a description, over which links, by which rows.
 
-Wires between switches are counted, whatever link of a group is taken, and those of terminals aren't. The summary: how many
-pairs of a terminal and a label of another terminal there are; the mean and the largest number of wires on their longest ways
-(hops); the mean and the largest stretch, these wires over those of a shortest path; the largest load of a link between
-switches, the number of pairs that can use it, and that link; the most rows that an input has, and that input; the same of
-random headers; and how many inputs the cycle of channel dependencies has that `c104 cycles` finds.
+Wires between switches are counted, whatever links of groups are taken, and those of terminals aren't. A pair is a terminal and a
+label of another terminal. The summary:
+
+  pairs                          how many there are
+  mean_hops, largest_hops        the most wires on the ways of a pair: the mean over pairs, and the largest
+  mean_stretch, largest_stretch  these wires over those of a shortest path, of pairs that aren't at one switch
+  largest_load, load_link        the most pairs that can use a link between switches, and the first such link
+  most_rows, rows_input          the most rows that an input with a wire has, and the first such input
+  random_mean, random_largest    the most wires on the ways of a terminal's random header to portals: the mean over pairs of a
+                                 terminal and one of its random headers, and the largest
+  random_load, random_link       the most such pairs that can use a link between switches, and the first such link
+  cycle                          how many inputs the cycle has that `c104 cycles` finds
 
 With --what a table is printed of each
 
-  pairs      pair: the least and the most wires, those of a shortest path, the stretch, and the wires by random headers before
-  links      link with a wire: how many pairs can use it and always do, and the same of random headers
-  inputs     input: its rows that are set and that decide, and how many labels and random headers can come there
-  rows       row of an input: the line that says it, the headers that it covers, for how many it decides, and how many of
-             these can come; why it can never decide, if it can't, as a name and in words
+  pairs      pair, by label and then sender: the least and the most wires, the distance of the switches, the stretch, and the
+             least and the most wires to portals before, if there are random headers
+  links      link with a wire: how many pairs can use it and always do, and how many pairs of a terminal and a random header
+  inputs     input with a wire or a row: how many rows are set; how many of them decide, since a header can come that is theirs;
+             and how many headers can come, labels and random ones. `A.1  3  2  2  0`: the third row is never used
+  rows       row of an input: its line, the headers from `first` on below its limit, for how many it decides, and how many of
+             these can come as labels and random headers; why it never decides, if so, as a name and in words: Empty,
+             PastLast, Covered by rows before it, or NeverMet
   demand     link with a wire, under the traffic of --demand: what must cross it, what does if each group shares evenly, and
              what can at most
 
 or of
 
-  bisection  the fewest wires found between two halves of the terminals, the links between them, and the largest load there"""
+  bisection  the fewest wires found between two halves of the terminals, whether fewer are ruled out, how many terminals each
+             half has, the largest load of the links between, and the switches of one half
+
+Summaries of several descriptions are rows. One with other switches, terminals or wires than the first is `refused OtherWiring:
+FILE`, but with --any-wiring, which tells also the bisection and at which rate of even traffic the busiest link carries one token
+a round. Descriptions are tried in turn, so of several that are refused the first is told."""
 EXAMPLES = [
     "c104-paths --what links --format csv network.txt > links.csv",
     "c104-paths --what rows network.txt | grep -v -- '-$'    rows that never decide",
@@ -121,18 +136,18 @@ def _place_cells(ways: Ways) -> list[Cell]:
     loads = ways.loads()
     return [
         *largest((port, loads[port].can) for port in ways.net.between),
-        *largest((port, use.set) for port, use in input_uses(ways).items()),
+        *largest((port, use.set) for port, use in input_uses(ways).items() if port in ways.net.peers),
     ]
 
 
 def _random_cells(ways: Ways) -> list[Cell]:
-    spans = ways.random_spans.values()
-    if not spans:
+    mosts = [use.span.most for _, uses in ways.random_uses for use in uses]
+    if not mosts:
         return [None, None, None, None]
     loads = ways.loads()
     return [
-        thousandths(sum(span.most for span in spans), len(spans)),
-        max(span.most for span in spans),
+        thousandths(sum(mosts), len(mosts)),
+        max(mosts),
         *largest((port, loads[port].random_can) for port in ways.net.between),
     ]
 

@@ -44,6 +44,9 @@ LONG = (b'header 2\nswitch A\nswitch B\nterminal a A.0 labels 2 from 300\ntermin
         + b''.join(b'base %s 300\nrow %s 302 %d\nrow %s 1000 sink\nrow %s 1001 %d\n' % (port, port, a, port, port, b)
                    for port, a, b in ((b'A.0', 0, 1), (b'A.1', 0, 1), (b'B.0', 1, 0), (b'B.1', 1, 0))))
 
+# A terminal that has the switch for itself. No packet comes in at A.5, which has two rows.
+ALONE = b'switch A\nterminal a A.0\nrow A.0 1 0\nrow A.5 9 3\nrow A.5 10 4\n'
+
 # A description, and its rows by table, counted by hand.
 BY_HAND = {
     'nothing': (b'', {'pairs': [], 'links': [], 'inputs': []}),
@@ -86,7 +89,8 @@ SUMMARIES = {
     'one wire': (WIRE, ['2', '1.000', '1', '1.000', '1.000', '1', 'A.1', '2', 'A.0', '-', '-', '-', '-', '-']),
     'a way that is longer': (ROUND, ['2', '1.500', '2', '1.500', '2.000', '1', 'A.2', '2', 'A.0', '-', '-', '-', '-', '-']),
     'random headers': (check.OVER_A_WIRE,
-                       ['2', '1.000', '1', '1.000', '1.000', '1', 'A.1', '5', 'A.0', '1.000', '1', '1', 'A.1', '-']),
+                       ['2', '1.000', '1', '1.000', '1.000', '1', 'A.1', '5', 'A.0', '0.500', '1', '1', 'A.1', '-']),
+    'an input without a wire that has most rows': (ALONE, ['0', '-', '-', '-', '-', '0', '-', '1', 'A.0', '-', '-', '-', '-', '-']),
     'a ring one way round': (cycles.ROUND,
                              ['12', '2.000', '3', '1.666', '3.000', '6', 'A.1', '3', 'B.0', '-', '-', '-', '-', '4']),
 }
