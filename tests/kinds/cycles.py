@@ -282,7 +282,7 @@ def refused(runner):
 
 
 def example(runner):
-    """The ring of the examples, and the row by which its comment breaks the cycle."""
+    """The ring of the examples, and the row that breaks its cycle."""
     with open(os.path.join(EXAMPLES, 'ring.txt'), 'rb') as file:
         text = file.read()
     with open(os.path.join(EXAMPLES, 'ring-packets.txt'), 'rb') as file:
