@@ -31,16 +31,18 @@ Wires = tuple[Wire, ...]
 """Wires that break at once."""
 
 PAGE = """\
-Checks the labels of a description without each wire between switches, one after the other. Each that may not break is
-printed, with the first fault that `c104 check` finds without it. With --what a table is printed of
+Checks the labels of a description without each wire between switches, one after the other, as `c104 label --rows --without`
+leaves them. Each that may not break is printed, `cut S.l S.l: ` and the first fault without it, in the order and with the ends of
+the wire lines (of a whole network of those that `c104 label --rows` prints); and then `all N wires may break`, or `M of N
+wires may not break`. With --what a table is printed of
 
-  cuts    the whole network, and each cut, a wire or several: its links; what `c104 check` answers for the labels as they
-          are; how many pairs of a terminal and a label of another still come whatever links of groups are taken, sometimes,
-          or never; and with --relabel whether labels made anew by `label up-down` are accepted, their mean and largest number
-          of wires, and the largest load of a link, the number of pairs that can use it
+  cuts    the whole network, and each cut, a wire or several: its links; what `c104 check` answers; how many pairs of a
+          terminal and a label of another come `still` whatever links of groups are taken, in `some` cases, or are `lost`; and
+          with --relabel whether labels made anew by `label up-down` are accepted, their mean and largest number of wires, and
+          the most pairs that can use a link, and that link
   pairs   each pair that is lost by a cut: the ways that are, all or some
 
-Rows that select a group of links of which one breaks select the links below it, or else those above. Labels made anew
+Rows that select a link that breaks select the links of its group below it, or else those above. Labels made anew
 are without groups and random headers of the description. Labels that take more than 1 MiB as rows aren't cut."""
 EXAMPLES = [
     "c104-cuts network.txt",

@@ -29,22 +29,28 @@ MOST = 2**32 - 1
 PAGE = """\
 Draws the network of a description, as it is, as a script leaves it, or over the rounds of a script.
 
-Without -o, or with another file than a picture, the text is printed that Graphviz draws: `c104-draw DESC | dot -Tsvg`. There
-each switch is a box and each terminal an ellipse with its labels. Meshes and cubes have fixed places, and other networks hang
-from the root of their labels or the first switch. Wires between links of one group at both ends are one edge.
-
 With -o x.svg, x.png or x.pdf a picture is made at fixed places, which depend on the wires alone: so all pictures of a network can
 be laid side by side. PNG and PDF want rsvg-convert, and --layout dot wants Graphviz.
+
+Without -o, or with another file than a picture, the text is printed that Graphviz draws: `c104-draw DESC | dot -Tsvg`. There
+each switch is a box and each terminal an ellipse with its labels. Meshes and cubes have fixed places, and other networks hang
+from the root of their labels or the first switch. Wires between links of one group at both ends are one edge; those of a labelled
+tree are wide, and others gray.
 
   --header     the links that a header may take are bold, its owner is filled, and if it is refused the walk that shows
                why is red. As a random header its way is dashed, up to diamonds at portals
   --cycles     the inputs of a cycle of channel dependencies are red
-  --state      each link that a packet holds is an arrow in the packet's colour and pattern, with how many tokens wait at
-               its ends; a dotted arrow leads to an output that a header wants. Red ones wait for one another
+  --state      each link that a packet holds is an arrow in the packet's colour and pattern, with its name and how many tokens
+               wait at its ends; it is gray if no packet holds it, and black if the packet's end is nowhere. A dotted arrow leads
+               to an output that a header wants. Red ones wait for one another
   --over-time  rounds from left to right, as SVG: a row for each way over a wire, in which a packet is hatched in rounds in
-               which it holds the wire and nothing crosses; or its rows as a table, or as waves
+               which it holds the wire and nothing crosses; or its rows as a table, or as waves for GTKWave, where a round is a
+               microsecond
   --load       links by how much they carry: with a script the share of its rounds in which a token crosses, and without
-               one how many pairs of a terminal and a label of another can use them"""
+               one how many pairs of a terminal and a label of another can use them
+
+A picture over time that is too large is answered `draw 1 TooLarge`, with rounds that fit, and a switch of --only that isn't there
+`draw 2 NoSwitch: S`. Of what is refused FILE stays as it was."""
 EXAMPLES = ("c104-draw network.txt --header 6 | dot -Tsvg > ways.svg", "c104-draw network.txt events.txt --state -o state.png",
             "c104-draw network.txt events.txt --over-time --from 100 --to 200 -o run.svg")
 REFUSED = "the description, a line of the script or what is asked of them was refused"

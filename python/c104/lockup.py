@@ -275,10 +275,11 @@ def search(program: Program, description: Source, explain: bool = False) -> tupl
 
 PAGE = """\
 Looks for a script after which the network of a description stands still for ever, if its channels depend on one another in a
-cycle, and prints it. The script was run: `c104 run` on the same description ends locked up. It commands no switch and sets no
-register, its packets begin with labels of terminals, and no line of it is answered `not ready`.
+cycle, and prints it. Behind it `c104 run` of the same description answered a `settle` by `stands still 0`. It commands no switch
+and sets no register, its packets begin with labels of terminals, and no line of it is answered `not ready`.
 
-Without a cycle `acyclic` is printed. `none found` says nothing of the network: 35 scripts at most are tried."""
+Without a cycle `acyclic` is printed. `none found` says nothing of the network: 35 scripts at most are tried, of long packets, one
+for each input of a cycle, and then of single events that bring packets to these inputs."""
 EXAMPLES = [
     "c104-lockup ring.txt > lock.txt",
     "c104 --explain run ring.txt lock.txt            what waits for what",

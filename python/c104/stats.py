@@ -270,21 +270,35 @@ def text_of(run: Run, window: Window, what: str, form: str, parts: int | None) -
 # The command
 
 PAGE = """\
-Runs a script, and prints numbers in place of the answers and of what arrived. Time is
-counted in rounds; what happens outside of rounds counts to the round before. Without
---what it prints a summary: how many rounds the run has; how many packets were sent,
-arrived, are unfinished and are lost; their latencies; tokens for each round and
-terminal; the busiest links; and how many rounds behind the last packet are enough. A
-table has a row for each
+Runs a script, and prints numbers in place of the answers and of what arrived. Time is counted in rounds; what happens outside
+of rounds counts to the round before. With --what it prints a table with a row for each
 
-  packets    that was sent: where it arrived and when, and how long it held links idly
-  latencies  that packets had: how many of them
-  links      port with a wire: tokens and packets that crossed from there, and in
-             which share of the rounds
-  rounds     in which anything was done: what moved, arrived, waited and was held
+  packets    that was sent, as `c104 rows` has them
+  latencies  latency that measured packets had: how many of them
+  links      port with a wire, as `c104 rows` has them, but with `share` for `busy`: the share of the run's rounds
+  rounds     in which anything was done, as `c104 rows` has them
 
-CSV and JSON are for programs. A network that stands still with tokens in it is said
-to, with who waits for what: behind what is for people, and else on standard error."""
+and else a summary:
+
+  rounds             the run's length, the last round in which anything was done
+  sent .. lost       how many packets are measured, and how many of them arrived, are unfinished, or are short or sunk
+  refused            how many lines were refused, those that are answered `refused register` among them
+  still              the run's length, if the network stands still with tokens in it
+  latency_ ..        rounds from being sent to arriving, of measured packets: the least, the median, those that 95 and 99 of
+                     100 packets don't exceed, the most, the mean and the standard deviation
+  network_mean       the mean of their rounds from leaving the sender to arriving
+  offered            tokens of measured packets, with terminators, for each terminal and each measured round from 1 on
+  accepted           the same of the packets that arrived in these rounds, whenever they were sent
+  tokens_a_round     how many tokens crossed wires in a round
+  busiest .. third   the links in which a token crossed in the most rounds, each with its share of the run's rounds
+  rounds_enough      how many rounds behind the last packet are enough: for each packet its tokens and one, and for each byte of
+                     a header one more than the rank of the input that its sender's wire leads to. A rank is 1 if the input
+                     depends on no other, else one more than the highest of those: so 4 tokens by one switch need 4 + 1 + 2
+                     rounds. Of accepted labels without a cycle and random headers; it is tested, not proved
+
+With --batches there is a row for each of K parts of the measured rounds. Of n rounds part i, from 0, begins i * n / K rounds
+behind the first, rounded down; a part without rounds ends in the round before its first. If a network stands still with tokens
+in it, people are told who waits for what, behind the table or, with csv and json, on standard error."""
 EXAMPLES = (
     "c104-stats network.txt events.txt",
     "c104-stats --what links --format csv network.txt events.txt > links.csv",

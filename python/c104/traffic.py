@@ -158,28 +158,34 @@ def find_hot_spot(network: Network, traffic: Traffic, name: str | None) -> Traff
 
 
 PAGE = """\
-Prints a script for `c104 run`: a `send` line for each packet, from the terminals that
-have a target in turn, and with --load or --tokens `rounds` lines between them. Under
---process bernoulli terminals send by chance instead, each in a round as often as the
-load says on average. With --words each `rounds` line has a seed, which is W and the
-number of rounds before it together. Of T terminals, counted from 0 in the order of the
-description, terminal t sends to
+Prints a script: a `send` line for each packet, from the terminals that have a target in turn, and with --load or --tokens
+`rounds` lines between them. The same words print the same script anywhere. It ends with the last packet: further rounds let it
+arrive. Terminal s of T, counted from 0 in the order of the description, sends packet k to terminal
 
-  uniform      any, picked by the generator of the seed
-  transpose    row c and column r of a square, where t is in row r and column c
-  reverse      the one whose number has the bits of t in reverse
-  neighbour    the next one, and the last to the first
-  hot-spot     the one named by --target, with --share only C of 100 packets,
-               and the others to any
-  all-to-all   each in turn, from the next one on
-  complement   terminal T - 1 - t
-  shuffle      the one whose number has the bits of t one place up, the highest lowest
-  tornado      of a ring, the one farthest ahead by less than half of it
-  permutation  another for each, by a permutation that the seed gives
-  FILE:NAME    NAME(t, traffic, T, turn, word), a function of a Python file
+  uniform      (s + 1 + w mod D) mod T: any
+  transpose    (s mod r) * r + s / r, where r * r = T: rows and columns of a square change places
+  reverse      whose number has the bits of s in reverse
+  neighbour    (s + 1) mod T
+  hot-spot     --target, with --share C only if w mod 100 < C, and else (s + 1 + (w / 100) mod D) mod T
+  all-to-all   (s + 1 + (k / S) mod D) mod T: each in turn
+  complement   T - 1 - s
+  shuffle      2 s mod T + 2 s / T: the bits of s one place up, the highest lowest
+  tornado      (s + (T + 1) / 2 - 1) mod T: of a ring, the one farthest ahead by less than half
+  permutation  at place s of 0, 1, .. T - 1, where for i from 1 on entries i and v mod (i + 1) changed places, v being word i - 1
+  FILE:NAME    NAME(s, traffic, T, k / S, w), a function of a Python file
 
-and to itself only with --own. The same words print the same script anywhere. It ends
-with the last packet: further rounds let it arrive."""
+and to itself only with --own. D is T - 1, or with --own T; w is word k of the generator of --seed (docs/FORMATS.md); S terminals
+have a target, and packet k, from 0, comes from number k mod S of them. A packet is the first label of its target, then at place
+p, counted from the header's first byte, (k + p) mod 256, and `eop`.
+
+With --load R k * 1000 / R / S rounds are done before packet k, and with --tokens L k * F / L / S, F being a packet's tokens
+with its header and end; each quotient is rounded down. --process bernoulli has each terminal send by chance: in turn n, of
+round n / S, number n mod S does if v mod (1000000 * X) < Y, v being word n of a second generator, whose seed is word 0 of the
+first; with --load X is 1 and Y 1000 R, with --tokens X is F and Y 1000000 L. For the sender and for k / S n stands for k then.
+A `rounds` line has at most 10,000; with --words W, behind r rounds in all, it has the seed (W + r) mod 2^64.
+
+A network that can't have the pattern is answered `traffic 1 NotSquare`, `2 NotPowerOfTwo`, `3 NoTerminal`, `4 NoTarget`,
+`5 NoLabel: T` (its first label takes two bytes, and headers have one) or `6 WrongTarget: N`."""
 EXAMPLES = (
     "c104-traffic net.txt --pattern uniform --packets 100 --bytes 8 --seed 1 > sends.txt",
     "(cat sends.txt; echo rounds 1000) | c104 run net.txt -",

@@ -4,7 +4,8 @@ A block ```console has commands behind `$ `, and below each what it prints, wher
 lines; a command with nothing below it has to end with status 0. A block ```text FILE is a file that commands
 find. A block .EX of the manual page is the same: a file where a comment `file: FILE` stands before it, else commands.
 A command of this repository that a page only names has to be one that is run here, or to stand in NOT_RUN. Links
-and files that pages name have to be there, and README.md and all pages together are no longer than they may be.
+and files that pages name have to be there; README.md, what users read and all pages together are no longer than they may be,
+but for the pages that are made of texts of help, and these are as `help_pages` makes them.
 
 All is run in a copy of the repository with this program as what was built there, and the pages but README.md
 with what `make install` installed. The tools of bin, which are on PATH, ask this program. What has been proved already
@@ -20,12 +21,13 @@ import sys
 import tempfile
 
 from case_runner import TOP
+from help_pages import MANUAL, TOOLS_PAGE, pages as made_pages
 
-README, MANUAL = 'README.md', 'docs/c104.1'
+README, PROOF = 'README.md', 'docs/proof/'
 PAGES = [README, *sorted(os.path.relpath(it, TOP) for it in glob.glob(os.path.join(TOP, 'docs', '**', '*.md'), recursive=True))]
 SECONDS = 1800
-# Of README.md, and of all pages together.
-MOST_WORDS, MOST_OF_ALL = 1000, 40_000
+# Words of README.md, of what users read, and of all pages together.
+MOST_WORDS, MOST_FOR_USERS, MOST_OF_ALL = 1000, 16_000, 34_300
 
 # Commands that a page may name, and how each is run where one does.
 RUN = {
@@ -245,16 +247,19 @@ def judge_names(runner):
         runner.judge('paths of ' + page, absent and 'not there: %s' % ', '.join(absent) or None)
         broken = sorted(it for it in {*LINK.findall(read(page))} if not is_there(page, it))
         runner.judge('links of ' + page, broken and 'they lead nowhere: %s' % ', '.join(broken) or None)
-    words = {page: len(read(page).split()) for page in PAGES}
-    for name, count, most in ((README, words[README], MOST_WORDS), ('all pages', sum(words.values()), MOST_OF_ALL)):
+    words = {page: len(read(page).split()) for page in PAGES if page != TOOLS_PAGE}
+    for_users = sum(count for page, count in words.items() if not page.startswith(PROOF))
+    for name, count, most in ((README, words[README], MOST_WORDS), ('what users read', for_users, MOST_FOR_USERS),
+                              ('all pages', sum(words.values()), MOST_OF_ALL)):
         runner.judge('length of ' + name, None if count <= most else 'it has %d words' % count)
-    judge_manual(runner)
+    judge_made(runner)
 
 
-def judge_manual(runner):
-    """The manual page has the program's version, and no faults of form, where there is a groff to tell them."""
-    version = runner.run(['--version'])[1].decode().strip()
-    runner.judge('version of the manual page', None if '"%s"' % version in read(MANUAL) else 'it is not %s' % version)
+def judge_made(runner):
+    """Pages that are made of texts of help are as these make them, and the manual page has no faults of form, where there is a
+    groff to tell them."""
+    for page, text in made_pages(runner.program).items():
+        runner.judge(page + ' as it is made', None if read(page) == text else 'it is not: run tests/write_help PROGRAM')
     if shutil.which('groff'):
         told = subprocess.run(['groff', '-man', '-Tascii', '-ww', os.path.join(TOP, MANUAL)], capture_output=True,
                               timeout=SECONDS)
