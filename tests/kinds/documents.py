@@ -27,7 +27,7 @@ README, PROOF = 'README.md', 'docs/proof/'
 PAGES = [README, *sorted(os.path.relpath(it, TOP) for it in glob.glob(os.path.join(TOP, 'docs', '**', '*.md'), recursive=True))]
 SECONDS = 1800
 # Words of README.md, of what users read, and of all pages together.
-MOST_WORDS, MOST_FOR_USERS, MOST_OF_ALL = 1000, 16_000, 34_300
+MOST_WORDS, MOST_FOR_USERS, MOST_OF_ALL = 1000, 16_000, 30_000
 
 # Commands that a page may name, and how each is run where one does.
 RUN = {
