@@ -4,7 +4,7 @@
 use Rattle.c104_commands.specs.{LabelRows.{IsShapedText, unsayable_text}, WithoutWires.without_wire, declared.left_rows.Left.Left}
 use Rattle.c104_plan.specs.{PlanImage.{Image, hand_image}, Plans.Plan, PortTexts.port_text, RowPlans.row_plan, declared.ports.Wire.Wire}
 use Rattle.std.specs.{Borrow.Bor, List.position_from, Prelude.{Bool, Err, List, None, Ok, Option, Result, Some, [], bytes_eq, codes, false}}
-use Rattle.std.specs.Prelude.{map, slice_get, true, ℕ, ◌++◌, ◌||◌, ◌∷◌, ◌≡◌, ◌≢◌, ◌⊎◌}
+use Rattle.std.specs.Prelude.{map, true, ℕ, ◌++◌, ◌||◌, ◌∷◌, ◌≡◌, ◌≢◌, ◌⊎◌}
 
 -- whether a wire is at the port of this name
 abbrev pub is_at : Plan → List ℕ → Wire → Bool
@@ -38,25 +38,34 @@ abbrev pub IsPast : Plan → List ℕ → Option Plan → Type 0
 IsPast plan name None = plan_past plan name (wire_at plan name) ≡ Err name
 IsPast plan name (Some left) = plan_past plan name (wire_at plan name) ≡ Ok left
 
--- what is left without all, or the number of the first port at which there is none
-abbrev pub IsLeftOf : Plan → List (Bor (List ℕ)) → Left → Type 0
-IsLeftOf plan ports (Left.Plan left) = left_plan plan (names_of ports) ≡ Ok left
-IsLeftOf plan ports (Left.Unwired k) =
-    (port : Bor (List ℕ)) × (slice_get ports k ≡ Some port) × (left_plan plan (names_of ports) ≡ Err port.now)
+-- a plan lost that wire, or there is none
+abbrev pub Takes : Plan → List ℕ → Plan → Bool → Type 0
+Takes old name new true = plan_past old name (wire_at old name) ≡ Ok new
+Takes old name new false = plan_past old name (wire_at old name) ≡ Err name
+
+-- it lost all, or there is none at this port, the first of such
+abbrev pub TakesAll : Plan → List (List ℕ) → Plan → Option (Bor (List ℕ)) → Type 0
+TakesAll old names new None = left_plan old names ≡ Ok new
+TakesAll old names new (Some port) = left_plan old names ≡ Err port.now
+
+-- what is left without all, or the first port at which there is none
+abbrev pub IsLeftOf : Plan → List (List ℕ) → Left → Type 0
+IsLeftOf plan names (Left.Plan left) = left_plan plan names ≡ Ok left
+IsLeftOf plan names (Left.Unwired port) = left_plan plan names ≡ Err port.now
 
 -- the line where no wire between switches is at a port
 abbrev pub unwired_text : List ℕ → List ℕ
 unwired_text name = codes "rows 2 NoWire: " ++ (name ++ codes "\n")
 
--- `row` lines can't say the labels; or they can, and no wire is at some port
-abbrev pub IsLeftRefusal : List (List ℕ) → Plan → Image → List ℕ → Type 0
-IsLeftRefusal names plan image text =
-    ((text ≡ unsayable_text) × (hand_image (row_plan plan image) ≢ image))
-    ⊎ ((hand_image (row_plan plan image) ≡ image)
-    × ((name : List ℕ) × (left_plan (row_plan plan image) names ≡ Err name) × (text ≡ unwired_text name)))
+-- what is printed of the plan by hand of a network: the description of what is left of it, or that no wire is at some port
+abbrev pub PrintsRest : List (List ℕ) → Plan → Plan → List ℕ → Bool → Type 0
+PrintsRest names plan rows text false = (left : Plan) × (left_plan rows names ≡ Ok left) × IsShapedText plan left text
+PrintsRest names plan rows text true = (name : List ℕ) × (left_plan rows names ≡ Err name) × (text ≡ unwired_text name)
 
--- what it prints: the description of what is left, or why it is refused
+-- what it prints: that, or, refused, that `row` lines can't say the labels
 abbrev pub PrintsLeft : List (List ℕ) → Plan → Image → List ℕ → Bool → Type 0
-PrintsLeft names plan image text false = (hand_image (row_plan plan image) ≡ image)
-    × ((left : Plan) × (left_plan (row_plan plan image) names ≡ Ok left) × IsShapedText plan left text)
-PrintsLeft names plan image text true = IsLeftRefusal names plan image text
+PrintsLeft names plan image text false =
+    (hand_image (row_plan plan image) ≡ image) × PrintsRest names plan (row_plan plan image) text false
+PrintsLeft names plan image text true =
+    ((text ≡ unsayable_text) × (hand_image (row_plan plan image) ≢ image))
+    ⊎ ((hand_image (row_plan plan image) ≡ image) × PrintsRest names plan (row_plan plan image) text true)

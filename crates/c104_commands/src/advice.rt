@@ -13,7 +13,7 @@ use c104_check::{
 use c104_fixes::{Fix, RowChange, RowFix, RowLines, TriedFix, Waiting, find_fix_of, find_waiting};
 use c104_interval::Row;
 use c104_mistakes::typed_header;
-use c104_plan::{Image, Plan, Port};
+use c104_plan::{Image, Plan, Port, Terminal};
 use c104_token::NoMemory;
 use std::alloc::{AllocError, Global};
 
@@ -221,13 +221,23 @@ fn add_fix(
     };
     match &tried.fix {
         Fix::Labels(terminal, first) => add_labels(alloc, lines, plan, *terminal, *first, text),
-        Fix::Rows(fixes) => {
-            for fix in fixes.as_slice() {
-                add_table(alloc, lines, plan, fix, &tried.image, text)?;
-            }
-            Ok(())
-        }
+        Fix::Rows(fixes) => add_tables(alloc, lines, plan, fixes.as_slice(), &tried.image, text),
     }
+}
+
+/// The lines by which inputs have other rows join a text.
+fn add_tables(
+    alloc: Global,
+    lines: Option<&RowLines<'_>>,
+    plan: &Plan,
+    fixes: &[RowFix],
+    image: &Image,
+    text: &mut String,
+) -> Result<(), NoMemory> {
+    for fix in fixes {
+        add_table(alloc, lines, plan, fix, image, text)?;
+    }
+    Ok(())
 }
 
 /// The lines by which a terminal has as many labels from another on; the first of them with its number, and as it is spelled,
@@ -243,18 +253,34 @@ fn add_labels(
     let Some(own) = plan.terminals().get(terminal) else {
         return Ok(());
     };
-    let mut counts = true;
+    let counts = add_old_labels(alloc, lines, plan, own, terminal, text)?;
+    let by = label_line(alloc, plan, terminal, counts, first)?;
+    add_line(text, "by", by.as_str())
+}
+
+/// The line of a terminal's labels joins a text, as one that is to be taken out. Says whether it tells how many there are.
+fn add_old_labels(
+    alloc: Global,
+    lines: Option<&RowLines<'_>>,
+    plan: &Plan,
+    own: &Terminal,
+    terminal: usize,
+    text: &mut String,
+) -> Result<bool, NoMemory> {
     if let Some(lines) = lines
         && let Some((line, says_count)) = lines.terminal_line(alloc, own.name.as_bytes())?
     {
         add_spelled(alloc, lines, line, text)?;
-        counts = says_count;
-    } else {
-        let old = label_line(alloc, plan, terminal, true, own.first)?;
-        write!(text, "replace: {old}\n")?;
+        return Ok(says_count);
     }
-    let by = label_line(alloc, plan, terminal, counts, first)?;
-    write!(text, "by: {by}\n")?;
+    let old = label_line(alloc, plan, terminal, true, own.first)?;
+    add_line(text, "replace", old.as_str())?;
+    Ok(true)
+}
+
+/// A line joins a text behind a word and a colon.
+fn add_line(text: &mut String, word: &str, line: &str) -> Result<(), NoMemory> {
+    write!(text, "{word}: {line}\n")?;
     Ok(())
 }
 

@@ -1,19 +1,16 @@
 //! By which links of a description's network a header may leave.
-ghost use Rattle.std.specs.{Prelude.{IfOk, MatchOption, OnOk, Ok, Result, [], filter, is_some, ◌++◌, ◌∷◌, ◌≡◌}, String.string_bytes};
+ghost use Rattle.std.specs.{Prelude.{IfOk, MatchOption, Ok, OnOk, Result, [], filter, is_some, ◌++◌, ◌∷◌, ◌≡◌}, String.string_bytes};
 ghost use Rattle.c104_check.specs.{Parts.{IsNeverRefused, TellsFirst}, Reach.routes_for, Routes.{port_at, routes_of}};
 ghost use Rattle.c104_commands.specs.HeaderRows.{AreRowsOf, IsHeaderRow, IsTableOf, PrintsHeader, digit, fault_line, is_met_by, row_text};
-ghost use Rattle.c104_commands.specs.HeaderRows.{table_text};
-ghost use Rattle.{c104_describe.specs.declared.faults.PlanFault.PlanFault as ThePlanFault, c104_plan.specs.PlanImage.Fits};
-ghost use Rattle.{c104_plan.specs.Plans.Plan as ThePlan, c104_setup.specs.{Endings.{CommandEnds, CommandRuns}, Setups.ComesTo}};
+ghost use Rattle.{c104_commands.specs.HeaderRows.table_text, c104_plan.specs.PlanImage.Fits, c104_setup.specs.Endings.CommandRuns};
 
-use crate::checked::tell_refusal;
+use crate::shows::{Printed, Shows, Telling, show_description};
 use crate::texts::{check_fault_text, port_text};
 use c104_check::{CheckFault, Reach, SwitchPort};
 use c104_mistakes::Messages;
 use c104_plan::{Image, Plan};
 use c104_regs::LINKS;
-use c104_setup::{Setup, Status, read_setup};
-use c104_stream::write_whole;
+use c104_setup::{Setup, Status};
 use c104_token::NoMemory;
 use std::alloc::{AllocError, Global};
 use std::io::{Read, Write};
@@ -34,11 +31,20 @@ pub struct HeaderRow {
     pub portal: bool,
 }
 
-/// What is printed of a header, and why it is refused, if it is.
-#[derive(Drop)]
-struct Printed {
-    text: String,
-    fault: Option<CheckFault>,
+/// Shows what holds of a header in a network.
+#[derive(Clone, Copy)]
+struct Header {
+    header: u32,
+}
+
+impl Shows for Header {
+    ghost use Rattle.c104_commands.specs.HeaderRows.{PrintsHeader};
+
+    ghost prints = { λ shows. PrintsHeader shows.header };
+
+    fn show(&self, alloc: Global, setup: &Setup) -> Result<Printed, NoMemory> {
+        print_header(alloc, &setup.plan, &setup.image, self.header)
+    }
 }
 
 /// Reads a description and labels its network; writes a table with a row for each link of a switch by which a header may leave,
@@ -49,7 +55,6 @@ struct Printed {
 /// Reading ends at 1 MiB, whatever the reader. Each error of the reader or the writer is a fault at once. People are
 /// told why the description or the header is refused; what is written and how it ends are the same whatever takes the
 /// messages does.
-#[tactic(auto, using(c104_setup::proofs::Refusals::runs_before))]
 pub fn header_rows_command<D: Read, W: Write, M: Messages>(
     alloc: Global,
     header: u32,
@@ -60,44 +65,14 @@ pub fn header_rows_command<D: Read, W: Write, M: Messages>(
     ensures { CommandRuns (PrintsHeader header) (D.remaining description.old)
         (W.contents writer.old) (W.contents writer.new) result }
 {
-    match read_setup(alloc, description, writer, messages) {
-        Ok(setup) => show_header(alloc, &setup, header, writer, messages),
-        Err(status) => status,
-    }
-}
-
-/// Writes what holds of a header in a network.
-fn show_header<W: Write, M: Messages>(
-    alloc: Global,
-    setup: &Setup,
-    header: u32,
-    writer: &mut W,
-    messages: &mut M,
-) -> Status
-    requires { Fits setup.now.image setup.now.plan }
-    ensures { (due : Result ThePlan ThePlanFault) → ComesTo due (Ok (setup.now.plan, setup.now.image))
-        → CommandEnds (PrintsHeader header) due (W.contents writer.old) (W.contents writer.new) result }
-{
-    let Ok(printed) = print_header(alloc, &setup.plan, &setup.image, header) else {
-        return Status::NoMemory;
-    };
-    let Ok(()) = write_whole(writer, printed.text.as_bytes()) else {
-        return Status::CannotWrite;
-    };
-    match &printed.fault {
-        Some(fault) => {
-            tell_refusal(alloc, &setup.plan, &setup.image, fault, messages);
-            Status::Refused
-        }
-        None => Status::Done,
-    }
+    show_description(alloc, &Header { header }, description, writer, messages)
 }
 
 /// What is printed of a header.
 fn print_header(alloc: Global, plan: &Plan, image: &Image, header: u32) -> Result<Printed, NoMemory>
     requires { Fits image.now plan.now }
     ensures { IfOk result (λ printed.
-        PrintsHeader header plan.now image.now (string_bytes printed.text) (is_some printed.fault)) }
+        PrintsHeader header plan.now image.now printed.text.items printed.refused) }
 {
     let reach = Reach::new(alloc, plan, image, header)?;
     print_reach(alloc, plan, image, header, &reach)
@@ -114,11 +89,31 @@ fn print_reach(
     requires routes { routes_for reach.now ≡ routes_of plan.now image.now }
     requires header { reach.now.header ≡ header }
     ensures { IfOk result (λ printed.
-        PrintsHeader header plan.now image.now (string_bytes printed.text) (is_some printed.fault)) }
+        PrintsHeader header plan.now image.now printed.text.items printed.refused) }
 {
     let mut text = reach_text(alloc, plan, image, reach)?;
     let fault = add_refusal(alloc, plan, reach, &mut text)?;
-    Ok(Printed { text, fault })
+    Ok(printed(text, fault))
+}
+
+/// A text, and why the header is refused, if it is.
+fn printed(text: String, fault: Option<CheckFault>) -> Printed
+    ensures text { result.text.items ≡ string_bytes text }
+    ensures refused { result.refused ≡ is_some fault }
+{
+    let text = text.into_bytes();
+    match fault {
+        Some(fault) => Printed {
+            text,
+            refused: true,
+            telling: Telling::Refusal(fault),
+        },
+        None => Printed {
+            text,
+            refused: false,
+            telling: Telling::Nothing,
+        },
+    }
 }
 
 /// The table of where a header may come.

@@ -1,19 +1,31 @@
 //! The labelling of a description, with the names of registers.
 ghost use Rattle.c104_commands.specs.ImageTexts.{IsOfRegister, PrintsNames};
-ghost use Rattle.{c104_describe.specs.declared.faults.PlanFault.PlanFault as ThePlanFault, c104_plan.specs.Plans.Plan as ThePlan};
-ghost use Rattle.{c104_script.specs.RegisterNames.IsReadAs, c104_setup.specs.{Endings.{CommandEnds, CommandRuns}, Setups.ComesTo}};
-ghost use Rattle.std.specs.Prelude.{All, Ok, Result, ◌≡◌};
+ghost use Rattle.{c104_script.specs.RegisterNames.IsReadAs, c104_setup.specs.Endings.CommandRuns};
+ghost use Rattle.std.specs.Prelude.{All, ◌≡◌};
 
 use crate::images::add_ranges;
-use crate::reports::tell_labels;
+use crate::shows::{Printed, Shows, show_description};
 use c104_mistakes::Messages;
 use c104_plan::{Image, Plan};
 use c104_script::RegisterName;
-use c104_setup::{Setup, Status, read_setup};
-use c104_stream::write_whole;
+use c104_setup::{Setup, Status};
 use c104_token::NoMemory;
 use std::alloc::{AllocError, Global};
 use std::io::{Read, Write};
+
+/// Shows the image of a network with the names of registers.
+struct LabelNames;
+
+impl Shows for LabelNames {
+    ghost use Rattle.c104_commands.specs.ImageTexts.{PrintsNames};
+
+    ghost prints = { λ _. PrintsNames };
+
+    fn show(&self, alloc: Global, setup: &Setup) -> Result<Printed, NoMemory> {
+        let text = names_text(alloc, &setup.plan, &setup.image)?;
+        Ok(Printed::of_labels(text))
+    }
+}
 
 /// Reads a description and labels its network; writes the labels of each terminal and what is to be set in the
 /// registers of each switch, each by its name, or why the network isn't labelled, or the first fault of the description.
@@ -21,7 +33,6 @@ use std::io::{Read, Write};
 /// Reading ends at 1 MiB, whatever the reader. Each error of the reader or the writer is a fault at once. People are
 /// told why the description or its labels are refused, and which labels up and down were made; what is written and how it
 /// ends are the same whatever takes the messages does.
-#[tactic(auto, using(c104_setup::proofs::Refusals::runs_before))]
 pub fn label_names_command<D: Read, W: Write, M: Messages>(
     alloc: Global,
     description: &mut D,
@@ -31,30 +42,7 @@ pub fn label_names_command<D: Read, W: Write, M: Messages>(
     ensures { CommandRuns PrintsNames (D.remaining description.old)
         (W.contents writer.old) (W.contents writer.new) result }
 {
-    match read_setup(alloc, description, writer, messages) {
-        Ok(setup) => show_names(alloc, &setup, writer, messages),
-        Err(status) => status,
-    }
-}
-
-/// Writes the image of a network with the names of registers, and tells people which labels were made.
-fn show_names<W: Write, M: Messages>(
-    alloc: Global,
-    setup: &Setup,
-    writer: &mut W,
-    messages: &mut M,
-) -> Status
-    ensures { (due : Result ThePlan ThePlanFault) → ComesTo due (Ok (setup.now.plan, setup.now.image))
-        → CommandEnds PrintsNames due (W.contents writer.old) (W.contents writer.new) result }
-{
-    let Ok(text) = names_text(alloc, &setup.plan, &setup.image) else {
-        return Status::NoMemory;
-    };
-    let Ok(()) = write_whole(writer, text.as_bytes()) else {
-        return Status::CannotWrite;
-    };
-    tell_labels(alloc, setup, messages);
-    Status::Done
+    show_description(alloc, &LabelNames, description, writer, messages)
 }
 
 /// The lines of an image, as `image_text` makes them, but for the names of registers. The only error is out of memory.

@@ -1,18 +1,16 @@
 //! The labelling by `row` lines of a description's network without some of the wires between its switches.
-ghost use Rattle.std.specs.{Prelude.{IfOk, IfSome, Ok, Result, is_some, length, ◌<◌, ◌≡◌}, String.string_bytes};
-ghost use Rattle.c104_commands.specs.LeftRows.{IsLeftOf, IsPast, PrintsLeft, is_at, names_of, unwired_text, wire_at};
-ghost use Rattle.{c104_describe.specs.declared.faults.PlanFault.PlanFault as ThePlanFault, c104_plan.specs.PlanImage.Fits};
-ghost use Rattle.{c104_plan.specs.Plans.Plan as ThePlan, c104_setup.specs.{Endings.{CommandEnds, CommandRuns}, Setups.ComesTo}};
+ghost use Rattle.std.specs.{Prelude.{IfOk, IfSome, List, length, ℕ, ◌<◌, ◌≡◌}, String.string_bytes};
+ghost use Rattle.c104_commands.specs.LeftRows.{IsLeftOf, IsPast, PrintsLeft, PrintsRest, Takes, TakesAll, is_at, names_of, unwired_text, wire_at};
+ghost use Rattle.{c104_plan.specs.{PlanImage.Fits, Plans.Plan as ThePlan}, c104_setup.specs.Endings.CommandRuns};
 
 use crate::label_rows::{UNSAYABLE, unsayable_text};
 use crate::plans_without::plan_without;
-use crate::reports::tell_labels;
 use crate::shape_lines::shaped_text;
+use crate::shows::{Printed, Shows, show_description};
 use c104_label::UpDownReport;
-use c104_mistakes::{About, Messages};
+use c104_mistakes::Messages;
 use c104_plan::{Image, Plan, Wire};
-use c104_setup::{Setup, Status, read_setup};
-use c104_stream::write_whole;
+use c104_setup::{Setup, Status};
 use c104_token::NoMemory;
 use std::alloc::{AllocError, Global};
 use std::io::{Read, Write};
@@ -20,27 +18,27 @@ use std::io::{Read, Write};
 /// What people are told where no wire between switches is at a port.
 const UNWIRED: &str = "no wire between switches is at this port";
 
-/// Why what is left of a network isn't printed.
-#[derive(Clone, Copy, Debug)]
-enum Refusal {
-    /// `row` lines can't say its labels.
-    Unsayable,
-    /// No wire between switches is at one of the ports.
-    Unwired,
-}
-
-/// What is printed of a network, and why that refuses it, if it does.
+/// What is left of a plan without the wires at some ports, or the first of these at which there is none.
 #[derive(Drop)]
-struct Printed {
-    text: String,
-    refusal: Option<Refusal>,
-}
-
-/// What is left of a plan without the wires at some ports, or the number of the first at which there is none.
-#[derive(Drop)]
-enum Left {
+enum Left<'a> {
     Plan(Plan),
-    Unwired(usize),
+    Unwired(&'a str),
+}
+
+/// Shows what is left of a network without the wires between switches at some ports.
+#[derive(Clone, Copy)]
+struct LeftRows<'a, 'b> {
+    ports: &'a [&'b str],
+}
+
+impl Shows for LeftRows<'_, '_> {
+    ghost use Rattle.c104_commands.specs.LeftRows.{PrintsLeft, names_of};
+
+    ghost prints = { λ shows. PrintsLeft (names_of shows.ports.now) };
+
+    fn show(&self, alloc: Global, setup: &Setup) -> Result<Printed, NoMemory> {
+        print_left(alloc, &setup.plan, &setup.image, setup.report, self.ports)
+    }
 }
 
 /// Reads a description and labels its network; writes what `label_rows_command` does, of the network without the wires
@@ -50,7 +48,6 @@ enum Left {
 /// Reading ends at 1 MiB, whatever the reader. Each error of the reader or the writer is a fault at once. People are
 /// told why the description, its labels or a port are refused, and which labels up and down were made; what is written and
 /// how it ends are the same whatever takes the messages does.
-#[tactic(auto, using(c104_setup::proofs::Refusals::runs_before))]
 pub fn rows_without_command<D: Read, W: Write, M: Messages>(
     alloc: Global,
     ports: &[&str],
@@ -61,51 +58,7 @@ pub fn rows_without_command<D: Read, W: Write, M: Messages>(
     ensures { CommandRuns (PrintsLeft (names_of ports.now)) (D.remaining description.old)
         (W.contents writer.old) (W.contents writer.new) result }
 {
-    match read_setup(alloc, description, writer, messages) {
-        Ok(setup) => show_left(alloc, &setup, ports, writer, messages),
-        Err(status) => status,
-    }
-}
-
-/// Writes the description of what is left of a network, or why it is refused.
-fn show_left<W: Write, M: Messages>(
-    alloc: Global,
-    setup: &Setup,
-    ports: &[&str],
-    writer: &mut W,
-    messages: &mut M,
-) -> Status
-    requires { Fits setup.now.image setup.now.plan }
-    ensures { (due : Result ThePlan ThePlanFault) → ComesTo due (Ok (setup.now.plan, setup.now.image))
-        → CommandEnds (PrintsLeft (names_of ports.now)) due
-        (W.contents writer.old) (W.contents writer.new) result }
-{
-    let Ok(printed) = print_left(alloc, &setup.plan, &setup.image, setup.report, ports) else {
-        return Status::NoMemory;
-    };
-    let Ok(()) = write_whole(writer, printed.text.as_bytes()) else {
-        return Status::CannotWrite;
-    };
-    match printed.refusal {
-        Some(refusal) => {
-            messages.tell(About::Description, refusal.sentence());
-            Status::Refused
-        }
-        None => {
-            tell_labels(alloc, setup, messages);
-            Status::Done
-        }
-    }
-}
-
-impl Refusal {
-    /// What people are told of it.
-    fn sentence(self) -> &'static str {
-        match self {
-            Refusal::Unsayable => UNSAYABLE,
-            Refusal::Unwired => UNWIRED,
-        }
-    }
+    show_description(alloc, &LeftRows { ports }, description, writer, messages)
 }
 
 /// What is printed of a network without the wires at these ports.
@@ -117,46 +70,92 @@ fn print_left(
     ports: &[&str],
 ) -> Result<Printed, NoMemory>
     requires { Fits image.now plan.now }
-    ensures { IfOk result (λ printed. PrintsLeft (names_of ports.now) plan.now image.now
-        (string_bytes printed.text) (is_some printed.refusal)) }
+    ensures { IfOk result (λ printed.
+        PrintsLeft (names_of ports.now) plan.now image.now printed.text.items printed.refused) }
 {
-    let Some(rows) = image.row_plan(alloc, plan)? else {
-        let text = unsayable_text(alloc)?;
-        return Ok(Printed {
-            text,
-            refusal: Some(Refusal::Unsayable),
-        });
-    };
-    match left_of(alloc, rows, ports)? {
-        Left::Plan(left) => {
-            let text = shaped_text(alloc, plan, report, &left)?;
-            Ok(Printed {
-                text,
-                refusal: None,
-            })
+    match image.row_plan(alloc, plan)? {
+        Some(rows) => print_rest(alloc, plan, report, rows, ports),
+        None => {
+            let text = unsayable_text(alloc)?;
+            Ok(Printed::refused(text, UNSAYABLE))
         }
-        Left::Unwired(number) => {
-            let text = unwired_text(alloc, ports[number])?;
-            Ok(Printed {
-                text,
-                refusal: Some(Refusal::Unwired),
-            })
+    }
+}
+
+/// What is printed of the plan by hand of a network without the wires at these ports.
+fn print_rest(
+    alloc: Global,
+    plan: &Plan,
+    report: Option<UpDownReport>,
+    rows: Plan,
+    ports: &[&str],
+) -> Result<Printed, NoMemory>
+    ensures { IfOk result (λ printed. PrintsRest (names_of ports.now) plan.now rows printed.text.items printed.refused) }
+{
+    let left = left_of(alloc, rows, ports)?;
+    show_rest(alloc, plan, report, &left)
+}
+
+/// What is printed of what is left.
+fn show_rest(
+    alloc: Global,
+    plan: &Plan,
+    report: Option<UpDownReport>,
+    left: &Left<'_>,
+) -> Result<Printed, NoMemory>
+    ensures { (names : List (List ℕ)) (rows : ThePlan) → IsLeftOf rows names left.now
+        → IfOk result (λ printed. PrintsRest names plan.now rows printed.text.items printed.refused) }
+{
+    match left {
+        Left::Plan(left) => {
+            let text = shaped_text(alloc, plan, report, left)?;
+            Ok(Printed::of_labels(text))
+        }
+        Left::Unwired(port) => {
+            let text = unwired_text(alloc, port)?;
+            Ok(Printed::refused(text, UNWIRED))
         }
     }
 }
 
 /// What is left of a plan.
-fn left_of(alloc: Global, rows: Plan, ports: &[&str]) -> Result<Left, NoMemory>
-    ensures { IfOk result (IsLeftOf rows ports.now) }
+fn left_of<'a>(alloc: Global, rows: Plan, ports: &[&'a str]) -> Result<Left<'a>, NoMemory>
+    ensures { IfOk result (IsLeftOf rows (names_of ports.now)) }
 {
     let mut left = rows;
-    for number in 0..ports.len() {
-        let Some(next) = plan_past(alloc, &left, ports[number])? else {
-            return Ok(Left::Unwired(number));
-        };
-        left = next;
+    match take_all(alloc, &mut left, ports)? {
+        Some(port) => Ok(Left::Unwired(port)),
+        None => Ok(Left::Plan(left)),
     }
-    Ok(Left::Plan(left))
+}
+
+/// A plan loses the wires at ports, up to the first of these at which there is none.
+fn take_all<'a>(
+    alloc: Global,
+    left: &mut Plan,
+    ports: &[&'a str],
+) -> Result<Option<&'a str>, NoMemory>
+    ensures { IfOk result (TakesAll left.old (names_of ports.now) left.new) }
+{
+    for number in 0..ports.len() {
+        if !take_one(alloc, left, ports[number])? {
+            return Ok(Some(ports[number]));
+        }
+    }
+    Ok(None)
+}
+
+/// A plan loses the wire between switches that is at a port, if there is one.
+fn take_one(alloc: Global, left: &mut Plan, port: &str) -> Result<bool, NoMemory>
+    ensures { IfOk result (Takes left.old port.now left.new) }
+{
+    match plan_past(alloc, left, port)? {
+        Some(next) => {
+            *left = next;
+            Ok(true)
+        }
+        None => Ok(false),
+    }
 }
 
 /// A plan without the wire between switches that is at a port, if there is one.

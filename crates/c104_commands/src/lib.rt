@@ -30,6 +30,7 @@ mod reports;
 mod rows_without;
 mod sentences;
 mod shape_lines;
+mod shows;
 mod texts;
 
 pub use advice::{check_advice, cycle_advice};

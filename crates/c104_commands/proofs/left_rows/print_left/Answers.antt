@@ -1,7 +1,5 @@
-use Rattle.c104_commands.proofs.LeftLemmas.{unwired}
+use Rattle.c104_commands.{proofs.LeftLemmas.rest_came, specs.LeftRows.names_of}
 
--- no wire is at one of the ports
-pub returns-in_ok-text-in-Unwired : Rattle.c104_commands.proofs.left_rows.print_left.Goals.returns-in_ok-text-in-Unwired
-returns-in_ok-text-in-Unwired c =
-    unwired c.args.plan.now c.args.image.now c.args.ports.now c.in-Unwired.number _ _ c.in_ok-rows.field-0 c.in-Some.rows c.in_ok-left.field-0 c.in-Some.is
-    c.in_ok-rows.ensures.rows c.in_ok-rows.ensures.image c.in_ok-left.ensures c.in-Unwired.is c.in_ok-text-in-Unwired.ensures
+pub returns-in-Some : Rattle.c104_commands.proofs.left_rows.print_left.Goals.returns-in-Some
+returns-in-Some c =
+    rest_came (names_of c.args.ports.now) c.args.plan.now c.args.image.now c.in_ok-rows.field-0 c.in-Some.rows c.print_rest.result c.in-Some.is c.in_ok-rows.ensures.rows c.in_ok-rows.ensures.image c.print_rest.ensures
