@@ -1,6 +1,4 @@
--- What `label --rows --without` prints of a network: the description of what is left of it without some wires.
---     left_plan plan names      the plan without the wires at these ports, or the first name at which there is none
---     PrintsLeft names plan image text refused
+-- What `label --rows --without` prints of a network (`PrintsLeft`): the description of what is left of it without some wires.
 use Rattle.c104_commands.specs.{LabelRows.{IsShapedText, unsayable_text}, WithoutWires.without_wire, declared.left_rows.Left.Left}
 use Rattle.c104_plan.specs.{PlanImage.{Image, hand_image}, Plans.Plan, PortTexts.port_text, RowPlans.row_plan, declared.ports.Wire.Wire}
 use Rattle.std.specs.{Borrow.Bor, List.position_from, Prelude.{Bool, Err, List, None, Ok, Option, Result, Some, [], bytes_eq, codes, false}}
@@ -32,11 +30,6 @@ left_plan plan (name ∷ names) = and_left (plan_past plan name (wire_at plan na
 -- the names of ports
 abbrev pub names_of : List (Bor (List ℕ)) → List (List ℕ)
 names_of ports = map (λ (port : Bor (List ℕ)). port.now) ports
-
--- what is left without one wire, if there is one
-abbrev pub IsPast : Plan → List ℕ → Option Plan → Type 0
-IsPast plan name None = plan_past plan name (wire_at plan name) ≡ Err name
-IsPast plan name (Some left) = plan_past plan name (wire_at plan name) ≡ Ok left
 
 -- a plan lost that wire, or there is none
 abbrev pub Takes : Plan → List ℕ → Plan → Bool → Type 0

@@ -1,6 +1,6 @@
 //! The labelling by `row` lines of a description's network without some of the wires between its switches.
 ghost use Rattle.std.specs.{Prelude.{IfOk, IfSome, List, length, ℕ, ◌<◌, ◌≡◌}, String.string_bytes};
-ghost use Rattle.c104_commands.specs.LeftRows.{IsLeftOf, IsPast, PrintsLeft, PrintsRest, Takes, TakesAll, is_at, names_of, unwired_text, wire_at};
+ghost use Rattle.c104_commands.specs.LeftRows.{IsLeftOf, PrintsLeft, PrintsRest, Takes, TakesAll, is_at, names_of, unwired_text, wire_at};
 ghost use Rattle.{c104_plan.specs.{PlanImage.Fits, Plans.Plan as ThePlan}, c104_setup.specs.Endings.CommandRuns};
 
 use crate::label_rows::{UNSAYABLE, unsayable_text};
@@ -149,23 +149,11 @@ fn take_all<'a>(
 fn take_one(alloc: Global, left: &mut Plan, port: &str) -> Result<bool, NoMemory>
     ensures { IfOk result (Takes left.old port.now left.new) }
 {
-    match plan_past(alloc, left, port)? {
-        Some(next) => {
-            *left = next;
-            Ok(true)
-        }
-        None => Ok(false),
-    }
-}
-
-/// A plan without the wire between switches that is at a port, if there is one.
-fn plan_past(alloc: Global, plan: &Plan, port: &str) -> Result<Option<Plan>, NoMemory>
-    ensures { IfOk result (λ left. IsPast plan.now port.now left) }
-{
-    match wire_at(alloc, plan, port)? {
-        Some(number) => plan_without(alloc, plan, number).map(Some),
-        None => Ok(None),
-    }
+    let Some(number) = wire_at(alloc, left, port)? else {
+        return Ok(false);
+    };
+    *left = plan_without(alloc, left, number)?;
+    Ok(true)
 }
 
 /// The number of the wire between switches that is at a port.
